@@ -1,9 +1,7 @@
 //! The backup: it reads while the mount is read-only.
 
 ghost use Rattle.std.specs.Prelude.{◌≡◌, ◌+◌, ℕ, IfErr, OnErr, OnOk};
-ghost use Rattle.vfs_gates.specs.GateError.TheVariants.{Busy};
-ghost use Rattle.vfs_gates.specs.Held.{Rests};
-ghost use Rattle.vfs_gates.specs.TaskStates.{TaskState, IsFrom};
+ghost use Rattle.vfs_gates.specs.Rounds.{TaskState, IsFrom, Rests, Busy};
 ghost use Rattle.backup_beside_writer.specs.Told.{Copies};
 
 use crate::MOUNT;
@@ -35,6 +33,7 @@ pub(crate) fn copy_once<R: Wait>(
 }
 
 /// Makes so many copies, and says how many were torn. One that is refused, while the writer is inside, is made again.
+#[tactic(auto, using(vfs_gates::specs::Rounds::none))]
 pub(crate) fn back_up<R: Wait>(
     rt: &R,
     gates: &Gates,

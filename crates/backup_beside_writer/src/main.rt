@@ -4,7 +4,6 @@
 
 mod backup;
 mod run;
-mod tasks;
 mod told;
 mod writer;
 

@@ -1,23 +1,37 @@
 //! Both at once, and the end.
 
-ghost use Rattle.std.specs.Prelude.{IfOk};
+ghost use Rattle.std.specs.Prelude.{◌≡◌, ◌++◌, IfOk};
+ghost use Rattle.vfs_gates.specs.Rounds.{IsFrom, Rests};
 ghost use Rattle.backup_beside_writer.specs.Told.{IsTold};
 
 use crate::told::Told;
-use crate::{backup, tasks, writer};
+use crate::{backup, writer};
 use anyhow::{Result, bail};
 use std::alloc::Global;
 use std::sync::Wait;
 use std::sync::atomic::AtomicU64;
 use std::thread;
 use std::thread::Threads;
-use vfs_gates::{Closed, Config};
+use vfs_gates::{Closed, Config, Gates, Task};
 
 /// How often the writer writes.
 const WRITES: u32 = 10_000;
 
 /// How many copies the backup makes.
 const COPIES: u32 = 100;
+
+/// One task with the numbers of both. A join is refused only where one of them doesn't rest, so here it isn't.
+fn join(gates: &Gates, mut first: Task, second: Task) -> Task
+    requires from { IsFrom first gates.now × IsFrom second gates.now }
+    requires rests { Rests first × Rests second }
+    ensures from { IsFrom result gates.now }
+    ensures numbers { result.items ≡ first.items ++ second.items }
+{
+    let Ok(()) = first.join(gates, second) else {
+        unreachable!()
+    };
+    first
+}
 
 /// Lets the writer and the backup work at one mount, each in a thread, and closes the gates. Tells what was done, by the lists that both
 /// tasks have in the end.
@@ -31,7 +45,8 @@ pub(crate) fn run<R: Threads + Wait + Sync>(rt: &R, alloc: Global) -> Result<(To
         nodes: 2,
         capacity: 0,
     };
-    let (gates, first, second) = tasks::open(alloc, config)?;
+    let (gates, mut first) = Gates::new(alloc, config)?;
+    let second = first.split(alloc, &gates)?;
     let file = AtomicU64::new(0);
     let (first, (second, torn)) = thread::join(
         rt,
@@ -45,7 +60,7 @@ pub(crate) fn run<R: Threads + Wait + Sync>(rt: &R, alloc: Global) -> Result<(To
         copies: COPIES,
         torn,
     };
-    let task = tasks::join(&gates, first, second);
+    let task = join(&gates, first, second);
     let Ok(closed) = gates.close(task) else {
         bail!("a task is left");
     };

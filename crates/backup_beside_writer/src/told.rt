@@ -18,10 +18,11 @@ pub(crate) struct Told {
 }
 
 impl fmt::Display for Told {
-    ghost use Rattle.std.specs.Prelude.{Some};
-    ghost use Rattle.backup_beside_writer.specs.Told.{lines_of};
+    ghost use Rattle.std.specs.Prelude.{Some, ◌++◌, codes};
+    ghost use Rattle.std.specs.Fmt.{decimal};
 
-    ghost output = { λ told. Some (lines_of told) };
+    ghost output = { λ told. Some (decimal told.writes ++ (codes " writes\n" ++ (decimal told.copies ++ (codes " copies, "
+        ++ (decimal told.torn ++ codes " of them torn"))))) };
 
     fn fmt<W: fmt::Write>(&self, f: &mut fmt::Formatter<W>) -> fmt::Result {
         let writes = self.writes;

@@ -1,10 +1,7 @@
 //! The writer: each write stands between a want and a drop.
 
-ghost use Rattle.std.specs.Prelude.{◌≡◌, ◌+◌, IfErr, OnErr, OnOk};
-ghost use Rattle.vfs_gates.specs.GateError.TheVariants.{ReadOnly};
-ghost use Rattle.vfs_gates.specs.Held.{Rests, own_actions};
-ghost use Rattle.vfs_gates.specs.TaskStates.{IsFrom};
-ghost use Rattle.backup_beside_writer.specs.Told.{grants_in};
+ghost use Rattle.std.specs.Prelude.{◌≡◌, IfErr, OnErr, OnOk};
+ghost use Rattle.vfs_gates.specs.Rounds.{IsFrom, Rests, Granted, Mount, ReadOnly, own_actions};
 
 use crate::MOUNT;
 use std::sync::Wait;
@@ -26,7 +23,7 @@ pub(crate) fn write_once<R: Wait>(
     ensures from { IsFrom task.new gates.now }
     ensures rests { Rests task.new }
     ensures refused { IfErr result (λ refusal. refusal ≡ ReadOnly) }
-    ensures wrote { OnOk result (grants_in (own_actions task.new) ≡ 1 + grants_in (own_actions task.old)) }
+    ensures wrote { OnOk result (Granted (Mount 0) 1 task.old task.new) }
     ensures wrote_nothing { OnErr result (own_actions task.new ≡ own_actions task.old) }
 {
     task.want(rt, gates, MOUNT, CPU)?;
@@ -46,7 +43,7 @@ pub(crate) fn write<R: Wait>(
     requires rests { Rests task }
     ensures from { IsFrom result gates.now }
     ensures rests { Rests result }
-    ensures wrote { grants_in (own_actions result) ≡ writes + grants_in (own_actions task) }
+    ensures wrote { Granted (Mount 0) writes task result }
 {
     for _write in 0..writes {
         for _ in rt.forever() {

@@ -1,6 +1,6 @@
 -- What a run may be asked for, its gates, and what it tells of them once they are closed.
 use Rattle.std.specs.Prelude.{◌≡◌, ℕ, ◌-◌, ◌*◌, ◌≤◌, slice_index}
-use Rattle.cpu_words.specs.Names.{place}
+use Rattle.cpu_words.specs.Names.{place, stride}
 use Rattle.cpu_words.specs.declared.names.WordName.TheVariants.{Used}
 use Rattle.gate_world.specs.declared.config.Config.{Config}
 use Rattle.gate_runs.specs.declared.counts.Details.{Details}
@@ -31,7 +31,7 @@ run_config tasks processors rounds =
 pub record TellsRun {M : Type 0} (held : M → ℕ → ℕ → Type 0) (meeting : M) (tasks processors rounds freezes : ℕ) (totals : Totals)
     (details : Details) (closed : Ending) : Type 0 where
   pub config : closed.config ≡ run_config tasks processors rounds
-  pub grown : totals.grown ≡ slice_index closed.words (16 * place Used)
+  pub grown : totals.grown ≡ slice_index closed.words (stride * place Used)
   pub none_held : totals.held ≡ 0
   pub frozen : totals.frozen ≡ freezes
   pub snapshots : totals.snapshots ≡ freezes

@@ -12,4 +12,6 @@ pub mod Taking
 pub mod Holding
 pub mod Returning
 pub mod Resting
+pub mod Reopening
+pub mod Rounds
 pub mod CallingBack

@@ -40,7 +40,7 @@ module _ (m : ℕ) (read_only : Bool) (old left : TaskState) (outcome : Result (
   pub change_rests : Rests left
   change_rests = rests_on old left rests (keeps unit_of (ChangeMount m read_only true) old left outcome rests.0 does refl)
 
-  change_begins : m < old.config.mounts → refusal_at (ChangeMount m read_only true) old ≡ None
+  pub change_begins : m < old.config.mounts → refusal_at (ChangeMount m read_only true) old ≡ None
   change_begins mount =
       rw (
         rests.0,

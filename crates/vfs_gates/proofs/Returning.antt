@@ -43,7 +43,7 @@ pub was_done : (op : Op) (old left : TaskState) → Performs op old left (Ok tt)
 was_done op old left call = done_by_beginning op old left call (refusal_at op old) refl
 
 -- so its task may begin it
-may : (op : Op) (old left : TaskState) → WasDone op old left → MayBegin old.config (is_some old.phase) (held_at (own_view old.items))
+pub may : (op : Op) (old left : TaskState) → WasDone op old left → MayBegin old.config (is_some old.phase) (held_at (own_view old.items))
     (holds_level (own_view old.items)) (has_open (own_view old.items)) op
 may op old left was =
     may_begin old.config (is_some old.phase) (held_at (own_view old.items)) (holds_level (own_view old.items)) (has_open (own_view old.items)) op

@@ -1,6 +1,6 @@
 -- What is known of the words once no thread shares them.
 use Rattle.std.specs.Prelude.{ℕ, ◌*◌, ◌<◌, ◌≤◌, List, slice_index}
-use Rattle.cpu_words.specs.Names.{place}
+use Rattle.cpu_words.specs.Names.{place, stride}
 use Rattle.cpu_words.specs.declared.names.WordName.TheVariants.{Used, Node, Kids}
 use Rattle.gated_tree.specs.Nodes.{node_shown}
 use Rattle.gated_tree.specs.Trees.{IsSound}
@@ -43,5 +43,5 @@ HasOpeningWords c items = (ws : List ℕ) → EndedWith c ws items → TableShow
 -- parent is a directory.
 abbrev pub LeavesSoundTree : Config → List ℕ → Type 0
 LeavesSoundTree c ws =
-    IsSound c.nodes (slice_index ws (16 * place Used)) (λ n. node_shown (slice_index ws (16 * place (Node n))))
-    (λ n. slice_index ws (16 * place (Kids n)))
+    IsSound c.nodes (slice_index ws (stride * place Used)) (λ n. node_shown (slice_index ws (stride * place (Node n))))
+    (λ n. slice_index ws (stride * place (Kids n)))

@@ -18,5 +18,6 @@ pub mod Held
 pub mod Pairs
 pub mod Settled
 pub mod Taken
+pub mod Rounds
 pub use Rattle.call_events.specs.Runs
 pub use Rattle.call_events.specs.Asking

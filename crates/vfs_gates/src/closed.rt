@@ -2,7 +2,7 @@
 
 ghost use Rattle.std.specs.Prelude.{◌≡◌, ◌*◌, ◌%◌, ◌<◌, ◌≤◌, ℕ, IfSome, slice_index};
 ghost use Rattle.finite_sums.specs.Sums.{total};
-ghost use Rattle.cpu_words.specs.Names.{IsWord, place};
+ghost use Rattle.cpu_words.specs.Names.{IsWord, place, stride};
 ghost use Rattle.gate_world.specs.Configs.{extents_of};
 ghost use Rattle.vfs_gates.specs.Sums.{count_word, IsGate};
 
@@ -64,7 +64,7 @@ impl Closed {
 
     /// The value of a word; None where there is no such word.
     pub fn word(&self, name: WordName) -> Option<u64>
-        ensures there { IsWord (extents_of self.now.config) name → result ≡ Some (slice_index self.now.words (16 * place name)) }
+        ensures there { IsWord (extents_of self.now.config) name → result ≡ Some (slice_index self.now.words (stride * place name)) }
         ensures not_there { ¬ IsWord (extents_of self.now.config) name → result ≡ None }
         // Nobody has `umount`, no remount is under way, no mount holds writers off, and no read-side section is under way.
         ensures umount { name ≡ Umount → result ≡ Some 0 }
@@ -85,7 +85,7 @@ impl Closed {
     /// that there isn't.
     pub fn gate_sum(&self, gate: Gate) -> Option<u64>
         ensures there { IsGate self.now.config gate →
-            result ≡ Some (total self.now.config.processors (λ cpu. slice_index self.now.words (16 * place (count_word gate cpu)))
+            result ≡ Some (total self.now.config.processors (λ cpu. slice_index self.now.words (stride * place (count_word gate cpu)))
             % 18446744073709551616) }
         ensures not_there { ¬ IsGate self.now.config gate → result ≡ None }
         // Every access was given back, on whatever processors.

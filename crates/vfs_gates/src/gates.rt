@@ -12,12 +12,11 @@ use call_events::GateWords;
 use gate_world::Config;
 use std::alloc::Global;
 
-/// All words of the gates, which threads share by reference. From crates/backup_beside_writer/src/tasks.rt, a proved program:
+/// All words of the gates, which threads share by reference. From crates/backup_beside_writer/src/run.rt, a proved program:
 ///
 /// ```
 /// let (gates, mut first) = Gates::new(alloc, config)?;
 /// let second = first.split(alloc, &gates)?;
-/// Ok((gates, first, second))
 /// ```
 #[derive(Drop)]
 pub struct Gates {

@@ -1,6 +1,6 @@
 //! Laws of whole calls. The functions here do nothing: their contracts are the laws.
 
-ghost use Rattle.std.specs.Prelude.{◌≡◌, ◌≤◌, ◌<◌, ℕ, Bool, true, Some, None, Ok, Err, Result, IfErr, List, [], ◌∷◌, ◌++◌, length};
+ghost use Rattle.std.specs.Prelude.{◌≡◌, ◌≤◌, ◌<◌, ℕ, Bool, true, false, Some, None, Ok, Err, Result, IfErr, List, [], ◌∷◌, ◌++◌, length};
 ghost use Rattle.access_model.specs.declared.actions.Gate.TheVariants.{Mount};
 ghost use Rattle.access_model.specs.declared.errors.GateError.TheVariants.{Busy, ReadOnly};
 ghost use Rattle.access_model.specs.declared.errors.GateError.{GateError};
@@ -54,10 +54,12 @@ pub fn closed_gates_leave_a_sound_tree()
     ensures { (c : Config) (ws : List ℕ) → Ended c ws → LeavesSoundTree c ws }
 {}
 
-/// An access that a want was granted, and a drop right after it, on any processor that there is: the drop is not refused, both stand in the
-/// task's list, and the task is as it was. Does nothing: its contract is the law.
+/// An access that a want was granted, and a drop right after it, on the same processor or any that there is: the drop is not refused, both stand
+/// in the task's list, and the task is as it was. Does nothing: its contract is the law.
 pub fn a_granted_want_is_dropped()
-    ensures { (m p q : ℕ) (wait : Bool) (old there left : TaskState) (outcome : Result (Unit {0}) GateError) → q < old.config.processors →
+    ensures there { (m p : ℕ) (wait : Bool) (old there left : TaskState) (outcome : Result (Unit {0}) GateError) →
+        Performs (Want m p wait) old there (Ok tt) → Performs (DropMount m p) there left outcome → IsGivenBack (Mount m) old left outcome }
+    ensures anywhere { (m p q : ℕ) (wait : Bool) (old there left : TaskState) (outcome : Result (Unit {0}) GateError) → q < old.config.processors →
         Performs (Want m p wait) old there (Ok tt) → Performs (DropMount m q) there left outcome → IsGivenBack (Mount m) old left outcome }
 {}
 
@@ -68,21 +70,25 @@ pub fn a_refused_want_leaves_a_task_at_rest()
         Performs (Want m p true) old left (Err refusal) → (refusal ≡ ReadOnly) × (own_actions left ≡ own_actions old) × Rests left }
 {}
 
-/// A change of a mount by a task at rest is refused as Busy alone, and the task rests after it, refused or not. Does nothing: its contract is the
-/// law.
+/// A change of a mount by a task at rest is refused as Busy alone, and one to writable is done; the task rests after it, refused or not. Does
+/// nothing: its contract is the law.
 pub fn a_change_leaves_a_task_at_rest()
-    ensures { (m : ℕ) (read_only : Bool) (old left : TaskState) (outcome : Result (Unit {0}) GateError) → Rests old →
+    ensures done { (m : ℕ) (old left : TaskState) (outcome : Result (Unit {0}) GateError) → Rests old → m < old.config.mounts →
+        Performs (ChangeMount m false true) old left outcome → outcome ≡ Ok tt }
+    ensures rests { (m : ℕ) (read_only : Bool) (old left : TaskState) (outcome : Result (Unit {0}) GateError) → Rests old →
         m < old.config.mounts → Performs (ChangeMount m read_only true) old left outcome →
         IfErr outcome (λ refusal. refusal ≡ Busy) × Rests left }
 {}
 
-/// A call that takes no access and gives none back, and neither opens nor closes a file, leaves an idle task as it was, whatever it answers; so
-/// does any call that is refused. Does nothing: its contract is the law.
+/// A call that takes no access and gives none back, and neither opens nor closes a file, leaves an idle task as it was, whatever it answers, and
+/// so one that rests at rest; any call that is refused does. Does nothing: its contract is the law.
 pub fn a_call_that_takes_nothing_leaves_a_task_as_it_was()
     ensures kept { (op : Op) (old left : TaskState) (outcome : Result (Unit {0}) GateError) → IsIdle old → takes_nothing op ≡ true →
         Performs op old left outcome → IsAsBefore old left }
     ensures refused { (op : Op) (old left : TaskState) (refusal : GateError) → IsIdle old → Performs op old left (Err refusal) →
         IsAsBefore old left }
+    ensures rests { (op : Op) (old left : TaskState) (outcome : Result (Unit {0}) GateError) → Rests old → takes_nothing op ≡ true →
+        Performs op old left outcome → Rests left }
 {}
 
 /// Where two tasks were joined and the gates closed, each of their own numbers has in the world that is left the view that its task knew. Does

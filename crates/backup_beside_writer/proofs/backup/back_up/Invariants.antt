@@ -1,7 +1,6 @@
 -- The task comes from the gates, rests, and has made all copies so far, of which no more are torn.
 use Rattle.std.proofs.Common.{◌≤◌}
-use Rattle.vfs_gates.specs.Held.{Rests}
-use Rattle.vfs_gates.specs.TaskStates.{IsFrom}
+use Rattle.vfs_gates.specs.Rounds.{IsFrom, Rests}
 use Rattle.backup_beside_writer.specs.Told.{Copies}
 use Rattle.backup_beside_writer.proofs.backup.back_up.Given as goal
 

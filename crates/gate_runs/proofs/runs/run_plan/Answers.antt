@@ -1,7 +1,7 @@
 -- what the threads did is what their tasks' numbers have in the end
 use Rattle.std.proofs.Common.{rules, ◌≡◌, ℕ, inl, inr, sym, ◌*◌, ◌-◌, ◌≤◌, arith, subst, ap, ◌∙◌}
 use Rattle.std.specs.Prelude.{slice_index}
-use Rattle.cpu_words.specs.Names.{place}
+use Rattle.cpu_words.specs.Names.{place, stride}
 use Rattle.cpu_words.specs.declared.names.WordName.TheVariants.{Used}
 use Rattle.gate_world.specs.declared.config.Config.{Config}
 use Rattle.vfs_gates.specs.TaskStates.{TaskState}
@@ -38,7 +38,7 @@ returns-clause-tells g c =
     let did = c.in_ok-task.ensures.all in
     let views = closed.1.ended.world.views in
     let on : (s : TaskState) → Among items s → EndsAs views s = λ s h. ends_as views items s closed.1.mine h in
-    let grown : c.unwrap_or.result ≡ slice_index c.in_ok-closed.closed.words (16 * place Used) = search rules in
+    let grown : c.unwrap_or.result ≡ slice_index c.in_ok-closed.closed.words (stride * place Used) = search rules in
     record {
       config = closed.0 ∙ (made.0 ∙ c.config.ensures);
       grown = grown;

@@ -3,7 +3,7 @@ use Rattle.std.specs.Prelude.{slice_index}
 use Rattle.std.specs.Slots.{slots_items}
 use Rattle.finite_sums.specs.Sums.{total}
 use Rattle.access_model.specs.declared.actions.Gate.{Gate}
-use Rattle.cpu_words.specs.Names.{place}
+use Rattle.cpu_words.specs.Names.{place, stride}
 use Rattle.vfs_gates.specs.Sums.{count_word}
 use Rattle.vfs_gates.specs.Ended.{Ending}
 use Rattle.vfs_gates.proofs.Ending.{sums_to_none, level_sums_to_none}
@@ -13,7 +13,7 @@ pub returns-clause-mounts : goal.returns-clause-mounts
 returns-clause-mounts c m is lt = let w = c.self.inside in let ws = slots_items w.closed.words in
     let there : m < w.config.mounts = subst (λ (e : Ending). m < e.config.mounts) (sym c.self.view_is) lt in
     let all : c.loop-cpu.cpu ≡ w.config.processors = (let x = c.loop-cpu.auto in let y = c.loop-cpu-test.false in omega arith) in
-    let sum : ℕ → Gate → ℕ = λ n g. total n (λ p. slice_index ws (16 * place (count_word g p))) % 18446744073709551616 in
+    let sum : ℕ → Gate → ℕ = λ n g. total n (λ p. slice_index ws (stride * place (count_word g p))) % 18446744073709551616 in
     ap (λ (v : ℕ). Some v)
     (c.loop-cpu.invariant ∙ (ap (λ (n : ℕ). sum n c.args.gate) all ∙
     (ap (λ (g : Gate). sum w.config.processors g) is ∙ sums_to_none w.config ws c.self.invariant.4 m there)))
@@ -21,7 +21,7 @@ returns-clause-mounts c m is lt = let w = c.self.inside in let ws = slots_items 
 pub returns-clause-levels : goal.returns-clause-levels
 returns-clause-levels c i is l1 l3 = let w = c.self.inside in let ws = slots_items w.closed.words in
     let all : c.loop-cpu.cpu ≡ w.config.processors = (let x = c.loop-cpu.auto in let y = c.loop-cpu-test.false in omega arith) in
-    let sum : ℕ → Gate → ℕ = λ n g. total n (λ p. slice_index ws (16 * place (count_word g p))) % 18446744073709551616 in
+    let sum : ℕ → Gate → ℕ = λ n g. total n (λ p. slice_index ws (stride * place (count_word g p))) % 18446744073709551616 in
     ap (λ (v : ℕ). Some v)
     (c.loop-cpu.invariant ∙ (ap (λ (n : ℕ). sum n c.args.gate) all ∙
     (ap (λ (g : Gate). sum w.config.processors g) is ∙ level_sums_to_none w.config ws c.self.invariant.4 i l1 l3)))

@@ -2,11 +2,11 @@ use Rattle.std.proofs.Common.{◌≡◌, ◌*◌, ◌%◌}
 use Rattle.std.specs.Prelude.{slice_index}
 use Rattle.std.specs.Slots.{slots_items}
 use Rattle.finite_sums.specs.Sums.{total}
-use Rattle.cpu_words.specs.Names.{place}
+use Rattle.cpu_words.specs.Names.{place, stride}
 use Rattle.vfs_gates.specs.Sums.{count_word}
 use Rattle.vfs_gates.proofs.closed.Closed.gate_sum.Given as goal
 
 abbrev pub invariant-loop-cpu : goal.invariant-loop-cpu
 invariant-loop-cpu l =
     l.sum ≡
-    total l.cpu (λ p. slice_index (slots_items l.self-inside.closed.words) (16 * place (count_word l.gate p))) % 18446744073709551616
+    total l.cpu (λ p. slice_index (slots_items l.self-inside.closed.words) (stride * place (count_word l.gate p))) % 18446744073709551616

@@ -2,7 +2,7 @@ use Rattle.std.proofs.Common.{◌≡◌, ◌%◌, ◌*◌, ◌<◌, ℕ, Some, r
 use Rattle.std.specs.Prelude.{slice_index}
 use Rattle.std.specs.Slots.{slots_items}
 use Rattle.cpu_words.specs.declared.names.WordName.{WordName}
-use Rattle.cpu_words.specs.Names.{IsWord, place}
+use Rattle.cpu_words.specs.Names.{IsWord, place, stride}
 use Rattle.gate_world.specs.Configs.{extents_of}
 use Rattle.vfs_gates.proofs.Ending.{umount_free, no_remount, none_removed, no_hold, no_section}
 use Rattle.vfs_gates.proofs.closed.Closed.word.Goals as goal
@@ -10,26 +10,26 @@ use Rattle.vfs_gates.proofs.closed.Closed.word.Goals as goal
 pub returns-then-has_word-clause-umount : goal.returns-then-has_word-clause-umount
 returns-then-has_word-clause-umount c is = let w = c.self.inside in let ws = slots_items w.closed.words in
     ap (λ (v : ℕ). Some v)
-    (c.word_of.ensures ∙ (ap (λ (n : WordName). slice_index ws (16 * place n)) is ∙ umount_free w.config ws c.self.invariant.4))
+    (c.word_of.ensures ∙ (ap (λ (n : WordName). slice_index ws (stride * place n)) is ∙ umount_free w.config ws c.self.invariant.4))
 
 pub returns-then-has_word-clause-remount : goal.returns-then-has_word-clause-remount
 returns-then-has_word-clause-remount c is = let w = c.self.inside in let ws = slots_items w.closed.words in
     ap (λ (v : ℕ). Some v)
-    (c.word_of.ensures ∙ (ap (λ (n : WordName). slice_index ws (16 * place n)) is ∙ no_remount w.config ws c.self.invariant.4))
+    (c.word_of.ensures ∙ (ap (λ (n : WordName). slice_index ws (stride * place n)) is ∙ no_remount w.config ws c.self.invariant.4))
 
 pub returns-then-has_word-clause-removed : goal.returns-then-has_word-clause-removed
 returns-then-has_word-clause-removed c is = let w = c.self.inside in let ws = slots_items w.closed.words in
     ap (λ (v : ℕ). Some v)
-    (c.word_of.ensures ∙ (ap (λ (n : WordName). slice_index ws (16 * place n)) is ∙ none_removed w.config ws c.self.invariant.4))
+    (c.word_of.ensures ∙ (ap (λ (n : WordName). slice_index ws (stride * place n)) is ∙ none_removed w.config ws c.self.invariant.4))
 
 pub returns-then-has_word-clause-hold : goal.returns-then-has_word-clause-hold
 returns-then-has_word-clause-hold c m is = let w = c.self.inside in let ws = slots_items w.closed.words in
     let there = subst (λ (n : WordName). IsWord (extents_of w.config) n) is (c.if-has_word.ensures.0 refl) in
-    subst (λ (v : ℕ). v < 2) (sym (c.word_of.ensures ∙ ap (λ (n : WordName). slice_index ws (16 * place n)) is))
+    subst (λ (v : ℕ). v < 2) (sym (c.word_of.ensures ∙ ap (λ (n : WordName). slice_index ws (stride * place n)) is))
     (no_hold w.config ws c.self.invariant.4 m there)
 
 pub returns-then-has_word-clause-sections : goal.returns-then-has_word-clause-sections
 returns-then-has_word-clause-sections c t is = let w = c.self.inside in let ws = slots_items w.closed.words in
     let there = subst (λ (n : WordName). IsWord (extents_of w.config) n) is (c.if-has_word.ensures.0 refl) in
-    subst (λ (v : ℕ). v % 2 ≡ 0) (sym (c.word_of.ensures ∙ ap (λ (n : WordName). slice_index ws (16 * place n)) is))
+    subst (λ (v : ℕ). v % 2 ≡ 0) (sym (c.word_of.ensures ∙ ap (λ (n : WordName). slice_index ws (stride * place n)) is))
     (no_section w.config ws c.self.invariant.4 t there)

@@ -1,0 +1,62 @@
+-- Laws for a caller. Their arguments are found from what its calls ensure.
+use Rattle.std.proofs.Common.{◌≡◌, ℕ, ◌<◌, ◌≤◌, Bool, true, false, List, [], ◌++◌, length, refl, sym, ap, ◌∙◌, subst}
+use Rattle.std.proofs.lemmas.Bool.{and_parts, ltb-true}
+use Rattle.std.specs.Prelude.{Result, Ok, nat_lt}
+use Rattle.access_model.specs.declared.replies.{Reply.Reply}
+use Rattle.gate_world.specs.declared.operations.Op.TheVariants.{Want, DropMount}
+use Rattle.call_events.specs.Runs.{told_as, unit_of}
+use Rattle.call_events.specs.Seating.{SeatItems}
+use Rattle.gate_world.specs.declared.config.Config.{Config}
+use Rattle.vfs_gates.specs.Held.{IsGivenBack, takes_nothing}
+use Rattle.vfs_gates.specs.Ended.{EndedWith}
+use Rattle.vfs_gates.specs.Rounds.{GateError, Mount, Op, ChangeMount, Performs, Rests, TaskState, Did, Ended, own_actions}
+use Rattle.vfs_gates.specs.TaskStates.{own_number}
+use Rattle.vfs_gates.proofs.Holding.{keeps, rests_on}
+use Rattle.vfs_gates.proofs.Reopening.{Opens, opens}
+use Rattle.vfs_gates.proofs.Resting.{both_end, change_begins}
+use Rattle.vfs_gates.proofs.Returning.{may, was_done, dropped}
+
+-- a call that takes nothing leaves a task at rest
+pub rests_after : {op : Op} {old left : TaskState} {outcome : Result (Unit {0}) GateError} → takes_nothing op ≡ true → Rests old →
+    Performs op old left outcome → Rests left
+rests_after {op = op} {old = old} {left = left} {outcome = outcome} none rests call =
+    rests_on old left rests (keeps unit_of op old left outcome rests.0 call none)
+
+-- an access that a want was granted is given back on the processor where it was taken
+pub given_back : {m p : ℕ} {wait : Bool} {old there left : TaskState} {outcome : Result (Unit {0}) GateError} →
+    Performs (Want m p wait) old there (Ok tt) → Performs (DropMount m p) there left outcome → IsGivenBack (Mount m) old left outcome
+given_back {m = m} {p = p} {wait = wait} {old = old} {there = there} {left = left} {outcome = outcome} took gives =
+    let began = may (Want m p wait) old there (was_done (Want m p wait) old there took) in
+    let range = and_parts (nat_lt m old.config.mounts) (nat_lt p old.config.processors) began.range in
+    dropped m p p wait old there left outcome (ltb-true p old.config.processors range.1) took gives
+
+-- a change to writable that waits is done
+pub made_writable : {m : ℕ} {old left : TaskState} {outcome : Result (Unit {0}) GateError} → Rests old → m < old.config.mounts →
+    Performs (ChangeMount m false true) old left outcome → outcome ≡ Ok tt
+made_writable {m = m} {old = old} {left = left} {outcome = outcome} rests mount call =
+    let done = call.done (change_begins m false old left outcome rests call mount) in
+    let reply : done.0 ≡ Ok Reply.Unit = subst (Opens old.config (own_number old.items) m) done.2.ends (opens old.config (own_number old.items) m done.2.trace) in
+    done.1 ∙ ap (told_as unit_of) reply
+
+-- so is one of a mount that the task has just made read-only, and leaves it at rest
+pub reopened : {m : ℕ} {old there left : TaskState} {outcome : Result (Unit {0}) GateError} → Rests old →
+    Performs (ChangeMount m true true) old there (Ok tt) → Performs (ChangeMount m false true) there left outcome → (outcome ≡ Ok tt) × Rests left
+reopened {m = m} {old = old} {there = there} rests closed call =
+    let began = may (ChangeMount m true true) old there (was_done (ChangeMount m true true) old there closed) in
+    let mount : m < there.config.mounts = subst (λ d. m < d.mounts) (sym closed.config) (ltb-true m old.config.mounts began.range) in
+    let at_rest = rests_after refl rests closed in
+    (made_writable at_rest mount call, rests_after refl at_rest call)
+
+-- Two tasks that had done nothing, did this each, and were joined, whose gates were closed: their numbers have it in the end.
+pub joined_did : {c : Config} {ws : List ℕ} {items : SeatItems} {one two : ℕ} (F S : TaskState → TaskState → Type 0)
+    (f s first second : TaskState) → (e : EndedWith c ws items) → items ≡ first.items ++ second.items →
+    one ≡ own_number first.items → 1 ≤ length first.items → two ≡ own_number second.items → 1 ≤ length second.items →
+    (own_actions f ≡ []) × (own_actions s ≡ []) → F f first → S s second →
+    (ended : Ended c ws) × Did (ended.world.views one) F × Did (ended.world.views two) S
+joined_did {c = c} {ws = ws} F S f s first second e joined own there own' there' nothing did did' =
+    let both : EndedWith c ws (first.items ++ second.items) = subst (EndedWith c ws) joined e in
+    let ends = both_end c ws first.items second.items both there there' in (
+      both.ended,
+      record { begins = f; ends = first; nothing = nothing.0; does = did; last = ap both.ended.world.views own ∙ ends.0 },
+      record { begins = s; ends = second; nothing = nothing.1; does = did'; last = ap both.ended.world.views own' ∙ ends.1 },
+    )
