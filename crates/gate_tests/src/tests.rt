@@ -11,13 +11,15 @@ mod lost;
 mod opens;
 mod pairs;
 mod steps;
+mod tasks;
 mod threads;
 
 use access_model::{GateError, Holder};
 use freeze_levels::FsHooks;
 use gate_world::Config;
 use std::sync::Wait;
-use vfs_gates::{Gates, Task};
+use tasks::Task;
+use vfs_gates::Gates;
 
 /// So many tasks at one mount, with two processors and one node beside the root.
 fn small(tasks: u8) -> Config {

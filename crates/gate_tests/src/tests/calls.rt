@@ -2,13 +2,14 @@
 
 ghost use Rattle.vfs_gates.specs.TaskStates.{IsFrom};
 
+use super::tasks::{Task, close, open};
 use super::{freezes, small, thaws};
 use access_model::{Gate, GateError, Kind};
 use cpu_words::WordName;
 use gate_world::Config;
 use std::sync::Wait;
 use std::test::Fail;
-use vfs_gates::{Closed, Gates, Task};
+use vfs_gates::{Closed, Gates};
 
 /// Whether accesses at a mount are taken with one processor and given back with the other, and keep it writable meanwhile.
 fn wants_and_drops<R: Wait>(task: &mut Task, rt: &R, gates: &Gates) -> bool
@@ -82,18 +83,18 @@ fn is_left(closed: &Closed) -> bool {
 
 #[test]
 fn gates_are_opened_shared_and_closed(rt: HostRuntime) -> Result<(), Fail> {
-    let (gates, mut task) = Gates::new(rt.alloc(), small(2))?;
+    let (gates, mut task) = open(rt.alloc(), small(2))?;
     let mut other = task.split(rt.alloc(), &gates)?;
     assert!(rt; task.number() == 0 && other.number() == 1 && task.is_idle());
     assert!(rt; wants_and_drops(&mut task, &rt, &gates));
     assert!(rt; shuts_and_opens(&mut other, &rt, &gates));
     assert!(rt; starts_and_ends(&mut task, &rt, &gates));
     assert!(rt; freezes_and_thaws(&mut other, &mut task, &rt, &gates));
-    let Err((GateError::Order, gates, mut task)) = gates.close(task) else {
+    let Err((GateError::Order, gates, mut task)) = close(gates, task) else {
         panic!(rt; "closed without the other")
     };
     assert!(rt; task.join(&gates, other).is_ok());
-    let Ok(closed) = gates.close(task) else {
+    let Ok(closed) = close(gates, task) else {
         panic!(rt; "not closed")
     };
     assert!(rt; is_left(&closed));
@@ -162,12 +163,12 @@ fn files_come_and_go_and_are_copied(rt: HostRuntime) -> Result<(), Fail> {
         nodes: 4,
         ..small(1)
     };
-    let (gates, mut task) = Gates::new(rt.alloc(), config)?;
+    let (gates, mut task) = open(rt.alloc(), config)?;
     assert!(rt; writes(&mut task, &rt, &gates));
     assert!(rt; writes_back(&mut task, &rt, &gates));
     assert!(rt; fills_and_leaves(&mut task, &gates));
     assert!(rt; backs_up(&mut task, &rt, &gates));
-    let Ok(closed) = gates.close(task) else {
+    let Ok(closed) = close(gates, task) else {
         panic!(rt; "not closed")
     };
     assert_eq!(rt; closed.word(WordName::Used), Some(5));

@@ -3,6 +3,7 @@
 ghost use Rattle.vfs_gates.specs.TaskStates.{IsFrom};
 
 use super::hooks::{FailsAt, Question};
+use super::tasks::{Task, open};
 use super::{freezes, small, thaws};
 use access_model::{GateError, Holder};
 use cpu_words::{Event, WordName};
@@ -12,7 +13,7 @@ use gate_core::Progress;
 use gate_world::Op;
 use std::sync::Wait;
 use std::test::Fail;
-use vfs_gates::{Gates, Task};
+use vfs_gates::Gates;
 
 /// Remounts read-only, so often while it is busy.
 fn shut<R: Wait, H: FsHooks>(
@@ -158,7 +159,7 @@ fn meets_a_freeze<R: Wait>(task: &mut Task, other: &mut Task, rt: &R, gates: &Ga
 
 #[test]
 fn a_busy_remount_tells_what_was_in_the_way(rt: HostRuntime) -> Result<(), Fail> {
-    let (gates, mut task) = Gates::new(rt.alloc(), small(2))?;
+    let (gates, mut task) = open(rt.alloc(), small(2))?;
     let mut other = task.split(rt.alloc(), &gates)?;
     assert_eq!(rt; other.want(&rt, &gates, 0, 1), Ok(()));
     assert!(rt; meets_an_access(&mut task, &rt, &gates));
@@ -193,7 +194,7 @@ fn is_refused<R: Wait>(task: &mut Task, rt: &R, gates: &Gates) -> bool
 
 #[test]
 fn a_backup_takes_what_another_froze(rt: HostRuntime) -> Result<(), Fail> {
-    let (gates, mut task) = Gates::new(rt.alloc(), small(2))?;
+    let (gates, mut task) = open(rt.alloc(), small(2))?;
     let mut other = task.split(rt.alloc(), &gates)?;
     assert!(rt; backs_up_anothers(&mut other, &mut task, &rt, &gates));
     assert!(rt; is_refused(&mut task, &rt, &gates));
@@ -202,7 +203,7 @@ fn a_backup_takes_what_another_froze(rt: HostRuntime) -> Result<(), Fail> {
 
 #[test]
 fn a_snapshot_freezes_where_nothing_is_frozen(rt: HostRuntime) -> Result<(), Fail> {
-    let (gates, mut task) = Gates::new(rt.alloc(), small(1))?;
+    let (gates, mut task) = open(rt.alloc(), small(1))?;
     assert_eq!(rt; task.snapshot(&rt, &gates), Err(GateError::Invalid));
     assert_eq!(rt; take(&rt, &gates, &mut task, &mut (), 2), Ok(()));
     assert!(rt; task.tree().is_some());

@@ -2,10 +2,11 @@
 
 ghost use Rattle.vfs_gates.specs.TaskStates.{IsFrom};
 
+use super::tasks::{Task, open};
 use super::{freezes, small, thaws};
 use gate_world::Config;
 use std::test::Fail;
-use vfs_gates::{Gates, Task};
+use vfs_gates::Gates;
 
 /// Whether each try at a mount and each at a level is granted by this processor, and each return on the other one is done.
 fn grants_each(task: &mut Task, gates: &Gates, mount: u8, cpu: u8) -> bool
@@ -31,7 +32,7 @@ fn each_try_is_granted(rt: HostRuntime) -> Result<(), Fail> {
         mounts: 2,
         ..small(2)
     };
-    let (gates, mut task) = Gates::new(rt.alloc(), config)?;
+    let (gates, mut task) = open(rt.alloc(), config)?;
     let mut other = task.split(rt.alloc(), &gates)?;
     assert!(rt; grants_each(&mut task, &gates, 0, 0));
     assert!(rt; grants_each(&mut other, &gates, 0, 1));

@@ -3,11 +3,12 @@
 ghost use Rattle.vfs_gates.specs.TaskStates.{IsFrom};
 
 use super::small;
+use super::tasks::{Task, close, open};
 use access_model::{GateError, Holder};
 use cpu_words::WordName;
 use std::sync::Wait;
 use std::test::Fail;
-use vfs_gates::{Gates, Task};
+use vfs_gates::Gates;
 
 /// Whether a second holder joins what the first has frozen, and a second freeze of one holder is refused.
 fn both_freeze<R: Wait>(one: &mut Task, other: &mut Task, rt: &R, gates: &Gates) -> bool
@@ -35,12 +36,12 @@ fn both_thaw<R: Wait>(one: &mut Task, other: &mut Task, rt: &R, gates: &Gates) -
 
 #[test]
 fn all_stays_frozen_until_both_holders_thaw(rt: HostRuntime) -> Result<(), Fail> {
-    let (gates, mut task) = Gates::new(rt.alloc(), small(2))?;
+    let (gates, mut task) = open(rt.alloc(), small(2))?;
     let mut other = task.split(rt.alloc(), &gates)?;
     assert!(rt; both_freeze(&mut task, &mut other, &rt, &gates));
     assert!(rt; both_thaw(&mut task, &mut other, &rt, &gates));
     assert!(rt; task.join(&gates, other).is_ok());
-    let Ok(closed) = gates.close(task) else {
+    let Ok(closed) = close(gates, task) else {
         panic!(rt; "not closed")
     };
     assert_eq!(rt; closed.word(WordName::Holders), Some(0));

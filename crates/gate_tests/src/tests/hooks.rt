@@ -3,12 +3,13 @@
 
 ghost use Rattle.vfs_gates.specs.TaskStates.{IsFrom};
 
+use super::tasks::{Task, open};
 use super::{freeze, freezes, small, thaw, thaws};
 use access_model::GateError;
 use freeze_levels::FsHooks;
 use std::sync::Wait;
 use std::test::Fail;
-use vfs_gates::{Gates, Task};
+use vfs_gates::Gates;
 
 /// A question that a call asks the file system.
 #[derive(Clone, Copy, PartialEq, Eq, Debug)]
@@ -180,7 +181,7 @@ fn fails_and_is_done_again<R: Wait>(
 /// 16 is EBUSY's number.
 #[test]
 fn freezes_and_thaws_fail_at_each_of_their_hooks(rt: HostRuntime) -> Result<(), Fail> {
-    let (gates, mut task) = Gates::new(rt.alloc(), small(1))?;
+    let (gates, mut task) = open(rt.alloc(), small(1))?;
     assert!(rt; fails_and_is_done_again(&mut task, &rt, &gates, Question::Sync, 16));
     assert!(rt; fails_and_is_done_again(&mut task, &rt, &gates, Question::UnfreezeFs, 0));
     assert!(rt; fails_and_is_done_again(&mut task, &rt, &gates, Question::FreezeFs, u16::MAX));
@@ -189,7 +190,7 @@ fn freezes_and_thaws_fail_at_each_of_their_hooks(rt: HostRuntime) -> Result<(), 
 
 #[test]
 fn a_remount_fails_at_its_hook(rt: HostRuntime) -> Result<(), Fail> {
-    let (gates, mut task) = Gates::new(rt.alloc(), small(1))?;
+    let (gates, mut task) = open(rt.alloc(), small(1))?;
     assert!(rt; fails_and_is_done_again(&mut task, &rt, &gates, Question::ToReadOnly, 5));
     assert!(rt; fails_and_is_done_again(&mut task, &rt, &gates, Question::ToWritable, 30));
     Ok(())
@@ -251,7 +252,7 @@ fn asks_nothing_read_only<R: Wait>(task: &mut Task, rt: &R, gates: &Gates) -> bo
 
 #[test]
 fn a_call_that_needs_no_answer_asks_nothing(rt: HostRuntime) -> Result<(), Fail> {
-    let (gates, mut task) = Gates::new(rt.alloc(), small(1))?;
+    let (gates, mut task) = open(rt.alloc(), small(1))?;
     let invalid = Err(GateError::Invalid);
     assert!(rt; asks_nothing(&mut task, &rt, &gates, Question::UnfreezeFs, invalid));
     assert!(rt; asks_nothing(&mut task, &rt, &gates, Question::ToWritable, Ok(())));

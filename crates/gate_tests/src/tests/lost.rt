@@ -4,19 +4,20 @@ ghost use Rattle.std.specs.Prelude.{IfOk};
 ghost use Rattle.vfs_gates.specs.TaskStates.{IsFrom};
 
 use super::small;
+use super::tasks::{Task, close, open};
 use access_model::GateError;
 use gate_core::Progress;
 use gate_world::{Config, Op};
 use std::alloc::Global;
 use std::test::Fail;
-use vfs_gates::{Gates, Task};
+use vfs_gates::Gates;
 
 /// Whether the gates can't be closed with the task that is left, and both come back as they were: a change of the first mount still answers
 /// so.
 fn stay_open(gates: Gates, task: Task, change: Result<(), GateError>) -> bool
     requires { IsFrom task gates }
 {
-    let Err((refusal, gates, mut task)) = gates.close(task) else {
+    let Err((refusal, gates, mut task)) = close(gates, task) else {
         return false;
     };
     refusal == GateError::Order
@@ -46,7 +47,7 @@ fn a_lost_access_keeps_its_mount_busy(rt: HostRuntime) -> Result<(), Fail> {
         mounts: 2,
         ..small(2)
     };
-    let (gates, mut task) = Gates::new(rt.alloc(), config)?;
+    let (gates, mut task) = open(rt.alloc(), config)?;
     let mut lost = task.split(rt.alloc(), &gates)?;
     assert_eq!(rt; lost.try_want(&gates, 0, 1), Ok(()));
     drop(lost);
@@ -80,7 +81,7 @@ fn lose_owner(alloc: Global, events: u8) -> Result<(Gates, Task), GateError>
         mounts: 2,
         ..small(2)
     };
-    let (gates, mut task) = Gates::new(alloc, config)?;
+    let (gates, mut task) = open(alloc, config)?;
     let mut lost = task.split(alloc, &gates)?;
     if !goes_up_to(&mut lost, &gates, events) {
         return Err(GateError::Order);
@@ -136,7 +137,7 @@ fn a_lost_owner_keeps_hold(rt: HostRuntime) -> Result<(), Fail> {
 /// A freeze would wait for it for ever, so none is asked for here.
 #[test]
 fn a_task_is_lost_inside_a_level(rt: HostRuntime) -> Result<(), Fail> {
-    let (gates, mut task) = Gates::new(rt.alloc(), small(2))?;
+    let (gates, mut task) = open(rt.alloc(), small(2))?;
     let mut lost = task.split(rt.alloc(), &gates)?;
     assert_eq!(rt; lost.try_start(&gates, 1, 0), Ok(()));
     drop(lost);
@@ -146,7 +147,7 @@ fn a_task_is_lost_inside_a_level(rt: HostRuntime) -> Result<(), Fail> {
 
 #[test]
 fn a_task_is_lost_at_rest(rt: HostRuntime) -> Result<(), Fail> {
-    let (gates, mut task) = Gates::new(rt.alloc(), small(2))?;
+    let (gates, mut task) = open(rt.alloc(), small(2))?;
     let lost = task.split(rt.alloc(), &gates)?;
     drop(lost);
     let refused = task.split(rt.alloc(), &gates).err();

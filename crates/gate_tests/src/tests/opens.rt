@@ -2,13 +2,14 @@
 
 ghost use Rattle.vfs_gates.specs.TaskStates.{IsFrom};
 
+use super::tasks::{Task, close, open};
 use super::{freezes, small, thaws};
 use access_model::{Gate, GateError, Kind};
 use cpu_words::WordName;
 use gated_tree::Tree;
 use std::sync::Wait;
 use std::test::Fail;
-use vfs_gates::{Closed, Gates, Task};
+use vfs_gates::{Closed, Gates};
 
 /// Whether a file is made, and write access kept.
 fn makes_a_file<R: Wait>(task: &mut Task, rt: &R, gates: &Gates) -> bool
@@ -136,7 +137,7 @@ fn is_left(closed: &Closed) -> bool {
 
 #[test]
 fn a_removed_file_is_there_until_its_last_close(rt: HostRuntime) -> Result<(), Fail> {
-    let (gates, mut task) = Gates::new(rt.alloc(), small(2))?;
+    let (gates, mut task) = open(rt.alloc(), small(2))?;
     let mut other = task.split(rt.alloc(), &gates)?;
     assert!(rt; makes_a_file(&mut task, &rt, &gates));
     assert!(rt; opens_once(&mut task, &gates));
@@ -147,7 +148,7 @@ fn a_removed_file_is_there_until_its_last_close(rt: HostRuntime) -> Result<(), F
     assert!(rt; is_shut_and_opened(&mut other, &rt, &gates));
     assert!(rt; takes_the_node(&mut other, &rt, &gates));
     assert!(rt; task.join(&gates, other).is_ok());
-    let Ok(closed) = gates.close(task) else {
+    let Ok(closed) = close(gates, task) else {
         panic!(rt; "not closed")
     };
     assert!(rt; is_left(&closed));
@@ -166,13 +167,13 @@ fn keeps_a_file_open<R: Wait>(task: &mut Task, rt: &R, gates: &Gates) -> bool
 
 #[test]
 fn gates_with_a_file_open_are_not_closed(rt: HostRuntime) -> Result<(), Fail> {
-    let (gates, mut task) = Gates::new(rt.alloc(), small(1))?;
+    let (gates, mut task) = open(rt.alloc(), small(1))?;
     assert!(rt; keeps_a_file_open(&mut task, &rt, &gates));
-    let Err((GateError::Order, gates, mut task)) = gates.close(task) else {
+    let Err((GateError::Order, gates, mut task)) = close(gates, task) else {
         panic!(rt; "closed with a file open")
     };
     assert!(rt; task.try_close_file(&gates, 1, 0).is_ok());
-    let Ok(closed) = gates.close(task) else {
+    let Ok(closed) = close(gates, task) else {
         panic!(rt; "not closed")
     };
     assert_eq!(rt; closed.word(WordName::Used), Some(5));
@@ -181,7 +182,7 @@ fn gates_with_a_file_open_are_not_closed(rt: HostRuntime) -> Result<(), Fail> {
 
 #[test]
 fn a_task_with_a_file_open_is_not_joined(rt: HostRuntime) -> Result<(), Fail> {
-    let (gates, mut task) = Gates::new(rt.alloc(), small(2))?;
+    let (gates, mut task) = open(rt.alloc(), small(2))?;
     let mut other = task.split(rt.alloc(), &gates)?;
     assert!(rt; keeps_a_file_open(&mut other, &rt, &gates));
     let Err((GateError::Order, mut other)) = task.join(&gates, other) else {

@@ -3,13 +3,14 @@
 ghost use Rattle.vfs_gates.specs.TaskStates.{IsFrom};
 
 use super::small;
+use super::tasks::{Task, open};
 use access_model::GateError;
 use cpu_words::WordName;
 use freeze_levels::HookKind;
 use gate_core::{Core, Progress};
 use gate_world::Op;
 use std::test::Fail;
-use vfs_gates::{Gates, Task};
+use vfs_gates::Gates;
 
 /// Whether a remount begins, and its first two events are done: it takes `umount` and finds nothing frozen.
 fn begins(task: &mut Task, gates: &Gates) -> bool
@@ -39,7 +40,7 @@ fn ends(task: &mut Task, gates: &Gates) -> bool
 
 #[test]
 fn a_task_goes_by_steps(rt: HostRuntime) -> Result<(), Fail> {
-    let (gates, mut task) = Gates::new(rt.alloc(), small(2))?;
+    let (gates, mut task) = open(rt.alloc(), small(2))?;
     let mut other = task.split(rt.alloc(), &gates)?;
     assert!(rt; begins(&mut other, &gates));
     let Err((GateError::Order, mut other)) = task.join(&gates, other) else {

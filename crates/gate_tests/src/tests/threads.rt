@@ -10,15 +10,16 @@ mod remounts;
 mod runs;
 mod trees;
 
+use super::tasks::{Task, close};
 use access_model::Gate;
-use vfs_gates::{Closed, Gates, Task};
+use vfs_gates::{Closed, Gates};
 
 /// Joins the last other task, and closes the gates; None where either is refused.
 fn join_and_close(gates: Gates, mut task: Task, other: Task) -> Option<Closed>
     requires { IsFrom task gates × IsFrom other gates }
 {
     task.join(&gates, other).ok()?;
-    gates.close(task).ok()
+    close(gates, task).ok()
 }
 
 /// The same with two others.

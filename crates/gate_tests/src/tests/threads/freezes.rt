@@ -2,6 +2,7 @@
 
 ghost use Rattle.vfs_gates.specs.TaskStates.{IsFrom};
 
+use super::super::tasks::{Task, open};
 use super::super::{freeze, small, thaw};
 use super::{count_nobody, join_both_and_close};
 use access_model::{Gate, GateError};
@@ -12,7 +13,7 @@ use std::sync::atomic::{AtomicU64, Ordering};
 use std::test::Fail;
 use std::thread;
 use std::thread::Threads;
-use vfs_gates::{Gates, Task};
+use vfs_gates::Gates;
 
 /// How often the file system is frozen where threads meet.
 const FREEZES: u16 = 200;
@@ -255,7 +256,7 @@ fn freezes_and_callbacks<R: Wait + Threads + Sync>(
 
 #[test]
 fn nobody_is_inside_while_it_is_frozen(rt: HostRuntime) -> Result<(), Fail> {
-    let (gates, mut task) = Gates::new(rt.alloc(), small(4))?;
+    let (gates, mut task) = open(rt.alloc(), small(4))?;
     let one = task.split(rt.alloc(), &gates)?;
     let two = task.split(rt.alloc(), &gates)?;
     let caller = task.split(rt.alloc(), &gates)?;

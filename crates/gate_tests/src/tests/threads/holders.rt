@@ -3,6 +3,7 @@
 ghost use Rattle.vfs_gates.specs.TaskStates.{IsFrom};
 
 use super::super::small;
+use super::super::tasks::{Task, open};
 use super::join_both_and_close;
 use access_model::{GateError, Holder, Kind};
 use cpu_words::WordName;
@@ -13,7 +14,7 @@ use std::sync::atomic::{AtomicU64, Ordering};
 use std::test::Fail;
 use std::thread;
 use std::thread::Threads;
-use vfs_gates::{Closed, Gates, Task};
+use vfs_gates::{Closed, Gates};
 
 /// How many nodes there are.
 const NODES: u8 = 6;
@@ -267,7 +268,7 @@ fn no_snapshot_is_of_an_open_file_system(rt: HostRuntime) -> Result<(), Fail> {
         nodes: NODES,
         ..small(4)
     };
-    let (gates, mut task) = Gates::new(rt.alloc(), config)?;
+    let (gates, mut task) = open(rt.alloc(), config)?;
     let one = task.split(rt.alloc(), &gates)?;
     let two = task.split(rt.alloc(), &gates)?;
     let three = task.split(rt.alloc(), &gates)?;

@@ -3,6 +3,7 @@
 ghost use Rattle.vfs_gates.specs.TaskStates.{IsFrom};
 
 use super::super::small;
+use super::super::tasks::{Task, open};
 use super::{count_nobody, join_both_and_close};
 use access_model::{Gate, GateError};
 use cpu_words::WordName;
@@ -10,7 +11,7 @@ use std::sync::Wait;
 use std::test::Fail;
 use std::thread;
 use std::thread::Threads;
-use vfs_gates::{Gates, Task};
+use vfs_gates::Gates;
 
 /// Tries to make a mount read-only, up to a million times, until that was done so often, and each time makes it writable again. Says how
 /// often it was done, and how often a want then found the mount writable, or the change back was refused.
@@ -86,7 +87,7 @@ pub(super) fn both_want<R: Threads + Wait + Sync>(
 
 #[test]
 fn a_change_keeps_its_own_thread_out(rt: HostRuntime) -> Result<(), Fail> {
-    let (gates, mut task) = Gates::new(rt.alloc(), small(3))?;
+    let (gates, mut task) = open(rt.alloc(), small(3))?;
     let one = task.split(rt.alloc(), &gates)?;
     let two = task.split(rt.alloc(), &gates)?;
     let ((task, done, wrong), ((one, bad), (two, worse))) = thread::join(

@@ -2,6 +2,7 @@
 
 ghost use Rattle.vfs_gates.specs.TaskStates.{IsFrom};
 
+use super::super::tasks::{Task, open};
 use super::super::{freezes, small, thaws};
 use super::{count_nobody, join_both_and_close};
 use access_model::{Gate, GateError, Kind, NodeInfo};
@@ -12,7 +13,7 @@ use std::sync::Wait;
 use std::test::Fail;
 use std::thread;
 use std::thread::Threads;
-use vfs_gates::{Closed, Gates, Task};
+use vfs_gates::{Closed, Gates};
 
 /// How many nodes there are where threads meet.
 const NODES: u8 = 6;
@@ -301,7 +302,7 @@ fn no_removed_file_is_left_open(rt: HostRuntime) -> Result<(), Fail> {
         nodes: NODES,
         ..small(4)
     };
-    let (gates, mut task) = Gates::new(rt.alloc(), config)?;
+    let (gates, mut task) = open(rt.alloc(), config)?;
     let one = task.split(rt.alloc(), &gates)?;
     let two = task.split(rt.alloc(), &gates)?;
     let other = task.split(rt.alloc(), &gates)?;

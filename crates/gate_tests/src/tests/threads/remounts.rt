@@ -3,6 +3,7 @@
 ghost use Rattle.vfs_gates.specs.TaskStates.{IsFrom};
 
 use super::super::small;
+use super::super::tasks::{Task, open};
 use super::mounts::both_want;
 use super::{count_nobody, join_both_and_close};
 use access_model::{Gate, GateError};
@@ -12,7 +13,7 @@ use gate_world::Config;
 use std::sync::Wait;
 use std::test::Fail;
 use std::thread;
-use vfs_gates::{Gates, Task};
+use vfs_gates::Gates;
 
 /// How many mounts there are where threads meet.
 const MOUNTS: u8 = 3;
@@ -152,7 +153,7 @@ fn a_remount_keeps_its_own_thread_out(rt: HostRuntime) -> Result<(), Fail> {
         mounts: MOUNTS,
         ..small(3)
     };
-    let (gates, mut task) = Gates::new(rt.alloc(), config)?;
+    let (gates, mut task) = open(rt.alloc(), config)?;
     let one = task.split(rt.alloc(), &gates)?;
     let two = task.split(rt.alloc(), &gates)?;
     let ((mut task, done, wrong), ((one, bad), (two, worse))) = thread::join(

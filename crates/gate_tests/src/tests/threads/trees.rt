@@ -2,6 +2,7 @@
 
 ghost use Rattle.vfs_gates.specs.TaskStates.{IsFrom};
 
+use super::super::tasks::{Task, open};
 use super::super::{freezes, small, thaws};
 use super::join_both_and_close;
 use access_model::{GateError, Kind};
@@ -12,7 +13,7 @@ use std::sync::Wait;
 use std::test::Fail;
 use std::thread;
 use std::thread::Threads;
-use vfs_gates::{Closed, Gates, Task};
+use vfs_gates::{Closed, Gates};
 
 /// How many nodes there are where threads meet.
 const NODES: u8 = 12;
@@ -144,7 +145,7 @@ fn snapshots_beside_writers_are_whole(rt: HostRuntime) -> Result<(), Fail> {
         capacity: 20,
         ..small(3)
     };
-    let (gates, mut task) = Gates::new(rt.alloc(), config)?;
+    let (gates, mut task) = open(rt.alloc(), config)?;
     let one = task.split(rt.alloc(), &gates)?;
     let two = task.split(rt.alloc(), &gates)?;
     assert!(rt; makes_a_directory(&mut task, &rt, &gates));
