@@ -1,6 +1,6 @@
 -- What calls of its own leave a task, and what it is among others in the end.
 use Rattle.std.proofs.Common.{◌≡◌, ℕ, zero, suc, ◌+◌, ◌≤◌, List, [], ◌∷◌, ◌++◌, length, refl, ap, sym, subst, ◌∙◌, arith, inl, inr}
-use Rattle.std.specs.Prelude.{Option, Some, None, Result, Ok, Err, OnOk}
+use Rattle.std.specs.Prelude.{Option, Some, None, Result}
 use Rattle.access_model.specs.declared.errors.GateError.{GateError}
 use Rattle.access_model.specs.declared.replies.Reply.{Reply}
 use Rattle.gate_world.specs.declared.config.Config.{Config}
@@ -200,11 +200,6 @@ pub each_popped : {A : Type 0} (Is : ℕ → A → Type 0) (all rest : List A) (
 each_popped Is all rest x are each =
     let parts = each_last Is 0 rest x (subst (EachFrom Is 0) are each) in
     let e : 0 + length rest ≡ length rest = omega arith in (parts.0, subst (λ k. Is k x) e parts.1)
-
--- what is so anyway is so where an answer is a reply
-pub on_ok : {A E : Type 0} {P : Type 0} (answer : Result A E) → P → OnOk answer P
-on_ok (Ok x) p = p
-on_ok (Err e) p = tt
 
 -- a task that was taken back by one that had these numbers
 abbrev pub TookBack : TaskState → TaskState → TaskState → Type 0

@@ -143,8 +143,10 @@ fn start_remounter<'s, E, R: Wait + Sync>(
         plan,
         start: Snapshot::of(&other),
     };
-    let started = scope.spawn_with(home, move || run_remounter(rt, gates, plan, other));
-    started.map_err(|_| GateError::NoMemory)
+    match scope.spawn_with(home, move || run_remounter(rt, gates, plan, other)) {
+        Ok(worker) => Ok(worker),
+        Err(_) => Err(GateError::NoMemory),
+    }
 }
 
 /// A writer's thread that is to be joined.
@@ -179,11 +181,11 @@ fn start_writer<'s, E, R: Wait + Sync, M: Meeting + Sync>(
         writer,
         start: Snapshot::of(&other),
     };
-    let started = scope.spawn_with(
-        home,
-        move || run_writer(rt, gates, plan, meeting, writer, other),
-    );
-    started.map_err(|_| GateError::NoMemory)
+    let work = move || run_writer(rt, gates, plan, meeting, writer, other);
+    match scope.spawn_with(home, work) {
+        Ok(worker) => Ok(worker),
+        Err(_) => Err(GateError::NoMemory),
+    }
 }
 
 /// The same of all writers, in their order.

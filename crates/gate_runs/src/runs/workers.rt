@@ -156,7 +156,11 @@ fn whole_blocks(task: &Task) -> Option<u64>
         result ≡ Some s.loaded.used }
 {
     let tree = task.tree()?;
-    (tree.is_sound() && tree.is_clean()).then(|| tree.used())
+    if tree.is_sound() && tree.is_clean() {
+        Some(tree.used())
+    } else {
+        None
+    }
 }
 
 /// Takes a snapshot, and tells its blocks, where it is sound and clean.

@@ -1,19 +1,17 @@
 -- the next number goes to a task that begins
 use Rattle.std.proofs.Common.{rules, ◌≡◌, ◌+◌, arith, subst}
 use Rattle.gate_runs.proofs.Splitting.{gives_on, has_begun}
-use Rattle.gate_runs.proofs.Staying.{on_ok}
 use Rattle.gate_runs.specs.Splitting.{Gives, HasBegun}
 use Rattle.gate_runs.proofs.runs.threads.start_writer.Goals as goal
 
-pub returns-clause-gives : goal.returns-clause-gives
-returns-clause-gives g c =
+pub returns-in-Ok-clause-gives : goal.returns-in-Ok-clause-gives
+returns-in-Ok-clause-gives g c =
     let next : c.args.writer + 2 + 1 ≡ c.args.writer + 1 + 2 = omega arith in
-    on_ok c.map_err.result
-    (subst (λ n. Gives c.split.new.self n c.args.plan.tasks) next
-    (gives_on _ _ _ (c.args.writer + 2) _ c.requires.gives c.requires.writer c.in_ok-other.ensures.made))
+    subst (λ n. Gives c.split.new.self n c.args.plan.tasks) next
+    (gives_on _ _ _ (c.args.writer + 2) _ c.requires.gives c.requires.writer c.in_ok-other.ensures.made)
 
-pub returns-clause-home : goal.returns-clause-home
-returns-clause-home g c =
+pub returns-in-Ok-clause-home : goal.returns-in-Ok-clause-home
+returns-in-Ok-clause-home g c =
     let begun : HasBegun (c.args.writer + 2) c.in_ok-other.other =
     has_begun _ _ _ (c.args.writer + 2) _ c.requires.gives c.requires.writer c.in_ok-other.ensures.made in
     search (rules, begun)
