@@ -1,13 +1,17 @@
--- A callback that ran is one more; the first that did not run ends the loop.
-use Rattle.std.proofs.Common.{rules, ◌≡◌, refl, suc, true, ◌∙◌, subst, Ok}
+-- A callback that ran is one more; the first that did not run ends the loop. That of an idle task is not refused.
+use Rattle.std.proofs.Common.{rules, ◌≡◌, refl, suc, true, false, ◌∙◌, subst, Ok}
+use Rattle.std.proofs.lemmas.Result.{err_from_is_err_and}
 use Rattle.gate_world.specs.declared.operations.Op.TheVariants.{Callback}
 use Rattle.call_events.specs.Runs.{Replies, ran_of}
 use Rattle.vfs_gates.proofs.Holding.{unchanged}
-use Rattle.vfs_gates.proofs.CallingBack.{calls_back}
+use Rattle.vfs_gates.proofs.CallingBack.{calls_back, never_refused}
 use Rattle.vfs_gates.proofs.task.Task.settle_level.Goals as goal
 
 pub loop-init : goal.loop-init
 loop-init g c = record { next = tt; finite = tt; from = c.requires.from; ran = (0, refl); as_before = λ idle. unchanged _ idle }
+
+pub callback-requires : goal.callback-requires
+callback-requires g c = c.loop.invariant.from
 
 pub loop-preserved : goal.loop-preserved
 loop-preserved g c =
@@ -21,3 +25,34 @@ loop-preserved g c =
       ran = (suc now.invariant.ran.0, (now.self, now.invariant.ran.1, ran));
       as_before = calls_back c.args.level c.args.self.now now.self c.callback.new.self _ now.invariant.as_before ran;
     }
+
+pub returns-in_err-callback-clause-from : goal.returns-in_err-callback-clause-from
+returns-in_err-callback-clause-from g c =
+    (c.callback.ensures.table ∙ c.loop.invariant.from.0, c.callback.ensures.config ∙ c.loop.invariant.from.1)
+
+pub returns-in_err-callback-clause-settled : goal.returns-in_err-callback-clause-settled
+returns-in_err-callback-clause-settled g c =
+    let p = err_from_is_err_and c.from_residual.result c.from_residual.ensures.1 in rw p.1 tt
+
+pub returns-in_err-callback-clause-idle : goal.returns-in_err-callback-clause-idle
+returns-in_err-callback-clause-idle g c idle =
+    absurd (never_refused c.args.level c.loop.self c.callback.new.self c.requires.level.0 c.requires.level.1 c.in_err-callback.field-0.0
+    (c.loop.invariant.as_before idle).idle c.in_err-callback.ensures)
+
+pub returns-then-not-branch-clause-from : goal.returns-then-not-branch-clause-from
+returns-then-not-branch-clause-from g c =
+    (c.callback.ensures.table ∙ c.loop.invariant.from.0, c.callback.ensures.config ∙ c.loop.invariant.from.1)
+
+pub returns-then-not-branch-clause-settled : goal.returns-then-not-branch-clause-settled
+returns-then-not-branch-clause-settled g c =
+    let is : c.in_ok-callback.field-0 ≡ false = search (rules, c.if-not-branch.true) in
+    record {
+      times = c.loop.invariant.ran.0;
+      mid = c.loop.self;
+      ran = c.loop.invariant.ran.1;
+      none = subst (λ b. Replies ran_of (Callback c.args.level) c.loop.self c.callback.new.self (Ok b)) is c.in_ok-callback.ensures;
+    }
+
+pub returns-then-not-branch-clause-idle : goal.returns-then-not-branch-clause-idle
+returns-then-not-branch-clause-idle g c idle =
+    (refl, calls_back c.args.level c.args.self.now c.loop.self c.callback.new.self _ c.loop.invariant.as_before c.callback.ensures idle)

@@ -1,5 +1,6 @@
 -- the fields after an event are what the seat knows after it
 use Rattle.std.proofs.Common.{◌≡◌, ◌∙◌, sym, ap, refl, subst}
+use Rattle.std.proofs.lemmas.Option.{none-some}
 use Rattle.std.specs.Prelude.{Option, Some, None}
 use Rattle.access_model.specs.declared.replies.Next.{Next}
 use Rattle.gate_world.specs.declared.work.Phase.{Phase}
@@ -67,13 +68,11 @@ returns-in_default-clause-idle c idle = (refl, c.idle.ensures)
 
 pub returns-in_default-clause-event : goal.returns-in_default-clause-event
 returns-in_default-clause-event c phase at =
-    let both : None ≡ Some phase = sym c.in_default.is ∙ (ap (λ (s : TaskState). s.phase) c.self.view_is ∙ at) in
-    absurd (let no : ⊥ = cc in no)
+    absurd (none-some phase (sym c.in_default.is ∙ (ap (λ (s : TaskState). s.phase) c.self.view_is ∙ at)))
 
 pub returns-clause-idle : goal.returns-clause-idle
 returns-clause-idle c idle =
-    let both : None ≡ Some c.in-Some.phase = sym idle ∙ (sym (ap (λ (s : TaskState). s.phase) c.self.view_is) ∙ c.in-Some.is) in
-    absurd (let no : ⊥ = cc in no)
+    absurd (none-some c.in-Some.phase (sym idle ∙ (sym (ap (λ (s : TaskState). s.phase) c.self.view_is) ∙ c.in-Some.is)))
 
 pub returns-clause-told : goal.returns-clause-told
 returns-clause-told c op start goes =
@@ -82,5 +81,4 @@ returns-clause-told c op start goes =
 
 pub returns-in_default-clause-told : goal.returns-in_default-clause-told
 returns-in_default-clause-told c op start goes =
-    let both : None ≡ Some goes.going.0 = sym c.in_default.is ∙ (ap (λ (s : TaskState). s.phase) c.self.view_is ∙ goes.going.1) in
-    absurd (let no : ⊥ = cc in no)
+    absurd (none-some goes.going.0 (sym c.in_default.is ∙ (ap (λ (s : TaskState). s.phase) c.self.view_is ∙ goes.going.1)))
