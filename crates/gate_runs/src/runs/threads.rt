@@ -31,20 +31,11 @@ struct Worked<T> {
 
 /// The promise of the remounter's thread: its task comes back to these gates, and has done all rounds from where it began, in which it met
 /// what it tells, unless a call of it was refused so.
+#[derive(Drop)]
 struct RemounterHome<'g> {
     gates: &'g Gates,
     plan: Plan,
     start: Snapshot<Task>,
-}
-
-impl<'g> Drop for RemounterHome<'g> {
-    fn drop(self) {
-        let RemounterHome {
-            gates: _,
-            plan: _,
-            start: _,
-        } = self;
-    }
 }
 
 impl<'g> Promise<Worked<u32>> for RemounterHome<'g> {
