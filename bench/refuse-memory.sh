@@ -4,7 +4,7 @@
 #   calls    the program crates/refused_memory makes the model, the core and the gates, splits tasks off and runs them in threads. It is built
 #            once, and the growth number LAST is refused; it asks for LAST - N growths of its own first, so that the growth number N of the
 #            calls is the one that is refused.
-#   replays  the tests growths.. of crates/mntgate, built for each growth of two in a row: the tests are two growths apart.
+#   replays  the tests growths.. of crates/driven_tests, built for each growth of two in a row: the tests are two growths apart.
 # Prints a line for each growth and for each test of a replay. The last line says whether all is well, and so does the status.
 set -u
 LAST=40
@@ -47,7 +47,7 @@ refuse_in_calls() {
 # The eighteen tests of replays where this growth of each test is refused. Other tests fail where it strikes them, and it has to strike some.
 refuse_in_replays() {
   local said="$ROOM/replay.$1"
-  (cd "$TOP/crates/mntgate" && rt try --test --fail-alloc "$1") > "$said" 2>&1
+  (cd "$TOP/crates/driven_tests" && rt try --test --fail-alloc "$1") > "$said" 2>&1
   sed -n "s/^test tests::growths::/replays, growth $1 of a test: /p" "$said"
   if ! grep -q '^test .* FAILED$' "$said"; then
     echo "replays: no growth $1 was refused in any test"

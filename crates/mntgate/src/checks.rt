@@ -33,9 +33,69 @@ impl Checks {
         Ok(())
     }
 
+    /// Checks that of a file.
+    fn add_file<R: Files + Alloc<A = Global>, E: Write>(
+        &mut self,
+        rt: &R,
+        alloc: Global,
+        file: &str,
+        errors: &mut E,
+    ) -> Result<(), AllocError> {
+        match fs::read(rt, file) {
+            Ok(schedule) => {
+                let name = format!(in alloc; "{file}: ")?;
+                self.add(alloc, name.as_str(), schedule.as_slice())
+            }
+            Err(error) => {
+                let _ = unopened(file, &error, errors);
+                self.fail();
+                Ok(())
+            }
+        }
+    }
+
+    /// Checks that of the reader.
+    fn add_read<I: Read, E: Write>(
+        &mut self,
+        alloc: Global,
+        reader: &mut I,
+        errors: &mut E,
+    ) -> Result<(), AllocError> {
+        let mut schedule = Vec::new(alloc);
+        match reader.read_to_end(&mut schedule) {
+            Ok(_) => self.add(alloc, "", schedule.as_slice()),
+            Err(error) => {
+                let _ = unopened("standard input", &error, errors);
+                self.fail();
+                Ok(())
+            }
+        }
+    }
+
     /// Counts one that failed.
     fn fail(&mut self) {
         self.failed = self.failed.saturating_add(1);
+    }
+
+    /// Writes what was told, and last how many passed and failed.
+    fn write<W: Write, E: Write>(
+        &mut self,
+        alloc: Global,
+        writer: &mut W,
+        errors: &mut E,
+    ) -> Result<Ending, AllocError>
+        ensures { IfOk result (λ ending. (ending ≡ Passed) ⊎ (ending ≡ Refused)) }
+    {
+        let text = format!(in alloc; "{} passed, {} failed\n", self.passed, self.failed)?;
+        self.told.text(text.as_bytes())?;
+        match write_out(writer, self.told.bytes.as_slice()) {
+            Ok(()) if self.failed == 0 => Ok(Ending::Passed),
+            Ok(()) => Ok(Ending::Refused),
+            Err(fault) => {
+                let _ = writeln!(errors, "{}", fault.text());
+                Ok(Ending::Refused)
+            }
+        }
     }
 }
 
@@ -57,35 +117,10 @@ pub(crate) fn run_checks<R: Files + Alloc<A = Global>, I: Read, W: Write, E: Wri
         told: Output::with_room(alloc, 0)?,
     };
     for file in files {
-        match fs::read(rt, *file) {
-            Ok(schedule) => {
-                let name = format!(in alloc; "{file}: ")?;
-                checks.add(alloc, name.as_str(), schedule.as_slice())?;
-            }
-            Err(error) => {
-                let _ = unopened(file, &error, errors);
-                checks.fail();
-            }
-        }
+        checks.add_file(rt, alloc, *file, errors)?;
     }
     if files.is_empty() {
-        let mut schedule = Vec::new(alloc);
-        match reader.read_to_end(&mut schedule) {
-            Ok(_) => checks.add(alloc, "", schedule.as_slice())?,
-            Err(error) => {
-                let _ = unopened("standard input", &error, errors);
-                checks.fail();
-            }
-        }
+        checks.add_read(alloc, reader, errors)?;
     }
-    let text = format!(in alloc; "{} passed, {} failed\n", checks.passed, checks.failed)?;
-    checks.told.text(text.as_bytes())?;
-    match write_out(writer, checks.told.bytes.as_slice()) {
-        Ok(()) if checks.failed == 0 => Ok(Ending::Passed),
-        Ok(()) => Ok(Ending::Refused),
-        Err(fault) => {
-            let _ = writeln!(errors, "{}", fault.text());
-            Ok(Ending::Refused)
-        }
-    }
+    checks.write(alloc, writer, errors)
 }

@@ -2,7 +2,6 @@
 #![tactic(auto)]
 
 mod checks;
-mod gates_driver;
 mod outcomes;
 mod program;
 mod replay;

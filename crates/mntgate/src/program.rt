@@ -10,12 +10,12 @@ ghost use Rattle.mntgate.specs.Asking.{MayEnd, EndsReplayed, EndsReplayedFile, I
 ghost use Rattle.transcripts.specs.Replayed.{Replayed};
 
 use crate::checks::run_checks;
-use crate::gates_driver::GatesDriver;
 use crate::outcomes::run_outcomes;
 use crate::replay::{Telling, replay_core, replay_gates, show_told};
 use crate::runs;
 use crate::runs::{AskedRun, Progress};
 use command_line::{Asked, Form, Replay, read_words};
+use driven_gates::GatesDriver;
 use endings::{Ending, text_told, unopened};
 use replays::Core;
 use std::alloc::{AllocError, Global};

@@ -4,7 +4,7 @@ ghost use Rattle.std.specs.Prelude.{◌≡◌, true, IfErr};
 ghost use Rattle.transcripts.specs.Limits.{IsLineNumber};
 ghost use Rattle.transcripts.specs.Replayed.{Replayed};
 
-use crate::gates_driver::GatesDriver;
+use driven_gates::GatesDriver;
 use endings::fault_told;
 use explained_faults::explanation;
 use replays::replay::replay_to_end;

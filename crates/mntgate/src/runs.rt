@@ -98,49 +98,51 @@ impl<'r, R: Clock> Meeting for Progress<'r, R> {
     }
 }
 
-/// The five lines of what all tasks did.
-fn total_lines(alloc: Global, totals: Totals) -> Result<String, AllocError> {
-    format!(in alloc;
-        "grown {}\nfrozen {}\nsnapshots {}\nremounts {}\nheld {}\n",
-        totals.grown, totals.frozen, totals.snapshots, totals.remounts, totals.held
-    )
-}
-
 /// So many in so long a time, for each second. A time under a microsecond counts as one.
 fn each_second(count: u64, took: Duration) -> u64 {
     let micros = u64::try_from(took.as_micros()).unwrap_or(u64::MAX).max(1);
     count.saturating_mul(1_000_000) / micros
 }
 
-/// The lines of what they met: a name and a number each. The sizes of snapshots are told where there was one, and the time where the clock
-/// could be read.
-fn detail_lines(
+/// One line more: a name and a number.
+fn add(lines: &mut String, alloc: Global, name: &str, number: u64) -> Result<(), AllocError> {
+    let line = format!(in alloc; "{name} {number}\n")?;
+    lines.push_str(line.as_str())
+}
+
+/// The five lines of what all tasks did.
+fn add_totals(lines: &mut String, alloc: Global, totals: Totals) -> Result<(), AllocError> {
+    add(lines, alloc, "grown", totals.grown)?;
+    add(lines, alloc, "frozen", totals.frozen)?;
+    add(lines, alloc, "snapshots", totals.snapshots)?;
+    add(lines, alloc, "remounts", totals.remounts)?;
+    add(lines, alloc, "held", totals.held)
+}
+
+/// The lines of what they met. The sizes of snapshots are told where there was one, and the time where the clock could be read.
+fn add_details(
+    lines: &mut String,
     alloc: Global,
     details: Details,
     took: Option<Duration>,
-) -> Result<String, AllocError> {
-    let Details {
-        writes,
-        busy,
-        copies,
-    } = details;
-    let mut lines = format!(in alloc;
-        "granted {}\nread_only {}\nbusy {}\nagain {}\ncallbacks {}\n",
-        writes.granted, writes.read_only, busy, writes.again, copies.callbacks
-    )?;
+) -> Result<(), AllocError> {
+    let (writes, copies) = (details.writes, details.copies);
+    add(lines, alloc, "granted", writes.granted)?;
+    add(lines, alloc, "read_only", writes.read_only)?;
+    add(lines, alloc, "busy", u64::from(details.busy))?;
+    add(lines, alloc, "again", writes.again)?;
+    add(lines, alloc, "callbacks", u64::from(copies.callbacks))?;
     if let Some(Sizes { least, most }) = copies.sizes {
-        let sizes = format!(in alloc; "least_blocks {least}\nmost_blocks {most}\n")?;
-        lines.push_str(sizes.as_str())?;
+        add(lines, alloc, "least_blocks", least)?;
+        add(lines, alloc, "most_blocks", most)?;
     }
     if let Some(took) = took {
+        let milliseconds = u64::try_from(took.as_millis()).unwrap_or(u64::MAX);
+        add(lines, alloc, "milliseconds", milliseconds)?;
         let rounds = each_second(writes.granted, took);
-        let times = format!(in alloc;
-            "milliseconds {}\nrounds_a_second {rounds}\n",
-            took.as_millis()
-        )?;
-        lines.push_str(times.as_str())?;
+        add(lines, alloc, "rounds_a_second", rounds)?;
     }
-    Ok(lines)
+    Ok(())
 }
 
 /// The lines that are asked for.
@@ -151,10 +153,11 @@ fn lines_of(
     details: Details,
     took: Option<Duration>,
 ) -> Result<String, AllocError> {
-    let mut lines = total_lines(alloc, totals)?;
+    let mut lines = String::new(alloc);
+    add_totals(&mut lines, alloc, totals)?;
     match tells {
         Tells::Totals => {}
-        Tells::Details => lines.push_str(detail_lines(alloc, details, took)?.as_str())?,
+        Tells::Details => add_details(&mut lines, alloc, details, took)?,
     }
     Ok(lines)
 }

@@ -1,7 +1,7 @@
 //! Races whose outcomes and faults are known.
 
-use crate::rows::expect_text;
 use exploration::Stop;
+use fakes::expect_text;
 use race_files::read_race;
 use schedule_text::Output;
 use std::test::Fail;

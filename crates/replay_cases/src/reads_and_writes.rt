@@ -1,7 +1,7 @@
 //! Readers and writers that fail, or that give and take a few bytes at a time.
 
-use crate::fakes::{Counter, Frail, Newlines, Refusal, Slow, Watcher};
-use crate::rows::{expect, expect_end, expect_text};
+use crate::rows::{expect, expect_end};
+use fakes::{Counter, Frail, Newlines, Refusal, Slow, Watcher, expect_text};
 use replays::Driver;
 use replays::replay::replay_over;
 use std::alloc::Global;

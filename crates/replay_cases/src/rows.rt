@@ -1,6 +1,7 @@
 //! Schedules whose printed text and faults are known.
 
 use crate::{freezes, levels, opens, remounts, trees};
+use fakes::expect_text;
 use replays::replay::replay_over;
 use replays::{Driver, ReplayFault};
 use std::alloc::Global;
@@ -13,15 +14,6 @@ pub fn expect(is_so: bool, otherwise: &str) -> Result<(), Fail> {
     } else {
         Err(Fail::new(otherwise))
     }
-}
-
-/// Fails with both where what was printed isn't this text.
-pub fn expect_text(printed: &[u8], text: &str) -> Result<(), Fail> {
-    if printed == text.as_bytes() {
-        return Ok(());
-    }
-    let printed = std::str::from_utf8(printed).unwrap_or("bytes that are no text");
-    Err(Fail::new(format_args!("{printed:?} in the place of {text:?}")))
 }
 
 /// What a schedule prints, as far as it comes, and its fault, if there is one.

@@ -2,8 +2,7 @@
 
 use crate::program::{Person, run};
 use endings::unreadable;
-use replay_cases::fakes::{Frail, Refusal};
-use replay_cases::rows::expect_text;
+use fakes::{Frail, Refusal, expect_text};
 use std::alloc::{AllocError, Global};
 use std::io::ErrorKind;
 use std::process::Abort;

@@ -2,7 +2,7 @@
 use Rattle.std.proofs.Common.{◌≡◌, ◌+◌, All, vec_len}
 use Rattle.vfs_gates.specs.TaskStates.{IsFrom}
 use Rattle.gate_runs.specs.Splitting.{AreNumbered, Gives}
-use Rattle.mntgate.proofs.gates_driver.all_tasks.Given as goal
+use Rattle.driven_gates.proofs.gates_driver.all_tasks.Given as goal
 
 abbrev pub invariant-loop-number : goal.invariant-loop-number
 invariant-loop-number l = record {

@@ -4,7 +4,7 @@ use Rattle.std.proofs.lemmas.List.Elements.{All-push}
 use Rattle.std.proofs.lemmas.Result.{err_from_is_err_and}
 use Rattle.vfs_gates.specs.TaskStates.{IsFrom}
 use Rattle.gate_runs.proofs.Splitting.{gives_on, has_next, numbered_more, refused_for_memory}
-use Rattle.mntgate.proofs.gates_driver.all_tasks.Goals as goal
+use Rattle.driven_gates.proofs.gates_driver.all_tasks.Goals as goal
 
 pub returns-in_err-other-clause-memory : goal.returns-in_err-other-clause-memory
 returns-in_err-other-clause-memory c =

@@ -2,7 +2,7 @@
 use Rattle.std.proofs.Common.{ap}
 use Rattle.vfs_gates.specs.TaskStates.{TaskState}
 use Rattle.gate_runs.proofs.Splitting.{gives_all}
-use Rattle.mntgate.proofs.gates_driver.GatesDriver.new.Goals as goal
+use Rattle.driven_gates.proofs.gates_driver.GatesDriver.new.Goals as goal
 
 pub all_tasks-requires-clause-gives : goal.all_tasks-requires-clause-gives
 all_tasks-requires-clause-gives c =

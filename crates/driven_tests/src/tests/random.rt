@@ -1,6 +1,6 @@
 //! Random schedules: a replay over the gates that threads use prints what one over the core prints.
 
-use crate::gates_driver::GatesDriver;
+use driven_gates::GatesDriver;
 use replay_cases::rows::{expect_end, played};
 use replays::{Core, ReplayFault};
 use std::alloc::Global;

@@ -1,4 +1,5 @@
-//! Readers and writers that are slow, fail or watch.
+//! What tests of replays share: readers and writers that are slow, fail or watch, and a comparison of texts.
+#![tactic(auto)]
 
 ghost use Rattle.std.specs.Prelude.{◌≤◌, length};
 
@@ -6,6 +7,16 @@ use std::alloc::Global;
 use std::cell::Cell;
 use std::io;
 use std::io::{ErrorKind, Read, Write};
+use std::test::Fail;
+
+/// Fails with both where what was printed isn't this text.
+pub fn expect_text(printed: &[u8], text: &str) -> Result<(), Fail> {
+    if printed == text.as_bytes() {
+        return Ok(());
+    }
+    let printed = std::str::from_utf8(printed).unwrap_or("bytes that are no text");
+    Err(Fail::new(format_args!("{printed:?} in the place of {text:?}")))
+}
 
 /// Moves bytes from the front of a slice into a buffer, and says how many.
 fn give(bytes: &mut &[u8], most: usize, buf: &mut [u8]) -> usize

@@ -7,7 +7,7 @@ ghost use Rattle.cpu_words.specs.Names.{words_in_all};
 ghost use Rattle.gate_core.specs.Answers.{asked_by, idle_step, unless_refused};
 ghost use Rattle.gate_world.specs.Configs.{IsWithin};
 ghost use Rattle.gate_world.specs.declared.work.Phase.{Phase};
-ghost use Rattle.mntgate.specs.Noted.{words_after};
+ghost use Rattle.driven_gates.specs.Noted.{words_after};
 ghost use Rattle.gate_runs.specs.Splitting.{AreNumbered, Gives};
 ghost use Rattle.transcripts.specs.Drivers.{listed_word};
 ghost use Rattle.vfs_gates.specs.Stepped.{Stepped};
@@ -18,14 +18,14 @@ use cpu_words::{Event, WordName};
 use freeze_levels::HookKind;
 use gate_core::{Step, words_at_start};
 use gate_world::{Config, Op};
-use replays::Driver;
 use std::alloc::Global;
+use transcripts::Driver;
 use vfs_gates::{Gates, Task};
 
 /// The gates with a task for each number, none of which is ever joined, and the words as the events of all steps have left them.
 /// Gates that are open tell no word: another thread might change it. Here there is none.
 #[derive(Drop)]
-pub(crate) struct GatesDriver {
+pub struct GatesDriver {
     config: Config,
     gates: Gates,
     /// Each at the index that is its number.
@@ -39,7 +39,7 @@ pub(crate) struct GatesDriver {
 impl GatesDriver {
     /// All words as they begin, and every task idle with nothing held. Refused as `Gates::new` is, then as `Task::split` is, and at
     /// last where there is no memory for the words.
-    pub(crate) fn new(alloc: Global, config: Config) -> Result<GatesDriver, GateError>
+    pub fn new(alloc: Global, config: Config) -> Result<GatesDriver, GateError>
         ensures config { IfOk result (λ driver. driver.config ≡ config) }
         ensures tasks { IfOk result (λ driver. vec_len driver.tasks ≡ config.tasks) }
         ensures numbers { IfOk result (λ driver. AreNumbered 0 driver.tasks.items) }
@@ -62,7 +62,7 @@ impl GatesDriver {
     }
 
     /// Begins an operation of a task; Invalid where there is no such task.
-    pub(crate) fn begin(&mut self, task: u8, op: Op) -> Result<(), GateError>
+    pub fn begin(&mut self, task: u8, op: Op) -> Result<(), GateError>
         ensures answer { (t : TaskState) → task < vec_len self.old.tasks →
             result ≡ unless_refused (refusal_at op (slice_index_or self.old.tasks.items task t)) }
         ensures others { (k : ℕ) (t : TaskState) → k ≢ task →
@@ -78,7 +78,7 @@ impl GatesDriver {
     }
 
     /// Does the next event of a task's operation, and notes what it left of its word; none of a task that is idle or that there isn't.
-    pub(crate) fn step(&mut self, task: u8, hook: Result<(), u16>) -> Step
+    pub fn step(&mut self, task: u8, hook: Result<(), u16>) -> Step
         ensures event { (t : TaskState) (phase : Phase) → task < vec_len self.old.tasks →
             (slice_index_or self.old.tasks.items task t).phase ≡ Some phase →
             Stepped phase hook (slice_index_or self.old.tasks.items task t) result (slice_index_or self.new.tasks.items task t) }
@@ -115,7 +115,7 @@ impl GatesDriver {
 
     /// The hook whose answer a task's next step reads; None where that is the same whatever a hook answers, and where there is no such
     /// task.
-    pub(crate) fn wants_hook(&self, task: u8) -> Option<HookKind>
+    pub fn wants_hook(&self, task: u8) -> Option<HookKind>
         ensures there { (t : TaskState) → task < vec_len self.now.tasks →
             result ≡ asked_by (slice_index_or self.now.tasks.items task t).phase }
         ensures not_there { vec_len self.now.tasks ≤ task → result ≡ None }
@@ -124,7 +124,7 @@ impl GatesDriver {
     }
 
     /// The value of a word, as the events so far have left it; None where the configuration has no such word.
-    pub(crate) fn word(&self, name: WordName) -> Option<u64>
+    pub fn word(&self, name: WordName) -> Option<u64>
         ensures { result ≡ listed_word self.now.config self.now.words.items name }
     {
         if self.config.has_word(name) {

@@ -2,9 +2,9 @@
 //! which asks for growths of its own first meets a lower one of its replay. bench/refuse-memory.sh takes 21 and 22 for N: with the tests
 //! below each growth of a replay is refused in one of these builds.
 
-use crate::gates_driver::GatesDriver;
 use access_model::GateError;
-use replay_cases::fakes::Counter;
+use driven_gates::GatesDriver;
+use fakes::Counter;
 use replays::replay::replay_over;
 use replays::{Core, Driver, ReplayFault};
 use std::alloc::Global;

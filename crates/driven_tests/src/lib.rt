@@ -1,0 +1,5 @@
+//! Tests of replays over the gates that threads use.
+#![tactic(auto)]
+
+#[cfg(test)]
+mod tests;
