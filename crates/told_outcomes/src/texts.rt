@@ -1,11 +1,10 @@
 //! The text of an outcome.
 
-ghost use Rattle.std.specs.Prelude.{◌≡◌, ◌++◌, [], Some, Ok, IfOk, OnOk, slice_get, slice_index_or};
-ghost use Rattle.races.specs.Races.{call_in};
+ghost use Rattle.std.specs.Prelude.{◌≡◌, ◌++◌, Ok, IfOk, OnOk, slice_get};
 ghost use Rattle.told_outcomes.specs.Texts.{told_answer, course_text, task_part, outcome_text};
 
 use access_model::{GateError, Reply};
-use races::{Call, Course, Race};
+use races::{Course, Race};
 use schedule_text::Output;
 use std::alloc::{AllocError, Global};
 
@@ -51,24 +50,12 @@ fn print_course(out: &mut Output, race: &Race, task: u8, course: Course) -> Resu
             out.answer(task, without_blocks(answer), 0)?;
         }
     }
-    match call_left(race, task, course) {
+    match race.call_after(task, course) {
         None => Ok(()),
         Some(_) => {
             out.numbered(b"; ", u64::from(task))?;
             out.text(b" waits")
         }
-    }
-}
-
-/// The call that a task of this course has not answered; None where it is through.
-fn call_left(race: &Race, task: u8, course: Course) -> Option<Call>
-    ensures { result ≡ call_in (slice_index_or race.now.calls.items task []) (Some course) }
-{
-    let calls = race.calls.get(task as usize)?;
-    if course.turn < 8 {
-        calls[course.turn as usize]
-    } else {
-        None
     }
 }
 

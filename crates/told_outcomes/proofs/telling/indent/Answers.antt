@@ -2,7 +2,7 @@ use Rattle.told_outcomes.proofs.Parts.{no_details, one_line}
 use Rattle.told_outcomes.proofs.telling.indent.Goals as goal
 
 pub loop-line-init : goal.loop-line-init
-loop-line-init c = no_details _
+loop-line-init c = no_details _ _
 
 pub loop-line-preserved : goal.loop-line-preserved
 loop-line-preserved c = c.loop-line.invariant

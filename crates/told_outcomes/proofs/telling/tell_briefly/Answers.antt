@@ -1,6 +1,5 @@
 use Rattle.std.proofs.Common.{◌≡◌, ◌<◌, ◌≤◌, ◌++◌, arith, subst, length, List}
 use Rattle.std.specs.List.{flat_map}
-use Rattle.indexmap.specs.IndexSet.{index_set_len}
 use Rattle.told_outcomes.specs.declared.listing.Outcome.{Outcome}
 use Rattle.told_outcomes.specs.Told.{line_of}
 use Rattle.told_outcomes.proofs.Mapped.{all_parts, one_more_part}
@@ -24,5 +23,6 @@ returns c =
     let lines : after ≡ counts ++ flat_map line listing.outcomes.items =
     subst (λ (l : List Outcome). after ≡ counts ++ flat_map line l) c.deref-outcome-items.ensures.value
     (all_parts line counts after c.deref-outcome-items.result.now c.loop-outcome.outcome-index all c.loop-outcome.invariant) in
-    tells_briefly c.args.core c.args.race.now.calls.items listing.outcomes.items (index_set_len listing.all.found.states)
-    c.args.out.now.bytes.items counts after c.in_ok-listing.ensures.outcomes c.in_ok-tell_counts.ensures lines
+    tells_briefly c.args.core c.args.race.now.calls.items listing.all.found.states.keys listing.outcomes.items
+    c.args.out.now.bytes.items counts after c.in_ok-listing.ensures.states
+    c.in_ok-listing.ensures.outcomes c.in_ok-listing.ensures.each c.in_ok-tell_counts.ensures lines
