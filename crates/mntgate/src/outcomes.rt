@@ -1,7 +1,10 @@
 //! All outcomes of a race, from the command line.
 
-ghost use Rattle.std.specs.Prelude.{◌≡◌, ◌⊎◌, IfOk};
+ghost use Rattle.std.specs.Prelude.{◌≡◌, ◌⊎◌, IfOk, IfErr, OnErr};
+ghost use Rattle.std.specs.Io.KnownBytes.{Appends, Keeps};
 ghost use Rattle.endings.specs.declared.ends.Ending.TheVariants.{Listed, Refused};
+ghost use Rattle.mntgate.specs.Outcomes.{EndsTold, TellsRace, schedules_as};
+ghost use Rattle.schedule_bytes.specs.Writing.{AppendsPart};
 
 use access_model::GateError;
 use command_line::Outcomes;
@@ -26,31 +29,57 @@ pub(crate) fn run_outcomes<R: Files + Alloc<A = Global>, I: Read, W: Write, E: W
     writer: &mut W,
     errors: &mut E,
 ) -> Result<Ending, AllocError>
-    ensures { IfOk result (λ ending. (ending ≡ Listed) ⊎ (ending ≡ Refused)) }
+    ensures ends { IfOk result (λ ending. (ending ≡ Listed) ⊎ (ending ≡ Refused)) }
+    ensures told { IfOk result (EndsTold asked.entry (W.contents writer.old) (W.contents writer.new)) }
+    ensures memory { OnErr result (Keeps (W.contents writer.old) (W.contents writer.new)) }
 {
-    let bytes = match asked.file {
+    let mut told = Output::with_room(alloc, 0)?;
+    let bytes = match read_bytes(rt, alloc, asked.file, reader, errors) {
+        Ok(bytes) => bytes,
+        Err(ending) => return Ok(ending),
+    };
+    match tell_race(alloc, asked, bytes.as_slice(), &mut told, errors) {
+        Ending::Listed => Ok(write_told(&told, writer, errors)),
+        ending => Ok(ending),
+    }
+}
+
+/// All bytes of a file, or of the reader, where none is named; or how the program ends, where they can't be read.
+fn read_bytes<R: Files + Alloc<A = Global>, I: Read, E: Write>(
+    rt: &R,
+    alloc: Global,
+    file: Option<&str>,
+    reader: &mut I,
+    errors: &mut E,
+) -> Result<Vec<u8>, Ending>
+    ensures { IfErr result (λ ending. ending ≡ Refused) }
+{
+    match file {
         Some(file) => match fs::read(rt, file) {
-            Ok(bytes) => bytes,
-            Err(error) => return Ok(unopened(file, &error, errors)),
+            Ok(bytes) => Ok(bytes),
+            Err(error) => Err(unopened(file, &error, errors)),
         },
         None => {
             let mut bytes = Vec::new(alloc);
             match reader.read_to_end(&mut bytes) {
-                Ok(_) => bytes,
-                Err(error) => return Ok(unopened("standard input", &error, errors)),
+                Ok(_) => Ok(bytes),
+                Err(error) => Err(unopened("standard input", &error, errors)),
             }
         }
-    };
-    let mut told = Output::with_room(alloc, 0)?;
-    match tell_race(alloc, asked, bytes.as_slice(), &mut told, errors) {
-        Ending::Listed => {}
-        ending => return Ok(ending),
     }
+}
+
+/// Writes what is told.
+fn write_told<W: Write, E: Write>(told: &Output, writer: &mut W, errors: &mut E) -> Ending
+    ensures written { result ≡ Listed → Appends (W.contents writer.old) (W.contents writer.new) told.now.bytes.items }
+    ensures part { result ≡ Refused → AppendsPart (W.contents writer.old) (W.contents writer.new) told.now.bytes.items }
+    ensures ends { (result ≡ Listed) ⊎ (result ≡ Refused) }
+{
     match write_out(writer, told.bytes.as_slice()) {
-        Ok(()) => Ok(Ending::Listed),
+        Ok(()) => Ending::Listed,
         Err(fault) => {
             let _ = writeln!(errors, "{}", fault.text());
-            Ok(Ending::Refused)
+            Ending::Refused
         }
     }
 }
@@ -63,7 +92,8 @@ fn tell_race<E: Write>(
     told: &mut Output,
     errors: &mut E,
 ) -> Ending
-    ensures { (result ≡ Listed) ⊎ (result ≡ Refused) }
+    ensures ends { (result ≡ Listed) ⊎ (result ≡ Refused) }
+    ensures told { result ≡ Listed → TellsRace asked.entry told.old.bytes.items told.new.bytes.items }
 {
     let file = match read_race(alloc, bytes) {
         Ok(file) => file,
@@ -87,7 +117,9 @@ fn tell_race<E: Write>(
 }
 
 /// In which form schedules are told.
-fn schedules_of(asked: command_line::Schedules) -> Schedules {
+fn schedules_of(asked: command_line::Schedules) -> Schedules
+    ensures { result ≡ schedules_as asked }
+{
     match asked {
         command_line::Schedules::Untold => Schedules::Untold,
         command_line::Schedules::Lines => Schedules::Lines,

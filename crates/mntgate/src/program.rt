@@ -3,10 +3,12 @@
 ghost use Rattle.std.specs.Prelude.{◌≡◌, ◌⊎◌, ℕ, List, true, None, Some, IfOk, Ok, map, string_bytes};
 ghost use Rattle.std.specs.Borrow.{Bor};
 ghost use Rattle.command_line.specs.CommandLine.{IsPlain, MayAskPlainly, ask_plainly};
-ghost use Rattle.command_line.specs.declared.words.Asked.TheVariants.{Replay as AsksReplay, Unread};
+ghost use Rattle.command_line.specs.declared.words.Asked.TheVariants.{Outcomes as AsksOutcomes, Replay as AsksReplay, Unread};
+ghost use Rattle.command_line.specs.declared.words.Outcomes.{Outcomes as OutcomesAsked};
 ghost use Rattle.command_line.specs.declared.words.Replay.{Replay as ReplayAsked};
 ghost use Rattle.endings.specs.declared.ends.Ending.TheVariants.{Done, Ran, Refused};
 ghost use Rattle.mntgate.specs.Asking.{MayEnd, EndsReplayed, EndsReplayedFile, IsRefusedUnread, done_in, done_of};
+ghost use Rattle.mntgate.specs.Outcomes.{EndsTold};
 ghost use Rattle.transcripts.specs.Replayed.{Replayed};
 
 use crate::checks::run_checks;
@@ -88,6 +90,8 @@ fn do_asked<
     ensures of_file { (r : ReplayAsked) (file : Bor (List ℕ)) → asked.entry ≡ AsksReplay r → IsPlain r → r.file ≡ Some file →
         IfOk result (λ ending. EndsReplayedFile (W.contents writer.old) (W.contents writer.new) ending
         ⊎ IsRefusedUnread (I.remaining reader.old) (I.remaining reader.new) (W.contents writer.old) (W.contents writer.new) ending) }
+    ensures listed { (r : OutcomesAsked) → asked.entry ≡ AsksOutcomes r → IfOk result (EndsTold r (W.contents writer.old)
+        (W.contents writer.new)) }
 {
     match asked {
         Asked::Replay(replay) => {

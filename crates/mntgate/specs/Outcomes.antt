@@ -1,0 +1,38 @@
+-- What the program writes of a race.
+use Rattle.std.specs.Prelude.{◌≡◌, ℕ, List, [], Option}
+use Rattle.std.specs.Io.KnownBytes.{Appends, Keeps}
+use Rattle.command_line.specs.declared.words.Outcomes.{Outcomes}
+use Rattle.command_line.specs.declared.words.Schedules as words
+use Rattle.command_line.specs.declared.words.Schedules.TheVariants as words_as
+use Rattle.endings.specs.declared.ends.Ending.{Ending}
+use Rattle.endings.specs.declared.ends.Ending.TheVariants.{Listed, Refused}
+use Rattle.gate_core.specs.Memory.{Memory}
+use Rattle.races.specs.declared.calls.Call.{Call}
+use Rattle.schedule_bytes.specs.Writing.{AppendsPart}
+use Rattle.told_outcomes.specs.declared.telling.Details.{Details}
+use Rattle.told_outcomes.specs.declared.telling.Schedules.{Schedules}
+use Rattle.told_outcomes.specs.declared.telling.Schedules.TheVariants.{Untold, Lines, Columns}
+use Rattle.told_outcomes.specs.Told.{Tells}
+
+-- in which form schedules are told
+abbrev pub schedules_as : words.Schedules → Schedules
+schedules_as words_as.Untold = Untold
+schedules_as words_as.Lines = Lines
+schedules_as words_as.Columns = Columns
+
+-- what is told under the line of an outcome
+abbrev pub details_of : Outcomes → Details
+details_of asked = record { schedules = schedules_as asked.schedules; model = asked.model }
+
+-- all outcomes of a race are told behind what was there, as was asked for, and nothing else is
+pub record TellsRace (asked : Outcomes) (before after : List ℕ) : Type 0 where
+  pub core : Memory
+  pub calls : List (List (Option Call))
+  pub tells : Tells core calls (details_of asked) before after
+
+-- How it ends where all outcomes of a race were asked for: they are written, and no more; or, where that is refused, nothing; or, where a
+-- write failed, the first bytes of them.
+pub data EndsTold (asked : Outcomes) (held holds : Option (List ℕ)) (ending : Ending) : Type 0 where
+  IsWritten : (text : List ℕ) → TellsRace asked [] text → Appends held holds text → ending ≡ Listed → EndsTold asked held holds ending
+  IsRefused : Keeps held holds → ending ≡ Refused → EndsTold asked held holds ending
+  IsCutOff : (text : List ℕ) → TellsRace asked [] text → AppendsPart held holds text → ending ≡ Refused → EndsTold asked held holds ending
