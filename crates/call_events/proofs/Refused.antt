@@ -12,7 +12,6 @@ use Rattle.access_model.specs.declared.replies.Next.{Next}
 use Rattle.access_model.specs.declared.replies.Next.TheVariants.{Go, Wait, Done}
 use Rattle.access_model.specs.declared.actions.NodeInfo.{NodeInfo}
 use Rattle.access_model.specs.Actions.{marked}
-use Rattle.access_model.specs.Histories.{mounts_of, levels_of, opens_of}
 use Rattle.cpu_words.specs.declared.events.Touch.{Touch}
 use Rattle.cpu_words.specs.declared.events.Touch.TheVariants.{And}
 use Rattle.cpu_words.specs.declared.names.WordName.{WordName}
@@ -29,7 +28,8 @@ use Rattle.gate_world.specs.Courses.{course_of, IsTrace}
 use Rattle.gate_world.specs.Found.{clean_found, cleans, stored_stage}
 use Rattle.gate_world.specs.Claims.{two_levels_closed, all_levels_closed}
 use Rattle.gate_world.specs.Traces.{actions_of, Tells}
-use Rattle.gate_world.specs.Views.{held_at, holds_level}
+use Rattle.gate_world.specs.Holdings.{holdings_of}
+use Rattle.gate_world.specs.Views.{held_of}
 use Rattle.gate_core.proofs.Layers.{op_keeps}
 use Rattle.gate_steps.specs.Seating.{SeatItems}
 use Rattle.call_events.specs.Refused.{LeavesTree, IsUnchanged, IsHonestWait, WaitsHonestly}
@@ -97,17 +97,14 @@ leaves op refusal trace = All-from_recursion LeavesTree (actions_of op (Err refu
 
 -- so a refusal leaves all unchanged, where the operation was in order
 pub is_unchanged : (c : Config) (op : Op) (refusal : GateError) (trace : List Traced) (l : SeatItems) →
-    is_in_order c (held_at (own_view l)) (holds_level (own_view l)) op ≡ true →
+    is_in_order c (held_of (own_view l)) op ≡ true →
     (course_of c (own_number l) op trace).added ≡ actions_of op (Err refusal) trace →
     IsUnchanged (course_of c (own_number l) op trace).added (own_view l) (own_view (ran_items c op trace l))
 is_unchanged c op refusal trace [] order is =
-    record { mounts = refl; levels = refl; files = refl; tree = subst (All LeavesTree) (sym is) (leaves op refusal trace) }
+    record { held = refl; tree = subst (All LeavesTree) (sym is) (leaves op refusal trace) }
 is_unchanged c op refusal trace (x ∷ xs) order is =
-    let same = (op_keeps c op).restores refusal trace x.view.actions order in
     record {
-      mounts = ap (λ l. mounts_of (l ++ x.view.actions)) is ∙ same.0;
-      levels = ap (λ l. levels_of (l ++ x.view.actions)) is ∙ same.1;
-      files = ap (λ l. opens_of (l ++ x.view.actions)) is ∙ same.2;
+      held = ap (λ l. holdings_of (l ++ x.view.actions)) is ∙ (op_keeps c op).restores refusal trace x.view.actions order;
       tree = subst (All LeavesTree) (sym is) (leaves op refusal trace);
     }
 

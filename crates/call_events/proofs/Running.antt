@@ -17,7 +17,7 @@ use Rattle.gate_world.specs.declared.views.Traced.{Traced}
 use Rattle.gate_world.specs.declared.views.View.{View}
 use Rattle.gate_world.specs.Configs.{IsWithin}
 use Rattle.gate_world.specs.Snapshots.{completes, last_snapshot}
-use Rattle.gate_world.specs.Views.{phase_after, actions_after, view_after_beside, with_hook}
+use Rattle.gate_world.specs.Views.{phase_after, actions_after, view_after_beside, with_hook, held_of}
 use Rattle.gate_world.specs.Work.{next_of, after_of}
 use Rattle.gate_world.specs.Beginnings.{first_phase}
 use Rattle.gate_world.specs.Courses.{Course, course_with, course_after, course_of, IsEventOf, IsNext, IsTrace, MayFind}
@@ -355,7 +355,7 @@ module _ (op : Op) (start now left : TaskState) (step : Step) (h : HookAnswer) (
   unchanged_then (Err refusal) is =
       subst (λ l. IsUnchanged (course_of c n op trace).added (own_view start.items) (own_view l)) (sym items_then)
       (is_unchanged c op refusal trace start.items
-      (may_begin c (is_some start.phase) (held_at (own_view start.items)) (holds_level (own_view start.items)) (has_open (own_view start.items)) op
+      (may_begin c (is_some start.phase) (held_of (own_view start.items)) op
       goes.admitted).order is)
 
   -- where it replies, it was done whole, with this event more

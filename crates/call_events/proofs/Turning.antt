@@ -13,7 +13,7 @@ use Rattle.gate_world.specs.declared.config.Config.{Config}
 use Rattle.gate_world.specs.declared.operations.Op.{Op}
 use Rattle.gate_world.specs.declared.work.Phase.{Phase}
 use Rattle.gate_world.specs.Fits.{ActionFits}
-use Rattle.gate_world.specs.Views.{held_at, holds_level, phase_after}
+use Rattle.gate_world.specs.Views.{phase_after, held_of}
 use Rattle.gate_core.specs.declared.seats.Seat.{Seat}
 use Rattle.gate_world.specs.Work.{next_of, after_of}
 use Rattle.gate_world.specs.declared.accesses.Accesses.{Accesses}
@@ -39,7 +39,7 @@ module _ (number : ℕ) (c : Config) (begins : Option Op) (phase : Phase) (acces
   word_inside : (l : SeatItems) → Ties number c begins (kept_at (Some phase) accesses) flags l → place (next_of phase hook).0 < words_in_all
   word_inside [] t = absurd t
   word_inside (x ∷ xs) t =
-      word_placed c t.within x.number (held_at x.view) (holds_level x.view) (omega (arith, t.below, t.same_number)) phase hook t.fits
+      word_placed c t.within x.number (held_of x.view) (omega (arith, t.below, t.same_number)) phase hook t.fits
 
   -- the own number may do the event
   may_act : (l : SeatItems) → Ties number c begins (kept_at (Some phase) accesses) flags l → Acts c begins phase l

@@ -15,7 +15,7 @@ use Rattle.gate_world.specs.declared.views.View.{View}
 use Rattle.gate_world.specs.declared.work.Phase.{Phase}
 use Rattle.gate_world.specs.Courses.{course_of}
 use Rattle.gate_world.specs.Traces.{MayWait}
-use Rattle.gate_world.specs.Views.{held_at, holds_level, has_open}
+use Rattle.gate_world.specs.Views.{held_of}
 
 -- an action that leaves each node of any tree as it was, or without its dirty mark
 abbrev pub LeavesTree : Action → Type 0
@@ -24,9 +24,7 @@ LeavesTree action = (counts : ℕ → ℕ) (tree : ℕ → Option NodeInfo) (n :
 
 -- A call that has added these actions: its task holds what it held before, and the tree has of the call no change but cleared marks.
 pub record IsUnchanged (added : List Action) (before after : View) : Type 0 where
-  pub mounts : held_at after ≡ held_at before
-  pub levels : holds_level after ≡ holds_level before
-  pub files : has_open after ≡ has_open before
+  pub held : held_of after ≡ held_of before
   pub tree : All LeavesTree added
 
 -- the same of a call that was refused

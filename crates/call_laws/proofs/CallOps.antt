@@ -2,11 +2,10 @@
 use Rattle.std.{proofs.{Common.{not, sym, ◌≡◌, ℕ, Bool, true, arith, refl}, lemmas.Bool.ltb-true}, specs.Prelude.{nat_lt, false}}
 use Rattle.access_model.specs.declared.actions.Kind.{Kind}
 use Rattle.gate_world.specs.{Traces.most_events, declared.{config.Config.Config, operations.Op.Op}}
-use Rattle.gate_frames.proofs.{CreateTraces.{create_tells, create_short}, GrowTraces.{grow_tells, grow_short}, Keeps.{by_bool, none_agree, IsSmall, OpKeeps}}
+use Rattle.gate_frames.proofs.{CreateTraces.{create_tells, create_short}, GrowTraces.{grow_tells, grow_short}, Agreeing.{none_agree, writer_agrees, faulter_agrees}, Keeps.{by_bool, IsSmall, OpKeeps}}
 use Rattle.gate_frames.proofs.{MarkTraces.{fault_tells, fault_short, flush_tells, flush_short}, MoveTraces.{move_tells, move_short}}
 use Rattle.gate_frames.proofs.{OpenTraces.{open_tells, open_short}, RemoveTraces.{remove_tells, remove_short}, SnapshotTraces.{snapshot_tells, snapshot_short}}
 use Rattle.gate_frames.proofs.TreeHolders.{both_true}
-use Rattle.call_laws.proofs.TreeFits.{writer_agrees, faulter_agrees}
 
 not_false : (b : Bool) → not b ≡ true → b ≡ false
 not_false true e = sym e
@@ -14,14 +13,14 @@ not_false false e = refl
 
 pub create_keeps : (c : Config) (d : ℕ) (kind : Kind) → OpKeeps c (Op.Create d kind)
 create_keeps c d kind = record {
-  fits = λ t held levels there order room. ((ltb-true d c.nodes there, refl, tt), order);
+  fits = λ t held there order room. ((ltb-true d c.nodes there, refl, tt), order);
   starts_idle = λ t. assumption;
   off_tree = λ t trace. refl;
   cause = λ t w earlier. tt;
-  order_agrees = λ f g h k mounts levels there. writer_agrees c f g h k mounts levels;
-  room_agrees = λ f g mounts there. refl;
-  restores = λ refusal trace before order. (refl, refl, refl);
-  file = λ t files own closed. tt;
+  order_agrees = λ held seen same there. writer_agrees c held seen same.mounts same.levels;
+  room_agrees = λ held seen same there. refl;
+  restores = λ refusal trace before order. refl;
+  file = λ t held order room. tt;
   tells = λ within t trace h. create_tells d kind c within t trace h;
   short = λ within t trace h. create_short d kind c within t trace h;
   most_small = λ within. omega (arith, within.nodes);
@@ -29,14 +28,14 @@ create_keeps c d kind = record {
 
 pub remove_keeps : (c : Config) (file : ℕ) → OpKeeps c (Op.Remove file)
 remove_keeps c file = record {
-  fits = λ t held levels there order room. ((ltb-true file c.nodes there, tt), order);
+  fits = λ t held there order room. ((ltb-true file c.nodes there, tt), order);
   starts_idle = λ t. assumption;
   off_tree = λ t trace. refl;
   cause = λ t w earlier. tt;
-  order_agrees = λ f g h k mounts levels there. writer_agrees c f g h k mounts levels;
-  room_agrees = λ f g mounts there. refl;
-  restores = λ refusal trace before order. (refl, refl, refl);
-  file = λ t files own closed. tt;
+  order_agrees = λ held seen same there. writer_agrees c held seen same.mounts same.levels;
+  room_agrees = λ held seen same there. refl;
+  restores = λ refusal trace before order. refl;
+  file = λ t held order room. tt;
   tells = λ within t trace h. remove_tells file c within t trace h;
   short = λ within t trace h. remove_short file c within t trace h;
   most_small = λ within. omega arith;
@@ -44,16 +43,16 @@ remove_keeps c file = record {
 
 pub grow_keeps : (c : Config) (file blocks : ℕ) → OpKeeps c (Op.Grow file blocks)
 grow_keeps c file blocks = record {
-  fits = λ t held levels there order room.
+  fits = λ t held there order room.
       let both : (nat_lt file c.nodes ≡ true) × (nat_lt 0 blocks ≡ true) = both_true (nat_lt file c.nodes) (nat_lt 0 blocks) there in
       ((ltb-true file c.nodes both.0, ltb-true 0 blocks both.1, refl), order);
   starts_idle = λ t. assumption;
   off_tree = λ t trace. refl;
   cause = λ t w earlier. tt;
-  order_agrees = λ f g h k mounts levels there. writer_agrees c f g h k mounts levels;
-  room_agrees = λ f g mounts there. refl;
-  restores = λ refusal trace before order. (refl, refl, refl);
-  file = λ t files own closed. tt;
+  order_agrees = λ held seen same there. writer_agrees c held seen same.mounts same.levels;
+  room_agrees = λ held seen same there. refl;
+  restores = λ refusal trace before order. refl;
+  file = λ t held order room. tt;
   tells = λ within t trace h. grow_tells file blocks c within t trace h;
   short = λ within t trace h. grow_short file blocks c within t trace h;
   most_small = λ within. omega arith;
@@ -61,16 +60,16 @@ grow_keeps c file blocks = record {
 
 pub move_keeps : (c : Config) (file dir : ℕ) → OpKeeps c (Op.MoveTo file dir)
 move_keeps c file dir = record {
-  fits = λ t held levels there order room.
+  fits = λ t held there order room.
       let both : (nat_lt file c.nodes ≡ true) × (nat_lt dir c.nodes ≡ true) = both_true (nat_lt file c.nodes) (nat_lt dir c.nodes) there in
       ((ltb-true file c.nodes both.0, ltb-true dir c.nodes both.1, tt), order);
   starts_idle = λ t. assumption;
   off_tree = λ t trace. refl;
   cause = λ t w earlier. tt;
-  order_agrees = λ f g h k mounts levels there. writer_agrees c f g h k mounts levels;
-  room_agrees = λ f g mounts there. refl;
-  restores = λ refusal trace before order. (refl, refl, refl);
-  file = λ t files own closed. tt;
+  order_agrees = λ held seen same there. writer_agrees c held seen same.mounts same.levels;
+  room_agrees = λ held seen same there. refl;
+  restores = λ refusal trace before order. refl;
+  file = λ t held order room. tt;
   tells = λ within t trace h. move_tells file dir c within t trace h;
   short = λ within t trace h. move_short file dir c within t trace h;
   most_small = λ within. omega arith;
@@ -78,14 +77,14 @@ move_keeps c file dir = record {
 
 pub fault_keeps : (c : Config) (file : ℕ) → OpKeeps c (Op.Fault file)
 fault_keeps c file = record {
-  fits = λ t held levels there order room. (ltb-true file c.nodes there, order);
+  fits = λ t held there order room. (ltb-true file c.nodes there, order);
   starts_idle = λ t. assumption;
   off_tree = λ t trace. refl;
   cause = λ t w earlier. tt;
-  order_agrees = λ f g h k mounts levels there. faulter_agrees c f g h k mounts levels;
-  room_agrees = λ f g mounts there. refl;
-  restores = λ refusal trace before order. (refl, refl, refl);
-  file = λ t files own closed. tt;
+  order_agrees = λ held seen same there. faulter_agrees c held seen same.mounts same.levels;
+  room_agrees = λ held seen same there. refl;
+  restores = λ refusal trace before order. refl;
+  file = λ t held order room. tt;
   tells = λ within t trace h. fault_tells file c within t trace h;
   short = λ within t trace h. fault_short file c within t trace h;
   most_small = λ within. omega arith;
@@ -93,14 +92,14 @@ fault_keeps c file = record {
 
 pub flush_keeps : (c : Config) (file : ℕ) → OpKeeps c (Op.Flush file)
 flush_keeps c file = record {
-  fits = λ t held levels there order room. (ltb-true file c.nodes there, order);
+  fits = λ t held there order room. (ltb-true file c.nodes there, order);
   starts_idle = λ t. assumption;
   off_tree = λ t trace. refl;
   cause = λ t w earlier. tt;
-  order_agrees = λ f g h k mounts levels there. levels 3 (omega arith) (omega arith);
-  room_agrees = λ f g mounts there. refl;
-  restores = λ refusal trace before order. (refl, refl, refl);
-  file = λ t files own closed. tt;
+  order_agrees = λ held seen same there. same.levels 3 (omega arith) (omega arith);
+  room_agrees = λ held seen same there. refl;
+  restores = λ refusal trace before order. refl;
+  file = λ t held order room. tt;
   tells = λ within t trace h. flush_tells file c within t trace h;
   short = λ within t trace h. flush_short file c within t trace h;
   most_small = λ within. omega arith;
@@ -108,14 +107,14 @@ flush_keeps c file = record {
 
 pub open_keeps : (c : Config) (file : ℕ) → OpKeeps c (Op.Open file)
 open_keeps c file = record {
-  fits = λ t held levels there order room. ((ltb-true file c.nodes there, tt), tt);
+  fits = λ t held there order room. ((ltb-true file c.nodes there, tt), tt);
   starts_idle = λ t. assumption;
   off_tree = λ t trace. refl;
   cause = λ t w earlier. tt;
-  order_agrees = λ f g h k mounts levels there. refl;
-  room_agrees = λ f g mounts there. refl;
-  restores = λ refusal trace before order. (refl, refl, refl);
-  file = λ t files own closed. not_false (files file) closed;
+  order_agrees = λ held seen same there. refl;
+  room_agrees = λ held seen same there. ap not (same.files file);
+  restores = λ refusal trace before order. refl;
+  file = λ t held order room. not_false (held.files file) room;
   tells = λ within t trace h. open_tells file c within t trace h;
   short = λ within t trace h. open_short file c within t trace h;
   most_small = λ within. omega arith;
@@ -123,14 +122,14 @@ open_keeps c file = record {
 
 pub snapshot_keeps : (c : Config) (wait : Bool) → OpKeeps c (Op.Snapshot wait)
 snapshot_keeps c wait = record {
-  fits = λ t held levels there order room. ((refl, refl, tt), order);
+  fits = λ t held there order room. ((refl, refl, tt), order);
   starts_idle = λ t. assumption;
   off_tree = λ t trace. refl;
   cause = λ t w earlier. tt;
-  order_agrees = λ f g h k mounts levels there. none_agree c 0 f g h k mounts levels;
-  room_agrees = λ f g mounts there. refl;
-  restores = λ refusal trace before order. (refl, refl, refl);
-  file = λ t files own closed. tt;
+  order_agrees = λ held seen same there. none_agree held.levels seen.levels same.levels;
+  room_agrees = λ held seen same there. refl;
+  restores = λ refusal trace before order. refl;
+  file = λ t held order room. tt;
   tells = λ within t trace h. snapshot_tells wait c within t trace h;
   short = λ within t trace h. snapshot_short wait c within t trace h;
   most_small = λ within. by_bool wait (λ b. IsSmall (most_events c (Op.Snapshot b))) tt (omega (arith, within.nodes));

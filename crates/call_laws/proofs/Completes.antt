@@ -7,7 +7,7 @@ use Rattle.gated_tree.specs.declared.{phases.TreePhase.TreePhase, snapshots.{Sna
 use Rattle.stage_laws.specs.Roles.{KnowsStage}
 use Rattle.gate_world.specs.{Configs.IsWithin, Fits.{Fits, PhaseFits}, Moments.{IsPresentTree, CompletesNow}, Rules.{IsGood, Fitting, Stages, Tree}}
 use Rattle.gate_world.specs.{Snapshots.{loads_noted, values_noted, snapshot_completes}, Stages.stage_role_of, Trees.{tree_bounds, tree_role_of}}
-use Rattle.gate_world.specs.{Views.{held_at, holds_level}, Worlds.World, declared.{config.Config.Config, work.Phase.Phase}}
+use Rattle.gate_world.specs.{Views.held_of, Worlds.World, declared.{config.Config.Config, work.Phase.Phase}}
 use Rattle.call_laws.proofs.{NodeCauses.some_is, Noted.{IsLong, loaded_long, noted_long, last_load, AreWords}}
 
 nothing_is_some : {A : Type 0} (a : A) → None ≡ Some a → ⊥
@@ -20,8 +20,8 @@ module _ (c : Config) (w : World) (good : IsGood c w) (t : ℕ) (lt : t < c.task
   here_loaded = loaded (loads_noted x.nodes (w.views t).trace) (WordName.Kids n) (w.words.kids n)
 
   -- its numbers fit
-  here_fits : PhaseFits c t (held_at (w.views t)) (holds_level (w.views t)) (Phase.Trees (TreePhase.Snapshot (at_snapshot x (SnapshotStep.LoadsKids n))))
-  here_fits = subst (Fits c t (held_at (w.views t)) (holds_level (w.views t))) e (good Fitting t lt)
+  here_fits : PhaseFits c t (held_of (w.views t)) (Phase.Trees (TreePhase.Snapshot (at_snapshot x (SnapshotStep.LoadsKids n))))
+  here_fits = subst (Fits c t (held_of (w.views t))) e (good Fitting t lt)
 
   -- each word that it loaded before is still what it was
   here_reads : (i : ℕ) → i < suc (x.nodes + n) →

@@ -7,10 +7,10 @@ use Rattle.mount_counts.specs.declared.remounts.RemountStep.{RemountStep}
 use Rattle.tree_laws.proofs.Clearings.{exact}
 use Rattle.freeze_levels.specs.declared.freezes.FreezeStep.{FreezeStep}
 use Rattle.file_closes.specs.declared.phases.ClosePhase.{ClosePhase}
-use Rattle.gate_world.specs.{Configs.IsWithin, Fits.{CloseFits, Fits}, Headline.{TreeIsSound, FrozenTreeIsWhole}, Operations.is_writer}
+use Rattle.gate_world.specs.{Holdings.Holdings, Configs.IsWithin, Fits.{CloseFits, Fits}, Headline.{TreeIsSound, FrozenTreeIsWhole}, Operations.is_writer}
 use Rattle.gate_world.specs.{Rules.{IsGood, Tree, Fitting}, Snapshots.values_noted}
 use Rattle.gate_world.specs.Trees.{close_tree_role, tree_bounds, tree_of, tree_role_of, tree_roles, remount_tree_role, freeze_tree_role}
-use Rattle.gate_world.specs.{Views.{held_at, holds_level}, Worlds.World, declared.{config.Config.Config, views.Traced.Traced, work.Phase.Phase}}
+use Rattle.gate_world.specs.{Views.held_of, Worlds.World, declared.{config.Config.Config, views.Traced.Traced, work.Phase.Phase}}
 use Rattle.gate_frames.proofs.{CloseEvents.{closer_thawed, removal_counted}, TreeHolders.writer_not_frozen, Trees.sealed_frozen}
 
 pub snapshot_charges_none : (nodes : ℕ) (values : ℕ → ℕ) (s : SnapshotStep) → HasNoCharge (snapshot_role nodes values s)
@@ -36,35 +36,35 @@ open_charges_none x OpenStep.LoadsFile = record { blocks = refl; removed = refl;
 open_charges_none x (OpenStep.OpensFile file) = record { blocks = refl; removed = refl; children = λ d. refl }
 
 -- a close has, inside level 3, once it has freed its node: while it counts a removed file
-close_charges_none : (c : Config) (t : ℕ) (levels : ℕ → Bool) (x : ClosePhase) → CloseFits c t levels x →
-    (levels 3 ≡ true → removal (close_tree_role x) ≡ 1 → ⊥) → HasNoCharge (close_tree_role x)
-close_charges_none c t levels (ClosePhase.RefundsBlocks p blocks) fits shut = absurd (shut fits.1 refl)
-close_charges_none c t levels (ClosePhase.Uncounts p) fits shut = absurd (shut fits.1 refl)
-close_charges_none c t levels other fits shut = record { blocks = refl; removed = refl; children = λ d. refl }
+close_charges_none : (c : Config) (t : ℕ) (held : Holdings) (x : ClosePhase) → CloseFits c t held x →
+    (held.levels 3 ≡ true → removal (close_tree_role x) ≡ 1 → ⊥) → HasNoCharge (close_tree_role x)
+close_charges_none c t held (ClosePhase.RefundsBlocks p blocks) fits shut = absurd (shut fits.1 refl)
+close_charges_none c t held (ClosePhase.Uncounts p) fits shut = absurd (shut fits.1 refl)
+close_charges_none c t held other fits shut = record { blocks = refl; removed = refl; children = λ d. refl }
 
 -- so only a writer, or a close inside level 3, has charged anything
-phase_charges_none : (c : Config) (trace : List Traced) (t : ℕ) (held : ℕ → ℕ) (levels : ℕ → Bool) (p : Option Phase) →
-    Fits c t held levels p → (is_writer c held levels ≡ true → ⊥) → (levels 3 ≡ true → removal (tree_role_of trace p) ≡ 1 → ⊥) →
+phase_charges_none : (c : Config) (trace : List Traced) (t : ℕ) (held : Holdings) (p : Option Phase) →
+    Fits c t held p → (is_writer c held ≡ true → ⊥) → (held.levels 3 ≡ true → removal (tree_role_of trace p) ≡ 1 → ⊥) →
     HasNoCharge (tree_role_of trace p)
-phase_charges_none c trace t held levels (Some (Phase.Remounts x)) fits none shut = remount_charges_none x.nodes x.step
-phase_charges_none c trace t held levels (Some (Phase.Freezes x)) fits none shut = freeze_charges_none x.nodes x.step
-phase_charges_none c trace t held levels (Some (Phase.Trees (TreePhase.Create x))) fits none shut = absurd (none fits.1)
-phase_charges_none c trace t held levels (Some (Phase.Trees (TreePhase.Remove x))) fits none shut = absurd (none fits.1)
-phase_charges_none c trace t held levels (Some (Phase.Trees (TreePhase.Grow x))) fits none shut = absurd (none fits.1)
-phase_charges_none c trace t held levels (Some (Phase.Trees (TreePhase.MoveTo x))) fits none shut = absurd (none fits.1)
-phase_charges_none c trace t held levels (Some (Phase.Trees (TreePhase.Mark x))) fits none shut = mark_charges_none x x.step
-phase_charges_none c trace t held levels (Some (Phase.Trees (TreePhase.OpenFile x))) fits none shut = open_charges_none x x.step
-phase_charges_none c trace t held levels (Some (Phase.Closes x)) fits none shut = close_charges_none c t levels x fits shut
-phase_charges_none c trace t held levels (Some (Phase.Trees (TreePhase.Snapshot x))) fits none shut =
+phase_charges_none c trace t held (Some (Phase.Remounts x)) fits none shut = remount_charges_none x.nodes x.step
+phase_charges_none c trace t held (Some (Phase.Freezes x)) fits none shut = freeze_charges_none x.nodes x.step
+phase_charges_none c trace t held (Some (Phase.Trees (TreePhase.Create x))) fits none shut = absurd (none fits.1)
+phase_charges_none c trace t held (Some (Phase.Trees (TreePhase.Remove x))) fits none shut = absurd (none fits.1)
+phase_charges_none c trace t held (Some (Phase.Trees (TreePhase.Grow x))) fits none shut = absurd (none fits.1)
+phase_charges_none c trace t held (Some (Phase.Trees (TreePhase.MoveTo x))) fits none shut = absurd (none fits.1)
+phase_charges_none c trace t held (Some (Phase.Trees (TreePhase.Mark x))) fits none shut = mark_charges_none x x.step
+phase_charges_none c trace t held (Some (Phase.Trees (TreePhase.OpenFile x))) fits none shut = open_charges_none x x.step
+phase_charges_none c trace t held (Some (Phase.Closes x)) fits none shut = close_charges_none c t held x fits shut
+phase_charges_none c trace t held (Some (Phase.Trees (TreePhase.Snapshot x))) fits none shut =
     snapshot_charges_none x.nodes (values_noted x.nodes trace) x.step
-phase_charges_none c trace t held levels (Some (Phase.Trees (TreePhase.ClearMarks x))) fits none shut =
+phase_charges_none c trace t held (Some (Phase.Trees (TreePhase.ClearMarks x))) fits none shut =
     record { blocks = refl; removed = refl; children = λ d. refl }
-phase_charges_none c trace t held levels p fits none shut = record { blocks = refl; removed = refl; children = λ d. refl }
+phase_charges_none c trace t held p fits none shut = record { blocks = refl; removed = refl; children = λ d. refl }
 
 -- and at stage 4 nobody has
 pub frozen_quiet : (c : Config) → IsWithin c → (w : World) → IsGood c w → w.words.stage ≡ 4 → (t : ℕ) → t < c.tasks → HasNoCharge (tree_roles w t)
 frozen_quiet c within w good frozen t lt =
-    phase_charges_none c (w.views t).trace t (held_at (w.views t)) (holds_level (w.views t)) (w.views t).phase (good Fitting t lt)
+    phase_charges_none c (w.views t).trace t (held_of (w.views t)) (w.views t).phase (good Fitting t lt)
     (λ writes. writer_not_frozen c w good t lt writes frozen)
     (λ inside removed. closer_thawed c within w good t lt inside (removal_counted c within w good t lt removed) frozen)
 

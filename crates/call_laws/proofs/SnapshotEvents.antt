@@ -15,7 +15,7 @@ use Rattle.gate_world.specs.{Configs.IsWithin, Fits.{Fits, PhaseFits}, Found.is_
 use Rattle.gate_world.specs.Rules.{Files, Part, Owner, Stages, Holding, Fitting, Known, Tree, AtMount, AtLevel, SyncAt, Sections, Holds, IsGood, StepKeeps}
 use Rattle.gate_world.specs.Rules.{owns, remounts, marks_of}
 use Rattle.gate_world.specs.{Shown.stage_roles, Snapshots.values_noted, Stages.{stage_role_of, stage_at_end, snapshot_stage_role}}
-use Rattle.gate_world.specs.{Trees.{tree_bounds, tree_role_of}, Views.{held_at, holds_level, phase_after, view_with}, Worlds.{World, after_step}}
+use Rattle.gate_world.specs.{Trees.{tree_bounds, tree_role_of}, Views.{phase_after, view_with, held_of}, Worlds.{World, after_step}}
 use Rattle.gate_world.specs.declared.{config.Config.Config, views.{Traced.Traced, View.View}, work.Phase.Phase}
 use Rattle.gate_frames.proofs.{Frames.left_alone, Keeps.by_bool, Known.{IsOwnersWork, known_after}}
 use Rattle.gate_frames.proofs.NodeParts.{call_view, TreeKeeps, call_keeps, call_fitting, call_files, call_moves, call_parts}
@@ -257,8 +257,8 @@ later_role x s found trace =
 -- The law of the event to come.
 module _ (c : Config) (within : IsWithin c) (w : World) (good : IsGood c w) (t : ℕ) (lt : t < c.tasks) (hook : HookAnswer)
     (x : Snapshot) (e : (w.views t).phase ≡ Some (Phase.Trees (TreePhase.Snapshot x))) where
-  fits_now : PhaseFits c t (held_at (w.views t)) (holds_level (w.views t)) (Phase.Trees (TreePhase.Snapshot x))
-  fits_now = subst (Fits c t (held_at (w.views t)) (holds_level (w.views t))) e (good Fitting t lt)
+  fits_now : PhaseFits c t (held_of (w.views t)) (Phase.Trees (TreePhase.Snapshot x))
+  fits_now = subst (Fits c t (held_of (w.views t))) e (good Fitting t lt)
 
   -- the tree holds after it, with what it has loaded noted
   tree_kept : TreeKeeps c within w good t lt (TreePhase.Snapshot x) hook e

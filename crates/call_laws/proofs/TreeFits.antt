@@ -1,4 +1,4 @@
--- The action of each event of a call at the tree can be done, and a call fits accesses that agree.
+-- The action of each event of a call at the tree can be done.
 use Rattle.std.proofs.Common.{◌≡◌, ℕ, suc, ◌<◌, ◌≤◌, Bool, true, false, refl, sym, ap, ◌∙◌, arith, zero}
 use Rattle.std.specs.Prelude.{Some, None, if◌then◌else◌, ◌==◌, ◌||◌, nat_lt}
 use Rattle.access_model.specs.declared.actions.Action.{Action}
@@ -8,12 +8,10 @@ use Rattle.gated_tree.specs.Phases.{create_after, remove_after, grow_after, move
 use Rattle.gated_tree.specs.declared.changes.{Create.Create, CreateStep.CreateStep, MoveStep.MoveStep, MoveTo.MoveTo, Remove.Remove, RemoveStep.RemoveStep}
 use Rattle.gated_tree.specs.declared.{growth.{Grow.Grow, GrowStep.GrowStep}, marks.{Mark.Mark, MarkStep.MarkStep}, opens.{OpenFile.OpenFile, OpenStep.OpenStep}}
 use Rattle.gated_tree.specs.declared.{phases.TreePhase.TreePhase, snapshots.{Snapshot.Snapshot, SnapshotStep.SnapshotStep}}
-use Rattle.gate_world.specs.{Configs.IsWithin, Fits.{ActionFits, TreeAccess, PhaseFits}, Operations.{some_mount, may_mark, is_writer, is_faulter}}
+use Rattle.gate_world.specs.{Holdings.Holdings, Configs.IsWithin, Fits.{ActionFits, PhaseFits}}
 use Rattle.gate_world.specs.{Work.after_of, declared.{config.Config.Config, work.Phase.Phase}}
-use Rattle.gate_frames.proofs.Keeps.{none_agree}
 
--- The action of each event at the tree can be done.
-module _ (held : ℕ → ℕ) where
+module _ (held : Holdings) where
   -- also of one that is added only where a test says so
   acts_if : (b : Bool) (a : Action) → ActionFits held (Some a) → ActionFits held (if b then Some a else None)
   acts_if true a h = h
@@ -53,45 +51,13 @@ module _ (held : ℕ → ℕ) where
   snapshot_acts x SnapshotStep.Locks found = tt
   snapshot_acts x other found = tt
 
-  pub tree_acts : (c : Config) → IsWithin c → (t : ℕ) (levels : ℕ → Bool) (x : TreePhase) (found : ℕ) (hook : HookAnswer) →
-      PhaseFits c t held levels (Phase.Trees x) → ActionFits held (after_of (Phase.Trees x) found hook).1
-  tree_acts c within t levels (TreePhase.Create x) found hook f = create_acts x x.step found
-  tree_acts c within t levels (TreePhase.Remove x) found hook f = remove_acts x x.step found
-  tree_acts c within t levels (TreePhase.Grow x) found hook f = grow_acts x x.step found
-  tree_acts c within t levels (TreePhase.MoveTo x) found hook f = move_acts x x.step found
-  tree_acts c within t levels (TreePhase.Mark x) found hook f = mark_acts x x.step found
-  tree_acts c within t levels (TreePhase.OpenFile x) found hook f = open_acts x x.step found (omega (arith, within.nodes, f.0.0))
-  tree_acts c within t levels (TreePhase.Snapshot x) found hook f = snapshot_acts x x.step found
-  tree_acts c within t levels (TreePhase.ClearMarks x) found hook f = acts_if (dirty_in found == 1) (Action.Clean x.node) tt
-
--- accesses that agree at each mount agree whether there is one
-some_agree : (f g : ℕ → ℕ) (n mounts : ℕ) → n ≤ mounts → ((m : ℕ) → m < mounts → f m ≡ g m) → some_mount n f ≡ some_mount n g
-some_agree f g zero mounts le same = refl
-some_agree f g (suc n) mounts le same =
-    ap (λ b. b || nat_lt 0 (f n)) (some_agree f g n mounts (omega (arith, le)) same) ∙
-    ap (λ x. some_mount n g || nat_lt 0 x) (same n (omega (arith, le)))
-
-module _ (c : Config) (f g : ℕ → ℕ) (h k : ℕ → Bool) (mounts : (m : ℕ) → m < c.mounts → f m ≡ g m)
-    (levels : (i : ℕ) → 1 ≤ i → i ≤ 3 → h i ≡ k i) where
-  -- so who may be at a call is the same
-  pub writer_agrees : is_writer c f h ≡ is_writer c g k
-  writer_agrees = rw (levels 1 (omega arith) (omega arith), some_agree f g c.mounts c.mounts (omega arith) mounts) refl
-
-  -- and who may make a file dirty by a page fault
-  pub faulter_agrees : is_faulter c f h ≡ is_faulter c g k
-  faulter_agrees = rw (levels 2 (omega arith) (omega arith), some_agree f g c.mounts c.mounts (omega arith) mounts) refl
-
-  -- and who may set or clear the mark of a file
-  pub mark_agrees : (dirty : Bool) → may_mark dirty c f h ≡ may_mark dirty c g k
-  mark_agrees true = faulter_agrees
-  mark_agrees false = levels 3 (omega arith) (omega arith)
-
-  access_agrees : (x : TreePhase) → TreeAccess c f h x → TreeAccess c g k x
-  access_agrees (TreePhase.Mark x) may = sym (mark_agrees x.dirty) ∙ may
-  access_agrees (TreePhase.Snapshot x) may = sym (none_agree c 0 f g h k mounts levels) ∙ may
-  access_agrees (TreePhase.ClearMarks x) may = may
-  access_agrees (TreePhase.OpenFile x) may = tt
-  access_agrees other may = sym writer_agrees ∙ may
-
-  pub tree_agrees : (t : ℕ) (x : TreePhase) → PhaseFits c t f h (Phase.Trees x) → PhaseFits c t g k (Phase.Trees x)
-  tree_agrees t x fits = (fits.0, access_agrees x fits.1)
+  pub tree_acts : (c : Config) → IsWithin c → (t : ℕ) (x : TreePhase) (found : ℕ) (hook : HookAnswer) →
+      PhaseFits c t held (Phase.Trees x) → ActionFits held (after_of (Phase.Trees x) found hook).1
+  tree_acts c within t (TreePhase.Create x) found hook f = create_acts x x.step found
+  tree_acts c within t (TreePhase.Remove x) found hook f = remove_acts x x.step found
+  tree_acts c within t (TreePhase.Grow x) found hook f = grow_acts x x.step found
+  tree_acts c within t (TreePhase.MoveTo x) found hook f = move_acts x x.step found
+  tree_acts c within t (TreePhase.Mark x) found hook f = mark_acts x x.step found
+  tree_acts c within t (TreePhase.OpenFile x) found hook f = open_acts x x.step found (omega (arith, within.nodes, f.0.0))
+  tree_acts c within t (TreePhase.Snapshot x) found hook f = snapshot_acts x x.step found
+  tree_acts c within t (TreePhase.ClearMarks x) found hook f = acts_if (dirty_in found == 1) (Action.Clean x.node) tt

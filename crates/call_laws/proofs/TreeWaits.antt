@@ -11,7 +11,7 @@ use Rattle.gated_tree.specs.declared.{growth.{Grow.Grow, GrowStep.GrowStep}, mar
 use Rattle.gated_tree.specs.declared.{nodes.NodeWord.NodeWord, opens.{OpenFile.OpenFile, OpenStep.OpenStep}, phases.TreePhase.TreePhase}
 use Rattle.gated_tree.specs.declared.snapshots.{Snapshot.Snapshot, SnapshotStep.SnapshotStep}
 use Rattle.gate_world.specs.{Causes.{CallRefused, TreeRefused, IsTaken, TellsOf, tree_sees}, Fits.PhaseFits, KeptCauses.{SnapshotCause, TreeCause}}
-use Rattle.gate_world.specs.{Rules.{owns, IsGood}, Shown.shown, Views.{held_at, holds_level}, Waits.{HasReason, HasCulprit}, Work.after_of}
+use Rattle.gate_world.specs.{Rules.{owns, IsGood}, Shown.shown, Views.held_of, Waits.{HasReason, HasCulprit}, Work.after_of}
 use Rattle.gate_world.specs.{Worlds.{World, found_at}, declared.{config.Config.Config, work.Phase.Phase}}
 use Rattle.gate_frames.proofs.Owners.{umount_taken}
 use Rattle.call_laws.proofs.NodeCauses.{is_of_node, call_refused, create_node, remove_node, grow_node, move_node, mark_node, open_node, clear_node}
@@ -133,7 +133,7 @@ module _ (c : Config) (w : World) (earlier : List World) (t : ℕ) where
 
     -- so it is of each event at the tree
     pub tree_waits : (hook : HookAnswer) (x : TreePhase) → (w.views t).phase ≡ Some (Phase.Trees x) →
-        PhaseFits c t (held_at (w.views t)) (holds_level (w.views t)) (Phase.Trees x) → TreeCause c t w earlier x →
+        PhaseFits c t (held_of (w.views t)) (Phase.Trees x) → TreeCause c t w earlier x →
         HasReason c w earlier t (Phase.Trees x) (after_of (Phase.Trees x) (found_at w.words (Phase.Trees x) hook) hook).0
     tree_waits hook (TreePhase.Create x) e fits cause =
         let found : ℕ = found_at w.words (Phase.Trees (TreePhase.Create x)) hook in

@@ -8,10 +8,10 @@ use Rattle.gated_tree.specs.Nodes.{any_file_in, as_any_file, is_stray, node_of, 
 use Rattle.gated_tree.specs.{Phases.after_look, declared.nodes.NodeWord.NodeWord}
 use Rattle.percpu_rwsem.specs.{Readers.down_read_after, declared.readers.DownRead.DownRead}
 use Rattle.file_closes.specs.{Phases.{next, after, closed_from, then_frees, leaves_on}, declared.phases.{ClosePhase.ClosePhase, Closing.Closing}}
-use Rattle.gate_world.specs.{Configs.IsWithin, Fits.{Fits, CloseFits, ClosingFits, ActionFits, mounts_by, levels_by}, Views.phase_after}
+use Rattle.gate_world.specs.{Holdings.{Holdings, held_after, Agree}, Configs.IsWithin, Fits.{Fits, CloseFits, ClosingFits, ActionFits}, Views.phase_after}
 use Rattle.gate_world.specs.declared.{config.Config.Config, work.Phase.Phase}
 use Rattle.gate_frames.proofs.Keeps.{by_bool, extents_touched}
-use Rattle.writer_laws.proofs.{ReadFits.{ReadGoes, read_mounts, read_goes, none_from_agree, read_acts}, ReadKeeps.{read_phase, end_phase}}
+use Rattle.writer_laws.proofs.{ReadFits.{ReadGoes, read_goes, none_from_agree, read_acts}, ReadKeeps.{read_phase, end_phase}}
 
 some_is : {A : Type 0} (a b : A) → Some a ≡ Some b → a ≡ b
 some_is a b e = cc
@@ -63,9 +63,9 @@ stays_open true n some h = elim (eqb_tells n 1) [
   | inr z ↦ inr (omega (arith, z.1, some))
 ]
 
-module _ (c : Config) (t : ℕ) (held : ℕ → ℕ) (levels : ℕ → Bool) where
-  found_fits : (x : Closing) (file : NodeWord) → ClosingFits c t levels x → (file.kind ≡ Some Kind.File) × IsLawful file →
-      CloseFits c t levels (closed_from x file)
+module _ (c : Config) (t : ℕ) (held : Holdings) where
+  found_fits : (x : Closing) (file : NodeWord) → ClosingFits c t held x → (file.kind ≡ Some Kind.File) × IsLawful file →
+      CloseFits c t held (closed_from x file)
   found_fits x file f is =
       elim (eqb_tells file.opens 0) [
         | inl z ↦ rw z.0 f
@@ -76,75 +76,69 @@ module _ (c : Config) (t : ℕ) (held : ℕ → ℕ) (levels : ℕ → Bool) whe
             ]
       ]
 
-  looked_fits : (x : Closing) (word : ℕ) → ClosingFits c t levels x → (r : Option (Result NodeWord GateError)) → any_file_in word ≡ r →
-      Fits c t held levels (phase_after (map_next Phase.Closes (after_look (ClosePhase.LoadsFile x) (closed_from x) r)))
+  looked_fits : (x : Closing) (word : ℕ) → ClosingFits c t held x → (r : Option (Result NodeWord GateError)) → any_file_in word ≡ r →
+      Fits c t held (phase_after (map_next Phase.Closes (after_look (ClosePhase.LoadsFile x) (closed_from x) r)))
   looked_fits x word f None e = f
   looked_fits x word f (Some (Ok file)) e = found_fits x file f (found_file word file e)
   looked_fits x word f (Some (Err refusal)) e = tt
 
   pub enters_goes : (file p i : ℕ) (node : NodeWord) (n : Next DownRead) → file < c.nodes → p < c.processors → i ≡ 3 →
-      ReadGoes c t i p levels n → Fits c t held levels (phase_after (map_next Phase.Closes (then_frees file node p n)))
+      ReadGoes c t i p held n → Fits c t held (phase_after (map_next Phase.Closes (then_frees file node p n)))
   enters_goes file p i node (Next.Go r) there cpu three h = (there, h.1 ∙ three, h.0)
   enters_goes file p i node (Next.Wait r) there cpu three h = (there, h.1 ∙ three, h.0)
-  enters_goes file p i node (Next.Done (Ok reply)) there cpu three h = (there, cpu, subst (λ j. levels j ≡ true) three h)
+  enters_goes file p i node (Next.Done (Ok reply)) there cpu three h = (there, cpu, subst (λ j. held.levels j ≡ true) three h)
   enters_goes file p i node (Next.Done (Err refusal)) there cpu three h = tt
 
-pub enters_fits : (c : Config) (t : ℕ) (held : ℕ → ℕ) (levels : ℕ → Bool) (file : ℕ) (node : NodeWord) (r : DownRead) (found : ℕ) →
-    CloseFits c t levels (ClosePhase.Enters file node r) →
-    Fits c t (mounts_by (down_read_after r r.step found).1 held) (levels_by (down_read_after r r.step found).1 levels)
+pub enters_fits : (c : Config) (t : ℕ) (held : Holdings) (file : ℕ) (node : NodeWord) (r : DownRead) (found : ℕ) →
+    CloseFits c t held (ClosePhase.Enters file node r) → Fits c t (held_after (down_read_after r r.step found).1 held)
     (phase_after (map_next Phase.Closes (then_frees file node r.cpu (down_read_after r r.step found).0)))
-enters_fits c t held levels file node r found f =
-    let left : ℕ → Bool = levels_by (down_read_after r r.step found).1 levels in
-    let n : Next DownRead = (down_read_after r r.step found).0 in
-    subst (λ h. Fits c t h left (phase_after (map_next Phase.Closes (then_frees file node r.cpu n)))) (sym (read_mounts held r r.step found))
-    (enters_goes c t held left file r.cpu r.level node n f.0 f.2.2 f.1
-    (read_goes c t r f.2.0 f.2.1 f.2.2 f.2.3 levels r.step found f.2.4))
+enters_fits c t held file node r found f =
+    enters_goes c t (held_after (down_read_after r r.step found).1 held) file r.cpu r.level node (down_read_after r r.step found).0 f.0 f.2.2 f.1
+    (read_goes c t r f.2.0 f.2.1 f.2.2 f.2.3 held r.step found f.2.4)
 
 -- what comes after each event fits
-pub close_goes : (c : Config) (t : ℕ) (held : ℕ → ℕ) (levels : ℕ → Bool) (x : ClosePhase) (found : ℕ) → CloseFits c t levels x →
-    Fits c t (mounts_by (after x found).1 held) (levels_by (after x found).1 levels) (phase_after (map_next Phase.Closes (after x found).0))
-close_goes c t held levels (ClosePhase.LoadsFile x) found f = looked_fits c t held levels x found f (any_file_in found) refl
-close_goes c t held levels (ClosePhase.LowersCount x node) found f =
+pub close_goes : (c : Config) (t : ℕ) (held : Holdings) (x : ClosePhase) (found : ℕ) → CloseFits c t held x →
+    Fits c t (held_after (after x found).1 held) (phase_after (map_next Phase.Closes (after x found).0))
+close_goes c t held (ClosePhase.LoadsFile x) found f = looked_fits c t held x found f (any_file_in found) refl
+close_goes c t held (ClosePhase.LowersCount x node) found f =
     elim (cases_Bool (found == word_of node)) [ inl h ↦ rw h tt | inr h ↦ rw h tt ]
-close_goes c t held levels (ClosePhase.Enters file node r) found f = enters_fits c t held levels file node r found f
-close_goes c t held levels (ClosePhase.FreesNode file p node) found f =
+close_goes c t held (ClosePhase.Enters file node r) found f = enters_fits c t held file node r found f
+close_goes c t held (ClosePhase.FreesNode file p node) found f =
     elim (cases_Bool (found == word_of node)) [ inl h ↦ rw h (f.1, f.2) | inr h ↦ rw h f ]
-close_goes c t held levels (ClosePhase.RefundsBlocks p blocks) found f = f
-close_goes c t held levels (ClosePhase.Uncounts p) found f = f
-close_goes c t held levels (ClosePhase.Leaves p) found f = tt
+close_goes c t held (ClosePhase.RefundsBlocks p blocks) found f = f
+close_goes c t held (ClosePhase.Uncounts p) found f = f
+close_goes c t held (ClosePhase.Leaves p) found f = tt
 
 -- the word of each event is there
-pub close_there : (c : Config) (n : ℕ) → c.tasks ≤ n → (t : ℕ) → t < n → (held : ℕ → ℕ) (levels : ℕ → Bool) (hook : HookAnswer)
-    (x : ClosePhase) → CloseFits c t levels x → IsWord (extents_touched n c) (next x).0
-close_there c n le t lt held levels hook (ClosePhase.LoadsFile x) f = omega (arith, f.0)
-close_there c n le t lt held levels hook (ClosePhase.LowersCount x node) f = omega (arith, f.0.0)
-close_there c n le t lt held levels hook (ClosePhase.Enters file node r) f = (read_phase c r).word n le t lt held levels hook f.2
-close_there c n le t lt held levels hook (ClosePhase.FreesNode file p node) f = omega (arith, f.0)
-close_there c n le t lt held levels hook (ClosePhase.RefundsBlocks p blocks) f = tt
-close_there c n le t lt held levels hook (ClosePhase.Uncounts p) f = tt
-close_there c n le t lt held levels hook (ClosePhase.Leaves p) f =
-    (end_phase c (leaves_on p)).word n le t lt held levels hook (omega arith, omega arith, f.0, f.1)
+pub close_there : (c : Config) (n : ℕ) → c.tasks ≤ n → (t : ℕ) → t < n → (held : Holdings) (hook : HookAnswer)
+    (x : ClosePhase) → CloseFits c t held x → IsWord (extents_touched n c) (next x).0
+close_there c n le t lt held hook (ClosePhase.LoadsFile x) f = omega (arith, f.0)
+close_there c n le t lt held hook (ClosePhase.LowersCount x node) f = omega (arith, f.0.0)
+close_there c n le t lt held hook (ClosePhase.Enters file node r) f = (read_phase c r).word n le t lt held hook f.2
+close_there c n le t lt held hook (ClosePhase.FreesNode file p node) f = omega (arith, f.0)
+close_there c n le t lt held hook (ClosePhase.RefundsBlocks p blocks) f = tt
+close_there c n le t lt held hook (ClosePhase.Uncounts p) f = tt
+close_there c n le t lt held hook (ClosePhase.Leaves p) f =
+    (end_phase c (leaves_on p)).word n le t lt held hook (omega arith, omega arith, f.0, f.1)
 
 -- and its action can be done
-pub close_acts : (c : Config) → IsWithin c → (t : ℕ) (held : ℕ → ℕ) (levels : ℕ → Bool) (x : ClosePhase) (found : ℕ) →
-    CloseFits c t levels x → ActionFits held (after x found).1
-close_acts c lim t held levels (ClosePhase.LowersCount x node) found f =
+pub close_acts : (c : Config) → IsWithin c → (t : ℕ) (held : Holdings) (x : ClosePhase) (found : ℕ) →
+    CloseFits c t held x → ActionFits held (after x found).1
+close_acts c lim t held (ClosePhase.LowersCount x node) found f =
     by_bool (found == word_of node) (λ b. ActionFits held (if b then Some (Action.Close x.file) else None)) (omega (arith, f.0.0, lim.nodes)) tt
-close_acts c lim t held levels (ClosePhase.Enters file node r) found f = read_acts held r r.step found f.2.0 f.2.1
-close_acts c lim t held levels (ClosePhase.FreesNode file p node) found f =
+close_acts c lim t held (ClosePhase.Enters file node r) found f = read_acts held r r.step found f.2.0 f.2.1
+close_acts c lim t held (ClosePhase.FreesNode file p node) found f =
     by_bool (found == word_of node) (λ b. ActionFits held (if b then Some (Action.Close file) else None)) (omega (arith, f.0, lim.nodes)) tt
-close_acts c lim t held levels (ClosePhase.Leaves p) found f = (omega arith, omega arith)
-close_acts c lim t held levels other found f = tt
+close_acts c lim t held (ClosePhase.Leaves p) found f = (omega arith, omega arith)
+close_acts c lim t held other found f = tt
 
--- it fits levels that agree
-pub close_agrees : (c : Config) (t : ℕ) (f g : ℕ → ℕ) (h k : ℕ → Bool) → ((m : ℕ) → m < c.mounts → f m ≡ g m) →
-    ((i : ℕ) → 1 ≤ i → i ≤ 3 → h i ≡ k i) → (x : ClosePhase) → CloseFits c t h x → CloseFits c t k x
-close_agrees c t f g h k mounts levels (ClosePhase.LoadsFile x) fits =
-    (fits.0, fits.1, fits.2, sym (none_from_agree h k levels 3) ∙ fits.3)
-close_agrees c t f g h k mounts levels (ClosePhase.LowersCount x node) fits =
-    ((fits.0.0, fits.0.1, fits.0.2, sym (none_from_agree h k levels 3) ∙ fits.0.3), fits.1)
-close_agrees c t f g h k mounts levels (ClosePhase.Enters file node r) fits =
-    (fits.0, fits.1, (read_phase c r).agrees t f g h k mounts levels fits.2)
-close_agrees c t f g h k mounts levels (ClosePhase.FreesNode file p node) fits =
-    (fits.0, fits.1, sym (levels 3 (omega arith) (omega arith)) ∙ fits.2)
-close_agrees c t f g h k mounts levels other fits = (fits.0, sym (levels 3 (omega arith) (omega arith)) ∙ fits.1)
+-- it fits holdings that agree
+pub close_agrees : (c : Config) (t : ℕ) (held seen : Holdings) → Agree c held seen → (x : ClosePhase) → CloseFits c t held x → CloseFits c t seen x
+close_agrees c t held seen same (ClosePhase.LoadsFile x) fits =
+    (fits.0, fits.1, fits.2, sym (none_from_agree held.levels seen.levels same.levels 3) ∙ fits.3)
+close_agrees c t held seen same (ClosePhase.LowersCount x node) fits =
+    ((fits.0.0, fits.0.1, fits.0.2, sym (none_from_agree held.levels seen.levels same.levels 3) ∙ fits.0.3), fits.1)
+close_agrees c t held seen same (ClosePhase.Enters file node r) fits = (fits.0, fits.1, (read_phase c r).agrees t held seen same fits.2)
+close_agrees c t held seen same (ClosePhase.FreesNode file p node) fits =
+    (fits.0, fits.1, sym (same.levels 3 (omega arith) (omega arith)) ∙ fits.2)
+close_agrees c t held seen same other fits = (fits.0, sym (same.levels 3 (omega arith) (omega arith)) ∙ fits.1)

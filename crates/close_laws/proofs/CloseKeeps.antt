@@ -7,7 +7,7 @@ use Rattle.percpu_rwsem.specs.{Readers.down_read_after, declared.readers.DownRea
 use Rattle.level_laws.specs.{Events.SyncStep, Roles.closed}
 use Rattle.file_closes.specs.{Phases.{after, then_frees, leaves_on}, declared.phases.ClosePhase.ClosePhase}
 use Rattle.gate_world.specs.{Alike.{rephased, IsBeside}, Causes.asks_level, Configs.IsWithin, Fits.CloseFits, KeptCauses.CauseOf, LevelRuns.level_in}
-use Rattle.gate_world.specs.{Levels.sync_role_of, Rules.{IsGood, StepKeeps}, Views.{holds_level, phase_after}, Waits.HasReason}
+use Rattle.gate_world.specs.{Levels.sync_role_of, Rules.{IsGood, StepKeeps}, Views.{phase_after, held_of}, Waits.HasReason}
 use Rattle.gate_world.specs.{Worlds.{World, after_step, found_at}, declared.{config.Config.Config, work.Phase.Phase}}
 use Rattle.gate_frames.proofs.{Keeps.PhaseKeeps, Snapshots.completes_none}
 use Rattle.writer_laws.proofs.{ReadCauses.{read_stays, read_own, read_not_closed}, ReadKeeps.{read_phase, end_phase}, ReadWaits.read_waits}
@@ -56,7 +56,7 @@ close_stays c t w next earlier x e h = tt
 
 -- and what comes after its event has its cause
 close_causes : (c : Config) → (w : World) (earlier : List World) → IsGood c w → (t : ℕ) (hook : HookAnswer) (x : ClosePhase) →
-    CloseFits c t (holds_level (w.views t)) x → (w.views t).phase ≡ Some (Phase.Closes x) →
+    CloseFits c t (held_of (w.views t)) x → (w.views t).phase ≡ Some (Phase.Closes x) →
     let comes : Next ClosePhase = (after x (found_at w.words (Phase.Closes x) hook)).0 in
     ((after_step w t (Phase.Closes x) hook).views t).phase ≡ phase_after (map_next Phase.Closes comes) → CauseOf c t w earlier (Some (Phase.Closes x)) →
     CauseOf c t (after_step w t (Phase.Closes x) hook) (w ∷ earlier) (phase_after (map_next Phase.Closes comes))
@@ -96,10 +96,10 @@ close_phase c x = record {
   step = λ lim w good t lt hook e. close_keeps c lim w good t lt hook x e;
   runs = λ lim w good t lt hook e i one three. close_runs c lim w good t lt hook x e i one three;
   completes = λ lim w good t lt hook e. completes_none c w t hook (Phase.Closes x) (λ trace found. refl);
-  word = λ n le t lt held levels hook f. close_there c n le t lt held levels hook x f;
-  acts = λ lim t held levels found hook f. close_acts c lim t held levels x found f;
-  goes = λ lim t held levels found hook f. close_goes c t held levels x found f;
-  agrees = λ t f g h k mounts levels fits. close_agrees c t f g h k mounts levels x fits;
+  word = λ n le t lt held hook f. close_there c n le t lt held hook x f;
+  acts = λ lim t held found hook f. close_acts c lim t held x found f;
+  goes = λ lim t held found hook f. close_goes c t held x found f;
+  agrees = λ t held seen same fits. close_agrees c t held seen same x fits;
   stays = λ w next earlier good t f e was quiet h. close_stays c t w next earlier x e h;
   causes = λ w earlier good t lt hook e after is h. close_causes c w earlier good t hook x (close_fits_now c w good t lt hook x e) e is h;
   reasons = λ lim w earlier good t lt hook e cause. close_waits c w earlier t hook x cause;

@@ -12,10 +12,10 @@ use Rattle.gated_tree.specs.declared.nodes.NodeWord.{NodeWord}
 use Rattle.tree_laws.specs.{Events.HasLeave, Steps.EventKeeps}
 use Rattle.level_laws.specs.{Events.SyncStep, Roles.Out as IsApart}
 use Rattle.file_closes.specs.{Phases.{next, after, enters, closed_from}, declared.phases.{ClosePhase.ClosePhase, Closing.Closing}}
-use Rattle.gate_world.specs.{Configs.{IsWithin, model_limits}, Fits.{Fits, CloseFits, MayLower, HasFile, file_of, opens_by}, LevelRuns.level_in}
+use Rattle.gate_world.specs.{Holdings.{Holdings, held_after}, Configs.{IsWithin, model_limits}, Fits.{Fits, CloseFits, MayLower, HasFile, file_of}, LevelRuns.level_in}
 use Rattle.gate_world.specs.{Levels.{count_role_if, sync_role_if}, Rules.{IsGood, Fitting, Tree, Files, StepKeeps}, Shown.shown}
 use Rattle.gate_world.specs.Trees.{tree_bounds, tree_roles, tree_role_of, close_tree_role, is_sealed, is_bare_at}
-use Rattle.gate_world.specs.{Views.{held_at, holds_level, has_open, phase_after, view_after}, Worlds.{World, value_at, found_at, after_step}}
+use Rattle.gate_world.specs.{Views.{has_open, phase_after, view_after, held_of}, Worlds.{World, value_at, found_at, after_step}}
 use Rattle.gate_world.specs.declared.{config.Config.Config, views.{Traced.Traced, View.View}, work.Phase.Phase}
 use Rattle.gate_frames.proofs.CloseEvents.{close_loads, close_lowers, close_frees, close_drops, close_uncounts, frees_alone, closer_unread, freeing_removed}
 use Rattle.gate_frames.proofs.CloseEvents.{dropped_removed}
@@ -122,17 +122,17 @@ looked_has files x None own = own
 looked_has files x (Some (Ok file)) own = found_has files x file own
 looked_has files x (Some (Err refusal)) own = tt
 
-file_then : (files : ℕ → Bool) (x : ClosePhase) → is_at_tree x ≡ true → (found : ℕ) → HasFile files (file_of (Some (Phase.Closes x))) →
-    HasFile (opens_by (after x found).1 files) (file_of (phase_after (map_next Phase.Closes (after x found).0)))
-file_then files (ClosePhase.LoadsFile x) h found own = looked_has files x (any_file_in found) own
-file_then files (ClosePhase.LowersCount x node) h found own =
+file_then : (held : Holdings) (x : ClosePhase) → is_at_tree x ≡ true → (found : ℕ) → HasFile held.files (file_of (Some (Phase.Closes x))) →
+    HasFile (held_after (after x found).1 held).files (file_of (phase_after (map_next Phase.Closes (after x found).0)))
+file_then held (ClosePhase.LoadsFile x) h found own = looked_has held.files x (any_file_in found) own
+file_then held (ClosePhase.LowersCount x node) h found own =
     elim (cases_Bool (found == word_of node)) [ inl e ↦ rw e tt | inr e ↦ rw e tt ]
-file_then files (ClosePhase.FreesNode file p node) h found own =
+file_then held (ClosePhase.FreesNode file p node) h found own =
     elim (cases_Bool (found == word_of node)) [ inl e ↦ rw e tt | inr e ↦ rw e own ]
-file_then files (ClosePhase.RefundsBlocks p blocks) h found own = tt
-file_then files (ClosePhase.Uncounts p) h found own = tt
-file_then files (ClosePhase.Enters file node r) h found own = absurd (true≢false (sym h))
-file_then files (ClosePhase.Leaves p) h found own = absurd (true≢false (sym h))
+file_then held (ClosePhase.RefundsBlocks p blocks) h found own = tt
+file_then held (ClosePhase.Uncounts p) h found own = tt
+file_then held (ClosePhase.Enters file node r) h found own = absurd (true≢false (sym h))
+file_then held (ClosePhase.Leaves p) h found own = absurd (true≢false (sym h))
 
 close_at : (w : World) (x : ClosePhase) (hook : HookAnswer) → is_at_tree x ≡ true → IsAtTree w (Phase.Closes x) hook
 close_at w x hook at = record {
@@ -156,8 +156,8 @@ module _ (c : Config) (within : IsWithin c) (w : World) (good : IsGood c w) (t :
   abbrev close_action : Option Action
   close_action = (after x close_found).1
 
-  fits_now : CloseFits c t (holds_level (w.views t)) x
-  fits_now = subst (Fits c t (held_at (w.views t)) (holds_level (w.views t))) e (good Fitting t lt)
+  fits_now : CloseFits c t (held_of (w.views t)) x
+  fits_now = subst (Fits c t (held_of (w.views t))) e (good Fitting t lt)
 
   has_now : HasFile (has_open (w.views t)) (file_of (Some (Phase.Closes x)))
   has_now = subst (λ p. HasFile (has_open (w.views t)) (file_of p)) e ((good Files).own t lt)
@@ -175,11 +175,11 @@ module _ (c : Config) (within : IsWithin c) (w : World) (good : IsGood c w) (t :
     plain_parts c w good t lt (Phase.Closes x) hook e (close_at w x hook at) (close_word x at) (record { aside = refl; owns_none = refl })
         (plain_next close_next)
         (fitting_then c w good t lt (Phase.Closes x) hook e (close_at w x hook at)
-        (close_goes c t (held_at (w.views t)) (holds_level (w.views t)) x close_found fits_now))
+        (close_goes c t (held_of (w.views t)) x close_found fits_now))
         (tree_then c w good t lt (Phase.Closes x) hook e (close_at w x hook at) (role_after close_tree_role close_next)
         (role_comes close_next close_view.trace) kept.0)
         (files_then c w good t lt (Phase.Closes x) hook e (close_at w x hook at) within leave kept.1
-        (file_then (has_open (w.views t)) x at close_found has_now)),
+        (file_then (held_of (w.views t)) x at close_found has_now)),
     shown_moves c w good t lt (Phase.Closes x) hook e (close_at w x hook at) close_action refl leave kept.1,
   )
 
@@ -209,7 +209,7 @@ module _ (c : Config) (within : IsWithin c) (w : World) (good : IsGood c w) (t :
 
   pub loads_file : (x : Closing) → IsHere (ClosePhase.LoadsFile x) → StepKeeps c w t hook (Phase.Closes (ClosePhase.LoadsFile x))
   loads_file x e =
-      let f : CloseFits c t (holds_level (w.views t)) (ClosePhase.LoadsFile x) = fits_now c within w good t lt hook (ClosePhase.LoadsFile x) refl e in
+      let f : CloseFits c t (held_of (w.views t)) (ClosePhase.LoadsFile x) = fits_now c within w good t lt hook (ClosePhase.LoadsFile x) refl e in
       close_kept c within w good t lt hook (ClosePhase.LoadsFile x) refl e tt
       (close_loads (tree_bounds c) (tree_within c within) (is_sealed w.words) (is_bare_at w.words) w.words (tree_roles w) (good Tree) t lt x
       (role_now c within w good t lt hook (ClosePhase.LoadsFile x) refl e) f.0)
@@ -217,7 +217,7 @@ module _ (c : Config) (within : IsWithin c) (w : World) (good : IsGood c w) (t :
   pub lowers_count : (x : Closing) (node : NodeWord) → IsHere (ClosePhase.LowersCount x node) →
       StepKeeps c w t hook (Phase.Closes (ClosePhase.LowersCount x node))
   lowers_count x node e =
-      let f : CloseFits c t (holds_level (w.views t)) (ClosePhase.LowersCount x node) = fits_now c within w good t lt hook
+      let f : CloseFits c t (held_of (w.views t)) (ClosePhase.LowersCount x node) = fits_now c within w good t lt hook
       (ClosePhase.LowersCount x node) refl e in
       let own : has_open (w.views t) x.file ≡ true = has_now c within w good t lt hook (ClosePhase.LowersCount x node) refl e in
       close_kept c within w good t lt hook (ClosePhase.LowersCount x node) refl e
@@ -231,7 +231,7 @@ module _ (c : Config) (within : IsWithin c) (w : World) (good : IsGood c w) (t :
   pub frees_node : (file p : ℕ) (node : NodeWord) → IsHere (ClosePhase.FreesNode file p node) →
       StepKeeps c w t hook (Phase.Closes (ClosePhase.FreesNode file p node))
   frees_node file p node e =
-      let f : CloseFits c t (holds_level (w.views t)) (ClosePhase.FreesNode file p node) =
+      let f : CloseFits c t (held_of (w.views t)) (ClosePhase.FreesNode file p node) =
       fits_now c within w good t lt hook (ClosePhase.FreesNode file p node) refl e in
       let own : has_open (w.views t) file ≡ true = has_now c within w good t lt hook (ClosePhase.FreesNode file p node) refl e in
       let is : tree_roles w t ≡ Freeing file node = role_now c within w good t lt hook (ClosePhase.FreesNode file p node) refl e in
@@ -243,7 +243,7 @@ module _ (c : Config) (within : IsWithin c) (w : World) (good : IsGood c w) (t :
 
   pub refunds_blocks : (p blocks : ℕ) → IsHere (ClosePhase.RefundsBlocks p blocks) → StepKeeps c w t hook (Phase.Closes (ClosePhase.RefundsBlocks p blocks))
   refunds_blocks p blocks e =
-      let f : CloseFits c t (holds_level (w.views t)) (ClosePhase.RefundsBlocks p blocks) =
+      let f : CloseFits c t (held_of (w.views t)) (ClosePhase.RefundsBlocks p blocks) =
       fits_now c within w good t lt hook (ClosePhase.RefundsBlocks p blocks) refl e in
       let is : tree_roles w t ≡ Dropped blocks = role_now c within w good t lt hook (ClosePhase.RefundsBlocks p blocks) refl e in
       close_kept c within w good t lt hook (ClosePhase.RefundsBlocks p blocks) refl e tt

@@ -10,12 +10,12 @@ use Rattle.tree_laws.proofs.Counts.{leaves}
 use Rattle.percpu_rwsem.specs.{Readers.{at_down_read, down_read_after}, declared.readers.{DownRead.DownRead, DownReadStep.DownReadStep}}
 use Rattle.level_laws.specs.Events.{SyncStep}
 use Rattle.file_closes.specs.{Phases.{then_frees, leaves_on}, declared.phases.ClosePhase.ClosePhase}
-use Rattle.gate_world.specs.{Alike.{IsBeside, at_phase, rephased}, Configs.IsWithin, Fits.{Fits, CloseFits, HasFile, file_of, mounts_by, levels_by, opens_by}}
+use Rattle.gate_world.specs.{Holdings.{Holdings, held_after}, Alike.{IsBeside, at_phase, rephased}, Configs.IsWithin, Fits.{Fits, CloseFits, HasFile, file_of}}
 use Rattle.gate_world.specs.{LevelRuns.level_in, Rules.{IsGood, Holds, Fitting, Tree, Files, SameWords, StepKeeps, Moves}, Shown.shown}
-use Rattle.gate_world.specs.{Trees.{tree_bounds, tree_of, tree_roles, tree_role_of}, Views.{held_at, holds_level, has_open, phase_after, view_with}}
+use Rattle.gate_world.specs.{Trees.{tree_bounds, tree_of, tree_roles, tree_role_of}, Views.{has_open, phase_after, view_with, held_of}}
 use Rattle.gate_world.specs.{Work.{next_of, after_of}, Worlds.{World, found_at, words_after}}
 use Rattle.gate_world.specs.declared.{config.Config.Config, views.{Traced.Traced, View.View}, work.Phase.Phase}
-use Rattle.gate_frames.proofs.{Accesses.opens_of_after, Beside.{beside_of, made, made_keeps_beside, made_runs_beside, beside_good}}
+use Rattle.gate_frames.proofs.{Accesses.holdings_of_after, Beside.{beside_of, made, made_keeps_beside, made_runs_beside, beside_good}}
 use Rattle.gate_frames.proofs.{Frames.{left_alone, opens_left}, Trees.tree_holds}
 use Rattle.writer_laws.proofs.ReadKeeps.{read_phase, end_phase}
 use Rattle.close_laws.proofs.CloseFits.{enters_fits}
@@ -35,9 +35,9 @@ read_tree : (w : Words) (r : DownRead) (s : DownReadStep) (hook : HookAnswer) �
 read_tree w r DownReadStep.EntersSection hook = (refl, refl, refl, refl, refl, refl)
 read_tree w r other hook = (refl, refl, refl, refl, refl, refl)
 
-read_opens : (files : ℕ → Bool) (r : DownRead) (s : DownReadStep) (found : ℕ) → opens_by (down_read_after r s found).1 files ≡ files
-read_opens files r DownReadStep.LoadsBlock found = elim (cases_Bool (found == 0)) [ inl h ↦ rw h refl | inr h ↦ rw h refl ]
-read_opens files r other found = refl
+read_opens : (held : Holdings) (r : DownRead) (s : DownReadStep) (found : ℕ) → (held_after (down_read_after r s found).1 held).files ≡ held.files
+read_opens held r DownReadStep.LoadsBlock found = elim (cases_Bool (found == 0)) [ inl h ↦ rw h refl | inr h ↦ rw h refl ]
+read_opens held r other found = refl
 
 -- a close that is to free a node stays so, or it ends
 then_role : (file p : ℕ) (node : NodeWord) (n : Next DownRead) (trace : List Traced) →
@@ -81,7 +81,7 @@ module _ (c : Config) (w : World) (good : IsGood c w) (t : ℕ) (lt : t < c.task
       (record { blocks = ap charge is; removed = ap removal is; children = λ d. ap (child_charge d) is })))
 
   module _ (hook : HookAnswer) (q : Phase) (before : IsBeside (w.views t).phase (Some q))
-      (fits : Fits c t (held_at (w.views t)) (holds_level (w.views t)) (Some q)) (tree : Holds c (rephased w t (Some q)) Tree)
+      (fits : Fits c t (held_of (w.views t)) (Some q)) (tree : Holds c (rephased w t (Some q)) Tree)
       (files : Holds c (rephased w t (Some q)) Files) where
     -- what comes after the level's event in its own operation, and the action that it adds
     abbrev plain_after : Next Phase
@@ -108,7 +108,7 @@ module _ (c : Config) (w : World) (good : IsGood c w) (t : ℕ) (lt : t < c.task
         Moves c (shown c first_world) t plain_action (shown c (made_in first_world plain_after))
 
     beside_step : PlainLaw → (coming : Next Phase) → IsBeside (phase_after plain_after) (phase_after coming) →
-        Fits c t (mounts_by plain_action (held_at (w.views t))) (levels_by plain_action (holds_level (w.views t))) (phase_after coming) →
+        Fits c t (held_after plain_action (held_of (w.views t))) (phase_after coming) →
         Holds c (made_in w coming) Tree → Holds c (made_in w coming) Files →
         IsGood c (made_in w coming) × Moves c (shown c w) t plain_action (shown c (made_in w coming))
     beside_step law coming after fit tree_then files_then =
@@ -117,15 +117,15 @@ module _ (c : Config) (w : World) (good : IsGood c w) (t : ℕ) (lt : t < c.task
 
 -- its phase fits its accesses
 pub close_fits_now : (c : Config) (w : World) → IsGood c w → (t : ℕ) → t < c.tasks → (hook : HookAnswer) (x : ClosePhase) →
-    (w.views t).phase ≡ Some (Phase.Closes x) → CloseFits c t (holds_level (w.views t)) x
-close_fits_now c w good t lt hook x e = subst (Fits c t (held_at (w.views t)) (holds_level (w.views t))) e (good Fitting t lt)
+    (w.views t).phase ≡ Some (Phase.Closes x) → CloseFits c t (held_of (w.views t)) x
+close_fits_now c w good t lt hook x e = subst (Fits c t (held_of (w.views t))) e (good Fitting t lt)
 
 module _ (c : Config) (lim : IsWithin c) (w : World) (good : IsGood c w) (t : ℕ) (lt : t < c.tasks) (hook : HookAnswer) where
   -- an event at level 3, with the node to be freed
   pub enters_level : (file : ℕ) (node : NodeWord) (r : DownRead) → (w.views t).phase ≡ Some (Phase.Closes (ClosePhase.Enters file node r)) →
       StepKeeps c w t hook (Phase.Closes (ClosePhase.Enters file node r))
   enters_level file node r e =
-      let f : CloseFits c t (holds_level (w.views t)) (ClosePhase.Enters file node r) = close_fits_now c w good t lt hook (ClosePhase.Enters file node r) e in
+      let f : CloseFits c t (held_of (w.views t)) (ClosePhase.Enters file node r) = close_fits_now c w good t lt hook (ClosePhase.Enters file node r) e in
       let own : has_open (w.views t) file ≡ true = subst (λ p. HasFile (has_open (w.views t)) (file_of p)) e ((good Files).own t lt) in
       let is : tree_roles w t ≡ Freeing file node = ap (tree_role_of (w.views t).trace) e in
       let found : ℕ = found_at w.words (Phase.DownReads r) hook in
@@ -135,7 +135,7 @@ module _ (c : Config) (lim : IsWithin c) (w : World) (good : IsGood c w) (t : �
       let v : View = view_with (w.views t) (next_of (Phase.DownReads r) hook) (read w.words (next_of (Phase.DownReads r) hook).0) hook
       (coming, (down_read_after r r.step found).1) in
       let opens : has_open v ≡ has_open (w.views t) =
-      opens_of_after (down_read_after r r.step found).1 (w.views t).actions ∙ read_opens (has_open (w.views t)) r r.step found in
+      ap (λ (h : Holdings). h.files) (holdings_of_after (down_read_after r r.step found).1 (w.views t).actions) ∙ read_opens (held_of (w.views t)) r r.step found in
       let before : IsBeside (w.views t).phase (Some (Phase.DownReads r)) =
       beside_of e assumption in
       let same : SameWords w.words ws Tree = read_tree w.words r r.step hook in
@@ -143,7 +143,7 @@ module _ (c : Config) (lim : IsWithin c) (w : World) (good : IsGood c w) (t : �
       (tree_left c w good t lt file node is w.words (at_phase (w.views t) (Some (Phase.DownReads r))) (refl, refl, refl, refl, refl, refl) refl)
       (files_still c w good t lt w.words (at_phase (w.views t) (Some (Phase.DownReads r))) refl refl tt)
       (λ g at. (read_phase c r).step lim (rephased w t (Some (Phase.DownReads r))) g t lt hook at) coming (beside_enters file r.cpu node n)
-      (enters_fits c t (held_at (w.views t)) (holds_level (w.views t)) file node r found f)
+      (enters_fits c t (held_of (w.views t)) file node r found f)
       (elim (then_role file r.cpu node n v.trace) [
         | inl stays ↦ left_alone c w t lt Tree ws v same (stays ∙ sym is) (good Tree)
         | inr out ↦ tree_left c w good t lt file node is ws v same out
@@ -152,7 +152,7 @@ module _ (c : Config) (lim : IsWithin c) (w : World) (good : IsGood c w) (t : �
 
   pub leaves_level : (p : ℕ) → (w.views t).phase ≡ Some (Phase.Closes (ClosePhase.Leaves p)) → StepKeeps c w t hook (Phase.Closes (ClosePhase.Leaves p))
   leaves_level p e =
-      let f : CloseFits c t (holds_level (w.views t)) (ClosePhase.Leaves p) = close_fits_now c w good t lt hook (ClosePhase.Leaves p) e in
+      let f : CloseFits c t (held_of (w.views t)) (ClosePhase.Leaves p) = close_fits_now c w good t lt hook (ClosePhase.Leaves p) e in
       let q : Phase = Phase.UpReads (leaves_on p) in
       let found : ℕ = found_at w.words q hook in
       let ws : Words = words_after w.words q hook in
@@ -198,8 +198,8 @@ module _ (c : Config) (w : World) (good : IsGood c w) (t : ℕ) (lt : t < c.task
   pub beside_reads : (file : ℕ) (node : NodeWord) (r : DownRead) → (w.views t).phase ≡ Some (Phase.Closes (ClosePhase.Enters file node r)) →
       IsBeside (w.views t).phase (Some (Phase.DownReads r)) × IsGood c (rephased w t (Some (Phase.DownReads r)))
   beside_reads file node r e =
-      let f : CloseFits c t (holds_level (w.views t)) (ClosePhase.Enters file node r) =
-      subst (Fits c t (held_at (w.views t)) (holds_level (w.views t))) e (good Fitting t lt) in
+      let f : CloseFits c t (held_of (w.views t)) (ClosePhase.Enters file node r) =
+      subst (Fits c t (held_of (w.views t))) e (good Fitting t lt) in
       let is : tree_roles w t ≡ Freeing file node = ap (tree_role_of (w.views t).trace) e in
       let before : IsBeside (w.views t).phase (Some (Phase.DownReads r)) =
       beside_of e assumption in (
@@ -212,8 +212,8 @@ module _ (c : Config) (w : World) (good : IsGood c w) (t : ℕ) (lt : t < c.task
   pub beside_ends : (p : ℕ) → (w.views t).phase ≡ Some (Phase.Closes (ClosePhase.Leaves p)) →
       IsBeside (w.views t).phase (Some (Phase.UpReads (leaves_on p))) × IsGood c (rephased w t (Some (Phase.UpReads (leaves_on p))))
   beside_ends p e =
-      let f : CloseFits c t (holds_level (w.views t)) (ClosePhase.Leaves p) =
-      subst (Fits c t (held_at (w.views t)) (holds_level (w.views t))) e (good Fitting t lt) in
+      let f : CloseFits c t (held_of (w.views t)) (ClosePhase.Leaves p) =
+      subst (Fits c t (held_of (w.views t))) e (good Fitting t lt) in
       let is : tree_roles w t ≡ OffTree = ap (tree_role_of (w.views t).trace) e in
       let q : Phase = Phase.UpReads (leaves_on p) in
       let before : IsBeside (w.views t).phase (Some q) = beside_of e assumption in (

@@ -13,7 +13,7 @@ use Rattle.freeze_levels.specs.declared.{freezes.{Freeze.Freeze, FreezeStep.{Fre
 use Rattle.holder_laws.{proofs.{HolderLaws.held_exactly, Words.held_word}, specs.Roles.{between, is_held, is_four, HoldersHold}}
 use Rattle.gate_world.specs.{Beginnings.first_phase, Fits.Fits, Found.stores_stage, Headline.{stores_nobody, is_between, HoldersAreTold}}
 use Rattle.gate_world.specs.{Holders.holder_role_of, Rules.{IsGood, Fitting, Holding, Known}}
-use Rattle.gate_world.specs.{Views.{phase_after, with_hook, view_after, begun_view, held_at, holds_level}, Work.{next_of, after_of}}
+use Rattle.gate_world.specs.{Views.{phase_after, with_hook, view_after, begun_view, held_of}, Work.{next_of, after_of}}
 use Rattle.gate_world.specs.Worlds.{World, Entry, Begins, Steps, after_step, begin_refusal, begin_of, step_of, happens, opening, value_at, found_at}
 use Rattle.gate_world.specs.Worlds.{words_after}
 use Rattle.gate_world.specs.declared.{config.Config.Config, operations.Op.Op, views.{Traced.Traced, View.View}, work.Phase.{Phase, TheVariants.Closes}}
@@ -140,7 +140,7 @@ module _ (c : Config) (w : World) (good : IsGood c w) (t : ℕ) (lt : t < c.task
   thaw_told x ThawStep.LoadsStage hook e after = thaw_spares (record x { step = ThawStep.LoadsStage }) hook e after (refl, refl, refl, refl) refl
   thaw_told x ThawStep.LoadsHolders hook e after = thaw_spares (record x { step = ThawStep.LoadsHolders }) hook e after (refl, refl, refl, refl) refl
   thaw_told x (ThawStep.Leaves held) hook e after =
-      let fits = subst (λ p. Fits c t (held_at (w.views t)) (holds_level (w.views t)) p) e (good Fitting t lt) in
+      let fits = subst (λ p. Fits c t (held_of (w.views t)) p) e (good Fitting t lt) in
       let others = with_holder x.holder false held in
       ap bit (sym (not_nobody (word_of others) (held_word others fits.2.1)))
   thaw_told x ThawStep.LoadsSuperblock hook e after =

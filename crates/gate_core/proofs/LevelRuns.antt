@@ -7,7 +7,7 @@ use Rattle.level_laws.proofs.{GraceLaws.graces_are_whole, IdleLaws.only_callback
 use Rattle.level_laws.specs.Events.{SyncLevelHolds, SyncStep, SyncRun}
 use Rattle.gate_world.specs.{Beginnings.{first_phase, view_refusal}, Configs.IsWithin}
 use Rattle.gate_world.specs.{LevelRuns.{level_in, level_after, IsLevelRun, GracesAreKept, LevelsAreRuns}, Levels.{inside, sync_role_of}, Rules.IsGood}
-use Rattle.gate_world.specs.{Views.{begun_view, held_at, holds_level, has_open}, Worlds.{World, Entry, Begins, Steps, begin_of, step_of, happens, run, opening}}
+use Rattle.gate_world.specs.{Views.{begun_view, held_of}, Worlds.{World, Entry, Begins, Steps, begin_of, step_of, happens, run, opening}}
 use Rattle.gate_world.specs.declared.{config.Config.Config, operations.Op.Op, work.Phase.Phase}
 use Rattle.gate_frames.proofs.{LevelSteps.{level_stays, level_kept}, LevelWorlds.level_right}
 use Rattle.gate_core.proofs.{Beginnings.may_begin, Layers.{phase_keeps, op_keeps}, Schedule.{idle_is, happens_keeps}, Whole.whole_rule}
@@ -22,7 +22,7 @@ module _ (c : Config) (lim : IsWithin c) (i : ℕ) (one : 1 ≤ i) (three : i �
   begins w t op (Some refused) e = still w w refl
   begins w t op None e =
       let idle : (w.views t).phase ≡ None = idle_is (w.views t).phase
-      (may_begin c (is_some (w.views t).phase) (held_at (w.views t)) (holds_level (w.views t)) (has_open (w.views t)) op e).idle in
+      (may_begin c (is_some (w.views t).phase) (held_of (w.views t)) op e).idle in
       still w (begin_of c w t op None)
       (level_kept w t i w.words (begun_view (w.views t) op (first_phase c t op)) refl refl refl refl
       (((op_keeps c op).starts_idle t).inside_same ∙ sym (ap inside idle))

@@ -18,7 +18,7 @@ use Rattle.gate_world.specs.{Alike.IsBeside, Beginnings.{first_phase, view_refus
 use Rattle.gate_world.specs.{Headline.{SumsHold, IdleSumsHold}, Levels.{at_level, level_role_of}, Owners.KnowsWords}
 use Rattle.gate_world.specs.Rules.{role_of, at_mount, MountHoldsIn, LevelHoldsIn, ViewFits, Part, Owner, Stages, Holding, Fitting, AtMount, Holds, IsGood}
 use Rattle.gate_world.specs.Rules.{Moves, owns, Known, Tree, Files, AtLevel, SyncAt, Sections}
-use Rattle.gate_world.specs.{Shown.shown, Trees.{tree_bounds, tree_role_of}, Views.{held_at, holds_level, has_open, begun_view}}
+use Rattle.gate_world.specs.{Shown.shown, Trees.{tree_bounds, tree_role_of}, Views.{has_open, begun_view, held_of}}
 use Rattle.gate_world.specs.Worlds.{World, Entry, Begins, Steps, after_begin, begin_of, step_of, happens, phase_action, action_of, task_of, with_action, run}
 use Rattle.gate_world.specs.Worlds.{opening, history}
 use Rattle.gate_world.specs.declared.{config.Config.Config, operations.Op.Op, views.View.View, work.Phase.Phase}
@@ -31,7 +31,7 @@ idle_is (Some phase) h = absurd (true≢false h)
 
 -- a task with this view may begin the operation
 abbrev pub MayBeginAt : Config → View → Op → Type 0
-MayBeginAt c v op = MayBegin c (is_some v.phase) (held_at v) (holds_level v) (has_open v) op
+MayBeginAt c v op = MayBegin c (is_some v.phase) (held_of v) op
 
 module _ (c : Config) (lim : IsWithin c) (w : World) (good : IsGood c w) (t : ℕ) (lt : t < c.tasks) where
   pub step_keeps : (hook : HookAnswer) (p : Option Phase) → (w.views t).phase ≡ p →
@@ -46,8 +46,7 @@ module _ (c : Config) (lim : IsWithin c) (w : World) (good : IsGood c w) (t : �
   -- so a beginning leaves each part of the rule but that of its own phase
   begun_good : (op : Op) → MayBeginAt c (w.views t) op → (part : Part) → Holds c (after_begin c w t op) part
   begun_good op h Fitting = λ x lx. each_updated (λ y (u : View). ViewFits c y u) w.views t
-      (begun_view (w.views t) op (first_phase c t op)) x (first_fits c t (is_some (w.views t).phase) (held_at (w.views t))
-      (holds_level (w.views t)) (has_open (w.views t)) op h) (λ ne. good Fitting x lx)
+      (begun_view (w.views t) op (first_phase c t op)) x (first_fits c t (is_some (w.views t).phase) (held_of (w.views t)) op h) (λ ne. good Fitting x lx)
   begun_good op h Owner =
       left_alone c w t lt Owner w.words (begun_view (w.views t) op (first_phase c t op)) (refl, refl)
       ((begins_beside op h).steady.owns_same, (begins_beside op h).steady.remounts_same) (good Owner)
@@ -63,7 +62,7 @@ module _ (c : Config) (lim : IsWithin c) (w : World) (good : IsGood c w) (t : �
   begun_good op h Files = record {
     counted = λ n ln. (good Files).counted n ln ∙ sym (ap (λ f. openers f n) (opens_left c w t lt (begun_view (w.views t) op (first_phase c t op)) refl));
     own = λ y ly. each_updated (λ z (u : View). HasFile (has_open u) (file_of u.phase)) w.views t
-        (begun_view (w.views t) op (first_phase c t op)) y ((op_keeps c op).file t (has_open (w.views t)) h.of_open h.of_closed)
+        (begun_view (w.views t) op (first_phase c t op)) y ((op_keeps c op).file t (held_of (w.views t)) h.order h.room)
         (λ ne. (good Files).own y ly);
   }
   begun_good op h Known = λ x lx.
@@ -87,14 +86,14 @@ module _ (c : Config) (lim : IsWithin c) (w : World) (good : IsGood c w) (t : �
   begun_keeps op h = (
     begun_good op h,
     shown_still c w t lt w.words (begun_view (w.views t) op (first_phase c t op)) refl refl refl refl refl refl refl
-        (begins_beside op h).steady.closing_same refl refl refl,
+        (begins_beside op h).steady.closing_same refl,
   )
 
 module _ (c : Config) (lim : IsWithin c) where
   begin_keeps : (w : World) → IsGood c w → (t : ℕ) (op : Op) → t < c.tasks → (r : Option GateError) → view_refusal c (w.views t) op ≡ r →
       IsGood c (begin_of c w t op r) × (shown c (begin_of c w t op r) ≡ shown c w)
   begin_keeps w good t op lt None e = begun_keeps c lim w good t lt op
-      (may_begin c (is_some (w.views t).phase) (held_at (w.views t)) (holds_level (w.views t)) (has_open (w.views t)) op e)
+      (may_begin c (is_some (w.views t).phase) (held_of (w.views t)) op e)
   begin_keeps w good t op lt (Some refused) e = (good, refl)
 
   -- each entry keeps the rule, and moves the shown model by its action

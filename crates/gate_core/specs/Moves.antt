@@ -18,7 +18,7 @@ use Rattle.gate_core.specs.declared.steps.Progress.{Progress}
 use Rattle.gate_core.specs.declared.steps.Progress.TheVariants.{Idle}
 use Rattle.gate_core.specs.Answers.{progress_of, asked_by}
 use Rattle.gate_core.specs.Memory.{Memory, seat_of}
-use Rattle.gate_core.specs.Seats.{mounts_in, levels_in, files_in}
+use Rattle.gate_core.specs.Seats.{seat_held}
 
 -- the phase of a task, of an idle one or none that is there None
 abbrev pub phase_in : Memory → ℕ → Option Phase
@@ -28,7 +28,7 @@ phase_in memory t = if nat_lt t memory.config.tasks then (seat_of memory t).phas
 abbrev pub refusal_in : Memory → ℕ → Op → Option GateError
 refusal_in memory t op =
     if nat_lt t memory.config.tasks then
-    refusal memory.config (is_some (seat_of memory t).phase) (mounts_in (seat_of memory t)) (levels_in (seat_of memory t)) (files_in (seat_of memory t)) op else
+    refusal memory.config (is_some (seat_of memory t).phase) (seat_held (seat_of memory t)) op else
     Some Invalid
 
 -- the memory after a beginning that is refused for this reason, or not

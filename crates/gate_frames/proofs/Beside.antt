@@ -5,19 +5,19 @@ use Rattle.finite_sums.{proofs.Totals.{update_at, update_off, each_updated}, spe
 use Rattle.access_model.specs.declared.{actions.Action.Action, replies.Next.Next}
 use Rattle.cpu_words.specs.{Hooks.HookAnswer, Touches.left, Words.{read, put}, declared.{events.Touch.Touch, names.WordName.WordName}}
 use Rattle.level_laws.specs.Events.{SyncStep}
-use Rattle.gate_world.specs.{Alike.{IsBeside, at_phase, rephased}, Fits.{Fits, mounts_by, levels_by}, LevelRuns.level_in}
+use Rattle.gate_world.specs.{Alike.{IsBeside, at_phase, rephased}, Fits.Fits, Holdings.held_after, LevelRuns.level_in}
 use Rattle.gate_world.specs.Rules.{ViewFits, Part, Owner, Stages, Holding, Fitting, Known, AtMount, Holds, IsGood, Moves, Tree, Files, AtLevel, SyncAt}
 use Rattle.gate_world.specs.Rules.{Sections}
-use Rattle.gate_world.specs.{Shown.shown, Views.{held_at, holds_level, phase_after, view_with}, Worlds.World}
+use Rattle.gate_world.specs.{Shown.shown, Views.{held_of, phase_after, view_with}, Worlds.World}
 use Rattle.gate_world.specs.declared.{config.Config.Config, views.View.View, work.Phase.Phase}
-use Rattle.gate_frames.proofs.{Accesses.{mounts_of_after, levels_of_after}, Frames.{view_as, shown_still, left_alone, level_view_as}, LevelSteps.level_kept}
+use Rattle.gate_frames.proofs.{Accesses.holdings_of_after, Frames.{view_as, shown_still, left_alone, level_view_as}, LevelSteps.level_kept}
 
 pub beside_of : {p q r : Option Phase} → p ≡ q → IsBeside q r → IsBeside p r
 beside_of {p} {q} {r} e h = subst (λ x. IsBeside x r) (sym e) h
 
 module _ (c : Config) (w : World) (t : ℕ) (lt : t < c.tasks) (q : Option Phase) (same : IsBeside (w.views t).phase q) where
   -- each part of the rule holds with the other phase, where the tree and the open files do
-  beside_part : Fits c t (held_at (w.views t)) (holds_level (w.views t)) q → IsGood c w → Holds c (rephased w t q) Tree →
+  beside_part : Fits c t (held_of (w.views t)) q → IsGood c w → Holds c (rephased w t q) Tree →
       Holds c (rephased w t q) Files → (part : Part) → Holds c (rephased w t q) part
   beside_part fits good tree files Owner =
       left_alone c w t lt Owner w.words (at_phase (w.views t) q) (refl, refl) (same.steady.owns_same, same.steady.remounts_same)
@@ -43,13 +43,13 @@ module _ (c : Config) (w : World) (t : ℕ) (lt : t < c.tasks) (q : Option Phase
   beside_part fits good tree files Sections =
       left_alone c w t lt Sections w.words (at_phase (w.views t) q) refl same.inside_same (good Sections)
 
-  pub beside_good : Fits c t (held_at (w.views t)) (holds_level (w.views t)) q → IsGood c w → Holds c (rephased w t q) Tree →
+  pub beside_good : Fits c t (held_of (w.views t)) q → IsGood c w → Holds c (rephased w t q) Tree →
       Holds c (rephased w t q) Files → IsGood c (rephased w t q)
   beside_good fits good tree files = beside_part fits good tree files
 
   -- the shown model is the same
   pub beside_shown : shown c (rephased w t q) ≡ shown c w
-  beside_shown = shown_still c w t lt w.words (at_phase (w.views t) q) refl refl refl refl refl refl refl same.steady.closing_same refl refl refl
+  beside_shown = shown_still c w t lt w.words (at_phase (w.views t) q) refl refl refl refl refl refl refl same.steady.closing_same refl
 
 pub beside_level : (w : World) (t : ℕ) (q : Option Phase) → IsBeside (w.views t).phase q → (i : ℕ) →
     level_in (rephased w t q) i ≡ level_in w i
@@ -93,13 +93,13 @@ module _ (c : Config) (w : World) (t : ℕ) (lt : t < c.tasks) (p : Option Phase
 
   -- so what the law of the first says of the rule and of the shown model, it says of the second, where the tree and the open files hold with the
   -- first phase before the event, and with the second's after it
-  pub made_keeps_beside : IsGood c w → IsBeside (w.views t).phase p → Fits c t (held_at (w.views t)) (holds_level (w.views t)) p →
+  pub made_keeps_beside : IsGood c w → IsBeside (w.views t).phase p → Fits c t (held_of (w.views t)) p →
       Holds c (rephased w t p) Tree → Holds c (rephased w t p) Files →
       (IsGood c (rephased w t p) → ((rephased w t p).views t).phase ≡ p →
       IsGood c (made (rephased w t p) t n hook a action) ×
       Moves c (shown c (rephased w t p)) t action (shown c (made (rephased w t p) t n hook a action))) →
       IsBeside (phase_after a) (phase_after b) →
-      Fits c t (mounts_by action (held_at (w.views t))) (levels_by action (holds_level (w.views t))) (phase_after b) →
+      Fits c t (held_after action (held_of (w.views t))) (phase_after b) →
       Holds c (made w t n hook b action) Tree → Holds c (made w t n hook b action) Files →
       IsGood c (made w t n hook b action) × Moves c (shown c w) t action (shown c (made w t n hook b action))
   made_keeps_beside good before fits tree files law after fits_after tree_then files_then =
@@ -113,12 +113,10 @@ module _ (c : Config) (w : World) (t : ℕ) (lt : t < c.tasks) (p : Option Phase
       let is : there.views t ≡ u = update_at first.views t _ ∙ ap (λ x. view_with x n (read w.words n.0) hook (a, action))
       (update_at w.views t v) in
       let same : IsBeside (there.views t).phase (phase_after b) = beside_of (ap (λ (x : View). x.phase) is) after in
-      let fit : Fits c t (held_at u) (holds_level u) (phase_after b) =
-      subst (λ k. Fits c t (held_at u) k (phase_after b)) (sym (levels_of_after action (w.views t).actions))
-      (subst (λ h. Fits c t h (levels_by action (holds_level (w.views t))) (phase_after b))
-      (sym (mounts_of_after action (w.views t).actions)) fits_after) in
-      let fit_there : Fits c t (held_at (there.views t)) (holds_level (there.views t)) (phase_after b) =
-      subst (λ (x : View). Fits c t (held_at x) (holds_level x) (phase_after b)) (sym is) fit in (
+      let fit : Fits c t (held_of u) (phase_after b) =
+      subst (λ h. Fits c t h (phase_after b)) (sym (holdings_of_after action (w.views t).actions)) fits_after in
+      let fit_there : Fits c t (held_of (there.views t)) (phase_after b) =
+      subst (λ (x : View). Fits c t (held_of x) (phase_after b)) (sym is) fit in (
         subst (λ x. IsGood c x) again (beside_good c there t lt (phase_after b) same fit_there l.0
             (subst (λ x. Holds c x Tree) (sym again) tree_then) (subst (λ x. Holds c x Files) (sym again) files_then)),
         subst (λ s. Moves c s t action (shown c (made w t n hook b action))) (beside_shown c w t lt p before)

@@ -17,7 +17,7 @@ use Rattle.gate_world.specs.{Levels.{inside, at_level, level_role_of, is_frozen_
 use Rattle.gate_world.specs.Rules.{role_if, at_mount, owns, remounts, IsSteady, OwnerHolds, ViewFits, Part, Owner, Stages, Holding, Fitting, AtMount, Holds}
 use Rattle.gate_world.specs.Rules.{SameWords, SameView, GatesHold, IsGood, Known, Tree, AtLevel, SyncAt, Sections, Files}
 use Rattle.gate_world.specs.{Shown.{shown, closing, is_passed, stage_roles, holder_roles}, Stages.stage_role_of, Trees.{tree_bounds, tree_role_of, tree_roles}}
-use Rattle.gate_world.specs.{Views.{held_at, holds_level, added_after, taken_after, has_open}, Worlds.World}
+use Rattle.gate_world.specs.{Holdings.Holdings, Views.{held_at, held_of, holds_level, added_after, taken_after, has_open}, Worlds.World}
 use Rattle.gate_world.specs.declared.{config.Config.Config, views.View.View, work.Phase.Phase}
 use Rattle.gate_frames.proofs.Known.{known_same}
 
@@ -114,18 +114,38 @@ module _ (c : Config) (w : World) (t : ℕ) (lt : t < c.tasks) where
     tree = λ n. node_shown (ws.node n);
   }
 
-  -- a view with the same actions shows the same accesses
-  pub shown_still : (ws : Words) (v : View) → ws.block ≡ w.words.block → ws.flags ≡ w.words.flags → ws.remount ≡ w.words.remount →
-      ws.sb ≡ w.words.sb → ws.stage ≡ w.words.stage → ws.holders ≡ w.words.holders → ws.node ≡ w.words.node →
-      ((i : ℕ) → closing i v.phase ≡ closing i (w.views t).phase) → held_at v ≡ held_at (w.views t) →
-      holds_level v ≡ holds_level (w.views t) → has_open v ≡ has_open (w.views t) →
-      shown c (record { words = ws; views = update w.views t v }) ≡ shown c w
-  shown_still ws v eb ef er es eg ew en ec eh el eo =
+  -- and of a task that holds what it held
+  pub shown_held : (ws : Words) (v : View) → ws.block ≡ w.words.block → ((i : ℕ) → closing i v.phase ≡ closing i (w.views t).phase) →
+      held_of v ≡ held_of (w.views t) →
+      shown c (record { words = ws; views = update w.views t v }) ≡
+      record (shown c w) {
+        mount_ro = λ m. ro_bit (ws.flags m) == 1;
+        sb_ro = ws.remount == 1 || ws.sb == 1;
+        stage = ws.stage;
+        holders = holders_in ws.holders;
+        tree = λ n. node_shown (ws.node n);
+      }
+  shown_held ws v eb ec eh =
       shown_as ws v eb ec ∙
       (λ j. record (shown c w) {
-        mounts = (ap (update (λ x. held_at (w.views x)) t) eh ∙ update_same (λ x. held_at (w.views x)) t) j;
-        levels = (ap (update (λ x. holds_level (w.views x)) t) el ∙ update_same (λ x. holds_level (w.views x)) t) j;
-        opens = (ap (update (λ x. has_open (w.views x)) t) eo ∙ update_same (λ x. has_open (w.views x)) t) j;
+        mounts = (ap (λ (h : Holdings). update (λ x. held_at (w.views x)) t h.mounts) eh ∙ update_same (λ x. held_at (w.views x)) t) j;
+        levels = (ap (λ (h : Holdings). update (λ x. holds_level (w.views x)) t h.levels) eh ∙ update_same (λ x. holds_level (w.views x)) t) j;
+        opens = (ap (λ (h : Holdings). update (λ x. has_open (w.views x)) t h.files) eh ∙ update_same (λ x. has_open (w.views x)) t) j;
+        mount_ro = λ m. ro_bit (ws.flags m) == 1;
+        sb_ro = ws.remount == 1 || ws.sb == 1;
+        stage = ws.stage;
+        holders = holders_in ws.holders;
+        tree = λ n. node_shown (ws.node n);
+      })
+
+  -- and leaves the words that are shown
+  pub shown_still : (ws : Words) (v : View) → ws.block ≡ w.words.block → ws.flags ≡ w.words.flags → ws.remount ≡ w.words.remount →
+      ws.sb ≡ w.words.sb → ws.stage ≡ w.words.stage → ws.holders ≡ w.words.holders → ws.node ≡ w.words.node →
+      ((i : ℕ) → closing i v.phase ≡ closing i (w.views t).phase) → held_of v ≡ held_of (w.views t) →
+      shown c (record { words = ws; views = update w.views t v }) ≡ shown c w
+  shown_still ws v eb ef er es eg ew en ec eh =
+      shown_held ws v eb ec eh ∙
+      (λ j. record (shown c w) {
         mount_ro = λ m. ro_bit (ef j m) == 1;
         sb_ro = er j == 1 || es j == 1;
         stage = eg j;
@@ -174,9 +194,7 @@ module _ (c : Config) (w : World) (t : ℕ) (lt : t < c.tasks) where
   left_alone Holding ws v same seen h = holders_as same.0 same.1 (holder_roles_left v seen) h
   left_alone Fitting ws v same seen h = λ x lx.
       each_updated (λ y (u : View). ViewFits c y u) w.views t v x
-      (subst (λ (p : Option Phase). Fits c t (held_at v) (holds_level v) p) (sym seen.2)
-      (subst (λ k. Fits c t (held_at v) k (w.views t).phase) (sym seen.1)
-      (subst (λ k. Fits c t k (holds_level (w.views t)) (w.views t).phase) (sym seen.0) (h t lt)))) (λ ne. h x lx)
+      (subst (Fits c t (held_of v)) (sym seen.1) (subst (λ k. Fits c t k (w.views t).phase) (sym seen.0) (h t lt))) (λ ne. h x lx)
   left_alone Known ws v same seen h = λ x lx.
       each_updated (λ y (u : View). owns u.phase ≡ 1 → KnowsWords ws u.trace) w.views t v x
       (λ o. subst (KnowsWords ws) (sym seen.1) (known_same w.words ws same (w.views t).trace (h t lt (sym seen.0 ∙ o))))

@@ -6,7 +6,7 @@ use Rattle.cpu_words.specs.{Hooks.HookAnswer, Words.{read, put}, declared.{event
 use Rattle.mount_counts.specs.{Roles.Out, declared.phases.MountPhase.MountPhase}
 use Rattle.gate_world.specs.Fits.{Fits, MountFits}
 use Rattle.gate_world.specs.Rules.{role_if, role_of, at_mount, owns, mount_owns, remounts, IsSteady, IsGood, Fitting, AtMount, GatesHold}
-use Rattle.gate_world.specs.{Shown.{shown, closing}, Views.{held_at, holds_level, added_by, taken_by, phase_after, view_with}, Worlds.World}
+use Rattle.gate_world.specs.{Shown.{shown, closing}, Views.{held_of, added_by, taken_by, phase_after, view_with}, Worlds.World}
 use Rattle.gate_world.specs.declared.{config.Config.Config, views.View.View, work.Phase.Phase}
 use Rattle.gate_frames.proofs.{Frames.{added_load, taken_load, view_as, holds_as, MountHoldsAfter, shown_still, owner_same, gates_after}, Words.load_same}
 
@@ -36,14 +36,14 @@ after_load w t name hook coming = record {
 module _ (c : Config) (w : World) (good : IsGood c w) (t : ℕ) (lt : t < c.tasks) where
   -- the phase fits its task's accesses
   pub fits_now : (phase : MountPhase) → (w.views t).phase ≡ Some (Phase.Mounts phase) →
-      MountFits c t (held_at (w.views t)) (holds_level (w.views t)) phase
-  fits_now phase e = subst (Fits c t (held_at (w.views t)) (holds_level (w.views t))) e (good Fitting t lt)
+      MountFits c t (held_of (w.views t)) phase
+  fits_now phase e = subst (Fits c t (held_of (w.views t))) e (good Fitting t lt)
 
   -- a load, after which the task's role is another at one mount at most
   pub load_law : (m : ℕ) (name : WordName) (hook : HookAnswer) (coming : Next Phase) →
       ((n : ℕ) → (n ≡ m → ⊥) → role_of n (phase_after coming) ≡ role_of n (w.views t).phase) →
       IsSteady (w.views t).phase (phase_after coming) →
-      Fits c t (held_at (w.views t)) (holds_level (w.views t)) (phase_after coming) →
+      Fits c t (held_of (w.views t)) (phase_after coming) →
       (m < c.mounts → MountHoldsAfter c w t m (w.words.flags m) (w.words.count m)
       (record (at_mount m (w.views t)) { role = role_of m (phase_after coming) })) →
       GatesHold c (after_load w t name hook coming) × (shown c (after_load w t name hook coming) ≡ shown c w)
@@ -58,13 +58,13 @@ module _ (c : Config) (w : World) (good : IsGood c w) (t : ℕ) (lt : t < c.task
       (view_as refl (ap (λ f. f m) (sym ea)) (ap (λ f. f m) (sym et)) refl) (own lm)) in
       subst (λ ws. let next_world : World = record { words = ws; views = update w.views t v } in GatesHold c next_world ×
       (shown c next_world ≡ shown c w)) (sym (load_same w.words name))
-      (there, shown_still c w t lt w.words v refl refl refl refl refl refl refl same.closing_same refl refl refl)
+      (there, shown_still c w t lt w.words v refl refl refl refl refl refl refl same.closing_same refl)
 
   -- a load, after which the task's role is the same at each mount
   pub still_load : (name : WordName) (hook : HookAnswer) (coming : Next Phase) →
       ((n : ℕ) → role_of n (phase_after coming) ≡ role_of n (w.views t).phase) →
       IsSteady (w.views t).phase (phase_after coming) →
-      Fits c t (held_at (w.views t)) (holds_level (w.views t)) (phase_after coming) →
+      Fits c t (held_of (w.views t)) (phase_after coming) →
       GatesHold c (after_load w t name hook coming) × (shown c (after_load w t name hook coming) ≡ shown c w)
   still_load name hook coming role same fits =
       load_law 0 name hook coming (λ n ne. role n) same fits

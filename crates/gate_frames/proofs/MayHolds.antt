@@ -90,7 +90,7 @@ use Rattle.percpu_rwsem.specs.Writers.{down_write_next, up_write_next}
 use Rattle.gate_world.specs.Fits.{FreezeFits, ThawFits, WriteFits, PhaseFits, CloseFits, HasFile, file_of, Fits}
 use Rattle.freeze_levels.specs.Thaws.{thaw_next}
 use Rattle.gated_tree.specs.Calls.{CreateStepFits, SnapshotStepFits, TreePhaseFits}
-use Rattle.gate_world.specs.Views.{held_at, holds_level, has_open}
+use Rattle.gate_world.specs.{Holdings.Holdings, Views.{held_of, has_open}}
 use Rattle.mount_counts.specs.Remounts.{remount_next}
 use Rattle.freeze_levels.specs.Freezes.{freeze_next}
 use Rattle.gate_world.specs.Trees.{tree_bounds, tree_role_of}
@@ -141,10 +141,10 @@ module _ (c : Config) where
   up_write_word x ClearsBlock l1 l3 = tt
   up_write_word x (Exits transition) l1 l3 = transition_word x.level transition l1 l3
 
-  write_word : (t : ℕ) (held : ℕ → ℕ) (levels : ℕ → Bool) (x : WritePhase) → WriteFits c t held levels x → IsThere c (write_next x).0
-  write_word t held levels (Takes m r) fits = read_word r r.step fits.0.0 fits.0.1
-  write_word t held levels (WWants w) fits = want_word w w.step
-  write_word t held levels other fits = tt
+  write_word : (t : ℕ) (held : Holdings) (x : WritePhase) → WriteFits c t held x → IsThere c (write_next x).0
+  write_word t held (Takes m r) fits = read_word r r.step fits.0.0 fits.0.1
+  write_word t held (WWants w) fits = want_word w w.step
+  write_word t held other fits = tt
 
   freeze_word : (x : Freeze) (s : FreezeStep) (hook : HookAnswer) → FreezeFits c x.holder s → IsThere c (freeze_next x s hook).0
   freeze_word x (Closes d) hook fits = down_write_word d d.step fits.0 fits.1
@@ -199,12 +199,12 @@ module _ (c : Config) where
   open_word x LoadsFileToOpen lt = lt
   open_word x (OpensFile file) lt = lt
 
-  close_word : (t : ℕ) (levels : ℕ → Bool) (x : ClosePhase) → CloseFits c t levels x → IsThere c (close_next x).0
-  close_word t levels (CloseLoadsFile x) fits = fits.0
-  close_word t levels (LowersCount x node) fits = fits.0.0
-  close_word t levels (EntersLevel f node r) fits = read_word r r.step fits.2.0 fits.2.1
-  close_word t levels (ClosesNode f p node) fits = fits.0
-  close_word t levels other fits = tt
+  close_word : (t : ℕ) (held : Holdings) (x : ClosePhase) → CloseFits c t held x → IsThere c (close_next x).0
+  close_word t held (CloseLoadsFile x) fits = fits.0
+  close_word t held (LowersCount x node) fits = fits.0.0
+  close_word t held (EntersLevel f node r) fits = read_word r r.step fits.2.0 fits.2.1
+  close_word t held (ClosesNode f p node) fits = fits.0
+  close_word t held other fits = tt
 
   tree_word : (t : ℕ) (x : TreePhase) (hook : HookAnswer) → TreePhaseFits (tree_bounds c) t x → IsThere c (tree_next x hook).0
   tree_word t (Creates x) hook fits = create_word x x.step fits.0 fits.2
@@ -217,20 +217,20 @@ module _ (c : Config) where
   tree_word t (TreeClears x) hook fits = fits.0
 
   -- the word of each phase's next event
-  phase_word : (t : ℕ) (held : ℕ → ℕ) (levels : ℕ → Bool) (phase : Phase) (hook : HookAnswer) → PhaseFits c t held levels phase →
+  phase_word : (t : ℕ) (held : Holdings) (phase : Phase) (hook : HookAnswer) → PhaseFits c t held phase →
       IsThere c (next_of phase hook).0
-  phase_word t held levels (Mounts (MWants x)) hook fits = want_word x x.step
-  phase_word t held levels (Mounts (MDrops m p)) hook fits = tt
-  phase_word t held levels (Mounts (MChanges x)) hook fits = change_word x x.step
-  phase_word t held levels (Remounts x) hook fits = remount_word x x.step hook fits.5
-  phase_word t held levels (DownReads r) hook fits = read_word r r.step fits.0 fits.1
-  phase_word t held levels (UpReads u) hook fits = tt
-  phase_word t held levels (Callbacks b) hook fits = callback_word b b.step fits.0 fits.1
-  phase_word t held levels (Writes x) hook fits = write_word t held levels x fits
-  phase_word t held levels (Freezes x) hook fits = freeze_word x x.step hook fits.5
-  phase_word t held levels (Thaws x) hook fits = thaw_word x x.step hook fits.2
-  phase_word t held levels (Trees x) hook fits = tree_word t x hook fits.0
-  phase_word t held levels (Closes x) hook fits = close_word t levels x fits
+  phase_word t held (Mounts (MWants x)) hook fits = want_word x x.step
+  phase_word t held (Mounts (MDrops m p)) hook fits = tt
+  phase_word t held (Mounts (MChanges x)) hook fits = change_word x x.step
+  phase_word t held (Remounts x) hook fits = remount_word x x.step hook fits.5
+  phase_word t held (DownReads r) hook fits = read_word r r.step fits.0 fits.1
+  phase_word t held (UpReads u) hook fits = tt
+  phase_word t held (Callbacks b) hook fits = callback_word b b.step fits.0 fits.1
+  phase_word t held (Writes x) hook fits = write_word t held x fits
+  phase_word t held (Freezes x) hook fits = freeze_word x x.step hook fits.5
+  phase_word t held (Thaws x) hook fits = thaw_word x x.step hook fits.2
+  phase_word t held (Trees x) hook fits = tree_word t x hook fits.0
+  phase_word t held (Closes x) hook fits = close_word t held x fits
 
   -- the words of a good world hold what they may
   held_well : (w : World) → IsGood c w → (word : WordName) → IsThere c word → MayHold word (read w.words word)
@@ -261,7 +261,7 @@ module _ (c : Config) where
     node_packed : (f : ℕ) → f < c.nodes → is_some (unpacked (w.words.node f)) ≡ true
     node_packed f lf = ap is_some (packed_unpacks (w.words.node f) ((good Tree).words f lf).packed)
 
-    close_finds : (x : ClosePhase) → (w.views t).phase ≡ Some (Closes x) → CloseFits c t (holds_level (w.views t)) x →
+    close_finds : (x : ClosePhase) → (w.views t).phase ≡ Some (Closes x) → CloseFits c t (held_of (w.views t)) x →
         CloseMayFind x (read w.words (close_next x).0)
     close_finds (CloseLoadsFile x) is fits = (
       node_packed x.file fits.0,
@@ -281,22 +281,22 @@ module _ (c : Config) where
     open_finds x (OpensFile file) own lf = node_packed x.file lf
 
     tree_finds : (x : TreePhase) (hook : HookAnswer) → (w.views t).phase ≡ Some (Trees x) →
-        PhaseFits c t (held_at (w.views t)) (holds_level (w.views t)) (Trees x) →
+        PhaseFits c t (held_of (w.views t)) (Trees x) →
         MayFind (Trees x) (tree_next x hook).0 (read w.words (tree_next x hook).0)
     tree_finds (OpensOne x) hook is fits =
         open_finds x x.step (subst (λ p. HasFile (has_open (w.views t)) (file_of p)) is ((good Files).own t lt)) fits.0.0
     tree_finds x hook is fits = held_well w good (tree_next x hook).0 (tree_word t x hook fits.0)
 
     finds_well : (phase : Phase) (hook : HookAnswer) → (w.views t).phase ≡ Some phase →
-        PhaseFits c t (held_at (w.views t)) (holds_level (w.views t)) phase →
+        PhaseFits c t (held_of (w.views t)) phase →
         MayFind phase (next_of phase hook).0 (read w.words (next_of phase hook).0)
     finds_well (Closes x) hook is fits = close_finds x is fits
     finds_well (Trees x) hook is fits = tree_finds x hook is fits
     finds_well phase hook is fits =
-        held_well w good (next_of phase hook).0 (phase_word t (held_at (w.views t)) (holds_level (w.views t)) phase hook fits)
+        held_well w good (next_of phase hook).0 (phase_word t (held_of (w.views t)) phase hook fits)
 
   -- so each event is on such a word
   pub events_may_be : IsWithin c → (w : World) → IsGood c w → EventsMayBe c w
   events_may_be within w good t lt phase hook is =
       finds_well within w good t lt phase hook is
-      (subst (Fits c t (held_at (w.views t)) (holds_level (w.views t))) is (good Fitting t lt))
+      (subst (Fits c t (held_of (w.views t))) is (good Fitting t lt))

@@ -20,16 +20,16 @@ use Rattle.tree_laws.specs.{Events.{MovesBy, opens_shown}, Steps.{Notes, StepKee
 use Rattle.freeze_levels.specs.Holders.{holders_in}
 use Rattle.stage_laws.specs.Roles.{sums, is_full}
 use Rattle.holder_laws.specs.Roles.{Apart}
-use Rattle.gate_world.specs.{Configs.{IsWithin, model_limits}, Fits.{HasFile, file_of, opens_by, Fits, TreeAccess, mounts_by, levels_by}, Found.is_load}
+use Rattle.gate_world.specs.{Configs.{IsWithin, model_limits}, Fits.{HasFile, file_of, Fits, TreeAccess}, Holdings.{Holdings, held_after}, Found.is_load}
 use Rattle.gate_world.specs.{Holders.holder_role_of, Levels.{is_frozen_whole, level_added_after, level_taken_after, level_added_by, level_taken_by}}
 use Rattle.gate_world.specs.Rules.{Files, IsGood, Holds, Part, Holding, AtMount, AtLevel, SyncAt, Sections, Fitting, Tree, ViewFits, SameView, SameWords}
 use Rattle.gate_world.specs.Rules.{role_of, remounts, Moves as ModelMoves}
 use Rattle.gate_world.specs.{Shown.{shown, closing}, Snapshots.values_noted, Stages.{tree_stage_role, snapshot_stage_role}}
 use Rattle.gate_world.specs.Trees.{is_bare_at, tree_bounds, tree_roles, tree_role_of, nodes_noted, is_sealed}
-use Rattle.gate_world.specs.Views.{has_open, held_at, holds_level, added_after, taken_after, added_by, taken_by, phase_after, view_after}
+use Rattle.gate_world.specs.Views.{has_open, held_at, holds_level, added_after, taken_after, added_by, taken_by, phase_after, view_after, held_of}
 use Rattle.gate_world.specs.{Work.{next_of, after_of}, Worlds.{World, after_step, words_after, value_at, found_at}}
 use Rattle.gate_world.specs.declared.{config.Config.Config, views.View.View, work.Phase.Phase}
-use Rattle.gate_frames.proofs.Accesses.{opens_of_after, mounts_of_after, levels_of_after}
+use Rattle.gate_frames.proofs.{Accesses.holdings_of_after, Agreeing.access_agrees}
 use Rattle.gate_frames.proofs.{Frames.{IsOffLevels, added_load, taken_load, view_as, level_view_as, left_alone, shown_as}, Keeps.by_bool}
 use Rattle.gate_frames.proofs.{MayTree.{LeaveFor, call_fits, leave, may_step}, MountEvents.{level_added_load, level_taken_load}}
 use Rattle.gate_frames.proofs.{OpenFiles.{same_counts, files_counted, file_then}, Trees.{tree_within, tree_holds}, Words.load_same}
@@ -206,10 +206,10 @@ counts_nowhere x touches = elim touches [
   }
 ]
 
--- an action, if there is one, leaves its task's accesses
+-- an action, if there is one, leaves its task's accesses at mounts and levels
 pub record LeavesAccesses (action : Option Action) : Type 0 where
-  pub mounts : (held : ℕ → ℕ) → mounts_by action held ≡ held
-  pub levels : (held : ℕ → Bool) → levels_by action held ≡ held
+  pub mounts : (held : Holdings) → (held_after action held).mounts ≡ held.mounts
+  pub levels : (held : Holdings) → (held_after action held).levels ≡ held.levels
 
 pub leaves_none : LeavesAccesses None
 leaves_none = record { mounts = λ held. refl; levels = λ held. refl }
@@ -264,28 +264,28 @@ call_leaves (TreePhase.OpenFile x) found hook = open_leaves x x.step found
 call_leaves (TreePhase.Snapshot x) found hook = snapshot_leaves x x.step found
 call_leaves (TreePhase.ClearMarks x) found hook = clear_leaves x found
 
-module _ (c : Config) (held : ℕ → ℕ) (levels : ℕ → Bool) where
+module _ (c : Config) (held : Holdings) where
   -- what comes after an event is a call at which its task may be
   abbrev pub AccessAfter : Next TreePhase → Type 0
-  AccessAfter (Next.Go x) = TreeAccess c held levels x
-  AccessAfter (Next.Wait x) = TreeAccess c held levels x
+  AccessAfter (Next.Go x) = TreeAccess c held x
+  AccessAfter (Next.Wait x) = TreeAccess c held x
   AccessAfter (Next.Done answer) = Unit {0}
 
-  comes_with : {P : Type 0} (to : P → TreePhase) → ((y : P) → TreeAccess c held levels (to y)) → (n : Next P) → AccessAfter (map_next to n)
+  comes_with : {P : Type 0} (to : P → TreePhase) → ((y : P) → TreeAccess c held (to y)) → (n : Next P) → AccessAfter (map_next to n)
   comes_with to may (Next.Go y) = may y
   comes_with to may (Next.Wait y) = may y
   comes_with to may (Next.Done answer) = tt
 
   -- after a look at a file
-  looked_with : {A : Type 0} (again : Mark) (from : A → Mark) → TreeAccess c held levels (TreePhase.Mark again) →
-      ((a : A) → TreeAccess c held levels (TreePhase.Mark (from a))) → (r : Option (Result A GateError)) →
+  looked_with : {A : Type 0} (again : Mark) (from : A → Mark) → TreeAccess c held (TreePhase.Mark again) →
+      ((a : A) → TreeAccess c held (TreePhase.Mark (from a))) → (r : Option (Result A GateError)) →
       AccessAfter (map_next TreePhase.Mark (after_look again from r))
   looked_with again from may more None = may
   looked_with again from may more (Some (Ok a)) = more a
   looked_with again from may more (Some (Err refusal)) = tt
 
   -- after an event of a page fault or a write-back
-  mark_access : (x : Mark) (s : MarkStep) (found : ℕ) → TreeAccess c held levels (TreePhase.Mark x) →
+  mark_access : (x : Mark) (s : MarkStep) (found : ℕ) → TreeAccess c held (TreePhase.Mark x) →
       AccessAfter (map_next TreePhase.Mark (mark_after x s found).0)
   mark_access x MarkStep.LoadsFile found may =
       looked_with (at_mark x MarkStep.LoadsFile) (λ file. at_mark x (MarkStep.MarksFile file)) may (λ file. may) (file_in found)
@@ -294,7 +294,7 @@ module _ (c : Config) (held : ℕ → ℕ) (levels : ℕ → Bool) where
       (λ b. AccessAfter (map_next TreePhase.Mark (if b then Next.Done (Ok Reply.Unit) else Next.Done (Err GateError.Again)))) tt tt
 
   -- a call keeps its task's accesses
-  pub access_after : (x : TreePhase) (found : ℕ) (hook : HookAnswer) → TreeAccess c held levels x → AccessAfter (after x found hook).0
+  pub access_after : (x : TreePhase) (found : ℕ) (hook : HookAnswer) → TreeAccess c held x → AccessAfter (after x found hook).0
   access_after (TreePhase.Create x) found hook may = comes_with TreePhase.Create (λ y. may) (create_after x x.step found).0
   access_after (TreePhase.Remove x) found hook may = comes_with TreePhase.Remove (λ y. may) (remove_after x x.step found).0
   access_after (TreePhase.Grow x) found hook may = comes_with TreePhase.Grow (λ y. may) (grow_after x x.step found).0
@@ -306,29 +306,27 @@ module _ (c : Config) (held : ℕ → ℕ) (levels : ℕ → Bool) where
 
   -- so what comes after it fits
   next_fits : (t : ℕ) (n : Next TreePhase) → NextFits (tree_bounds c) t n → AccessAfter n →
-      Fits c t held levels (phase_after (map_next Phase.Trees n))
+      Fits c t held (phase_after (map_next Phase.Trees n))
   next_fits t (Next.Go x) fits may = (fits, may)
   next_fits t (Next.Wait x) fits may = (fits, may)
   next_fits t (Next.Done answer) fits may = tt
 
-  pub call_goes_on : IsWithin c → (t : ℕ) (x : TreePhase) (found : ℕ) (hook : HookAnswer) →
-      TreePhaseFits (tree_bounds c) t x × TreeAccess c held levels x →
-      Fits c t held levels (phase_after (map_next Phase.Trees (after x found hook).0))
+  call_goes_on : IsWithin c → (t : ℕ) (x : TreePhase) (found : ℕ) (hook : HookAnswer) →
+      TreePhaseFits (tree_bounds c) t x × TreeAccess c held x →
+      Fits c t held (phase_after (map_next Phase.Trees (after x found hook).0))
   call_goes_on within t x found hook fits =
       next_fits t (after x found hook).0 (fits_after (tree_bounds c) (tree_within c within) t x found hook fits.0)
       (access_after x found hook fits.1)
 
-  -- and its task's accesses are the same
-  pub call_goes : IsWithin c → (t : ℕ) (x : TreePhase) (found : ℕ) (hook : HookAnswer) →
-      TreePhaseFits (tree_bounds c) t x × TreeAccess c held levels x →
-      Fits c t (mounts_by (after x found hook).1 held) (levels_by (after x found hook).1 levels)
-      (phase_after (map_next Phase.Trees (after x found hook).0))
-  call_goes within t x found hook fits =
-      let leaves : LeavesAccesses (after x found hook).1 = call_leaves x found hook in
-      subst (λ k. Fits c t k (levels_by (after x found hook).1 levels) (phase_after (map_next Phase.Trees (after x found hook).0)))
-      (sym (leaves.mounts held))
-      (subst (λ k. Fits c t held k (phase_after (map_next Phase.Trees (after x found hook).0))) (sym (leaves.levels levels))
-      (call_goes_on within t x found hook fits))
+-- and its task's accesses are the same
+pub call_goes : (c : Config) (held : Holdings) → IsWithin c → (t : ℕ) (x : TreePhase) (found : ℕ) (hook : HookAnswer) →
+    TreePhaseFits (tree_bounds c) t x × TreeAccess c held x →
+    Fits c t (held_after (after x found hook).1 held) (phase_after (map_next Phase.Trees (after x found hook).0))
+call_goes c held within t x found hook fits =
+    let left : Holdings = held_after (after x found hook).1 held in
+    let leaves : LeavesAccesses (after x found hook).1 = call_leaves x found hook in
+    call_goes_on c left within t x found hook (fits.0, access_agrees c held left (λ m lm. ap (λ f. f m) (sym (leaves.mounts held)))
+        (λ i one three. ap (λ f. f i) (sym (leaves.levels held))) x fits.1)
 
 -- a phase that is at no mount, no level and no section, and closes no level
 pub record IsOffGates (p : Option Phase) : Type 0 where
@@ -403,14 +401,14 @@ module _ (c : Config) (w : World) (good : IsGood c w) (t : ℕ) (lt : t < c.task
   pub beside_then : IsBesideTree w.words words_then
   beside_then = touch_beside w.words (next_of phase hook) at.touches
 
+  held_then : held_of view_then ≡ held_after action_then (held_of (w.views t))
+  held_then = holdings_of_after action_then (w.views t).actions
+
   held_still : held_at view_then ≡ held_at (w.views t)
-  held_still = mounts_of_after action_then (w.views t).actions ∙ at.leaves.mounts (held_at (w.views t))
+  held_still = ap (λ (h : Holdings). h.mounts) held_then ∙ at.leaves.mounts (held_of (w.views t))
 
   levels_still : holds_level view_then ≡ holds_level (w.views t)
-  levels_still = levels_of_after action_then (w.views t).actions ∙ at.leaves.levels (holds_level (w.views t))
-
-  opens_then : has_open view_then ≡ opens_by action_then (has_open (w.views t))
-  opens_then = opens_of_after action_then (w.views t).actions
+  levels_still = ap (λ (h : Holdings). h.levels) held_then ∙ at.leaves.levels (held_of (w.views t))
 
   was_off : IsOffGates (w.views t).phase
   was_off = subst IsOffGates (sym e) at.off
@@ -436,18 +434,15 @@ module _ (c : Config) (w : World) (good : IsGood c w) (t : ℕ) (lt : t < c.task
   gate_parts part h = left_alone c w t lt part words_then view_then (gate_words part h w.words words_then beside_then) (gate_view part h) (good part)
 
   -- what comes after the event fits the accesses that it leaves
-  pub fitting_then : Fits c t (mounts_by action_then (held_at (w.views t))) (levels_by action_then (holds_level (w.views t))) view_then.phase →
+  pub fitting_then : Fits c t (held_after action_then (held_of (w.views t))) view_then.phase →
       Holds c (after_step w t phase hook) Fitting
   fitting_then fits y ly =
       each_updated (λ z (u : View). ViewFits c z u) w.views t view_then y
-      (subst (λ k. Fits c t k (holds_level view_then) view_then.phase) (sym (mounts_of_after action_then (w.views t).actions))
-      (subst (λ k. Fits c t (mounts_by action_then (held_at (w.views t))) k view_then.phase)
-      (sym (levels_of_after action_then (w.views t).actions)) fits))
-      (λ ne. good Fitting y ly)
+      (subst (λ k. Fits c t k view_then.phase) (sym held_then) fits) (λ ne. good Fitting y ly)
 
   -- the shown model is as it was but for the tree and the task's open files
   shown_then : shown c (after_step w t phase hook) ≡ record (shown c w) {
-    opens = update (shown c w).opens t (opens_by action_then ((shown c w).opens t));
+    opens = update (shown c w).opens t (held_after action_then (held_of (w.views t))).files;
     tree = λ n. node_shown (words_then.node n);
   }
   shown_then =
@@ -456,7 +451,7 @@ module _ (c : Config) (w : World) (good : IsGood c w) (t : ℕ) (lt : t < c.task
       (λ j. record (shown c w) {
         mounts = (ap (update (λ y. held_at (w.views y)) t) held_still ∙ update_same (λ y. held_at (w.views y)) t) j;
         levels = (ap (update (λ y. holds_level (w.views y)) t) levels_still ∙ update_same (λ y. holds_level (w.views y)) t) j;
-        opens = ap (update (λ y. has_open (w.views y)) t) opens_then j;
+        opens = ap (λ (h : Holdings). update (λ y. has_open (w.views y)) t h.files) held_then j;
         mount_ro = λ m. ro_bit (same.flags_same j m) == 1;
         sb_ro = same.remount_same j == 1 || same.sb_same j == 1;
         stage = same.stage_same j;
@@ -471,14 +466,14 @@ module _ (c : Config) (w : World) (good : IsGood c w) (t : ℕ) (lt : t < c.task
   shown_moves None is leave moves =
       shown_then ∙
       (λ j. record (shown c w) {
-        opens = (ap (λ a. update (shown c w).opens t (opens_by a ((shown c w).opens t))) is ∙ update_same (shown c w).opens t) j;
+        opens = (ap (λ a. update (shown c w).opens t (held_after a (held_of (w.views t))).files) is ∙ update_same (shown c w).opens t) j;
         tree = moves.0 j;
       })
   shown_moves (Some action) is leave moves = (
     (lt, may_do (model_limits c) (shown c w) t action leave moves.allowed),
     shown_then ∙
         (λ j. record (shown c w) {
-          opens = ap (λ a. update (shown c w).opens t (opens_by a ((shown c w).opens t))) is j;
+          opens = ap (λ a. update (shown c w).opens t (held_after a (held_of (w.views t))).files) is j;
           tree = (moves.effect ∙ same_counts (tree_bounds c) (opens_shown w.words.node) (openers (shown c w).opens) (shown c w).tree action
               moves.allowed (λ n ln. (good Files).counted n ln)) j;
         }) ∙ sym (tree_alone (model_limits c) (shown c w) t action leave),
@@ -486,14 +481,15 @@ module _ (c : Config) (w : World) (good : IsGood c w) (t : ℕ) (lt : t < c.task
 
   -- the files of the world then: as many tasks have each open as its word says
   pub files_then : IsWithin c → LeaveFor c w good t lt action_then → MovesBy (tree_bounds c) w.words.node words_then.node action_then →
-      HasFile (opens_by action_then (has_open (w.views t))) (file_of view_then.phase) → Holds c (after_step w t phase hook) Files
+      HasFile (held_after action_then (held_of (w.views t))).files (file_of view_then.phase) → Holds c (after_step w t phase hook) Files
   files_then within leave moves has = record {
     counted = λ n ln.
         files_counted (model_limits c) (shown c w) t (omega (arith, lt, within.tasks, most_tasks_is)) w.words.node words_then.node action_then
         leave moves (good Files).counted n ln ∙
-        sym (ap (λ f. openers f n) (update_map has_open w.views t view_then ∙ ap (update (λ y. has_open (w.views y)) t) opens_then));
+        sym (ap (λ f. openers f n) (update_map has_open w.views t view_then ∙
+            ap (λ (h : Holdings). update (λ y. has_open (w.views y)) t h.files) held_then));
     own = λ y ly. each_updated (λ z (u : View). HasFile (has_open u) (file_of u.phase)) w.views t view_then y
-        (subst (λ f. HasFile f (file_of view_then.phase)) (sym opens_then) has)
+        (subst (λ (h : Holdings). HasFile h.files (file_of view_then.phase)) (sym held_then) has)
         (λ ne. (good Files).own y ly);
   }
 
@@ -540,7 +536,7 @@ module _ (c : Config) (within : IsWithin c) (w : World) (good : IsGood c w) (t :
   pub call_fitting : Holds c (after_step w t (Phase.Trees x) hook) Fitting
   call_fitting =
       fitting_then c w good t lt (Phase.Trees x) hook e (call_at w x hook)
-      (call_goes c (held_at (w.views t)) (holds_level (w.views t)) within t x call_found hook (call_fits c w good t lt x e))
+      (call_goes c (held_of (w.views t)) within t x call_found hook (call_fits c w good t lt x e))
 
   -- what the tree's own law says of the event, where a snapshot has noted this after it
   abbrev pub TreeKeeps : Type 0
@@ -559,7 +555,7 @@ module _ (c : Config) (within : IsWithin c) (w : World) (good : IsGood c w) (t :
   pub call_files : TreeKeeps → Holds c (after_step w t (Phase.Trees x) hook) Files
   call_files kept =
       files_then c w good t lt (Phase.Trees x) hook e (call_at w x hook) within (leave c w good t lt x call_found hook e) kept.1
-      (file_then (has_open (w.views t)) x call_found hook (subst (λ p. HasFile (has_open (w.views t)) (file_of p)) e ((good Files).own t lt)))
+      (file_then (held_of (w.views t)) x call_found hook (subst (λ p. HasFile (has_open (w.views t)) (file_of p)) e ((good Files).own t lt)))
 
   pub call_moves : TreeKeeps → ModelMoves c (shown c w) t (after x call_found hook).1 (shown c (after_step w t (Phase.Trees x) hook))
   call_moves kept =

@@ -12,9 +12,9 @@ use Rattle.gate_world.specs.Remounts.{loop_role, held_role, giving_role, remount
 use Rattle.gate_world.specs.Rules.{want_role, change_role, write_role, role_if, role_of, at_mount, change_owns, owns, remounts, IsSteady, OwnerHolds, ViewFits}
 use Rattle.gate_world.specs.Rules.{IsGood, Owner, AtMount, GatesHold}
 use Rattle.gate_world.specs.{Shown.{shown, closing}, Stages.{freeze_stage_role, thaw_stage_role, tree_stage_role}}
-use Rattle.gate_world.specs.{Views.{held_at, holds_level, added_by, taken_by, has_open}, Waits.{IsWaitedFor, HasCulprit}, Worlds.World}
+use Rattle.gate_world.specs.{Holdings.Holdings, Views.{held_of, added_by, taken_by}, Waits.{IsWaitedFor, HasCulprit}, Worlds.World}
 use Rattle.gate_world.specs.declared.{config.Config.Config, views.View.View, work.Phase.Phase}
-use Rattle.gate_frames.proofs.Frames.{view_as, holds_as, MountHoldsAfter, owner_same, gates_after, shown_as, shown_still}
+use Rattle.gate_frames.proofs.Frames.{view_as, holds_as, MountHoldsAfter, owner_same, gates_after, shown_held, shown_still}
 
 change_owns_le : (s : ChangeStep) → change_owns s ≤ 1
 change_owns_le ChangeStep.Locks = omega arith
@@ -234,29 +234,28 @@ module _ (c : Config) (w : World) (good : IsGood c w) (t : ℕ) (lt : t < c.task
 
   -- an event that leaves all words but `umount`, and the task's role at each mount
   pub umount_law : (n : ℕ) (v : View) → OwnerHolds c.tasks n w.words.remount (λ x. (update w.views t v x).phase) → ViewFits c t v →
-      held_at v ≡ held_at (w.views t) → holds_level v ≡ holds_level (w.views t) → has_open v ≡ has_open (w.views t) →
-      added_by v.events ≡ added_by (w.views t).events → taken_by v.events ≡ taken_by (w.views t).events →
+      held_of v ≡ held_of (w.views t) → added_by v.events ≡ added_by (w.views t).events → taken_by v.events ≡ taken_by (w.views t).events →
       ((y : ℕ) → role_of y v.phase ≡ role_of y (w.views t).phase) → ((i : ℕ) → closing i v.phase ≡ closing i (w.views t).phase) →
       let next_world : World = record { words = record w.words { umount = n }; views = update w.views t v } in
       GatesHold c next_world × (shown c next_world ≡ shown c w)
-  umount_law n v owner fits held levels opens added taken role close =
+  umount_law n v owner fits held added taken role close =
       let ws : Words = record w.words { umount = n } in
       let same : (y : ℕ) → at_mount y v ≡ at_mount y (w.views t) =
-      λ y. view_as (ap (λ g. g y) held) (ap (λ g. g y) added) (ap (λ g. g y) taken) (role y) in (
+      λ y. view_as (ap (λ (h : Holdings). h.mounts y) held) (ap (λ g. g y) added) (ap (λ g. g y) taken) (role y) in (
         gates_after c w t lt good 0 ws v refl refl owner fits (λ y ne. (refl, refl, same y))
             (λ lm. holds_as refl refl refl refl
             (ap (update (λ x. at_mount 0 (w.views x)) t) (same 0) ∙ update_same (λ x. at_mount 0 (w.views x)) t) (good (AtMount 0) lm)),
-        shown_still c w t lt ws v refl refl refl refl refl refl refl close held levels opens,
+        shown_still c w t lt ws v refl refl refl refl refl refl refl close held,
       )
 
   pub flag_law : (m f : ℕ) (v : View) (r : Role) → m < c.mounts → IsSteady (w.views t).phase v.phase → ViewFits c t v →
-      held_at v ≡ held_at (w.views t) → added_by v.events ≡ added_by (w.views t).events → taken_by v.events ≡ taken_by (w.views t).events →
+      held_of v ≡ held_of (w.views t) → added_by v.events ≡ added_by (w.views t).events → taken_by v.events ≡ taken_by (w.views t).events →
       ((y : ℕ) → (y ≡ m → ⊥) → role_of y v.phase ≡ role_of y (w.views t).phase) → role_of m v.phase ≡ r →
       MountHoldsAfter c w t m f (w.words.count m) (record (at_mount m (w.views t)) { role = r }) →
       GatesHold c (record { words = record w.words { flags = update w.words.flags m f }; views = update w.views t v })
   flag_law m f v r lm same fits held added taken off role own =
       let at : (y : ℕ) (q : Role) → role_of y v.phase ≡ q → at_mount y v ≡ record (at_mount y (w.views t)) { role = q } =
-      λ y q is. view_as (ap (λ g. g y) held) (ap (λ g. g y) added) (ap (λ g. g y) taken) is in
+      λ y q is. view_as (ap (λ (h : Holdings). h.mounts y) held) (ap (λ g. g y) added) (ap (λ g. g y) taken) is in
       gates_after c w t lt good m (record w.words { flags = update w.words.flags m f }) v refl refl (owner_same c w t lt good v same) fits
       (λ y ne. (update_off w.words.flags m f y ne, refl, at y (role_of y (w.views t).phase) (off y ne)))
       (λ l. holds_as (update_at w.words.flags m f) refl refl refl (ap (update (λ x. at_mount m (w.views x)) t) (at m r role)) own)
@@ -268,22 +267,16 @@ module _ (c : Config) (w : World) (t : ℕ) (lt : t < c.tasks) (m f : ℕ) (v : 
 
   -- the shown model then, where READONLY is so and the task has the same accesses
   pub flags_shown : (b : Bool) → IsSteady (w.views t).phase v.phase → (ro_bit f == 1) ≡ b →
-      held_at v ≡ held_at (w.views t) → holds_level v ≡ holds_level (w.views t) → has_open v ≡ has_open (w.views t) →
-      shown c flags_after ≡ record (shown c w) { mount_ro = update (λ n. ro_bit (w.words.flags n) == 1) m b }
-  flags_shown b same h eh el eo =
+      held_of v ≡ held_of (w.views t) → shown c flags_after ≡ record (shown c w) { mount_ro = update (λ n. ro_bit (w.words.flags n) == 1) m b }
+  flags_shown b same h eh =
       let ro : (λ n. ro_bit (update w.words.flags m f n) == 1) ≡ update (λ n. ro_bit (w.words.flags n) == 1) m b =
       update_map (λ x. ro_bit x == 1) w.words.flags m f ∙ ap (update (λ n. ro_bit (w.words.flags n) == 1) m) h in
-      shown_as c w t lt (record w.words { flags = update w.words.flags m f }) v refl same.closing_same ∙
-      (λ j. record (shown c w) {
-        mounts = (ap (update (λ x. held_at (w.views x)) t) eh ∙ update_same (λ x. held_at (w.views x)) t) j;
-        levels = (ap (update (λ x. holds_level (w.views x)) t) el ∙ update_same (λ x. holds_level (w.views x)) t) j;
-        opens = (ap (update (λ x. has_open (w.views x)) t) eo ∙ update_same (λ x. has_open (w.views x)) t) j;
-        mount_ro = ro j;
-      })
+      shown_held c w t lt (record w.words { flags = update w.words.flags m f }) v refl same.closing_same eh ∙
+      (λ j. record (shown c w) { mount_ro = ro j })
 
   -- where READONLY stays
   pub flags_show_same : IsSteady (w.views t).phase v.phase → ro_bit f ≡ ro_bit (w.words.flags m) →
-      held_at v ≡ held_at (w.views t) → holds_level v ≡ holds_level (w.views t) → has_open v ≡ has_open (w.views t) → shown c flags_after ≡ shown c w
-  flags_show_same same h eh el eo =
-      flags_shown (ro_bit (w.words.flags m) == 1) same (ap (λ x. x == 1) h) eh el eo ∙
+      held_of v ≡ held_of (w.views t) → shown c flags_after ≡ shown c w
+  flags_show_same same h eh =
+      flags_shown (ro_bit (w.words.flags m) == 1) same (ap (λ x. x == 1) h) eh ∙
       (λ j. record (shown c w) { mount_ro = update_same (λ n. ro_bit (w.words.flags n) == 1) m j })

@@ -3,8 +3,8 @@ use Rattle.std.{proofs.Common.{◌≡◌, ℕ, ◌<◌, refl, sym, ap, subst}, s
 use Rattle.finite_sums.proofs.Totals.{update_at}
 use Rattle.access_model.specs.declared.{actions.Action.Action, replies.Next.Next}
 use Rattle.cpu_words.specs.{Hooks.HookAnswer, declared.{events.Touch.Touch, names.WordName.WordName}}
-use Rattle.gate_world.specs.{Alike.{IsAlike, at_phase, rephased}, Fits.{Fits, mounts_by, levels_by}, Rules.{Holds, IsGood, Moves, Tree, Files}, Shown.shown}
-use Rattle.gate_world.specs.{Views.{held_at, holds_level, phase_after}, Worlds.World, declared.{config.Config.Config, views.View.View, work.Phase.Phase}}
+use Rattle.gate_world.specs.{Alike.{IsAlike, at_phase, rephased}, Fits.Fits, Holdings.held_after, Rules.{Holds, IsGood, Moves, Tree, Files}, Shown.shown}
+use Rattle.gate_world.specs.{Views.{held_of, phase_after}, Worlds.World, declared.{config.Config.Config, views.View.View, work.Phase.Phase}}
 use Rattle.gate_frames.proofs.{Beside.{beside_good, beside_shown, made, made_again, made_keeps_beside}, Frames.left_alone}
 
 pub alike_of : {p q r : Option Phase} → p ≡ q → IsAlike q r → IsAlike p r
@@ -18,7 +18,7 @@ module _ (c : Config) (w : World) (t : ℕ) (lt : t < c.tasks) (q : Option Phase
   rephased_files : Holds c w Files → Holds c (rephased w t q) Files
   rephased_files h = left_alone c w t lt Files w.words (at_phase (w.views t) q) refl (refl, same.file_same) h
 
-  pub rephased_good : Fits c t (held_at (w.views t)) (holds_level (w.views t)) q → IsGood c w → IsGood c (rephased w t q)
+  pub rephased_good : Fits c t (held_of (w.views t)) q → IsGood c w → IsGood c (rephased w t q)
   rephased_good fits good = beside_good c w t lt q same.beside fits good (rephased_tree (good Tree)) (rephased_files (good Files))
 
   pub rephased_shown : shown c (rephased w t q) ≡ shown c w
@@ -28,12 +28,12 @@ module _ (c : Config) (w : World) (t : ℕ) (lt : t < c.tasks) (q : Option Phase
 module _ (c : Config) (w : World) (t : ℕ) (lt : t < c.tasks) (p : Option Phase) (n : WordName × Touch) (hook : HookAnswer)
     (a b : Next Phase) (action : Option Action) where
   -- what the law of the first says of the rule and of the shown model, it says of the second
-  pub made_keeps : IsGood c w → IsAlike (w.views t).phase p → Fits c t (held_at (w.views t)) (holds_level (w.views t)) p →
+  pub made_keeps : IsGood c w → IsAlike (w.views t).phase p → Fits c t (held_of (w.views t)) p →
       (IsGood c (rephased w t p) → ((rephased w t p).views t).phase ≡ p →
       IsGood c (made (rephased w t p) t n hook a action) ×
       Moves c (shown c (rephased w t p)) t action (shown c (made (rephased w t p) t n hook a action))) →
       IsAlike (phase_after a) (phase_after b) →
-      Fits c t (mounts_by action (held_at (w.views t))) (levels_by action (holds_level (w.views t))) (phase_after b) →
+      Fits c t (held_after action (held_of (w.views t))) (phase_after b) →
       IsGood c (made w t n hook b action) × Moves c (shown c w) t action (shown c (made w t n hook b action))
   made_keeps good before fits law after fits_after =
       let first : World = rephased w t p in

@@ -14,7 +14,7 @@ use Rattle.gate_world.specs.Levels.{is_frozen_whole}
 use Rattle.gate_world.specs.{Operations.{some_mount, is_writer}, Rules.{IsGood, AtMount, AtLevel, Owner, Stages, MountHoldsIn, at_mount}, Shown.stage_roles}
 use Rattle.gate_world.specs.Stages.{stage_role_of, remount_stage_role, freeze_stage_role, thaw_stage_role, tree_stage_role, snapshot_stage_role, place_of}
 use Rattle.gate_world.specs.Stages.{reopening_role}
-use Rattle.gate_world.specs.{Views.{held_at, holds_level}, Worlds.World, declared.{config.Config.Config, work.Phase.Phase}}
+use Rattle.gate_world.specs.{Views.{held_at, held_of, holds_level}, Worlds.World, declared.{config.Config.Config, work.Phase.Phase}}
 use Rattle.gate_frames.proofs.{Stages.{stages_in, stages_right}, Stands.below}
 
 pub both_true : (a b : Bool) → (a && b) ≡ true → (a ≡ true) × (b ≡ true)
@@ -163,7 +163,7 @@ module _ (c : Config) (w : World) (good : IsGood c w) (t : ℕ) (lt : t < c.task
         unpassed = level_unpassed i bounds.0 high inside;
       }
 
-  pub writer_not_frozen : is_writer c (held_at (w.views t)) (holds_level (w.views t)) ≡ true → w.words.stage ≡ 4 → ⊥
+  pub writer_not_frozen : is_writer c (held_of (w.views t)) ≡ true → w.words.stage ≡ 4 → ⊥
   writer_not_frozen writes frozen =
       let both : (holds_level (w.views t) 1 ≡ true) × (some_mount c.mounts (held_at (w.views t)) ≡ true) = both_true _ _ writes in
       omega (arith, frozen, (writer_apart 1 (inl refl) both.0 both.1).unfrozen)

@@ -18,7 +18,7 @@ use Rattle.gate_world.specs.{Shown.stage_roles, Snapshots.values_noted}
 use Rattle.gate_world.specs.Stages.{stage_role_of, remount_stage_role, freeze_stage_role, reopening_role, snapshot_stage_role, thaw_stage_role, tree_stage_role}
 use Rattle.gate_world.specs.Stages.{place_of}
 use Rattle.gate_world.specs.Trees.{tree_bounds, tree_of, tree_role_of, tree_roles, is_sealed, remount_tree_role, freeze_tree_role, nodes_noted, is_bare_at}
-use Rattle.gate_world.specs.{Views.{held_at, holds_level}, Worlds.World}
+use Rattle.gate_world.specs.{Views.held_of, Worlds.World}
 use Rattle.gate_world.specs.declared.{config.Config.Config, views.{Traced.Traced, View.View}, work.Phase.{Phase, TheVariants.Closes}}
 use Rattle.gate_frames.proofs.TreeRoles.{call_plain, remount_apart, close_apart, freeze_apart}
 
@@ -152,13 +152,13 @@ module _ (c : Config) (w : World) (good : IsGood c w) where
   phase_clean : (t : ℕ) → t < c.tasks → (p : Option Phase) → (w.views t).phase ≡ p →
       CleanBelow (clean_by (stage_role_of p)) (marks_of w.words)
   phase_clean t lt (Some (Phase.Remounts x)) is =
-      let fits : PhaseFits c t (held_at (w.views t)) (holds_level (w.views t)) (Phase.Remounts x) =
-      subst (Fits c t (held_at (w.views t)) (holds_level (w.views t))) is (good Fitting t lt) in
+      let fits : PhaseFits c t (held_of (w.views t)) (Phase.Remounts x) =
+      subst (Fits c t (held_of (w.views t))) is (good Fitting t lt) in
       remount_clean x.nodes x.step t lt fits.3 fits.5 (ap (tree_role_of (w.views t).trace) is)
       (subst (λ p. KnowsStage w.words.stage w.words.sb (stage_role_of p)) is ((good Stages).knows t lt))
   phase_clean t lt (Some (Phase.Freezes x)) is =
-      let fits : PhaseFits c t (held_at (w.views t)) (holds_level (w.views t)) (Phase.Freezes x) =
-      subst (Fits c t (held_at (w.views t)) (holds_level (w.views t))) is (good Fitting t lt) in
+      let fits : PhaseFits c t (held_of (w.views t)) (Phase.Freezes x) =
+      subst (Fits c t (held_of (w.views t))) is (good Fitting t lt) in
       freeze_clean x.nodes x.holder x.step t lt fits.3 fits.5 (ap (tree_role_of (w.views t).trace) is)
   phase_clean t lt (Some (Phase.Thaws x)) is = thaw_clean x.step
   phase_clean t lt (Some (Phase.Trees x)) is = tree_clean x

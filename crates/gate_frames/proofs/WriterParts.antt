@@ -20,7 +20,7 @@ use Rattle.gate_world.specs.{Configs.model_limits, Fits.{FreezeFits, HasFile, fi
 use Rattle.gate_world.specs.Rules.{Stages, Holding, Fitting, Known, Tree, AtMount, Sections, role_of, IsGood, OwnerHolds, Part, Moves, owns, remounts}
 use Rattle.gate_world.specs.Rules.{StepKeeps, Holds, ViewFits, AtLevel, SyncAt, Owner, Files}
 use Rattle.gate_world.specs.{Shown.{shown, stage_roles}, Stages.{reopening_role, freeze_stage_role, thaw_stage_role, stage_role_of}}
-use Rattle.gate_world.specs.{Views.{phase_after, held_at, holds_level, added_by, taken_by, has_open}, Worlds.{World, value_at, after_step, phase_action}}
+use Rattle.gate_world.specs.{Holdings.Holdings, Views.{phase_after, held_of, added_by, taken_by, has_open}, Worlds.{World, value_at, after_step, phase_action}}
 use Rattle.gate_world.specs.declared.{config.Config.Config, views.View.View, work.Phase.Phase}
 use Rattle.gate_frames.proofs.{Frames.{left_alone, view_as, opens_left}, Keeps.by_bool, Known.{IsOwnersWork, known_after}}
 use Rattle.gate_frames.proofs.{MountEvents.{is_known_part, known_is}, Stages.{stages_after, stage_action, shown_by, IsStageEvent, stages_in, stage_effect}}
@@ -60,9 +60,7 @@ pub record IsBeside (old new : Words) : Type 0 where
 
 -- the view counts what it counted at mounts, and holds what it held
 pub record SameAtMounts (old new : View) : Type 0 where
-  pub held_same : held_at new ≡ held_at old
-  pub levels_same : holds_level new ≡ holds_level old
-  pub open_same : has_open new ≡ has_open old
+  pub held_same : held_of new ≡ held_of old
   pub added_same : added_by new.events ≡ added_by old.events
   pub taken_same : taken_by new.events ≡ taken_by old.events
 
@@ -112,14 +110,14 @@ module _ (c : Config) (w : World) (good : IsGood c w) (t : ℕ) (lt : t < c.task
   writer_parts h Known k = absurd (true≢false k)
   writer_parts h Tree k = h.tree
   writer_parts h Files k = record {
-    counted = λ n ln. h.opens n ∙ (good Files).counted n ln ∙ sym (ap (λ f. openers f n) (opens_left c w t lt v h.counts.open_same));
+    counted = λ n ln. h.opens n ∙ (good Files).counted n ln ∙ sym (ap (λ f. openers f n) (opens_left c w t lt v (ap (λ (k : Holdings). k.files) h.counts.held_same)));
     own = λ x lx. each_updated (λ y (u : View). HasFile (has_open u) (file_of u.phase)) w.views t v x
         (subst (HasFile (has_open v)) (sym h.now.no_file) tt) (λ ne. (good Files).own x lx);
   }
   writer_parts h (AtMount m) k =
       left_alone c w t lt (AtMount m) ws v
       (ap (λ f. f m) h.words.flags_same, h.words.remount_same, h.words.sb_same, ap (λ f. f m) h.words.count_same)
-      (view_as (ap (λ f. f m) h.counts.held_same) (ap (λ f. f m) h.counts.added_same) (ap (λ f. f m) h.counts.taken_same)
+      (view_as (ap (λ (k : Holdings). k.mounts m) h.counts.held_same) (ap (λ f. f m) h.counts.added_same) (ap (λ f. f m) h.counts.taken_same)
       (h.now.out_of_mounts m ∙ sym (h.was.out_of_mounts m))) (good (AtMount m))
   writer_parts h (AtLevel i) k = h.levels.0 i
   writer_parts h (SyncAt i) k = h.levels.1 i
@@ -127,7 +125,7 @@ module _ (c : Config) (w : World) (good : IsGood c w) (t : ℕ) (lt : t < c.task
 
   effect_shown : WriterEvent → shown c (left_world w t ws v) ≡ state_after (shown c w) t action
   effect_shown h =
-      shown_by c w good t lt ws v h.words.flags_same h.counts.held_same h.counts.levels_same h.counts.open_same (state_after (shown c w) t action)
+      shown_by c w good t lt ws v h.words.flags_same h.counts.held_same (state_after (shown c w) t action)
       (subst (λ a. ShowsStages c.tasks ws.stage ws.sb ws.remount ws.block (update (stage_roles w) t (stage_role_of v.phase))
       (state_after (shown c w) t a)) h.adds (stage_effect c w good t lt ws v kind h.happens))
       h.rest.mounts_same h.rest.levels_same h.rest.opens_same h.rest.ro_same h.rest.holders_same h.rest.tree_same

@@ -153,7 +153,7 @@ renewed_part c w good n lt Known = λ x lx.
     each_updated (λ y (u : View). owns u.phase ≡ 1 → KnowsWords w.words u.trace) w.views n (renewed (w.views n)) x
     (renewed_knows w.words (w.views n).phase (w.views n).trace (good Known n lt)) (λ ne. good Known x lx)
 renewed_part c w good n lt Owner = left_alone c w n lt Owner w.words (renewed (w.views n)) (refl, refl) (refl, refl) (good Owner)
-renewed_part c w good n lt Fitting = left_alone c w n lt Fitting w.words (renewed (w.views n)) tt (refl, refl, refl) (good Fitting)
+renewed_part c w good n lt Fitting = left_alone c w n lt Fitting w.words (renewed (w.views n)) tt (refl, refl) (good Fitting)
 renewed_part c w good n lt Stages =
     left_alone c w n lt Stages w.words (renewed (w.views n)) (refl, refl, refl, refl) refl (good Stages)
 renewed_part c w good n lt Holding = left_alone c w n lt Holding w.words (renewed (w.views n)) (refl, refl) refl (good Holding)
@@ -178,7 +178,7 @@ renewed_history c w n lt h =
     let v : View = renewed (w.views n) in record {
       log = h.log;
       legal = h.legal;
-      end = h.end ∙ sym (shown_still c w n lt w.words v refl refl refl refl refl refl refl (λ i. refl) refl refl refl);
+      end = h.end ∙ sym (shown_still c w n lt w.words v refl refl refl refl refl refl refl (λ i. refl) refl);
       lists = λ x. each_updated (λ y (u : View). own_part y h.log ≡ u.actions) w.views n v x (h.lists n) (λ ne. h.lists x);
       snapshots = λ x. each_updated (λ y (u : View). HasMoment c h.log y u.snapshot) w.views n v x tt (λ ne. h.snapshots x);
     }

@@ -23,7 +23,7 @@ use Rattle.gate_world.specs.declared.views.Snapshot.{Snapshot}
 use Rattle.gate_world.specs.Configs.{IsWithin, model_limits, extents_kept}
 use Rattle.gate_world.specs.Work.{next_of, after_of}
 use Rattle.gate_world.specs.Snapshots.{completes, last_snapshot}
-use Rattle.gate_world.specs.Views.{held_at, holds_level, has_open, begun_view, view_with, view_after_beside}
+use Rattle.gate_world.specs.Views.{begun_view, view_with, view_after_beside, held_of}
 use Rattle.gate_world.specs.Beginnings.{first_phase, view_refusal}
 use Rattle.gate_world.specs.Worlds.{World, words_after, value_at, found_at, after_step, after_step_beside, phase_action, with_action}
 use Rattle.gate_world.specs.Shown.{shown}
@@ -112,8 +112,7 @@ enter c lim w good x lt h mine (Some op) phase may =
     let t : ℕ = x.number in
     let v : View = begun_view (w.views t) op (first_phase c t op) in
     let ok : view_refusal c (w.views t) op ≡ None = ap (λ u. view_refusal c u op) mine ∙ may.0 in
-    let kept = begun_keeps c lim w good t lt op (may_begin c (is_some (w.views t).phase) (held_at (w.views t))
-    (holds_level (w.views t)) (has_open (w.views t)) op ok) in
+    let kept = begun_keeps c lim w good t lt op (may_begin c (is_some (w.views t).phase) (held_of (w.views t)) op ok) in
     let here : update w.views t v t ≡ v = update_at w.views t v in
     record {
       good = kept.0;
@@ -161,8 +160,8 @@ lifted c slots id (x ∷ xs) carried begins phase hook acts s held len at small 
     let kept : IsGood c after × Moves c (shown c w') t a (shown c after) =
     (beside.0, subst (Moves c (shown c w') t a) beside.1 law.1) in
     let there : IsWord (extents_kept c) name =
-    word_there c lim t (held_at (w'.views t)) (holds_level (w'.views t)) lt phase hook
-    (subst (λ o. Fits c t (held_at (w'.views t)) (holds_level (w'.views t)) o) en.at_phase (en.good Fitting t lt)) in
+    word_there c lim t (held_of (w'.views t)) lt phase hook
+    (subst (λ o. Fits c t (held_of (w'.views t)) o) en.at_phase (en.good Fitting t lt)) in
     let i : ℕ = table_index (place name) in
     let n : ℕ = slice_index s.words i in
     let value : n ≡ value_at w'.words phase hook = held.ruled.words name there ∙ ap (λ (l : Words). read l name) (sym en.words) in

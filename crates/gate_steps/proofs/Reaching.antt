@@ -5,9 +5,9 @@ use Rattle.std.proofs.lemmas.Bool.{lt-ltb}
 use Rattle.std.proofs.lemmas.Bool.Decides.{eqb_tells}
 use Rattle.finite_sums.specs.Sums.{update}
 use Rattle.finite_sums.proofs.Totals.{update_at, update_off, each_updated}
-use Rattle.access_model.specs.Histories.{mounts_of, levels_of, opens_of}
 use Rattle.cpu_words.specs.Hooks.{HookAnswer}
 use Rattle.cpu_words.specs.Touches.{event_of}
+use Rattle.gate_world.specs.Holdings.{holdings_of}
 use Rattle.gate_world.specs.declared.config.Config.{Config}
 use Rattle.gate_world.specs.declared.operations.Op.{Op}
 use Rattle.gate_world.specs.declared.work.Phase.{Phase}
@@ -51,8 +51,7 @@ module _ (c : Config) (w : World) (reached : IsReached c w) where
   module _ (t : ℕ) (lt : t < c.tasks) where
     -- an operation is refused there as here
     refused_there : (op : Op) → view_refusal c (there.views t) op ≡ view_refusal c (w.views t) op
-    refused_there op = let like = reached.views t in
-        λ i. refusal c (is_some (like.phase i)) (mounts_of (like.actions i)) (levels_of (like.actions i)) (opens_of (like.actions i)) op
+    refused_there op = let like = reached.views t in λ i. refusal c (is_some (like.phase i)) (holdings_of (like.actions i)) op
 
     -- so the schedule may go on with a beginning that isn't refused here
     pub begun_reached : (op : Op) → view_refusal c (w.views t) op ≡ None → IsReached c (after_begin c w t op)

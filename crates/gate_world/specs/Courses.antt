@@ -2,7 +2,6 @@
 use Rattle.std.specs.Prelude.{◌≡◌, ℕ, false, Option, Some, None, List, [], ◌∷◌, ◌++◌, ◌<◌, is_some, ◌≤◌}
 use Rattle.access_model.specs.declared.actions.Action.{Action}
 use Rattle.access_model.specs.declared.replies.Next.{Next}
-use Rattle.access_model.specs.Histories.{mounts_of, levels_of, opens_of}
 use Rattle.access_model.specs.declared.replies.Next.TheVariants.{Go, Wait, Done}
 use Rattle.cpu_words.specs.Touches.{event_of}
 use Rattle.gate_world.specs.declared.config.Config.{Config}
@@ -17,7 +16,7 @@ use Rattle.gate_world.specs.declared.work.Phase.{Phase}
 use Rattle.gate_world.specs.declared.views.View.{View}
 use Rattle.gate_world.specs.declared.views.Traced.{Traced}
 use Rattle.gate_world.specs.Work.{next_of, after_of}
-use Rattle.gate_world.specs.Views.{phase_after, actions_after}
+use Rattle.gate_world.specs.{Holdings.holdings_of, Views.{phase_after, actions_after}}
 use Rattle.gate_world.specs.Beginnings.{first_phase, refusal}
 use Rattle.cpu_words.specs.declared.names.WordName.{WordName}
 use Rattle.gate_world.specs.Worlds.{World, value_at}
@@ -94,7 +93,7 @@ pub record FollowsOrder (c : Config) (t : ℕ) (v : View) (op : Op) : Type 0 whe
   pub trace : IsTrace c t op v.trace
   pub phase : v.phase ≡ phase_after (course_of c t op v.trace).comes
   pub actions : v.actions ≡ (course_of c t op v.trace).added ++ v.before
-  pub begins : refusal c false (mounts_of v.before) (levels_of v.before) (opens_of v.before) op ≡ None
+  pub begins : refusal c false (holdings_of v.before) op ≡ None
 
 -- the same of a view that may have no operation
 abbrev pub IsTraced : Config → ℕ → View → Option Op → Type 0

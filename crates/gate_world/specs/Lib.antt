@@ -7,6 +7,7 @@ pub mod Found
 pub mod Snapshots
 pub mod Views
 pub mod Owners
+pub mod Holdings
 pub mod Operations
 pub mod Claims
 pub mod Accesses

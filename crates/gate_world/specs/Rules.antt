@@ -17,7 +17,7 @@ use Rattle.gate_world.specs.{Configs.model_limits, Fits.{Fits, HasFile, file_of}
 use Rattle.gate_world.specs.{Levels.{sync_role_of, inside, at_level, is_frozen_whole, SectionsAreOdd}, Owners.KnowsWords}
 use Rattle.gate_world.specs.{Remounts.{remount_role, remount_owns, remount_sets}, Shown.{shown, closing, stage_roles, holder_roles}}
 use Rattle.gate_world.specs.Stages.{freeze_stage_role, thaw_stage_role, tree_stage_role, stage_role_of}
-use Rattle.gate_world.specs.{Trees.{tree_bounds, tree_of, tree_role_of, is_sealed, is_bare_at}, Views.{held_at, holds_level, has_open, added_by, taken_by}}
+use Rattle.gate_world.specs.{Trees.{tree_bounds, tree_of, tree_role_of, is_sealed, is_bare_at}, Views.{held_at, held_of, has_open, added_by, taken_by}}
 use Rattle.gate_world.specs.Worlds.{World, after_step, phase_action}
 use Rattle.gate_world.specs.declared.{config.Config.Config, views.View.View}
 use Rattle.gate_world.specs.declared.work.Phase.{Phase, TheVariants.{Mounts, Remounts, DownReads, UpReads, Callbacks, Writes, Freezes, Thaws, Trees, Closes}}
@@ -133,7 +133,7 @@ pub record OwnerHolds (tasks umount remount : ℕ) (phases : ℕ → Option Phas
 
 -- each phase fits its task's accesses
 abbrev pub ViewFits : Config → ℕ → View → Type 0
-ViewFits c t v = Fits c t (held_at v) (holds_level v) v.phase
+ViewFits c t v = Fits c t (held_of v) v.phase
 
 -- The parts of the rule, each one predicate.
 pub data Part : Type 0 where
@@ -223,7 +223,7 @@ abbrev pub SameView : View → View → Part → Type 0
 SameView old new Owner = (owns new.phase ≡ owns old.phase) × (remounts new.phase ≡ remounts old.phase)
 SameView old new Stages = stage_role_of new.phase ≡ stage_role_of old.phase
 SameView old new Holding = holder_role_of new.phase ≡ holder_role_of old.phase
-SameView old new Fitting = (held_at new ≡ held_at old) × (holds_level new ≡ holds_level old) × (new.phase ≡ old.phase)
+SameView old new Fitting = (held_of new ≡ held_of old) × (new.phase ≡ old.phase)
 SameView old new Known = (owns new.phase ≡ owns old.phase) × (new.trace ≡ old.trace)
 SameView old new Tree = tree_role_of new.trace new.phase ≡ tree_role_of old.trace old.phase
 SameView old new Files = (has_open new ≡ has_open old) × (file_of new.phase ≡ file_of old.phase)

@@ -5,7 +5,7 @@ use Rattle.access_model.specs.{Replies.map_next, declared.{errors.GateError.Gate
 use Rattle.cpu_words.specs.{Names.IsWord, Touches.wrap_add, declared.sums.Sum.Sum}
 use Rattle.mount_counts.specs.Phases.{has_flag, at_change, lock_failed, step_between, change_from, change_summed, change_next, change_after, next}
 use Rattle.mount_counts.specs.declared.phases.{Change.Change, ChangeStep.ChangeStep, MountPhase.MountPhase}
-use Rattle.gate_world.specs.{Configs.{IsWithin, extents_of}, Fits.{SumFits, MountFits, Fits, ActionFits, mounts_by, levels_by}, Views.phase_after}
+use Rattle.gate_world.specs.{Configs.{IsWithin, extents_of}, Fits.{SumFits, MountFits, Fits, ActionFits}, Holdings.{Holdings, held_after}, Views.phase_after}
 use Rattle.gate_world.specs.declared.{config.Config.Config, work.Phase.Phase}
 use Rattle.gate_frames.proofs.Keeps.{by_bool}
 
@@ -16,7 +16,7 @@ change_there c x (ChangeStep.Sums sum) m f = (m, f)
 change_there c x (ChangeStep.Releases answer) m f = tt
 change_there c x step m f = m
 
-module _ (c : Config) (within : IsWithin c) (t : ℕ) (held : ℕ → ℕ) (levels : ℕ → Bool) where
+module _ (c : Config) (within : IsWithin c) (t : ℕ) (held : Holdings) where
   pub change_acts : (x : Change) (step : ChangeStep) (found : ℕ) → ActionFits held (change_after x step found).1
   change_acts x ChangeStep.Locks found = tt
   change_acts x step found = tt
@@ -37,11 +37,11 @@ module _ (c : Config) (within : IsWithin c) (t : ℕ) (held : ℕ → ℕ) (leve
 
   -- what comes after an event fits
   abbrev NextFits : Next Change → Type 0
-  NextFits next = Fits c t held levels (phase_after (map_next Phase.Mounts (map_next MountPhase.Change next)))
+  NextFits next = Fits c t held (phase_after (map_next Phase.Mounts (map_next MountPhase.Change next)))
 
   -- what comes after each event of a change fits
-  pub change_goes : (x : Change) (step : ChangeStep) (found : ℕ) → MountFits c t held levels (MountPhase.Change record x { step = step }) →
-      Fits c t (mounts_by (change_after x step found).1 held) (levels_by (change_after x step found).1 levels)
+  pub change_goes : (x : Change) (step : ChangeStep) (found : ℕ) → MountFits c t held (MountPhase.Change record x { step = step }) →
+      Fits c t (held_after (change_after x step found).1 held)
       (phase_after (map_next Phase.Mounts (map_next MountPhase.Change (change_after x step found).0)))
   change_goes x ChangeStep.Locks found f =
       by_bool (found == 0) (λ b. NextFits (if b then Next.Go (at_change x ChangeStep.LoadsFlags) else lock_failed x x.wait)) f

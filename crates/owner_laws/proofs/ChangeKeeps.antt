@@ -1,9 +1,9 @@
 -- All that is proved of a change.
 use Rattle.std.{proofs.{Common.{ℕ, Bool, arith, refl, subst}, lemmas.Bool.ltb-true}, specs.Prelude.Some}
 use Rattle.mount_counts.specs.declared.phases.{Change.Change, MountPhase.MountPhase}
-use Rattle.gate_world.specs.{Fits.Fits, Rules.Fitting, Traces.most_events, Views.{held_at, holds_level}, Worlds.after_step}
+use Rattle.gate_world.specs.{Fits.Fits, Rules.Fitting, Traces.most_events, Views.held_of, Worlds.after_step}
 use Rattle.gate_world.specs.declared.{config.Config.Config, operations.Op.Op, work.Phase.Phase}
-use Rattle.gate_frames.proofs.{Keeps.{by_bool, none_agree, word_among, PhaseKeeps, IsSmall, OpKeeps}, Loads.role_none, MountRuns.mounts_run}
+use Rattle.gate_frames.proofs.{Agreeing.none_agree, Keeps.{by_bool, word_among, PhaseKeeps, IsSmall, OpKeeps}, Loads.role_none, MountRuns.mounts_run}
 use Rattle.gate_frames.proofs.{Says.{tells, is_short}, Snapshots.completes_none}
 use Rattle.owner_laws.proofs.{ChangeCauses.{change_kept, change_own}, ChangeFits.{change_there, change_acts, change_goes}}
 use Rattle.owner_laws.proofs.{ChangeTraces.{ChangeAt, change_kept as change_traced}, ChangeWaits.change_waits, Each.change_keeps}
@@ -13,15 +13,15 @@ change_phase c x = record {
   step = λ lim w good t lt hook e. change_keeps c lim w good t lt hook x.mount x.read_only x.wait x.task x.processors x.step e;
   runs = λ lim w good t lt hook e i l1 l3. mounts_run c.tasks w t lt hook (MountPhase.Change x) e i;
   completes = λ lim w good t lt hook e. completes_none c w t hook (Phase.Mounts (MountPhase.Change x)) (λ trace found. refl);
-  word = λ n le t lt held levels hook f. word_among c n le _ (change_there c x x.step f.0 f.4);
-  acts = λ lim t held levels found hook f. change_acts c lim t held levels x x.step found;
-  goes = λ lim t held levels found hook f. change_goes c lim t held levels x x.step found f;
-  agrees = λ t f g h k mounts levels fits. (fits.0, fits.1, fits.2, rw (← none_agree c t f g h k mounts levels) fits.3, fits.4);
+  word = λ n le t lt held hook f. word_among c n le _ (change_there c x x.step f.0 f.4);
+  acts = λ lim t held found hook f. change_acts c lim t held x x.step found;
+  goes = λ lim t held found hook f. change_goes c lim t held x x.step found f;
+  agrees = λ t held seen same fits. (fits.0, fits.1, fits.2, rw (← none_agree held.levels seen.levels same.levels) fits.3, fits.4);
   stays = λ w next earlier after t f e was quiet h. change_kept c t w next earlier after x.mount x.read_only x.wait x.task x.processors
       x.step f.0 e was (quiet.mounts x.mount) h;
   causes = λ w earlier good t lt hook e after is h.
-      let f : Fits c t (held_at (w.views t)) (holds_level (w.views t)) (Some (Phase.Mounts (MountPhase.Change x))) =
-      subst (Fits c t (held_at (w.views t)) (holds_level (w.views t))) e (good Fitting t lt) in
+      let f : Fits c t (held_of (w.views t)) (Some (Phase.Mounts (MountPhase.Change x))) =
+      subst (Fits c t (held_of (w.views t))) e (good Fitting t lt) in
       change_own c t lt w (after_step w t (Phase.Mounts (MountPhase.Change x)) hook) earlier good after hook x.mount x.read_only x.wait x.task
       x.processors x.step f.0 e refl h is;
   reasons = λ lim w earlier good t lt hook e cause.
@@ -30,7 +30,7 @@ change_phase c x = record {
 
 pub change_op : (c : Config) (m : ℕ) (ro wait : Bool) → OpKeeps c (Op.ChangeMount m ro wait)
 change_op c m ro wait = record {
-  fits = λ t held levels there order room. (ltb-true m c.mounts there, refl, refl, order, tt);
+  fits = λ t held there order room. (ltb-true m c.mounts there, refl, refl, order, tt);
   starts_idle = λ t. record {
     steady = assumption;
     stage_same = refl;
@@ -42,10 +42,10 @@ change_op c m ro wait = record {
   };
   off_tree = λ t trace. refl;
   cause = λ t w earlier. tt;
-  order_agrees = λ f g h k mounts levels there. none_agree c 0 f g h k mounts levels;
-  room_agrees = λ f g mounts there. refl;
-  restores = λ refusal trace before order. (refl, refl, refl);
-  file = λ t files own closed. tt;
+  order_agrees = λ held seen same there. none_agree held.levels seen.levels same.levels;
+  room_agrees = λ held seen same there. refl;
+  restores = λ refusal trace before order. refl;
+  file = λ t held order room. tt;
   tells = λ lim t trace h. tells (ChangeAt c t m ro wait) c t (Op.ChangeMount m ro wait) (change_traced c lim t m ro wait) trace h;
   short = λ lim t trace h. is_short (ChangeAt c t m ro wait) c t (Op.ChangeMount m ro wait) (change_traced c lim t m ro wait) trace h;
   most_small = λ lim. by_bool wait (λ w. IsSmall (most_events c (Op.ChangeMount m ro w))) tt (omega (arith, lim.processors));

@@ -13,7 +13,7 @@ use Rattle.mount_laws.proofs.MountLaws.{sets_read_only as mount_sets_read_only, 
 use Rattle.gate_world.specs.{Configs.IsWithin, Fits.SumFits}
 use Rattle.gate_world.specs.Rules.{change_role, role_of, at_mount, change_owns, owns, remounts, IsSteady, ViewFits, IsGood, GateStepKeeps, AtMount}
 use Rattle.gate_world.specs.Rules.{MountHoldsIn, GatesHold}
-use Rattle.gate_world.specs.{Shown.{shown, closing}, Views.{held_at, added_by, taken_by, view_with}, Worlds.World}
+use Rattle.gate_world.specs.{Shown.{shown, closing}, Views.{held_of, added_by, taken_by, view_with}, Worlds.World}
 use Rattle.gate_world.specs.declared.{config.Config.Config, views.View.View, work.Phase.Phase}
 use Rattle.gate_frames.proofs.{Frames.{role_on, role_off, view_as, holds_as, MountHoldsAfter, owner_same}, Loads.{as_owner, after_load, load_law, role_none}}
 use Rattle.gate_frames.proofs.Owners.{no_remount, no_hold, no_skip, locks_umount, releases_umount, umount_law, flag_law, flags_after, flags_shown}
@@ -44,7 +44,7 @@ module _ (c : Config) (lim : IsWithin c) (w : World) (good : IsGood c w) (t : �
   mount_here s e = good (AtMount m) (fits_here c w good t lt m ro wait task processors hook s e).0
 
   flag_step : (s s' : ChangeStep) (f : ℕ) (v : View) → IsHere s → IsSteady (w.views t).phase v.phase →
-      v.phase ≡ Some (Phase.Mounts (here s')) → ViewFits c t v → held_at v ≡ held_at (w.views t) →
+      v.phase ≡ Some (Phase.Mounts (here s')) → ViewFits c t v → held_of v ≡ held_of (w.views t) →
       added_by v.events ≡ added_by (w.views t).events → taken_by v.events ≡ taken_by (w.views t).events →
       MountHoldsAfter c w t m f (w.words.count m) (record (at_mount m (w.views t)) { role = change_role s' }) →
       GatesHold c (flags_after c w t lt m f v)
@@ -68,7 +68,7 @@ module _ (c : Config) (lim : IsWithin c) (w : World) (good : IsGood c w) (t : �
         flag_step ChangeStep.ClearsReadOnly s' word v e same refl (f.0, f.1, f.2, f.3, tt) refl refl refl
             (mount_clears_read_only g t lt (role_here ChangeStep.ClearsReadOnly e) (no_remount c w good t lt (ap owns e) (ap remounts e))
             (λ x lx ne. no_skip c w good t lt m x lx ne (ap owns e))),
-        ((lt, f.0), flags_shown c w t lt m word v false same (ne_eqb _ 1 (λ q. omega (arith, b, q))) refl refl refl),
+        ((lt, f.0), flags_shown c w t lt m word v false same (ne_eqb _ 1 (λ q. omega (arith, b, q))) refl),
       )
 
   -- sets HOLD before it sums the words; meets: a task adds before it looks for HOLD
@@ -84,7 +84,7 @@ module _ (c : Config) (lim : IsWithin c) (w : World) (good : IsGood c w) (t : �
       let clear : hold_bit (w.words.flags m) ≡ 0 = no_hold c w good t lt m f.0 (ap owns e) (ap has_hold (role_here ChangeStep.SetsHold e)) in (
         flag_step ChangeStep.SetsHold s' word v e same refl (f.0, f.1, f.2, f.3, lim.some_processor) refl refl refl
             (mount_sets_hold g t lt lim.tasks lim.processors lim.some_processor (role_here ChangeStep.SetsHold e) clear),
-        flags_show_same c w t lt m word v same b.1 refl refl refl,
+        flags_show_same c w t lt m word v same b.1 refl,
       )
 
   -- sets READONLY under HOLD, after a sum of 0; meets: READONLY is loaded after HOLD was found clear
@@ -103,7 +103,7 @@ module _ (c : Config) (lim : IsWithin c) (w : World) (good : IsGood c w) (t : �
             (mount_sets_read_only g t lt (role_here ChangeStep.SetsReadOnly e) (no_remount c w good t lt (ap owns e) (ap remounts e))),
         (
           (lt, (f.0, λ x lx. omega (arith, none, total_at c.tasks x (λ y. admitted (at_mount m (w.views y))) lx))),
-          flags_shown c w t lt m word v true same (eq-eqb _ 1 b.1) refl refl refl,
+          flags_shown c w t lt m word v true same (eq-eqb _ 1 b.1) refl,
         ),
       )
 
@@ -122,7 +122,7 @@ module _ (c : Config) (lim : IsWithin c) (w : World) (good : IsGood c w) (t : �
       let same : IsSteady (w.views t).phase v.phase = as_owner (here (ChangeStep.ClearsHold answer)) e refl refl (λ i. refl) in (
         flag_step (ChangeStep.ClearsHold answer) s' word v e same refl (f.0, f.1, f.2, f.3, tt) refl refl refl
             (mount_clears_hold g t lt (subst SeeksNone (sym r) (to_clear answer).0) (ap has_hold r ∙ (to_clear answer).1)),
-        flags_show_same c w t lt m word v same b.1 refl refl refl,
+        flags_show_same c w t lt m word v same b.1 refl,
       )
 
   -- the mount after the change's role there is that of a step
@@ -169,7 +169,7 @@ module _ (c : Config) (lim : IsWithin c) (w : World) (good : IsGood c w) (t : �
       GateStepKeeps c w t hook (Phase.Mounts (here (ChangeStep.Releases answer)))
   releases answer e =
       let v : View = view_with (w.views t) (WordName.Umount, Touch.Store 0) w.words.umount hook (Next.Done answer, None) in
-      umount_law c w good t lt 0 v (releases_umount c w good t lt v (ap owns e) refl (sym (ap remounts e))) tt refl refl refl refl refl
+      umount_law c w good t lt 0 v (releases_umount c w good t lt v (ap owns e) refl (sym (ap remounts e))) tt refl refl refl
       (λ y. sym (ap (role_of y) e ∙ role_none y m)) (λ i. sym (ap (closing i) e))
 
 module _ (c : Config) (w : World) (good : IsGood c w) (t : ℕ) (lt : t < c.tasks)
@@ -187,13 +187,13 @@ module _ (c : Config) (w : World) (good : IsGood c w) (t : ℕ) (lt : t < c.task
       let x : MountPhase = change m ro true task processors ChangeStep.Locks in
       let v : View = tried w.words.umount (Some (Phase.Mounts x)) in
       rw h (umount_law c w good t lt w.words.umount v (owner_same c w t lt good v (as_owner x e refl refl (λ i. refl)))
-      (fits_here c w good t lt m ro true task processors hook ChangeStep.Locks e) refl refl refl refl refl
+      (fits_here c w good t lt m ro true task processors hook ChangeStep.Locks e) refl refl refl
       (λ y. sym (ap (role_of y) e)) (λ i. sym (ap (closing i) e)))
   lock_taken false e h =
       let x : MountPhase = change m ro false task processors ChangeStep.Locks in
       let v : View = tried w.words.umount None in
       rw h (umount_law c w good t lt w.words.umount v (owner_same c w t lt good v (as_owner x e refl refl (λ i. refl)))
-      tt refl refl refl refl refl (λ y. sym (ap (role_of y) e ∙ role_none y m)) (λ i. sym (ap (closing i) e)))
+      tt refl refl refl (λ y. sym (ap (role_of y) e ∙ role_none y m)) (λ i. sym (ap (closing i) e)))
 
   -- takes `umount` where it is free; meets: its owner gives it back last
   pub locks : (wait : Bool) → IsAt c w good t lt m ro wait task processors hook ChangeStep.Locks →
@@ -206,7 +206,7 @@ module _ (c : Config) (w : World) (good : IsGood c w) (t : ℕ) (lt : t < c.task
             let v : View = tried (task + 1) (Some (Phase.Mounts (change m ro wait task processors ChangeStep.LoadsFlags))) in
             umount_law c w good t lt (task + 1) v
             (locks_umount c w good t lt (task + 1) v h.1 (omega (arith, f.1)) refl (sym (ap remounts e)))
-            (f.0, f.1, f.2, f.3, tt) refl refl refl refl refl
+            (f.0, f.1, f.2, f.3, tt) refl refl refl
             (λ y. role_none y m ∙ sym (ap (role_of y) e ∙ role_none y m)) (λ i. sym (ap (closing i) e)))
         | inr h ↦ lock_taken wait e h.0
       ]

@@ -3,7 +3,7 @@ use Rattle.std.proofs.Common.{◌≡◌, ◌⊎◌, ℕ, ◌<◌, ◌≤◌, Boo
 use Rattle.std.proofs.lemmas.Bool.{eq-eqb, cases_Bool, Decides.eqb_tells}
 use Rattle.std.specs.Prelude.{◌==◌, if◌then◌else◌, Option, Some, None, Ok}
 use Rattle.finite_sums.{proofs.Totals.total_at, specs.Sums.{update, total}}
-use Rattle.access_model.specs.{Histories.{mounts_of, levels_of, opens_of}, Replies.map_next, declared.{actions.Action.Action, replies.{Next.Next, Reply.Reply}}}
+use Rattle.access_model.specs.{Replies.map_next, declared.{actions.Action.Action, replies.{Next.Next, Reply.Reply}}}
 use Rattle.cpu_words.specs.{Hooks.HookAnswer, Sums.sum_taking, Touches.{left, found_by}, Words.{Words, read, put}, declared.sums.{Sum.Sum, Taken.Taken}}
 use Rattle.gated_tree.{proofs.ClearedMarks.directory_clean, specs.{Nodes.IsNode, Roles.{Out as OffTree, Clearing}}}
 use Rattle.percpu_rwsem.specs.{Graces.looked, SyncWords.{unpack, is_passed, on_enter, on_callback}, Transitions.transition_after}
@@ -17,12 +17,12 @@ use Rattle.stage_laws.proofs.Facts.{at_level}
 use Rattle.stage_laws.specs.Events.{StageEvent, Happens, Stays, SetsBlock as SetsBlockStage, Passes, playing, action_of as stage_action_of}
 use Rattle.stage_laws.specs.{Roles.{Place, Before, Closing, HasPassed, Freezing, owns as stage_owns, has_position, bit, CleanBelow}, Shown.state_after}
 use Rattle.holder_laws.specs.Roles.{Apart}
-use Rattle.gate_world.specs.{Configs.{IsWithin, model_limits}, Fits.{Fits, mounts_by, levels_by}, Holders.{freeze_holder_role, holder_role_of}}
+use Rattle.gate_world.specs.{Configs.{IsWithin, model_limits}, Fits.Fits, Holdings.{Holdings, holdings_of}, Holders.{freeze_holder_role, holder_role_of}}
 use Rattle.gate_world.specs.{Levels.{closed_to, level_added_by, level_taken_by}, Rules.{IsGood, Holds, Tree, owns, marks_of, ViewFits}, Shown.shown}
 use Rattle.gate_world.specs.{Stages.{freeze_stage_role, stage_role_of, place_of}, Trees.{tree_role_of, tree_roles, freeze_tree_role}}
-use Rattle.gate_world.specs.{Views.{held_at, holds_level, phase_after, actions_after, view_with, added_by, taken_by, has_open}, Worlds.World}
+use Rattle.gate_world.specs.{Views.{held_of, holds_level, phase_after, actions_after, view_with, added_by, taken_by}, Worlds.World}
 use Rattle.gate_world.specs.declared.{config.Config.Config, views.View.View, work.Phase.Phase}
-use Rattle.gate_frames.proofs.{DownLevels.{down_write_levels, passes_finds_nobody, swap_finds_clear, entered_by_nobody}, Keeps.by_bool}
+use Rattle.gate_frames.proofs.{Accesses.holdings_of_after, DownLevels.{down_write_levels, passes_finds_nobody, swap_finds_clear, entered_by_nobody}, Keeps.by_bool}
 use Rattle.gate_frames.proofs.{Stages.{IsStageEvent, stages_in}, Standing.{Stands, LevelsHold, left_world, stand_after_closing}, Trees.shown_clean}
 use Rattle.gate_frames.proofs.WriterParts.{LeavesRest, AsksWhere, WriterLaw, freeze_comes, down_write_comes}
 use Rattle.gate_frames.proofs.WriterStages.{still_plays, stays_there, none_leaves}
@@ -175,19 +175,14 @@ module _ (c : Config) (lim : IsWithin c) (w : World) (good : IsGood c w) (t : �
     fits_now : FitsHere c lim w good t lt x (FreezeStep.Closes d)
     fits_now = here_fits c lim w good t lt x (FreezeStep.Closes d) e
 
-    accesses_stay : (held_at view_then ≡ held_at (w.views t)) × (holds_level view_then ≡ holds_level (w.views t)) ×
-        (has_open view_then ≡ has_open (w.views t))
-    accesses_stay =
-        down_write_adds d (λ a. (mounts_of (actions_after a (w.views t).actions) ≡ mounts_of (w.views t).actions) ×
-        (levels_of (actions_after a (w.views t).actions) ≡ levels_of (w.views t).actions) ×
-        (opens_of (actions_after a (w.views t).actions) ≡ opens_of (w.views t).actions)) (refl, refl, refl) (refl, refl, refl) d.step found_here
+    holdings_stay : held_of view_then ≡ held_of (w.views t)
+    holdings_stay =
+        down_write_adds d (λ a. holdings_of (actions_after a (w.views t).actions) ≡ held_of (w.views t)) refl refl d.step found_here
 
     fits_then : ViewFits c t view_then
     fits_then =
-        let p : Option Phase = phase_after (map_next Phase.Freezes (after_closing x d.level next_here)) in
-        down_write_adds d (λ a. Fits c t (mounts_by a (held_at (w.views t))) (levels_by a (holds_level (w.views t))) p →
-        Fits c t (mounts_of (actions_after a (w.views t).actions)) (levels_of (actions_after a (w.views t).actions)) p) (λ f. f) (λ f. f)
-        d.step found_here (freeze_goes c lim t (held_at (w.views t)) (holds_level (w.views t)) x (FreezeStep.Closes d) found_here hook fits_now)
+        subst (λ h. Fits c t h view_then.phase) (sym (holdings_of_after adds_here (w.views t).actions))
+        (freeze_goes c lim t (held_of (w.views t)) x (FreezeStep.Closes d) found_here hook fits_now)
 
     owns_then : owns view_then.phase ≡ bit (nat_lt 1 d.level)
     owns_then =
@@ -206,7 +201,7 @@ module _ (c : Config) (lim : IsWithin c) (w : World) (good : IsGood c w) (t : �
     levels_then =
         down_write_levels c lim w good t lt d view_then
         (record {
-          held_same = accesses_stay.1;
+          held_same = ap (λ (h : Holdings). h.levels) holdings_stay;
           added_same = (down_write_counts_none d d.step (level_added_by (w.views t).events)).2;
           taken_same = (down_write_counts_none d d.step (level_taken_by (w.views t).events)).3;
         })
@@ -237,9 +232,7 @@ module _ (c : Config) (lim : IsWithin c) (w : World) (good : IsGood c w) (t : �
         writer_at_level c w good t lt words_then view_then adds_here kind (here_writes c lim w good t lt x (FreezeStep.Closes d) e)
         (freeze_comes (after_closing x d.level next_here)) (down_write_words w.words d d.step)
         (record {
-          held_same = accesses_stay.0;
-          levels_same = accesses_stay.1;
-          open_same = accesses_stay.2;
+          held_same = holdings_stay;
           added_same = (down_write_counts_none d d.step (added_by (w.views t).events)).0;
           taken_same = (down_write_counts_none d d.step (taken_by (w.views t).events)).1;
         })

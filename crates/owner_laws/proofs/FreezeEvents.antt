@@ -16,7 +16,7 @@ use Rattle.holder_laws.specs.Roles.{Apart}
 use Rattle.gate_world.specs.{Alike.{IsAlike, rephased}, Configs.{IsWithin, model_limits}, Fits.FreezeFits, Holders.{freeze_holder_role, holder_role_of}}
 use Rattle.gate_world.specs.{Levels.{closed_to, freeze_stand}, Rules.{IsGood, Tree, owns, marks_of, ViewFits, Holds, StepKeeps}, Shown.{shown, stage_roles}}
 use Rattle.gate_world.specs.{Stages.{freeze_stage_role, stage_role_of}, Trees.{tree_bounds, tree_of, freeze_tree_role}}
-use Rattle.gate_world.specs.{Views.{held_at, holds_level, phase_after}, Worlds.World, declared.{config.Config.Config, views.View.View, work.Phase.Phase}}
+use Rattle.gate_world.specs.{Holdings.Holdings, Views.{held_of, phase_after}, Worlds.World, declared.{config.Config.Config, views.View.View, work.Phase.Phase}}
 use Rattle.gate_frames.proofs.{Holders.holders_stay, Rephased.{alike_of, made_keeps}, Stages.{IsStageEvent, stages_in}, StandRoles.levels_stay}
 use Rattle.gate_frames.proofs.{Standing.{Stands, left_world, stand_after_opening, still_closed}, Trees.{tree_after, nobody_reads}, WriterOwner.owner_stays}
 use Rattle.gate_frames.proofs.WriterParts.{IsWriter, SameAtMounts, LeavesRest, AsksWhere, WriterLaw, writer_law, freezes_write, freeze_work, whole_writer}
@@ -126,7 +126,7 @@ module _ (c : Config) (lim : IsWithin c) (w : World) (good : IsGood c w) (t : �
           now = now;
           owner = owner_stays c w good t lt v was now cleared_words refl refl (ap stage_owns role ∙ sym (ap owns e));
           levels = levels_stay c w good t lt cleared_words v (Some (closed_to 2)) (assumption)
-              (record { held_same = mounts.levels_same; added_same = refl; taken_same = refl })
+              (record { held_same = ap (λ (h : Holdings). h.levels) mounts.held_same; added_same = refl; taken_same = refl })
               (here_stands c lim w good t lt x (FreezeStep.Cleans marks) e)
               (subst (Stands (Some (Phase.Freezes (at_freeze x s)))) stand (freeze_stands (at_freeze x s)));
           tree = tree_cleared action event;
@@ -149,7 +149,7 @@ module _ (c : Config) (lim : IsWithin c) (w : World) (good : IsGood c w) (t : �
         let after : IsFile (node_shown node_word) ×
         (node_shown (without_mark node_word) ≡ option_map (marked false) (node_shown node_word)) =
         cleared_shown node_word node_there set in
-        node_law (Some (Action.Clean marks.node)) (record { held_same = refl; levels_same = refl; open_same = refl; added_same = refl; taken_same = refl })
+        node_law (Some (Action.Clean marks.node)) (record { held_same = refl; added_same = refl; taken_same = refl })
         (goes_to c lim w good t lt x (FreezeStep.Cleans marks) s e fit) (ap (cleaned marks.node) set) (f.5.2, after.0)
         (record {
           mounts_same = refl;
@@ -165,7 +165,7 @@ module _ (c : Config) (lim : IsWithin c) (w : World) (good : IsGood c w) (t : �
     clears_clean : dirty_in node_word ≡ 0 → WriterLaw c w t cleared_words (cleared_view None) None
     clears_clean clean =
         let f : FitsHere c lim w good t lt x (FreezeStep.Cleans marks) = here_fits c lim w good t lt x (FreezeStep.Cleans marks) e in
-        node_law None (record { held_same = refl; levels_same = refl; open_same = refl; added_same = refl; taken_same = refl })
+        node_law None (record { held_same = refl; added_same = refl; taken_same = refl })
         (goes_to c lim w good t lt x (FreezeStep.Cleans marks) s e fit) (ap (cleaned marks.node) clean) tt
         (record {
           mounts_same = refl;
@@ -217,7 +217,7 @@ module _ (c : Config) (lim : IsWithin c) (w : World) (good : IsGood c w) (t : �
       made_keeps c w t lt (Some (Phase.Thaws y)) event hook (map_next Phase.Thaws (after_opening y u.level more.0))
       (map_next Phase.Freezes (after_reopening x u.level code more.0)) more.1 good (alike_of e (reopens_alike x u code)) (f.0, f.4, f.5)
       (λ g at. thaw_keeps c lim (rephased w t (Some (Phase.Thaws y))) g t lt hook y at) (next_alike x u code more.0)
-      (freeze_goes c lim t (held_at (w.views t)) (holds_level (w.views t)) x (FreezeStep.Reopens u code) found hook f) in
+      (freeze_goes c lim t (held_of (w.views t)) x (FreezeStep.Reopens u code) found hook f) in
       (λ part known. law.0 part, law.1)
 
 freeze_event : (c : Config) (lim : IsWithin c) (w : World) (good : IsGood c w) (t : ℕ) (lt : t < c.tasks) (x : Freeze) (hook : HookAnswer)

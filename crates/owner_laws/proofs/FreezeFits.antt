@@ -20,7 +20,7 @@ use Rattle.level_laws.proofs.{Exchanges.exchanges_make_transitions, Operations.{
 use Rattle.level_laws.specs.{Exchanges.Shows, Operations.{HoldsOfNext, KnowsDownWrite, KnowsUpWrite}}
 use Rattle.holder_laws.proofs.Words.{none_held}
 use Rattle.gate_world.specs.Configs.{IsWithin, extents_of}
-use Rattle.gate_world.specs.Fits.{DownWriteStepFits, DownWriteFits, UpWriteFits, FreezeFits, PhaseFits, Fits, ActionFits, mounts_by, levels_by}
+use Rattle.gate_world.specs.{Fits.{DownWriteStepFits, DownWriteFits, UpWriteFits, FreezeFits, PhaseFits, Fits, ActionFits}, Holdings.{Holdings, held_after}}
 use Rattle.gate_world.specs.{Operations.holds_none, Views.phase_after, declared.{config.Config.Config, work.Phase.Phase}}
 use Rattle.gate_frames.proofs.{Cases.both, Keeps.by_bool}
 
@@ -56,46 +56,46 @@ pub found_cases : (x : Freeze) (held : Holders) (P : FreezeStep → Type 0) → 
     (held_by held x.holder ≡ false → P (FreezeStep.Holds held)) → P (found_holders x held)
 found_cases x held P own other = both (held_by held x.holder) (λ b. P (if b then FreezeStep.Releases (Err GateError.Busy) else FreezeStep.Holds held)) own other
 
--- an action that moves no access: with it a task holds what it held
+-- an action with which a task holds what it held
 abbrev MovesNone : Option Action → Type 0
-MovesNone a = (held : ℕ → ℕ) (levels : ℕ → Bool) → ActionFits held a × (mounts_by a held ≡ held) × (levels_by a levels ≡ levels)
+MovesNone a = (held : Holdings) → ActionFits held a × (held_after a held ≡ held)
 
 if_moves : (b : Bool) (a : Action) → MovesNone (Some a) → MovesNone (if b then Some a else None)
-if_moves true a h held levels = h held levels
-if_moves false a h held levels = (tt, refl, refl)
+if_moves true a h held = h held
+if_moves false a h held = (tt, refl)
 
 summed_moves : (d : DownWrite) (sum : Sum) (found : ℕ) → MovesNone (down_write_summed d (sum_taking sum found d.processors)).1
-summed_moves d sum found held levels =
+summed_moves d sum found held =
     elim (cases_Bool (nat_lt (sum.words + 1) d.processors)) [
-      | inl h ↦ rw h (tt, refl, refl)
-      | inr h ↦ rw h (if_moves (wrap_add sum.total found == 0) (Action.Pass d.level) (λ f g. (tt, refl, refl)) held levels)
+      | inl h ↦ rw h (tt, refl)
+      | inr h ↦ rw h (if_moves (wrap_add sum.total found == 0) (Action.Pass d.level) (λ f. (tt, refl)) held)
     ]
 
 down_write_moves : (d : DownWrite) (s : DownWriteStep) (found : ℕ) → MovesNone (down_write_after d s found).1
-down_write_moves d (DownWriteStep.Sums sum) found held levels = summed_moves d sum found held levels
-down_write_moves d other found held levels = (tt, refl, refl)
+down_write_moves d (DownWriteStep.Sums sum) found held = summed_moves d sum found held
+down_write_moves d other found held = (tt, refl)
 
 -- none of an up-write
 up_write_moves : (u : UpWrite) (s : UpWriteStep) (found : ℕ) → MovesNone (up_write_after u s found).1
-up_write_moves u UpWriteStep.ClearsBlock found held levels = (tt, refl, refl)
-up_write_moves u (UpWriteStep.Exits transition) found held levels = (tt, refl, refl)
+up_write_moves u UpWriteStep.ClearsBlock found held = (tt, refl)
+up_write_moves u (UpWriteStep.Exits transition) found held = (tt, refl)
 
 -- and none of a freeze
 freeze_moves : (x : Freeze) (s : FreezeStep) (found : ℕ) (hook : HookAnswer) → MovesNone (freeze_after x s found hook).1
-freeze_moves x (FreezeStep.Closes d) found hook held levels = down_write_moves d d.step found held levels
-freeze_moves x (FreezeStep.Cleans marks) found hook held levels =
-    if_moves (dirty_in found == 1) (Action.Clean marks.node) (λ f g. (tt, refl, refl)) held levels
-freeze_moves x FreezeStep.SetsFs found (Ok answer) held levels = (tt, refl, refl)
-freeze_moves x FreezeStep.SetsFs found (Err code) held levels = (tt, refl, refl)
-freeze_moves x FreezeStep.SetsComplete found (Ok answer) held levels = (tt, refl, refl)
-freeze_moves x FreezeStep.SetsComplete found (Err code) held levels = (tt, refl, refl)
-freeze_moves x (FreezeStep.Reopens u code) found hook held levels = up_write_moves u u.step found held levels
-freeze_moves x other found hook held levels = (tt, refl, refl)
+freeze_moves x (FreezeStep.Closes d) found hook held = down_write_moves d d.step found held
+freeze_moves x (FreezeStep.Cleans marks) found hook held =
+    if_moves (dirty_in found == 1) (Action.Clean marks.node) (λ f. (tt, refl)) held
+freeze_moves x FreezeStep.SetsFs found (Ok answer) held = (tt, refl)
+freeze_moves x FreezeStep.SetsFs found (Err code) held = (tt, refl)
+freeze_moves x FreezeStep.SetsComplete found (Ok answer) held = (tt, refl)
+freeze_moves x FreezeStep.SetsComplete found (Err code) held = (tt, refl)
+freeze_moves x (FreezeStep.Reopens u code) found hook held = up_write_moves u u.step found held
+freeze_moves x other found hook held = (tt, refl)
 
 -- its action can be done
-pub freeze_acts : (x : Freeze) (s : FreezeStep) (held : ℕ → ℕ) (found : ℕ) (hook : HookAnswer) →
+pub freeze_acts : (x : Freeze) (s : FreezeStep) (held : Holdings) (found : ℕ) (hook : HookAnswer) →
     ActionFits held (freeze_after x s found hook).1
-freeze_acts x s held found hook = (freeze_moves x s found hook held (λ i. false)).0
+freeze_acts x s held found hook = (freeze_moves x s found hook held).0
 
 module _ (c : Config) (within : IsWithin c) where
   -- the step after its enter fits: a grace period that begins has all tasks before it
@@ -205,11 +205,11 @@ module _ (c : Config) (within : IsWithin c) where
   fails_fits holder level code l3 =
       elim (eqb_tells level 0) [ inl h ↦ rw h.0 tt | inr h ↦ rw h.0 (omega (arith, h.1), l3, tt) ]
 
-  module _ (t : ℕ) (held : ℕ → ℕ) (levels : ℕ → Bool) (x : Freeze) (task : x.task ≡ t) (all : x.tasks ≡ c.tasks)
-      (processors : x.processors ≡ c.processors) (nodes : x.nodes ≡ c.nodes) (none : holds_none levels ≡ true) where
+  module _ (t : ℕ) (held : Holdings) (x : Freeze) (task : x.task ≡ t) (all : x.tasks ≡ c.tasks)
+      (processors : x.processors ≡ c.processors) (nodes : x.nodes ≡ c.nodes) (none : holds_none held.levels ≡ true) where
     -- what comes after an event fits these accesses
     abbrev NextFits : Next Freeze → Type 0
-    NextFits next = Fits c t held levels (phase_after (map_next Phase.Freezes next))
+    NextFits next = Fits c t held (phase_after (map_next Phase.Freezes next))
 
     goes_to : (s : FreezeStep) → FreezeFits c x.holder s → NextFits (Next.Go (at_freeze x s))
     goes_to s f = (task, all, processors, nodes, none, f)
@@ -271,14 +271,9 @@ module _ (c : Config) (within : IsWithin c) where
     next_fits (FreezeStep.Releases answer) found hook f = tt
 
   -- what comes after each event of a freeze fits what its action leaves
-  pub freeze_goes : (t : ℕ) (held : ℕ → ℕ) (levels : ℕ → Bool) (x : Freeze) (s : FreezeStep) (found : ℕ) (hook : HookAnswer) →
-      PhaseFits c t held levels (Phase.Freezes (at_freeze x s)) →
-      Fits c t (mounts_by (freeze_after x s found hook).1 held) (levels_by (freeze_after x s found hook).1 levels)
-      (phase_after (map_next Phase.Freezes (freeze_after x s found hook).0))
-  freeze_goes t held levels x s found hook f =
-      let same = freeze_moves x s found hook held levels in
-      let p = phase_after (map_next Phase.Freezes (freeze_after x s found hook).0) in
-      let h : Fits c t held levels p = next_fits t held levels x f.0 f.1 f.2 f.3 f.4 s found hook f.5 in
-      let g : Fits c t held (levels_by (freeze_after x s found hook).1 levels) p =
-      subst (λ k. Fits c t held k p) (sym same.2) h in
-      subst (λ k. Fits c t k (levels_by (freeze_after x s found hook).1 levels) p) (sym same.1) g
+  pub freeze_goes : (t : ℕ) (held : Holdings) (x : Freeze) (s : FreezeStep) (found : ℕ) (hook : HookAnswer) →
+      PhaseFits c t held (Phase.Freezes (at_freeze x s)) →
+      Fits c t (held_after (freeze_after x s found hook).1 held) (phase_after (map_next Phase.Freezes (freeze_after x s found hook).0))
+  freeze_goes t held x s found hook f =
+      subst (λ k. Fits c t k (phase_after (map_next Phase.Freezes (freeze_after x s found hook).0))) (sym (freeze_moves x s found hook held).1)
+      (next_fits t held x f.0 f.1 f.2 f.3 f.4 s found hook f.5)

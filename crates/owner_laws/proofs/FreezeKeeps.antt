@@ -3,16 +3,16 @@ use Rattle.std.{proofs.Common.{◌≡◌, ℕ, ◌<◌, refl, subst}, specs.Prel
 use Rattle.access_model.specs.declared.actions.Holder.{Holder}
 use Rattle.freeze_levels.specs.declared.freezes.{Freeze.Freeze, FreezeStep.FreezeStep}
 use Rattle.stage_laws.specs.Roles.{KnowsStage}
-use Rattle.gate_world.specs.{Fits.{Fits, PhaseFits}, Rules.{IsGood, Fitting, Stages}, Stages.{freeze_stage_role, stage_role_of}, Views.{held_at, holds_level}}
+use Rattle.gate_world.specs.{Fits.{Fits, PhaseFits}, Rules.{IsGood, Fitting, Stages}, Stages.{freeze_stage_role, stage_role_of}, Views.held_of}
 use Rattle.gate_world.specs.{Worlds.{World, after_step}, declared.{config.Config.Config, operations.Op.Op, work.Phase.Phase}}
-use Rattle.gate_frames.proofs.{Keeps.{none_agree, word_among, PhaseKeeps, OpKeeps}, Snapshots.completes_none}
+use Rattle.gate_frames.proofs.{Agreeing.none_agree, Keeps.{word_among, PhaseKeeps, OpKeeps}, Snapshots.completes_none}
 use Rattle.owner_laws.proofs.{FreezeCauses.{freeze_stays, freeze_own}, FreezeEvents.freeze_keeps, FreezeFits.{freeze_word, freeze_acts, freeze_goes}}
 use Rattle.owner_laws.proofs.{FreezeRuns.freeze_runs, FreezeTraces.{freeze_tells, freeze_short, freeze_restores}, FreezeWaits.freeze_waits}
 
 -- what a freeze says of its task's accesses, in a good world
 fits_here : (c : Config) (x : Freeze) (w : World) → IsGood c w → (t : ℕ) → t < c.tasks → (w.views t).phase ≡ Some (Phase.Freezes x) →
-    PhaseFits c t (held_at (w.views t)) (holds_level (w.views t)) (Phase.Freezes x)
-fits_here c x w good t lt e = subst (Fits c t (held_at (w.views t)) (holds_level (w.views t))) e (good Fitting t lt)
+    PhaseFits c t (held_of (w.views t)) (Phase.Freezes x)
+fits_here c x w good t lt e = subst (Fits c t (held_of (w.views t))) e (good Fitting t lt)
 
 stage_here : (c : Config) (x : Freeze) (w : World) → IsGood c w → (t : ℕ) → t < c.tasks → (w.views t).phase ≡ Some (Phase.Freezes x) →
     x.step ≡ FreezeStep.LoadsHolders → w.words.stage ≡ 4
@@ -25,11 +25,11 @@ freeze_phase c x = record {
   step = λ within w good t lt hook e. freeze_keeps c within w good t lt hook x e;
   runs = λ within w good t lt hook e. freeze_runs c within w good t lt hook x e;
   completes = λ within w good t lt hook e. completes_none c w t hook (Phase.Freezes x) (λ trace found. refl);
-  word = λ n le t lt held levels hook f. word_among c n le _ (freeze_word c x x.step hook f.5);
-  acts = λ within t held levels found hook f. freeze_acts x x.step held found hook;
-  goes = λ within t held levels found hook f. freeze_goes c within t held levels x x.step found hook f;
-  agrees = λ t f g h k mounts levels fits.
-      (fits.0, fits.1, fits.2, fits.3, rw (← none_agree c t f g h k mounts levels) fits.4, fits.5);
+  word = λ n le t lt held hook f. word_among c n le _ (freeze_word c x x.step hook f.5);
+  acts = λ within t held found hook f. freeze_acts x x.step held found hook;
+  goes = λ within t held found hook f. freeze_goes c within t held x x.step found hook f;
+  agrees = λ t held seen same fits.
+      (fits.0, fits.1, fits.2, fits.3, rw (← none_agree held.levels seen.levels same.levels) fits.4, fits.5);
   stays = λ w next earlier after t f e was quiet h. freeze_stays c t w next earlier after x x.step f.5 e was quiet h;
   causes = λ w earlier good t lt hook e after is h.
       freeze_own c t w (after_step w t (Phase.Freezes x) hook) earlier after x hook x.step (fits_here c x w good t lt e).5
@@ -40,14 +40,14 @@ freeze_phase c x = record {
 
 pub freeze_op : (c : Config) (holder : Holder) → OpKeeps c (Op.Freeze holder)
 freeze_op c holder = record {
-  fits = λ t held levels there order room. (refl, refl, refl, refl, order, tt);
+  fits = λ t held there order room. (refl, refl, refl, refl, order, tt);
   starts_idle = λ t. assumption;
   off_tree = λ t trace. refl;
   cause = λ t w earlier. tt;
-  order_agrees = λ f g h k mounts levels there. none_agree c 0 f g h k mounts levels;
-  room_agrees = λ f g mounts there. refl;
+  order_agrees = λ held seen same there. none_agree held.levels seen.levels same.levels;
+  room_agrees = λ held seen same there. refl;
   restores = λ refusal trace before order. freeze_restores holder refusal trace before;
-  file = λ t files own closed. tt;
+  file = λ t held order room. tt;
   tells = freeze_tells c holder;
   short = freeze_short c holder;
   most_small = λ within. tt;

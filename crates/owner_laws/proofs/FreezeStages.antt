@@ -18,7 +18,7 @@ use Rattle.holder_laws.specs.{Events.{Finds, Freezes as FreezesHolders, HoldsFir
 use Rattle.gate_world.specs.{Configs.{IsWithin, model_limits}, Fits.{Fits, PhaseFits, FreezeFits}, Holders.{freeze_holder_role, holder_role_of}}
 use Rattle.gate_world.specs.{Levels.{Stand, closed_to, freeze_stand}, Rules.{IsGood, Holds, Holding, Fitting, Stages, Tree, owns, OwnerHolds}}
 use Rattle.gate_world.specs.{Shown.{shown, holder_roles}, Stages.{freeze_stage_role, stage_role_of}}
-use Rattle.gate_world.specs.{Trees.{tree_bounds, tree_of, tree_role_of, tree_roles, freeze_tree_role}, Views.{held_at, holds_level, view_with}, Worlds.World}
+use Rattle.gate_world.specs.{Trees.{tree_bounds, tree_of, tree_role_of, tree_roles, freeze_tree_role}, Views.{held_of, view_with}, Worlds.World}
 use Rattle.gate_world.specs.declared.{config.Config.Config, views.View.View, work.Phase.Phase}
 use Rattle.gate_frames.proofs.{Cases.both, Frames.SameLevelCounts, Holders.{holders_at, holders_stay, holders_move, holders_after, nobody_minds}}
 use Rattle.gate_frames.proofs.{Stages.{IsStageEvent, stages_in, nobody_owns, owners_alike}, StandRoles.{closing_first, closing_next}}
@@ -45,11 +45,11 @@ module _ (c : Config) (lim : IsWithin c) (w : World) (good : IsGood c w) (t : �
 
   -- the step fits its task's accesses
   abbrev pub FitsHere : FreezeStep → Type 0
-  FitsHere s = PhaseFits c t (held_at (w.views t)) (holds_level (w.views t)) (Phase.Freezes (at_freeze x s))
+  FitsHere s = PhaseFits c t (held_of (w.views t)) (Phase.Freezes (at_freeze x s))
 
   -- so it does in a good world
   pub here_fits : (s : FreezeStep) → IsHere s → FitsHere s
-  here_fits s e = subst (Fits c t (held_at (w.views t)) (holds_level (w.views t))) e (good Fitting t lt)
+  here_fits s e = subst (Fits c t (held_of (w.views t))) e (good Fitting t lt)
 
   -- what it relies on of the stage is so
   pub here_knows : (s : FreezeStep) → IsHere s → KnowsStage w.words.stage w.words.sb (freeze_stage_role x.nodes s)
@@ -355,7 +355,7 @@ module _ (c : Config) (lim : IsWithin c) (w : World) (good : IsGood c w) (t : �
       elim (eqb_tells w.words.stage 0) [
         | inl h ↦ rw h.0 (loads hook WordName.Stage w.words.stage FreezeStep.LoadsStage FreezeStep.LoadsSuperblock e
             (FindsStage None None) refl refl refl refl refl tt
-            (record { held_same = refl; levels_same = refl; open_same = refl; added_same = refl; taken_same = refl })
+            (record { held_same = refl; added_same = refl; taken_same = refl })
             (record { held_same = refl; added_same = refl; taken_same = refl })
             (finds FreezeStep.LoadsStage e (view_at (WordName.Stage, Touch.Load) w.words.stage hook FreezeStep.LoadsSuperblock None)
             (FindsStage None None) w.words.stage 0
@@ -371,7 +371,7 @@ module _ (c : Config) (lim : IsWithin c) (w : World) (good : IsGood c w) (t : �
               (still FreezeStep.LoadsStage FreezeStep.LoadsHolders e WordName.Stage w.words.stage hook refl))
           | inr k ↦ rw (h.0, k.0)
               (loads hook WordName.Stage w.words.stage FreezeStep.LoadsStage (FreezeStep.Releases (Err GateError.Busy)) e Stays refl refl refl refl refl tt
-              (record { held_same = refl; levels_same = refl; open_same = refl; added_same = refl; taken_same = refl })
+              (record { held_same = refl; added_same = refl; taken_same = refl })
               (record { held_same = refl; added_same = refl; taken_same = refl })
               (stays_there c w good t lt w.words (view_at (WordName.Stage, Touch.Load) w.words.stage hook (FreezeStep.Releases (Err GateError.Busy)) None)
               (assumption)
@@ -466,7 +466,7 @@ module _ (c : Config) (lim : IsWithin c) (w : World) (good : IsGood c w) (t : �
       elim (eqb_tells w.words.sb 0) [
         | inl h ↦ rw h.0 (loads hook WordName.SbFlags w.words.sb FreezeStep.LoadsSuperblock FreezeStep.SetsWrite e
             (LoadsSb (Some 0) None) refl refl refl refl refl tt
-            (record { held_same = refl; levels_same = refl; open_same = refl; added_same = refl; taken_same = refl })
+            (record { held_same = refl; added_same = refl; taken_same = refl })
             (record { held_same = refl; added_same = refl; taken_same = refl })
             (finds FreezeStep.LoadsSuperblock e (view_at (WordName.SbFlags, Touch.Load) w.words.sb hook FreezeStep.SetsWrite None)
             (LoadsSb (Some 0) None) w.words.sb 0 h.1
@@ -474,7 +474,7 @@ module _ (c : Config) (lim : IsWithin c) (w : World) (good : IsGood c w) (t : �
             (still FreezeStep.LoadsSuperblock FreezeStep.SetsWrite e WordName.SbFlags w.words.sb hook refl))
         | inr h ↦ rw h.0 (loads hook WordName.SbFlags w.words.sb FreezeStep.LoadsSuperblock FreezeStep.CompletesReadOnly e
             (LoadsSb (Some 0) None) refl refl refl refl refl
-            tt (record { held_same = refl; levels_same = refl; open_same = refl; added_same = refl; taken_same = refl }) (assumption)
+            tt (record { held_same = refl; added_same = refl; taken_same = refl }) (assumption)
             (finds FreezeStep.LoadsSuperblock e (view_at (WordName.SbFlags, Touch.Load) w.words.sb hook FreezeStep.CompletesReadOnly None)
             (LoadsSb (Some 0) None) w.words.sb
             1 (omega (arith, h.1, (good Stages).superblock)) (λ n. Owning (Some 0) (Some n)) (ap stage_role_of e, refl) refl) refl

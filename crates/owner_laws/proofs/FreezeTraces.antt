@@ -2,7 +2,7 @@
 use Rattle.std.proofs.Common.{◌≡◌, ℕ, zero, suc, ◌+◌, ◌-◌, Bool, true, false, refl, sym, ap, ◌∙◌, subst, inl, inr, arith}
 use Rattle.std.proofs.lemmas.{Bool.{eq-eqb, ne_eqb, cases_Bool, Decides.eqb_tells}, Nat.Bits.and_pow}
 use Rattle.std.specs.Prelude.{◌==◌, ◌||◌, nat_lt, if◌then◌else◌, Option, Result, Ok, Err, List, [], ◌∷◌, ◌++◌, bit_and}
-use Rattle.access_model.specs.{Histories.{mounts_of, levels_of, opens_of}, Holders.nobody, Replies.map_next}
+use Rattle.access_model.specs.{Holders.nobody, Replies.map_next}
 use Rattle.access_model.specs.declared.{actions.{Action.Action, Holder.Holder}, errors.GateError.GateError, replies.{Next.Next, Reply.Reply}}
 use Rattle.cpu_words.specs.{Hooks.HookAnswer, Touches.{event_of, found_by}, declared.{events.Touch.Touch, names.WordName.WordName}}
 use Rattle.gated_tree.specs.{Nodes.{dirty_in, node_after}, Phases.clears_at, declared.marks.ClearMarks.ClearMarks}
@@ -375,43 +375,11 @@ pub freeze_short : (c : Config) (holder : Holder) → IsWithin c → (t : ℕ) (
     IsShort (most_events c (Op.Freeze holder)) trace
 freeze_short c holder lim t trace h = is_short (FreezeAt c t holder) c t (Op.Freeze holder) (freeze_kept c lim t holder) trace h
 
--- what a freeze has added whose file system has failed leaves each access and each level as it was
-failed_leaves : (holder : Holder) (code : ℕ) (trace : List Traced) (before : List Action) →
-    LeaveAccesses (actions_of (Op.Freeze holder) (Err (GateError.Hook code)) trace) before
-failed_leaves holder code trace before =
-    let closed : LeaveAccesses (two_levels_closed trace) before =
-    cleans_leave trace (Action.Pass 2 ∷ (Action.Stage 2 ∷ (Action.Pass 1 ∷ (Action.Stage 1 ∷ [])))) before (refl, refl) in
-    elim (cases_Bool (stored_stage 3 trace)) [ inl f ↦ rw f closed | inr f ↦ rw f closed ]
-
--- nor is clearing a mark an open or a close, on top of actions that leave each open file
-pub clean_open : (word : WordName) (touch : Touch) (found : ℕ) (actions rest before : List Action) →
-    opens_of ((actions ++ rest) ++ before) ≡ opens_of before →
-    opens_of ((clean_found word touch found actions ++ rest) ++ before) ≡ opens_of before
-clean_open (WordName.Node n) (Touch.And mask) found actions rest before h =
-    elim (cases_Bool (has_flag found 4)) [ inl f ↦ rw f h | inr f ↦ rw f h ]
-clean_open word touch found actions rest before h = h
-
--- so is clearing each mark of a trace
-pub cleans_open : (trace : List Traced) (rest before : List Action) → opens_of (rest ++ before) ≡ opens_of before →
-    opens_of ((cleans trace ++ rest) ++ before) ≡ opens_of before
-cleans_open [] rest before h = h
-cleans_open (e ∷ earlier) rest before h =
-    clean_open e.event.word e.event.touch e.event.found (cleans earlier) rest before (cleans_open earlier rest before h)
-
--- so each open file is as it was where the file system has failed
-failed_open : (holder : Holder) (code : ℕ) (trace : List Traced) (before : List Action) →
-    opens_of (actions_of (Op.Freeze holder) (Err (GateError.Hook code)) trace ++ before) ≡ opens_of before
-failed_open holder code trace before =
-    let closed : opens_of (two_levels_closed trace ++ before) ≡ opens_of before =
-    cleans_open trace (Action.Pass 2 ∷ (Action.Stage 2 ∷ (Action.Pass 1 ∷ (Action.Stage 1 ∷ [])))) before refl in
-    elim (cases_Bool (stored_stage 3 trace)) [ inl f ↦ rw f closed | inr f ↦ rw f closed ]
-
--- so does what a freeze has added where it is refused
+-- what a freeze has added where it is refused leaves what its task held
 pub freeze_restores : (holder : Holder) (refusal : GateError) (trace : List Traced) (before : List Action) →
-    (mounts_of (actions_of (Op.Freeze holder) (Err refusal) trace ++ before) ≡ mounts_of before) ×
-    (levels_of (actions_of (Op.Freeze holder) (Err refusal) trace ++ before) ≡ levels_of before) ×
-    (opens_of (actions_of (Op.Freeze holder) (Err refusal) trace ++ before) ≡ opens_of before)
+    LeaveAccesses (actions_of (Op.Freeze holder) (Err refusal) trace) before
 freeze_restores holder (GateError.Hook code) trace before =
-    let leaves : LeaveAccesses (actions_of (Op.Freeze holder) (Err (GateError.Hook code)) trace) before = failed_leaves holder code trace before in
-    (leaves.0, leaves.1, failed_open holder code trace before)
-freeze_restores holder refusal trace before = (refl, refl, refl)
+    let closed : LeaveAccesses (two_levels_closed trace) before =
+    cleans_leave trace (Action.Pass 2 ∷ (Action.Stage 2 ∷ (Action.Pass 1 ∷ (Action.Stage 1 ∷ [])))) before refl in
+    elim (cases_Bool (stored_stage 3 trace)) [ inl f ↦ rw f closed | inr f ↦ rw f closed ]
+freeze_restores holder refusal trace before = refl

@@ -27,7 +27,7 @@ use Rattle.gate_world.specs.{Configs.IsWithin, Fits.PhaseFits, Levels.is_frozen_
 use Rattle.gate_world.specs.Remounts.{loop_role, remount_role, AllBelow, giving_role, remount_owns, held_role, RemountFits, remount_sets}
 use Rattle.gate_world.specs.Rules.{Owner, Stages, Tree, AtMount, IsGood, at_mount, Holds, StepKeeps, MountHoldsIn, remounts, owns, role_of, Part, marks_of}
 use Rattle.gate_world.specs.{Shown.shown, Stages.{stage_role_of, remount_stage_role}, Trees.{tree_bounds, tree_of, tree_roles, remount_tree_role, is_bare_at}}
-use Rattle.gate_world.specs.{Views.{held_at, holds_level, has_open, view_with}, Worlds.World}
+use Rattle.gate_world.specs.{Holdings.holdings_of, Views.{actions_after, held_at, held_of, view_with}, Worlds.World}
 use Rattle.gate_world.specs.declared.{config.Config.Config, views.View.View, work.Phase.Phase}
 use Rattle.gate_frames.proofs.{Beside.update_twice, Frames.{left_alone, owner_same}, Loads.{steady, after_load}, MountEvents.is_known_part}
 use Rattle.gate_frames.proofs.{Owners.{remount_stands, no_remount, locks_umount, releases_umount}, Stages.{stages_in, nobody_owns}}
@@ -80,7 +80,7 @@ module _ (c : Config) (lim : IsWithin c) (w : World) (good : IsGood c w) (t : �
   Keeps hook s = RemountKeeps c w t hook (Phase.Remounts (at_remount x s))
 
   abbrev FitsHere : RemountStep → Type 0
-  FitsHere s = PhaseFits c t (held_at (w.views t)) (holds_level (w.views t)) (Phase.Remounts (at_remount x s))
+  FitsHere s = PhaseFits c t (held_of (w.views t)) (Phase.Remounts (at_remount x s))
 
   -- at a mount that is held at a sum of 0, or was found read-only, `remount` may stand, and then the mount is left where it isn't held
   vacated : (held : MountSet) (e : IsHere (RemountStep.SetsRemount held)) (m : ℕ) (lm : m < c.mounts) (a : Bool) →
@@ -148,7 +148,7 @@ module _ (c : Config) (lim : IsWithin c) (w : World) (good : IsGood c w) (t : �
       let mid : TreeState = record (turned (tree_of w) t OffTree) { bare = 1 } in
       let after : PartsHold c w good t lt x s e (record w.words { remount = 1 }) v ×
       (shown c (record { words = record w.words { remount = 1 }; views = update w.views t v }) ≡ record (shown c w) { sb_ro = true }) =
-      stores c w good t lt x s e refl (let_go held) v refl (refl, refl, refl, refl, refl, refl, refl)
+      stores c w good t lt x s e refl (let_go held) v refl (refl, refl, refl, refl, refl)
       (f.0, f.1, f.2, f.3, f.4, let_go_fits c lim held f.5) 1 w.words.sb true (Clearing 1) refl (let_go_stays x.nodes held)
       (tree_by_two c w good t lt x s e lim (record w.words { remount = 1 }) v (Clearing 1) (let_go_stays x.nodes held).2 mid None
       (GoesBare (tree_was c w good t lt x s e))
@@ -179,7 +179,7 @@ module _ (c : Config) (lim : IsWithin c) (w : World) (good : IsGood c w) (t : �
       let v : View = view_with (w.views t) (WordName.MountFlags m, Touch.And 18446744073709551613) (w.words.flags m) hook
       (Next.Go (Phase.Remounts (at_remount x s')), None) in
       let r : role_of m (w.views t).phase ≡ remount_role m s = role_was c w good t lt x s e m in
-      flags_change c w good t lt x s e o s' v refl (refl, refl, refl, refl, refl, refl, refl) (f.0, f.1, f.2, f.3, f.4, fit) m
+      flags_change c w good t lt x s e o s' v refl (refl, refl, refl, refl, refl) (f.0, f.1, f.2, f.3, f.4, fit) m
       (without_hold (w.words.flags m)) stays on (and_not_hold (w.words.flags m) g.bits).1
       (λ lm. subst (Mount c w good t lt x s e m (without_hold (w.words.flags m)) w.words.remount w.words.sb) (sym out)
       (mount_clears_hold g t lt (subst SeeksNone (sym r) (remount_seeks m s)) (ap has_hold r ∙ one)))
@@ -234,7 +234,7 @@ module _ (c : Config) (lim : IsWithin c) (w : World) (good : IsGood c w) (t : �
       let bares : is_bare_at w.words ≡ is_bare_at (record w.words { sb = 1 }) = rw (eq-eqb w.words.remount 1 set) refl in
       let v : View = view_with (w.views t) (WordName.SbFlags, Touch.Store 1) w.words.sb (Ok answer)
       (Next.Go (Phase.Remounts (at_remount x RemountStep.ClearsRemount)), None) in
-      stores c w good t lt x s e refl RemountStep.ClearsRemount v refl (refl, refl, refl, refl, refl, refl, refl) (f.0, f.1, f.2, f.3, f.4, tt)
+      stores c w good t lt x s e refl RemountStep.ClearsRemount v refl (refl, refl, refl, refl, refl) (f.0, f.1, f.2, f.3, f.4, tt)
       w.words.remount 1
       (w.words.remount == 1 || w.words.sb == 1) OffTree (not_frozen w.words w.words.remount 1 k.0) (refl, sym set, refl)
       (tree_by c w good t lt x s e lim (record w.words { sb = 1 }) v OffTree refl None
@@ -255,7 +255,7 @@ module _ (c : Config) (lim : IsWithin c) (w : World) (good : IsGood c w) (t : �
       let mid : TreeState = turned (tree_of w) t OffTree in
       let after : PartsHold c w good t lt x s e (record w.words { remount = 0 }) v ×
       (shown c (record { words = record w.words { remount = 0 }; views = update w.views t v }) ≡ record (shown c w) { sb_ro = false }) =
-      stores c w good t lt x s e refl s' v refl (refl, refl, refl, refl, refl, refl, refl) (f.0, f.1, f.2, f.3, f.4, tt) 0 w.words.sb false
+      stores c w good t lt x s e refl s' v refl (refl, refl, refl, refl, refl) (f.0, f.1, f.2, f.3, f.4, tt) 0 w.words.sb false
       OffTree refl (refl, refl, refl)
       (tree_by_two c w good t lt x s e lim (record w.words { remount = 0 }) v OffTree refl mid None
       (Leaves (no_charge x.nodes (tree_roles w t) (tree_was c w good t lt x s e)))
@@ -274,7 +274,7 @@ module _ (c : Config) (lim : IsWithin c) (w : World) (good : IsGood c w) (t : �
       let set : w.words.remount ≡ 1 = remount_stands c w good t lt (ap remounts e) in
       let s' : RemountStep = RemountStep.Releases (Ok Reply.Unit) in
       let v : View = view_with (w.views t) (WordName.Remount, Touch.Store 0) w.words.remount hook (Next.Go (Phase.Remounts (at_remount x s')), None) in
-      stores c w good t lt x s e refl s' v refl (refl, refl, refl, refl, refl, refl, refl) (f.0, f.1, f.2, f.3, f.4, tt) 0 w.words.sb
+      stores c w good t lt x s e refl s' v refl (refl, refl, refl, refl, refl) (f.0, f.1, f.2, f.3, f.4, tt) 0 w.words.sb
       (w.words.remount == 1 || w.words.sb == 1) OffTree refl (refl, refl, refl)
       (tree_stays c w good t lt x s e (record w.words { remount = 0 }) v refl refl refl refl refl
       (rw (eq-eqb w.words.remount 1 set, eq-eqb w.words.sb 1 k.1) refl) refl)
@@ -291,7 +291,7 @@ module _ (c : Config) (lim : IsWithin c) (w : World) (good : IsGood c w) (t : �
       PartsHold c w good t lt x s e ws v × (shown c (record { words = ws; views = update w.views t v }) ≡ shown c w)
   gives_back hook s e answer o r role tree stage sb owning =
       let v : View = view_with (w.views t) (WordName.Umount, Touch.Store 0) w.words.umount hook (Next.Done answer, None) in
-      umount_changes c w good t lt x s e 0 v (refl, refl, refl, refl, refl, refl, refl) tt
+      umount_changes c w good t lt x s e 0 v (refl, refl, refl, refl, refl) tt
       (releases_umount c w good t lt v (ap owns e ∙ o) refl (sym (ap remounts e ∙ r)))
       (stage_holds c w good t lt x s e (record w.words { umount = 0 }) v (ReleasesStage stage sb) (ap stage_role_of e ∙ owning, refl))
       (record { counts_not = λ i. refl; apart = λ i. refl; outside = refl }) (λ m. sym (role m)) (sym tree) (λ i. refl) refl refl
@@ -313,7 +313,7 @@ module _ (c : Config) (lim : IsWithin c) (w : World) (good : IsGood c w) (t : �
       let mid : TreeState = record (tree_of w) { sealed = sealed_by 0 w.words.stage; at = update (tree_roles w) t OffTree } in
       let after : PartsHold c w good t lt x s e (record w.words { sb = 0 }) v ×
       (shown c (record { words = record w.words { sb = 0 }; views = update w.views t v }) ≡ record (shown c w) { sb_ro = false }) =
-      stores c w good t lt x s e refl s' v refl (refl, refl, refl, refl, refl, refl, refl) (f.0, f.1, f.2, f.3, f.4, tt) w.words.remount 0 false
+      stores c w good t lt x s e refl s' v refl (refl, refl, refl, refl, refl) (f.0, f.1, f.2, f.3, f.4, tt) w.words.remount 0 false
       OffTree (not_frozen w.words w.words.remount 0 k.0) (refl, omega (arith, clear, (good Owner).bit), refl)
       (tree_by_two c w good t lt x s e lim (record w.words { sb = 0 }) v OffTree refl mid None
       (opens (tree_bounds c) (tree_of w) t (sealed_by 0 w.words.stage) OffTree (sealed_writable w.words.stage k.0)
@@ -341,22 +341,15 @@ module _ (c : Config) (lim : IsWithin c) (w : World) (good : IsGood c w) (t : �
       let left : Words = record w.words { node = update w.words.node n (without_mark word) } in
       let then : TreeState = tree_where c w good t lt x s e left (Clearing (suc n)) in
       let event : (action : Option Action) → TreeEvent (tree_bounds c) (tree_of w) t then action →
-      held_at (view_with (w.views t) (WordName.Node n, Touch.And 18446744073709551611) word hook
-      (Next.Go (Phase.Remounts (at_remount x s')), action)) ≡ held_at (w.views t) →
-      holds_level (view_with (w.views t) (WordName.Node n, Touch.And 18446744073709551611) word hook (Next.Go (Phase.Remounts (at_remount x s')), action)) ≡
-      holds_level (w.views t) →
-      has_open (view_with (w.views t) (WordName.Node n, Touch.And 18446744073709551611) word hook (Next.Go (Phase.Remounts (at_remount x s')), action)) ≡
-      has_open (w.views t) →
+      holdings_of (actions_after action (w.views t).actions) ≡ held_of (w.views t) →
       let v : View = view_with (w.views t) (WordName.Node n, Touch.And 18446744073709551611) word hook (Next.Go (Phase.Remounts (at_remount x s')), action) in
       let ws : Words = record w.words { node = update w.words.node n (without_mark word) } in
       PartsHold c w good t lt x s e ws v × (shown c (record { words = ws; views = update w.views t v }) ≡
       record (shown c w) { tree = update (λ k. node_shown (w.words.node k)) n (node_shown (without_mark word)) }) =
-      λ action happens held levels files.
+      λ action happens held.
       let v : View = view_with (w.views t) (WordName.Node n, Touch.And 18446744073709551611) word hook (Next.Go (Phase.Remounts (at_remount x s')), action) in
-      node_changes c w good t lt x s e refl s' v refl (held, levels, refl, refl, refl, refl, files)
-      (subst (λ h. PhaseFits c t h (holds_level v) (Phase.Remounts (at_remount x s'))) (sym held)
-      (subst (λ h. PhaseFits c t (held_at (w.views t)) h (Phase.Remounts (at_remount x s'))) (sym levels)
-      (f.0, f.1, f.2, f.3, f.4, past_node_fits c x.nodes n f.3)))
+      node_changes c w good t lt x s e refl s' v refl (held, refl, refl, refl, refl)
+      (subst (λ h. PhaseFits c t h (Phase.Remounts (at_remount x s'))) (sym held) (f.0, f.1, f.2, f.3, f.4, past_node_fits c x.nodes n f.3))
       n (without_mark word) (Clearing (suc n)) (past_node_stays x.nodes n below) (clears_mark word node.packed).opens
       (tree_by c w good t lt x s e lim left v (Clearing (suc n)) (past_node_stays x.nodes n below).2 action happens)
       (stage_holds c w good t lt x s e left v (ClearsMarkReadOnly 0 n) (
@@ -373,10 +366,10 @@ module _ (c : Config) (lim : IsWithin c) (w : World) (good : IsGood c w) (t : �
             let happens : TreeEvent (tree_bounds c) (tree_of w) t then (Some (Action.Clean n)) =
             Clears n (inr (nobody_reads c w good (λ q. omega (arith, k.0, q)))) was f.5.1 marked in
             rw h (
-              (event (Some (Action.Clean n)) happens refl refl refl).0,
+              (event (Some (Action.Clean n)) happens refl).0,
               (
                 (lt, (f.5.1, after.0, inr (inr (rw (eq-eqb w.words.remount 1 set) refl)))),
-                (event (Some (Action.Clean n)) happens refl refl refl).1 ∙
+                (event (Some (Action.Clean n)) happens refl).1 ∙
                     (λ j. record (shown c w) { tree = update (λ k. node_shown (w.words.node k)) n (after.1 j) }),
               ),
             )
@@ -385,8 +378,8 @@ module _ (c : Config) (lim : IsWithin c) (w : World) (good : IsGood c w) (t : �
             let happens : TreeEvent (tree_bounds c) (tree_of w) t then None =
             Passes n was f.5.1 (mark_clear word h) in
             rw h (
-              (event None happens refl refl refl).0,
-              (event None happens refl refl refl).1 ∙
+              (event None happens refl).0,
+              (event None happens refl).1 ∙
                   (λ j. record (shown c w) {
                     tree = (ap (λ y. update (λ k. node_shown (w.words.node k)) n (node_shown y)) clean ∙
                         update_same (λ k. node_shown (w.words.node k)) n) j;
@@ -416,14 +409,14 @@ module _ (c : Config) (lim : IsWithin c) (w : World) (good : IsGood c w) (t : �
       elim (eqb_tells w.words.umount 0) [
         | inl h ↦ rw h.0 (
             let v : View = tried hook (x.task + 1) RemountStep.LoadsStage in
-            umount_changes c w good t lt x RemountStep.Locks e (x.task + 1) v (refl, refl, refl, refl, refl, refl, refl) f
+            umount_changes c w good t lt x RemountStep.Locks e (x.task + 1) v (refl, refl, refl, refl, refl) f
             (locks_umount c w good t lt (x.task + 1) v h.1 (omega (arith, f.0)) refl (sym (ap remounts e)))
             (stage_holds c w good t lt x RemountStep.Locks e (record w.words { umount = x.task + 1 }) v LocksStage
             (ap stage_role_of e, nobody_owns c w good h.1, refl))
             (record { counts_not = λ i. refl; apart = λ i. refl; outside = refl }) (λ m. refl) refl (λ i. refl) refl refl)
         | inr h ↦ rw h.0 (
             let v : View = tried hook w.words.umount RemountStep.Locks in
-            umount_changes c w good t lt x RemountStep.Locks e w.words.umount v (refl, refl, refl, refl, refl, refl, refl) f
+            umount_changes c w good t lt x RemountStep.Locks e w.words.umount v (refl, refl, refl, refl, refl) f
             (owner_same c w t lt good v (steady e (record { owns_same = refl; remounts_same = refl; closing_same = λ i. refl })))
             (still_aside hook e) (record { counts_not = λ i. refl; apart = λ i. refl; outside = refl }) (λ m. refl) refl (λ i. refl) refl refl)
       ]

@@ -10,7 +10,7 @@ use Rattle.mount_counts.specs.Remounts.{at_remount}
 use Rattle.mount_counts.specs.Sets.{no_mounts, without_lowest, with_mount, lowest, has_mount}
 use Rattle.mount_counts.specs.declared.{remounts.{Remount.Remount, RemountStep.RemountStep}, sets.MountSet.MountSet}
 use Rattle.mount_laws.proofs.Sets.{leaves_within, joins_within, joins_there, none_held, leaves_here, lowest_held, leaves_there}
-use Rattle.gate_world.specs.{Configs.{IsWithin, extents_of}, Fits.{ActionFits, mounts_by, PhaseFits, levels_by, Fits}, Remounts.{AllBelow, RemountFits}}
+use Rattle.gate_world.specs.{Configs.{IsWithin, extents_of}, Fits.{ActionFits, PhaseFits, Fits}, Holdings.{Holdings, held_after}, Remounts.{AllBelow, RemountFits}}
 use Rattle.gate_world.specs.{Views.phase_after, declared.{config.Config.Config, work.Phase.Phase}}
 use Rattle.gate_frames.proofs.Keeps.{by_bool}
 
@@ -98,7 +98,7 @@ module _ (c : Config) where
               (give_up_fits m (with_mount held m) lm (j.0, λ n q. omega (arith, j.1 n q, lm))))
         ]
 
-    module _ (t : ℕ) (held : ℕ → ℕ) (levels : ℕ → Bool) where
+    module _ (t : ℕ) (held : Holdings) where
       pub remount_acts : (x : Remount) (s : RemountStep) (found : ℕ) (hook : HookAnswer) → ActionFits held (remount_after x s found hook).1
       remount_acts x RemountStep.SetsWritable found (Ok answer) = tt
       remount_acts x RemountStep.SetsWritable found (Err code) = tt
@@ -110,19 +110,18 @@ module _ (c : Config) where
 
       -- what comes after an event fits
       abbrev NextFits : Next Remount → Type 0
-      NextFits next = Fits c t held levels (phase_after (map_next Phase.Remounts next))
+      NextFits next = Fits c t held (phase_after (map_next Phase.Remounts next))
 
       -- a cleaned node leaves the accesses
-      cleans_none : (n : ℕ) (b : Bool) (p : Option Phase) → Fits c t held levels p →
-          Fits c t (mounts_by (if b then Some (Action.Clean n) else None) held) (levels_by (if b then Some (Action.Clean n) else None) levels) p
+      cleans_none : (n : ℕ) (b : Bool) (p : Option Phase) → Fits c t held p →
+          Fits c t (held_after (if b then Some (Action.Clean n) else None) held) p
       cleans_none n true p f = f
       cleans_none n false p f = f
 
       -- what comes after each event of a remount fits
       pub remount_goes : (x : Remount) (s : RemountStep) (found : ℕ) (hook : HookAnswer) →
-          PhaseFits c t held levels (Phase.Remounts (at_remount x s)) →
-          Fits c t (mounts_by (remount_after x s found hook).1 held) (levels_by (remount_after x s found hook).1 levels)
-          (phase_after (map_next Phase.Remounts (remount_after x s found hook).0))
+          PhaseFits c t held (Phase.Remounts (at_remount x s)) →
+          Fits c t (held_after (remount_after x s found hook).1 held) (phase_after (map_next Phase.Remounts (remount_after x s found hook).0))
       remount_goes x RemountStep.Locks found hook f =
           by_bool (found == 0) (λ b. NextFits (if b then Next.Go (at_remount x RemountStep.LoadsStage) else Next.Wait (at_remount x RemountStep.Locks))) f f
       remount_goes x RemountStep.LoadsStage found hook f =

@@ -13,7 +13,7 @@ use Rattle.mount_laws.proofs.MountLaws.{sets_hold as mount_sets_hold, is_skipped
 use Rattle.mount_laws.proofs.Sets.{joins_here, joins_there}
 use Rattle.stage_laws.specs.{Events.IsAlike, Roles.{Remounting, CleanBelow}}
 use Rattle.gate_world.specs.{Configs.IsWithin, Fits.PhaseFits, Remounts.{giving_role, loop_role, AllBelow, remount_role}}
-use Rattle.gate_world.specs.{Rules.{AtMount, IsGood, MountHoldsIn, role_of, owns, marks_of}, Stages.remount_stage_role, Views.{held_at, holds_level, view_with}}
+use Rattle.gate_world.specs.{Rules.{AtMount, IsGood, MountHoldsIn, role_of, owns, marks_of}, Stages.remount_stage_role, Views.{held_of, view_with}}
 use Rattle.gate_world.specs.{Worlds.World, declared.{config.Config.Config, views.View.View, work.Phase.Phase}}
 use Rattle.gate_frames.proofs.{Keeps.by_bool, Owners.no_hold}
 use Rattle.owner_laws.proofs.RemountFits.{joins_below, past_mount_fits, give_up_fits}
@@ -108,7 +108,7 @@ module _ (c : Config) (lim : IsWithin c) (w : World) (good : IsGood c w) (t : �
   Keeps s = RemountKeeps c w t hook (Phase.Remounts (at_remount x s))
 
   abbrev FitsHere : RemountStep → Type 0
-  FitsHere s = PhaseFits c t (held_at (w.views t)) (holds_level (w.views t)) (Phase.Remounts (at_remount x s))
+  FitsHere s = PhaseFits c t (held_of (w.views t)) (Phase.Remounts (at_remount x s))
 
   not_yet : (m : ℕ) (held : MountSet) → AllBelow m held → has_mount held m ≡ false
   not_yet m held h = elim (cases_Bool (has_mount held m)) [ inl q ↦ absurd (omega (arith, h.1 m q)) | inr q ↦ q ]
@@ -159,7 +159,7 @@ module _ (c : Config) (lim : IsWithin c) (w : World) (good : IsGood c w) (t : �
       let clear : hold_bit (w.words.flags m) ≡ 0 = no_hold c w good t lt m f.5.0 (ap owns e) (ap has_hold was) in
       let v : View = view_with (w.views t) (WordName.MountFlags m, Touch.Or 2) (w.words.flags m) hook
       (Next.Go (Phase.Remounts (at_remount x (RemountStep.Sums m held sum))), None) in
-      flags_change c w good t lt x s e refl (RemountStep.Sums m held sum) v refl (refl, refl, refl, refl, refl, refl, refl)
+      flags_change c w good t lt x s e refl (RemountStep.Sums m held sum) v refl (refl, refl, refl, refl, refl)
       (f.0, f.1, f.2, f.3, f.4, (f.5.0, f.5.1, lim.some_processor)) m word (refl, refl, refl)
       (loop_on x.nodes w.words.stage w.words.sb (marks_of w.words) k.0 k.1) (or_hold (w.words.flags m) g.bits).1
       (λ lm. subst (Mount c w good t lt x s e m word w.words.remount w.words.sb)

@@ -19,9 +19,9 @@ use Rattle.gate_world.specs.Rules.{Owner, Stages, Holding, Tree, Fitting, Known,
 use Rattle.gate_world.specs.Rules.{IsSteady, OwnerHolds, remounts, Moves, AtLevel, SyncAt, Sections, marks_of, Files}
 use Rattle.gate_world.specs.{Shown.{shown, closing}, Stages.{stage_role_of, remount_stage_role}}
 use Rattle.gate_world.specs.Trees.{tree_bounds, tree_of, tree_role_of, tree_roles, is_sealed, is_bare_at, remount_tree_role}
-use Rattle.gate_world.specs.Views.{phase_after, held_at, holds_level, added_by, taken_by, view_with, has_open}
+use Rattle.gate_world.specs.{Holdings.Holdings, Views.{phase_after, held_of, added_by, taken_by, view_with, has_open}}
 use Rattle.gate_world.specs.{Worlds.{World, value_at, after_step, phase_action}, declared.{config.Config.Config, views.View.View, work.Phase.Phase}}
-use Rattle.gate_frames.proofs.Frames.{opens_left, left_alone, holds_as, owner_same, view_as, shown_as, shown_still, added_load, taken_load, SameLevelCounts}
+use Rattle.gate_frames.proofs.Frames.{opens_left, left_alone, holds_as, owner_same, view_as, shown_held, shown_still, added_load, taken_load, SameLevelCounts}
 use Rattle.gate_frames.proofs.Frames.{IsOffLevels, SameLevelWords, level_left, sync_left, sections_left}
 use Rattle.gate_frames.proofs.{Holders.holders_stay, Known.{IsOwnersWork, known_after}, Loads.{steady, after_load}}
 use Rattle.gate_frames.proofs.{MountEvents.{is_known_part, known_is, level_added_load, level_taken_load}, Owners.remount_stored}
@@ -101,8 +101,8 @@ remount_closes_none i nodes s = refl
 
 module _ (c : Config) (w : World) (good : IsGood c w) (t : ℕ) (lt : t < c.tasks) (x : Remount) (s : RemountStep)
     (e : (w.views t).phase ≡ Some (Phase.Remounts (at_remount x s))) where
-  pub here_fits : PhaseFits c t (held_at (w.views t)) (holds_level (w.views t)) (Phase.Remounts (at_remount x s))
-  here_fits = subst (Fits c t (held_at (w.views t)) (holds_level (w.views t))) e (good Fitting t lt)
+  pub here_fits : PhaseFits c t (held_of (w.views t)) (Phase.Remounts (at_remount x s))
+  here_fits = subst (Fits c t (held_of (w.views t))) e (good Fitting t lt)
 
   -- what its step relies on is so
   pub here_knows : KnowsStage w.words.stage w.words.sb (remount_stage_role x.nodes s)
@@ -133,13 +133,12 @@ module _ (c : Config) (w : World) (good : IsGood c w) (t : ℕ) (lt : t < c.task
 
   -- the view counts what it counted, and holds what it held
   abbrev pub SameCounts : View → Type 0
-  SameCounts v = (held_at v ≡ held_at (w.views t)) × (holds_level v ≡ holds_level (w.views t)) ×
-      (added_by v.events ≡ added_by (w.views t).events) × (taken_by v.events ≡ taken_by (w.views t).events) ×
-      (level_added_by v.events ≡ level_added_by (w.views t).events) × (level_taken_by v.events ≡ level_taken_by (w.views t).events) ×
-      (has_open v ≡ has_open (w.views t))
+  SameCounts v = (held_of v ≡ held_of (w.views t)) × (added_by v.events ≡ added_by (w.views t).events) ×
+      (taken_by v.events ≡ taken_by (w.views t).events) × (level_added_by v.events ≡ level_added_by (w.views t).events) ×
+      (level_taken_by v.events ≡ level_taken_by (w.views t).events)
 
   at_levels : (v : View) → SameCounts v → SameLevelCounts (w.views t) v
-  at_levels v same = record { held_same = same.1; added_same = same.4; taken_same = same.5 }
+  at_levels v same = record { held_same = ap (λ (h : Holdings). h.levels) same.0; added_same = same.3; taken_same = same.4 }
 
   off_now : IsOffLevels (w.views t).phase
   off_now = subst IsOffLevels (sym e) (record { counts_not = λ i. refl; apart = λ i. refl; outside = refl })
@@ -221,14 +220,14 @@ module _ (c : Config) (w : World) (good : IsGood c w) (t : ℕ) (lt : t < c.task
   each_part ws v same levels off ec opens none tree owner stage holding fits own Known k = absurd (true≢false k)
   each_part ws v same levels off ec opens none tree owner stage holding fits own Tree k = tree
   each_part ws v same levels off ec opens none tree owner stage holding fits own Files k = record {
-    counted = λ n ln. opens n ∙ (good Files).counted n ln ∙ sym (ap (λ f. openers f n) (opens_left c w t lt v same.6));
+    counted = λ n ln. opens n ∙ (good Files).counted n ln ∙ sym (ap (λ f. openers f n) (opens_left c w t lt v (ap (λ (h : Holdings). h.files) same.0)));
     own = λ y ly. each_updated (λ z (u : View). HasFile (has_open u) (file_of u.phase)) w.views t v y
         (subst (HasFile (has_open v)) (sym none) tt) (λ ne. (good Files).own y ly);
   }
   each_part ws v same levels off ec opens none tree owner stage holding fits own (AtMount m) k = λ lm.
       holds_as refl refl refl (ap (λ f. f m) ec)
       (update_map (at_mount m) w.views t v ∙ ap (update (λ y. at_mount m (w.views y)) t)
-      (view_as (ap (λ g. g m) same.0) (ap (λ g. g m) same.2) (ap (λ g. g m) same.3) refl)) (own m lm)
+      (view_as (ap (λ (h : Holdings). h.mounts m) same.0) (ap (λ g. g m) same.1) (ap (λ g. g m) same.2) refl)) (own m lm)
   each_part ws v same levels off ec opens none tree owner stage holding fits own (AtLevel i) k =
       level_left c w t lt good ws v levels (at_levels v same) off_now off i
   each_part ws v same levels off ec opens none tree owner stage holding fits own (SyncAt i) k =
@@ -243,11 +242,8 @@ module _ (c : Config) (w : World) (good : IsGood c w) (t : ℕ) (lt : t < c.task
       (ws.remount == 1 || ws.sb == 1) ≡ b →
       shown c (record { words = ws; views = update w.views t v }) ≡ record (shown c w) { sb_ro = b }
   seal_shown ws v b eb ef es eo en ec same h =
-      shown_as c w t lt ws v eb ec ∙
+      shown_held c w t lt ws v eb ec same.0 ∙
       (λ j. record (shown c w) {
-        mounts = (ap (update (λ y. held_at (w.views y)) t) same.0 ∙ update_same (λ y. held_at (w.views y)) t) j;
-        levels = (ap (update (λ y. holds_level (w.views y)) t) same.1 ∙ update_same (λ y. holds_level (w.views y)) t) j;
-        opens = (ap (update (λ y. has_open (w.views y)) t) same.6 ∙ update_same (λ y. has_open (w.views y)) t) j;
         mount_ro = ef j;
         sb_ro = h j;
         stage = es j;
@@ -292,7 +288,7 @@ module _ (c : Config) (w : World) (good : IsGood c w) (t : ℕ) (lt : t < c.task
               refl (λ n. refl) (ap file_of is) tree (owner_same c w t lt good v still) stage
               (holding_then w.words refl refl) fits
               (λ m lm. subst (Mount m (w.words.flags m) w.words.remount w.words.sb) (sym (ap (role_of m) is)) (own m lm)),
-          shown_still c w t lt w.words v refl refl refl refl refl refl refl still.closing_same same.0 same.1 same.6,
+          shown_still c w t lt w.words v refl refl refl refl refl refl refl still.closing_same same.0,
         )
 
     -- an event on the flags of one mount, which leaves READONLY
@@ -360,13 +356,7 @@ module _ (c : Config) (w : World) (good : IsGood c w) (t : ℕ) (lt : t < c.task
               refl opens (ap file_of is) tree (owner_same c w t lt good v still) stage (holding_then ws refl refl) fits
               (λ m lm. subst (Mount m (w.words.flags m) w.words.remount w.words.sb) (sym (ap (role_of m) is))
               (mount_stays m lm (remount_role m s') (roles m))),
-          shown_as c w t lt ws v refl still.closing_same ∙
-              (λ j. record (shown c w) {
-                mounts = (ap (update (λ y. held_at (w.views y)) t) same.0 ∙ update_same (λ y. held_at (w.views y)) t) j;
-                levels = (ap (update (λ y. holds_level (w.views y)) t) same.1 ∙ update_same (λ y. holds_level (w.views y)) t) j;
-                opens = (ap (update (λ y. has_open (w.views y)) t) same.6 ∙ update_same (λ y. has_open (w.views y)) t) j;
-                tree = update_map node_shown w.words.node n f j;
-              }),
+          shown_held c w t lt ws v refl still.closing_same same.0 ∙ (λ j. record (shown c w) { tree = update_map node_shown w.words.node n f j }),
         )
 
   -- a load by the owner with which it comes to do something else at the tree
@@ -380,18 +370,16 @@ module _ (c : Config) (w : World) (good : IsGood c w) (t : ℕ) (lt : t < c.task
       (shown c (after_load w t name hook coming) ≡ shown c w)
   load_found name hook s' o owning sets tree on fit own =
       let v : View = view_with (w.views t) (name, Touch.Load) (read w.words name) hook (Next.Go (Phase.Remounts (at_remount x s')), None) in
-      let f : PhaseFits c t (held_at (w.views t)) (holds_level (w.views t)) (Phase.Remounts (at_remount x s)) = here_fits in
+      let f : PhaseFits c t (held_of (w.views t)) (Phase.Remounts (at_remount x s)) = here_fits in
       subst (λ ws. let next_world : World = record { words = ws; views = update w.views t v } in
       ((part : Part) → is_known_part part ≡ false → Holds c next_world part) × (shown c next_world ≡ shown c w))
       (sym (load_same w.words name))
       (loads o s' v refl (
         refl,
-        refl,
         added_load name (added_by (w.views t).events),
         taken_load name (taken_by (w.views t).events),
         level_added_load name Touch.Load (level_added_by (w.views t).events) refl,
         level_taken_load name Touch.Load (level_taken_by (w.views t).events) refl,
-        refl,
       )
       (f.0, f.1, f.2, f.3, f.4, fit) owning sets tree (goes_on w.words.flags s' v refl on) own)
 
@@ -422,5 +410,5 @@ module _ (c : Config) (w : World) (good : IsGood c w) (t : ℕ) (lt : t < c.task
             (holders_stay c w good t lt ws v refl refl (apart ∙ sym (ap holder_role_of e))) fits
             (λ m lm. mount_stays m lm (role_of m v.phase) (role m)),
         shown_still c w t lt ws v refl refl refl refl refl refl refl
-            (λ i. close i ∙ (sym (remount_closes_none i x.nodes s) ∙ sym (ap (closing i) e))) same.0 same.1 same.6,
+            (λ i. close i ∙ (sym (remount_closes_none i x.nodes s) ∙ sym (ap (closing i) e))) same.0,
       )

@@ -2,7 +2,7 @@
 use Rattle.std.proofs.Common.{◌≡◌, ℕ, suc, ◌+◌, ◌<◌, ◌≤◌, Bool, true, false, refl, sym, ap, ◌∙◌, subst, inl, inr, add-one, arith}
 use Rattle.std.proofs.lemmas.{Bool.{eq-eqb, ne_eqb, ltb-true, ltb-false, cases_Bool, Decides.eqb_tells}, List.Sums.sum_by-cons}
 use Rattle.std.specs.Prelude.{◌==◌, ◌||◌, not, nat_lt, if◌then◌else◌, Result, Ok, Err, List, [], ◌∷◌, ◌++◌}
-use Rattle.access_model.specs.{Histories.{mounts_of, levels_of, opens_of}, declared.{actions.Action.Action, errors.GateError.GateError, replies.Reply.Reply}}
+use Rattle.access_model.specs.declared.{actions.Action.Action, errors.GateError.GateError, replies.Reply.Reply}
 use Rattle.cpu_words.specs.{Hooks.HookAnswer, Touches.{wrap_add, event_of}, declared.{events.Touch.Touch, names.WordName.WordName, sums.Sum.Sum}}
 use Rattle.mount_counts.specs.{Phases.has_flag, Remounts.{remount_from, past_mount, let_go, leave_holds, give_up, past_node}}
 use Rattle.mount_counts.specs.{Sets.{no_mounts, with_mount, without_lowest}, declared.{remounts.RemountStep.RemountStep, sets.MountSet.MountSet}}
@@ -10,7 +10,6 @@ use Rattle.gate_world.specs.{Configs.IsWithin, Found.{found_sealed, counts_loade
 use Rattle.gate_world.specs.{Traces.{actions_of, IsHonestAnswer}, Views.with_hook}
 use Rattle.gate_world.specs.declared.{config.Config.Config, operations.Op.Op, views.Traced.Traced, work.Phase.Phase}
 use Rattle.gate_frames.proofs.{Cleans.{cleans_leave, LeaveAccesses}, Keeps.by_bool, Says.{SaysAfter, Kept, event_at}}
-use Rattle.owner_laws.proofs.FreezeTraces.{cleans_open}
 
 -- a remount of the superblock by a task, at this step
 abbrev remount : Config → ℕ → Bool → RemountStep → Phase
@@ -332,14 +331,9 @@ remount_kept c lim t ro = record {
   short = λ trace phase added here. tt;
 }
 
--- so does what a remount has added where it is refused
+-- what a remount has added where it is refused leaves what its task held
 pub remount_restores : (ro : Bool) (refusal : GateError) (trace : List Traced) (before : List Action) →
-    (mounts_of (actions_of (Op.RemountSb ro) (Err refusal) trace ++ before) ≡ mounts_of before) ×
-    (levels_of (actions_of (Op.RemountSb ro) (Err refusal) trace ++ before) ≡ levels_of before) ×
-    (opens_of (actions_of (Op.RemountSb ro) (Err refusal) trace ++ before) ≡ opens_of before)
-remount_restores true (GateError.Hook code) trace before =
-    let leaves : LeaveAccesses (actions_of (Op.RemountSb true) (Err (GateError.Hook code)) trace) before =
-    cleans_leave trace (Action.SbRo ∷ []) before (refl, refl) in
-    (leaves.0, leaves.1, cleans_open trace (Action.SbRo ∷ []) before refl)
-remount_restores true refusal trace before = (refl, refl, refl)
-remount_restores false refusal trace before = (refl, refl, refl)
+    LeaveAccesses (actions_of (Op.RemountSb ro) (Err refusal) trace) before
+remount_restores true (GateError.Hook code) trace before = cleans_leave trace (Action.SbRo ∷ []) before refl
+remount_restores true refusal trace before = refl
+remount_restores false refusal trace before = refl

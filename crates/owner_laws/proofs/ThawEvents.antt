@@ -2,7 +2,7 @@
 use Rattle.std.proofs.{Common.{refl, ◌∙◌, inr, ℕ, arith, ◌≤◌, ◌≡◌, subst, suc, ◌-◌, ◌<◌, zero, sym, inl, ap, ◌+◌}, lemmas.Bool.{ne_eqb, Decides.eqb_tells}}
 use Rattle.std.specs.Prelude.{if◌then◌else◌, true, false, List, Option, Some, None, ◌==◌, Result, Ok, ◌∷◌, Err}
 use Rattle.finite_sums.specs.Sums.{update, total}
-use Rattle.access_model.specs.{Histories.{mounts_of, levels_of, opens_of}, Holders.{nobody, held_by, with_holder, is_unheld}, Replies.map_next}
+use Rattle.access_model.specs.{Holders.{nobody, held_by, with_holder, is_unheld}, Replies.map_next}
 use Rattle.access_model.specs.declared.{actions.{Action.Action, Holders.Holders}, errors.GateError.GateError, replies.{Next.Next, Reply.Reply}}
 use Rattle.cpu_words.specs.{Hooks.HookAnswer, Touches.{found_by, left}, Words.{Words, read, put}}
 use Rattle.cpu_words.specs.declared.{events.{Event.Event, Touch.Touch}, names.WordName.WordName}
@@ -17,14 +17,14 @@ use Rattle.stage_laws.specs.{Roles.{StageRole, Owning, Reopening, KnowsStage, Cl
 use Rattle.holder_laws.proofs.{HolderLaws.roles_tell, Words.{unpack_pack, holds_alone, holds_own, leaves_none}}
 use Rattle.holder_laws.specs.Events.{Finds, LetsGo as LetsHoldersGo, Leaves as LeavesOthers, LeavesLast as LeavesNobody, Thaws as ThawsHolders}
 use Rattle.holder_laws.specs.Roles.{Apart, Found, Empties, between, minds}
-use Rattle.gate_world.specs.{Configs.{IsWithin, model_limits}, Fits.{mounts_by, levels_by, PhaseFits, ThawFits, Fits}}
+use Rattle.gate_world.specs.{Configs.{IsWithin, model_limits}, Fits.{PhaseFits, ThawFits, Fits}, Holdings.{Holdings, holdings_of}}
 use Rattle.gate_world.specs.Holders.{thaw_holder_role, holder_role_of}
 use Rattle.gate_world.specs.Levels.{is_frozen_whole, level_added_after, level_taken_after, thaw_stand, level_added_by, level_taken_by, closed_to}
 use Rattle.gate_world.specs.Rules.{owns, IsGood, Stages, Holds, Holding, StepKeeps, OwnerHolds, ViewFits, marks_of, Fitting}
 use Rattle.gate_world.specs.{Shown.{stage_roles, shown, holder_roles}, Stages.{thaw_stage_role, stage_role_of}, Trees.tree_role_of}
-use Rattle.gate_world.specs.Views.{has_open, actions_after, added_after, taken_after, phase_after, held_at, holds_level, view_with, added_by, taken_by}
+use Rattle.gate_world.specs.Views.{actions_after, added_after, taken_after, phase_after, held_of, view_with, added_by, taken_by}
 use Rattle.gate_world.specs.{Worlds.World, declared.{config.Config.Config, views.{Traced.Traced, View.View}, work.Phase.Phase}}
-use Rattle.gate_frames.proofs.{Frames.{added_load, taken_load}, Holders.{holders_at, holders_stay, holders_after, nobody_minds}, Keeps.by_bool}
+use Rattle.gate_frames.proofs.{Accesses.holdings_of_after, Frames.{added_load, taken_load}, Holders.{holders_at, holders_stay, holders_after, nobody_minds}, Keeps.by_bool}
 use Rattle.gate_frames.proofs.{MountEvents.{level_added_load, level_taken_load}, Stages.{stages_in, IsStageEvent, nobody_owns, owners_alike, alike_same}}
 use Rattle.gate_frames.proofs.{Standing.{Stands, still_closed, stand_after_opening, LevelsHold, left_world}, UpLevels.up_write_levels, WholeLevels.thaws_all}
 use Rattle.gate_frames.proofs.WriterOwner.{lock_given, lock_taken, owner_stays}
@@ -118,11 +118,11 @@ module _ (c : Config) (lim : IsWithin c) (w : World) (good : IsGood c w) (t : �
 
   -- this step fits the task's accesses
   abbrev pub FitsHere : ThawStep → Type 0
-  FitsHere s = PhaseFits c t (held_at (w.views t)) (holds_level (w.views t)) (Phase.Thaws (at_thaw x s))
+  FitsHere s = PhaseFits c t (held_of (w.views t)) (Phase.Thaws (at_thaw x s))
 
   -- as the one does at which it is
   pub here_fits : (s : ThawStep) → IsHere s → FitsHere s
-  here_fits s e = subst (Fits c t (held_at (w.views t)) (holds_level (w.views t))) e (good Fitting t lt)
+  here_fits s e = subst (Fits c t (held_of (w.views t))) e (good Fitting t lt)
 
   -- and another step that fits
   goes_to : (s s' : ThawStep) → IsHere s → ThawFits x.holder s' → FitsHere s'
@@ -157,8 +157,6 @@ module _ (c : Config) (lim : IsWithin c) (w : World) (good : IsGood c w) (t : �
       writer_beside c w good t lt v (here_writes s e) now
       (record {
         held_same = refl;
-        levels_same = refl;
-        open_same = refl;
         added_same = added_load name (added_by (w.views t).events);
         taken_same = taken_load name (taken_by (w.views t).events);
       })
@@ -441,27 +439,13 @@ module _ (c : Config) (lim : IsWithin c) (w : World) (good : IsGood c w) (t : �
         view_with (w.views t) event_here (read w.words event_here.0) hook
         (map_next Phase.Thaws (after_opening x u.level next_here.0), next_here.1)
 
-    held_here : held_at view_here ≡ held_at (w.views t)
-    held_here =
-        up_write_adds u (λ a. mounts_of (actions_after a (w.views t).actions) ≡ held_at (w.views t)) refl refl u.step found_here
-
-    levels_here : holds_level view_here ≡ holds_level (w.views t)
-    levels_here =
-        up_write_adds u (λ a. levels_of (actions_after a (w.views t).actions) ≡ holds_level (w.views t)) refl refl u.step found_here
-
-    opened_here : has_open view_here ≡ has_open (w.views t)
-    opened_here =
-        up_write_adds u (λ a. opens_of (actions_after a (w.views t).actions) ≡ has_open (w.views t)) refl refl u.step found_here
+    held_here : held_of view_here ≡ held_of (w.views t)
+    held_here = up_write_adds u (λ a. holdings_of (actions_after a (w.views t).actions) ≡ held_of (w.views t)) refl refl u.step found_here
 
     fits_here : FitsHere (ThawStep.Reopens u) → ViewFits c t view_here
     fits_here f =
-        subst (λ h. Fits c t h (holds_level view_here) view_here.phase)
-        (up_write_adds u (λ a. mounts_by a (held_at (w.views t)) ≡ mounts_of (actions_after a (w.views t).actions)) refl refl u.step
-        found_here)
-        (subst (λ h. Fits c t (mounts_by next_here.1 (held_at (w.views t))) h view_here.phase)
-        (up_write_adds u (λ a. levels_by a (holds_level (w.views t)) ≡ levels_of (actions_after a (w.views t).actions)) refl refl u.step
-        found_here)
-        (thaw_goes c t (held_at (w.views t)) (holds_level (w.views t)) x (ThawStep.Reopens u) found_here hook f))
+        subst (λ h. Fits c t h view_here.phase) (sym (holdings_of_after next_here.1 (w.views t).actions))
+        (thaw_goes c t (held_of (w.views t)) x (ThawStep.Reopens u) found_here hook f)
 
     reopens_law : (e : IsHere (ThawStep.Reopens u)) (kind : StageEvent) → IsStageEvent c w good t lt words_here view_here kind →
         stage_action_of kind (stages_in w) ≡ next_here.1 → WriterLaw c w t words_here view_here next_here.1
@@ -474,8 +458,6 @@ module _ (c : Config) (lim : IsWithin c) (w : World) (good : IsGood c w) (t : �
         (thaw_comes (after_opening x u.level next_here.0)) (up_write_words w.words u u.step)
         (record {
           held_same = held_here;
-          levels_same = levels_here;
-          open_same = opened_here;
           added_same = (none (added_by (w.views t).events)).0;
           taken_same = (none (taken_by (w.views t).events)).1;
         })
@@ -483,7 +465,7 @@ module _ (c : Config) (lim : IsWithin c) (w : World) (good : IsGood c w) (t : �
         (opening_owns x u.level next_here.0 ∙ sym (ap owns e ∙ reopening_owns u.level u.step))
         (up_write_levels c lim w good t lt u view_here
         (record {
-          held_same = levels_here;
+          held_same = ap (λ (h : Holdings). h.levels) held_here;
           added_same = (none (level_added_by (w.views t).events)).2;
           taken_same = (none (level_taken_by (w.views t).events)).3;
         })

@@ -9,7 +9,7 @@ use Rattle.percpu_rwsem.specs.declared.{transitions.{Transition.Transition, Tran
 use Rattle.freeze_levels.specs.{Holders.holders_in, Thaws.{thaw_next, thaw_after, at_thaw, thaw_opens, thaw_finds, after_opening}}
 use Rattle.freeze_levels.specs.declared.thaws.{Thaw.Thaw, ThawStep.ThawStep}
 use Rattle.level_laws.{proofs.Exchanges.exchanges_make_transitions, specs.Exchanges.{Shows, KnowsWords}}
-use Rattle.gate_world.specs.{Configs.extents_of, Fits.{UpWriteFits, ThawFits, PhaseFits, Fits, ActionFits, mounts_by, levels_by}, Operations.holds_none}
+use Rattle.gate_world.specs.{Configs.extents_of, Fits.{UpWriteFits, ThawFits, PhaseFits, Fits, ActionFits}, Holdings.{Holdings, held_after}, Operations.holds_none}
 use Rattle.gate_world.specs.{Views.phase_after, declared.{config.Config.Config, work.Phase.Phase}}
 use Rattle.gate_frames.proofs.{Cases.both, Keeps.by_bool}
 use Rattle.owner_laws.proofs.FreezeFits.{up_write_word}
@@ -35,12 +35,12 @@ thaw_there c x (ThawStep.Reopens u) hook f = up_write_word c u u.step f.0 f.1
 thaw_there c x other hook f = tt
 
 -- the action of an event of a level's reopening can be done
-reopening_acts : (held : ℕ → ℕ) (x : Thaw) (level : ℕ) (s : UpWriteStep) (found : ℕ) (hook : HookAnswer) →
+reopening_acts : (held : Holdings) (x : Thaw) (level : ℕ) (s : UpWriteStep) (found : ℕ) (hook : HookAnswer) →
     ActionFits held (thaw_after x (ThawStep.Reopens (record { level = level; step = s })) found hook).1
 reopening_acts held x level UpWriteStep.ClearsBlock found hook = tt
 reopening_acts held x level (UpWriteStep.Exits transition) found hook = tt
 
-pub thaw_acts : (held : ℕ → ℕ) (x : Thaw) (s : ThawStep) (found : ℕ) (hook : HookAnswer) → ActionFits held (thaw_after x s found hook).1
+pub thaw_acts : (held : Holdings) (x : Thaw) (s : ThawStep) (found : ℕ) (hook : HookAnswer) → ActionFits held (thaw_after x s found hook).1
 thaw_acts held x ThawStep.LeavesLast found (Ok answer) = tt
 thaw_acts held x ThawStep.LeavesLast found (Err code) = tt
 thaw_acts held x (ThawStep.Reopens u) found hook = reopening_acts held x u.level u.step found hook
@@ -50,10 +50,10 @@ thaw_acts held x s found hook = tt
 opens_fit : (holder : Holder) (level : ℕ) → level ≤ 3 → ThawFits holder (thaw_opens level)
 opens_fit holder level l3 = elim (eqb_tells level 0) [ inl z ↦ rw z.0 tt | inr z ↦ rw z.0 (omega (arith, z.1), l3, tt) ]
 
-module _ (c : Config) (t : ℕ) (held : ℕ → ℕ) (levels : ℕ → Bool) (x : Thaw) (same : x.task ≡ t) (none : holds_none levels ≡ true) where
+module _ (c : Config) (t : ℕ) (held : Holdings) (x : Thaw) (same : x.task ≡ t) (none : holds_none held.levels ≡ true) where
   -- what comes after an event fits
   abbrev NextFits : Next Thaw → Type 0
-  NextFits next = Fits c t held levels (phase_after (map_next Phase.Thaws next))
+  NextFits next = Fits c t held (phase_after (map_next Phase.Thaws next))
 
   -- an up-write that goes on knows the words of its exchange
   exit_fits : (level found leaves : ℕ) (s : UpWriteStep) (n : TransitionNext) → 1 ≤ level → level ≤ 3 → Shows on_exit found leaves n →
@@ -73,7 +73,7 @@ module _ (c : Config) (t : ℕ) (held : ℕ → ℕ) (levels : ℕ → Bool) (x 
   -- after an event of a thaw, what comes fits the accesses that its action leaves
   abbrev GoesOn : ThawStep → ℕ → HookAnswer → Type 0
   GoesOn s found hook =
-      Fits c t (mounts_by (thaw_after x s found hook).1 held) (levels_by (thaw_after x s found hook).1 levels)
+      Fits c t (held_after (thaw_after x s found hook).1 held)
       (phase_after (map_next Phase.Thaws (thaw_after x s found hook).0))
 
   reopening_goes : (level : ℕ) (s : UpWriteStep) (found : ℕ) (hook : HookAnswer) → UpWriteFits (record { level = level; step = s }) →
@@ -103,8 +103,8 @@ module _ (c : Config) (t : ℕ) (held : ℕ → ℕ) (levels : ℕ → Bool) (x 
   step_goes other found hook f = (same, none, tt)
 
 -- what comes after each event of a thaw fits
-pub thaw_goes : (c : Config) (t : ℕ) (held : ℕ → ℕ) (levels : ℕ → Bool) (x : Thaw) (s : ThawStep) (found : ℕ) (hook : HookAnswer) →
-    PhaseFits c t held levels (Phase.Thaws (at_thaw x s)) →
-    Fits c t (mounts_by (thaw_after x s found hook).1 held) (levels_by (thaw_after x s found hook).1 levels)
+pub thaw_goes : (c : Config) (t : ℕ) (held : Holdings) (x : Thaw) (s : ThawStep) (found : ℕ) (hook : HookAnswer) →
+    PhaseFits c t held (Phase.Thaws (at_thaw x s)) →
+    Fits c t (held_after (thaw_after x s found hook).1 held)
     (phase_after (map_next Phase.Thaws (thaw_after x s found hook).0))
-thaw_goes c t held levels x s found hook f = step_goes c t held levels x f.0 f.1 s found hook f.2
+thaw_goes c t held x s found hook f = step_goes c t held x f.0 f.1 s found hook f.2

@@ -1,7 +1,7 @@
 -- Traces of a thaw.
 use Rattle.std.proofs.{Common.{◌≡◌, ℕ, zero, suc, ◌≤◌, true, false, refl, sym, ap, ◌∙◌, subst, inl, inr, arith}, lemmas.Bool.{cases_Bool, Decides.eqb_tells}}
 use Rattle.std.specs.Prelude.{◌-◌, ◌==◌, ◌||◌, not, Result, Ok, Err, List, [], ◌∷◌, ◌++◌}
-use Rattle.access_model.specs.{Histories.{mounts_of, levels_of, opens_of}, Replies.map_next}
+use Rattle.access_model.specs.Replies.{map_next}
 use Rattle.access_model.specs.declared.{actions.{Action.Action, Holder.Holder}, errors.GateError.GateError, replies.Reply.Reply}
 use Rattle.cpu_words.specs.{Hooks.HookAnswer, Touches.event_of, declared.{events.Touch.Touch, names.WordName.WordName}}
 use Rattle.percpu_rwsem.specs.{SyncWords.on_exit, Transitions.transition_after, Writers.exit_made}
@@ -170,10 +170,3 @@ thaw_kept c t holder = record {
       (thaw_event c t holder value earlier added hook here.0 here.2);
   short = λ trace phase added here. tt;
 }
-
--- a thaw that is refused leaves each access and each level as it was
-pub thaw_restores : (holder : Holder) (refusal : GateError) (trace : List Traced) (before : List Action) →
-    (mounts_of (actions_of (Op.Thaw holder) (Err refusal) trace ++ before) ≡ mounts_of before) ×
-    (levels_of (actions_of (Op.Thaw holder) (Err refusal) trace ++ before) ≡ levels_of before) ×
-    (opens_of (actions_of (Op.Thaw holder) (Err refusal) trace ++ before) ≡ opens_of before)
-thaw_restores holder refusal trace before = (refl, refl, refl)

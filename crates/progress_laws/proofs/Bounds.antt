@@ -13,7 +13,7 @@ use Rattle.percpu_rwsem.specs.declared.writers.{DownWrite.DownWrite, DownWriteSt
 use Rattle.freeze_levels.specs.declared.{freezes.{Freeze.Freeze, FreezeStep.FreezeStep}, thaws.ThawStep.ThawStep}
 use Rattle.write_access.specs.declared.phases.WritePhase.{WritePhase}
 use Rattle.file_closes.specs.declared.phases.ClosePhase.{ClosePhase}
-use Rattle.gate_world.specs.{Configs.IsWithin, Fits.{PhaseFits, GraceFits, DownWriteStepFits, FreezeFits, ThawFits}, Remounts.RemountFits}
+use Rattle.gate_world.specs.{Holdings.Holdings, Configs.IsWithin, Fits.{PhaseFits, GraceFits, DownWriteStepFits, FreezeFits, ThawFits}, Remounts.RemountFits}
 use Rattle.gate_world.specs.declared.{config.Config.Config, work.Phase.Phase}
 use Rattle.progress_laws.proofs.RemountEnds.{loop_step, size_small}
 use Rattle.progress_laws.specs.Ranks.{rank, want_rank, change_rank, loop_rank, remount_rank, read_rank, exchange_rank, callback_rank, write_rank, close_rank}
@@ -160,33 +160,33 @@ is_beside (Phase.Remounts x) = false
 is_beside (Phase.Trees (TreePhase.Snapshot x)) = false
 is_beside phase = true
 
-pub beside_small : (c : Config) → IsWithin c → (w : Words) (t : ℕ) (held : ℕ → ℕ) (levels : ℕ → Bool) (phase : Phase) →
-    PhaseFits c t held levels phase → is_beside phase ≡ true → rank w phase < most_beside c
-beside_small c lim w t held levels (Phase.Mounts (MountPhase.Want x)) f b = omega (arith, want_small x.step)
-beside_small c lim w t held levels (Phase.Mounts (MountPhase.Drop m p)) f b = omega arith
-beside_small c lim w t held levels (Phase.Mounts (MountPhase.Change x)) f b = omega (arith, change_small x.processors x.step, f.2)
-beside_small c lim w t held levels (Phase.Remounts x) f b = absurd (true≢false (sym b))
-beside_small c lim w t held levels (Phase.DownReads r) f b = omega (arith, read_small c lim r.wait r.step)
-beside_small c lim w t held levels (Phase.UpReads u) f b = omega arith
-beside_small c lim w t held levels (Phase.Callbacks q) f b =
+pub beside_small : (c : Config) → IsWithin c → (w : Words) (t : ℕ) (held : Holdings) (phase : Phase) →
+    PhaseFits c t held phase → is_beside phase ≡ true → rank w phase < most_beside c
+beside_small c lim w t held (Phase.Mounts (MountPhase.Want x)) f b = omega (arith, want_small x.step)
+beside_small c lim w t held (Phase.Mounts (MountPhase.Drop m p)) f b = omega arith
+beside_small c lim w t held (Phase.Mounts (MountPhase.Change x)) f b = omega (arith, change_small x.processors x.step, f.2)
+beside_small c lim w t held (Phase.Remounts x) f b = absurd (true≢false (sym b))
+beside_small c lim w t held (Phase.DownReads r) f b = omega (arith, read_small c lim r.wait r.step)
+beside_small c lim w t held (Phase.UpReads u) f b = omega arith
+beside_small c lim w t held (Phase.Callbacks q) f b =
     let k : GraceFits q.tasks q.step = subst (λ n. GraceFits n q.step) (sym f.2) f.3 in
     omega (arith, callback_small c lim q.tasks (w.sync q.level) q.step k, f.2)
-beside_small c lim w t held levels (Phase.Writes x) f b = omega (arith, write_small c lim x)
-beside_small c lim w t held levels (Phase.Freezes x) f b = freeze_small c lim w x x.step f.5 f.2 f.1 f.3
-beside_small c lim w t held levels (Phase.Thaws x) f b = omega (arith, thaw_small c lim w x.holder x.step f.2)
-beside_small c lim w t held levels (Phase.Trees (TreePhase.Create x)) f b = omega (arith, create_small x.nodes x.step, f.0.1)
-beside_small c lim w t held levels (Phase.Trees (TreePhase.Remove x)) f b = omega (arith, remove_small x.step)
-beside_small c lim w t held levels (Phase.Trees (TreePhase.Grow x)) f b = omega (arith, grow_small x.step)
-beside_small c lim w t held levels (Phase.Trees (TreePhase.MoveTo x)) f b = omega (arith, move_small x.step)
-beside_small c lim w t held levels (Phase.Trees (TreePhase.Mark x)) f b = omega (arith, mark_small x.step)
-beside_small c lim w t held levels (Phase.Trees (TreePhase.OpenFile x)) f b = omega (arith, open_small x.step)
-beside_small c lim w t held levels (Phase.Trees (TreePhase.Snapshot x)) f b = absurd (true≢false (sym b))
-beside_small c lim w t held levels (Phase.Trees (TreePhase.ClearMarks x)) f b = absurd f.1
-beside_small c lim w t held levels (Phase.Closes x) f b = omega (arith, close_small c lim x)
+beside_small c lim w t held (Phase.Writes x) f b = omega (arith, write_small c lim x)
+beside_small c lim w t held (Phase.Freezes x) f b = freeze_small c lim w x x.step f.5 f.2 f.1 f.3
+beside_small c lim w t held (Phase.Thaws x) f b = omega (arith, thaw_small c lim w x.holder x.step f.2)
+beside_small c lim w t held (Phase.Trees (TreePhase.Create x)) f b = omega (arith, create_small x.nodes x.step, f.0.1)
+beside_small c lim w t held (Phase.Trees (TreePhase.Remove x)) f b = omega (arith, remove_small x.step)
+beside_small c lim w t held (Phase.Trees (TreePhase.Grow x)) f b = omega (arith, grow_small x.step)
+beside_small c lim w t held (Phase.Trees (TreePhase.MoveTo x)) f b = omega (arith, move_small x.step)
+beside_small c lim w t held (Phase.Trees (TreePhase.Mark x)) f b = omega (arith, mark_small x.step)
+beside_small c lim w t held (Phase.Trees (TreePhase.OpenFile x)) f b = omega (arith, open_small x.step)
+beside_small c lim w t held (Phase.Trees (TreePhase.Snapshot x)) f b = absurd (true≢false (sym b))
+beside_small c lim w t held (Phase.Trees (TreePhase.ClearMarks x)) f b = absurd f.1
+beside_small c lim w t held (Phase.Closes x) f b = omega (arith, close_small c lim x)
 
-pub rank_small : (c : Config) → IsWithin c → (w : Words) (t : ℕ) (held : ℕ → ℕ) (levels : ℕ → Bool) (phase : Phase) →
-    PhaseFits c t held levels phase → rank w phase < most_alone c
-rank_small c lim w t held levels (Phase.Remounts x) f =
+pub rank_small : (c : Config) → IsWithin c → (w : Words) (t : ℕ) (held : Holdings) (phase : Phase) →
+    PhaseFits c t held phase → rank w phase < most_alone c
+rank_small c lim w t held (Phase.Remounts x) f =
     omega (
       arith,
       remount_small c lim x.processors x.mounts x.nodes x.step f.5 f.2,
@@ -196,10 +196,10 @@ rank_small c lim w t held levels (Phase.Remounts x) f =
       f.3,
       le-max_left (most_in_loop c) (most_beside c),
     )
-rank_small c lim w t held levels (Phase.Trees (TreePhase.Snapshot x)) f =
+rank_small c lim w t held (Phase.Trees (TreePhase.Snapshot x)) f =
     omega (arith, snapshot_small x.nodes x.step, f.0.1, le-max_left (most_in_loop c) (most_beside c))
-rank_small c lim w t held levels phase f =
-    omega (arith, beside_small c lim w t held levels phase f refl, le-max_right (most_in_loop c) (most_beside c))
+rank_small c lim w t held phase f =
+    omega (arith, beside_small c lim w t held phase f refl, le-max_right (most_in_loop c) (most_beside c))
 
 pub alone_settled : (c : Config) → most_alone c ≤ most_settled c
 alone_settled c =

@@ -12,7 +12,7 @@ use Rattle.freeze_levels.specs.{Freezes.{freeze_next, freeze_after, after_closin
 use Rattle.freeze_levels.specs.declared.freezes.{Freeze.Freeze, FreezeStep.FreezeStep}
 use Rattle.level_laws.specs.Operations.{down_write_role, up_write_role}
 use Rattle.gate_world.specs.{Fits.{Fits, PhaseFits, FreezeFits}, Levels.{freeze_stand, sync_beside, stand_sync, sync_role_of}, Rules.{IsGood, Fitting}}
-use Rattle.gate_world.specs.{Views.{held_at, holds_level}, Worlds.{World, words_after, found_at}, declared.{config.Config.Config, work.Phase.Phase}}
+use Rattle.gate_world.specs.{Views.held_of, Worlds.{World, words_after, found_at}, declared.{config.Config.Config, work.Phase.Phase}}
 use Rattle.gate_frames.proofs.Words.{load_same}
 use Rattle.progress_laws.proofs.{Falls.{after_event, falls_as}, TreeEnds.clear_falls, WriterEnds.{DownFalls, down_falls, up_falls}}
 use Rattle.progress_laws.specs.Ranks.{rank, up_rank, reopens_rank, down_rank, closing_rank, closed_rank, freeze_rank}
@@ -158,8 +158,8 @@ module _ (c : Config) (some : 1 ≤ c.processors) (w : World) (good : IsGood c w
 pub freeze_ends : (c : Config) (x : Freeze) → PhaseEnds c (Phase.Freezes x)
 freeze_ends c x = record {
   falls = λ lim w good t lt hook at free.
-      let f : PhaseFits c t (held_at (w.views t)) (holds_level (w.views t)) (Phase.Freezes x) =
-      subst (Fits c t (held_at (w.views t)) (holds_level (w.views t))) at (good Fitting t lt) in
+      let f : PhaseFits c t (held_of (w.views t)) (Phase.Freezes x) =
+      subst (Fits c t (held_of (w.views t))) at (good Fitting t lt) in
       let after : Words = words_after w.words (Phase.Freezes x) hook in
       falls_as Phase.Freezes (rank after) (IsFree c after) (freeze_rank w.words x x.step)
       (freeze_after x x.step (found_at w.words (Phase.Freezes x) hook) hook).0

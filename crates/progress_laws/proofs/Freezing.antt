@@ -15,7 +15,7 @@ use Rattle.write_access.specs.declared.phases.WritePhase.{WritePhase}
 use Rattle.file_closes.specs.declared.phases.ClosePhase.{ClosePhase}
 use Rattle.gate_world.specs.{Configs.IsWithin, Fits.{PhaseFits, ReadStepFits, FreezeFits}, Levels.inside, Operations.holds_none_from}
 use Rattle.gate_world.specs.{Rules.{IsGood, Owner, Stages, Sections, owns}, Shown.stage_roles}
-use Rattle.gate_world.specs.{Stages.{place_of, reopening_role, freeze_stage_role, stage_role_of}, Views.{held_at, holds_level, view_after}}
+use Rattle.gate_world.specs.{Stages.{place_of, reopening_role, freeze_stage_role, stage_role_of}, Views.{holds_level, view_after, held_of}}
 use Rattle.gate_world.specs.{Worlds.{World, after_step, value_at}, declared.{config.Config.Config, views.View.View, work.Phase.Phase}}
 use Rattle.progress_laws.proofs.{Bounds.{alone_settled, beside_settled}, Falls.no_further, Leaves.{StaysBeside, phase_beside, inside_le, all_within, all_leave}}
 use Rattle.progress_laws.proofs.Movers.{owner_free, HasOwner, has_owner, fits_at, free_goes, beside_goes, OwnerFreezes, hold_clear, holds_not_none, holds_below}
@@ -153,7 +153,7 @@ module _ (c : Config) (lim : IsWithin c)
     nobody_inside y ly = good Sections y ly ∙ out y ly
 
     holder_goes : (z : ℕ) → z < c.tasks → (i : ℕ) → 1 ≤ i → i ≤ 3 → holds_level (w.views z) i ≡ true → (phase : Phase) →
-        (w.views z).phase ≡ Some phase → PhaseFits c z (held_at (w.views z)) (holds_level (w.views z)) phase → ReplyWithin c (most_beside c) w
+        (w.views z).phase ≡ Some phase → PhaseFits c z (held_of (w.views z)) phase → ReplyWithin c (most_beside c) w
     holder_goes z lz i one three is (Phase.Mounts (MountPhase.Want x)) at f =
         beside_goes c lim keeps ends w good z lz (Phase.Mounts (MountPhase.Want x)) at (hold_clear c w good freezing z lz (ap owns at) x.mount f.0) refl
     holder_goes z lz i one three is (Phase.Mounts (MountPhase.Change x)) at f = absurd (holds_not_none (holds_level (w.views z)) i f.3 one three is)
@@ -216,7 +216,7 @@ module _ (c : Config) (lim : IsWithin c)
       -- with nobody inside a section, a freeze that no idle task keeps
       freeze_base : FirstFree w.words x.step → ReplyWithin c (most_beside c) w
       freeze_base first =
-          let fits : PhaseFits c t (held_at (w.views t)) (holds_level (w.views t)) (Phase.Freezes x) = fits_at c w good t lt (Phase.Freezes x) at in
+          let fits : PhaseFits c t (held_of (w.views t)) (Phase.Freezes x) = fits_at c w good t lt (Phase.Freezes x) at in
           let some : 1 ≤ next_level w.words x.step = next_some c x.holder w.words x.step fits.5 in
           elim (lock_or w.words x.nodes x.step first) [
             | inr n ↦ owner_goes n

@@ -57,7 +57,7 @@ use Rattle.gate_world.specs.Levels.{is_frozen_whole, sync_role_of}
 use Rattle.gate_world.specs.Rules.{IsGood, Moves as MovesModel, Owner, Stages, Tree, SyncAt, SyncHoldsIn, owns}
 use Rattle.gate_world.specs.Shown.{shown}
 use Rattle.gate_world.specs.Stages.{freeze_stage_role, stage_role_of}
-use Rattle.gate_world.specs.Views.{held_at, holds_level, phase_after, view_after}
+use Rattle.gate_world.specs.Views.{holds_level, phase_after, view_after, held_of}
 use Rattle.gate_world.specs.Worlds.{World, after_step, words_after, phase_action, value_at, found_at}
 use Rattle.gate_world.specs.Work.{after_of}
 use Rattle.gate_frames.proofs.Owners.{owns_le}
@@ -621,7 +621,7 @@ module _ (c : Config) (w : World) (good : IsGood c w) (t : ℕ) (lt : t < c.task
       }
 
   -- each operation that is kept
-  phase_goes : (phase : Phase) (at : (w.views t).phase ≡ Some phase) → PhaseFits c t (held_at (w.views t)) (holds_level (w.views t)) phase →
+  phase_goes : (phase : Phase) (at : (w.views t).phase ≡ Some phase) → PhaseFits c t (held_of (w.views t)) phase →
       IsAgreed phase hook → MovesModel c (shown c w) t (phase_action w hook (Some phase)) (shown c (after phase)) → IsKeptAt c w phase →
       Goes phase
   phase_goes (Mounts (Changes x)) at f agreed m k = change_goes x x.step x.wait at k

@@ -22,7 +22,7 @@ use Rattle.gate_world.specs.Levels.{Stand, stand_count, stand_sync, freeze_stand
 use Rattle.gate_world.specs.Levels.{read_count_role, level_role_of, sync_role_of, inside, at_level, is_frozen_whole}
 use Rattle.gate_world.specs.{Operations.{holds_none, holds_none_from}, Remounts.remount_owns}
 use Rattle.gate_world.specs.Rules.{IsGood, Owner, Fitting, AtMount, AtLevel, SyncAt, SyncHoldsIn, LevelHoldsIn, role_of, owns, change_owns}
-use Rattle.gate_world.specs.{Stages.{thaw_stage_role, snapshot_stage_role}, Views.{held_at, holds_level}, Worlds.World}
+use Rattle.gate_world.specs.{Stages.{thaw_stage_role, snapshot_stage_role}, Views.{holds_level, held_of}, Worlds.World}
 use Rattle.gate_world.specs.declared.{config.Config.Config, work.Phase.Phase}
 use Rattle.gate_frames.proofs.{LevelWorlds.{callback_opens, read_opens}, Owners.{owns_le, hold_owns, who_holds}}
 use Rattle.progress_laws.proofs.{Bounds.{is_beside, beside_small, rank_small}, Falls.runs_out}
@@ -75,8 +75,8 @@ has_owner c w good taken =
     record { task = y; there = ly; phase = p.0; at = p.1; owner = sym (ap owns p.1) ∙ own }
 
 pub fits_at : (c : Config) (w : World) → IsGood c w → (t : ℕ) → t < c.tasks → (phase : Phase) → (w.views t).phase ≡ Some phase →
-    PhaseFits c t (held_at (w.views t)) (holds_level (w.views t)) phase
-fits_at c w good t lt phase at = subst (Fits c t (held_at (w.views t)) (holds_level (w.views t))) at (good Fitting t lt)
+    PhaseFits c t (held_of (w.views t)) phase
+fits_at c w good t lt phase at = subst (Fits c t (held_of (w.views t))) at (good Fitting t lt)
 
 module _ (c : Config) (lim : IsWithin c)
     (keeps : EventsKeepRule c)
@@ -86,14 +86,14 @@ module _ (c : Config) (lim : IsWithin c)
       IsFree c w.words phase → ReplyWithin c (most_alone c) w
   free_goes w good t lt phase at free =
       runs_out c lim keeps ends (most_alone c) w good t lt phase at free
-      (rank_small c lim w.words t (held_at (w.views t)) (holds_level (w.views t)) phase (fits_at c w good t lt phase at))
+      (rank_small c lim w.words t (held_of (w.views t)) phase (fits_at c w good t lt phase at))
 
   -- fewer, where it is no remount and no snapshot
   pub beside_goes : (w : World) → IsGood c w → (t : ℕ) → t < c.tasks → (phase : Phase) → (w.views t).phase ≡ Some phase →
       IsFree c w.words phase → is_beside phase ≡ true → ReplyWithin c (most_beside c) w
   beside_goes w good t lt phase at free beside =
       runs_out c lim keeps ends (most_beside c) w good t lt phase at free
-      (beside_small c lim w.words t (held_at (w.views t)) (holds_level (w.views t)) phase (fits_at c w good t lt phase at) beside)
+      (beside_small c lim w.words t (held_of (w.views t)) phase (fits_at c w good t lt phase at) beside)
 
   -- so has who has HOLD set at a mount
   holder_of : (w : World) → IsGood c w → (y : ℕ) → y < c.tasks → (m : ℕ) → (p : Option Phase) → (w.views y).phase ≡ p →

@@ -10,7 +10,7 @@ use Rattle.write_access.specs.declared.phases.WritePhase.{WritePhase}
 use Rattle.file_closes.specs.declared.phases.ClosePhase.{ClosePhase}
 use Rattle.gate_world.specs.{Configs.IsWithin, Fits.PhaseFits, Levels.is_frozen_whole, Rules.{IsGood, Stages}, Shown.stage_roles}
 use Rattle.gate_world.specs.Stages.{remount_stage_role, freeze_stage_role, thaw_stage_role, snapshot_stage_role, tree_stage_role, stage_role_of}
-use Rattle.gate_world.specs.{Views.{held_at, holds_level}, Worlds.World, declared.{config.Config.Config, work.Phase.Phase}}
+use Rattle.gate_world.specs.{Views.held_of, Worlds.World, declared.{config.Config.Config, work.Phase.Phase}}
 use Rattle.progress_laws.proofs.{Layers.phase_ends, Movers.fits_at, Whole.world_goes}
 use Rattle.progress_laws.specs.Progress.{EventsKeepRule, IsKept, KeptIfFreeze, LockIsKept, ChangeIsKept, RemountIsKept, ThawIsKept, SnapshotIsKept, TreeIsKept}
 use Rattle.progress_laws.specs.Progress.{FreezeIsKept, IsKeptAt, AFreezeIsKept, Progresses, ReplyOrFrozen}
@@ -108,7 +108,7 @@ module _ (c : Config) (w : World) (good : IsGood c w)
 
   -- each operation that is kept
   kept_tells : (t : ℕ) → t < c.tasks → (phase : Phase) → (w.views t).phase ≡ Some phase →
-      PhaseFits c t (held_at (w.views t)) (holds_level (w.views t)) phase → IsKeptAt c w phase →
+      PhaseFits c t (held_of (w.views t)) phase → IsKeptAt c w phase →
       (is_frozen_whole w.words ≡ 1) ⊎ AFreezeIsKept c w
   kept_tells t lt (Phase.Mounts (MountPhase.Change x)) at f k = inr (change_tells x.step x.wait k)
   kept_tells t lt (Phase.Remounts x) at f k = inr (remount_tells x.step k)

@@ -9,7 +9,7 @@ use Rattle.mount_counts.specs.Sets.{has_mount, with_mount, lowest, without_lowes
 use Rattle.mount_counts.specs.declared.{remounts.{Remount.Remount, RemountStep.RemountStep}, sets.MountSet.MountSet}
 use Rattle.mount_laws.proofs.Sets.{lowest_held, leaves_here, leaves_there}
 use Rattle.percpu_rwsem.specs.SyncWords.{bit}
-use Rattle.gate_world.specs.{Configs.IsWithin, Fits.{Fits, PhaseFits}, Remounts.RemountFits, Rules.Fitting, Views.{held_at, holds_level}}
+use Rattle.gate_world.specs.{Configs.IsWithin, Fits.{Fits, PhaseFits}, Remounts.RemountFits, Rules.Fitting, Views.held_of}
 use Rattle.gate_world.specs.{Worlds.{words_after, found_at}, declared.{config.Config.Config, work.Phase.Phase}}
 use Rattle.progress_laws.proofs.Falls.{falls_as}
 use Rattle.progress_laws.specs.{Ranks.{rank, mount_bit, held_size, loop_rank, remount_rank}, Ways.{IsFree, RemountIsFree, Falls, PhaseEnds}}
@@ -176,8 +176,8 @@ module _ (c : Config) (lim : IsWithin c) (w after : Words) (x : Remount) (proces
 pub remount_ends : (c : Config) (x : Remount) → PhaseEnds c (Phase.Remounts x)
 remount_ends c x = record {
   falls = λ lim w good t lt hook at free.
-      let f : PhaseFits c t (held_at (w.views t)) (holds_level (w.views t)) (Phase.Remounts x) =
-      subst (Fits c t (held_at (w.views t)) (holds_level (w.views t))) at (good Fitting t lt) in
+      let f : PhaseFits c t (held_of (w.views t)) (Phase.Remounts x) =
+      subst (Fits c t (held_of (w.views t))) at (good Fitting t lt) in
       let after : Words = words_after w.words (Phase.Remounts x) hook in
       falls_as Phase.Remounts (rank after) (IsFree c after) (remount_rank x.processors x.mounts x.nodes x.step)
       (remount_after x x.step (found_at w.words (Phase.Remounts x) hook) hook).0

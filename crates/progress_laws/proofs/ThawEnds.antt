@@ -7,7 +7,7 @@ use Rattle.percpu_rwsem.specs.{Writers.{up_write_next, up_write_after}, declared
 use Rattle.freeze_levels.specs.{Holders.holders_in, Thaws.{thaw_next, thaw_after, after_opening}, declared.thaws.{Thaw.Thaw, ThawStep.ThawStep}}
 use Rattle.level_laws.specs.Operations.{up_write_role}
 use Rattle.gate_world.specs.{Fits.{Fits, PhaseFits, ThawFits}, Levels.{thaw_stand, sync_beside, stand_sync, sync_role_of}, Rules.{IsGood, Fitting}}
-use Rattle.gate_world.specs.{Views.{held_at, holds_level}, Worlds.{World, words_after, found_at}, declared.{config.Config.Config, work.Phase.Phase}}
+use Rattle.gate_world.specs.{Views.held_of, Worlds.{World, words_after, found_at}, declared.{config.Config.Config, work.Phase.Phase}}
 use Rattle.progress_laws.proofs.{Falls.{after_event, falls_as}, WriterEnds.up_falls}
 use Rattle.progress_laws.specs.{Ranks.{rank, up_rank, reopens_rank, thaw_rank}, Ways.{IsFree, ThawIsFree, Falls, PhaseEnds}}
 
@@ -54,8 +54,8 @@ module _ (c : Config) (w : World) (good : IsGood c w) (t : ℕ) (lt : t < c.task
 pub thaw_ends : (c : Config) (x : Thaw) → PhaseEnds c (Phase.Thaws x)
 thaw_ends c x = record {
   falls = λ lim w good t lt hook at free.
-      let f : PhaseFits c t (held_at (w.views t)) (holds_level (w.views t)) (Phase.Thaws x) =
-      subst (Fits c t (held_at (w.views t)) (holds_level (w.views t))) at (good Fitting t lt) in
+      let f : PhaseFits c t (held_of (w.views t)) (Phase.Thaws x) =
+      subst (Fits c t (held_of (w.views t))) at (good Fitting t lt) in
       let after : Words = words_after w.words (Phase.Thaws x) hook in
       falls_as Phase.Thaws (rank after) (IsFree c after) (thaw_rank w.words x.step)
       (thaw_after x x.step (found_at w.words (Phase.Thaws x) hook) hook).0

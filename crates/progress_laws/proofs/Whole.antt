@@ -13,7 +13,7 @@ use Rattle.write_access.specs.declared.phases.WritePhase.{WritePhase}
 use Rattle.file_closes.specs.declared.phases.ClosePhase.{ClosePhase}
 use Rattle.gate_world.specs.{Configs.IsWithin, Fits.PhaseFits, Remounts.remount_owns, Rules.{IsGood, Stages, AtLevel, owns, change_owns}}
 use Rattle.gate_world.specs.Stages.{freeze_stage_role, thaw_stage_role, snapshot_stage_role, stage_role_of}
-use Rattle.gate_world.specs.{Views.{held_at, holds_level, phase_after, view_after}, Work.after_of, Worlds.{World, after_step, value_at, found_at}}
+use Rattle.gate_world.specs.{Views.{phase_after, view_after, held_of}, Work.after_of, Worlds.{World, after_step, value_at, found_at}}
 use Rattle.gate_world.specs.declared.{config.Config.Config, views.View.View, work.Phase.Phase}
 use Rattle.progress_laws.proofs.{Bounds.alone_settled, Falls.{stands_after, no_further, near_by}}
 use Rattle.progress_laws.proofs.Freezing.{search_below, not_none, IdleApart, kept_or_apart, FirstFree, freeze_goes, callback_goes}
@@ -248,7 +248,7 @@ module _ (c : Config) (lim : IsWithin c)
 
       -- the operation of each task: a reply is near, or it is kept
       task_goes : (phase : Phase) → (w.views t).phase ≡ Some phase →
-          PhaseFits c t (held_at (w.views t)) (holds_level (w.views t)) phase → ReplyWithin c (most_settled c + 5) w ⊎ IsKeptAt c w phase
+          PhaseFits c t (held_of (w.views t)) phase → ReplyWithin c (most_settled c + 5) w ⊎ IsKeptAt c w phase
       task_goes (Phase.Mounts (MountPhase.Want x)) at f =
           inl (near (want_goes c lim keeps ends w good t lt (Phase.Mounts (MountPhase.Want x)) at refl x.mount f.0 (λ clear. clear)))
       task_goes (Phase.Mounts (MountPhase.Change x)) at f =

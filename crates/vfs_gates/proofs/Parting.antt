@@ -64,10 +64,12 @@ module _ (c : Config) where
   idle_keeps v e few = record {
     long = refl;
     wide = refl;
-    mounts = λ m lt. idle_mount m (omega arith) ∙ sym (e.0 m lt);
-    levels = λ i one three. idle_level i three ∙ sym (e.1 i one three);
     deep = refl;
-    files = λ n. no_file (replicate 64 false) refl (λ i lt. get_or-replicate 64 i false false lt) n ∙ sym (e.2 n);
+    held = record {
+      mounts = λ m lt. idle_mount m (omega arith) ∙ sym (e.0 m lt);
+      levels = λ i one three. idle_level i three ∙ sym (e.1 i one three);
+      files = λ n. no_file (replicate 64 false) refl (λ i lt. get_or-replicate 64 i false false lt) n ∙ sym (e.2 n);
+    };
   }
 
   -- the own view of a task that rests is still
@@ -148,8 +150,8 @@ module _ (number : ℕ) (c : Config) (begins : Option Op) (kept : Seat) (flags :
   pub holds_same : (l : SeatItems) → Ties number c begins kept flags l → IsNothing kept.accesses c.mounts ↔ Empty c (own_view l)
   holds_same [] t = absurd t
   holds_same (x ∷ xs) t = (
-    (λ h. ((λ m lt. sym (t.keeps.mounts m lt) ∙ h.0 m lt), (λ i one three. sym (t.keeps.levels i one three) ∙ h.1 i one three), (λ n. sym (t.keeps.files n) ∙ no_file kept.accesses.files t.keeps.deep h.2 n))),
-    (λ h. ((λ m lt. t.keeps.mounts m lt ∙ h.0 m lt), (λ i one three. t.keeps.levels i one three ∙ h.1 i one three), (λ n ln. t.keeps.files n ∙ h.2 n))),
+    (λ h. ((λ m lt. sym (t.keeps.held.mounts m lt) ∙ h.0 m lt), (λ i one three. sym (t.keeps.held.levels i one three) ∙ h.1 i one three), (λ n. sym (t.keeps.held.files n) ∙ no_file kept.accesses.files t.keeps.deep h.2 n))),
+    (λ h. ((λ m lt. t.keeps.held.mounts m lt ∙ h.0 m lt), (λ i one three. t.keeps.held.levels i one three ∙ h.1 i one three), (λ n ln. t.keeps.held.files n ∙ h.2 n))),
   )
 
   -- what a task that rests knows rests

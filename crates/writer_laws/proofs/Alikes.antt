@@ -5,7 +5,7 @@ use Rattle.access_model.specs.{Replies.map_next, declared.replies.Next.Next}
 use Rattle.mount_counts.specs.declared.phases.{MountPhase.MountPhase, Want.Want}
 use Rattle.percpu_rwsem.specs.declared.readers.DownRead.{DownRead}
 use Rattle.write_access.specs.{Phases.{then_wants, then_gives_back}, declared.phases.WritePhase.WritePhase}
-use Rattle.gate_world.specs.{Alike.IsAlike, Fits.Fits, Views.phase_after, Work.plain, declared.{config.Config.Config, work.Phase.Phase}}
+use Rattle.gate_world.specs.{Alike.IsAlike, Fits.Fits, Holdings.Holdings, Views.phase_after, Work.plain, declared.{config.Config.Config, work.Phase.Phase}}
 use Rattle.gate_frames.proofs.Loads.{role_none}
 use Rattle.writer_laws.proofs.ReadFits.{ReadGoes}
 
@@ -44,18 +44,18 @@ alike_ends p = assumption
 pub alike_none : IsAlike None None
 alike_none = assumption
 
-module _ (c : Config) (t : ℕ) (held : ℕ → ℕ) (levels : ℕ → Bool) (m p : ℕ) (there : m < c.mounts) (cpu : p < c.processors) where
+module _ (c : Config) (t : ℕ) (held : Holdings) (m p : ℕ) (there : m < c.mounts) (cpu : p < c.processors) where
   -- level 1 is taken with room for the mount's access, which is wanted with the level held
-  pub takes_goes : (i : ℕ) (n : Next DownRead) → i ≡ 1 → held m < 1024 → ReadGoes c t i p levels n →
-      Fits c t held levels (phase_after (map_next Phase.Writes (then_wants m p n)))
+  pub takes_goes : (i : ℕ) (n : Next DownRead) → i ≡ 1 → held.mounts m < 1024 → ReadGoes c t i p held n →
+      Fits c t held (phase_after (map_next Phase.Writes (then_wants m p n)))
   takes_goes i (Next.Go r) one room h = (h.0, h.1 ∙ one, there, room)
   takes_goes i (Next.Wait r) one room h = (h.0, h.1 ∙ one, there, room)
-  takes_goes i (Next.Done (Ok reply)) one room h = ((there, cpu, room), subst (λ j. levels j ≡ true) one h)
+  takes_goes i (Next.Done (Ok reply)) one room h = ((there, cpu, room), subst (λ j. held.levels j ≡ true) one h)
   takes_goes i (Next.Done (Err refusal)) one room h = tt
 
   -- the level is held while the mount is wanted, and where it is left
-  pub wants_goes : (n : Next Want) → levels 1 ≡ true → Fits c t held levels (phase_after (map_next Phase.Mounts (map_next MountPhase.Want n))) →
-      Fits c t held levels (phase_after (map_next Phase.Writes (then_gives_back m p n)))
+  pub wants_goes : (n : Next Want) → held.levels 1 ≡ true → Fits c t held (phase_after (map_next Phase.Mounts (map_next MountPhase.Want n))) →
+      Fits c t held (phase_after (map_next Phase.Writes (then_gives_back m p n)))
   wants_goes (Next.Go x) one h = (h, one)
   wants_goes (Next.Wait x) one h = (h, one)
   wants_goes (Next.Done (Ok reply)) one h = tt

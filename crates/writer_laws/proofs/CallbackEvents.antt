@@ -15,7 +15,7 @@ use Rattle.level_laws.specs.{Operations.{callback_role, KnowsCallback, CallbackI
 use Rattle.gate_world.specs.{Configs.IsWithin, Fits.{Fits, PhaseFits, GraceFits}, LevelRuns.level_in}
 use Rattle.gate_world.specs.Levels.{sync_role_if, sync_role_of, inside, level_added_by, level_added_after, level_taken_by, level_taken_after, level_role_of}
 use Rattle.gate_world.specs.{Rules.{IsGood, StepKeeps, Moves, AtLevel, SyncAt, Fitting, Holds, ViewFits}, Shown.shown}
-use Rattle.gate_world.specs.{Views.{view_after, phase_after, actions_after, held_at, holds_level, added_by, added_after, taken_by, taken_after}, Worlds.World}
+use Rattle.gate_world.specs.{Holdings.Holdings, Views.{view_after, phase_after, actions_after, held_of, added_by, added_after, taken_by, taken_after}, Worlds.World}
 use Rattle.gate_world.specs.declared.{config.Config.Config, views.View.View, work.Phase.Phase}
 use Rattle.gate_frames.proofs.Frames.{left_alone, level_view_as}
 use Rattle.gate_frames.proofs.LevelWorlds.{sync_on, sync_off, IsOfLevel, IsEventAt, found_level, level_there, sync_elsewhere}
@@ -149,9 +149,9 @@ role_elsewhere i j tasks ne (Next.Wait x) h = sync_off j x.level (callback_role 
 role_elsewhere i j tasks ne (Next.Done answer) h = refl
 
 -- one callback of a level and of all tasks that knows what is to come fits
-one_fits : (c : Config) (t level tasks : ℕ) (held : ℕ → ℕ) (levels : ℕ → Bool) → 1 ≤ level → level ≤ 3 → tasks ≡ c.tasks → (x : Callback) →
-    Stays level tasks x → KnowsCallback x.step → PhaseFits c t held levels (Phase.Callbacks x)
-one_fits c t level tasks held levels one three all x stays knows = (
+one_fits : (c : Config) (t level tasks : ℕ) (held : Holdings) → 1 ≤ level → level ≤ 3 → tasks ≡ c.tasks → (x : Callback) →
+    Stays level tasks x → KnowsCallback x.step → PhaseFits c t held (Phase.Callbacks x)
+one_fits c t level tasks held one three all x stays knows = (
   omega (arith, one, stays.0),
   omega (arith, three, stays.0),
   stays.1 ∙ all,
@@ -160,15 +160,15 @@ one_fits c t level tasks held levels one three all x stays knows = (
 )
 
 -- so what comes after an event does
-next_fits : (c : Config) (t level tasks : ℕ) (held : ℕ → ℕ) (levels : ℕ → Bool) → 1 ≤ level → level ≤ 3 → tasks ≡ c.tasks →
+next_fits : (c : Config) (t level tasks : ℕ) (held : Holdings) → 1 ≤ level → level ≤ 3 → tasks ≡ c.tasks →
     (n : Next Callback) → HoldsOfNext (Stays level tasks) n →
     HoldsOfNext (λ (x : Callback). (x.tasks ≡ tasks) × KnowsCallback x.step) n →
-    Fits c t held levels (phase_after (map_next Phase.Callbacks n))
-next_fits c t level tasks held levels one three all (Next.Go x) stays knows =
-    one_fits c t level tasks held levels one three all x stays knows.1
-next_fits c t level tasks held levels one three all (Next.Wait x) stays knows =
-    one_fits c t level tasks held levels one three all x stays knows.1
-next_fits c t level tasks held levels one three all (Next.Done answer) stays knows = tt
+    Fits c t held (phase_after (map_next Phase.Callbacks n))
+next_fits c t level tasks held one three all (Next.Go x) stays knows =
+    one_fits c t level tasks held one three all x stays knows.1
+next_fits c t level tasks held one three all (Next.Wait x) stays knows =
+    one_fits c t level tasks held one three all x stays knows.1
+next_fits c t level tasks held one three all (Next.Done answer) stays knows = tt
 
 module _ (c : Config) (w : World) (good : IsGood c w) (t : ℕ) (lt : t < c.tasks) (hook : HookAnswer) (b : Callback) (s : CallbackStep)
     (e : (w.views t).phase ≡ Some (Phase.Callbacks (at_callback b s))) where
@@ -195,8 +195,8 @@ module _ (c : Config) (w : World) (good : IsGood c w) (t : ℕ) (lt : t < c.task
   then_world = record { words = then_words; views = update w.views t seen_after }
 
   -- what its phase says before the event
-  here_fits : PhaseFits c t (held_at (w.views t)) (holds_level (w.views t)) (Phase.Callbacks (at_callback b s))
-  here_fits = subst (Fits c t (held_at (w.views t)) (holds_level (w.views t))) e (good Fitting t lt)
+  here_fits : PhaseFits c t (held_of (w.views t)) (Phase.Callbacks (at_callback b s))
+  here_fits = subst (Fits c t (held_of (w.views t))) e (good Fitting t lt)
 
   some_task : 0 < b.tasks
   some_task = omega (arith, lt, here_fits.2)
@@ -285,7 +285,7 @@ module _ (c : Config) (w : World) (good : IsGood c w) (t : ℕ) (lt : t < c.task
 
   fits_next : ViewFits c t seen_after
   fits_next =
-      next_fits c t b.level b.tasks (held_at seen_after) (holds_level seen_after) here_fits.0 here_fits.1 here_fits.2 coming stays
+      next_fits c t b.level b.tasks (held_of seen_after) here_fits.0 here_fits.1 here_fits.2 coming stays
       knows_next
 
   keeps_at : StepKeeps c w t hook (Phase.Callbacks (at_callback b s))

@@ -3,8 +3,8 @@ use Rattle.std.{proofs.Common.{◌≡◌, ℕ, refl, subst, ◌≤◌, sym}, spe
 use Rattle.access_model.specs.{Replies.map_next, declared.{actions.Action.Action, replies.Next.Next}}
 use Rattle.percpu_rwsem.specs.{Callbacks.callback_after, declared.callbacks.Callback.Callback}
 use Rattle.level_laws.specs.Roles.{Out as IsApart}
-use Rattle.gate_world.specs.{Fits.{Fits, ActionFits, mounts_by, levels_by}, KeptCauses.CauseOf, Levels.sync_role_if, Rules.Fitting}
-use Rattle.gate_world.specs.{Views.{held_at, holds_level, phase_after}, Worlds.{World, after_step, found_at}}
+use Rattle.gate_world.specs.{Fits.{Fits, ActionFits}, Holdings.held_after, KeptCauses.CauseOf, Levels.sync_role_if, Rules.Fitting}
+use Rattle.gate_world.specs.{Views.{held_of, phase_after}, Worlds.{World, after_step, found_at}}
 use Rattle.gate_world.specs.declared.{config.Config.Config, operations.Op.Op, work.Phase.Phase}
 use Rattle.gate_frames.proofs.{Keeps.{by_bool, word_among, PhaseKeeps, OpKeeps}, Says.{tells, is_short}, Snapshots.completes_none}
 use Rattle.writer_laws.proofs.{CallbackEvents.callback_keeps, CallbackTraces.{CallbackAt, callback_kept}}
@@ -21,27 +21,27 @@ callback_phase c b = record {
   step = λ within w good t lt hook e. callback_keeps c within w good t lt hook b e;
   runs = λ within w good t lt hook e i one three. callback_runs c w good t lt hook b e i;
   completes = λ within w good t lt hook e. completes_none c w t hook (Phase.Callbacks b) (λ trace found. refl);
-  word = λ n le t lt held levels hook f. word_among c n le _ (callback_there c b b.step f.0 f.1 f.3);
-  acts = λ within t held levels found hook f.
+  word = λ n le t lt held hook f. word_among c n le _ (callback_there c b b.step f.0 f.1 f.3);
+  acts = λ within t held found hook f.
       subst (ActionFits held) (sym (callback_acts_none b b.step found)) tt;
-  goes = λ within t held levels found hook f.
-      subst (λ (a : Option Action). Fits c t (mounts_by a held) (levels_by a levels)
+  goes = λ within t held found hook f.
+      subst (λ (a : Option Action). Fits c t (held_after a held)
       (phase_after (map_next Phase.Callbacks (callback_after b b.step found).0)))
-      (sym (callback_acts_none b b.step found)) (callback_goes c within t held levels b b.step found f);
-  agrees = λ t f g h k mounts levels fits. fits;
+      (sym (callback_acts_none b b.step found)) (callback_goes c within t held b b.step found f);
+  agrees = λ t held seen same fits. fits;
   stays = λ w next earlier good t f e was quiet h. tt;
   causes = λ w earlier good t lt hook e after is h.
       callback_cause c t (after_step w t (Phase.Callbacks b) hook) (w ∷ earlier)
       (callback_after b b.step (found_at w.words (Phase.Callbacks b) hook)).0;
   reasons = λ within w earlier good t lt hook e cause.
-      let f : Fits c t (held_at (w.views t)) (holds_level (w.views t)) (Some (Phase.Callbacks b)) =
-      subst (Fits c t (held_at (w.views t)) (holds_level (w.views t))) e (good Fitting t lt) in
+      let f : Fits c t (held_of (w.views t)) (Some (Phase.Callbacks b)) =
+      subst (Fits c t (held_of (w.views t))) e (good Fitting t lt) in
       callback_waits c w earlier t good b hook b.step e f.3;
 }
 
 pub callback_op : (c : Config) (i : ℕ) → OpKeeps c (Op.Callback i)
 callback_op c i = record {
-  fits = λ t held levels there order room.
+  fits = λ t held there order room.
       let l : (1 ≤ i) × (i ≤ 3) = level_there i there in
       (l.0, l.1, refl, tt, tt);
   starts_idle = λ t. record {
@@ -55,10 +55,10 @@ callback_op c i = record {
   };
   off_tree = λ t trace. refl;
   cause = λ t w earlier. tt;
-  order_agrees = λ f g h k mounts levels there. refl;
-  room_agrees = λ f g mounts there. refl;
-  restores = λ refusal trace before order. (refl, refl, refl);
-  file = λ t files own closed. tt;
+  order_agrees = λ held seen same there. refl;
+  room_agrees = λ held seen same there. refl;
+  restores = λ refusal trace before order. refl;
+  file = λ t held order room. tt;
   tells = λ within t trace h. tells (CallbackAt i c.tasks) c t (Op.Callback i) (callback_kept c t i) trace h;
   short = λ within t trace h. is_short (CallbackAt i c.tasks) c t (Op.Callback i) (callback_kept c t i) trace h;
   most_small = λ within. tt;

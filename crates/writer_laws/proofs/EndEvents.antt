@@ -5,15 +5,15 @@ use Rattle.access_model.specs.declared.{actions.{Action.Action, Gate.Gate}, repl
 use Rattle.cpu_words.specs.{Hooks.HookAnswer, Words.Words}
 use Rattle.percpu_rwsem.specs.declared.readers.UpRead.{UpRead}
 use Rattle.gate_world.specs.{Configs.IsWithin, Fits.{PhaseFits, Fits}, Levels.{level_role_of, sync_role_of, inside}, Rules.{IsGood, StepKeeps, Fitting}}
-use Rattle.gate_world.specs.{Views.{held_at, holds_level}, Worlds.World, declared.{config.Config.Config, views.View.View, work.Phase.Phase}}
+use Rattle.gate_world.specs.{Views.{held_of, holds_level}, Worlds.World, declared.{config.Config.Config, views.View.View, work.Phase.Phase}}
 use Rattle.writer_laws.proofs.LevelCounts.{SameElsewhere, words_down, view_down, down_beside, held_bit, leaves}
 use Rattle.writer_laws.proofs.LevelParts.{IsBeside, IsAtLevels, SameAtMounts, end_at_levels, reads_at_levels, level_parts, level_shown, sync_left_at}
 use Rattle.writer_laws.proofs.LevelParts.{sections_left_at}
 
 module _ (c : Config) (lim : IsWithin c) (w : World) (good : IsGood c w) (t : ℕ) (lt : t < c.tasks) (hook : HookAnswer) (u : UpRead)
     (e : (w.views t).phase ≡ Some (Phase.UpReads u)) where
-  end_fits : PhaseFits c t (held_at (w.views t)) (holds_level (w.views t)) (Phase.UpReads u)
-  end_fits = subst (Fits c t (held_at (w.views t)) (holds_level (w.views t))) e (good Fitting t lt)
+  end_fits : PhaseFits c t (held_of (w.views t)) (Phase.UpReads u)
+  end_fits = subst (Fits c t (held_of (w.views t))) e (good Fitting t lt)
 
   -- what comes after its event, and the action that this adds
   abbrev ended : Next Phase × Option Action

@@ -31,7 +31,7 @@ use Rattle.writer_laws.proofs.LevelCounts.{count_none, count_on, count_off, Same
 use Rattle.gate_world.specs.declared.work.Phase.TheVariants.{DownReads}
 use Rattle.access_model.specs.Replies.{map_next}
 use Rattle.percpu_rwsem.specs.declared.sync_word.GpState.TheVariants.{Idle}
-use Rattle.gate_world.specs.Views.{phase_after, holds_level, held_at, view_with, has_open}
+use Rattle.gate_world.specs.{Holdings.Holdings, Views.{phase_after, holds_level, held_at, held_of, view_with, has_open}}
 use Rattle.gate_world.specs.Fits.{ReadFits, ReadStepFits, Fits}
 use Rattle.gate_world.specs.Levels.{read_count_role, level_role_of, sync_role_of, count_role_if, at_level}
 use Rattle.percpu_rwsem.specs.declared.readers.DownRead.{DownRead}
@@ -99,10 +99,10 @@ blocked_counts r true j = count_none (j == r.level)
 blocked_counts r false j = refl
 
 -- it fits what it holds
-blocked_fits : (c : Config) (t : ℕ) (held : ℕ → ℕ) (levels : ℕ → Bool) (r : DownRead) (b : Bool) →
-    ReadFits c t levels (at_down_read r LeavesBlocked) → Fits c t held levels (phase_after (map_next DownReads (left_blocked r b)))
-blocked_fits c t held levels r true f = f
-blocked_fits c t held levels r false f = tt
+blocked_fits : (c : Config) (t : ℕ) (held : Holdings) (r : DownRead) (b : Bool) →
+    ReadFits c t held (at_down_read r LeavesBlocked) → Fits c t held (phase_after (map_next DownReads (left_blocked r b)))
+blocked_fits c t held r true f = f
+blocked_fits c t held r false f = tt
 
 module _ (c : Config) (lim : IsWithin c) (w : World) (good : IsGood c w) (t : ℕ) (lt : t < c.tasks) (hook : HookAnswer) (r : DownRead) where
   -- the start is at this step
@@ -111,11 +111,11 @@ module _ (c : Config) (lim : IsWithin c) (w : World) (good : IsGood c w) (t : �
 
   -- its numbers are in range, and its task holds what it may
   abbrev FitsHere : DownReadStep → Type 0
-  FitsHere s = ReadFits c t (holds_level (w.views t)) (at_down_read r s)
+  FitsHere s = ReadFits c t (held_of (w.views t)) (at_down_read r s)
 
   -- the rule says so
   fits_here : (s : DownReadStep) → IsAt s → FitsHere s
-  fits_here s e = subst (Fits c t (held_at (w.views t)) (holds_level (w.views t))) e (good Fitting t lt)
+  fits_here s e = subst (Fits c t (held_of (w.views t))) e (good Fitting t lt)
 
   -- its event leaves the rcu_sync of each level, and the sections
   levels_hold : (s : DownReadStep) → IsAt s → LevelsHold c (after_step w t (DownReads (at_down_read r s)) hook)
@@ -177,7 +177,7 @@ module _ (c : Config) (lim : IsWithin c) (w : World) (good : IsGood c w) (t : �
   -- it does, as the task enters its section or leaves it
   turns : (s : DownReadStep) (n : Next DownRead) → IsAt s → read_count_role r.cpu s ≡ CountsNot →
       ((j : ℕ) → level_role_of j (phase_after (map_next DownReads n)) ≡ CountsNot) →
-      Fits c t (held_at (w.views t)) (holds_level (w.views t)) (phase_after (map_next DownReads n)) →
+      Fits c t (held_of (w.views t)) (phase_after (map_next DownReads n)) →
       LevelsHold c (record { words = section_words; views = update w.views t (section_view n) }) → SectionKeeps n
   turns s n e counts no_count fits levels =
       let v : View = section_view n in
@@ -203,7 +203,7 @@ module _ (c : Config) (lim : IsWithin c) (w : World) (good : IsGood c w) (t : �
   leaves_blocked : IsAt LeavesBlocked → StepKeeps c w t hook (DownReads (at_down_read r LeavesBlocked))
   leaves_blocked e =
       turns LeavesBlocked (left_blocked r r.wait) e refl (blocked_counts r r.wait)
-      (blocked_fits c t (held_at (w.views t)) (holds_level (w.views t)) r r.wait (fits_here LeavesBlocked e)) (levels_hold LeavesBlocked e)
+      (blocked_fits c t (held_of (w.views t)) r r.wait (fits_here LeavesBlocked e)) (levels_hold LeavesBlocked e)
 
   -- the world after an event on this word, in which its task comes to this
   abbrev then_view : WordName × Touch → Next DownRead × Option Action → View

@@ -36,7 +36,7 @@ use Rattle.gate_world.specs.declared.work.Phase.TheVariants.{DownReads, Callback
 use Rattle.gate_world.specs.Configs.{IsWithin, extents_of}
 use Rattle.gate_world.specs.Views.{phase_after}
 use Rattle.gate_world.specs.Operations.{holds_none_from, is_level_number}
-use Rattle.gate_world.specs.Fits.{ReadStepFits, ReadFits, GraceFits, PhaseFits, Fits, ActionFits, mounts_by, levels_by}
+use Rattle.gate_world.specs.{Fits.{ReadStepFits, ReadFits, GraceFits, PhaseFits, Fits, ActionFits}, Holdings.{Holdings, held_after}}
 use Rattle.gate_frames.proofs.Keeps.{by_bool}
 use Rattle.writer_laws.proofs.ReadTraces.{by_word}
 
@@ -73,7 +73,7 @@ read_there c t lt r CountsDown l1 l3 p same = (l1, l3, p)
 read_there c t lt r other l1 l3 p same = omega (arith, same, lt)
 
 -- its action can be done
-pub read_acts : (held : ℕ → ℕ) (r : DownRead) (s : DownReadStep) (found : ℕ) → 1 ≤ r.level → r.level ≤ 3 →
+pub read_acts : (held : Holdings) (r : DownRead) (s : DownReadStep) (found : ℕ) → 1 ≤ r.level → r.level ≤ 3 →
     ActionFits held (down_read_after r s found).1
 read_acts held r CountsUpFast found l1 l3 = (l1, l3)
 read_acts held r LoadsBlock found l1 l3 =
@@ -81,50 +81,51 @@ read_acts held r LoadsBlock found l1 l3 =
 read_acts held r s found l1 l3 = tt
 
 -- it moves no access at a mount
-pub read_mounts : (held : ℕ → ℕ) (r : DownRead) (s : DownReadStep) (found : ℕ) → mounts_by (down_read_after r s found).1 held ≡ held
+pub read_mounts : (held : Holdings) (r : DownRead) (s : DownReadStep) (found : ℕ) →
+    (held_after (down_read_after r s found).1 held).mounts ≡ held.mounts
 read_mounts held r LoadsBlock found =
-    by_bool (found == 0) (λ b. mounts_by (if b then Some (Grant (Level r.level)) else None) held ≡ held) refl refl
+    by_bool (found == 0) (λ b. (held_after (if b then Some (Grant (Level r.level)) else None) held).mounts ≡ held.mounts) refl refl
 read_mounts held r s found = refl
 
 -- What comes after an event of a down-read at this level, on this processor, fits these accesses; and where it ends well, the level is
 -- held. So an operation that goes on inside the level knows that it is.
-abbrev pub ReadGoes : Config → ℕ → ℕ → ℕ → (ℕ → Bool) → Next DownRead → Type 0
-ReadGoes c t i p levels (Go r) = ReadFits c t levels r × (r.level ≡ i) × (r.cpu ≡ p)
-ReadGoes c t i p levels (Wait r) = ReadFits c t levels r × (r.level ≡ i) × (r.cpu ≡ p)
-ReadGoes c t i p levels (Done (Ok reply)) = levels i ≡ true
-ReadGoes c t i p levels (Done (Err refusal)) = Unit {0}
+abbrev pub ReadGoes : Config → ℕ → ℕ → ℕ → Holdings → Next DownRead → Type 0
+ReadGoes c t i p held (Go r) = ReadFits c t held r × (r.level ≡ i) × (r.cpu ≡ p)
+ReadGoes c t i p held (Wait r) = ReadFits c t held r × (r.level ≡ i) × (r.cpu ≡ p)
+ReadGoes c t i p held (Done (Ok reply)) = held.levels i ≡ true
+ReadGoes c t i p held (Done (Err refusal)) = Unit {0}
 
 module _ (c : Config) (t : ℕ) (r : DownRead) (l1 : 1 ≤ r.level) (l3 : r.level ≤ 3) (p : r.cpu < c.processors) (same : r.task ≡ t) where
   -- the next step fits these accesses
-  goes_on : (levels : ℕ → Bool) (s : DownReadStep) → ReadStepFits r.level levels s →
-      ReadGoes c t r.level r.cpu levels (Go (at_down_read r s))
-  goes_on levels s h = ((l1, l3, p, same, h), refl, refl)
+  goes_on : (held : Holdings) (s : DownReadStep) → ReadStepFits r.level held.levels s →
+      ReadGoes c t r.level r.cpu held (Go (at_down_read r s))
+  goes_on held s h = ((l1, l3, p, same, h), refl, refl)
 
   -- so it is after each event
-  pub read_goes : (levels : ℕ → Bool) (s : DownReadStep) (found : ℕ) → ReadStepFits r.level levels s →
-      ReadGoes c t r.level r.cpu (levels_by (down_read_after r s found).1 levels) (down_read_after r s found).0
-  read_goes levels EntersSection found h = goes_on levels LoadsSync h
-  read_goes levels LoadsSync found h =
-      by_word (λ s. ReadGoes c t r.level r.cpu levels (Go (at_down_read r s))) (goes_on levels LoadsSync h)
-      (goes_on levels CountsUpFast h) (goes_on levels CountsUpSlow h) (unpack found)
-  read_goes levels CountsUpFast found h = goes_on (update levels r.level true) LeavesAdmitted (update_at levels r.level true)
-  read_goes levels CountsUpSlow found h = goes_on levels LoadsBlock h
-  read_goes levels LoadsBlock found h =
+  pub read_goes : (held : Holdings) (s : DownReadStep) (found : ℕ) → ReadStepFits r.level held.levels s →
+      ReadGoes c t r.level r.cpu (held_after (down_read_after r s found).1 held) (down_read_after r s found).0
+  read_goes held EntersSection found h = goes_on held LoadsSync h
+  read_goes held LoadsSync found h =
+      by_word (λ s. ReadGoes c t r.level r.cpu held (Go (at_down_read r s))) (goes_on held LoadsSync h)
+      (goes_on held CountsUpFast h) (goes_on held CountsUpSlow h) (unpack found)
+  read_goes held CountsUpFast found h = goes_on (held_after (Some (Grant (Level r.level))) held) LeavesAdmitted (update_at held.levels r.level true)
+  read_goes held CountsUpSlow found h = goes_on held LoadsBlock h
+  read_goes held LoadsBlock found h =
       elim (cases_Bool (found == 0)) [
-        | inl f ↦ rw f (goes_on (update levels r.level true) LeavesAdmitted (update_at levels r.level true))
-        | inr f ↦ rw f (goes_on levels CountsDown h)
+        | inl f ↦ rw f (goes_on (held_after (Some (Grant (Level r.level))) held) LeavesAdmitted (update_at held.levels r.level true))
+        | inr f ↦ rw f (goes_on held CountsDown h)
       ]
-  read_goes levels CountsDown found h = goes_on levels LeavesBlocked h
-  read_goes levels LeavesAdmitted found h = h
-  read_goes levels LeavesBlocked found h =
-      by_bool r.wait (λ b. ReadGoes c t r.level r.cpu levels (left_blocked r b)) (goes_on levels EntersSection h) tt
+  read_goes held CountsDown found h = goes_on held LeavesBlocked h
+  read_goes held LeavesAdmitted found h = h
+  read_goes held LeavesBlocked found h =
+      by_bool r.wait (λ b. ReadGoes c t r.level r.cpu held (left_blocked r b)) (goes_on held EntersSection h) tt
 
 -- what comes after an event of a down-read that stands alone fits
-pub read_fits : (c : Config) (t i p : ℕ) (held : ℕ → ℕ) (levels : ℕ → Bool) (n : Next DownRead) → ReadGoes c t i p levels n →
-    Fits c t held levels (phase_after (map_next DownReads n))
-read_fits c t i p held levels (Go r) h = h.0
-read_fits c t i p held levels (Wait r) h = h.0
-read_fits c t i p held levels (Done answer) h = tt
+pub read_fits : (c : Config) (t i p : ℕ) (held : Holdings) (n : Next DownRead) → ReadGoes c t i p held n →
+    Fits c t held (phase_after (map_next DownReads n))
+read_fits c t i p held (Go r) h = h.0
+read_fits c t i p held (Wait r) h = h.0
+read_fits c t i p held (Done answer) h = tt
 
 -- the word of each event of a callback is there
 pub callback_there : (c : Config) (b : Callback) (s : CallbackStep) → 1 ≤ b.level → b.level ≤ 3 → GraceFits c.tasks s →
@@ -234,10 +235,10 @@ same_level b (Claims transition) found = claim_level b (transition_after on_clai
 same_level b (AwaitsSections grace) found = looked_level b (looked grace found)
 same_level b (CallsBack transition) found = call_level b (transition_after on_callback transition found)
 
-module _ (c : Config) (within : IsWithin c) (t : ℕ) (held : ℕ → ℕ) (levels : ℕ → Bool) (b : Callback) where
+module _ (c : Config) (within : IsWithin c) (t : ℕ) (held : Holdings) (b : Callback) where
   -- all this together says that what comes next fits
   all_fit : 1 ≤ b.level → b.level ≤ 3 → b.tasks ≡ c.tasks → (n : Next Callback) → AtLevelOf b n → NextGraceFits b.tasks n →
-      KnowsNext b n → Fits c t held levels (phase_after (map_next Callbacks n))
+      KnowsNext b n → Fits c t held (phase_after (map_next Callbacks n))
   all_fit l1 l3 same (Go x) l g k =
       (omega (arith, l, l1), omega (arith, l, l3), k.0 ∙ same, subst (λ n. GraceFits n x.step) same g, k.1)
   all_fit l1 l3 same (Wait x) l g k =
@@ -245,8 +246,8 @@ module _ (c : Config) (within : IsWithin c) (t : ℕ) (held : ℕ → ℕ) (leve
   all_fit l1 l3 same (Done answer) l g k = tt
 
   -- what comes after each event of a callback fits
-  pub callback_goes : (s : CallbackStep) (found : ℕ) → PhaseFits c t held levels (Callbacks (at_callback b s)) →
-      Fits c t held levels (phase_after (map_next Callbacks (callback_after b s found).0))
+  pub callback_goes : (s : CallbackStep) (found : ℕ) → PhaseFits c t held (Callbacks (at_callback b s)) →
+      Fits c t held (phase_after (map_next Callbacks (callback_after b s found).0))
   callback_goes s found f =
       let some : 0 < b.tasks = omega (arith, f.2, within.some_task) in
       all_fit f.0 f.1 f.2 (callback_after b s found).0 (same_level b s found)

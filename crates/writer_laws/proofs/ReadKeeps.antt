@@ -11,12 +11,12 @@ use Rattle.gate_world.specs.declared.config.Config.{Config}
 use Rattle.gate_world.specs.declared.operations.Op.TheVariants.{Start, End}
 use Rattle.gate_world.specs.declared.work.Phase.TheVariants.{DownReads, UpReads}
 use Rattle.gate_world.specs.Causes.{asks_level}
-use Rattle.gate_world.specs.Fits.{Fits, mounts_by, levels_by}
+use Rattle.gate_world.specs.{Fits.Fits, Holdings.held_after}
 use Rattle.gate_world.specs.Levels.{sync_role_of, count_role_if, sync_role_if}
 use Rattle.gate_world.specs.Operations.{is_level_number}
 use Rattle.gate_world.specs.Rules.{Fitting}
 use Rattle.gate_world.specs.Traces.{most_events}
-use Rattle.gate_world.specs.Views.{held_at, holds_level}
+use Rattle.gate_world.specs.Views.{held_of}
 use Rattle.gate_world.specs.Worlds.{World, after_step, found_at}
 use Rattle.gate_frames.proofs.Keeps.{by_bool, PhaseKeeps, IsSmall, OpKeeps}
 use Rattle.gate_frames.proofs.Snapshots.{completes_none}
@@ -35,18 +35,17 @@ read_phase c r = record {
   step = λ within w good t lt hook e. read_keeps c within w good t lt hook r e;
   runs = λ within w good t lt hook e i one three. read_runs c w good t lt hook r e i;
   completes = λ within w good t lt hook e. completes_none c w t hook (DownReads r) (λ trace found. refl);
-  word = λ n le t lt held levels hook f. read_there (record c { tasks = n; nodes = 64 + (c.nodes - 64) }) t lt r r.step f.0 f.1 f.2 f.3;
-  acts = λ within t held levels found hook f. read_acts held r r.step found f.0 f.1;
-  goes = λ within t held levels found hook f.
-      read_fits c t r.level r.cpu (mounts_by (down_read_after r r.step found).1 held)
-      (levels_by (down_read_after r r.step found).1 levels) (down_read_after r r.step found).0
-      (read_goes c t r f.0 f.1 f.2 f.3 levels r.step found f.4);
-  agrees = λ t f g h k mounts levels fits.
-      (fits.0, fits.1, fits.2, fits.3, read_step_agrees h k levels r.level r.step fits.0 fits.1 fits.4);
+  word = λ n le t lt held hook f. read_there (record c { tasks = n; nodes = 64 + (c.nodes - 64) }) t lt r r.step f.0 f.1 f.2 f.3;
+  acts = λ within t held found hook f. read_acts held r r.step found f.0 f.1;
+  goes = λ within t held found hook f.
+      read_fits c t r.level r.cpu (held_after (down_read_after r r.step found).1 held) (down_read_after r r.step found).0
+      (read_goes c t r f.0 f.1 f.2 f.3 held r.step found f.4);
+  agrees = λ t held seen same fits.
+      (fits.0, fits.1, fits.2, fits.3, read_step_agrees held.levels seen.levels same.levels r.level r.step fits.0 fits.1 fits.4);
   stays = λ w next earlier good t f e was quiet h. read_stays c t w next earlier r.level r.step (ap asks_level e) h;
   causes = λ w earlier good t lt hook e after is h.
-      let f : Fits c t (held_at (w.views t)) (holds_level (w.views t)) (Some (DownReads r)) =
-      subst (Fits c t (held_at (w.views t)) (holds_level (w.views t))) e (good Fitting t lt) in
+      let f : Fits c t (held_of (w.views t)) (Some (DownReads r)) =
+      subst (Fits c t (held_of (w.views t))) e (good Fitting t lt) in
       let next : World = after_step w t (DownReads r) hook in
       next_cause c t w next earlier (down_read_after r r.step (found_at w.words (DownReads r) hook)).0
       (read_own c t w next earlier good r f.0 f.1 hook r.step (ap asks_level e)
@@ -63,10 +62,10 @@ end_phase c u = record {
   step = λ within w good t lt hook e. end_keeps c within w good t lt hook u e;
   runs = λ within w good t lt hook e i one three. end_runs c w t lt hook u e i;
   completes = λ within w good t lt hook e. completes_none c w t hook (UpReads u) (λ trace found. refl);
-  word = λ n le t lt held levels hook f. (f.0, f.1, f.2);
-  acts = λ within t held levels found hook f. (f.0, f.1);
-  goes = λ within t held levels found hook f. tt;
-  agrees = λ t f g h k mounts levels fits. (fits.0, fits.1, fits.2, sym (levels u.level fits.0 fits.1) ∙ fits.3);
+  word = λ n le t lt held hook f. (f.0, f.1, f.2);
+  acts = λ within t held found hook f. (f.0, f.1);
+  goes = λ within t held found hook f. tt;
+  agrees = λ t held seen same fits. (fits.0, fits.1, fits.2, sym (same.levels u.level fits.0 fits.1) ∙ fits.3);
   stays = λ w next earlier good t f e was quiet h. tt;
   causes = λ w earlier good t lt hook e after is h. tt;
   reasons = λ within w earlier good t lt hook e cause. tt;
@@ -83,7 +82,7 @@ in_level c i p there =
 -- of the beginning and the trace of a start
 pub start_op : (c : Config) (i p : ℕ) (wait : Bool) → OpKeeps c (Start i p wait)
 start_op c i p wait = record {
-  fits = λ t held levels there order room.
+  fits = λ t held there order room.
       let l : (1 ≤ i) × (i ≤ 3) × (p < c.processors) = in_level c i p there in
       (l.0, l.1, l.2, refl, order);
   starts_idle = λ t. record {
@@ -97,10 +96,10 @@ start_op c i p wait = record {
   };
   off_tree = λ t trace. refl;
   cause = λ t w earlier. tt;
-  order_agrees = λ f g h k mounts levels there. none_from_agree h k levels i;
-  room_agrees = λ f g mounts there. refl;
-  restores = λ refusal trace before order. (refl, refl, refl);
-  file = λ t files own closed. tt;
+  order_agrees = λ held seen same there. none_from_agree held.levels seen.levels same.levels i;
+  room_agrees = λ held seen same there. refl;
+  restores = λ refusal trace before order. refl;
+  file = λ t held order room. tt;
   tells = λ within t trace h. tells_well (StartAt i p t wait) c t (Start i p wait) (start_kept c t i p wait) trace h;
   short = λ within t trace h. is_short_well (StartAt i p t wait) c t (Start i p wait) (start_kept c t i p wait) trace h;
   most_small = λ within. by_bool wait (λ b. IsSmall (most_events c (Start i p b))) tt (omega arith);
@@ -109,16 +108,16 @@ start_op c i p wait = record {
 -- of those of an end
 pub end_op : (c : Config) (i p : ℕ) → OpKeeps c (End i p)
 end_op c i p = record {
-  fits = λ t held levels there order room.
+  fits = λ t held there order room.
       let l : (1 ≤ i) × (i ≤ 3) × (p < c.processors) = in_level c i p there in
       (l.0, l.1, l.2, order);
   starts_idle = λ t. assumption;
   off_tree = λ t trace. refl;
   cause = λ t w earlier. tt;
-  order_agrees = λ f g h k mounts levels there. levels i (in_level c i p there).0 (in_level c i p there).1;
-  room_agrees = λ f g mounts there. refl;
-  restores = λ refusal trace before order. (refl, refl, refl);
-  file = λ t files own closed. tt;
+  order_agrees = λ held seen same there. same.levels i (in_level c i p there).0 (in_level c i p there).1;
+  room_agrees = λ held seen same there. refl;
+  restores = λ refusal trace before order. refl;
+  file = λ t held order room. tt;
   tells = λ within t trace h. tells (EndAt i p) c t (End i p) (end_kept c t i p) trace h;
   short = λ within t trace h. is_short (EndAt i p) c t (End i p) (end_kept c t i p) trace h;
   most_small = λ within. omega arith;

@@ -28,7 +28,7 @@ use Rattle.gate_world.specs.declared.config.Config.{Config}
 use Rattle.gate_world.specs.declared.views.View.{View}
 use Rattle.gate_world.specs.declared.work.Phase.TheVariants.{DownReads, UpReads, Callbacks}
 use Rattle.gate_world.specs.Fits.{Fits}
-use Rattle.gate_world.specs.Views.{held_at, holds_level, view_after, phase_after}
+use Rattle.gate_world.specs.Views.{held_of, view_after, phase_after}
 use Rattle.gate_world.specs.Worlds.{World, after_step}
 use Rattle.gate_world.specs.Levels.{sync_role_if, sync_role_of, inside, is_frozen_whole}
 use Rattle.gate_world.specs.LevelRuns.{level_in}
@@ -183,8 +183,8 @@ module _ (c : Config) (w : World) (good : IsGood c w) (hook : HookAnswer) (r : D
 pub read_runs : (c : Config) (w : World) → IsGood c w → (t : ℕ) → t < c.tasks → (hook : HookAnswer) (r : DownRead) →
     (w.views t).phase ≡ Some (DownReads r) → (i : ℕ) → SyncStep c.tasks (level_in w i) (level_in (after_step w t (DownReads r) hook) i)
 read_runs c w good t lt hook r e =
-    let f : Fits c t (held_at (w.views t)) (holds_level (w.views t)) (Some (DownReads r)) =
-    subst (Fits c t (held_at (w.views t)) (holds_level (w.views t))) e (good Fitting t lt) in
+    let f : Fits c t (held_of (w.views t)) (Some (DownReads r)) =
+    subst (Fits c t (held_of (w.views t))) e (good Fitting t lt) in
     subst (λ x. x < c.tasks → (w.views x).phase ≡ Some (DownReads r) → (i : ℕ) →
     SyncStep c.tasks (level_in w i) (level_in (after_step w x (DownReads r) hook) i)) f.3
     (λ lx ex. runs_step c w good hook r lx f.0 f.1 r.step ex) lt e

@@ -36,7 +36,7 @@ module _ (c : Config) (lim : IsWithin c) (w : World) (good : IsGood c w) (t : �
             (ap (update (λ x. at_mount m (w.views x)) t)
             (view_as refl (update_at (added_by (w.views t).events) m net) refl (role_on m (Asking p))))
             (adds (good (AtMount m) lm) t lt lim.tasks lim.processors p f.1 (want_here m p wait WantStep.CountsUp e))),
-        shown_still c w t lt ws v refl refl refl refl refl refl refl same.closing_same refl refl refl,
+        shown_still c w t lt ws v refl refl refl refl refl refl refl same.closing_same refl,
       )
 
   module _ (m p : ℕ) (hook : HookAnswer) where
@@ -79,7 +79,7 @@ module _ (c : Config) (lim : IsWithin c) (w : World) (good : IsGood c w) (t : �
         let same : IsSteady (w.views t).phase None = as_owner (want m p wait (WantStep.CountsDown refusal)) e refl refl (λ i. refl) in (
           take_law (held_at (w.views t) m) (Err refusal) None (want_off m p wait (WantStep.CountsDown refusal) e) same refl (λ y ne. refl)
               (backs_off (good (AtMount m) f.0) t lt lim.tasks lim.processors p f.1 (want_here m p wait (WantStep.CountsDown refusal) e)),
-          shown_still c w t lt words_less (done (Err refusal) None) refl refl refl refl refl refl refl same.closing_same refl refl refl,
+          shown_still c w t lt words_less (done (Err refusal) None) refl refl refl refl refl refl refl same.closing_same refl,
         )
 
     pub drops : (w.views t).phase ≡ Some (Phase.Mounts (MountPhase.Drop m p)) → GateStepKeeps c w t hook (Phase.Mounts (MountPhase.Drop m p))

@@ -4,7 +4,7 @@ use Rattle.access_model.specs.{Replies.map_next, declared.{actions.{Action.Actio
 use Rattle.cpu_words.specs.Names.{IsWord}
 use Rattle.mount_counts.specs.Phases.{has_flag, at_want, hold_found, want_next, want_after, next}
 use Rattle.mount_counts.specs.declared.phases.{MountPhase.MountPhase, Want.Want, WantStep.WantStep}
-use Rattle.gate_world.specs.{Configs.{IsWithin, extents_of}, Fits.{MountFits, Fits, ActionFits, mounts_by, levels_by}, Views.phase_after}
+use Rattle.gate_world.specs.{Configs.{IsWithin, extents_of}, Fits.{MountFits, Fits, ActionFits}, Holdings.{Holdings, held_after}, Views.phase_after}
 use Rattle.gate_world.specs.declared.{config.Config.Config, work.Phase.Phase}
 use Rattle.gate_frames.proofs.Keeps.{by_bool}
 
@@ -17,27 +17,26 @@ want_there c w WantStep.LoadsReadOnly m p = m
 want_there c w WantStep.LoadsSuperblock m p = tt
 want_there c w (WantStep.CountsDown refusal) m p = (m, p)
 
-module _ (c : Config) (within : IsWithin c) (t : ℕ) (held : ℕ → ℕ) (levels : ℕ → Bool) where
-  pub want_acts : (w : Want) (step : WantStep) (found : ℕ) → w.mount < 8 → held w.mount < 1024 → ActionFits held (want_after w step found).1
+module _ (c : Config) (within : IsWithin c) (t : ℕ) (held : Holdings) where
+  pub want_acts : (w : Want) (step : WantStep) (found : ℕ) → w.mount < 8 → held.mounts w.mount < 1024 → ActionFits held (want_after w step found).1
   want_acts w WantStep.LoadsSuperblock found m room = by_bool (found == 0) (λ b. ActionFits held (if b then Some (Action.Grant (Gate.Mount w.mount)) else None))
       (m, room) tt
   want_acts w step found m room = tt
 
   -- what comes after an event that adds nothing fits
   abbrev NextFits : Next Want → Type 0
-  NextFits next = Fits c t held levels (phase_after (map_next Phase.Mounts (map_next MountPhase.Want next)))
+  NextFits next = Fits c t held (phase_after (map_next Phase.Mounts (map_next MountPhase.Want next)))
 
   -- what comes after the last question fits what the want holds then
   abbrev AnsweredFits : Want → Bool → Type 0
   AnsweredFits w granted =
-      Fits c t (mounts_by (if granted then Some (Action.Grant (Gate.Mount w.mount)) else None) held)
-      (levels_by (if granted then Some (Action.Grant (Gate.Mount w.mount)) else None) levels)
+      Fits c t (held_after (if granted then Some (Action.Grant (Gate.Mount w.mount)) else None) held)
       (phase_after (map_next Phase.Mounts
       (map_next MountPhase.Want (if granted then Next.Done (Ok Reply.Unit) else Next.Go (at_want w (WantStep.CountsDown GateError.ReadOnly))))))
 
   -- what comes after each event of a want fits
-  pub want_goes : (w : Want) (step : WantStep) (found : ℕ) → MountFits c t held levels (MountPhase.Want w) →
-      Fits c t (mounts_by (want_after w step found).1 held) (levels_by (want_after w step found).1 levels)
+  pub want_goes : (w : Want) (step : WantStep) (found : ℕ) → MountFits c t held (MountPhase.Want w) →
+      Fits c t (held_after (want_after w step found).1 held)
       (phase_after (map_next Phase.Mounts (map_next MountPhase.Want (want_after w step found).0)))
   want_goes w WantStep.CountsUp found f = f
   want_goes w WantStep.LoadsHold found f =
@@ -52,7 +51,7 @@ module _ (c : Config) (within : IsWithin c) (t : ℕ) (held : ℕ → ℕ) (leve
   want_goes w WantStep.LoadsSuperblock found f = by_bool (found == 0) (AnsweredFits w) tt f
   want_goes w (WantStep.CountsDown refusal) found f = tt
 
-pub want_leaves : (w : Want) (step : WantStep) (found : ℕ) (levels : ℕ → Bool) → levels_by (want_after w step found).1 levels ≡ levels
-want_leaves w WantStep.LoadsSuperblock found levels =
-    by_bool (found == 0) (λ b. levels_by (if b then Some (Action.Grant (Gate.Mount w.mount)) else None) levels ≡ levels) refl refl
-want_leaves w step found levels = refl
+pub want_leaves : (w : Want) (step : WantStep) (found : ℕ) (held : Holdings) → (held_after (want_after w step found).1 held).levels ≡ held.levels
+want_leaves w WantStep.LoadsSuperblock found held =
+    by_bool (found == 0) (λ b. (held_after (if b then Some (Action.Grant (Gate.Mount w.mount)) else None) held).levels ≡ held.levels) refl refl
+want_leaves w step found held = refl

@@ -11,7 +11,7 @@ use Rattle.mount_counts.specs.declared.phases.{MountPhase.MountPhase, WantStep.W
 use Rattle.mount_laws.proofs.Bits.{hold_clear, read_only_clear}
 use Rattle.mount_laws.proofs.MountLaws.{closed, remounting, finds_hold_clear, finds_no_remount, finds_writable, is_granted, is_refused, waits_on}
 use Rattle.gate_world.specs.{Fits.Fits, Rules.{want_role, role_of, at_mount, owns, remounts, IsSteady, IsGood, GateStepKeeps, AtMount, MountHoldsIn, GatesHold}}
-use Rattle.gate_world.specs.{Shown.{shown, closing}, Views.{held_at, holds_level, phase_after, view_with, has_open}, Worlds.World}
+use Rattle.gate_world.specs.{Shown.{shown, closing}, Views.{held_at, held_of, phase_after, view_with, has_open}, Worlds.World}
 use Rattle.gate_world.specs.declared.{config.Config.Config, views.View.View, work.Phase.Phase}
 use Rattle.gate_frames.proofs.Frames.{role_on, role_off, view_as, holds_as, MountHoldsAfter, owner_same, gates_after, shown_as}
 use Rattle.gate_frames.proofs.Loads.{as_owner, after_load, load_law, fits_now}
@@ -50,7 +50,7 @@ module _ (c : Config) (w : World) (good : IsGood c w) (t : ℕ) (lt : t < c.task
   want_load name s s' coming e ec own =
       load_law c w good t lt m name hook coming (λ y ne. want_off m p wait s' ec y ne ∙ sym (want_off m p wait s e y ne))
       (as_owner (want m p wait s) e (ap owns ec) (ap remounts ec) (λ i. ap (closing i) ec))
-      (subst (Fits c t (held_at (w.views t)) (holds_level (w.views t))) (sym ec) (fits_here s e))
+      (subst (Fits c t (held_of (w.views t))) (sym ec) (fits_here s e))
       (λ lm. holds_as refl refl refl refl
       (ap (update (λ x. at_mount m (w.views x)) t) (view_as refl refl refl (want_here m p wait s' ec))) own)
 

@@ -9,10 +9,10 @@ use Rattle.mount_counts.specs.{Phases.want_after, declared.phases.{MountPhase.Mo
 use Rattle.percpu_rwsem.specs.{Readers.down_read_after, declared.readers.DownRead.DownRead}
 use Rattle.level_laws.specs.{Events.SyncStep, Roles.{Out as IsApart, closed}}
 use Rattle.write_access.specs.{Phases.{then_wants, then_gives_back, leaves_on}, declared.phases.WritePhase.WritePhase}
-use Rattle.gate_world.specs.{Causes.{asks, asks_level}, Configs.IsWithin, Fits.{WriteFits, Fits, mounts_by, levels_by}, LevelRuns.level_in}
-use Rattle.gate_world.specs.{Levels.{sync_role_of, sync_role_if, count_role_if}, Rules.{IsGood, StepKeeps, role_of}, Views.{held_at, holds_level, phase_after}}
+use Rattle.gate_world.specs.{Causes.{asks, asks_level}, Configs.IsWithin, Fits.{WriteFits, Fits}, Holdings.{Holdings, holdings_of, held_after}, LevelRuns.level_in}
+use Rattle.gate_world.specs.{Levels.{sync_role_of, sync_role_if, count_role_if}, Rules.{IsGood, StepKeeps, role_of}, Views.{held_of, phase_after}}
 use Rattle.gate_world.specs.{Worlds.{World, after_step, found_at}, declared.{config.Config.Config, operations.Op.Op, work.Phase.Phase}}
-use Rattle.gate_frames.proofs.{Beside.update_twice, Frames.role_on, Keeps.{by_bool, PhaseKeeps, OpKeeps, none_agree}}
+use Rattle.gate_frames.proofs.{Beside.update_twice, Frames.role_on, Agreeing.none_agree, Keeps.{by_bool, PhaseKeeps, OpKeeps}}
 use Rattle.gate_frames.proofs.{Says.{tells, is_short, tells_well, is_short_well}, Snapshots.completes_none, TreeHolders.both_true}
 use Rattle.writer_laws.proofs.Alikes.{alike_takes, alike_wants, alike_ends, alike_none, takes_goes, wants_goes}
 use Rattle.writer_laws.proofs.{ReadCauses.{read_stays, read_own, read_not_closed}, ReadFits.{read_mounts, read_goes}, ReadKeeps.{read_phase, end_phase}}
@@ -21,50 +21,45 @@ use Rattle.writer_laws.proofs.{WantWaits.want_waits, WriteCauses.{takes_asks, ta
 use Rattle.writer_laws.proofs.{WriteSteps.{write_fits_now, write_step, write_runs, first_world}, WriteTraces.{WriteAt, DropAt, write_kept, drop_kept}}
 
 -- what fits after an event at level 1, with the mount to come
-takes_fits : (c : Config) (t : ℕ) (held : ℕ → ℕ) (levels : ℕ → Bool) (m : ℕ) (r : DownRead) (found : ℕ) →
-    WriteFits c t held levels (WritePhase.Takes m r) →
-    Fits c t (mounts_by (down_read_after r r.step found).1 held) (levels_by (down_read_after r r.step found).1 levels)
+takes_fits : (c : Config) (t : ℕ) (held : Holdings) (m : ℕ) (r : DownRead) (found : ℕ) →
+    WriteFits c t held (WritePhase.Takes m r) → Fits c t (held_after (down_read_after r r.step found).1 held)
     (phase_after (map_next Phase.Writes (then_wants m r.cpu (down_read_after r r.step found).0)))
-takes_fits c t held levels m r found f =
-    let left : ℕ → Bool = levels_by (down_read_after r r.step found).1 levels in
-    let n : Next DownRead = (down_read_after r r.step found).0 in
-    subst (λ h. Fits c t h left (phase_after (map_next Phase.Writes (then_wants m r.cpu n)))) (sym (read_mounts held r r.step found))
-    (takes_goes c t held left m r.cpu f.2 f.0.2 r.level n f.1 f.3
-    (read_goes c t r f.0.0 f.0.1 f.0.2 f.0.3 levels r.step found f.0.4))
+takes_fits c t held m r found f =
+    takes_goes c t (held_after (down_read_after r r.step found).1 held) m r.cpu f.2 f.0.2 r.level (down_read_after r r.step found).0 f.1
+    (subst (λ g. g m < 1024) (sym (read_mounts held r r.step found)) f.3) (read_goes c t r f.0.0 f.0.1 f.0.2 f.0.3 held r.step found f.0.4)
 
-wants_fits : (c : Config) → IsWithin c → (t : ℕ) (held : ℕ → ℕ) (levels : ℕ → Bool) (x : Want) (found : ℕ) (hook : HookAnswer) →
-    WriteFits c t held levels (WritePhase.Wants x) →
-    Fits c t (mounts_by (want_after x x.step found).1 held) (levels_by (want_after x x.step found).1 levels)
+wants_fits : (c : Config) → IsWithin c → (t : ℕ) (held : Holdings) (x : Want) (found : ℕ) (hook : HookAnswer) →
+    WriteFits c t held (WritePhase.Wants x) → Fits c t (held_after (want_after x x.step found).1 held)
     (phase_after (map_next Phase.Writes (then_gives_back x.mount x.cpu (want_after x x.step found).0)))
-wants_fits c lim t held levels x found hook f =
-    wants_goes c t (mounts_by (want_after x x.step found).1 held) (levels_by (want_after x x.step found).1 levels) x.mount x.cpu
-    f.0.0 f.0.1 (want_after x x.step found).0 (ap (λ g. g 1) (want_leaves x x.step found levels) ∙ f.1)
-    ((want_phase c x).goes lim t held levels found hook f.0)
+wants_fits c lim t held x found hook f =
+    wants_goes c t (held_after (want_after x x.step found).1 held) x.mount x.cpu
+    f.0.0 f.0.1 (want_after x x.step found).0 (ap (λ g. g 1) (want_leaves x x.step found held) ∙ f.1)
+    ((want_phase c x).goes lim t held found hook f.0)
 
 -- each event keeps the rule, and moves the shown model by its action or not at all, as its gate's does
 pub write_keeps : (c : Config) → IsWithin c → (w : World) → IsGood c w → (t : ℕ) → t < c.tasks → (hook : HookAnswer) → (x : WritePhase) →
     (w.views t).phase ≡ Some (Phase.Writes x) → StepKeeps c w t hook (Phase.Writes x)
 write_keeps c lim w good t lt hook (WritePhase.Takes m r) e =
     let n : Next DownRead = (down_read_after r r.step (found_at w.words (Phase.DownReads r) hook)).0 in
-    let f : WriteFits c t (held_at (w.views t)) (holds_level (w.views t)) (WritePhase.Takes m r) =
+    let f : WriteFits c t (held_of (w.views t)) (WritePhase.Takes m r) =
     write_fits_now c w good t lt hook (WritePhase.Takes m r) e in
     write_step c w good t lt hook (WritePhase.Takes m r) e
     (λ g at. (read_phase c r).step lim (first_world c w good t lt hook (WritePhase.Takes m r) e) g t lt hook at)
     (map_next Phase.Writes (then_wants m r.cpu n)) (alike_takes m r.cpu n)
-    (takes_fits c t (held_at (w.views t)) (holds_level (w.views t)) m r (found_at w.words (Phase.DownReads r) hook) f)
+    (takes_fits c t (held_of (w.views t)) m r (found_at w.words (Phase.DownReads r) hook) f)
 write_keeps c lim w good t lt hook (WritePhase.Wants x) e =
     let n : Next Want = (want_after x x.step (found_at w.words (Phase.Mounts (MountPhase.Want x)) hook)).0 in
-    let f : WriteFits c t (held_at (w.views t)) (holds_level (w.views t)) (WritePhase.Wants x) = write_fits_now c w good t lt hook (WritePhase.Wants x) e in
+    let f : WriteFits c t (held_of (w.views t)) (WritePhase.Wants x) = write_fits_now c w good t lt hook (WritePhase.Wants x) e in
     write_step c w good t lt hook (WritePhase.Wants x) e
     (λ g at. (want_phase c x).step lim (first_world c w good t lt hook (WritePhase.Wants x) e) g t lt hook at)
     (map_next Phase.Writes (then_gives_back x.mount x.cpu n)) (alike_wants x.mount x.cpu n)
-    (wants_fits c lim t (held_at (w.views t)) (holds_level (w.views t)) x (found_at w.words (Phase.Mounts (MountPhase.Want x)) hook) hook f)
+    (wants_fits c lim t (held_of (w.views t)) x (found_at w.words (Phase.Mounts (MountPhase.Want x)) hook) hook f)
 write_keeps c lim w good t lt hook (WritePhase.GivesBack m p refusal) e =
     write_step c w good t lt hook (WritePhase.GivesBack m p refusal) e
     (λ g at. (end_phase c (leaves_on p)).step lim (first_world c w good t lt hook (WritePhase.GivesBack m p refusal) e) g t lt hook at)
     (Next.Done (Err refusal)) alike_none tt
 write_keeps c lim w good t lt hook (WritePhase.Drops m p) e =
-    let f : WriteFits c t (held_at (w.views t)) (holds_level (w.views t)) (WritePhase.Drops m p) =
+    let f : WriteFits c t (held_of (w.views t)) (WritePhase.Drops m p) =
     write_fits_now c w good t lt hook (WritePhase.Drops m p) e in
     write_step c w good t lt hook (WritePhase.Drops m p) e
     (λ g at. (drop_phase c m p).step lim (first_world c w good t lt hook (WritePhase.Drops m p) e) g t lt hook at)
@@ -102,14 +97,14 @@ takes_phase c m r = record {
   step = λ lim w good t lt hook e. write_keeps c lim w good t lt hook (WritePhase.Takes m r) e;
   runs = λ lim w good t lt hook e i one three. write_phase_runs c lim w good t lt hook (WritePhase.Takes m r) e i one three;
   completes = λ lim w good t lt hook e. completes_none c w t hook (Phase.Writes (WritePhase.Takes m r)) (λ trace found. refl);
-  word = λ n le t lt held levels hook f. (read_phase c r).word n le t lt held levels hook f.0;
-  acts = λ lim t held levels found hook f. (read_phase c r).acts lim t held levels found hook f.0;
-  goes = λ lim t held levels found hook f. takes_fits c t held levels m r found f;
-  agrees = λ t f g h k mounts levels fits.
-      ((read_phase c r).agrees t f g h k mounts levels fits.0, fits.1, fits.2, omega (arith, fits.3, mounts m fits.2));
+  word = λ n le t lt held hook f. (read_phase c r).word n le t lt held hook f.0;
+  acts = λ lim t held found hook f. (read_phase c r).acts lim t held found hook f.0;
+  goes = λ lim t held found hook f. takes_fits c t held m r found f;
+  agrees = λ t held seen same fits.
+      ((read_phase c r).agrees t held seen same fits.0, fits.1, fits.2, omega (arith, fits.3, same.mounts m fits.2));
   stays = λ w next earlier good t f e was quiet h. read_stays c t w next earlier r.level r.step (ap asks_level e) h;
   causes = λ w earlier good t lt hook e after is h.
-      let f : WriteFits c t (held_at (w.views t)) (holds_level (w.views t)) (WritePhase.Takes m r) =
+      let f : WriteFits c t (held_of (w.views t)) (WritePhase.Takes m r) =
       write_fits_now c w good t lt hook (WritePhase.Takes m r) e in
       let next : World = after_step w t (Phase.Writes (WritePhase.Takes m r)) hook in
       let n : Next DownRead = (down_read_after r r.step (found_at w.words (Phase.DownReads r) hook)).0 in
@@ -127,21 +122,21 @@ wants_phase c x = record {
   step = λ lim w good t lt hook e. write_keeps c lim w good t lt hook (WritePhase.Wants x) e;
   runs = λ lim w good t lt hook e i one three. write_phase_runs c lim w good t lt hook (WritePhase.Wants x) e i one three;
   completes = λ lim w good t lt hook e. completes_none c w t hook (Phase.Writes (WritePhase.Wants x)) (λ trace found. refl);
-  word = λ n le t lt held levels hook f. (want_phase c x).word n le t lt held levels hook f.0;
-  acts = λ lim t held levels found hook f. (want_phase c x).acts lim t held levels found hook f.0;
-  goes = λ lim t held levels found hook f. wants_fits c lim t held levels x found hook f;
-  agrees = λ t f g h k mounts levels fits.
-      ((want_phase c x).agrees t f g h k mounts levels fits.0, sym (levels 1 (omega arith) (omega arith)) ∙ fits.1);
+  word = λ n le t lt held hook f. (want_phase c x).word n le t lt held hook f.0;
+  acts = λ lim t held found hook f. (want_phase c x).acts lim t held found hook f.0;
+  goes = λ lim t held found hook f. wants_fits c lim t held x found hook f;
+  agrees = λ t held seen same fits.
+      ((want_phase c x).agrees t held seen same fits.0, sym (same.levels 1 (omega arith) (omega arith)) ∙ fits.1);
   stays = λ w next earlier good t f e was quiet h. want_kept c t w next earlier x.mount x.step (ap asks e) h;
   causes = λ w earlier good t lt hook e after is h.
-      let f : WriteFits c t (held_at (w.views t)) (holds_level (w.views t)) (WritePhase.Wants x) = write_fits_now c w good t lt hook (WritePhase.Wants x) e in
+      let f : WriteFits c t (held_of (w.views t)) (WritePhase.Wants x) = write_fits_now c w good t lt hook (WritePhase.Wants x) e in
       let next : World = after_step w t (Phase.Writes (WritePhase.Wants x)) hook in
       let n : Next Want = (want_after x x.step (found_at w.words (Phase.Mounts (MountPhase.Want x)) hook)).0 in
       wants_cause c t next (w ∷ earlier) x.mount x.cpu n
       (want_own c t lt w next earlier good x x.step f.0.0 (ap asks e) (ap (role_of x.mount) e ∙ role_on x.mount _)
       (ap asks is ∙ wants_asked c t next earlier x.mount x.cpu n) h);
   reasons = λ lim w earlier good t lt hook e cause.
-      let f : WriteFits c t (held_at (w.views t)) (holds_level (w.views t)) (WritePhase.Wants x) = write_fits_now c w good t lt hook (WritePhase.Wants x) e in
+      let f : WriteFits c t (held_of (w.views t)) (WritePhase.Wants x) = write_fits_now c w good t lt hook (WritePhase.Wants x) e in
       wants_waits c t w earlier x.mount x.cpu good lt x (want_after x x.step (found_at w.words (Phase.Mounts (MountPhase.Want x)) hook)).0
       (want_waits c w earlier good t lt x x.step f.0.0 (ap (role_of x.mount) e ∙ role_on x.mount _) cause);
 }
@@ -151,11 +146,11 @@ gives_back_phase c m p refusal = record {
   step = λ lim w good t lt hook e. write_keeps c lim w good t lt hook (WritePhase.GivesBack m p refusal) e;
   runs = λ lim w good t lt hook e i one three. write_phase_runs c lim w good t lt hook (WritePhase.GivesBack m p refusal) e i one three;
   completes = λ lim w good t lt hook e. completes_none c w t hook (Phase.Writes (WritePhase.GivesBack m p refusal)) (λ trace found. refl);
-  word = λ n le t lt held levels hook f.
-      (end_phase c (leaves_on p)).word n le t lt held levels hook (omega arith, omega arith, f.1, f.2);
-  acts = λ lim t held levels found hook f. (omega arith, omega arith);
-  goes = λ lim t held levels found hook f. tt;
-  agrees = λ t f g h k mounts levels fits. (fits.0, fits.1, sym (levels 1 (omega arith) (omega arith)) ∙ fits.2);
+  word = λ n le t lt held hook f.
+      (end_phase c (leaves_on p)).word n le t lt held hook (omega arith, omega arith, f.1, f.2);
+  acts = λ lim t held found hook f. (omega arith, omega arith);
+  goes = λ lim t held found hook f. tt;
+  agrees = λ t held seen same fits. (fits.0, fits.1, sym (same.levels 1 (omega arith) (omega arith)) ∙ fits.2);
   stays = λ w next earlier good t f e was quiet h. want_kept c t w next earlier m (WantStep.CountsDown refusal) (ap asks e) h;
   causes = λ w earlier good t lt hook e after is h. tt;
   reasons = λ lim w earlier good t lt hook e cause. cause;
@@ -166,11 +161,11 @@ drops_phase c m p = record {
   step = λ lim w good t lt hook e. write_keeps c lim w good t lt hook (WritePhase.Drops m p) e;
   runs = λ lim w good t lt hook e i one three. write_phase_runs c lim w good t lt hook (WritePhase.Drops m p) e i one three;
   completes = λ lim w good t lt hook e. completes_none c w t hook (Phase.Writes (WritePhase.Drops m p)) (λ trace found. refl);
-  word = λ n le t lt held levels hook f. (drop_phase c m p).word n le t lt held levels hook f.0;
-  acts = λ lim t held levels found hook f. (drop_phase c m p).acts lim t held levels found hook f.0;
-  goes = λ lim t held levels found hook f. (f.0.1, f.1);
-  agrees = λ t f g h k mounts levels fits.
-      ((drop_phase c m p).agrees t f g h k mounts levels fits.0, sym (levels 1 (omega arith) (omega arith)) ∙ fits.1);
+  word = λ n le t lt held hook f. (drop_phase c m p).word n le t lt held hook f.0;
+  acts = λ lim t held found hook f. (drop_phase c m p).acts lim t held found hook f.0;
+  goes = λ lim t held found hook f. (f.0.1, f.1);
+  agrees = λ t held seen same fits.
+      ((drop_phase c m p).agrees t held seen same fits.0, sym (same.levels 1 (omega arith) (omega arith)) ∙ fits.1);
   stays = λ w next earlier good t f e was quiet h. tt;
   causes = λ w earlier good t lt hook e after is h. tt;
   reasons = λ lim w earlier good t lt hook e cause. tt;
@@ -181,11 +176,11 @@ ends_phase c p = record {
   step = λ lim w good t lt hook e. write_keeps c lim w good t lt hook (WritePhase.Ends p) e;
   runs = λ lim w good t lt hook e i one three. write_phase_runs c lim w good t lt hook (WritePhase.Ends p) e i one three;
   completes = λ lim w good t lt hook e. completes_none c w t hook (Phase.Writes (WritePhase.Ends p)) (λ trace found. refl);
-  word = λ n le t lt held levels hook f.
-      (end_phase c (leaves_on p)).word n le t lt held levels hook (omega arith, omega arith, f.0, f.1);
-  acts = λ lim t held levels found hook f. (omega arith, omega arith);
-  goes = λ lim t held levels found hook f. tt;
-  agrees = λ t f g h k mounts levels fits. (fits.0, sym (levels 1 (omega arith) (omega arith)) ∙ fits.1);
+  word = λ n le t lt held hook f.
+      (end_phase c (leaves_on p)).word n le t lt held hook (omega arith, omega arith, f.0, f.1);
+  acts = λ lim t held found hook f. (omega arith, omega arith);
+  goes = λ lim t held found hook f. tt;
+  agrees = λ t held seen same fits. (fits.0, sym (same.levels 1 (omega arith) (omega arith)) ∙ fits.1);
   stays = λ w next earlier good t f e was quiet h. tt;
   causes = λ w earlier good t lt hook e after is h. tt;
   reasons = λ lim w earlier good t lt hook e cause. tt;
@@ -212,9 +207,9 @@ in_mount c m p there =
 
 pub want_write_op : (c : Config) (m p : ℕ) → OpKeeps c (Op.WantWrite m p)
 want_write_op c m p = record {
-  fits = λ t held levels there order room.
+  fits = λ t held there order room.
       let at : (m < c.mounts) × (p < c.processors) = in_mount c m p there in
-      ((omega arith, omega arith, at.1, refl, order), refl, at.0, ltb-true (held m) 1024 room);
+      ((omega arith, omega arith, at.1, refl, order), refl, at.0, ltb-true (held.mounts m) 1024 room);
   starts_idle = λ t. record {
     steady = assumption;
     stage_same = refl;
@@ -226,13 +221,13 @@ want_write_op c m p = record {
   };
   off_tree = λ t trace. refl;
   cause = λ t w earlier. tt;
-  order_agrees = λ f g h k mounts levels there. none_agree c 0 f g h k mounts levels;
-  room_agrees = λ f g mounts there. ap (λ y. nat_lt y 1024) (mounts m (in_mount c m p there).0);
+  order_agrees = λ held seen same there. none_agree held.levels seen.levels same.levels;
+  room_agrees = λ held seen same there. ap (λ y. nat_lt y 1024) (same.mounts m (in_mount c m p there).0);
   restores = λ refusal trace before order.
       let none : (not (levels_of before 1) ≡ true) × ((not (levels_of before 2) && not (levels_of before 3)) ≡ true) =
       both_true (not (levels_of before 1)) (not (levels_of before 2) && not (levels_of before 3)) order in
-      (refl, level_restored (levels_of before) (is_false (levels_of before 1) none.0), refl);
-  file = λ t files own closed. tt;
+      λ j. record (holdings_of before) { levels = level_restored (levels_of before) (is_false (levels_of before 1) none.0) j };
+  file = λ t held order room. tt;
   tells = λ lim t trace h. tells_well (WriteAt c m p t) c t (Op.WantWrite m p) (write_kept c t m p) trace h;
   short = λ lim t trace h. is_short_well (WriteAt c m p t) c t (Op.WantWrite m p) (write_kept c t m p) trace h;
   most_small = λ lim. tt;
@@ -240,17 +235,17 @@ want_write_op c m p = record {
 
 pub drop_write_op : (c : Config) (m p : ℕ) → OpKeeps c (Op.DropWrite m p)
 drop_write_op c m p = record {
-  fits = λ t held levels there order room.
+  fits = λ t held there order room.
       let at : (m < c.mounts) × (p < c.processors) = in_mount c m p there in
-      let o : (levels 1 ≡ true) × (nat_lt 0 (held m) ≡ true) = both_true (levels 1) (nat_lt 0 (held m)) order in
-      ((at.0, at.1, ltb-true 0 (held m) o.1), o.0);
+      let o : (held.levels 1 ≡ true) × (nat_lt 0 (held.mounts m) ≡ true) = both_true (held.levels 1) (nat_lt 0 (held.mounts m)) order in
+      ((at.0, at.1, ltb-true 0 (held.mounts m) o.1), o.0);
   starts_idle = λ t. assumption;
   off_tree = λ t trace. refl;
   cause = λ t w earlier. tt;
-  order_agrees = λ f g h k mounts levels there. rw (levels 1 (omega arith) (omega arith), mounts m (in_mount c m p there).0) refl;
-  room_agrees = λ f g mounts there. refl;
-  restores = λ refusal trace before order. (refl, refl, refl);
-  file = λ t files own closed. tt;
+  order_agrees = λ held seen same there. rw (same.levels 1 (omega arith) (omega arith), same.mounts m (in_mount c m p there).0) refl;
+  room_agrees = λ held seen same there. refl;
+  restores = λ refusal trace before order. refl;
+  file = λ t held order room. tt;
   tells = λ lim t trace h. tells (DropAt m p) c t (Op.DropWrite m p) (drop_kept c t m p) trace h;
   short = λ lim t trace h. is_short (DropAt m p) c t (Op.DropWrite m p) (drop_kept c t m p) trace h;
   most_small = λ lim. omega arith;

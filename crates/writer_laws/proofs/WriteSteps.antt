@@ -5,29 +5,28 @@ use Rattle.access_model.specs.declared.{actions.Action.Action, replies.Next.Next
 use Rattle.cpu_words.specs.Hooks.{HookAnswer}
 use Rattle.level_laws.specs.Events.{SyncStep}
 use Rattle.write_access.specs.declared.phases.WritePhase.{WritePhase}
-use Rattle.gate_world.specs.{Alike.{IsAlike, at_phase, rephased}, Fits.{Fits, WriteFits, PhaseFits, mounts_by, levels_by}, LevelRuns.level_in}
-use Rattle.gate_world.specs.{Rules.{IsGood, Moves, Fitting}, Shown.shown, Views.{held_at, holds_level, phase_after}, Work.{plain, next_of, after_of}}
+use Rattle.gate_world.specs.{Alike.{IsAlike, at_phase, rephased}, Fits.{Fits, WriteFits, PhaseFits}, Holdings.{Holdings, held_after}, LevelRuns.level_in}
+use Rattle.gate_world.specs.{Rules.{IsGood, Moves, Fitting}, Shown.shown, Views.{held_of, phase_after}, Work.{plain, next_of, after_of}}
 use Rattle.gate_world.specs.{Worlds.{World, found_at}, declared.{config.Config.Config, views.View.View, work.Phase.Phase}}
 use Rattle.gate_frames.proofs.{Beside.{made, made_runs_beside}, Rephased.{alike_of, rephased_good, made_keeps}}
 use Rattle.writer_laws.proofs.Alikes.{alike_plain}
 
 -- the phase of its gate fits
-pub plain_fits : (c : Config) (t : ℕ) (held : ℕ → ℕ) (levels : ℕ → Bool) (x : WritePhase) → WriteFits c t held levels x →
-    PhaseFits c t held levels (plain x)
-plain_fits c t held levels (WritePhase.GivesBack m p refusal) f = (omega arith, omega arith, f.1, f.2)
-plain_fits c t held levels (WritePhase.Ends p) f = (omega arith, omega arith, f.0, f.1)
-plain_fits c t held levels other f = f.0
+pub plain_fits : (c : Config) (t : ℕ) (held : Holdings) (x : WritePhase) → WriteFits c t held x → PhaseFits c t held (plain x)
+plain_fits c t held (WritePhase.GivesBack m p refusal) f = (omega arith, omega arith, f.1, f.2)
+plain_fits c t held (WritePhase.Ends p) f = (omega arith, omega arith, f.0, f.1)
+plain_fits c t held other f = f.0
 
 module _ (c : Config) (w : World) (good : IsGood c w) (t : ℕ) (lt : t < c.tasks) (hook : HookAnswer) (x : WritePhase)
     (e : (w.views t).phase ≡ Some (Phase.Writes x)) where
-  pub write_fits_now : WriteFits c t (held_at (w.views t)) (holds_level (w.views t)) x
-  write_fits_now = subst (Fits c t (held_at (w.views t)) (holds_level (w.views t))) e (good Fitting t lt)
+  pub write_fits_now : WriteFits c t (held_of (w.views t)) x
+  write_fits_now = subst (Fits c t (held_of (w.views t))) e (good Fitting t lt)
 
   before : IsAlike (w.views t).phase (Some (plain x))
   before = alike_of e (alike_plain x)
 
-  fits_plain : Fits c t (held_at (w.views t)) (holds_level (w.views t)) (Some (plain x))
-  fits_plain = plain_fits c t (held_at (w.views t)) (holds_level (w.views t)) x write_fits_now
+  fits_plain : Fits c t (held_of (w.views t)) (Some (plain x))
+  fits_plain = plain_fits c t (held_of (w.views t)) x write_fits_now
 
   -- what comes after the gate's event in the gate's own operation, and the action that it adds
   abbrev pub plain_after : Next Phase
@@ -53,7 +52,7 @@ module _ (c : Config) (w : World) (good : IsGood c w) (t : ℕ) (lt : t < c.task
 
   -- is the law of the event after which the longer operation goes on
   pub write_step : PlainLaw → (coming : Next Phase) → IsAlike (phase_after plain_after) (phase_after coming) →
-      Fits c t (mounts_by plain_action (held_at (w.views t))) (levels_by plain_action (holds_level (w.views t))) (phase_after coming) →
+      Fits c t (held_after plain_action (held_of (w.views t))) (phase_after coming) →
       IsGood c (made_in w coming) × Moves c (shown c w) t plain_action (shown c (made_in w coming))
   write_step law coming after fits =
       made_keeps c w t lt (Some (plain x)) (next_of (plain x) hook) hook plain_after coming plain_action good before fits_plain law after
