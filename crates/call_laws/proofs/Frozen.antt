@@ -9,7 +9,8 @@ use Rattle.freeze_levels.specs.declared.freezes.FreezeStep.{FreezeStep}
 use Rattle.file_closes.specs.declared.phases.ClosePhase.{ClosePhase}
 use Rattle.gate_world.specs.{Configs.IsWithin, Fits.{CloseFits, Fits}, Headline.{TreeIsSound, FrozenTreeIsWhole}, Operations.is_writer}
 use Rattle.gate_world.specs.{Rules.{IsGood, Tree, Fitting}, Snapshots.values_noted}
-use Rattle.gate_world.specs.Trees.{close_tree_role, tree_bounds, tree_of, tree_role_of, tree_roles, remount_tree_role, freeze_tree_role}
+use Rattle.gate_world.specs.Trees.{tree_bounds, tree_of, tree_role_of, tree_roles}
+use Rattle.gate_world.specs.Roles.{close_tree_role, remount_tree_role, freeze_tree_role}
 use Rattle.gate_world.specs.{Views.{held_at, holds_level}, Worlds.World, declared.{config.Config.Config, views.Traced.Traced, work.Phase.Phase}}
 use Rattle.gate_frames.proofs.{CloseEvents.{closer_thawed, removal_counted}, TreeHolders.writer_not_frozen, Trees.sealed_frozen}
 

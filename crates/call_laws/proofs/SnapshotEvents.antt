@@ -14,7 +14,9 @@ use Rattle.stage_laws.specs.Roles.{StageRole, Aside, Owning, KnowsStage, clean_b
 use Rattle.gate_world.specs.{Configs.IsWithin, Fits.{Fits, PhaseFits}, Found.is_load, Owners.{is_owned, takes_lock}}
 use Rattle.gate_world.specs.Rules.{Files, Part, Owner, Stages, Holding, Fitting, Known, Tree, AtMount, AtLevel, SyncAt, Sections, Holds, IsGood, StepKeeps}
 use Rattle.gate_world.specs.Rules.{owns, remounts, marks_of}
-use Rattle.gate_world.specs.{Shown.stage_roles, Snapshots.values_noted, Stages.{stage_role_of, stage_at_end, snapshot_stage_role}}
+use Rattle.gate_world.specs.{Shown.stage_roles, Snapshots.values_noted}
+use Rattle.gate_world.specs.Roles.{stage_at_end, snapshot_stage_role}
+use Rattle.gate_world.specs.Shown.{stage_role_of}
 use Rattle.gate_world.specs.{Trees.{tree_bounds, tree_role_of}, Views.{held_at, holds_level, phase_after, view_with}, Worlds.{World, after_step}}
 use Rattle.gate_world.specs.declared.{config.Config.Config, views.{Traced.Traced, View.View}, work.Phase.Phase}
 use Rattle.gate_frames.proofs.{Frames.left_alone, Keeps.by_bool, Known.{IsOwnersWork, known_after}}

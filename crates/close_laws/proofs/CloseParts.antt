@@ -13,8 +13,9 @@ use Rattle.tree_laws.specs.{Events.HasLeave, Steps.EventKeeps}
 use Rattle.level_laws.specs.{Events.SyncStep, Roles.Out as IsApart}
 use Rattle.file_closes.specs.{Phases.{next, after, enters, closed_from}, declared.phases.{ClosePhase.ClosePhase, Closing.Closing}}
 use Rattle.gate_world.specs.{Configs.{IsWithin, model_limits}, Fits.{Fits, CloseFits, MayLower, HasFile, file_of, opens_by}, LevelRuns.level_in}
-use Rattle.gate_world.specs.{Levels.{count_role_if, sync_role_if}, Rules.{IsGood, Fitting, Tree, Files, StepKeeps}, Shown.shown}
-use Rattle.gate_world.specs.Trees.{tree_bounds, tree_roles, tree_role_of, close_tree_role, is_sealed, is_bare_at}
+use Rattle.gate_world.specs.{Rules.{IsGood, Fitting, Tree, Files, StepKeeps}, Shown.shown}
+use Rattle.gate_world.specs.Trees.{tree_bounds, tree_roles, tree_role_of, is_sealed, is_bare_at}
+use Rattle.gate_world.specs.Roles.{count_role_if, sync_role_if, close_tree_role}
 use Rattle.gate_world.specs.{Views.{held_at, holds_level, has_open, phase_after, view_after}, Worlds.{World, value_at, found_at, after_step}}
 use Rattle.gate_world.specs.declared.{config.Config.Config, views.{Traced.Traced, View.View}, work.Phase.Phase}
 use Rattle.gate_frames.proofs.CloseEvents.{close_loads, close_lowers, close_frees, close_drops, close_uncounts, frees_alone, closer_unread, freeing_removed}

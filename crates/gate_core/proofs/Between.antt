@@ -12,7 +12,8 @@ use Rattle.freeze_levels.specs.{Freezes.{freeze_next, freeze_after}, Holders.wor
 use Rattle.freeze_levels.specs.declared.{freezes.{Freeze.Freeze, FreezeStep.{FreezeStep, TheVariants.Closes}}, thaws.{Thaw.Thaw, ThawStep.ThawStep}}
 use Rattle.holder_laws.{proofs.{HolderLaws.held_exactly, Words.held_word}, specs.Roles.{between, is_held, is_four, HoldersHold}}
 use Rattle.gate_world.specs.{Beginnings.first_phase, Fits.Fits, Found.stores_stage, Headline.{stores_nobody, is_between, HoldersAreTold}}
-use Rattle.gate_world.specs.{Holders.holder_role_of, Rules.{IsGood, Fitting, Holding, Known}}
+use Rattle.gate_world.specs.Rules.{IsGood, Fitting, Holding, Known}
+use Rattle.gate_world.specs.Shown.{holder_role_of}
 use Rattle.gate_world.specs.{Views.{phase_after, with_hook, view_after, begun_view, held_at, holds_level}, Work.{next_of, after_of}}
 use Rattle.gate_world.specs.Worlds.{World, Entry, Begins, Steps, after_step, begin_refusal, begin_of, step_of, happens, opening, value_at, found_at}
 use Rattle.gate_world.specs.Worlds.{words_after}

@@ -12,11 +12,13 @@ use Rattle.freeze_levels.specs.Holders.{holders_in}
 use Rattle.level_laws.specs.Roles.{Out as IsApart, SyncRole, SyncNumberHolds}
 use Rattle.stage_laws.specs.Roles.{StageRole, StagesHold}
 use Rattle.holder_laws.specs.Roles.{HolderRole, HoldersHold}
-use Rattle.gate_world.specs.{Fits.{Fits, HasFile, file_of}, Holders.holder_role_of}
+use Rattle.gate_world.specs.Fits.{Fits, HasFile, file_of}
 use Rattle.gate_world.specs.{Levels.{inside, at_level, level_role_of, is_frozen_whole, level_added_by, sync_role_of, level_taken_by}, Owners.KnowsWords}
-use Rattle.gate_world.specs.Rules.{role_if, at_mount, owns, remounts, IsSteady, OwnerHolds, ViewFits, Part, Owner, Stages, Holding, Fitting, AtMount, Holds}
+use Rattle.gate_world.specs.Rules.{at_mount, owns, remounts, IsSteady, OwnerHolds, ViewFits, Part, Owner, Stages, Holding, Fitting, AtMount, Holds}
 use Rattle.gate_world.specs.Rules.{SameWords, SameView, GatesHold, IsGood, Known, Tree, AtLevel, SyncAt, Sections, Files}
-use Rattle.gate_world.specs.{Shown.{shown, closing, is_passed, stage_roles, holder_roles}, Stages.stage_role_of, Trees.{tree_bounds, tree_role_of, tree_roles}}
+use Rattle.gate_world.specs.{Shown.{shown, closing, is_passed, stage_roles, holder_roles}, Trees.{tree_bounds, tree_role_of, tree_roles}}
+use Rattle.gate_world.specs.Roles.{role_if}
+use Rattle.gate_world.specs.Shown.{holder_role_of, stage_role_of}
 use Rattle.gate_world.specs.{Views.{held_at, holds_level, added_after, taken_after, has_open}, Worlds.World}
 use Rattle.gate_world.specs.declared.{config.Config.Config, views.View.View, work.Phase.Phase}
 use Rattle.gate_frames.proofs.Known.{known_same}

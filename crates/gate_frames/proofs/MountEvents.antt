@@ -11,12 +11,14 @@ use Rattle.mount_counts.specs.declared.phases.{Change.Change, ChangeStep.ChangeS
 use Rattle.level_laws.specs.Roles.{Out as IsApart}
 use Rattle.stage_laws.specs.Roles.{Aside}
 use Rattle.holder_laws.specs.Roles.{Apart}
-use Rattle.gate_world.specs.{Fits.file_of, Found.is_load, Holders.holder_role_of}
+use Rattle.gate_world.specs.{Fits.file_of, Found.is_load}
 use Rattle.gate_world.specs.Levels.{inside, at_level, level_added_after, level_taken_after, level_role_of, sync_role_of, level_added_by, level_taken_by}
 use Rattle.gate_world.specs.Owners.{is_owned, takes_lock}
-use Rattle.gate_world.specs.Rules.{Fitting, Holds, IsGood, Known, Owner, Part, SameView, SameWords, Stages, Holding, StepKeeps, at_gates, change_owns, owns}
+use Rattle.gate_world.specs.Rules.{Fitting, Holds, IsGood, Known, Owner, Part, SameView, SameWords, Stages, Holding, StepKeeps, at_gates, owns}
 use Rattle.gate_world.specs.Rules.{GateStepKeeps, Tree, AtLevel, SyncAt, Sections, Files}
-use Rattle.gate_world.specs.{Stages.stage_role_of, Trees.tree_role_of, Views.{phase_after, view_after, actions_after, has_open}}
+use Rattle.gate_world.specs.{Trees.tree_role_of, Views.{phase_after, view_after, actions_after, has_open}}
+use Rattle.gate_world.specs.Roles.{change_owns}
+use Rattle.gate_world.specs.Shown.{holder_role_of, stage_role_of}
 use Rattle.gate_world.specs.Worlds.{World, after_step, found_at, value_at, words_after}
 use Rattle.gate_world.specs.declared.{config.Config.Config, views.{Traced.Traced, View.View}, work.Phase.Phase}
 use Rattle.gate_frames.proofs.{Frames.{left_alone, level_view_as}, Known.{IsOwnersWork, known_after}, Words.load_same}

@@ -11,7 +11,9 @@ use Rattle.stage_laws.specs.Roles.{Aside}
 use Rattle.gate_world.specs.{Configs.IsWithin, LevelRuns.level_in, Owners.is_owned}
 use Rattle.gate_world.specs.Rules.{Files, IsGood, Holds, Part, Owner, Stages, Holding, Fitting, Known, Tree, AtMount, AtLevel, SyncAt, Sections, StepKeeps}
 use Rattle.gate_world.specs.Rules.{owns, remounts}
-use Rattle.gate_world.specs.{Snapshots.values_noted, Stages.stage_role_of, Trees.{tree_role_of, nodes_noted}, Views.phase_after, Work.{next_of, after_of}}
+use Rattle.gate_world.specs.{Snapshots.values_noted, Trees.tree_role_of, Views.phase_after, Work.{next_of, after_of}}
+use Rattle.gate_world.specs.Roles.{nodes_noted}
+use Rattle.gate_world.specs.Shown.{stage_role_of}
 use Rattle.gate_world.specs.{Worlds.{World, after_step, found_at, words_after}, declared.{config.Config.Config, views.Traced.Traced, work.Phase.Phase}}
 use Rattle.gate_frames.proofs.{Frames.left_alone, Known.{IsOwnersWork, known_after}, MountRuns.apart_run}
 use Rattle.gate_frames.proofs.NodeParts.{call_files, is_node_word, is_snapshot, node_word, IsBesideTree, call_view, call_found, call_next, gate_parts}

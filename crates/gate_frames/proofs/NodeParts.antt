@@ -21,11 +21,13 @@ use Rattle.freeze_levels.specs.Holders.{holders_in}
 use Rattle.stage_laws.specs.Roles.{sums, is_full}
 use Rattle.holder_laws.specs.Roles.{Apart}
 use Rattle.gate_world.specs.{Configs.{IsWithin, model_limits}, Fits.{HasFile, file_of, opens_by, Fits, TreeAccess, mounts_by, levels_by}, Found.is_load}
-use Rattle.gate_world.specs.{Holders.holder_role_of, Levels.{is_frozen_whole, level_added_after, level_taken_after, level_added_by, level_taken_by}}
+use Rattle.gate_world.specs.Levels.{is_frozen_whole, level_added_after, level_taken_after, level_added_by, level_taken_by}
 use Rattle.gate_world.specs.Rules.{Files, IsGood, Holds, Part, Holding, AtMount, AtLevel, SyncAt, Sections, Fitting, Tree, ViewFits, SameView, SameWords}
 use Rattle.gate_world.specs.Rules.{role_of, remounts, Moves as ModelMoves}
-use Rattle.gate_world.specs.{Shown.{shown, closing}, Snapshots.values_noted, Stages.{tree_stage_role, snapshot_stage_role}}
-use Rattle.gate_world.specs.Trees.{is_bare_at, tree_bounds, tree_roles, tree_role_of, nodes_noted, is_sealed}
+use Rattle.gate_world.specs.{Shown.{shown, closing}, Snapshots.values_noted}
+use Rattle.gate_world.specs.Trees.{is_bare_at, tree_bounds, tree_roles, tree_role_of, is_sealed}
+use Rattle.gate_world.specs.Roles.{tree_stage_role, snapshot_stage_role, nodes_noted}
+use Rattle.gate_world.specs.Shown.{holder_role_of}
 use Rattle.gate_world.specs.Views.{has_open, held_at, holds_level, added_after, taken_after, added_by, taken_by, phase_after, view_after}
 use Rattle.gate_world.specs.{Work.{next_of, after_of}, Worlds.{World, after_step, words_after, value_at, found_at}}
 use Rattle.gate_world.specs.declared.{config.Config.Config, views.View.View, work.Phase.Phase}

@@ -9,9 +9,10 @@ use Rattle.mount_counts.specs.declared.{phases.{ChangeStep.ChangeStep, MountPhas
 use Rattle.stage_laws.proofs.Facts.{owns_le as stage_owns_le}
 use Rattle.write_access.specs.declared.phases.WritePhase.{WritePhase}
 use Rattle.gate_world.specs.Remounts.{loop_role, held_role, giving_role, remount_owns, summing_role, remount_role, remount_sets}
-use Rattle.gate_world.specs.Rules.{want_role, change_role, write_role, role_if, role_of, at_mount, change_owns, owns, remounts, IsSteady, OwnerHolds, ViewFits}
+use Rattle.gate_world.specs.Rules.{role_of, at_mount, owns, remounts, IsSteady, OwnerHolds, ViewFits}
 use Rattle.gate_world.specs.Rules.{IsGood, Owner, AtMount, GatesHold}
-use Rattle.gate_world.specs.{Shown.{shown, closing}, Stages.{freeze_stage_role, thaw_stage_role, tree_stage_role}}
+use Rattle.gate_world.specs.Shown.{shown, closing}
+use Rattle.gate_world.specs.Roles.{gate_roles, want_role, change_role, role_if, change_owns, freeze_stage_role, thaw_stage_role, tree_stage_role}
 use Rattle.gate_world.specs.{Views.{held_at, holds_level, added_by, taken_by, has_open}, Waits.{IsWaitedFor, HasCulprit}, Worlds.World}
 use Rattle.gate_world.specs.declared.{config.Config.Config, views.View.View, work.Phase.Phase}
 use Rattle.gate_frames.proofs.Frames.{view_as, holds_as, MountHoldsAfter, owner_same, gates_after, shown_as, shown_still}
@@ -82,7 +83,7 @@ remount_hold m (RemountStep.GivesUp at held) = giving_hold (m == at) (has_mount 
 remount_hold m RemountStep.Locks = omega arith
 remount_hold m step = omega arith
 
-write_hold : (m : ℕ) (x : WritePhase) → has_hold (write_role m x) + skips (write_role m x) ≡ 0
+write_hold : (m : ℕ) (x : WritePhase) → has_hold ((gate_roles x).mount m) + skips ((gate_roles x).mount m) ≡ 0
 write_hold m (WritePhase.Wants x) = omega (arith, hold_if (m == x.mount) (want_role x.cpu x.step), want_hold x.cpu x.step)
 write_hold m x = refl
 

@@ -15,9 +15,9 @@ use Rattle.freeze_levels.specs.declared.{freezes.FreezeStep.{FreezeStep, TheVari
 use Rattle.stage_laws.specs.Roles.{MarksHold, CleanBelow, clean_by, KnowsStage, Freezing}
 use Rattle.gate_world.specs.{Configs.IsWithin, Fits.{Fits, FreezeFits, PhaseFits}, Remounts.RemountFits, Rules.{IsGood, Holds, Tree, Stages, Fitting, marks_of}}
 use Rattle.gate_world.specs.{Shown.stage_roles, Snapshots.values_noted}
-use Rattle.gate_world.specs.Stages.{stage_role_of, remount_stage_role, freeze_stage_role, reopening_role, snapshot_stage_role, thaw_stage_role, tree_stage_role}
-use Rattle.gate_world.specs.Stages.{place_of}
-use Rattle.gate_world.specs.Trees.{tree_bounds, tree_of, tree_role_of, tree_roles, is_sealed, remount_tree_role, freeze_tree_role, nodes_noted, is_bare_at}
+use Rattle.gate_world.specs.Trees.{tree_bounds, tree_of, tree_role_of, tree_roles, is_sealed, is_bare_at}
+use Rattle.gate_world.specs.Roles.{remount_stage_role, freeze_stage_role, reopening_role, snapshot_stage_role, thaw_stage_role, tree_stage_role, place_of, remount_tree_role, freeze_tree_role, nodes_noted}
+use Rattle.gate_world.specs.Shown.{stage_role_of}
 use Rattle.gate_world.specs.{Views.{held_at, holds_level}, Worlds.World}
 use Rattle.gate_world.specs.declared.{config.Config.Config, views.{Traced.Traced, View.View}, work.Phase.{Phase, TheVariants.Closes}}
 use Rattle.gate_frames.proofs.TreeRoles.{call_plain, remount_apart, close_apart, freeze_apart}

@@ -19,7 +19,8 @@ use Rattle.stage_laws.specs.{Events.{StageEvent, action_of as stage_action_of}, 
 use Rattle.gate_world.specs.{Configs.model_limits, Fits.{FreezeFits, HasFile, file_of}, Found.is_load, Owners.{is_owned, takes_lock}}
 use Rattle.gate_world.specs.Rules.{Stages, Holding, Fitting, Known, Tree, AtMount, Sections, role_of, IsGood, OwnerHolds, Part, Moves, owns, remounts}
 use Rattle.gate_world.specs.Rules.{StepKeeps, Holds, ViewFits, AtLevel, SyncAt, Owner, Files}
-use Rattle.gate_world.specs.{Shown.{shown, stage_roles}, Stages.{reopening_role, freeze_stage_role, thaw_stage_role, stage_role_of}}
+use Rattle.gate_world.specs.Shown.{shown, stage_roles, stage_role_of}
+use Rattle.gate_world.specs.Roles.{reopening_role, freeze_stage_role, thaw_stage_role}
 use Rattle.gate_world.specs.{Views.{phase_after, held_at, holds_level, added_by, taken_by, has_open}, Worlds.{World, value_at, after_step, phase_action}}
 use Rattle.gate_world.specs.declared.{config.Config.Config, views.View.View, work.Phase.Phase}
 use Rattle.gate_frames.proofs.{Frames.{left_alone, view_as, opens_left}, Keeps.by_bool, Known.{IsOwnersWork, known_after}}

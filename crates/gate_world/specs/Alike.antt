@@ -2,8 +2,9 @@
 -- phases of another, as a part of its own, needs no second proof of its events.
 use Rattle.std.specs.Prelude.{◌≡◌, ℕ, Option, List}
 use Rattle.finite_sums.specs.Sums.{update}
-use Rattle.gate_world.specs.{Fits.file_of, Holders.holder_role_of, Levels.{level_role_of, sync_role_of, inside}, Rules.{role_of, IsSteady}}
-use Rattle.gate_world.specs.{Stages.stage_role_of, Trees.tree_role_of, Worlds.World, declared.{views.{Traced.Traced, View.View}, work.Phase.Phase}}
+use Rattle.gate_world.specs.{Fits.file_of, Levels.{level_role_of, sync_role_of, inside}, Rules.{role_of, IsSteady}}
+use Rattle.gate_world.specs.{Trees.tree_role_of, Worlds.World, declared.{views.{Traced.Traced, View.View}, work.Phase.Phase}}
+use Rattle.gate_world.specs.Shown.{holder_role_of, stage_role_of}
 
 -- all that the rule and the shown model read of a phase is the same of both, but for what it does at the tree, the file that it relies on and
 -- the accesses that it asks for

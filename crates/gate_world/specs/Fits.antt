@@ -22,7 +22,7 @@ use Rattle.file_closes.specs.declared.phases.ClosePhase.{ClosePhase}
 use Rattle.file_closes.specs.declared.phases.ClosePhase.TheVariants.{LoadsFile as CloseLoadsFile, LowersCount, Enters, FreesNode}
 use Rattle.file_closes.specs.declared.phases.ClosePhase.TheVariants.{RefundsBlocks as CloseRefundsBlocks, Uncounts as CloseUncounts, Leaves as CloseLeaves}
 use Rattle.file_closes.specs.declared.phases.Closing.{Closing}
-use Rattle.gate_world.specs.{Operations.{holds_none, holds_none_from, is_writer, may_mark}, Remounts.RemountFits, Trees.tree_bounds}
+use Rattle.gate_world.specs.{Operations.{holds_none, holds_none_from, is_writer, may_mark}, Remounts.RemountFits, Roles.roles_of, Trees.tree_bounds}
 use Rattle.gate_world.specs.declared.config.Config.{Config}
 use Rattle.gate_world.specs.declared.work.Phase.{Phase, TheVariants.{Mounts, Remounts, DownReads, UpReads, Callbacks, Writes, Freezes, Thaws, Trees, Closes}}
 
@@ -165,18 +165,9 @@ abbrev pub opens_by : Option Action → (ℕ → Bool) → ℕ → Bool
 opens_by None files = files
 opens_by (Some a) files = opens_after a files
 
--- the file that a phase relies on its task to have open, or not to have open
-abbrev pub close_file : ClosePhase → Option (ℕ × Bool)
-close_file (CloseLoadsFile x) = Some (x.file, true)
-close_file (LowersCount x node) = Some (x.file, true)
-close_file (Enters f node r) = Some (f, true)
-close_file (FreesNode f p node) = Some (f, true)
-close_file phase = None
-
+-- the file that what a task is at relies on it to have open, or not to have open
 abbrev pub file_of : Option Phase → Option (ℕ × Bool)
-file_of (Some (Closes phase)) = close_file phase
-file_of (Some (Trees (OpensOne x))) = Some (x.file, false)
-file_of phase = None
+file_of p = (roles_of p).file
 
 -- it is so
 abbrev pub HasFile : (ℕ → Bool) → Option (ℕ × Bool) → Type 0

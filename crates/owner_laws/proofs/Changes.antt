@@ -11,7 +11,8 @@ use Rattle.mount_laws.proofs.Bits.{IsWithoutReadOnly, and_not_read_only}
 use Rattle.mount_laws.proofs.MountLaws.{SeeksNone, empties, sums_on, sums_to_none, sums_to_some, sets_hold as mount_sets_hold}
 use Rattle.mount_laws.proofs.MountLaws.{sets_read_only as mount_sets_read_only, clears_hold as mount_clears_hold, clears_read_only as mount_clears_read_only}
 use Rattle.gate_world.specs.{Configs.IsWithin, Fits.SumFits}
-use Rattle.gate_world.specs.Rules.{change_role, role_of, at_mount, change_owns, owns, remounts, IsSteady, ViewFits, IsGood, GateStepKeeps, AtMount}
+use Rattle.gate_world.specs.Rules.{role_of, at_mount, owns, remounts, IsSteady, ViewFits, IsGood, GateStepKeeps, AtMount}
+use Rattle.gate_world.specs.Roles.{change_role, change_owns}
 use Rattle.gate_world.specs.Rules.{MountHoldsIn, GatesHold}
 use Rattle.gate_world.specs.{Shown.{shown, closing}, Views.{held_at, added_by, taken_by, view_with}, Worlds.World}
 use Rattle.gate_world.specs.declared.{config.Config.Config, views.View.View, work.Phase.Phase}

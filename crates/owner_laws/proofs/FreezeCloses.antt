@@ -17,9 +17,11 @@ use Rattle.stage_laws.proofs.Facts.{at_level}
 use Rattle.stage_laws.specs.Events.{StageEvent, Happens, Stays, SetsBlock as SetsBlockStage, Passes, playing, action_of as stage_action_of}
 use Rattle.stage_laws.specs.{Roles.{Place, Before, Closing, HasPassed, Freezing, owns as stage_owns, has_position, bit, CleanBelow}, Shown.state_after}
 use Rattle.holder_laws.specs.Roles.{Apart}
-use Rattle.gate_world.specs.{Configs.{IsWithin, model_limits}, Fits.{Fits, mounts_by, levels_by}, Holders.{freeze_holder_role, holder_role_of}}
-use Rattle.gate_world.specs.{Levels.{closed_to, level_added_by, level_taken_by}, Rules.{IsGood, Holds, Tree, owns, marks_of, ViewFits}, Shown.shown}
-use Rattle.gate_world.specs.{Stages.{freeze_stage_role, stage_role_of, place_of}, Trees.{tree_role_of, tree_roles, freeze_tree_role}}
+use Rattle.gate_world.specs.{Configs.{IsWithin, model_limits}, Fits.{Fits, mounts_by, levels_by}}
+use Rattle.gate_world.specs.{Levels.{level_added_by, level_taken_by}, Rules.{IsGood, Holds, Tree, owns, marks_of, ViewFits}, Shown.shown}
+use Rattle.gate_world.specs.Trees.{tree_role_of, tree_roles}
+use Rattle.gate_world.specs.Shown.{holder_role_of, stage_role_of}
+use Rattle.gate_world.specs.Roles.{freeze_holder_role, closed_to, freeze_stage_role, place_of, freeze_tree_role}
 use Rattle.gate_world.specs.{Views.{held_at, holds_level, phase_after, actions_after, view_with, added_by, taken_by, has_open}, Worlds.World}
 use Rattle.gate_world.specs.declared.{config.Config.Config, views.View.View, work.Phase.Phase}
 use Rattle.gate_frames.proofs.{DownLevels.{down_write_levels, passes_finds_nobody, swap_finds_clear, entered_by_nobody}, Keeps.by_bool}

@@ -3,7 +3,9 @@ use Rattle.std.{proofs.Common.{◌≡◌, ℕ, ◌<◌, refl, subst}, specs.Prel
 use Rattle.access_model.specs.declared.actions.Holder.{Holder}
 use Rattle.freeze_levels.specs.declared.freezes.{Freeze.Freeze, FreezeStep.FreezeStep}
 use Rattle.stage_laws.specs.Roles.{KnowsStage}
-use Rattle.gate_world.specs.{Fits.{Fits, PhaseFits}, Rules.{IsGood, Fitting, Stages}, Stages.{freeze_stage_role, stage_role_of}, Views.{held_at, holds_level}}
+use Rattle.gate_world.specs.{Fits.{Fits, PhaseFits}, Rules.{IsGood, Fitting, Stages}, Views.{held_at, holds_level}}
+use Rattle.gate_world.specs.Shown.{stage_role_of}
+use Rattle.gate_world.specs.Roles.{freeze_stage_role}
 use Rattle.gate_world.specs.{Worlds.{World, after_step}, declared.{config.Config.Config, operations.Op.Op, work.Phase.Phase}}
 use Rattle.gate_frames.proofs.{Keeps.{none_agree, word_among, PhaseKeeps, OpKeeps}, Snapshots.completes_none}
 use Rattle.owner_laws.proofs.{FreezeCauses.{freeze_stays, freeze_own}, FreezeEvents.freeze_keeps, FreezeFits.{freeze_word, freeze_acts, freeze_goes}}

@@ -13,7 +13,8 @@ use Rattle.mount_laws.proofs.MountLaws.{sets_hold as mount_sets_hold, is_skipped
 use Rattle.mount_laws.proofs.Sets.{joins_here, joins_there}
 use Rattle.stage_laws.specs.{Events.IsAlike, Roles.{Remounting, CleanBelow}}
 use Rattle.gate_world.specs.{Configs.IsWithin, Fits.PhaseFits, Remounts.{giving_role, loop_role, AllBelow, remount_role}}
-use Rattle.gate_world.specs.{Rules.{AtMount, IsGood, MountHoldsIn, role_of, owns, marks_of}, Stages.remount_stage_role, Views.{held_at, holds_level, view_with}}
+use Rattle.gate_world.specs.{Rules.{AtMount, IsGood, MountHoldsIn, role_of, owns, marks_of}, Views.{held_at, holds_level, view_with}}
+use Rattle.gate_world.specs.Roles.{remount_stage_role}
 use Rattle.gate_world.specs.{Worlds.World, declared.{config.Config.Config, views.View.View, work.Phase.Phase}}
 use Rattle.gate_frames.proofs.{Keeps.by_bool, Owners.no_hold}
 use Rattle.owner_laws.proofs.RemountFits.{joins_below, past_mount_fits, give_up_fits}

@@ -12,13 +12,14 @@ use Rattle.freeze_levels.specs.Holders.{holders_in}
 use Rattle.stage_laws.specs.Events.{StageEvent, Recalls, IsAlike, playing}
 use Rattle.stage_laws.specs.Roles.{StageRole, Owning, IsKnown, KnowsStage, CleanBelow, clean_by, sums as stage_sums}
 use Rattle.holder_laws.specs.Roles.{Apart}
-use Rattle.gate_world.specs.{Configs.IsWithin, Fits.{Fits, PhaseFits, HasFile, file_of}, Found.is_load, Holders.holder_role_of}
+use Rattle.gate_world.specs.{Configs.IsWithin, Fits.{Fits, PhaseFits, HasFile, file_of}, Found.is_load}
 use Rattle.gate_world.specs.{Levels.{level_added_by, is_frozen_whole, level_taken_by}, Owners.{is_owned, takes_lock}}
 use Rattle.gate_world.specs.Remounts.{remount_owns, remount_sets, remount_role, RemountFits}
 use Rattle.gate_world.specs.Rules.{Owner, Stages, Holding, Tree, Fitting, Known, AtMount, IsGood, owns, Part, StepKeeps, role_of, ViewFits, at_mount, Holds}
 use Rattle.gate_world.specs.Rules.{IsSteady, OwnerHolds, remounts, Moves, AtLevel, SyncAt, Sections, marks_of, Files}
-use Rattle.gate_world.specs.{Shown.{shown, closing}, Stages.{stage_role_of, remount_stage_role}}
-use Rattle.gate_world.specs.Trees.{tree_bounds, tree_of, tree_role_of, tree_roles, is_sealed, is_bare_at, remount_tree_role}
+use Rattle.gate_world.specs.Shown.{shown, closing, holder_role_of, stage_role_of}
+use Rattle.gate_world.specs.Trees.{tree_bounds, tree_of, tree_role_of, tree_roles, is_sealed, is_bare_at}
+use Rattle.gate_world.specs.Roles.{remount_stage_role, remount_tree_role}
 use Rattle.gate_world.specs.Views.{phase_after, held_at, holds_level, added_by, taken_by, view_with, has_open}
 use Rattle.gate_world.specs.{Worlds.{World, value_at, after_step, phase_action}, declared.{config.Config.Config, views.View.View, work.Phase.Phase}}
 use Rattle.gate_frames.proofs.Frames.{opens_left, left_alone, holds_as, owner_same, view_as, shown_as, shown_still, added_load, taken_load, SameLevelCounts}

@@ -18,10 +18,11 @@ use Rattle.holder_laws.proofs.{HolderLaws.roles_tell, Words.{unpack_pack, holds_
 use Rattle.holder_laws.specs.Events.{Finds, LetsGo as LetsHoldersGo, Leaves as LeavesOthers, LeavesLast as LeavesNobody, Thaws as ThawsHolders}
 use Rattle.holder_laws.specs.Roles.{Apart, Found, Empties, between, minds}
 use Rattle.gate_world.specs.{Configs.{IsWithin, model_limits}, Fits.{mounts_by, levels_by, PhaseFits, ThawFits, Fits}}
-use Rattle.gate_world.specs.Holders.{thaw_holder_role, holder_role_of}
-use Rattle.gate_world.specs.Levels.{is_frozen_whole, level_added_after, level_taken_after, thaw_stand, level_added_by, level_taken_by, closed_to}
+use Rattle.gate_world.specs.Levels.{is_frozen_whole, level_added_after, level_taken_after, level_added_by, level_taken_by}
 use Rattle.gate_world.specs.Rules.{owns, IsGood, Stages, Holds, Holding, StepKeeps, OwnerHolds, ViewFits, marks_of, Fitting}
-use Rattle.gate_world.specs.{Shown.{stage_roles, shown, holder_roles}, Stages.{thaw_stage_role, stage_role_of}, Trees.tree_role_of}
+use Rattle.gate_world.specs.{Shown.{stage_roles, shown, holder_roles}, Trees.tree_role_of}
+use Rattle.gate_world.specs.Shown.{holder_role_of, stage_role_of}
+use Rattle.gate_world.specs.Roles.{thaw_holder_role, thaw_stand, closed_to, thaw_stage_role}
 use Rattle.gate_world.specs.Views.{has_open, actions_after, added_after, taken_after, phase_after, held_at, holds_level, view_with, added_by, taken_by}
 use Rattle.gate_world.specs.{Worlds.World, declared.{config.Config.Config, views.{Traced.Traced, View.View}, work.Phase.Phase}}
 use Rattle.gate_frames.proofs.{Frames.{added_load, taken_load}, Holders.{holders_at, holders_stay, holders_after, nobody_minds}, Keeps.by_bool}

@@ -11,7 +11,8 @@ use Rattle.percpu_rwsem.specs.declared.writers.{DownWrite.DownWrite, DownWriteSt
 use Rattle.freeze_levels.specs.{Freezes.{freeze_next, freeze_after, after_closing, after_clearing, after_reopening}, Holders.holders_in}
 use Rattle.freeze_levels.specs.declared.freezes.{Freeze.Freeze, FreezeStep.FreezeStep}
 use Rattle.level_laws.specs.Operations.{down_write_role, up_write_role}
-use Rattle.gate_world.specs.{Fits.{Fits, PhaseFits, FreezeFits}, Levels.{freeze_stand, sync_beside, stand_sync, sync_role_of}, Rules.{IsGood, Fitting}}
+use Rattle.gate_world.specs.{Fits.{Fits, PhaseFits, FreezeFits}, Levels.sync_role_of, Rules.{IsGood, Fitting}}
+use Rattle.gate_world.specs.Roles.{freeze_stand, sync_beside, stand_sync}
 use Rattle.gate_world.specs.{Views.{held_at, holds_level}, Worlds.{World, words_after, found_at}, declared.{config.Config.Config, work.Phase.Phase}}
 use Rattle.gate_frames.proofs.Words.{load_same}
 use Rattle.progress_laws.proofs.{Falls.{after_event, falls_as}, TreeEnds.clear_falls, WriterEnds.{DownFalls, down_falls, up_falls}}

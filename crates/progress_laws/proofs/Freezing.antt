@@ -15,7 +15,9 @@ use Rattle.write_access.specs.declared.phases.WritePhase.{WritePhase}
 use Rattle.file_closes.specs.declared.phases.ClosePhase.{ClosePhase}
 use Rattle.gate_world.specs.{Configs.IsWithin, Fits.{PhaseFits, ReadStepFits, FreezeFits}, Levels.inside, Operations.holds_none_from}
 use Rattle.gate_world.specs.{Rules.{IsGood, Owner, Stages, Sections, owns}, Shown.stage_roles}
-use Rattle.gate_world.specs.{Stages.{place_of, reopening_role, freeze_stage_role, stage_role_of}, Views.{held_at, holds_level, view_after}}
+use Rattle.gate_world.specs.Views.{held_at, holds_level, view_after}
+use Rattle.gate_world.specs.Shown.{stage_role_of}
+use Rattle.gate_world.specs.Roles.{place_of, reopening_role, freeze_stage_role}
 use Rattle.gate_world.specs.{Worlds.{World, after_step, value_at}, declared.{config.Config.Config, views.View.View, work.Phase.Phase}}
 use Rattle.progress_laws.proofs.{Bounds.{alone_settled, beside_settled}, Falls.no_further, Leaves.{StaysBeside, phase_beside, inside_le, all_within, all_leave}}
 use Rattle.progress_laws.proofs.Movers.{owner_free, HasOwner, has_owner, fits_at, free_goes, beside_goes, OwnerFreezes, hold_clear, holds_not_none, holds_below}

@@ -55,8 +55,8 @@ use Rattle.gate_world.specs.declared.work.Phase.TheVariants.{Mounts, Remounts, D
 use Rattle.gate_world.specs.Fits.{PhaseFits, FreezeFits}
 use Rattle.gate_world.specs.Levels.{is_frozen_whole, sync_role_of}
 use Rattle.gate_world.specs.Rules.{IsGood, Moves as MovesModel, Owner, Stages, Tree, SyncAt, SyncHoldsIn, owns}
-use Rattle.gate_world.specs.Shown.{shown}
-use Rattle.gate_world.specs.Stages.{freeze_stage_role, stage_role_of}
+use Rattle.gate_world.specs.Shown.{shown, stage_role_of}
+use Rattle.gate_world.specs.Roles.{freeze_stage_role}
 use Rattle.gate_world.specs.Views.{held_at, holds_level, phase_after, view_after}
 use Rattle.gate_world.specs.Worlds.{World, after_step, words_after, phase_action, value_at, found_at}
 use Rattle.gate_world.specs.Work.{after_of}

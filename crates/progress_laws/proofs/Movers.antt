@@ -18,11 +18,11 @@ use Rattle.stage_laws.specs.Roles.{owns as stage_owns}
 use Rattle.write_access.specs.declared.phases.WritePhase.{WritePhase}
 use Rattle.file_closes.specs.declared.phases.ClosePhase.{ClosePhase}
 use Rattle.gate_world.specs.{Configs.IsWithin, Fits.{Fits, PhaseFits}}
-use Rattle.gate_world.specs.Levels.{Stand, stand_count, stand_sync, freeze_stand, thaw_stand, down_count_role, up_count_role, count_role_if, count_beside}
-use Rattle.gate_world.specs.Levels.{read_count_role, level_role_of, sync_role_of, inside, at_level, is_frozen_whole}
+use Rattle.gate_world.specs.Levels.{level_role_of, sync_role_of, inside, at_level, is_frozen_whole}
 use Rattle.gate_world.specs.{Operations.{holds_none, holds_none_from}, Remounts.remount_owns}
-use Rattle.gate_world.specs.Rules.{IsGood, Owner, Fitting, AtMount, AtLevel, SyncAt, SyncHoldsIn, LevelHoldsIn, role_of, owns, change_owns}
-use Rattle.gate_world.specs.{Stages.{thaw_stage_role, snapshot_stage_role}, Views.{held_at, holds_level}, Worlds.World}
+use Rattle.gate_world.specs.Rules.{IsGood, Owner, Fitting, AtMount, AtLevel, SyncAt, SyncHoldsIn, LevelHoldsIn, role_of, owns}
+use Rattle.gate_world.specs.{Views.{held_at, holds_level}, Worlds.World}
+use Rattle.gate_world.specs.Roles.{Stand, stand_count, stand_sync, freeze_stand, thaw_stand, down_count_role, up_count_role, count_role_if, count_beside, read_count_role, change_owns, thaw_stage_role, snapshot_stage_role}
 use Rattle.gate_world.specs.declared.{config.Config.Config, work.Phase.Phase}
 use Rattle.gate_frames.proofs.{LevelWorlds.{callback_opens, read_opens}, Owners.{owns_le, hold_owns, who_holds}}
 use Rattle.progress_laws.proofs.{Bounds.{is_beside, beside_small, rank_small}, Falls.runs_out}

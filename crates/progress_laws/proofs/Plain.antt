@@ -9,7 +9,8 @@ use Rattle.stage_laws.specs.Roles.{bit, up_to, closed_by, closes}
 use Rattle.write_access.specs.declared.phases.WritePhase.{WritePhase}
 use Rattle.file_closes.specs.declared.phases.ClosePhase.{ClosePhase}
 use Rattle.gate_world.specs.{Configs.IsWithin, Fits.PhaseFits, Levels.is_frozen_whole, Rules.{IsGood, Stages}, Shown.stage_roles}
-use Rattle.gate_world.specs.Stages.{remount_stage_role, freeze_stage_role, thaw_stage_role, snapshot_stage_role, tree_stage_role, stage_role_of}
+use Rattle.gate_world.specs.Shown.{stage_role_of}
+use Rattle.gate_world.specs.Roles.{remount_stage_role, freeze_stage_role, thaw_stage_role, snapshot_stage_role, tree_stage_role}
 use Rattle.gate_world.specs.{Views.{held_at, holds_level}, Worlds.World, declared.{config.Config.Config, work.Phase.Phase}}
 use Rattle.progress_laws.proofs.{Layers.phase_ends, Movers.fits_at, Whole.world_goes}
 use Rattle.progress_laws.specs.Progress.{EventsKeepRule, IsKept, KeptIfFreeze, LockIsKept, ChangeIsKept, RemountIsKept, ThawIsKept, SnapshotIsKept, TreeIsKept}

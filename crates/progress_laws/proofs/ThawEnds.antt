@@ -6,7 +6,8 @@ use Rattle.cpu_words.specs.{Hooks.HookAnswer, Touches.found_by, Words.{Words, re
 use Rattle.percpu_rwsem.specs.{Writers.{up_write_next, up_write_after}, declared.writers.UpWrite.UpWrite}
 use Rattle.freeze_levels.specs.{Holders.holders_in, Thaws.{thaw_next, thaw_after, after_opening}, declared.thaws.{Thaw.Thaw, ThawStep.ThawStep}}
 use Rattle.level_laws.specs.Operations.{up_write_role}
-use Rattle.gate_world.specs.{Fits.{Fits, PhaseFits, ThawFits}, Levels.{thaw_stand, sync_beside, stand_sync, sync_role_of}, Rules.{IsGood, Fitting}}
+use Rattle.gate_world.specs.{Fits.{Fits, PhaseFits, ThawFits}, Levels.sync_role_of, Rules.{IsGood, Fitting}}
+use Rattle.gate_world.specs.Roles.{thaw_stand, sync_beside, stand_sync}
 use Rattle.gate_world.specs.{Views.{held_at, holds_level}, Worlds.{World, words_after, found_at}, declared.{config.Config.Config, work.Phase.Phase}}
 use Rattle.progress_laws.proofs.{Falls.{after_event, falls_as}, WriterEnds.up_falls}
 use Rattle.progress_laws.specs.{Ranks.{rank, up_rank, reopens_rank, thaw_rank}, Ways.{IsFree, ThawIsFree, Falls, PhaseEnds}}

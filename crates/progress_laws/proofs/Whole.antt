@@ -11,8 +11,9 @@ use Rattle.freeze_levels.specs.{Freezes.at_freeze, declared.{freezes.{Freeze.Fre
 use Rattle.stage_laws.specs.Roles.{bit, owns as stage_owns, KnowsStage}
 use Rattle.write_access.specs.declared.phases.WritePhase.{WritePhase}
 use Rattle.file_closes.specs.declared.phases.ClosePhase.{ClosePhase}
-use Rattle.gate_world.specs.{Configs.IsWithin, Fits.PhaseFits, Remounts.remount_owns, Rules.{IsGood, Stages, AtLevel, owns, change_owns}}
-use Rattle.gate_world.specs.Stages.{freeze_stage_role, thaw_stage_role, snapshot_stage_role, stage_role_of}
+use Rattle.gate_world.specs.{Configs.IsWithin, Fits.PhaseFits, Remounts.remount_owns, Rules.{IsGood, Stages, AtLevel, owns}}
+use Rattle.gate_world.specs.Shown.{stage_role_of}
+use Rattle.gate_world.specs.Roles.{change_owns, freeze_stage_role, thaw_stage_role, snapshot_stage_role}
 use Rattle.gate_world.specs.{Views.{held_at, holds_level, phase_after, view_after}, Work.after_of, Worlds.{World, after_step, value_at, found_at}}
 use Rattle.gate_world.specs.declared.{config.Config.Config, views.View.View, work.Phase.Phase}
 use Rattle.progress_laws.proofs.{Bounds.alone_settled, Falls.{stands_after, no_further, near_by}}

@@ -13,7 +13,8 @@ use Rattle.level_laws.proofs.Operations.{callbacks_are_there}
 use Rattle.level_laws.specs.Events.{SyncLevel, SyncLevelHolds, SyncStep}
 use Rattle.level_laws.specs.{Operations.{callback_role, KnowsCallback, CallbackIsThere, left_by, put_at, value_at, by_next, HoldsOfNext}, Roles.Out as IsApart}
 use Rattle.gate_world.specs.{Configs.IsWithin, Fits.{Fits, PhaseFits, GraceFits}, LevelRuns.level_in}
-use Rattle.gate_world.specs.Levels.{sync_role_if, sync_role_of, inside, level_added_by, level_added_after, level_taken_by, level_taken_after, level_role_of}
+use Rattle.gate_world.specs.Levels.{sync_role_of, inside, level_added_by, level_added_after, level_taken_by, level_taken_after, level_role_of}
+use Rattle.gate_world.specs.Roles.{sync_role_if}
 use Rattle.gate_world.specs.{Rules.{IsGood, StepKeeps, Moves, AtLevel, SyncAt, Fitting, Holds, ViewFits}, Shown.shown}
 use Rattle.gate_world.specs.{Views.{view_after, phase_after, actions_after, held_at, holds_level, added_by, added_after, taken_by, taken_after}, Worlds.World}
 use Rattle.gate_world.specs.declared.{config.Config.Config, views.View.View, work.Phase.Phase}

@@ -3,7 +3,8 @@ use Rattle.std.{proofs.Common.{◌≡◌, ℕ, refl, subst, ◌≤◌, sym}, spe
 use Rattle.access_model.specs.{Replies.map_next, declared.{actions.Action.Action, replies.Next.Next}}
 use Rattle.percpu_rwsem.specs.{Callbacks.callback_after, declared.callbacks.Callback.Callback}
 use Rattle.level_laws.specs.Roles.{Out as IsApart}
-use Rattle.gate_world.specs.{Fits.{Fits, ActionFits, mounts_by, levels_by}, KeptCauses.CauseOf, Levels.sync_role_if, Rules.Fitting}
+use Rattle.gate_world.specs.{Fits.{Fits, ActionFits, mounts_by, levels_by}, KeptCauses.CauseOf, Rules.Fitting}
+use Rattle.gate_world.specs.Roles.{sync_role_if}
 use Rattle.gate_world.specs.{Views.{held_at, holds_level, phase_after}, Worlds.{World, after_step, found_at}}
 use Rattle.gate_world.specs.declared.{config.Config.Config, operations.Op.Op, work.Phase.Phase}
 use Rattle.gate_frames.proofs.{Keeps.{by_bool, word_among, PhaseKeeps, OpKeeps}, Says.{tells, is_short}, Snapshots.completes_none}

@@ -9,10 +9,11 @@ use Rattle.percpu_rwsem.specs.declared.readers.{DownRead.DownRead, UpRead.UpRead
 use Rattle.freeze_levels.specs.Holders.{holders_in}
 use Rattle.stage_laws.specs.Roles.{Aside, sums}
 use Rattle.holder_laws.specs.Roles.{Apart}
-use Rattle.gate_world.specs.{Fits.file_of, Holders.holder_role_of, Levels.{is_frozen_whole, sync_role_of, inside, at_level}, Owners.KnowsWords}
+use Rattle.gate_world.specs.{Fits.file_of, Levels.{is_frozen_whole, sync_role_of, inside, at_level}, Owners.KnowsWords}
 use Rattle.gate_world.specs.Rules.{owns, remounts, IsGood, Holds, ViewFits, Owner, Known, AtMount, AtLevel, role_of, SyncAt, Sections, Stages, Holding, Fitting}
 use Rattle.gate_world.specs.Rules.{Tree, Files}
-use Rattle.gate_world.specs.{Shown.{closing, shown}, Stages.stage_role_of, Trees.{is_sealed, tree_role_of, is_bare_at}}
+use Rattle.gate_world.specs.{Shown.{closing, shown}, Trees.{is_sealed, tree_role_of, is_bare_at}}
+use Rattle.gate_world.specs.Shown.{holder_role_of, stage_role_of}
 use Rattle.gate_world.specs.{Views.{held_at, added_by, phase_after, taken_by, holds_level, has_open}, Worlds.World}
 use Rattle.gate_world.specs.declared.{config.Config.Config, views.{Traced.Traced, View.View}, work.Phase.Phase}
 use Rattle.gate_frames.proofs.{Frames.{shown_as, left_alone, view_as}, Known.known_same}

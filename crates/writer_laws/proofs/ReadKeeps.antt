@@ -12,7 +12,8 @@ use Rattle.gate_world.specs.declared.operations.Op.TheVariants.{Start, End}
 use Rattle.gate_world.specs.declared.work.Phase.TheVariants.{DownReads, UpReads}
 use Rattle.gate_world.specs.Causes.{asks_level}
 use Rattle.gate_world.specs.Fits.{Fits, mounts_by, levels_by}
-use Rattle.gate_world.specs.Levels.{sync_role_of, count_role_if, sync_role_if}
+use Rattle.gate_world.specs.Levels.{sync_role_of}
+use Rattle.gate_world.specs.Roles.{count_role_if, sync_role_if}
 use Rattle.gate_world.specs.Operations.{is_level_number}
 use Rattle.gate_world.specs.Rules.{Fitting}
 use Rattle.gate_world.specs.Traces.{most_events}

@@ -10,7 +10,8 @@ use Rattle.percpu_rwsem.specs.{Readers.down_read_after, declared.readers.DownRea
 use Rattle.level_laws.specs.{Events.SyncStep, Roles.{Out as IsApart, closed}}
 use Rattle.write_access.specs.{Phases.{then_wants, then_gives_back, leaves_on}, declared.phases.WritePhase.WritePhase}
 use Rattle.gate_world.specs.{Causes.{asks, asks_level}, Configs.IsWithin, Fits.{WriteFits, Fits, mounts_by, levels_by}, LevelRuns.level_in}
-use Rattle.gate_world.specs.{Levels.{sync_role_of, sync_role_if, count_role_if}, Rules.{IsGood, StepKeeps, role_of}, Views.{held_at, holds_level, phase_after}}
+use Rattle.gate_world.specs.{Levels.sync_role_of, Rules.{IsGood, StepKeeps, role_of}, Views.{held_at, holds_level, phase_after}}
+use Rattle.gate_world.specs.Roles.{sync_role_if, count_role_if}
 use Rattle.gate_world.specs.{Worlds.{World, after_step, found_at}, declared.{config.Config.Config, operations.Op.Op, work.Phase.Phase}}
 use Rattle.gate_frames.proofs.{Beside.update_twice, Frames.role_on, Keeps.{by_bool, PhaseKeeps, OpKeeps, none_agree}}
 use Rattle.gate_frames.proofs.{Says.{tells, is_short, tells_well, is_short_well}, Snapshots.completes_none, TreeHolders.both_true}
