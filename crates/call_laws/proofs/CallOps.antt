@@ -15,8 +15,7 @@ not_false false e = refl
 pub create_keeps : (c : Config) (d : ℕ) (kind : Kind) → OpKeeps c (Op.Create d kind)
 create_keeps c d kind = record {
   fits = λ t held levels there order room. ((ltb-true d c.nodes there, refl, tt), order);
-  starts_idle = λ t. assumption;
-  off_tree = λ t trace. refl;
+  starts_aside = λ t. refl;
   cause = λ t w earlier. tt;
   order_agrees = λ f g h k mounts levels there. writer_agrees c f g h k mounts levels;
   room_agrees = λ f g mounts there. refl;
@@ -30,8 +29,7 @@ create_keeps c d kind = record {
 pub remove_keeps : (c : Config) (file : ℕ) → OpKeeps c (Op.Remove file)
 remove_keeps c file = record {
   fits = λ t held levels there order room. ((ltb-true file c.nodes there, tt), order);
-  starts_idle = λ t. assumption;
-  off_tree = λ t trace. refl;
+  starts_aside = λ t. refl;
   cause = λ t w earlier. tt;
   order_agrees = λ f g h k mounts levels there. writer_agrees c f g h k mounts levels;
   room_agrees = λ f g mounts there. refl;
@@ -47,8 +45,7 @@ grow_keeps c file blocks = record {
   fits = λ t held levels there order room.
       let both : (nat_lt file c.nodes ≡ true) × (nat_lt 0 blocks ≡ true) = both_true (nat_lt file c.nodes) (nat_lt 0 blocks) there in
       ((ltb-true file c.nodes both.0, ltb-true 0 blocks both.1, refl), order);
-  starts_idle = λ t. assumption;
-  off_tree = λ t trace. refl;
+  starts_aside = λ t. refl;
   cause = λ t w earlier. tt;
   order_agrees = λ f g h k mounts levels there. writer_agrees c f g h k mounts levels;
   room_agrees = λ f g mounts there. refl;
@@ -64,8 +61,7 @@ move_keeps c file dir = record {
   fits = λ t held levels there order room.
       let both : (nat_lt file c.nodes ≡ true) × (nat_lt dir c.nodes ≡ true) = both_true (nat_lt file c.nodes) (nat_lt dir c.nodes) there in
       ((ltb-true file c.nodes both.0, ltb-true dir c.nodes both.1, tt), order);
-  starts_idle = λ t. assumption;
-  off_tree = λ t trace. refl;
+  starts_aside = λ t. refl;
   cause = λ t w earlier. tt;
   order_agrees = λ f g h k mounts levels there. writer_agrees c f g h k mounts levels;
   room_agrees = λ f g mounts there. refl;
@@ -79,8 +75,7 @@ move_keeps c file dir = record {
 pub fault_keeps : (c : Config) (file : ℕ) → OpKeeps c (Op.Fault file)
 fault_keeps c file = record {
   fits = λ t held levels there order room. (ltb-true file c.nodes there, order);
-  starts_idle = λ t. assumption;
-  off_tree = λ t trace. refl;
+  starts_aside = λ t. refl;
   cause = λ t w earlier. tt;
   order_agrees = λ f g h k mounts levels there. faulter_agrees c f g h k mounts levels;
   room_agrees = λ f g mounts there. refl;
@@ -94,8 +89,7 @@ fault_keeps c file = record {
 pub flush_keeps : (c : Config) (file : ℕ) → OpKeeps c (Op.Flush file)
 flush_keeps c file = record {
   fits = λ t held levels there order room. (ltb-true file c.nodes there, order);
-  starts_idle = λ t. assumption;
-  off_tree = λ t trace. refl;
+  starts_aside = λ t. refl;
   cause = λ t w earlier. tt;
   order_agrees = λ f g h k mounts levels there. levels 3 (omega arith) (omega arith);
   room_agrees = λ f g mounts there. refl;
@@ -109,8 +103,7 @@ flush_keeps c file = record {
 pub open_keeps : (c : Config) (file : ℕ) → OpKeeps c (Op.Open file)
 open_keeps c file = record {
   fits = λ t held levels there order room. ((ltb-true file c.nodes there, tt), tt);
-  starts_idle = λ t. assumption;
-  off_tree = λ t trace. refl;
+  starts_aside = λ t. refl;
   cause = λ t w earlier. tt;
   order_agrees = λ f g h k mounts levels there. refl;
   room_agrees = λ f g mounts there. refl;
@@ -124,8 +117,7 @@ open_keeps c file = record {
 pub snapshot_keeps : (c : Config) (wait : Bool) → OpKeeps c (Op.Snapshot wait)
 snapshot_keeps c wait = record {
   fits = λ t held levels there order room. ((refl, refl, tt), order);
-  starts_idle = λ t. assumption;
-  off_tree = λ t trace. refl;
+  starts_aside = λ t. refl;
   cause = λ t w earlier. tt;
   order_agrees = λ f g h k mounts levels there. none_agree c 0 f g h k mounts levels;
   room_agrees = λ f g mounts there. refl;

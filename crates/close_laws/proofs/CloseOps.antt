@@ -15,8 +15,7 @@ close_op_from c file p wait tells short = record {
       let at : (nat_lt file c.nodes ≡ true) × (nat_lt p c.processors ≡ true) =
       both_true (nat_lt file c.nodes) (nat_lt p c.processors) there in
       (ltb-true file c.nodes at.0, ltb-true p c.processors at.1, refl, order);
-  starts_idle = λ t. assumption;
-  off_tree = λ t trace. refl;
+  starts_aside = λ t. refl;
   cause = λ t w earlier. tt;
   order_agrees = λ f g h k mounts levels there. none_from_agree h k levels 3;
   room_agrees = λ f g mounts there. refl;

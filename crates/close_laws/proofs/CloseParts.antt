@@ -15,7 +15,7 @@ use Rattle.file_closes.specs.{Phases.{next, after, enters, closed_from}, declare
 use Rattle.gate_world.specs.{Configs.{IsWithin, model_limits}, Fits.{Fits, CloseFits, MayLower, HasFile, file_of, opens_by}, LevelRuns.level_in}
 use Rattle.gate_world.specs.{Rules.{IsGood, Fitting, Tree, Files, StepKeeps}, Shown.shown}
 use Rattle.gate_world.specs.Trees.{tree_bounds, tree_roles, tree_role_of, is_sealed, is_bare_at}
-use Rattle.gate_world.specs.Roles.{count_role_if, sync_role_if, close_tree_role}
+use Rattle.gate_world.specs.Roles.{count_role_if, sync_role_if, close_tree_role, no_roles}
 use Rattle.gate_world.specs.{Views.{held_at, holds_level, has_open, phase_after, view_after}, Worlds.{World, value_at, found_at, after_step}}
 use Rattle.gate_world.specs.declared.{config.Config.Config, views.{Traced.Traced, View.View}, work.Phase.Phase}
 use Rattle.gate_frames.proofs.CloseEvents.{close_loads, close_lowers, close_frees, close_drops, close_uncounts, frees_alone, closer_unread, freeing_removed}
@@ -25,6 +25,7 @@ use Rattle.gate_frames.proofs.NodeParts.{is_node_word, node_call, LeavesAccesses
 use Rattle.gate_frames.proofs.NodeParts.{tree_then, files_then, shown_moves}
 use Rattle.gate_frames.proofs.Trees.{tree_within}
 use Rattle.close_laws.proofs.CloseFits.{close_goes}
+use Rattle.gate_frames.proofs.Frames.{count_none, sync_none}
 
 -- the events at the tree
 abbrev pub is_at_tree : ClosePhase → Bool
@@ -49,22 +50,15 @@ close_leaves other h found = leaves_none
 off_close : (x : ClosePhase) → is_at_tree x ≡ true → IsOffGates (Some (Phase.Closes x))
 off_close (ClosePhase.Enters file node r) h = absurd (true≢false (sym h))
 off_close (ClosePhase.Leaves p) h = absurd (true≢false (sym h))
-off_close other h = assumption
+off_close other h = record { roles = refl; closing_none = λ i. refl }
 
 off_leaves : (p : ℕ) → IsOffGates (Some (Phase.Closes (ClosePhase.Leaves p)))
-off_leaves p = assumption
+off_leaves p = record { roles = refl; closing_none = λ i. refl }
 
 off_enters : (x : Closing) (file : NodeWord) → IsOffGates (Some (Phase.Closes (enters x file)))
 off_enters x file = record {
-  out_of_mounts = λ m. refl;
-  off_levels = record {
-    counts_not = λ i. by_bool (i == 3) (λ b. count_role_if b CountsNot ≡ CountsNot) refl refl;
-    apart = λ i. by_bool (i == 3) (λ b. sync_role_if b IsApart ≡ IsApart) refl refl;
-    outside = refl;
-  };
+  roles = λ k. record no_roles { count = λ i. count_none i 3 k; sync = λ i. sync_none i 3 k };
   closing_none = λ i. refl;
-  remounts_none = refl;
-  unheld = refl;
 }
 
 off_found : (x : Closing) (file : NodeWord) → IsOffGates (Some (Phase.Closes (closed_from x file)))

@@ -180,7 +180,7 @@ begin_told : (c : Config) (w : World) (t : ℕ) (op : Op) (refused : Option Gate
 begin_told c w t op (Some refused) told x = told x
 begin_told c w t op None told x =
     each_updated (λ y (v : View). IsTold v.phase v.trace) w.views t (begun_view (w.views t) op (first_phase c t op)) x
-    (ap between ((op_keeps c op).starts_idle t).holder_same ∙ ap bit (sym (none_yet (first_phase c t op)))) (λ ne. told x)
+    ((λ j. between ((op_keeps c op).starts_aside t j).holder) ∙ ap bit (sym (none_yet (first_phase c t op)))) (λ ne. told x)
 
 pub entry_told : (c : Config) (w : World) (e : Entry) → IsGood c w → IsGood c (happens c w e) → AllTold w → AllTold (happens c w e)
 entry_told c w (Begins t op) good after told = begin_told c w t op (begin_refusal c w t op) told

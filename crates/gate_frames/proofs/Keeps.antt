@@ -2,13 +2,12 @@
 use Rattle.std.{proofs.Common.{◌≡◌, ℕ, ◌<◌, ◌≤◌, Bool, true, false, arith, ◌+◌, ◌-◌}, specs.Prelude.{Err, ◌++◌, Option, Some, None, List, ◌∷◌}}
 use Rattle.access_model.specs.{Histories.{mounts_of, levels_of, opens_of}, declared.{actions.Action.Action, errors.GateError.GateError}}
 use Rattle.cpu_words.specs.{Hooks.HookAnswer, Names.{IsWord, Extents}, declared.names.WordName.WordName}
-use Rattle.gated_tree.specs.Roles.{Out as OffTree}
 use Rattle.level_laws.specs.Events.{SyncStep}
-use Rattle.gate_world.specs.{Alike.IsBeside, Beginnings.{first_phase, is_in_range, is_in_order, is_within_room}, Causes.{all_counted, all_inside}}
+use Rattle.gate_world.specs.{Beginnings.{first_phase, is_in_range, is_in_order, is_within_room}, Causes.{all_counted, all_inside}}
 use Rattle.gate_world.specs.{Configs.{IsWithin, extents_of, extents_among}, Courses.{course_of, IsTrace}}
 use Rattle.gate_world.specs.{Fits.{PhaseFits, Fits, ActionFits, mounts_by, levels_by, HasFile, file_of}, KeptCauses.CauseOf, LevelRuns.level_in}
-use Rattle.gate_world.specs.{Moments.CompletesNow, Operations.{holds_none, is_of_open, is_of_closed}, Rules.{IsGood, StepKeeps}}
-use Rattle.gate_world.specs.{Traces.{actions_of, Tells, IsShort, most_events}, Trees.tree_role_of, Views.{phase_after, held_at, holds_level}, Waits.HasReason}
+use Rattle.gate_world.specs.{Moments.CompletesNow, Operations.{holds_none, is_of_open, is_of_closed}, Roles.{no_roles, roles_of}, Rules.{IsGood, StepKeeps}}
+use Rattle.gate_world.specs.{Traces.{actions_of, Tells, IsShort, most_events}, Views.{phase_after, held_at, holds_level}, Waits.HasReason}
 use Rattle.gate_world.specs.{Work.{next_of, after_of}, Worlds.{World, after_step, found_at}}
 use Rattle.gate_world.specs.declared.{config.Config.Config, operations.Op.Op, views.Traced.Traced, work.Phase.Phase}
 
@@ -99,9 +98,8 @@ pub record OpKeeps (c : Config) (op : Op) : Type 0 where
   pub fits : (t : ℕ) (held : ℕ → ℕ) (levels : ℕ → Bool) → is_in_range c op ≡ true → is_in_order c held levels op ≡ true →
       is_within_room held op ≡ true →
       Fits c t held levels (Some (first_phase c t op))
-  -- which stands as no operation does, has no role at the tree, and has no cause
-  pub starts_idle : (t : ℕ) → IsBeside None (Some (first_phase c t op))
-  pub off_tree : (t : ℕ) (trace : List Traced) → tree_role_of trace (Some (first_phase c t op)) ≡ OffTree
+  -- which has no role, but that it may rely on a file, and has no cause
+  pub starts_aside : (t : ℕ) → roles_of (Some (first_phase c t op)) ≡ record no_roles { file = file_of (Some (first_phase c t op)) }
   pub cause : (t : ℕ) (w : World) (earlier : List World) → CauseOf c t w earlier (Some (first_phase c t op))
   -- whether it may begin is the same with accesses that agree
   pub order_agrees : (f g : ℕ → ℕ) (h k : ℕ → Bool) → ((m : ℕ) → m < c.mounts → f m ≡ g m) → ((i : ℕ) → 1 ≤ i → i ≤ 3 → h i ≡ k i) →

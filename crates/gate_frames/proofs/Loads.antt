@@ -11,9 +11,6 @@ use Rattle.gate_world.specs.{Shown.{shown, closing}, Views.{held_at, holds_level
 use Rattle.gate_world.specs.declared.{config.Config.Config, views.View.View, work.Phase.Phase}
 use Rattle.gate_frames.proofs.{Frames.{added_load, taken_load, view_as, holds_as, MountHoldsAfter, shown_still, owner_same, gates_after}, Words.load_same}
 
-pub role_none : (y m : ℕ) → role_if (y == m) Out ≡ Out
-role_none y m = elim (y == m) as (λ b. role_if b Out ≡ Out) [ true ↦ refl | false ↦ refl ]
-
 pub steady : {p q r : Option Phase} → p ≡ r → IsSteady r q → IsSteady p q
 steady e s = record {
   owns_same = s.owns_same ∙ sym (ap owns e);

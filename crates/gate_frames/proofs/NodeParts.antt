@@ -18,7 +18,7 @@ use Rattle.mount_counts.specs.Roles.{Out, ro_bit}
 use Rattle.tree_laws.proofs.{Allowed.{may_do, tree_alone}, Fitting.fits_after, Phases.each_phase}
 use Rattle.tree_laws.specs.{Events.{MovesBy, opens_shown}, Steps.{Notes, StepKeeps, tree_in}}
 use Rattle.freeze_levels.specs.Holders.{holders_in}
-use Rattle.stage_laws.specs.Roles.{sums, is_full}
+use Rattle.stage_laws.specs.Roles.{sums, is_full, Aside}
 use Rattle.holder_laws.specs.Roles.{Apart}
 use Rattle.gate_world.specs.{Configs.{IsWithin, model_limits}, Fits.{HasFile, file_of, opens_by, Fits, TreeAccess, mounts_by, levels_by}, Found.is_load}
 use Rattle.gate_world.specs.Levels.{is_frozen_whole, level_added_after, level_taken_after, level_added_by, level_taken_by}
@@ -26,7 +26,7 @@ use Rattle.gate_world.specs.Rules.{Files, IsGood, Holds, Part, Holding, AtMount,
 use Rattle.gate_world.specs.Rules.{role_of, remounts, Moves as ModelMoves}
 use Rattle.gate_world.specs.{Shown.{shown, closing}, Snapshots.values_noted}
 use Rattle.gate_world.specs.Trees.{is_bare_at, tree_bounds, tree_roles, tree_role_of, is_sealed}
-use Rattle.gate_world.specs.Roles.{tree_stage_role, snapshot_stage_role, nodes_noted}
+use Rattle.gate_world.specs.Roles.{tree_stage_role, snapshot_stage_role, nodes_noted, Roles, no_roles, roles_of}
 use Rattle.gate_world.specs.Shown.{holder_role_of}
 use Rattle.gate_world.specs.Views.{has_open, held_at, holds_level, added_after, taken_after, added_by, taken_by, phase_after, view_after}
 use Rattle.gate_world.specs.{Work.{next_of, after_of}, Worlds.{World, after_step, words_after, value_at, found_at}}
@@ -332,16 +332,17 @@ module _ (c : Config) (held : ℕ → ℕ) (levels : ℕ → Bool) where
       (subst (λ k. Fits c t held k (phase_after (map_next Phase.Trees (after x found hook).0))) (sym (leaves.levels levels))
       (call_goes_on within t x found hook fits))
 
--- a phase that is at no mount, no level and no section, and closes no level
+-- these roles but for those of calls at the tree
+abbrev pub off_calls : Roles → Roles
+off_calls r = record r { stage = Aside; tree = no_roles.tree; owns = 0; file = None; hook = None }
+
+-- a phase that has no other role, and closes no level
 pub record IsOffGates (p : Option Phase) : Type 0 where
-  pub out_of_mounts : (m : ℕ) → role_of m p ≡ Out
-  pub off_levels : IsOffLevels p
+  pub roles : off_calls (roles_of p) ≡ no_roles
   pub closing_none : (i : ℕ) → closing i p ≡ 0
-  pub remounts_none : remounts p ≡ 0
-  pub unheld : holder_role_of p ≡ Apart
 
 pub idle_off : IsOffGates None
-idle_off = assumption
+idle_off = record { roles = refl; closing_none = λ i. refl }
 
 snapshot_closing : (i : ℕ) (s : SnapshotStep) → sums i (snapshot_stage_role s) ≡ 0
 snapshot_closing i SnapshotStep.Locks = refl
@@ -352,13 +353,7 @@ tree_closing i (TreePhase.Snapshot x) = snapshot_closing i x.step
 tree_closing i x = refl
 
 pub call_off : (x : TreePhase) → IsOffGates (Some (Phase.Trees x))
-call_off x = record {
-  out_of_mounts = λ m. refl;
-  off_levels = record { counts_not = λ i. refl; apart = λ i. refl; outside = refl };
-  closing_none = λ i. tree_closing i x;
-  remounts_none = refl;
-  unheld = refl;
-}
+call_off x = record { roles = refl; closing_none = λ i. tree_closing i x }
 
 pub next_off : (n : Next TreePhase) → IsOffGates (phase_after (map_next Phase.Trees n))
 next_off (Next.Go x) = call_off x
@@ -417,21 +412,25 @@ module _ (c : Config) (w : World) (good : IsGood c w) (t : ℕ) (lt : t < c.task
   was_off : IsOffGates (w.views t).phase
   was_off = subst IsOffGates (sym e) at.off
 
+  -- the roles that no call has are the same
+  pub roles_still : off_calls (roles_of view_then.phase) ≡ off_calls (roles_of (w.views t).phase)
+  roles_still = at.off_then.roles ∙ sym was_off.roles
+
   -- what the parts of mounts, levels and sections read of the task's view is the same
   gate_view : (part : Part) → is_gate_part part ≡ true → SameView (w.views t) view_then part
-  gate_view Holding h = at.off_then.unheld ∙ sym was_off.unheld
+  gate_view Holding h = λ j. (roles_still j).holder
   gate_view (AtMount m) h =
       let none : CountsNowhere (next_of phase hook) = counts_nowhere (next_of phase hook) at.touches in
       view_as (ap (λ f. f m) held_still) (ap (λ f. f m) (none.added (added_by (w.views t).events)))
-      (ap (λ f. f m) (none.taken (taken_by (w.views t).events))) (at.off_then.out_of_mounts m ∙ sym (was_off.out_of_mounts m))
+      (ap (λ f. f m) (none.taken (taken_by (w.views t).events))) (λ j. (roles_still j).mount m)
   gate_view (AtLevel i) h =
       let none : CountsNowhere (next_of phase hook) = counts_nowhere (next_of phase hook) at.touches in
       level_view_as (ap (λ (f : ℕ → Bool). if f i then 1 else 0) levels_still)
       (ap (λ f. f i) (none.level_added (level_added_by (w.views t).events)))
       (ap (λ f. f i) (none.level_taken (level_taken_by (w.views t).events)))
-      (at.off_then.off_levels.counts_not i ∙ sym (was_off.off_levels.counts_not i))
-  gate_view (SyncAt i) h = at.off_then.off_levels.apart i ∙ sym (was_off.off_levels.apart i)
-  gate_view Sections h = at.off_then.off_levels.outside ∙ sym was_off.off_levels.outside
+      (λ j. (roles_still j).count i)
+  gate_view (SyncAt i) h = λ j. (roles_still j).sync i
+  gate_view Sections h = λ j. (roles_still j).inside
   gate_view part h = absurd (true≢false (sym h))
 
   pub gate_parts : (part : Part) → is_gate_part part ≡ true → Holds c (after_step w t phase hook) part

@@ -20,27 +20,29 @@ use Rattle.gate_world.specs.{Configs.model_limits, Fits.{FreezeFits, HasFile, fi
 use Rattle.gate_world.specs.Rules.{Stages, Holding, Fitting, Known, Tree, AtMount, Sections, role_of, IsGood, OwnerHolds, Part, Moves, owns, remounts}
 use Rattle.gate_world.specs.Rules.{StepKeeps, Holds, ViewFits, AtLevel, SyncAt, Owner, Files}
 use Rattle.gate_world.specs.Shown.{shown, stage_roles, stage_role_of}
-use Rattle.gate_world.specs.Roles.{reopening_role, freeze_stage_role, thaw_stage_role}
+use Rattle.gate_world.specs.Roles.{reopening_role, freeze_stage_role, thaw_stage_role, Roles, roles_of, no_roles}
 use Rattle.gate_world.specs.{Views.{phase_after, held_at, holds_level, added_by, taken_by, has_open}, Worlds.{World, value_at, after_step, phase_action}}
 use Rattle.gate_world.specs.declared.{config.Config.Config, views.View.View, work.Phase.Phase}
 use Rattle.gate_frames.proofs.{Frames.{left_alone, view_as, opens_left}, Keeps.by_bool, Known.{IsOwnersWork, known_after}}
 use Rattle.gate_frames.proofs.{MountEvents.{is_known_part, known_is}, Stages.{stages_after, stage_action, shown_by, IsStageEvent, stages_in, stage_effect}}
 use Rattle.gate_frames.proofs.Standing.{LevelsHold, left_world}
 
--- A phase of a freeze or a thaw, or none: it has no role at a mount, and `remount` not set.
-pub record IsWriter (p : Option Phase) : Type 0 where
-  pub out_of_mounts : (m : ℕ) → role_of m p ≡ Out
-  pub remounts_none : remounts p ≡ 0
-  pub no_file : file_of p ≡ None
+-- of these roles those that no freeze and no thaw has
+abbrev pub off_writers : Roles → Roles
+off_writers r = record no_roles { mount = r.mount; remounts = r.remounts; file = r.file }
+
+-- a phase of one, or none: it has none of them
+abbrev pub IsWriter : Option Phase → Type 0
+IsWriter p = off_writers (roles_of p) ≡ no_roles
 
 pub idle_writes : IsWriter None
-idle_writes = record { out_of_mounts = λ m. refl; remounts_none = refl; no_file = refl }
+idle_writes = refl
 
 pub freezes_write : (x : Freeze) → IsWriter (Some (Phase.Freezes x))
-freezes_write x = record { out_of_mounts = λ m. refl; remounts_none = refl; no_file = refl }
+freezes_write x = refl
 
 pub thaws_write : (x : Thaw) → IsWriter (Some (Phase.Thaws x))
-thaws_write x = record { out_of_mounts = λ m. refl; remounts_none = refl; no_file = refl }
+thaws_write x = refl
 
 pub freeze_comes : (n : Next Freeze) → IsWriter (phase_after (map_next Phase.Freezes n))
 freeze_comes (Next.Go x) = freezes_write x
@@ -115,13 +117,13 @@ module _ (c : Config) (w : World) (good : IsGood c w) (t : ℕ) (lt : t < c.task
   writer_parts h Files k = record {
     counted = λ n ln. h.opens n ∙ (good Files).counted n ln ∙ sym (ap (λ f. openers f n) (opens_left c w t lt v h.counts.open_same));
     own = λ x lx. each_updated (λ y (u : View). HasFile (has_open u) (file_of u.phase)) w.views t v x
-        (subst (HasFile (has_open v)) (sym h.now.no_file) tt) (λ ne. (good Files).own x lx);
+        (subst (HasFile (has_open v)) (sym (λ j. (h.now j).file)) tt) (λ ne. (good Files).own x lx);
   }
   writer_parts h (AtMount m) k =
       left_alone c w t lt (AtMount m) ws v
       (ap (λ f. f m) h.words.flags_same, h.words.remount_same, h.words.sb_same, ap (λ f. f m) h.words.count_same)
       (view_as (ap (λ f. f m) h.counts.held_same) (ap (λ f. f m) h.counts.added_same) (ap (λ f. f m) h.counts.taken_same)
-      (h.now.out_of_mounts m ∙ sym (h.was.out_of_mounts m))) (good (AtMount m))
+      ((λ j. (h.now j).mount m) ∙ sym (λ j. (h.was j).mount m))) (good (AtMount m))
   writer_parts h (AtLevel i) k = h.levels.0 i
   writer_parts h (SyncAt i) k = h.levels.1 i
   writer_parts h Sections k = h.levels.2

@@ -3,10 +3,13 @@ use Rattle.std.{proofs.{Common.{ℕ, Bool, arith, refl, subst}, lemmas.Bool.ltb-
 use Rattle.mount_counts.specs.declared.phases.{Change.Change, MountPhase.MountPhase}
 use Rattle.gate_world.specs.{Fits.Fits, Rules.Fitting, Traces.most_events, Views.{held_at, holds_level}, Worlds.after_step}
 use Rattle.gate_world.specs.declared.{config.Config.Config, operations.Op.Op, work.Phase.Phase}
-use Rattle.gate_frames.proofs.{Keeps.{by_bool, none_agree, word_among, PhaseKeeps, IsSmall, OpKeeps}, Loads.role_none, MountRuns.mounts_run}
+use Rattle.gate_frames.proofs.{Keeps.{by_bool, none_agree, word_among, PhaseKeeps, IsSmall, OpKeeps}, MountRuns.mounts_run}
+use Rattle.gate_frames.proofs.Frames.{role_none}
 use Rattle.gate_frames.proofs.{Says.{tells, is_short}, Snapshots.completes_none}
 use Rattle.owner_laws.proofs.{ChangeCauses.{change_kept, change_own}, ChangeFits.{change_there, change_acts, change_goes}}
 use Rattle.owner_laws.proofs.{ChangeTraces.{ChangeAt, change_kept as change_traced}, ChangeWaits.change_waits, Each.change_keeps}
+use Rattle.std.specs.Prelude.{true}
+use Rattle.gate_world.specs.Roles.{no_roles}
 
 pub change_phase : (c : Config) (x : Change) → PhaseKeeps c (Phase.Mounts (MountPhase.Change x))
 change_phase c x = record {
@@ -31,16 +34,7 @@ change_phase c x = record {
 pub change_op : (c : Config) (m : ℕ) (ro wait : Bool) → OpKeeps c (Op.ChangeMount m ro wait)
 change_op c m ro wait = record {
   fits = λ t held levels there order room. (ltb-true m c.mounts there, refl, refl, order, tt);
-  starts_idle = λ t. record {
-    steady = assumption;
-    stage_same = refl;
-    holder_same = refl;
-    level_same = λ i. refl;
-    sync_same = λ i. refl;
-    inside_same = refl;
-    role_same = λ y. role_none y m;
-  };
-  off_tree = λ t trace. refl;
+  starts_aside = λ t k. record no_roles { mount = λ y. role_none y m k };
   cause = λ t w earlier. tt;
   order_agrees = λ f g h k mounts levels there. none_agree c 0 f g h k mounts levels;
   room_agrees = λ f g mounts there. refl;

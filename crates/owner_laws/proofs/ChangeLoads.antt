@@ -6,7 +6,8 @@ use Rattle.mount_counts.specs.{Phases.{has_flag, step_between}, Roles.Out, decla
 use Rattle.gate_world.specs.{Fits.SumFits, Operations.holds_none, Rules.{role_of, IsGood, GateStepKeeps, GatesHold}}
 use Rattle.gate_world.specs.Roles.{change_role, role_if, change_owns}
 use Rattle.gate_world.specs.{Shown.shown, Views.holds_level, Worlds.World, declared.{config.Config.Config, work.Phase.Phase}}
-use Rattle.gate_frames.proofs.{Frames.{role_on, role_off}, Loads.{as_owner, after_load, still_load, role_none, fits_now}}
+use Rattle.gate_frames.proofs.{Frames.{role_on, role_off}, Loads.{as_owner, after_load, still_load, fits_now}}
+use Rattle.gate_frames.proofs.Frames.{role_none}
 
 abbrev pub change : ℕ → Bool → Bool → ℕ → ℕ → ChangeStep → MountPhase
 change m ro wait task processors step =

@@ -52,18 +52,18 @@ as_thaw x s = record { task = x.task; holder = x.holder; step = s }
 -- before an event
 reopens_alike : (x : Freeze) (u : UpWrite) (code : ℕ) →
     IsAlike (Some (Phase.Freezes (at_freeze x (FreezeStep.Reopens u code)))) (Some (Phase.Thaws (as_thaw x (ThawStep.Reopens u))))
-reopens_alike x u code = assumption
+reopens_alike x u code = refl
 
 -- after the last one at a level
 fails_alike : (x : Freeze) (level code : ℕ) →
     IsAlike (Some (Phase.Thaws (as_thaw x (thaw_opens level)))) (Some (Phase.Freezes (at_freeze x (freeze_fails level code))))
-fails_alike x level code = elim (cases_Bool (level == 0)) [ inl h ↦ rw h assumption | inr h ↦ rw h assumption ]
+fails_alike x level code = elim (cases_Bool (level == 0)) [ inl h ↦ rw h refl | inr h ↦ rw h refl ]
 
 next_alike : (x : Freeze) (u : UpWrite) (code : ℕ) (n : Next UpWrite) →
     IsAlike (phase_after (map_next Phase.Thaws (after_opening (as_thaw x (ThawStep.Reopens u)) u.level n)))
     (phase_after (map_next Phase.Freezes (after_reopening x u.level code n)))
-next_alike x u code (Next.Go v) = assumption
-next_alike x u code (Next.Wait v) = assumption
+next_alike x u code (Next.Go v) = refl
+next_alike x u code (Next.Wait v) = refl
 next_alike x u code (Next.Done answer) = fails_alike x (u.level - 1) code
 
 module _ (c : Config) (lim : IsWithin c) (w : World) (good : IsGood c w) (t : ℕ) (lt : t < c.tasks) (x : Freeze) (hook : HookAnswer) where

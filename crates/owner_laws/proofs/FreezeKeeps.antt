@@ -43,8 +43,7 @@ freeze_phase c x = record {
 pub freeze_op : (c : Config) (holder : Holder) → OpKeeps c (Op.Freeze holder)
 freeze_op c holder = record {
   fits = λ t held levels there order room. (refl, refl, refl, refl, order, tt);
-  starts_idle = λ t. assumption;
-  off_tree = λ t trace. refl;
+  starts_aside = λ t. refl;
   cause = λ t w earlier. tt;
   order_agrees = λ f g h k mounts levels there. none_agree c 0 f g h k mounts levels;
   room_agrees = λ f g mounts there. refl;

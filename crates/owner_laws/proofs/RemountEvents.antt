@@ -296,7 +296,7 @@ module _ (c : Config) (lim : IsWithin c) (w : World) (good : IsGood c w) (t : �
       umount_changes c w good t lt x s e 0 v (refl, refl, refl, refl, refl, refl, refl) tt
       (releases_umount c w good t lt v (ap owns e ∙ o) refl (sym (ap remounts e ∙ r)))
       (stage_holds c w good t lt x s e (record w.words { umount = 0 }) v (ReleasesStage stage sb) (ap stage_role_of e ∙ owning, refl))
-      (record { counts_not = λ i. refl; apart = λ i. refl; outside = refl }) (λ m. sym (role m)) (sym tree) (λ i. refl) refl refl
+      refl (λ m. sym (role m)) (sym tree) (λ i. refl) refl refl
 
   pub releases : (hook : HookAnswer) (answer : Result Reply GateError) → IsHere (RemountStep.Releases answer) → Keeps hook (RemountStep.Releases answer)
   releases hook answer e = gives_back hook (RemountStep.Releases answer) e answer refl refl (λ m. refl) refl None None refl
@@ -422,12 +422,12 @@ module _ (c : Config) (lim : IsWithin c) (w : World) (good : IsGood c w) (t : �
             (locks_umount c w good t lt (x.task + 1) v h.1 (omega (arith, f.0)) refl (sym (ap remounts e)))
             (stage_holds c w good t lt x RemountStep.Locks e (record w.words { umount = x.task + 1 }) v LocksStage
             (ap stage_role_of e, nobody_owns c w good h.1, refl))
-            (record { counts_not = λ i. refl; apart = λ i. refl; outside = refl }) (λ m. refl) refl (λ i. refl) refl refl)
+            refl (λ m. refl) refl (λ i. refl) refl refl)
         | inr h ↦ rw h.0 (
             let v : View = tried hook w.words.umount RemountStep.Locks in
             umount_changes c w good t lt x RemountStep.Locks e w.words.umount v (refl, refl, refl, refl, refl, refl, refl) f
             (owner_same c w t lt good v (steady e (record { owns_same = refl; remounts_same = refl; closing_same = λ i. refl })))
-            (still_aside hook e) (record { counts_not = λ i. refl; apart = λ i. refl; outside = refl }) (λ m. refl) refl (λ i. refl) refl refl)
+            (still_aside hook e) refl (λ m. refl) refl (λ i. refl) refl refl)
       ]
 
   -- a load by the owner that has no role, before and after it

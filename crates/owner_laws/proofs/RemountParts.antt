@@ -143,7 +143,7 @@ module _ (c : Config) (w : World) (good : IsGood c w) (t : ℕ) (lt : t < c.task
   at_levels v same = record { held_same = same.1; added_same = same.4; taken_same = same.5 }
 
   off_now : IsOffLevels (w.views t).phase
-  off_now = subst IsOffLevels (sym e) (record { counts_not = λ i. refl; apart = λ i. refl; outside = refl })
+  off_now = subst IsOffLevels (sym e) refl
 
   -- each part but what the owner knows
   abbrev pub PartsHold : Words → View → Type 0
@@ -260,7 +260,7 @@ module _ (c : Config) (w : World) (good : IsGood c w) (t : ℕ) (lt : t < c.task
       (fits : ViewFits c t v) where
     -- the phase that comes is off the levels
     off_then : IsOffLevels v.phase
-    off_then = subst IsOffLevels (sym is) (record { counts_not = λ i. refl; apart = λ i. refl; outside = refl })
+    off_then = subst IsOffLevels (sym is) refl
 
     -- it has nothing to do with the holders, as before
     holding_then : (ws : Words) → ws.stage ≡ w.words.stage → ws.holders ≡ w.words.holders →

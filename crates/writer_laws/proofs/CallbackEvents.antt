@@ -1,6 +1,6 @@
 -- Events of a callback: each keeps the rule, and leaves the shown model.
 use Rattle.std.proofs.{Common.{◌≡◌, ℕ, ◌+◌, ◌<◌, ◌≤◌, refl, sym, ap, ◌∙◌, subst, inl, inr, arith}, lemmas.Bool.{cases_Bool, ltb-true, Decides.eqb_tells}}
-use Rattle.std.specs.Prelude.{Some, None, Bool, ◌==◌, ◌&&◌, ◌%◌, nat_lt, if◌then◌else◌}
+use Rattle.std.specs.Prelude.{Some, None, Bool, ◌==◌, ◌&&◌, ◌%◌, nat_lt, if◌then◌else◌, true}
 use Rattle.finite_sums.{proofs.Totals.update_same, specs.Sums.update}
 use Rattle.access_model.specs.{Histories.{mounts_of, levels_of, opens_of}, Replies.map_next, declared.replies.Next.Next}
 use Rattle.cpu_words.specs.{Hooks.HookAnswer, Touches.{found_by, left}, Words.{Words, read, put}, declared.{events.Touch.Touch, names.WordName.WordName}}
@@ -84,8 +84,8 @@ no_action b (CallbackStep.Claims x) found = refl
 no_action b other found = refl
 
 after_at_levels : (n : Next Callback) → IsAtLevels (phase_after (map_next Phase.Callbacks n))
-after_at_levels (Next.Go x) = assumption
-after_at_levels other = assumption
+after_at_levels (Next.Go x) = refl
+after_at_levels other = refl
 
 after_counts : (i : ℕ) (n : Next Callback) → level_role_of i (phase_after (map_next Phase.Callbacks n)) ≡ CountsNot
 after_counts i (Next.Go x) = refl

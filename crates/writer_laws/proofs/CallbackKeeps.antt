@@ -4,12 +4,13 @@ use Rattle.access_model.specs.{Replies.map_next, declared.{actions.Action.Action
 use Rattle.percpu_rwsem.specs.{Callbacks.callback_after, declared.callbacks.Callback.Callback}
 use Rattle.level_laws.specs.Roles.{Out as IsApart}
 use Rattle.gate_world.specs.{Fits.{Fits, ActionFits, mounts_by, levels_by}, KeptCauses.CauseOf, Rules.Fitting}
-use Rattle.gate_world.specs.Roles.{sync_role_if}
+use Rattle.gate_world.specs.Roles.{sync_role_if, no_roles}
 use Rattle.gate_world.specs.{Views.{held_at, holds_level, phase_after}, Worlds.{World, after_step, found_at}}
 use Rattle.gate_world.specs.declared.{config.Config.Config, operations.Op.Op, work.Phase.Phase}
 use Rattle.gate_frames.proofs.{Keeps.{by_bool, word_among, PhaseKeeps, OpKeeps}, Says.{tells, is_short}, Snapshots.completes_none}
 use Rattle.writer_laws.proofs.{CallbackEvents.callback_keeps, CallbackTraces.{CallbackAt, callback_kept}}
 use Rattle.writer_laws.proofs.{ReadFits.{level_there, callback_there, callback_goes, callback_acts_none}, ReadRuns.callback_runs, ReadWaits.callback_waits}
+use Rattle.gate_frames.proofs.Frames.{sync_none}
 
 -- what comes after an event of a callback has no cause
 callback_cause : (c : Config) (t : ℕ) (w : World) (earlier : List World) (n : Next Callback) →
@@ -45,16 +46,7 @@ callback_op c i = record {
   fits = λ t held levels there order room.
       let l : (1 ≤ i) × (i ≤ 3) = level_there i there in
       (l.0, l.1, refl, tt, tt);
-  starts_idle = λ t. record {
-    steady = assumption;
-    stage_same = refl;
-    holder_same = refl;
-    level_same = λ j. refl;
-    sync_same = λ j. by_bool (j == i) (λ b. sync_role_if b IsApart ≡ IsApart) refl refl;
-    inside_same = refl;
-    role_same = λ y. refl;
-  };
-  off_tree = λ t trace. refl;
+  starts_aside = λ t k. record no_roles { sync = λ j. sync_none j i k };
   cause = λ t w earlier. tt;
   order_agrees = λ f g h k mounts levels there. refl;
   room_agrees = λ f g mounts there. refl;

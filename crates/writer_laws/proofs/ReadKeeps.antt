@@ -13,7 +13,7 @@ use Rattle.gate_world.specs.declared.work.Phase.TheVariants.{DownReads, UpReads}
 use Rattle.gate_world.specs.Causes.{asks_level}
 use Rattle.gate_world.specs.Fits.{Fits, mounts_by, levels_by}
 use Rattle.gate_world.specs.Levels.{sync_role_of}
-use Rattle.gate_world.specs.Roles.{count_role_if, sync_role_if}
+use Rattle.gate_world.specs.Roles.{count_role_if, sync_role_if, no_roles}
 use Rattle.gate_world.specs.Operations.{is_level_number}
 use Rattle.gate_world.specs.Rules.{Fitting}
 use Rattle.gate_world.specs.Traces.{most_events}
@@ -29,6 +29,7 @@ use Rattle.writer_laws.proofs.ReadCauses.{read_not_closed, read_stays, read_own,
 use Rattle.writer_laws.proofs.ReadWaits.{read_waits, start_waits}
 use Rattle.writer_laws.proofs.ReadRuns.{read_runs, end_runs}
 use Rattle.writer_laws.proofs.ReadTraces.{StartAt, EndAt, start_kept, end_kept}
+use Rattle.gate_frames.proofs.Frames.{count_none, sync_none}
 
 -- of each phase of a start
 pub read_phase : (c : Config) (r : DownRead) → PhaseKeeps c (DownReads r)
@@ -87,16 +88,7 @@ start_op c i p wait = record {
   fits = λ t held levels there order room.
       let l : (1 ≤ i) × (i ≤ 3) × (p < c.processors) = in_level c i p there in
       (l.0, l.1, l.2, refl, order);
-  starts_idle = λ t. record {
-    steady = assumption;
-    stage_same = refl;
-    holder_same = refl;
-    level_same = λ j. by_bool (j == i) (λ b. count_role_if b CountsNot ≡ CountsNot) refl refl;
-    sync_same = λ j. by_bool (j == i) (λ b. sync_role_if b IsApart ≡ IsApart) refl refl;
-    inside_same = refl;
-    role_same = λ y. refl;
-  };
-  off_tree = λ t trace. refl;
+  starts_aside = λ t k. record no_roles { count = λ j. count_none j i k; sync = λ j. sync_none j i k };
   cause = λ t w earlier. tt;
   order_agrees = λ f g h k mounts levels there. none_from_agree h k levels i;
   room_agrees = λ f g mounts there. refl;
@@ -113,8 +105,7 @@ end_op c i p = record {
   fits = λ t held levels there order room.
       let l : (1 ≤ i) × (i ≤ 3) × (p < c.processors) = in_level c i p there in
       (l.0, l.1, l.2, order);
-  starts_idle = λ t. assumption;
-  off_tree = λ t trace. refl;
+  starts_aside = λ t. refl;
   cause = λ t w earlier. tt;
   order_agrees = λ f g h k mounts levels there. levels i (in_level c i p there).0 (in_level c i p there).1;
   room_agrees = λ f g mounts there. refl;

@@ -4,11 +4,13 @@ use Rattle.access_model.specs.declared.replies.Next.{Next}
 use Rattle.mount_counts.specs.{Phases.want_after, declared.phases.{MountPhase.MountPhase, Want.Want}}
 use Rattle.gate_world.specs.{Causes.asks, Fits.Fits, Rules.Fitting, Traces.most_events, Views.{held_at, holds_level}, Worlds.{World, after_step, found_at}}
 use Rattle.gate_world.specs.declared.{config.Config.Config, operations.Op.Op, work.Phase.Phase}
-use Rattle.gate_frames.proofs.{Keeps.{by_bool, PhaseKeeps, IsSmall, OpKeeps, word_among}, Loads.role_none, MountRuns.mounts_run, Says.{tells, is_short}}
+use Rattle.gate_frames.proofs.{Keeps.{by_bool, PhaseKeeps, IsSmall, OpKeeps, word_among}, MountRuns.mounts_run, Says.{tells, is_short}}
+use Rattle.gate_frames.proofs.Frames.{role_none}
 use Rattle.gate_frames.proofs.{Snapshots.completes_none, TreeHolders.both_true}
 use Rattle.writer_laws.proofs.{WantCauses.{want_kept, want_own, next_cause, next_asked}, WantFits.{want_there, want_acts, want_goes}, WantLoads.want_here}
 use Rattle.writer_laws.proofs.{WantTraces.{WantAt, DropAt, want_kept as want_traced, drop_kept}, WantWaits.{want_waits, next_waits}}
 use Rattle.writer_laws.proofs.Wants.{want_keeps, drop_keeps}
+use Rattle.gate_world.specs.Roles.{no_roles}
 
 pub want_phase : (c : Config) (x : Want) → PhaseKeeps c (Phase.Mounts (MountPhase.Want x))
 want_phase c x = record {
@@ -53,16 +55,7 @@ want_op c m p wait = record {
   fits = λ t held levels there order room.
       let at : (nat_lt m c.mounts ≡ true) × (nat_lt p c.processors ≡ true) = both_true (nat_lt m c.mounts) (nat_lt p c.processors) there in
       (ltb-true m c.mounts at.0, ltb-true p c.processors at.1, ltb-true (held m) 1024 room);
-  starts_idle = λ t. record {
-    steady = assumption;
-    stage_same = refl;
-    holder_same = refl;
-    level_same = λ i. refl;
-    sync_same = λ i. refl;
-    inside_same = refl;
-    role_same = λ y. role_none y m;
-  };
-  off_tree = λ t trace. refl;
+  starts_aside = λ t k. record no_roles { mount = λ y. role_none y m k };
   cause = λ t w earlier. tt;
   order_agrees = λ f g h k mounts levels there. refl;
   room_agrees = λ f g mounts there. ap (λ y. nat_lt y 1024) (mounts m
@@ -79,8 +72,7 @@ drop_op c m p = record {
   fits = λ t held levels there order room.
       let at : (nat_lt m c.mounts ≡ true) × (nat_lt p c.processors ≡ true) = both_true (nat_lt m c.mounts) (nat_lt p c.processors) there in
       (ltb-true m c.mounts at.0, ltb-true p c.processors at.1, ltb-true 0 (held m) order);
-  starts_idle = λ t. assumption;
-  off_tree = λ t trace. refl;
+  starts_aside = λ t. refl;
   cause = λ t w earlier. tt;
   order_agrees = λ f g h k mounts levels there. ap (nat_lt 0) (mounts m
       (ltb-true m c.mounts (both_true (nat_lt m c.mounts) (nat_lt p c.processors) there).0));

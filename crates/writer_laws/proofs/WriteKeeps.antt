@@ -11,15 +11,16 @@ use Rattle.level_laws.specs.{Events.SyncStep, Roles.{Out as IsApart, closed}}
 use Rattle.write_access.specs.{Phases.{then_wants, then_gives_back, leaves_on}, declared.phases.WritePhase.WritePhase}
 use Rattle.gate_world.specs.{Causes.{asks, asks_level}, Configs.IsWithin, Fits.{WriteFits, Fits, mounts_by, levels_by}, LevelRuns.level_in}
 use Rattle.gate_world.specs.{Levels.sync_role_of, Rules.{IsGood, StepKeeps, role_of}, Views.{held_at, holds_level, phase_after}}
-use Rattle.gate_world.specs.Roles.{sync_role_if, count_role_if}
+use Rattle.gate_world.specs.Roles.{sync_role_if, count_role_if, no_roles}
 use Rattle.gate_world.specs.{Worlds.{World, after_step, found_at}, declared.{config.Config.Config, operations.Op.Op, work.Phase.Phase}}
 use Rattle.gate_frames.proofs.{Beside.update_twice, Frames.role_on, Keeps.{by_bool, PhaseKeeps, OpKeeps, none_agree}}
 use Rattle.gate_frames.proofs.{Says.{tells, is_short, tells_well, is_short_well}, Snapshots.completes_none, TreeHolders.both_true}
-use Rattle.writer_laws.proofs.Alikes.{alike_takes, alike_wants, alike_ends, alike_none, takes_goes, wants_goes}
+use Rattle.writer_laws.proofs.Alikes.{alike_takes, alike_wants, takes_goes, wants_goes}
 use Rattle.writer_laws.proofs.{ReadCauses.{read_stays, read_own, read_not_closed}, ReadFits.{read_mounts, read_goes}, ReadKeeps.{read_phase, end_phase}}
 use Rattle.writer_laws.proofs.{ReadWaits.read_waits, WantCauses.{want_kept, want_own}, WantFits.want_leaves, WantKeeps.{want_phase, drop_phase}}
 use Rattle.writer_laws.proofs.{WantWaits.want_waits, WriteCauses.{takes_asks, takes_cause, takes_waits, wants_asked, wants_cause, wants_waits}}
 use Rattle.writer_laws.proofs.{WriteSteps.{write_fits_now, write_step, write_runs, first_world}, WriteTraces.{WriteAt, DropAt, write_kept, drop_kept}}
+use Rattle.gate_frames.proofs.Frames.{count_none, sync_none}
 
 -- what fits after an event at level 1, with the mount to come
 takes_fits : (c : Config) (t : ℕ) (held : ℕ → ℕ) (levels : ℕ → Bool) (m : ℕ) (r : DownRead) (found : ℕ) →
@@ -63,17 +64,17 @@ write_keeps c lim w good t lt hook (WritePhase.Wants x) e =
 write_keeps c lim w good t lt hook (WritePhase.GivesBack m p refusal) e =
     write_step c w good t lt hook (WritePhase.GivesBack m p refusal) e
     (λ g at. (end_phase c (leaves_on p)).step lim (first_world c w good t lt hook (WritePhase.GivesBack m p refusal) e) g t lt hook at)
-    (Next.Done (Err refusal)) alike_none tt
+    (Next.Done (Err refusal)) refl tt
 write_keeps c lim w good t lt hook (WritePhase.Drops m p) e =
     let f : WriteFits c t (held_at (w.views t)) (holds_level (w.views t)) (WritePhase.Drops m p) =
     write_fits_now c w good t lt hook (WritePhase.Drops m p) e in
     write_step c w good t lt hook (WritePhase.Drops m p) e
     (λ g at. (drop_phase c m p).step lim (first_world c w good t lt hook (WritePhase.Drops m p) e) g t lt hook at)
-    (Next.Go (Phase.Writes (WritePhase.Ends p))) (alike_ends p) (f.0.1, f.1)
+    (Next.Go (Phase.Writes (WritePhase.Ends p))) refl (f.0.1, f.1)
 write_keeps c lim w good t lt hook (WritePhase.Ends p) e =
     write_step c w good t lt hook (WritePhase.Ends p) e
     (λ g at. (end_phase c (leaves_on p)).step lim (first_world c w good t lt hook (WritePhase.Ends p) e) g t lt hook at)
-    (Next.Done (Ok Reply.Unit)) alike_none tt
+    (Next.Done (Ok Reply.Unit)) refl tt
 
 -- each event is one of each level's kinds of event, as its gate's is
 write_phase_runs : (c : Config) → IsWithin c → (w : World) → IsGood c w → (t : ℕ) → t < c.tasks → (hook : HookAnswer) → (x : WritePhase) →
@@ -88,14 +89,14 @@ write_phase_runs c lim w good t lt hook (WritePhase.Wants x) e i one three =
     write_runs c w good t lt hook (WritePhase.Wants x) e (map_next Phase.Writes (then_gives_back x.mount x.cpu n)) (alike_wants x.mount x.cpu n) i
     (λ g at. (want_phase c x).runs lim (first_world c w good t lt hook (WritePhase.Wants x) e) g t lt hook at i one three)
 write_phase_runs c lim w good t lt hook (WritePhase.GivesBack m p refusal) e i one three =
-    write_runs c w good t lt hook (WritePhase.GivesBack m p refusal) e (Next.Done (Err refusal)) alike_none i
+    write_runs c w good t lt hook (WritePhase.GivesBack m p refusal) e (Next.Done (Err refusal)) refl i
     (λ g at.
     (end_phase c (leaves_on p)).runs lim (first_world c w good t lt hook (WritePhase.GivesBack m p refusal) e) g t lt hook at i one three)
 write_phase_runs c lim w good t lt hook (WritePhase.Drops m p) e i one three =
-    write_runs c w good t lt hook (WritePhase.Drops m p) e (Next.Go (Phase.Writes (WritePhase.Ends p))) (alike_ends p) i
+    write_runs c w good t lt hook (WritePhase.Drops m p) e (Next.Go (Phase.Writes (WritePhase.Ends p))) refl i
     (λ g at. (drop_phase c m p).runs lim (first_world c w good t lt hook (WritePhase.Drops m p) e) g t lt hook at i one three)
 write_phase_runs c lim w good t lt hook (WritePhase.Ends p) e i one three =
-    write_runs c w good t lt hook (WritePhase.Ends p) e (Next.Done (Ok Reply.Unit)) alike_none i
+    write_runs c w good t lt hook (WritePhase.Ends p) e (Next.Done (Ok Reply.Unit)) refl i
     (λ g at. (end_phase c (leaves_on p)).runs lim (first_world c w good t lt hook (WritePhase.Ends p) e) g t lt hook at i one three)
 
 takes_phase : (c : Config) (m : ℕ) (r : DownRead) → PhaseKeeps c (Phase.Writes (WritePhase.Takes m r))
@@ -216,16 +217,7 @@ want_write_op c m p = record {
   fits = λ t held levels there order room.
       let at : (m < c.mounts) × (p < c.processors) = in_mount c m p there in
       ((omega arith, omega arith, at.1, refl, order), refl, at.0, ltb-true (held m) 1024 room);
-  starts_idle = λ t. record {
-    steady = assumption;
-    stage_same = refl;
-    holder_same = refl;
-    level_same = λ j. by_bool (j == 1) (λ b. count_role_if b CountsNot ≡ CountsNot) refl refl;
-    sync_same = λ j. by_bool (j == 1) (λ b. sync_role_if b IsApart ≡ IsApart) refl refl;
-    inside_same = refl;
-    role_same = λ y. refl;
-  };
-  off_tree = λ t trace. refl;
+  starts_aside = λ t k. record no_roles { count = λ j. count_none j 1 k; sync = λ j. sync_none j 1 k };
   cause = λ t w earlier. tt;
   order_agrees = λ f g h k mounts levels there. none_agree c 0 f g h k mounts levels;
   room_agrees = λ f g mounts there. ap (λ y. nat_lt y 1024) (mounts m (in_mount c m p there).0);
@@ -245,8 +237,7 @@ drop_write_op c m p = record {
       let at : (m < c.mounts) × (p < c.processors) = in_mount c m p there in
       let o : (levels 1 ≡ true) × (nat_lt 0 (held m) ≡ true) = both_true (levels 1) (nat_lt 0 (held m)) order in
       ((at.0, at.1, ltb-true 0 (held m) o.1), o.0);
-  starts_idle = λ t. assumption;
-  off_tree = λ t trace. refl;
+  starts_aside = λ t. refl;
   cause = λ t w earlier. tt;
   order_agrees = λ f g h k mounts levels there. rw (levels 1 (omega arith) (omega arith), mounts m (in_mount c m p there).0) refl;
   room_agrees = λ f g mounts there. refl;

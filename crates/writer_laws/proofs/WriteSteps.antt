@@ -5,7 +5,7 @@ use Rattle.access_model.specs.declared.{actions.Action.Action, replies.Next.Next
 use Rattle.cpu_words.specs.Hooks.{HookAnswer}
 use Rattle.level_laws.specs.Events.{SyncStep}
 use Rattle.write_access.specs.declared.phases.WritePhase.{WritePhase}
-use Rattle.gate_world.specs.{Alike.{IsAlike, at_phase, rephased}, Fits.{Fits, WriteFits, PhaseFits, mounts_by, levels_by}, LevelRuns.level_in}
+use Rattle.gate_world.specs.{Alike.{off_tree, IsAlike, at_phase, rephased}, Fits.{Fits, WriteFits, PhaseFits, mounts_by, levels_by}, LevelRuns.level_in}
 use Rattle.gate_world.specs.{Rules.{IsGood, Moves, Fitting}, Shown.shown, Views.{held_at, holds_level, phase_after}, Work.{plain, next_of, after_of}}
 use Rattle.gate_world.specs.{Worlds.{World, found_at}, declared.{config.Config.Config, views.View.View, work.Phase.Phase}}
 use Rattle.gate_frames.proofs.{Beside.{made, made_runs_beside}, Rephased.{alike_of, rephased_good, made_keeps}}
@@ -68,6 +68,6 @@ module _ (c : Config) (w : World) (good : IsGood c w) (t : ℕ) (lt : t < c.task
   pub write_runs : (coming : Next Phase) → IsAlike (phase_after plain_after) (phase_after coming) → (i : ℕ) → PlainRuns i →
       SyncStep c.tasks (level_in w i) (level_in (made_in w coming) i)
   write_runs coming after i runs =
-      made_runs_beside c w t lt (Some (plain x)) (next_of (plain x) hook) hook plain_after coming plain_action i before.beside
+      made_runs_beside c w t lt (Some (plain x)) (next_of (plain x) hook) hook plain_after coming plain_action i (λ j. off_tree (before j))
       (runs (rephased_good c w t lt (Some (plain x)) before fits_plain good)
-      (ap (λ (u : View). u.phase) (update_at w.views t (at_phase (w.views t) (Some (plain x)))))) after.beside
+      (ap (λ (u : View). u.phase) (update_at w.views t (at_phase (w.views t) (Some (plain x)))))) (λ j. off_tree (after j))
