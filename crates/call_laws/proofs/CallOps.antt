@@ -1,11 +1,21 @@
 -- All that is proved of the beginnings and the traces of the operations at the tree.
-use Rattle.std.{proofs.{Common.{not, sym, ◌≡◌, ℕ, Bool, true, arith, refl}, lemmas.Bool.ltb-true}, specs.Prelude.{nat_lt, false}}
 use Rattle.access_model.specs.declared.actions.Kind.{Kind}
-use Rattle.gate_world.specs.{Traces.most_events, declared.{config.Config.Config, operations.Op.Op}}
-use Rattle.gate_frames.proofs.{CreateTraces.{create_tells, create_short}, GrowTraces.{grow_tells, grow_short}, Agreeing.{none_agree, writer_agrees, faulter_agrees}, Keeps.{by_bool, IsSmall, OpKeeps}}
-use Rattle.gate_frames.proofs.{MarkTraces.{fault_tells, fault_short, flush_tells, flush_short}, MoveTraces.{move_tells, move_short}}
-use Rattle.gate_frames.proofs.{OpenTraces.{open_tells, open_short}, RemoveTraces.{remove_tells, remove_short}, SnapshotTraces.{snapshot_tells, snapshot_short}}
+use Rattle.gate_frames.proofs.Agreeing.{faulter_agrees, none_agree, writer_agrees}
+use Rattle.gate_frames.proofs.CreateTraces.{create_short, create_tells}
+use Rattle.gate_frames.proofs.GrowTraces.{grow_short, grow_tells}
+use Rattle.gate_frames.proofs.Keeps.{IsSmall, OpKeeps, by_bool}
+use Rattle.gate_frames.proofs.MarkTraces.{fault_short, fault_tells, flush_short, flush_tells}
+use Rattle.gate_frames.proofs.MoveTraces.{move_short, move_tells}
+use Rattle.gate_frames.proofs.OpenTraces.{open_short, open_tells}
+use Rattle.gate_frames.proofs.RemoveTraces.{remove_short, remove_tells}
+use Rattle.gate_frames.proofs.SnapshotTraces.{snapshot_short, snapshot_tells}
 use Rattle.gate_frames.proofs.TreeHolders.{both_true}
+use Rattle.gate_world.specs.Traces.{most_events}
+use Rattle.gate_world.specs.declared.config.Config.{Config}
+use Rattle.gate_world.specs.declared.operations.Op.{Op}
+use Rattle.std.proofs.Common.{Bool, arith, not, refl, sym, true, ℕ, ◌≡◌}
+use Rattle.std.proofs.lemmas.Bool.{ltb-true}
+use Rattle.std.specs.Prelude.{false, nat_lt}
 
 not_false : (b : Bool) → not b ≡ true → b ≡ false
 not_false true e = sym e
@@ -14,8 +24,7 @@ not_false false e = refl
 pub create_keeps : (c : Config) (d : ℕ) (kind : Kind) → OpKeeps c (Op.Create d kind)
 create_keeps c d kind = record {
   fits = λ t held there order room. ((ltb-true d c.nodes there, refl, tt), order);
-  starts_idle = λ t. assumption;
-  off_tree = λ t trace. refl;
+  starts_aside = λ t. refl;
   cause = λ t w earlier. tt;
   order_agrees = λ held seen same there. writer_agrees c held seen same.mounts same.levels;
   room_agrees = λ held seen same there. refl;
@@ -29,8 +38,7 @@ create_keeps c d kind = record {
 pub remove_keeps : (c : Config) (file : ℕ) → OpKeeps c (Op.Remove file)
 remove_keeps c file = record {
   fits = λ t held there order room. ((ltb-true file c.nodes there, tt), order);
-  starts_idle = λ t. assumption;
-  off_tree = λ t trace. refl;
+  starts_aside = λ t. refl;
   cause = λ t w earlier. tt;
   order_agrees = λ held seen same there. writer_agrees c held seen same.mounts same.levels;
   room_agrees = λ held seen same there. refl;
@@ -46,8 +54,7 @@ grow_keeps c file blocks = record {
   fits = λ t held there order room.
       let both : (nat_lt file c.nodes ≡ true) × (nat_lt 0 blocks ≡ true) = both_true (nat_lt file c.nodes) (nat_lt 0 blocks) there in
       ((ltb-true file c.nodes both.0, ltb-true 0 blocks both.1, refl), order);
-  starts_idle = λ t. assumption;
-  off_tree = λ t trace. refl;
+  starts_aside = λ t. refl;
   cause = λ t w earlier. tt;
   order_agrees = λ held seen same there. writer_agrees c held seen same.mounts same.levels;
   room_agrees = λ held seen same there. refl;
@@ -63,8 +70,7 @@ move_keeps c file dir = record {
   fits = λ t held there order room.
       let both : (nat_lt file c.nodes ≡ true) × (nat_lt dir c.nodes ≡ true) = both_true (nat_lt file c.nodes) (nat_lt dir c.nodes) there in
       ((ltb-true file c.nodes both.0, ltb-true dir c.nodes both.1, tt), order);
-  starts_idle = λ t. assumption;
-  off_tree = λ t trace. refl;
+  starts_aside = λ t. refl;
   cause = λ t w earlier. tt;
   order_agrees = λ held seen same there. writer_agrees c held seen same.mounts same.levels;
   room_agrees = λ held seen same there. refl;
@@ -78,8 +84,7 @@ move_keeps c file dir = record {
 pub fault_keeps : (c : Config) (file : ℕ) → OpKeeps c (Op.Fault file)
 fault_keeps c file = record {
   fits = λ t held there order room. (ltb-true file c.nodes there, order);
-  starts_idle = λ t. assumption;
-  off_tree = λ t trace. refl;
+  starts_aside = λ t. refl;
   cause = λ t w earlier. tt;
   order_agrees = λ held seen same there. faulter_agrees c held seen same.mounts same.levels;
   room_agrees = λ held seen same there. refl;
@@ -93,8 +98,7 @@ fault_keeps c file = record {
 pub flush_keeps : (c : Config) (file : ℕ) → OpKeeps c (Op.Flush file)
 flush_keeps c file = record {
   fits = λ t held there order room. (ltb-true file c.nodes there, order);
-  starts_idle = λ t. assumption;
-  off_tree = λ t trace. refl;
+  starts_aside = λ t. refl;
   cause = λ t w earlier. tt;
   order_agrees = λ held seen same there. same.levels 3 (omega arith) (omega arith);
   room_agrees = λ held seen same there. refl;
@@ -108,8 +112,7 @@ flush_keeps c file = record {
 pub open_keeps : (c : Config) (file : ℕ) → OpKeeps c (Op.Open file)
 open_keeps c file = record {
   fits = λ t held there order room. ((ltb-true file c.nodes there, tt), tt);
-  starts_idle = λ t. assumption;
-  off_tree = λ t trace. refl;
+  starts_aside = λ t. refl;
   cause = λ t w earlier. tt;
   order_agrees = λ held seen same there. refl;
   room_agrees = λ held seen same there. ap not (same.files file);
@@ -123,8 +126,7 @@ open_keeps c file = record {
 pub snapshot_keeps : (c : Config) (wait : Bool) → OpKeeps c (Op.Snapshot wait)
 snapshot_keeps c wait = record {
   fits = λ t held there order room. ((refl, refl, tt), order);
-  starts_idle = λ t. assumption;
-  off_tree = λ t trace. refl;
+  starts_aside = λ t. refl;
   cause = λ t w earlier. tt;
   order_agrees = λ held seen same there. none_agree held.levels seen.levels same.levels;
   room_agrees = λ held seen same there. refl;

@@ -1,14 +1,30 @@
 -- The last load of a snapshot: the tree that it has loaded is the present one.
-use Rattle.std.proofs.{Common.{◌≡◌, ℕ, ◌+◌, ◌<◌, ◌≤◌, sym, subst, ap, inl, inr, arith, true≢false, suc, ◌∙◌}, lemmas.Bool.{lt-ltb, le-ltb, cases_lt}}
-use Rattle.std.specs.Prelude.{Some, None, is_some}
-use Rattle.cpu_words.specs.{Hooks.HookAnswer, declared.names.WordName.WordName}
-use Rattle.gated_tree.specs.{Phases.at_snapshot, Roles.{RoleHolds, tree_word, seen_as}, Trees.loaded}
-use Rattle.gated_tree.specs.declared.{phases.TreePhase.TreePhase, snapshots.{Snapshot.Snapshot, SnapshotStep.SnapshotStep}, trees.TreeWords.TreeWords}
+use Rattle.call_laws.proofs.NodeCauses.{some_is}
+use Rattle.call_laws.proofs.Noted.{AreWords, IsLong, last_load, loaded_long, noted_long}
+use Rattle.cpu_words.specs.Hooks.{HookAnswer}
+use Rattle.cpu_words.specs.declared.names.WordName.{WordName}
+use Rattle.gate_world.specs.Configs.{IsWithin}
+use Rattle.gate_world.specs.Fits.{Fits, PhaseFits}
+use Rattle.gate_world.specs.Moments.{CompletesNow, IsPresentTree}
+use Rattle.gate_world.specs.Rules.{Fitting, IsGood, Stages, Tree}
+use Rattle.gate_world.specs.Shown.{stage_role_of}
+use Rattle.gate_world.specs.Snapshots.{loads_noted, snapshot_completes, values_noted}
+use Rattle.gate_world.specs.Trees.{tree_bounds, tree_role_of}
+use Rattle.gate_world.specs.Views.{held_of}
+use Rattle.gate_world.specs.Worlds.{World}
+use Rattle.gate_world.specs.declared.config.Config.{Config}
+use Rattle.gate_world.specs.declared.work.Phase.{Phase}
+use Rattle.gated_tree.specs.Phases.{at_snapshot}
+use Rattle.gated_tree.specs.Roles.{RoleHolds, seen_as, tree_word}
+use Rattle.gated_tree.specs.Trees.{loaded}
+use Rattle.gated_tree.specs.declared.phases.TreePhase.{TreePhase}
+use Rattle.gated_tree.specs.declared.snapshots.Snapshot.{Snapshot}
+use Rattle.gated_tree.specs.declared.snapshots.SnapshotStep.{SnapshotStep}
+use Rattle.gated_tree.specs.declared.trees.TreeWords.{TreeWords}
 use Rattle.stage_laws.specs.Roles.{KnowsStage}
-use Rattle.gate_world.specs.{Configs.IsWithin, Fits.{Fits, PhaseFits}, Moments.{IsPresentTree, CompletesNow}, Rules.{IsGood, Fitting, Stages, Tree}}
-use Rattle.gate_world.specs.{Snapshots.{loads_noted, values_noted, snapshot_completes}, Stages.stage_role_of, Trees.{tree_bounds, tree_role_of}}
-use Rattle.gate_world.specs.{Views.held_of, Worlds.World, declared.{config.Config.Config, work.Phase.Phase}}
-use Rattle.call_laws.proofs.{NodeCauses.some_is, Noted.{IsLong, loaded_long, noted_long, last_load, AreWords}}
+use Rattle.std.proofs.Common.{ap, arith, inl, inr, subst, suc, sym, true≢false, ℕ, ◌+◌, ◌<◌, ◌∙◌, ◌≡◌, ◌≤◌}
+use Rattle.std.proofs.lemmas.Bool.{cases_lt, le-ltb, lt-ltb}
+use Rattle.std.specs.Prelude.{None, Some, is_some}
 
 nothing_is_some : {A : Type 0} (a : A) → None ≡ Some a → ⊥
 nothing_is_some a h = true≢false (ap is_some (sym h))

@@ -14,7 +14,7 @@ use Rattle.writer_laws.proofs.{ReadCauses.{read_stays, read_own, read_not_closed
 use Rattle.close_laws.proofs.CloseCauses.{enters_asks, enters_cause, enters_waits, looked_cause, looked_waits}
 use Rattle.close_laws.proofs.CloseFits.{close_goes, close_there, close_acts, close_agrees}
 use Rattle.close_laws.proofs.CloseParts.{loads_file, lowers_count, frees_node, refunds_blocks, uncounts, close_run}
-use Rattle.close_laws.proofs.CloseSteps.{close_fits_now, enters_level, leaves_level, beside_reads, beside_ends, beside_runs, beside_enters, beside_none}
+use Rattle.close_laws.proofs.CloseSteps.{close_fits_now, enters_level, leaves_level, beside_reads, beside_ends, beside_runs, beside_enters}
 
 -- each event keeps the rule, and moves the shown model by its action or not at all
 pub close_keeps : (c : Config) → IsWithin c → (w : World) → IsGood c w → (t : ℕ) → t < c.tasks → (hook : HookAnswer) → (x : ClosePhase) →
@@ -45,7 +45,7 @@ close_runs c lim w good t lt hook (ClosePhase.Uncounts p) e i one three = close_
 close_runs c lim w good t lt hook (ClosePhase.Leaves p) e i one three =
     let q : Phase = Phase.UpReads (leaves_on p) in
     let b : IsBeside (w.views t).phase (Some q) × IsGood c (rephased w t (Some q)) = beside_ends c w good t lt p e in
-    beside_runs c w t lt hook q b.0 b.1 (Next.Done (Ok Reply.Unit)) beside_none i
+    beside_runs c w t lt hook q b.0 b.1 (Next.Done (Ok Reply.Unit)) refl i
     (λ g at. (end_phase c (leaves_on p)).runs lim (rephased w t (Some q)) g t lt hook at i one three)
 
 -- its cause stays while others step

@@ -1,8 +1,15 @@
 -- What is proved of the beginning of a close, given what its trace says.
-use Rattle.std.{proofs.{Common.{◌≡◌, ℕ, Bool, true, refl, arith}, lemmas.Bool.ltb-true}, specs.Prelude.{nat_lt, ◌&&◌, List}}
-use Rattle.gate_world.specs.{Configs.IsWithin, Courses.{IsTrace, course_of}, Operations.holds_none_from, Traces.{Tells, IsShort, most_events}}
-use Rattle.gate_world.specs.declared.{config.Config.Config, operations.Op.Op, views.Traced.Traced}
-use Rattle.gate_frames.proofs.Keeps.{by_bool, IsSmall, OpKeeps}
+use Rattle.gate_frames.proofs.Keeps.{IsSmall, OpKeeps, by_bool}
+use Rattle.gate_world.specs.Configs.{IsWithin}
+use Rattle.gate_world.specs.Courses.{IsTrace, course_of}
+use Rattle.gate_world.specs.Operations.{holds_none_from}
+use Rattle.gate_world.specs.Traces.{IsShort, Tells, most_events}
+use Rattle.gate_world.specs.declared.config.Config.{Config}
+use Rattle.gate_world.specs.declared.operations.Op.{Op}
+use Rattle.gate_world.specs.declared.views.Traced.{Traced}
+use Rattle.std.proofs.Common.{Bool, arith, refl, true, ℕ, ◌≡◌}
+use Rattle.std.proofs.lemmas.Bool.{ltb-true}
+use Rattle.std.specs.Prelude.{List, nat_lt, ◌&&◌}
 use Rattle.writer_laws.proofs.ReadFits.{both_true, none_from_agree}
 
 pub close_op_from : (c : Config) (file p : ℕ) (wait : Bool) →
@@ -15,8 +22,7 @@ close_op_from c file p wait tells short = record {
       let at : (nat_lt file c.nodes ≡ true) × (nat_lt p c.processors ≡ true) =
       both_true (nat_lt file c.nodes) (nat_lt p c.processors) there in
       (ltb-true file c.nodes at.0, ltb-true p c.processors at.1, refl, (both_true (holds_none_from 3 held.levels) (held.files file) order).0);
-  starts_idle = λ t. assumption;
-  off_tree = λ t trace. refl;
+  starts_aside = λ t. refl;
   cause = λ t w earlier. tt;
   order_agrees = λ held seen same there. λ j. none_from_agree held.levels seen.levels same.levels 3 j && same.files file j;
   room_agrees = λ held seen same there. refl;

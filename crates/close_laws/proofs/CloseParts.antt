@@ -1,29 +1,51 @@
 -- An event of a close at the tree: it leaves the mounts, the levels and the sections alone, and all of the shown model but the tree and its
 -- task's open files.
-use Rattle.std.proofs.Common.{arith, ◌≡◌, ℕ, ◌<◌, ◌∙◌, inl, inr, refl, sym, ap, Bool, true, false, true≢false, subst}
-use Rattle.std.proofs.lemmas.Bool.{cases_Bool, Decides.eqb_tells}
-use Rattle.std.specs.Prelude.{◌==◌, ◌&&◌, List, Option, Some, None, Result, Ok, Err}
-use Rattle.access_model.specs.{Replies.map_next, States.is_removed, declared.{actions.Action.Action, errors.GateError.GateError, replies.Next.Next}}
-use Rattle.cpu_words.specs.Hooks.{HookAnswer}
-use Rattle.gate_counts.specs.Levels.{Out as CountsNot}
-use Rattle.gated_tree.proofs.Words.{word_shows, word_opens}
-use Rattle.gated_tree.specs.{Calls.role_after, Nodes.{word_of, node_shown, any_file_in, opens_in, info_of}, Phases.after_look, Roles.{Freeing, Dropped}}
-use Rattle.gated_tree.specs.declared.nodes.NodeWord.{NodeWord}
-use Rattle.tree_laws.specs.{Events.HasLeave, Steps.EventKeeps}
-use Rattle.level_laws.specs.{Events.SyncStep, Roles.Out as IsApart}
-use Rattle.file_closes.specs.{Phases.{next, after, enters, closed_from}, declared.phases.{ClosePhase.ClosePhase, Closing.Closing}}
-use Rattle.gate_world.specs.{Holdings.{Holdings, held_after}, Configs.{IsWithin, model_limits}, Fits.{Fits, CloseFits, MayLower, HasFile, file_of}, LevelRuns.level_in}
-use Rattle.gate_world.specs.{Levels.{count_role_if, sync_role_if}, Rules.{IsGood, Fitting, Tree, Files, StepKeeps}, Shown.shown}
-use Rattle.gate_world.specs.Trees.{tree_bounds, tree_roles, tree_role_of, close_tree_role, is_sealed, is_bare_at}
-use Rattle.gate_world.specs.{Views.{has_open, phase_after, view_after, held_of}, Worlds.{World, value_at, found_at, after_step}}
-use Rattle.gate_world.specs.declared.{config.Config.Config, views.{Traced.Traced, View.View}, work.Phase.Phase}
-use Rattle.gate_frames.proofs.CloseEvents.{close_loads, close_lowers, close_frees, close_drops, close_uncounts, frees_alone, closer_unread, freeing_removed}
-use Rattle.gate_frames.proofs.CloseEvents.{dropped_removed}
-use Rattle.gate_frames.proofs.{Keeps.by_bool, MayTree.LeaveFor, NodeEvents.{IsPlain, plain_parts, tree_run}}
-use Rattle.gate_frames.proofs.NodeParts.{is_node_word, node_call, LeavesAccesses, leaves_none, leaves_if, IsOffGates, idle_off, IsAtTree, fitting_then}
-use Rattle.gate_frames.proofs.NodeParts.{tree_then, files_then, shown_moves}
-use Rattle.gate_frames.proofs.Trees.{tree_within}
+use Rattle.access_model.specs.Replies.{map_next}
+use Rattle.access_model.specs.States.{is_removed}
+use Rattle.access_model.specs.declared.actions.Action.{Action}
+use Rattle.access_model.specs.declared.errors.GateError.{GateError}
+use Rattle.access_model.specs.declared.replies.Next.{Next}
 use Rattle.close_laws.proofs.CloseFits.{close_goes}
+use Rattle.cpu_words.specs.Hooks.{HookAnswer}
+use Rattle.file_closes.specs.Phases.{after, closed_from, enters, next}
+use Rattle.file_closes.specs.declared.phases.ClosePhase.{ClosePhase}
+use Rattle.file_closes.specs.declared.phases.Closing.{Closing}
+use Rattle.gate_counts.specs.Levels.{Out as CountsNot}
+use Rattle.gate_frames.proofs.CloseEvents.{close_drops, close_frees, close_loads, close_lowers, close_uncounts, closer_unread, dropped_removed, freeing_removed, frees_alone}
+use Rattle.gate_frames.proofs.Frames.{count_none, sync_none}
+use Rattle.gate_frames.proofs.Keeps.{by_bool}
+use Rattle.gate_frames.proofs.MayTree.{LeaveFor}
+use Rattle.gate_frames.proofs.NodeEvents.{IsPlain, plain_parts, tree_run}
+use Rattle.gate_frames.proofs.NodeParts.{IsAtTree, IsOffGates, LeavesAccesses, files_then, fitting_then, idle_off, is_node_word, leaves_if, leaves_none, node_call, shown_moves, tree_then}
+use Rattle.gate_frames.proofs.Trees.{tree_within}
+use Rattle.gate_world.specs.Configs.{IsWithin, model_limits}
+use Rattle.gate_world.specs.Fits.{CloseFits, Fits, HasFile, MayLower, file_of}
+use Rattle.gate_world.specs.Holdings.{Holdings, held_after}
+use Rattle.gate_world.specs.LevelRuns.{level_in}
+use Rattle.gate_world.specs.Roles.{close_tree_role, count_role_if, no_roles, sync_role_if}
+use Rattle.gate_world.specs.Rules.{Files, Fitting, IsGood, StepKeeps, Tree}
+use Rattle.gate_world.specs.Shown.{shown}
+use Rattle.gate_world.specs.Trees.{is_bare_at, is_sealed, tree_bounds, tree_role_of, tree_roles}
+use Rattle.gate_world.specs.Views.{has_open, held_of, phase_after, view_after}
+use Rattle.gate_world.specs.Worlds.{World, after_step, found_at, value_at}
+use Rattle.gate_world.specs.declared.config.Config.{Config}
+use Rattle.gate_world.specs.declared.views.Traced.{Traced}
+use Rattle.gate_world.specs.declared.views.View.{View}
+use Rattle.gate_world.specs.declared.work.Phase.{Phase}
+use Rattle.gated_tree.proofs.Words.{word_opens, word_shows}
+use Rattle.gated_tree.specs.Calls.{role_after}
+use Rattle.gated_tree.specs.Nodes.{any_file_in, info_of, node_shown, opens_in, word_of}
+use Rattle.gated_tree.specs.Phases.{after_look}
+use Rattle.gated_tree.specs.Roles.{Dropped, Freeing}
+use Rattle.gated_tree.specs.declared.nodes.NodeWord.{NodeWord}
+use Rattle.level_laws.specs.Events.{SyncStep}
+use Rattle.level_laws.specs.Roles.{Out as IsApart}
+use Rattle.std.proofs.Common.{Bool, ap, arith, false, inl, inr, refl, subst, sym, true, true≢false, ℕ, ◌<◌, ◌∙◌, ◌≡◌}
+use Rattle.std.proofs.lemmas.Bool.{cases_Bool}
+use Rattle.std.proofs.lemmas.Bool.Decides.{eqb_tells}
+use Rattle.std.specs.Prelude.{Err, List, None, Ok, Option, Result, Some, ◌&&◌, ◌==◌}
+use Rattle.tree_laws.specs.Events.{HasLeave}
+use Rattle.tree_laws.specs.Steps.{EventKeeps}
 
 -- the events at the tree
 abbrev pub is_at_tree : ClosePhase → Bool
@@ -48,22 +70,15 @@ close_leaves other h found = leaves_none
 off_close : (x : ClosePhase) → is_at_tree x ≡ true → IsOffGates (Some (Phase.Closes x))
 off_close (ClosePhase.Enters file node r) h = absurd (true≢false (sym h))
 off_close (ClosePhase.Leaves p) h = absurd (true≢false (sym h))
-off_close other h = assumption
+off_close other h = record { roles = refl; closing_none = λ i. refl }
 
 off_leaves : (p : ℕ) → IsOffGates (Some (Phase.Closes (ClosePhase.Leaves p)))
-off_leaves p = assumption
+off_leaves p = record { roles = refl; closing_none = λ i. refl }
 
 off_enters : (x : Closing) (file : NodeWord) → IsOffGates (Some (Phase.Closes (enters x file)))
 off_enters x file = record {
-  out_of_mounts = λ m. refl;
-  off_levels = record {
-    counts_not = λ i. by_bool (i == 3) (λ b. count_role_if b CountsNot ≡ CountsNot) refl refl;
-    apart = λ i. by_bool (i == 3) (λ b. sync_role_if b IsApart ≡ IsApart) refl refl;
-    outside = refl;
-  };
+  roles = λ k. record no_roles { count = λ i. count_none i 3 k; sync = λ i. sync_none i 3 k };
   closing_none = λ i. refl;
-  remounts_none = refl;
-  unheld = refl;
 }
 
 off_found : (x : Closing) (file : NodeWord) → IsOffGates (Some (Phase.Closes (closed_from x file)))

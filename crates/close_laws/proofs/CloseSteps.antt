@@ -1,34 +1,55 @@
 -- The events of a close at level 3: the law of each is that of the level's own event, but for the tree and the open files, which the event
 -- leaves alone.
-use Rattle.std.proofs.{Common.{◌≡◌, ℕ, ◌<◌, ◌⊎◌, Bool, true, refl, sym, ap, ◌∙◌, subst, inl, inr, arith}, lemmas.Bool.cases_Bool}
-use Rattle.std.specs.Prelude.{◌==◌, Option, Some, None, Ok, Err, List}
-use Rattle.finite_sums.{proofs.Totals.{each_updated, update_at}, specs.Sums.update}
-use Rattle.access_model.specs.{Replies.map_next, States.openers, declared.{actions.Action.Action, replies.{Next.Next, Reply.Reply}}}
-use Rattle.cpu_words.specs.{Hooks.HookAnswer, Words.{Words, read}}
-use Rattle.gated_tree.specs.{Nodes.opens_in, Roles.{Out as OffTree, Freeing, TreeHolds, charge, removal, child_charge}, declared.nodes.NodeWord.NodeWord}
-use Rattle.tree_laws.proofs.Counts.{leaves}
-use Rattle.percpu_rwsem.specs.{Readers.{at_down_read, down_read_after}, declared.readers.{DownRead.DownRead, DownReadStep.DownReadStep}}
-use Rattle.level_laws.specs.Events.{SyncStep}
-use Rattle.file_closes.specs.{Phases.{then_frees, leaves_on}, declared.phases.ClosePhase.ClosePhase}
-use Rattle.gate_world.specs.{Holdings.{Holdings, held_after}, Alike.{IsBeside, at_phase, rephased}, Configs.IsWithin, Fits.{Fits, CloseFits, HasFile, file_of}}
-use Rattle.gate_world.specs.{LevelRuns.level_in, Rules.{IsGood, Holds, Fitting, Tree, Files, SameWords, StepKeeps, Moves}, Shown.shown}
-use Rattle.gate_world.specs.{Trees.{tree_bounds, tree_of, tree_roles, tree_role_of}, Views.{has_open, phase_after, view_with, held_of}}
-use Rattle.gate_world.specs.{Work.{next_of, after_of}, Worlds.{World, found_at, words_after}}
-use Rattle.gate_world.specs.declared.{config.Config.Config, views.{Traced.Traced, View.View}, work.Phase.Phase}
-use Rattle.gate_frames.proofs.{Accesses.holdings_of_after, Beside.{beside_of, made, made_keeps_beside, made_runs_beside, beside_good}}
-use Rattle.gate_frames.proofs.{Frames.{left_alone, opens_left}, Trees.tree_holds}
-use Rattle.writer_laws.proofs.ReadKeeps.{read_phase, end_phase}
+use Rattle.access_model.specs.Replies.{map_next}
+use Rattle.access_model.specs.States.{openers}
+use Rattle.access_model.specs.declared.actions.Action.{Action}
+use Rattle.access_model.specs.declared.replies.Next.{Next}
+use Rattle.access_model.specs.declared.replies.Reply.{Reply}
 use Rattle.close_laws.proofs.CloseFits.{enters_fits}
+use Rattle.cpu_words.specs.Hooks.{HookAnswer}
+use Rattle.cpu_words.specs.Words.{Words, read}
+use Rattle.file_closes.specs.Phases.{leaves_on, then_frees}
+use Rattle.file_closes.specs.declared.phases.ClosePhase.{ClosePhase}
+use Rattle.finite_sums.proofs.Totals.{each_updated, update_at}
+use Rattle.finite_sums.specs.Sums.{update}
+use Rattle.gate_frames.proofs.Accesses.{holdings_of_after}
+use Rattle.gate_frames.proofs.Beside.{beside_of, made, made_keeps_beside, made_runs_beside, rephased_beside}
+use Rattle.gate_frames.proofs.Frames.{left_alone, opens_left}
+use Rattle.gate_frames.proofs.Trees.{tree_holds}
+use Rattle.gate_world.specs.Alike.{IsBeside, at_phase, rephased}
+use Rattle.gate_world.specs.Configs.{IsWithin}
+use Rattle.gate_world.specs.Fits.{CloseFits, Fits, HasFile, file_of}
+use Rattle.gate_world.specs.Holdings.{Holdings, held_after}
+use Rattle.gate_world.specs.LevelRuns.{level_in}
+use Rattle.gate_world.specs.Rules.{Files, Fitting, Holds, IsGood, Moves, SameWords, StepKeeps, Tree}
+use Rattle.gate_world.specs.Shown.{shown}
+use Rattle.gate_world.specs.Trees.{tree_bounds, tree_of, tree_role_of, tree_roles}
+use Rattle.gate_world.specs.Views.{has_open, held_of, phase_after, view_with}
+use Rattle.gate_world.specs.Work.{after_of, next_of}
+use Rattle.gate_world.specs.Worlds.{World, found_at, words_after}
+use Rattle.gate_world.specs.declared.config.Config.{Config}
+use Rattle.gate_world.specs.declared.views.Traced.{Traced}
+use Rattle.gate_world.specs.declared.views.View.{View}
+use Rattle.gate_world.specs.declared.work.Phase.{Phase}
+use Rattle.gated_tree.specs.Nodes.{opens_in}
+use Rattle.gated_tree.specs.Roles.{Freeing, Out as OffTree, TreeHolds, charge, child_charge, removal}
+use Rattle.gated_tree.specs.declared.nodes.NodeWord.{NodeWord}
+use Rattle.level_laws.specs.Events.{SyncStep}
+use Rattle.percpu_rwsem.specs.Readers.{at_down_read, down_read_after}
+use Rattle.percpu_rwsem.specs.declared.readers.DownRead.{DownRead}
+use Rattle.percpu_rwsem.specs.declared.readers.DownReadStep.{DownReadStep}
+use Rattle.std.proofs.Common.{Bool, ap, arith, inl, inr, refl, subst, sym, true, ℕ, ◌<◌, ◌∙◌, ◌≡◌, ◌⊎◌}
+use Rattle.std.proofs.lemmas.Bool.{cases_Bool}
+use Rattle.std.specs.Prelude.{Err, List, None, Ok, Option, Some, ◌==◌}
+use Rattle.tree_laws.proofs.Counts.{leaves}
+use Rattle.writer_laws.proofs.ReadKeeps.{end_phase, read_phase}
 
 -- what comes after an event at level 3 is beside what comes in its own operation
 pub beside_enters : (file p : ℕ) (node : NodeWord) (n : Next DownRead) →
     IsBeside (phase_after (map_next Phase.DownReads n)) (phase_after (map_next Phase.Closes (then_frees file node p n)))
-beside_enters file p node (Next.Go r) = assumption
-beside_enters file p node (Next.Done (Ok reply)) = assumption
-beside_enters file p node other = assumption
-
-pub beside_none : IsBeside None None
-beside_none = assumption
+beside_enters file p node (Next.Go r) = refl
+beside_enters file p node (Next.Done (Ok reply)) = refl
+beside_enters file p node other = refl
 
 -- no event of a down-read touches a word of the tree
 read_tree : (w : Words) (r : DownRead) (s : DownReadStep) (hook : HookAnswer) → SameWords w (words_after w (Phase.DownReads (at_down_read r s)) hook) Tree
@@ -137,7 +158,7 @@ module _ (c : Config) (lim : IsWithin c) (w : World) (good : IsGood c w) (t : �
       let opens : has_open v ≡ has_open (w.views t) =
       ap (λ (h : Holdings). h.files) (holdings_of_after (down_read_after r r.step found).1 (w.views t).actions) ∙ read_opens (held_of (w.views t)) r r.step found in
       let before : IsBeside (w.views t).phase (Some (Phase.DownReads r)) =
-      beside_of e assumption in
+      beside_of e refl in
       let same : SameWords w.words ws Tree = read_tree w.words r r.step hook in
       beside_step c w good t lt hook (Phase.DownReads r) before f.2
       (tree_left c w good t lt file node is w.words (at_phase (w.views t) (Some (Phase.DownReads r))) (refl, refl, refl, refl, refl, refl) refl)
@@ -160,11 +181,11 @@ module _ (c : Config) (lim : IsWithin c) (w : World) (good : IsGood c w) (t : �
       let v : View = view_with (w.views t) (next_of q hook) (read w.words (next_of q hook).0) hook
       (coming, (after_of q found hook).1) in
       let is : tree_roles w t ≡ OffTree = ap (tree_role_of (w.views t).trace) e in
-      let before : IsBeside (w.views t).phase (Some q) = beside_of e assumption in
+      let before : IsBeside (w.views t).phase (Some q) = beside_of e refl in
       beside_step c w good t lt hook q before (omega arith, omega arith, f.0, f.1)
       (left_alone c w t lt Tree w.words (at_phase (w.views t) (Some q)) (refl, refl, refl, refl, refl, refl) (sym is) (good Tree))
       (files_still c w good t lt w.words (at_phase (w.views t) (Some q)) refl refl tt)
-      (λ g at. (end_phase c (leaves_on p)).step lim (rephased w t (Some q)) g t lt hook at) coming beside_none tt
+      (λ g at. (end_phase c (leaves_on p)).step lim (rephased w t (Some q)) g t lt hook at) coming refl tt
       (left_alone c w t lt Tree ws v (refl, refl, refl, refl, refl, refl) (sym is) (good Tree))
       (files_still c w good t lt ws v refl refl tt)
 
@@ -202,9 +223,9 @@ module _ (c : Config) (w : World) (good : IsGood c w) (t : ℕ) (lt : t < c.task
       subst (Fits c t (held_of (w.views t))) e (good Fitting t lt) in
       let is : tree_roles w t ≡ Freeing file node = ap (tree_role_of (w.views t).trace) e in
       let before : IsBeside (w.views t).phase (Some (Phase.DownReads r)) =
-      beside_of e assumption in (
+      beside_of e refl in (
         before,
-        beside_good c w t lt (Some (Phase.DownReads r)) before f.2 good
+        rephased_beside c w t lt (Some (Phase.DownReads r)) before f.2 good
             (tree_left c w good t lt file node is w.words (at_phase (w.views t) (Some (Phase.DownReads r))) (refl, refl, refl, refl, refl, refl) refl)
             (files_still c w good t lt w.words (at_phase (w.views t) (Some (Phase.DownReads r))) refl refl tt),
       )
@@ -216,9 +237,9 @@ module _ (c : Config) (w : World) (good : IsGood c w) (t : ℕ) (lt : t < c.task
       subst (Fits c t (held_of (w.views t))) e (good Fitting t lt) in
       let is : tree_roles w t ≡ OffTree = ap (tree_role_of (w.views t).trace) e in
       let q : Phase = Phase.UpReads (leaves_on p) in
-      let before : IsBeside (w.views t).phase (Some q) = beside_of e assumption in (
+      let before : IsBeside (w.views t).phase (Some q) = beside_of e refl in (
         before,
-        beside_good c w t lt (Some q) before (omega arith, omega arith, f.0, f.1) good
+        rephased_beside c w t lt (Some q) before (omega arith, omega arith, f.0, f.1) good
             (left_alone c w t lt Tree w.words (at_phase (w.views t) (Some q)) (refl, refl, refl, refl, refl, refl) (sym is) (good Tree))
             (files_still c w good t lt w.words (at_phase (w.views t) (Some q)) refl refl tt),
       )

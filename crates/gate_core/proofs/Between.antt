@@ -1,24 +1,53 @@
 -- A freeze or a thaw is between its two stores just where its newest event is the first of them: what its role says, its trace says too.
-use Rattle.std.proofs.Common.{◌≡◌, ℕ, ◌<◌, refl, sym, ap, ◌∙◌, subst, inl, inr, arith, Bool, true, false, if◌then◌else◌}
-use Rattle.std.proofs.lemmas.Bool.{cases_lt, lt-ltb, le-ltb, Decides.eqb_tells}
-use Rattle.std.specs.Prelude.{◌==◌, Option, Some, None, Ok, Err, List, [], ◌∷◌}
+use Rattle.access_model.specs.Holders.{with_holder}
+use Rattle.access_model.specs.Replies.{map_next}
+use Rattle.access_model.specs.declared.errors.GateError.{GateError}
+use Rattle.access_model.specs.declared.replies.Next.{Next}
+use Rattle.cpu_words.specs.Hooks.{HookAnswer}
+use Rattle.cpu_words.specs.Touches.{event_of, left}
+use Rattle.cpu_words.specs.Words.{Words, put, read}
+use Rattle.cpu_words.specs.declared.events.Touch.{Touch}
+use Rattle.cpu_words.specs.declared.names.WordName.{WordName}
 use Rattle.finite_sums.proofs.Totals.{each_updated, total_updated}
-use Rattle.access_model.specs.{Holders.with_holder, Replies.map_next, declared.{errors.GateError.GateError, replies.Next.Next}}
-use Rattle.cpu_words.specs.{Hooks.HookAnswer, Touches.{event_of, left}, Words.{Words, read, put}, declared.{events.Touch.Touch, names.WordName.WordName}}
-use Rattle.percpu_rwsem.specs.{Transitions.transition_next, Writers.{down_write_next, up_write_next}}
-use Rattle.percpu_rwsem.specs.declared.transitions.Transition.{Transition}
-use Rattle.percpu_rwsem.specs.declared.writers.{DownWrite.DownWrite, DownWriteStep.DownWriteStep, UpWrite.UpWrite, UpWriteStep.UpWriteStep}
-use Rattle.freeze_levels.specs.{Freezes.{freeze_next, freeze_after}, Holders.word_of, Thaws.{thaw_next, thaw_after}}
-use Rattle.freeze_levels.specs.declared.{freezes.{Freeze.Freeze, FreezeStep.{FreezeStep, TheVariants.Closes}}, thaws.{Thaw.Thaw, ThawStep.ThawStep}}
-use Rattle.holder_laws.{proofs.{HolderLaws.held_exactly, Words.held_word}, specs.Roles.{between, is_held, is_four, HoldersHold}}
-use Rattle.gate_world.specs.{Beginnings.first_phase, Fits.Fits, Found.stores_stage, Headline.{stores_nobody, is_between, HoldersAreTold}}
-use Rattle.gate_world.specs.{Holders.holder_role_of, Rules.{IsGood, Fitting, Holding, Known}}
-use Rattle.gate_world.specs.{Views.{phase_after, with_hook, view_after, begun_view, held_of}, Work.{next_of, after_of}}
-use Rattle.gate_world.specs.Worlds.{World, Entry, Begins, Steps, after_step, begin_refusal, begin_of, step_of, happens, opening, value_at, found_at}
-use Rattle.gate_world.specs.Worlds.{words_after}
-use Rattle.gate_world.specs.declared.{config.Config.Config, operations.Op.Op, views.{Traced.Traced, View.View}, work.Phase.{Phase, TheVariants.Closes}}
-use Rattle.gate_frames.proofs.Holders.{holders_at}
+use Rattle.freeze_levels.specs.Freezes.{freeze_after, freeze_next}
+use Rattle.freeze_levels.specs.Holders.{word_of}
+use Rattle.freeze_levels.specs.Thaws.{thaw_after, thaw_next}
+use Rattle.freeze_levels.specs.declared.freezes.Freeze.{Freeze}
+use Rattle.freeze_levels.specs.declared.freezes.FreezeStep.{FreezeStep}
+use Rattle.freeze_levels.specs.declared.freezes.FreezeStep.TheVariants.{Closes}
+use Rattle.freeze_levels.specs.declared.thaws.Thaw.{Thaw}
+use Rattle.freeze_levels.specs.declared.thaws.ThawStep.{ThawStep}
 use Rattle.gate_core.proofs.Layers.{op_keeps}
+use Rattle.gate_frames.proofs.Holders.{holders_at}
+use Rattle.gate_world.specs.Beginnings.{first_phase}
+use Rattle.gate_world.specs.Fits.{Fits}
+use Rattle.gate_world.specs.Found.{stores_stage}
+use Rattle.gate_world.specs.Headline.{HoldersAreTold, is_between, stores_nobody}
+use Rattle.gate_world.specs.Rules.{Fitting, Holding, IsGood, Known}
+use Rattle.gate_world.specs.Shown.{holder_role_of}
+use Rattle.gate_world.specs.Views.{begun_view, held_of, phase_after, view_after, with_hook}
+use Rattle.gate_world.specs.Work.{after_of, next_of}
+use Rattle.gate_world.specs.Worlds.{Begins, Entry, Steps, World, after_step, begin_of, begin_refusal, found_at, happens, opening, step_of, value_at, words_after}
+use Rattle.gate_world.specs.declared.config.Config.{Config}
+use Rattle.gate_world.specs.declared.operations.Op.{Op}
+use Rattle.gate_world.specs.declared.views.Traced.{Traced}
+use Rattle.gate_world.specs.declared.views.View.{View}
+use Rattle.gate_world.specs.declared.work.Phase.{Phase}
+use Rattle.gate_world.specs.declared.work.Phase.TheVariants.{Closes}
+use Rattle.holder_laws.proofs.HolderLaws.{held_exactly}
+use Rattle.holder_laws.proofs.Words.{held_word}
+use Rattle.holder_laws.specs.Roles.{HoldersHold, between, is_four, is_held}
+use Rattle.percpu_rwsem.specs.Transitions.{transition_next}
+use Rattle.percpu_rwsem.specs.Writers.{down_write_next, up_write_next}
+use Rattle.percpu_rwsem.specs.declared.transitions.Transition.{Transition}
+use Rattle.percpu_rwsem.specs.declared.writers.DownWrite.{DownWrite}
+use Rattle.percpu_rwsem.specs.declared.writers.DownWriteStep.{DownWriteStep}
+use Rattle.percpu_rwsem.specs.declared.writers.UpWrite.{UpWrite}
+use Rattle.percpu_rwsem.specs.declared.writers.UpWriteStep.{UpWriteStep}
+use Rattle.std.proofs.Common.{Bool, ap, arith, false, if◌then◌else◌, inl, inr, refl, subst, sym, true, ℕ, ◌<◌, ◌∙◌, ◌≡◌}
+use Rattle.std.proofs.lemmas.Bool.{cases_lt, le-ltb, lt-ltb}
+use Rattle.std.proofs.lemmas.Bool.Decides.{eqb_tells}
+use Rattle.std.specs.Prelude.{Err, List, None, Ok, Option, Some, [], ◌==◌, ◌∷◌}
 
 abbrev bit : Bool → ℕ
 bit b = if b then 1 else 0
@@ -179,7 +208,7 @@ begin_told : (c : Config) (w : World) (t : ℕ) (op : Op) (refused : Option Gate
 begin_told c w t op (Some refused) told x = told x
 begin_told c w t op None told x =
     each_updated (λ y (v : View). IsTold v.phase v.trace) w.views t (begun_view (w.views t) op (first_phase c t op)) x
-    (ap between ((op_keeps c op).starts_idle t).holder_same ∙ ap bit (sym (none_yet (first_phase c t op)))) (λ ne. told x)
+    ((λ j. between ((op_keeps c op).starts_aside t j).holder) ∙ ap bit (sym (none_yet (first_phase c t op)))) (λ ne. told x)
 
 pub entry_told : (c : Config) (w : World) (e : Entry) → IsGood c w → IsGood c (happens c w e) → AllTold w → AllTold (happens c w e)
 entry_told c w (Begins t op) good after told = begin_told c w t op (begin_refusal c w t op) told

@@ -1,16 +1,32 @@
 -- What the crate of an operation proves of it: of each of its phases, and of its beginning and its trace.
-use Rattle.std.{proofs.Common.{◌≡◌, ℕ, ◌<◌, ◌≤◌, Bool, true, false, arith, ◌+◌, ◌-◌}, specs.Prelude.{Err, ◌++◌, Option, Some, None, List, ◌∷◌}}
-use Rattle.access_model.specs.declared.{actions.Action.Action, errors.GateError.GateError}
-use Rattle.cpu_words.specs.{Hooks.HookAnswer, Names.{IsWord, Extents}, declared.names.WordName.WordName}
-use Rattle.gated_tree.specs.Roles.{Out as OffTree}
+use Rattle.access_model.specs.declared.actions.Action.{Action}
+use Rattle.access_model.specs.declared.errors.GateError.{GateError}
+use Rattle.cpu_words.specs.Hooks.{HookAnswer}
+use Rattle.cpu_words.specs.Names.{Extents, IsWord}
+use Rattle.cpu_words.specs.declared.names.WordName.{WordName}
+use Rattle.gate_world.specs.Beginnings.{first_phase, is_in_order, is_in_range, is_within_room}
+use Rattle.gate_world.specs.Causes.{all_counted, all_inside}
+use Rattle.gate_world.specs.Configs.{IsWithin, extents_among, extents_of}
+use Rattle.gate_world.specs.Courses.{IsTrace, course_of}
+use Rattle.gate_world.specs.Fits.{ActionFits, Fits, HasFile, PhaseFits, file_of}
+use Rattle.gate_world.specs.Holdings.{Agree, Holdings, held_after, holdings_of}
+use Rattle.gate_world.specs.KeptCauses.{CauseOf}
+use Rattle.gate_world.specs.LevelRuns.{level_in}
+use Rattle.gate_world.specs.Moments.{CompletesNow}
+use Rattle.gate_world.specs.Roles.{no_roles, roles_of}
+use Rattle.gate_world.specs.Rules.{IsGood, StepKeeps}
+use Rattle.gate_world.specs.Traces.{IsShort, Tells, actions_of, most_events}
+use Rattle.gate_world.specs.Views.{held_of, phase_after}
+use Rattle.gate_world.specs.Waits.{HasReason}
+use Rattle.gate_world.specs.Work.{after_of, next_of}
+use Rattle.gate_world.specs.Worlds.{World, after_step, found_at}
+use Rattle.gate_world.specs.declared.config.Config.{Config}
+use Rattle.gate_world.specs.declared.operations.Op.{Op}
+use Rattle.gate_world.specs.declared.views.Traced.{Traced}
+use Rattle.gate_world.specs.declared.work.Phase.{Phase}
 use Rattle.level_laws.specs.Events.{SyncStep}
-use Rattle.gate_world.specs.{Alike.IsBeside, Beginnings.{first_phase, is_in_range, is_in_order, is_within_room}, Causes.{all_counted, all_inside}}
-use Rattle.gate_world.specs.{Configs.{IsWithin, extents_of, extents_among}, Courses.{course_of, IsTrace}}
-use Rattle.gate_world.specs.{Fits.{PhaseFits, Fits, ActionFits, HasFile, file_of}, Holdings.{Holdings, Agree, holdings_of, held_after}, KeptCauses.CauseOf, LevelRuns.level_in}
-use Rattle.gate_world.specs.{Moments.CompletesNow, Rules.{IsGood, StepKeeps}}
-use Rattle.gate_world.specs.{Traces.{actions_of, Tells, IsShort, most_events}, Trees.tree_role_of, Views.{phase_after, held_of}, Waits.HasReason}
-use Rattle.gate_world.specs.{Work.{next_of, after_of}, Worlds.{World, after_step, found_at}}
-use Rattle.gate_world.specs.declared.{config.Config.Config, operations.Op.Op, views.Traced.Traced, work.Phase.Phase}
+use Rattle.std.proofs.Common.{Bool, arith, false, true, ℕ, ◌+◌, ◌-◌, ◌<◌, ◌≡◌, ◌≤◌}
+use Rattle.std.specs.Prelude.{Err, List, None, Option, Some, ◌++◌, ◌∷◌}
 
 pub by_bool : (b : Bool) (P : Bool → Type 0) → P true → P false → P b
 by_bool true P x y = x
@@ -90,9 +106,8 @@ pub record OpKeeps (c : Config) (op : Op) : Type 0 where
   -- where it may begin, its first phase fits
   pub fits : (t : ℕ) (held : Holdings) → is_in_range c op ≡ true → is_in_order c held op ≡ true →
       is_within_room held op ≡ true → Fits c t held (Some (first_phase c t op))
-  -- which stands as no operation does, has no role at the tree, and has no cause
-  pub starts_idle : (t : ℕ) → IsBeside None (Some (first_phase c t op))
-  pub off_tree : (t : ℕ) (trace : List Traced) → tree_role_of trace (Some (first_phase c t op)) ≡ OffTree
+  -- which has no role, but that it may rely on a file, and has no cause
+  pub starts_aside : (t : ℕ) → roles_of (Some (first_phase c t op)) ≡ record no_roles { file = file_of (Some (first_phase c t op)) }
   pub cause : (t : ℕ) (w : World) (earlier : List World) → CauseOf c t w earlier (Some (first_phase c t op))
   -- whether it may begin is the same with holdings that agree
   pub order_agrees : (held seen : Holdings) → Agree c held seen → is_in_range c op ≡ true → is_in_order c held op ≡ is_in_order c seen op

@@ -7,7 +7,8 @@ use Rattle.percpu_rwsem.specs.Writers.{down_write_after, up_write_after, down_wr
 use Rattle.percpu_rwsem.specs.declared.writers.{DownWrite.DownWrite, UpWrite.UpWrite}
 use Rattle.level_laws.specs.{Events.SyncStep, Operations.{put_at, left_by}, Roles.{Out as IsApart, entered}}
 use Rattle.gate_world.specs.{Configs.IsWithin, Fits.{DownWriteFits, UpWriteFits}, LevelRuns.level_in}
-use Rattle.gate_world.specs.{Levels.{Stand, stand_sync, inside, sync_role_of, is_frozen_whole}, Rules.IsGood, Worlds.World}
+use Rattle.gate_world.specs.{Levels.{inside, sync_role_of, is_frozen_whole}, Rules.IsGood, Worlds.World}
+use Rattle.gate_world.specs.Roles.{Stand, stand_sync}
 use Rattle.gate_world.specs.declared.{config.Config.Config, views.View.View}
 use Rattle.gate_frames.proofs.{DownLevels.{next_closing, down_write_event, closing_others, closing_there}, Frames.SameLevelWords}
 use Rattle.gate_frames.proofs.{LevelSteps.{level_stays, level_kept, level_moved}, LevelWorlds.{IsEventAt, section_kept}}

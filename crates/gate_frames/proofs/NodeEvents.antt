@@ -11,10 +11,12 @@ use Rattle.stage_laws.specs.Roles.{Aside}
 use Rattle.gate_world.specs.{Configs.IsWithin, LevelRuns.level_in, Owners.is_owned}
 use Rattle.gate_world.specs.Rules.{Files, IsGood, Holds, Part, Owner, Stages, Holding, Fitting, Known, Tree, AtMount, AtLevel, SyncAt, Sections, StepKeeps}
 use Rattle.gate_world.specs.Rules.{owns, remounts}
-use Rattle.gate_world.specs.{Snapshots.values_noted, Stages.stage_role_of, Trees.{tree_role_of, nodes_noted}, Views.phase_after, Work.{next_of, after_of}}
+use Rattle.gate_world.specs.{Snapshots.values_noted, Trees.tree_role_of, Views.phase_after, Work.{next_of, after_of}}
+use Rattle.gate_world.specs.Roles.{nodes_noted}
+use Rattle.gate_world.specs.Shown.{stage_role_of}
 use Rattle.gate_world.specs.{Worlds.{World, after_step, found_at, words_after}, declared.{config.Config.Config, views.Traced.Traced, work.Phase.Phase}}
 use Rattle.gate_frames.proofs.{Frames.left_alone, Known.{IsOwnersWork, known_after}, MountRuns.apart_run}
-use Rattle.gate_frames.proofs.NodeParts.{call_files, is_node_word, is_snapshot, node_word, IsBesideTree, call_view, call_found, call_next, gate_parts}
+use Rattle.gate_frames.proofs.NodeParts.{call_files, is_node_word, is_snapshot, node_word, IsBesideTree, call_view, call_found, call_next, gate_parts, roles_still}
 use Rattle.gate_frames.proofs.NodeParts.{call_fitting, TreeKeeps, call_keeps, call_moves, IsAtTree, words_then, view_then, beside_then, call_at, gate_words}
 use Rattle.gate_frames.proofs.NodeParts.{touch_beside}
 
@@ -94,7 +96,7 @@ pub tree_run : (tasks : ℕ) (w : World) (t : ℕ) → t < tasks → (phase : Ph
 tree_run tasks w t lt phase hook e at i =
     apart_run tasks w t lt hook phase e i
     (gate_words (SyncAt i) refl w.words (words_after w.words phase hook) (touch_beside w.words (next_of phase hook) at.touches))
-    at.off.off_levels.outside (at.off.off_levels.apart i) at.off_then.off_levels.outside (at.off_then.off_levels.apart i)
+    (λ j. (at.off.roles j).inside) (λ j. (at.off.roles j).sync i) (λ j. (at.off_then.roles j).inside) (λ j. (at.off_then.roles j).sync i)
 
 -- The parts of the rule after an event at the tree before and after which the task is plain.
 module _ (c : Config) (w : World) (good : IsGood c w) (t : ℕ) (lt : t < c.tasks) (phase : Phase) (hook : HookAnswer)
@@ -113,7 +115,7 @@ module _ (c : Config) (w : World) (good : IsGood c w) (t : ℕ) (lt : t < c.task
         umount_same w.words (next_of phase hook).0 (left (next_of phase hook).1 (read w.words (next_of phase hook).0)) word,
         (beside_then c w good t lt phase hook e at).remount_same,
       )
-      (now.owns_none ∙ sym (ap owns e ∙ was.owns_none), at.off_then.remounts_none ∙ sym (ap remounts e ∙ at.off.remounts_none)) (good Owner)
+      (now.owns_none ∙ sym (ap owns e ∙ was.owns_none), λ j. (roles_still c w good t lt phase hook e at j).remounts) (good Owner)
   plain_parts fitting tree files Stages =
       let beside : IsBesideTree w.words (words_then c w good t lt phase hook e at) = beside_then c w good t lt phase hook e at in
       left_alone c w t lt Stages (words_then c w good t lt phase hook e at) (view_then c w good t lt phase hook e at)

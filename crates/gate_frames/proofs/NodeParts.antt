@@ -1,38 +1,75 @@
 -- An event of a call at the tree: it leaves the mounts, the levels and the sections alone, and all of the shown model but the tree. A
 -- snapshot is such a call, too.
-use Rattle.std.proofs.Common.{arith, ◌≡◌, ℕ, ◌<◌, ◌⊎◌, ◌∙◌, inl, inr, refl, sym, ap, Bool, true, false, true≢false, subst}
-use Rattle.std.specs.Prelude.{◌==◌, ◌||◌, Option, Some, None, Result, Ok, Err, if◌then◌else◌}
-use Rattle.finite_sums.{proofs.Totals.{each_updated, update_same, update_map}, specs.Sums.update}
 use Rattle.access_model.proofs.Openers.{most_tasks_is}
-use Rattle.access_model.specs.{Replies.map_next, States.openers, declared.{actions.Action.Action, errors.GateError.GateError, replies.{Next.Next, Reply.Reply}}}
-use Rattle.cpu_words.specs.{Hooks.HookAnswer, Touches.left, Words.{Words, read, put}, declared.{events.Touch.Touch, names.WordName.WordName}}
-use Rattle.gated_tree.specs.{Calls.{phase_role, role_after, TreePhaseFits, NextFits}, Nodes.{word_of, node_shown, file_in, dirty_in}}
-use Rattle.gated_tree.specs.Phases.{next, after, after_look, create_next, create_after, remove_next, remove_after, grow_next, grow_after, move_next, move_after}
-use Rattle.gated_tree.specs.Phases.{mark_next, mark_after, mark_done, at_mark, snapshot_next, snapshot_after, clear_after, open_next, open_after}
-use Rattle.gated_tree.specs.Roles.{Role, TreeHolds, sealed_by, bare_by}
-use Rattle.gated_tree.specs.declared.changes.{Create.Create, CreateStep.CreateStep, MoveStep.MoveStep, MoveTo.MoveTo, Remove.Remove, RemoveStep.RemoveStep}
-use Rattle.gated_tree.specs.declared.{growth.{Grow.Grow, GrowStep.GrowStep}, marks.{ClearMarks.ClearMarks, Mark.Mark, MarkStep.MarkStep}}
-use Rattle.gated_tree.specs.declared.{opens.{OpenFile.OpenFile, OpenStep.OpenStep}, phases.TreePhase.TreePhase}
-use Rattle.gated_tree.specs.declared.snapshots.{Snapshot.Snapshot, SnapshotStep.SnapshotStep}
-use Rattle.mount_counts.specs.Roles.{Out, ro_bit}
-use Rattle.tree_laws.proofs.{Allowed.{may_do, tree_alone}, Fitting.fits_after, Phases.each_phase}
-use Rattle.tree_laws.specs.{Events.{MovesBy, opens_shown}, Steps.{Notes, StepKeeps, tree_in}}
+use Rattle.access_model.specs.Replies.{map_next}
+use Rattle.access_model.specs.States.{openers}
+use Rattle.access_model.specs.declared.actions.Action.{Action}
+use Rattle.access_model.specs.declared.errors.GateError.{GateError}
+use Rattle.access_model.specs.declared.replies.Next.{Next}
+use Rattle.access_model.specs.declared.replies.Reply.{Reply}
+use Rattle.cpu_words.specs.Hooks.{HookAnswer}
+use Rattle.cpu_words.specs.Touches.{left}
+use Rattle.cpu_words.specs.Words.{Words, put, read}
+use Rattle.cpu_words.specs.declared.events.Touch.{Touch}
+use Rattle.cpu_words.specs.declared.names.WordName.{WordName}
+use Rattle.finite_sums.proofs.Totals.{each_updated, update_map, update_same}
+use Rattle.finite_sums.specs.Sums.{update}
 use Rattle.freeze_levels.specs.Holders.{holders_in}
-use Rattle.stage_laws.specs.Roles.{sums, is_full}
+use Rattle.gate_frames.proofs.Accesses.{holdings_of_after}
+use Rattle.gate_frames.proofs.Agreeing.{access_agrees}
+use Rattle.gate_frames.proofs.Frames.{IsOffLevels, added_load, left_alone, level_view_as, shown_as, taken_load, view_as}
+use Rattle.gate_frames.proofs.Keeps.{by_bool}
+use Rattle.gate_frames.proofs.MayTree.{LeaveFor, call_fits, leave, may_step}
+use Rattle.gate_frames.proofs.MountEvents.{level_added_load, level_taken_load}
+use Rattle.gate_frames.proofs.OpenFiles.{file_then, files_counted, same_counts}
+use Rattle.gate_frames.proofs.Trees.{tree_holds, tree_within}
+use Rattle.gate_frames.proofs.Words.{load_same}
+use Rattle.gate_world.specs.Configs.{IsWithin, model_limits}
+use Rattle.gate_world.specs.Fits.{Fits, HasFile, TreeAccess, file_of}
+use Rattle.gate_world.specs.Found.{is_load}
+use Rattle.gate_world.specs.Holdings.{Holdings, held_after}
+use Rattle.gate_world.specs.Levels.{is_frozen_whole, level_added_after, level_added_by, level_taken_after, level_taken_by}
+use Rattle.gate_world.specs.Roles.{Roles, no_roles, nodes_noted, roles_of, snapshot_stage_role, tree_stage_role}
+use Rattle.gate_world.specs.Rules.{AtLevel, AtMount, Files, Fitting, Holding, Holds, IsGood, Moves as ModelMoves, Part, SameView, SameWords, Sections, SyncAt, Tree, ViewFits, remounts, role_of}
+use Rattle.gate_world.specs.Shown.{closing, holder_role_of, shown}
+use Rattle.gate_world.specs.Snapshots.{values_noted}
+use Rattle.gate_world.specs.Trees.{is_bare_at, is_sealed, tree_bounds, tree_role_of, tree_roles}
+use Rattle.gate_world.specs.Views.{added_after, added_by, has_open, held_at, held_of, holds_level, phase_after, taken_after, taken_by, view_after}
+use Rattle.gate_world.specs.Work.{after_of, next_of}
+use Rattle.gate_world.specs.Worlds.{World, after_step, found_at, value_at, words_after}
+use Rattle.gate_world.specs.declared.config.Config.{Config}
+use Rattle.gate_world.specs.declared.views.View.{View}
+use Rattle.gate_world.specs.declared.work.Phase.{Phase}
+use Rattle.gated_tree.specs.Calls.{NextFits, TreePhaseFits, phase_role, role_after}
+use Rattle.gated_tree.specs.Nodes.{dirty_in, file_in, node_shown, word_of}
+use Rattle.gated_tree.specs.Phases.{after, after_look, at_mark, clear_after, create_after, create_next, grow_after, grow_next, mark_after, mark_done, mark_next, move_after, move_next, next, open_after, open_next, remove_after, remove_next, snapshot_after, snapshot_next}
+use Rattle.gated_tree.specs.Roles.{Role, TreeHolds, bare_by, sealed_by}
+use Rattle.gated_tree.specs.declared.changes.Create.{Create}
+use Rattle.gated_tree.specs.declared.changes.CreateStep.{CreateStep}
+use Rattle.gated_tree.specs.declared.changes.MoveStep.{MoveStep}
+use Rattle.gated_tree.specs.declared.changes.MoveTo.{MoveTo}
+use Rattle.gated_tree.specs.declared.changes.Remove.{Remove}
+use Rattle.gated_tree.specs.declared.changes.RemoveStep.{RemoveStep}
+use Rattle.gated_tree.specs.declared.growth.Grow.{Grow}
+use Rattle.gated_tree.specs.declared.growth.GrowStep.{GrowStep}
+use Rattle.gated_tree.specs.declared.marks.ClearMarks.{ClearMarks}
+use Rattle.gated_tree.specs.declared.marks.Mark.{Mark}
+use Rattle.gated_tree.specs.declared.marks.MarkStep.{MarkStep}
+use Rattle.gated_tree.specs.declared.opens.OpenFile.{OpenFile}
+use Rattle.gated_tree.specs.declared.opens.OpenStep.{OpenStep}
+use Rattle.gated_tree.specs.declared.phases.TreePhase.{TreePhase}
+use Rattle.gated_tree.specs.declared.snapshots.Snapshot.{Snapshot}
+use Rattle.gated_tree.specs.declared.snapshots.SnapshotStep.{SnapshotStep}
 use Rattle.holder_laws.specs.Roles.{Apart}
-use Rattle.gate_world.specs.{Configs.{IsWithin, model_limits}, Fits.{HasFile, file_of, Fits, TreeAccess}, Holdings.{Holdings, held_after}, Found.is_load}
-use Rattle.gate_world.specs.{Holders.holder_role_of, Levels.{is_frozen_whole, level_added_after, level_taken_after, level_added_by, level_taken_by}}
-use Rattle.gate_world.specs.Rules.{Files, IsGood, Holds, Part, Holding, AtMount, AtLevel, SyncAt, Sections, Fitting, Tree, ViewFits, SameView, SameWords}
-use Rattle.gate_world.specs.Rules.{role_of, remounts, Moves as ModelMoves}
-use Rattle.gate_world.specs.{Shown.{shown, closing}, Snapshots.values_noted, Stages.{tree_stage_role, snapshot_stage_role}}
-use Rattle.gate_world.specs.Trees.{is_bare_at, tree_bounds, tree_roles, tree_role_of, nodes_noted, is_sealed}
-use Rattle.gate_world.specs.Views.{has_open, held_at, holds_level, added_after, taken_after, added_by, taken_by, phase_after, view_after, held_of}
-use Rattle.gate_world.specs.{Work.{next_of, after_of}, Worlds.{World, after_step, words_after, value_at, found_at}}
-use Rattle.gate_world.specs.declared.{config.Config.Config, views.View.View, work.Phase.Phase}
-use Rattle.gate_frames.proofs.{Accesses.holdings_of_after, Agreeing.access_agrees}
-use Rattle.gate_frames.proofs.{Frames.{IsOffLevels, added_load, taken_load, view_as, level_view_as, left_alone, shown_as}, Keeps.by_bool}
-use Rattle.gate_frames.proofs.{MayTree.{LeaveFor, call_fits, leave, may_step}, MountEvents.{level_added_load, level_taken_load}}
-use Rattle.gate_frames.proofs.{OpenFiles.{same_counts, files_counted, file_then}, Trees.{tree_within, tree_holds}, Words.load_same}
+use Rattle.mount_counts.specs.Roles.{Out, ro_bit}
+use Rattle.stage_laws.specs.Roles.{Aside, is_full, sums}
+use Rattle.std.proofs.Common.{Bool, ap, arith, false, inl, inr, refl, subst, sym, true, true≢false, ℕ, ◌<◌, ◌∙◌, ◌≡◌, ◌⊎◌}
+use Rattle.std.specs.Prelude.{Err, None, Ok, Option, Result, Some, if◌then◌else◌, ◌==◌, ◌||◌}
+use Rattle.tree_laws.proofs.Allowed.{may_do, tree_alone}
+use Rattle.tree_laws.proofs.Fitting.{fits_after}
+use Rattle.tree_laws.proofs.Phases.{each_phase}
+use Rattle.tree_laws.specs.Events.{MovesBy, opens_shown}
+use Rattle.tree_laws.specs.Steps.{Notes, StepKeeps, tree_in}
 
 -- the words of the tree
 abbrev pub is_node_word : WordName → Bool
@@ -328,16 +365,17 @@ call_goes c held within t x found hook fits =
     call_goes_on c left within t x found hook (fits.0, access_agrees c held left (λ m lm. ap (λ f. f m) (sym (leaves.mounts held)))
         (λ i one three. ap (λ f. f i) (sym (leaves.levels held))) x fits.1)
 
--- a phase that is at no mount, no level and no section, and closes no level
+-- these roles but for those of calls at the tree
+abbrev pub off_calls : Roles → Roles
+off_calls r = record r { stage = Aside; tree = no_roles.tree; owns = 0; file = None; hook = None }
+
+-- a phase that has no other role, and closes no level
 pub record IsOffGates (p : Option Phase) : Type 0 where
-  pub out_of_mounts : (m : ℕ) → role_of m p ≡ Out
-  pub off_levels : IsOffLevels p
+  pub roles : off_calls (roles_of p) ≡ no_roles
   pub closing_none : (i : ℕ) → closing i p ≡ 0
-  pub remounts_none : remounts p ≡ 0
-  pub unheld : holder_role_of p ≡ Apart
 
 pub idle_off : IsOffGates None
-idle_off = assumption
+idle_off = record { roles = refl; closing_none = λ i. refl }
 
 snapshot_closing : (i : ℕ) (s : SnapshotStep) → sums i (snapshot_stage_role s) ≡ 0
 snapshot_closing i SnapshotStep.Locks = refl
@@ -348,13 +386,7 @@ tree_closing i (TreePhase.Snapshot x) = snapshot_closing i x.step
 tree_closing i x = refl
 
 pub call_off : (x : TreePhase) → IsOffGates (Some (Phase.Trees x))
-call_off x = record {
-  out_of_mounts = λ m. refl;
-  off_levels = record { counts_not = λ i. refl; apart = λ i. refl; outside = refl };
-  closing_none = λ i. tree_closing i x;
-  remounts_none = refl;
-  unheld = refl;
-}
+call_off x = record { roles = refl; closing_none = λ i. tree_closing i x }
 
 pub next_off : (n : Next TreePhase) → IsOffGates (phase_after (map_next Phase.Trees n))
 next_off (Next.Go x) = call_off x
@@ -413,21 +445,25 @@ module _ (c : Config) (w : World) (good : IsGood c w) (t : ℕ) (lt : t < c.task
   was_off : IsOffGates (w.views t).phase
   was_off = subst IsOffGates (sym e) at.off
 
+  -- the roles that no call has are the same
+  pub roles_still : off_calls (roles_of view_then.phase) ≡ off_calls (roles_of (w.views t).phase)
+  roles_still = at.off_then.roles ∙ sym was_off.roles
+
   -- what the parts of mounts, levels and sections read of the task's view is the same
   gate_view : (part : Part) → is_gate_part part ≡ true → SameView (w.views t) view_then part
-  gate_view Holding h = at.off_then.unheld ∙ sym was_off.unheld
+  gate_view Holding h = λ j. (roles_still j).holder
   gate_view (AtMount m) h =
       let none : CountsNowhere (next_of phase hook) = counts_nowhere (next_of phase hook) at.touches in
       view_as (ap (λ f. f m) held_still) (ap (λ f. f m) (none.added (added_by (w.views t).events)))
-      (ap (λ f. f m) (none.taken (taken_by (w.views t).events))) (at.off_then.out_of_mounts m ∙ sym (was_off.out_of_mounts m))
+      (ap (λ f. f m) (none.taken (taken_by (w.views t).events))) (λ j. (roles_still j).mount m)
   gate_view (AtLevel i) h =
       let none : CountsNowhere (next_of phase hook) = counts_nowhere (next_of phase hook) at.touches in
       level_view_as (ap (λ (f : ℕ → Bool). if f i then 1 else 0) levels_still)
       (ap (λ f. f i) (none.level_added (level_added_by (w.views t).events)))
       (ap (λ f. f i) (none.level_taken (level_taken_by (w.views t).events)))
-      (at.off_then.off_levels.counts_not i ∙ sym (was_off.off_levels.counts_not i))
-  gate_view (SyncAt i) h = at.off_then.off_levels.apart i ∙ sym (was_off.off_levels.apart i)
-  gate_view Sections h = at.off_then.off_levels.outside ∙ sym was_off.off_levels.outside
+      (λ j. (roles_still j).count i)
+  gate_view (SyncAt i) h = λ j. (roles_still j).sync i
+  gate_view Sections h = λ j. (roles_still j).inside
   gate_view part h = absurd (true≢false (sym h))
 
   pub gate_parts : (part : Part) → is_gate_part part ≡ true → Holds c (after_step w t phase hook) part

@@ -1,20 +1,31 @@
 -- What every owner of `umount` may rely on, and its events: under the lock, on the word `umount`, and on a mount's flags.
-use Rattle.std.proofs.{Common.{◌≡◌, ℕ, suc, ◌+◌, ◌<◌, ◌≤◌, Bool, true, false, refl, ap, ◌∙◌, inl, inr, arith, nat_lt}, lemmas.Bool.Decides.eqb_tells}
-use Rattle.std.specs.Prelude.{◌-◌, ◌==◌, Option, Some, Ok, Err}
-use Rattle.finite_sums.proofs.Totals.{update_at, update_off, update_map, update_same, each_updated, total_updated, total_none, HasPlace, total_place, total_at}
-use Rattle.finite_sums.specs.Sums.{update, total}
-use Rattle.cpu_words.specs.{Words.Words, declared.sums.Sum.Sum}
-use Rattle.mount_counts.specs.{Roles.{Role, has_hold, skips, ro_bit, hold_bit}, Sets.has_mount}
-use Rattle.mount_counts.specs.declared.{phases.{ChangeStep.ChangeStep, MountPhase.MountPhase, WantStep.WantStep}, remounts.RemountStep.RemountStep}
+use Rattle.cpu_words.specs.Words.{Words}
+use Rattle.cpu_words.specs.declared.sums.Sum.{Sum}
+use Rattle.finite_sums.proofs.Totals.{HasPlace, each_updated, total_at, total_none, total_place, total_updated, update_at, update_map, update_off, update_same}
+use Rattle.finite_sums.specs.Sums.{total, update}
+use Rattle.gate_frames.proofs.Frames.{MountHoldsAfter, gates_after, holds_as, owner_same, shown_held, shown_still, view_as}
+use Rattle.gate_world.specs.Holdings.{Holdings}
+use Rattle.gate_world.specs.Remounts.{giving_role, held_role, loop_role, remount_owns, remount_role, remount_sets, summing_role}
+use Rattle.gate_world.specs.Roles.{change_owns, change_role, freeze_stage_role, gate_roles, role_if, thaw_stage_role, tree_stage_role, want_role}
+use Rattle.gate_world.specs.Rules.{AtMount, GatesHold, IsGood, IsSteady, Owner, OwnerHolds, ViewFits, at_mount, owns, remounts, role_of}
+use Rattle.gate_world.specs.Shown.{closing, shown}
+use Rattle.gate_world.specs.Views.{added_by, held_of, taken_by}
+use Rattle.gate_world.specs.Waits.{HasCulprit, IsWaitedFor}
+use Rattle.gate_world.specs.Worlds.{World}
+use Rattle.gate_world.specs.declared.config.Config.{Config}
+use Rattle.gate_world.specs.declared.views.View.{View}
+use Rattle.gate_world.specs.declared.work.Phase.{Phase}
+use Rattle.mount_counts.specs.Roles.{Role, has_hold, hold_bit, ro_bit, skips}
+use Rattle.mount_counts.specs.Sets.{has_mount}
+use Rattle.mount_counts.specs.declared.phases.ChangeStep.{ChangeStep}
+use Rattle.mount_counts.specs.declared.phases.MountPhase.{MountPhase}
+use Rattle.mount_counts.specs.declared.phases.WantStep.{WantStep}
+use Rattle.mount_counts.specs.declared.remounts.RemountStep.{RemountStep}
 use Rattle.stage_laws.proofs.Facts.{owns_le as stage_owns_le}
+use Rattle.std.proofs.Common.{Bool, ap, arith, false, inl, inr, nat_lt, refl, suc, true, ℕ, ◌+◌, ◌<◌, ◌∙◌, ◌≡◌, ◌≤◌}
+use Rattle.std.proofs.lemmas.Bool.Decides.{eqb_tells}
+use Rattle.std.specs.Prelude.{Err, Ok, Option, Some, ◌-◌, ◌==◌}
 use Rattle.write_access.specs.declared.phases.WritePhase.{WritePhase}
-use Rattle.gate_world.specs.Remounts.{loop_role, held_role, giving_role, remount_owns, summing_role, remount_role, remount_sets}
-use Rattle.gate_world.specs.Rules.{want_role, change_role, write_role, role_if, role_of, at_mount, change_owns, owns, remounts, IsSteady, OwnerHolds, ViewFits}
-use Rattle.gate_world.specs.Rules.{IsGood, Owner, AtMount, GatesHold}
-use Rattle.gate_world.specs.{Shown.{shown, closing}, Stages.{freeze_stage_role, thaw_stage_role, tree_stage_role}}
-use Rattle.gate_world.specs.{Holdings.Holdings, Views.{held_of, added_by, taken_by}, Waits.{IsWaitedFor, HasCulprit}, Worlds.World}
-use Rattle.gate_world.specs.declared.{config.Config.Config, views.View.View, work.Phase.Phase}
-use Rattle.gate_frames.proofs.Frames.{view_as, holds_as, MountHoldsAfter, owner_same, gates_after, shown_held, shown_still}
 
 change_owns_le : (s : ChangeStep) → change_owns s ≤ 1
 change_owns_le ChangeStep.Locks = omega arith
@@ -82,7 +93,7 @@ remount_hold m (RemountStep.GivesUp at held) = giving_hold (m == at) (has_mount 
 remount_hold m RemountStep.Locks = omega arith
 remount_hold m step = omega arith
 
-write_hold : (m : ℕ) (x : WritePhase) → has_hold (write_role m x) + skips (write_role m x) ≡ 0
+write_hold : (m : ℕ) (x : WritePhase) → has_hold ((gate_roles x).mount m) + skips ((gate_roles x).mount m) ≡ 0
 write_hold m (WritePhase.Wants x) = omega (arith, hold_if (m == x.mount) (want_role x.cpu x.step), want_hold x.cpu x.step)
 write_hold m x = refl
 

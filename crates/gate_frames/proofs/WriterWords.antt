@@ -11,7 +11,8 @@ use Rattle.percpu_rwsem.specs.declared.transitions.{Transition.Transition, Trans
 use Rattle.percpu_rwsem.specs.declared.writers.{DownWrite.DownWrite, DownWriteStep.DownWriteStep, UpWrite.UpWrite, UpWriteStep.UpWriteStep}
 use Rattle.freeze_levels.specs.Holders.{holders_in}
 use Rattle.stage_laws.specs.{Events.{StageEvent, action_of as stage_action_of}, Shown.state_after}
-use Rattle.gate_world.specs.{Configs.{IsWithin, model_limits}, Holders.holder_role_of, Levels.{level_added_after, level_taken_after}}
+use Rattle.gate_world.specs.{Configs.{IsWithin, model_limits}, Levels.{level_added_after, level_taken_after}}
+use Rattle.gate_world.specs.Shown.{holder_role_of}
 use Rattle.gate_world.specs.{Rules.{IsGood, Holds, ViewFits, Tree, owns}, Shown.shown, Trees.{tree_bounds, tree_of, tree_role_of, tree_roles}}
 use Rattle.gate_world.specs.{Views.{added_after, taken_after}, Worlds.World, declared.{config.Config.Config, views.View.View}}
 use Rattle.gate_frames.proofs.{Frames.left_alone, Holders.holders_stay, Keeps.by_bool, Stages.{IsStageEvent, stages_in}, Standing.{LevelsHold, left_world}}

@@ -1,30 +1,48 @@
 -- What a phase says of its numbers and of its task's own accesses: they are accesses with which its operation may begin, as its own
 -- actions have changed them since.
-use Rattle.std.specs.Prelude.{◌≡◌, ℕ, ◌<◌, ◌≤◌, Bool, true, false, Option, Some, None, ◌⊎◌}
-use Rattle.access_model.specs.Holders.{held_by, with_holder, is_unheld}
-use Rattle.access_model.specs.declared.actions.{Action.{Action, TheVariants.{Grant, Return, Open, Close}}, Gate.TheVariants.{Mount, Level}, Holder.Holder}
+use Rattle.access_model.specs.Holders.{held_by, is_unheld, with_holder}
+use Rattle.access_model.specs.declared.actions.Action.{Action}
+use Rattle.access_model.specs.declared.actions.Action.TheVariants.{Close, Grant, Open, Return}
+use Rattle.access_model.specs.declared.actions.Gate.TheVariants.{Level, Mount}
+use Rattle.access_model.specs.declared.actions.Holder.{Holder}
 use Rattle.access_model.specs.declared.actions.Kind.TheVariants.{File}
-use Rattle.gated_tree.specs.{Calls.TreePhaseFits, Nodes.IsLawful}
+use Rattle.file_closes.specs.declared.phases.ClosePhase.{ClosePhase}
+use Rattle.file_closes.specs.declared.phases.ClosePhase.TheVariants.{Enters, FreesNode, Leaves as CloseLeaves, LoadsFile as CloseLoadsFile, LowersCount, RefundsBlocks as CloseRefundsBlocks, Uncounts as CloseUncounts}
+use Rattle.file_closes.specs.declared.phases.Closing.{Closing}
+use Rattle.freeze_levels.specs.declared.freezes.FreezeStep.{FreezeStep}
+use Rattle.freeze_levels.specs.declared.freezes.FreezeStep.TheVariants.{Cleans, Closes, Holds, Reopens as FreezeReopens}
+use Rattle.freeze_levels.specs.declared.thaws.ThawStep.{ThawStep}
+use Rattle.freeze_levels.specs.declared.thaws.ThawStep.TheVariants.{Leaves, Reopens as ThawReopens}
+use Rattle.gate_world.specs.Holdings.{Holdings}
+use Rattle.gate_world.specs.Operations.{holds_none, holds_none_from, is_writer, may_mark}
+use Rattle.gate_world.specs.Remounts.{RemountFits}
+use Rattle.gate_world.specs.Roles.{roles_of}
+use Rattle.gate_world.specs.Trees.{tree_bounds}
+use Rattle.gate_world.specs.declared.config.Config.{Config}
+use Rattle.gate_world.specs.declared.work.Phase.{Phase}
+use Rattle.gate_world.specs.declared.work.Phase.TheVariants.{Callbacks, Closes, DownReads, Freezes, Mounts, Remounts, Thaws, Trees, UpReads, Writes}
+use Rattle.gated_tree.specs.Calls.{TreePhaseFits}
+use Rattle.gated_tree.specs.Nodes.{IsLawful}
 use Rattle.gated_tree.specs.declared.nodes.NodeWord.{NodeWord}
 use Rattle.gated_tree.specs.declared.phases.TreePhase.{TreePhase}
-use Rattle.gated_tree.specs.declared.phases.TreePhase.TheVariants.{Mark as TreeMarks, OpenFile as OpensOne, Snapshot as Snapshots, ClearMarks as TreeClears}
-use Rattle.mount_counts.specs.declared.phases.{ChangeStep.{ChangeStep, TheVariants.Sums}, MountPhase.{MountPhase, TheVariants.{Want, Drop, Change}}}
-use Rattle.percpu_rwsem.specs.declared.callbacks.CallbackStep.{CallbackStep, TheVariants.AwaitsSections}
-use Rattle.percpu_rwsem.specs.declared.readers.{DownRead.DownRead, DownReadStep.{DownReadStep, TheVariants.LeavesAdmitted}}
-use Rattle.percpu_rwsem.specs.declared.writers.DownWrite.{DownWrite}
-use Rattle.percpu_rwsem.specs.declared.writers.DownWriteStep.{DownWriteStep, TheVariants.{AwaitsSections as AwaitsReaders, Sums as SumsLevel}}
-use Rattle.percpu_rwsem.specs.declared.writers.UpWrite.{UpWrite}
-use Rattle.freeze_levels.specs.declared.freezes.FreezeStep.{FreezeStep, TheVariants.{Holds, Closes, Cleans, Reopens as FreezeReopens}}
-use Rattle.freeze_levels.specs.declared.thaws.ThawStep.{ThawStep, TheVariants.{Leaves, Reopens as ThawReopens}}
+use Rattle.gated_tree.specs.declared.phases.TreePhase.TheVariants.{ClearMarks as TreeClears, Mark as TreeMarks, OpenFile as OpensOne, Snapshot as Snapshots}
 use Rattle.level_laws.specs.Operations.{KnowsCallback, KnowsDownWrite, KnowsUpWrite}
-use Rattle.write_access.specs.declared.phases.WritePhase.{WritePhase, TheVariants.{Takes, Wants as WriteWants, GivesBack, Drops as WriteDrops, Ends}}
-use Rattle.file_closes.specs.declared.phases.ClosePhase.{ClosePhase}
-use Rattle.file_closes.specs.declared.phases.ClosePhase.TheVariants.{LoadsFile as CloseLoadsFile, LowersCount, Enters, FreesNode}
-use Rattle.file_closes.specs.declared.phases.ClosePhase.TheVariants.{RefundsBlocks as CloseRefundsBlocks, Uncounts as CloseUncounts, Leaves as CloseLeaves}
-use Rattle.file_closes.specs.declared.phases.Closing.{Closing}
-use Rattle.gate_world.specs.{Holdings.Holdings, Operations.{holds_none, holds_none_from, is_writer, may_mark}, Remounts.RemountFits, Trees.tree_bounds}
-use Rattle.gate_world.specs.declared.config.Config.{Config}
-use Rattle.gate_world.specs.declared.work.Phase.{Phase, TheVariants.{Mounts, Remounts, DownReads, UpReads, Callbacks, Writes, Freezes, Thaws, Trees, Closes}}
+use Rattle.mount_counts.specs.declared.phases.ChangeStep.{ChangeStep}
+use Rattle.mount_counts.specs.declared.phases.ChangeStep.TheVariants.{Sums}
+use Rattle.mount_counts.specs.declared.phases.MountPhase.{MountPhase}
+use Rattle.mount_counts.specs.declared.phases.MountPhase.TheVariants.{Change, Drop, Want}
+use Rattle.percpu_rwsem.specs.declared.callbacks.CallbackStep.{CallbackStep}
+use Rattle.percpu_rwsem.specs.declared.callbacks.CallbackStep.TheVariants.{AwaitsSections}
+use Rattle.percpu_rwsem.specs.declared.readers.DownRead.{DownRead}
+use Rattle.percpu_rwsem.specs.declared.readers.DownReadStep.{DownReadStep}
+use Rattle.percpu_rwsem.specs.declared.readers.DownReadStep.TheVariants.{LeavesAdmitted}
+use Rattle.percpu_rwsem.specs.declared.writers.DownWrite.{DownWrite}
+use Rattle.percpu_rwsem.specs.declared.writers.DownWriteStep.{DownWriteStep}
+use Rattle.percpu_rwsem.specs.declared.writers.DownWriteStep.TheVariants.{AwaitsSections as AwaitsReaders, Sums as SumsLevel}
+use Rattle.percpu_rwsem.specs.declared.writers.UpWrite.{UpWrite}
+use Rattle.std.specs.Prelude.{Bool, None, Option, Some, false, true, ℕ, ◌<◌, ◌≡◌, ◌≤◌, ◌⊎◌}
+use Rattle.write_access.specs.declared.phases.WritePhase.{WritePhase}
+use Rattle.write_access.specs.declared.phases.WritePhase.TheVariants.{Drops as WriteDrops, Ends, GivesBack, Takes, Wants as WriteWants}
 
 -- a sum in progress has a word more to read
 abbrev pub SumFits : Config → ChangeStep → Type 0
@@ -150,18 +168,9 @@ ActionFits held (Some (Open n)) = n < 64
 ActionFits held (Some (Close n)) = n < 64
 ActionFits held (Some a) = Unit {0}
 
--- the file that a phase relies on its task to have open, or not to have open
-abbrev pub close_file : ClosePhase → Option (ℕ × Bool)
-close_file (CloseLoadsFile x) = Some (x.file, true)
-close_file (LowersCount x node) = Some (x.file, true)
-close_file (Enters f node r) = Some (f, true)
-close_file (FreesNode f p node) = Some (f, true)
-close_file phase = None
-
+-- the file that what a task is at relies on it to have open, or not to have open
 abbrev pub file_of : Option Phase → Option (ℕ × Bool)
-file_of (Some (Closes phase)) = close_file phase
-file_of (Some (Trees (OpensOne x))) = Some (x.file, false)
-file_of phase = None
+file_of p = (roles_of p).file
 
 -- it is so
 abbrev pub HasFile : (ℕ → Bool) → Option (ℕ × Bool) → Type 0

@@ -1,12 +1,29 @@
 -- All that is proved of a change.
-use Rattle.std.{proofs.{Common.{ℕ, Bool, arith, refl, subst}, lemmas.Bool.ltb-true}, specs.Prelude.Some}
-use Rattle.mount_counts.specs.declared.phases.{Change.Change, MountPhase.MountPhase}
-use Rattle.gate_world.specs.{Fits.Fits, Rules.Fitting, Traces.most_events, Views.held_of, Worlds.after_step}
-use Rattle.gate_world.specs.declared.{config.Config.Config, operations.Op.Op, work.Phase.Phase}
-use Rattle.gate_frames.proofs.{Agreeing.none_agree, Keeps.{by_bool, word_among, PhaseKeeps, IsSmall, OpKeeps}, Loads.role_none, MountRuns.mounts_run}
-use Rattle.gate_frames.proofs.{Says.{tells, is_short}, Snapshots.completes_none}
-use Rattle.owner_laws.proofs.{ChangeCauses.{change_kept, change_own}, ChangeFits.{change_there, change_acts, change_goes}}
-use Rattle.owner_laws.proofs.{ChangeTraces.{ChangeAt, change_kept as change_traced}, ChangeWaits.change_waits, Each.change_keeps}
+use Rattle.gate_frames.proofs.Agreeing.{none_agree}
+use Rattle.gate_frames.proofs.Frames.{role_none}
+use Rattle.gate_frames.proofs.Keeps.{IsSmall, OpKeeps, PhaseKeeps, by_bool, word_among}
+use Rattle.gate_frames.proofs.MountRuns.{mounts_run}
+use Rattle.gate_frames.proofs.Says.{is_short, tells}
+use Rattle.gate_frames.proofs.Snapshots.{completes_none}
+use Rattle.gate_world.specs.Fits.{Fits}
+use Rattle.gate_world.specs.Roles.{no_roles}
+use Rattle.gate_world.specs.Rules.{Fitting}
+use Rattle.gate_world.specs.Traces.{most_events}
+use Rattle.gate_world.specs.Views.{held_of}
+use Rattle.gate_world.specs.Worlds.{after_step}
+use Rattle.gate_world.specs.declared.config.Config.{Config}
+use Rattle.gate_world.specs.declared.operations.Op.{Op}
+use Rattle.gate_world.specs.declared.work.Phase.{Phase}
+use Rattle.mount_counts.specs.declared.phases.Change.{Change}
+use Rattle.mount_counts.specs.declared.phases.MountPhase.{MountPhase}
+use Rattle.owner_laws.proofs.ChangeCauses.{change_kept, change_own}
+use Rattle.owner_laws.proofs.ChangeFits.{change_acts, change_goes, change_there}
+use Rattle.owner_laws.proofs.ChangeTraces.{ChangeAt, change_kept as change_traced}
+use Rattle.owner_laws.proofs.ChangeWaits.{change_waits}
+use Rattle.owner_laws.proofs.Each.{change_keeps}
+use Rattle.std.proofs.Common.{Bool, arith, refl, subst, ℕ}
+use Rattle.std.proofs.lemmas.Bool.{ltb-true}
+use Rattle.std.specs.Prelude.{Some, true}
 
 pub change_phase : (c : Config) (x : Change) → PhaseKeeps c (Phase.Mounts (MountPhase.Change x))
 change_phase c x = record {
@@ -31,16 +48,7 @@ change_phase c x = record {
 pub change_op : (c : Config) (m : ℕ) (ro wait : Bool) → OpKeeps c (Op.ChangeMount m ro wait)
 change_op c m ro wait = record {
   fits = λ t held there order room. (ltb-true m c.mounts there, refl, refl, order, tt);
-  starts_idle = λ t. record {
-    steady = assumption;
-    stage_same = refl;
-    holder_same = refl;
-    level_same = λ i. refl;
-    sync_same = λ i. refl;
-    inside_same = refl;
-    role_same = λ y. role_none y m;
-  };
-  off_tree = λ t trace. refl;
+  starts_aside = λ t k. record no_roles { mount = λ y. role_none y m k };
   cause = λ t w earlier. tt;
   order_agrees = λ held seen same there. none_agree held.levels seen.levels same.levels;
   room_agrees = λ held seen same there. refl;

@@ -1,33 +1,66 @@
 -- The events of a freeze on the words of a level that it closes.
-use Rattle.std.proofs.Common.{◌≡◌, ◌⊎◌, ℕ, ◌<◌, ◌≤◌, Bool, true, false, refl, sym, ap, ◌∙◌, inl, inr, arith, true≢false, nat_lt}
-use Rattle.std.proofs.lemmas.Bool.{eq-eqb, cases_Bool, Decides.eqb_tells}
-use Rattle.std.specs.Prelude.{◌==◌, if◌then◌else◌, Option, Some, None, Ok}
-use Rattle.finite_sums.{proofs.Totals.total_at, specs.Sums.{update, total}}
-use Rattle.access_model.specs.{Replies.map_next, declared.{actions.Action.Action, replies.{Next.Next, Reply.Reply}}}
-use Rattle.cpu_words.specs.{Hooks.HookAnswer, Sums.sum_taking, Touches.{left, found_by}, Words.{Words, read, put}, declared.sums.{Sum.Sum, Taken.Taken}}
-use Rattle.gated_tree.{proofs.ClearedMarks.directory_clean, specs.{Nodes.IsNode, Roles.{Out as OffTree, Clearing}}}
-use Rattle.percpu_rwsem.specs.{Graces.looked, SyncWords.{unpack, is_passed, on_enter, on_callback}, Transitions.transition_after}
-use Rattle.percpu_rwsem.specs.Writers.{down_write_next, down_write_after, at_down_write, enter_step, callback_step, sections_awaited, passed_awaited, sum_begun}
-use Rattle.percpu_rwsem.specs.Writers.{down_write_summed}
-use Rattle.percpu_rwsem.specs.declared.{grace.GraceNext.GraceNext, sync_word.{GpState.GpState, SyncWord.SyncWord}}
-use Rattle.percpu_rwsem.specs.declared.transitions.{Transition.Transition, TransitionNext.TransitionNext}
-use Rattle.percpu_rwsem.specs.declared.writers.{DownWrite.DownWrite, DownWriteStep.DownWriteStep}
-use Rattle.freeze_levels.specs.{Freezes.{at_freeze, after_closing, level_closed}, declared.freezes.{Freeze.Freeze, FreezeStep.FreezeStep}}
-use Rattle.stage_laws.proofs.Facts.{at_level}
-use Rattle.stage_laws.specs.Events.{StageEvent, Happens, Stays, SetsBlock as SetsBlockStage, Passes, playing, action_of as stage_action_of}
-use Rattle.stage_laws.specs.{Roles.{Place, Before, Closing, HasPassed, Freezing, owns as stage_owns, has_position, bit, CleanBelow}, Shown.state_after}
+use Rattle.access_model.specs.Replies.{map_next}
+use Rattle.access_model.specs.declared.actions.Action.{Action}
+use Rattle.access_model.specs.declared.replies.Next.{Next}
+use Rattle.access_model.specs.declared.replies.Reply.{Reply}
+use Rattle.cpu_words.specs.Hooks.{HookAnswer}
+use Rattle.cpu_words.specs.Sums.{sum_taking}
+use Rattle.cpu_words.specs.Touches.{found_by, left}
+use Rattle.cpu_words.specs.Words.{Words, put, read}
+use Rattle.cpu_words.specs.declared.sums.Sum.{Sum}
+use Rattle.cpu_words.specs.declared.sums.Taken.{Taken}
+use Rattle.finite_sums.proofs.Totals.{total_at}
+use Rattle.finite_sums.specs.Sums.{total, update}
+use Rattle.freeze_levels.specs.Freezes.{after_closing, at_freeze, level_closed}
+use Rattle.freeze_levels.specs.declared.freezes.Freeze.{Freeze}
+use Rattle.freeze_levels.specs.declared.freezes.FreezeStep.{FreezeStep}
+use Rattle.gate_frames.proofs.Accesses.{holdings_of_after}
+use Rattle.gate_frames.proofs.DownLevels.{down_write_levels, entered_by_nobody, passes_finds_nobody, swap_finds_clear}
+use Rattle.gate_frames.proofs.Keeps.{by_bool}
+use Rattle.gate_frames.proofs.Stages.{IsStageEvent, stages_in}
+use Rattle.gate_frames.proofs.Standing.{LevelsHold, Stands, left_world, stand_after_closing}
+use Rattle.gate_frames.proofs.Trees.{shown_clean}
+use Rattle.gate_frames.proofs.WriterParts.{AsksWhere, LeavesRest, WriterLaw, down_write_comes, freeze_comes}
+use Rattle.gate_frames.proofs.WriterStages.{none_leaves, stays_there, still_plays}
+use Rattle.gate_frames.proofs.WriterWords.{down_write_adds, down_write_counts_none, down_write_words, pass_leaves, tree_begins, tree_beside, writer_at_level}
+use Rattle.gate_world.specs.Configs.{IsWithin, model_limits}
+use Rattle.gate_world.specs.Fits.{Fits}
+use Rattle.gate_world.specs.Holdings.{Holdings, holdings_of}
+use Rattle.gate_world.specs.Levels.{level_added_by, level_taken_by}
+use Rattle.gate_world.specs.Roles.{closed_to, freeze_holder_role, freeze_stage_role, freeze_tree_role, place_of}
+use Rattle.gate_world.specs.Rules.{Holds, IsGood, Tree, ViewFits, marks_of, owns}
+use Rattle.gate_world.specs.Shown.{holder_role_of, shown, stage_role_of}
+use Rattle.gate_world.specs.Trees.{tree_role_of, tree_roles}
+use Rattle.gate_world.specs.Views.{actions_after, added_by, held_of, holds_level, phase_after, taken_by, view_with}
+use Rattle.gate_world.specs.Worlds.{World}
+use Rattle.gate_world.specs.declared.config.Config.{Config}
+use Rattle.gate_world.specs.declared.views.View.{View}
+use Rattle.gate_world.specs.declared.work.Phase.{Phase}
+use Rattle.gated_tree.proofs.ClearedMarks.{directory_clean}
+use Rattle.gated_tree.specs.Nodes.{IsNode}
+use Rattle.gated_tree.specs.Roles.{Clearing, Out as OffTree}
 use Rattle.holder_laws.specs.Roles.{Apart}
-use Rattle.gate_world.specs.{Configs.{IsWithin, model_limits}, Fits.Fits, Holdings.{Holdings, holdings_of}, Holders.{freeze_holder_role, holder_role_of}}
-use Rattle.gate_world.specs.{Levels.{closed_to, level_added_by, level_taken_by}, Rules.{IsGood, Holds, Tree, owns, marks_of, ViewFits}, Shown.shown}
-use Rattle.gate_world.specs.{Stages.{freeze_stage_role, stage_role_of, place_of}, Trees.{tree_role_of, tree_roles, freeze_tree_role}}
-use Rattle.gate_world.specs.{Views.{held_of, holds_level, phase_after, actions_after, view_with, added_by, taken_by}, Worlds.World}
-use Rattle.gate_world.specs.declared.{config.Config.Config, views.View.View, work.Phase.Phase}
-use Rattle.gate_frames.proofs.{Accesses.holdings_of_after, DownLevels.{down_write_levels, passes_finds_nobody, swap_finds_clear, entered_by_nobody}, Keeps.by_bool}
-use Rattle.gate_frames.proofs.{Stages.{IsStageEvent, stages_in}, Standing.{Stands, LevelsHold, left_world, stand_after_closing}, Trees.shown_clean}
-use Rattle.gate_frames.proofs.WriterParts.{LeavesRest, AsksWhere, WriterLaw, freeze_comes, down_write_comes}
-use Rattle.gate_frames.proofs.WriterStages.{still_plays, stays_there, none_leaves}
-use Rattle.gate_frames.proofs.WriterWords.{tree_beside, tree_begins, down_write_words, down_write_counts_none, down_write_adds, pass_leaves, writer_at_level}
-use Rattle.owner_laws.proofs.{FreezeFits.freeze_goes, FreezeStages.{freeze_stands, IsHere, Keeps, FitsHere, here_fits, here_stands, here_tree, here_writes}}
+use Rattle.owner_laws.proofs.FreezeFits.{freeze_goes}
+use Rattle.owner_laws.proofs.FreezeStages.{FitsHere, IsHere, Keeps, freeze_stands, here_fits, here_stands, here_tree, here_writes}
+use Rattle.percpu_rwsem.specs.Graces.{looked}
+use Rattle.percpu_rwsem.specs.SyncWords.{is_passed, on_callback, on_enter, unpack}
+use Rattle.percpu_rwsem.specs.Transitions.{transition_after}
+use Rattle.percpu_rwsem.specs.Writers.{at_down_write, callback_step, down_write_after, down_write_next, down_write_summed, enter_step, passed_awaited, sections_awaited, sum_begun}
+use Rattle.percpu_rwsem.specs.declared.grace.GraceNext.{GraceNext}
+use Rattle.percpu_rwsem.specs.declared.sync_word.GpState.{GpState}
+use Rattle.percpu_rwsem.specs.declared.sync_word.SyncWord.{SyncWord}
+use Rattle.percpu_rwsem.specs.declared.transitions.Transition.{Transition}
+use Rattle.percpu_rwsem.specs.declared.transitions.TransitionNext.{TransitionNext}
+use Rattle.percpu_rwsem.specs.declared.writers.DownWrite.{DownWrite}
+use Rattle.percpu_rwsem.specs.declared.writers.DownWriteStep.{DownWriteStep}
+use Rattle.stage_laws.proofs.Facts.{at_level}
+use Rattle.stage_laws.specs.Events.{Happens, Passes, SetsBlock as SetsBlockStage, StageEvent, Stays, action_of as stage_action_of, playing}
+use Rattle.stage_laws.specs.Roles.{Before, CleanBelow, Closing, Freezing, HasPassed, Place, bit, has_position, owns as stage_owns}
+use Rattle.stage_laws.specs.Shown.{state_after}
+use Rattle.std.proofs.Common.{Bool, ap, arith, false, inl, inr, nat_lt, refl, sym, true, true≢false, ℕ, ◌<◌, ◌∙◌, ◌≡◌, ◌≤◌, ◌⊎◌}
+use Rattle.std.proofs.lemmas.Bool.{cases_Bool, eq-eqb}
+use Rattle.std.proofs.lemmas.Bool.Decides.{eqb_tells}
+use Rattle.std.specs.Prelude.{None, Ok, Option, Some, if◌then◌else◌, ◌==◌}
 
 -- once level 2 is passed the clearing of marks begins at node 1
 abbrev clean_from : ℕ → ℕ

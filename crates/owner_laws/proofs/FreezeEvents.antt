@@ -1,31 +1,65 @@
 -- The events of a freeze on nodes and on the words of a level that it reopens, and all of its events as one law.
-use Rattle.std.proofs.Common.{◌≡◌, ℕ, suc, ◌+◌, ◌-◌, ◌<◌, true, false, refl, sym, ap, ◌∙◌, subst, inl, inr, arith, nat_lt}
-use Rattle.std.proofs.lemmas.Bool.{cases_Bool, ltb-true, ltb-false, Decides.eqb_tells}
-use Rattle.std.specs.Prelude.{◌==◌, Option, Some, None, Err, option_map}
-use Rattle.finite_sums.{proofs.Totals.{each_updated, update_map, update_same}, specs.Sums.update}
-use Rattle.access_model.specs.{Actions.marked, Replies.map_next, States.IsFile, declared.{actions.Action.Action, errors.GateError.GateError, replies.Next.Next}}
-use Rattle.cpu_words.specs.{Hooks.HookAnswer, Touches.found_by, Words.{Words, read}, declared.{events.Touch.Touch, names.WordName.WordName}}
-use Rattle.gated_tree.proofs.ClearedMarks.{without_mark, cleared_shown, clean_stays, clears_mark}
-use Rattle.gated_tree.specs.{Nodes.{IsNode, dirty_in, node_shown, opens_in}, Roles.{Clearing, TreeState}, declared.marks.ClearMarks.ClearMarks}
-use Rattle.tree_laws.specs.Events.{Event, Clears, Passes, with_node}
-use Rattle.percpu_rwsem.specs.{Writers.{up_write_next, up_write_after}, declared.writers.UpWrite.UpWrite}
-use Rattle.freeze_levels.specs.{Freezes.{at_freeze, after_reopening, freeze_fails}, Levels.reopening, Thaws.{thaw_opens, after_opening}}
-use Rattle.freeze_levels.specs.declared.{freezes.{Freeze.Freeze, FreezeStep.FreezeStep}, thaws.{Thaw.Thaw, ThawStep.ThawStep}}
-use Rattle.stage_laws.specs.{Events.{cleaned, ClearsMark as ClearsMarkStage}, Roles.{HasPassed, Freezing, owns as stage_owns}, Shown.state_after}
-use Rattle.holder_laws.specs.Roles.{Apart}
-use Rattle.gate_world.specs.{Alike.{IsAlike, rephased}, Configs.{IsWithin, model_limits}, Fits.FreezeFits, Holders.{freeze_holder_role, holder_role_of}}
-use Rattle.gate_world.specs.{Levels.{closed_to, freeze_stand}, Rules.{IsGood, Tree, owns, marks_of, ViewFits, Holds, StepKeeps}, Shown.{shown, stage_roles}}
-use Rattle.gate_world.specs.{Stages.{freeze_stage_role, stage_role_of}, Trees.{tree_bounds, tree_of, freeze_tree_role}}
-use Rattle.gate_world.specs.{Holdings.Holdings, Views.{held_of, phase_after}, Worlds.World, declared.{config.Config.Config, views.View.View, work.Phase.Phase}}
-use Rattle.gate_frames.proofs.{Holders.holders_stay, Rephased.{alike_of, made_keeps}, Stages.{IsStageEvent, stages_in}, StandRoles.levels_stay}
-use Rattle.gate_frames.proofs.{Standing.{Stands, left_world, stand_after_opening, still_closed}, Trees.{tree_after, nobody_reads}, WriterOwner.owner_stays}
-use Rattle.gate_frames.proofs.WriterParts.{IsWriter, SameAtMounts, LeavesRest, AsksWhere, WriterLaw, writer_law, freezes_write, freeze_work, whole_writer}
+use Rattle.access_model.specs.Actions.{marked}
+use Rattle.access_model.specs.Replies.{map_next}
+use Rattle.access_model.specs.States.{IsFile}
+use Rattle.access_model.specs.declared.actions.Action.{Action}
+use Rattle.access_model.specs.declared.errors.GateError.{GateError}
+use Rattle.access_model.specs.declared.replies.Next.{Next}
+use Rattle.cpu_words.specs.Hooks.{HookAnswer}
+use Rattle.cpu_words.specs.Touches.{found_by}
+use Rattle.cpu_words.specs.Words.{Words, read}
+use Rattle.cpu_words.specs.declared.events.Touch.{Touch}
+use Rattle.cpu_words.specs.declared.names.WordName.{WordName}
+use Rattle.finite_sums.proofs.Totals.{each_updated, update_map, update_same}
+use Rattle.finite_sums.specs.Sums.{update}
+use Rattle.freeze_levels.specs.Freezes.{after_reopening, at_freeze, freeze_fails}
+use Rattle.freeze_levels.specs.Levels.{reopening}
+use Rattle.freeze_levels.specs.Thaws.{after_opening, thaw_opens}
+use Rattle.freeze_levels.specs.declared.freezes.Freeze.{Freeze}
+use Rattle.freeze_levels.specs.declared.freezes.FreezeStep.{FreezeStep}
+use Rattle.freeze_levels.specs.declared.thaws.Thaw.{Thaw}
+use Rattle.freeze_levels.specs.declared.thaws.ThawStep.{ThawStep}
+use Rattle.gate_frames.proofs.Holders.{holders_stay}
+use Rattle.gate_frames.proofs.Rephased.{alike_of, made_keeps}
+use Rattle.gate_frames.proofs.Stages.{IsStageEvent, stages_in}
+use Rattle.gate_frames.proofs.StandRoles.{levels_stay}
+use Rattle.gate_frames.proofs.Standing.{Stands, left_world, stand_after_opening, still_closed}
+use Rattle.gate_frames.proofs.Trees.{nobody_reads, tree_after}
+use Rattle.gate_frames.proofs.WriterOwner.{owner_stays}
+use Rattle.gate_frames.proofs.WriterParts.{AsksWhere, IsWriter, LeavesRest, SameAtMounts, WriterLaw, freeze_work, freezes_write, whole_writer, writer_law}
 use Rattle.gate_frames.proofs.WriterWords.{up_write_comes}
-use Rattle.owner_laws.proofs.{FreezeCloses.closes, FreezeFits.freeze_goes}
-use Rattle.owner_laws.proofs.FreezeStages.{loads_holders, holds, freeze_stands, IsHere, Keeps, FitsHere, here_fits, here_knows, here_stands, here_tree}
-use Rattle.owner_laws.proofs.FreezeStages.{here_writes, goes_to, view_at, locks, loads_stage, loads_superblock, completes_read_only, sets_write, unlocks}
-use Rattle.owner_laws.proofs.FreezeStages.{locks_again, sets_page_fault, sets_fs, sets_complete, releases}
+use Rattle.gate_world.specs.Alike.{IsAlike, rephased}
+use Rattle.gate_world.specs.Configs.{IsWithin, model_limits}
+use Rattle.gate_world.specs.Fits.{FreezeFits}
+use Rattle.gate_world.specs.Holdings.{Holdings}
+use Rattle.gate_world.specs.Roles.{closed_to, freeze_holder_role, freeze_stage_role, freeze_stand, freeze_tree_role}
+use Rattle.gate_world.specs.Rules.{Holds, IsGood, StepKeeps, Tree, ViewFits, marks_of, owns}
+use Rattle.gate_world.specs.Shown.{holder_role_of, shown, stage_role_of, stage_roles}
+use Rattle.gate_world.specs.Trees.{tree_bounds, tree_of}
+use Rattle.gate_world.specs.Views.{held_of, phase_after}
+use Rattle.gate_world.specs.Worlds.{World}
+use Rattle.gate_world.specs.declared.config.Config.{Config}
+use Rattle.gate_world.specs.declared.views.View.{View}
+use Rattle.gate_world.specs.declared.work.Phase.{Phase}
+use Rattle.gated_tree.proofs.ClearedMarks.{clean_stays, cleared_shown, clears_mark, without_mark}
+use Rattle.gated_tree.specs.Nodes.{IsNode, dirty_in, node_shown, opens_in}
+use Rattle.gated_tree.specs.Roles.{Clearing, TreeState}
+use Rattle.gated_tree.specs.declared.marks.ClearMarks.{ClearMarks}
+use Rattle.holder_laws.specs.Roles.{Apart}
+use Rattle.owner_laws.proofs.FreezeCloses.{closes}
+use Rattle.owner_laws.proofs.FreezeFits.{freeze_goes}
+use Rattle.owner_laws.proofs.FreezeStages.{FitsHere, IsHere, Keeps, completes_read_only, freeze_stands, goes_to, here_fits, here_knows, here_stands, here_tree, here_writes, holds, loads_holders, loads_stage, loads_superblock, locks, locks_again, releases, sets_complete, sets_fs, sets_page_fault, sets_write, unlocks, view_at}
 use Rattle.owner_laws.proofs.ThawEvents.{thaw_keeps}
+use Rattle.percpu_rwsem.specs.Writers.{up_write_after, up_write_next}
+use Rattle.percpu_rwsem.specs.declared.writers.UpWrite.{UpWrite}
+use Rattle.stage_laws.specs.Events.{ClearsMark as ClearsMarkStage, cleaned}
+use Rattle.stage_laws.specs.Roles.{Freezing, HasPassed, owns as stage_owns}
+use Rattle.stage_laws.specs.Shown.{state_after}
+use Rattle.std.proofs.Common.{ap, arith, false, inl, inr, nat_lt, refl, subst, suc, sym, true, ℕ, ◌+◌, ◌-◌, ◌<◌, ◌∙◌, ◌≡◌}
+use Rattle.std.proofs.lemmas.Bool.{cases_Bool, ltb-false, ltb-true}
+use Rattle.std.proofs.lemmas.Bool.Decides.{eqb_tells}
+use Rattle.std.specs.Prelude.{Err, None, Option, Some, option_map, ◌==◌}
+use Rattle.tree_laws.specs.Events.{Clears, Event, Passes, with_node}
 
 -- how a freeze that failed stands with the levels that are still to be reopened
 fails_stands : (x : Freeze) (level code : ℕ) → Stands (Some (Phase.Freezes (at_freeze x (freeze_fails level code)))) (still_closed level)
@@ -50,18 +84,18 @@ as_thaw x s = record { task = x.task; holder = x.holder; step = s }
 -- before an event
 reopens_alike : (x : Freeze) (u : UpWrite) (code : ℕ) →
     IsAlike (Some (Phase.Freezes (at_freeze x (FreezeStep.Reopens u code)))) (Some (Phase.Thaws (as_thaw x (ThawStep.Reopens u))))
-reopens_alike x u code = assumption
+reopens_alike x u code = refl
 
 -- after the last one at a level
 fails_alike : (x : Freeze) (level code : ℕ) →
     IsAlike (Some (Phase.Thaws (as_thaw x (thaw_opens level)))) (Some (Phase.Freezes (at_freeze x (freeze_fails level code))))
-fails_alike x level code = elim (cases_Bool (level == 0)) [ inl h ↦ rw h assumption | inr h ↦ rw h assumption ]
+fails_alike x level code = elim (cases_Bool (level == 0)) [ inl h ↦ rw h refl | inr h ↦ rw h refl ]
 
 next_alike : (x : Freeze) (u : UpWrite) (code : ℕ) (n : Next UpWrite) →
     IsAlike (phase_after (map_next Phase.Thaws (after_opening (as_thaw x (ThawStep.Reopens u)) u.level n)))
     (phase_after (map_next Phase.Freezes (after_reopening x u.level code n)))
-next_alike x u code (Next.Go v) = assumption
-next_alike x u code (Next.Wait v) = assumption
+next_alike x u code (Next.Go v) = refl
+next_alike x u code (Next.Wait v) = refl
 next_alike x u code (Next.Done answer) = fails_alike x (u.level - 1) code
 
 module _ (c : Config) (lim : IsWithin c) (w : World) (good : IsGood c w) (t : ℕ) (lt : t < c.tasks) (x : Freeze) (hook : HookAnswer) where

@@ -1,13 +1,28 @@
 -- All that is proved of a freeze, from the law of its events and from what its trace tells.
-use Rattle.std.{proofs.Common.{◌≡◌, ℕ, ◌<◌, refl, subst}, specs.Prelude.Some}
 use Rattle.access_model.specs.declared.actions.Holder.{Holder}
-use Rattle.freeze_levels.specs.declared.freezes.{Freeze.Freeze, FreezeStep.FreezeStep}
+use Rattle.freeze_levels.specs.declared.freezes.Freeze.{Freeze}
+use Rattle.freeze_levels.specs.declared.freezes.FreezeStep.{FreezeStep}
+use Rattle.gate_frames.proofs.Agreeing.{none_agree}
+use Rattle.gate_frames.proofs.Keeps.{OpKeeps, PhaseKeeps, word_among}
+use Rattle.gate_frames.proofs.Snapshots.{completes_none}
+use Rattle.gate_world.specs.Fits.{Fits, PhaseFits}
+use Rattle.gate_world.specs.Roles.{freeze_stage_role}
+use Rattle.gate_world.specs.Rules.{Fitting, IsGood, Stages}
+use Rattle.gate_world.specs.Shown.{stage_role_of}
+use Rattle.gate_world.specs.Views.{held_of}
+use Rattle.gate_world.specs.Worlds.{World, after_step}
+use Rattle.gate_world.specs.declared.config.Config.{Config}
+use Rattle.gate_world.specs.declared.operations.Op.{Op}
+use Rattle.gate_world.specs.declared.work.Phase.{Phase}
+use Rattle.owner_laws.proofs.FreezeCauses.{freeze_own, freeze_stays}
+use Rattle.owner_laws.proofs.FreezeEvents.{freeze_keeps}
+use Rattle.owner_laws.proofs.FreezeFits.{freeze_acts, freeze_goes, freeze_word}
+use Rattle.owner_laws.proofs.FreezeRuns.{freeze_runs}
+use Rattle.owner_laws.proofs.FreezeTraces.{freeze_restores, freeze_short, freeze_tells}
+use Rattle.owner_laws.proofs.FreezeWaits.{freeze_waits}
 use Rattle.stage_laws.specs.Roles.{KnowsStage}
-use Rattle.gate_world.specs.{Fits.{Fits, PhaseFits}, Rules.{IsGood, Fitting, Stages}, Stages.{freeze_stage_role, stage_role_of}, Views.held_of}
-use Rattle.gate_world.specs.{Worlds.{World, after_step}, declared.{config.Config.Config, operations.Op.Op, work.Phase.Phase}}
-use Rattle.gate_frames.proofs.{Agreeing.none_agree, Keeps.{word_among, PhaseKeeps, OpKeeps}, Snapshots.completes_none}
-use Rattle.owner_laws.proofs.{FreezeCauses.{freeze_stays, freeze_own}, FreezeEvents.freeze_keeps, FreezeFits.{freeze_word, freeze_acts, freeze_goes}}
-use Rattle.owner_laws.proofs.{FreezeRuns.freeze_runs, FreezeTraces.{freeze_tells, freeze_short, freeze_restores}, FreezeWaits.freeze_waits}
+use Rattle.std.proofs.Common.{refl, subst, ℕ, ◌<◌, ◌≡◌}
+use Rattle.std.specs.Prelude.{Some}
 
 -- what a freeze says of its task's accesses, in a good world
 fits_here : (c : Config) (x : Freeze) (w : World) → IsGood c w → (t : ℕ) → t < c.tasks → (w.views t).phase ≡ Some (Phase.Freezes x) →
@@ -41,8 +56,7 @@ freeze_phase c x = record {
 pub freeze_op : (c : Config) (holder : Holder) → OpKeeps c (Op.Freeze holder)
 freeze_op c holder = record {
   fits = λ t held there order room. (refl, refl, refl, refl, order, tt);
-  starts_idle = λ t. assumption;
-  off_tree = λ t trace. refl;
+  starts_aside = λ t. refl;
   cause = λ t w earlier. tt;
   order_agrees = λ held seen same there. none_agree held.levels seen.levels same.levels;
   room_agrees = λ held seen same there. refl;

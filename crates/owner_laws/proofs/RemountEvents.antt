@@ -1,44 +1,62 @@
 -- The other events of a remount, and all of them as one law.
-use Rattle.std.proofs.Common.{refl, sym, ap, subst, inl, inr, true, false, arith, true≢false, ℕ, suc, ◌<◌, Bool, ◌≡◌, Ok, Result, Some, ◌+◌, Err, nat_lt, not}
-use Rattle.std.proofs.Common.{◌∷◌, le-ltb, ◌==◌, ◌∙◌, None, Option, ◌||◌, eq-eqb, ne_eqb, bit_and, option_map}
-use Rattle.std.proofs.lemmas.{Bool.{cases_Bool, Decides.eqb_tells}, Nat.Bits.and_pow}
-use Rattle.finite_sums.{proofs.Totals.{total_at, update_same, update_map, update_at}, specs.Sums.{total, update}}
-use Rattle.access_model.specs.{Actions.marked as marked_as, States.{is_removed, one_if, IsFile}}
-use Rattle.access_model.specs.declared.{actions.Action.Action, errors.GateError.GateError, replies.{Next.Next, Reply.Reply}}
-use Rattle.cpu_words.specs.{Hooks.HookAnswer, Words.Words, declared.{events.{Event.Event, Touch.Touch}, names.WordName.WordName}}
-use Rattle.gated_tree.proofs.ClearedMarks.{without_mark, cleared_shown, clean_stays, clears_mark, directory_clean}
+use Rattle.access_model.specs.Actions.{marked as marked_as}
+use Rattle.access_model.specs.States.{IsFile, is_removed, one_if}
+use Rattle.access_model.specs.declared.actions.Action.{Action}
+use Rattle.access_model.specs.declared.errors.GateError.{GateError}
+use Rattle.access_model.specs.declared.replies.Next.{Next}
+use Rattle.access_model.specs.declared.replies.Reply.{Reply}
+use Rattle.cpu_words.specs.Hooks.{HookAnswer}
+use Rattle.cpu_words.specs.Words.{Words}
+use Rattle.cpu_words.specs.declared.events.Event.{Event}
+use Rattle.cpu_words.specs.declared.events.Touch.{Touch}
+use Rattle.cpu_words.specs.declared.names.WordName.{WordName}
+use Rattle.finite_sums.proofs.Totals.{total_at, update_at, update_map, update_same}
+use Rattle.finite_sums.specs.Sums.{total, update}
+use Rattle.gate_frames.proofs.Beside.{update_twice}
+use Rattle.gate_frames.proofs.Frames.{left_alone, owner_same}
+use Rattle.gate_frames.proofs.Loads.{after_load, steady}
+use Rattle.gate_frames.proofs.MountEvents.{is_known_part}
+use Rattle.gate_frames.proofs.Owners.{locks_umount, no_remount, releases_umount, remount_stands}
+use Rattle.gate_frames.proofs.Stages.{nobody_owns, stages_in}
+use Rattle.gate_frames.proofs.Trees.{nobody_reads, shown_clean}
+use Rattle.gate_world.specs.Configs.{IsWithin}
+use Rattle.gate_world.specs.Fits.{PhaseFits}
+use Rattle.gate_world.specs.Holdings.{holdings_of}
+use Rattle.gate_world.specs.Levels.{is_frozen_whole}
+use Rattle.gate_world.specs.Remounts.{AllBelow, RemountFits, giving_role, held_role, loop_role, remount_owns, remount_role, remount_sets}
+use Rattle.gate_world.specs.Roles.{remount_stage_role, remount_tree_role}
+use Rattle.gate_world.specs.Rules.{AtMount, Holds, IsGood, MountHoldsIn, Owner, Part, Stages, StepKeeps, Tree, at_mount, marks_of, owns, remounts, role_of}
+use Rattle.gate_world.specs.Shown.{shown, stage_role_of}
+use Rattle.gate_world.specs.Trees.{is_bare_at, tree_bounds, tree_of, tree_roles}
+use Rattle.gate_world.specs.Views.{actions_after, held_at, held_of, view_with}
+use Rattle.gate_world.specs.Worlds.{World}
+use Rattle.gate_world.specs.declared.config.Config.{Config}
+use Rattle.gate_world.specs.declared.views.View.{View}
+use Rattle.gate_world.specs.declared.work.Phase.{Phase}
+use Rattle.gated_tree.proofs.ClearedMarks.{clean_stays, cleared_shown, clears_mark, directory_clean, without_mark}
 use Rattle.gated_tree.specs.Nodes.{IsNode, dirty_in, node_shown}
-use Rattle.gated_tree.specs.Roles.{Role as TreeRole, Out as OffTree, Bare, Clearing, Bounds, TreeState, RoleHolds, sealed_by, charge, child_charge, removal}
-use Rattle.gated_tree.specs.Roles.{HasNoCharge}
-use Rattle.mount_counts.specs.{Phases.has_flag, Remounts.{past_node, at_remount, remount_from, let_go, leave_holds, give_up}}
-use Rattle.mount_counts.specs.Roles.{Out, Empty, Skipped, has_hold, admitted, ro_bit, questions_of, skips, processor_of, past_flags}
+use Rattle.gated_tree.specs.Roles.{Bare, Bounds, Clearing, HasNoCharge, Out as OffTree, Role as TreeRole, RoleHolds, TreeState, charge, child_charge, removal, sealed_by}
+use Rattle.mount_counts.specs.Phases.{has_flag}
+use Rattle.mount_counts.specs.Remounts.{at_remount, give_up, leave_holds, let_go, past_node, remount_from}
+use Rattle.mount_counts.specs.Roles.{Empty, Out, Skipped, admitted, has_hold, past_flags, processor_of, questions_of, ro_bit, skips}
 use Rattle.mount_counts.specs.Sets.{has_mount, lowest, no_mounts, without_lowest}
-use Rattle.mount_counts.specs.declared.{remounts.{Remount.Remount, RemountStep.RemountStep}, sets.MountSet.MountSet}
-use Rattle.tree_laws.specs.Events.{Event as TreeEvent, FindsNone, GoesBare, StopsBare, BeginsClearing, Clears, Passes, Seals, Leaves, Opens, turned}
-use Rattle.mount_laws.proofs.Bits.{without_hold, and_not_hold}
-use Rattle.mount_laws.proofs.MountLaws.{clears_hold as mount_clears_hold, stores as mount_stores, empties, marks_empty, remounting, is_left, marks_skipped}
-use Rattle.mount_laws.proofs.MountLaws.{closed, none_remounting, sealed, SeeksNone}
-use Rattle.mount_laws.proofs.Sets.{none_held, lowest_held, leaves_here, leaves_there}
-use Rattle.stage_laws.specs.Events.{playing, IsAlike, Locks as LocksStage, Releases as ReleasesStage, SetsRemount as StoresRemount}
-use Rattle.stage_laws.specs.Events.{SetsReadOnly as StoresReadOnly, ClearsRemount as TakesRemount, CancelsRemount, SetsWritable as StoresWritable}
-use Rattle.stage_laws.specs.Events.{ClearsMarkReadOnly}
-use Rattle.stage_laws.specs.Roles.{Owning, CleanBelow, IsKnown}
-use Rattle.gate_world.specs.{Configs.IsWithin, Fits.PhaseFits, Levels.is_frozen_whole}
-use Rattle.gate_world.specs.Remounts.{loop_role, remount_role, AllBelow, giving_role, remount_owns, held_role, RemountFits, remount_sets}
-use Rattle.gate_world.specs.Rules.{Owner, Stages, Tree, AtMount, IsGood, at_mount, Holds, StepKeeps, MountHoldsIn, remounts, owns, role_of, Part, marks_of}
-use Rattle.gate_world.specs.{Shown.shown, Stages.{stage_role_of, remount_stage_role}, Trees.{tree_bounds, tree_of, tree_roles, remount_tree_role, is_bare_at}}
-use Rattle.gate_world.specs.{Holdings.holdings_of, Views.{actions_after, held_at, held_of, view_with}, Worlds.World}
-use Rattle.gate_world.specs.declared.{config.Config.Config, views.View.View, work.Phase.Phase}
-use Rattle.gate_frames.proofs.{Beside.update_twice, Frames.{left_alone, owner_same}, Loads.{steady, after_load}, MountEvents.is_known_part}
-use Rattle.gate_frames.proofs.{Owners.{remount_stands, no_remount, locks_umount, releases_umount}, Stages.{stages_in, nobody_owns}}
-use Rattle.gate_frames.proofs.Trees.{shown_clean, nobody_reads}
-use Rattle.owner_laws.proofs.RemountFits.{state_fits, none_below, leave_holds_fits, let_go_fits, leaves_below, past_node_fits, give_up_fits}
-use Rattle.owner_laws.proofs.RemountLoop.{loads_flags, sets_hold, sums, let_go_stays, leave_holds_stays, past_node_stays, give_up_stays, let_go_stage}
-use Rattle.owner_laws.proofs.RemountLoop.{past_node_stage, give_up_on, leave_holds_on, let_go_on}
-use Rattle.owner_laws.proofs.RemountParts.{RemountKeeps, tree_was, tree_stays, tree_by, tree_by_two, load_found, tree_where, here_fits, Mount, here_knows}
-use Rattle.owner_laws.proofs.RemountParts.{here_cleared, Stays, GoesOn, StageHolds, stage_holds, owner_on, umount_changes, role_stays, role_was, whole_remount}
-use Rattle.owner_laws.proofs.RemountParts.{PartsHold, flags_change, load_event, node_changes, mount_stays, stores}
-use Rattle.owner_laws.proofs.RemountRoles.{let_go_role, leave_holds_role, give_up_role, remount_seeks, past_node_role, no_giving}
+use Rattle.mount_counts.specs.declared.remounts.Remount.{Remount}
+use Rattle.mount_counts.specs.declared.remounts.RemountStep.{RemountStep}
+use Rattle.mount_counts.specs.declared.sets.MountSet.{MountSet}
+use Rattle.mount_laws.proofs.Bits.{and_not_hold, without_hold}
+use Rattle.mount_laws.proofs.MountLaws.{SeeksNone, clears_hold as mount_clears_hold, closed, empties, is_left, marks_empty, marks_skipped, none_remounting, remounting, sealed, stores as mount_stores}
+use Rattle.mount_laws.proofs.Sets.{leaves_here, leaves_there, lowest_held, none_held}
+use Rattle.owner_laws.proofs.RemountFits.{give_up_fits, leave_holds_fits, leaves_below, let_go_fits, none_below, past_node_fits, state_fits}
+use Rattle.owner_laws.proofs.RemountLoop.{give_up_on, give_up_stays, leave_holds_on, leave_holds_stays, let_go_on, let_go_stage, let_go_stays, loads_flags, past_node_stage, past_node_stays, sets_hold, sums}
+use Rattle.owner_laws.proofs.RemountParts.{GoesOn, Mount, PartsHold, RemountKeeps, StageHolds, Stays, flags_change, here_cleared, here_fits, here_knows, load_event, load_found, mount_stays, node_changes, owner_on, role_stays, role_was, stage_holds, stores, tree_by, tree_by_two, tree_stays, tree_was, tree_where, umount_changes, whole_remount}
+use Rattle.owner_laws.proofs.RemountRoles.{give_up_role, leave_holds_role, let_go_role, no_giving, past_node_role, remount_seeks}
+use Rattle.stage_laws.specs.Events.{CancelsRemount, ClearsMarkReadOnly, ClearsRemount as TakesRemount, IsAlike, Locks as LocksStage, Releases as ReleasesStage, SetsReadOnly as StoresReadOnly, SetsRemount as StoresRemount, SetsWritable as StoresWritable, playing}
+use Rattle.stage_laws.specs.Roles.{CleanBelow, IsKnown, Owning}
+use Rattle.std.proofs.Common.{Bool, Err, None, Ok, Option, Result, Some, ap, arith, bit_and, eq-eqb, false, inl, inr, le-ltb, nat_lt, ne_eqb, not, option_map, refl, subst, suc, sym, true, true≢false, ℕ, ◌+◌, ◌<◌, ◌==◌, ◌||◌, ◌∙◌, ◌∷◌, ◌≡◌}
+use Rattle.std.proofs.lemmas.Bool.{cases_Bool}
+use Rattle.std.proofs.lemmas.Bool.Decides.{eqb_tells}
+use Rattle.std.proofs.lemmas.Nat.Bits.{and_pow}
+use Rattle.tree_laws.specs.Events.{BeginsClearing, Clears, Event as TreeEvent, FindsNone, GoesBare, Leaves, Opens, Passes, Seals, StopsBare, turned}
 
 -- at stage 0 the file system isn't frozen, whatever the superblock's flags are
 pub not_frozen : (w : Words) (set sealing : ℕ) → w.stage ≡ 0 →
@@ -294,7 +312,7 @@ module _ (c : Config) (lim : IsWithin c) (w : World) (good : IsGood c w) (t : �
       umount_changes c w good t lt x s e 0 v (refl, refl, refl, refl, refl) tt
       (releases_umount c w good t lt v (ap owns e ∙ o) refl (sym (ap remounts e ∙ r)))
       (stage_holds c w good t lt x s e (record w.words { umount = 0 }) v (ReleasesStage stage sb) (ap stage_role_of e ∙ owning, refl))
-      (record { counts_not = λ i. refl; apart = λ i. refl; outside = refl }) (λ m. sym (role m)) (sym tree) (λ i. refl) refl refl
+      refl (λ m. sym (role m)) (sym tree) (λ i. refl) refl refl
 
   pub releases : (hook : HookAnswer) (answer : Result Reply GateError) → IsHere (RemountStep.Releases answer) → Keeps hook (RemountStep.Releases answer)
   releases hook answer e = gives_back hook (RemountStep.Releases answer) e answer refl refl (λ m. refl) refl None None refl
@@ -413,12 +431,12 @@ module _ (c : Config) (lim : IsWithin c) (w : World) (good : IsGood c w) (t : �
             (locks_umount c w good t lt (x.task + 1) v h.1 (omega (arith, f.0)) refl (sym (ap remounts e)))
             (stage_holds c w good t lt x RemountStep.Locks e (record w.words { umount = x.task + 1 }) v LocksStage
             (ap stage_role_of e, nobody_owns c w good h.1, refl))
-            (record { counts_not = λ i. refl; apart = λ i. refl; outside = refl }) (λ m. refl) refl (λ i. refl) refl refl)
+            refl (λ m. refl) refl (λ i. refl) refl refl)
         | inr h ↦ rw h.0 (
             let v : View = tried hook w.words.umount RemountStep.Locks in
             umount_changes c w good t lt x RemountStep.Locks e w.words.umount v (refl, refl, refl, refl, refl) f
             (owner_same c w t lt good v (steady e (record { owns_same = refl; remounts_same = refl; closing_same = λ i. refl })))
-            (still_aside hook e) (record { counts_not = λ i. refl; apart = λ i. refl; outside = refl }) (λ m. refl) refl (λ i. refl) refl refl)
+            (still_aside hook e) refl (λ m. refl) refl (λ i. refl) refl refl)
       ]
 
   -- a load by the owner that has no role, before and after it

@@ -1,11 +1,24 @@
 -- All that is proved of a remount.
-use Rattle.std.{proofs.Common.{Bool, refl, subst}, specs.Prelude.Some}
+use Rattle.gate_frames.proofs.Agreeing.{none_agree}
+use Rattle.gate_frames.proofs.Keeps.{OpKeeps, PhaseKeeps, word_among}
+use Rattle.gate_frames.proofs.Says.{is_short, tells}
+use Rattle.gate_frames.proofs.Snapshots.{completes_none}
+use Rattle.gate_world.specs.Fits.{Fits}
+use Rattle.gate_world.specs.Rules.{Fitting}
+use Rattle.gate_world.specs.Views.{held_of}
+use Rattle.gate_world.specs.Worlds.{after_step}
+use Rattle.gate_world.specs.declared.config.Config.{Config}
+use Rattle.gate_world.specs.declared.operations.Op.{Op}
+use Rattle.gate_world.specs.declared.work.Phase.{Phase}
 use Rattle.mount_counts.specs.declared.remounts.Remount.{Remount}
-use Rattle.gate_world.specs.{Fits.Fits, Rules.Fitting, Views.held_of, Worlds.after_step}
-use Rattle.gate_world.specs.declared.{config.Config.Config, operations.Op.Op, work.Phase.Phase}
-use Rattle.gate_frames.proofs.{Agreeing.none_agree, Keeps.{word_among, PhaseKeeps, OpKeeps}, Says.{tells, is_short}, Snapshots.completes_none}
-use Rattle.owner_laws.proofs.{RemountCauses.{remount_stays, remount_own}, RemountEvents.remount_keeps, RemountFits.{remount_there, remount_acts, remount_goes}}
-use Rattle.owner_laws.proofs.{RemountRuns.remount_runs, RemountTraces.{RemountAt, remount_kept, remount_restores}, RemountWaits.remount_waits}
+use Rattle.owner_laws.proofs.RemountCauses.{remount_own, remount_stays}
+use Rattle.owner_laws.proofs.RemountEvents.{remount_keeps}
+use Rattle.owner_laws.proofs.RemountFits.{remount_acts, remount_goes, remount_there}
+use Rattle.owner_laws.proofs.RemountRuns.{remount_runs}
+use Rattle.owner_laws.proofs.RemountTraces.{RemountAt, remount_kept, remount_restores}
+use Rattle.owner_laws.proofs.RemountWaits.{remount_waits}
+use Rattle.std.proofs.Common.{Bool, refl, subst}
+use Rattle.std.specs.Prelude.{Some}
 
 pub remount_phase : (c : Config) (x : Remount) → PhaseKeeps c (Phase.Remounts x)
 remount_phase c x = record {
@@ -28,8 +41,7 @@ remount_phase c x = record {
 pub remount_op : (c : Config) (ro : Bool) → OpKeeps c (Op.RemountSb ro)
 remount_op c ro = record {
   fits = λ t held there order room. (refl, refl, refl, refl, order, tt);
-  starts_idle = λ t. assumption;
-  off_tree = λ t trace. refl;
+  starts_aside = λ t. refl;
   cause = λ t w earlier. tt;
   order_agrees = λ held seen same there. none_agree held.levels seen.levels same.levels;
   room_agrees = λ held seen same there. refl;

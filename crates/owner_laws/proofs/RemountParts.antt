@@ -1,32 +1,55 @@
 -- What an event of a remount may leave: each part of the rule, and the shown model.
-use Rattle.std.proofs.Common.{refl, sym, ap, subst, inl, inr, true, false, arith, true≢false, ℕ, ◌<◌, ◌≡◌, Some, ◌⊎◌, Bool, ◌==◌, ◌||◌, ◌∙◌, None, Option}
-use Rattle.std.proofs.lemmas.Bool.{cases_Bool, Decides.eqb_tells}
-use Rattle.finite_sums.{proofs.Totals.{each_updated, update_map, update_same, update_at, update_off}, specs.Sums.update}
-use Rattle.access_model.specs.{Replies.map_next, States.openers, declared.{actions.Action.Action, replies.Next.Next}}
-use Rattle.cpu_words.specs.{Hooks.HookAnswer, Touches.{found_by, event_of}, Words.{Words, read}, declared.{events.Touch.Touch, names.WordName.WordName}}
-use Rattle.gated_tree.specs.{Nodes.{opens_in, node_shown}, Roles.{Role as TreeRole, TreeState}}
-use Rattle.mount_counts.specs.{Remounts.{remount_next, remount_after, at_remount}, Roles.{Role, MountHolds, ro_bit}}
-use Rattle.mount_counts.specs.declared.remounts.{Remount.Remount, RemountStep.RemountStep}
-use Rattle.tree_laws.{proofs.Each.each_event, specs.Events.Event as TreeEvent}
+use Rattle.access_model.specs.Replies.{map_next}
+use Rattle.access_model.specs.States.{openers}
+use Rattle.access_model.specs.declared.actions.Action.{Action}
+use Rattle.access_model.specs.declared.replies.Next.{Next}
+use Rattle.cpu_words.specs.Hooks.{HookAnswer}
+use Rattle.cpu_words.specs.Touches.{event_of, found_by}
+use Rattle.cpu_words.specs.Words.{Words, read}
+use Rattle.cpu_words.specs.declared.events.Touch.{Touch}
+use Rattle.cpu_words.specs.declared.names.WordName.{WordName}
+use Rattle.finite_sums.proofs.Totals.{each_updated, update_at, update_map, update_off, update_same}
+use Rattle.finite_sums.specs.Sums.{update}
 use Rattle.freeze_levels.specs.Holders.{holders_in}
-use Rattle.stage_laws.specs.Events.{StageEvent, Recalls, IsAlike, playing}
-use Rattle.stage_laws.specs.Roles.{StageRole, Owning, IsKnown, KnowsStage, CleanBelow, clean_by, sums as stage_sums}
-use Rattle.holder_laws.specs.Roles.{Apart}
-use Rattle.gate_world.specs.{Configs.IsWithin, Fits.{Fits, PhaseFits, HasFile, file_of}, Found.is_load, Holders.holder_role_of}
-use Rattle.gate_world.specs.{Levels.{level_added_by, is_frozen_whole, level_taken_by}, Owners.{is_owned, takes_lock}}
-use Rattle.gate_world.specs.Remounts.{remount_owns, remount_sets, remount_role, RemountFits}
-use Rattle.gate_world.specs.Rules.{Owner, Stages, Holding, Tree, Fitting, Known, AtMount, IsGood, owns, Part, StepKeeps, role_of, ViewFits, at_mount, Holds}
-use Rattle.gate_world.specs.Rules.{IsSteady, OwnerHolds, remounts, Moves, AtLevel, SyncAt, Sections, marks_of, Files}
-use Rattle.gate_world.specs.{Shown.{shown, closing}, Stages.{stage_role_of, remount_stage_role}}
-use Rattle.gate_world.specs.Trees.{tree_bounds, tree_of, tree_role_of, tree_roles, is_sealed, is_bare_at, remount_tree_role}
-use Rattle.gate_world.specs.{Holdings.Holdings, Views.{phase_after, held_of, added_by, taken_by, view_with, has_open}}
-use Rattle.gate_world.specs.{Worlds.{World, value_at, after_step, phase_action}, declared.{config.Config.Config, views.View.View, work.Phase.Phase}}
-use Rattle.gate_frames.proofs.Frames.{opens_left, left_alone, holds_as, owner_same, view_as, shown_held, shown_still, added_load, taken_load, SameLevelCounts}
-use Rattle.gate_frames.proofs.Frames.{IsOffLevels, SameLevelWords, level_left, sync_left, sections_left}
-use Rattle.gate_frames.proofs.{Holders.holders_stay, Known.{IsOwnersWork, known_after}, Loads.{steady, after_load}}
-use Rattle.gate_frames.proofs.{MountEvents.{is_known_part, known_is, level_added_load, level_taken_load}, Owners.remount_stored}
-use Rattle.gate_frames.proofs.{Stages.{stages_in, IsStageEvent, stages_after}, Trees.{marks_right, tree_after, tree_holds, tree_then, tree_within}}
+use Rattle.gate_frames.proofs.Frames.{IsOffLevels, SameLevelCounts, SameLevelWords, added_load, holds_as, left_alone, level_left, opens_left, owner_same, sections_left, shown_held, shown_still, sync_left, taken_load, view_as}
+use Rattle.gate_frames.proofs.Holders.{holders_stay}
+use Rattle.gate_frames.proofs.Known.{IsOwnersWork, known_after}
+use Rattle.gate_frames.proofs.Loads.{after_load, steady}
+use Rattle.gate_frames.proofs.MountEvents.{is_known_part, known_is, level_added_load, level_taken_load}
+use Rattle.gate_frames.proofs.Owners.{remount_stored}
+use Rattle.gate_frames.proofs.Stages.{IsStageEvent, stages_after, stages_in}
+use Rattle.gate_frames.proofs.Trees.{marks_right, tree_after, tree_holds, tree_then, tree_within}
 use Rattle.gate_frames.proofs.Words.{load_same}
+use Rattle.gate_world.specs.Configs.{IsWithin}
+use Rattle.gate_world.specs.Fits.{Fits, HasFile, PhaseFits, file_of}
+use Rattle.gate_world.specs.Found.{is_load}
+use Rattle.gate_world.specs.Holdings.{Holdings}
+use Rattle.gate_world.specs.Levels.{is_frozen_whole, level_added_by, level_taken_by}
+use Rattle.gate_world.specs.Owners.{is_owned, takes_lock}
+use Rattle.gate_world.specs.Remounts.{RemountFits, remount_owns, remount_role, remount_sets}
+use Rattle.gate_world.specs.Roles.{remount_stage_role, remount_tree_role}
+use Rattle.gate_world.specs.Rules.{AtLevel, AtMount, Files, Fitting, Holding, Holds, IsGood, IsSteady, Known, Moves, Owner, OwnerHolds, Part, Sections, Stages, StepKeeps, SyncAt, Tree, ViewFits, at_mount, marks_of, owns, remounts, role_of}
+use Rattle.gate_world.specs.Shown.{closing, holder_role_of, shown, stage_role_of}
+use Rattle.gate_world.specs.Trees.{is_bare_at, is_sealed, tree_bounds, tree_of, tree_role_of, tree_roles}
+use Rattle.gate_world.specs.Views.{added_by, has_open, held_of, phase_after, taken_by, view_with}
+use Rattle.gate_world.specs.Worlds.{World, after_step, phase_action, value_at}
+use Rattle.gate_world.specs.declared.config.Config.{Config}
+use Rattle.gate_world.specs.declared.views.View.{View}
+use Rattle.gate_world.specs.declared.work.Phase.{Phase}
+use Rattle.gated_tree.specs.Nodes.{node_shown, opens_in}
+use Rattle.gated_tree.specs.Roles.{Role as TreeRole, TreeState}
+use Rattle.holder_laws.specs.Roles.{Apart}
+use Rattle.mount_counts.specs.Remounts.{at_remount, remount_after, remount_next}
+use Rattle.mount_counts.specs.Roles.{MountHolds, Role, ro_bit}
+use Rattle.mount_counts.specs.declared.remounts.Remount.{Remount}
+use Rattle.mount_counts.specs.declared.remounts.RemountStep.{RemountStep}
+use Rattle.stage_laws.specs.Events.{IsAlike, Recalls, StageEvent, playing}
+use Rattle.stage_laws.specs.Roles.{CleanBelow, IsKnown, KnowsStage, Owning, StageRole, clean_by, sums as stage_sums}
+use Rattle.std.proofs.Common.{Bool, None, Option, Some, ap, arith, false, inl, inr, refl, subst, sym, true, true≢false, ℕ, ◌<◌, ◌==◌, ◌||◌, ◌∙◌, ◌≡◌, ◌⊎◌}
+use Rattle.std.proofs.lemmas.Bool.{cases_Bool}
+use Rattle.std.proofs.lemmas.Bool.Decides.{eqb_tells}
+use Rattle.tree_laws.proofs.Each.{each_event}
+use Rattle.tree_laws.specs.Events.{Event as TreeEvent}
 
 -- who changes an owned word is the owner, and a remount comes to own `umount` by taking it
 remount_changes : (x : Remount) (s : RemountStep) (hook : HookAnswer) → is_owned (remount_next x s hook).0 ≡ true →
@@ -141,7 +164,7 @@ module _ (c : Config) (w : World) (good : IsGood c w) (t : ℕ) (lt : t < c.task
   at_levels v same = record { held_same = ap (λ (h : Holdings). h.levels) same.0; added_same = same.3; taken_same = same.4 }
 
   off_now : IsOffLevels (w.views t).phase
-  off_now = subst IsOffLevels (sym e) (record { counts_not = λ i. refl; apart = λ i. refl; outside = refl })
+  off_now = subst IsOffLevels (sym e) refl
 
   -- each part but what the owner knows
   abbrev pub PartsHold : Words → View → Type 0
@@ -255,7 +278,7 @@ module _ (c : Config) (w : World) (good : IsGood c w) (t : ℕ) (lt : t < c.task
       (fits : ViewFits c t v) where
     -- the phase that comes is off the levels
     off_then : IsOffLevels v.phase
-    off_then = subst IsOffLevels (sym is) (record { counts_not = λ i. refl; apart = λ i. refl; outside = refl })
+    off_then = subst IsOffLevels (sym is) refl
 
     -- it has nothing to do with the holders, as before
     holding_then : (ws : Words) → ws.stage ≡ w.words.stage → ws.holders ≡ w.words.holders →

@@ -1,11 +1,21 @@
 -- All that is proved of a thaw.
-use Rattle.std.proofs.Common.{refl}
 use Rattle.access_model.specs.declared.actions.Holder.{Holder}
 use Rattle.freeze_levels.specs.declared.thaws.Thaw.{Thaw}
-use Rattle.gate_world.specs.{Worlds.after_step, declared.{config.Config.Config, operations.Op.Op, work.Phase.Phase}}
-use Rattle.gate_frames.proofs.{Agreeing.none_agree, Keeps.{word_among, PhaseKeeps, OpKeeps}, Says.{tells, is_short}, Snapshots.completes_none}
-use Rattle.owner_laws.proofs.{ThawCauses.{thaw_stays, thaw_own}, ThawEvents.thaw_keeps, ThawFits.{thaw_there, thaw_acts, thaw_goes}, ThawRuns.thaw_runs}
-use Rattle.owner_laws.proofs.{ThawTraces.{ThawAt, thaw_kept}, ThawWaits.thaw_waits}
+use Rattle.gate_frames.proofs.Agreeing.{none_agree}
+use Rattle.gate_frames.proofs.Keeps.{OpKeeps, PhaseKeeps, word_among}
+use Rattle.gate_frames.proofs.Says.{is_short, tells}
+use Rattle.gate_frames.proofs.Snapshots.{completes_none}
+use Rattle.gate_world.specs.Worlds.{after_step}
+use Rattle.gate_world.specs.declared.config.Config.{Config}
+use Rattle.gate_world.specs.declared.operations.Op.{Op}
+use Rattle.gate_world.specs.declared.work.Phase.{Phase}
+use Rattle.owner_laws.proofs.ThawCauses.{thaw_own, thaw_stays}
+use Rattle.owner_laws.proofs.ThawEvents.{thaw_keeps}
+use Rattle.owner_laws.proofs.ThawFits.{thaw_acts, thaw_goes, thaw_there}
+use Rattle.owner_laws.proofs.ThawRuns.{thaw_runs}
+use Rattle.owner_laws.proofs.ThawTraces.{ThawAt, thaw_kept}
+use Rattle.owner_laws.proofs.ThawWaits.{thaw_waits}
+use Rattle.std.proofs.Common.{refl}
 
 pub thaw_phase : (c : Config) (x : Thaw) → PhaseKeeps c (Phase.Thaws x)
 thaw_phase c x = record {
@@ -24,8 +34,7 @@ thaw_phase c x = record {
 pub thaw_op : (c : Config) (holder : Holder) → OpKeeps c (Op.Thaw holder)
 thaw_op c holder = record {
   fits = λ t held there order room. (refl, order, tt);
-  starts_idle = λ t. assumption;
-  off_tree = λ t trace. refl;
+  starts_aside = λ t. refl;
   cause = λ t w earlier. tt;
   order_agrees = λ held seen same there. none_agree held.levels seen.levels same.levels;
   room_agrees = λ held seen same there. refl;

@@ -1,27 +1,44 @@
 -- A freeze that no idle task keeps, and a callback, have a reply near, whoever is inside a section.
-use Rattle.std.proofs.Common.{◌≡◌, ℕ, zero, suc, ◌<◌, ◌≤◌, Bool, true, false, refl, sym, ap, ◌∙◌, subst, inl, inr, arith, true≢false}
-use Rattle.std.proofs.lemmas.Bool.{cases_Bool, cases_lt, ne_eqb, Decides.eqb_tells}
-use Rattle.std.specs.Prelude.{◌⊎◌, ◌+◌, ◌-◌, ◌*◌, ◌==◌, ◌&&◌, nat_lt, if◌then◌else◌, is_some, Option, Some, None}
-use Rattle.finite_sums.{proofs.Totals.{update_off, total_at, total_bound, total_updated, each_updated}, specs.Sums.{update, total}}
 use Rattle.access_model.specs.declared.actions.Holder.{Holder}
-use Rattle.cpu_words.specs.{Hooks.HookAnswer, Words.Words}
-use Rattle.gated_tree.specs.declared.phases.TreePhase.{TreePhase}
-use Rattle.mount_counts.specs.declared.phases.MountPhase.{MountPhase}
-use Rattle.percpu_rwsem.specs.declared.{callbacks.Callback.Callback, readers.DownReadStep.DownReadStep, writers.UpWriteStep.UpWriteStep}
-use Rattle.freeze_levels.specs.declared.freezes.{Freeze.Freeze, FreezeStep.FreezeStep}
-use Rattle.level_laws.specs.Operations.{down_read_inside}
-use Rattle.stage_laws.{proofs.Facts.other_zero, specs.Roles.{Place, HasPassed, Freezing, owns as stage_owns, freezes, under_way, KnowsStage}}
-use Rattle.write_access.specs.declared.phases.WritePhase.{WritePhase}
+use Rattle.cpu_words.specs.Hooks.{HookAnswer}
+use Rattle.cpu_words.specs.Words.{Words}
 use Rattle.file_closes.specs.declared.phases.ClosePhase.{ClosePhase}
-use Rattle.gate_world.specs.{Configs.IsWithin, Fits.{PhaseFits, ReadStepFits, FreezeFits}, Levels.inside, Operations.holds_none_from}
-use Rattle.gate_world.specs.{Rules.{IsGood, Owner, Stages, Sections, owns}, Shown.stage_roles}
-use Rattle.gate_world.specs.{Stages.{place_of, reopening_role, freeze_stage_role, stage_role_of}, Views.{holds_level, view_after, held_of}}
-use Rattle.gate_world.specs.{Worlds.{World, after_step, value_at}, declared.{config.Config.Config, views.View.View, work.Phase.Phase}}
-use Rattle.progress_laws.proofs.{Bounds.{alone_settled, beside_settled}, Falls.no_further, Leaves.{StaysBeside, phase_beside, inside_le, all_within, all_leave}}
-use Rattle.progress_laws.proofs.Movers.{owner_free, HasOwner, has_owner, fits_at, free_goes, beside_goes, OwnerFreezes, hold_clear, holds_not_none, holds_below}
-use Rattle.progress_laws.proofs.Movers.{open_above, nothing_counted}
-use Rattle.progress_laws.specs.{Progress.{EventsKeepRule, ReplyWithin, IsHeldIdle, next_level, IsKept}, Ranks.{most_beside, most_alone, most_settled}}
-use Rattle.progress_laws.specs.Ways.{NobodyInside, FreezeLocksFree, FreezeIsFree, PhaseEnds}
+use Rattle.finite_sums.proofs.Totals.{each_updated, total_at, total_bound, total_updated, update_off}
+use Rattle.finite_sums.specs.Sums.{total, update}
+use Rattle.freeze_levels.specs.declared.freezes.Freeze.{Freeze}
+use Rattle.freeze_levels.specs.declared.freezes.FreezeStep.{FreezeStep}
+use Rattle.gate_world.specs.Configs.{IsWithin}
+use Rattle.gate_world.specs.Fits.{FreezeFits, PhaseFits, ReadStepFits}
+use Rattle.gate_world.specs.Levels.{inside}
+use Rattle.gate_world.specs.Operations.{holds_none_from}
+use Rattle.gate_world.specs.Roles.{freeze_stage_role, place_of, reopening_role}
+use Rattle.gate_world.specs.Rules.{IsGood, Owner, Sections, Stages, owns}
+use Rattle.gate_world.specs.Shown.{stage_role_of, stage_roles}
+use Rattle.gate_world.specs.Views.{held_of, holds_level, view_after}
+use Rattle.gate_world.specs.Worlds.{World, after_step, value_at}
+use Rattle.gate_world.specs.declared.config.Config.{Config}
+use Rattle.gate_world.specs.declared.views.View.{View}
+use Rattle.gate_world.specs.declared.work.Phase.{Phase}
+use Rattle.gated_tree.specs.declared.phases.TreePhase.{TreePhase}
+use Rattle.level_laws.specs.Operations.{down_read_inside}
+use Rattle.mount_counts.specs.declared.phases.MountPhase.{MountPhase}
+use Rattle.percpu_rwsem.specs.declared.callbacks.Callback.{Callback}
+use Rattle.percpu_rwsem.specs.declared.readers.DownReadStep.{DownReadStep}
+use Rattle.percpu_rwsem.specs.declared.writers.UpWriteStep.{UpWriteStep}
+use Rattle.progress_laws.proofs.Bounds.{alone_settled, beside_settled}
+use Rattle.progress_laws.proofs.Falls.{no_further}
+use Rattle.progress_laws.proofs.Leaves.{StaysBeside, all_leave, all_within, inside_le, phase_beside}
+use Rattle.progress_laws.proofs.Movers.{HasOwner, OwnerFreezes, beside_goes, fits_at, free_goes, has_owner, hold_clear, holds_below, holds_not_none, nothing_counted, open_above, owner_free}
+use Rattle.progress_laws.specs.Progress.{EventsKeepRule, IsHeldIdle, IsKept, ReplyWithin, next_level}
+use Rattle.progress_laws.specs.Ranks.{most_alone, most_beside, most_settled}
+use Rattle.progress_laws.specs.Ways.{FreezeIsFree, FreezeLocksFree, NobodyInside, PhaseEnds}
+use Rattle.stage_laws.proofs.Facts.{other_zero}
+use Rattle.stage_laws.specs.Roles.{Freezing, HasPassed, KnowsStage, Place, freezes, owns as stage_owns, under_way}
+use Rattle.std.proofs.Common.{Bool, ap, arith, false, inl, inr, refl, subst, suc, sym, true, true≢false, zero, ℕ, ◌<◌, ◌∙◌, ◌≡◌, ◌≤◌}
+use Rattle.std.proofs.lemmas.Bool.{cases_Bool, cases_lt, ne_eqb}
+use Rattle.std.proofs.lemmas.Bool.Decides.{eqb_tells}
+use Rattle.std.specs.Prelude.{None, Option, Some, if◌then◌else◌, is_some, nat_lt, ◌&&◌, ◌*◌, ◌+◌, ◌-◌, ◌==◌, ◌⊎◌}
+use Rattle.write_access.specs.declared.phases.WritePhase.{WritePhase}
 
 -- one of the two for each number below a bound: the first for some, or the second for all
 pub search_below : (n : ℕ) (P Q : ℕ → Type 0) → ((i : ℕ) → i < n → P i ⊎ Q i) → ((i : ℕ) × (i < n) × P i) ⊎ ((i : ℕ) → i < n → Q i)

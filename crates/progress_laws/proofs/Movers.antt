@@ -1,33 +1,51 @@
 -- Who can move: a task whose way is free, who has HOLD set at a mount, and an owner of `umount` that is no freeze; and what the rule says of who
 -- holds a level.
-use Rattle.std.proofs.Common.{◌≡◌, ℕ, zero, suc, ◌<◌, ◌≤◌, Bool, true, false, refl, sym, ap, ◌∙◌, subst, inl, inr, arith, true≢false}
-use Rattle.std.proofs.lemmas.Bool.{cases_Bool, ltb-true, lt-ltb, le-ltb, ne_eqb, and_parts, or_cases, not-true, cases_lt}
-use Rattle.std.specs.Prelude.{◌⊎◌, ◌-◌, ◌==◌, ◌&&◌, ◌||◌, not, nat_lt, if◌then◌else◌, Option, Some, None}
-use Rattle.finite_sums.{proofs.Totals.{total_at, total_none}, specs.Sums.total}
 use Rattle.cpu_words.specs.Words.{Words}
-use Rattle.gate_counts.proofs.Events.{words_sum}
-use Rattle.gate_counts.specs.{Gates.{below, admitted, counted, BarringHolds, unread}, Levels.{LevelRole, Passed, processor_of, barring_of, level_as_gate}}
-use Rattle.gated_tree.specs.declared.{phases.TreePhase.TreePhase, snapshots.SnapshotStep.SnapshotStep}
-use Rattle.mount_counts.specs.{Phases.has_flag, Roles.has_hold}
-use Rattle.mount_counts.specs.declared.{phases.{ChangeStep.ChangeStep, MountPhase.MountPhase}, remounts.RemountStep.RemountStep}
-use Rattle.mount_laws.proofs.Bits.{hold_set}
-use Rattle.percpu_rwsem.specs.declared.{readers.DownReadStep.DownReadStep, writers.{DownWriteStep.DownWriteStep, UpWriteStep.UpWriteStep}}
-use Rattle.freeze_levels.specs.declared.{freezes.{Freeze.Freeze, FreezeStep.FreezeStep}, thaws.ThawStep.ThawStep}
-use Rattle.level_laws.specs.{Operations.down_read_inside, Roles.{Out as IsApart, closed}}
-use Rattle.stage_laws.specs.Roles.{owns as stage_owns}
-use Rattle.write_access.specs.declared.phases.WritePhase.{WritePhase}
 use Rattle.file_closes.specs.declared.phases.ClosePhase.{ClosePhase}
-use Rattle.gate_world.specs.{Configs.IsWithin, Fits.{Fits, PhaseFits}}
-use Rattle.gate_world.specs.Levels.{Stand, stand_count, stand_sync, freeze_stand, thaw_stand, down_count_role, up_count_role, count_role_if, count_beside}
-use Rattle.gate_world.specs.Levels.{read_count_role, level_role_of, sync_role_of, inside, at_level, is_frozen_whole}
-use Rattle.gate_world.specs.{Operations.{holds_none, holds_none_from}, Remounts.remount_owns}
-use Rattle.gate_world.specs.Rules.{IsGood, Owner, Fitting, AtMount, AtLevel, SyncAt, SyncHoldsIn, LevelHoldsIn, role_of, owns, change_owns}
-use Rattle.gate_world.specs.{Stages.{thaw_stage_role, snapshot_stage_role}, Views.{holds_level, held_of}, Worlds.World}
-use Rattle.gate_world.specs.declared.{config.Config.Config, work.Phase.Phase}
-use Rattle.gate_frames.proofs.{LevelWorlds.{callback_opens, read_opens}, Owners.{owns_le, hold_owns, who_holds}}
-use Rattle.progress_laws.proofs.{Bounds.{is_beside, beside_small, rank_small}, Falls.runs_out}
-use Rattle.progress_laws.specs.{Progress.{EventsKeepRule, ReplyWithin}, Ranks.{most_beside, most_alone}}
-use Rattle.progress_laws.specs.Ways.{IsFree, HoldIsClear, NothingCounted, ChangeIsFree, RemountIsFree, ThawIsFree, SnapshotIsFree, PhaseEnds}
+use Rattle.finite_sums.proofs.Totals.{total_at, total_none}
+use Rattle.finite_sums.specs.Sums.{total}
+use Rattle.freeze_levels.specs.declared.freezes.Freeze.{Freeze}
+use Rattle.freeze_levels.specs.declared.freezes.FreezeStep.{FreezeStep}
+use Rattle.freeze_levels.specs.declared.thaws.ThawStep.{ThawStep}
+use Rattle.gate_counts.proofs.Events.{words_sum}
+use Rattle.gate_counts.specs.Gates.{BarringHolds, admitted, below, counted, unread}
+use Rattle.gate_counts.specs.Levels.{LevelRole, Passed, barring_of, level_as_gate, processor_of}
+use Rattle.gate_frames.proofs.LevelWorlds.{callback_opens, read_opens}
+use Rattle.gate_frames.proofs.Owners.{hold_owns, owns_le, who_holds}
+use Rattle.gate_world.specs.Configs.{IsWithin}
+use Rattle.gate_world.specs.Fits.{Fits, PhaseFits}
+use Rattle.gate_world.specs.Levels.{at_level, inside, is_frozen_whole, level_role_of, sync_role_of}
+use Rattle.gate_world.specs.Operations.{holds_none, holds_none_from}
+use Rattle.gate_world.specs.Remounts.{remount_owns}
+use Rattle.gate_world.specs.Roles.{Stand, change_owns, count_beside, count_role_if, down_count_role, freeze_stand, read_count_role, snapshot_stage_role, stand_count, stand_sync, thaw_stage_role, thaw_stand, up_count_role}
+use Rattle.gate_world.specs.Rules.{AtLevel, AtMount, Fitting, IsGood, LevelHoldsIn, Owner, SyncAt, SyncHoldsIn, owns, role_of}
+use Rattle.gate_world.specs.Views.{held_of, holds_level}
+use Rattle.gate_world.specs.Worlds.{World}
+use Rattle.gate_world.specs.declared.config.Config.{Config}
+use Rattle.gate_world.specs.declared.work.Phase.{Phase}
+use Rattle.gated_tree.specs.declared.phases.TreePhase.{TreePhase}
+use Rattle.gated_tree.specs.declared.snapshots.SnapshotStep.{SnapshotStep}
+use Rattle.level_laws.specs.Operations.{down_read_inside}
+use Rattle.level_laws.specs.Roles.{Out as IsApart, closed}
+use Rattle.mount_counts.specs.Phases.{has_flag}
+use Rattle.mount_counts.specs.Roles.{has_hold}
+use Rattle.mount_counts.specs.declared.phases.ChangeStep.{ChangeStep}
+use Rattle.mount_counts.specs.declared.phases.MountPhase.{MountPhase}
+use Rattle.mount_counts.specs.declared.remounts.RemountStep.{RemountStep}
+use Rattle.mount_laws.proofs.Bits.{hold_set}
+use Rattle.percpu_rwsem.specs.declared.readers.DownReadStep.{DownReadStep}
+use Rattle.percpu_rwsem.specs.declared.writers.DownWriteStep.{DownWriteStep}
+use Rattle.percpu_rwsem.specs.declared.writers.UpWriteStep.{UpWriteStep}
+use Rattle.progress_laws.proofs.Bounds.{beside_small, is_beside, rank_small}
+use Rattle.progress_laws.proofs.Falls.{runs_out}
+use Rattle.progress_laws.specs.Progress.{EventsKeepRule, ReplyWithin}
+use Rattle.progress_laws.specs.Ranks.{most_alone, most_beside}
+use Rattle.progress_laws.specs.Ways.{ChangeIsFree, HoldIsClear, IsFree, NothingCounted, PhaseEnds, RemountIsFree, SnapshotIsFree, ThawIsFree}
+use Rattle.stage_laws.specs.Roles.{owns as stage_owns}
+use Rattle.std.proofs.Common.{Bool, ap, arith, false, inl, inr, refl, subst, suc, sym, true, true≢false, zero, ℕ, ◌<◌, ◌∙◌, ◌≡◌, ◌≤◌}
+use Rattle.std.proofs.lemmas.Bool.{and_parts, cases_Bool, cases_lt, le-ltb, lt-ltb, ltb-true, ne_eqb, not-true, or_cases}
+use Rattle.std.specs.Prelude.{None, Option, Some, if◌then◌else◌, nat_lt, not, ◌&&◌, ◌-◌, ◌==◌, ◌||◌, ◌⊎◌}
+use Rattle.write_access.specs.declared.phases.WritePhase.{WritePhase}
 
 change_owner : (w : Words) (wait : Bool) (s : ChangeStep) → change_owns s ≡ 1 → ChangeIsFree w s wait
 change_owner w wait ChangeStep.Locks h = absurd (omega (arith, h))

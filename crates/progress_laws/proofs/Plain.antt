@@ -1,20 +1,34 @@
 -- With an operation under way, a reply is near, or the file system is frozen as a whole, or a freeze is kept by an idle task.
-use Rattle.std.proofs.{Common.{◌≡◌, ℕ, ◌<◌, ◌≤◌, Bool, true, false, refl, sym, ap, ◌∙◌, subst, inl, inr, arith}, lemmas.Bool.lt-leb}
-use Rattle.std.specs.Prelude.{◌⊎◌, ◌==◌, ◌&&◌, Option, Some, None}
-use Rattle.finite_sums.proofs.Totals.{total_place, HasPlace}
-use Rattle.gated_tree.specs.declared.{phases.TreePhase.TreePhase, snapshots.SnapshotStep.SnapshotStep}
-use Rattle.mount_counts.specs.declared.{phases.{ChangeStep.ChangeStep, MountPhase.MountPhase}, remounts.RemountStep.RemountStep}
-use Rattle.freeze_levels.specs.declared.{freezes.{Freeze.Freeze, FreezeStep.FreezeStep}, thaws.ThawStep.ThawStep}
-use Rattle.stage_laws.specs.Roles.{bit, up_to, closed_by, closes}
-use Rattle.write_access.specs.declared.phases.WritePhase.{WritePhase}
 use Rattle.file_closes.specs.declared.phases.ClosePhase.{ClosePhase}
-use Rattle.gate_world.specs.{Configs.IsWithin, Fits.PhaseFits, Levels.is_frozen_whole, Rules.{IsGood, Stages}, Shown.stage_roles}
-use Rattle.gate_world.specs.Stages.{remount_stage_role, freeze_stage_role, thaw_stage_role, snapshot_stage_role, tree_stage_role, stage_role_of}
-use Rattle.gate_world.specs.{Views.held_of, Worlds.World, declared.{config.Config.Config, work.Phase.Phase}}
-use Rattle.progress_laws.proofs.{Layers.phase_ends, Movers.fits_at, Whole.world_goes}
-use Rattle.progress_laws.specs.Progress.{EventsKeepRule, IsKept, KeptIfFreeze, LockIsKept, ChangeIsKept, RemountIsKept, ThawIsKept, SnapshotIsKept, TreeIsKept}
-use Rattle.progress_laws.specs.Progress.{FreezeIsKept, IsKeptAt, AFreezeIsKept, Progresses, ReplyOrFrozen}
+use Rattle.finite_sums.proofs.Totals.{HasPlace, total_place}
+use Rattle.freeze_levels.specs.declared.freezes.Freeze.{Freeze}
+use Rattle.freeze_levels.specs.declared.freezes.FreezeStep.{FreezeStep}
+use Rattle.freeze_levels.specs.declared.thaws.ThawStep.{ThawStep}
+use Rattle.gate_world.specs.Configs.{IsWithin}
+use Rattle.gate_world.specs.Fits.{PhaseFits}
+use Rattle.gate_world.specs.Levels.{is_frozen_whole}
+use Rattle.gate_world.specs.Roles.{freeze_stage_role, remount_stage_role, snapshot_stage_role, thaw_stage_role, tree_stage_role}
+use Rattle.gate_world.specs.Rules.{IsGood, Stages}
+use Rattle.gate_world.specs.Shown.{stage_role_of, stage_roles}
+use Rattle.gate_world.specs.Views.{held_of}
+use Rattle.gate_world.specs.Worlds.{World}
+use Rattle.gate_world.specs.declared.config.Config.{Config}
+use Rattle.gate_world.specs.declared.work.Phase.{Phase}
+use Rattle.gated_tree.specs.declared.phases.TreePhase.{TreePhase}
+use Rattle.gated_tree.specs.declared.snapshots.SnapshotStep.{SnapshotStep}
+use Rattle.mount_counts.specs.declared.phases.ChangeStep.{ChangeStep}
+use Rattle.mount_counts.specs.declared.phases.MountPhase.{MountPhase}
+use Rattle.mount_counts.specs.declared.remounts.RemountStep.{RemountStep}
+use Rattle.progress_laws.proofs.Layers.{phase_ends}
+use Rattle.progress_laws.proofs.Movers.{fits_at}
+use Rattle.progress_laws.proofs.Whole.{world_goes}
+use Rattle.progress_laws.specs.Progress.{AFreezeIsKept, ChangeIsKept, EventsKeepRule, FreezeIsKept, IsKept, IsKeptAt, KeptIfFreeze, LockIsKept, Progresses, RemountIsKept, ReplyOrFrozen, SnapshotIsKept, ThawIsKept, TreeIsKept}
 use Rattle.progress_laws.specs.Ranks.{most_events_to_reply}
+use Rattle.stage_laws.specs.Roles.{bit, closed_by, closes, up_to}
+use Rattle.std.proofs.Common.{Bool, ap, arith, false, inl, inr, refl, subst, sym, true, ℕ, ◌<◌, ◌∙◌, ◌≡◌, ◌≤◌}
+use Rattle.std.proofs.lemmas.Bool.{lt-leb}
+use Rattle.std.specs.Prelude.{None, Option, Some, ◌&&◌, ◌==◌, ◌⊎◌}
+use Rattle.write_access.specs.declared.phases.WritePhase.{WritePhase}
 
 up_to_none : (i : ℕ) → 1 ≤ i → up_to i 0 ≡ 0
 up_to_none i one = rw (lt-leb i 0 one)

@@ -1,26 +1,43 @@
 -- Each operation under way is kept, or a reply is near.
-use Rattle.std.proofs.Common.{◌≡◌, ℕ, ◌+◌, ◌<◌, ◌≤◌, Bool, true, false, refl, sym, ap, ◌∙◌, subst, inl, inr, arith, true≢false}
-use Rattle.std.proofs.lemmas.Bool.{cases_Bool, cases_lt, le-ltb, ne_eqb, Decides.eqb_tells}
-use Rattle.std.specs.Prelude.{◌⊎◌, ◌==◌, nat_lt, Option, Some, None}
-use Rattle.finite_sums.proofs.Totals.{update_off}
-use Rattle.cpu_words.specs.{Hooks.HookAnswer, Words.Words}
-use Rattle.gated_tree.specs.declared.{phases.TreePhase.TreePhase, snapshots.SnapshotStep.SnapshotStep}
-use Rattle.mount_counts.specs.declared.{phases.{ChangeStep.ChangeStep, MountPhase.MountPhase}, remounts.RemountStep.RemountStep}
-use Rattle.percpu_rwsem.specs.declared.readers.DownReadStep.{DownReadStep}
-use Rattle.freeze_levels.specs.{Freezes.at_freeze, declared.{freezes.{Freeze.Freeze, FreezeStep.FreezeStep}, thaws.ThawStep.ThawStep}}
-use Rattle.stage_laws.specs.Roles.{bit, owns as stage_owns, KnowsStage}
-use Rattle.write_access.specs.declared.phases.WritePhase.{WritePhase}
+use Rattle.cpu_words.specs.Hooks.{HookAnswer}
+use Rattle.cpu_words.specs.Words.{Words}
 use Rattle.file_closes.specs.declared.phases.ClosePhase.{ClosePhase}
-use Rattle.gate_world.specs.{Configs.IsWithin, Fits.PhaseFits, Remounts.remount_owns, Rules.{IsGood, Stages, AtLevel, owns, change_owns}}
-use Rattle.gate_world.specs.Stages.{freeze_stage_role, thaw_stage_role, snapshot_stage_role, stage_role_of}
-use Rattle.gate_world.specs.{Views.{phase_after, view_after, held_of}, Work.after_of, Worlds.{World, after_step, value_at, found_at}}
-use Rattle.gate_world.specs.declared.{config.Config.Config, views.View.View, work.Phase.Phase}
-use Rattle.progress_laws.proofs.{Bounds.alone_settled, Falls.{stands_after, no_further, near_by}}
-use Rattle.progress_laws.proofs.Freezing.{search_below, not_none, IdleApart, kept_or_apart, FirstFree, freeze_goes, callback_goes}
-use Rattle.progress_laws.proofs.Movers.{owner_free, HasOwner, has_owner, fits_at, free_goes, want_goes}
-use Rattle.progress_laws.specs.Progress.{EventsKeepRule, ReplyWithin, is_admitted, is_last_close, is_first_lock, begins_freeze, next_level, IsKept}
-use Rattle.progress_laws.specs.Progress.{KeptIfFreeze, LockIsKept, ChangeIsKept, RemountIsKept, ThawIsKept, SnapshotIsKept, FreezeIsKept, IsKeptAt, Progresses}
-use Rattle.progress_laws.specs.{Ranks.{most_alone, most_settled}, Ways.{IsFree, PhaseEnds, ChangeIsFree, RemountIsFree, ThawIsFree, SnapshotIsFree}}
+use Rattle.finite_sums.proofs.Totals.{update_off}
+use Rattle.freeze_levels.specs.Freezes.{at_freeze}
+use Rattle.freeze_levels.specs.declared.freezes.Freeze.{Freeze}
+use Rattle.freeze_levels.specs.declared.freezes.FreezeStep.{FreezeStep}
+use Rattle.freeze_levels.specs.declared.thaws.ThawStep.{ThawStep}
+use Rattle.gate_world.specs.Configs.{IsWithin}
+use Rattle.gate_world.specs.Fits.{PhaseFits}
+use Rattle.gate_world.specs.Remounts.{remount_owns}
+use Rattle.gate_world.specs.Roles.{change_owns, freeze_stage_role, snapshot_stage_role, thaw_stage_role}
+use Rattle.gate_world.specs.Rules.{AtLevel, IsGood, Stages, owns}
+use Rattle.gate_world.specs.Shown.{stage_role_of}
+use Rattle.gate_world.specs.Views.{held_of, phase_after, view_after}
+use Rattle.gate_world.specs.Work.{after_of}
+use Rattle.gate_world.specs.Worlds.{World, after_step, found_at, value_at}
+use Rattle.gate_world.specs.declared.config.Config.{Config}
+use Rattle.gate_world.specs.declared.views.View.{View}
+use Rattle.gate_world.specs.declared.work.Phase.{Phase}
+use Rattle.gated_tree.specs.declared.phases.TreePhase.{TreePhase}
+use Rattle.gated_tree.specs.declared.snapshots.SnapshotStep.{SnapshotStep}
+use Rattle.mount_counts.specs.declared.phases.ChangeStep.{ChangeStep}
+use Rattle.mount_counts.specs.declared.phases.MountPhase.{MountPhase}
+use Rattle.mount_counts.specs.declared.remounts.RemountStep.{RemountStep}
+use Rattle.percpu_rwsem.specs.declared.readers.DownReadStep.{DownReadStep}
+use Rattle.progress_laws.proofs.Bounds.{alone_settled}
+use Rattle.progress_laws.proofs.Falls.{near_by, no_further, stands_after}
+use Rattle.progress_laws.proofs.Freezing.{FirstFree, IdleApart, callback_goes, freeze_goes, kept_or_apart, not_none, search_below}
+use Rattle.progress_laws.proofs.Movers.{HasOwner, fits_at, free_goes, has_owner, owner_free, want_goes}
+use Rattle.progress_laws.specs.Progress.{ChangeIsKept, EventsKeepRule, FreezeIsKept, IsKept, IsKeptAt, KeptIfFreeze, LockIsKept, Progresses, RemountIsKept, ReplyWithin, SnapshotIsKept, ThawIsKept, begins_freeze, is_admitted, is_first_lock, is_last_close, next_level}
+use Rattle.progress_laws.specs.Ranks.{most_alone, most_settled}
+use Rattle.progress_laws.specs.Ways.{ChangeIsFree, IsFree, PhaseEnds, RemountIsFree, SnapshotIsFree, ThawIsFree}
+use Rattle.stage_laws.specs.Roles.{KnowsStage, bit, owns as stage_owns}
+use Rattle.std.proofs.Common.{Bool, ap, arith, false, inl, inr, refl, subst, sym, true, true≢false, ℕ, ◌+◌, ◌<◌, ◌∙◌, ◌≡◌, ◌≤◌}
+use Rattle.std.proofs.lemmas.Bool.{cases_Bool, cases_lt, le-ltb, ne_eqb}
+use Rattle.std.proofs.lemmas.Bool.Decides.{eqb_tells}
+use Rattle.std.specs.Prelude.{None, Option, Some, nat_lt, ◌==◌, ◌⊎◌}
+use Rattle.write_access.specs.declared.phases.WritePhase.{WritePhase}
 
 -- a lock is free, or not, and then the task stands before it
 change_either : (w : Words) (s : ChangeStep) (wait : Bool) →

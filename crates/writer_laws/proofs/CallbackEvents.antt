@@ -1,6 +1,6 @@
 -- Events of a callback: each keeps the rule, and leaves the shown model.
 use Rattle.std.proofs.{Common.{◌≡◌, ℕ, ◌+◌, ◌<◌, ◌≤◌, refl, sym, ap, ◌∙◌, subst, inl, inr, arith}, lemmas.Bool.{cases_Bool, ltb-true, Decides.eqb_tells}}
-use Rattle.std.specs.Prelude.{Some, None, Bool, ◌==◌, ◌&&◌, ◌%◌, nat_lt, if◌then◌else◌}
+use Rattle.std.specs.Prelude.{Some, None, Bool, ◌==◌, ◌&&◌, ◌%◌, nat_lt, if◌then◌else◌, true}
 use Rattle.finite_sums.{proofs.Totals.update_same, specs.Sums.update}
 use Rattle.access_model.specs.{Histories.{mounts_of, levels_of, opens_of}, Replies.map_next, declared.replies.Next.Next}
 use Rattle.cpu_words.specs.{Hooks.HookAnswer, Touches.{found_by, left}, Words.{Words, read, put}, declared.{events.Touch.Touch, names.WordName.WordName}}
@@ -13,7 +13,8 @@ use Rattle.level_laws.proofs.Operations.{callbacks_are_there}
 use Rattle.level_laws.specs.Events.{SyncLevel, SyncLevelHolds, SyncStep}
 use Rattle.level_laws.specs.{Operations.{callback_role, KnowsCallback, CallbackIsThere, left_by, put_at, value_at, by_next, HoldsOfNext}, Roles.Out as IsApart}
 use Rattle.gate_world.specs.{Configs.IsWithin, Fits.{Fits, PhaseFits, GraceFits}, LevelRuns.level_in}
-use Rattle.gate_world.specs.Levels.{sync_role_if, sync_role_of, inside, level_added_by, level_added_after, level_taken_by, level_taken_after, level_role_of}
+use Rattle.gate_world.specs.Levels.{sync_role_of, inside, level_added_by, level_added_after, level_taken_by, level_taken_after, level_role_of}
+use Rattle.gate_world.specs.Roles.{sync_role_if}
 use Rattle.gate_world.specs.{Rules.{IsGood, StepKeeps, Moves, AtLevel, SyncAt, Fitting, Holds, ViewFits}, Shown.shown}
 use Rattle.gate_world.specs.{Holdings.Holdings, Views.{view_after, phase_after, actions_after, held_of, added_by, added_after, taken_by, taken_after}, Worlds.World}
 use Rattle.gate_world.specs.declared.{config.Config.Config, views.View.View, work.Phase.Phase}
@@ -83,8 +84,8 @@ no_action b (CallbackStep.Claims x) found = refl
 no_action b other found = refl
 
 after_at_levels : (n : Next Callback) → IsAtLevels (phase_after (map_next Phase.Callbacks n))
-after_at_levels (Next.Go x) = assumption
-after_at_levels other = assumption
+after_at_levels (Next.Go x) = refl
+after_at_levels other = refl
 
 after_counts : (i : ℕ) (n : Next Callback) → level_role_of i (phase_after (map_next Phase.Callbacks n)) ≡ CountsNot
 after_counts i (Next.Go x) = refl

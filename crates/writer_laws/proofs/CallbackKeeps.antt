@@ -1,14 +1,31 @@
 -- All that is proved of a callback.
-use Rattle.std.{proofs.Common.{◌≡◌, ℕ, refl, subst, ◌≤◌, sym}, specs.Prelude.{Some, List, ◌==◌, Option, ◌∷◌}}
-use Rattle.access_model.specs.{Replies.map_next, declared.{actions.Action.Action, replies.Next.Next}}
-use Rattle.percpu_rwsem.specs.{Callbacks.callback_after, declared.callbacks.Callback.Callback}
+use Rattle.access_model.specs.Replies.{map_next}
+use Rattle.access_model.specs.declared.actions.Action.{Action}
+use Rattle.access_model.specs.declared.replies.Next.{Next}
+use Rattle.gate_frames.proofs.Frames.{sync_none}
+use Rattle.gate_frames.proofs.Keeps.{OpKeeps, PhaseKeeps, by_bool, word_among}
+use Rattle.gate_frames.proofs.Says.{is_short, tells}
+use Rattle.gate_frames.proofs.Snapshots.{completes_none}
+use Rattle.gate_world.specs.Fits.{ActionFits, Fits}
+use Rattle.gate_world.specs.Holdings.{held_after}
+use Rattle.gate_world.specs.KeptCauses.{CauseOf}
+use Rattle.gate_world.specs.Roles.{no_roles, sync_role_if}
+use Rattle.gate_world.specs.Rules.{Fitting}
+use Rattle.gate_world.specs.Views.{held_of, phase_after}
+use Rattle.gate_world.specs.Worlds.{World, after_step, found_at}
+use Rattle.gate_world.specs.declared.config.Config.{Config}
+use Rattle.gate_world.specs.declared.operations.Op.{Op}
+use Rattle.gate_world.specs.declared.work.Phase.{Phase}
 use Rattle.level_laws.specs.Roles.{Out as IsApart}
-use Rattle.gate_world.specs.{Fits.{Fits, ActionFits}, Holdings.held_after, KeptCauses.CauseOf, Levels.sync_role_if, Rules.Fitting}
-use Rattle.gate_world.specs.{Views.{held_of, phase_after}, Worlds.{World, after_step, found_at}}
-use Rattle.gate_world.specs.declared.{config.Config.Config, operations.Op.Op, work.Phase.Phase}
-use Rattle.gate_frames.proofs.{Keeps.{by_bool, word_among, PhaseKeeps, OpKeeps}, Says.{tells, is_short}, Snapshots.completes_none}
-use Rattle.writer_laws.proofs.{CallbackEvents.callback_keeps, CallbackTraces.{CallbackAt, callback_kept}}
-use Rattle.writer_laws.proofs.{ReadFits.{level_there, callback_there, callback_goes, callback_acts_none}, ReadRuns.callback_runs, ReadWaits.callback_waits}
+use Rattle.percpu_rwsem.specs.Callbacks.{callback_after}
+use Rattle.percpu_rwsem.specs.declared.callbacks.Callback.{Callback}
+use Rattle.std.proofs.Common.{refl, subst, sym, ℕ, ◌≡◌, ◌≤◌}
+use Rattle.std.specs.Prelude.{List, Option, Some, ◌==◌, ◌∷◌}
+use Rattle.writer_laws.proofs.CallbackEvents.{callback_keeps}
+use Rattle.writer_laws.proofs.CallbackTraces.{CallbackAt, callback_kept}
+use Rattle.writer_laws.proofs.ReadFits.{callback_acts_none, callback_goes, callback_there, level_there}
+use Rattle.writer_laws.proofs.ReadRuns.{callback_runs}
+use Rattle.writer_laws.proofs.ReadWaits.{callback_waits}
 
 -- what comes after an event of a callback has no cause
 callback_cause : (c : Config) (t : ℕ) (w : World) (earlier : List World) (n : Next Callback) →
@@ -44,16 +61,7 @@ callback_op c i = record {
   fits = λ t held there order room.
       let l : (1 ≤ i) × (i ≤ 3) = level_there i there in
       (l.0, l.1, refl, tt, tt);
-  starts_idle = λ t. record {
-    steady = assumption;
-    stage_same = refl;
-    holder_same = refl;
-    level_same = λ j. refl;
-    sync_same = λ j. by_bool (j == i) (λ b. sync_role_if b IsApart ≡ IsApart) refl refl;
-    inside_same = refl;
-    role_same = λ y. refl;
-  };
-  off_tree = λ t trace. refl;
+  starts_aside = λ t k. record no_roles { sync = λ j. sync_none j i k };
   cause = λ t w earlier. tt;
   order_agrees = λ held seen same there. refl;
   room_agrees = λ held seen same there. refl;

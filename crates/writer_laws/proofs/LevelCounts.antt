@@ -7,7 +7,8 @@ use Rattle.access_model.specs.declared.{actions.Action.Action, replies.Next.Next
 use Rattle.cpu_words.specs.{Hooks.HookAnswer, Touches.{wrap_add, wrap_sub}, Words.{Words, put}, declared.{events.Touch.Touch, names.WordName.WordName}}
 use Rattle.gate_counts.proofs.LevelLaws.{adds_slow, adds_fast, backs_away, gives_back}
 use Rattle.gate_counts.specs.Levels.{Out as CountsNot, Seeking, BackingOff, LevelRole, LevelView, LevelHolds}
-use Rattle.gate_world.specs.{Configs.IsWithin, Levels.{count_role_if, is_frozen_whole, at_level, level_role_of, level_added_by, level_taken_by}}
+use Rattle.gate_world.specs.{Configs.IsWithin, Levels.{is_frozen_whole, at_level, level_role_of, level_added_by, level_taken_by}}
+use Rattle.gate_world.specs.Roles.{count_role_if}
 use Rattle.gate_world.specs.{Rules.{IsGood, Holds, AtLevel}, Views.{holds_level, view_with}, Worlds.World}
 use Rattle.gate_world.specs.declared.{config.Config.Config, views.View.View, work.Phase.Phase}
 use Rattle.gate_frames.proofs.Frames.{left_alone, level_as, level_view_as}

@@ -9,13 +9,16 @@ use Rattle.percpu_rwsem.specs.declared.readers.{DownRead.DownRead, UpRead.UpRead
 use Rattle.freeze_levels.specs.Holders.{holders_in}
 use Rattle.stage_laws.specs.Roles.{Aside, sums}
 use Rattle.holder_laws.specs.Roles.{Apart}
-use Rattle.gate_world.specs.{Fits.file_of, Holders.holder_role_of, Levels.{is_frozen_whole, sync_role_of, inside, at_level}, Owners.KnowsWords}
+use Rattle.gate_world.specs.{Fits.file_of, Levels.{is_frozen_whole, sync_role_of, inside, at_level}, Owners.KnowsWords}
 use Rattle.gate_world.specs.Rules.{owns, remounts, IsGood, Holds, ViewFits, Owner, Known, AtMount, AtLevel, role_of, SyncAt, Sections, Stages, Holding, Fitting}
 use Rattle.gate_world.specs.Rules.{Tree, Files}
-use Rattle.gate_world.specs.{Shown.{closing, shown}, Stages.stage_role_of, Trees.{is_sealed, tree_role_of, is_bare_at}}
+use Rattle.gate_world.specs.{Shown.{closing, shown}, Trees.{is_sealed, tree_role_of, is_bare_at}}
+use Rattle.gate_world.specs.Shown.{holder_role_of, stage_role_of}
 use Rattle.gate_world.specs.{Views.{held_at, added_by, phase_after, taken_by, holds_level, has_open}, Worlds.World}
 use Rattle.gate_world.specs.declared.{config.Config.Config, views.{Traced.Traced, View.View}, work.Phase.Phase}
 use Rattle.gate_frames.proofs.{Frames.{shown_as, left_alone, view_as}, Known.known_same}
+use Rattle.gate_world.specs.Roles.{Roles, no_roles, roles_of}
+use Rattle.std.proofs.Common.{refl}
 
 -- the words that are no level's own are as they were, and so is `block`
 pub record IsBeside (old new : Words) : Type 0 where
@@ -32,16 +35,13 @@ pub record IsBeside (old new : Words) : Type 0 where
   pub kids_same : new.kids ≡ old.kids
   pub block_same : new.block ≡ old.block
 
--- a phase at levels alone: it owns nothing, does nothing with the stage, so closes no level, and has no role at a mount or
--- the tree
-pub record IsAtLevels (p : Option Phase) : Type 0 where
-  pub owns_none : owns p ≡ 0
-  pub remounts_none : remounts p ≡ 0
-  pub aside : stage_role_of p ≡ Aside
-  pub out_of_mounts : (m : ℕ) → role_of m p ≡ Out
-  pub off_tree : (trace : List Traced) → tree_role_of trace p ≡ OffTree
-  pub unheld : holder_role_of p ≡ Apart
-  pub no_file : file_of p ≡ None
+-- these roles but for those at levels
+abbrev pub off_levels : Roles → Roles
+off_levels r = record r { count = no_roles.count; sync = no_roles.sync; inside = 0 }
+
+-- a phase at levels alone has no other
+abbrev pub IsAtLevels : Option Phase → Type 0
+IsAtLevels p = off_levels (roles_of p) ≡ no_roles
 
 -- a view's accesses at mounts, and what it added to their words and took away, are as they were
 pub record SameAtMounts (old new : View) : Type 0 where
@@ -63,11 +63,11 @@ bare_same : (old new : Words) → IsBeside old new → is_bare_at new ≡ is_bar
 bare_same old new words = λ k. bare_by (words.remount_same k) (words.sb_same k)
 
 pub reads_at_levels : (next : Next DownRead) → IsAtLevels (phase_after (map_next Phase.DownReads next))
-reads_at_levels (Next.Go r) = assumption
-reads_at_levels other = assumption
+reads_at_levels (Next.Go r) = refl
+reads_at_levels other = refl
 
 pub end_at_levels : (u : UpRead) → IsAtLevels (Some (Phase.UpReads u))
-end_at_levels u = assumption
+end_at_levels u = refl
 
 module _ (c : Config) (w : World) (good : IsGood c w) (t : ℕ) (lt : t < c.tasks) (ws : Words) (v : View) (words : IsBeside w.words ws)
     (was : IsAtLevels (w.views t).phase) (now : IsAtLevels v.phase) where
@@ -75,15 +75,18 @@ module _ (c : Config) (w : World) (good : IsGood c w) (t : ℕ) (lt : t < c.task
   abbrev pub then_world : World
   then_world = record { words = ws; views = update w.views t v }
 
+  -- and the roles that have nothing to do with levels are the same
+  same : off_levels (roles_of v.phase) ≡ off_levels (roles_of (w.views t).phase)
+  same = now ∙ sym was
+
   owner_left : Holds c then_world Owner
   owner_left =
-      left_alone c w t lt Owner ws v (words.umount_same, words.remount_same)
-      (now.owns_none ∙ sym was.owns_none, now.remounts_none ∙ sym was.remounts_none) (good Owner)
+      left_alone c w t lt Owner ws v (words.umount_same, words.remount_same) (λ j. (same j).owns, λ j. (same j).remounts) (good Owner)
 
   known_left : Holds c then_world Known
   known_left x lx =
       each_updated (λ y (u : View). owns u.phase ≡ 1 → KnowsWords ws u.trace) w.views t v x
-      (λ o. absurd (omega (arith, o, now.owns_none)))
+      (λ o. absurd (let none : owns v.phase ≡ 0 = λ j. (now j).owns in omega (arith, o, none)))
       (λ ne o. known_same w.words ws (words.stage_same, words.sb_same, words.remount_same, words.flags_same, words.holders_same) (w.views x).trace
       (good Known x lx o))
 
@@ -92,7 +95,7 @@ module _ (c : Config) (w : World) (good : IsGood c w) (t : ℕ) (lt : t < c.task
       left_alone c w t lt (AtMount m) ws v
       (ap (λ f. f m) words.flags_same, words.remount_same, words.sb_same, ap (λ f. f m) words.count_same)
       (view_as (ap (λ f. f m) mounts.held_same) (ap (λ f. f m) mounts.added_same) (ap (λ f. f m) mounts.taken_same)
-      (now.out_of_mounts m ∙ sym (was.out_of_mounts m))) (good (AtMount m))
+      (λ j. (same j).mount m)) (good (AtMount m))
 
   tree_left : Holds c then_world Tree
   tree_left =
@@ -104,10 +107,10 @@ module _ (c : Config) (w : World) (good : IsGood c w) (t : ℕ) (lt : t < c.task
         sealed_same w.words ws words,
         bare_same w.words ws words,
       )
-      (now.off_tree v.trace ∙ sym (was.off_tree (w.views t).trace)) (good Tree)
+      ((λ j. (now j).tree v.trace) ∙ sym (λ j. (was j).tree (w.views t).trace)) (good Tree)
 
   files_left : SameAtMounts (w.views t) v → Holds c then_world Files
-  files_left mounts = left_alone c w t lt Files ws v words.node_same (mounts.open_same, now.no_file ∙ sym was.no_file) (good Files)
+  files_left mounts = left_alone c w t lt Files ws v words.node_same (mounts.open_same, λ j. (same j).file) (good Files)
 
   -- all parts, from those of the levels
   pub level_parts : SameAtMounts (w.views t) v → ViewFits c t v → ((i : ℕ) → Holds c then_world (AtLevel i)) →
@@ -115,9 +118,9 @@ module _ (c : Config) (w : World) (good : IsGood c w) (t : ℕ) (lt : t < c.task
   level_parts mounts fits levels syncs sections Owner = owner_left
   level_parts mounts fits levels syncs sections Stages =
       left_alone c w t lt Stages ws v (words.stage_same, words.sb_same, words.remount_same, words.block_same)
-      (now.aside ∙ sym was.aside) (good Stages)
+      (λ j. (same j).stage) (good Stages)
   level_parts mounts fits levels syncs sections Holding =
-      left_alone c w t lt Holding ws v (words.stage_same, words.holders_same) (now.unheld ∙ sym was.unheld) (good Holding)
+      left_alone c w t lt Holding ws v (words.stage_same, words.holders_same) (λ j. (same j).holder) (good Holding)
   level_parts mounts fits levels syncs sections Fitting = λ x lx.
       each_updated (λ y (u : View). ViewFits c y u) w.views t v x fits (λ ne. good Fitting x lx)
   level_parts mounts fits levels syncs sections Known = known_left
@@ -130,7 +133,7 @@ module _ (c : Config) (w : World) (good : IsGood c w) (t : ℕ) (lt : t < c.task
 
   -- a level is closed as before
   pub closing_same : (i : ℕ) → closing i v.phase ≡ closing i (w.views t).phase
-  closing_same i = ap (sums i) (now.aside ∙ sym was.aside)
+  closing_same i = λ j. sums i (same j).stage
 
   -- the shown model, where the task's accesses at levels alone may be others
   pub level_shown : SameAtMounts (w.views t) v → shown c then_world ≡

@@ -20,7 +20,8 @@ use Rattle.gate_world.specs.declared.config.Config.{Config}
 use Rattle.gate_world.specs.declared.work.Phase.TheVariants.{DownReads}
 use Rattle.gate_world.specs.Causes.{last_asked, asks_level, read_asks, WasClosed}
 use Rattle.gate_world.specs.KeptCauses.{ReadCause, CauseOf}
-use Rattle.gate_world.specs.Levels.{sync_role_of, sync_role_if, is_frozen_whole}
+use Rattle.gate_world.specs.Levels.{sync_role_of, is_frozen_whole}
+use Rattle.gate_world.specs.Roles.{sync_role_if}
 use Rattle.gate_world.specs.Rules.{IsGood, SyncAt, SyncHoldsIn}
 use Rattle.gate_world.specs.Views.{phase_after}
 use Rattle.gate_world.specs.Worlds.{World, found_at}

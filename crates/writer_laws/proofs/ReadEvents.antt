@@ -33,7 +33,8 @@ use Rattle.access_model.specs.Replies.{map_next}
 use Rattle.percpu_rwsem.specs.declared.sync_word.GpState.TheVariants.{Idle}
 use Rattle.gate_world.specs.{Holdings.Holdings, Views.{phase_after, holds_level, held_at, held_of, view_with, has_open}}
 use Rattle.gate_world.specs.Fits.{ReadFits, ReadStepFits, Fits}
-use Rattle.gate_world.specs.Levels.{read_count_role, level_role_of, sync_role_of, count_role_if, at_level}
+use Rattle.gate_world.specs.Levels.{level_role_of, sync_role_of, at_level}
+use Rattle.gate_world.specs.Roles.{read_count_role, count_role_if}
 use Rattle.percpu_rwsem.specs.declared.readers.DownRead.{DownRead}
 use Rattle.percpu_rwsem.specs.Readers.{step_in, step_found, at_down_read, left_blocked}
 use Rattle.gate_world.specs.declared.config.Config.{Config}

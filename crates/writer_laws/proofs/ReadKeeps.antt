@@ -1,33 +1,36 @@
 -- All that is proved of a start and of an end.
-use Rattle.std.proofs.Common.{◌≡◌, ℕ, ◌<◌, Bool, true, refl, sym, ap, subst, ◌∙◌, arith, ◌≤◌, ◌+◌, ◌-◌}
-use Rattle.std.specs.Prelude.{nat_lt, Some, ◌&&◌, ◌==◌}
-use Rattle.std.proofs.lemmas.Bool.{ltb-true}
-use Rattle.percpu_rwsem.specs.declared.readers.DownRead.{DownRead}
-use Rattle.percpu_rwsem.specs.declared.readers.UpRead.{UpRead}
-use Rattle.percpu_rwsem.specs.Readers.{down_read_after}
 use Rattle.gate_counts.specs.Levels.{Out as CountsNot}
-use Rattle.level_laws.specs.Roles.{Out as IsApart, closed}
-use Rattle.gate_world.specs.declared.config.Config.{Config}
-use Rattle.gate_world.specs.declared.operations.Op.TheVariants.{Start, End}
-use Rattle.gate_world.specs.declared.work.Phase.TheVariants.{DownReads, UpReads}
+use Rattle.gate_frames.proofs.Frames.{count_none, sync_none}
+use Rattle.gate_frames.proofs.Keeps.{IsSmall, OpKeeps, PhaseKeeps, by_bool}
+use Rattle.gate_frames.proofs.Says.{is_short, is_short_well, tells, tells_well}
+use Rattle.gate_frames.proofs.Snapshots.{completes_none}
 use Rattle.gate_world.specs.Causes.{asks_level}
-use Rattle.gate_world.specs.{Fits.Fits, Holdings.held_after}
-use Rattle.gate_world.specs.Levels.{sync_role_of, count_role_if, sync_role_if}
+use Rattle.gate_world.specs.Fits.{Fits}
+use Rattle.gate_world.specs.Holdings.{held_after}
+use Rattle.gate_world.specs.Levels.{sync_role_of}
 use Rattle.gate_world.specs.Operations.{is_level_number}
+use Rattle.gate_world.specs.Roles.{count_role_if, no_roles, sync_role_if}
 use Rattle.gate_world.specs.Rules.{Fitting}
 use Rattle.gate_world.specs.Traces.{most_events}
 use Rattle.gate_world.specs.Views.{held_of}
 use Rattle.gate_world.specs.Worlds.{World, after_step, found_at}
-use Rattle.gate_frames.proofs.Keeps.{by_bool, PhaseKeeps, IsSmall, OpKeeps}
-use Rattle.gate_frames.proofs.Snapshots.{completes_none}
-use Rattle.gate_frames.proofs.Says.{tells, is_short, tells_well, is_short_well}
+use Rattle.gate_world.specs.declared.config.Config.{Config}
+use Rattle.gate_world.specs.declared.operations.Op.TheVariants.{End, Start}
+use Rattle.gate_world.specs.declared.work.Phase.TheVariants.{DownReads, UpReads}
+use Rattle.level_laws.specs.Roles.{Out as IsApart, closed}
+use Rattle.percpu_rwsem.specs.Readers.{down_read_after}
+use Rattle.percpu_rwsem.specs.declared.readers.DownRead.{DownRead}
+use Rattle.percpu_rwsem.specs.declared.readers.UpRead.{UpRead}
+use Rattle.std.proofs.Common.{Bool, ap, arith, refl, subst, sym, true, ℕ, ◌+◌, ◌-◌, ◌<◌, ◌∙◌, ◌≡◌, ◌≤◌}
+use Rattle.std.proofs.lemmas.Bool.{ltb-true}
+use Rattle.std.specs.Prelude.{Some, nat_lt, ◌&&◌, ◌==◌}
 use Rattle.writer_laws.proofs.EndEvents.{end_keeps}
+use Rattle.writer_laws.proofs.ReadCauses.{asks_next, next_cause, read_not_closed, read_own, read_stays}
 use Rattle.writer_laws.proofs.ReadEvents.{read_keeps}
-use Rattle.writer_laws.proofs.ReadFits.{both_true, level_there, none_from_agree, read_step_agrees, read_there, read_acts, read_goes, read_fits}
-use Rattle.writer_laws.proofs.ReadCauses.{read_not_closed, read_stays, read_own, asks_next, next_cause}
+use Rattle.writer_laws.proofs.ReadFits.{both_true, level_there, none_from_agree, read_acts, read_fits, read_goes, read_step_agrees, read_there}
+use Rattle.writer_laws.proofs.ReadRuns.{end_runs, read_runs}
+use Rattle.writer_laws.proofs.ReadTraces.{EndAt, StartAt, end_kept, start_kept}
 use Rattle.writer_laws.proofs.ReadWaits.{read_waits, start_waits}
-use Rattle.writer_laws.proofs.ReadRuns.{read_runs, end_runs}
-use Rattle.writer_laws.proofs.ReadTraces.{StartAt, EndAt, start_kept, end_kept}
 
 -- of each phase of a start
 pub read_phase : (c : Config) (r : DownRead) → PhaseKeeps c (DownReads r)
@@ -85,16 +88,7 @@ start_op c i p wait = record {
   fits = λ t held there order room.
       let l : (1 ≤ i) × (i ≤ 3) × (p < c.processors) = in_level c i p there in
       (l.0, l.1, l.2, refl, order);
-  starts_idle = λ t. record {
-    steady = assumption;
-    stage_same = refl;
-    holder_same = refl;
-    level_same = λ j. by_bool (j == i) (λ b. count_role_if b CountsNot ≡ CountsNot) refl refl;
-    sync_same = λ j. by_bool (j == i) (λ b. sync_role_if b IsApart ≡ IsApart) refl refl;
-    inside_same = refl;
-    role_same = λ y. refl;
-  };
-  off_tree = λ t trace. refl;
+  starts_aside = λ t k. record no_roles { count = λ j. count_none j i k; sync = λ j. sync_none j i k };
   cause = λ t w earlier. tt;
   order_agrees = λ held seen same there. none_from_agree held.levels seen.levels same.levels i;
   room_agrees = λ held seen same there. refl;
@@ -111,8 +105,7 @@ end_op c i p = record {
   fits = λ t held there order room.
       let l : (1 ≤ i) × (i ≤ 3) × (p < c.processors) = in_level c i p there in
       (l.0, l.1, l.2, order);
-  starts_idle = λ t. assumption;
-  off_tree = λ t trace. refl;
+  starts_aside = λ t. refl;
   cause = λ t w earlier. tt;
   order_agrees = λ held seen same there. same.levels i (in_level c i p there).0 (in_level c i p there).1;
   room_agrees = λ held seen same there. refl;

@@ -24,7 +24,8 @@ use Rattle.gate_world.specs.declared.views.View.{View}
 use Rattle.gate_world.specs.declared.work.Phase.TheVariants.{DownReads}
 use Rattle.gate_world.specs.Views.{view_after, phase_after}
 use Rattle.gate_world.specs.Worlds.{World, after_step}
-use Rattle.gate_world.specs.Levels.{sync_role_if, sync_role_of, inside}
+use Rattle.gate_world.specs.Levels.{sync_role_of, inside}
+use Rattle.gate_world.specs.Roles.{sync_role_if}
 use Rattle.gate_world.specs.Rules.{IsGood, SyncAt, Sections, Holds}
 use Rattle.gate_world.specs.LevelRuns.{level_in}
 use Rattle.gate_frames.proofs.LevelWorlds.{sync_on, sync_off, IsOfLevel, IsEventAt, found_level, level_there, turned_words, sync_turned, sections_turned, sync_elsewhere}

@@ -30,7 +30,8 @@ use Rattle.gate_world.specs.declared.work.Phase.TheVariants.{DownReads, UpReads,
 use Rattle.gate_world.specs.Fits.{Fits}
 use Rattle.gate_world.specs.Views.{held_of, view_after, phase_after}
 use Rattle.gate_world.specs.Worlds.{World, after_step}
-use Rattle.gate_world.specs.Levels.{sync_role_if, sync_role_of, inside, is_frozen_whole}
+use Rattle.gate_world.specs.Levels.{sync_role_of, inside, is_frozen_whole}
+use Rattle.gate_world.specs.Roles.{sync_role_if}
 use Rattle.gate_world.specs.LevelRuns.{level_in}
 use Rattle.gate_world.specs.Rules.{IsGood, Fitting}
 use Rattle.gate_frames.proofs.LevelSteps.{level_stays, level_moved, level_kept}

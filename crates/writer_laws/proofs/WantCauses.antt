@@ -7,7 +7,8 @@ use Rattle.mount_counts.specs.{Phases.{has_flag, want_next, want_after, hold_fou
 use Rattle.mount_counts.specs.declared.phases.{MountPhase.MountPhase, Want.Want, WantStep.WantStep}
 use Rattle.mount_laws.proofs.Bits.{read_only_set, hold_set}
 use Rattle.gate_world.specs.{Causes.{asks, want_asks, WantRefused, WasHeld}, KeptCauses.{WantCause, CauseOf}}
-use Rattle.gate_world.specs.{Rules.{IsGood, Owner, Stages, AtMount, role_of, want_role}, Views.phase_after, Worlds.World}
+use Rattle.gate_world.specs.{Rules.{IsGood, Owner, Stages, AtMount, role_of}, Views.phase_after, Worlds.World}
+use Rattle.gate_world.specs.Roles.{want_role}
 use Rattle.gate_world.specs.declared.{config.Config.Config, work.Phase.Phase}
 use Rattle.gate_frames.proofs.{Moments.{or_true, question_skips, question_stands}, Owners.who_holds}
 

@@ -1,14 +1,33 @@
 -- All that is proved of a want and of a drop.
-use Rattle.std.{proofs.{Common.{◌≡◌, ℕ, Bool, true, arith, ap, ◌∙◌, refl, subst}, lemmas.Bool.ltb-true}, specs.Prelude.{nat_lt, Some, ◌∷◌}}
 use Rattle.access_model.specs.declared.replies.Next.{Next}
-use Rattle.mount_counts.specs.{Phases.want_after, declared.phases.{MountPhase.MountPhase, Want.Want}}
-use Rattle.gate_world.specs.{Causes.asks, Fits.Fits, Rules.Fitting, Traces.most_events, Views.held_of, Worlds.{World, after_step, found_at}}
-use Rattle.gate_world.specs.declared.{config.Config.Config, operations.Op.Op, work.Phase.Phase}
-use Rattle.gate_frames.proofs.{Keeps.{by_bool, PhaseKeeps, IsSmall, OpKeeps, word_among}, Loads.role_none, MountRuns.mounts_run, Says.{tells, is_short}}
-use Rattle.gate_frames.proofs.{Snapshots.completes_none, TreeHolders.both_true}
-use Rattle.writer_laws.proofs.{WantCauses.{want_kept, want_own, next_cause, next_asked}, WantFits.{want_there, want_acts, want_goes}, WantLoads.want_here}
-use Rattle.writer_laws.proofs.{WantTraces.{WantAt, DropAt, want_kept as want_traced, drop_kept}, WantWaits.{want_waits, next_waits}}
-use Rattle.writer_laws.proofs.Wants.{want_keeps, drop_keeps}
+use Rattle.gate_frames.proofs.Frames.{role_none}
+use Rattle.gate_frames.proofs.Keeps.{IsSmall, OpKeeps, PhaseKeeps, by_bool, word_among}
+use Rattle.gate_frames.proofs.MountRuns.{mounts_run}
+use Rattle.gate_frames.proofs.Says.{is_short, tells}
+use Rattle.gate_frames.proofs.Snapshots.{completes_none}
+use Rattle.gate_frames.proofs.TreeHolders.{both_true}
+use Rattle.gate_world.specs.Causes.{asks}
+use Rattle.gate_world.specs.Fits.{Fits}
+use Rattle.gate_world.specs.Roles.{no_roles}
+use Rattle.gate_world.specs.Rules.{Fitting}
+use Rattle.gate_world.specs.Traces.{most_events}
+use Rattle.gate_world.specs.Views.{held_of}
+use Rattle.gate_world.specs.Worlds.{World, after_step, found_at}
+use Rattle.gate_world.specs.declared.config.Config.{Config}
+use Rattle.gate_world.specs.declared.operations.Op.{Op}
+use Rattle.gate_world.specs.declared.work.Phase.{Phase}
+use Rattle.mount_counts.specs.Phases.{want_after}
+use Rattle.mount_counts.specs.declared.phases.MountPhase.{MountPhase}
+use Rattle.mount_counts.specs.declared.phases.Want.{Want}
+use Rattle.std.proofs.Common.{Bool, ap, arith, refl, subst, true, ℕ, ◌∙◌, ◌≡◌}
+use Rattle.std.proofs.lemmas.Bool.{ltb-true}
+use Rattle.std.specs.Prelude.{Some, nat_lt, ◌∷◌}
+use Rattle.writer_laws.proofs.WantCauses.{next_asked, next_cause, want_kept, want_own}
+use Rattle.writer_laws.proofs.WantFits.{want_acts, want_goes, want_there}
+use Rattle.writer_laws.proofs.WantLoads.{want_here}
+use Rattle.writer_laws.proofs.WantTraces.{DropAt, WantAt, drop_kept, want_kept as want_traced}
+use Rattle.writer_laws.proofs.WantWaits.{next_waits, want_waits}
+use Rattle.writer_laws.proofs.Wants.{drop_keeps, want_keeps}
 
 pub want_phase : (c : Config) (x : Want) → PhaseKeeps c (Phase.Mounts (MountPhase.Want x))
 want_phase c x = record {
@@ -53,16 +72,7 @@ want_op c m p wait = record {
   fits = λ t held there order room.
       let at : (nat_lt m c.mounts ≡ true) × (nat_lt p c.processors ≡ true) = both_true (nat_lt m c.mounts) (nat_lt p c.processors) there in
       (ltb-true m c.mounts at.0, ltb-true p c.processors at.1, ltb-true (held.mounts m) 1024 room);
-  starts_idle = λ t. record {
-    steady = assumption;
-    stage_same = refl;
-    holder_same = refl;
-    level_same = λ i. refl;
-    sync_same = λ i. refl;
-    inside_same = refl;
-    role_same = λ y. role_none y m;
-  };
-  off_tree = λ t trace. refl;
+  starts_aside = λ t k. record no_roles { mount = λ y. role_none y m k };
   cause = λ t w earlier. tt;
   order_agrees = λ held seen same there. refl;
   room_agrees = λ held seen same there. ap (λ y. nat_lt y 1024) (same.mounts m
@@ -79,8 +89,7 @@ drop_op c m p = record {
   fits = λ t held there order room.
       let at : (nat_lt m c.mounts ≡ true) × (nat_lt p c.processors ≡ true) = both_true (nat_lt m c.mounts) (nat_lt p c.processors) there in
       (ltb-true m c.mounts at.0, ltb-true p c.processors at.1, ltb-true 0 (held.mounts m) order);
-  starts_idle = λ t. assumption;
-  off_tree = λ t trace. refl;
+  starts_aside = λ t. refl;
   cause = λ t w earlier. tt;
   order_agrees = λ held seen same there. ap (nat_lt 0) (same.mounts m
       (ltb-true m c.mounts (both_true (nat_lt m c.mounts) (nat_lt p c.processors) there).0));

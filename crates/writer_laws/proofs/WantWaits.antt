@@ -6,7 +6,8 @@ use Rattle.cpu_words.specs.{Touches.found_by, Words.read}
 use Rattle.mount_counts.specs.{Phases.{has_flag, want_next, want_after, hold_found}, Roles.has_hold}
 use Rattle.mount_counts.specs.declared.phases.{MountPhase.MountPhase, Want.Want, WantStep.WantStep}
 use Rattle.mount_laws.proofs.Bits.{hold_set}
-use Rattle.gate_world.specs.{Causes.{WantRefused, last_question}, KeptCauses.WantCause, Rules.{role_of, want_role, IsGood, AtMount}}
+use Rattle.gate_world.specs.{Causes.{WantRefused, last_question}, KeptCauses.WantCause, Rules.{role_of, IsGood, AtMount}}
+use Rattle.gate_world.specs.Roles.{want_role}
 use Rattle.gate_world.specs.{Waits.{HasCulprit, HasReason}, Worlds.World, declared.{config.Config.Config, work.Phase.Phase}}
 use Rattle.gate_frames.proofs.Owners.{who_holds}
 

@@ -1,24 +1,58 @@
 -- All that is proved of a taking and of a return of write access, each from what is proved of its gates.
-use Rattle.std.proofs.{Common.{◌≡◌, ℕ, ◌<◌, ◌≤◌, Bool, true, false, arith, ap, sym, ◌∙◌, refl, subst, true≢false}, lemmas.Bool.ltb-true}
-use Rattle.std.specs.Prelude.{nat_lt, not, Some, Ok, Err, ◌==◌, ◌&&◌, ◌∷◌}
-use Rattle.finite_sums.{proofs.Totals.update_same, specs.Sums.update}
-use Rattle.access_model.specs.{Histories.levels_of, Replies.map_next, declared.{errors.GateError.GateError, replies.{Next.Next, Reply.Reply}}}
+use Rattle.access_model.specs.Histories.{levels_of}
+use Rattle.access_model.specs.Replies.{map_next}
+use Rattle.access_model.specs.declared.errors.GateError.{GateError}
+use Rattle.access_model.specs.declared.replies.Next.{Next}
+use Rattle.access_model.specs.declared.replies.Reply.{Reply}
 use Rattle.cpu_words.specs.Hooks.{HookAnswer}
+use Rattle.finite_sums.proofs.Totals.{update_same}
+use Rattle.finite_sums.specs.Sums.{update}
 use Rattle.gate_counts.specs.Levels.{Out as CountsNot}
-use Rattle.mount_counts.specs.{Phases.want_after, declared.phases.{MountPhase.MountPhase, Want.Want, WantStep.WantStep}}
-use Rattle.percpu_rwsem.specs.{Readers.down_read_after, declared.readers.DownRead.DownRead}
-use Rattle.level_laws.specs.{Events.SyncStep, Roles.{Out as IsApart, closed}}
-use Rattle.write_access.specs.{Phases.{then_wants, then_gives_back, leaves_on}, declared.phases.WritePhase.WritePhase}
-use Rattle.gate_world.specs.{Causes.{asks, asks_level}, Configs.IsWithin, Fits.{WriteFits, Fits}, Holdings.{Holdings, holdings_of, held_after}, LevelRuns.level_in}
-use Rattle.gate_world.specs.{Levels.{sync_role_of, sync_role_if, count_role_if}, Rules.{IsGood, StepKeeps, role_of}, Views.{held_of, phase_after}}
-use Rattle.gate_world.specs.{Worlds.{World, after_step, found_at}, declared.{config.Config.Config, operations.Op.Op, work.Phase.Phase}}
-use Rattle.gate_frames.proofs.{Beside.update_twice, Frames.role_on, Agreeing.none_agree, Keeps.{by_bool, PhaseKeeps, OpKeeps}}
-use Rattle.gate_frames.proofs.{Says.{tells, is_short, tells_well, is_short_well}, Snapshots.completes_none, TreeHolders.both_true}
-use Rattle.writer_laws.proofs.Alikes.{alike_takes, alike_wants, alike_ends, alike_none, takes_goes, wants_goes}
-use Rattle.writer_laws.proofs.{ReadCauses.{read_stays, read_own, read_not_closed}, ReadFits.{read_mounts, read_goes}, ReadKeeps.{read_phase, end_phase}}
-use Rattle.writer_laws.proofs.{ReadWaits.read_waits, WantCauses.{want_kept, want_own}, WantFits.want_leaves, WantKeeps.{want_phase, drop_phase}}
-use Rattle.writer_laws.proofs.{WantWaits.want_waits, WriteCauses.{takes_asks, takes_cause, takes_waits, wants_asked, wants_cause, wants_waits}}
-use Rattle.writer_laws.proofs.{WriteSteps.{write_fits_now, write_step, write_runs, first_world}, WriteTraces.{WriteAt, DropAt, write_kept, drop_kept}}
+use Rattle.gate_frames.proofs.Agreeing.{none_agree}
+use Rattle.gate_frames.proofs.Beside.{update_twice}
+use Rattle.gate_frames.proofs.Frames.{count_none, role_on, sync_none}
+use Rattle.gate_frames.proofs.Keeps.{OpKeeps, PhaseKeeps, by_bool}
+use Rattle.gate_frames.proofs.Says.{is_short, is_short_well, tells, tells_well}
+use Rattle.gate_frames.proofs.Snapshots.{completes_none}
+use Rattle.gate_frames.proofs.TreeHolders.{both_true}
+use Rattle.gate_world.specs.Causes.{asks, asks_level}
+use Rattle.gate_world.specs.Configs.{IsWithin}
+use Rattle.gate_world.specs.Fits.{Fits, WriteFits}
+use Rattle.gate_world.specs.Holdings.{Holdings, held_after, holdings_of}
+use Rattle.gate_world.specs.LevelRuns.{level_in}
+use Rattle.gate_world.specs.Levels.{sync_role_of}
+use Rattle.gate_world.specs.Roles.{count_role_if, no_roles, sync_role_if}
+use Rattle.gate_world.specs.Rules.{IsGood, StepKeeps, role_of}
+use Rattle.gate_world.specs.Views.{held_of, phase_after}
+use Rattle.gate_world.specs.Worlds.{World, after_step, found_at}
+use Rattle.gate_world.specs.declared.config.Config.{Config}
+use Rattle.gate_world.specs.declared.operations.Op.{Op}
+use Rattle.gate_world.specs.declared.work.Phase.{Phase}
+use Rattle.level_laws.specs.Events.{SyncStep}
+use Rattle.level_laws.specs.Roles.{Out as IsApart, closed}
+use Rattle.mount_counts.specs.Phases.{want_after}
+use Rattle.mount_counts.specs.declared.phases.MountPhase.{MountPhase}
+use Rattle.mount_counts.specs.declared.phases.Want.{Want}
+use Rattle.mount_counts.specs.declared.phases.WantStep.{WantStep}
+use Rattle.percpu_rwsem.specs.Readers.{down_read_after}
+use Rattle.percpu_rwsem.specs.declared.readers.DownRead.{DownRead}
+use Rattle.std.proofs.Common.{Bool, ap, arith, false, refl, subst, sym, true, true≢false, ℕ, ◌<◌, ◌∙◌, ◌≡◌, ◌≤◌}
+use Rattle.std.proofs.lemmas.Bool.{ltb-true}
+use Rattle.std.specs.Prelude.{Err, Ok, Some, nat_lt, not, ◌&&◌, ◌==◌, ◌∷◌}
+use Rattle.write_access.specs.Phases.{leaves_on, then_gives_back, then_wants}
+use Rattle.write_access.specs.declared.phases.WritePhase.{WritePhase}
+use Rattle.writer_laws.proofs.Alikes.{alike_takes, alike_wants, takes_goes, wants_goes}
+use Rattle.writer_laws.proofs.ReadCauses.{read_not_closed, read_own, read_stays}
+use Rattle.writer_laws.proofs.ReadFits.{read_goes, read_mounts}
+use Rattle.writer_laws.proofs.ReadKeeps.{end_phase, read_phase}
+use Rattle.writer_laws.proofs.ReadWaits.{read_waits}
+use Rattle.writer_laws.proofs.WantCauses.{want_kept, want_own}
+use Rattle.writer_laws.proofs.WantFits.{want_leaves}
+use Rattle.writer_laws.proofs.WantKeeps.{drop_phase, want_phase}
+use Rattle.writer_laws.proofs.WantWaits.{want_waits}
+use Rattle.writer_laws.proofs.WriteCauses.{takes_asks, takes_cause, takes_waits, wants_asked, wants_cause, wants_waits}
+use Rattle.writer_laws.proofs.WriteSteps.{first_world, write_fits_now, write_runs, write_step}
+use Rattle.writer_laws.proofs.WriteTraces.{DropAt, WriteAt, drop_kept, write_kept}
 
 -- what fits after an event at level 1, with the mount to come
 takes_fits : (c : Config) (t : ℕ) (held : Holdings) (m : ℕ) (r : DownRead) (found : ℕ) →
@@ -57,17 +91,17 @@ write_keeps c lim w good t lt hook (WritePhase.Wants x) e =
 write_keeps c lim w good t lt hook (WritePhase.GivesBack m p refusal) e =
     write_step c w good t lt hook (WritePhase.GivesBack m p refusal) e
     (λ g at. (end_phase c (leaves_on p)).step lim (first_world c w good t lt hook (WritePhase.GivesBack m p refusal) e) g t lt hook at)
-    (Next.Done (Err refusal)) alike_none tt
+    (Next.Done (Err refusal)) refl tt
 write_keeps c lim w good t lt hook (WritePhase.Drops m p) e =
     let f : WriteFits c t (held_of (w.views t)) (WritePhase.Drops m p) =
     write_fits_now c w good t lt hook (WritePhase.Drops m p) e in
     write_step c w good t lt hook (WritePhase.Drops m p) e
     (λ g at. (drop_phase c m p).step lim (first_world c w good t lt hook (WritePhase.Drops m p) e) g t lt hook at)
-    (Next.Go (Phase.Writes (WritePhase.Ends p))) (alike_ends p) (f.0.1, f.1)
+    (Next.Go (Phase.Writes (WritePhase.Ends p))) refl (f.0.1, f.1)
 write_keeps c lim w good t lt hook (WritePhase.Ends p) e =
     write_step c w good t lt hook (WritePhase.Ends p) e
     (λ g at. (end_phase c (leaves_on p)).step lim (first_world c w good t lt hook (WritePhase.Ends p) e) g t lt hook at)
-    (Next.Done (Ok Reply.Unit)) alike_none tt
+    (Next.Done (Ok Reply.Unit)) refl tt
 
 -- each event is one of each level's kinds of event, as its gate's is
 write_phase_runs : (c : Config) → IsWithin c → (w : World) → IsGood c w → (t : ℕ) → t < c.tasks → (hook : HookAnswer) → (x : WritePhase) →
@@ -82,14 +116,14 @@ write_phase_runs c lim w good t lt hook (WritePhase.Wants x) e i one three =
     write_runs c w good t lt hook (WritePhase.Wants x) e (map_next Phase.Writes (then_gives_back x.mount x.cpu n)) (alike_wants x.mount x.cpu n) i
     (λ g at. (want_phase c x).runs lim (first_world c w good t lt hook (WritePhase.Wants x) e) g t lt hook at i one three)
 write_phase_runs c lim w good t lt hook (WritePhase.GivesBack m p refusal) e i one three =
-    write_runs c w good t lt hook (WritePhase.GivesBack m p refusal) e (Next.Done (Err refusal)) alike_none i
+    write_runs c w good t lt hook (WritePhase.GivesBack m p refusal) e (Next.Done (Err refusal)) refl i
     (λ g at.
     (end_phase c (leaves_on p)).runs lim (first_world c w good t lt hook (WritePhase.GivesBack m p refusal) e) g t lt hook at i one three)
 write_phase_runs c lim w good t lt hook (WritePhase.Drops m p) e i one three =
-    write_runs c w good t lt hook (WritePhase.Drops m p) e (Next.Go (Phase.Writes (WritePhase.Ends p))) (alike_ends p) i
+    write_runs c w good t lt hook (WritePhase.Drops m p) e (Next.Go (Phase.Writes (WritePhase.Ends p))) refl i
     (λ g at. (drop_phase c m p).runs lim (first_world c w good t lt hook (WritePhase.Drops m p) e) g t lt hook at i one three)
 write_phase_runs c lim w good t lt hook (WritePhase.Ends p) e i one three =
-    write_runs c w good t lt hook (WritePhase.Ends p) e (Next.Done (Ok Reply.Unit)) alike_none i
+    write_runs c w good t lt hook (WritePhase.Ends p) e (Next.Done (Ok Reply.Unit)) refl i
     (λ g at. (end_phase c (leaves_on p)).runs lim (first_world c w good t lt hook (WritePhase.Ends p) e) g t lt hook at i one three)
 
 takes_phase : (c : Config) (m : ℕ) (r : DownRead) → PhaseKeeps c (Phase.Writes (WritePhase.Takes m r))
@@ -210,16 +244,7 @@ want_write_op c m p = record {
   fits = λ t held there order room.
       let at : (m < c.mounts) × (p < c.processors) = in_mount c m p there in
       ((omega arith, omega arith, at.1, refl, order), refl, at.0, ltb-true (held.mounts m) 1024 room);
-  starts_idle = λ t. record {
-    steady = assumption;
-    stage_same = refl;
-    holder_same = refl;
-    level_same = λ j. by_bool (j == 1) (λ b. count_role_if b CountsNot ≡ CountsNot) refl refl;
-    sync_same = λ j. by_bool (j == 1) (λ b. sync_role_if b IsApart ≡ IsApart) refl refl;
-    inside_same = refl;
-    role_same = λ y. refl;
-  };
-  off_tree = λ t trace. refl;
+  starts_aside = λ t k. record no_roles { count = λ j. count_none j 1 k; sync = λ j. sync_none j 1 k };
   cause = λ t w earlier. tt;
   order_agrees = λ held seen same there. none_agree held.levels seen.levels same.levels;
   room_agrees = λ held seen same there. ap (λ y. nat_lt y 1024) (same.mounts m (in_mount c m p there).0);
@@ -239,8 +264,7 @@ drop_write_op c m p = record {
       let at : (m < c.mounts) × (p < c.processors) = in_mount c m p there in
       let o : (held.levels 1 ≡ true) × (nat_lt 0 (held.mounts m) ≡ true) = both_true (held.levels 1) (nat_lt 0 (held.mounts m)) order in
       ((at.0, at.1, ltb-true 0 (held.mounts m) o.1), o.0);
-  starts_idle = λ t. assumption;
-  off_tree = λ t trace. refl;
+  starts_aside = λ t. refl;
   cause = λ t w earlier. tt;
   order_agrees = λ held seen same there. rw (same.levels 1 (omega arith) (omega arith), same.mounts m (in_mount c m p there).0) refl;
   room_agrees = λ held seen same there. refl;

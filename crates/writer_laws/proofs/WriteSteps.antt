@@ -1,14 +1,26 @@
 -- The law of an event of a write access is that of its gate's event, made by a task that stands at the gate's phase.
-use Rattle.std.{proofs.Common.{◌≡◌, ℕ, ◌<◌, Bool, ap, subst, arith}, specs.Prelude.{Option, Some}}
-use Rattle.finite_sums.proofs.Totals.{update_at}
-use Rattle.access_model.specs.declared.{actions.Action.Action, replies.Next.Next}
+use Rattle.access_model.specs.declared.actions.Action.{Action}
+use Rattle.access_model.specs.declared.replies.Next.{Next}
 use Rattle.cpu_words.specs.Hooks.{HookAnswer}
+use Rattle.finite_sums.proofs.Totals.{update_at}
+use Rattle.gate_frames.proofs.Beside.{made, made_runs_beside}
+use Rattle.gate_frames.proofs.Rephased.{alike_of, made_keeps, rephased_good}
+use Rattle.gate_world.specs.Alike.{IsAlike, at_phase, off_tree, rephased}
+use Rattle.gate_world.specs.Fits.{Fits, PhaseFits, WriteFits}
+use Rattle.gate_world.specs.Holdings.{Holdings, held_after}
+use Rattle.gate_world.specs.LevelRuns.{level_in}
+use Rattle.gate_world.specs.Rules.{Fitting, IsGood, Moves}
+use Rattle.gate_world.specs.Shown.{shown}
+use Rattle.gate_world.specs.Views.{held_of, phase_after}
+use Rattle.gate_world.specs.Work.{after_of, next_of, plain}
+use Rattle.gate_world.specs.Worlds.{World, found_at}
+use Rattle.gate_world.specs.declared.config.Config.{Config}
+use Rattle.gate_world.specs.declared.views.View.{View}
+use Rattle.gate_world.specs.declared.work.Phase.{Phase}
 use Rattle.level_laws.specs.Events.{SyncStep}
+use Rattle.std.proofs.Common.{Bool, ap, arith, subst, ℕ, ◌<◌, ◌≡◌}
+use Rattle.std.specs.Prelude.{Option, Some}
 use Rattle.write_access.specs.declared.phases.WritePhase.{WritePhase}
-use Rattle.gate_world.specs.{Alike.{IsAlike, at_phase, rephased}, Fits.{Fits, WriteFits, PhaseFits}, Holdings.{Holdings, held_after}, LevelRuns.level_in}
-use Rattle.gate_world.specs.{Rules.{IsGood, Moves, Fitting}, Shown.shown, Views.{held_of, phase_after}, Work.{plain, next_of, after_of}}
-use Rattle.gate_world.specs.{Worlds.{World, found_at}, declared.{config.Config.Config, views.View.View, work.Phase.Phase}}
-use Rattle.gate_frames.proofs.{Beside.{made, made_runs_beside}, Rephased.{alike_of, rephased_good, made_keeps}}
 use Rattle.writer_laws.proofs.Alikes.{alike_plain}
 
 -- the phase of its gate fits
@@ -67,6 +79,6 @@ module _ (c : Config) (w : World) (good : IsGood c w) (t : ℕ) (lt : t < c.task
   pub write_runs : (coming : Next Phase) → IsAlike (phase_after plain_after) (phase_after coming) → (i : ℕ) → PlainRuns i →
       SyncStep c.tasks (level_in w i) (level_in (made_in w coming) i)
   write_runs coming after i runs =
-      made_runs_beside c w t lt (Some (plain x)) (next_of (plain x) hook) hook plain_after coming plain_action i before.beside
+      made_runs_beside c w t lt (Some (plain x)) (next_of (plain x) hook) hook plain_after coming plain_action i (λ j. off_tree (before j))
       (runs (rephased_good c w t lt (Some (plain x)) before fits_plain good)
-      (ap (λ (u : View). u.phase) (update_at w.views t (at_phase (w.views t) (Some (plain x)))))) after.beside
+      (ap (λ (u : View). u.phase) (update_at w.views t (at_phase (w.views t) (Some (plain x)))))) (λ j. off_tree (after j))
