@@ -1,4 +1,5 @@
 -- All that is proved of the beginnings and the traces of the operations at the tree.
+use Rattle.std.proofs.Common.{ap}
 use Rattle.access_model.specs.declared.actions.Kind.{Kind}
 use Rattle.gate_frames.proofs.Agreeing.{faulter_agrees, none_agree, writer_agrees}
 use Rattle.gate_frames.proofs.CreateTraces.{create_short, create_tells}

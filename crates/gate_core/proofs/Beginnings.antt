@@ -1,4 +1,5 @@
 -- What it means that an operation may begin.
+use Rattle.std.proofs.Common.{sym}
 use Rattle.std.proofs.{Common.{◌≡◌, ℕ, Bool, true, false, refl, ap, inl, inr, true≢false}, lemmas.Bool.cases_Bool}
 use Rattle.std.specs.Prelude.{if◌then◌else◌, is_some, Option, Some, None, Result, Ok, Err}
 use Rattle.access_model.specs.declared.errors.GateError.{GateError}

@@ -1,5 +1,6 @@
 -- An operation that stands at a phase of another one, and relies on something at the tree meanwhile, as a last close does inside level 3:
 -- the law of the other's event is the law of its event, but for the tree and the open files, which the event leaves alone.
+use Rattle.gate_world.specs.Holdings.{holdings_of}
 use Rattle.access_model.specs.Histories.{levels_of, mounts_of, opens_of}
 use Rattle.access_model.specs.declared.actions.Action.{Action}
 use Rattle.access_model.specs.declared.replies.Next.{Next}

@@ -1,4 +1,5 @@
 -- The events of a freeze on the words of a level that it closes.
+use Rattle.std.proofs.Common.{subst}
 use Rattle.access_model.specs.Replies.{map_next}
 use Rattle.access_model.specs.declared.actions.Action.{Action}
 use Rattle.access_model.specs.declared.replies.Next.{Next}
