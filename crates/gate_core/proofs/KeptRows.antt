@@ -4,7 +4,7 @@ use Rattle.access_model.specs.declared.actions.{Holder.Holder, Kind.Kind}
 use Rattle.percpu_rwsem.specs.declared.readers.{DownRead.DownRead, DownReadStep.DownReadStep}
 use Rattle.file_closes.specs.declared.phases.ClosePhase.{ClosePhase}
 use Rattle.gate_world.specs.{Worlds.{Entry, Begins, run, opening}, declared.{operations.Op.Op, work.Phase.Phase}}
-use Rattle.progress_laws.specs.Progress.{StartIsKept, CloseIsKept, LockIsKept, AFreezeIsKept}
+use Rattle.operation_laws.specs.Progress.{StartIsKept, CloseIsKept, LockIsKept, AFreezeIsKept}
 use Rattle.gate_core.proofs.Rows.{small, steps, freezes}
 
 -- a freeze beside an idle task inside level 1

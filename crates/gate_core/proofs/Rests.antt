@@ -17,7 +17,7 @@ use Rattle.gate_world.specs.Rules.{owns, remounts, role_of, IsGood, Owner, Tree,
 use Rattle.gate_world.specs.{Shown.{shown, stage_roles}, Trees.tree_role_of, Worlds.World, declared.config.Config.Config}
 use Rattle.gate_world.specs.Shown.{holder_role_of, stage_role_of}
 use Rattle.gate_frames.proofs.{Holders.holders_at, Stages.{stages_in, stages_right}}
-use Rattle.call_laws.proofs.Frozen.{idle_sound}
+use Rattle.operation_laws.proofs.Frozen.{idle_sound}
 
 module _ (c : Config) (w : World) (good : IsGood c w) (idle : (t : ℕ) → t < c.tasks → (w.views t).phase ≡ None) where
   free : (u : ℕ) → u ≤ c.tasks → ((t : ℕ) → t < c.tasks → u ≡ suc t → owns (w.views t).phase ≡ 1) → u ≡ 0

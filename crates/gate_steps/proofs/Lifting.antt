@@ -32,7 +32,7 @@ use Rattle.moment_laws.specs.Moments.{HaveDone}
 use Rattle.gate_world.specs.Fits.{Fits}
 use Rattle.gate_world.specs.Rules.{IsGood, Moves, StepKeeps}
 use Rattle.gate_frames.proofs.Snapshots.{others_apart}
-use Rattle.call_laws.proofs.Frozen.{frozen_whole}
+use Rattle.operation_laws.proofs.Frozen.{frozen_whole}
 use Rattle.gate_core.proofs.Layers.{phase_keeps}
 use Rattle.gate_core.proofs.Beginnings.{may_begin}
 use Rattle.gate_core.proofs.Schedule.{begun_keeps, legal_more}
