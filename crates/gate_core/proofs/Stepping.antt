@@ -174,12 +174,6 @@ module _ (memory : Memory) (sound : IsSound memory) (t : ℕ) (lt : t < memory.c
     );
   }
 
--- the phase that the code reads of a seat is the task's
-pub phase_read : (memory : Memory) → IsSound memory → (t : ℕ) → t < memory.config.tasks → (seat : Seat) → seat ≡ get_or memory.seats t seat →
-    (phase : Phase) → seat.phase ≡ Some phase → (seat_of memory t).phase ≡ Some phase
-phase_read memory sound t lt seat seat_is phase is =
-    ap (λ (s : Seat). s.phase) (get_or_default memory.seats t no_seat seat (omega (arith, sound.seats)) ∙ sym seat_is) ∙ is
-
 -- the same of the values that the code has
 module _ (memory : Memory) (sound : IsSound memory) (t : ℕ) (lt : t < memory.config.tasks) (phase : Phase)
     (its_phase : (seat_of memory t).phase ≡ Some phase) (hook : HookAnswer)
