@@ -15,7 +15,7 @@ use Rattle.gate_frames.proofs.{Accesses.{holdings_of_after, long_after, wide_aft
 use Rattle.gate_frames.proofs.Places.{are_few}
 use Rattle.gate_core.proofs.{Each.seat_cases, Phases.{word_there, word_placed, action_fits, fits_after, fits_agree}, Runs.run_more}
 use Rattle.gate_core.specs.{Answers.{progress_of, step_answer}, Memory.{Memory, Shows, IsSound, no_seat, seat_of}}
-use Rattle.gate_core.specs.{Moves.{phase_in, stepped_of, stepped, progress_by, progress_in}, Seats.seat_held}
+use Rattle.gate_core.specs.{Moves.{phase_in, stepped_of, stepped, progress_by, progress_in}, Seats.seat_held, Stepped.IsStep}
 use Rattle.gate_core.specs.declared.{seats.Seat.Seat, steps.{Progress.Progress, Step.Step}}
 
 module _ (memory : Memory) (sound : IsSound memory) (t : ℕ) (lt : t < memory.config.tasks) (phase : Phase)
@@ -153,8 +153,8 @@ module _ (memory : Memory) (sound : IsSound memory) (t : ℕ) (lt : t < memory.c
   }
 
 -- the same of the values that the code has
-module _ (memory : Memory) (sound : IsSound memory) (t : ℕ) (lt : t < memory.config.tasks)
-    (seat : Seat) (seat_is : seat ≡ get_or memory.seats t seat) (phase : Phase) (phase_is : seat.phase ≡ Some phase) (hook : HookAnswer)
+module _ (memory : Memory) (sound : IsSound memory) (t : ℕ) (lt : t < memory.config.tasks) (phase : Phase)
+    (its_phase : (seat_of memory t).phase ≡ Some phase) (hook : HookAnswer)
     (next : WordName × Touch) (next_is : next ≡ next_of phase hook) (at : ℕ) (at_is : at ≡ place next.0) where
   -- the word's place, and what the list has there
   abbrev its_place : ℕ
@@ -167,12 +167,6 @@ module _ (memory : Memory) (sound : IsSound memory) (t : ℕ) (lt : t < memory.c
   abbrev its_done : Next Phase × Option Action
   its_done = after_of phase (found_by (next_of phase hook).1 its_value) hook
 
-  pub same_seat : seat_of memory t ≡ seat
-  same_seat = get_or_default memory.seats t no_seat seat (omega (arith, sound.seats)) ∙ sym seat_is
-
-  its_phase : (seat_of memory t).phase ≡ Some phase
-  its_phase = ap (λ (s : Seat). s.phase) same_seat ∙ phase_is
-
   same_at : at ≡ its_place
   same_at = at_is ∙ ap (λ (n : WordName × Touch). place n.0) next_is
 
@@ -180,7 +174,8 @@ module _ (memory : Memory) (sound : IsSound memory) (t : ℕ) (lt : t < memory.c
   at_small = omega (arith, same_at, place_fits memory sound t lt phase its_phase hook)
 
   module _ (value : ℕ) (value_is : value ≡ get_or memory.words at value) (event : Event) (event_is : event ≡ event_of next.0 next.1 value)
-      (done : Next Phase × Option Action) (done_is : done ≡ after_of phase event.found hook) where
+      (done : Next Phase × Option Action) (done_is : done ≡ after_of phase event.found hook)
+      (seat : Seat) (seat_is : seat ≡ get_or memory.seats t seat) where
     same_value : value ≡ its_value
     same_value = value_is ∙ (get_or_default memory.words at value 0 at_small ∙ ap (λ i. slice_index memory.words i) same_at)
 
@@ -189,6 +184,9 @@ module _ (memory : Memory) (sound : IsSound memory) (t : ℕ) (lt : t < memory.c
 
     same_done : done ≡ its_done
     same_done = done_is ∙ ap (λ (e : Event). after_of phase e.found hook) same_event
+
+    same_seat : seat_of memory t ≡ seat
+    same_seat = get_or_default memory.seats t no_seat seat (omega (arith, sound.seats)) ∙ sym seat_is
 
     pub may_act : ActionFits (seat_held seat) done.1
     may_act =
@@ -223,10 +221,10 @@ module _ (memory : Memory) (sound : IsSound memory) (t : ℕ) (lt : t < memory.c
       told_phase = rw (lt-ltb t memory.config.tasks lt) its_phase
 
       -- and what is said of it after the event
-      pub stepped_after : left_memory ≡ stepped memory t hook
+      stepped_after : left_memory ≡ stepped memory t hook
       stepped_after = same_memory ∙ sym (ap (stepped_of memory t hook) told_phase)
 
-      pub progress_after : progress.0 ≡ progress_in memory t hook
+      progress_after : progress.0 ≡ progress_in memory t hook
       progress_after =
           ap (λ (p : Progress × Option Phase). p.0) progress_is ∙ ap (λ (d : Next Phase × Option Action). progress_of d.0) same_done ∙
           sym (ap (progress_by memory hook) told_phase)
@@ -236,12 +234,12 @@ module _ (memory : Memory) (sound : IsSound memory) (t : ℕ) (lt : t < memory.c
       sound_after = subst IsSound (sym same_memory) (step_sound memory sound t lt phase its_phase hook)
 
       -- and shows what the entry makes of the world
-      pub shows_after : (w : World) → Shows memory w → Shows left_memory (happens memory.config w (Steps t hook))
+      shows_after : (w : World) → Shows memory w → Shows left_memory (happens memory.config w (Steps t hook))
       shows_after w shows =
           subst (λ m. Shows m (happens memory.config w (Steps t hook))) (sym same_memory)
           (step_shows memory sound t lt phase its_phase hook w shows)
 
-      pub answer_after : (w : World) → Shows memory w →
+      answer_after : (w : World) → Shows memory w →
           ◌≡◌ {A = Step} (record { event = Some event; action = done.1; progress = progress.0 }) (step_answer memory.config w t hook)
       answer_after w shows =
           let told : progress.0 ≡ progress_of done.0 = ap (λ (p : Progress × Option Phase). p.0) progress_is in
@@ -258,3 +256,6 @@ module _ (memory : Memory) (sound : IsSound memory) (t : ℕ) (lt : t < memory.c
             progress = (told ∙ ap (λ (d : Next Phase × Option Action). progress_of d.0) same_done) i;
           } in
           rw (lt-ltb t memory.config.tasks lt, phase_shown memory sound t lt phase its_phase hook w shows) (whole ∙ ap answer found)
+
+      pub is_step : IsStep memory left_memory t hook (record { event = Some event; action = done.1; progress = progress.0 })
+      is_step = record { config = refl; answer = answer_after; shows = shows_after; progress = progress_after; memory = stepped_after }

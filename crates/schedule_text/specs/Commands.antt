@@ -47,6 +47,18 @@ verb_name TrySnapshot = codes "trysnapshot"
 verb_name Step = codes "step"
 verb_name Run = codes "run"
 
+-- the verbs whose names have so many bytes
+abbrev pub verbs_of : ℕ → List Verb
+verbs_of n =
+    if n == 3 then Run ∷ End ∷ [] else
+    if n == 4 then Step ∷ Want ∷ Drop ∷ Thaw ∷ Grow ∷ Move ∷ Open ∷ [] else
+    if n == 5 then Start ∷ Close ∷ Fault ∷ Flush ∷ [] else
+    if n == 6 then Change ∷ Freeze ∷ Create ∷ Remove ∷ [] else
+    if n == 7 then TryWant ∷ Remount ∷ [] else
+    if n == 8 then TryStart ∷ Callback ∷ TryClose ∷ Snapshot ∷ [] else
+    if n == 9 then WantWrite ∷ DropWrite ∷ TryChange ∷ [] else
+    if n == 11 then TrySnapshot ∷ [] else []
+
 -- the verb that a word names: each has a name of its own
 unfoldable pub verb_of : List ℕ → Option Verb
 verb_of word = find (λ verb. bytes_eq word (verb_name verb)) verbs

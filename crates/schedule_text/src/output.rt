@@ -29,10 +29,15 @@ impl Output {
         self.bytes.extend_from_slice(text)
     }
 
-    /// Prints a number with no leading zeros.
+    /// Prints a number with no leading zeros. Most have one digit.
+    #[tactic(auto, using(std::proofs::lemmas::Fmt::decimal_digit))]
     pub fn number(&mut self, number: u64) -> Result<(), AllocError>
         ensures { OnOk result (self.new.bytes.items ≡ self.old.bytes.items ++ decimal number) }
     {
+        if number < 10 {
+            self.bytes.push(b'0' + number as u8)?;
+            return Ok(());
+        }
         let mut buffer = Buffer::new();
         self.text(buffer.format(number).as_bytes())
     }
