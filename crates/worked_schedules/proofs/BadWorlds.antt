@@ -10,7 +10,7 @@ use Rattle.percpu_rwsem.specs.declared.{readers.DownReadStep.DownReadStep, write
 use Rattle.freeze_levels.specs.declared.freezes.FreezeStep.{FreezeStep}
 use Rattle.gate_world.specs.{Causes.HasCause, Headline.{LevelsLead, SnapshotsStand}, Levels.at_level, Views.opening_view, Worlds.{World, opening}}
 use Rattle.gate_world.specs.declared.{views.View.View, work.Phase.Phase}
-use Rattle.gate_core.proofs.Rows.{small}
+use Rattle.worked_schedules.specs.Schedules.{small}
 
 -- a task of which nothing is known but what it is at
 abbrev at_phase : Phase → View

@@ -1,16 +1,9 @@
 -- Worked schedules, by computing, on two processors and one mount.
-use Rattle.std.{proofs.Common.{◌≡◌, ℕ, true, List, [], ◌∷◌, ◌++◌, refl, false}, specs.Prelude.{Ok, Err, replicate}}
+use Rattle.std.{proofs.Common.{◌≡◌, true, List, [], ◌∷◌, ◌++◌, refl, false}, specs.Prelude.{Ok, Err}}
 use Rattle.access_model.specs.declared.{actions.{Action.Action, Gate.Gate, Holder.Holder}, errors.GateError.GateError, replies.Reply.Reply}
-use Rattle.gate_world.specs.{Worlds.{Entry, Begins, Steps, run, history, opening}, declared.{config.Config.Config, operations.Op.Op}}
+use Rattle.gate_world.specs.{Worlds.{Entry, Begins, Steps, run, history, opening}, declared.operations.Op.Op}
 use Rattle.gate_core.specs.{Answers.step_answer, declared.steps.Progress.Progress}
-
--- three tasks, two processors, one mount
-abbrev pub small : Config
-small = record { tasks = 3; processors = 2; mounts = 1; nodes = 2; capacity = 8 }
-
--- so many steps of a task
-abbrev pub steps : ℕ → ℕ → List Entry
-steps n t = replicate n (Steps t (Ok tt))
+use Rattle.worked_schedules.specs.Schedules.{small, steps, moves}
 
 -- a change of an idle mount to read-only
 abbrev closes : List Entry
@@ -24,21 +17,13 @@ closes_history = refl
 closes_flags : (run small opening closes).words.flags 0 ≡ 1
 closes_flags = refl
 
--- an access that is granted on one processor and given back on the other: that one's word wraps
-abbrev moves : List Entry
-moves = Begins 0 (Op.Want 0 0 true) ∷ steps 5 0 ++ (Begins 0 (Op.DropMount 0 1) ∷ steps 1 0)
-
--- it adds a grant and a return
+-- an access that is granted on one processor and given back on the other adds a grant and a return
 moves_history : history small opening [] moves ≡ (0, Action.Return (Gate.Mount 0)) ∷ ((0, Action.Grant (Gate.Mount 0)) ∷ [])
 moves_history = refl
 
 -- the one word has 1
 moves_taken : (run small opening moves).words.count 0 0 ≡ 1
 moves_taken = refl
-
--- the other has wrapped below 0
-moves_given_back : (run small opening moves).words.count 0 1 ≡ 18446744073709551615
-moves_given_back = refl
 
 -- a change while another task holds an access, up to its last step: that ends it, refused, and it has added nothing
 abbrev contends : List Entry

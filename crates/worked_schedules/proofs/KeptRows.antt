@@ -5,7 +5,8 @@ use Rattle.percpu_rwsem.specs.declared.readers.{DownRead.DownRead, DownReadStep.
 use Rattle.file_closes.specs.declared.phases.ClosePhase.{ClosePhase}
 use Rattle.gate_world.specs.{Worlds.{Entry, Begins, run, opening}, declared.{operations.Op.Op, work.Phase.Phase}}
 use Rattle.operation_laws.specs.Progress.{StartIsKept, CloseIsKept, LockIsKept, AFreezeIsKept}
-use Rattle.gate_core.proofs.Rows.{small, steps, freezes}
+use Rattle.worked_schedules.specs.Schedules.{small, steps}
+use Rattle.worked_schedules.proofs.Rows.{freezes}
 
 -- a freeze beside an idle task inside level 1
 abbrev beside_idle : List Entry
