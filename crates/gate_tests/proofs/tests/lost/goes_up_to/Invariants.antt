@@ -1,4 +1,4 @@
-use Rattle.vfs_gates.specs.TaskStates.{IsFrom}
+use Rattle.gate_tests.specs.Origins.{IsFrom}
 use Rattle.gate_tests.proofs.tests.lost.goes_up_to.Given as goal
 
 abbrev pub invariant-loop-done : goal.invariant-loop-done
