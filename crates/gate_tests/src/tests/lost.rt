@@ -1,12 +1,8 @@
 //! Tasks that are lost: dropped while they hold something, or own something. Whoever is left is refused where he has to be, and only there.
 
-ghost use Rattle.gate_tests.specs.Origins.{IsFrom};
-
 use super::small;
-use super::tasks::{Gates, Task};
 use super::two::{Two, not_closed};
 use access_model::GateError;
-use gate_core::Progress;
 use gate_world::{Config, Op};
 use std::alloc::Global;
 use std::sync::Wait;
@@ -53,29 +49,18 @@ fn a_lost_access_keeps_its_mount_busy(rt: HostRuntime) -> Result<(), Fail> {
     )
 }
 
-/// Begins a change of the first mount to read-only, and does so many of its events. Says whether it goes on.
-fn goes_up_to(task: &mut Task, gates: &Gates, events: u8) -> bool
-    requires { IsFrom task.old gates.now }
-    ensures { IsFrom task.new gates.now }
-{
+/// Gates at which the second task owns `umount`, after so many events of a change.
+fn meet_owner(alloc: Global, events: u8) -> Result<Two, Fail> {
     let change = Op::ChangeMount {
         mount: 0,
         read_only: true,
         wait: true,
     };
-    let mut goes_on = task.begin(change).is_ok();
-    for _done in 0..events {
-        goes_on = goes_on && task.step(gates, Ok(())).progress == Progress::Going;
-    }
-    goes_on
-}
-
-/// Gates at which the second task owns `umount`, after so many events of a change.
-fn meet_owner(alloc: Global, events: u8) -> Result<Two, Fail> {
     let mut two = meet(alloc)?;
-    match &mut two.other {
-        Some(owner) if goes_up_to(owner, &two.gates, events) => Ok(two),
-        _ => Err(Fail::new("the change doesn't go on")),
+    if two.goes(change, events) {
+        Ok(two)
+    } else {
+        Err(Fail::new("the change doesn't go on"))
     }
 }
 
@@ -117,7 +102,6 @@ fn a_task_is_lost_inside_a_level(rt: HostRuntime) -> Result<(), Fail> {
 fn a_task_is_lost_at_rest(rt: HostRuntime) -> Result<(), Fail> {
     let mut two = meet(rt.alloc())?;
     two.lose();
-    let refused = two.one.split(rt.alloc(), &two.gates).err();
-    assert_eq!(rt; refused, Some(GateError::TooMany));
+    assert!(rt; two.refuses_split(rt.alloc()) == Some(GateError::TooMany));
     lose(&rt, two, "", "", "0 ok\n")
 }

@@ -1,12 +1,13 @@
 //! Gates with two tasks of one thread, whose calls are lines of a schedule: each line is a whole call.
 
-ghost use Rattle.std.specs.Prelude.{IfSome};
+ghost use Rattle.std.specs.Prelude.{ForSome};
 ghost use Rattle.gate_tests.specs.Origins.{IsFrom};
 
 use super::tasks::{Gates, Task, close, open};
 use access_model::{GateError, Reply};
 use fakes::expect_text;
 use freeze_levels::FsHooks;
+use gate_core::Progress;
 use gate_world::{Config, Op};
 use schedule_text::{Line, Output, Request, TaskCommand, parse};
 use std::alloc::Global;
@@ -21,7 +22,7 @@ pub struct Two {
     pub one: Task,
     pub other: Option<Task>,
     ghost one_is: { IsFrom one gates },
-    ghost other_is: { IfSome other (λ task. IsFrom task gates) },
+    ghost other_is: { ForSome other (λ task. IsFrom task gates) },
 }
 
 /// The call of a line.
@@ -37,6 +38,18 @@ fn call_of(line: &str) -> Result<(u8, Op), Fail> {
         ) => Ok((task, op)),
         _ => Err(Fail::new(line)),
     }
+}
+
+/// Begins an operation, and does so many of its events. Says whether it goes on.
+fn goes(task: &mut Task, gates: &Gates, op: Op, events: u8) -> bool
+    requires { IsFrom task.old gates.now }
+    ensures { IsFrom task.new gates.now }
+{
+    let mut goes_on = task.begin(op).is_ok();
+    for _done in 0..events {
+        goes_on = goes_on && task.step(gates, Ok(())).progress == Progress::Going;
+    }
+    goes_on
 }
 
 impl Two {
@@ -99,6 +112,19 @@ impl Two {
     ) -> Result<(), Fail> {
         let output = self.print(rt, calls, hooks)?;
         expect_text(output.bytes.as_slice(), answers)
+    }
+
+    /// The second task begins an operation and does so many of its events. Says whether it goes on.
+    pub fn goes(&mut self, op: Op, events: u8) -> bool {
+        let Some(other) = &mut self.other else {
+            return false;
+        };
+        goes(other, &self.gates, op, events)
+    }
+
+    /// Splits a task off the first one, and says why not.
+    pub fn refuses_split(&mut self, alloc: Global) -> Option<GateError> {
+        self.one.split(alloc, &self.gates).err()
     }
 
     /// Drops the second task.
