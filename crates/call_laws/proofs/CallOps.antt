@@ -1,5 +1,5 @@
 -- All that is proved of the beginnings and the traces of the operations at the tree.
-use Rattle.std.{proofs.{Common.{not, sym, ◌≡◌, ℕ, Bool, true, arith, refl}, lemmas.Bool.ltb-true}, specs.Prelude.{nat_lt, false}}
+use Rattle.std.{proofs.{Common.{not, sym, ap, ◌≡◌, ℕ, Bool, true, arith, refl}, lemmas.Bool.ltb-true}, specs.Prelude.{nat_lt, false}}
 use Rattle.access_model.specs.declared.actions.Kind.{Kind}
 use Rattle.gate_world.specs.{Traces.most_events, declared.{config.Config.Config, operations.Op.Op}}
 use Rattle.gate_frames.proofs.{CreateTraces.{create_tells, create_short}, GrowTraces.{grow_tells, grow_short}, Agreeing.{none_agree, writer_agrees, faulter_agrees}, Keeps.{by_bool, IsSmall, OpKeeps}}

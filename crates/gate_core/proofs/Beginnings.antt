@@ -1,5 +1,5 @@
 -- What it means that an operation may begin.
-use Rattle.std.proofs.{Common.{◌≡◌, ℕ, Bool, true, false, refl, ap, inl, inr, true≢false}, lemmas.Bool.cases_Bool}
+use Rattle.std.proofs.{Common.{◌≡◌, ℕ, Bool, true, false, refl, sym, ap, inl, inr, true≢false}, lemmas.Bool.cases_Bool}
 use Rattle.std.specs.Prelude.{if◌then◌else◌, is_some, Option, Some, None, Result, Ok, Err}
 use Rattle.access_model.specs.declared.errors.GateError.{GateError}
 use Rattle.gate_world.specs.{Beginnings.{first_phase, is_in_range, is_in_order, is_within_room, refusal, or_refusal}, Fits.Fits}

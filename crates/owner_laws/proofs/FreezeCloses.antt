@@ -1,5 +1,5 @@
 -- The events of a freeze on the words of a level that it closes.
-use Rattle.std.proofs.Common.{◌≡◌, ◌⊎◌, ℕ, ◌<◌, ◌≤◌, Bool, true, false, refl, sym, ap, ◌∙◌, inl, inr, arith, true≢false, nat_lt}
+use Rattle.std.proofs.Common.{◌≡◌, ◌⊎◌, ℕ, ◌<◌, ◌≤◌, Bool, true, false, refl, sym, ap, subst, ◌∙◌, inl, inr, arith, true≢false, nat_lt}
 use Rattle.std.proofs.lemmas.Bool.{eq-eqb, cases_Bool, Decides.eqb_tells}
 use Rattle.std.specs.Prelude.{◌==◌, if◌then◌else◌, Option, Some, None, Ok}
 use Rattle.finite_sums.{proofs.Totals.total_at, specs.Sums.{update, total}}
