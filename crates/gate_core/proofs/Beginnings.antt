@@ -1,11 +1,14 @@
 -- What it means that an operation may begin.
-use Rattle.std.proofs.Common.{sym}
-use Rattle.std.proofs.{Common.{◌≡◌, ℕ, Bool, true, false, refl, ap, inl, inr, true≢false}, lemmas.Bool.cases_Bool}
-use Rattle.std.specs.Prelude.{if◌then◌else◌, is_some, Option, Some, None, Result, Ok, Err}
 use Rattle.access_model.specs.declared.errors.GateError.{GateError}
-use Rattle.gate_world.specs.{Beginnings.{first_phase, is_in_range, is_in_order, is_within_room, refusal, or_refusal}, Fits.Fits}
-use Rattle.gate_world.specs.{Holdings.{Holdings, Agree}, declared.{config.Config.Config, operations.Op.Op}}
 use Rattle.gate_core.proofs.Layers.{op_keeps}
+use Rattle.gate_world.specs.Beginnings.{first_phase, is_in_order, is_in_range, is_within_room, or_refusal, refusal}
+use Rattle.gate_world.specs.Fits.{Fits}
+use Rattle.gate_world.specs.Holdings.{Agree, Holdings}
+use Rattle.gate_world.specs.declared.config.Config.{Config}
+use Rattle.gate_world.specs.declared.operations.Op.{Op}
+use Rattle.std.proofs.Common.{Bool, ap, false, inl, inr, refl, sym, true, true≢false, ℕ, ◌≡◌}
+use Rattle.std.proofs.lemmas.Bool.{cases_Bool}
+use Rattle.std.specs.Prelude.{Err, None, Ok, Option, Result, Some, if◌then◌else◌, is_some}
 
 -- nothing else is under way, its numbers are in range, and the task holds what it may
 pub record MayBegin (c : Config) (under_way : Bool) (held : Holdings) (op : Op) : Type 0 where

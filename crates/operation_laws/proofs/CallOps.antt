@@ -1,5 +1,4 @@
 -- All that is proved of the beginnings and the traces of the operations at the tree.
-use Rattle.std.proofs.Common.{ap}
 use Rattle.access_model.specs.declared.actions.Kind.{Kind}
 use Rattle.gate_frames.proofs.Agreeing.{faulter_agrees, none_agree, writer_agrees}
 use Rattle.gate_frames.proofs.CreateTraces.{create_short, create_tells}
@@ -14,7 +13,7 @@ use Rattle.gate_frames.proofs.TreeHolders.{both_true}
 use Rattle.gate_world.specs.Traces.{most_events}
 use Rattle.gate_world.specs.declared.config.Config.{Config}
 use Rattle.gate_world.specs.declared.operations.Op.{Op}
-use Rattle.std.proofs.Common.{Bool, arith, not, refl, sym, true, ℕ, ◌≡◌}
+use Rattle.std.proofs.Common.{Bool, ap, arith, not, refl, sym, true, ℕ, ◌≡◌}
 use Rattle.std.proofs.lemmas.Bool.{ltb-true}
 use Rattle.std.specs.Prelude.{false, nat_lt}
 

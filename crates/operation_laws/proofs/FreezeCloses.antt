@@ -1,5 +1,4 @@
 -- The events of a freeze on the words of a level that it closes.
-use Rattle.std.proofs.Common.{subst}
 use Rattle.access_model.specs.Replies.{map_next}
 use Rattle.access_model.specs.declared.actions.Action.{Action}
 use Rattle.access_model.specs.declared.replies.Next.{Next}
@@ -58,7 +57,7 @@ use Rattle.stage_laws.proofs.Facts.{at_level}
 use Rattle.stage_laws.specs.Events.{Happens, Passes, SetsBlock as SetsBlockStage, StageEvent, Stays, action_of as stage_action_of, playing}
 use Rattle.stage_laws.specs.Roles.{Before, CleanBelow, Closing, Freezing, HasPassed, Place, bit, has_position, owns as stage_owns}
 use Rattle.stage_laws.specs.Shown.{state_after}
-use Rattle.std.proofs.Common.{Bool, ap, arith, false, inl, inr, nat_lt, refl, sym, true, true≢false, ℕ, ◌<◌, ◌∙◌, ◌≡◌, ◌≤◌, ◌⊎◌}
+use Rattle.std.proofs.Common.{Bool, ap, arith, false, inl, inr, nat_lt, refl, subst, sym, true, true≢false, ℕ, ◌<◌, ◌∙◌, ◌≡◌, ◌≤◌, ◌⊎◌}
 use Rattle.std.proofs.lemmas.Bool.{cases_Bool, eq-eqb}
 use Rattle.std.proofs.lemmas.Bool.Decides.{eqb_tells}
 use Rattle.std.specs.Prelude.{None, Ok, Option, Some, if◌then◌else◌, ◌==◌}
