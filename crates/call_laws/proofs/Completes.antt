@@ -6,9 +6,8 @@ use Rattle.gated_tree.specs.{Phases.at_snapshot, Roles.{RoleHolds, tree_word, se
 use Rattle.gated_tree.specs.declared.{phases.TreePhase.TreePhase, snapshots.{Snapshot.Snapshot, SnapshotStep.SnapshotStep}, trees.TreeWords.TreeWords}
 use Rattle.stage_laws.specs.Roles.{KnowsStage}
 use Rattle.gate_world.specs.{Configs.IsWithin, Fits.{Fits, PhaseFits}, Moments.{IsPresentTree, CompletesNow}, Rules.{IsGood, Fitting, Stages, Tree}}
-use Rattle.gate_world.specs.{Snapshots.{loads_noted, values_noted, snapshot_completes}, Trees.{tree_bounds, tree_role_of}}
-use Rattle.gate_world.specs.Shown.{stage_role_of}
-use Rattle.gate_world.specs.{Views.{held_at, holds_level}, Worlds.World, declared.{config.Config.Config, work.Phase.Phase}}
+use Rattle.gate_world.specs.{Shown.stage_role_of, Snapshots.{loads_noted, values_noted, snapshot_completes}, Trees.{tree_bounds, tree_role_of}, Views.held_at}
+use Rattle.gate_world.specs.{Views.holds_level, Worlds.World, declared.{config.Config.Config, work.Phase.Phase}}
 use Rattle.call_laws.proofs.{NodeCauses.some_is, Noted.{IsLong, loaded_long, noted_long, last_load, AreWords}}
 
 nothing_is_some : {A : Type 0} (a : A) → None ≡ Some a → ⊥

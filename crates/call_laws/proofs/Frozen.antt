@@ -7,11 +7,10 @@ use Rattle.mount_counts.specs.declared.remounts.RemountStep.{RemountStep}
 use Rattle.tree_laws.proofs.Clearings.{exact}
 use Rattle.freeze_levels.specs.declared.freezes.FreezeStep.{FreezeStep}
 use Rattle.file_closes.specs.declared.phases.ClosePhase.{ClosePhase}
-use Rattle.gate_world.specs.{Configs.IsWithin, Fits.{CloseFits, Fits}, Headline.{TreeIsSound, FrozenTreeIsWhole}, Operations.is_writer}
-use Rattle.gate_world.specs.{Rules.{IsGood, Tree, Fitting}, Snapshots.values_noted}
-use Rattle.gate_world.specs.Trees.{tree_bounds, tree_of, tree_role_of, tree_roles}
-use Rattle.gate_world.specs.Roles.{close_tree_role, remount_tree_role, freeze_tree_role}
-use Rattle.gate_world.specs.{Views.{held_at, holds_level}, Worlds.World, declared.{config.Config.Config, views.Traced.Traced, work.Phase.Phase}}
+use Rattle.gate_world.specs.{Configs.IsWithin, Fits.{CloseFits, Fits}, Headline.{TreeIsSound, FrozenTreeIsWhole}, Operations.is_writer, Roles.close_tree_role}
+use Rattle.gate_world.specs.{Roles.{remount_tree_role, freeze_tree_role}, Rules.{IsGood, Tree, Fitting}, Snapshots.values_noted, Trees.{tree_bounds, tree_of}}
+use Rattle.gate_world.specs.{Trees.{tree_role_of, tree_roles}, Views.{held_at, holds_level}, Worlds.World, declared.config.Config.Config}
+use Rattle.gate_world.specs.declared.{views.Traced.Traced, work.Phase.Phase}
 use Rattle.gate_frames.proofs.{CloseEvents.{closer_thawed, removal_counted}, TreeHolders.writer_not_frozen, Trees.sealed_frozen}
 
 pub snapshot_charges_none : (nodes : ℕ) (values : ℕ → ℕ) (s : SnapshotStep) → HasNoCharge (snapshot_role nodes values s)

@@ -5,27 +5,21 @@ use Rattle.std.proofs.lemmas.Bool.{cases_Bool, Decides.eqb_tells}
 use Rattle.std.specs.Prelude.{◌==◌, ◌&&◌, List, Option, Some, None, Result, Ok, Err}
 use Rattle.access_model.specs.{Replies.map_next, States.is_removed, declared.{actions.Action.Action, errors.GateError.GateError, replies.Next.Next}}
 use Rattle.cpu_words.specs.Hooks.{HookAnswer}
-use Rattle.gate_counts.specs.Levels.{Out as CountsNot}
 use Rattle.gated_tree.proofs.Words.{word_shows, word_opens}
 use Rattle.gated_tree.specs.{Calls.role_after, Nodes.{word_of, node_shown, any_file_in, opens_in, info_of}, Phases.after_look, Roles.{Freeing, Dropped}}
 use Rattle.gated_tree.specs.declared.nodes.NodeWord.{NodeWord}
 use Rattle.tree_laws.specs.{Events.HasLeave, Steps.EventKeeps}
-use Rattle.level_laws.specs.{Events.SyncStep, Roles.Out as IsApart}
+use Rattle.level_laws.specs.{Events.SyncStep}
 use Rattle.file_closes.specs.{Phases.{next, after, enters, closed_from}, declared.phases.{ClosePhase.ClosePhase, Closing.Closing}}
 use Rattle.gate_world.specs.{Configs.{IsWithin, model_limits}, Fits.{Fits, CloseFits, MayLower, HasFile, file_of, opens_by}, LevelRuns.level_in}
-use Rattle.gate_world.specs.{Rules.{IsGood, Fitting, Tree, Files, StepKeeps}, Shown.shown}
-use Rattle.gate_world.specs.Trees.{tree_bounds, tree_roles, tree_role_of, is_sealed, is_bare_at}
-use Rattle.gate_world.specs.Roles.{count_role_if, sync_role_if, close_tree_role, no_roles}
-use Rattle.gate_world.specs.{Views.{held_at, holds_level, has_open, phase_after, view_after}, Worlds.{World, value_at, found_at, after_step}}
-use Rattle.gate_world.specs.declared.{config.Config.Config, views.{Traced.Traced, View.View}, work.Phase.Phase}
+use Rattle.gate_world.specs.{Roles.{close_tree_role, no_roles}, Rules.{IsGood, Fitting, Tree, Files, StepKeeps}, Shown.shown, Trees.{tree_bounds, tree_roles}}
+use Rattle.gate_world.specs.{Trees.{tree_role_of, is_sealed, is_bare_at}, Views.{held_at, holds_level, has_open, phase_after, view_after}, Worlds.World}
+use Rattle.gate_world.specs.{Worlds.{value_at, found_at, after_step}, declared.{config.Config.Config, views.{Traced.Traced, View.View}, work.Phase.Phase}}
 use Rattle.gate_frames.proofs.CloseEvents.{close_loads, close_lowers, close_frees, close_drops, close_uncounts, frees_alone, closer_unread, freeing_removed}
-use Rattle.gate_frames.proofs.CloseEvents.{dropped_removed}
-use Rattle.gate_frames.proofs.{Keeps.by_bool, MayTree.LeaveFor, NodeEvents.{IsPlain, plain_parts, tree_run}}
+use Rattle.gate_frames.proofs.{CloseEvents.dropped_removed, Frames.{count_none, sync_none}, MayTree.LeaveFor, NodeEvents.{IsPlain, plain_parts, tree_run}}
 use Rattle.gate_frames.proofs.NodeParts.{is_node_word, node_call, LeavesAccesses, leaves_none, leaves_if, IsOffGates, idle_off, IsAtTree, fitting_then}
-use Rattle.gate_frames.proofs.NodeParts.{tree_then, files_then, shown_moves}
-use Rattle.gate_frames.proofs.Trees.{tree_within}
+use Rattle.gate_frames.proofs.{NodeParts.{tree_then, files_then, shown_moves}, Trees.tree_within}
 use Rattle.close_laws.proofs.CloseFits.{close_goes}
-use Rattle.gate_frames.proofs.Frames.{count_none, sync_none}
 
 -- the events at the tree
 abbrev pub is_at_tree : ClosePhase → Bool

@@ -1,7 +1,7 @@
 -- The events of a close at level 3: the law of each is that of the level's own event, but for the tree and the open files, which the event
 -- leaves alone.
 use Rattle.std.proofs.{Common.{◌≡◌, ℕ, ◌<◌, ◌⊎◌, Bool, true, refl, sym, ap, ◌∙◌, subst, inl, inr, arith}, lemmas.Bool.cases_Bool}
-use Rattle.std.specs.Prelude.{◌==◌, Option, Some, None, Ok, Err, List}
+use Rattle.std.specs.Prelude.{◌==◌, Option, Some, Ok, Err, List}
 use Rattle.finite_sums.{proofs.Totals.{each_updated, update_at}, specs.Sums.update}
 use Rattle.access_model.specs.{Replies.map_next, States.openers, declared.{actions.Action.Action, replies.{Next.Next, Reply.Reply}}}
 use Rattle.cpu_words.specs.{Hooks.HookAnswer, Words.{Words, read}}

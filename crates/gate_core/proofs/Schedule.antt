@@ -22,7 +22,7 @@ use Rattle.gate_world.specs.{Shown.shown, Trees.{tree_bounds, tree_role_of}, Vie
 use Rattle.gate_world.specs.Worlds.{World, Entry, Begins, Steps, after_begin, begin_of, step_of, happens, phase_action, action_of, task_of, with_action, run}
 use Rattle.gate_world.specs.Worlds.{opening, history}
 use Rattle.gate_world.specs.declared.{config.Config.Config, operations.Op.Op, views.View.View, work.Phase.Phase}
-use Rattle.gate_frames.proofs.{Beside.{beside_of, beside_good, beside_shown}, Frames.{same_words, left_alone, opens_left}, Trees.tree_within}
+use Rattle.gate_frames.proofs.{Beside.{SameCounts, beside_of, beside_good, beside_shown}, Frames.{same_words, left_alone, opens_left}, Trees.tree_within}
 use Rattle.gate_core.proofs.{Beginnings.{MayBegin, may_begin, first_fits}, Layers.{phase_keeps, op_keeps}}
 
 pub idle_is : (p : Option Phase) → is_some p ≡ false → p ≡ None
@@ -47,6 +47,7 @@ module _ (c : Config) (lim : IsWithin c) (w : World) (good : IsGood c w) (t : �
   pub begun_keeps : (op : Op) → MayBeginAt c (w.views t) op → IsGood c (after_begin c w t op) × (shown c (after_begin c w t op) ≡ shown c w)
   begun_keeps op h =
       let v : View = begun_view (w.views t) op (first_phase c t op) in
+      let counts : SameCounts (w.views t) v = assumption in
       let known : Holds c (after_begin c w t op) Known =
       λ x lx. each_updated (λ y (u : View). owns u.phase ≡ 1 → KnowsWords w.words u.trace) w.views t v x
       (λ o word value k. absurd (true≢false (ap is_some (sym k)))) (λ ne. good Known x lx) in
@@ -55,12 +56,12 @@ module _ (c : Config) (lim : IsWithin c) (w : World) (good : IsGood c w) (t : �
         own = λ y ly. each_updated (λ z (u : View). HasFile (has_open u) (file_of u.phase)) w.views t v y
             ((op_keeps c op).file t (has_open (w.views t)) h.of_open h.of_closed) (λ ne. (good Files).own y ly);
       } in (
-        beside_good c w t lt v refl refl (begins_aside op h)
+        beside_good c w t lt v counts (begins_aside op h)
             (first_fits c t (is_some (w.views t).phase) (held_at (w.views t)) (holds_level (w.views t)) (has_open (w.views t)) op h) good known
             (left_alone c w t lt Tree w.words v (same_words w.words Tree)
             ((λ j. ((op_keeps c op).starts_aside t j).tree []) ∙ sym (ap (tree_role_of (w.views t).trace) (idle_is (w.views t).phase h.idle)))
             (good Tree)) files,
-        beside_shown c w t lt v refl refl (begins_aside op h),
+        beside_shown c w t lt v counts (begins_aside op h),
       )
 
 module _ (c : Config) (lim : IsWithin c) where

@@ -3,16 +3,15 @@
 use Rattle.std.proofs.{Common.{◌≡◌, ℕ, ◌<◌, refl, sym, ap, ◌∙◌, subst, inl, inr, Bool, true, false, true≢false}, Math.Path.fun_ext}
 use Rattle.std.{proofs.lemmas.Bool.Decides.eqb_tells, specs.Prelude.{if◌then◌else◌, Option}}
 use Rattle.finite_sums.{proofs.Totals.{update_at, update_off, each_updated}, specs.Sums.update}
-use Rattle.access_model.specs.{Histories.{mounts_of, levels_of, opens_of}, declared.{actions.Action.Action, replies.Next.Next}}
+use Rattle.access_model.specs.declared.{actions.Action.Action, replies.Next.Next}
 use Rattle.cpu_words.specs.{Hooks.HookAnswer, Touches.left, Words.{read, put}, declared.{events.Touch.Touch, names.WordName.WordName}}
 use Rattle.level_laws.specs.Events.{SyncStep}
 use Rattle.stage_laws.specs.Roles.{sums}
-use Rattle.gate_world.specs.{Alike.{off_tree, IsBeside, at_phase, rephased}, Fits.{Fits, mounts_by, levels_by}, LevelRuns.level_in}
-use Rattle.gate_world.specs.{Levels.{level_added_by, level_taken_by}, Roles.{Roles, roles_of}}
-use Rattle.gate_world.specs.Rules.{ViewFits, Part, Owner, Stages, Holding, Fitting, Known, AtMount, Holds, IsGood, Moves, Tree, Files, AtLevel, SyncAt}
-use Rattle.gate_world.specs.Rules.{SameView, Sections}
-use Rattle.gate_world.specs.{Shown.shown, Views.{held_at, holds_level, added_by, taken_by, phase_after, view_with}, Worlds.World}
-use Rattle.gate_world.specs.declared.{config.Config.Config, views.View.View, work.Phase.Phase}
+use Rattle.gate_world.specs.{Alike.{off_tree, IsBeside, at_phase, rephased}, Fits.{Fits, mounts_by, levels_by}, LevelRuns.level_in, Levels.level_added_by}
+use Rattle.gate_world.specs.{Levels.level_taken_by, Roles.{Roles, roles_of}, Rules.{ViewFits, Part, Owner, Stages, Holding, Fitting, Known, AtMount, Holds}}
+use Rattle.gate_world.specs.{Rules.{IsGood, Moves, Tree, Files, AtLevel, SyncAt, SameView, Sections}, Shown.shown, Views.{held_at, holds_level, has_open}}
+use Rattle.gate_world.specs.{Views.{added_by, taken_by, phase_after, view_with}, Worlds.World, declared.{config.Config.Config, views.View.View}}
+use Rattle.gate_world.specs.declared.work.Phase.{Phase}
 use Rattle.gate_frames.proofs.{Accesses.{mounts_of_after, levels_of_after}, Frames.{same_words, shown_still, left_alone}, LevelSteps.level_kept}
 
 pub beside_of : {p q : Option Phase} {r : Roles} → p ≡ q → r ≡ off_tree (roles_of q) → r ≡ off_tree (roles_of p)
@@ -26,23 +25,33 @@ is_beside Tree = false
 is_beside Files = false
 is_beside part = true
 
--- a view at another phase that stands beside its own
-module _ (c : Config) (w : World) (t : ℕ) (lt : t < c.tasks) (v : View) (actions : v.actions ≡ (w.views t).actions)
-    (events : v.events ≡ (w.views t).events) (same : IsBeside (w.views t).phase v.phase) where
+-- a view holds what the other holds, and has counted what the other has
+pub record SameCounts (old new : View) : Type 0 where
+  pub held_same : held_at new ≡ held_at old
+  pub levels_same : holds_level new ≡ holds_level old
+  pub opens_same : has_open new ≡ has_open old
+  pub added_same : added_by new.events ≡ added_by old.events
+  pub taken_same : taken_by new.events ≡ taken_by old.events
+  pub level_added_same : level_added_by new.events ≡ level_added_by old.events
+  pub level_taken_same : level_taken_by new.events ≡ level_taken_by old.events
+
+-- One law for what changes no word and of roles only those at the tree, be it a beginning, a load or a phase that stands for another.
+module _ (c : Config) (w : World) (t : ℕ) (lt : t < c.tasks) (v : View) (counts : SameCounts (w.views t) v)
+    (same : IsBeside (w.views t).phase v.phase) where
   seen_beside : (part : Part) → is_beside part ≡ true → SameView (w.views t) v part
   seen_beside Owner h = (λ j. (same j).owns, λ j. (same j).remounts)
   seen_beside Stages h = λ j. (same j).stage
   seen_beside Holding h = λ j. (same j).holder
   seen_beside (AtMount m) h = λ j. record {
-    held = mounts_of (actions j) m;
-    added = added_by (events j) m;
-    taken = taken_by (events j) m;
+    held = counts.held_same j m;
+    added = counts.added_same j m;
+    taken = counts.taken_same j m;
     role = (same j).mount m;
   }
   seen_beside (AtLevel i) h = λ j. record {
-    held = if levels_of (actions j) i then 1 else 0;
-    added = level_added_by (events j) i;
-    taken = level_taken_by (events j) i;
+    held = if counts.levels_same j i then 1 else 0;
+    added = counts.level_added_same j i;
+    taken = counts.level_taken_same j i;
     role = (same j).count i;
   }
   seen_beside (SyncAt i) h = λ j. (same j).sync i
@@ -65,8 +74,12 @@ module _ (c : Config) (w : World) (t : ℕ) (lt : t < c.tasks) (v : View) (actio
   -- the shown model is the same
   pub beside_shown : shown c (record { words = w.words; views = update w.views t v }) ≡ shown c w
   beside_shown =
-      shown_still c w t lt w.words v refl refl refl refl refl refl refl (λ i j. sums i (same j).stage) (ap mounts_of actions)
-      (ap levels_of actions) (ap opens_of actions)
+      shown_still c w t lt w.words v refl refl refl refl refl refl refl (λ i j. sums i (same j).stage) counts.held_same counts.levels_same
+      counts.opens_same
+
+-- the same accesses and events count the same
+pub same_counts : (v : View) (q : Option Phase) → SameCounts v (at_phase v q)
+same_counts v q = assumption
 
 module _ (c : Config) (w : World) (t : ℕ) (lt : t < c.tasks) (q : Option Phase) (same : IsBeside (w.views t).phase q) where
   -- what an owner knows, its trace tells
@@ -77,10 +90,10 @@ module _ (c : Config) (w : World) (t : ℕ) (lt : t < c.tasks) (q : Option Phase
   pub rephased_beside : Fits c t (held_at (w.views t)) (holds_level (w.views t)) q → IsGood c w → Holds c (rephased w t q) Tree →
       Holds c (rephased w t q) Files → IsGood c (rephased w t q)
   rephased_beside fits good tree files =
-      beside_good c w t lt (at_phase (w.views t) q) refl refl same fits good (known_beside (good Known)) tree files
+      beside_good c w t lt (at_phase (w.views t) q) (same_counts (w.views t) q) same fits good (known_beside (good Known)) tree files
 
   pub shown_beside : shown c (rephased w t q) ≡ shown c w
-  shown_beside = beside_shown c w t lt (at_phase (w.views t) q) refl refl same
+  shown_beside = beside_shown c w t lt (at_phase (w.views t) q) (same_counts (w.views t) q) same
 
 pub beside_level : (w : World) (t : ℕ) (q : Option Phase) → IsBeside (w.views t).phase q → (i : ℕ) →
     level_in (rephased w t q) i ≡ level_in w i

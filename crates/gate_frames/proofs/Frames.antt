@@ -10,17 +10,14 @@ use Rattle.gated_tree.specs.{Nodes.{node_shown, opens_in}, Roles.{Role as TreeRo
 use Rattle.mount_counts.specs.Roles.{Role, Out, MountView, ro_bit, MountHolds}
 use Rattle.freeze_levels.specs.Holders.{holders_in}
 use Rattle.level_laws.specs.Roles.{Out as IsApart, SyncRole, SyncNumberHolds}
-use Rattle.stage_laws.specs.Roles.{StageRole, StagesHold, sums}
+use Rattle.stage_laws.specs.Roles.{StageRole, StagesHold}
 use Rattle.holder_laws.specs.Roles.{HolderRole, HoldersHold}
-use Rattle.gate_world.specs.Fits.{Fits, HasFile, file_of}
-use Rattle.gate_world.specs.{Levels.{inside, at_level, level_role_of, is_frozen_whole, level_added_by, sync_role_of, level_taken_by}, Owners.KnowsWords}
-use Rattle.gate_world.specs.Rules.{at_mount, owns, remounts, IsSteady, OwnerHolds, ViewFits, Part, Owner, Stages, Holding, Fitting, AtMount, Holds}
-use Rattle.gate_world.specs.Rules.{SameWords, SameView, GatesHold, IsGood, Known, Tree, AtLevel, SyncAt, Sections, Files}
-use Rattle.gate_world.specs.{Shown.{shown, closing, is_passed, stage_roles, holder_roles}, Trees.{tree_bounds, tree_role_of, tree_roles}}
-use Rattle.gate_world.specs.Roles.{Roles, no_roles, roles_of, role_if, count_role_if, sync_role_if}
-use Rattle.gate_world.specs.Shown.{holder_role_of, stage_role_of}
-use Rattle.gate_world.specs.{Views.{held_at, holds_level, added_after, taken_after, has_open}, Worlds.World}
-use Rattle.gate_world.specs.declared.{config.Config.Config, views.View.View, work.Phase.Phase}
+use Rattle.gate_world.specs.{Fits.{Fits, HasFile, file_of}, Levels.{inside, at_level, is_frozen_whole, level_added_by, sync_role_of, level_taken_by}}
+use Rattle.gate_world.specs.{Owners.KnowsWords, Roles.{Roles, no_roles, roles_of, role_if, count_role_if, sync_role_if}, Rules.{at_mount, owns, remounts}}
+use Rattle.gate_world.specs.Rules.{IsSteady, OwnerHolds, ViewFits, Part, Owner, Stages, Holding, Fitting, AtMount, Holds, SameWords, SameView, GatesHold}
+use Rattle.gate_world.specs.{Rules.{IsGood, Known, Tree, AtLevel, SyncAt, Sections, Files}, Shown.{shown, closing, is_passed, stage_roles, holder_roles}}
+use Rattle.gate_world.specs.{Shown.{holder_role_of, stage_role_of}, Trees.{tree_bounds, tree_role_of, tree_roles}, Views.{held_at, holds_level, added_after}}
+use Rattle.gate_world.specs.{Views.{taken_after, has_open}, Worlds.World, declared.{config.Config.Config, views.View.View, work.Phase.Phase}}
 use Rattle.gate_frames.proofs.Known.{known_same}
 
 pub added_load : (name : WordName) (added : ℕ → ℕ → ℕ) → added_after name Touch.Load added ≡ added
@@ -97,6 +94,10 @@ same_words w Files = refl
 same_words w (AtLevel i) = (refl, refl, refl)
 same_words w Sections = refl
 same_words w other = (refl, refl, refl, refl)
+
+-- so are words that differ in some alone, to each part that doesn't read these: there its two sides compute to the words themselves
+pub unwritten : {old new : Words} → new ≡ old → (part : Part) → SameWords old new part
+unwritten {old} e part = subst (λ ws. SameWords old ws part) (sym e) (same_words old part)
 
 -- one mount after an event of this task, which makes this of its flags and counts and of the task's view
 abbrev pub MountHoldsAfter : Config → World → ℕ → ℕ → ℕ → (ℕ → ℕ) → MountView → Type 0

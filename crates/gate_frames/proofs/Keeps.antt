@@ -3,12 +3,11 @@ use Rattle.std.{proofs.Common.{◌≡◌, ℕ, ◌<◌, ◌≤◌, Bool, true, f
 use Rattle.access_model.specs.{Histories.{mounts_of, levels_of, opens_of}, declared.{actions.Action.Action, errors.GateError.GateError}}
 use Rattle.cpu_words.specs.{Hooks.HookAnswer, Names.{IsWord, Extents}, declared.names.WordName.WordName}
 use Rattle.level_laws.specs.Events.{SyncStep}
-use Rattle.gate_world.specs.{Beginnings.{first_phase, is_in_range, is_in_order, is_within_room}, Causes.{all_counted, all_inside}}
-use Rattle.gate_world.specs.{Configs.{IsWithin, extents_of, extents_among}, Courses.{course_of, IsTrace}}
-use Rattle.gate_world.specs.{Fits.{PhaseFits, Fits, ActionFits, mounts_by, levels_by, HasFile, file_of}, KeptCauses.CauseOf, LevelRuns.level_in}
-use Rattle.gate_world.specs.{Moments.CompletesNow, Operations.{holds_none, is_of_open, is_of_closed}, Roles.{no_roles, roles_of}, Rules.{IsGood, StepKeeps}}
-use Rattle.gate_world.specs.{Traces.{actions_of, Tells, IsShort, most_events}, Views.{phase_after, held_at, holds_level}, Waits.HasReason}
-use Rattle.gate_world.specs.{Work.{next_of, after_of}, Worlds.{World, after_step, found_at}}
+use Rattle.gate_world.specs.{Beginnings.{first_phase, is_in_range, is_in_order, is_within_room}, Causes.{all_counted, all_inside}, Configs.IsWithin}
+use Rattle.gate_world.specs.{Configs.{extents_of, extents_among}, Courses.{course_of, IsTrace}, Fits.{PhaseFits, Fits, ActionFits, mounts_by, levels_by}}
+use Rattle.gate_world.specs.{Fits.{HasFile, file_of}, KeptCauses.CauseOf, LevelRuns.level_in, Moments.CompletesNow, Operations.{holds_none, is_of_open}}
+use Rattle.gate_world.specs.{Operations.is_of_closed, Roles.{no_roles, roles_of}, Rules.{IsGood, StepKeeps}, Traces.{actions_of, Tells, IsShort, most_events}}
+use Rattle.gate_world.specs.{Views.{phase_after, held_at, holds_level}, Waits.HasReason, Work.{next_of, after_of}, Worlds.{World, after_step, found_at}}
 use Rattle.gate_world.specs.declared.{config.Config.Config, operations.Op.Op, views.Traced.Traced, work.Phase.Phase}
 
 pub by_bool : (b : Bool) (P : Bool → Type 0) → P true → P false → P b

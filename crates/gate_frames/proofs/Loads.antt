@@ -1,13 +1,11 @@
 -- Loads of a task at a mount: they leave the words and the shown model.
-use Rattle.std.{proofs.Common.{◌≡◌, ℕ, ◌<◌, refl, sym, ap, ◌∙◌, subst}, specs.Prelude.{◌==◌, Option, Some, None, true, false}}
+use Rattle.std.{proofs.Common.{◌≡◌, ℕ, ◌<◌, refl, sym, ap, ◌∙◌, subst}, specs.Prelude.{Option, Some, None}}
 use Rattle.finite_sums.{proofs.Totals.update_same, specs.Sums.update}
 use Rattle.access_model.specs.declared.replies.Next.{Next}
 use Rattle.cpu_words.specs.{Hooks.HookAnswer, Words.{read, put}, declared.{events.Touch.Touch, names.WordName.WordName}}
-use Rattle.mount_counts.specs.{Roles.Out, declared.phases.MountPhase.MountPhase}
-use Rattle.gate_world.specs.Fits.{Fits, MountFits}
-use Rattle.gate_world.specs.Rules.{role_of, at_mount, owns, remounts, IsSteady, IsGood, Fitting, AtMount, GatesHold}
-use Rattle.gate_world.specs.Roles.{role_if, mount_owns}
-use Rattle.gate_world.specs.{Shown.{shown, closing}, Views.{held_at, holds_level, added_by, taken_by, phase_after, view_with}, Worlds.World}
+use Rattle.mount_counts.specs.{declared.phases.MountPhase.MountPhase}
+use Rattle.gate_world.specs.{Fits.{Fits, MountFits}, Roles.mount_owns, Rules.{role_of, at_mount, owns, remounts, IsSteady, IsGood, Fitting, AtMount}}
+use Rattle.gate_world.specs.{Rules.GatesHold, Shown.{shown, closing}, Views.{held_at, holds_level, added_by, taken_by, phase_after, view_with}, Worlds.World}
 use Rattle.gate_world.specs.declared.{config.Config.Config, views.View.View, work.Phase.Phase}
 use Rattle.gate_frames.proofs.{Frames.{added_load, taken_load, view_as, holds_as, MountHoldsAfter, shown_still, owner_same, gates_after}, Words.load_same}
 

@@ -15,13 +15,11 @@ use Rattle.mount_counts.specs.{Roles.{mount_as_gate, barring_of, skips}, Sets.ha
 use Rattle.tree_laws.specs.{Events.{HasLeave, MayClean}, Steps.{MayStep, MayMark}}
 use Rattle.freeze_levels.specs.declared.freezes.FreezeStep.{FreezeStep}
 use Rattle.stage_laws.specs.Roles.{passed_by}
-use Rattle.gate_world.specs.{Configs.model_limits, Fits.{HasFile, file_of, Fits, PhaseFits, TreeAccess}}
-use Rattle.gate_world.specs.{Operations.{is_writer, is_faulter, may_mark, some_mount}, Remounts.{loop_role, remount_role, remount_sets}}
-use Rattle.gate_world.specs.{Rules.{Files, AtMount, at_mount, role_of, IsGood, Fitting, Owner, remounts}, Shown.shown, Snapshots.values_noted}
-use Rattle.gate_world.specs.Trees.{is_bare_at, tree_bounds, tree_of, tree_role_of, tree_roles}
-use Rattle.gate_world.specs.Roles.{freeze_stage_role, remount_tree_role, freeze_tree_role, nodes_noted}
-use Rattle.gate_world.specs.Shown.{stage_role_of}
-use Rattle.gate_world.specs.{Views.{has_open, held_at, holds_level}, Worlds.World, declared.{config.Config.Config, views.Traced.Traced, work.Phase.Phase}}
+use Rattle.gate_world.specs.{Configs.model_limits, Fits.{HasFile, file_of, Fits, PhaseFits, TreeAccess}, Operations.{is_writer, is_faulter, may_mark}}
+use Rattle.gate_world.specs.{Operations.some_mount, Remounts.{loop_role, remount_role, remount_sets}, Roles.{freeze_stage_role, remount_tree_role}}
+use Rattle.gate_world.specs.{Roles.{freeze_tree_role, nodes_noted}, Rules.{Files, AtMount, at_mount, role_of, IsGood, Fitting, Owner, remounts}, Shown.shown}
+use Rattle.gate_world.specs.{Shown.stage_role_of, Snapshots.values_noted, Trees.{is_bare_at, tree_bounds, tree_of, tree_role_of, tree_roles}, Views.has_open}
+use Rattle.gate_world.specs.{Views.{held_at, holds_level}, Worlds.World, declared.{config.Config.Config, views.Traced.Traced, work.Phase.Phase}}
 use Rattle.gate_frames.proofs.TreeHolders.{none_past, IsOpen, both_true, mount_there, writer_apart}
 use Rattle.gate_frames.proofs.{TreeRoles.{call_plain, snapshot_apart, close_apart, freeze_apart}, Trees.{nobody_reads, sealed_frozen}}
 

@@ -8,11 +8,9 @@ use Rattle.mount_counts.specs.{Roles.{Role, has_hold, skips, ro_bit, hold_bit}, 
 use Rattle.mount_counts.specs.declared.{phases.{ChangeStep.ChangeStep, MountPhase.MountPhase, WantStep.WantStep}, remounts.RemountStep.RemountStep}
 use Rattle.stage_laws.proofs.Facts.{owns_le as stage_owns_le}
 use Rattle.write_access.specs.declared.phases.WritePhase.{WritePhase}
-use Rattle.gate_world.specs.Remounts.{loop_role, held_role, giving_role, remount_owns, summing_role, remount_role, remount_sets}
-use Rattle.gate_world.specs.Rules.{role_of, at_mount, owns, remounts, IsSteady, OwnerHolds, ViewFits}
-use Rattle.gate_world.specs.Rules.{IsGood, Owner, AtMount, GatesHold}
-use Rattle.gate_world.specs.Shown.{shown, closing}
-use Rattle.gate_world.specs.Roles.{gate_roles, want_role, change_role, role_if, change_owns, freeze_stage_role, thaw_stage_role, tree_stage_role}
+use Rattle.gate_world.specs.{Remounts.{loop_role, held_role, giving_role, remount_owns, summing_role, remount_role, remount_sets}, Roles.gate_roles}
+use Rattle.gate_world.specs.{Roles.{want_role, change_role, role_if, change_owns, freeze_stage_role, thaw_stage_role, tree_stage_role}, Rules.role_of}
+use Rattle.gate_world.specs.{Rules.{at_mount, owns, remounts, IsSteady, OwnerHolds, ViewFits, IsGood, Owner, AtMount, GatesHold}, Shown.{shown, closing}}
 use Rattle.gate_world.specs.{Views.{held_at, holds_level, added_by, taken_by, has_open}, Waits.{IsWaitedFor, HasCulprit}, Worlds.World}
 use Rattle.gate_world.specs.declared.{config.Config.Config, views.View.View, work.Phase.Phase}
 use Rattle.gate_frames.proofs.Frames.{view_as, holds_as, MountHoldsAfter, owner_same, gates_after, shown_as, shown_still}

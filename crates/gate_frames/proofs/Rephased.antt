@@ -3,8 +3,9 @@ use Rattle.std.{proofs.Common.{◌≡◌, ℕ, ◌<◌, refl, sym, ap, ◌∙◌
 use Rattle.finite_sums.proofs.Totals.{update_at}
 use Rattle.access_model.specs.declared.{actions.Action.Action, replies.Next.Next}
 use Rattle.cpu_words.specs.{Hooks.HookAnswer, declared.{events.Touch.Touch, names.WordName.WordName}}
-use Rattle.gate_world.specs.{Alike.{as_ruled, off_tree, IsAlike, at_phase, rephased}, Fits.{Fits, mounts_by, levels_by}, Roles.{Roles, roles_of}, Rules.{Holds, IsGood, Moves, Tree, Files}, Shown.shown}
-use Rattle.gate_world.specs.{Views.{held_at, holds_level, phase_after}, Worlds.World, declared.{config.Config.Config, views.View.View, work.Phase.Phase}}
+use Rattle.gate_world.specs.{Alike.{as_ruled, off_tree, IsAlike, at_phase, rephased}, Fits.{Fits, mounts_by, levels_by}, Roles.{Roles, roles_of}, Rules.Holds}
+use Rattle.gate_world.specs.{Rules.{IsGood, Moves, Tree, Files}, Shown.shown, Views.{held_at, holds_level, phase_after}, Worlds.World}
+use Rattle.gate_world.specs.declared.{config.Config.Config, views.View.View, work.Phase.Phase}
 use Rattle.gate_frames.proofs.{Beside.{rephased_beside, shown_beside, made, made_again, made_keeps_beside}, Frames.left_alone}
 
 pub alike_of : {p q : Option Phase} {r : Roles} → p ≡ q → r ≡ as_ruled (roles_of q) → r ≡ as_ruled (roles_of p)

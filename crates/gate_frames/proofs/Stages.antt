@@ -11,11 +11,9 @@ use Rattle.freeze_levels.specs.Holders.{holders_in}
 use Rattle.stage_laws.proofs.Whole.{events_keep, actions_are_allowed, actions_have_their_effect}
 use Rattle.stage_laws.specs.Events.{Stages as StageMoment, Holds as StageHolds, Shows, StageEvent, Happens, action_of, IsAlike}
 use Rattle.stage_laws.specs.{Roles.{owns as stage_owns, Owning, StageRole}, Shown.{ShowsStages, AsksOthers, state_after, passed_shown}}
-use Rattle.gate_world.specs.{Configs.model_limits, Remounts.remount_owns, Rules.{owns, IsGood, Holds, Owner, Stages, marks_of}, Shown.{shown, stage_roles}}
-use Rattle.gate_world.specs.{Views.{held_at, holds_level, has_open}, Worlds.World}
-use Rattle.gate_world.specs.Roles.{remount_stage_role}
-use Rattle.gate_world.specs.Shown.{stage_role_of}
-use Rattle.gate_world.specs.declared.{config.Config.Config, views.View.View, work.Phase.Phase}
+use Rattle.gate_world.specs.{Configs.model_limits, Remounts.remount_owns, Roles.remount_stage_role, Rules.{owns, IsGood, Holds, Owner, Stages, marks_of}}
+use Rattle.gate_world.specs.{Shown.{shown, stage_roles, stage_role_of}, Views.{held_at, holds_level, has_open}, Worlds.World, declared.config.Config.Config}
+use Rattle.gate_world.specs.declared.{views.View.View, work.Phase.Phase}
 use Rattle.gate_frames.proofs.{Owners.owns_le, Trees.marks_right}
 
 -- owners that rely on one thing or another are alike

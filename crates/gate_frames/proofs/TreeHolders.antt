@@ -9,12 +9,11 @@ use Rattle.mount_counts.specs.{Roles.{ro_bit, mount_as_gate}, declared.remounts.
 use Rattle.percpu_rwsem.specs.declared.writers.{DownWriteStep.DownWriteStep, UpWriteStep.UpWriteStep}
 use Rattle.freeze_levels.specs.declared.{freezes.FreezeStep.FreezeStep, thaws.ThawStep.ThawStep}
 use Rattle.stage_laws.{proofs.Whole.freeze_is_under_way, specs.Roles.{Freezing, Place, passed_by, Before}}
-use Rattle.gate_world.specs.Levels.{level_role_of, at_level}
-use Rattle.gate_world.specs.Levels.{is_frozen_whole}
-use Rattle.gate_world.specs.{Operations.{some_mount, is_writer}, Rules.{IsGood, AtMount, AtLevel, Owner, Stages, MountHoldsIn, at_mount}, Shown.stage_roles}
-use Rattle.gate_world.specs.Shown.{stage_role_of}
-use Rattle.gate_world.specs.Roles.{stand_count, count_beside, down_count_role, up_count_role, freeze_stand, thaw_stand, remount_stage_role, freeze_stage_role, thaw_stage_role, tree_stage_role, snapshot_stage_role, place_of, reopening_role}
-use Rattle.gate_world.specs.{Views.{held_at, holds_level}, Worlds.World, declared.{config.Config.Config, work.Phase.Phase}}
+use Rattle.gate_world.specs.{Levels.{level_role_of, at_level, is_frozen_whole}, Operations.{some_mount, is_writer}, Roles.{stand_count, count_beside}}
+use Rattle.gate_world.specs.Roles.{down_count_role, up_count_role, freeze_stand, thaw_stand, remount_stage_role, freeze_stage_role, thaw_stage_role}
+use Rattle.gate_world.specs.{Roles.{tree_stage_role, snapshot_stage_role, place_of, reopening_role}, Rules.{IsGood, AtMount, AtLevel, Owner, Stages}}
+use Rattle.gate_world.specs.{Rules.{MountHoldsIn, at_mount}, Shown.{stage_roles, stage_role_of}, Views.{held_at, holds_level}, Worlds.World}
+use Rattle.gate_world.specs.declared.{config.Config.Config, work.Phase.Phase}
 use Rattle.gate_frames.proofs.{Stages.{stages_in, stages_right}, Stands.below}
 
 pub both_true : (a b : Bool) → (a && b) ≡ true → (a ≡ true) × (b ≡ true)

@@ -13,13 +13,12 @@ use Rattle.tree_laws.{proofs.Each.each_event, specs.Events.Event}
 use Rattle.percpu_rwsem.specs.declared.writers.{DownWriteStep.DownWriteStep, UpWriteStep.UpWriteStep}
 use Rattle.freeze_levels.specs.declared.{freezes.FreezeStep.{FreezeStep, TheVariants.Closes}, thaws.ThawStep.ThawStep}
 use Rattle.stage_laws.specs.Roles.{MarksHold, CleanBelow, clean_by, KnowsStage, Freezing}
-use Rattle.gate_world.specs.{Configs.IsWithin, Fits.{Fits, FreezeFits, PhaseFits}, Remounts.RemountFits, Rules.{IsGood, Holds, Tree, Stages, Fitting, marks_of}}
-use Rattle.gate_world.specs.{Shown.stage_roles, Snapshots.values_noted}
-use Rattle.gate_world.specs.Trees.{tree_bounds, tree_of, tree_role_of, tree_roles, is_sealed, is_bare_at}
-use Rattle.gate_world.specs.Roles.{remount_stage_role, freeze_stage_role, reopening_role, snapshot_stage_role, thaw_stage_role, tree_stage_role, place_of, remount_tree_role, freeze_tree_role, nodes_noted}
-use Rattle.gate_world.specs.Shown.{stage_role_of}
-use Rattle.gate_world.specs.{Views.{held_at, holds_level}, Worlds.World}
-use Rattle.gate_world.specs.declared.{config.Config.Config, views.{Traced.Traced, View.View}, work.Phase.{Phase, TheVariants.Closes}}
+use Rattle.gate_world.specs.{Configs.IsWithin, Fits.{Fits, FreezeFits, PhaseFits}, Remounts.RemountFits, Roles.{remount_stage_role, freeze_stage_role}}
+use Rattle.gate_world.specs.Roles.{reopening_role, snapshot_stage_role, thaw_stage_role, tree_stage_role, place_of, remount_tree_role, freeze_tree_role}
+use Rattle.gate_world.specs.{Roles.nodes_noted, Rules.{IsGood, Holds, Tree, Stages, Fitting, marks_of}, Shown.{stage_roles, stage_role_of}}
+use Rattle.gate_world.specs.{Snapshots.values_noted, Trees.{tree_bounds, tree_of, tree_role_of, tree_roles, is_sealed, is_bare_at}, Views.held_at}
+use Rattle.gate_world.specs.{Views.holds_level, Worlds.World, declared.{config.Config.Config, views.{Traced.Traced, View.View}, work.Phase.Phase}}
+use Rattle.gate_world.specs.declared.work.Phase.TheVariants.{Closes}
 use Rattle.gate_frames.proofs.TreeRoles.{call_plain, remount_apart, close_apart, freeze_apart}
 
 pub tree_within : (c : Config) → IsWithin c → AreWithin (tree_bounds c)

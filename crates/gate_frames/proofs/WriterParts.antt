@@ -7,7 +7,6 @@ use Rattle.access_model.specs.{Replies.map_next, States.{Limits, openers, State}
 use Rattle.access_model.specs.declared.{actions.{Action.Action, Holders.Holders, NodeInfo.NodeInfo}, replies.{Next.Next, Reply.Reply}}
 use Rattle.cpu_words.specs.{Hooks.HookAnswer, Sums.sum_taking, Touches.{found_by, event_of}, Words.Words, declared.sums.Taken.Taken}
 use Rattle.gated_tree.specs.Nodes.{node_shown, opens_in}
-use Rattle.mount_counts.specs.Roles.{Out}
 use Rattle.percpu_rwsem.specs.{Graces.looked, SyncWords.{is_passed, on_enter, on_callback, unpack}, Transitions.transition_after}
 use Rattle.percpu_rwsem.specs.Writers.{sum_begun, at_down_write, down_write_next, down_write_after, sections_awaited, passed_awaited, down_write_summed}
 use Rattle.percpu_rwsem.specs.Writers.{enter_step, callback_step}
@@ -16,13 +15,11 @@ use Rattle.percpu_rwsem.specs.declared.writers.{DownWrite.DownWrite, DownWriteSt
 use Rattle.freeze_levels.specs.{Freezes.{freeze_next, level_closed, freeze_after, after_closing}, Holders.holders_in, Thaws.{thaw_next, thaw_after}}
 use Rattle.freeze_levels.specs.declared.{freezes.{Freeze.Freeze, FreezeStep.FreezeStep}, thaws.{Thaw.Thaw, ThawStep.ThawStep}}
 use Rattle.stage_laws.specs.{Events.{StageEvent, action_of as stage_action_of}, Roles.{owns as stage_owns, bit}, Shown.{state_after, ShowsStages, AsksOthers}}
-use Rattle.gate_world.specs.{Configs.model_limits, Fits.{FreezeFits, HasFile, file_of}, Found.is_load, Owners.{is_owned, takes_lock}}
-use Rattle.gate_world.specs.Rules.{Stages, Holding, Fitting, Known, Tree, AtMount, Sections, role_of, IsGood, OwnerHolds, Part, Moves, owns, remounts}
-use Rattle.gate_world.specs.Rules.{StepKeeps, Holds, ViewFits, AtLevel, SyncAt, Owner, Files}
-use Rattle.gate_world.specs.Shown.{shown, stage_roles, stage_role_of}
-use Rattle.gate_world.specs.Roles.{reopening_role, freeze_stage_role, thaw_stage_role, Roles, roles_of, no_roles}
-use Rattle.gate_world.specs.{Views.{phase_after, held_at, holds_level, added_by, taken_by, has_open}, Worlds.{World, value_at, after_step, phase_action}}
-use Rattle.gate_world.specs.declared.{config.Config.Config, views.View.View, work.Phase.Phase}
+use Rattle.gate_world.specs.{Configs.model_limits, Fits.{FreezeFits, HasFile, file_of}, Found.is_load, Owners.{is_owned, takes_lock}, Roles.reopening_role}
+use Rattle.gate_world.specs.{Roles.{freeze_stage_role, thaw_stage_role, Roles, roles_of, no_roles}, Rules.{Stages, Holding, Fitting, Known, Tree, AtMount}}
+use Rattle.gate_world.specs.{Rules.{Sections, IsGood, OwnerHolds, Part, Moves, owns, StepKeeps, Holds, ViewFits, AtLevel, SyncAt, Owner, Files}, Shown.shown}
+use Rattle.gate_world.specs.{Shown.{stage_roles, stage_role_of}, Views.{phase_after, held_at, holds_level, added_by, taken_by, has_open}, Worlds.World}
+use Rattle.gate_world.specs.{Worlds.{value_at, after_step, phase_action}, declared.{config.Config.Config, views.View.View, work.Phase.Phase}}
 use Rattle.gate_frames.proofs.{Frames.{left_alone, view_as, opens_left}, Keeps.by_bool, Known.{IsOwnersWork, known_after}}
 use Rattle.gate_frames.proofs.{MountEvents.{is_known_part, known_is}, Stages.{stages_after, stage_action, shown_by, IsStageEvent, stages_in, stage_effect}}
 use Rattle.gate_frames.proofs.Standing.{LevelsHold, left_world}

@@ -9,9 +9,8 @@ use Rattle.mount_counts.specs.Roles.{Role, MountView, MountHolds}
 use Rattle.level_laws.specs.Roles.{SyncNumberHolds}
 use Rattle.stage_laws.specs.Roles.{StagesHold}
 use Rattle.holder_laws.specs.Roles.{HoldersHold}
-use Rattle.gate_world.specs.{Configs.model_limits, Fits.{Fits, HasFile, file_of}}
-use Rattle.gate_world.specs.{Levels.{sync_role_of, inside, at_level, is_frozen_whole, SectionsAreOdd}, Owners.KnowsWords, Roles.roles_of}
-use Rattle.gate_world.specs.Shown.{shown, closing, stage_role_of, stage_roles, holder_role_of, holder_roles}
+use Rattle.gate_world.specs.{Configs.model_limits, Fits.{Fits, HasFile, file_of}, Levels.{sync_role_of, inside, at_level, is_frozen_whole, SectionsAreOdd}}
+use Rattle.gate_world.specs.{Owners.KnowsWords, Roles.roles_of, Shown.{shown, closing, stage_role_of, stage_roles, holder_role_of, holder_roles}}
 use Rattle.gate_world.specs.{Trees.{tree_bounds, tree_of, tree_role_of, is_sealed, is_bare_at}, Views.{held_at, holds_level, has_open, added_by, taken_by}}
 use Rattle.gate_world.specs.{Worlds.{World, after_step, phase_action}, declared.{config.Config.Config, views.View.View, work.Phase.Phase}}
 

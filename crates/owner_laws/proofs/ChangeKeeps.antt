@@ -1,15 +1,12 @@
 -- All that is proved of a change.
 use Rattle.std.{proofs.{Common.{ℕ, Bool, arith, refl, subst}, lemmas.Bool.ltb-true}, specs.Prelude.Some}
 use Rattle.mount_counts.specs.declared.phases.{Change.Change, MountPhase.MountPhase}
-use Rattle.gate_world.specs.{Fits.Fits, Rules.Fitting, Traces.most_events, Views.{held_at, holds_level}, Worlds.after_step}
+use Rattle.gate_world.specs.{Fits.Fits, Roles.no_roles, Rules.Fitting, Traces.most_events, Views.{held_at, holds_level}, Worlds.after_step}
 use Rattle.gate_world.specs.declared.{config.Config.Config, operations.Op.Op, work.Phase.Phase}
-use Rattle.gate_frames.proofs.{Keeps.{by_bool, none_agree, word_among, PhaseKeeps, IsSmall, OpKeeps}, MountRuns.mounts_run}
-use Rattle.gate_frames.proofs.Frames.{role_none}
-use Rattle.gate_frames.proofs.{Says.{tells, is_short}, Snapshots.completes_none}
+use Rattle.gate_frames.proofs.{Frames.role_none, Keeps.{by_bool, none_agree, word_among, PhaseKeeps, IsSmall, OpKeeps}, MountRuns.mounts_run, Says.tells}
+use Rattle.gate_frames.proofs.{Says.is_short, Snapshots.completes_none}
 use Rattle.owner_laws.proofs.{ChangeCauses.{change_kept, change_own}, ChangeFits.{change_there, change_acts, change_goes}}
 use Rattle.owner_laws.proofs.{ChangeTraces.{ChangeAt, change_kept as change_traced}, ChangeWaits.change_waits, Each.change_keeps}
-use Rattle.std.specs.Prelude.{true}
-use Rattle.gate_world.specs.Roles.{no_roles}
 
 pub change_phase : (c : Config) (x : Change) → PhaseKeeps c (Phase.Mounts (MountPhase.Change x))
 change_phase c x = record {

@@ -10,14 +10,10 @@ use Rattle.mount_laws.proofs.Bits.{IsWithHold, or_hold, IsWithReadOnly, or_read_
 use Rattle.mount_laws.proofs.Bits.{IsWithoutReadOnly, and_not_read_only}
 use Rattle.mount_laws.proofs.MountLaws.{SeeksNone, empties, sums_on, sums_to_none, sums_to_some, sets_hold as mount_sets_hold}
 use Rattle.mount_laws.proofs.MountLaws.{sets_read_only as mount_sets_read_only, clears_hold as mount_clears_hold, clears_read_only as mount_clears_read_only}
-use Rattle.gate_world.specs.{Configs.IsWithin, Fits.SumFits}
-use Rattle.gate_world.specs.Rules.{role_of, at_mount, owns, remounts, IsSteady, ViewFits, IsGood, GateStepKeeps, AtMount}
-use Rattle.gate_world.specs.Roles.{change_role, change_owns}
-use Rattle.gate_world.specs.Rules.{MountHoldsIn, GatesHold}
-use Rattle.gate_world.specs.{Shown.{shown, closing}, Views.{held_at, added_by, taken_by, view_with}, Worlds.World}
-use Rattle.gate_world.specs.declared.{config.Config.Config, views.View.View, work.Phase.Phase}
-use Rattle.gate_frames.proofs.{Frames.{role_on, role_off, view_as, holds_as, MountHoldsAfter, owner_same}, Loads.{as_owner, after_load, load_law}}
-use Rattle.gate_frames.proofs.Frames.{role_none}
+use Rattle.gate_world.specs.{Configs.IsWithin, Fits.SumFits, Roles.{change_role, change_owns}, Rules.{role_of, at_mount, owns, remounts, IsSteady, ViewFits}}
+use Rattle.gate_world.specs.{Rules.{IsGood, GateStepKeeps, AtMount, MountHoldsIn, GatesHold}, Shown.{shown, closing}, Views.{held_at, added_by, taken_by}}
+use Rattle.gate_world.specs.{Views.view_with, Worlds.World, declared.{config.Config.Config, views.View.View, work.Phase.Phase}}
+use Rattle.gate_frames.proofs.{Frames.{role_on, role_off, view_as, holds_as, MountHoldsAfter, owner_same, role_none}, Loads.{as_owner, after_load, load_law}}
 use Rattle.gate_frames.proofs.Owners.{no_remount, no_hold, no_skip, locks_umount, releases_umount, umount_law, flag_law, flags_after, flags_shown}
 use Rattle.gate_frames.proofs.Owners.{flags_show_same}
 use Rattle.owner_laws.proofs.ChangeLoads.{change, change_here, change_off, IsAt, FitsHere, fits_here}

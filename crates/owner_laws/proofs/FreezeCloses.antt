@@ -17,17 +17,14 @@ use Rattle.stage_laws.proofs.Facts.{at_level}
 use Rattle.stage_laws.specs.Events.{StageEvent, Happens, Stays, SetsBlock as SetsBlockStage, Passes, playing, action_of as stage_action_of}
 use Rattle.stage_laws.specs.{Roles.{Place, Before, Closing, HasPassed, Freezing, owns as stage_owns, has_position, bit, CleanBelow}, Shown.state_after}
 use Rattle.holder_laws.specs.Roles.{Apart}
-use Rattle.gate_world.specs.{Configs.{IsWithin, model_limits}, Fits.{Fits, mounts_by, levels_by}}
-use Rattle.gate_world.specs.{Levels.{level_added_by, level_taken_by}, Rules.{IsGood, Holds, Tree, owns, marks_of, ViewFits}, Shown.shown}
-use Rattle.gate_world.specs.Trees.{tree_role_of, tree_roles}
-use Rattle.gate_world.specs.Shown.{holder_role_of, stage_role_of}
-use Rattle.gate_world.specs.Roles.{freeze_holder_role, closed_to, freeze_stage_role, place_of, freeze_tree_role}
-use Rattle.gate_world.specs.{Views.{held_at, holds_level, phase_after, actions_after, view_with, added_by, taken_by, has_open}, Worlds.World}
+use Rattle.gate_world.specs.{Configs.{IsWithin, model_limits}, Fits.{Fits, mounts_by, levels_by}, Levels.{level_added_by, level_taken_by}}
+use Rattle.gate_world.specs.{Roles.{freeze_holder_role, closed_to, freeze_stage_role, place_of, freeze_tree_role}, Rules.{IsGood, Holds, Tree, owns}}
+use Rattle.gate_world.specs.{Rules.{marks_of, ViewFits}, Shown.{shown, holder_role_of, stage_role_of}, Trees.{tree_role_of, tree_roles}, Views.held_at}
+use Rattle.gate_world.specs.{Views.{holds_level, phase_after, actions_after, view_with, added_by, taken_by, has_open}, Worlds.World}
 use Rattle.gate_world.specs.declared.{config.Config.Config, views.View.View, work.Phase.Phase}
-use Rattle.gate_frames.proofs.{DownLevels.{down_write_levels, passes_finds_nobody, swap_finds_clear, entered_by_nobody}, Keeps.by_bool}
-use Rattle.gate_frames.proofs.{Stages.{IsStageEvent, stages_in}, Standing.{Stands, LevelsHold, left_world, stand_after_closing}, Trees.shown_clean}
-use Rattle.gate_frames.proofs.WriterParts.{LeavesRest, AsksWhere, WriterLaw, freeze_comes, down_write_comes}
-use Rattle.gate_frames.proofs.WriterStages.{still_plays, stays_there, none_leaves}
+use Rattle.gate_frames.proofs.{DownLevels.{down_write_levels, passes_finds_nobody, swap_finds_clear, entered_by_nobody}, Keeps.by_bool, Stages.IsStageEvent}
+use Rattle.gate_frames.proofs.{Stages.stages_in, Standing.{Stands, LevelsHold, left_world, stand_after_closing}, Trees.shown_clean, WriterParts.LeavesRest}
+use Rattle.gate_frames.proofs.{WriterParts.{AsksWhere, WriterLaw, freeze_comes, down_write_comes}, WriterStages.{still_plays, stays_there, none_leaves}}
 use Rattle.gate_frames.proofs.WriterWords.{tree_beside, tree_begins, down_write_words, down_write_counts_none, down_write_adds, pass_leaves, writer_at_level}
 use Rattle.owner_laws.proofs.{FreezeFits.freeze_goes, FreezeStages.{freeze_stands, IsHere, Keeps, FitsHere, here_fits, here_stands, here_tree, here_writes}}
 
@@ -255,11 +252,11 @@ module _ (c : Config) (lim : IsWithin c) (w : World) (good : IsGood c w) (t : �
         IsStageEvent c w good t lt words_then view_then Stays
     closing_stays block p was now =
         stays_there c w good t lt words_then view_then (record {
-          stage_same = (down_write_words w.words d d.step).stage_same;
-          sb_same = (down_write_words w.words d d.step).beside.sb_same;
-          remount_same = (down_write_words w.words d d.step).beside.remount_same;
+          stage_same = λ j. (down_write_words w.words d d.step j).stage;
+          sb_same = λ j. (down_write_words w.words d d.step j).sb;
+          remount_same = λ j. (down_write_words w.words d d.step j).remount;
           block_same = block;
-          node_same = (down_write_words w.words d d.step).node_same;
+          node_same = λ j. (down_write_words w.words d d.step j).node;
         })
         (place_role x d p next_here now ∙ sym (ap stage_role_of e ∙ ap (λ q. Freezing d.level q (nat_lt 1 d.level)) was))
 

@@ -13,12 +13,10 @@ use Rattle.freeze_levels.specs.{Freezes.{at_freeze, after_reopening, freeze_fail
 use Rattle.freeze_levels.specs.declared.{freezes.{Freeze.Freeze, FreezeStep.FreezeStep}, thaws.{Thaw.Thaw, ThawStep.ThawStep}}
 use Rattle.stage_laws.specs.{Events.{cleaned, ClearsMark as ClearsMarkStage}, Roles.{HasPassed, Freezing, owns as stage_owns}, Shown.state_after}
 use Rattle.holder_laws.specs.Roles.{Apart}
-use Rattle.gate_world.specs.{Alike.{IsAlike, rephased}, Configs.{IsWithin, model_limits}, Fits.FreezeFits}
-use Rattle.gate_world.specs.{Rules.{IsGood, Tree, owns, marks_of, ViewFits, Holds, StepKeeps}, Shown.{shown, stage_roles}}
-use Rattle.gate_world.specs.Trees.{tree_bounds, tree_of}
-use Rattle.gate_world.specs.Shown.{holder_role_of, stage_role_of}
-use Rattle.gate_world.specs.Roles.{freeze_holder_role, closed_to, freeze_stand, freeze_stage_role, freeze_tree_role}
-use Rattle.gate_world.specs.{Views.{held_at, holds_level, phase_after}, Worlds.World, declared.{config.Config.Config, views.View.View, work.Phase.Phase}}
+use Rattle.gate_world.specs.{Alike.{IsAlike, rephased}, Configs.{IsWithin, model_limits}, Fits.FreezeFits, Roles.{freeze_holder_role, closed_to}}
+use Rattle.gate_world.specs.{Roles.{freeze_stand, freeze_stage_role, freeze_tree_role}, Rules.{IsGood, Tree, owns, marks_of, ViewFits, Holds, StepKeeps}}
+use Rattle.gate_world.specs.{Shown.{shown, stage_roles, holder_role_of, stage_role_of}, Trees.{tree_bounds, tree_of}, Views.{held_at, holds_level}}
+use Rattle.gate_world.specs.{Views.phase_after, Worlds.World, declared.{config.Config.Config, views.View.View, work.Phase.Phase}}
 use Rattle.gate_frames.proofs.{Holders.holders_stay, Rephased.{alike_of, made_keeps}, Stages.{IsStageEvent, stages_in}, StandRoles.levels_stay}
 use Rattle.gate_frames.proofs.{Standing.{Stands, left_world, stand_after_opening, still_closed}, Trees.{tree_after, nobody_reads}, WriterOwner.owner_stays}
 use Rattle.gate_frames.proofs.WriterParts.{IsWriter, SameAtMounts, LeavesRest, AsksWhere, WriterLaw, writer_law, freezes_write, freeze_work, whole_writer}

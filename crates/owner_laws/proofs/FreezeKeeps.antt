@@ -3,10 +3,8 @@ use Rattle.std.{proofs.Common.{◌≡◌, ℕ, ◌<◌, refl, subst}, specs.Prel
 use Rattle.access_model.specs.declared.actions.Holder.{Holder}
 use Rattle.freeze_levels.specs.declared.freezes.{Freeze.Freeze, FreezeStep.FreezeStep}
 use Rattle.stage_laws.specs.Roles.{KnowsStage}
-use Rattle.gate_world.specs.{Fits.{Fits, PhaseFits}, Rules.{IsGood, Fitting, Stages}, Views.{held_at, holds_level}}
-use Rattle.gate_world.specs.Shown.{stage_role_of}
-use Rattle.gate_world.specs.Roles.{freeze_stage_role}
-use Rattle.gate_world.specs.{Worlds.{World, after_step}, declared.{config.Config.Config, operations.Op.Op, work.Phase.Phase}}
+use Rattle.gate_world.specs.{Fits.{Fits, PhaseFits}, Roles.freeze_stage_role, Rules.{IsGood, Fitting, Stages}, Shown.stage_role_of, Views.held_at}
+use Rattle.gate_world.specs.{Views.holds_level, Worlds.{World, after_step}, declared.{config.Config.Config, operations.Op.Op, work.Phase.Phase}}
 use Rattle.gate_frames.proofs.{Keeps.{none_agree, word_among, PhaseKeeps, OpKeeps}, Snapshots.completes_none}
 use Rattle.owner_laws.proofs.{FreezeCauses.{freeze_stays, freeze_own}, FreezeEvents.freeze_keeps, FreezeFits.{freeze_word, freeze_acts, freeze_goes}}
 use Rattle.owner_laws.proofs.{FreezeRuns.freeze_runs, FreezeTraces.{freeze_tells, freeze_short, freeze_restores}, FreezeWaits.freeze_waits}

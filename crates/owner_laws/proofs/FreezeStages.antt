@@ -15,12 +15,10 @@ use Rattle.stage_laws.specs.Events.{action_of as stage_action_of}
 use Rattle.stage_laws.specs.Roles.{StageRole, Before, HasPassed, Owning, owns as stage_owns, is_full, KnowsStage}
 use Rattle.holder_laws.proofs.{HolderLaws.{roles_tell, finds_some}, Words.{unpack_pack, none_held, is_nobody}}
 use Rattle.holder_laws.specs.{Events.{Finds, Freezes as FreezesHolders, HoldsFirst, Joins}, Roles.{HolderRole, Apart, Found, Fills, between, minds}}
-use Rattle.gate_world.specs.{Configs.{IsWithin, model_limits}, Fits.{Fits, PhaseFits, FreezeFits}}
-use Rattle.gate_world.specs.Rules.{IsGood, Holds, Holding, Fitting, Stages, Tree, owns, OwnerHolds}
-use Rattle.gate_world.specs.Shown.{shown, holder_roles, holder_role_of, stage_role_of}
-use Rattle.gate_world.specs.{Trees.{tree_bounds, tree_of, tree_role_of, tree_roles}, Views.{held_at, holds_level, view_with}, Worlds.World}
-use Rattle.gate_world.specs.Roles.{freeze_holder_role, Stand, closed_to, freeze_stand, freeze_stage_role, freeze_tree_role}
-use Rattle.gate_world.specs.declared.{config.Config.Config, views.View.View, work.Phase.Phase}
+use Rattle.gate_world.specs.{Configs.{IsWithin, model_limits}, Fits.{Fits, PhaseFits, FreezeFits}, Roles.{freeze_holder_role, Stand, closed_to, freeze_stand}}
+use Rattle.gate_world.specs.{Roles.{freeze_stage_role, freeze_tree_role}, Rules.{IsGood, Holds, Holding, Fitting, Stages, Tree, owns, OwnerHolds}}
+use Rattle.gate_world.specs.{Shown.{shown, holder_roles, holder_role_of, stage_role_of}, Trees.{tree_bounds, tree_of, tree_role_of, tree_roles}}
+use Rattle.gate_world.specs.{Views.{held_at, holds_level, view_with}, Worlds.World, declared.{config.Config.Config, views.View.View, work.Phase.Phase}}
 use Rattle.gate_frames.proofs.{Cases.both, Frames.SameLevelCounts, Holders.{holders_at, holders_stay, holders_move, holders_after, nobody_minds}}
 use Rattle.gate_frames.proofs.{Stages.{IsStageEvent, stages_in, nobody_owns, owners_alike}, StandRoles.{closing_first, closing_next}}
 use Rattle.gate_frames.proofs.{Standing.{Stands, LevelsHold, left_world}, Trees.{sealed_frozen, tree_then, tree_after}, WholeLevels.freezes_all}

@@ -23,14 +23,11 @@ use Rattle.stage_laws.specs.Events.{playing, IsAlike, Locks as LocksStage, Relea
 use Rattle.stage_laws.specs.Events.{SetsReadOnly as StoresReadOnly, ClearsRemount as TakesRemount, CancelsRemount, SetsWritable as StoresWritable}
 use Rattle.stage_laws.specs.Events.{ClearsMarkReadOnly}
 use Rattle.stage_laws.specs.Roles.{Owning, CleanBelow, IsKnown}
-use Rattle.gate_world.specs.{Configs.IsWithin, Fits.PhaseFits, Levels.is_frozen_whole}
-use Rattle.gate_world.specs.Remounts.{loop_role, remount_role, AllBelow, giving_role, remount_owns, held_role, RemountFits, remount_sets}
-use Rattle.gate_world.specs.Rules.{Owner, Stages, Tree, AtMount, IsGood, at_mount, Holds, StepKeeps, MountHoldsIn, remounts, owns, role_of, Part, marks_of}
-use Rattle.gate_world.specs.{Shown.shown, Trees.{tree_bounds, tree_of, tree_roles, is_bare_at}}
-use Rattle.gate_world.specs.Roles.{remount_stage_role, remount_tree_role}
-use Rattle.gate_world.specs.Shown.{stage_role_of}
-use Rattle.gate_world.specs.{Views.{held_at, holds_level, has_open, view_with}, Worlds.World}
-use Rattle.gate_world.specs.declared.{config.Config.Config, views.View.View, work.Phase.Phase}
+use Rattle.gate_world.specs.{Configs.IsWithin, Fits.PhaseFits, Levels.is_frozen_whole, Remounts.{loop_role, remount_role, AllBelow, giving_role}}
+use Rattle.gate_world.specs.{Remounts.{remount_owns, held_role, RemountFits, remount_sets}, Roles.{remount_stage_role, remount_tree_role}, Rules.Owner}
+use Rattle.gate_world.specs.Rules.{Stages, Tree, AtMount, IsGood, at_mount, Holds, StepKeeps, MountHoldsIn, remounts, owns, role_of, Part, marks_of}
+use Rattle.gate_world.specs.{Shown.{shown, stage_role_of}, Trees.{tree_bounds, tree_of, tree_roles, is_bare_at}, Views.{held_at, holds_level, has_open}}
+use Rattle.gate_world.specs.{Views.view_with, Worlds.World, declared.{config.Config.Config, views.View.View, work.Phase.Phase}}
 use Rattle.gate_frames.proofs.{Beside.update_twice, Frames.{left_alone, owner_same}, Loads.{steady, after_load}, MountEvents.is_known_part}
 use Rattle.gate_frames.proofs.{Owners.{remount_stands, no_remount, locks_umount, releases_umount}, Stages.{stages_in, nobody_owns}}
 use Rattle.gate_frames.proofs.Trees.{shown_clean, nobody_reads}

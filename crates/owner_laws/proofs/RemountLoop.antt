@@ -12,10 +12,9 @@ use Rattle.mount_laws.proofs.Bits.{read_only_set, or_hold}
 use Rattle.mount_laws.proofs.MountLaws.{sets_hold as mount_sets_hold, is_skipped, sums_on, sums_to_none, sums_to_some, is_left, SeeksNone}
 use Rattle.mount_laws.proofs.Sets.{joins_here, joins_there}
 use Rattle.stage_laws.specs.{Events.IsAlike, Roles.{Remounting, CleanBelow}}
-use Rattle.gate_world.specs.{Configs.IsWithin, Fits.PhaseFits, Remounts.{giving_role, loop_role, AllBelow, remount_role}}
-use Rattle.gate_world.specs.{Rules.{AtMount, IsGood, MountHoldsIn, role_of, owns, marks_of}, Views.{held_at, holds_level, view_with}}
-use Rattle.gate_world.specs.Roles.{remount_stage_role}
-use Rattle.gate_world.specs.{Worlds.World, declared.{config.Config.Config, views.View.View, work.Phase.Phase}}
+use Rattle.gate_world.specs.{Configs.IsWithin, Fits.PhaseFits, Remounts.{giving_role, loop_role, AllBelow, remount_role}, Roles.remount_stage_role}
+use Rattle.gate_world.specs.{Rules.{AtMount, IsGood, MountHoldsIn, role_of, owns, marks_of}, Views.{held_at, holds_level, view_with}, Worlds.World}
+use Rattle.gate_world.specs.declared.{config.Config.Config, views.View.View, work.Phase.Phase}
 use Rattle.gate_frames.proofs.{Keeps.by_bool, Owners.no_hold}
 use Rattle.owner_laws.proofs.RemountFits.{joins_below, past_mount_fits, give_up_fits}
 use Rattle.owner_laws.proofs.RemountParts.{RemountKeeps, Stays, GoesOn, in_loop, owner_on, alike_same, here_fits, here_knows, load_event, role_was, Mount}

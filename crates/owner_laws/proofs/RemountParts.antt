@@ -12,22 +12,18 @@ use Rattle.freeze_levels.specs.Holders.{holders_in}
 use Rattle.stage_laws.specs.Events.{StageEvent, Recalls, IsAlike, playing}
 use Rattle.stage_laws.specs.Roles.{StageRole, Owning, IsKnown, KnowsStage, CleanBelow, clean_by, sums as stage_sums}
 use Rattle.holder_laws.specs.Roles.{Apart}
-use Rattle.gate_world.specs.{Configs.IsWithin, Fits.{Fits, PhaseFits, HasFile, file_of}, Found.is_load}
-use Rattle.gate_world.specs.{Levels.{level_added_by, is_frozen_whole, level_taken_by}, Owners.{is_owned, takes_lock}}
-use Rattle.gate_world.specs.Remounts.{remount_owns, remount_sets, remount_role, RemountFits}
-use Rattle.gate_world.specs.Rules.{Owner, Stages, Holding, Tree, Fitting, Known, AtMount, IsGood, owns, Part, StepKeeps, role_of, ViewFits, at_mount, Holds}
-use Rattle.gate_world.specs.Rules.{IsSteady, OwnerHolds, remounts, Moves, AtLevel, SyncAt, Sections, marks_of, Files}
-use Rattle.gate_world.specs.Shown.{shown, closing, holder_role_of, stage_role_of}
-use Rattle.gate_world.specs.Trees.{tree_bounds, tree_of, tree_role_of, tree_roles, is_sealed, is_bare_at}
-use Rattle.gate_world.specs.Roles.{remount_stage_role, remount_tree_role}
-use Rattle.gate_world.specs.Views.{phase_after, held_at, holds_level, added_by, taken_by, view_with, has_open}
-use Rattle.gate_world.specs.{Worlds.{World, value_at, after_step, phase_action}, declared.{config.Config.Config, views.View.View, work.Phase.Phase}}
+use Rattle.gate_world.specs.{Configs.IsWithin, Fits.{Fits, PhaseFits, HasFile, file_of}, Found.is_load, Levels.{level_added_by, is_frozen_whole}}
+use Rattle.gate_world.specs.{Levels.level_taken_by, Owners.{is_owned, takes_lock}, Remounts.{remount_owns, remount_sets, remount_role, RemountFits}}
+use Rattle.gate_world.specs.{Roles.{remount_stage_role, remount_tree_role}, Rules.{Owner, Stages, Holding, Tree, Fitting, Known, AtMount, IsGood, owns, Part}}
+use Rattle.gate_world.specs.Rules.{StepKeeps, role_of, ViewFits, at_mount, Holds, IsSteady, OwnerHolds, remounts, Moves, AtLevel, SyncAt, Sections, marks_of}
+use Rattle.gate_world.specs.{Rules.Files, Shown.{shown, closing, holder_role_of, stage_role_of}, Trees.{tree_bounds, tree_of, tree_role_of, tree_roles}}
+use Rattle.gate_world.specs.{Trees.{is_sealed, is_bare_at}, Views.{phase_after, held_at, holds_level, added_by, taken_by, view_with, has_open}, Worlds.World}
+use Rattle.gate_world.specs.{Worlds.{value_at, after_step, phase_action}, declared.{config.Config.Config, views.View.View, work.Phase.Phase}}
 use Rattle.gate_frames.proofs.Frames.{opens_left, left_alone, holds_as, owner_same, view_as, shown_as, shown_still, added_load, taken_load, SameLevelCounts}
-use Rattle.gate_frames.proofs.Frames.{IsOffLevels, SameLevelWords, level_left, sync_left, sections_left}
-use Rattle.gate_frames.proofs.{Holders.holders_stay, Known.{IsOwnersWork, known_after}, Loads.{steady, after_load}}
-use Rattle.gate_frames.proofs.{MountEvents.{is_known_part, known_is, level_added_load, level_taken_load}, Owners.remount_stored}
-use Rattle.gate_frames.proofs.{Stages.{stages_in, IsStageEvent, stages_after}, Trees.{marks_right, tree_after, tree_holds, tree_then, tree_within}}
-use Rattle.gate_frames.proofs.Words.{load_same}
+use Rattle.gate_frames.proofs.{Frames.{IsOffLevels, SameLevelWords, level_left, sync_left, sections_left}, Holders.holders_stay, Known.IsOwnersWork}
+use Rattle.gate_frames.proofs.{Known.known_after, Loads.{steady, after_load}, MountEvents.{is_known_part, known_is, level_added_load, level_taken_load}}
+use Rattle.gate_frames.proofs.{Owners.remount_stored, Stages.{stages_in, IsStageEvent, stages_after}, Trees.{marks_right, tree_after, tree_holds, tree_then}}
+use Rattle.gate_frames.proofs.{Trees.tree_within, Words.load_same}
 
 -- who changes an owned word is the owner, and a remount comes to own `umount` by taking it
 remount_changes : (x : Remount) (s : RemountStep) (hook : HookAnswer) → is_owned (remount_next x s hook).0 ≡ true →

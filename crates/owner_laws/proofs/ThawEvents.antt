@@ -17,21 +17,18 @@ use Rattle.stage_laws.specs.{Roles.{StageRole, Owning, Reopening, KnowsStage, Cl
 use Rattle.holder_laws.proofs.{HolderLaws.roles_tell, Words.{unpack_pack, holds_alone, holds_own, leaves_none}}
 use Rattle.holder_laws.specs.Events.{Finds, LetsGo as LetsHoldersGo, Leaves as LeavesOthers, LeavesLast as LeavesNobody, Thaws as ThawsHolders}
 use Rattle.holder_laws.specs.Roles.{Apart, Found, Empties, between, minds}
-use Rattle.gate_world.specs.{Configs.{IsWithin, model_limits}, Fits.{mounts_by, levels_by, PhaseFits, ThawFits, Fits}}
-use Rattle.gate_world.specs.Levels.{is_frozen_whole, level_added_after, level_taken_after, level_added_by, level_taken_by}
-use Rattle.gate_world.specs.Rules.{owns, IsGood, Stages, Holds, Holding, StepKeeps, OwnerHolds, ViewFits, marks_of, Fitting}
-use Rattle.gate_world.specs.{Shown.{stage_roles, shown, holder_roles}, Trees.tree_role_of}
-use Rattle.gate_world.specs.Shown.{holder_role_of, stage_role_of}
-use Rattle.gate_world.specs.Roles.{thaw_holder_role, thaw_stand, closed_to, thaw_stage_role}
-use Rattle.gate_world.specs.Views.{has_open, actions_after, added_after, taken_after, phase_after, held_at, holds_level, view_with, added_by, taken_by}
-use Rattle.gate_world.specs.{Worlds.World, declared.{config.Config.Config, views.{Traced.Traced, View.View}, work.Phase.Phase}}
+use Rattle.gate_world.specs.{Configs.{IsWithin, model_limits}, Fits.{mounts_by, levels_by, PhaseFits, ThawFits, Fits}, Levels.is_frozen_whole}
+use Rattle.gate_world.specs.{Levels.{level_added_after, level_taken_after, level_added_by, level_taken_by}, Roles.{thaw_holder_role, thaw_stand, closed_to}}
+use Rattle.gate_world.specs.{Roles.thaw_stage_role, Rules.{owns, IsGood, Stages, Holds, Holding, StepKeeps, OwnerHolds, ViewFits, marks_of, Fitting}}
+use Rattle.gate_world.specs.{Shown.{stage_roles, shown, holder_roles, holder_role_of, stage_role_of}, Trees.tree_role_of, Views.{has_open, actions_after}}
+use Rattle.gate_world.specs.{Views.{added_after, taken_after, phase_after, held_at, holds_level, view_with, added_by, taken_by}, Worlds.World}
+use Rattle.gate_world.specs.declared.{config.Config.Config, views.{Traced.Traced, View.View}, work.Phase.Phase}
 use Rattle.gate_frames.proofs.{Frames.{added_load, taken_load}, Holders.{holders_at, holders_stay, holders_after, nobody_minds}, Keeps.by_bool}
 use Rattle.gate_frames.proofs.{MountEvents.{level_added_load, level_taken_load}, Stages.{stages_in, IsStageEvent, nobody_owns, owners_alike, alike_same}}
 use Rattle.gate_frames.proofs.{Standing.{Stands, still_closed, stand_after_opening, LevelsHold, left_world}, UpLevels.up_write_levels, WholeLevels.thaws_all}
-use Rattle.gate_frames.proofs.WriterOwner.{lock_given, lock_taken, owner_stays}
-use Rattle.gate_frames.proofs.WriterParts.{AsksWhere, IsWriter, WriterLaw, thaw_work, idle_writes, LeavesRest, WriterKeeps, reopening_owns, thaws_write}
-use Rattle.gate_frames.proofs.WriterParts.{thaw_comes, whole_writer}
-use Rattle.gate_frames.proofs.WriterStages.{opened_tree, writer_beside, writer_stores, stored_levels, stays_there, none_leaves, SameStageWords, writer_holds}
+use Rattle.gate_frames.proofs.{WriterOwner.{lock_given, lock_taken, owner_stays}, WriterParts.{AsksWhere, IsWriter, WriterLaw, thaw_work, idle_writes}}
+use Rattle.gate_frames.proofs.{WriterParts.{LeavesRest, WriterKeeps, reopening_owns, thaws_write, thaw_comes, whole_writer}, WriterStages.opened_tree}
+use Rattle.gate_frames.proofs.WriterStages.{writer_beside, writer_stores, stored_levels, stays_there, none_leaves, SameStageWords, writer_holds}
 use Rattle.gate_frames.proofs.WriterWords.{tree_beside, writer_at_level, up_write_words, up_write_counts_none, up_write_adds, reopen_leaves}
 use Rattle.owner_laws.proofs.ThawFits.{thaw_goes, finds_cases}
 

@@ -1,6 +1,6 @@
 -- Each phase of a write access is alike to the phase of its gate, before an event and after it; and what fits then, and what is said of
 -- causes and of waits.
-use Rattle.std.{proofs.Common.{◌≡◌, ℕ, ◌<◌, Bool, true, refl, ◌∙◌, subst}, specs.Prelude.{Some, None, Ok, Err}}
+use Rattle.std.{proofs.Common.{◌≡◌, ℕ, ◌<◌, Bool, true, refl, ◌∙◌, subst}, specs.Prelude.{Some, Ok, Err}}
 use Rattle.access_model.specs.{Replies.map_next, declared.replies.Next.Next}
 use Rattle.mount_counts.specs.declared.phases.{MountPhase.MountPhase, Want.Want}
 use Rattle.percpu_rwsem.specs.declared.readers.DownRead.{DownRead}

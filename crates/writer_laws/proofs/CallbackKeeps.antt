@@ -1,16 +1,12 @@
 -- All that is proved of a callback.
-use Rattle.std.{proofs.Common.{◌≡◌, ℕ, refl, subst, ◌≤◌, sym}, specs.Prelude.{Some, List, ◌==◌, Option, ◌∷◌}}
+use Rattle.std.{proofs.Common.{ℕ, refl, subst, ◌≤◌, sym}, specs.Prelude.{Some, List, Option, ◌∷◌}}
 use Rattle.access_model.specs.{Replies.map_next, declared.{actions.Action.Action, replies.Next.Next}}
 use Rattle.percpu_rwsem.specs.{Callbacks.callback_after, declared.callbacks.Callback.Callback}
-use Rattle.level_laws.specs.Roles.{Out as IsApart}
-use Rattle.gate_world.specs.{Fits.{Fits, ActionFits, mounts_by, levels_by}, KeptCauses.CauseOf, Rules.Fitting}
-use Rattle.gate_world.specs.Roles.{sync_role_if, no_roles}
-use Rattle.gate_world.specs.{Views.{held_at, holds_level, phase_after}, Worlds.{World, after_step, found_at}}
-use Rattle.gate_world.specs.declared.{config.Config.Config, operations.Op.Op, work.Phase.Phase}
-use Rattle.gate_frames.proofs.{Keeps.{by_bool, word_among, PhaseKeeps, OpKeeps}, Says.{tells, is_short}, Snapshots.completes_none}
+use Rattle.gate_world.specs.{Fits.{Fits, ActionFits, mounts_by, levels_by}, KeptCauses.CauseOf, Roles.no_roles, Rules.Fitting, Views.{held_at, holds_level}}
+use Rattle.gate_world.specs.{Views.phase_after, Worlds.{World, after_step, found_at}, declared.{config.Config.Config, operations.Op.Op, work.Phase.Phase}}
+use Rattle.gate_frames.proofs.{Frames.sync_none, Keeps.{word_among, PhaseKeeps, OpKeeps}, Says.{tells, is_short}, Snapshots.completes_none}
 use Rattle.writer_laws.proofs.{CallbackEvents.callback_keeps, CallbackTraces.{CallbackAt, callback_kept}}
 use Rattle.writer_laws.proofs.{ReadFits.{level_there, callback_there, callback_goes, callback_acts_none}, ReadRuns.callback_runs, ReadWaits.callback_waits}
-use Rattle.gate_frames.proofs.Frames.{sync_none}
 
 -- what comes after an event of a callback has no cause
 callback_cause : (c : Config) (t : ℕ) (w : World) (earlier : List World) (n : Next Callback) →

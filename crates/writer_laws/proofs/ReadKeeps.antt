@@ -1,27 +1,16 @@
 -- All that is proved of a start and of an end.
 use Rattle.std.proofs.Common.{◌≡◌, ℕ, ◌<◌, Bool, true, refl, sym, ap, subst, ◌∙◌, arith, ◌≤◌, ◌+◌, ◌-◌}
-use Rattle.std.specs.Prelude.{nat_lt, Some, ◌&&◌, ◌==◌}
+use Rattle.std.specs.Prelude.{nat_lt, Some, ◌&&◌}
 use Rattle.std.proofs.lemmas.Bool.{ltb-true}
 use Rattle.percpu_rwsem.specs.declared.readers.DownRead.{DownRead}
 use Rattle.percpu_rwsem.specs.declared.readers.UpRead.{UpRead}
 use Rattle.percpu_rwsem.specs.Readers.{down_read_after}
-use Rattle.gate_counts.specs.Levels.{Out as CountsNot}
-use Rattle.level_laws.specs.Roles.{Out as IsApart, closed}
-use Rattle.gate_world.specs.declared.config.Config.{Config}
-use Rattle.gate_world.specs.declared.operations.Op.TheVariants.{Start, End}
-use Rattle.gate_world.specs.declared.work.Phase.TheVariants.{DownReads, UpReads}
-use Rattle.gate_world.specs.Causes.{asks_level}
-use Rattle.gate_world.specs.Fits.{Fits, mounts_by, levels_by}
-use Rattle.gate_world.specs.Levels.{sync_role_of}
-use Rattle.gate_world.specs.Roles.{count_role_if, sync_role_if, no_roles}
-use Rattle.gate_world.specs.Operations.{is_level_number}
-use Rattle.gate_world.specs.Rules.{Fitting}
-use Rattle.gate_world.specs.Traces.{most_events}
-use Rattle.gate_world.specs.Views.{held_at, holds_level}
-use Rattle.gate_world.specs.Worlds.{World, after_step, found_at}
-use Rattle.gate_frames.proofs.Keeps.{by_bool, PhaseKeeps, IsSmall, OpKeeps}
-use Rattle.gate_frames.proofs.Snapshots.{completes_none}
-use Rattle.gate_frames.proofs.Says.{tells, is_short, tells_well, is_short_well}
+use Rattle.level_laws.specs.Roles.{closed}
+use Rattle.gate_world.specs.{Causes.asks_level, Fits.{Fits, mounts_by, levels_by}, Levels.sync_role_of, Operations.is_level_number, Roles.no_roles}
+use Rattle.gate_world.specs.{Rules.Fitting, Traces.most_events, Views.{held_at, holds_level}, Worlds.{World, after_step, found_at}}
+use Rattle.gate_world.specs.declared.{config.Config.Config, operations.Op.TheVariants.{Start, End}, work.Phase.TheVariants.{DownReads, UpReads}}
+use Rattle.gate_frames.proofs.{Frames.{count_none, sync_none}, Keeps.{by_bool, PhaseKeeps, IsSmall, OpKeeps}, Says.{tells, is_short, tells_well}}
+use Rattle.gate_frames.proofs.{Says.is_short_well, Snapshots.completes_none}
 use Rattle.writer_laws.proofs.EndEvents.{end_keeps}
 use Rattle.writer_laws.proofs.ReadEvents.{read_keeps}
 use Rattle.writer_laws.proofs.ReadFits.{both_true, level_there, none_from_agree, read_step_agrees, read_there, read_acts, read_goes, read_fits}
@@ -29,7 +18,6 @@ use Rattle.writer_laws.proofs.ReadCauses.{read_not_closed, read_stays, read_own,
 use Rattle.writer_laws.proofs.ReadWaits.{read_waits, start_waits}
 use Rattle.writer_laws.proofs.ReadRuns.{read_runs, end_runs}
 use Rattle.writer_laws.proofs.ReadTraces.{StartAt, EndAt, start_kept, end_kept}
-use Rattle.gate_frames.proofs.Frames.{count_none, sync_none}
 
 -- of each phase of a start
 pub read_phase : (c : Config) (r : DownRead) → PhaseKeeps c (DownReads r)

@@ -24,18 +24,10 @@ use Rattle.percpu_rwsem.specs.Callbacks.{callback_next}
 use Rattle.level_laws.specs.Roles.{Out as IsApart, fast}
 use Rattle.level_laws.specs.Events.{SyncStep, TurnsSection}
 use Rattle.level_laws.specs.Operations.{down_read_role, down_read_inside, left_by}
-use Rattle.gate_world.specs.declared.config.Config.{Config}
-use Rattle.gate_world.specs.declared.views.View.{View}
-use Rattle.gate_world.specs.declared.work.Phase.TheVariants.{DownReads, UpReads, Callbacks}
-use Rattle.gate_world.specs.Fits.{Fits}
-use Rattle.gate_world.specs.Views.{held_at, holds_level, view_after, phase_after}
-use Rattle.gate_world.specs.Worlds.{World, after_step}
-use Rattle.gate_world.specs.Levels.{sync_role_of, inside, is_frozen_whole}
-use Rattle.gate_world.specs.Roles.{sync_role_if}
-use Rattle.gate_world.specs.LevelRuns.{level_in}
-use Rattle.gate_world.specs.Rules.{IsGood, Fitting}
-use Rattle.gate_frames.proofs.LevelSteps.{level_stays, level_moved, level_kept}
-use Rattle.gate_frames.proofs.LevelWorlds.{sync_off, IsOfLevel, IsEventAt}
+use Rattle.gate_world.specs.{Fits.Fits, LevelRuns.level_in, Levels.{sync_role_of, inside, is_frozen_whole}, Roles.sync_role_if, Rules.{IsGood, Fitting}}
+use Rattle.gate_world.specs.{Views.{held_at, holds_level, view_after, phase_after}, Worlds.{World, after_step}, declared.config.Config.Config}
+use Rattle.gate_world.specs.declared.{views.View.View, work.Phase.TheVariants.{DownReads, UpReads, Callbacks}}
+use Rattle.gate_frames.proofs.{LevelSteps.{level_stays, level_moved, level_kept}, LevelWorlds.{sync_off, IsOfLevel, IsEventAt}}
 use Rattle.writer_laws.proofs.CallbackEvents.{event_of_level, word_of_level as callback_word, seen_after as callback_seen, steps_there as callback_steps, stays_apart, stays_outside}
 use Rattle.writer_laws.proofs.ReadLevels.{apart_if, keeps_level, role_elsewhere, word_of_level, blocked_apart, blocked_outside, seen_after, steps_there}
 use Rattle.writer_laws.proofs.ReadTraces.{by_word}

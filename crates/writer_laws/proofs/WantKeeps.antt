@@ -2,15 +2,13 @@
 use Rattle.std.{proofs.{Common.{◌≡◌, ℕ, Bool, true, arith, ap, ◌∙◌, refl, subst}, lemmas.Bool.ltb-true}, specs.Prelude.{nat_lt, Some, ◌∷◌}}
 use Rattle.access_model.specs.declared.replies.Next.{Next}
 use Rattle.mount_counts.specs.{Phases.want_after, declared.phases.{MountPhase.MountPhase, Want.Want}}
-use Rattle.gate_world.specs.{Causes.asks, Fits.Fits, Rules.Fitting, Traces.most_events, Views.{held_at, holds_level}, Worlds.{World, after_step, found_at}}
-use Rattle.gate_world.specs.declared.{config.Config.Config, operations.Op.Op, work.Phase.Phase}
-use Rattle.gate_frames.proofs.{Keeps.{by_bool, PhaseKeeps, IsSmall, OpKeeps, word_among}, MountRuns.mounts_run, Says.{tells, is_short}}
-use Rattle.gate_frames.proofs.Frames.{role_none}
+use Rattle.gate_world.specs.{Causes.asks, Fits.Fits, Roles.no_roles, Rules.Fitting, Traces.most_events, Views.{held_at, holds_level}, Worlds.World}
+use Rattle.gate_world.specs.{Worlds.{after_step, found_at}, declared.{config.Config.Config, operations.Op.Op, work.Phase.Phase}}
+use Rattle.gate_frames.proofs.{Frames.role_none, Keeps.{by_bool, PhaseKeeps, IsSmall, OpKeeps, word_among}, MountRuns.mounts_run, Says.{tells, is_short}}
 use Rattle.gate_frames.proofs.{Snapshots.completes_none, TreeHolders.both_true}
 use Rattle.writer_laws.proofs.{WantCauses.{want_kept, want_own, next_cause, next_asked}, WantFits.{want_there, want_acts, want_goes}, WantLoads.want_here}
 use Rattle.writer_laws.proofs.{WantTraces.{WantAt, DropAt, want_kept as want_traced, drop_kept}, WantWaits.{want_waits, next_waits}}
 use Rattle.writer_laws.proofs.Wants.{want_keeps, drop_keeps}
-use Rattle.gate_world.specs.Roles.{no_roles}
 
 pub want_phase : (c : Config) (x : Want) → PhaseKeeps c (Phase.Mounts (MountPhase.Want x))
 want_phase c x = record {

@@ -10,9 +10,8 @@ use Rattle.mount_counts.specs.{Phases.has_flag, Roles.{Out, PastFlags, questions
 use Rattle.mount_counts.specs.declared.phases.{MountPhase.MountPhase, WantStep.WantStep}
 use Rattle.mount_laws.proofs.Bits.{hold_clear, read_only_clear}
 use Rattle.mount_laws.proofs.MountLaws.{closed, remounting, finds_hold_clear, finds_no_remount, finds_writable, is_granted, is_refused, waits_on}
-use Rattle.gate_world.specs.{Fits.Fits, Rules.{role_of, at_mount, owns, remounts, IsSteady, IsGood, GateStepKeeps, AtMount, MountHoldsIn, GatesHold}}
-use Rattle.gate_world.specs.Roles.{want_role}
-use Rattle.gate_world.specs.{Shown.{shown, closing}, Views.{held_at, holds_level, phase_after, view_with, has_open}, Worlds.World}
+use Rattle.gate_world.specs.{Fits.Fits, Roles.want_role, Rules.{role_of, at_mount, owns, remounts, IsSteady, IsGood, GateStepKeeps, AtMount, MountHoldsIn}}
+use Rattle.gate_world.specs.{Rules.GatesHold, Shown.{shown, closing}, Views.{held_at, holds_level, phase_after, view_with, has_open}, Worlds.World}
 use Rattle.gate_world.specs.declared.{config.Config.Config, views.View.View, work.Phase.Phase}
 use Rattle.gate_frames.proofs.Frames.{role_on, role_off, view_as, holds_as, MountHoldsAfter, owner_same, gates_after, shown_as}
 use Rattle.gate_frames.proofs.Loads.{as_owner, after_load, load_law, fits_now}

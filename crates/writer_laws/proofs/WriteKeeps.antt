@@ -1,26 +1,23 @@
 -- All that is proved of a taking and of a return of write access, each from what is proved of its gates.
 use Rattle.std.proofs.{Common.{◌≡◌, ℕ, ◌<◌, ◌≤◌, Bool, true, false, arith, ap, sym, ◌∙◌, refl, subst, true≢false}, lemmas.Bool.ltb-true}
-use Rattle.std.specs.Prelude.{nat_lt, not, Some, Ok, Err, ◌==◌, ◌&&◌, ◌∷◌}
+use Rattle.std.specs.Prelude.{nat_lt, not, Some, Ok, Err, ◌&&◌, ◌∷◌}
 use Rattle.finite_sums.{proofs.Totals.update_same, specs.Sums.update}
 use Rattle.access_model.specs.{Histories.levels_of, Replies.map_next, declared.{errors.GateError.GateError, replies.{Next.Next, Reply.Reply}}}
 use Rattle.cpu_words.specs.Hooks.{HookAnswer}
-use Rattle.gate_counts.specs.Levels.{Out as CountsNot}
 use Rattle.mount_counts.specs.{Phases.want_after, declared.phases.{MountPhase.MountPhase, Want.Want, WantStep.WantStep}}
 use Rattle.percpu_rwsem.specs.{Readers.down_read_after, declared.readers.DownRead.DownRead}
-use Rattle.level_laws.specs.{Events.SyncStep, Roles.{Out as IsApart, closed}}
+use Rattle.level_laws.specs.{Events.SyncStep, Roles.{closed}}
 use Rattle.write_access.specs.{Phases.{then_wants, then_gives_back, leaves_on}, declared.phases.WritePhase.WritePhase}
 use Rattle.gate_world.specs.{Causes.{asks, asks_level}, Configs.IsWithin, Fits.{WriteFits, Fits, mounts_by, levels_by}, LevelRuns.level_in}
-use Rattle.gate_world.specs.{Levels.sync_role_of, Rules.{IsGood, StepKeeps, role_of}, Views.{held_at, holds_level, phase_after}}
-use Rattle.gate_world.specs.Roles.{sync_role_if, count_role_if, no_roles}
-use Rattle.gate_world.specs.{Worlds.{World, after_step, found_at}, declared.{config.Config.Config, operations.Op.Op, work.Phase.Phase}}
-use Rattle.gate_frames.proofs.{Beside.update_twice, Frames.role_on, Keeps.{by_bool, PhaseKeeps, OpKeeps, none_agree}}
-use Rattle.gate_frames.proofs.{Says.{tells, is_short, tells_well, is_short_well}, Snapshots.completes_none, TreeHolders.both_true}
+use Rattle.gate_world.specs.{Levels.sync_role_of, Roles.no_roles, Rules.{IsGood, StepKeeps, role_of}, Views.{held_at, holds_level, phase_after}, Worlds.World}
+use Rattle.gate_world.specs.{Worlds.{after_step, found_at}, declared.{config.Config.Config, operations.Op.Op, work.Phase.Phase}}
+use Rattle.gate_frames.proofs.{Beside.update_twice, Frames.{role_on, count_none, sync_none}, Keeps.{PhaseKeeps, OpKeeps, none_agree}, Says.{tells, is_short}}
+use Rattle.gate_frames.proofs.{Says.{tells_well, is_short_well}, Snapshots.completes_none, TreeHolders.both_true}
 use Rattle.writer_laws.proofs.Alikes.{alike_takes, alike_wants, takes_goes, wants_goes}
 use Rattle.writer_laws.proofs.{ReadCauses.{read_stays, read_own, read_not_closed}, ReadFits.{read_mounts, read_goes}, ReadKeeps.{read_phase, end_phase}}
 use Rattle.writer_laws.proofs.{ReadWaits.read_waits, WantCauses.{want_kept, want_own}, WantFits.want_leaves, WantKeeps.{want_phase, drop_phase}}
 use Rattle.writer_laws.proofs.{WantWaits.want_waits, WriteCauses.{takes_asks, takes_cause, takes_waits, wants_asked, wants_cause, wants_waits}}
 use Rattle.writer_laws.proofs.{WriteSteps.{write_fits_now, write_step, write_runs, first_world}, WriteTraces.{WriteAt, DropAt, write_kept, drop_kept}}
-use Rattle.gate_frames.proofs.Frames.{count_none, sync_none}
 
 -- what fits after an event at level 1, with the mount to come
 takes_fits : (c : Config) (t : ℕ) (held : ℕ → ℕ) (levels : ℕ → Bool) (m : ℕ) (r : DownRead) (found : ℕ) →
