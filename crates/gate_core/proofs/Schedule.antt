@@ -14,7 +14,7 @@ use Rattle.gate_counts.proofs.Flags.{gate_begins}
 use Rattle.gate_counts.proofs.Numbers.{below_le}
 use Rattle.gate_counts.specs.Gates.{below, counted as counted_of}
 use Rattle.gate_counts.specs.Levels.{level_as_gate, processor_of as level_processor}
-use Rattle.gate_frames.proofs.Beside.{beside_good, beside_of, beside_shown}
+use Rattle.gate_frames.proofs.Beside.{SameCounts, beside_good, beside_of, beside_shown}
 use Rattle.gate_frames.proofs.Frames.{left_alone, opens_left, same_words}
 use Rattle.gate_frames.proofs.Trees.{tree_within}
 use Rattle.gate_world.specs.Alike.{IsBeside, off_tree}
@@ -67,6 +67,7 @@ module _ (c : Config) (lim : IsWithin c) (w : World) (good : IsGood c w) (t : �
   pub begun_keeps : (op : Op) → MayBeginAt c (w.views t) op → IsGood c (after_begin c w t op) × (shown c (after_begin c w t op) ≡ shown c w)
   begun_keeps op h =
       let v : View = begun_view (w.views t) op (first_phase c t op) in
+      let counts : SameCounts (w.views t) v = assumption in
       let known : Holds c (after_begin c w t op) Known =
       λ x lx. each_updated (λ y (u : View). owns u.phase ≡ 1 → KnowsWords w.words u.trace) w.views t v x
       (λ o word value k. absurd (true≢false (ap is_some (sym k)))) (λ ne. good Known x lx) in
@@ -75,12 +76,12 @@ module _ (c : Config) (lim : IsWithin c) (w : World) (good : IsGood c w) (t : �
         own = λ y ly. each_updated (λ z (u : View). HasFile (has_open u) (file_of u.phase)) w.views t v y
             ((op_keeps c op).file t (held_of (w.views t)) h.order h.room) (λ ne. (good Files).own y ly);
       } in (
-        beside_good c w t lt v refl refl (begins_aside op h)
+        beside_good c w t lt v counts (begins_aside op h)
             (first_fits c t (is_some (w.views t).phase) (held_of (w.views t)) op h) good known
             (left_alone c w t lt Tree w.words v (same_words w.words Tree)
             ((λ j. ((op_keeps c op).starts_aside t j).tree []) ∙ sym (ap (tree_role_of (w.views t).trace) (idle_is (w.views t).phase h.idle)))
             (good Tree)) files,
-        beside_shown c w t lt v refl refl (begins_aside op h),
+        beside_shown c w t lt v counts (begins_aside op h),
       )
 
 module _ (c : Config) (lim : IsWithin c) where

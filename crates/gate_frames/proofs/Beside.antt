@@ -1,7 +1,5 @@
 -- An operation that stands at a phase of another one, and relies on something at the tree meanwhile, as a last close does inside level 3:
 -- the law of the other's event is the law of its event, but for the tree and the open files, which the event leaves alone.
-use Rattle.gate_world.specs.Holdings.{holdings_of}
-use Rattle.access_model.specs.Histories.{levels_of, mounts_of, opens_of}
 use Rattle.access_model.specs.declared.actions.Action.{Action}
 use Rattle.access_model.specs.declared.replies.Next.{Next}
 use Rattle.cpu_words.specs.Hooks.{HookAnswer}
@@ -16,13 +14,13 @@ use Rattle.gate_frames.proofs.Frames.{left_alone, same_words, shown_still}
 use Rattle.gate_frames.proofs.LevelSteps.{level_kept}
 use Rattle.gate_world.specs.Alike.{IsBeside, at_phase, off_tree, rephased}
 use Rattle.gate_world.specs.Fits.{Fits}
-use Rattle.gate_world.specs.Holdings.{held_after}
+use Rattle.gate_world.specs.Holdings.{held_after, holdings_of}
 use Rattle.gate_world.specs.LevelRuns.{level_in}
 use Rattle.gate_world.specs.Levels.{level_added_by, level_taken_by}
 use Rattle.gate_world.specs.Roles.{Roles, roles_of}
 use Rattle.gate_world.specs.Rules.{AtLevel, AtMount, Files, Fitting, Holding, Holds, IsGood, Known, Moves, Owner, Part, SameView, Sections, Stages, SyncAt, Tree, ViewFits}
 use Rattle.gate_world.specs.Shown.{shown}
-use Rattle.gate_world.specs.Views.{added_by, held_of, phase_after, taken_by, view_with}
+use Rattle.gate_world.specs.Views.{added_by, has_open, held_of, phase_after, taken_by, view_with}
 use Rattle.gate_world.specs.Worlds.{World}
 use Rattle.gate_world.specs.declared.config.Config.{Config}
 use Rattle.gate_world.specs.declared.views.View.{View}
@@ -45,23 +43,33 @@ is_beside Tree = false
 is_beside Files = false
 is_beside part = true
 
--- a view at another phase that stands beside its own
-module _ (c : Config) (w : World) (t : ℕ) (lt : t < c.tasks) (v : View) (actions : v.actions ≡ (w.views t).actions)
-    (events : v.events ≡ (w.views t).events) (same : IsBeside (w.views t).phase v.phase) where
+-- a view holds what the other holds, and has counted what the other has
+pub record SameCounts (old new : View) : Type 0 where
+  pub held_same : held_at new ≡ held_at old
+  pub levels_same : holds_level new ≡ holds_level old
+  pub opens_same : has_open new ≡ has_open old
+  pub added_same : added_by new.events ≡ added_by old.events
+  pub taken_same : taken_by new.events ≡ taken_by old.events
+  pub level_added_same : level_added_by new.events ≡ level_added_by old.events
+  pub level_taken_same : level_taken_by new.events ≡ level_taken_by old.events
+
+-- One law for what changes no word and of roles only those at the tree, be it a beginning, a load or a phase that stands for another.
+module _ (c : Config) (w : World) (t : ℕ) (lt : t < c.tasks) (v : View) (counts : SameCounts (w.views t) v)
+    (same : IsBeside (w.views t).phase v.phase) where
   seen_beside : (part : Part) → is_beside part ≡ true → SameView (w.views t) v part
   seen_beside Owner h = (λ j. (same j).owns, λ j. (same j).remounts)
   seen_beside Stages h = λ j. (same j).stage
   seen_beside Holding h = λ j. (same j).holder
   seen_beside (AtMount m) h = λ j. record {
-    held = mounts_of (actions j) m;
-    added = added_by (events j) m;
-    taken = taken_by (events j) m;
+    held = counts.held_same j m;
+    added = counts.added_same j m;
+    taken = counts.taken_same j m;
     role = (same j).mount m;
   }
   seen_beside (AtLevel i) h = λ j. record {
-    held = if levels_of (actions j) i then 1 else 0;
-    added = level_added_by (events j) i;
-    taken = level_taken_by (events j) i;
+    held = if counts.levels_same j i then 1 else 0;
+    added = counts.level_added_same j i;
+    taken = counts.level_taken_same j i;
     role = (same j).count i;
   }
   seen_beside (SyncAt i) h = λ j. (same j).sync i
@@ -84,7 +92,11 @@ module _ (c : Config) (w : World) (t : ℕ) (lt : t < c.tasks) (v : View) (actio
   -- the shown model is the same
   pub beside_shown : shown c (record { words = w.words; views = update w.views t v }) ≡ shown c w
   beside_shown =
-      shown_still c w t lt w.words v refl refl refl refl refl refl refl (λ i j. sums i (same j).stage) (ap holdings_of actions)
+      shown_still c w t lt w.words v refl refl refl refl refl refl refl (λ i j. sums i (same j).stage) counts.held_same
+
+-- the same accesses and events count the same
+pub same_counts : (v : View) (q : Option Phase) → SameCounts v (at_phase v q)
+same_counts v q = assumption
 
 module _ (c : Config) (w : World) (t : ℕ) (lt : t < c.tasks) (q : Option Phase) (same : IsBeside (w.views t).phase q) where
   -- what an owner knows, its trace tells
@@ -95,10 +107,10 @@ module _ (c : Config) (w : World) (t : ℕ) (lt : t < c.tasks) (q : Option Phase
   pub rephased_beside : Fits c t (held_of (w.views t)) q → IsGood c w → Holds c (rephased w t q) Tree →
       Holds c (rephased w t q) Files → IsGood c (rephased w t q)
   rephased_beside fits good tree files =
-      beside_good c w t lt (at_phase (w.views t) q) refl refl same fits good (known_beside (good Known)) tree files
+      beside_good c w t lt (at_phase (w.views t) q) (same_counts (w.views t) q) same fits good (known_beside (good Known)) tree files
 
   pub shown_beside : shown c (rephased w t q) ≡ shown c w
-  shown_beside = beside_shown c w t lt (at_phase (w.views t) q) refl refl same
+  shown_beside = beside_shown c w t lt (at_phase (w.views t) q) (same_counts (w.views t) q) same
 
 pub beside_level : (w : World) (t : ℕ) (q : Option Phase) → IsBeside (w.views t).phase q → (i : ℕ) →
     level_in (rephased w t q) i ≡ level_in w i

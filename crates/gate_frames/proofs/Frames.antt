@@ -10,7 +10,7 @@ use Rattle.gate_counts.specs.Levels.{LevelHolds, LevelRole, LevelView, Out as Co
 use Rattle.gate_frames.proofs.Known.{known_same}
 use Rattle.gate_world.specs.Fits.{Fits, HasFile, file_of}
 use Rattle.gate_world.specs.Holdings.{Holdings}
-use Rattle.gate_world.specs.Levels.{at_level, inside, is_frozen_whole, level_added_by, level_role_of, level_taken_by, sync_role_of}
+use Rattle.gate_world.specs.Levels.{at_level, inside, is_frozen_whole, level_added_by, level_taken_by, sync_role_of}
 use Rattle.gate_world.specs.Owners.{KnowsWords}
 use Rattle.gate_world.specs.Roles.{Roles, count_role_if, no_roles, role_if, roles_of, sync_role_if}
 use Rattle.gate_world.specs.Rules.{AtLevel, AtMount, Files, Fitting, GatesHold, Holding, Holds, IsGood, IsSteady, Known, Owner, OwnerHolds, Part, SameView, SameWords, Sections, Stages, SyncAt, Tree, ViewFits, at_mount, owns, remounts}
@@ -26,7 +26,7 @@ use Rattle.gated_tree.specs.Roles.{Role as TreeRole, TreeHolds, TreeState}
 use Rattle.holder_laws.specs.Roles.{HolderRole, HoldersHold}
 use Rattle.level_laws.specs.Roles.{Out as IsApart, SyncNumberHolds, SyncRole}
 use Rattle.mount_counts.specs.Roles.{MountHolds, MountView, Out, Role, ro_bit}
-use Rattle.stage_laws.specs.Roles.{StageRole, StagesHold, sums}
+use Rattle.stage_laws.specs.Roles.{StageRole, StagesHold}
 use Rattle.std.proofs.Common.{Bool, ap, arith, inl, inr, refl, subst, suc, sym, true≢false, ℕ, ◌+◌, ◌<◌, ◌∙◌, ◌≡◌}
 use Rattle.std.proofs.lemmas.Bool.{eq-eqb, ne_eqb}
 use Rattle.std.proofs.lemmas.Bool.Decides.{eqb_tells}
@@ -106,6 +106,10 @@ same_words w Files = refl
 same_words w (AtLevel i) = (refl, refl, refl)
 same_words w Sections = refl
 same_words w other = (refl, refl, refl, refl)
+
+-- so are words that differ in some alone, to each part that doesn't read these: there its two sides compute to the words themselves
+pub unwritten : {old new : Words} → new ≡ old → (part : Part) → SameWords old new part
+unwritten {old} e part = subst (λ ws. SameWords old ws part) (sym e) (same_words old part)
 
 -- one mount after an event of this task, which makes this of its flags and counts and of the task's view
 abbrev pub MountHoldsAfter : Config → World → ℕ → ℕ → ℕ → (ℕ → ℕ) → MountView → Type 0

@@ -9,7 +9,7 @@ use Rattle.finite_sums.specs.Sums.{update}
 use Rattle.gate_frames.proofs.Frames.{MountHoldsAfter, added_load, gates_after, holds_as, owner_same, shown_still, taken_load, view_as}
 use Rattle.gate_frames.proofs.Words.{load_same}
 use Rattle.gate_world.specs.Fits.{Fits, MountFits}
-use Rattle.gate_world.specs.Roles.{mount_owns, role_if}
+use Rattle.gate_world.specs.Roles.{mount_owns}
 use Rattle.gate_world.specs.Rules.{AtMount, Fitting, GatesHold, IsGood, IsSteady, at_mount, owns, remounts, role_of}
 use Rattle.gate_world.specs.Shown.{closing, shown}
 use Rattle.gate_world.specs.Views.{added_by, held_of, phase_after, taken_by, view_with}
@@ -17,10 +17,9 @@ use Rattle.gate_world.specs.Worlds.{World}
 use Rattle.gate_world.specs.declared.config.Config.{Config}
 use Rattle.gate_world.specs.declared.views.View.{View}
 use Rattle.gate_world.specs.declared.work.Phase.{Phase}
-use Rattle.mount_counts.specs.Roles.{Out}
 use Rattle.mount_counts.specs.declared.phases.MountPhase.{MountPhase}
 use Rattle.std.proofs.Common.{ap, refl, subst, sym, ℕ, ◌<◌, ◌∙◌, ◌≡◌}
-use Rattle.std.specs.Prelude.{None, Option, Some, false, true, ◌==◌}
+use Rattle.std.specs.Prelude.{None, Option, Some}
 
 pub steady : {p q r : Option Phase} → p ≡ r → IsSteady r q → IsSteady p q
 steady e s = record {

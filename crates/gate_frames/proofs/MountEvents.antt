@@ -1,27 +1,17 @@
 -- What the events of want, drop and change touch: the rest of the rule stays.
 use Rattle.std.proofs.{Common.{Bool, arith, inl, inr, refl, sym, true, true≢false, ◌≡◌, ◌<◌, ◌⊎◌, subst, ℕ, ◌∙◌, ap, List}, lemmas.Bool.cases_Bool}
-use Rattle.std.specs.Prelude.{Some, false, sum, ◌==◌, if◌then◌else◌, None}
+use Rattle.std.specs.Prelude.{Some, false, sum, ◌==◌, if◌then◌else◌}
 use Rattle.access_model.specs.{Histories.{levels_of, opens_of}, Replies.map_next, declared.{actions.Action.Action, replies.Next.Next}}
 use Rattle.cpu_words.specs.{Hooks.HookAnswer, Touches.{event_of, found_by, left}, Words.{Words, put, read}}
 use Rattle.cpu_words.specs.declared.{events.Touch.Touch, names.WordName.WordName}
-use Rattle.gate_counts.specs.Levels.{Out as CountsNot}
-use Rattle.gated_tree.specs.Roles.{Out as OffTree}
 use Rattle.mount_counts.specs.Phases.{change_after, change_next, lock_failed, want_after, want_next, next, after}
 use Rattle.mount_counts.specs.declared.phases.{Change.Change, ChangeStep.ChangeStep, MountPhase.MountPhase, Want.Want, WantStep.WantStep}
-use Rattle.level_laws.specs.Roles.{Out as IsApart}
-use Rattle.stage_laws.specs.Roles.{Aside}
-use Rattle.holder_laws.specs.Roles.{Apart}
-use Rattle.gate_world.specs.{Fits.file_of, Found.is_load}
-use Rattle.gate_world.specs.Levels.{inside, at_level, level_added_after, level_taken_after, level_role_of, sync_role_of, level_added_by, level_taken_by}
-use Rattle.gate_world.specs.Owners.{is_owned, takes_lock}
-use Rattle.gate_world.specs.Rules.{Fitting, Holds, IsGood, Known, Owner, Part, SameView, SameWords, Stages, Holding, StepKeeps, at_gates, owns}
-use Rattle.gate_world.specs.Rules.{GateStepKeeps, Tree, AtLevel, SyncAt, Sections, Files}
-use Rattle.gate_world.specs.{Trees.tree_role_of, Views.{phase_after, view_after, actions_after, has_open}}
-use Rattle.gate_world.specs.Roles.{change_owns, Roles, no_roles, roles_of}
-use Rattle.gate_world.specs.Shown.{holder_role_of, stage_role_of}
-use Rattle.gate_world.specs.Worlds.{World, after_step, found_at, value_at, words_after}
-use Rattle.gate_world.specs.declared.{config.Config.Config, views.{Traced.Traced, View.View}, work.Phase.Phase}
-use Rattle.gate_frames.proofs.{Frames.{same_words, left_alone, level_view_as}, Known.{IsOwnersWork, known_after}, Words.load_same}
+use Rattle.gate_world.specs.{Found.is_load, Levels.{at_level, level_added_after, level_taken_after, level_added_by, level_taken_by}, Owners.is_owned}
+use Rattle.gate_world.specs.{Owners.takes_lock, Roles.{change_owns, Roles, no_roles, roles_of}, Rules.{AtMount, Holds, IsGood, Known, Owner, Part, SameView}}
+use Rattle.gate_world.specs.Rules.{SameWords, Stages, Holding, StepKeeps, at_gates, owns, GateStepKeeps, Tree, AtLevel, SyncAt, Sections, Files}
+use Rattle.gate_world.specs.{Trees.tree_role_of, Views.{phase_after, view_after, actions_after, has_open}, Worlds.{World, after_step, found_at, value_at}}
+use Rattle.gate_world.specs.{Worlds.words_after, declared.{config.Config.Config, views.View.View, work.Phase.Phase}}
+use Rattle.gate_frames.proofs.{Frames.{unwritten, left_alone, level_view_as}, Known.{IsOwnersWork, known_after}, Words.load_same}
 
 -- the words that want, drop and change write
 abbrev pub is_gate_word : WordName → Bool
@@ -59,24 +49,35 @@ pub known_is : (part : Part) → is_known_part part ≡ true → part ≡ Known
 known_is Known h = refl
 known_is part h = absurd (true≢false (sym h))
 
--- a load leaves what each part reads
-pub load_unread : (w : Words) (word : WordName) (touch : Touch) (part : Part) → is_load touch ≡ true →
-    SameWords w (put w word (left touch (read w word))) part
-load_unread w word Touch.Load part h = subst (λ (ws : Words). SameWords w ws part) (sym (load_same w word)) (same_words w part)
-load_unread w word touch part h = absurd (true≢false (sym h))
+-- the words but for these
+abbrev pub off_gates : Words → Words
+off_gates w = record w { umount = 0; flags = λ m. 0; count = λ m p. 0 }
 
--- and the words of want, drop and change are none that the parts of the stage, the holders, the marks, the nodes and the levels read
-unread : (part : Part) → at_gates part ≡ false → is_known_part part ≡ false → (word : WordName) → is_gate_word word ≡ true →
-    (w : Words) (n : ℕ) → SameWords w (put w word n) part
-unread Stages h k word q w n = (grind (arith, q), grind (arith, q), grind (arith, q), grind (arith, q))
-unread Holding h k word q w n = (grind (arith, q), grind (arith, q))
-unread Known h k word q w n = absurd (true≢false k)
-unread (AtLevel j) h k word q w n = (grind (arith, q), grind (arith, q), grind (arith, q))
-unread (SyncAt j) h k word q w n = (grind (arith, q), grind (arith, q), grind (arith, q), grind (arith, q))
-unread Sections h k word q w n = grind (arith, q)
-unread Tree h k word q w n = (grind (arith, q), grind (arith, q), grind (arith, q), grind (arith, q), grind (arith, q), grind (arith, q))
-unread Files h k word q w n = grind (arith, q)
-unread part h k word q w n = absurd (true≢false h)
+gate_written : (w : Words) (word : WordName) (n : ℕ) → is_gate_word word ≡ true → off_gates (put w word n) ≡ off_gates w
+gate_written w WordName.Umount n q = refl
+gate_written w (WordName.MountFlags m) n q = refl
+gate_written w (WordName.MountCount m p) n q = refl
+gate_written w word n q = absurd (true≢false (sym q))
+
+-- a load leaves all words
+pub load_left : (w : Words) (word : WordName) (touch : Touch) → is_load touch ≡ true → put w word (left touch (read w word)) ≡ w
+load_left w word Touch.Load h = load_same w word
+load_left w word touch h = absurd (true≢false (sym h))
+
+-- so they are as they were
+gate_words_left : (w : Words) (x : WordName × Touch) → IsGateTouch x → off_gates (put w x.0 (left x.1 (read w x.0))) ≡ off_gates w
+gate_words_left w x touches = elim touches [
+  | inl h ↦ ap off_gates (load_left w x.0 x.1 h)
+  | inr h ↦ gate_written w x.0 (left x.1 (read w x.0)) h
+]
+
+-- and the parts of the stage, the holders, the tree, the files and the levels read none of these
+unread : (part : Part) → at_gates part ≡ false → is_known_part part ≡ false → (old new : Words) → off_gates new ≡ off_gates old →
+    SameWords old new part
+unread Owner h k old new same = absurd (true≢false h)
+unread (AtMount m) h k old new same = absurd (true≢false h)
+unread Known h k old new same = absurd (true≢false k)
+unread part h k old new same = unwritten same part
 
 -- these roles but for those of want, drop and change
 abbrev pub off_mounts : Roles → Roles
@@ -241,10 +242,7 @@ others_hold c w t lt good hook x e part h true k =
 others_hold c w t lt good hook x e part h false k =
     left_alone c w t lt part (words_after w.words (Phase.Mounts x) hook)
     (view_after (w.views t) (Phase.Mounts x) (value_at w.words (Phase.Mounts x) hook) hook)
-    (elim (mounts_touch x hook) [
-      | inl f ↦ load_unread w.words (next x hook).0 (next x hook).1 part f
-      | inr f ↦ unread part h k (next x hook).0 f w.words (left (next x hook).1 (read w.words (next x hook).0))
-    ])
+    (unread part h k w.words (words_after w.words (Phase.Mounts x) hook) (gate_words_left w.words (next x hook) (mounts_touch x hook)))
     (unseen part h k (w.views t) (view_after (w.views t) (Phase.Mounts x) (value_at w.words (Phase.Mounts x) hook) hook)
     (mounts_unseen (w.views t) x (value_at w.words (Phase.Mounts x) hook) hook e)) (good part)
 

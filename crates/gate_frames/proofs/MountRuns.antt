@@ -3,10 +3,9 @@ use Rattle.std.{proofs.Common.{◌≡◌, ℕ, ◌<◌, refl, sym, ap, ◌∙◌
 use Rattle.cpu_words.specs.{Hooks.HookAnswer, Words.Words}
 use Rattle.mount_counts.specs.{Phases.after, declared.phases.{Change.Change, ChangeStep.ChangeStep, MountPhase.MountPhase, Want.Want, WantStep.WantStep}}
 use Rattle.level_laws.specs.{Events.SyncStep, Roles.Out as IsApart}
-use Rattle.gate_world.specs.{LevelRuns.level_in, Levels.{inside, sync_role_of}, Rules.{SameWords, SyncAt}, Views.{phase_after, view_after}, Work.after_of}
-use Rattle.gate_world.specs.{Worlds.{World, after_step, found_at, value_at, words_after}, declared.work.Phase.Phase}
+use Rattle.gate_world.specs.{LevelRuns.level_in, Levels.{inside, sync_role_of}, Roles.{no_roles, roles_of}, Rules.{SameWords, SyncAt}, Views.phase_after}
+use Rattle.gate_world.specs.{Views.view_after, Work.after_of, Worlds.{World, after_step, found_at, value_at, words_after}, declared.work.Phase.Phase}
 use Rattle.gate_frames.proofs.{LevelSteps.{level_kept, level_stays}, MountEvents.{off_mounts, mounts_roles}}
-use Rattle.gate_world.specs.Roles.{no_roles, roles_of}
 use Rattle.access_model.specs.Replies.{map_next}
 
 -- an event that leaves what a level reads of the words, of a task that has no part in the level and is inside no section, before it and

@@ -17,21 +17,20 @@ use Rattle.finite_sums.specs.Sums.{update}
 use Rattle.freeze_levels.specs.Holders.{holders_in}
 use Rattle.gate_frames.proofs.Accesses.{holdings_of_after}
 use Rattle.gate_frames.proofs.Agreeing.{access_agrees}
-use Rattle.gate_frames.proofs.Frames.{IsOffLevels, added_load, left_alone, level_view_as, shown_as, taken_load, view_as}
+use Rattle.gate_frames.proofs.Frames.{added_load, left_alone, level_view_as, shown_as, taken_load, unwritten, view_as}
 use Rattle.gate_frames.proofs.Keeps.{by_bool}
 use Rattle.gate_frames.proofs.MayTree.{LeaveFor, call_fits, leave, may_step}
-use Rattle.gate_frames.proofs.MountEvents.{level_added_load, level_taken_load}
+use Rattle.gate_frames.proofs.MountEvents.{level_added_load, level_taken_load, load_left}
 use Rattle.gate_frames.proofs.OpenFiles.{file_then, files_counted, same_counts}
 use Rattle.gate_frames.proofs.Trees.{tree_holds, tree_within}
-use Rattle.gate_frames.proofs.Words.{load_same}
 use Rattle.gate_world.specs.Configs.{IsWithin, model_limits}
 use Rattle.gate_world.specs.Fits.{Fits, HasFile, TreeAccess, file_of}
 use Rattle.gate_world.specs.Found.{is_load}
 use Rattle.gate_world.specs.Holdings.{Holdings, held_after}
 use Rattle.gate_world.specs.Levels.{is_frozen_whole, level_added_after, level_added_by, level_taken_after, level_taken_by}
 use Rattle.gate_world.specs.Roles.{Roles, no_roles, nodes_noted, roles_of, snapshot_stage_role, tree_stage_role}
-use Rattle.gate_world.specs.Rules.{AtLevel, AtMount, Files, Fitting, Holding, Holds, IsGood, Moves as ModelMoves, Part, SameView, SameWords, Sections, SyncAt, Tree, ViewFits, remounts, role_of}
-use Rattle.gate_world.specs.Shown.{closing, holder_role_of, shown}
+use Rattle.gate_world.specs.Rules.{AtLevel, AtMount, Files, Fitting, Holding, Holds, IsGood, Moves as ModelMoves, Part, SameView, SameWords, Sections, SyncAt, Tree, ViewFits}
+use Rattle.gate_world.specs.Shown.{closing, shown}
 use Rattle.gate_world.specs.Snapshots.{values_noted}
 use Rattle.gate_world.specs.Trees.{is_bare_at, is_sealed, tree_bounds, tree_role_of, tree_roles}
 use Rattle.gate_world.specs.Views.{added_after, added_by, has_open, held_at, held_of, holds_level, phase_after, taken_after, taken_by, view_after}
@@ -43,7 +42,7 @@ use Rattle.gate_world.specs.declared.work.Phase.{Phase}
 use Rattle.gated_tree.specs.Calls.{NextFits, TreePhaseFits, phase_role, role_after}
 use Rattle.gated_tree.specs.Nodes.{dirty_in, file_in, node_shown, word_of}
 use Rattle.gated_tree.specs.Phases.{after, after_look, at_mark, clear_after, create_after, create_next, grow_after, grow_next, mark_after, mark_done, mark_next, move_after, move_next, next, open_after, open_next, remove_after, remove_next, snapshot_after, snapshot_next}
-use Rattle.gated_tree.specs.Roles.{Role, TreeHolds, bare_by, sealed_by}
+use Rattle.gated_tree.specs.Roles.{Role, TreeHolds}
 use Rattle.gated_tree.specs.declared.changes.Create.{Create}
 use Rattle.gated_tree.specs.declared.changes.CreateStep.{CreateStep}
 use Rattle.gated_tree.specs.declared.changes.MoveStep.{MoveStep}
@@ -60,9 +59,8 @@ use Rattle.gated_tree.specs.declared.opens.OpenStep.{OpenStep}
 use Rattle.gated_tree.specs.declared.phases.TreePhase.{TreePhase}
 use Rattle.gated_tree.specs.declared.snapshots.Snapshot.{Snapshot}
 use Rattle.gated_tree.specs.declared.snapshots.SnapshotStep.{SnapshotStep}
-use Rattle.holder_laws.specs.Roles.{Apart}
-use Rattle.mount_counts.specs.Roles.{Out, ro_bit}
-use Rattle.stage_laws.specs.Roles.{Aside, is_full, sums}
+use Rattle.mount_counts.specs.Roles.{ro_bit}
+use Rattle.stage_laws.specs.Roles.{Aside, sums}
 use Rattle.std.proofs.Common.{Bool, ap, arith, false, inl, inr, refl, subst, sym, true, true≢false, ℕ, ◌<◌, ◌∙◌, ◌≡◌, ◌⊎◌}
 use Rattle.std.specs.Prelude.{Err, None, Ok, Option, Result, Some, if◌then◌else◌, ◌==◌, ◌||◌}
 use Rattle.tree_laws.proofs.Allowed.{may_do, tree_alone}
@@ -144,53 +142,40 @@ pub call_touch : (x : TreePhase) (hook : HookAnswer) → IsCallTouch (next x hoo
 call_touch (TreePhase.Snapshot x) hook = snapshot_touch x x.step
 call_touch x hook = inr (node_call (next x hook).0 (node_word x hook refl))
 
--- the words that no call at the tree writes are as they were
-pub record IsBesideTree (old new : Words) : Type 0 where
-  pub stage_same : new.stage ≡ old.stage
-  pub holders_same : new.holders ≡ old.holders
-  pub sb_same : new.sb ≡ old.sb
-  pub remount_same : new.remount ≡ old.remount
-  pub flags_same : new.flags ≡ old.flags
-  pub count_same : new.count ≡ old.count
-  pub block_same : new.block ≡ old.block
-  pub sync_same : new.sync ≡ old.sync
-  pub level_same : new.level ≡ old.level
-  pub section_same : new.section ≡ old.section
+-- the words that no call at the tree writes
+abbrev pub beside_calls : Words → Words
+beside_calls w = record w { umount = 0; used = 0; removed = 0; node = λ n. 0; kids = λ d. 0 }
 
-pub same_beside : (w : Words) → IsBesideTree w w
-same_beside w = assumption
+-- are as they were
+abbrev pub IsBesideTree : Words → Words → Type 0
+IsBesideTree old new = beside_calls new ≡ beside_calls old
 
 -- where such a word is written
 pub write_beside : (w : Words) (word : WordName) (n : ℕ) → is_call_word word ≡ true → IsBesideTree w (put w word n)
-write_beside w WordName.Umount n h = assumption
-write_beside w WordName.Used n h = assumption
-write_beside w WordName.Removed n h = assumption
-write_beside w (WordName.Node x) n h = assumption
-write_beside w (WordName.Kids d) n h = assumption
+write_beside w WordName.Umount n h = refl
+write_beside w WordName.Used n h = refl
+write_beside w WordName.Removed n h = refl
+write_beside w (WordName.Node x) n h = refl
+write_beside w (WordName.Kids d) n h = refl
 write_beside w word n h = absurd (true≢false (sym h))
-
--- and where a word is loaded
-pub load_beside : (w : Words) (word : WordName) (touch : Touch) → is_load touch ≡ true → IsBesideTree w (put w word (left touch (read w word)))
-load_beside w word Touch.Load h = subst (IsBesideTree w) (sym (load_same w word)) (same_beside w)
-load_beside w word touch h = absurd (true≢false (sym h))
 
 -- so they are after each event that loads a word, or writes such a one
 pub touch_beside : (w : Words) (x : WordName × Touch) → IsCallTouch x → IsBesideTree w (put w x.0 (left x.1 (read w x.0)))
 touch_beside w x touches =
     elim touches [
-      | inl h ↦ load_beside w x.0 x.1 h
+      | inl h ↦ ap beside_calls (load_left w x.0 x.1 h)
       | inr h ↦ write_beside w x.0 (left x.1 (read w x.0)) h
     ]
 
 -- and the file system is frozen as a whole, and the tree sealed, as before
 pub whole_beside : (old new : Words) → IsBesideTree old new → is_frozen_whole new ≡ is_frozen_whole old
-whole_beside old new same = λ j. is_full (same.stage_same j) (same.sb_same j)
+whole_beside old new same = λ j. is_frozen_whole (same j)
 
 pub sealed_beside : (old new : Words) → IsBesideTree old new → is_sealed new ≡ is_sealed old
-sealed_beside old new same = λ j. sealed_by (same.sb_same j) (same.stage_same j)
+sealed_beside old new same = λ j. is_sealed (same j)
 
 pub bare_beside : (old new : Words) → IsBesideTree old new → is_bare_at new ≡ is_bare_at old
-bare_beside old new same = λ j. bare_by (same.remount_same j) (same.sb_same j)
+bare_beside old new same = λ j. is_bare_at (same j)
 
 -- a write of such a word counts at no mount and at no level
 added_call : (word : WordName) (touch : Touch) (added : ℕ → ℕ → ℕ) → is_call_word word ≡ true → added_after word touch added ≡ added
@@ -403,12 +388,11 @@ is_gate_part Sections = true
 is_gate_part part = false
 
 pub gate_words : (part : Part) → is_gate_part part ≡ true → (old new : Words) → IsBesideTree old new → SameWords old new part
-gate_words Holding h old new same = (same.stage_same, same.holders_same)
-gate_words (AtMount m) h old new same = (ap (λ f. f m) same.flags_same, same.remount_same, same.sb_same, ap (λ f. f m) same.count_same)
-gate_words (AtLevel i) h old new same = (ap (λ f. f i) same.block_same, ap (λ f. f i) same.level_same, whole_beside old new same)
-gate_words (SyncAt i) h old new same =
-    (ap (λ f. f i) same.sync_same, ap (λ f. f i) same.block_same, same.section_same, whole_beside old new same)
-gate_words Sections h old new same = same.section_same
+gate_words Holding h old new same = unwritten same Holding
+gate_words (AtMount m) h old new same = unwritten same (AtMount m)
+gate_words (AtLevel i) h old new same = unwritten same (AtLevel i)
+gate_words (SyncAt i) h old new same = unwritten same (SyncAt i)
+gate_words Sections h old new same = unwritten same Sections
 gate_words part h old new same = absurd (true≢false (sym h))
 
 -- an event at the tree, of whatever operation: it writes no other word but `umount`, and leaves its task's accesses
@@ -483,15 +467,15 @@ module _ (c : Config) (w : World) (good : IsGood c w) (t : ℕ) (lt : t < c.task
   }
   shown_then =
       let same : IsBesideTree w.words words_then = beside_then in
-      shown_as c w t lt words_then view_then same.block_same (λ i. at.off_then.closing_none i ∙ sym (was_off.closing_none i)) ∙
+      shown_as c w t lt words_then view_then (λ j. (same j).block) (λ i. at.off_then.closing_none i ∙ sym (was_off.closing_none i)) ∙
       (λ j. record (shown c w) {
         mounts = (ap (update (λ y. held_at (w.views y)) t) held_still ∙ update_same (λ y. held_at (w.views y)) t) j;
         levels = (ap (update (λ y. holds_level (w.views y)) t) levels_still ∙ update_same (λ y. holds_level (w.views y)) t) j;
         opens = ap (λ (h : Holdings). update (λ y. has_open (w.views y)) t h.files) held_then j;
-        mount_ro = λ m. ro_bit (same.flags_same j m) == 1;
-        sb_ro = same.remount_same j == 1 || same.sb_same j == 1;
-        stage = same.stage_same j;
-        holders = holders_in (same.holders_same j);
+        mount_ro = λ m. ro_bit ((same j).flags m) == 1;
+        sb_ro = (same j).remount == 1 || (same j).sb == 1;
+        stage = (same j).stage;
+        holders = holders_in (same j).holders;
         tree = λ n. node_shown (words_then.node n);
       })
 

@@ -32,7 +32,7 @@ use Rattle.gate_world.specs.Found.{is_load}
 use Rattle.gate_world.specs.Holdings.{Holdings}
 use Rattle.gate_world.specs.Owners.{is_owned, takes_lock}
 use Rattle.gate_world.specs.Roles.{Roles, freeze_stage_role, no_roles, reopening_role, roles_of, thaw_stage_role}
-use Rattle.gate_world.specs.Rules.{AtLevel, AtMount, Files, Fitting, Holding, Holds, IsGood, Known, Moves, Owner, OwnerHolds, Part, Sections, Stages, StepKeeps, SyncAt, Tree, ViewFits, owns, remounts, role_of}
+use Rattle.gate_world.specs.Rules.{AtLevel, AtMount, Files, Fitting, Holding, Holds, IsGood, Known, Moves, Owner, OwnerHolds, Part, Sections, Stages, StepKeeps, SyncAt, Tree, ViewFits, owns}
 use Rattle.gate_world.specs.Shown.{shown, stage_role_of, stage_roles}
 use Rattle.gate_world.specs.Views.{added_by, has_open, held_of, phase_after, taken_by}
 use Rattle.gate_world.specs.Worlds.{World, after_step, phase_action, value_at}
@@ -40,7 +40,6 @@ use Rattle.gate_world.specs.declared.config.Config.{Config}
 use Rattle.gate_world.specs.declared.views.View.{View}
 use Rattle.gate_world.specs.declared.work.Phase.{Phase}
 use Rattle.gated_tree.specs.Nodes.{node_shown, opens_in}
-use Rattle.mount_counts.specs.Roles.{Out}
 use Rattle.percpu_rwsem.specs.Graces.{looked}
 use Rattle.percpu_rwsem.specs.SyncWords.{is_passed, on_callback, on_enter, unpack}
 use Rattle.percpu_rwsem.specs.Transitions.{transition_after}

@@ -13,12 +13,12 @@ use Rattle.gate_world.specs.declared.config.Config.{Config}
 use Rattle.gate_world.specs.declared.work.Phase.{Phase}
 use Rattle.mount_counts.specs.declared.phases.MountPhase.{MountPhase}
 use Rattle.mount_counts.specs.declared.phases.Want.{Want}
+use Rattle.operation_laws.proofs.ReadFits.{ReadGoes}
 use Rattle.percpu_rwsem.specs.declared.readers.DownRead.{DownRead}
 use Rattle.std.proofs.Common.{Bool, refl, subst, true, ℕ, ◌<◌, ◌∙◌, ◌≡◌}
-use Rattle.std.specs.Prelude.{Err, None, Ok, Some}
+use Rattle.std.specs.Prelude.{Err, Ok, Some}
 use Rattle.write_access.specs.Phases.{then_gives_back, then_wants}
 use Rattle.write_access.specs.declared.phases.WritePhase.{WritePhase}
-use Rattle.operation_laws.proofs.ReadFits.{ReadGoes}
 
 pub alike_plain : (x : WritePhase) → IsAlike (Some (Phase.Writes x)) (Some (plain x))
 alike_plain (WritePhase.Takes m r) = refl

@@ -1,26 +1,48 @@
 -- Events of a callback: each keeps the rule, and leaves the shown model.
-use Rattle.std.proofs.{Common.{◌≡◌, ℕ, ◌+◌, ◌<◌, ◌≤◌, refl, sym, ap, ◌∙◌, subst, inl, inr, arith}, lemmas.Bool.{cases_Bool, ltb-true, Decides.eqb_tells}}
-use Rattle.std.specs.Prelude.{Some, None, Bool, ◌==◌, ◌&&◌, ◌%◌, nat_lt, if◌then◌else◌, true}
-use Rattle.finite_sums.{proofs.Totals.update_same, specs.Sums.update}
-use Rattle.access_model.specs.{Histories.{mounts_of, levels_of, opens_of}, Replies.map_next, declared.replies.Next.Next}
-use Rattle.cpu_words.specs.{Hooks.HookAnswer, Touches.{found_by, left}, Words.{Words, read, put}, declared.{events.Touch.Touch, names.WordName.WordName}}
+use Rattle.access_model.specs.Histories.{levels_of, mounts_of, opens_of}
+use Rattle.access_model.specs.Replies.{map_next}
+use Rattle.access_model.specs.declared.replies.Next.{Next}
+use Rattle.cpu_words.specs.Hooks.{HookAnswer}
+use Rattle.cpu_words.specs.Touches.{found_by, left}
+use Rattle.cpu_words.specs.Words.{Words, put, read}
+use Rattle.cpu_words.specs.declared.events.Touch.{Touch}
+use Rattle.cpu_words.specs.declared.names.WordName.{WordName}
+use Rattle.finite_sums.proofs.Totals.{update_same}
+use Rattle.finite_sums.specs.Sums.{update}
 use Rattle.gate_counts.specs.Levels.{Out as CountsNot}
-use Rattle.percpu_rwsem.specs.Callbacks.{at_callback, callback_next, callback_after, claimed, callback_looked, called_back}
-use Rattle.percpu_rwsem.specs.{Graces.{is_first, passed_on, looked}, SyncWords.{on_claim, on_callback}, Transitions.transition_after}
-use Rattle.percpu_rwsem.specs.declared.{callbacks.{Callback.Callback, CallbackStep.CallbackStep}, grace.Grace.Grace}
-use Rattle.percpu_rwsem.specs.declared.transitions.{Transition.Transition, TransitionNext.TransitionNext}
+use Rattle.gate_frames.proofs.Frames.{left_alone, level_view_as}
+use Rattle.gate_frames.proofs.LevelWorlds.{IsEventAt, IsOfLevel, found_level, level_there, sync_elsewhere, sync_off, sync_on}
+use Rattle.gate_world.specs.Configs.{IsWithin}
+use Rattle.gate_world.specs.Fits.{Fits, GraceFits, PhaseFits}
+use Rattle.gate_world.specs.Holdings.{Holdings}
+use Rattle.gate_world.specs.LevelRuns.{level_in}
+use Rattle.gate_world.specs.Levels.{inside, level_added_after, level_added_by, level_role_of, level_taken_after, level_taken_by, sync_role_of}
+use Rattle.gate_world.specs.Roles.{sync_role_if}
+use Rattle.gate_world.specs.Rules.{AtLevel, Fitting, Holds, IsGood, Moves, StepKeeps, SyncAt, ViewFits}
+use Rattle.gate_world.specs.Shown.{shown}
+use Rattle.gate_world.specs.Views.{actions_after, added_after, added_by, held_of, phase_after, taken_after, taken_by, view_after}
+use Rattle.gate_world.specs.Worlds.{World}
+use Rattle.gate_world.specs.declared.config.Config.{Config}
+use Rattle.gate_world.specs.declared.views.View.{View}
+use Rattle.gate_world.specs.declared.work.Phase.{Phase}
 use Rattle.level_laws.proofs.Operations.{callbacks_are_there}
 use Rattle.level_laws.specs.Events.{SyncLevel, SyncLevelHolds, SyncStep}
-use Rattle.level_laws.specs.{Operations.{callback_role, KnowsCallback, CallbackIsThere, left_by, put_at, value_at, by_next, HoldsOfNext}, Roles.Out as IsApart}
-use Rattle.gate_world.specs.{Configs.IsWithin, Fits.{Fits, PhaseFits, GraceFits}, LevelRuns.level_in}
-use Rattle.gate_world.specs.Levels.{sync_role_of, inside, level_added_by, level_added_after, level_taken_by, level_taken_after, level_role_of}
-use Rattle.gate_world.specs.Roles.{sync_role_if}
-use Rattle.gate_world.specs.{Rules.{IsGood, StepKeeps, Moves, AtLevel, SyncAt, Fitting, Holds, ViewFits}, Shown.shown}
-use Rattle.gate_world.specs.{Holdings.Holdings, Views.{view_after, phase_after, actions_after, held_of, added_by, added_after, taken_by, taken_after}, Worlds.World}
-use Rattle.gate_world.specs.declared.{config.Config.Config, views.View.View, work.Phase.Phase}
-use Rattle.gate_frames.proofs.Frames.{left_alone, level_view_as}
-use Rattle.gate_frames.proofs.LevelWorlds.{sync_on, sync_off, IsOfLevel, IsEventAt, found_level, level_there, sync_elsewhere}
-use Rattle.operation_laws.proofs.LevelParts.{IsBeside, IsAtLevels, SameAtMounts, whole_same, level_parts, level_still}
+use Rattle.level_laws.specs.Operations.{CallbackIsThere, HoldsOfNext, KnowsCallback, by_next, callback_role, left_by, put_at, value_at}
+use Rattle.level_laws.specs.Roles.{Out as IsApart}
+use Rattle.operation_laws.proofs.LevelParts.{IsAtLevels, IsBeside, SameAtMounts, level_parts, level_still, whole_same}
+use Rattle.percpu_rwsem.specs.Callbacks.{at_callback, callback_after, callback_looked, callback_next, called_back, claimed}
+use Rattle.percpu_rwsem.specs.Graces.{is_first, looked, passed_on}
+use Rattle.percpu_rwsem.specs.SyncWords.{on_callback, on_claim}
+use Rattle.percpu_rwsem.specs.Transitions.{transition_after}
+use Rattle.percpu_rwsem.specs.declared.callbacks.Callback.{Callback}
+use Rattle.percpu_rwsem.specs.declared.callbacks.CallbackStep.{CallbackStep}
+use Rattle.percpu_rwsem.specs.declared.grace.Grace.{Grace}
+use Rattle.percpu_rwsem.specs.declared.transitions.Transition.{Transition}
+use Rattle.percpu_rwsem.specs.declared.transitions.TransitionNext.{TransitionNext}
+use Rattle.std.proofs.Common.{ap, arith, inl, inr, refl, subst, sym, ℕ, ◌+◌, ◌<◌, ◌∙◌, ◌≡◌, ◌≤◌}
+use Rattle.std.proofs.lemmas.Bool.{cases_Bool, ltb-true}
+use Rattle.std.proofs.lemmas.Bool.Decides.{eqb_tells}
+use Rattle.std.specs.Prelude.{Bool, None, Some, if◌then◌else◌, nat_lt, ◌%◌, ◌&&◌, ◌==◌}
 
 pub event_of_level : (b : Callback) (s : CallbackStep) → IsEventAt b.level (callback_next b s).0 (callback_next b s).1
 event_of_level b (CallbackStep.Claims Transition.Loads) = refl
@@ -34,16 +56,11 @@ word_of_level b (CallbackStep.AwaitsSections g) = tt
 word_of_level b (CallbackStep.CallsBack Transition.Loads) = refl
 word_of_level b other = refl
 
--- words of which a section word or a sync word is another
-beside : (w : Words) (sections syncs : ℕ → ℕ) → IsBeside w (record w { section = sections; sync = syncs })
-beside w sections syncs = assumption
-
 -- it leaves the words beside the levels, and each `block`
 words_beside : (w : Words) (b : Callback) (s : CallbackStep) (n : ℕ) → IsBeside w (put w (callback_next b s).0 n)
-words_beside w b (CallbackStep.Claims Transition.Loads) n = beside w w.section (update w.sync b.level n)
-words_beside w b (CallbackStep.AwaitsSections g) n = beside w (update w.section g.task n) w.sync
-words_beside w b (CallbackStep.CallsBack Transition.Loads) n = beside w w.section (update w.sync b.level n)
-words_beside w b other n = beside w w.section (update w.sync b.level n)
+words_beside w b (CallbackStep.Claims Transition.Loads) n = refl
+words_beside w b (CallbackStep.CallsBack Transition.Loads) n = refl
+words_beside w b other n = refl
 
 -- and the counts of each level
 counts_same : (w : Words) (b : Callback) (s : CallbackStep) (n : ℕ) → (put w (callback_next b s).0 n).level ≡ w.level
@@ -276,7 +293,7 @@ module _ (c : Config) (w : World) (good : IsGood c w) (t : ℕ) (lt : t < c.task
   level_counts : (i : ℕ) → Holds c then_world (AtLevel i)
   level_counts i =
       left_alone c w t lt (AtLevel i) then_words seen_after (
-        ap (λ f. f i) (words_beside w.words b s (left touch (read w.words name))).block_same,
+        λ j. (words_beside w.words b s (left touch (read w.words name)) j).block i,
         ap (λ f. f i) (counts_same w.words b s (left touch (read w.words name))),
         whole_same w.words then_words (words_beside w.words b s (left touch (read w.words name))),
       ) (level_view_as (ap (λ a. if levels_of a i then 1 else 0) same_actions)

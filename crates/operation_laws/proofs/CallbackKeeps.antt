@@ -3,29 +3,28 @@ use Rattle.access_model.specs.Replies.{map_next}
 use Rattle.access_model.specs.declared.actions.Action.{Action}
 use Rattle.access_model.specs.declared.replies.Next.{Next}
 use Rattle.gate_frames.proofs.Frames.{sync_none}
-use Rattle.gate_frames.proofs.Keeps.{OpKeeps, PhaseKeeps, by_bool, word_among}
+use Rattle.gate_frames.proofs.Keeps.{OpKeeps, PhaseKeeps, word_among}
 use Rattle.gate_frames.proofs.Says.{is_short, tells}
 use Rattle.gate_frames.proofs.Snapshots.{completes_none}
 use Rattle.gate_world.specs.Fits.{ActionFits, Fits}
 use Rattle.gate_world.specs.Holdings.{held_after}
 use Rattle.gate_world.specs.KeptCauses.{CauseOf}
-use Rattle.gate_world.specs.Roles.{no_roles, sync_role_if}
+use Rattle.gate_world.specs.Roles.{no_roles}
 use Rattle.gate_world.specs.Rules.{Fitting}
 use Rattle.gate_world.specs.Views.{held_of, phase_after}
 use Rattle.gate_world.specs.Worlds.{World, after_step, found_at}
 use Rattle.gate_world.specs.declared.config.Config.{Config}
 use Rattle.gate_world.specs.declared.operations.Op.{Op}
 use Rattle.gate_world.specs.declared.work.Phase.{Phase}
-use Rattle.level_laws.specs.Roles.{Out as IsApart}
-use Rattle.percpu_rwsem.specs.Callbacks.{callback_after}
-use Rattle.percpu_rwsem.specs.declared.callbacks.Callback.{Callback}
-use Rattle.std.proofs.Common.{refl, subst, sym, ℕ, ◌≡◌, ◌≤◌}
-use Rattle.std.specs.Prelude.{List, Option, Some, ◌==◌, ◌∷◌}
 use Rattle.operation_laws.proofs.CallbackEvents.{callback_keeps}
 use Rattle.operation_laws.proofs.CallbackTraces.{CallbackAt, callback_kept}
 use Rattle.operation_laws.proofs.ReadFits.{callback_acts_none, callback_goes, callback_there, level_there}
 use Rattle.operation_laws.proofs.ReadRuns.{callback_runs}
 use Rattle.operation_laws.proofs.ReadWaits.{callback_waits}
+use Rattle.percpu_rwsem.specs.Callbacks.{callback_after}
+use Rattle.percpu_rwsem.specs.declared.callbacks.Callback.{Callback}
+use Rattle.std.proofs.Common.{refl, subst, sym, ℕ, ◌≤◌}
+use Rattle.std.specs.Prelude.{List, Option, Some, ◌∷◌}
 
 -- what comes after an event of a callback has no cause
 callback_cause : (c : Config) (t : ℕ) (w : World) (earlier : List World) (n : Next Callback) →

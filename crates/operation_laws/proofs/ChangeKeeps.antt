@@ -23,7 +23,7 @@ use Rattle.operation_laws.proofs.ChangeWaits.{change_waits}
 use Rattle.operation_laws.proofs.Each.{change_keeps}
 use Rattle.std.proofs.Common.{Bool, arith, refl, subst, ℕ}
 use Rattle.std.proofs.lemmas.Bool.{ltb-true}
-use Rattle.std.specs.Prelude.{Some, true}
+use Rattle.std.specs.Prelude.{Some}
 
 pub change_phase : (c : Config) (x : Change) → PhaseKeeps c (Phase.Mounts (MountPhase.Change x))
 change_phase c x = record {

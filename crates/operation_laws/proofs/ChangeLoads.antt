@@ -3,11 +3,9 @@ use Rattle.std.{proofs.{Common.{◌≡◌, ℕ, ◌<◌, Bool, true, false, refl
 use Rattle.access_model.specs.declared.replies.Next.{Next}
 use Rattle.cpu_words.specs.{Hooks.HookAnswer, declared.names.WordName.WordName}
 use Rattle.mount_counts.specs.{Phases.{has_flag, step_between}, Roles.Out, declared.phases.{ChangeStep.ChangeStep, MountPhase.MountPhase}}
-use Rattle.gate_world.specs.{Fits.SumFits, Operations.holds_none, Rules.{role_of, IsGood, GateStepKeeps, GatesHold}}
-use Rattle.gate_world.specs.Roles.{change_role, role_if, change_owns}
-use Rattle.gate_world.specs.{Shown.shown, Views.holds_level, Worlds.World, declared.{config.Config.Config, work.Phase.Phase}}
-use Rattle.gate_frames.proofs.{Frames.{role_on, role_off}, Loads.{as_owner, after_load, still_load, fits_now}}
-use Rattle.gate_frames.proofs.Frames.{role_none}
+use Rattle.gate_world.specs.{Fits.SumFits, Operations.holds_none, Roles.{change_role, role_if, change_owns}, Rules.{role_of, IsGood, GateStepKeeps}}
+use Rattle.gate_world.specs.{Rules.GatesHold, Shown.shown, Views.holds_level, Worlds.World, declared.{config.Config.Config, work.Phase.Phase}}
+use Rattle.gate_frames.proofs.{Frames.{role_on, role_off, role_none}, Loads.{as_owner, after_load, still_load, fits_now}}
 
 abbrev pub change : ℕ → Bool → Bool → ℕ → ℕ → ChangeStep → MountPhase
 change m ro wait task processors step =

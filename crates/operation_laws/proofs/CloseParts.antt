@@ -5,15 +5,12 @@ use Rattle.access_model.specs.States.{is_removed}
 use Rattle.access_model.specs.declared.actions.Action.{Action}
 use Rattle.access_model.specs.declared.errors.GateError.{GateError}
 use Rattle.access_model.specs.declared.replies.Next.{Next}
-use Rattle.operation_laws.proofs.CloseFits.{close_goes}
 use Rattle.cpu_words.specs.Hooks.{HookAnswer}
 use Rattle.file_closes.specs.Phases.{after, closed_from, enters, next}
 use Rattle.file_closes.specs.declared.phases.ClosePhase.{ClosePhase}
 use Rattle.file_closes.specs.declared.phases.Closing.{Closing}
-use Rattle.gate_counts.specs.Levels.{Out as CountsNot}
 use Rattle.gate_frames.proofs.CloseEvents.{close_drops, close_frees, close_loads, close_lowers, close_uncounts, closer_unread, dropped_removed, freeing_removed, frees_alone}
 use Rattle.gate_frames.proofs.Frames.{count_none, sync_none}
-use Rattle.gate_frames.proofs.Keeps.{by_bool}
 use Rattle.gate_frames.proofs.MayTree.{LeaveFor}
 use Rattle.gate_frames.proofs.NodeEvents.{IsPlain, plain_parts, tree_run}
 use Rattle.gate_frames.proofs.NodeParts.{IsAtTree, IsOffGates, LeavesAccesses, files_then, fitting_then, idle_off, is_node_word, leaves_if, leaves_none, node_call, shown_moves, tree_then}
@@ -22,7 +19,7 @@ use Rattle.gate_world.specs.Configs.{IsWithin, model_limits}
 use Rattle.gate_world.specs.Fits.{CloseFits, Fits, HasFile, MayLower, file_of}
 use Rattle.gate_world.specs.Holdings.{Holdings, held_after}
 use Rattle.gate_world.specs.LevelRuns.{level_in}
-use Rattle.gate_world.specs.Roles.{close_tree_role, count_role_if, no_roles, sync_role_if}
+use Rattle.gate_world.specs.Roles.{close_tree_role, no_roles}
 use Rattle.gate_world.specs.Rules.{Files, Fitting, IsGood, StepKeeps, Tree}
 use Rattle.gate_world.specs.Shown.{shown}
 use Rattle.gate_world.specs.Trees.{is_bare_at, is_sealed, tree_bounds, tree_role_of, tree_roles}
@@ -39,7 +36,7 @@ use Rattle.gated_tree.specs.Phases.{after_look}
 use Rattle.gated_tree.specs.Roles.{Dropped, Freeing}
 use Rattle.gated_tree.specs.declared.nodes.NodeWord.{NodeWord}
 use Rattle.level_laws.specs.Events.{SyncStep}
-use Rattle.level_laws.specs.Roles.{Out as IsApart}
+use Rattle.operation_laws.proofs.CloseFits.{close_goes}
 use Rattle.std.proofs.Common.{Bool, ap, arith, false, inl, inr, refl, subst, sym, true, true≢false, ℕ, ◌<◌, ◌∙◌, ◌≡◌}
 use Rattle.std.proofs.lemmas.Bool.{cases_Bool}
 use Rattle.std.proofs.lemmas.Bool.Decides.{eqb_tells}

@@ -5,7 +5,6 @@ use Rattle.access_model.specs.States.{openers}
 use Rattle.access_model.specs.declared.actions.Action.{Action}
 use Rattle.access_model.specs.declared.replies.Next.{Next}
 use Rattle.access_model.specs.declared.replies.Reply.{Reply}
-use Rattle.operation_laws.proofs.CloseFits.{enters_fits}
 use Rattle.cpu_words.specs.Hooks.{HookAnswer}
 use Rattle.cpu_words.specs.Words.{Words, read}
 use Rattle.file_closes.specs.Phases.{leaves_on, then_frees}
@@ -35,14 +34,15 @@ use Rattle.gated_tree.specs.Nodes.{opens_in}
 use Rattle.gated_tree.specs.Roles.{Freeing, Out as OffTree, TreeHolds, charge, child_charge, removal}
 use Rattle.gated_tree.specs.declared.nodes.NodeWord.{NodeWord}
 use Rattle.level_laws.specs.Events.{SyncStep}
+use Rattle.operation_laws.proofs.CloseFits.{enters_fits}
+use Rattle.operation_laws.proofs.ReadKeeps.{end_phase, read_phase}
 use Rattle.percpu_rwsem.specs.Readers.{at_down_read, down_read_after}
 use Rattle.percpu_rwsem.specs.declared.readers.DownRead.{DownRead}
 use Rattle.percpu_rwsem.specs.declared.readers.DownReadStep.{DownReadStep}
 use Rattle.std.proofs.Common.{Bool, ap, arith, inl, inr, refl, subst, sym, true, ℕ, ◌<◌, ◌∙◌, ◌≡◌, ◌⊎◌}
 use Rattle.std.proofs.lemmas.Bool.{cases_Bool}
-use Rattle.std.specs.Prelude.{Err, List, None, Ok, Option, Some, ◌==◌}
+use Rattle.std.specs.Prelude.{Err, List, Ok, Option, Some, ◌==◌}
 use Rattle.tree_laws.proofs.Counts.{leaves}
-use Rattle.operation_laws.proofs.ReadKeeps.{end_phase, read_phase}
 
 -- what comes after an event at level 3 is beside what comes in its own operation
 pub beside_enters : (file p : ℕ) (node : NodeWord) (n : Next DownRead) →

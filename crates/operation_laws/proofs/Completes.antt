@@ -1,6 +1,4 @@
 -- The last load of a snapshot: the tree that it has loaded is the present one.
-use Rattle.operation_laws.proofs.NodeCauses.{some_is}
-use Rattle.operation_laws.proofs.Noted.{AreWords, IsLong, last_load, loaded_long, noted_long}
 use Rattle.cpu_words.specs.Hooks.{HookAnswer}
 use Rattle.cpu_words.specs.declared.names.WordName.{WordName}
 use Rattle.gate_world.specs.Configs.{IsWithin}
@@ -21,6 +19,8 @@ use Rattle.gated_tree.specs.declared.phases.TreePhase.{TreePhase}
 use Rattle.gated_tree.specs.declared.snapshots.Snapshot.{Snapshot}
 use Rattle.gated_tree.specs.declared.snapshots.SnapshotStep.{SnapshotStep}
 use Rattle.gated_tree.specs.declared.trees.TreeWords.{TreeWords}
+use Rattle.operation_laws.proofs.NodeCauses.{some_is}
+use Rattle.operation_laws.proofs.Noted.{AreWords, IsLong, last_load, loaded_long, noted_long}
 use Rattle.stage_laws.specs.Roles.{KnowsStage}
 use Rattle.std.proofs.Common.{ap, arith, inl, inr, subst, suc, sym, true≢false, ℕ, ◌+◌, ◌<◌, ◌∙◌, ◌≡◌, ◌≤◌}
 use Rattle.std.proofs.lemmas.Bool.{cases_lt, le-ltb, lt-ltb}

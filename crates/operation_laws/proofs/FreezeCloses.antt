@@ -279,11 +279,11 @@ module _ (c : Config) (lim : IsWithin c) (w : World) (good : IsGood c w) (t : �
         IsStageEvent c w good t lt words_then view_then Stays
     closing_stays block p was now =
         stays_there c w good t lt words_then view_then (record {
-          stage_same = (down_write_words w.words d d.step).stage_same;
-          sb_same = (down_write_words w.words d d.step).beside.sb_same;
-          remount_same = (down_write_words w.words d d.step).beside.remount_same;
+          stage_same = λ j. (down_write_words w.words d d.step j).stage;
+          sb_same = λ j. (down_write_words w.words d d.step j).sb;
+          remount_same = λ j. (down_write_words w.words d d.step j).remount;
           block_same = block;
-          node_same = (down_write_words w.words d d.step).node_same;
+          node_same = λ j. (down_write_words w.words d d.step j).node;
         })
         (place_role x d p next_here now ∙ sym (ap stage_role_of e ∙ ap (λ q. Freezing d.level q (nat_lt 1 d.level)) was))
 

@@ -7,10 +7,9 @@ use Rattle.access_model.specs.declared.{actions.Action.Action, replies.Next.Next
 use Rattle.cpu_words.specs.{Hooks.HookAnswer, Touches.{wrap_add, wrap_sub}, Words.{Words, put}, declared.{events.Touch.Touch, names.WordName.WordName}}
 use Rattle.gate_counts.proofs.LevelLaws.{adds_slow, adds_fast, backs_away, gives_back}
 use Rattle.gate_counts.specs.Levels.{Out as CountsNot, Seeking, BackingOff, LevelRole, LevelView, LevelHolds}
-use Rattle.gate_world.specs.{Configs.IsWithin, Levels.{is_frozen_whole, at_level, level_role_of, level_added_by, level_taken_by}}
-use Rattle.gate_world.specs.Roles.{count_role_if}
-use Rattle.gate_world.specs.{Rules.{IsGood, Holds, AtLevel}, Views.{holds_level, view_with}, Worlds.World}
-use Rattle.gate_world.specs.declared.{config.Config.Config, views.View.View, work.Phase.Phase}
+use Rattle.gate_world.specs.{Configs.IsWithin, Levels.{is_frozen_whole, at_level, level_role_of, level_added_by, level_taken_by}, Roles.count_role_if}
+use Rattle.gate_world.specs.{Rules.{IsGood, Holds, AtLevel}, Views.{holds_level, view_with}, Worlds.World, declared.{config.Config.Config, views.View.View}}
+use Rattle.gate_world.specs.declared.work.Phase.{Phase}
 use Rattle.gate_frames.proofs.Frames.{left_alone, level_as, level_view_as}
 use Rattle.operation_laws.proofs.LevelParts.{IsBeside, whole_same}
 
@@ -19,11 +18,6 @@ count_on i r = rw (eq-eqb i i refl)
 
 pub count_off : (j i : ℕ) (r : LevelRole) → (j ≡ i → ⊥) → count_role_if (j == i) r ≡ CountsNot
 count_off j i r ne = rw (ne_eqb j i ne)
-
--- no role is none at whichever level
-pub count_none : (b : Bool) → count_role_if b CountsNot ≡ CountsNot
-count_none true = refl
-count_none false = refl
 
 -- one access at most has room
 pub bit_room : (b : Bool) → (if b then 1 else 0) < 1024
@@ -45,11 +39,11 @@ module _ (c : Config) (w : World) (good : IsGood c w) (t : ℕ) (lt : t < c.task
     level_follows count view counts seen own off j =
         elim (eqb_tells j i) [
           | inl q ↦ subst (λ y. Holds c (record { words = ws; views = update w.views t v }) (AtLevel y)) (sym q.1)
-              (λ l1 l3. level_as (ap (λ f. f i) words.block_same) (whole_same w.words ws words) counts
+              (λ l1 l3. level_as (λ k. (words k).block i) (whole_same w.words ws words) counts
               (update_map (at_level i) w.views t v ∙ ap (update (λ x. at_level i (w.views x)) t) seen) (own l1 l3))
           | inr q ↦
               let o : (ws.level j ≡ w.words.level j) × (at_level j v ≡ at_level j (w.views t)) = off j q.1 in
-              left_alone c w t lt (AtLevel j) ws v (ap (λ f. f j) words.block_same, o.0, whole_same w.words ws words) o.1 (good (AtLevel j))
+              left_alone c w t lt (AtLevel j) ws v (λ k. (words k).block j, o.0, whole_same w.words ws words) o.1 (good (AtLevel j))
         ]
 
 -- 1 where an access is held
@@ -80,10 +74,10 @@ module _ (c : Config) (lim : IsWithin c) (w : World) (good : IsGood c w) (t : �
   view_down = view_with (w.views t) (WordName.LevelCount i p, Touch.Sub 1) (w.words.level i p) hook coming
 
   pub up_beside : IsBeside w.words words_up
-  up_beside = assumption
+  up_beside = refl
 
   pub down_beside : IsBeside w.words words_down
-  down_beside = assumption
+  down_beside = refl
 
   -- what the level's counts are before the event
   abbrev was : LevelView

@@ -1,39 +1,27 @@
 -- What an event at a freeze level leaves alone, where it leaves the word `block` of each.
-use Rattle.std.{proofs.Common.{◌≡◌, ℕ, ◌<◌, sym, ap, ◌∙◌, arith}, specs.Prelude.{◌==◌, ◌&&◌, ◌||◌, if◌then◌else◌, Option, Some, None, List}}
+use Rattle.std.{proofs.Common.{◌≡◌, ℕ, ◌<◌, sym, ap, ◌∙◌, arith}, specs.Prelude.{◌==◌, ◌||◌, Option, Some}}
 use Rattle.finite_sums.{proofs.Totals.{update_same, each_updated}, specs.Sums.update}
 use Rattle.access_model.specs.{Replies.map_next, declared.replies.Next.Next}
 use Rattle.cpu_words.specs.Words.{Words}
-use Rattle.gated_tree.specs.{Nodes.node_shown, Roles.{Out as OffTree, sealed_by, bare_by}}
-use Rattle.mount_counts.specs.Roles.{ro_bit, Out}
+use Rattle.gated_tree.specs.{Nodes.node_shown}
+use Rattle.mount_counts.specs.Roles.{ro_bit}
 use Rattle.percpu_rwsem.specs.declared.readers.{DownRead.DownRead, UpRead.UpRead}
 use Rattle.freeze_levels.specs.Holders.{holders_in}
-use Rattle.stage_laws.specs.Roles.{Aside, sums}
-use Rattle.holder_laws.specs.Roles.{Apart}
-use Rattle.gate_world.specs.{Fits.file_of, Levels.{is_frozen_whole, sync_role_of, inside, at_level}, Owners.KnowsWords}
-use Rattle.gate_world.specs.Rules.{owns, remounts, IsGood, Holds, ViewFits, Owner, Known, AtMount, AtLevel, role_of, SyncAt, Sections, Stages, Holding, Fitting}
-use Rattle.gate_world.specs.Rules.{Tree, Files}
-use Rattle.gate_world.specs.{Shown.{closing, shown}, Trees.{is_sealed, tree_role_of, is_bare_at}}
-use Rattle.gate_world.specs.Shown.{holder_role_of, stage_role_of}
-use Rattle.gate_world.specs.{Views.{held_at, added_by, phase_after, taken_by, holds_level, has_open}, Worlds.World}
-use Rattle.gate_world.specs.declared.{config.Config.Config, views.{Traced.Traced, View.View}, work.Phase.Phase}
-use Rattle.gate_frames.proofs.{Frames.{shown_as, left_alone, view_as}, Known.known_same}
-use Rattle.gate_world.specs.Roles.{Roles, no_roles, roles_of}
+use Rattle.stage_laws.specs.Roles.{sums}
+use Rattle.gate_world.specs.{Levels.{is_frozen_whole, sync_role_of, inside, at_level}, Owners.KnowsWords, Roles.{Roles, no_roles, roles_of}, Rules.owns}
+use Rattle.gate_world.specs.Rules.{IsGood, Holds, ViewFits, Owner, Known, AtMount, AtLevel, SyncAt, Sections, Stages, Holding, Fitting, Tree, Files}
+use Rattle.gate_world.specs.{Shown.{closing, shown}, Views.{held_at, added_by, phase_after, taken_by, holds_level, has_open}, Worlds.World}
+use Rattle.gate_world.specs.declared.{config.Config.Config, views.View.View, work.Phase.Phase}
+use Rattle.gate_frames.proofs.{Frames.{shown_as, left_alone, view_as, unwritten}, Known.known_same}
 use Rattle.std.proofs.Common.{refl}
 
--- the words that are no level's own are as they were, and so is `block`
-pub record IsBeside (old new : Words) : Type 0 where
-  pub umount_same : new.umount ≡ old.umount
-  pub remount_same : new.remount ≡ old.remount
-  pub sb_same : new.sb ≡ old.sb
-  pub stage_same : new.stage ≡ old.stage
-  pub holders_same : new.holders ≡ old.holders
-  pub flags_same : new.flags ≡ old.flags
-  pub count_same : new.count ≡ old.count
-  pub used_same : new.used ≡ old.used
-  pub removed_same : new.removed ≡ old.removed
-  pub node_same : new.node ≡ old.node
-  pub kids_same : new.kids ≡ old.kids
-  pub block_same : new.block ≡ old.block
+-- the words that are no level's own, and `block`
+abbrev pub beside_levels : Words → Words
+beside_levels w = record w { level = λ i p. 0; sync = λ i. 0; section = λ t. 0 }
+
+-- are as they were
+abbrev pub IsBeside : Words → Words → Type 0
+IsBeside old new = beside_levels new ≡ beside_levels old
 
 -- these roles but for those at levels
 abbrev pub off_levels : Roles → Roles
@@ -52,15 +40,7 @@ pub record SameAtMounts (old new : View) : Type 0 where
 
 -- frozen or not as before
 pub whole_same : (old new : Words) → IsBeside old new → is_frozen_whole new ≡ is_frozen_whole old
-whole_same old new words = λ k. if words.stage_same k == 4 && words.sb_same k == 0 then 1 else 0
-
--- sealed or not as before
-sealed_same : (old new : Words) → IsBeside old new → is_sealed new ≡ is_sealed old
-sealed_same old new words = λ k. sealed_by (words.sb_same k) (words.stage_same k)
-
--- read-only or not as before
-bare_same : (old new : Words) → IsBeside old new → is_bare_at new ≡ is_bare_at old
-bare_same old new words = λ k. bare_by (words.remount_same k) (words.sb_same k)
+whole_same old new words = λ k. is_frozen_whole (words k)
 
 pub reads_at_levels : (next : Next DownRead) → IsAtLevels (phase_after (map_next Phase.DownReads next))
 reads_at_levels (Next.Go r) = refl
@@ -81,46 +61,39 @@ module _ (c : Config) (w : World) (good : IsGood c w) (t : ℕ) (lt : t < c.task
 
   owner_left : Holds c then_world Owner
   owner_left =
-      left_alone c w t lt Owner ws v (words.umount_same, words.remount_same) (λ j. (same j).owns, λ j. (same j).remounts) (good Owner)
+      left_alone c w t lt Owner ws v (unwritten words Owner) (λ j. (same j).owns, λ j. (same j).remounts) (good Owner)
 
   known_left : Holds c then_world Known
   known_left x lx =
       each_updated (λ y (u : View). owns u.phase ≡ 1 → KnowsWords ws u.trace) w.views t v x
       (λ o. absurd (let none : owns v.phase ≡ 0 = λ j. (now j).owns in omega (arith, o, none)))
-      (λ ne o. known_same w.words ws (words.stage_same, words.sb_same, words.remount_same, words.flags_same, words.holders_same) (w.views x).trace
+      (λ ne o. known_same w.words ws (unwritten words Known) (w.views x).trace
       (good Known x lx o))
 
   mount_left : SameAtMounts (w.views t) v → (m : ℕ) → Holds c then_world (AtMount m)
   mount_left mounts m =
       left_alone c w t lt (AtMount m) ws v
-      (ap (λ f. f m) words.flags_same, words.remount_same, words.sb_same, ap (λ f. f m) words.count_same)
+      (unwritten words (AtMount m))
       (view_as (ap (λ f. f m) mounts.held_same) (ap (λ f. f m) mounts.added_same) (ap (λ f. f m) mounts.taken_same)
       (λ j. (same j).mount m)) (good (AtMount m))
 
   tree_left : Holds c then_world Tree
   tree_left =
-      left_alone c w t lt Tree ws v (
-        words.used_same,
-        words.removed_same,
-        words.node_same,
-        words.kids_same,
-        sealed_same w.words ws words,
-        bare_same w.words ws words,
-      )
+      left_alone c w t lt Tree ws v (unwritten words Tree)
       ((λ j. (now j).tree v.trace) ∙ sym (λ j. (was j).tree (w.views t).trace)) (good Tree)
 
   files_left : SameAtMounts (w.views t) v → Holds c then_world Files
-  files_left mounts = left_alone c w t lt Files ws v words.node_same (mounts.open_same, λ j. (same j).file) (good Files)
+  files_left mounts = left_alone c w t lt Files ws v (unwritten words Files) (mounts.open_same, λ j. (same j).file) (good Files)
 
   -- all parts, from those of the levels
   pub level_parts : SameAtMounts (w.views t) v → ViewFits c t v → ((i : ℕ) → Holds c then_world (AtLevel i)) →
       ((i : ℕ) → Holds c then_world (SyncAt i)) → Holds c then_world Sections → IsGood c then_world
   level_parts mounts fits levels syncs sections Owner = owner_left
   level_parts mounts fits levels syncs sections Stages =
-      left_alone c w t lt Stages ws v (words.stage_same, words.sb_same, words.remount_same, words.block_same)
+      left_alone c w t lt Stages ws v (unwritten words Stages)
       (λ j. (same j).stage) (good Stages)
   level_parts mounts fits levels syncs sections Holding =
-      left_alone c w t lt Holding ws v (words.stage_same, words.holders_same) (λ j. (same j).holder) (good Holding)
+      left_alone c w t lt Holding ws v (unwritten words Holding) (λ j. (same j).holder) (good Holding)
   level_parts mounts fits levels syncs sections Fitting = λ x lx.
       each_updated (λ y (u : View). ViewFits c y u) w.views t v x fits (λ ne. good Fitting x lx)
   level_parts mounts fits levels syncs sections Known = known_left
@@ -142,16 +115,16 @@ module _ (c : Config) (w : World) (good : IsGood c w) (t : ℕ) (lt : t < c.task
         levels = update (λ x. holds_level (w.views x)) t (holds_level v);
       }
   level_shown mounts =
-      shown_as c w t lt ws v words.block_same closing_same ∙
+      shown_as c w t lt ws v (λ j. (words j).block) closing_same ∙
       (λ j. record (shown c w) {
         mounts = update (λ x. held_at (w.views x)) t (mounts.held_same j);
         levels = update (λ x. holds_level (w.views x)) t (holds_level v);
         opens = (ap (update (λ x. has_open (w.views x)) t) mounts.open_same ∙ update_same (λ x. has_open (w.views x)) t) j;
-        mount_ro = λ m. ro_bit (words.flags_same j m) == 1;
-        sb_ro = words.remount_same j == 1 || words.sb_same j == 1;
-        stage = words.stage_same j;
-        holders = holders_in (words.holders_same j);
-        tree = λ n. node_shown (words.node_same j n);
+        mount_ro = λ m. ro_bit ((words j).flags m) == 1;
+        sb_ro = (words j).remount == 1 || (words j).sb == 1;
+        stage = (words j).stage;
+        holders = holders_in (words j).holders;
+        tree = λ n. node_shown ((words j).node n);
       })
 
   pub level_still : SameAtMounts (w.views t) v → holds_level v ≡ holds_level (w.views t) → shown c then_world ≡ shown c w
@@ -167,7 +140,7 @@ module _ (c : Config) (w : World) (good : IsGood c w) (t : ℕ) (lt : t < c.task
       ((i : ℕ) → sync_role_of i v.phase ≡ sync_role_of i (w.views t).phase) → (i : ℕ) → Holds c then_world (SyncAt i)
   sync_left_at syncs section same i =
       left_alone c w t lt (SyncAt i) ws v
-      (ap (λ f. f i) syncs, ap (λ f. f i) words.block_same, section, whole_same w.words ws words) (same i) (good (SyncAt i))
+      (ap (λ f. f i) syncs, λ j. (words j).block i, section, whole_same w.words ws words) (same i) (good (SyncAt i))
 
   -- and the sections, where it is inside one or not as before
   pub sections_left_at : ws.section ≡ w.words.section → inside v.phase ≡ inside (w.views t).phase → Holds c then_world Sections
@@ -177,4 +150,4 @@ module _ (c : Config) (w : World) (good : IsGood c w) (t : ℕ) (lt : t < c.task
       Holds c then_world (AtLevel i)
   counts_left_at counts same i =
       left_alone c w t lt (AtLevel i) ws v
-      (ap (λ f. f i) words.block_same, ap (λ f. f i) counts, whole_same w.words ws words) (same i) (good (AtLevel i))
+      (λ j. (words j).block i, ap (λ f. f i) counts, whole_same w.words ws words) (same i) (good (AtLevel i))

@@ -16,15 +16,9 @@ use Rattle.percpu_rwsem.specs.SyncWords.{unpack}
 use Rattle.percpu_rwsem.specs.Readers.{down_read_after, at_down_read, left_blocked}
 use Rattle.level_laws.specs.Roles.{SyncRole, Out, closed}
 use Rattle.level_laws.specs.Operations.{down_read_role}
-use Rattle.gate_world.specs.declared.config.Config.{Config}
-use Rattle.gate_world.specs.declared.work.Phase.TheVariants.{DownReads}
-use Rattle.gate_world.specs.Causes.{last_asked, asks_level, read_asks, WasClosed}
-use Rattle.gate_world.specs.KeptCauses.{ReadCause, CauseOf}
-use Rattle.gate_world.specs.Levels.{sync_role_of, is_frozen_whole}
-use Rattle.gate_world.specs.Roles.{sync_role_if}
-use Rattle.gate_world.specs.Rules.{IsGood, SyncAt, SyncHoldsIn}
-use Rattle.gate_world.specs.Views.{phase_after}
-use Rattle.gate_world.specs.Worlds.{World, found_at}
+use Rattle.gate_world.specs.{Causes.{last_asked, asks_level, read_asks, WasClosed}, KeptCauses.{ReadCause, CauseOf}, Levels.{sync_role_of, is_frozen_whole}}
+use Rattle.gate_world.specs.{Roles.sync_role_if, Rules.{IsGood, SyncAt, SyncHoldsIn}, Views.phase_after, Worlds.{World, found_at}}
+use Rattle.gate_world.specs.declared.{config.Config.Config, work.Phase.TheVariants.DownReads}
 use Rattle.gate_frames.proofs.Keeps.{by_bool}
 use Rattle.operation_laws.proofs.ReadTraces.{by_word}
 

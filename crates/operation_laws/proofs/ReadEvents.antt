@@ -1,53 +1,54 @@
 -- Each event of a start.
-use Rattle.operation_laws.proofs.ReadLevels.{LevelsHold, read_levels}
-use Rattle.gate_counts.proofs.LevelLaws.{is_refused, is_granted}
-use Rattle.finite_sums.proofs.Totals.{update_same, update_off, update_at}
-use Rattle.access_model.specs.declared.actions.Action.{Action}
-use Rattle.cpu_words.specs.declared.events.Touch.{Touch}
-use Rattle.percpu_rwsem.specs.SyncWords.{unpack}
-use Rattle.cpu_words.specs.declared.names.WordName.{WordName}
-use Rattle.gate_frames.proofs.Frames.{level_view_as}
-use Rattle.gate_frames.proofs.LevelWorlds.{not_passed, sync_on, fast_finds_open}
-use Rattle.access_model.specs.declared.actions.Gate.TheVariants.{Level}
-use Rattle.access_model.specs.declared.replies.Reply.TheVariants.{Unit as UnitReply}
-use Rattle.cpu_words.specs.Touches.{wrap_add}
-use Rattle.cpu_words.specs.declared.events.Touch.TheVariants.{Add, Load, Sub}
-use Rattle.access_model.specs.declared.actions.Action.TheVariants.{Grant}
-use Rattle.gate_world.specs.Shown.{shown}
-use Rattle.cpu_words.specs.declared.names.WordName.TheVariants.{Section, Sync, LevelCount, Block}
-use Rattle.access_model.specs.declared.replies.Next.TheVariants.{Go, Done}
-use Rattle.finite_sums.specs.Sums.{update}
-use Rattle.gate_world.specs.declared.views.View.{View}
 use Rattle.access_model.specs.Actions.{IsAllowed}
-use Rattle.cpu_words.specs.Words.{Words, put, read}
-use Rattle.access_model.specs.declared.replies.Next.{Next}
-use Rattle.gate_world.specs.declared.work.Phase.{Phase}
-use Rattle.operation_laws.proofs.LevelParts.{IsAtLevels, reads_at_levels, IsBeside, SameAtMounts, level_parts, level_still, counts_left_at, level_shown}
-use Rattle.cpu_words.specs.Hooks.{HookAnswer}
-use Rattle.gate_world.specs.Rules.{IsGood, StepKeeps, Fitting, Moves, AtLevel}
-use Rattle.gate_world.specs.Worlds.{World, after_step}
-use Rattle.gate_world.specs.Configs.{IsWithin, model_limits}
-use Rattle.operation_laws.proofs.LevelCounts.{count_none, count_on, count_off, SameElsewhere, words_up, LevelHoldsAfter, up_beside, words_down, seeks, down_beside, enters_fast, backs_off, held_bit, level_follows, bit_room}
-use Rattle.gate_world.specs.declared.work.Phase.TheVariants.{DownReads}
 use Rattle.access_model.specs.Replies.{map_next}
-use Rattle.percpu_rwsem.specs.declared.sync_word.GpState.TheVariants.{Idle}
-use Rattle.gate_world.specs.{Holdings.Holdings, Views.{phase_after, holds_level, held_at, held_of, view_with, has_open}}
-use Rattle.gate_world.specs.Fits.{ReadFits, ReadStepFits, Fits}
-use Rattle.gate_world.specs.Levels.{level_role_of, sync_role_of, at_level}
-use Rattle.gate_world.specs.Roles.{read_count_role, count_role_if}
-use Rattle.percpu_rwsem.specs.declared.readers.DownRead.{DownRead}
-use Rattle.percpu_rwsem.specs.Readers.{step_in, step_found, at_down_read, left_blocked}
-use Rattle.gate_world.specs.declared.config.Config.{Config}
-use Rattle.percpu_rwsem.specs.declared.sync_word.SyncWord.{SyncWord}
-use Rattle.percpu_rwsem.specs.declared.sync_word.GpState.{GpState}
-use Rattle.percpu_rwsem.specs.declared.readers.DownReadStep.{DownReadStep}
-use Rattle.gate_world.specs.Operations.{holds_none_from}
-use Rattle.std.proofs.lemmas.Bool.Decides.{nat_tests, eqb_tells}
-use Rattle.std.proofs.Common.{◌≡◌, ℕ, zero, suc, ◌+◌, ◌<◌, ◌≤◌, Bool, true, false, refl, sym, ap, ◌∙◌, subst, inl, inr, arith, true≢false}
-use Rattle.std.specs.Prelude.{◌==◌, ◌&&◌, ◌||◌, not, nat_lt, Option, Some, None, Ok}
+use Rattle.access_model.specs.declared.actions.Action.{Action}
+use Rattle.access_model.specs.declared.actions.Action.TheVariants.{Grant}
+use Rattle.access_model.specs.declared.actions.Gate.TheVariants.{Level}
+use Rattle.access_model.specs.declared.replies.Next.{Next}
+use Rattle.access_model.specs.declared.replies.Next.TheVariants.{Done, Go}
+use Rattle.access_model.specs.declared.replies.Reply.TheVariants.{Unit as UnitReply}
+use Rattle.cpu_words.specs.Hooks.{HookAnswer}
+use Rattle.cpu_words.specs.Touches.{wrap_add}
+use Rattle.cpu_words.specs.Words.{Words, put, read}
+use Rattle.cpu_words.specs.declared.events.Touch.{Touch}
+use Rattle.cpu_words.specs.declared.events.Touch.TheVariants.{Add, Load, Sub}
+use Rattle.cpu_words.specs.declared.names.WordName.{WordName}
+use Rattle.cpu_words.specs.declared.names.WordName.TheVariants.{Block, LevelCount, Section, Sync}
+use Rattle.finite_sums.proofs.Totals.{update_at, update_off, update_same}
+use Rattle.finite_sums.specs.Sums.{update}
+use Rattle.gate_counts.proofs.LevelLaws.{is_granted, is_refused}
 use Rattle.gate_counts.specs.Levels.{Out as CountsNot}
+use Rattle.gate_frames.proofs.Frames.{count_none, level_view_as}
+use Rattle.gate_frames.proofs.LevelWorlds.{fast_finds_open, not_passed, sync_on}
+use Rattle.gate_world.specs.Configs.{IsWithin, model_limits}
+use Rattle.gate_world.specs.Fits.{Fits, ReadFits, ReadStepFits}
+use Rattle.gate_world.specs.Holdings.{Holdings}
+use Rattle.gate_world.specs.Levels.{at_level, level_role_of, sync_role_of}
+use Rattle.gate_world.specs.Operations.{holds_none_from}
+use Rattle.gate_world.specs.Roles.{count_role_if, read_count_role}
+use Rattle.gate_world.specs.Rules.{AtLevel, Fitting, IsGood, Moves, StepKeeps}
+use Rattle.gate_world.specs.Shown.{shown}
+use Rattle.gate_world.specs.Views.{has_open, held_at, held_of, holds_level, phase_after, view_with}
+use Rattle.gate_world.specs.Worlds.{World, after_step}
+use Rattle.gate_world.specs.declared.config.Config.{Config}
+use Rattle.gate_world.specs.declared.views.View.{View}
+use Rattle.gate_world.specs.declared.work.Phase.{Phase}
+use Rattle.gate_world.specs.declared.work.Phase.TheVariants.{DownReads}
 use Rattle.level_laws.specs.Roles.{Fast}
-use Rattle.percpu_rwsem.specs.declared.readers.DownReadStep.TheVariants.{EntersSection, LoadsSync, CountsUpFast, CountsUpSlow, LoadsBlock, CountsDown, LeavesAdmitted, LeavesBlocked}
+use Rattle.operation_laws.proofs.LevelCounts.{LevelHoldsAfter, SameElsewhere, backs_off, bit_room, count_off, count_on, down_beside, enters_fast, held_bit, level_follows, seeks, up_beside, words_down, words_up}
+use Rattle.operation_laws.proofs.LevelParts.{IsAtLevels, IsBeside, SameAtMounts, beside_levels, counts_left_at, level_parts, level_shown, level_still, reads_at_levels}
+use Rattle.operation_laws.proofs.ReadLevels.{LevelsHold, read_levels}
+use Rattle.percpu_rwsem.specs.Readers.{at_down_read, left_blocked, step_found, step_in}
+use Rattle.percpu_rwsem.specs.SyncWords.{unpack}
+use Rattle.percpu_rwsem.specs.declared.readers.DownRead.{DownRead}
+use Rattle.percpu_rwsem.specs.declared.readers.DownReadStep.{DownReadStep}
+use Rattle.percpu_rwsem.specs.declared.readers.DownReadStep.TheVariants.{CountsDown, CountsUpFast, CountsUpSlow, EntersSection, LeavesAdmitted, LeavesBlocked, LoadsBlock, LoadsSync}
+use Rattle.percpu_rwsem.specs.declared.sync_word.GpState.{GpState}
+use Rattle.percpu_rwsem.specs.declared.sync_word.GpState.TheVariants.{Idle}
+use Rattle.percpu_rwsem.specs.declared.sync_word.SyncWord.{SyncWord}
+use Rattle.std.proofs.Common.{Bool, ap, arith, false, inl, inr, refl, subst, suc, sym, true, true≢false, zero, ℕ, ◌+◌, ◌<◌, ◌∙◌, ◌≡◌, ◌≤◌}
+use Rattle.std.proofs.lemmas.Bool.Decides.{eqb_tells, nat_tests}
+use Rattle.std.specs.Prelude.{None, Ok, Option, Some, nat_lt, not, ◌&&◌, ◌==◌, ◌||◌}
 
 -- a level that isn't held, of those that are to be free
 or_left : (a b : Bool) → b ≡ false → (b || not a) ≡ true → a ≡ false
@@ -96,7 +97,7 @@ path_found (Some word) = path_in word.state
 
 -- a start that was blocked begins anew or is done, and counts at no level
 blocked_counts : (r : DownRead) (b : Bool) (j : ℕ) → level_role_of j (phase_after (map_next DownReads (left_blocked r b))) ≡ CountsNot
-blocked_counts r true j = count_none (j == r.level)
+blocked_counts r true j = count_none j r.level
 blocked_counts r false j = refl
 
 -- it fits what it holds
@@ -142,7 +143,7 @@ module _ (c : Config) (lim : IsWithin c) (w : World) (good : IsGood c w) (t : �
   counts_nowhere : {q : Option Phase} (s : DownReadStep) → q ≡ Some (DownReads (at_down_read r s)) → read_count_role r.cpu s ≡ CountsNot →
       (j : ℕ) → level_role_of j q ≡ CountsNot
   counts_nowhere s e none j =
-      ap (level_role_of j) e ∙ (ap (count_role_if (j == r.level)) none ∙ count_none (j == r.level))
+      ap (level_role_of j) e ∙ (ap (count_role_if (j == r.level)) none ∙ count_none j r.level)
 
   -- the task holds no level from its own up, and may be granted its level where that is clear
   may_grant : (s : DownReadStep) → IsAt s → holds_none_from r.level (holds_level (w.views t)) ≡ true → w.words.block r.level ≡ 0 →
@@ -167,7 +168,7 @@ module _ (c : Config) (lim : IsWithin c) (w : World) (good : IsGood c w) (t : �
 
   -- they are the same beside the levels
   section_beside : IsBeside w.words section_words
-  section_beside = assumption
+  section_beside = refl
 
   -- such an addition keeps the rule, and leaves the shown model
   abbrev SectionKeeps : Next DownRead → Type 0
@@ -221,7 +222,7 @@ module _ (c : Config) (lim : IsWithin c) (w : World) (good : IsGood c w) (t : �
       let n : Next DownRead = Go (at_down_read r s) in
       let v : View = then_view (Sync i, Load) (n, None) in
       let ws : Words = put w.words (Sync i) (w.words.sync i) in
-      let beside : IsBeside w.words ws = assumption in
+      let beside : IsBeside w.words ws = refl in
       let mounts : SameAtMounts (w.views t) v = record { held_same = refl; added_same = refl; taken_same = refl; open_same = refl } in (
         level_parts c w good t lt ws v beside (at_levels LoadsSync e) (reads_at_levels n) mounts
             (f.0, f.1, f.2, f.3, path.fits_still i (holds_level (w.views t)) f.4)
@@ -309,20 +310,7 @@ module _ (c : Config) (lim : IsWithin c) (w : World) (good : IsGood c w) (t : �
 
   -- they are the same beside the level
   block_beside : IsBeside w.words block_words
-  block_beside = record {
-    umount_same = refl;
-    remount_same = refl;
-    sb_same = refl;
-    stage_same = refl;
-    holders_same = refl;
-    flags_same = refl;
-    count_same = refl;
-    used_same = refl;
-    removed_same = refl;
-    node_same = refl;
-    kids_same = refl;
-    block_same = update_same w.words.block r.level;
-  }
+  block_beside = λ k. record (beside_levels w.words) { block = update_same w.words.block r.level k }
 
   -- the world after it, from what it leaves of the counts of the task's own level
   block_law : (s' : DownReadStep) (a : Option Action) → IsAt LoadsBlock →

@@ -1,5 +1,4 @@
 -- All that is proved of a start and of an end.
-use Rattle.gate_counts.specs.Levels.{Out as CountsNot}
 use Rattle.gate_frames.proofs.Frames.{count_none, sync_none}
 use Rattle.gate_frames.proofs.Keeps.{IsSmall, OpKeeps, PhaseKeeps, by_bool}
 use Rattle.gate_frames.proofs.Says.{is_short, is_short_well, tells, tells_well}
@@ -9,7 +8,7 @@ use Rattle.gate_world.specs.Fits.{Fits}
 use Rattle.gate_world.specs.Holdings.{held_after}
 use Rattle.gate_world.specs.Levels.{sync_role_of}
 use Rattle.gate_world.specs.Operations.{is_level_number}
-use Rattle.gate_world.specs.Roles.{count_role_if, no_roles, sync_role_if}
+use Rattle.gate_world.specs.Roles.{no_roles}
 use Rattle.gate_world.specs.Rules.{Fitting}
 use Rattle.gate_world.specs.Traces.{most_events}
 use Rattle.gate_world.specs.Views.{held_of}
@@ -17,13 +16,7 @@ use Rattle.gate_world.specs.Worlds.{World, after_step, found_at}
 use Rattle.gate_world.specs.declared.config.Config.{Config}
 use Rattle.gate_world.specs.declared.operations.Op.TheVariants.{End, Start}
 use Rattle.gate_world.specs.declared.work.Phase.TheVariants.{DownReads, UpReads}
-use Rattle.level_laws.specs.Roles.{Out as IsApart, closed}
-use Rattle.percpu_rwsem.specs.Readers.{down_read_after}
-use Rattle.percpu_rwsem.specs.declared.readers.DownRead.{DownRead}
-use Rattle.percpu_rwsem.specs.declared.readers.UpRead.{UpRead}
-use Rattle.std.proofs.Common.{Bool, ap, arith, refl, subst, sym, true, ℕ, ◌+◌, ◌-◌, ◌<◌, ◌∙◌, ◌≡◌, ◌≤◌}
-use Rattle.std.proofs.lemmas.Bool.{ltb-true}
-use Rattle.std.specs.Prelude.{Some, nat_lt, ◌&&◌, ◌==◌}
+use Rattle.level_laws.specs.Roles.{closed}
 use Rattle.operation_laws.proofs.EndEvents.{end_keeps}
 use Rattle.operation_laws.proofs.ReadCauses.{asks_next, next_cause, read_not_closed, read_own, read_stays}
 use Rattle.operation_laws.proofs.ReadEvents.{read_keeps}
@@ -31,6 +24,12 @@ use Rattle.operation_laws.proofs.ReadFits.{both_true, level_there, none_from_agr
 use Rattle.operation_laws.proofs.ReadRuns.{end_runs, read_runs}
 use Rattle.operation_laws.proofs.ReadTraces.{EndAt, StartAt, end_kept, start_kept}
 use Rattle.operation_laws.proofs.ReadWaits.{read_waits, start_waits}
+use Rattle.percpu_rwsem.specs.Readers.{down_read_after}
+use Rattle.percpu_rwsem.specs.declared.readers.DownRead.{DownRead}
+use Rattle.percpu_rwsem.specs.declared.readers.UpRead.{UpRead}
+use Rattle.std.proofs.Common.{Bool, ap, arith, refl, subst, sym, true, ℕ, ◌+◌, ◌-◌, ◌<◌, ◌∙◌, ◌≡◌, ◌≤◌}
+use Rattle.std.proofs.lemmas.Bool.{ltb-true}
+use Rattle.std.specs.Prelude.{Some, nat_lt, ◌&&◌}
 
 -- of each phase of a start
 pub read_phase : (c : Config) (r : DownRead) → PhaseKeeps c (DownReads r)

@@ -19,16 +19,11 @@ use Rattle.level_laws.specs.Roles.{Out as IsApart, fast}
 use Rattle.level_laws.specs.Events.{SyncLevelHolds, SyncStep}
 use Rattle.level_laws.specs.Operations.{down_read_role, down_read_inside, left_by, by_next, HoldsOfNext}
 use Rattle.level_laws.proofs.ReadOperations.{down_reads_are_there}
-use Rattle.gate_world.specs.declared.config.Config.{Config}
-use Rattle.gate_world.specs.declared.views.View.{View}
+use Rattle.gate_world.specs.{LevelRuns.level_in, Levels.{sync_role_of, inside}, Roles.sync_role_if, Rules.{IsGood, SyncAt, Sections, Holds}, Views.view_after}
+use Rattle.gate_world.specs.{Views.phase_after, Worlds.{World, after_step}, declared.{config.Config.Config, views.View.View}}
 use Rattle.gate_world.specs.declared.work.Phase.TheVariants.{DownReads}
-use Rattle.gate_world.specs.Views.{view_after, phase_after}
-use Rattle.gate_world.specs.Worlds.{World, after_step}
-use Rattle.gate_world.specs.Levels.{sync_role_of, inside}
-use Rattle.gate_world.specs.Roles.{sync_role_if}
-use Rattle.gate_world.specs.Rules.{IsGood, SyncAt, Sections, Holds}
-use Rattle.gate_world.specs.LevelRuns.{level_in}
-use Rattle.gate_frames.proofs.LevelWorlds.{sync_on, sync_off, IsOfLevel, IsEventAt, found_level, level_there, turned_words, sync_turned, sections_turned, sync_elsewhere}
+use Rattle.gate_frames.proofs.LevelWorlds.{sync_on, sync_off, IsOfLevel, IsEventAt, found_level, level_there, turned_words, sync_turned, sections_turned}
+use Rattle.gate_frames.proofs.LevelWorlds.{sync_elsewhere}
 
 -- what the rule says of the rcu_sync of each level, and of the sections
 abbrev pub LevelsHold : Config → World → Type 0

@@ -5,9 +5,8 @@ use Rattle.cpu_words.specs.{Hooks.HookAnswer, Words.Words}
 use Rattle.mount_counts.specs.{Remounts.{at_remount, remount_after}, declared.remounts.{Remount.Remount, RemountStep.RemountStep}}
 use Rattle.level_laws.specs.{Events.SyncStep, Roles.Out as IsApart}
 use Rattle.stage_laws.specs.Roles.{KnowsStage}
-use Rattle.gate_world.specs.{LevelRuns.level_in, Levels.{inside, sync_role_of}, Rules.{IsGood, SameWords, SyncAt}, Views.phase_after}
-use Rattle.gate_world.specs.Roles.{remount_stage_role}
-use Rattle.gate_world.specs.{Worlds.{World, after_step, found_at, words_after}, declared.{config.Config.Config, work.Phase.Phase}}
+use Rattle.gate_world.specs.{LevelRuns.level_in, Levels.{inside, sync_role_of}, Roles.remount_stage_role, Rules.{IsGood, SameWords, SyncAt}}
+use Rattle.gate_world.specs.{Views.phase_after, Worlds.{World, after_step, found_at, words_after}, declared.{config.Config.Config, work.Phase.Phase}}
 use Rattle.gate_frames.proofs.MountRuns.{apart_run}
 use Rattle.operation_laws.proofs.{RemountEvents.not_frozen, RemountParts.here_knows}
 

@@ -3,7 +3,6 @@ use Rattle.access_model.specs.Replies.{map_next}
 use Rattle.access_model.specs.declared.errors.GateError.{GateError}
 use Rattle.access_model.specs.declared.replies.Next.{Next}
 use Rattle.access_model.specs.declared.replies.Reply.{Reply}
-use Rattle.operation_laws.proofs.Noted.{notes_step}
 use Rattle.cpu_words.specs.Hooks.{HookAnswer}
 use Rattle.cpu_words.specs.Touches.{event_of, found_by}
 use Rattle.cpu_words.specs.Words.{Words, put, read}
@@ -38,6 +37,7 @@ use Rattle.gated_tree.specs.Phases.{at_snapshot, kids_step, node_step, snapshot_
 use Rattle.gated_tree.specs.declared.phases.TreePhase.{TreePhase}
 use Rattle.gated_tree.specs.declared.snapshots.Snapshot.{Snapshot}
 use Rattle.gated_tree.specs.declared.snapshots.SnapshotStep.{SnapshotStep}
+use Rattle.operation_laws.proofs.Noted.{notes_step}
 use Rattle.stage_laws.specs.Events.{IsAlike, Locks as LocksStage, Recalls, Releases as ReleasesStage, Stages as StageMoment, playing}
 use Rattle.stage_laws.specs.Roles.{Aside, KnowsStage, Owning, StageRole, clean_by, owns as stage_owns}
 use Rattle.std.proofs.Common.{Bool, List, ap, arith, false, inl, inr, refl, subst, suc, sym, true, true≢false, ℕ, ◌<◌, ◌∙◌, ◌≡◌, ◌⊎◌}
@@ -46,30 +46,18 @@ use Rattle.std.proofs.lemmas.Bool.Decides.{eqb_tells}
 use Rattle.std.specs.Prelude.{Err, None, Option, Result, Some, if◌then◌else◌, is_some, ◌==◌}
 use Rattle.tree_laws.specs.Steps.{words_left}
 
--- the words that the stage and the owner's part read, but `umount`, are as they were
-record IsBeside (old new : Words) : Type 0 where
-  stage_same : new.stage ≡ old.stage
-  sb_same : new.sb ≡ old.sb
-  remount_same : new.remount ≡ old.remount
-  block_same : new.block ≡ old.block
-  node_same : new.node ≡ old.node
+-- the words but `umount`
+abbrev off_umount : Words → Words
+off_umount w = record w { umount = 0 }
 
--- so they are with another `umount`
-umount_beside : (w : Words) (n : ℕ) → IsBeside w (record w { umount = n })
-umount_beside w n = assumption
-
--- and after a load
-load_beside : (w : Words) (name : WordName) → IsBeside w (put w name (read w name))
-load_beside w name = subst (IsBeside w) (sym (load_same w name)) (umount_beside w w.umount)
-
--- so they are after each event of a snapshot
-event_beside : (w : Words) (x : Snapshot) (s : SnapshotStep) → IsBeside w (words_left w (snapshot_next x s))
-event_beside w x SnapshotStep.Locks = umount_beside w (words_left w (snapshot_next x SnapshotStep.Locks)).umount
-event_beside w x SnapshotStep.LoadsStage = load_beside w WordName.Stage
-event_beside w x SnapshotStep.LoadsUsed = load_beside w WordName.Used
-event_beside w x (SnapshotStep.LoadsNode n) = load_beside w (WordName.Node n)
-event_beside w x (SnapshotStep.LoadsKids n) = load_beside w (WordName.Kids n)
-event_beside w x (SnapshotStep.Releases answer) = umount_beside w 0
+-- are as they were after each event of a snapshot
+event_beside : (w : Words) (x : Snapshot) (s : SnapshotStep) → off_umount (words_left w (snapshot_next x s)) ≡ off_umount w
+event_beside w x SnapshotStep.Locks = refl
+event_beside w x SnapshotStep.LoadsStage = ap off_umount (load_same w WordName.Stage)
+event_beside w x SnapshotStep.LoadsUsed = ap off_umount (load_same w WordName.Used)
+event_beside w x (SnapshotStep.LoadsNode n) = ap off_umount (load_same w (WordName.Node n))
+event_beside w x (SnapshotStep.LoadsKids n) = ap off_umount (load_same w (WordName.Kids n))
+event_beside w x (SnapshotStep.Releases answer) = refl
 
 -- What comes after it is the same snapshot at another step, or it is done.
 module _ (x : Snapshot) (P : Next Snapshot → Type 0) (go : (s : SnapshotStep) → P (Next.Go (at_snapshot x s)))
@@ -184,13 +172,13 @@ module _ (c : Config) (within : IsWithin c) (w : World) (good : IsGood c w) (t :
         at = update (stage_roles w) t (stage_role_of (view_here s).phase);
       }) (playing (stages_in w) t r)
   moment_here s r is =
-      let beside : IsBeside w.words (words_here s) = event_beside w.words x s in
+      let beside : off_umount (words_here s) ≡ off_umount w.words = event_beside w.words x s in
       λ j. record {
-        stage = beside.stage_same j;
-        sb = beside.sb_same j;
-        remount = beside.remount_same j;
-        block = beside.block_same j;
-        dirty = λ n. dirty_in (beside.node_same j n);
+        stage = (beside j).stage;
+        sb = (beside j).sb;
+        remount = (beside j).remount;
+        block = (beside j).block;
+        dirty = λ n. dirty_in ((beside j).node n);
         at = update (stage_roles w) t (is j);
       }
 
@@ -238,7 +226,7 @@ module _ (c : Config) (within : IsWithin c) (w : World) (good : IsGood c w) (t :
   load_owner : (s : SnapshotStep) → IsHere s → (words_here s).umount ≡ w.words.umount → owns (view_here s).phase ≡ owns (w.views t).phase →
       Holds c (world_here s) Owner
   load_owner s e umount own =
-      left_alone c w t lt Owner (words_here s) (view_here s) (umount, (event_beside w.words x s).remount_same)
+      left_alone c w t lt Owner (words_here s) (view_here s) (umount, λ j. (event_beside w.words x s j).remount)
       (own, later_remounts s e) (good Owner)
 
   umount_left : (name : WordName) → (put w.words name (read w.words name)).umount ≡ w.words.umount

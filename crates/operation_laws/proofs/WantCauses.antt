@@ -6,10 +6,8 @@ use Rattle.cpu_words.specs.{Touches.found_by, Words.read}
 use Rattle.mount_counts.specs.{Phases.{has_flag, want_next, want_after, hold_found}, Roles.{ro_bit, has_hold}}
 use Rattle.mount_counts.specs.declared.phases.{MountPhase.MountPhase, Want.Want, WantStep.WantStep}
 use Rattle.mount_laws.proofs.Bits.{read_only_set, hold_set}
-use Rattle.gate_world.specs.{Causes.{asks, want_asks, WantRefused, WasHeld}, KeptCauses.{WantCause, CauseOf}}
-use Rattle.gate_world.specs.{Rules.{IsGood, Owner, Stages, AtMount, role_of}, Views.phase_after, Worlds.World}
-use Rattle.gate_world.specs.Roles.{want_role}
-use Rattle.gate_world.specs.declared.{config.Config.Config, work.Phase.Phase}
+use Rattle.gate_world.specs.{Causes.{asks, want_asks, WantRefused, WasHeld}, KeptCauses.{WantCause, CauseOf}, Roles.want_role, Rules.{IsGood, Owner, Stages}}
+use Rattle.gate_world.specs.{Rules.{AtMount, role_of}, Views.phase_after, Worlds.World, declared.{config.Config.Config, work.Phase.Phase}}
 use Rattle.gate_frames.proofs.{Moments.{or_true, question_skips, question_stands}, Owners.who_holds}
 
 -- a task whose next event is that of a want's step, in its own operation or in a longer one, and which another entry leaves alone

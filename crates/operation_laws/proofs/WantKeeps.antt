@@ -19,15 +19,15 @@ use Rattle.gate_world.specs.declared.work.Phase.{Phase}
 use Rattle.mount_counts.specs.Phases.{want_after}
 use Rattle.mount_counts.specs.declared.phases.MountPhase.{MountPhase}
 use Rattle.mount_counts.specs.declared.phases.Want.{Want}
-use Rattle.std.proofs.Common.{Bool, ap, arith, refl, subst, true, ℕ, ◌∙◌, ◌≡◌}
-use Rattle.std.proofs.lemmas.Bool.{ltb-true}
-use Rattle.std.specs.Prelude.{Some, nat_lt, ◌∷◌}
 use Rattle.operation_laws.proofs.WantCauses.{next_asked, next_cause, want_kept, want_own}
 use Rattle.operation_laws.proofs.WantFits.{want_acts, want_goes, want_there}
 use Rattle.operation_laws.proofs.WantLoads.{want_here}
 use Rattle.operation_laws.proofs.WantTraces.{DropAt, WantAt, drop_kept, want_kept as want_traced}
 use Rattle.operation_laws.proofs.WantWaits.{next_waits, want_waits}
 use Rattle.operation_laws.proofs.Wants.{drop_keeps, want_keeps}
+use Rattle.std.proofs.Common.{Bool, ap, arith, refl, subst, true, ℕ, ◌∙◌, ◌≡◌}
+use Rattle.std.proofs.lemmas.Bool.{ltb-true}
+use Rattle.std.specs.Prelude.{Some, nat_lt, ◌∷◌}
 
 pub want_phase : (c : Config) (x : Want) → PhaseKeeps c (Phase.Mounts (MountPhase.Want x))
 want_phase c x = record {

@@ -6,9 +6,8 @@ use Rattle.cpu_words.specs.{Touches.found_by, Words.read}
 use Rattle.mount_counts.specs.{Phases.{has_flag, want_next, want_after, hold_found}, Roles.has_hold}
 use Rattle.mount_counts.specs.declared.phases.{MountPhase.MountPhase, Want.Want, WantStep.WantStep}
 use Rattle.mount_laws.proofs.Bits.{hold_set}
-use Rattle.gate_world.specs.{Causes.{WantRefused, last_question}, KeptCauses.WantCause, Rules.{role_of, IsGood, AtMount}}
-use Rattle.gate_world.specs.Roles.{want_role}
-use Rattle.gate_world.specs.{Waits.{HasCulprit, HasReason}, Worlds.World, declared.{config.Config.Config, work.Phase.Phase}}
+use Rattle.gate_world.specs.{Causes.{WantRefused, last_question}, KeptCauses.WantCause, Roles.want_role, Rules.{role_of, IsGood, AtMount}, Waits.HasCulprit}
+use Rattle.gate_world.specs.{Waits.HasReason, Worlds.World, declared.{config.Config.Config, work.Phase.Phase}}
 use Rattle.gate_frames.proofs.Owners.{who_holds}
 
 module _ (c : Config) (w : World) (earlier : List World) (good : IsGood c w) (t : ℕ) (lt : t < c.tasks) (x : Want) where
