@@ -45,9 +45,7 @@ is_beside part = true
 
 -- a view holds what the other holds, and has counted what the other has
 pub record SameCounts (old new : View) : Type 0 where
-  pub held_same : held_at new ≡ held_at old
-  pub levels_same : holds_level new ≡ holds_level old
-  pub opens_same : has_open new ≡ has_open old
+  pub held_same : held_of new ≡ held_of old
   pub added_same : added_by new.events ≡ added_by old.events
   pub taken_same : taken_by new.events ≡ taken_by old.events
   pub level_added_same : level_added_by new.events ≡ level_added_by old.events
@@ -61,13 +59,13 @@ module _ (c : Config) (w : World) (t : ℕ) (lt : t < c.tasks) (v : View) (count
   seen_beside Stages h = λ j. (same j).stage
   seen_beside Holding h = λ j. (same j).holder
   seen_beside (AtMount m) h = λ j. record {
-    held = counts.held_same j m;
+    held = (counts.held_same j).mounts m;
     added = counts.added_same j m;
     taken = counts.taken_same j m;
     role = (same j).mount m;
   }
   seen_beside (AtLevel i) h = λ j. record {
-    held = if counts.levels_same j i then 1 else 0;
+    held = if (counts.held_same j).levels i then 1 else 0;
     added = counts.level_added_same j i;
     taken = counts.level_taken_same j i;
     role = (same j).count i;
