@@ -2,7 +2,8 @@
 use Rattle.std.{proofs.{Common.{not, sym, ap, ◌≡◌, ℕ, Bool, true, arith, refl}, lemmas.Bool.ltb-true}, specs.Prelude.{nat_lt, false}}
 use Rattle.access_model.specs.declared.actions.Kind.{Kind}
 use Rattle.gate_world.specs.{Traces.most_events, declared.{config.Config.Config, operations.Op.Op}}
-use Rattle.gate_frames.proofs.{CreateTraces.{create_tells, create_short}, GrowTraces.{grow_tells, grow_short}, Agreeing.{none_agree, writer_agrees, faulter_agrees}, Keeps.{by_bool, IsSmall, OpKeeps}}
+use Rattle.gate_frames.proofs.{Agreeing.{none_agree, writer_agrees, faulter_agrees}, CreateTraces.{create_tells, create_short}}
+use Rattle.gate_frames.proofs.{GrowTraces.{grow_tells, grow_short}, Keeps.{by_bool, IsSmall, OpKeeps}}
 use Rattle.gate_frames.proofs.{MarkTraces.{fault_tells, fault_short, flush_tells, flush_short}, MoveTraces.{move_tells, move_short}}
 use Rattle.gate_frames.proofs.{OpenTraces.{open_tells, open_short}, RemoveTraces.{remove_tells, remove_short}, SnapshotTraces.{snapshot_tells, snapshot_short}}
 use Rattle.gate_frames.proofs.TreeHolders.{both_true}

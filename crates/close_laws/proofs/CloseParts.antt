@@ -12,7 +12,8 @@ use Rattle.gated_tree.specs.declared.nodes.NodeWord.{NodeWord}
 use Rattle.tree_laws.specs.{Events.HasLeave, Steps.EventKeeps}
 use Rattle.level_laws.specs.{Events.SyncStep, Roles.Out as IsApart}
 use Rattle.file_closes.specs.{Phases.{next, after, enters, closed_from}, declared.phases.{ClosePhase.ClosePhase, Closing.Closing}}
-use Rattle.gate_world.specs.{Holdings.{Holdings, held_after}, Configs.{IsWithin, model_limits}, Fits.{Fits, CloseFits, MayLower, HasFile, file_of}, LevelRuns.level_in}
+use Rattle.gate_world.specs.{Configs.{IsWithin, model_limits}, Fits.{Fits, CloseFits, MayLower, HasFile, file_of}}
+use Rattle.gate_world.specs.{Holdings.{Holdings, held_after}, LevelRuns.level_in}
 use Rattle.gate_world.specs.{Levels.{count_role_if, sync_role_if}, Rules.{IsGood, Fitting, Tree, Files, StepKeeps}, Shown.shown}
 use Rattle.gate_world.specs.Trees.{tree_bounds, tree_roles, tree_role_of, close_tree_role, is_sealed, is_bare_at}
 use Rattle.gate_world.specs.{Views.{has_open, phase_after, view_after, held_of}, Worlds.{World, value_at, found_at, after_step}}

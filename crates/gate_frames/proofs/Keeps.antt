@@ -6,7 +6,8 @@ use Rattle.gated_tree.specs.Roles.{Out as OffTree}
 use Rattle.level_laws.specs.Events.{SyncStep}
 use Rattle.gate_world.specs.{Alike.IsBeside, Beginnings.{first_phase, is_in_range, is_in_order, is_within_room}, Causes.{all_counted, all_inside}}
 use Rattle.gate_world.specs.{Configs.{IsWithin, extents_of, extents_among}, Courses.{course_of, IsTrace}}
-use Rattle.gate_world.specs.{Fits.{PhaseFits, Fits, ActionFits, HasFile, file_of}, Holdings.{Holdings, Agree, holdings_of, held_after}, KeptCauses.CauseOf, LevelRuns.level_in}
+use Rattle.gate_world.specs.{Fits.{PhaseFits, Fits, ActionFits, HasFile, file_of}, Holdings.{Holdings, Agree, holdings_of, held_after}}
+use Rattle.gate_world.specs.{KeptCauses.CauseOf, LevelRuns.level_in}
 use Rattle.gate_world.specs.{Moments.CompletesNow, Rules.{IsGood, StepKeeps}}
 use Rattle.gate_world.specs.{Traces.{actions_of, Tells, IsShort, most_events}, Trees.tree_role_of, Views.{phase_after, held_of}, Waits.HasReason}
 use Rattle.gate_world.specs.{Work.{next_of, after_of}, Worlds.{World, after_step, found_at}}

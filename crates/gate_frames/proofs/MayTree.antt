@@ -20,7 +20,8 @@ use Rattle.gate_world.specs.{Operations.{is_writer, is_faulter, may_mark, some_m
 use Rattle.gate_world.specs.{Rules.{Files, AtMount, at_mount, role_of, IsGood, Fitting, Owner, remounts}, Shown.shown, Snapshots.values_noted}
 use Rattle.gate_world.specs.Stages.{stage_role_of, freeze_stage_role}
 use Rattle.gate_world.specs.Trees.{is_bare_at, tree_bounds, tree_of, tree_role_of, tree_roles, remount_tree_role, freeze_tree_role, nodes_noted}
-use Rattle.gate_world.specs.{Holdings.Holdings, Views.{has_open, held_at, held_of, holds_level}, Worlds.World, declared.{config.Config.Config, views.Traced.Traced, work.Phase.Phase}}
+use Rattle.gate_world.specs.{Holdings.Holdings, Views.{has_open, held_at, held_of, holds_level}, Worlds.World}
+use Rattle.gate_world.specs.declared.{config.Config.Config, views.Traced.Traced, work.Phase.Phase}
 use Rattle.gate_frames.proofs.TreeHolders.{none_past, IsOpen, both_true, mount_there, writer_apart}
 use Rattle.gate_frames.proofs.{TreeRoles.{call_plain, snapshot_apart, close_apart, freeze_apart}, Trees.{nobody_reads, sealed_frozen}}
 

@@ -22,7 +22,8 @@ use Rattle.gate_world.specs.{Levels.{closed_to, level_added_by, level_taken_by},
 use Rattle.gate_world.specs.{Stages.{freeze_stage_role, stage_role_of, place_of}, Trees.{tree_role_of, tree_roles, freeze_tree_role}}
 use Rattle.gate_world.specs.{Views.{held_of, holds_level, phase_after, actions_after, view_with, added_by, taken_by}, Worlds.World}
 use Rattle.gate_world.specs.declared.{config.Config.Config, views.View.View, work.Phase.Phase}
-use Rattle.gate_frames.proofs.{Accesses.holdings_of_after, DownLevels.{down_write_levels, passes_finds_nobody, swap_finds_clear, entered_by_nobody}, Keeps.by_bool}
+use Rattle.gate_frames.proofs.{Accesses.holdings_of_after, Keeps.by_bool}
+use Rattle.gate_frames.proofs.DownLevels.{down_write_levels, passes_finds_nobody, swap_finds_clear, entered_by_nobody}
 use Rattle.gate_frames.proofs.{Stages.{IsStageEvent, stages_in}, Standing.{Stands, LevelsHold, left_world, stand_after_closing}, Trees.shown_clean}
 use Rattle.gate_frames.proofs.WriterParts.{LeavesRest, AsksWhere, WriterLaw, freeze_comes, down_write_comes}
 use Rattle.gate_frames.proofs.WriterStages.{still_plays, stays_there, none_leaves}

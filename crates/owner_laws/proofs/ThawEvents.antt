@@ -24,7 +24,8 @@ use Rattle.gate_world.specs.Rules.{owns, IsGood, Stages, Holds, Holding, StepKee
 use Rattle.gate_world.specs.{Shown.{stage_roles, shown, holder_roles}, Stages.{thaw_stage_role, stage_role_of}, Trees.tree_role_of}
 use Rattle.gate_world.specs.Views.{actions_after, added_after, taken_after, phase_after, held_of, view_with, added_by, taken_by}
 use Rattle.gate_world.specs.{Worlds.World, declared.{config.Config.Config, views.{Traced.Traced, View.View}, work.Phase.Phase}}
-use Rattle.gate_frames.proofs.{Accesses.holdings_of_after, Frames.{added_load, taken_load}, Holders.{holders_at, holders_stay, holders_after, nobody_minds}, Keeps.by_bool}
+use Rattle.gate_frames.proofs.{Accesses.holdings_of_after, Frames.{added_load, taken_load}, Keeps.by_bool}
+use Rattle.gate_frames.proofs.Holders.{holders_at, holders_stay, holders_after, nobody_minds}
 use Rattle.gate_frames.proofs.{MountEvents.{level_added_load, level_taken_load}, Stages.{stages_in, IsStageEvent, nobody_owns, owners_alike, alike_same}}
 use Rattle.gate_frames.proofs.{Standing.{Stands, still_closed, stand_after_opening, LevelsHold, left_world}, UpLevels.up_write_levels, WholeLevels.thaws_all}
 use Rattle.gate_frames.proofs.WriterOwner.{lock_given, lock_taken, owner_stays}

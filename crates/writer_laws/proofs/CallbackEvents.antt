@@ -15,7 +15,8 @@ use Rattle.level_laws.specs.{Operations.{callback_role, KnowsCallback, CallbackI
 use Rattle.gate_world.specs.{Configs.IsWithin, Fits.{Fits, PhaseFits, GraceFits}, LevelRuns.level_in}
 use Rattle.gate_world.specs.Levels.{sync_role_if, sync_role_of, inside, level_added_by, level_added_after, level_taken_by, level_taken_after, level_role_of}
 use Rattle.gate_world.specs.{Rules.{IsGood, StepKeeps, Moves, AtLevel, SyncAt, Fitting, Holds, ViewFits}, Shown.shown}
-use Rattle.gate_world.specs.{Holdings.Holdings, Views.{view_after, phase_after, actions_after, held_of, added_by, added_after, taken_by, taken_after}, Worlds.World}
+use Rattle.gate_world.specs.{Holdings.Holdings, Worlds.World}
+use Rattle.gate_world.specs.Views.{view_after, phase_after, actions_after, held_of, added_by, added_after, taken_by, taken_after}
 use Rattle.gate_world.specs.declared.{config.Config.Config, views.View.View, work.Phase.Phase}
 use Rattle.gate_frames.proofs.Frames.{left_alone, level_view_as}
 use Rattle.gate_frames.proofs.LevelWorlds.{sync_on, sync_off, IsOfLevel, IsEventAt, found_level, level_there, sync_elsewhere}

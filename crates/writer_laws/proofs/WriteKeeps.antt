@@ -9,7 +9,8 @@ use Rattle.mount_counts.specs.{Phases.want_after, declared.phases.{MountPhase.Mo
 use Rattle.percpu_rwsem.specs.{Readers.down_read_after, declared.readers.DownRead.DownRead}
 use Rattle.level_laws.specs.{Events.SyncStep, Roles.{Out as IsApart, closed}}
 use Rattle.write_access.specs.{Phases.{then_wants, then_gives_back, leaves_on}, declared.phases.WritePhase.WritePhase}
-use Rattle.gate_world.specs.{Causes.{asks, asks_level}, Configs.IsWithin, Fits.{WriteFits, Fits}, Holdings.{Holdings, holdings_of, held_after}, LevelRuns.level_in}
+use Rattle.gate_world.specs.{Causes.{asks, asks_level}, Configs.IsWithin, Fits.{WriteFits, Fits}, Holdings.{Holdings, holdings_of, held_after}}
+use Rattle.gate_world.specs.LevelRuns.{level_in}
 use Rattle.gate_world.specs.{Levels.{sync_role_of, sync_role_if, count_role_if}, Rules.{IsGood, StepKeeps, role_of}, Views.{held_of, phase_after}}
 use Rattle.gate_world.specs.{Worlds.{World, after_step, found_at}, declared.{config.Config.Config, operations.Op.Op, work.Phase.Phase}}
 use Rattle.gate_frames.proofs.{Beside.update_twice, Frames.role_on, Agreeing.none_agree, Keeps.{by_bool, PhaseKeeps, OpKeeps}}
