@@ -1,6 +1,6 @@
 -- One event apart from the task: what it leaves of the fields, and which step it was.
 use Rattle.std.proofs.Common.{◌≡◌, ℕ, ◌<◌, Bool, List, [], ◌∷◌, refl, sym, ap, ◌∙◌, subst, arith}
-use Rattle.std.specs.Prelude.{Option, Some, None, slice_index}
+use Rattle.std.specs.Prelude.{Option, Some, None}
 use Rattle.access_model.specs.declared.actions.Action.{Action}
 use Rattle.access_model.specs.declared.replies.Next.{Next}
 use Rattle.cpu_words.specs.declared.names.WordName.{WordName}
@@ -18,7 +18,7 @@ use Rattle.gate_core.specs.declared.seats.Seat.{Seat}
 use Rattle.gate_world.specs.Work.{next_of, after_of}
 use Rattle.gate_world.specs.declared.accesses.Accesses.{Accesses}
 use Rattle.gate_core.specs.Answers.{progress_of}
-use Rattle.gate_world.specs.Accesses.{accesses_after}
+use Rattle.gate_world.specs.Accesses.{accesses_after, held_in}
 use Rattle.gate_core.proofs.Phases.{word_placed}
 use Rattle.gate_steps.specs.Seating.{SeatItems, Acts, items_after, IsMove}
 use Rattle.atomic_table.specs.Seated.{TableId}
@@ -61,7 +61,7 @@ module _ (c key : Config) (same_key : key ≡ c) (begins : Option Op) (phase : P
 
   -- what the event adds can be done on the accesses
   pub adds_so : (found : ℕ) (event : Event) → event ≡ event_of (next_of phase hook).0 (next_of phase hook).1 found →
-      (done : Next Phase × Option Action) → done ≡ after_of phase event.found hook → ActionFits (slice_index accesses.mounts) done.1
+      (done : Next Phase × Option Action) → done ≡ after_of phase event.found hook → ActionFits (held_in accesses) done.1
   adds_so found event event_is done done_is =
       may_add tied.number c begins (kept_at (Some phase) accesses) tied.flags phase refl hook items tied.ties
       (next_of phase hook) refl found event event_is done done_is

@@ -2,8 +2,9 @@
 -- fits.
 use Rattle.std.{proofs.Common.{◌≡◌, ℕ, ◌<◌, ◌≤◌, Bool, arith}, specs.Prelude.{Option, Some, None}}
 use Rattle.cpu_words.{proofs.Places.place_small, specs.{Hooks.HookAnswer, Names.{IsWord, place, words_in_all}}}
-use Rattle.gate_world.specs.{Configs.{IsWithin, extents_kept, extents_among}, Fits.{PhaseFits, Fits, ActionFits}, Holdings.{Holdings, Agree, held_after}, Views.phase_after}
-use Rattle.gate_world.specs.{Work.{next_of, after_of}, declared.{config.Config.Config, work.Phase.Phase}}
+use Rattle.gate_world.specs.{Configs.{IsWithin, extents_kept, extents_among}, Fits.{PhaseFits, Fits, ActionFits}}
+use Rattle.gate_world.specs.{Holdings.{Holdings, Agree, held_after}, Views.phase_after, Work.{next_of, after_of}}
+use Rattle.gate_world.specs.declared.{config.Config.Config, work.Phase.Phase}
 use Rattle.gate_frames.proofs.{Keeps.word_kept, Places.few_among}
 use Rattle.gate_core.proofs.Layers.{phase_keeps}
 

@@ -7,8 +7,8 @@ use Rattle.access_model.specs.declared.{actions.Action.Action, replies.Next.Next
 use Rattle.cpu_words.proofs.Places.{written}
 use Rattle.cpu_words.specs.{Hooks.HookAnswer, Names.{IsWord, place}, Touches.{left, found_by, event_of}, Words.{read, put}}
 use Rattle.cpu_words.specs.declared.{events.{Event.Event, Touch.Touch}, names.WordName.WordName}
-use Rattle.gate_world.specs.{Accesses.{held_in, accesses_after}, Configs.extents_kept, Fits.{PhaseFits, Fits, ActionFits}, Holdings.{Holdings, Agree, held_after}}
-use Rattle.gate_world.specs.{Views.{held_of, phase_after, view_after}, Work.{next_of, after_of}}
+use Rattle.gate_world.specs.{Accesses.{held_in, accesses_after}, Configs.extents_kept, Fits.{PhaseFits, Fits, ActionFits}}
+use Rattle.gate_world.specs.{Holdings.{Holdings, Agree, held_after}, Views.{held_of, phase_after, view_after}, Work.{next_of, after_of}}
 use Rattle.gate_world.specs.Worlds.{World, Steps, after_step, happens, run, opening}
 use Rattle.gate_world.specs.declared.{accesses.Accesses.Accesses, config.Config.Config, views.View.View, work.Phase.Phase}
 use Rattle.gate_frames.proofs.{Accesses.{holdings_of_after, long_after, wide_after, deep_after, agree_after}, Agreeing.{agree_self, agree_sym}}

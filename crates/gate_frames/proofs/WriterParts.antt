@@ -144,7 +144,8 @@ module _ (c : Config) (w : World) (good : IsGood c w) (t : ℕ) (lt : t < c.task
   writer_parts h Known k = absurd (true≢false k)
   writer_parts h Tree k = h.tree
   writer_parts h Files k = record {
-    counted = λ n ln. h.opens n ∙ (good Files).counted n ln ∙ sym (ap (λ f. openers f n) (opens_left c w t lt v (ap (λ (k : Holdings). k.files) h.counts.held_same)));
+    counted = λ n ln. h.opens n ∙ (good Files).counted n ln ∙
+        sym (ap (λ f. openers f n) (opens_left c w t lt v (ap (λ (k : Holdings). k.files) h.counts.held_same)));
     own = λ x lx. each_updated (λ y (u : View). HasFile (has_open u) (file_of u.phase)) w.views t v x
         (subst (HasFile (has_open v)) (sym (λ j. (h.now j).file)) tt) (λ ne. (good Files).own x lx);
   }

@@ -156,7 +156,8 @@ module _ (c : Config) (lim : IsWithin c) (w : World) (good : IsGood c w) (t : �
       let v : View = view_with (w.views t) (next_of (Phase.DownReads r) hook) (read w.words (next_of (Phase.DownReads r) hook).0) hook
       (coming, (down_read_after r r.step found).1) in
       let opens : has_open v ≡ has_open (w.views t) =
-      ap (λ (h : Holdings). h.files) (holdings_of_after (down_read_after r r.step found).1 (w.views t).actions) ∙ read_opens (held_of (w.views t)) r r.step found in
+      ap (λ (h : Holdings). h.files) (holdings_of_after (down_read_after r r.step found).1 (w.views t).actions) ∙
+      read_opens (held_of (w.views t)) r r.step found in
       let before : IsBeside (w.views t).phase (Some (Phase.DownReads r)) =
       beside_of e refl in
       let same : SameWords w.words ws Tree = read_tree w.words r r.step hook in

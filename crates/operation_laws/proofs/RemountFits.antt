@@ -10,7 +10,8 @@ use Rattle.mount_counts.specs.Remounts.{at_remount}
 use Rattle.mount_counts.specs.Sets.{no_mounts, without_lowest, with_mount, lowest, has_mount}
 use Rattle.mount_counts.specs.declared.{remounts.{Remount.Remount, RemountStep.RemountStep}, sets.MountSet.MountSet}
 use Rattle.mount_laws.proofs.Sets.{leaves_within, joins_within, joins_there, none_held, leaves_here, lowest_held, leaves_there}
-use Rattle.gate_world.specs.{Configs.{IsWithin, extents_of}, Fits.{ActionFits, PhaseFits, Fits}, Holdings.{Holdings, held_after}, Remounts.{AllBelow, RemountFits}}
+use Rattle.gate_world.specs.{Configs.{IsWithin, extents_of}, Fits.{ActionFits, PhaseFits, Fits}, Holdings.{Holdings, held_after}}
+use Rattle.gate_world.specs.Remounts.{AllBelow, RemountFits}
 use Rattle.gate_world.specs.{Views.phase_after, declared.{config.Config.Config, work.Phase.Phase}}
 use Rattle.gate_frames.proofs.Keeps.{by_bool}
 

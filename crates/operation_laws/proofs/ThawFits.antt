@@ -9,7 +9,8 @@ use Rattle.percpu_rwsem.specs.declared.{transitions.{Transition.Transition, Tran
 use Rattle.freeze_levels.specs.{Holders.holders_in, Thaws.{thaw_next, thaw_after, at_thaw, thaw_opens, thaw_finds, after_opening}}
 use Rattle.freeze_levels.specs.declared.thaws.{Thaw.Thaw, ThawStep.ThawStep}
 use Rattle.level_laws.{proofs.Exchanges.exchanges_make_transitions, specs.Exchanges.{Shows, KnowsWords}}
-use Rattle.gate_world.specs.{Configs.extents_of, Fits.{UpWriteFits, ThawFits, PhaseFits, Fits, ActionFits}, Holdings.{Holdings, held_after}, Operations.holds_none}
+use Rattle.gate_world.specs.{Configs.extents_of, Fits.{UpWriteFits, ThawFits, PhaseFits, Fits, ActionFits}}
+use Rattle.gate_world.specs.{Holdings.{Holdings, held_after}, Operations.holds_none}
 use Rattle.gate_world.specs.{Views.phase_after, declared.{config.Config.Config, work.Phase.Phase}}
 use Rattle.gate_frames.proofs.{Cases.both, Keeps.by_bool}
 use Rattle.operation_laws.proofs.FreezeFits.{up_write_word}

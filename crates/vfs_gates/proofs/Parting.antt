@@ -150,8 +150,16 @@ module _ (number : ℕ) (c : Config) (begins : Option Op) (kept : Seat) (flags :
   pub holds_same : (l : SeatItems) → Ties number c begins kept flags l → IsNothing kept.accesses c.mounts ↔ Empty c (own_view l)
   holds_same [] t = absurd t
   holds_same (x ∷ xs) t = (
-    (λ h. ((λ m lt. sym (t.keeps.held.mounts m lt) ∙ h.0 m lt), (λ i one three. sym (t.keeps.held.levels i one three) ∙ h.1 i one three), (λ n. sym (t.keeps.held.files n) ∙ no_file kept.accesses.files t.keeps.deep h.2 n))),
-    (λ h. ((λ m lt. t.keeps.held.mounts m lt ∙ h.0 m lt), (λ i one three. t.keeps.held.levels i one three ∙ h.1 i one three), (λ n ln. t.keeps.held.files n ∙ h.2 n))),
+    (λ h. (
+      λ m lt. sym (t.keeps.held.mounts m lt) ∙ h.0 m lt,
+      λ i one three. sym (t.keeps.held.levels i one three) ∙ h.1 i one three,
+      λ n. sym (t.keeps.held.files n) ∙ no_file kept.accesses.files t.keeps.deep h.2 n,
+    )),
+    (λ h. (
+      λ m lt. t.keeps.held.mounts m lt ∙ h.0 m lt,
+      λ i one three. t.keeps.held.levels i one three ∙ h.1 i one three,
+      λ n ln. t.keeps.held.files n ∙ h.2 n,
+    )),
   )
 
   -- what a task that rests knows rests
