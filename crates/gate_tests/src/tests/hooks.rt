@@ -9,7 +9,7 @@ use std::sync::Wait;
 use std::test::Fail;
 
 /// A question that a call asks the file system.
-#[derive(Clone, Copy, PartialEq, Eq, Debug)]
+#[derive(Clone, Copy, PartialEq, Eq)]
 pub(super) enum Question {
     Sync,
     FreezeFs,

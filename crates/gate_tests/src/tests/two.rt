@@ -1,6 +1,6 @@
 //! Gates with two tasks of one thread, whose calls are lines of a schedule: each line is a whole call.
 
-ghost use Rattle.std.specs.Prelude.{ForSome};
+ghost use Rattle.std.specs.Option.{ForSome};
 ghost use Rattle.gate_tests.specs.Origins.{IsFrom};
 
 use super::tasks::{Gates, Task, close, open};
