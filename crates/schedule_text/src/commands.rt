@@ -9,14 +9,14 @@ use freeze_levels::HookKind;
 use gate_world::{Config, Op};
 
 /// That a hook answers a code, from 1 to 65,535, in place of Ok.
-#[derive(Clone, Copy, PartialEq, Eq, Debug)]
+#[derive(Clone, Copy)]
 pub struct HookFailure {
     pub hook: HookKind,
     pub code: u16,
 }
 
 /// What is asked of a task.
-#[derive(Clone, Copy, PartialEq, Eq, Debug)]
+#[derive(Clone, Copy)]
 pub enum TaskCommand {
     /// To begin an operation.
     Begin(Op),
@@ -27,7 +27,7 @@ pub enum TaskCommand {
 }
 
 /// What is asked of the gates, once they are set up.
-#[derive(Clone, Copy, PartialEq, Eq, Debug)]
+#[derive(Clone, Copy)]
 pub enum Request {
     /// To print the words of memory that aren't 0.
     Words,
@@ -40,7 +40,7 @@ pub enum Request {
 }
 
 /// What a line asks for.
-#[derive(Clone, Copy, PartialEq, Eq, Debug)]
+#[derive(Clone, Copy)]
 pub enum Line {
     /// Nothing: an empty line or a comment.
     Skipped,
@@ -51,7 +51,7 @@ pub enum Line {
 }
 
 /// The second word of a line on a task.
-#[derive(Clone, Copy, PartialEq, Eq, Debug)]
+#[derive(Clone, Copy)]
 pub enum Verb {
     Want,
     TryWant,
