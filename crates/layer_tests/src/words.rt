@@ -14,9 +14,9 @@ const LAST: u64 = 18446744073709551615;
 fn a_sum_of_three_wraps(rt: HostRuntime) {
     let one = Sum { words: 1, total: 5 };
     let two = Sum { words: 2, total: 4 };
-    let goes_on = Sum::start().take(5, 3) == Taken::More(one)
-        && one.take(LAST, 3) == Taken::More(two);
-    assert!(rt; goes_on && two.take(7, 3) == Taken::Total(11));
+    let first = matches!(Sum::start().take(5, 3), Taken::More(sum) if sum == one);
+    let second = matches!(one.take(LAST, 3), Taken::More(sum) if sum == two);
+    assert!(rt; first && second && matches!(two.take(7, 3), Taken::Total(11)));
 }
 
 /// What touches leave of 12.
