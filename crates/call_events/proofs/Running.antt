@@ -34,7 +34,6 @@ use Rattle.call_events.specs.Asking.{Ask, asks_of, asks_with, call_at, next_call
 use Rattle.call_events.specs.Refused.{IsUnchanged, IsUnchangedBy, IsHonestWait}
 use Rattle.call_events.proofs.Refused.{is_unchanged, waits_honestly}
 use Rattle.gate_core.proofs.Beginnings.{may_begin}
-use Rattle.gate_world.specs.Views.{held_at, holds_level, has_open}
 use Rattle.call_events.specs.Runs.{events_onto, completed_by, ran_snapshot, ran_view, ran_items, begins_at, items_at, IsMoveOf, IsNextMove, AreMoves, IsBounded, IsRanReply, told_as, the_reply, Goes, Went, Told, Called, Replies}
 
 -- the numbers of a task whose own number has begun the operation

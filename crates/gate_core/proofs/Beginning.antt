@@ -1,5 +1,5 @@
 -- A beginning of the core shows what the entry makes of the world.
-use Rattle.std.proofs.{Common.{◌≡◌, ℕ, ◌<◌, ◌≤◌, Bool, [], ◌∷◌, ◌++◌, length, get_or, sym, ap, ◌∙◌, subst, arith}, Math.ListN.length-set}
+use Rattle.std.proofs.{Common.{◌≡◌, ℕ, ◌<◌, Bool, [], ◌∷◌, ◌++◌, length, get_or, sym, ap, ◌∙◌, subst, arith}, Math.ListN.length-set}
 use Rattle.std.proofs.lemmas.{Bool.lt-ltb, List.get_or_default}
 use Rattle.std.specs.Prelude.{is_some, Option, Some, None, Result, Ok, Err, slice_set}
 use Rattle.finite_sums.{proofs.Totals.{update_at, update_off}, specs.Sums.update}

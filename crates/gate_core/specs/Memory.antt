@@ -1,5 +1,5 @@
 -- The core in memory: a list of words and one seat per task, and the world that they show.
-use Rattle.std.specs.Prelude.{◌≡◌, ℕ, ◌<◌, ◌≤◌, None, List, [], length, slice_index, slice_index_or}
+use Rattle.std.specs.Prelude.{◌≡◌, ℕ, ◌<◌, None, List, [], length, slice_index, slice_index_or}
 use Rattle.cpu_words.specs.declared.names.WordName.{WordName}
 use Rattle.cpu_words.specs.Names.{IsWord, place, words_in_all}
 use Rattle.cpu_words.specs.Words.{read}

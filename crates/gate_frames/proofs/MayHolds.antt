@@ -1,6 +1,6 @@
 -- The next event of each task is on a word that holds what it may: the word of a node of the tree is a node's, and the sync word of a level
 -- is one.
-use Rattle.std.proofs.Common.{◌≡◌, ℕ, ◌<◌, ◌≤◌, ◌*◌, subst, ap, Bool, true, false, arith}
+use Rattle.std.proofs.Common.{◌≡◌, ℕ, ◌<◌, ◌≤◌, ◌*◌, subst, ap, true, false, arith}
 use Rattle.std.specs.Prelude.{Ok, Err, Some, is_some}
 use Rattle.mount_counts.specs.declared.phases.MountPhase.TheVariants.{Want as MWants, Drop as MDrops, Change as MChanges}
 use Rattle.mount_counts.specs.declared.phases.WantStep.TheVariants.{CountsUp}

@@ -1,5 +1,5 @@
 -- What a task holds at run time, and what an action leaves of it.
-use Rattle.std.specs.Prelude.{ℕ, ◌+◌, ◌-◌, Bool, true, false, Option, Some, None, slice_index, slice_index_or, slice_set, replicate}
+use Rattle.std.specs.Prelude.{◌+◌, ◌-◌, true, false, Option, Some, None, slice_index, slice_index_or, slice_set, replicate}
 use Rattle.access_model.specs.declared.actions.{Action.{Action, TheVariants.{Grant, Return, Open, Close}}, Gate.TheVariants.{Mount, Level}}
 use Rattle.gate_world.specs.{Holdings.Holdings, declared.accesses.Accesses.Accesses}
 

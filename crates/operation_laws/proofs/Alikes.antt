@@ -15,7 +15,7 @@ use Rattle.mount_counts.specs.declared.phases.MountPhase.{MountPhase}
 use Rattle.mount_counts.specs.declared.phases.Want.{Want}
 use Rattle.operation_laws.proofs.ReadFits.{ReadGoes}
 use Rattle.percpu_rwsem.specs.declared.readers.DownRead.{DownRead}
-use Rattle.std.proofs.Common.{Bool, refl, subst, true, ℕ, ◌<◌, ◌∙◌, ◌≡◌}
+use Rattle.std.proofs.Common.{refl, subst, true, ℕ, ◌<◌, ◌∙◌, ◌≡◌}
 use Rattle.std.specs.Prelude.{Err, Ok, Some}
 use Rattle.write_access.specs.Phases.{then_gives_back, then_wants}
 use Rattle.write_access.specs.declared.phases.WritePhase.{WritePhase}

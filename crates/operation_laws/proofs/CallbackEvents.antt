@@ -42,7 +42,7 @@ use Rattle.percpu_rwsem.specs.declared.transitions.TransitionNext.{TransitionNex
 use Rattle.std.proofs.Common.{ap, arith, inl, inr, refl, subst, sym, ℕ, ◌+◌, ◌<◌, ◌∙◌, ◌≡◌, ◌≤◌}
 use Rattle.std.proofs.lemmas.Bool.{cases_Bool, ltb-true}
 use Rattle.std.proofs.lemmas.Bool.Decides.{eqb_tells}
-use Rattle.std.specs.Prelude.{Bool, None, Some, if◌then◌else◌, nat_lt, ◌%◌, ◌&&◌, ◌==◌}
+use Rattle.std.specs.Prelude.{None, Some, if◌then◌else◌, nat_lt, ◌%◌, ◌&&◌, ◌==◌}
 
 pub event_of_level : (b : Callback) (s : CallbackStep) → IsEventAt b.level (callback_next b s).0 (callback_next b s).1
 event_of_level b (CallbackStep.Claims Transition.Loads) = refl

@@ -27,7 +27,7 @@ use Rattle.gated_tree.specs.declared.opens.OpenStep.{OpenStep}
 use Rattle.gated_tree.specs.declared.phases.TreePhase.{TreePhase}
 use Rattle.gated_tree.specs.declared.snapshots.SnapshotStep.{SnapshotStep}
 use Rattle.mount_counts.specs.declared.remounts.RemountStep.{RemountStep}
-use Rattle.std.proofs.Common.{Bool, arith, refl, subst, sym, ℕ, ◌<◌, ◌≡◌}
+use Rattle.std.proofs.Common.{arith, refl, subst, sym, ℕ, ◌<◌, ◌≡◌}
 use Rattle.std.specs.Prelude.{Err, List, None, Ok, Option, Some, true}
 use Rattle.tree_laws.proofs.Clearings.{exact}
 

@@ -1,6 +1,6 @@
 -- What fits after an event of a thaw.
 use Rattle.std.proofs.{Common.{false, ◌≡◌, ℕ, ◌≤◌, true, arith, inl, inr}, lemmas.Bool.Decides.eqb_tells}
-use Rattle.std.specs.Prelude.{◌-◌, ◌==◌, if◌then◌else◌, Bool, Ok, Err}
+use Rattle.std.specs.Prelude.{◌-◌, ◌==◌, if◌then◌else◌, Ok, Err}
 use Rattle.access_model.specs.{Holders.{held_by, with_holder, is_unheld}, Replies.map_next}
 use Rattle.access_model.specs.declared.{actions.{Holder.Holder, Holders.Holders}, errors.GateError.GateError, replies.Next.Next}
 use Rattle.cpu_words.specs.{Hooks.HookAnswer, Names.IsWord, Touches.left}

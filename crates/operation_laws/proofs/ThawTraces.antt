@@ -1,6 +1,6 @@
 -- Traces of a thaw.
 use Rattle.std.proofs.{Common.{◌≡◌, ℕ, zero, suc, ◌≤◌, true, false, refl, sym, ap, ◌∙◌, subst, inl, inr, arith}, lemmas.Bool.{cases_Bool, Decides.eqb_tells}}
-use Rattle.std.specs.Prelude.{◌-◌, ◌==◌, ◌||◌, not, Result, Ok, Err, List, [], ◌∷◌, ◌++◌}
+use Rattle.std.specs.Prelude.{◌-◌, ◌==◌, ◌||◌, not, Result, Ok, Err, List, [], ◌∷◌}
 use Rattle.access_model.specs.Replies.{map_next}
 use Rattle.access_model.specs.declared.{actions.{Action.Action, Holder.Holder}, errors.GateError.GateError, replies.Reply.Reply}
 use Rattle.cpu_words.specs.{Hooks.HookAnswer, Touches.event_of, declared.{events.Touch.Touch, names.WordName.WordName}}

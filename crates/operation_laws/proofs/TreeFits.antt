@@ -1,6 +1,6 @@
 -- The action of each event of a call at the tree can be done.
-use Rattle.std.proofs.Common.{◌≡◌, ℕ, suc, ◌<◌, ◌≤◌, Bool, true, false, refl, sym, ap, ◌∙◌, arith, zero}
-use Rattle.std.specs.Prelude.{Some, None, if◌then◌else◌, ◌==◌, ◌||◌, nat_lt}
+use Rattle.std.proofs.Common.{◌≡◌, ℕ, ◌<◌, Bool, true, false, arith}
+use Rattle.std.specs.Prelude.{Some, None, if◌then◌else◌, ◌==◌}
 use Rattle.access_model.specs.declared.actions.Action.{Action}
 use Rattle.cpu_words.specs.Hooks.{HookAnswer}
 use Rattle.gated_tree.specs.Nodes.{dirty_in, word_of}

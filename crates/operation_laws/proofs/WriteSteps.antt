@@ -18,7 +18,7 @@ use Rattle.gate_world.specs.declared.config.Config.{Config}
 use Rattle.gate_world.specs.declared.views.View.{View}
 use Rattle.gate_world.specs.declared.work.Phase.{Phase}
 use Rattle.level_laws.specs.Events.{SyncStep}
-use Rattle.std.proofs.Common.{Bool, ap, arith, subst, ℕ, ◌<◌, ◌≡◌}
+use Rattle.std.proofs.Common.{ap, arith, subst, ℕ, ◌<◌, ◌≡◌}
 use Rattle.std.specs.Prelude.{Option, Some}
 use Rattle.write_access.specs.declared.phases.WritePhase.{WritePhase}
 use Rattle.operation_laws.proofs.Alikes.{alike_plain}

@@ -1,5 +1,5 @@
 -- What a task holds between two calls, and what whole calls leave of it.
-use Rattle.std.specs.Prelude.{◌≡◌, ℕ, Bool, true, false, Result, Ok, List, ◌∷◌}
+use Rattle.std.specs.Prelude.{◌≡◌, Bool, true, false, Result, Ok, List, ◌∷◌}
 use Rattle.access_model.specs.declared.actions.Action.{Action}
 use Rattle.access_model.specs.declared.actions.Action.TheVariants.{Grant, Return}
 use Rattle.access_model.specs.declared.actions.Gate.{Gate}
