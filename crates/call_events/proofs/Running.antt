@@ -1,41 +1,23 @@
 -- An operation, event after event, from its beginning to its reply.
 use Rattle.std.proofs.Common.{◌≡◌, ℕ, ◌+◌, ◌-◌, ◌<◌, ◌≤◌, List, [], ◌∷◌, ◌++◌, length, refl, sym, ap, ◌∙◌, subst, arith}
 use Rattle.std.specs.Prelude.{true, false, Option, Some, None, Result, Ok, Err, IfOk, is_some}
-use Rattle.access_model.specs.declared.actions.Action.{Action}
-use Rattle.access_model.specs.declared.errors.GateError.{GateError}
-use Rattle.access_model.specs.declared.replies.Next.{Next}
-use Rattle.access_model.specs.declared.replies.Next.TheVariants.{Go, Wait, Done}
-use Rattle.access_model.specs.declared.replies.Reply.{Reply}
+use Rattle.access_model.specs.declared.{actions.Action.Action, errors.GateError.GateError, replies.{Next.{Next, TheVariants.{Go, Wait, Done}}, Reply.Reply}}
 use Rattle.access_model.specs.declared.replies.Reply.TheVariants.{Ran}
-use Rattle.gate_world.specs.declared.operations.Op.TheVariants.{Callback}
-use Rattle.cpu_words.specs.Hooks.{HookAnswer}
-use Rattle.cpu_words.specs.Touches.{found_by, event_of}
-use Rattle.gate_world.specs.declared.config.Config.{Config}
-use Rattle.gate_world.specs.declared.operations.Op.{Op}
-use Rattle.gate_world.specs.declared.work.Phase.{Phase}
-use Rattle.gate_world.specs.declared.views.Traced.{Traced}
-use Rattle.gate_world.specs.declared.views.View.{View}
-use Rattle.gate_world.specs.Configs.{IsWithin}
-use Rattle.gate_world.specs.Snapshots.{completes, last_snapshot}
-use Rattle.gate_world.specs.Views.{phase_after, actions_after, view_after_beside, with_hook, held_of}
-use Rattle.gate_world.specs.Work.{next_of, after_of}
-use Rattle.gate_world.specs.Beginnings.{first_phase}
-use Rattle.gate_world.specs.Courses.{Course, course_with, course_after, course_of, IsEventOf, IsNext, IsTrace, MayFind}
-use Rattle.gate_world.specs.Traces.{actions_of, Tells, IsHonestAnswer, IsTold, most_events, IsShort, MayWait}
+use Rattle.gate_world.specs.{Beginnings.first_phase, Configs.IsWithin, Courses.{Course, course_with, course_after, course_of, IsEventOf, IsNext, IsTrace}}
+use Rattle.gate_world.specs.{Courses.MayFind, Snapshots.{completes, last_snapshot}, Traces.{actions_of, Tells, IsHonestAnswer, IsTold, most_events, IsShort}}
+use Rattle.gate_world.specs.{Traces.MayWait, Views.{phase_after, actions_after, view_after_beside, with_hook, held_of, held_at, holds_level, has_open}}
+use Rattle.gate_world.specs.{Work.{next_of, after_of}, declared.{config.Config.Config, operations.Op.{TheVariants.Callback, Op}, views.Traced.Traced}}
+use Rattle.gate_world.specs.declared.{views.View.View, work.Phase.Phase}
+use Rattle.cpu_words.specs.{Hooks.HookAnswer, Touches.{found_by, event_of}}
 use Rattle.gate_frames.proofs.Keeps.{most_events_of_all, IsSmall}
-use Rattle.gate_core.proofs.Layers.{op_keeps}
-use Rattle.gate_core.specs.declared.steps.Progress.TheVariants.{Done as Ended}
-use Rattle.gate_core.specs.declared.steps.Step.{Step}
-use Rattle.gate_core.specs.Answers.{progress_of, unless_refused}
+use Rattle.gate_core.proofs.{Beginnings.may_begin, Layers.op_keeps}
+use Rattle.gate_core.specs.{Answers.{progress_of, unless_refused}, declared.steps.{Progress.TheVariants.Done as Ended, Step.Step}}
 use Rattle.gate_steps.specs.Seating.{SeatItems, numbered, HaveHistory, entered, done_by, items_after, world_left, IsMove}
-use Rattle.call_events.specs.TaskStates.{TaskState, own_number, own_view, refusal_at}
-use Rattle.call_events.specs.Stepped.{Stepped}
-use Rattle.call_events.specs.Asking.{Ask, asks_of, asks_with, call_at, next_call, GoesWith, WentWith}
-use Rattle.call_events.specs.Refused.{IsUnchanged, IsUnchangedBy, IsHonestWait}
+use Rattle.call_events.specs.{Asking.{Ask, asks_of, asks_with, call_at, next_call, GoesWith, WentWith}, Refused.{IsUnchanged, IsUnchangedBy, IsHonestWait}}
+use Rattle.call_events.specs.Runs.{events_onto, completed_by, ran_snapshot, ran_view, ran_items, begins_at, items_at, IsMoveOf, IsNextMove, AreMoves}
+use Rattle.call_events.specs.{Runs.{IsBounded, IsRanReply, told_as, the_reply, Goes, Went, Told, Called, Replies}, Stepped.Stepped, TaskStates.TaskState}
+use Rattle.call_events.specs.TaskStates.{own_number, own_view, refusal_at}
 use Rattle.call_events.proofs.Refused.{is_unchanged, waits_honestly}
-use Rattle.gate_core.proofs.Beginnings.{may_begin}
-use Rattle.gate_world.specs.Views.{held_at, holds_level, has_open}
-use Rattle.call_events.specs.Runs.{events_onto, completed_by, ran_snapshot, ran_view, ran_items, begins_at, items_at, IsMoveOf, IsNextMove, AreMoves, IsBounded, IsRanReply, told_as, the_reply, Goes, Went, Told, Called, Replies}
 
 -- the numbers of a task whose own number has begun the operation
 abbrev pub entered_items : Option Op → Option Phase → SeatItems → SeatItems

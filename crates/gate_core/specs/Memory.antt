@@ -1,15 +1,9 @@
 -- The core in memory: a list of words and one seat per task, and the world that they show.
 use Rattle.std.specs.Prelude.{◌≡◌, ℕ, ◌<◌, ◌≤◌, None, List, [], length, slice_index, slice_index_or}
-use Rattle.cpu_words.specs.declared.names.WordName.{WordName}
-use Rattle.cpu_words.specs.Names.{IsWord, place, words_in_all}
-use Rattle.cpu_words.specs.Words.{read}
+use Rattle.cpu_words.specs.{Names.{IsWord, place, words_in_all}, Words.read, declared.names.WordName.WordName}
+use Rattle.gate_world.specs.{Configs.{IsWithin, extents_kept}, Fits.Fits, Holdings.Agree, Views.held_of, Worlds.{World, Entry, run, opening}}
 use Rattle.gate_world.specs.declared.config.Config.{Config}
-use Rattle.gate_world.specs.Configs.{IsWithin, extents_kept}
-use Rattle.gate_world.specs.{Holdings.Agree, Views.held_of}
-use Rattle.gate_world.specs.Worlds.{World, Entry, run, opening}
-use Rattle.gate_world.specs.Fits.{Fits}
-use Rattle.gate_core.specs.declared.seats.Seat.{Seat}
-use Rattle.gate_core.specs.Seats.{seat_held}
+use Rattle.gate_core.specs.{Seats.seat_held, declared.seats.Seat.Seat}
 
 -- the fields of the core
 pub record Memory : Type 0 where

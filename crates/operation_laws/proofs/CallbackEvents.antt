@@ -1,47 +1,25 @@
 -- Events of a callback: each keeps the rule, and leaves the shown model.
-use Rattle.access_model.specs.Histories.{levels_of, mounts_of, opens_of}
-use Rattle.access_model.specs.Replies.{map_next}
-use Rattle.access_model.specs.declared.replies.Next.{Next}
-use Rattle.cpu_words.specs.Hooks.{HookAnswer}
-use Rattle.cpu_words.specs.Touches.{found_by, left}
-use Rattle.cpu_words.specs.Words.{Words, put, read}
-use Rattle.cpu_words.specs.declared.events.Touch.{Touch}
-use Rattle.cpu_words.specs.declared.names.WordName.{WordName}
+use Rattle.access_model.specs.{Histories.{levels_of, mounts_of, opens_of}, Replies.map_next, declared.replies.Next.Next}
+use Rattle.cpu_words.specs.{Hooks.HookAnswer, Touches.{found_by, left}, Words.{Words, put, read}, declared.{events.Touch.Touch, names.WordName.WordName}}
 use Rattle.finite_sums.proofs.Totals.{update_same}
 use Rattle.finite_sums.specs.Sums.{update}
 use Rattle.gate_counts.specs.Levels.{Out as CountsNot}
 use Rattle.gate_frames.proofs.Frames.{left_alone, level_view_as}
 use Rattle.gate_frames.proofs.LevelWorlds.{IsEventAt, IsOfLevel, found_level, level_there, sync_elsewhere, sync_off, sync_on}
-use Rattle.gate_world.specs.Configs.{IsWithin}
-use Rattle.gate_world.specs.Fits.{Fits, GraceFits, PhaseFits}
-use Rattle.gate_world.specs.Holdings.{Holdings}
-use Rattle.gate_world.specs.LevelRuns.{level_in}
-use Rattle.gate_world.specs.Levels.{inside, level_added_after, level_added_by, level_role_of, level_taken_after, level_taken_by, sync_role_of}
-use Rattle.gate_world.specs.Roles.{sync_role_if}
-use Rattle.gate_world.specs.Rules.{AtLevel, Fitting, Holds, IsGood, Moves, StepKeeps, SyncAt, ViewFits}
-use Rattle.gate_world.specs.Shown.{shown}
-use Rattle.gate_world.specs.Views.{actions_after, added_after, added_by, held_of, phase_after, taken_after, taken_by, view_after}
-use Rattle.gate_world.specs.Worlds.{World}
-use Rattle.gate_world.specs.declared.config.Config.{Config}
-use Rattle.gate_world.specs.declared.views.View.{View}
+use Rattle.gate_world.specs.{Configs.IsWithin, Fits.{Fits, GraceFits, PhaseFits}, Holdings.Holdings, LevelRuns.level_in, Levels.{inside, level_added_after}}
+use Rattle.gate_world.specs.{Levels.{level_added_by, level_role_of, level_taken_after, level_taken_by, sync_role_of}, Roles.sync_role_if, Rules.AtLevel}
+use Rattle.gate_world.specs.{Rules.{Fitting, Holds, IsGood, Moves, StepKeeps, SyncAt, ViewFits}, Shown.shown, Views.{actions_after, added_after, added_by}}
+use Rattle.gate_world.specs.{Views.{held_of, phase_after, taken_after, taken_by, view_after}, Worlds.World, declared.{config.Config.Config, views.View.View}}
 use Rattle.gate_world.specs.declared.work.Phase.{Phase}
 use Rattle.level_laws.proofs.Operations.{callbacks_are_there}
-use Rattle.level_laws.specs.Events.{SyncLevel, SyncLevelHolds, SyncStep}
-use Rattle.level_laws.specs.Operations.{CallbackIsThere, HoldsOfNext, KnowsCallback, by_next, callback_role, left_by, put_at, value_at}
-use Rattle.level_laws.specs.Roles.{Out as IsApart}
+use Rattle.level_laws.specs.{Events.{SyncLevel, SyncLevelHolds, SyncStep}, Operations.{CallbackIsThere, HoldsOfNext, KnowsCallback, by_next, callback_role}}
+use Rattle.level_laws.specs.{Operations.{left_by, put_at, value_at}, Roles.Out as IsApart}
 use Rattle.operation_laws.proofs.LevelParts.{IsAtLevels, IsBeside, SameAtMounts, level_parts, level_still, whole_same}
-use Rattle.percpu_rwsem.specs.Callbacks.{at_callback, callback_after, callback_looked, callback_next, called_back, claimed}
-use Rattle.percpu_rwsem.specs.Graces.{is_first, looked, passed_on}
-use Rattle.percpu_rwsem.specs.SyncWords.{on_callback, on_claim}
-use Rattle.percpu_rwsem.specs.Transitions.{transition_after}
-use Rattle.percpu_rwsem.specs.declared.callbacks.Callback.{Callback}
-use Rattle.percpu_rwsem.specs.declared.callbacks.CallbackStep.{CallbackStep}
-use Rattle.percpu_rwsem.specs.declared.grace.Grace.{Grace}
-use Rattle.percpu_rwsem.specs.declared.transitions.Transition.{Transition}
+use Rattle.percpu_rwsem.specs.{Callbacks.{at_callback, callback_after, callback_looked, callback_next, called_back, claimed}, Graces.{is_first, looked}}
+use Rattle.percpu_rwsem.specs.{Graces.passed_on, SyncWords.{on_callback, on_claim}, Transitions.transition_after, declared.callbacks.Callback.Callback}
+use Rattle.percpu_rwsem.specs.declared.{callbacks.CallbackStep.CallbackStep, grace.Grace.Grace, transitions.Transition.Transition}
 use Rattle.percpu_rwsem.specs.declared.transitions.TransitionNext.{TransitionNext}
-use Rattle.std.proofs.Common.{ap, arith, inl, inr, refl, subst, sym, ℕ, ◌+◌, ◌<◌, ◌∙◌, ◌≡◌, ◌≤◌}
-use Rattle.std.proofs.lemmas.Bool.{cases_Bool, ltb-true}
-use Rattle.std.proofs.lemmas.Bool.Decides.{eqb_tells}
+use Rattle.std.proofs.{Common.{ap, arith, inl, inr, refl, subst, sym, ℕ, ◌+◌, ◌<◌, ◌∙◌, ◌≡◌, ◌≤◌}, lemmas.Bool.{cases_Bool, ltb-true, Decides.eqb_tells}}
 use Rattle.std.specs.Prelude.{Bool, None, Some, if◌then◌else◌, nat_lt, ◌%◌, ◌&&◌, ◌==◌}
 
 pub event_of_level : (b : Callback) (s : CallbackStep) → IsEventAt b.level (callback_next b s).0 (callback_next b s).1

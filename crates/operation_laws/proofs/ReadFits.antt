@@ -1,42 +1,24 @@
 -- What fits after an event of a down-read, an up-read and a callback.
-use Rattle.std.proofs.Common.{◌≡◌, ℕ, ◌+◌, ◌%◌, ◌<◌, ◌≤◌, Bool, true, false, refl, sym, subst, ◌∙◌, inl, inr, arith}
+use Rattle.std.proofs.{Common.{◌≡◌, ℕ, ◌+◌, ◌%◌, ◌<◌, ◌≤◌, Bool, true, false, refl, sym, subst, ◌∙◌, inl, inr, arith}, lemmas.Bool.{cases_Bool, ltb-true}}
 use Rattle.std.specs.Prelude.{◌==◌, ◌&&◌, nat_lt, if◌then◌else◌, Some, None, Ok, Err}
-use Rattle.std.proofs.lemmas.Bool.{cases_Bool, ltb-true}
 use Rattle.finite_sums.specs.Sums.{update}
 use Rattle.finite_sums.proofs.Totals.{update_at}
-use Rattle.access_model.specs.declared.actions.Action.TheVariants.{Grant}
-use Rattle.access_model.specs.declared.actions.Gate.TheVariants.{Level}
-use Rattle.access_model.specs.declared.replies.Next.{Next}
-use Rattle.access_model.specs.declared.replies.Next.TheVariants.{Go, Wait, Done}
-use Rattle.access_model.specs.Replies.{map_next}
-use Rattle.cpu_words.specs.Names.{IsWord}
-use Rattle.percpu_rwsem.specs.declared.readers.DownRead.{DownRead}
-use Rattle.percpu_rwsem.specs.declared.readers.DownReadStep.{DownReadStep}
-use Rattle.percpu_rwsem.specs.declared.readers.DownReadStep.TheVariants.{EntersSection, LoadsSync, CountsUpFast, CountsUpSlow, LoadsBlock, CountsDown, LeavesAdmitted, LeavesBlocked}
-use Rattle.percpu_rwsem.specs.declared.grace.Grace.{Grace}
-use Rattle.percpu_rwsem.specs.declared.transitions.Transition.TheVariants.{Loads, Exchanges}
-use Rattle.percpu_rwsem.specs.declared.transitions.TransitionNext.{TransitionNext}
-use Rattle.percpu_rwsem.specs.declared.transitions.TransitionNext.TheVariants.{More, Undefined, Made}
-use Rattle.percpu_rwsem.specs.declared.grace.GraceNext.{GraceNext}
-use Rattle.percpu_rwsem.specs.declared.grace.GraceNext.TheVariants.{More as MoreSections}
-use Rattle.percpu_rwsem.specs.declared.callbacks.Callback.{Callback}
-use Rattle.percpu_rwsem.specs.declared.callbacks.CallbackStep.{CallbackStep}
-use Rattle.percpu_rwsem.specs.declared.callbacks.CallbackStep.TheVariants.{Claims, AwaitsSections, CallsBack}
-use Rattle.percpu_rwsem.specs.SyncWords.{unpack, on_claim, on_callback}
-use Rattle.percpu_rwsem.specs.Graces.{passed_on, looked, is_first}
-use Rattle.percpu_rwsem.specs.Transitions.{transition_after}
-use Rattle.percpu_rwsem.specs.Readers.{down_read_next, down_read_after, at_down_read, left_blocked}
-use Rattle.percpu_rwsem.specs.Callbacks.{callback_next, callback_after, at_callback, claimed, callback_looked, called_back}
-use Rattle.level_laws.specs.Events.{SyncLevel}
-use Rattle.cpu_words.specs.Touches.{found_by}
-use Rattle.level_laws.specs.Operations.{value_at, KnowsCallback, HoldsOfNext, callback_role}
+use Rattle.access_model.specs.{Replies.map_next, declared.{actions.{Action.TheVariants.Grant, Gate.TheVariants.Level}, replies.Next.{Next, TheVariants.Go}}}
+use Rattle.access_model.specs.declared.replies.Next.TheVariants.{Wait, Done}
+use Rattle.cpu_words.specs.{Names.IsWord, Touches.found_by}
+use Rattle.percpu_rwsem.specs.{Callbacks.{callback_next, callback_after, at_callback, claimed, callback_looked, called_back}, Graces.{passed_on, looked}}
+use Rattle.percpu_rwsem.specs.{Graces.is_first, Readers.{down_read_next, down_read_after, at_down_read, left_blocked}, SyncWords.{unpack, on_claim}}
+use Rattle.percpu_rwsem.specs.{SyncWords.on_callback, Transitions.transition_after, declared.callbacks.{Callback.Callback, CallbackStep.CallbackStep}}
+use Rattle.percpu_rwsem.specs.declared.{callbacks.CallbackStep.TheVariants.{Claims, AwaitsSections, CallsBack}, grace.{Grace.Grace, GraceNext.GraceNext}}
+use Rattle.percpu_rwsem.specs.declared.{grace.GraceNext.TheVariants.More as MoreSections, readers.{DownRead.DownRead, DownReadStep.DownReadStep}}
+use Rattle.percpu_rwsem.specs.declared.readers.DownReadStep.TheVariants.{EntersSection, LoadsSync, CountsUpFast, CountsUpSlow, LoadsBlock, CountsDown}
+use Rattle.percpu_rwsem.specs.declared.{readers.DownReadStep.TheVariants.{LeavesAdmitted, LeavesBlocked}, transitions.Transition.TheVariants.Loads}
+use Rattle.percpu_rwsem.specs.declared.transitions.{Transition.TheVariants.Exchanges, TransitionNext.{TransitionNext, TheVariants.{More, Undefined, Made}}}
+use Rattle.level_laws.specs.{Events.SyncLevel, Operations.{value_at, KnowsCallback, HoldsOfNext, callback_role}}
 use Rattle.level_laws.proofs.Operations.{callbacks_are_there}
-use Rattle.gate_world.specs.declared.config.Config.{Config}
+use Rattle.gate_world.specs.{Configs.{IsWithin, extents_of}, Fits.{ReadStepFits, ReadFits, GraceFits, PhaseFits, Fits, ActionFits}, Holdings.Holdings}
+use Rattle.gate_world.specs.{Holdings.held_after, Operations.{holds_none_from, is_level_number}, Views.phase_after, declared.config.Config.Config}
 use Rattle.gate_world.specs.declared.work.Phase.TheVariants.{DownReads, Callbacks}
-use Rattle.gate_world.specs.Configs.{IsWithin, extents_of}
-use Rattle.gate_world.specs.Views.{phase_after}
-use Rattle.gate_world.specs.Operations.{holds_none_from, is_level_number}
-use Rattle.gate_world.specs.{Fits.{ReadStepFits, ReadFits, GraceFits, PhaseFits, Fits, ActionFits}, Holdings.{Holdings, held_after}}
 use Rattle.gate_frames.proofs.Keeps.{by_bool}
 use Rattle.operation_laws.proofs.ReadTraces.{by_word}
 
