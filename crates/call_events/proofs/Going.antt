@@ -1,39 +1,18 @@
 -- What an event leaves of a task's fields and view.
 use Rattle.std.proofs.Common.{◌≡◌, ℕ, Bool, List, [], ◌∷◌, refl, sym, ap, ◌∙◌, subst}
 use Rattle.std.specs.Prelude.{Option, Some, None}
-use Rattle.access_model.specs.declared.actions.Action.{Action}
-use Rattle.access_model.specs.declared.replies.Next.{Next}
-use Rattle.cpu_words.specs.declared.names.WordName.{WordName}
-use Rattle.cpu_words.specs.declared.events.Touch.{Touch}
-use Rattle.cpu_words.specs.declared.events.Touch.TheVariants.{Load, Store, Add, Sub, Or, And, Swap, Cas}
-use Rattle.cpu_words.specs.declared.events.Event.{Event}
-use Rattle.cpu_words.specs.Hooks.{HookAnswer}
-use Rattle.cpu_words.specs.Touches.{found_by, event_of}
-use Rattle.gate_world.specs.declared.config.Config.{Config}
-use Rattle.gate_world.specs.declared.operations.Op.{Op}
-use Rattle.gate_world.specs.declared.work.Phase.{Phase}
-use Rattle.gate_world.specs.declared.views.View.{View}
-use Rattle.gate_world.specs.Views.{held_of, phase_after, view_after_beside}
-use Rattle.gate_world.specs.Work.{next_of, after_of}
-use Rattle.gate_world.specs.Worlds.{World, value_at, found_at}
-use Rattle.gate_world.specs.Fits.{PhaseFits, Fits}
-use Rattle.gate_core.specs.declared.seats.Seat.{Seat}
-use Rattle.gate_world.specs.declared.accesses.Accesses.{Accesses}
-use Rattle.gate_core.specs.declared.steps.Progress.{Progress}
-use Rattle.gate_core.specs.Seats.{seat_held}
-use Rattle.gate_core.specs.declared.steps.Step.{Step}
-use Rattle.gate_core.specs.Answers.{progress_of, phase_step}
-use Rattle.gate_world.specs.Fits.{ActionFits}
-use Rattle.gate_world.specs.Accesses.{accesses_after}
-use Rattle.gate_world.specs.Holdings.{Agree, holdings_of, held_after}
+use Rattle.access_model.specs.declared.{actions.Action.Action, replies.Next.Next}
+use Rattle.cpu_words.specs.{Hooks.HookAnswer, Touches.{found_by, event_of}, declared.events.Touch.{Touch, TheVariants.{Load, Store, Add, Sub, Or, And, Swap}}}
+use Rattle.cpu_words.specs.declared.{events.{Touch.TheVariants.Cas, Event.Event}, names.WordName.WordName}
+use Rattle.gate_world.specs.{Accesses.accesses_after, Fits.{PhaseFits, Fits, ActionFits}, Holdings.{Agree, holdings_of, held_after}, Views.held_of}
+use Rattle.gate_world.specs.{Views.{phase_after, view_after_beside}, Work.{next_of, after_of}, Worlds.{World, value_at, found_at}}
+use Rattle.gate_world.specs.declared.{accesses.Accesses.Accesses, config.Config.Config, operations.Op.Op, views.View.View, work.Phase.Phase}
+use Rattle.gate_core.specs.{Answers.{progress_of, phase_step}, Seats.seat_held, declared.{seats.Seat.Seat, steps.{Progress.Progress, Step.Step}}}
 use Rattle.gate_core.proofs.Phases.{action_fits, fits_after, fits_agree}
 use Rattle.gate_frames.proofs.{Accesses.{holdings_of_after, long_after, wide_after, deep_after, agree_after}, Agreeing.agree_sym}
-use Rattle.gate_steps.specs.declared.seating.Numbered.{Numbered}
-use Rattle.gate_steps.specs.Seating.{SeatItems, numbered, entered, done_by, items_after, IsMove}
+use Rattle.gate_steps.specs.{Seating.{SeatItems, numbered, entered, done_by, items_after, IsMove}, declared.seating.Numbered.Numbered}
 use Rattle.atomic_table.specs.Seated.{TableId}
-use Rattle.call_events.specs.TaskStates.{TaskState, task_state}
-use Rattle.call_events.specs.Stepped.{found_step, state_after, ToldIn, Stepped}
-use Rattle.call_events.specs.Ties.{PhaseOk, OwnTies, Ties}
+use Rattle.call_events.specs.{Stepped.{found_step, state_after, ToldIn, Stepped}, TaskStates.{TaskState, task_state}, Ties.{PhaseOk, OwnTies, Ties}}
 
 -- a view stands where its phase says
 phase_ok : (c : Config) (n : ℕ) (v : View) (o : Option Phase) → v.phase ≡ o → PhaseOk c None o (numbered n v)

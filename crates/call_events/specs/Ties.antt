@@ -1,17 +1,9 @@
 -- The fields of a task are what its seat at the table knows.
 use Rattle.std.specs.Prelude.{◌≡◌, ℕ, ◌<◌, ◌≤◌, Bool, true, false, Option, Some, None, List, [], ◌∷◌, length, slice_index_or}
-use Rattle.gate_world.specs.declared.config.Config.{Config}
-use Rattle.gate_world.specs.declared.operations.Op.{Op}
+use Rattle.gate_world.specs.{Configs.IsWithin, Fits.Fits, Holdings.Agree, Views.held_of, declared.{config.Config.Config, operations.Op.Op, views.View.View}}
 use Rattle.gate_world.specs.declared.work.Phase.{Phase}
-use Rattle.gate_world.specs.declared.views.View.{View}
-use Rattle.gate_world.specs.Configs.{IsWithin}
-use Rattle.gate_world.specs.Holdings.{Agree}
-use Rattle.gate_world.specs.Views.{held_of}
-use Rattle.gate_world.specs.Fits.{Fits}
-use Rattle.gate_core.specs.declared.seats.Seat.{Seat}
-use Rattle.gate_core.specs.Seats.{seat_held}
-use Rattle.gate_steps.specs.declared.seating.Numbered.{Numbered}
-use Rattle.gate_steps.specs.Seating.{SeatItems, MayStep, times}
+use Rattle.gate_core.specs.{Seats.seat_held, declared.seats.Seat.Seat}
+use Rattle.gate_steps.specs.{Seating.{SeatItems, MayStep, times}, declared.seating.Numbered.Numbered}
 use Rattle.call_events.specs.TaskStates.{Empty}
 
 -- the view stands where the task does: no operation is under way in either, or the task may do the event of its phase

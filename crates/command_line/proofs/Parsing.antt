@@ -1,23 +1,13 @@
 -- What follows from a command line that was parsed.
-use Rattle.std.proofs.Common.{◌≡◌, refl, sym, ap, ap₂, ◌∙◌, ℕ, ◌<◌, ◌≤◌, ◌+◌, Bool, true, false, ◌&&◌, List, [], ◌∷◌, ◌++◌, append_assoc, length, map, take, get_or, Option, Some, None, codes, option_map}
-use Rattle.std.specs.Prelude.{IsSomeAnd, not, is_some}
-use Rattle.std.specs.Option.{option_map_or}
-use Rattle.std.specs.Str.{bytes_eq}
-use Rattle.std.proofs.lemmas.Bool.{false≢true}
-use Rattle.std.proofs.lemmas.List.{map-append, take_all, take_more}
+use Rattle.std.proofs.Common.{◌≡◌, refl, sym, ap, ap₂, ◌∙◌, ℕ, ◌<◌, ◌≤◌, ◌+◌, Bool, true, false, ◌&&◌, List, [], ◌∷◌, ◌++◌, append_assoc, length, map, take}
+use Rattle.std.proofs.{Common.{get_or, Option, Some, None, codes, option_map}, lemmas.{Bool.false≢true, List.{map-append, take_all, take_more}}}
 use Rattle.std.proofs.lemmas.Slice.Eq.{bytes_eq-Decides}
-use Rattle.clap.specs.Words.{AddsArg, AddsSubcommand, App, Rule, Shape, Text, app_of, is_simple, rule_of, with_rule, with_subcommand}
-use Rattle.clap.specs.Simple.{new_shape}
-use Rattle.clap.specs.declared.builder.arg.Arg.{Arg}
-use Rattle.clap.specs.declared.builder.command.Command.{Command}
-use Rattle.clap.specs.declared.builder.range.ValueRange.{ValueRange}
+use Rattle.std.specs.{Option.option_map_or, Prelude.{IsSomeAnd, not, is_some}, Str.bytes_eq}
+use Rattle.clap.specs.{Simple.new_shape, Words.{AddsArg, AddsSubcommand, App, Rule, Shape, Text, app_of, is_simple, rule_of, with_rule, with_subcommand}}
+use Rattle.clap.specs.declared.builder.{arg.Arg.Arg, command.Command.Command, range.ValueRange.ValueRange}
 use Rattle.clap.proofs.OnLiterals.{clap_on_literals}
-use Rattle.command_line.specs.declared.words.Asked.TheVariants.{Replay as AsksReplay}
-use Rattle.command_line.specs.declared.words.Form.{Form}
-use Rattle.command_line.specs.declared.words.Replay.{Replay}
-use Rattle.command_line.specs.declared.words.Argument.{Argument}
-use Rattle.command_line.specs.declared.words.Subcommand.{Subcommand}
 use Rattle.command_line.specs.CommandLine.{alone, argument_rule, ask_plainly, mntgate_app, subcommand_shape}
+use Rattle.command_line.specs.declared.words.{Asked.TheVariants.Replay as AsksReplay, Form.Form, Replay.Replay, Argument.Argument, Subcommand.Subcommand}
 
 -- both of two tests
 pub and_left : (a b : Bool) → (a && b) ≡ true → a ≡ true

@@ -1,19 +1,10 @@
 -- The command line of the program, as the parser of command lines knows it, and the words that ask for a plain replay.
-use Rattle.std.specs.Prelude.{◌≡◌, ◌&&◌, ℕ, Bool, true, false, not, List, [], ◌∷◌, map, Option, Some, None, is_some, codes}
-use Rattle.std.specs.Option.{option_map_or}
+use Rattle.std.specs.{Option.option_map_or, Prelude.{◌≡◌, ◌&&◌, ℕ, Bool, true, false, not, List, [], ◌∷◌, map, Option, Some, None, is_some, codes}}
 use Rattle.std.specs.Str.{bytes_eq}
-use Rattle.clap.specs.Words.{App, Row, Rule, Shape, Text, first_of, new_rule, one_of, subcommand_of, takes}
-use Rattle.clap.specs.Simple.{new_shape}
-use Rattle.clap.specs.Lexer.{usize_max}
-use Rattle.clap.specs.declared.builder.action.ArgAction.TheVariants.{SetTrue}
-use Rattle.clap.specs.declared.builder.value_parser.ValueParser.TheVariants.{Unsigned}
-use Rattle.command_line.specs.declared.words.Argument.{Argument}
-use Rattle.command_line.specs.declared.words.Argument.TheVariants.{File, Files, Flag, Number, Needed}
-use Rattle.command_line.specs.declared.words.Asked.{Asked}
-use Rattle.command_line.specs.declared.words.Asked.TheVariants.{Replay as AsksReplay}
-use Rattle.command_line.specs.declared.words.Form.TheVariants.{Plain}
-use Rattle.command_line.specs.declared.words.Replay.{Replay}
-use Rattle.command_line.specs.declared.words.Subcommand.{Subcommand}
+use Rattle.clap.specs.{Lexer.usize_max, Simple.new_shape, Words.{App, Row, Rule, Shape, Text, first_of, new_rule, one_of, subcommand_of, takes}}
+use Rattle.clap.specs.declared.builder.{action.ArgAction.TheVariants.SetTrue, value_parser.ValueParser.TheVariants.Unsigned}
+use Rattle.command_line.specs.declared.words.{Argument.{Argument, TheVariants.{File, Files, Flag, Number, Needed}}, Asked.Asked}
+use Rattle.command_line.specs.declared.words.{Asked.TheVariants.Replay as AsksReplay, Form.TheVariants.Plain, Replay.Replay, Subcommand.Subcommand}
 
 -- a flag, which is left out or given once
 abbrev pub flag_rule : Text → Rule

@@ -1,52 +1,22 @@
 -- A freeze or a thaw is between its two stores just where its newest event is the first of them: what its role says, its trace says too.
-use Rattle.access_model.specs.Holders.{with_holder}
-use Rattle.access_model.specs.Replies.{map_next}
-use Rattle.access_model.specs.declared.errors.GateError.{GateError}
-use Rattle.access_model.specs.declared.replies.Next.{Next}
-use Rattle.cpu_words.specs.Hooks.{HookAnswer}
-use Rattle.cpu_words.specs.Touches.{event_of, left}
-use Rattle.cpu_words.specs.Words.{Words, put, read}
-use Rattle.cpu_words.specs.declared.events.Touch.{Touch}
-use Rattle.cpu_words.specs.declared.names.WordName.{WordName}
+use Rattle.access_model.specs.{Holders.with_holder, Replies.map_next, declared.{errors.GateError.GateError, replies.Next.Next}}
+use Rattle.cpu_words.specs.{Hooks.HookAnswer, Touches.{event_of, left}, Words.{Words, put, read}, declared.{events.Touch.Touch, names.WordName.WordName}}
 use Rattle.finite_sums.proofs.Totals.{each_updated, total_updated}
-use Rattle.freeze_levels.specs.Freezes.{freeze_after, freeze_next}
-use Rattle.freeze_levels.specs.Holders.{word_of}
-use Rattle.freeze_levels.specs.Thaws.{thaw_after, thaw_next}
-use Rattle.freeze_levels.specs.declared.freezes.Freeze.{Freeze}
-use Rattle.freeze_levels.specs.declared.freezes.FreezeStep.{FreezeStep}
-use Rattle.freeze_levels.specs.declared.freezes.FreezeStep.TheVariants.{Closes}
-use Rattle.freeze_levels.specs.declared.thaws.Thaw.{Thaw}
-use Rattle.freeze_levels.specs.declared.thaws.ThawStep.{ThawStep}
+use Rattle.freeze_levels.specs.{Freezes.{freeze_after, freeze_next}, Holders.word_of, Thaws.{thaw_after, thaw_next}, declared.freezes.Freeze.Freeze}
+use Rattle.freeze_levels.specs.declared.{freezes.FreezeStep.{FreezeStep, TheVariants.Closes}, thaws.{Thaw.Thaw, ThawStep.ThawStep}}
 use Rattle.gate_core.proofs.Layers.{op_keeps}
 use Rattle.gate_frames.proofs.Holders.{holders_at}
-use Rattle.gate_world.specs.Beginnings.{first_phase}
-use Rattle.gate_world.specs.Fits.{Fits}
-use Rattle.gate_world.specs.Found.{stores_stage}
-use Rattle.gate_world.specs.Headline.{HoldersAreTold, is_between, stores_nobody}
-use Rattle.gate_world.specs.Rules.{Fitting, Holding, IsGood, Known}
-use Rattle.gate_world.specs.Shown.{holder_role_of}
-use Rattle.gate_world.specs.Views.{begun_view, held_of, phase_after, view_after, with_hook}
-use Rattle.gate_world.specs.Work.{after_of, next_of}
-use Rattle.gate_world.specs.Worlds.{Begins, Entry, Steps, World, after_step, begin_of, begin_refusal, found_at, happens, opening, step_of, value_at, words_after}
-use Rattle.gate_world.specs.declared.config.Config.{Config}
-use Rattle.gate_world.specs.declared.operations.Op.{Op}
-use Rattle.gate_world.specs.declared.views.Traced.{Traced}
-use Rattle.gate_world.specs.declared.views.View.{View}
-use Rattle.gate_world.specs.declared.work.Phase.{Phase}
-use Rattle.gate_world.specs.declared.work.Phase.TheVariants.{Closes}
-use Rattle.holder_laws.proofs.HolderLaws.{held_exactly}
-use Rattle.holder_laws.proofs.Words.{held_word}
+use Rattle.gate_world.specs.{Beginnings.first_phase, Fits.Fits, Found.stores_stage, Headline.{HoldersAreTold, is_between, stores_nobody}, Rules.Fitting}
+use Rattle.gate_world.specs.{Rules.{Holding, IsGood, Known}, Shown.holder_role_of, Views.{begun_view, held_of, phase_after, view_after, with_hook}}
+use Rattle.gate_world.specs.{Work.{after_of, next_of}, Worlds.{Begins, Entry, Steps, World, after_step, begin_of, begin_refusal, found_at, happens, opening}}
+use Rattle.gate_world.specs.{Worlds.{step_of, value_at, words_after}, declared.{config.Config.Config, operations.Op.Op, views.{Traced.Traced, View.View}}}
+use Rattle.gate_world.specs.declared.work.Phase.{Phase, TheVariants.Closes}
+use Rattle.holder_laws.proofs.{HolderLaws.held_exactly, Words.held_word}
 use Rattle.holder_laws.specs.Roles.{HoldersHold, between, is_four, is_held}
-use Rattle.percpu_rwsem.specs.Transitions.{transition_next}
-use Rattle.percpu_rwsem.specs.Writers.{down_write_next, up_write_next}
-use Rattle.percpu_rwsem.specs.declared.transitions.Transition.{Transition}
-use Rattle.percpu_rwsem.specs.declared.writers.DownWrite.{DownWrite}
-use Rattle.percpu_rwsem.specs.declared.writers.DownWriteStep.{DownWriteStep}
-use Rattle.percpu_rwsem.specs.declared.writers.UpWrite.{UpWrite}
-use Rattle.percpu_rwsem.specs.declared.writers.UpWriteStep.{UpWriteStep}
-use Rattle.std.proofs.Common.{Bool, ap, arith, false, if◌then◌else◌, inl, inr, refl, subst, sym, true, ℕ, ◌<◌, ◌∙◌, ◌≡◌}
-use Rattle.std.proofs.lemmas.Bool.{cases_lt, le-ltb, lt-ltb}
-use Rattle.std.proofs.lemmas.Bool.Decides.{eqb_tells}
+use Rattle.percpu_rwsem.specs.{Transitions.transition_next, Writers.{down_write_next, up_write_next}, declared.transitions.Transition.Transition}
+use Rattle.percpu_rwsem.specs.declared.writers.{DownWrite.DownWrite, DownWriteStep.DownWriteStep, UpWrite.UpWrite, UpWriteStep.UpWriteStep}
+use Rattle.std.proofs.{Common.{Bool, ap, arith, false, if◌then◌else◌, inl, inr, refl, subst, sym, true, ℕ, ◌<◌, ◌∙◌, ◌≡◌}, lemmas.Bool.{cases_lt, le-ltb}}
+use Rattle.std.proofs.lemmas.Bool.{lt-ltb, Decides.eqb_tells}
 use Rattle.std.specs.Prelude.{Err, List, None, Ok, Option, Some, [], ◌==◌, ◌∷◌}
 
 abbrev bit : Bool → ℕ

@@ -1,47 +1,26 @@
 -- Every schedule keeps the rule, and its actions are one run of the access model.
-use Rattle.access_model.specs.Actions.{IsAllowed, after_action}
-use Rattle.access_model.specs.Histories.{Done, IsLegal, end_of}
-use Rattle.access_model.specs.States.{State, most_tasks, one_if, openers, opening_state}
-use Rattle.access_model.specs.declared.actions.Action.{Action}
-use Rattle.access_model.specs.declared.errors.GateError.{GateError}
+use Rattle.access_model.specs.{Actions.{IsAllowed, after_action}, Histories.{Done, IsLegal, end_of}, States.{State, most_tasks, one_if, openers}}
+use Rattle.access_model.specs.{States.opening_state, declared.{actions.Action.Action, errors.GateError.GateError}}
 use Rattle.cpu_words.specs.Hooks.{HookAnswer}
 use Rattle.finite_sums.proofs.Totals.{each_updated, total_bound, total_none, total_same}
 use Rattle.finite_sums.specs.Sums.{total, update}
-use Rattle.gate_core.proofs.Beginnings.{MayBegin, first_fits, may_begin}
-use Rattle.gate_core.proofs.Layers.{op_keeps, phase_keeps}
-use Rattle.gate_counts.proofs.Events.{words_sum}
-use Rattle.gate_counts.proofs.Flags.{gate_begins}
-use Rattle.gate_counts.proofs.Numbers.{below_le}
-use Rattle.gate_counts.specs.Gates.{below, counted as counted_of}
-use Rattle.gate_counts.specs.Levels.{level_as_gate, processor_of as level_processor}
-use Rattle.gate_frames.proofs.Beside.{SameCounts, beside_good, beside_of, beside_shown}
-use Rattle.gate_frames.proofs.Frames.{left_alone, opens_left, same_words}
-use Rattle.gate_frames.proofs.Trees.{tree_within}
-use Rattle.gate_world.specs.Alike.{IsBeside, off_tree}
-use Rattle.gate_world.specs.Beginnings.{first_phase, view_refusal}
-use Rattle.gate_world.specs.Configs.{IsWithin, model_limits}
-use Rattle.gate_world.specs.Fits.{HasFile, file_of}
-use Rattle.gate_world.specs.Headline.{IdleSumsHold, SumsHold}
-use Rattle.gate_world.specs.Levels.{at_level, level_role_of}
-use Rattle.gate_world.specs.Owners.{KnowsWords}
-use Rattle.gate_world.specs.Rules.{AtLevel, AtMount, Files, Fitting, Holding, Holds, IsGood, Known, LevelHoldsIn, MountHoldsIn, Moves, Owner, Part, Sections, Stages, SyncAt, Tree, ViewFits, at_mount, owns, role_of}
-use Rattle.gate_world.specs.Shown.{shown}
-use Rattle.gate_world.specs.Trees.{tree_bounds, tree_role_of}
-use Rattle.gate_world.specs.Views.{begun_view, has_open, held_of}
-use Rattle.gate_world.specs.Worlds.{Begins, Entry, Steps, World, action_of, after_begin, begin_of, happens, history, opening, phase_action, run, step_of, task_of, with_action}
-use Rattle.gate_world.specs.declared.config.Config.{Config}
-use Rattle.gate_world.specs.declared.operations.Op.{Op}
-use Rattle.gate_world.specs.declared.views.View.{View}
-use Rattle.gate_world.specs.declared.work.Phase.{Phase}
+use Rattle.gate_core.proofs.{Beginnings.{MayBegin, first_fits, may_begin}, Layers.{op_keeps, phase_keeps}}
+use Rattle.gate_counts.proofs.{Events.words_sum, Flags.gate_begins, Numbers.below_le}
+use Rattle.gate_counts.specs.{Gates.{below, counted as counted_of}, Levels.{level_as_gate, processor_of as level_processor}}
+use Rattle.gate_frames.proofs.{Beside.{SameCounts, beside_good, beside_of, beside_shown}, Frames.{left_alone, opens_left, same_words}, Trees.tree_within}
+use Rattle.gate_world.specs.{Alike.{IsBeside, off_tree}, Beginnings.{first_phase, view_refusal}, Configs.{IsWithin, model_limits}, Fits.{HasFile, file_of}}
+use Rattle.gate_world.specs.{Headline.{IdleSumsHold, SumsHold}, Levels.{at_level, level_role_of}, Owners.KnowsWords, Rules.{AtLevel, AtMount, Files, Fitting}}
+use Rattle.gate_world.specs.Rules.{Holding, Holds, IsGood, Known, LevelHoldsIn, MountHoldsIn, Moves, Owner, Part, Sections, Stages, SyncAt, Tree, ViewFits}
+use Rattle.gate_world.specs.{Rules.{at_mount, owns, role_of}, Shown.shown, Trees.{tree_bounds, tree_role_of}, Views.{begun_view, has_open, held_of}}
+use Rattle.gate_world.specs.Worlds.{Begins, Entry, Steps, World, action_of, after_begin, begin_of, happens, history, opening, phase_action, run, step_of}
+use Rattle.gate_world.specs.{Worlds.{task_of, with_action}, declared.{config.Config.Config, operations.Op.Op, views.View.View, work.Phase.Phase}}
 use Rattle.gated_tree.specs.Nodes.{opens_in}
 use Rattle.holder_laws.proofs.HolderLaws.{opens as holders_open}
 use Rattle.level_laws.proofs.Whole.{opening_is_right}
 use Rattle.mount_counts.specs.Roles.{counted, mount_shut, processor_of, sought}
 use Rattle.stage_laws.proofs.Whole.{opening_is_right as stages_open}
-use Rattle.std.proofs.Common.{ap, arith, false, inl, inr, refl, subst, sym, true, true≢false, ℕ, ◌%◌, ◌*◌, ◌<◌, ◌∙◌, ◌≡◌, ◌≤◌}
-use Rattle.std.proofs.Math.Path.{fun_ext}
-use Rattle.std.proofs.lemmas.Bool.{cases_Bool, ltb-true}
-use Rattle.std.proofs.lemmas.Bool.Decides.{eqb_tells}
+use Rattle.std.proofs.{Common.{ap, arith, false, inl, inr, refl, subst, sym, true, true≢false, ℕ, ◌%◌, ◌*◌, ◌<◌, ◌∙◌, ◌≡◌, ◌≤◌}, Math.Path.fun_ext}
+use Rattle.std.proofs.lemmas.Bool.{cases_Bool, ltb-true, Decides.eqb_tells}
 use Rattle.std.specs.Prelude.{List, None, Option, Some, [], is_some, nat_lt, ◌∷◌}
 use Rattle.tree_laws.proofs.Each.{opening_holds}
 

@@ -1,34 +1,18 @@
 -- An operation that stands at a phase of another one, and relies on something at the tree meanwhile, as a last close does inside level 3:
 -- the law of the other's event is the law of its event, but for the tree and the open files, which the event leaves alone.
-use Rattle.access_model.specs.declared.actions.Action.{Action}
-use Rattle.access_model.specs.declared.replies.Next.{Next}
-use Rattle.cpu_words.specs.Hooks.{HookAnswer}
-use Rattle.cpu_words.specs.Touches.{left}
-use Rattle.cpu_words.specs.Words.{put, read}
-use Rattle.cpu_words.specs.declared.events.Touch.{Touch}
-use Rattle.cpu_words.specs.declared.names.WordName.{WordName}
+use Rattle.access_model.specs.declared.{actions.Action.Action, replies.Next.Next}
+use Rattle.cpu_words.specs.{Hooks.HookAnswer, Touches.left, Words.{put, read}, declared.{events.Touch.Touch, names.WordName.WordName}}
 use Rattle.finite_sums.proofs.Totals.{each_updated, update_at, update_off}
 use Rattle.finite_sums.specs.Sums.{update}
-use Rattle.gate_frames.proofs.Accesses.{holdings_of_after}
-use Rattle.gate_frames.proofs.Frames.{left_alone, same_words, shown_still}
-use Rattle.gate_frames.proofs.LevelSteps.{level_kept}
-use Rattle.gate_world.specs.Alike.{IsBeside, at_phase, off_tree, rephased}
-use Rattle.gate_world.specs.Fits.{Fits}
-use Rattle.gate_world.specs.Holdings.{held_after, holdings_of}
-use Rattle.gate_world.specs.LevelRuns.{level_in}
-use Rattle.gate_world.specs.Levels.{level_added_by, level_taken_by}
-use Rattle.gate_world.specs.Roles.{Roles, roles_of}
-use Rattle.gate_world.specs.Rules.{AtLevel, AtMount, Files, Fitting, Holding, Holds, IsGood, Known, Moves, Owner, Part, SameView, Sections, Stages, SyncAt, Tree, ViewFits}
-use Rattle.gate_world.specs.Shown.{shown}
-use Rattle.gate_world.specs.Views.{added_by, has_open, held_of, phase_after, taken_by, view_with}
-use Rattle.gate_world.specs.Worlds.{World}
-use Rattle.gate_world.specs.declared.config.Config.{Config}
-use Rattle.gate_world.specs.declared.views.View.{View}
+use Rattle.gate_frames.proofs.{Accesses.holdings_of_after, Frames.{left_alone, same_words, shown_still}, LevelSteps.level_kept}
+use Rattle.gate_world.specs.{Alike.{IsBeside, at_phase, off_tree, rephased}, Fits.Fits, Holdings.{held_after, holdings_of}, LevelRuns.level_in}
+use Rattle.gate_world.specs.{Levels.{level_added_by, level_taken_by}, Roles.{Roles, roles_of}, Rules.{AtLevel, AtMount, Files, Fitting, Holding, Holds}}
+use Rattle.gate_world.specs.{Rules.{IsGood, Known, Moves, Owner, Part, SameView, Sections, Stages, SyncAt, Tree, ViewFits}, Shown.shown, Views.added_by}
+use Rattle.gate_world.specs.{Views.{has_open, held_of, phase_after, taken_by, view_with}, Worlds.World, declared.{config.Config.Config, views.View.View}}
 use Rattle.gate_world.specs.declared.work.Phase.{Phase}
 use Rattle.level_laws.specs.Events.{SyncStep}
 use Rattle.stage_laws.specs.Roles.{sums}
-use Rattle.std.proofs.Common.{Bool, ap, false, inl, inr, refl, subst, sym, true, true≢false, ℕ, ◌<◌, ◌∙◌, ◌≡◌}
-use Rattle.std.proofs.Math.Path.{fun_ext}
+use Rattle.std.proofs.{Common.{Bool, ap, false, inl, inr, refl, subst, sym, true, true≢false, ℕ, ◌<◌, ◌∙◌, ◌≡◌}, Math.Path.fun_ext}
 use Rattle.std.proofs.lemmas.Bool.Decides.{eqb_tells}
 use Rattle.std.specs.Prelude.{Option, if◌then◌else◌}
 

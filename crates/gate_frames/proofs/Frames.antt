@@ -1,34 +1,24 @@
 -- What an event leaves alone.
 use Rattle.access_model.specs.States.{openers}
-use Rattle.cpu_words.specs.Words.{Words}
-use Rattle.cpu_words.specs.declared.events.Touch.{Touch}
-use Rattle.cpu_words.specs.declared.names.WordName.{WordName}
+use Rattle.cpu_words.specs.{Words.Words, declared.{events.Touch.Touch, names.WordName.WordName}}
 use Rattle.finite_sums.proofs.Totals.{each_updated, total_updated, update_map, update_same}
 use Rattle.finite_sums.specs.Sums.{total, update}
 use Rattle.freeze_levels.specs.Holders.{holders_in}
 use Rattle.gate_counts.specs.Levels.{LevelHolds, LevelRole, LevelView, Out as CountsNot}
 use Rattle.gate_frames.proofs.Known.{known_same}
-use Rattle.gate_world.specs.Fits.{Fits, HasFile, file_of}
-use Rattle.gate_world.specs.Holdings.{Holdings}
-use Rattle.gate_world.specs.Levels.{at_level, inside, is_frozen_whole, level_added_by, level_taken_by, sync_role_of}
-use Rattle.gate_world.specs.Owners.{KnowsWords}
-use Rattle.gate_world.specs.Roles.{Roles, count_role_if, no_roles, role_if, roles_of, sync_role_if}
-use Rattle.gate_world.specs.Rules.{AtLevel, AtMount, Files, Fitting, GatesHold, Holding, Holds, IsGood, IsSteady, Known, Owner, OwnerHolds, Part, SameView, SameWords, Sections, Stages, SyncAt, Tree, ViewFits, at_mount, owns, remounts}
-use Rattle.gate_world.specs.Shown.{closing, holder_role_of, holder_roles, is_passed, shown, stage_role_of, stage_roles}
-use Rattle.gate_world.specs.Trees.{tree_bounds, tree_role_of, tree_roles}
-use Rattle.gate_world.specs.Views.{added_after, has_open, held_at, held_of, holds_level, taken_after}
-use Rattle.gate_world.specs.Worlds.{World}
-use Rattle.gate_world.specs.declared.config.Config.{Config}
-use Rattle.gate_world.specs.declared.views.View.{View}
+use Rattle.gate_world.specs.{Fits.{Fits, HasFile, file_of}, Holdings.Holdings, Levels.{at_level, inside, is_frozen_whole, level_added_by, level_taken_by}}
+use Rattle.gate_world.specs.{Levels.sync_role_of, Owners.KnowsWords, Roles.{Roles, count_role_if, no_roles, role_if, roles_of, sync_role_if}, Rules.AtLevel}
+use Rattle.gate_world.specs.Rules.{AtMount, Files, Fitting, GatesHold, Holding, Holds, IsGood, IsSteady, Known, Owner, OwnerHolds, Part, SameView, SameWords}
+use Rattle.gate_world.specs.{Rules.{Sections, Stages, SyncAt, Tree, ViewFits, at_mount, owns, remounts}, Shown.{closing, holder_role_of, holder_roles}}
+use Rattle.gate_world.specs.{Shown.{is_passed, shown, stage_role_of, stage_roles}, Trees.{tree_bounds, tree_role_of, tree_roles}, Views.added_after}
+use Rattle.gate_world.specs.{Views.{has_open, held_at, held_of, holds_level, taken_after}, Worlds.World, declared.{config.Config.Config, views.View.View}}
 use Rattle.gate_world.specs.declared.work.Phase.{Phase}
-use Rattle.gated_tree.specs.Nodes.{node_shown, opens_in}
-use Rattle.gated_tree.specs.Roles.{Role as TreeRole, TreeHolds, TreeState}
+use Rattle.gated_tree.specs.{Nodes.{node_shown, opens_in}, Roles.{Role as TreeRole, TreeHolds, TreeState}}
 use Rattle.holder_laws.specs.Roles.{HolderRole, HoldersHold}
 use Rattle.level_laws.specs.Roles.{Out as IsApart, SyncNumberHolds, SyncRole}
 use Rattle.mount_counts.specs.Roles.{MountHolds, MountView, Out, Role, ro_bit}
 use Rattle.stage_laws.specs.Roles.{StageRole, StagesHold}
-use Rattle.std.proofs.Common.{Bool, ap, arith, inl, inr, refl, subst, suc, sym, true≢false, ℕ, ◌+◌, ◌<◌, ◌∙◌, ◌≡◌}
-use Rattle.std.proofs.lemmas.Bool.{eq-eqb, ne_eqb}
+use Rattle.std.proofs.{Common.{Bool, ap, arith, inl, inr, refl, subst, suc, sym, true≢false, ℕ, ◌+◌, ◌<◌, ◌∙◌, ◌≡◌}, lemmas.Bool.{eq-eqb, ne_eqb}}
 use Rattle.std.proofs.lemmas.Bool.Decides.{eqb_tells}
 use Rattle.std.specs.Prelude.{Option, false, if◌then◌else◌, true, ◌%◌, ◌&&◌, ◌==◌, ◌||◌}
 

@@ -1,29 +1,12 @@
 -- What the crate of an operation proves of it: of each of its phases, and of its beginning and its trace.
-use Rattle.access_model.specs.declared.actions.Action.{Action}
-use Rattle.access_model.specs.declared.errors.GateError.{GateError}
-use Rattle.cpu_words.specs.Hooks.{HookAnswer}
-use Rattle.cpu_words.specs.Names.{Extents, IsWord}
-use Rattle.cpu_words.specs.declared.names.WordName.{WordName}
-use Rattle.gate_world.specs.Beginnings.{first_phase, is_in_order, is_in_range, is_within_room}
-use Rattle.gate_world.specs.Causes.{all_counted, all_inside}
-use Rattle.gate_world.specs.Configs.{IsWithin, extents_among, extents_of}
-use Rattle.gate_world.specs.Courses.{IsTrace, course_of}
-use Rattle.gate_world.specs.Fits.{ActionFits, Fits, HasFile, PhaseFits, file_of}
-use Rattle.gate_world.specs.Holdings.{Agree, Holdings, held_after, holdings_of}
-use Rattle.gate_world.specs.KeptCauses.{CauseOf}
-use Rattle.gate_world.specs.LevelRuns.{level_in}
-use Rattle.gate_world.specs.Moments.{CompletesNow}
-use Rattle.gate_world.specs.Roles.{no_roles, roles_of}
-use Rattle.gate_world.specs.Rules.{IsGood, StepKeeps}
-use Rattle.gate_world.specs.Traces.{IsShort, Tells, actions_of, most_events}
-use Rattle.gate_world.specs.Views.{held_of, phase_after}
-use Rattle.gate_world.specs.Waits.{HasReason}
-use Rattle.gate_world.specs.Work.{after_of, next_of}
-use Rattle.gate_world.specs.Worlds.{World, after_step, found_at}
-use Rattle.gate_world.specs.declared.config.Config.{Config}
-use Rattle.gate_world.specs.declared.operations.Op.{Op}
-use Rattle.gate_world.specs.declared.views.Traced.{Traced}
-use Rattle.gate_world.specs.declared.work.Phase.{Phase}
+use Rattle.access_model.specs.declared.{actions.Action.Action, errors.GateError.GateError}
+use Rattle.cpu_words.specs.{Hooks.HookAnswer, Names.{Extents, IsWord}, declared.names.WordName.WordName}
+use Rattle.gate_world.specs.{Beginnings.{first_phase, is_in_order, is_in_range, is_within_room}, Causes.{all_counted, all_inside}, Configs.IsWithin}
+use Rattle.gate_world.specs.{Configs.{extents_among, extents_of}, Courses.{IsTrace, course_of}, Fits.{ActionFits, Fits, HasFile, PhaseFits, file_of}}
+use Rattle.gate_world.specs.{Holdings.{Agree, Holdings, held_after, holdings_of}, KeptCauses.CauseOf, LevelRuns.level_in, Moments.CompletesNow}
+use Rattle.gate_world.specs.{Roles.{no_roles, roles_of}, Rules.{IsGood, StepKeeps}, Traces.{IsShort, Tells, actions_of, most_events}, Views.held_of}
+use Rattle.gate_world.specs.{Views.phase_after, Waits.HasReason, Work.{after_of, next_of}, Worlds.{World, after_step, found_at}}
+use Rattle.gate_world.specs.declared.{config.Config.Config, operations.Op.Op, views.Traced.Traced, work.Phase.Phase}
 use Rattle.level_laws.specs.Events.{SyncStep}
 use Rattle.std.proofs.Common.{Bool, arith, false, true, ℕ, ◌+◌, ◌-◌, ◌<◌, ◌≡◌, ◌≤◌}
 use Rattle.std.specs.Prelude.{Err, List, None, Option, Some, ◌++◌, ◌∷◌}

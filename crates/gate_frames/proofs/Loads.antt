@@ -1,22 +1,12 @@
 -- Loads of a task at a mount: they leave the words and the shown model.
 use Rattle.access_model.specs.declared.replies.Next.{Next}
-use Rattle.cpu_words.specs.Hooks.{HookAnswer}
-use Rattle.cpu_words.specs.Words.{put, read}
-use Rattle.cpu_words.specs.declared.events.Touch.{Touch}
-use Rattle.cpu_words.specs.declared.names.WordName.{WordName}
+use Rattle.cpu_words.specs.{Hooks.HookAnswer, Words.{put, read}, declared.{events.Touch.Touch, names.WordName.WordName}}
 use Rattle.finite_sums.proofs.Totals.{update_same}
 use Rattle.finite_sums.specs.Sums.{update}
-use Rattle.gate_frames.proofs.Frames.{MountHoldsAfter, added_load, gates_after, holds_as, owner_same, shown_still, taken_load, view_as}
-use Rattle.gate_frames.proofs.Words.{load_same}
-use Rattle.gate_world.specs.Fits.{Fits, MountFits}
-use Rattle.gate_world.specs.Roles.{mount_owns}
-use Rattle.gate_world.specs.Rules.{AtMount, Fitting, GatesHold, IsGood, IsSteady, at_mount, owns, remounts, role_of}
-use Rattle.gate_world.specs.Shown.{closing, shown}
-use Rattle.gate_world.specs.Views.{added_by, held_of, phase_after, taken_by, view_with}
-use Rattle.gate_world.specs.Worlds.{World}
-use Rattle.gate_world.specs.declared.config.Config.{Config}
-use Rattle.gate_world.specs.declared.views.View.{View}
-use Rattle.gate_world.specs.declared.work.Phase.{Phase}
+use Rattle.gate_frames.proofs.{Frames.{MountHoldsAfter, added_load, gates_after, holds_as, owner_same, shown_still, taken_load, view_as}, Words.load_same}
+use Rattle.gate_world.specs.{Fits.{Fits, MountFits}, Roles.mount_owns, Rules.{AtMount, Fitting, GatesHold, IsGood, IsSteady, at_mount, owns, remounts}}
+use Rattle.gate_world.specs.{Rules.role_of, Shown.{closing, shown}, Views.{added_by, held_of, phase_after, taken_by, view_with}, Worlds.World}
+use Rattle.gate_world.specs.declared.{config.Config.Config, views.View.View, work.Phase.Phase}
 use Rattle.mount_counts.specs.declared.phases.MountPhase.{MountPhase}
 use Rattle.std.proofs.Common.{ap, refl, subst, sym, ℕ, ◌<◌, ◌∙◌, ◌≡◌}
 use Rattle.std.specs.Prelude.{None, Option, Some}

@@ -1,58 +1,28 @@
 -- What a call at the tree may do: nobody else is in its way, and the model gives it leave.
-use Rattle.access_model.specs.Actions.{IsWriter}
-use Rattle.access_model.specs.declared.actions.Action.{Action}
+use Rattle.access_model.specs.{Actions.IsWriter, declared.actions.Action.Action}
 use Rattle.cpu_words.specs.Hooks.{HookAnswer}
 use Rattle.finite_sums.proofs.Totals.{total_at, total_none}
 use Rattle.finite_sums.specs.Sums.{total}
 use Rattle.freeze_levels.specs.declared.freezes.FreezeStep.{FreezeStep}
 use Rattle.gate_counts.specs.Gates.{BarringHolds, admitted, unread}
-use Rattle.gate_frames.proofs.TreeHolders.{IsOpen, both_true, mount_there, none_past, writer_apart}
-use Rattle.gate_frames.proofs.TreeRoles.{call_plain, close_apart, freeze_apart, snapshot_apart}
-use Rattle.gate_frames.proofs.Trees.{nobody_reads, sealed_frozen}
-use Rattle.gate_world.specs.Configs.{model_limits}
-use Rattle.gate_world.specs.Fits.{Fits, HasFile, PhaseFits, TreeAccess, file_of}
-use Rattle.gate_world.specs.Holdings.{Holdings}
-use Rattle.gate_world.specs.Operations.{is_faulter, is_writer, may_mark, some_mount}
-use Rattle.gate_world.specs.Remounts.{loop_role, remount_role, remount_sets}
-use Rattle.gate_world.specs.Roles.{freeze_stage_role, freeze_tree_role, nodes_noted, remount_tree_role}
-use Rattle.gate_world.specs.Rules.{AtMount, Files, Fitting, IsGood, Owner, at_mount, remounts, role_of}
-use Rattle.gate_world.specs.Shown.{shown, stage_role_of}
-use Rattle.gate_world.specs.Snapshots.{values_noted}
-use Rattle.gate_world.specs.Trees.{is_bare_at, tree_bounds, tree_of, tree_role_of, tree_roles}
-use Rattle.gate_world.specs.Views.{has_open, held_at, held_of, holds_level}
-use Rattle.gate_world.specs.Worlds.{World}
-use Rattle.gate_world.specs.declared.config.Config.{Config}
-use Rattle.gate_world.specs.declared.views.Traced.{Traced}
-use Rattle.gate_world.specs.declared.work.Phase.{Phase}
-use Rattle.gated_tree.specs.Calls.{phase_role}
-use Rattle.gated_tree.specs.Nodes.{word_of}
-use Rattle.gated_tree.specs.Phases.{after, create_after, grow_after, mark_after, mark_done, move_after, open_after, remove_after, snapshot_after}
-use Rattle.gated_tree.specs.Roles.{MayDirty, MayRemove, NobodyReads, bare_by, cleared, is_bare, sealed_by}
-use Rattle.gated_tree.specs.declared.changes.Create.{Create}
-use Rattle.gated_tree.specs.declared.changes.CreateStep.{CreateStep}
-use Rattle.gated_tree.specs.declared.changes.MoveStep.{MoveStep}
-use Rattle.gated_tree.specs.declared.changes.MoveTo.{MoveTo}
-use Rattle.gated_tree.specs.declared.changes.Remove.{Remove}
-use Rattle.gated_tree.specs.declared.changes.RemoveStep.{RemoveStep}
-use Rattle.gated_tree.specs.declared.growth.Grow.{Grow}
-use Rattle.gated_tree.specs.declared.growth.GrowStep.{GrowStep}
-use Rattle.gated_tree.specs.declared.marks.Mark.{Mark}
-use Rattle.gated_tree.specs.declared.marks.MarkStep.{MarkStep}
-use Rattle.gated_tree.specs.declared.opens.OpenFile.{OpenFile}
-use Rattle.gated_tree.specs.declared.opens.OpenStep.{OpenStep}
-use Rattle.gated_tree.specs.declared.phases.TreePhase.{TreePhase}
-use Rattle.gated_tree.specs.declared.snapshots.Snapshot.{Snapshot}
-use Rattle.gated_tree.specs.declared.snapshots.SnapshotStep.{SnapshotStep}
-use Rattle.mount_counts.specs.Roles.{barring_of, mount_as_gate, skips}
-use Rattle.mount_counts.specs.Sets.{has_mount}
-use Rattle.mount_counts.specs.declared.remounts.RemountStep.{RemountStep}
+use Rattle.gate_frames.proofs.{TreeHolders.{IsOpen, both_true, mount_there, none_past, writer_apart}, TreeRoles.{call_plain, close_apart, freeze_apart}}
+use Rattle.gate_frames.proofs.{TreeRoles.snapshot_apart, Trees.{nobody_reads, sealed_frozen}}
+use Rattle.gate_world.specs.{Configs.model_limits, Fits.{Fits, HasFile, PhaseFits, TreeAccess, file_of}, Holdings.Holdings, Operations.is_faulter}
+use Rattle.gate_world.specs.{Operations.{is_writer, may_mark, some_mount}, Remounts.{loop_role, remount_role, remount_sets}, Roles.freeze_stage_role}
+use Rattle.gate_world.specs.{Roles.{freeze_tree_role, nodes_noted, remount_tree_role}, Rules.{AtMount, Files, Fitting, IsGood, Owner, at_mount, remounts}}
+use Rattle.gate_world.specs.{Rules.role_of, Shown.{shown, stage_role_of}, Snapshots.values_noted, Trees.{is_bare_at, tree_bounds, tree_of, tree_role_of}}
+use Rattle.gate_world.specs.{Trees.tree_roles, Views.{has_open, held_at, held_of, holds_level}, Worlds.World, declared.config.Config.Config}
+use Rattle.gate_world.specs.declared.{views.Traced.Traced, work.Phase.Phase}
+use Rattle.gated_tree.specs.{Calls.phase_role, Nodes.word_of, Phases.{after, create_after, grow_after, mark_after, mark_done, move_after, open_after}}
+use Rattle.gated_tree.specs.{Phases.{remove_after, snapshot_after}, Roles.{MayDirty, MayRemove, NobodyReads, bare_by, cleared, is_bare, sealed_by}}
+use Rattle.gated_tree.specs.declared.changes.{Create.Create, CreateStep.CreateStep, MoveStep.MoveStep, MoveTo.MoveTo, Remove.Remove, RemoveStep.RemoveStep}
+use Rattle.gated_tree.specs.declared.{growth.{Grow.Grow, GrowStep.GrowStep}, marks.{Mark.Mark, MarkStep.MarkStep}, opens.OpenFile.OpenFile}
+use Rattle.gated_tree.specs.declared.{opens.OpenStep.OpenStep, phases.TreePhase.TreePhase, snapshots.{Snapshot.Snapshot, SnapshotStep.SnapshotStep}}
+use Rattle.mount_counts.specs.{Roles.{barring_of, mount_as_gate, skips}, Sets.has_mount, declared.remounts.RemountStep.RemountStep}
 use Rattle.stage_laws.specs.Roles.{passed_by}
-use Rattle.std.proofs.Common.{Bool, ap, arith, false, inl, inr, leb-true, refl, subst, true, ℕ, ◌<◌, ◌≡◌, ◌≤◌}
-use Rattle.std.proofs.lemmas.Bool.{cases_Bool}
-use Rattle.std.proofs.lemmas.Bool.Decides.{eqb_tells}
+use Rattle.std.proofs.{Common.{Bool, ap, arith, false, inl, inr, leb-true, refl, subst, true, ℕ, ◌<◌, ◌≡◌, ◌≤◌}, lemmas.Bool.{cases_Bool, Decides.eqb_tells}}
 use Rattle.std.specs.Prelude.{List, None, Option, Some, if◌then◌else◌, nat_le, ◌==◌}
-use Rattle.tree_laws.specs.Events.{HasLeave, MayClean}
-use Rattle.tree_laws.specs.Steps.{MayMark, MayStep}
+use Rattle.tree_laws.specs.{Events.{HasLeave, MayClean}, Steps.{MayMark, MayStep}}
 
 pub open_unsealed : (sb stage : ℕ) → sb ≡ 0 → stage < 3 → sealed_by sb stage ≡ 0
 open_unsealed sb stage writable low =

@@ -1,73 +1,35 @@
 -- An event of a call at the tree: it leaves the mounts, the levels and the sections alone, and all of the shown model but the tree. A
 -- snapshot is such a call, too.
 use Rattle.access_model.proofs.Openers.{most_tasks_is}
-use Rattle.access_model.specs.Replies.{map_next}
-use Rattle.access_model.specs.States.{openers}
-use Rattle.access_model.specs.declared.actions.Action.{Action}
-use Rattle.access_model.specs.declared.errors.GateError.{GateError}
-use Rattle.access_model.specs.declared.replies.Next.{Next}
+use Rattle.access_model.specs.{Replies.map_next, States.openers, declared.{actions.Action.Action, errors.GateError.GateError, replies.Next.Next}}
 use Rattle.access_model.specs.declared.replies.Reply.{Reply}
-use Rattle.cpu_words.specs.Hooks.{HookAnswer}
-use Rattle.cpu_words.specs.Touches.{left}
-use Rattle.cpu_words.specs.Words.{Words, put, read}
-use Rattle.cpu_words.specs.declared.events.Touch.{Touch}
-use Rattle.cpu_words.specs.declared.names.WordName.{WordName}
+use Rattle.cpu_words.specs.{Hooks.HookAnswer, Touches.left, Words.{Words, put, read}, declared.{events.Touch.Touch, names.WordName.WordName}}
 use Rattle.finite_sums.proofs.Totals.{each_updated, update_map, update_same}
 use Rattle.finite_sums.specs.Sums.{update}
 use Rattle.freeze_levels.specs.Holders.{holders_in}
-use Rattle.gate_frames.proofs.Accesses.{holdings_of_after}
-use Rattle.gate_frames.proofs.Agreeing.{access_agrees}
-use Rattle.gate_frames.proofs.Frames.{added_load, left_alone, level_view_as, shown_as, taken_load, unwritten, view_as}
-use Rattle.gate_frames.proofs.Keeps.{by_bool}
-use Rattle.gate_frames.proofs.MayTree.{LeaveFor, call_fits, leave, may_step}
-use Rattle.gate_frames.proofs.MountEvents.{level_added_load, level_taken_load, load_left}
-use Rattle.gate_frames.proofs.OpenFiles.{file_then, files_counted, same_counts}
-use Rattle.gate_frames.proofs.Trees.{tree_holds, tree_within}
-use Rattle.gate_world.specs.Configs.{IsWithin, model_limits}
-use Rattle.gate_world.specs.Fits.{Fits, HasFile, TreeAccess, file_of}
-use Rattle.gate_world.specs.Found.{is_load}
-use Rattle.gate_world.specs.Holdings.{Holdings, held_after}
-use Rattle.gate_world.specs.Levels.{is_frozen_whole, level_added_after, level_added_by, level_taken_after, level_taken_by}
-use Rattle.gate_world.specs.Roles.{Roles, no_roles, nodes_noted, roles_of, snapshot_stage_role, tree_stage_role}
-use Rattle.gate_world.specs.Rules.{AtLevel, AtMount, Files, Fitting, Holding, Holds, IsGood, Moves as ModelMoves, Part, SameView, SameWords, Sections, SyncAt, Tree, ViewFits}
-use Rattle.gate_world.specs.Shown.{closing, shown}
-use Rattle.gate_world.specs.Snapshots.{values_noted}
-use Rattle.gate_world.specs.Trees.{is_bare_at, is_sealed, tree_bounds, tree_role_of, tree_roles}
-use Rattle.gate_world.specs.Views.{added_after, added_by, has_open, held_at, held_of, holds_level, phase_after, taken_after, taken_by, view_after}
-use Rattle.gate_world.specs.Work.{after_of, next_of}
-use Rattle.gate_world.specs.Worlds.{World, after_step, found_at, value_at, words_after}
-use Rattle.gate_world.specs.declared.config.Config.{Config}
-use Rattle.gate_world.specs.declared.views.View.{View}
-use Rattle.gate_world.specs.declared.work.Phase.{Phase}
-use Rattle.gated_tree.specs.Calls.{NextFits, TreePhaseFits, phase_role, role_after}
-use Rattle.gated_tree.specs.Nodes.{dirty_in, file_in, node_shown, word_of}
-use Rattle.gated_tree.specs.Phases.{after, after_look, at_mark, clear_after, create_after, create_next, grow_after, grow_next, mark_after, mark_done, mark_next, move_after, move_next, next, open_after, open_next, remove_after, remove_next, snapshot_after, snapshot_next}
-use Rattle.gated_tree.specs.Roles.{Role, TreeHolds}
-use Rattle.gated_tree.specs.declared.changes.Create.{Create}
-use Rattle.gated_tree.specs.declared.changes.CreateStep.{CreateStep}
-use Rattle.gated_tree.specs.declared.changes.MoveStep.{MoveStep}
-use Rattle.gated_tree.specs.declared.changes.MoveTo.{MoveTo}
-use Rattle.gated_tree.specs.declared.changes.Remove.{Remove}
-use Rattle.gated_tree.specs.declared.changes.RemoveStep.{RemoveStep}
-use Rattle.gated_tree.specs.declared.growth.Grow.{Grow}
-use Rattle.gated_tree.specs.declared.growth.GrowStep.{GrowStep}
-use Rattle.gated_tree.specs.declared.marks.ClearMarks.{ClearMarks}
-use Rattle.gated_tree.specs.declared.marks.Mark.{Mark}
-use Rattle.gated_tree.specs.declared.marks.MarkStep.{MarkStep}
-use Rattle.gated_tree.specs.declared.opens.OpenFile.{OpenFile}
-use Rattle.gated_tree.specs.declared.opens.OpenStep.{OpenStep}
-use Rattle.gated_tree.specs.declared.phases.TreePhase.{TreePhase}
-use Rattle.gated_tree.specs.declared.snapshots.Snapshot.{Snapshot}
-use Rattle.gated_tree.specs.declared.snapshots.SnapshotStep.{SnapshotStep}
+use Rattle.gate_frames.proofs.{Accesses.holdings_of_after, Agreeing.access_agrees, Frames.{added_load, left_alone, level_view_as, shown_as, taken_load}}
+use Rattle.gate_frames.proofs.{Frames.{unwritten, view_as}, Keeps.by_bool, MayTree.{LeaveFor, call_fits, leave, may_step}, MountEvents.level_added_load}
+use Rattle.gate_frames.proofs.{MountEvents.{level_taken_load, load_left}, OpenFiles.{file_then, files_counted, same_counts}, Trees.{tree_holds, tree_within}}
+use Rattle.gate_world.specs.{Configs.{IsWithin, model_limits}, Fits.{Fits, HasFile, TreeAccess, file_of}, Found.is_load, Holdings.{Holdings, held_after}}
+use Rattle.gate_world.specs.{Levels.{is_frozen_whole, level_added_after, level_added_by, level_taken_after, level_taken_by}, Roles.{Roles, no_roles}}
+use Rattle.gate_world.specs.{Roles.{nodes_noted, roles_of, snapshot_stage_role, tree_stage_role}, Rules.{AtLevel, AtMount, Files, Fitting, Holding, Holds}}
+use Rattle.gate_world.specs.{Rules.{IsGood, Moves as ModelMoves, Part, SameView, SameWords, Sections, SyncAt, Tree, ViewFits}, Shown.{closing, shown}}
+use Rattle.gate_world.specs.{Snapshots.values_noted, Trees.{is_bare_at, is_sealed, tree_bounds, tree_role_of, tree_roles}, Views.{added_after, added_by}}
+use Rattle.gate_world.specs.{Views.{has_open, held_at, held_of, holds_level, phase_after, taken_after, taken_by, view_after}, Work.{after_of, next_of}}
+use Rattle.gate_world.specs.{Worlds.{World, after_step, found_at, value_at, words_after}, declared.{config.Config.Config, views.View.View, work.Phase.Phase}}
+use Rattle.gated_tree.specs.{Calls.{NextFits, TreePhaseFits, phase_role, role_after}, Nodes.{dirty_in, file_in, node_shown, word_of}, Phases.after}
+use Rattle.gated_tree.specs.Phases.{after_look, at_mark, clear_after, create_after, create_next, grow_after, grow_next, mark_after, mark_done, mark_next}
+use Rattle.gated_tree.specs.Phases.{move_after, move_next, next, open_after, open_next, remove_after, remove_next, snapshot_after, snapshot_next}
+use Rattle.gated_tree.specs.{Roles.{Role, TreeHolds}, declared.changes.{Create.Create, CreateStep.CreateStep, MoveStep.MoveStep, MoveTo.MoveTo}}
+use Rattle.gated_tree.specs.declared.{changes.{Remove.Remove, RemoveStep.RemoveStep}, growth.{Grow.Grow, GrowStep.GrowStep}, marks.ClearMarks.ClearMarks}
+use Rattle.gated_tree.specs.declared.{marks.{Mark.Mark, MarkStep.MarkStep}, opens.{OpenFile.OpenFile, OpenStep.OpenStep}, phases.TreePhase.TreePhase}
+use Rattle.gated_tree.specs.declared.snapshots.{Snapshot.Snapshot, SnapshotStep.SnapshotStep}
 use Rattle.mount_counts.specs.Roles.{ro_bit}
 use Rattle.stage_laws.specs.Roles.{Aside, sums}
 use Rattle.std.proofs.Common.{Bool, ap, arith, false, inl, inr, refl, subst, sym, true, true≢false, ℕ, ◌<◌, ◌∙◌, ◌≡◌, ◌⊎◌}
 use Rattle.std.specs.Prelude.{Err, None, Ok, Option, Result, Some, if◌then◌else◌, ◌==◌, ◌||◌}
-use Rattle.tree_laws.proofs.Allowed.{may_do, tree_alone}
-use Rattle.tree_laws.proofs.Fitting.{fits_after}
-use Rattle.tree_laws.proofs.Phases.{each_phase}
-use Rattle.tree_laws.specs.Events.{MovesBy, opens_shown}
-use Rattle.tree_laws.specs.Steps.{Notes, StepKeeps, tree_in}
+use Rattle.tree_laws.proofs.{Allowed.{may_do, tree_alone}, Fitting.fits_after, Phases.each_phase}
+use Rattle.tree_laws.specs.{Events.{MovesBy, opens_shown}, Steps.{Notes, StepKeeps, tree_in}}
 
 -- the words of the tree
 abbrev pub is_node_word : WordName → Bool

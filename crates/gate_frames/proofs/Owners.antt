@@ -1,29 +1,18 @@
 -- What every owner of `umount` may rely on, and its events: under the lock, on the word `umount`, and on a mount's flags.
-use Rattle.cpu_words.specs.Words.{Words}
-use Rattle.cpu_words.specs.declared.sums.Sum.{Sum}
-use Rattle.finite_sums.proofs.Totals.{HasPlace, each_updated, total_at, total_none, total_place, total_updated, update_at, update_map, update_off, update_same}
+use Rattle.cpu_words.specs.{Words.Words, declared.sums.Sum.Sum}
+use Rattle.finite_sums.proofs.Totals.{HasPlace, each_updated, total_at, total_none, total_place, total_updated, update_at, update_map, update_off}
+use Rattle.finite_sums.proofs.Totals.{update_same}
 use Rattle.finite_sums.specs.Sums.{total, update}
 use Rattle.gate_frames.proofs.Frames.{MountHoldsAfter, gates_after, holds_as, owner_same, shown_held, shown_still, view_as}
-use Rattle.gate_world.specs.Holdings.{Holdings}
-use Rattle.gate_world.specs.Remounts.{giving_role, held_role, loop_role, remount_owns, remount_role, remount_sets, summing_role}
+use Rattle.gate_world.specs.{Holdings.Holdings, Remounts.{giving_role, held_role, loop_role, remount_owns, remount_role, remount_sets, summing_role}}
 use Rattle.gate_world.specs.Roles.{change_owns, change_role, freeze_stage_role, gate_roles, role_if, thaw_stage_role, tree_stage_role, want_role}
-use Rattle.gate_world.specs.Rules.{AtMount, GatesHold, IsGood, IsSteady, Owner, OwnerHolds, ViewFits, at_mount, owns, remounts, role_of}
-use Rattle.gate_world.specs.Shown.{closing, shown}
-use Rattle.gate_world.specs.Views.{added_by, held_of, taken_by}
-use Rattle.gate_world.specs.Waits.{HasCulprit, IsWaitedFor}
-use Rattle.gate_world.specs.Worlds.{World}
-use Rattle.gate_world.specs.declared.config.Config.{Config}
-use Rattle.gate_world.specs.declared.views.View.{View}
-use Rattle.gate_world.specs.declared.work.Phase.{Phase}
-use Rattle.mount_counts.specs.Roles.{Role, has_hold, hold_bit, ro_bit, skips}
-use Rattle.mount_counts.specs.Sets.{has_mount}
-use Rattle.mount_counts.specs.declared.phases.ChangeStep.{ChangeStep}
-use Rattle.mount_counts.specs.declared.phases.MountPhase.{MountPhase}
-use Rattle.mount_counts.specs.declared.phases.WantStep.{WantStep}
-use Rattle.mount_counts.specs.declared.remounts.RemountStep.{RemountStep}
+use Rattle.gate_world.specs.{Rules.{AtMount, GatesHold, IsGood, IsSteady, Owner, OwnerHolds, ViewFits, at_mount, owns, remounts, role_of}, Shown.closing}
+use Rattle.gate_world.specs.{Shown.shown, Views.{added_by, held_of, taken_by}, Waits.{HasCulprit, IsWaitedFor}, Worlds.World, declared.config.Config.Config}
+use Rattle.gate_world.specs.declared.{views.View.View, work.Phase.Phase}
+use Rattle.mount_counts.specs.{Roles.{Role, has_hold, hold_bit, ro_bit, skips}, Sets.has_mount, declared.phases.ChangeStep.ChangeStep}
+use Rattle.mount_counts.specs.declared.{phases.{MountPhase.MountPhase, WantStep.WantStep}, remounts.RemountStep.RemountStep}
 use Rattle.stage_laws.proofs.Facts.{owns_le as stage_owns_le}
-use Rattle.std.proofs.Common.{Bool, ap, arith, false, inl, inr, nat_lt, refl, suc, true, ℕ, ◌+◌, ◌<◌, ◌∙◌, ◌≡◌, ◌≤◌}
-use Rattle.std.proofs.lemmas.Bool.Decides.{eqb_tells}
+use Rattle.std.proofs.{Common.{Bool, ap, arith, false, inl, inr, nat_lt, refl, suc, true, ℕ, ◌+◌, ◌<◌, ◌∙◌, ◌≡◌, ◌≤◌}, lemmas.Bool.Decides.eqb_tells}
 use Rattle.std.specs.Prelude.{Err, Ok, Option, Some, ◌-◌, ◌==◌}
 use Rattle.write_access.specs.declared.phases.WritePhase.{WritePhase}
 

@@ -1,23 +1,11 @@
 -- An operation that stands at a phase of another one, as a part of its own: the law of the other's event is the law of its event.
-use Rattle.access_model.specs.declared.actions.Action.{Action}
-use Rattle.access_model.specs.declared.replies.Next.{Next}
-use Rattle.cpu_words.specs.Hooks.{HookAnswer}
-use Rattle.cpu_words.specs.declared.events.Touch.{Touch}
-use Rattle.cpu_words.specs.declared.names.WordName.{WordName}
+use Rattle.access_model.specs.declared.{actions.Action.Action, replies.Next.Next}
+use Rattle.cpu_words.specs.{Hooks.HookAnswer, declared.{events.Touch.Touch, names.WordName.WordName}}
 use Rattle.finite_sums.proofs.Totals.{update_at}
-use Rattle.gate_frames.proofs.Beside.{made, made_again, made_keeps_beside, rephased_beside, shown_beside}
-use Rattle.gate_frames.proofs.Frames.{left_alone}
-use Rattle.gate_world.specs.Alike.{IsAlike, as_ruled, at_phase, off_tree, rephased}
-use Rattle.gate_world.specs.Fits.{Fits}
-use Rattle.gate_world.specs.Holdings.{held_after}
-use Rattle.gate_world.specs.Roles.{Roles, roles_of}
-use Rattle.gate_world.specs.Rules.{Files, Holds, IsGood, Moves, Tree}
-use Rattle.gate_world.specs.Shown.{shown}
-use Rattle.gate_world.specs.Views.{held_of, phase_after}
-use Rattle.gate_world.specs.Worlds.{World}
-use Rattle.gate_world.specs.declared.config.Config.{Config}
-use Rattle.gate_world.specs.declared.views.View.{View}
-use Rattle.gate_world.specs.declared.work.Phase.{Phase}
+use Rattle.gate_frames.proofs.{Beside.{made, made_again, made_keeps_beside, rephased_beside, shown_beside}, Frames.left_alone}
+use Rattle.gate_world.specs.{Alike.{IsAlike, as_ruled, at_phase, off_tree, rephased}, Fits.Fits, Holdings.held_after, Roles.{Roles, roles_of}, Rules.Files}
+use Rattle.gate_world.specs.{Rules.{Holds, IsGood, Moves, Tree}, Shown.shown, Views.{held_of, phase_after}, Worlds.World, declared.config.Config.Config}
+use Rattle.gate_world.specs.declared.{views.View.View, work.Phase.Phase}
 use Rattle.std.proofs.Common.{ap, refl, subst, sym, ℕ, ◌<◌, ◌∙◌, ◌≡◌}
 use Rattle.std.specs.Prelude.{Option}
 

@@ -1,34 +1,20 @@
 -- The stage of a world, as the laws of the stage have it: what holds of it, what an event of a task leaves of it, and which actions are
 -- allowed.
-use Rattle.access_model.specs.Actions.{IsAllowed}
-use Rattle.access_model.specs.States.{State, is_dirty}
-use Rattle.access_model.specs.declared.actions.Action.{Action}
+use Rattle.access_model.specs.{Actions.IsAllowed, States.{State, is_dirty}, declared.actions.Action.Action}
 use Rattle.cpu_words.specs.Words.{Words}
 use Rattle.finite_sums.proofs.Totals.{total_none, update_map, update_same}
 use Rattle.finite_sums.specs.Sums.{total, update}
 use Rattle.freeze_levels.specs.Holders.{holders_in}
-use Rattle.gate_frames.proofs.Owners.{owns_le}
-use Rattle.gate_frames.proofs.Trees.{marks_right}
-use Rattle.gate_world.specs.Configs.{model_limits}
-use Rattle.gate_world.specs.Holdings.{Holdings}
-use Rattle.gate_world.specs.Remounts.{remount_owns}
-use Rattle.gate_world.specs.Roles.{remount_stage_role}
-use Rattle.gate_world.specs.Rules.{Holds, IsGood, Owner, Stages, marks_of, owns}
-use Rattle.gate_world.specs.Shown.{shown, stage_role_of, stage_roles}
-use Rattle.gate_world.specs.Views.{has_open, held_at, held_of, holds_level}
-use Rattle.gate_world.specs.Worlds.{World}
-use Rattle.gate_world.specs.declared.config.Config.{Config}
-use Rattle.gate_world.specs.declared.views.View.{View}
-use Rattle.gate_world.specs.declared.work.Phase.{Phase}
+use Rattle.gate_frames.proofs.{Owners.owns_le, Trees.marks_right}
+use Rattle.gate_world.specs.{Configs.model_limits, Holdings.Holdings, Remounts.remount_owns, Roles.remount_stage_role, Rules.{Holds, IsGood, Owner, Stages}}
+use Rattle.gate_world.specs.{Rules.{marks_of, owns}, Shown.{shown, stage_role_of, stage_roles}, Views.{has_open, held_at, held_of, holds_level}, Worlds.World}
+use Rattle.gate_world.specs.declared.{config.Config.Config, views.View.View, work.Phase.Phase}
 use Rattle.gated_tree.specs.Nodes.{dirty_in, node_shown}
-use Rattle.mount_counts.specs.Roles.{ro_bit}
-use Rattle.mount_counts.specs.declared.remounts.RemountStep.{RemountStep}
+use Rattle.mount_counts.specs.{Roles.ro_bit, declared.remounts.RemountStep.RemountStep}
 use Rattle.stage_laws.proofs.Whole.{actions_are_allowed, actions_have_their_effect, events_keep}
-use Rattle.stage_laws.specs.Events.{Happens, Holds as StageHolds, IsAlike, Shows, StageEvent, Stages as StageMoment, action_of}
-use Rattle.stage_laws.specs.Roles.{Owning, StageRole, owns as stage_owns}
-use Rattle.stage_laws.specs.Shown.{AsksOthers, ShowsStages, passed_shown, state_after}
-use Rattle.std.proofs.Common.{Bool, ap, arith, inl, inr, refl, subst, sym, ℕ, ◌%◌, ◌<◌, ◌∙◌, ◌≡◌, ◌≤◌}
-use Rattle.std.proofs.lemmas.Bool.Decides.{eqb_tells}
+use Rattle.stage_laws.specs.{Events.{Happens, Holds as StageHolds, IsAlike, Shows, StageEvent, Stages as StageMoment, action_of}, Roles.{Owning, StageRole}}
+use Rattle.stage_laws.specs.{Roles.owns as stage_owns, Shown.{AsksOthers, ShowsStages, passed_shown, state_after}}
+use Rattle.std.proofs.{Common.{Bool, ap, arith, inl, inr, refl, subst, sym, ℕ, ◌%◌, ◌<◌, ◌∙◌, ◌≡◌, ◌≤◌}, lemmas.Bool.Decides.eqb_tells}
 use Rattle.std.specs.Prelude.{Option, Some, false, ◌==◌}
 
 -- owners that rely on one thing or another are alike

@@ -1,33 +1,22 @@
 -- Who is at a level with an access at some mount: nobody has shut what it came through.
 use Rattle.finite_sums.proofs.Totals.{total_at}
 use Rattle.finite_sums.specs.Sums.{total}
-use Rattle.freeze_levels.specs.declared.freezes.FreezeStep.{FreezeStep}
-use Rattle.freeze_levels.specs.declared.thaws.ThawStep.{ThawStep}
+use Rattle.freeze_levels.specs.declared.{freezes.FreezeStep.FreezeStep, thaws.ThawStep.ThawStep}
 use Rattle.gate_counts.proofs.LevelLaws.{none_frozen, none_passed}
-use Rattle.gate_counts.specs.Gates.{past}
-use Rattle.gate_counts.specs.Levels.{LevelRole, Passed}
-use Rattle.gate_frames.proofs.Stages.{stages_in, stages_right}
-use Rattle.gate_frames.proofs.Stands.{below}
-use Rattle.gate_world.specs.Levels.{at_level, is_frozen_whole, level_role_of}
-use Rattle.gate_world.specs.Operations.{is_writer, some_mount}
-use Rattle.gate_world.specs.Roles.{count_beside, down_count_role, freeze_stage_role, freeze_stand, place_of, remount_stage_role, reopening_role, snapshot_stage_role, stand_count, thaw_stage_role, thaw_stand, tree_stage_role, up_count_role}
-use Rattle.gate_world.specs.Rules.{AtLevel, AtMount, IsGood, MountHoldsIn, Owner, Stages, at_mount}
-use Rattle.gate_world.specs.Shown.{stage_role_of, stage_roles}
-use Rattle.gate_world.specs.Views.{held_at, held_of, holds_level}
-use Rattle.gate_world.specs.Worlds.{World}
-use Rattle.gate_world.specs.declared.config.Config.{Config}
-use Rattle.gate_world.specs.declared.work.Phase.{Phase}
-use Rattle.gated_tree.specs.declared.phases.TreePhase.{TreePhase}
-use Rattle.gated_tree.specs.declared.snapshots.SnapshotStep.{SnapshotStep}
-use Rattle.mount_counts.specs.Roles.{mount_as_gate, ro_bit}
-use Rattle.mount_counts.specs.declared.remounts.RemountStep.{RemountStep}
-use Rattle.percpu_rwsem.specs.declared.writers.DownWriteStep.{DownWriteStep}
-use Rattle.percpu_rwsem.specs.declared.writers.UpWriteStep.{UpWriteStep}
+use Rattle.gate_counts.specs.{Gates.past, Levels.{LevelRole, Passed}}
+use Rattle.gate_frames.proofs.{Stages.{stages_in, stages_right}, Stands.below}
+use Rattle.gate_world.specs.{Levels.{at_level, is_frozen_whole, level_role_of}, Operations.{is_writer, some_mount}, Roles.{count_beside, down_count_role}}
+use Rattle.gate_world.specs.Roles.{freeze_stage_role, freeze_stand, place_of, remount_stage_role, reopening_role, snapshot_stage_role, stand_count}
+use Rattle.gate_world.specs.{Roles.{thaw_stage_role, thaw_stand, tree_stage_role, up_count_role}, Rules.{AtLevel, AtMount, IsGood, MountHoldsIn, Owner}}
+use Rattle.gate_world.specs.{Rules.{Stages, at_mount}, Shown.{stage_role_of, stage_roles}, Views.{held_at, held_of, holds_level}, Worlds.World}
+use Rattle.gate_world.specs.declared.{config.Config.Config, work.Phase.Phase}
+use Rattle.gated_tree.specs.declared.{phases.TreePhase.TreePhase, snapshots.SnapshotStep.SnapshotStep}
+use Rattle.mount_counts.specs.{Roles.{mount_as_gate, ro_bit}, declared.remounts.RemountStep.RemountStep}
+use Rattle.percpu_rwsem.specs.declared.writers.{DownWriteStep.DownWriteStep, UpWriteStep.UpWriteStep}
 use Rattle.stage_laws.proofs.Whole.{freeze_is_under_way}
 use Rattle.stage_laws.specs.Roles.{Before, Freezing, Place, passed_by}
-use Rattle.std.proofs.Common.{Bool, ap, arith, false, inl, inr, refl, suc, sym, true, true≢false, zero, ℕ, ◌<◌, ◌≡◌, ◌≤◌, ◌⊎◌}
-use Rattle.std.proofs.lemmas.Bool.{cases_Bool, cases_lt, ltb-true, ne_eqb}
-use Rattle.std.proofs.lemmas.Bool.Decides.{eqb_tells}
+use Rattle.std.proofs.{Common.{Bool, ap, arith, false, inl, inr, refl, suc, sym, true, true≢false, zero, ℕ, ◌<◌, ◌≡◌, ◌≤◌, ◌⊎◌}, lemmas.Bool.cases_Bool}
+use Rattle.std.proofs.lemmas.Bool.{cases_lt, ltb-true, ne_eqb, Decides.eqb_tells}
 use Rattle.std.specs.Prelude.{Option, Some, nat_lt, ◌&&◌, ◌==◌}
 
 pub both_true : (a b : Bool) → (a && b) ≡ true → (a ≡ true) × (b ≡ true)

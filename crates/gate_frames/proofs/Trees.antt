@@ -1,41 +1,22 @@
 -- The tree of a world, as the laws of the tree have it: what an event of a task leaves of it, and what it shows.
-use Rattle.access_model.specs.States.{IsDirectory, is_dirty}
-use Rattle.access_model.specs.declared.actions.Action.{Action}
-use Rattle.access_model.specs.declared.actions.Holder.{Holder}
+use Rattle.access_model.specs.{States.{IsDirectory, is_dirty}, declared.actions.{Action.Action, Holder.Holder}}
 use Rattle.cpu_words.specs.Words.{Words}
 use Rattle.finite_sums.proofs.Totals.{total_none, update_map}
 use Rattle.finite_sums.specs.Sums.{update}
-use Rattle.freeze_levels.specs.declared.freezes.FreezeStep.{FreezeStep}
-use Rattle.freeze_levels.specs.declared.freezes.FreezeStep.TheVariants.{Closes}
-use Rattle.freeze_levels.specs.declared.thaws.ThawStep.{ThawStep}
+use Rattle.freeze_levels.specs.declared.{freezes.FreezeStep.{FreezeStep, TheVariants.Closes}, thaws.ThawStep.ThawStep}
 use Rattle.gate_frames.proofs.TreeRoles.{call_plain, close_apart, freeze_apart, remount_apart}
-use Rattle.gate_world.specs.Configs.{IsWithin}
-use Rattle.gate_world.specs.Fits.{Fits, FreezeFits, PhaseFits}
-use Rattle.gate_world.specs.Remounts.{RemountFits}
-use Rattle.gate_world.specs.Roles.{freeze_stage_role, freeze_tree_role, nodes_noted, place_of, remount_stage_role, remount_tree_role, reopening_role, snapshot_stage_role, thaw_stage_role, tree_stage_role}
-use Rattle.gate_world.specs.Rules.{Fitting, Holds, IsGood, Stages, Tree, marks_of}
-use Rattle.gate_world.specs.Shown.{stage_role_of, stage_roles}
-use Rattle.gate_world.specs.Snapshots.{values_noted}
-use Rattle.gate_world.specs.Trees.{is_bare_at, is_sealed, tree_bounds, tree_of, tree_role_of, tree_roles}
-use Rattle.gate_world.specs.Views.{held_of}
-use Rattle.gate_world.specs.Worlds.{World}
-use Rattle.gate_world.specs.declared.config.Config.{Config}
-use Rattle.gate_world.specs.declared.views.Traced.{Traced}
-use Rattle.gate_world.specs.declared.views.View.{View}
-use Rattle.gate_world.specs.declared.work.Phase.{Phase}
-use Rattle.gate_world.specs.declared.work.Phase.TheVariants.{Closes}
-use Rattle.gated_tree.specs.Calls.{phase_role, snapshot_role}
-use Rattle.gated_tree.specs.Nodes.{dirty_in, kind_in, node_shown}
-use Rattle.gated_tree.specs.Roles.{AreWithin, Clearing, NobodyReads, RoleHolds, TreeHolds, TreeState, sealed_by, words_read}
-use Rattle.gated_tree.specs.declared.phases.TreePhase.{TreePhase}
-use Rattle.gated_tree.specs.declared.snapshots.Snapshot.{Snapshot}
+use Rattle.gate_world.specs.{Configs.IsWithin, Fits.{Fits, FreezeFits, PhaseFits}, Remounts.RemountFits, Roles.{freeze_stage_role, freeze_tree_role}}
+use Rattle.gate_world.specs.Roles.{nodes_noted, place_of, remount_stage_role, remount_tree_role, reopening_role, snapshot_stage_role, thaw_stage_role}
+use Rattle.gate_world.specs.{Roles.tree_stage_role, Rules.{Fitting, Holds, IsGood, Stages, Tree, marks_of}, Shown.{stage_role_of, stage_roles}}
+use Rattle.gate_world.specs.{Snapshots.values_noted, Trees.{is_bare_at, is_sealed, tree_bounds, tree_of, tree_role_of, tree_roles}, Views.held_of}
+use Rattle.gate_world.specs.{Worlds.World, declared.{config.Config.Config, views.{Traced.Traced, View.View}, work.Phase.{Phase, TheVariants.Closes}}}
+use Rattle.gated_tree.specs.{Calls.{phase_role, snapshot_role}, Nodes.{dirty_in, kind_in, node_shown}, Roles.{AreWithin, Clearing, NobodyReads, RoleHolds}}
+use Rattle.gated_tree.specs.{Roles.{TreeHolds, TreeState, sealed_by, words_read}, declared.{phases.TreePhase.TreePhase, snapshots.Snapshot.Snapshot}}
 use Rattle.gated_tree.specs.declared.snapshots.SnapshotStep.{SnapshotStep}
 use Rattle.mount_counts.specs.declared.remounts.RemountStep.{RemountStep}
-use Rattle.percpu_rwsem.specs.declared.writers.DownWriteStep.{DownWriteStep}
-use Rattle.percpu_rwsem.specs.declared.writers.UpWriteStep.{UpWriteStep}
+use Rattle.percpu_rwsem.specs.declared.writers.{DownWriteStep.DownWriteStep, UpWriteStep.UpWriteStep}
 use Rattle.stage_laws.specs.Roles.{CleanBelow, Freezing, KnowsStage, MarksHold, clean_by}
-use Rattle.std.proofs.Common.{Bool, ap, arith, inl, inr, refl, subst, suc, sym, true≢false, zero, ℕ, ◌<◌, ◌∙◌, ◌≡◌, ◌≤◌}
-use Rattle.std.proofs.lemmas.Bool.{le-leb}
+use Rattle.std.proofs.{Common.{Bool, ap, arith, inl, inr, refl, subst, suc, sym, true≢false, zero, ℕ, ◌<◌, ◌∙◌, ◌≡◌, ◌≤◌}, lemmas.Bool.le-leb}
 use Rattle.std.proofs.lemmas.Bool.Decides.{eqb_tells}
 use Rattle.std.specs.Prelude.{Err, List, None, Ok, Option, Some, false, nat_lt}
 use Rattle.tree_laws.proofs.Each.{each_event}

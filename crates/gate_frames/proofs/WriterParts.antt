@@ -1,61 +1,27 @@
 -- What an event of a freeze or a thaw may leave: each part of the rule, and the shown model.
-use Rattle.access_model.specs.Replies.{map_next}
-use Rattle.access_model.specs.States.{Limits, State, openers}
-use Rattle.access_model.specs.declared.actions.Action.{Action}
-use Rattle.access_model.specs.declared.actions.Holders.{Holders}
-use Rattle.access_model.specs.declared.actions.NodeInfo.{NodeInfo}
-use Rattle.access_model.specs.declared.replies.Next.{Next}
-use Rattle.access_model.specs.declared.replies.Reply.{Reply}
-use Rattle.cpu_words.specs.Hooks.{HookAnswer}
-use Rattle.cpu_words.specs.Sums.{sum_taking}
-use Rattle.cpu_words.specs.Touches.{event_of, found_by}
-use Rattle.cpu_words.specs.Words.{Words}
-use Rattle.cpu_words.specs.declared.sums.Taken.{Taken}
+use Rattle.access_model.specs.{Replies.map_next, States.{Limits, State, openers}, declared.actions.{Action.Action, Holders.Holders, NodeInfo.NodeInfo}}
+use Rattle.access_model.specs.declared.replies.{Next.Next, Reply.Reply}
+use Rattle.cpu_words.specs.{Hooks.HookAnswer, Sums.sum_taking, Touches.{event_of, found_by}, Words.Words, declared.sums.Taken.Taken}
 use Rattle.finite_sums.proofs.Totals.{each_updated}
 use Rattle.finite_sums.specs.Sums.{update}
-use Rattle.freeze_levels.specs.Freezes.{after_closing, freeze_after, freeze_next, level_closed}
-use Rattle.freeze_levels.specs.Holders.{holders_in}
-use Rattle.freeze_levels.specs.Thaws.{thaw_after, thaw_next}
-use Rattle.freeze_levels.specs.declared.freezes.Freeze.{Freeze}
-use Rattle.freeze_levels.specs.declared.freezes.FreezeStep.{FreezeStep}
-use Rattle.freeze_levels.specs.declared.thaws.Thaw.{Thaw}
-use Rattle.freeze_levels.specs.declared.thaws.ThawStep.{ThawStep}
-use Rattle.gate_frames.proofs.Frames.{left_alone, opens_left, view_as}
-use Rattle.gate_frames.proofs.Keeps.{by_bool}
-use Rattle.gate_frames.proofs.Known.{IsOwnersWork, known_after}
-use Rattle.gate_frames.proofs.MountEvents.{is_known_part, known_is}
-use Rattle.gate_frames.proofs.Stages.{IsStageEvent, shown_by, stage_action, stage_effect, stages_after, stages_in}
+use Rattle.freeze_levels.specs.{Freezes.{after_closing, freeze_after, freeze_next, level_closed}, Holders.holders_in, Thaws.{thaw_after, thaw_next}}
+use Rattle.freeze_levels.specs.declared.{freezes.{Freeze.Freeze, FreezeStep.FreezeStep}, thaws.{Thaw.Thaw, ThawStep.ThawStep}}
+use Rattle.gate_frames.proofs.{Frames.{left_alone, opens_left, view_as}, Keeps.by_bool, Known.{IsOwnersWork, known_after}, MountEvents.is_known_part}
+use Rattle.gate_frames.proofs.{MountEvents.known_is, Stages.{IsStageEvent, shown_by, stage_action, stage_effect, stages_after, stages_in}}
 use Rattle.gate_frames.proofs.Standing.{LevelsHold, left_world}
-use Rattle.gate_world.specs.Configs.{model_limits}
-use Rattle.gate_world.specs.Fits.{FreezeFits, HasFile, file_of}
-use Rattle.gate_world.specs.Found.{is_load}
-use Rattle.gate_world.specs.Holdings.{Holdings}
-use Rattle.gate_world.specs.Owners.{is_owned, takes_lock}
-use Rattle.gate_world.specs.Roles.{Roles, freeze_stage_role, no_roles, reopening_role, roles_of, thaw_stage_role}
-use Rattle.gate_world.specs.Rules.{AtLevel, AtMount, Files, Fitting, Holding, Holds, IsGood, Known, Moves, Owner, OwnerHolds, Part, Sections, Stages, StepKeeps, SyncAt, Tree, ViewFits, owns}
-use Rattle.gate_world.specs.Shown.{shown, stage_role_of, stage_roles}
-use Rattle.gate_world.specs.Views.{added_by, has_open, held_of, phase_after, taken_by}
-use Rattle.gate_world.specs.Worlds.{World, after_step, phase_action, value_at}
-use Rattle.gate_world.specs.declared.config.Config.{Config}
-use Rattle.gate_world.specs.declared.views.View.{View}
-use Rattle.gate_world.specs.declared.work.Phase.{Phase}
+use Rattle.gate_world.specs.{Configs.model_limits, Fits.{FreezeFits, HasFile, file_of}, Found.is_load, Holdings.Holdings, Owners.{is_owned, takes_lock}}
+use Rattle.gate_world.specs.{Roles.{Roles, freeze_stage_role, no_roles, reopening_role, roles_of, thaw_stage_role}, Rules.{AtLevel, AtMount, Files, Fitting}}
+use Rattle.gate_world.specs.Rules.{Holding, Holds, IsGood, Known, Moves, Owner, OwnerHolds, Part, Sections, Stages, StepKeeps, SyncAt, Tree, ViewFits, owns}
+use Rattle.gate_world.specs.{Shown.{shown, stage_role_of, stage_roles}, Views.{added_by, has_open, held_of, phase_after, taken_by}, Worlds.World}
+use Rattle.gate_world.specs.{Worlds.{after_step, phase_action, value_at}, declared.{config.Config.Config, views.View.View, work.Phase.Phase}}
 use Rattle.gated_tree.specs.Nodes.{node_shown, opens_in}
-use Rattle.percpu_rwsem.specs.Graces.{looked}
-use Rattle.percpu_rwsem.specs.SyncWords.{is_passed, on_callback, on_enter, unpack}
-use Rattle.percpu_rwsem.specs.Transitions.{transition_after}
-use Rattle.percpu_rwsem.specs.Writers.{at_down_write, callback_step, down_write_after, down_write_next, down_write_summed, enter_step, passed_awaited, sections_awaited, sum_begun}
-use Rattle.percpu_rwsem.specs.declared.grace.GraceNext.{GraceNext}
-use Rattle.percpu_rwsem.specs.declared.sync_word.SyncWord.{SyncWord}
-use Rattle.percpu_rwsem.specs.declared.transitions.Transition.{Transition}
-use Rattle.percpu_rwsem.specs.declared.writers.DownWrite.{DownWrite}
-use Rattle.percpu_rwsem.specs.declared.writers.DownWriteStep.{DownWriteStep}
-use Rattle.percpu_rwsem.specs.declared.writers.UpWriteStep.{UpWriteStep}
-use Rattle.stage_laws.specs.Events.{StageEvent, action_of as stage_action_of}
-use Rattle.stage_laws.specs.Roles.{bit, owns as stage_owns}
-use Rattle.stage_laws.specs.Shown.{AsksOthers, ShowsStages, state_after}
-use Rattle.std.proofs.Common.{ap, arith, false, inl, inr, nat_lt, refl, subst, sym, true, true≢false, ℕ, ◌<◌, ◌∙◌, ◌≡◌, ◌≤◌, ◌⊎◌}
-use Rattle.std.proofs.lemmas.Bool.{cases_Bool, lt-ltb}
-use Rattle.std.proofs.lemmas.Bool.Decides.{eqb_tells}
+use Rattle.percpu_rwsem.specs.{Graces.looked, SyncWords.{is_passed, on_callback, on_enter, unpack}, Transitions.transition_after, Writers.at_down_write}
+use Rattle.percpu_rwsem.specs.Writers.{callback_step, down_write_after, down_write_next, down_write_summed, enter_step, passed_awaited, sections_awaited}
+use Rattle.percpu_rwsem.specs.{Writers.sum_begun, declared.{grace.GraceNext.GraceNext, sync_word.SyncWord.SyncWord, transitions.Transition.Transition}}
+use Rattle.percpu_rwsem.specs.declared.writers.{DownWrite.DownWrite, DownWriteStep.DownWriteStep, UpWriteStep.UpWriteStep}
+use Rattle.stage_laws.specs.{Events.{StageEvent, action_of as stage_action_of}, Roles.{bit, owns as stage_owns}, Shown.{AsksOthers, ShowsStages, state_after}}
+use Rattle.std.proofs.{Common.{ap, arith, false, inl, inr, nat_lt, refl, subst, sym, true, true≢false, ℕ, ◌<◌, ◌∙◌, ◌≡◌, ◌≤◌, ◌⊎◌}, lemmas.Bool.cases_Bool}
+use Rattle.std.proofs.lemmas.Bool.{lt-ltb, Decides.eqb_tells}
 use Rattle.std.specs.Prelude.{None, Ok, Option, Some, if◌then◌else◌, ◌==◌}
 
 -- of these roles those that no freeze and no thaw has

@@ -1,48 +1,25 @@
 -- What a phase says of its numbers and of its task's own accesses: they are accesses with which its operation may begin, as its own
 -- actions have changed them since.
-use Rattle.access_model.specs.Holders.{held_by, is_unheld, with_holder}
-use Rattle.access_model.specs.declared.actions.Action.{Action}
-use Rattle.access_model.specs.declared.actions.Action.TheVariants.{Close, Grant, Open, Return}
-use Rattle.access_model.specs.declared.actions.Gate.TheVariants.{Level, Mount}
-use Rattle.access_model.specs.declared.actions.Holder.{Holder}
-use Rattle.access_model.specs.declared.actions.Kind.TheVariants.{File}
-use Rattle.file_closes.specs.declared.phases.ClosePhase.{ClosePhase}
-use Rattle.file_closes.specs.declared.phases.ClosePhase.TheVariants.{Enters, FreesNode, Leaves as CloseLeaves, LoadsFile as CloseLoadsFile, LowersCount, RefundsBlocks as CloseRefundsBlocks, Uncounts as CloseUncounts}
+use Rattle.access_model.specs.{Holders.{held_by, is_unheld, with_holder}, declared.actions.Action.{Action, TheVariants.{Close, Grant, Open, Return}}}
+use Rattle.access_model.specs.declared.actions.{Gate.TheVariants.{Level, Mount}, Holder.Holder, Kind.TheVariants.File}
+use Rattle.file_closes.specs.declared.phases.ClosePhase.{ClosePhase, TheVariants.{Enters, FreesNode, Leaves as CloseLeaves, LoadsFile as CloseLoadsFile}}
+use Rattle.file_closes.specs.declared.phases.ClosePhase.TheVariants.{LowersCount, RefundsBlocks as CloseRefundsBlocks, Uncounts as CloseUncounts}
 use Rattle.file_closes.specs.declared.phases.Closing.{Closing}
-use Rattle.freeze_levels.specs.declared.freezes.FreezeStep.{FreezeStep}
-use Rattle.freeze_levels.specs.declared.freezes.FreezeStep.TheVariants.{Cleans, Closes, Holds, Reopens as FreezeReopens}
-use Rattle.freeze_levels.specs.declared.thaws.ThawStep.{ThawStep}
-use Rattle.freeze_levels.specs.declared.thaws.ThawStep.TheVariants.{Leaves, Reopens as ThawReopens}
-use Rattle.gate_world.specs.Holdings.{Holdings}
-use Rattle.gate_world.specs.Operations.{holds_none, holds_none_from, is_writer, may_mark}
-use Rattle.gate_world.specs.Remounts.{RemountFits}
-use Rattle.gate_world.specs.Roles.{roles_of}
-use Rattle.gate_world.specs.Trees.{tree_bounds}
-use Rattle.gate_world.specs.declared.config.Config.{Config}
-use Rattle.gate_world.specs.declared.work.Phase.{Phase}
-use Rattle.gate_world.specs.declared.work.Phase.TheVariants.{Callbacks, Closes, DownReads, Freezes, Mounts, Remounts, Thaws, Trees, UpReads, Writes}
-use Rattle.gated_tree.specs.Calls.{TreePhaseFits}
-use Rattle.gated_tree.specs.Nodes.{IsLawful}
-use Rattle.gated_tree.specs.declared.nodes.NodeWord.{NodeWord}
-use Rattle.gated_tree.specs.declared.phases.TreePhase.{TreePhase}
+use Rattle.freeze_levels.specs.declared.freezes.FreezeStep.{FreezeStep, TheVariants.{Cleans, Closes, Holds, Reopens as FreezeReopens}}
+use Rattle.freeze_levels.specs.declared.thaws.ThawStep.{ThawStep, TheVariants.{Leaves, Reopens as ThawReopens}}
+use Rattle.gate_world.specs.{Holdings.Holdings, Operations.{holds_none, holds_none_from, is_writer, may_mark}, Remounts.RemountFits, Roles.roles_of}
+use Rattle.gate_world.specs.{Trees.tree_bounds, declared.{config.Config.Config, work.Phase.{Phase, TheVariants.{Callbacks, Closes, DownReads, Freezes}}}}
+use Rattle.gate_world.specs.declared.work.Phase.TheVariants.{Mounts, Remounts, Thaws, Trees, UpReads, Writes}
+use Rattle.gated_tree.specs.{Calls.TreePhaseFits, Nodes.IsLawful, declared.{nodes.NodeWord.NodeWord, phases.TreePhase.TreePhase}}
 use Rattle.gated_tree.specs.declared.phases.TreePhase.TheVariants.{ClearMarks as TreeClears, Mark as TreeMarks, OpenFile as OpensOne, Snapshot as Snapshots}
 use Rattle.level_laws.specs.Operations.{KnowsCallback, KnowsDownWrite, KnowsUpWrite}
-use Rattle.mount_counts.specs.declared.phases.ChangeStep.{ChangeStep}
-use Rattle.mount_counts.specs.declared.phases.ChangeStep.TheVariants.{Sums}
-use Rattle.mount_counts.specs.declared.phases.MountPhase.{MountPhase}
-use Rattle.mount_counts.specs.declared.phases.MountPhase.TheVariants.{Change, Drop, Want}
-use Rattle.percpu_rwsem.specs.declared.callbacks.CallbackStep.{CallbackStep}
-use Rattle.percpu_rwsem.specs.declared.callbacks.CallbackStep.TheVariants.{AwaitsSections}
-use Rattle.percpu_rwsem.specs.declared.readers.DownRead.{DownRead}
-use Rattle.percpu_rwsem.specs.declared.readers.DownReadStep.{DownReadStep}
-use Rattle.percpu_rwsem.specs.declared.readers.DownReadStep.TheVariants.{LeavesAdmitted}
-use Rattle.percpu_rwsem.specs.declared.writers.DownWrite.{DownWrite}
-use Rattle.percpu_rwsem.specs.declared.writers.DownWriteStep.{DownWriteStep}
-use Rattle.percpu_rwsem.specs.declared.writers.DownWriteStep.TheVariants.{AwaitsSections as AwaitsReaders, Sums as SumsLevel}
+use Rattle.mount_counts.specs.declared.phases.{ChangeStep.{ChangeStep, TheVariants.Sums}, MountPhase.{MountPhase, TheVariants.{Change, Drop, Want}}}
+use Rattle.percpu_rwsem.specs.declared.{callbacks.CallbackStep.{CallbackStep, TheVariants.AwaitsSections}, readers.DownRead.DownRead}
+use Rattle.percpu_rwsem.specs.declared.{readers.DownReadStep.{DownReadStep, TheVariants.LeavesAdmitted}, writers.DownWrite.DownWrite}
+use Rattle.percpu_rwsem.specs.declared.writers.DownWriteStep.{DownWriteStep, TheVariants.{AwaitsSections as AwaitsReaders, Sums as SumsLevel}}
 use Rattle.percpu_rwsem.specs.declared.writers.UpWrite.{UpWrite}
 use Rattle.std.specs.Prelude.{Bool, None, Option, Some, false, true, ℕ, ◌<◌, ◌≡◌, ◌≤◌, ◌⊎◌}
-use Rattle.write_access.specs.declared.phases.WritePhase.{WritePhase}
-use Rattle.write_access.specs.declared.phases.WritePhase.TheVariants.{Drops as WriteDrops, Ends, GivesBack, Takes, Wants as WriteWants}
+use Rattle.write_access.specs.declared.phases.WritePhase.{WritePhase, TheVariants.{Drops as WriteDrops, Ends, GivesBack, Takes, Wants as WriteWants}}
 
 -- a sum in progress has a word more to read
 abbrev pub SumFits : Config → ChangeStep → Type 0

@@ -2,28 +2,24 @@
 use Rattle.std.specs.Prelude.{ℕ, zero, suc, Bool, true, false, not, ◌&&◌, ◌||◌, nat_lt}
 use Rattle.access_model.specs.declared.actions.Kind.{Kind}
 use Rattle.gated_tree.specs.declared.changes.{Create.Create, CreateStep.TheVariants.LoadsDirectory, MoveStep.TheVariants.LoadsFile as LoadsFileToMove}
-use Rattle.gated_tree.specs.declared.changes.{MoveTo.MoveTo, Remove.Remove, RemoveStep.TheVariants.LoadsFile as LoadsFileToRemove}
-use Rattle.gated_tree.specs.declared.growth.{Grow.Grow, GrowStep.TheVariants.LoadsFile as LoadsFileToGrow}
-use Rattle.gated_tree.specs.declared.marks.{Mark.Mark, MarkStep.TheVariants.LoadsFile as LoadsFileToMark}
-use Rattle.gated_tree.specs.declared.opens.{OpenFile.OpenFile, OpenStep.TheVariants.LoadsFile as LoadsFileToOpen}
-use Rattle.gated_tree.specs.declared.phases.TreePhase.{TreePhase}
-use Rattle.gated_tree.specs.declared.phases.TreePhase.TheVariants.{Create as Creates, Remove as Removes, Grow as Grows, MoveTo as Moves, Mark as TreeMarks}
-use Rattle.gated_tree.specs.declared.phases.TreePhase.TheVariants.{OpenFile as OpensOne, Snapshot as Snapshots}
-use Rattle.gated_tree.specs.declared.snapshots.{Snapshot.Snapshot, SnapshotStep.TheVariants.Locks as SnapshotLocks}
+use Rattle.gated_tree.specs.declared.{changes.{MoveTo.MoveTo, Remove.Remove, RemoveStep.TheVariants.LoadsFile as LoadsFileToRemove}, growth.Grow.Grow}
+use Rattle.gated_tree.specs.declared.{growth.GrowStep.TheVariants.LoadsFile as LoadsFileToGrow, marks.Mark.Mark}
+use Rattle.gated_tree.specs.declared.{marks.MarkStep.TheVariants.LoadsFile as LoadsFileToMark, opens.OpenFile.OpenFile}
+use Rattle.gated_tree.specs.declared.{opens.OpenStep.TheVariants.LoadsFile as LoadsFileToOpen, phases.TreePhase.{TreePhase, TheVariants.Create as Creates}}
+use Rattle.gated_tree.specs.declared.phases.TreePhase.TheVariants.{Remove as Removes, Grow as Grows, MoveTo as Moves, Mark as TreeMarks, OpenFile as OpensOne}
+use Rattle.gated_tree.specs.declared.{phases.TreePhase.TheVariants.Snapshot as Snapshots, snapshots.Snapshot.Snapshot}
+use Rattle.gated_tree.specs.declared.snapshots.SnapshotStep.TheVariants.{Locks as SnapshotLocks}
 use Rattle.mount_counts.specs.declared.phases.{ChangeStep.TheVariants.Locks, MountPhase.TheVariants.{Want as Wants, Drop as Drops, Change as Changes}}
-use Rattle.mount_counts.specs.declared.phases.WantStep.TheVariants.{CountsUp}
-use Rattle.mount_counts.specs.declared.remounts.RemountStep.TheVariants.{Locks as RemountLocks}
+use Rattle.mount_counts.specs.declared.{phases.WantStep.TheVariants.CountsUp, remounts.RemountStep.TheVariants.Locks as RemountLocks}
 use Rattle.percpu_rwsem.specs.declared.{callbacks.CallbackStep.TheVariants.Claims, readers.DownReadStep.TheVariants.EntersSection}
 use Rattle.percpu_rwsem.specs.declared.transitions.Transition.TheVariants.{Loads}
 use Rattle.freeze_levels.specs.declared.{freezes.FreezeStep.TheVariants.Locks as FreezeLocks, thaws.ThawStep.TheVariants.Locks as ThawLocks}
 use Rattle.write_access.specs.declared.phases.WritePhase.TheVariants.{Takes, Drops as WriteDrops}
 use Rattle.file_closes.specs.declared.phases.{ClosePhase.TheVariants.LoadsFile as CloseLoadsFile, Closing.Closing}
-use Rattle.gate_world.specs.{Holdings.Holdings, declared.config.Config.Config}
-use Rattle.gate_world.specs.declared.operations.Op.{Op}
-use Rattle.gate_world.specs.declared.operations.Op.TheVariants.{Want, DropMount, ChangeMount, RemountSb, Start, End, WantWrite, DropWrite, Callback}
-use Rattle.gate_world.specs.declared.operations.Op.TheVariants.{Freeze as FreezeOp, Thaw as ThawOp, Create as CreateOp, Remove as RemoveOp, Grow as GrowOp}
-use Rattle.gate_world.specs.declared.operations.Op.TheVariants.{MoveTo as MoveToOp, Fault as FaultOp, Flush as FlushOp, Open as OpenOp, Close as CloseOp}
-use Rattle.gate_world.specs.declared.operations.Op.TheVariants.{Snapshot as SnapshotOp}
+use Rattle.gate_world.specs.{Holdings.Holdings, declared.{config.Config.Config, operations.Op.{Op, TheVariants.{Want, DropMount, ChangeMount, RemountSb}}}}
+use Rattle.gate_world.specs.declared.operations.Op.TheVariants.{Start, End, WantWrite, DropWrite, Callback, Freeze as FreezeOp, Thaw as ThawOp}
+use Rattle.gate_world.specs.declared.operations.Op.TheVariants.{Create as CreateOp, Remove as RemoveOp, Grow as GrowOp, MoveTo as MoveToOp, Fault as FaultOp}
+use Rattle.gate_world.specs.declared.operations.Op.TheVariants.{Flush as FlushOp, Open as OpenOp, Close as CloseOp, Snapshot as SnapshotOp}
 use Rattle.gate_world.specs.declared.work.Phase.{Phase, TheVariants.{Mounts, Remounts, DownReads, UpReads, Callbacks, Writes, Freezes, Thaws, Trees, Closes}}
 
 -- where an operation begins, and who may begin it

@@ -1,29 +1,24 @@
 -- Roles: all that the rule and the shown model read of what a task is at. Each layer gives its phases theirs by one function, which names what
 -- they have a part in.
 use Rattle.std.specs.Prelude.{ℕ, ◌-◌, ◌==◌, nat_lt, Bool, true, false, if◌then◌else◌, Option, Some, None, Result, Ok, Err, List}
-use Rattle.access_model.specs.Holders.{nobody, with_holder, is_unheld}
-use Rattle.access_model.specs.declared.{actions.Holder.Holder, errors.GateError.GateError, replies.Reply.Reply}
+use Rattle.access_model.specs.{Holders.{nobody, with_holder, is_unheld}, declared.{actions.Holder.Holder, errors.GateError.GateError, replies.Reply.Reply}}
 use Rattle.gate_counts.specs.Levels.{LevelRole, Out as CountsNot, Seeking, BackingOff as BacksOff, Summing as SumsLevel, Passed}
-use Rattle.gated_tree.specs.Calls.{phase_role}
-use Rattle.gated_tree.specs.Roles.{Role as TreeRole, Out as OffTree, Freeing, Dropped, Uncounting, Bare, Clearing}
+use Rattle.gated_tree.specs.{Calls.phase_role, Roles.{Role as TreeRole, Out as OffTree, Freeing, Dropped, Uncounting, Bare, Clearing}}
 use Rattle.gated_tree.specs.declared.{phases.TreePhase.TreePhase, snapshots.SnapshotStep.SnapshotStep}
 use Rattle.mount_counts.specs.Roles.{Role, Out, Asking, Cleared, PastRemount, PastFlags, BackingOff, Summing, Empty, Leaving}
 use Rattle.mount_counts.specs.declared.phases.{ChangeStep.ChangeStep, MountPhase.MountPhase, WantStep.WantStep}
 use Rattle.mount_counts.specs.declared.remounts.{Remount.Remount, RemountStep.RemountStep}
-use Rattle.percpu_rwsem.specs.declared.callbacks.Callback.{Callback}
-use Rattle.percpu_rwsem.specs.declared.readers.{DownRead.DownRead, DownReadStep.DownReadStep}
+use Rattle.percpu_rwsem.specs.declared.{callbacks.Callback.Callback, readers.{DownRead.DownRead, DownReadStep.DownReadStep}}
 use Rattle.percpu_rwsem.specs.declared.writers.{DownWriteStep.DownWriteStep, UpWriteStep.UpWriteStep}
-use Rattle.freeze_levels.specs.{Freezes.freeze_hook, Thaws.thaw_hook}
-use Rattle.freeze_levels.specs.declared.freezes.{Freeze.Freeze, FreezeStep.FreezeStep}
-use Rattle.freeze_levels.specs.declared.{hooks.HookKind.HookKind, thaws.{Thaw.Thaw, ThawStep.ThawStep}}
+use Rattle.freeze_levels.specs.{Freezes.freeze_hook, Thaws.thaw_hook, declared.{freezes.{Freeze.Freeze, FreezeStep.FreezeStep}, hooks.HookKind.HookKind}}
+use Rattle.freeze_levels.specs.declared.thaws.{Thaw.Thaw, ThawStep.ThawStep}
 use Rattle.level_laws.specs.Operations.{down_read_role, down_read_inside, down_write_role, up_write_role, callback_role}
 use Rattle.level_laws.specs.Roles.{SyncRole, Out as IsApart, Closed}
 use Rattle.stage_laws.specs.Roles.{Place, Before, Closing, HasPassed, StageRole, Aside, Owning, Remounting, Freezing, Reopening, owns as stage_owns}
 use Rattle.holder_laws.specs.Roles.{HolderRole, Apart, Found, Fills, Empties}
 use Rattle.write_access.specs.declared.phases.WritePhase.{WritePhase}
 use Rattle.file_closes.specs.declared.phases.ClosePhase.{ClosePhase}
-use Rattle.gate_world.specs.{Remounts.{remount_role, remount_owns, remount_sets}, Snapshots.values_noted}
-use Rattle.gate_world.specs.declared.{views.Traced.Traced, work.Phase.Phase}
+use Rattle.gate_world.specs.{Remounts.{remount_role, remount_owns, remount_sets}, Snapshots.values_noted, declared.{views.Traced.Traced, work.Phase.Phase}}
 
 pub record Roles : Type 0 where
   -- what it is doing at each mount

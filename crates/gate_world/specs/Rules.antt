@@ -1,25 +1,13 @@
 -- The rule: what holds of words and views between any two events. One predicate for each mount, one for the owner's words.
-use Rattle.access_model.specs.Actions.{IsAllowed, after_action}
-use Rattle.access_model.specs.States.{State, openers}
-use Rattle.access_model.specs.declared.actions.Action.{Action}
-use Rattle.cpu_words.specs.Hooks.{HookAnswer}
-use Rattle.cpu_words.specs.Words.{Words}
+use Rattle.access_model.specs.{Actions.{IsAllowed, after_action}, States.{State, openers}, declared.actions.Action.Action}
+use Rattle.cpu_words.specs.{Hooks.HookAnswer, Words.Words}
 use Rattle.finite_sums.specs.Sums.{total}
 use Rattle.gate_counts.specs.Levels.{LevelHolds}
-use Rattle.gate_world.specs.Configs.{model_limits}
-use Rattle.gate_world.specs.Fits.{Fits, HasFile, file_of}
-use Rattle.gate_world.specs.Levels.{SectionsAreOdd, at_level, inside, is_frozen_whole, sync_role_of}
-use Rattle.gate_world.specs.Owners.{KnowsWords}
-use Rattle.gate_world.specs.Roles.{roles_of}
-use Rattle.gate_world.specs.Shown.{closing, holder_role_of, holder_roles, shown, stage_role_of, stage_roles}
-use Rattle.gate_world.specs.Trees.{is_bare_at, is_sealed, tree_bounds, tree_of, tree_role_of}
-use Rattle.gate_world.specs.Views.{added_by, has_open, held_at, held_of, taken_by}
-use Rattle.gate_world.specs.Worlds.{World, after_step, phase_action}
-use Rattle.gate_world.specs.declared.config.Config.{Config}
-use Rattle.gate_world.specs.declared.views.View.{View}
-use Rattle.gate_world.specs.declared.work.Phase.{Phase}
-use Rattle.gated_tree.specs.Nodes.{dirty_in, opens_in}
-use Rattle.gated_tree.specs.Roles.{TreeHolds}
+use Rattle.gate_world.specs.{Configs.model_limits, Fits.{Fits, HasFile, file_of}, Levels.{SectionsAreOdd, at_level, inside, is_frozen_whole, sync_role_of}}
+use Rattle.gate_world.specs.{Owners.KnowsWords, Roles.roles_of, Shown.{closing, holder_role_of, holder_roles, shown, stage_role_of, stage_roles}}
+use Rattle.gate_world.specs.{Trees.{is_bare_at, is_sealed, tree_bounds, tree_of, tree_role_of}, Views.{added_by, has_open, held_at, held_of, taken_by}}
+use Rattle.gate_world.specs.{Worlds.{World, after_step, phase_action}, declared.{config.Config.Config, views.View.View, work.Phase.Phase}}
+use Rattle.gated_tree.specs.{Nodes.{dirty_in, opens_in}, Roles.TreeHolds}
 use Rattle.holder_laws.specs.Roles.{HoldersHold}
 use Rattle.level_laws.specs.Roles.{SyncNumberHolds}
 use Rattle.mount_counts.specs.Roles.{MountHolds, MountView, Role}

@@ -1,24 +1,15 @@
 -- Each phase of a write access is alike to the phase of its gate, before an event and after it; and what fits then, and what is said of
 -- causes and of waits.
-use Rattle.access_model.specs.Replies.{map_next}
-use Rattle.access_model.specs.declared.replies.Next.{Next}
+use Rattle.access_model.specs.{Replies.map_next, declared.replies.Next.Next}
 use Rattle.gate_frames.proofs.Frames.{role_none}
-use Rattle.gate_world.specs.Alike.{IsAlike}
-use Rattle.gate_world.specs.Fits.{Fits}
-use Rattle.gate_world.specs.Holdings.{Holdings}
-use Rattle.gate_world.specs.Roles.{no_roles}
-use Rattle.gate_world.specs.Views.{phase_after}
-use Rattle.gate_world.specs.Work.{plain}
-use Rattle.gate_world.specs.declared.config.Config.{Config}
+use Rattle.gate_world.specs.{Alike.IsAlike, Fits.Fits, Holdings.Holdings, Roles.no_roles, Views.phase_after, Work.plain, declared.config.Config.Config}
 use Rattle.gate_world.specs.declared.work.Phase.{Phase}
-use Rattle.mount_counts.specs.declared.phases.MountPhase.{MountPhase}
-use Rattle.mount_counts.specs.declared.phases.Want.{Want}
+use Rattle.mount_counts.specs.declared.phases.{MountPhase.MountPhase, Want.Want}
 use Rattle.operation_laws.proofs.ReadFits.{ReadGoes}
 use Rattle.percpu_rwsem.specs.declared.readers.DownRead.{DownRead}
 use Rattle.std.proofs.Common.{refl, subst, true, ℕ, ◌<◌, ◌∙◌, ◌≡◌}
 use Rattle.std.specs.Prelude.{Err, Ok, Some}
-use Rattle.write_access.specs.Phases.{then_gives_back, then_wants}
-use Rattle.write_access.specs.declared.phases.WritePhase.{WritePhase}
+use Rattle.write_access.specs.{Phases.{then_gives_back, then_wants}, declared.phases.WritePhase.WritePhase}
 
 pub alike_plain : (x : WritePhase) → IsAlike (Some (Phase.Writes x)) (Some (plain x))
 alike_plain (WritePhase.Takes m r) = refl

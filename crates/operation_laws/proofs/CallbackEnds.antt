@@ -1,35 +1,17 @@
 -- A callback runs out where nobody is inside a section.
-use Rattle.cpu_words.specs.Touches.{found_by, left}
-use Rattle.cpu_words.specs.Words.{Words, read}
-use Rattle.cpu_words.specs.declared.names.WordName.{WordName}
+use Rattle.cpu_words.specs.{Touches.{found_by, left}, Words.{Words, read}, declared.names.WordName.WordName}
 use Rattle.finite_sums.proofs.Totals.{update_at}
 use Rattle.gate_frames.proofs.Words.{load_same}
-use Rattle.gate_world.specs.Fits.{Fits, GraceFits, PhaseFits}
-use Rattle.gate_world.specs.Levels.{is_frozen_whole, sync_role_of}
-use Rattle.gate_world.specs.Roles.{sync_role_if}
-use Rattle.gate_world.specs.Rules.{Fitting, IsGood, SyncAt, SyncHoldsIn}
-use Rattle.gate_world.specs.Views.{held_of}
-use Rattle.gate_world.specs.Worlds.{World, found_at, words_after}
-use Rattle.gate_world.specs.declared.config.Config.{Config}
-use Rattle.gate_world.specs.declared.work.Phase.{Phase}
-use Rattle.level_laws.specs.Operations.{callback_role}
-use Rattle.level_laws.specs.Roles.{Ready, claimed as has_claimed}
-use Rattle.percpu_rwsem.specs.Callbacks.{callback_after, callback_looked, callback_next, called_back, claimed}
-use Rattle.percpu_rwsem.specs.Graces.{looked}
-use Rattle.percpu_rwsem.specs.SyncWords.{on_callback, on_claim}
-use Rattle.percpu_rwsem.specs.Transitions.{transition_after, transition_next}
-use Rattle.percpu_rwsem.specs.declared.callbacks.Callback.{Callback}
-use Rattle.percpu_rwsem.specs.declared.callbacks.CallbackStep.{CallbackStep}
-use Rattle.percpu_rwsem.specs.declared.grace.Grace.{Grace}
-use Rattle.percpu_rwsem.specs.declared.grace.GraceNext.{GraceNext}
-use Rattle.percpu_rwsem.specs.declared.transitions.Transition.{Transition}
+use Rattle.gate_world.specs.{Fits.{Fits, GraceFits, PhaseFits}, Levels.{is_frozen_whole, sync_role_of}, Roles.sync_role_if, Rules.{Fitting, IsGood, SyncAt}}
+use Rattle.gate_world.specs.{Rules.SyncHoldsIn, Views.held_of, Worlds.{World, found_at, words_after}, declared.{config.Config.Config, work.Phase.Phase}}
+use Rattle.level_laws.specs.{Operations.callback_role, Roles.{Ready, claimed as has_claimed}}
+use Rattle.percpu_rwsem.specs.{Callbacks.{callback_after, callback_looked, callback_next, called_back, claimed}, Graces.looked, SyncWords.on_callback}
+use Rattle.percpu_rwsem.specs.{SyncWords.on_claim, Transitions.{transition_after, transition_next}, declared.callbacks.Callback.Callback}
+use Rattle.percpu_rwsem.specs.declared.{callbacks.CallbackStep.CallbackStep, grace.{Grace.Grace, GraceNext.GraceNext}, transitions.Transition.Transition}
 use Rattle.percpu_rwsem.specs.declared.transitions.TransitionNext.{TransitionNext}
-use Rattle.operation_laws.proofs.Falls.{after_event, falls_as}
-use Rattle.operation_laws.proofs.LevelFacts.{ExchangeFalls, callback_called, defined_falls, exchange_falls}
-use Rattle.operation_laws.specs.Ranks.{callback_rank, exchange_rank, grace_rank, rank}
-use Rattle.operation_laws.specs.Ways.{Falls, IsFree, NobodyInside, PhaseEnds}
-use Rattle.std.proofs.Common.{ap, arith, inl, inr, refl, subst, sym, ℕ, ◌+◌, ◌<◌, ◌∙◌, ◌≡◌, ◌≤◌}
-use Rattle.std.proofs.lemmas.Bool.{cases_Bool, eq-eqb, ltb-true}
+use Rattle.operation_laws.proofs.{Falls.{after_event, falls_as}, LevelFacts.{ExchangeFalls, callback_called, defined_falls, exchange_falls}}
+use Rattle.operation_laws.specs.{Ranks.{callback_rank, exchange_rank, grace_rank, rank}, Ways.{Falls, IsFree, NobodyInside, PhaseEnds}}
+use Rattle.std.proofs.{Common.{ap, arith, inl, inr, refl, subst, sym, ℕ, ◌+◌, ◌<◌, ◌∙◌, ◌≡◌, ◌≤◌}, lemmas.Bool.{cases_Bool, eq-eqb, ltb-true}}
 use Rattle.std.specs.Prelude.{None, nat_lt, ◌%◌, ◌==◌}
 
 -- what comes after a look at a section word that is even

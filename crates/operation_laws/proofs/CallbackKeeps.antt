@@ -1,28 +1,11 @@
 -- All that is proved of a callback.
-use Rattle.access_model.specs.Replies.{map_next}
-use Rattle.access_model.specs.declared.actions.Action.{Action}
-use Rattle.access_model.specs.declared.replies.Next.{Next}
-use Rattle.gate_frames.proofs.Frames.{sync_none}
-use Rattle.gate_frames.proofs.Keeps.{OpKeeps, PhaseKeeps, word_among}
-use Rattle.gate_frames.proofs.Says.{is_short, tells}
-use Rattle.gate_frames.proofs.Snapshots.{completes_none}
-use Rattle.gate_world.specs.Fits.{ActionFits, Fits}
-use Rattle.gate_world.specs.Holdings.{held_after}
-use Rattle.gate_world.specs.KeptCauses.{CauseOf}
-use Rattle.gate_world.specs.Roles.{no_roles}
-use Rattle.gate_world.specs.Rules.{Fitting}
-use Rattle.gate_world.specs.Views.{held_of, phase_after}
-use Rattle.gate_world.specs.Worlds.{World, after_step, found_at}
-use Rattle.gate_world.specs.declared.config.Config.{Config}
-use Rattle.gate_world.specs.declared.operations.Op.{Op}
-use Rattle.gate_world.specs.declared.work.Phase.{Phase}
-use Rattle.operation_laws.proofs.CallbackEvents.{callback_keeps}
-use Rattle.operation_laws.proofs.CallbackTraces.{CallbackAt, callback_kept}
-use Rattle.operation_laws.proofs.ReadFits.{callback_acts_none, callback_goes, callback_there, level_there}
-use Rattle.operation_laws.proofs.ReadRuns.{callback_runs}
-use Rattle.operation_laws.proofs.ReadWaits.{callback_waits}
-use Rattle.percpu_rwsem.specs.Callbacks.{callback_after}
-use Rattle.percpu_rwsem.specs.declared.callbacks.Callback.{Callback}
+use Rattle.access_model.specs.{Replies.map_next, declared.{actions.Action.Action, replies.Next.Next}}
+use Rattle.gate_frames.proofs.{Frames.sync_none, Keeps.{OpKeeps, PhaseKeeps, word_among}, Says.{is_short, tells}, Snapshots.completes_none}
+use Rattle.gate_world.specs.{Fits.{ActionFits, Fits}, Holdings.held_after, KeptCauses.CauseOf, Roles.no_roles, Rules.Fitting, Views.{held_of, phase_after}}
+use Rattle.gate_world.specs.{Worlds.{World, after_step, found_at}, declared.{config.Config.Config, operations.Op.Op, work.Phase.Phase}}
+use Rattle.operation_laws.proofs.{CallbackEvents.callback_keeps, CallbackTraces.{CallbackAt, callback_kept}, ReadFits.{callback_acts_none, callback_goes}}
+use Rattle.operation_laws.proofs.{ReadFits.{callback_there, level_there}, ReadRuns.callback_runs, ReadWaits.callback_waits}
+use Rattle.percpu_rwsem.specs.{Callbacks.callback_after, declared.callbacks.Callback.Callback}
 use Rattle.std.proofs.Common.{refl, subst, sym, ℕ, ◌≤◌}
 use Rattle.std.specs.Prelude.{List, Option, Some, ◌∷◌}
 

@@ -1,28 +1,12 @@
 -- All that is proved of a change.
-use Rattle.gate_frames.proofs.Agreeing.{none_agree}
-use Rattle.gate_frames.proofs.Frames.{role_none}
-use Rattle.gate_frames.proofs.Keeps.{IsSmall, OpKeeps, PhaseKeeps, by_bool, word_among}
-use Rattle.gate_frames.proofs.MountRuns.{mounts_run}
-use Rattle.gate_frames.proofs.Says.{is_short, tells}
-use Rattle.gate_frames.proofs.Snapshots.{completes_none}
-use Rattle.gate_world.specs.Fits.{Fits}
-use Rattle.gate_world.specs.Roles.{no_roles}
-use Rattle.gate_world.specs.Rules.{Fitting}
-use Rattle.gate_world.specs.Traces.{most_events}
-use Rattle.gate_world.specs.Views.{held_of}
-use Rattle.gate_world.specs.Worlds.{after_step}
-use Rattle.gate_world.specs.declared.config.Config.{Config}
-use Rattle.gate_world.specs.declared.operations.Op.{Op}
-use Rattle.gate_world.specs.declared.work.Phase.{Phase}
-use Rattle.mount_counts.specs.declared.phases.Change.{Change}
-use Rattle.mount_counts.specs.declared.phases.MountPhase.{MountPhase}
-use Rattle.operation_laws.proofs.ChangeCauses.{change_kept, change_own}
-use Rattle.operation_laws.proofs.ChangeFits.{change_acts, change_goes, change_there}
-use Rattle.operation_laws.proofs.ChangeTraces.{ChangeAt, change_kept as change_traced}
-use Rattle.operation_laws.proofs.ChangeWaits.{change_waits}
-use Rattle.operation_laws.proofs.Each.{change_keeps}
-use Rattle.std.proofs.Common.{Bool, arith, refl, subst, ℕ}
-use Rattle.std.proofs.lemmas.Bool.{ltb-true}
+use Rattle.gate_frames.proofs.{Agreeing.none_agree, Frames.role_none, Keeps.{IsSmall, OpKeeps, PhaseKeeps, by_bool, word_among}, MountRuns.mounts_run}
+use Rattle.gate_frames.proofs.{Says.{is_short, tells}, Snapshots.completes_none}
+use Rattle.gate_world.specs.{Fits.Fits, Roles.no_roles, Rules.Fitting, Traces.most_events, Views.held_of, Worlds.after_step, declared.config.Config.Config}
+use Rattle.gate_world.specs.declared.{operations.Op.Op, work.Phase.Phase}
+use Rattle.mount_counts.specs.declared.phases.{Change.Change, MountPhase.MountPhase}
+use Rattle.operation_laws.proofs.{ChangeCauses.{change_kept, change_own}, ChangeFits.{change_acts, change_goes, change_there}, ChangeTraces.ChangeAt}
+use Rattle.operation_laws.proofs.{ChangeTraces.change_kept as change_traced, ChangeWaits.change_waits, Each.change_keeps}
+use Rattle.std.proofs.{Common.{Bool, arith, refl, subst, ℕ}, lemmas.Bool.ltb-true}
 use Rattle.std.specs.Prelude.{Some}
 
 pub change_phase : (c : Config) (x : Change) → PhaseKeeps c (Phase.Mounts (MountPhase.Change x))

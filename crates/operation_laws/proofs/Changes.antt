@@ -1,38 +1,22 @@
 -- Events of a change that hold, sum, set, clear, lock and release.
-use Rattle.access_model.specs.declared.actions.Action.{Action}
-use Rattle.access_model.specs.declared.errors.GateError.{GateError}
-use Rattle.access_model.specs.declared.replies.Next.{Next}
-use Rattle.access_model.specs.declared.replies.Reply.{Reply}
-use Rattle.cpu_words.specs.Hooks.{HookAnswer}
-use Rattle.cpu_words.specs.Touches.{wrap_add}
-use Rattle.cpu_words.specs.declared.events.Event.{Event}
-use Rattle.cpu_words.specs.declared.events.Touch.{Touch}
-use Rattle.cpu_words.specs.declared.names.WordName.{WordName}
-use Rattle.cpu_words.specs.declared.sums.Sum.{Sum}
+use Rattle.access_model.specs.declared.{actions.Action.Action, errors.GateError.GateError, replies.{Next.Next, Reply.Reply}}
+use Rattle.cpu_words.specs.{Hooks.HookAnswer, Touches.wrap_add, declared.{events.{Event.Event, Touch.Touch}, names.WordName.WordName, sums.Sum.Sum}}
 use Rattle.finite_sums.proofs.Totals.{total_at}
 use Rattle.finite_sums.specs.Sums.{total, update}
-use Rattle.gate_frames.proofs.Frames.{MountHoldsAfter, holds_as, owner_same, role_none, role_off, role_on, view_as}
-use Rattle.gate_frames.proofs.Loads.{after_load, as_owner, load_law}
-use Rattle.gate_frames.proofs.Owners.{flag_law, flags_after, flags_show_same, flags_shown, locks_umount, no_hold, no_remount, no_skip, releases_umount, umount_law}
-use Rattle.gate_world.specs.Configs.{IsWithin}
-use Rattle.gate_world.specs.Fits.{SumFits}
-use Rattle.gate_world.specs.Roles.{change_owns, change_role}
-use Rattle.gate_world.specs.Rules.{AtMount, GateStepKeeps, GatesHold, IsGood, IsSteady, MountHoldsIn, ViewFits, at_mount, owns, remounts, role_of}
-use Rattle.gate_world.specs.Shown.{closing, shown}
-use Rattle.gate_world.specs.Views.{added_by, held_of, taken_by, view_with}
-use Rattle.gate_world.specs.Worlds.{World}
-use Rattle.gate_world.specs.declared.config.Config.{Config}
-use Rattle.gate_world.specs.declared.views.View.{View}
-use Rattle.gate_world.specs.declared.work.Phase.{Phase}
-use Rattle.mount_counts.specs.Roles.{Summing, admitted, has_hold, hold_bit}
-use Rattle.mount_counts.specs.declared.phases.ChangeStep.{ChangeStep}
-use Rattle.mount_counts.specs.declared.phases.MountPhase.{MountPhase}
-use Rattle.mount_laws.proofs.Bits.{IsWithHold, IsWithReadOnly, IsWithoutHold, IsWithoutReadOnly, and_not_hold, and_not_read_only, or_hold, or_read_only, without_hold, without_read_only}
-use Rattle.mount_laws.proofs.MountLaws.{SeeksNone, clears_hold as mount_clears_hold, clears_read_only as mount_clears_read_only, empties, sets_hold as mount_sets_hold, sets_read_only as mount_sets_read_only, sums_on, sums_to_none, sums_to_some}
+use Rattle.gate_frames.proofs.{Frames.{MountHoldsAfter, holds_as, owner_same, role_none, role_off, role_on, view_as}, Loads.{after_load, as_owner, load_law}}
+use Rattle.gate_frames.proofs.Owners.{flag_law, flags_after, flags_show_same, flags_shown, locks_umount, no_hold, no_remount, no_skip, releases_umount}
+use Rattle.gate_frames.proofs.Owners.{umount_law}
+use Rattle.gate_world.specs.{Configs.IsWithin, Fits.SumFits, Roles.{change_owns, change_role}, Rules.{AtMount, GateStepKeeps, GatesHold, IsGood, IsSteady}}
+use Rattle.gate_world.specs.{Rules.{MountHoldsIn, ViewFits, at_mount, owns, remounts, role_of}, Shown.{closing, shown}, Views.{added_by, held_of, taken_by}}
+use Rattle.gate_world.specs.{Views.view_with, Worlds.World, declared.{config.Config.Config, views.View.View, work.Phase.Phase}}
+use Rattle.mount_counts.specs.{Roles.{Summing, admitted, has_hold, hold_bit}, declared.phases.{ChangeStep.ChangeStep, MountPhase.MountPhase}}
+use Rattle.mount_laws.proofs.Bits.{IsWithHold, IsWithReadOnly, IsWithoutHold, IsWithoutReadOnly, and_not_hold, and_not_read_only, or_hold, or_read_only}
+use Rattle.mount_laws.proofs.{Bits.{without_hold, without_read_only}, MountLaws.{SeeksNone, clears_hold as mount_clears_hold}}
+use Rattle.mount_laws.proofs.MountLaws.{clears_read_only as mount_clears_read_only, empties, sets_hold as mount_sets_hold}
+use Rattle.mount_laws.proofs.MountLaws.{sets_read_only as mount_sets_read_only, sums_on, sums_to_none, sums_to_some}
 use Rattle.operation_laws.proofs.ChangeLoads.{FitsHere, IsAt, change, change_here, change_off, fits_here}
-use Rattle.std.proofs.Common.{Bool, add-one, ap, arith, false, inl, inr, refl, subst, suc, sym, true, ℕ, ◌+◌, ◌<◌, ◌∙◌, ◌≡◌}
-use Rattle.std.proofs.lemmas.Bool.{cases_Bool, eq-eqb, ltb-false, ltb-true, ne_eqb}
-use Rattle.std.proofs.lemmas.Bool.Decides.{eqb_tells}
+use Rattle.std.proofs.{Common.{Bool, add-one, ap, arith, false, inl, inr, refl, subst, suc, sym, true, ℕ, ◌+◌, ◌<◌, ◌∙◌, ◌≡◌}, lemmas.Bool.cases_Bool}
+use Rattle.std.proofs.lemmas.Bool.{eq-eqb, ltb-false, ltb-true, ne_eqb, Decides.eqb_tells}
 use Rattle.std.specs.Prelude.{Err, None, Ok, Option, Result, Some, bit_or, nat_lt, ◌==◌, ◌∷◌}
 
 -- who is to clear HOLD has it set, and seeks no access

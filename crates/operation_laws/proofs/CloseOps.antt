@@ -1,14 +1,8 @@
 -- What is proved of the beginning of a close, given what its trace says.
 use Rattle.gate_frames.proofs.Keeps.{IsSmall, OpKeeps, by_bool}
-use Rattle.gate_world.specs.Configs.{IsWithin}
-use Rattle.gate_world.specs.Courses.{IsTrace, course_of}
-use Rattle.gate_world.specs.Operations.{holds_none_from}
-use Rattle.gate_world.specs.Traces.{IsShort, Tells, most_events}
-use Rattle.gate_world.specs.declared.config.Config.{Config}
-use Rattle.gate_world.specs.declared.operations.Op.{Op}
-use Rattle.gate_world.specs.declared.views.Traced.{Traced}
-use Rattle.std.proofs.Common.{Bool, arith, refl, true, ℕ, ◌≡◌}
-use Rattle.std.proofs.lemmas.Bool.{ltb-true}
+use Rattle.gate_world.specs.{Configs.IsWithin, Courses.{IsTrace, course_of}, Operations.holds_none_from, Traces.{IsShort, Tells, most_events}}
+use Rattle.gate_world.specs.declared.{config.Config.Config, operations.Op.Op, views.Traced.Traced}
+use Rattle.std.proofs.{Common.{Bool, arith, refl, true, ℕ, ◌≡◌}, lemmas.Bool.ltb-true}
 use Rattle.std.specs.Prelude.{List, nat_lt, ◌&&◌}
 use Rattle.operation_laws.proofs.ReadFits.{both_true, none_from_agree}
 

@@ -1,48 +1,26 @@
 -- An event of a close at the tree: it leaves the mounts, the levels and the sections alone, and all of the shown model but the tree and its
 -- task's open files.
-use Rattle.access_model.specs.Replies.{map_next}
-use Rattle.access_model.specs.States.{is_removed}
-use Rattle.access_model.specs.declared.actions.Action.{Action}
-use Rattle.access_model.specs.declared.errors.GateError.{GateError}
-use Rattle.access_model.specs.declared.replies.Next.{Next}
+use Rattle.access_model.specs.{Replies.map_next, States.is_removed, declared.{actions.Action.Action, errors.GateError.GateError, replies.Next.Next}}
 use Rattle.cpu_words.specs.Hooks.{HookAnswer}
-use Rattle.file_closes.specs.Phases.{after, closed_from, enters, next}
-use Rattle.file_closes.specs.declared.phases.ClosePhase.{ClosePhase}
-use Rattle.file_closes.specs.declared.phases.Closing.{Closing}
-use Rattle.gate_frames.proofs.CloseEvents.{close_drops, close_frees, close_loads, close_lowers, close_uncounts, closer_unread, dropped_removed, freeing_removed, frees_alone}
-use Rattle.gate_frames.proofs.Frames.{count_none, sync_none}
-use Rattle.gate_frames.proofs.MayTree.{LeaveFor}
-use Rattle.gate_frames.proofs.NodeEvents.{IsPlain, plain_parts, tree_run}
-use Rattle.gate_frames.proofs.NodeParts.{IsAtTree, IsOffGates, LeavesAccesses, files_then, fitting_then, idle_off, is_node_word, leaves_if, leaves_none, node_call, shown_moves, tree_then}
-use Rattle.gate_frames.proofs.Trees.{tree_within}
-use Rattle.gate_world.specs.Configs.{IsWithin, model_limits}
-use Rattle.gate_world.specs.Fits.{CloseFits, Fits, HasFile, MayLower, file_of}
-use Rattle.gate_world.specs.Holdings.{Holdings, held_after}
-use Rattle.gate_world.specs.LevelRuns.{level_in}
-use Rattle.gate_world.specs.Roles.{close_tree_role, no_roles}
-use Rattle.gate_world.specs.Rules.{Files, Fitting, IsGood, StepKeeps, Tree}
-use Rattle.gate_world.specs.Shown.{shown}
-use Rattle.gate_world.specs.Trees.{is_bare_at, is_sealed, tree_bounds, tree_role_of, tree_roles}
-use Rattle.gate_world.specs.Views.{has_open, held_of, phase_after, view_after}
-use Rattle.gate_world.specs.Worlds.{World, after_step, found_at, value_at}
-use Rattle.gate_world.specs.declared.config.Config.{Config}
-use Rattle.gate_world.specs.declared.views.Traced.{Traced}
-use Rattle.gate_world.specs.declared.views.View.{View}
+use Rattle.file_closes.specs.{Phases.{after, closed_from, enters, next}, declared.phases.{ClosePhase.ClosePhase, Closing.Closing}}
+use Rattle.gate_frames.proofs.CloseEvents.{close_drops, close_frees, close_loads, close_lowers, close_uncounts, closer_unread, dropped_removed}
+use Rattle.gate_frames.proofs.{CloseEvents.{freeing_removed, frees_alone}, Frames.{count_none, sync_none}, MayTree.LeaveFor, NodeEvents.IsPlain}
+use Rattle.gate_frames.proofs.{NodeEvents.{plain_parts, tree_run}, NodeParts.{IsAtTree, IsOffGates, LeavesAccesses, files_then, fitting_then, idle_off}}
+use Rattle.gate_frames.proofs.{NodeParts.{is_node_word, leaves_if, leaves_none, node_call, shown_moves, tree_then}, Trees.tree_within}
+use Rattle.gate_world.specs.{Configs.{IsWithin, model_limits}, Fits.{CloseFits, Fits, HasFile, MayLower, file_of}, Holdings.{Holdings, held_after}}
+use Rattle.gate_world.specs.{LevelRuns.level_in, Roles.{close_tree_role, no_roles}, Rules.{Files, Fitting, IsGood, StepKeeps, Tree}, Shown.shown}
+use Rattle.gate_world.specs.{Trees.{is_bare_at, is_sealed, tree_bounds, tree_role_of, tree_roles}, Views.{has_open, held_of, phase_after, view_after}}
+use Rattle.gate_world.specs.{Worlds.{World, after_step, found_at, value_at}, declared.{config.Config.Config, views.{Traced.Traced, View.View}}}
 use Rattle.gate_world.specs.declared.work.Phase.{Phase}
 use Rattle.gated_tree.proofs.Words.{word_opens, word_shows}
-use Rattle.gated_tree.specs.Calls.{role_after}
-use Rattle.gated_tree.specs.Nodes.{any_file_in, info_of, node_shown, opens_in, word_of}
-use Rattle.gated_tree.specs.Phases.{after_look}
-use Rattle.gated_tree.specs.Roles.{Dropped, Freeing}
+use Rattle.gated_tree.specs.{Calls.role_after, Nodes.{any_file_in, info_of, node_shown, opens_in, word_of}, Phases.after_look, Roles.{Dropped, Freeing}}
 use Rattle.gated_tree.specs.declared.nodes.NodeWord.{NodeWord}
 use Rattle.level_laws.specs.Events.{SyncStep}
 use Rattle.operation_laws.proofs.CloseFits.{close_goes}
-use Rattle.std.proofs.Common.{Bool, ap, arith, false, inl, inr, refl, subst, sym, true, true≢false, ℕ, ◌<◌, ◌∙◌, ◌≡◌}
-use Rattle.std.proofs.lemmas.Bool.{cases_Bool}
+use Rattle.std.proofs.{Common.{Bool, ap, arith, false, inl, inr, refl, subst, sym, true, true≢false, ℕ, ◌<◌, ◌∙◌, ◌≡◌}, lemmas.Bool.cases_Bool}
 use Rattle.std.proofs.lemmas.Bool.Decides.{eqb_tells}
 use Rattle.std.specs.Prelude.{Err, List, None, Ok, Option, Result, Some, ◌&&◌, ◌==◌}
-use Rattle.tree_laws.specs.Events.{HasLeave}
-use Rattle.tree_laws.specs.Steps.{EventKeeps}
+use Rattle.tree_laws.specs.{Events.HasLeave, Steps.EventKeeps}
 
 -- the events at the tree
 abbrev pub is_at_tree : ClosePhase → Bool

@@ -1,46 +1,22 @@
 -- The events of a close at level 3: the law of each is that of the level's own event, but for the tree and the open files, which the event
 -- leaves alone.
-use Rattle.access_model.specs.Replies.{map_next}
-use Rattle.access_model.specs.States.{openers}
-use Rattle.access_model.specs.declared.actions.Action.{Action}
-use Rattle.access_model.specs.declared.replies.Next.{Next}
-use Rattle.access_model.specs.declared.replies.Reply.{Reply}
-use Rattle.cpu_words.specs.Hooks.{HookAnswer}
-use Rattle.cpu_words.specs.Words.{Words, read}
-use Rattle.file_closes.specs.Phases.{leaves_on, then_frees}
-use Rattle.file_closes.specs.declared.phases.ClosePhase.{ClosePhase}
+use Rattle.access_model.specs.{Replies.map_next, States.openers, declared.{actions.Action.Action, replies.{Next.Next, Reply.Reply}}}
+use Rattle.cpu_words.specs.{Hooks.HookAnswer, Words.{Words, read}}
+use Rattle.file_closes.specs.{Phases.{leaves_on, then_frees}, declared.phases.ClosePhase.ClosePhase}
 use Rattle.finite_sums.proofs.Totals.{each_updated, update_at}
 use Rattle.finite_sums.specs.Sums.{update}
-use Rattle.gate_frames.proofs.Accesses.{holdings_of_after}
-use Rattle.gate_frames.proofs.Beside.{beside_of, made, made_keeps_beside, made_runs_beside, rephased_beside}
-use Rattle.gate_frames.proofs.Frames.{left_alone, opens_left}
-use Rattle.gate_frames.proofs.Trees.{tree_holds}
-use Rattle.gate_world.specs.Alike.{IsBeside, at_phase, rephased}
-use Rattle.gate_world.specs.Configs.{IsWithin}
-use Rattle.gate_world.specs.Fits.{CloseFits, Fits, HasFile, file_of}
-use Rattle.gate_world.specs.Holdings.{Holdings, held_after}
-use Rattle.gate_world.specs.LevelRuns.{level_in}
-use Rattle.gate_world.specs.Rules.{Files, Fitting, Holds, IsGood, Moves, SameWords, StepKeeps, Tree}
-use Rattle.gate_world.specs.Shown.{shown}
-use Rattle.gate_world.specs.Trees.{tree_bounds, tree_of, tree_role_of, tree_roles}
-use Rattle.gate_world.specs.Views.{has_open, held_of, phase_after, view_with}
-use Rattle.gate_world.specs.Work.{after_of, next_of}
-use Rattle.gate_world.specs.Worlds.{World, found_at, words_after}
-use Rattle.gate_world.specs.declared.config.Config.{Config}
-use Rattle.gate_world.specs.declared.views.Traced.{Traced}
-use Rattle.gate_world.specs.declared.views.View.{View}
+use Rattle.gate_frames.proofs.{Accesses.holdings_of_after, Beside.{beside_of, made, made_keeps_beside, made_runs_beside, rephased_beside}, Frames.left_alone}
+use Rattle.gate_frames.proofs.{Frames.opens_left, Trees.tree_holds}
+use Rattle.gate_world.specs.{Alike.{IsBeside, at_phase, rephased}, Configs.IsWithin, Fits.{CloseFits, Fits, HasFile, file_of}, Holdings.Holdings}
+use Rattle.gate_world.specs.{Holdings.held_after, LevelRuns.level_in, Rules.{Files, Fitting, Holds, IsGood, Moves, SameWords, StepKeeps, Tree}, Shown.shown}
+use Rattle.gate_world.specs.{Trees.{tree_bounds, tree_of, tree_role_of, tree_roles}, Views.{has_open, held_of, phase_after, view_with}, Work.after_of}
+use Rattle.gate_world.specs.{Work.next_of, Worlds.{World, found_at, words_after}, declared.{config.Config.Config, views.{Traced.Traced, View.View}}}
 use Rattle.gate_world.specs.declared.work.Phase.{Phase}
-use Rattle.gated_tree.specs.Nodes.{opens_in}
-use Rattle.gated_tree.specs.Roles.{Freeing, Out as OffTree, TreeHolds, charge, child_charge, removal}
-use Rattle.gated_tree.specs.declared.nodes.NodeWord.{NodeWord}
+use Rattle.gated_tree.specs.{Nodes.opens_in, Roles.{Freeing, Out as OffTree, TreeHolds, charge, child_charge, removal}, declared.nodes.NodeWord.NodeWord}
 use Rattle.level_laws.specs.Events.{SyncStep}
-use Rattle.operation_laws.proofs.CloseFits.{enters_fits}
-use Rattle.operation_laws.proofs.ReadKeeps.{end_phase, read_phase}
-use Rattle.percpu_rwsem.specs.Readers.{at_down_read, down_read_after}
-use Rattle.percpu_rwsem.specs.declared.readers.DownRead.{DownRead}
-use Rattle.percpu_rwsem.specs.declared.readers.DownReadStep.{DownReadStep}
-use Rattle.std.proofs.Common.{Bool, ap, arith, inl, inr, refl, subst, sym, true, ℕ, ◌<◌, ◌∙◌, ◌≡◌, ◌⊎◌}
-use Rattle.std.proofs.lemmas.Bool.{cases_Bool}
+use Rattle.operation_laws.proofs.{CloseFits.enters_fits, ReadKeeps.{end_phase, read_phase}}
+use Rattle.percpu_rwsem.specs.{Readers.{at_down_read, down_read_after}, declared.readers.{DownRead.DownRead, DownReadStep.DownReadStep}}
+use Rattle.std.proofs.{Common.{Bool, ap, arith, inl, inr, refl, subst, sym, true, ℕ, ◌<◌, ◌∙◌, ◌≡◌, ◌⊎◌}, lemmas.Bool.cases_Bool}
 use Rattle.std.specs.Prelude.{Err, List, Ok, Option, Some, ◌==◌}
 use Rattle.tree_laws.proofs.Counts.{leaves}
 

@@ -1,29 +1,13 @@
 -- The last load of a snapshot: the tree that it has loaded is the present one.
-use Rattle.cpu_words.specs.Hooks.{HookAnswer}
-use Rattle.cpu_words.specs.declared.names.WordName.{WordName}
-use Rattle.gate_world.specs.Configs.{IsWithin}
-use Rattle.gate_world.specs.Fits.{Fits, PhaseFits}
-use Rattle.gate_world.specs.Moments.{CompletesNow, IsPresentTree}
-use Rattle.gate_world.specs.Rules.{Fitting, IsGood, Stages, Tree}
-use Rattle.gate_world.specs.Shown.{stage_role_of}
-use Rattle.gate_world.specs.Snapshots.{loads_noted, snapshot_completes, values_noted}
-use Rattle.gate_world.specs.Trees.{tree_bounds, tree_role_of}
-use Rattle.gate_world.specs.Views.{held_of}
-use Rattle.gate_world.specs.Worlds.{World}
-use Rattle.gate_world.specs.declared.config.Config.{Config}
-use Rattle.gate_world.specs.declared.work.Phase.{Phase}
-use Rattle.gated_tree.specs.Phases.{at_snapshot}
-use Rattle.gated_tree.specs.Roles.{RoleHolds, seen_as, tree_word}
-use Rattle.gated_tree.specs.Trees.{loaded}
-use Rattle.gated_tree.specs.declared.phases.TreePhase.{TreePhase}
-use Rattle.gated_tree.specs.declared.snapshots.Snapshot.{Snapshot}
-use Rattle.gated_tree.specs.declared.snapshots.SnapshotStep.{SnapshotStep}
-use Rattle.gated_tree.specs.declared.trees.TreeWords.{TreeWords}
-use Rattle.operation_laws.proofs.NodeCauses.{some_is}
-use Rattle.operation_laws.proofs.Noted.{AreWords, IsLong, last_load, loaded_long, noted_long}
+use Rattle.cpu_words.specs.{Hooks.HookAnswer, declared.names.WordName.WordName}
+use Rattle.gate_world.specs.{Configs.IsWithin, Fits.{Fits, PhaseFits}, Moments.{CompletesNow, IsPresentTree}, Rules.{Fitting, IsGood, Stages, Tree}}
+use Rattle.gate_world.specs.{Shown.stage_role_of, Snapshots.{loads_noted, snapshot_completes, values_noted}, Trees.{tree_bounds, tree_role_of}, Views.held_of}
+use Rattle.gate_world.specs.{Worlds.World, declared.{config.Config.Config, work.Phase.Phase}}
+use Rattle.gated_tree.specs.{Phases.at_snapshot, Roles.{RoleHolds, seen_as, tree_word}, Trees.loaded, declared.phases.TreePhase.TreePhase}
+use Rattle.gated_tree.specs.declared.{snapshots.{Snapshot.Snapshot, SnapshotStep.SnapshotStep}, trees.TreeWords.TreeWords}
+use Rattle.operation_laws.proofs.{NodeCauses.some_is, Noted.{AreWords, IsLong, last_load, loaded_long, noted_long}}
 use Rattle.stage_laws.specs.Roles.{KnowsStage}
-use Rattle.std.proofs.Common.{ap, arith, inl, inr, subst, suc, sym, true≢false, ℕ, ◌+◌, ◌<◌, ◌∙◌, ◌≡◌, ◌≤◌}
-use Rattle.std.proofs.lemmas.Bool.{cases_lt, le-ltb, lt-ltb}
+use Rattle.std.proofs.{Common.{ap, arith, inl, inr, subst, suc, sym, true≢false, ℕ, ◌+◌, ◌<◌, ◌∙◌, ◌≡◌, ◌≤◌}, lemmas.Bool.{cases_lt, le-ltb, lt-ltb}}
 use Rattle.std.specs.Prelude.{None, Some, is_some}
 
 nothing_is_some : {A : Type 0} (a : A) → None ≡ Some a → ⊥

@@ -1,65 +1,34 @@
 -- The events of a freeze on the words of a level that it closes.
-use Rattle.access_model.specs.Replies.{map_next}
-use Rattle.access_model.specs.declared.actions.Action.{Action}
-use Rattle.access_model.specs.declared.replies.Next.{Next}
-use Rattle.access_model.specs.declared.replies.Reply.{Reply}
-use Rattle.cpu_words.specs.Hooks.{HookAnswer}
-use Rattle.cpu_words.specs.Sums.{sum_taking}
-use Rattle.cpu_words.specs.Touches.{found_by, left}
-use Rattle.cpu_words.specs.Words.{Words, put, read}
-use Rattle.cpu_words.specs.declared.sums.Sum.{Sum}
-use Rattle.cpu_words.specs.declared.sums.Taken.{Taken}
+use Rattle.access_model.specs.{Replies.map_next, declared.{actions.Action.Action, replies.{Next.Next, Reply.Reply}}}
+use Rattle.cpu_words.specs.{Hooks.HookAnswer, Sums.sum_taking, Touches.{found_by, left}, Words.{Words, put, read}, declared.sums.{Sum.Sum, Taken.Taken}}
 use Rattle.finite_sums.proofs.Totals.{total_at}
 use Rattle.finite_sums.specs.Sums.{total, update}
-use Rattle.freeze_levels.specs.Freezes.{after_closing, at_freeze, level_closed}
-use Rattle.freeze_levels.specs.declared.freezes.Freeze.{Freeze}
-use Rattle.freeze_levels.specs.declared.freezes.FreezeStep.{FreezeStep}
-use Rattle.gate_frames.proofs.Accesses.{holdings_of_after}
-use Rattle.gate_frames.proofs.DownLevels.{down_write_levels, entered_by_nobody, passes_finds_nobody, swap_finds_clear}
-use Rattle.gate_frames.proofs.Keeps.{by_bool}
-use Rattle.gate_frames.proofs.Stages.{IsStageEvent, stages_in}
-use Rattle.gate_frames.proofs.Standing.{LevelsHold, Stands, left_world, stand_after_closing}
-use Rattle.gate_frames.proofs.Trees.{shown_clean}
-use Rattle.gate_frames.proofs.WriterParts.{AsksWhere, LeavesRest, WriterLaw, down_write_comes, freeze_comes}
-use Rattle.gate_frames.proofs.WriterStages.{none_leaves, stays_there, still_plays}
-use Rattle.gate_frames.proofs.WriterWords.{down_write_adds, down_write_counts_none, down_write_words, pass_leaves, tree_begins, tree_beside, writer_at_level}
-use Rattle.gate_world.specs.Configs.{IsWithin, model_limits}
-use Rattle.gate_world.specs.Fits.{Fits}
-use Rattle.gate_world.specs.Holdings.{Holdings, holdings_of}
-use Rattle.gate_world.specs.Levels.{level_added_by, level_taken_by}
-use Rattle.gate_world.specs.Roles.{closed_to, freeze_holder_role, freeze_stage_role, freeze_tree_role, place_of}
-use Rattle.gate_world.specs.Rules.{Holds, IsGood, Tree, ViewFits, marks_of, owns}
-use Rattle.gate_world.specs.Shown.{holder_role_of, shown, stage_role_of}
-use Rattle.gate_world.specs.Trees.{tree_role_of, tree_roles}
-use Rattle.gate_world.specs.Views.{actions_after, added_by, held_of, holds_level, phase_after, taken_by, view_with}
-use Rattle.gate_world.specs.Worlds.{World}
-use Rattle.gate_world.specs.declared.config.Config.{Config}
-use Rattle.gate_world.specs.declared.views.View.{View}
-use Rattle.gate_world.specs.declared.work.Phase.{Phase}
+use Rattle.freeze_levels.specs.{Freezes.{after_closing, at_freeze, level_closed}, declared.freezes.{Freeze.Freeze, FreezeStep.FreezeStep}}
+use Rattle.gate_frames.proofs.{Accesses.holdings_of_after, DownLevels.{down_write_levels, entered_by_nobody, passes_finds_nobody, swap_finds_clear}}
+use Rattle.gate_frames.proofs.{Keeps.by_bool, Stages.{IsStageEvent, stages_in}, Standing.{LevelsHold, Stands, left_world, stand_after_closing}}
+use Rattle.gate_frames.proofs.{Trees.shown_clean, WriterParts.{AsksWhere, LeavesRest, WriterLaw, down_write_comes, freeze_comes}, WriterStages.none_leaves}
+use Rattle.gate_frames.proofs.{WriterStages.{stays_there, still_plays}, WriterWords.{down_write_adds, down_write_counts_none, down_write_words, pass_leaves}}
+use Rattle.gate_frames.proofs.WriterWords.{tree_begins, tree_beside, writer_at_level}
+use Rattle.gate_world.specs.{Configs.{IsWithin, model_limits}, Fits.Fits, Holdings.{Holdings, holdings_of}, Levels.{level_added_by, level_taken_by}}
+use Rattle.gate_world.specs.{Roles.{closed_to, freeze_holder_role, freeze_stage_role, freeze_tree_role, place_of}, Rules.{Holds, IsGood, Tree, ViewFits}}
+use Rattle.gate_world.specs.{Rules.{marks_of, owns}, Shown.{holder_role_of, shown, stage_role_of}, Trees.{tree_role_of, tree_roles}, Views.actions_after}
+use Rattle.gate_world.specs.{Views.{added_by, held_of, holds_level, phase_after, taken_by, view_with}, Worlds.World, declared.config.Config.Config}
+use Rattle.gate_world.specs.declared.{views.View.View, work.Phase.Phase}
 use Rattle.gated_tree.proofs.ClearedMarks.{directory_clean}
-use Rattle.gated_tree.specs.Nodes.{IsNode}
-use Rattle.gated_tree.specs.Roles.{Clearing, Out as OffTree}
+use Rattle.gated_tree.specs.{Nodes.IsNode, Roles.{Clearing, Out as OffTree}}
 use Rattle.holder_laws.specs.Roles.{Apart}
 use Rattle.operation_laws.proofs.FreezeFits.{freeze_goes}
 use Rattle.operation_laws.proofs.FreezeStages.{FitsHere, IsHere, Keeps, freeze_stands, here_fits, here_stands, here_tree, here_writes}
-use Rattle.percpu_rwsem.specs.Graces.{looked}
-use Rattle.percpu_rwsem.specs.SyncWords.{is_passed, on_callback, on_enter, unpack}
-use Rattle.percpu_rwsem.specs.Transitions.{transition_after}
-use Rattle.percpu_rwsem.specs.Writers.{at_down_write, callback_step, down_write_after, down_write_next, down_write_summed, enter_step, passed_awaited, sections_awaited, sum_begun}
-use Rattle.percpu_rwsem.specs.declared.grace.GraceNext.{GraceNext}
-use Rattle.percpu_rwsem.specs.declared.sync_word.GpState.{GpState}
-use Rattle.percpu_rwsem.specs.declared.sync_word.SyncWord.{SyncWord}
-use Rattle.percpu_rwsem.specs.declared.transitions.Transition.{Transition}
-use Rattle.percpu_rwsem.specs.declared.transitions.TransitionNext.{TransitionNext}
-use Rattle.percpu_rwsem.specs.declared.writers.DownWrite.{DownWrite}
+use Rattle.percpu_rwsem.specs.{Graces.looked, SyncWords.{is_passed, on_callback, on_enter, unpack}, Transitions.transition_after, Writers.at_down_write}
+use Rattle.percpu_rwsem.specs.Writers.{callback_step, down_write_after, down_write_next, down_write_summed, enter_step, passed_awaited, sections_awaited}
+use Rattle.percpu_rwsem.specs.{Writers.sum_begun, declared.{grace.GraceNext.GraceNext, sync_word.{GpState.GpState, SyncWord.SyncWord}}}
+use Rattle.percpu_rwsem.specs.declared.{transitions.{Transition.Transition, TransitionNext.TransitionNext}, writers.DownWrite.DownWrite}
 use Rattle.percpu_rwsem.specs.declared.writers.DownWriteStep.{DownWriteStep}
 use Rattle.stage_laws.proofs.Facts.{at_level}
-use Rattle.stage_laws.specs.Events.{Happens, Passes, SetsBlock as SetsBlockStage, StageEvent, Stays, action_of as stage_action_of, playing}
-use Rattle.stage_laws.specs.Roles.{Before, CleanBelow, Closing, Freezing, HasPassed, Place, bit, has_position, owns as stage_owns}
-use Rattle.stage_laws.specs.Shown.{state_after}
+use Rattle.stage_laws.specs.{Events.{Happens, Passes, SetsBlock as SetsBlockStage, StageEvent, Stays, action_of as stage_action_of, playing}, Roles.Before}
+use Rattle.stage_laws.specs.{Roles.{CleanBelow, Closing, Freezing, HasPassed, Place, bit, has_position, owns as stage_owns}, Shown.state_after}
 use Rattle.std.proofs.Common.{Bool, ap, arith, false, inl, inr, nat_lt, refl, subst, sym, true, true≢false, ℕ, ◌<◌, ◌∙◌, ◌≡◌, ◌≤◌, ◌⊎◌}
-use Rattle.std.proofs.lemmas.Bool.{cases_Bool, eq-eqb}
-use Rattle.std.proofs.lemmas.Bool.Decides.{eqb_tells}
+use Rattle.std.proofs.lemmas.Bool.{cases_Bool, eq-eqb, Decides.eqb_tells}
 use Rattle.std.specs.Prelude.{None, Ok, Option, Some, if◌then◌else◌, ◌==◌}
 
 -- once level 2 is passed the clearing of marks begins at node 1

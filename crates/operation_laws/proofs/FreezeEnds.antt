@@ -1,42 +1,21 @@
 -- A freeze runs out where it finds `umount` free at its locks, nobody inside a section, and nothing counted at the levels that it has to pass.
-use Rattle.access_model.specs.Holders.{held_by}
-use Rattle.access_model.specs.declared.replies.Next.{Next}
-use Rattle.cpu_words.specs.Hooks.{HookAnswer}
-use Rattle.cpu_words.specs.Touches.{found_by}
-use Rattle.cpu_words.specs.Words.{Words, read}
-use Rattle.cpu_words.specs.declared.names.WordName.{WordName}
+use Rattle.access_model.specs.{Holders.held_by, declared.replies.Next.Next}
+use Rattle.cpu_words.specs.{Hooks.HookAnswer, Touches.found_by, Words.{Words, read}, declared.names.WordName.WordName}
 use Rattle.finite_sums.proofs.Totals.{update_same}
 use Rattle.finite_sums.specs.Sums.{total}
-use Rattle.freeze_levels.specs.Freezes.{after_clearing, after_closing, after_reopening, freeze_after, freeze_next}
-use Rattle.freeze_levels.specs.Holders.{holders_in}
-use Rattle.freeze_levels.specs.declared.freezes.Freeze.{Freeze}
-use Rattle.freeze_levels.specs.declared.freezes.FreezeStep.{FreezeStep}
+use Rattle.freeze_levels.specs.{Freezes.{after_clearing, after_closing, after_reopening, freeze_after, freeze_next}, Holders.holders_in}
+use Rattle.freeze_levels.specs.declared.freezes.{Freeze.Freeze, FreezeStep.FreezeStep}
 use Rattle.gate_frames.proofs.Words.{load_same}
-use Rattle.gate_world.specs.Fits.{Fits, FreezeFits, PhaseFits}
-use Rattle.gate_world.specs.Levels.{sync_role_of}
-use Rattle.gate_world.specs.Roles.{freeze_stand, stand_sync, sync_beside}
-use Rattle.gate_world.specs.Rules.{Fitting, IsGood}
-use Rattle.gate_world.specs.Views.{held_of}
-use Rattle.gate_world.specs.Worlds.{World, found_at, words_after}
-use Rattle.gate_world.specs.declared.config.Config.{Config}
-use Rattle.gate_world.specs.declared.work.Phase.{Phase}
-use Rattle.gated_tree.specs.Phases.{clear_after, clear_next}
-use Rattle.gated_tree.specs.declared.marks.ClearMarks.{ClearMarks}
+use Rattle.gate_world.specs.{Fits.{Fits, FreezeFits, PhaseFits}, Levels.sync_role_of, Roles.{freeze_stand, stand_sync, sync_beside}, Rules.{Fitting, IsGood}}
+use Rattle.gate_world.specs.{Views.held_of, Worlds.{World, found_at, words_after}, declared.{config.Config.Config, work.Phase.Phase}}
+use Rattle.gated_tree.specs.{Phases.{clear_after, clear_next}, declared.marks.ClearMarks.ClearMarks}
 use Rattle.level_laws.specs.Operations.{down_write_role, up_write_role}
-use Rattle.percpu_rwsem.specs.Writers.{down_write_after, down_write_next, up_write_after, up_write_next}
-use Rattle.percpu_rwsem.specs.declared.transitions.Transition.{Transition}
-use Rattle.percpu_rwsem.specs.declared.writers.DownWrite.{DownWrite}
-use Rattle.percpu_rwsem.specs.declared.writers.DownWriteStep.{DownWriteStep}
-use Rattle.percpu_rwsem.specs.declared.writers.UpWrite.{UpWrite}
-use Rattle.percpu_rwsem.specs.declared.writers.UpWriteStep.{UpWriteStep}
-use Rattle.operation_laws.proofs.Falls.{after_event, falls_as}
-use Rattle.operation_laws.proofs.TreeEnds.{clear_falls}
-use Rattle.operation_laws.proofs.WriterEnds.{DownFalls, down_falls, up_falls}
+use Rattle.percpu_rwsem.specs.{Writers.{down_write_after, down_write_next, up_write_after, up_write_next}, declared.transitions.Transition.Transition}
+use Rattle.percpu_rwsem.specs.declared.writers.{DownWrite.DownWrite, DownWriteStep.DownWriteStep, UpWrite.UpWrite, UpWriteStep.UpWriteStep}
+use Rattle.operation_laws.proofs.{Falls.{after_event, falls_as}, TreeEnds.clear_falls, WriterEnds.{DownFalls, down_falls, up_falls}}
 use Rattle.operation_laws.specs.Ranks.{closed_rank, closing_rank, down_rank, freeze_rank, rank, reopens_rank, up_rank}
 use Rattle.operation_laws.specs.Ways.{Falls, FreezeIsFree, IsFree, LevelsAreFree, NobodyInside, NothingCounted, PhaseEnds}
-use Rattle.std.proofs.Common.{ap, arith, inl, inr, refl, subst, sym, ℕ, ◌+◌, ◌<◌, ◌∙◌, ◌≡◌, ◌≤◌}
-use Rattle.std.proofs.lemmas.Bool.{cases_Bool, eq-eqb}
-use Rattle.std.proofs.lemmas.Bool.Decides.{eqb_tells}
+use Rattle.std.proofs.{Common.{ap, arith, inl, inr, refl, subst, sym, ℕ, ◌+◌, ◌<◌, ◌∙◌, ◌≡◌, ◌≤◌}, lemmas.Bool.{cases_Bool, eq-eqb, Decides.eqb_tells}}
 use Rattle.std.specs.Prelude.{Err, Ok, nat_lt, ◌%◌, ◌*◌, ◌-◌}
 
 module _ (w : Words) (d : DownWrite) where

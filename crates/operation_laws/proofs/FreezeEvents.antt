@@ -1,63 +1,30 @@
 -- The events of a freeze on nodes and on the words of a level that it reopens, and all of its events as one law.
-use Rattle.access_model.specs.Actions.{marked}
-use Rattle.access_model.specs.Replies.{map_next}
-use Rattle.access_model.specs.States.{IsFile}
-use Rattle.access_model.specs.declared.actions.Action.{Action}
-use Rattle.access_model.specs.declared.errors.GateError.{GateError}
+use Rattle.access_model.specs.{Actions.marked, Replies.map_next, States.IsFile, declared.{actions.Action.Action, errors.GateError.GateError}}
 use Rattle.access_model.specs.declared.replies.Next.{Next}
-use Rattle.cpu_words.specs.Hooks.{HookAnswer}
-use Rattle.cpu_words.specs.Touches.{found_by}
-use Rattle.cpu_words.specs.Words.{Words, read}
-use Rattle.cpu_words.specs.declared.events.Touch.{Touch}
-use Rattle.cpu_words.specs.declared.names.WordName.{WordName}
+use Rattle.cpu_words.specs.{Hooks.HookAnswer, Touches.found_by, Words.{Words, read}, declared.{events.Touch.Touch, names.WordName.WordName}}
 use Rattle.finite_sums.proofs.Totals.{each_updated, update_map, update_same}
 use Rattle.finite_sums.specs.Sums.{update}
-use Rattle.freeze_levels.specs.Freezes.{after_reopening, at_freeze, freeze_fails}
-use Rattle.freeze_levels.specs.Levels.{reopening}
-use Rattle.freeze_levels.specs.Thaws.{after_opening, thaw_opens}
-use Rattle.freeze_levels.specs.declared.freezes.Freeze.{Freeze}
-use Rattle.freeze_levels.specs.declared.freezes.FreezeStep.{FreezeStep}
-use Rattle.freeze_levels.specs.declared.thaws.Thaw.{Thaw}
-use Rattle.freeze_levels.specs.declared.thaws.ThawStep.{ThawStep}
-use Rattle.gate_frames.proofs.Holders.{holders_stay}
-use Rattle.gate_frames.proofs.Rephased.{alike_of, made_keeps}
-use Rattle.gate_frames.proofs.Stages.{IsStageEvent, stages_in}
-use Rattle.gate_frames.proofs.StandRoles.{levels_stay}
-use Rattle.gate_frames.proofs.Standing.{Stands, left_world, stand_after_opening, still_closed}
-use Rattle.gate_frames.proofs.Trees.{nobody_reads, tree_after}
-use Rattle.gate_frames.proofs.WriterOwner.{owner_stays}
+use Rattle.freeze_levels.specs.{Freezes.{after_reopening, at_freeze, freeze_fails}, Levels.reopening, Thaws.{after_opening, thaw_opens}}
+use Rattle.freeze_levels.specs.declared.{freezes.{Freeze.Freeze, FreezeStep.FreezeStep}, thaws.{Thaw.Thaw, ThawStep.ThawStep}}
+use Rattle.gate_frames.proofs.{Holders.holders_stay, Rephased.{alike_of, made_keeps}, Stages.{IsStageEvent, stages_in}, StandRoles.levels_stay}
+use Rattle.gate_frames.proofs.{Standing.{Stands, left_world, stand_after_opening, still_closed}, Trees.{nobody_reads, tree_after}, WriterOwner.owner_stays}
 use Rattle.gate_frames.proofs.WriterParts.{AsksWhere, IsWriter, LeavesRest, SameAtMounts, WriterLaw, freeze_work, freezes_write, whole_writer, writer_law}
 use Rattle.gate_frames.proofs.WriterWords.{up_write_comes}
-use Rattle.gate_world.specs.Alike.{IsAlike, rephased}
-use Rattle.gate_world.specs.Configs.{IsWithin, model_limits}
-use Rattle.gate_world.specs.Fits.{FreezeFits}
-use Rattle.gate_world.specs.Holdings.{Holdings}
-use Rattle.gate_world.specs.Roles.{closed_to, freeze_holder_role, freeze_stage_role, freeze_stand, freeze_tree_role}
-use Rattle.gate_world.specs.Rules.{Holds, IsGood, StepKeeps, Tree, ViewFits, marks_of, owns}
-use Rattle.gate_world.specs.Shown.{holder_role_of, shown, stage_role_of, stage_roles}
-use Rattle.gate_world.specs.Trees.{tree_bounds, tree_of}
-use Rattle.gate_world.specs.Views.{held_of, phase_after}
-use Rattle.gate_world.specs.Worlds.{World}
-use Rattle.gate_world.specs.declared.config.Config.{Config}
-use Rattle.gate_world.specs.declared.views.View.{View}
-use Rattle.gate_world.specs.declared.work.Phase.{Phase}
+use Rattle.gate_world.specs.{Alike.{IsAlike, rephased}, Configs.{IsWithin, model_limits}, Fits.FreezeFits, Holdings.Holdings, Roles.closed_to}
+use Rattle.gate_world.specs.{Roles.{freeze_holder_role, freeze_stage_role, freeze_stand, freeze_tree_role}, Rules.{Holds, IsGood, StepKeeps, Tree, ViewFits}}
+use Rattle.gate_world.specs.{Rules.{marks_of, owns}, Shown.{holder_role_of, shown, stage_role_of, stage_roles}, Trees.{tree_bounds, tree_of}, Views.held_of}
+use Rattle.gate_world.specs.{Views.phase_after, Worlds.World, declared.{config.Config.Config, views.View.View, work.Phase.Phase}}
 use Rattle.gated_tree.proofs.ClearedMarks.{clean_stays, cleared_shown, clears_mark, without_mark}
-use Rattle.gated_tree.specs.Nodes.{IsNode, dirty_in, node_shown, opens_in}
-use Rattle.gated_tree.specs.Roles.{Clearing, TreeState}
-use Rattle.gated_tree.specs.declared.marks.ClearMarks.{ClearMarks}
+use Rattle.gated_tree.specs.{Nodes.{IsNode, dirty_in, node_shown, opens_in}, Roles.{Clearing, TreeState}, declared.marks.ClearMarks.ClearMarks}
 use Rattle.holder_laws.specs.Roles.{Apart}
-use Rattle.operation_laws.proofs.FreezeCloses.{closes}
-use Rattle.operation_laws.proofs.FreezeFits.{freeze_goes}
-use Rattle.operation_laws.proofs.FreezeStages.{FitsHere, IsHere, Keeps, completes_read_only, freeze_stands, goes_to, here_fits, here_knows, here_stands, here_tree, here_writes, holds, loads_holders, loads_stage, loads_superblock, locks, locks_again, releases, sets_complete, sets_fs, sets_page_fault, sets_write, unlocks, view_at}
-use Rattle.operation_laws.proofs.ThawEvents.{thaw_keeps}
-use Rattle.percpu_rwsem.specs.Writers.{up_write_after, up_write_next}
-use Rattle.percpu_rwsem.specs.declared.writers.UpWrite.{UpWrite}
-use Rattle.stage_laws.specs.Events.{ClearsMark as ClearsMarkStage, cleaned}
-use Rattle.stage_laws.specs.Roles.{Freezing, HasPassed, owns as stage_owns}
-use Rattle.stage_laws.specs.Shown.{state_after}
-use Rattle.std.proofs.Common.{ap, arith, false, inl, inr, nat_lt, refl, subst, suc, sym, true, ℕ, ◌+◌, ◌-◌, ◌<◌, ◌∙◌, ◌≡◌}
-use Rattle.std.proofs.lemmas.Bool.{cases_Bool, ltb-false, ltb-true}
-use Rattle.std.proofs.lemmas.Bool.Decides.{eqb_tells}
+use Rattle.operation_laws.proofs.{FreezeCloses.closes, FreezeFits.freeze_goes, FreezeStages.{FitsHere, IsHere, Keeps, completes_read_only, freeze_stands}}
+use Rattle.operation_laws.proofs.FreezeStages.{goes_to, here_fits, here_knows, here_stands, here_tree, here_writes, holds, loads_holders, loads_stage}
+use Rattle.operation_laws.proofs.FreezeStages.{loads_superblock, locks, locks_again, releases, sets_complete, sets_fs, sets_page_fault, sets_write, unlocks}
+use Rattle.operation_laws.proofs.{FreezeStages.view_at, ThawEvents.thaw_keeps}
+use Rattle.percpu_rwsem.specs.{Writers.{up_write_after, up_write_next}, declared.writers.UpWrite.UpWrite}
+use Rattle.stage_laws.specs.{Events.{ClearsMark as ClearsMarkStage, cleaned}, Roles.{Freezing, HasPassed, owns as stage_owns}, Shown.state_after}
+use Rattle.std.proofs.{Common.{ap, arith, false, inl, inr, nat_lt, refl, subst, suc, sym, true, ℕ, ◌+◌, ◌-◌, ◌<◌, ◌∙◌, ◌≡◌}, lemmas.Bool.cases_Bool}
+use Rattle.std.proofs.lemmas.Bool.{ltb-false, ltb-true, Decides.eqb_tells}
 use Rattle.std.specs.Prelude.{Err, None, Option, Some, option_map, ◌==◌}
 use Rattle.tree_laws.specs.Events.{Clears, Event, Passes, with_node}
 

@@ -1,25 +1,11 @@
 -- All that is proved of a freeze, from the law of its events and from what its trace tells.
 use Rattle.access_model.specs.declared.actions.Holder.{Holder}
-use Rattle.freeze_levels.specs.declared.freezes.Freeze.{Freeze}
-use Rattle.freeze_levels.specs.declared.freezes.FreezeStep.{FreezeStep}
-use Rattle.gate_frames.proofs.Agreeing.{none_agree}
-use Rattle.gate_frames.proofs.Keeps.{OpKeeps, PhaseKeeps, word_among}
-use Rattle.gate_frames.proofs.Snapshots.{completes_none}
-use Rattle.gate_world.specs.Fits.{Fits, PhaseFits}
-use Rattle.gate_world.specs.Roles.{freeze_stage_role}
-use Rattle.gate_world.specs.Rules.{Fitting, IsGood, Stages}
-use Rattle.gate_world.specs.Shown.{stage_role_of}
-use Rattle.gate_world.specs.Views.{held_of}
-use Rattle.gate_world.specs.Worlds.{World, after_step}
-use Rattle.gate_world.specs.declared.config.Config.{Config}
-use Rattle.gate_world.specs.declared.operations.Op.{Op}
-use Rattle.gate_world.specs.declared.work.Phase.{Phase}
-use Rattle.operation_laws.proofs.FreezeCauses.{freeze_own, freeze_stays}
-use Rattle.operation_laws.proofs.FreezeEvents.{freeze_keeps}
-use Rattle.operation_laws.proofs.FreezeFits.{freeze_acts, freeze_goes, freeze_word}
-use Rattle.operation_laws.proofs.FreezeRuns.{freeze_runs}
-use Rattle.operation_laws.proofs.FreezeTraces.{freeze_restores, freeze_short, freeze_tells}
-use Rattle.operation_laws.proofs.FreezeWaits.{freeze_waits}
+use Rattle.freeze_levels.specs.declared.freezes.{Freeze.Freeze, FreezeStep.FreezeStep}
+use Rattle.gate_frames.proofs.{Agreeing.none_agree, Keeps.{OpKeeps, PhaseKeeps, word_among}, Snapshots.completes_none}
+use Rattle.gate_world.specs.{Fits.{Fits, PhaseFits}, Roles.freeze_stage_role, Rules.{Fitting, IsGood, Stages}, Shown.stage_role_of, Views.held_of}
+use Rattle.gate_world.specs.{Worlds.{World, after_step}, declared.{config.Config.Config, operations.Op.Op, work.Phase.Phase}}
+use Rattle.operation_laws.proofs.{FreezeCauses.{freeze_own, freeze_stays}, FreezeEvents.freeze_keeps, FreezeFits.{freeze_acts, freeze_goes, freeze_word}}
+use Rattle.operation_laws.proofs.{FreezeRuns.freeze_runs, FreezeTraces.{freeze_restores, freeze_short, freeze_tells}, FreezeWaits.freeze_waits}
 use Rattle.stage_laws.specs.Roles.{KnowsStage}
 use Rattle.std.proofs.Common.{refl, subst, ℕ, ◌<◌, ◌≡◌}
 use Rattle.std.specs.Prelude.{Some}

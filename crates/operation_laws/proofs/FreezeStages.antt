@@ -1,52 +1,29 @@
 -- The events of a freeze on `umount`, the stage and the superblock's flag, and its clearing of marks.
-use Rattle.access_model.specs.Holders.{held_by, is_unheld, nobody, with_holder}
-use Rattle.access_model.specs.declared.actions.Action.{Action}
-use Rattle.access_model.specs.declared.actions.Holders.{Holders}
-use Rattle.access_model.specs.declared.errors.GateError.{GateError}
-use Rattle.access_model.specs.declared.replies.Next.{Next}
-use Rattle.access_model.specs.declared.replies.Reply.{Reply}
-use Rattle.cpu_words.specs.Hooks.{HookAnswer}
-use Rattle.cpu_words.specs.Words.{Words}
-use Rattle.cpu_words.specs.declared.events.Event.{Event}
-use Rattle.cpu_words.specs.declared.events.Touch.{Touch}
-use Rattle.cpu_words.specs.declared.names.WordName.{WordName}
+use Rattle.access_model.specs.{Holders.{held_by, is_unheld, nobody, with_holder}, declared.actions.{Action.Action, Holders.Holders}}
+use Rattle.access_model.specs.declared.{errors.GateError.GateError, replies.{Next.Next, Reply.Reply}}
+use Rattle.cpu_words.specs.{Hooks.HookAnswer, Words.Words, declared.{events.{Event.Event, Touch.Touch}, names.WordName.WordName}}
 use Rattle.finite_sums.specs.Sums.{total, update}
-use Rattle.freeze_levels.specs.Freezes.{at_freeze, freeze_closes, freeze_fails}
-use Rattle.freeze_levels.specs.Holders.{holders_in, word_of}
-use Rattle.freeze_levels.specs.declared.freezes.Freeze.{Freeze}
+use Rattle.freeze_levels.specs.{Freezes.{at_freeze, freeze_closes, freeze_fails}, Holders.{holders_in, word_of}, declared.freezes.Freeze.Freeze}
 use Rattle.freeze_levels.specs.declared.freezes.FreezeStep.{FreezeStep}
-use Rattle.gate_frames.proofs.Cases.{both}
-use Rattle.gate_frames.proofs.Frames.{SameLevelCounts}
-use Rattle.gate_frames.proofs.Holders.{holders_after, holders_at, holders_move, holders_stay, nobody_minds}
-use Rattle.gate_frames.proofs.Stages.{IsStageEvent, nobody_owns, owners_alike, stages_in}
-use Rattle.gate_frames.proofs.StandRoles.{closing_first, closing_next}
-use Rattle.gate_frames.proofs.Standing.{LevelsHold, Stands, left_world}
-use Rattle.gate_frames.proofs.Trees.{sealed_frozen, tree_after, tree_then}
-use Rattle.gate_frames.proofs.WholeLevels.{freezes_all}
-use Rattle.gate_frames.proofs.WriterOwner.{lock_given, lock_taken, owner_stays}
-use Rattle.gate_frames.proofs.WriterParts.{AsksWhere, IsWriter, SameAtMounts, WriterKeeps, WriterLaw, freezes_write, idle_writes}
-use Rattle.gate_frames.proofs.WriterStages.{opened_tree, stays_there, stored_levels, stored_tree, writer_beside, writer_holds, writer_stores}
-use Rattle.gate_world.specs.Configs.{IsWithin, model_limits}
-use Rattle.gate_world.specs.Fits.{Fits, FreezeFits, PhaseFits}
-use Rattle.gate_world.specs.Roles.{Stand, closed_to, freeze_holder_role, freeze_stage_role, freeze_stand, freeze_tree_role}
-use Rattle.gate_world.specs.Rules.{Fitting, Holding, Holds, IsGood, OwnerHolds, Stages, Tree, owns}
-use Rattle.gate_world.specs.Shown.{holder_role_of, holder_roles, shown, stage_role_of}
-use Rattle.gate_world.specs.Trees.{tree_bounds, tree_of, tree_role_of, tree_roles}
-use Rattle.gate_world.specs.Views.{held_of, view_with}
-use Rattle.gate_world.specs.Worlds.{World}
-use Rattle.gate_world.specs.declared.config.Config.{Config}
-use Rattle.gate_world.specs.declared.views.View.{View}
-use Rattle.gate_world.specs.declared.work.Phase.{Phase}
+use Rattle.gate_frames.proofs.{Cases.both, Frames.SameLevelCounts, Holders.{holders_after, holders_at, holders_move, holders_stay, nobody_minds}}
+use Rattle.gate_frames.proofs.{Stages.{IsStageEvent, nobody_owns, owners_alike, stages_in}, StandRoles.{closing_first, closing_next}, Standing.LevelsHold}
+use Rattle.gate_frames.proofs.{Standing.{Stands, left_world}, Trees.{sealed_frozen, tree_after, tree_then}, WholeLevels.freezes_all, WriterOwner.lock_given}
+use Rattle.gate_frames.proofs.{WriterOwner.{lock_taken, owner_stays}, WriterParts.{AsksWhere, IsWriter, SameAtMounts, WriterKeeps, WriterLaw, freezes_write}}
+use Rattle.gate_frames.proofs.{WriterParts.idle_writes, WriterStages.{opened_tree, stays_there, stored_levels, stored_tree, writer_beside, writer_holds}}
+use Rattle.gate_frames.proofs.WriterStages.{writer_stores}
+use Rattle.gate_world.specs.{Configs.{IsWithin, model_limits}, Fits.{Fits, FreezeFits, PhaseFits}, Roles.{Stand, closed_to, freeze_holder_role}}
+use Rattle.gate_world.specs.{Roles.{freeze_stage_role, freeze_stand, freeze_tree_role}, Rules.{Fitting, Holding, Holds, IsGood, OwnerHolds, Stages, Tree}}
+use Rattle.gate_world.specs.{Rules.owns, Shown.{holder_role_of, holder_roles, shown, stage_role_of}, Trees.{tree_bounds, tree_of, tree_role_of, tree_roles}}
+use Rattle.gate_world.specs.{Views.{held_of, view_with}, Worlds.World, declared.{config.Config.Config, views.View.View, work.Phase.Phase}}
 use Rattle.gated_tree.specs.Roles.{HasNoCharge, Out as OffTree, TreeState, sealed_by}
-use Rattle.holder_laws.proofs.HolderLaws.{finds_some, roles_tell}
-use Rattle.holder_laws.proofs.Words.{is_nobody, none_held, unpack_pack}
-use Rattle.holder_laws.specs.Events.{Finds, Freezes as FreezesHolders, HoldsFirst, Joins}
-use Rattle.holder_laws.specs.Roles.{Apart, Fills, Found, HolderRole, between, minds}
+use Rattle.holder_laws.proofs.{HolderLaws.{finds_some, roles_tell}, Words.{is_nobody, none_held, unpack_pack}}
+use Rattle.holder_laws.specs.{Events.{Finds, Freezes as FreezesHolders, HoldsFirst, Joins}, Roles.{Apart, Fills, Found, HolderRole, between, minds}}
 use Rattle.operation_laws.proofs.FreezeFits.{found_cases}
-use Rattle.stage_laws.specs.Events.{Advances, Begins, Completes, Fails, FreezesAtOnce, Happens, HoldsOne, LetsGo, LoadsSb, LoadsStage as FindsStage, Locks as LocksStage, LocksAgain as LocksStageAgain, Recalls, Releases as ReleasesStage, StageEvent, Stays, Syncs, action_of as stage_action_of, playing}
-use Rattle.stage_laws.specs.Roles.{Before, HasPassed, KnowsStage, Owning, StageRole, is_full, owns as stage_owns}
-use Rattle.std.proofs.Common.{ap, arith, inl, inr, refl, subst, sym, ℕ, ◌+◌, ◌<◌, ◌∙◌, ◌≡◌}
-use Rattle.std.proofs.lemmas.Bool.Decides.{eqb_tells}
+use Rattle.stage_laws.specs.Events.{Advances, Begins, Completes, Fails, FreezesAtOnce, Happens, HoldsOne, LetsGo, LoadsSb, LoadsStage as FindsStage}
+use Rattle.stage_laws.specs.Events.{Locks as LocksStage, LocksAgain as LocksStageAgain, Recalls, Releases as ReleasesStage, StageEvent, Stays, Syncs}
+use Rattle.stage_laws.specs.{Events.{action_of as stage_action_of, playing}, Roles.{Before, HasPassed, KnowsStage, Owning, StageRole, is_full}}
+use Rattle.stage_laws.specs.Roles.{owns as stage_owns}
+use Rattle.std.proofs.{Common.{ap, arith, inl, inr, refl, subst, sym, ℕ, ◌+◌, ◌<◌, ◌∙◌, ◌≡◌}, lemmas.Bool.Decides.eqb_tells}
 use Rattle.std.specs.Prelude.{Err, None, Ok, Option, Result, Some, false, if◌then◌else◌, true, ◌∷◌}
 use Rattle.tree_laws.specs.Events.{Event as TreeEvent, Leaves, Seals, turned}
 

@@ -1,42 +1,27 @@
 -- A freeze that no idle task keeps, and a callback, have a reply near, whoever is inside a section.
 use Rattle.access_model.specs.declared.actions.Holder.{Holder}
-use Rattle.cpu_words.specs.Hooks.{HookAnswer}
-use Rattle.cpu_words.specs.Words.{Words}
+use Rattle.cpu_words.specs.{Hooks.HookAnswer, Words.Words}
 use Rattle.file_closes.specs.declared.phases.ClosePhase.{ClosePhase}
 use Rattle.finite_sums.proofs.Totals.{each_updated, total_at, total_bound, total_updated, update_off}
 use Rattle.finite_sums.specs.Sums.{total, update}
-use Rattle.freeze_levels.specs.declared.freezes.Freeze.{Freeze}
-use Rattle.freeze_levels.specs.declared.freezes.FreezeStep.{FreezeStep}
-use Rattle.gate_world.specs.Configs.{IsWithin}
-use Rattle.gate_world.specs.Fits.{FreezeFits, PhaseFits, ReadStepFits}
-use Rattle.gate_world.specs.Levels.{inside}
-use Rattle.gate_world.specs.Operations.{holds_none_from}
-use Rattle.gate_world.specs.Roles.{freeze_stage_role, place_of, reopening_role}
-use Rattle.gate_world.specs.Rules.{IsGood, Owner, Sections, Stages, owns}
-use Rattle.gate_world.specs.Shown.{stage_role_of, stage_roles}
-use Rattle.gate_world.specs.Views.{held_of, holds_level, view_after}
-use Rattle.gate_world.specs.Worlds.{World, after_step, value_at}
-use Rattle.gate_world.specs.declared.config.Config.{Config}
-use Rattle.gate_world.specs.declared.views.View.{View}
+use Rattle.freeze_levels.specs.declared.freezes.{Freeze.Freeze, FreezeStep.FreezeStep}
+use Rattle.gate_world.specs.{Configs.IsWithin, Fits.{FreezeFits, PhaseFits, ReadStepFits}, Levels.inside, Operations.holds_none_from, Roles.freeze_stage_role}
+use Rattle.gate_world.specs.{Roles.{place_of, reopening_role}, Rules.{IsGood, Owner, Sections, Stages, owns}, Shown.{stage_role_of, stage_roles}}
+use Rattle.gate_world.specs.{Views.{held_of, holds_level, view_after}, Worlds.{World, after_step, value_at}, declared.{config.Config.Config, views.View.View}}
 use Rattle.gate_world.specs.declared.work.Phase.{Phase}
 use Rattle.gated_tree.specs.declared.phases.TreePhase.{TreePhase}
 use Rattle.level_laws.specs.Operations.{down_read_inside}
 use Rattle.mount_counts.specs.declared.phases.MountPhase.{MountPhase}
-use Rattle.percpu_rwsem.specs.declared.callbacks.Callback.{Callback}
-use Rattle.percpu_rwsem.specs.declared.readers.DownReadStep.{DownReadStep}
-use Rattle.percpu_rwsem.specs.declared.writers.UpWriteStep.{UpWriteStep}
-use Rattle.operation_laws.proofs.Bounds.{alone_settled, beside_settled}
-use Rattle.operation_laws.proofs.Falls.{no_further}
-use Rattle.operation_laws.proofs.Leaves.{StaysBeside, all_leave, all_within, inside_le, phase_beside}
-use Rattle.operation_laws.proofs.Movers.{HasOwner, OwnerFreezes, beside_goes, fits_at, free_goes, has_owner, hold_clear, holds_below, holds_not_none, nothing_counted, open_above, owner_free}
-use Rattle.operation_laws.specs.Progress.{EventsKeepRule, IsHeldIdle, IsKept, ReplyWithin, next_level}
-use Rattle.operation_laws.specs.Ranks.{most_alone, most_beside, most_settled}
+use Rattle.percpu_rwsem.specs.declared.{callbacks.Callback.Callback, readers.DownReadStep.DownReadStep, writers.UpWriteStep.UpWriteStep}
+use Rattle.operation_laws.proofs.{Bounds.{alone_settled, beside_settled}, Falls.no_further, Leaves.{StaysBeside, all_leave, all_within, inside_le}}
+use Rattle.operation_laws.proofs.{Leaves.phase_beside, Movers.{HasOwner, OwnerFreezes, beside_goes, fits_at, free_goes, has_owner, hold_clear, holds_below}}
+use Rattle.operation_laws.proofs.Movers.{holds_not_none, nothing_counted, open_above, owner_free}
+use Rattle.operation_laws.specs.{Progress.{EventsKeepRule, IsHeldIdle, IsKept, ReplyWithin, next_level}, Ranks.{most_alone, most_beside, most_settled}}
 use Rattle.operation_laws.specs.Ways.{FreezeIsFree, FreezeLocksFree, NobodyInside, PhaseEnds}
 use Rattle.stage_laws.proofs.Facts.{other_zero}
 use Rattle.stage_laws.specs.Roles.{Freezing, HasPassed, KnowsStage, Place, freezes, owns as stage_owns, under_way}
 use Rattle.std.proofs.Common.{Bool, ap, arith, false, inl, inr, refl, subst, suc, sym, true, true≢false, zero, ℕ, ◌<◌, ◌∙◌, ◌≡◌, ◌≤◌}
-use Rattle.std.proofs.lemmas.Bool.{cases_Bool, cases_lt, ne_eqb}
-use Rattle.std.proofs.lemmas.Bool.Decides.{eqb_tells}
+use Rattle.std.proofs.lemmas.Bool.{cases_Bool, cases_lt, ne_eqb, Decides.eqb_tells}
 use Rattle.std.specs.Prelude.{None, Option, Some, if◌then◌else◌, is_some, nat_lt, ◌&&◌, ◌*◌, ◌+◌, ◌-◌, ◌==◌, ◌⊎◌}
 use Rattle.write_access.specs.declared.phases.WritePhase.{WritePhase}
 

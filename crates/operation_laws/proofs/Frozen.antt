@@ -1,31 +1,13 @@
 -- Where the file system is frozen nobody has charged anything, so the tree is sound and clean. It is sound, too, where nobody is at work.
 use Rattle.file_closes.specs.declared.phases.ClosePhase.{ClosePhase}
 use Rattle.freeze_levels.specs.declared.freezes.FreezeStep.{FreezeStep}
-use Rattle.gate_frames.proofs.CloseEvents.{closer_thawed, removal_counted}
-use Rattle.gate_frames.proofs.TreeHolders.{writer_not_frozen}
-use Rattle.gate_frames.proofs.Trees.{sealed_frozen}
-use Rattle.gate_world.specs.Configs.{IsWithin}
-use Rattle.gate_world.specs.Fits.{CloseFits, Fits}
-use Rattle.gate_world.specs.Headline.{FrozenTreeIsWhole, TreeIsSound}
-use Rattle.gate_world.specs.Holdings.{Holdings}
-use Rattle.gate_world.specs.Operations.{is_writer}
-use Rattle.gate_world.specs.Roles.{close_tree_role, freeze_tree_role, remount_tree_role}
-use Rattle.gate_world.specs.Rules.{Fitting, IsGood, Tree}
-use Rattle.gate_world.specs.Snapshots.{values_noted}
-use Rattle.gate_world.specs.Trees.{tree_bounds, tree_of, tree_role_of, tree_roles}
-use Rattle.gate_world.specs.Views.{held_of}
-use Rattle.gate_world.specs.Worlds.{World}
-use Rattle.gate_world.specs.declared.config.Config.{Config}
-use Rattle.gate_world.specs.declared.views.Traced.{Traced}
-use Rattle.gate_world.specs.declared.work.Phase.{Phase}
-use Rattle.gated_tree.specs.Calls.{mark_role, open_role, snapshot_role}
-use Rattle.gated_tree.specs.Roles.{HasNoCharge, removal}
-use Rattle.gated_tree.specs.declared.marks.Mark.{Mark}
-use Rattle.gated_tree.specs.declared.marks.MarkStep.{MarkStep}
-use Rattle.gated_tree.specs.declared.opens.OpenFile.{OpenFile}
-use Rattle.gated_tree.specs.declared.opens.OpenStep.{OpenStep}
-use Rattle.gated_tree.specs.declared.phases.TreePhase.{TreePhase}
-use Rattle.gated_tree.specs.declared.snapshots.SnapshotStep.{SnapshotStep}
+use Rattle.gate_frames.proofs.{CloseEvents.{closer_thawed, removal_counted}, TreeHolders.writer_not_frozen, Trees.sealed_frozen}
+use Rattle.gate_world.specs.{Configs.IsWithin, Fits.{CloseFits, Fits}, Headline.{FrozenTreeIsWhole, TreeIsSound}, Holdings.Holdings, Operations.is_writer}
+use Rattle.gate_world.specs.{Roles.{close_tree_role, freeze_tree_role, remount_tree_role}, Rules.{Fitting, IsGood, Tree}, Snapshots.values_noted}
+use Rattle.gate_world.specs.{Trees.{tree_bounds, tree_of, tree_role_of, tree_roles}, Views.held_of, Worlds.World, declared.config.Config.Config}
+use Rattle.gate_world.specs.declared.{views.Traced.Traced, work.Phase.Phase}
+use Rattle.gated_tree.specs.{Calls.{mark_role, open_role, snapshot_role}, Roles.{HasNoCharge, removal}, declared.marks.{Mark.Mark, MarkStep.MarkStep}}
+use Rattle.gated_tree.specs.declared.{opens.{OpenFile.OpenFile, OpenStep.OpenStep}, phases.TreePhase.TreePhase, snapshots.SnapshotStep.SnapshotStep}
 use Rattle.mount_counts.specs.declared.remounts.RemountStep.{RemountStep}
 use Rattle.std.proofs.Common.{arith, refl, subst, sym, ℕ, ◌<◌, ◌≡◌}
 use Rattle.std.specs.Prelude.{Err, List, None, Ok, Option, Some, true}

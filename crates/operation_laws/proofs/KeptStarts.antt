@@ -1,16 +1,11 @@
 -- A start or a last close that is kept stays so by its own events, which leave the words that others are kept by.
-use Rattle.std.proofs.Common.{◌≡◌, Bool, true, false, refl, sym, ap, ◌∙◌, arith, true≢false}
+use Rattle.std.proofs.{Common.{◌≡◌, Bool, true, false, refl, sym, ap, ◌∙◌, arith, true≢false}, lemmas.Bool.ne_eqb}
 use Rattle.std.specs.Prelude.{◌==◌}
-use Rattle.std.proofs.lemmas.Bool.{ne_eqb}
-use Rattle.access_model.specs.declared.replies.Next.{Next}
-use Rattle.access_model.specs.declared.replies.Next.TheVariants.{Go, Wait, Done}
-use Rattle.cpu_words.specs.Words.{Words, read}
-use Rattle.cpu_words.specs.Touches.{found_by}
-use Rattle.percpu_rwsem.specs.declared.readers.DownRead.{DownRead}
-use Rattle.percpu_rwsem.specs.declared.readers.DownReadStep.{DownReadStep}
-use Rattle.percpu_rwsem.specs.declared.readers.DownReadStep.TheVariants.{EntersSection, LoadsSync, CountsUpFast, CountsUpSlow, LoadsBlock, CountsDown, LeavesAdmitted, LeavesBlocked}
-use Rattle.percpu_rwsem.specs.Readers.{down_read_next, down_read_after, step_found, left_blocked}
-use Rattle.percpu_rwsem.specs.SyncWords.{unpack}
+use Rattle.access_model.specs.declared.replies.Next.{Next, TheVariants.{Go, Wait, Done}}
+use Rattle.cpu_words.specs.{Touches.found_by, Words.{Words, read}}
+use Rattle.percpu_rwsem.specs.{Readers.{down_read_next, down_read_after, step_found, left_blocked}, SyncWords.unpack, declared.readers.DownRead.DownRead}
+use Rattle.percpu_rwsem.specs.declared.readers.DownReadStep.{DownReadStep, TheVariants.{EntersSection, LoadsSync, CountsUpFast, CountsUpSlow, LoadsBlock}}
+use Rattle.percpu_rwsem.specs.declared.readers.DownReadStep.TheVariants.{CountsDown, LeavesAdmitted, LeavesBlocked}
 use Rattle.operation_laws.specs.Progress.{is_admitted}
 use Rattle.operation_laws.proofs.Falls.{after_event}
 

@@ -1,77 +1,40 @@
 -- Where each operation under way is kept, no event of one of them is a reply, and all stay kept.
-use Rattle.access_model.specs.Replies.{map_next}
-use Rattle.access_model.specs.declared.actions.Action.{Action}
-use Rattle.access_model.specs.declared.actions.Action.TheVariants.{Pass}
-use Rattle.access_model.specs.declared.replies.Next.{Next}
-use Rattle.access_model.specs.declared.replies.Next.TheVariants.{Done, Go, Wait}
-use Rattle.cpu_words.specs.Hooks.{HookAnswer}
-use Rattle.cpu_words.specs.Touches.{found_by, left}
-use Rattle.cpu_words.specs.Words.{Words, put, read}
-use Rattle.cpu_words.specs.declared.events.Touch.TheVariants.{Cas}
+use Rattle.access_model.specs.{Replies.map_next, declared.{actions.Action.{Action, TheVariants.Pass}, replies.Next.{Next, TheVariants.{Done, Go, Wait}}}}
+use Rattle.cpu_words.specs.{Hooks.HookAnswer, Touches.{found_by, left}, Words.{Words, put, read}, declared.events.Touch.TheVariants.Cas}
 use Rattle.cpu_words.specs.declared.names.WordName.TheVariants.{Node, Umount}
-use Rattle.file_closes.specs.Phases.{after as close_after, enters, then_frees}
-use Rattle.file_closes.specs.declared.phases.ClosePhase.TheVariants.{Enters as EntersLevel, LoadsFile as CloseLoadsFile}
-use Rattle.file_closes.specs.declared.phases.Closing.{Closing}
+use Rattle.file_closes.specs.{Phases.{after as close_after, enters, then_frees}, declared.phases.ClosePhase.TheVariants.Enters as EntersLevel}
+use Rattle.file_closes.specs.declared.phases.{ClosePhase.TheVariants.LoadsFile as CloseLoadsFile, Closing.Closing}
 use Rattle.finite_sums.proofs.Totals.{each_updated, update_off}
-use Rattle.freeze_levels.specs.Freezes.{after_closing, at_freeze, freeze_closes, level_closed}
-use Rattle.freeze_levels.specs.Thaws.{at_thaw}
-use Rattle.freeze_levels.specs.declared.freezes.Freeze.{Freeze}
-use Rattle.freeze_levels.specs.declared.freezes.FreezeStep.{FreezeStep}
-use Rattle.freeze_levels.specs.declared.freezes.FreezeStep.TheVariants.{Cleans, Closes, LoadsStage, LoadsSuperblock, Locks as FreezeLocks, LocksAgain, SetsFs, SetsPageFault, SetsWrite, Unlocks}
-use Rattle.freeze_levels.specs.declared.thaws.Thaw.{Thaw}
-use Rattle.freeze_levels.specs.declared.thaws.ThawStep.{ThawStep}
-use Rattle.freeze_levels.specs.declared.thaws.ThawStep.TheVariants.{Locks as ThawLocks}
-use Rattle.gate_frames.proofs.Owners.{owns_le}
-use Rattle.gate_frames.proofs.Words.{load_same}
-use Rattle.gate_world.specs.Fits.{FreezeFits, PhaseFits}
-use Rattle.gate_world.specs.Levels.{is_frozen_whole, sync_role_of}
-use Rattle.gate_world.specs.Roles.{freeze_stage_role}
-use Rattle.gate_world.specs.Rules.{IsGood, Moves as MovesModel, Owner, Stages, SyncAt, SyncHoldsIn, Tree, owns}
-use Rattle.gate_world.specs.Shown.{shown, stage_role_of}
-use Rattle.gate_world.specs.Views.{held_of, holds_level, phase_after, view_after}
-use Rattle.gate_world.specs.Work.{after_of}
-use Rattle.gate_world.specs.Worlds.{World, after_step, found_at, phase_action, value_at, words_after}
-use Rattle.gate_world.specs.declared.config.Config.{Config}
-use Rattle.gate_world.specs.declared.views.View.{View}
-use Rattle.gate_world.specs.declared.work.Phase.{Phase}
-use Rattle.gate_world.specs.declared.work.Phase.TheVariants.{Closes as FileCloses, DownReads, Freezes, Mounts, Remounts, Thaws, Trees, Writes}
-use Rattle.gated_tree.proofs.ClearedMarks.{IsCleared, clears_mark, without_mark}
-use Rattle.gated_tree.proofs.Packing.{packed_unpacks}
-use Rattle.gated_tree.specs.Nodes.{IsPacked, kind_in, node_of, opens_in, removed_in}
-use Rattle.gated_tree.specs.declared.marks.ClearMarks.{ClearMarks}
-use Rattle.gated_tree.specs.declared.phases.TreePhase.TheVariants.{Snapshot as Snapshots}
-use Rattle.gated_tree.specs.declared.snapshots.Snapshot.{Snapshot}
-use Rattle.gated_tree.specs.declared.snapshots.SnapshotStep.{SnapshotStep}
+use Rattle.freeze_levels.specs.{Freezes.{after_closing, at_freeze, freeze_closes, level_closed}, Thaws.at_thaw, declared.freezes.Freeze.Freeze}
+use Rattle.freeze_levels.specs.declared.freezes.FreezeStep.{FreezeStep, TheVariants.{Cleans, Closes, LoadsStage, LoadsSuperblock, Locks as FreezeLocks}}
+use Rattle.freeze_levels.specs.declared.{freezes.FreezeStep.TheVariants.{LocksAgain, SetsFs, SetsPageFault, SetsWrite, Unlocks}, thaws.Thaw.Thaw}
+use Rattle.freeze_levels.specs.declared.thaws.ThawStep.{ThawStep, TheVariants.Locks as ThawLocks}
+use Rattle.gate_frames.proofs.{Owners.owns_le, Words.load_same}
+use Rattle.gate_world.specs.{Fits.{FreezeFits, PhaseFits}, Levels.{is_frozen_whole, sync_role_of}, Roles.freeze_stage_role, Rules.IsGood}
+use Rattle.gate_world.specs.{Rules.{Moves as MovesModel, Owner, Stages, SyncAt, SyncHoldsIn, Tree, owns}, Shown.{shown, stage_role_of}, Views.held_of}
+use Rattle.gate_world.specs.{Views.{holds_level, phase_after, view_after}, Work.after_of, Worlds.{World, after_step, found_at, phase_action, value_at}}
+use Rattle.gate_world.specs.{Worlds.words_after, declared.{config.Config.Config, views.View.View, work.Phase.{Phase, TheVariants.Closes as FileCloses}}}
+use Rattle.gate_world.specs.declared.work.Phase.TheVariants.{DownReads, Freezes, Mounts, Remounts, Thaws, Trees, Writes}
+use Rattle.gated_tree.proofs.{ClearedMarks.{IsCleared, clears_mark, without_mark}, Packing.packed_unpacks}
+use Rattle.gated_tree.specs.{Nodes.{IsPacked, kind_in, node_of, opens_in, removed_in}, declared.marks.ClearMarks.ClearMarks}
+use Rattle.gated_tree.specs.declared.{phases.TreePhase.TheVariants.Snapshot as Snapshots, snapshots.{Snapshot.Snapshot, SnapshotStep.SnapshotStep}}
 use Rattle.gated_tree.specs.declared.snapshots.SnapshotStep.TheVariants.{Locks as SnapshotLocks}
-use Rattle.mount_counts.specs.Remounts.{at_remount}
-use Rattle.mount_counts.specs.declared.phases.Change.{Change}
-use Rattle.mount_counts.specs.declared.phases.ChangeStep.{ChangeStep}
-use Rattle.mount_counts.specs.declared.phases.ChangeStep.TheVariants.{Locks as ChangeLocks}
-use Rattle.mount_counts.specs.declared.phases.MountPhase.TheVariants.{Change as Changes}
-use Rattle.mount_counts.specs.declared.remounts.Remount.{Remount}
-use Rattle.mount_counts.specs.declared.remounts.RemountStep.{RemountStep}
+use Rattle.mount_counts.specs.{Remounts.at_remount, declared.phases.{Change.Change, ChangeStep.{ChangeStep, TheVariants.Locks as ChangeLocks}}}
+use Rattle.mount_counts.specs.declared.{phases.MountPhase.TheVariants.Change as Changes, remounts.{Remount.Remount, RemountStep.RemountStep}}
 use Rattle.mount_counts.specs.declared.remounts.RemountStep.TheVariants.{Locks as RemountLocks}
-use Rattle.percpu_rwsem.specs.Readers.{down_read_after, down_read_next, step_found}
-use Rattle.percpu_rwsem.specs.Writers.{down_write_after}
-use Rattle.percpu_rwsem.specs.declared.readers.DownRead.{DownRead}
+use Rattle.percpu_rwsem.specs.{Readers.{down_read_after, down_read_next, step_found}, Writers.down_write_after, declared.readers.DownRead.DownRead}
 use Rattle.percpu_rwsem.specs.declared.writers.DownWrite.{DownWrite}
-use Rattle.operation_laws.proofs.Falls.{after_event, happens_is, stands_after}
-use Rattle.operation_laws.proofs.Freezing.{next_same, not_none}
-use Rattle.operation_laws.proofs.KeptCloses.{StaysAtLevel, down_beside, down_blocks, down_nodes, down_stays}
-use Rattle.operation_laws.proofs.KeptStarts.{StaysKept, read_nodes, start_stays}
-use Rattle.operation_laws.proofs.Leaves.{StaysBeside, read_beside}
-use Rattle.operation_laws.proofs.LevelFacts.{blocked_slow}
-use Rattle.operation_laws.proofs.Movers.{fits_at}
-use Rattle.operation_laws.proofs.ReadEnds.{read_blocks}
-use Rattle.operation_laws.proofs.Whole.{first_finds, first_is, or_phase}
-use Rattle.operation_laws.specs.Progress.{AllAreKept, ChangeIsKept, EventsMoveModel, FreezeIsKept, HasReply, IsAgreed, IsHeldIdle, IsKept, IsKeptAt, KeptIfFreeze, KeptStays, LockIsKept, RemountIsKept, SnapshotIsKept, StartIsKept, ThawIsKept, begins_freeze, is_admitted, is_first_lock, is_last_close, next_level}
+use Rattle.operation_laws.proofs.{Falls.{after_event, happens_is, stands_after}, Freezing.{next_same, not_none}, KeptCloses.{StaysAtLevel, down_beside}}
+use Rattle.operation_laws.proofs.{KeptCloses.{down_blocks, down_nodes, down_stays}, KeptStarts.{StaysKept, read_nodes, start_stays}, Leaves.StaysBeside}
+use Rattle.operation_laws.proofs.{Leaves.read_beside, LevelFacts.blocked_slow, Movers.fits_at, ReadEnds.read_blocks, Whole.{first_finds, first_is, or_phase}}
+use Rattle.operation_laws.specs.Progress.{AllAreKept, ChangeIsKept, EventsMoveModel, FreezeIsKept, HasReply, IsAgreed, IsHeldIdle, IsKept, IsKeptAt}
+use Rattle.operation_laws.specs.Progress.{KeptIfFreeze, KeptStays, LockIsKept, RemountIsKept, SnapshotIsKept, StartIsKept, ThawIsKept, begins_freeze}
+use Rattle.operation_laws.specs.Progress.{is_admitted, is_first_lock, is_last_close, next_level}
 use Rattle.stage_laws.specs.Roles.{KnowsStage, bit, owns as stage_owns}
-use Rattle.std.proofs.Common.{Bool, ap, arith, false, inl, inr, refl, subst, sym, true, true≢false, ℕ, ◌<◌, ◌∙◌, ◌≡◌, ◌≤◌}
-use Rattle.std.proofs.lemmas.Bool.{and_parts, cases_Bool, eqb-true, ne_eqb}
-use Rattle.std.proofs.lemmas.Bool.Decides.{eqb_tells}
+use Rattle.std.proofs.{Common.{Bool, ap, arith, false, inl, inr, refl, subst, sym, true, true≢false, ℕ, ◌<◌, ◌∙◌, ◌≡◌, ◌≤◌}, lemmas.Bool.and_parts}
+use Rattle.std.proofs.lemmas.Bool.{cases_Bool, eqb-true, ne_eqb, Decides.eqb_tells}
 use Rattle.std.specs.Prelude.{Err, Ok, Option, Some, if◌then◌else◌, nat_lt, ◌&&◌, ◌+◌, ◌==◌}
-use Rattle.write_access.specs.Phases.{then_wants}
-use Rattle.write_access.specs.declared.phases.WritePhase.TheVariants.{Takes}
+use Rattle.write_access.specs.{Phases.then_wants, declared.phases.WritePhase.TheVariants.Takes}
 
 -- A freeze that has level 1 behind it reads no word for which levels it has to pass,
 if_far : (b : Bool) → 2 ≤ (if b then 1 else 4) → 4 ≤ (if b then 1 else 4)

@@ -1,45 +1,24 @@
 -- Who is inside a read-side section leaves it by a few events of its own, so where a reply is near once nobody is inside one, it is near.
-use Rattle.std.proofs.Common.{◌≡◌, ℕ, zero, suc, ◌+◌, ◌*◌, ◌<◌, ◌≤◌, Bool, true, false, refl, sym, ap, ◌∙◌, inl, inr, arith}
+use Rattle.std.proofs.{Common.{◌≡◌, ℕ, zero, suc, ◌+◌, ◌*◌, ◌<◌, ◌≤◌, Bool, true, false, refl, sym, ap, ◌∙◌, inl, inr, arith}, lemmas.Bool.Decides.eqb_tells}
 use Rattle.std.specs.Prelude.{◌⊎◌, Option, Some, None, Ok, Err}
-use Rattle.std.proofs.lemmas.Bool.Decides.{eqb_tells}
 use Rattle.finite_sums.specs.Sums.{total}
 use Rattle.finite_sums.proofs.Totals.{total_updated, total_place, HasPlace}
-use Rattle.access_model.specs.declared.replies.Next.{Next}
-use Rattle.access_model.specs.declared.replies.Next.TheVariants.{Go, Wait, Done}
-use Rattle.access_model.specs.Replies.{map_next}
-use Rattle.cpu_words.specs.Hooks.{HookAnswer}
-use Rattle.cpu_words.specs.Touches.{found_by}
-use Rattle.cpu_words.specs.Words.{Words, read}
-use Rattle.percpu_rwsem.specs.declared.sync_word.GpState.{GpState}
-use Rattle.percpu_rwsem.specs.declared.sync_word.GpState.TheVariants.{Idle, Enter, Passed, Exit, Replay}
-use Rattle.percpu_rwsem.specs.declared.sync_word.SyncWord.{SyncWord}
-use Rattle.percpu_rwsem.specs.SyncWords.{unpack}
-use Rattle.percpu_rwsem.specs.declared.readers.DownRead.{DownRead}
-use Rattle.percpu_rwsem.specs.declared.readers.DownReadStep.{DownReadStep}
-use Rattle.percpu_rwsem.specs.declared.readers.DownReadStep.TheVariants.{EntersSection, LoadsSync, CountsUpFast, CountsUpSlow, LoadsBlock, CountsDown, LeavesAdmitted, LeavesBlocked}
-use Rattle.percpu_rwsem.specs.Readers.{down_read_next, down_read_after, step_in, step_found, left_blocked}
+use Rattle.access_model.specs.{Replies.map_next, declared.replies.Next.{Next, TheVariants.{Go, Wait, Done}}}
+use Rattle.cpu_words.specs.{Hooks.HookAnswer, Touches.found_by, Words.{Words, read}}
+use Rattle.percpu_rwsem.specs.{Readers.{down_read_next, down_read_after, step_in, step_found, left_blocked}, SyncWords.unpack}
+use Rattle.percpu_rwsem.specs.declared.readers.{DownRead.DownRead, DownReadStep.{DownReadStep, TheVariants.{EntersSection, LoadsSync, CountsUpFast}}}
+use Rattle.percpu_rwsem.specs.declared.readers.DownReadStep.TheVariants.{CountsUpSlow, LoadsBlock, CountsDown, LeavesAdmitted, LeavesBlocked}
+use Rattle.percpu_rwsem.specs.declared.sync_word.{GpState.{GpState, TheVariants.{Idle, Enter, Passed, Exit, Replay}}, SyncWord.SyncWord}
 use Rattle.level_laws.specs.Operations.{down_read_inside}
-use Rattle.write_access.specs.declared.phases.WritePhase.TheVariants.{Takes}
-use Rattle.write_access.specs.Phases.{then_wants}
-use Rattle.file_closes.specs.declared.phases.ClosePhase.TheVariants.{Enters as EntersLevel}
-use Rattle.file_closes.specs.Phases.{then_frees}
+use Rattle.write_access.specs.{Phases.then_wants, declared.phases.WritePhase.TheVariants.Takes}
+use Rattle.file_closes.specs.{Phases.then_frees, declared.phases.ClosePhase.TheVariants.Enters as EntersLevel}
 use Rattle.gated_tree.specs.declared.nodes.NodeWord.{NodeWord}
-use Rattle.gate_world.specs.declared.config.Config.{Config}
-use Rattle.gate_world.specs.declared.work.Phase.{Phase}
-use Rattle.gate_world.specs.declared.work.Phase.TheVariants.{DownReads, Writes, Closes as FileCloses}
-use Rattle.gate_world.specs.declared.views.View.{View}
-use Rattle.gate_world.specs.Levels.{inside}
-use Rattle.gate_world.specs.Rules.{IsGood}
-use Rattle.gate_world.specs.Views.{phase_after, view_after}
-use Rattle.gate_world.specs.Work.{next_of, after_of}
-use Rattle.gate_world.specs.Configs.{IsWithin}
-use Rattle.gate_world.specs.Courses.{MayHold, MayFind}
+use Rattle.gate_world.specs.{Configs.IsWithin, Courses.{MayHold, MayFind}, Levels.inside, Rules.IsGood, Views.{phase_after, view_after}, Work.next_of}
+use Rattle.gate_world.specs.{Work.after_of, Worlds.{World, after_step, words_after, value_at, found_at}, declared.{config.Config.Config, views.View.View}}
+use Rattle.gate_world.specs.declared.work.Phase.{Phase, TheVariants.{DownReads, Writes, Closes as FileCloses}}
 use Rattle.gate_frames.proofs.MayHolds.{events_may_be}
-use Rattle.gate_world.specs.Worlds.{World, after_step, words_after, value_at, found_at}
-use Rattle.operation_laws.specs.Progress.{EventsKeepRule, HasReply, ReplyWithin}
-use Rattle.operation_laws.specs.Ranks.{read_rank}
-use Rattle.operation_laws.proofs.Falls.{after_event, stands_after, no_further, near_after}
-use Rattle.operation_laws.proofs.ReadEnds.{found_rank}
+use Rattle.operation_laws.specs.{Progress.{EventsKeepRule, HasReply, ReplyWithin}, Ranks.read_rank}
+use Rattle.operation_laws.proofs.{Falls.{after_event, stands_after, no_further, near_after}, ReadEnds.found_rank}
 
 -- how many events may still come after the next one, until it is outside
 abbrev pub leave_rank : Phase → ℕ

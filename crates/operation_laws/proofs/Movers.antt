@@ -4,43 +4,24 @@ use Rattle.cpu_words.specs.Words.{Words}
 use Rattle.file_closes.specs.declared.phases.ClosePhase.{ClosePhase}
 use Rattle.finite_sums.proofs.Totals.{total_at, total_none}
 use Rattle.finite_sums.specs.Sums.{total}
-use Rattle.freeze_levels.specs.declared.freezes.Freeze.{Freeze}
-use Rattle.freeze_levels.specs.declared.freezes.FreezeStep.{FreezeStep}
-use Rattle.freeze_levels.specs.declared.thaws.ThawStep.{ThawStep}
+use Rattle.freeze_levels.specs.declared.{freezes.{Freeze.Freeze, FreezeStep.FreezeStep}, thaws.ThawStep.ThawStep}
 use Rattle.gate_counts.proofs.Events.{words_sum}
-use Rattle.gate_counts.specs.Gates.{BarringHolds, admitted, below, counted, unread}
-use Rattle.gate_counts.specs.Levels.{LevelRole, Passed, barring_of, level_as_gate, processor_of}
-use Rattle.gate_frames.proofs.LevelWorlds.{callback_opens, read_opens}
-use Rattle.gate_frames.proofs.Owners.{hold_owns, owns_le, who_holds}
-use Rattle.gate_world.specs.Configs.{IsWithin}
-use Rattle.gate_world.specs.Fits.{Fits, PhaseFits}
-use Rattle.gate_world.specs.Levels.{at_level, inside, is_frozen_whole, level_role_of, sync_role_of}
-use Rattle.gate_world.specs.Operations.{holds_none, holds_none_from}
-use Rattle.gate_world.specs.Remounts.{remount_owns}
-use Rattle.gate_world.specs.Roles.{Stand, change_owns, count_beside, count_role_if, down_count_role, freeze_stand, read_count_role, snapshot_stage_role, stand_count, stand_sync, thaw_stage_role, thaw_stand, up_count_role}
-use Rattle.gate_world.specs.Rules.{AtLevel, AtMount, Fitting, IsGood, LevelHoldsIn, Owner, SyncAt, SyncHoldsIn, owns, role_of}
-use Rattle.gate_world.specs.Views.{held_of, holds_level}
-use Rattle.gate_world.specs.Worlds.{World}
-use Rattle.gate_world.specs.declared.config.Config.{Config}
-use Rattle.gate_world.specs.declared.work.Phase.{Phase}
-use Rattle.gated_tree.specs.declared.phases.TreePhase.{TreePhase}
-use Rattle.gated_tree.specs.declared.snapshots.SnapshotStep.{SnapshotStep}
-use Rattle.level_laws.specs.Operations.{down_read_inside}
-use Rattle.level_laws.specs.Roles.{Out as IsApart, closed}
-use Rattle.mount_counts.specs.Phases.{has_flag}
-use Rattle.mount_counts.specs.Roles.{has_hold}
-use Rattle.mount_counts.specs.declared.phases.ChangeStep.{ChangeStep}
-use Rattle.mount_counts.specs.declared.phases.MountPhase.{MountPhase}
+use Rattle.gate_counts.specs.{Gates.{BarringHolds, admitted, below, counted, unread}, Levels.{LevelRole, Passed, barring_of, level_as_gate, processor_of}}
+use Rattle.gate_frames.proofs.{LevelWorlds.{callback_opens, read_opens}, Owners.{hold_owns, owns_le, who_holds}}
+use Rattle.gate_world.specs.{Configs.IsWithin, Fits.{Fits, PhaseFits}, Levels.{at_level, inside, is_frozen_whole, level_role_of, sync_role_of}}
+use Rattle.gate_world.specs.{Operations.{holds_none, holds_none_from}, Remounts.remount_owns, Roles.{Stand, change_owns, count_beside, count_role_if}}
+use Rattle.gate_world.specs.Roles.{down_count_role, freeze_stand, read_count_role, snapshot_stage_role, stand_count, stand_sync, thaw_stage_role, thaw_stand}
+use Rattle.gate_world.specs.{Roles.up_count_role, Rules.{AtLevel, AtMount, Fitting, IsGood, LevelHoldsIn, Owner, SyncAt, SyncHoldsIn, owns, role_of}}
+use Rattle.gate_world.specs.{Views.{held_of, holds_level}, Worlds.World, declared.{config.Config.Config, work.Phase.Phase}}
+use Rattle.gated_tree.specs.declared.{phases.TreePhase.TreePhase, snapshots.SnapshotStep.SnapshotStep}
+use Rattle.level_laws.specs.{Operations.down_read_inside, Roles.{Out as IsApart, closed}}
+use Rattle.mount_counts.specs.{Phases.has_flag, Roles.has_hold, declared.phases.{ChangeStep.ChangeStep, MountPhase.MountPhase}}
 use Rattle.mount_counts.specs.declared.remounts.RemountStep.{RemountStep}
 use Rattle.mount_laws.proofs.Bits.{hold_set}
-use Rattle.percpu_rwsem.specs.declared.readers.DownReadStep.{DownReadStep}
-use Rattle.percpu_rwsem.specs.declared.writers.DownWriteStep.{DownWriteStep}
-use Rattle.percpu_rwsem.specs.declared.writers.UpWriteStep.{UpWriteStep}
-use Rattle.operation_laws.proofs.Bounds.{beside_small, is_beside, rank_small}
-use Rattle.operation_laws.proofs.Falls.{runs_out}
-use Rattle.operation_laws.specs.Progress.{EventsKeepRule, ReplyWithin}
-use Rattle.operation_laws.specs.Ranks.{most_alone, most_beside}
-use Rattle.operation_laws.specs.Ways.{ChangeIsFree, HoldIsClear, IsFree, NothingCounted, PhaseEnds, RemountIsFree, SnapshotIsFree, ThawIsFree}
+use Rattle.percpu_rwsem.specs.declared.{readers.DownReadStep.DownReadStep, writers.{DownWriteStep.DownWriteStep, UpWriteStep.UpWriteStep}}
+use Rattle.operation_laws.proofs.{Bounds.{beside_small, is_beside, rank_small}, Falls.runs_out}
+use Rattle.operation_laws.specs.{Progress.{EventsKeepRule, ReplyWithin}, Ranks.{most_alone, most_beside}, Ways.{ChangeIsFree, HoldIsClear, IsFree}}
+use Rattle.operation_laws.specs.Ways.{NothingCounted, PhaseEnds, RemountIsFree, SnapshotIsFree, ThawIsFree}
 use Rattle.stage_laws.specs.Roles.{owns as stage_owns}
 use Rattle.std.proofs.Common.{Bool, ap, arith, false, inl, inr, refl, subst, suc, sym, true, true≢false, zero, ℕ, ◌<◌, ◌∙◌, ◌≡◌, ◌≤◌}
 use Rattle.std.proofs.lemmas.Bool.{and_parts, cases_Bool, cases_lt, le-ltb, lt-ltb, ltb-true, ne_eqb, not-true, or_cases}

@@ -1,32 +1,17 @@
 -- With an operation under way, a reply is near, or the file system is frozen as a whole, or a freeze is kept by an idle task.
 use Rattle.file_closes.specs.declared.phases.ClosePhase.{ClosePhase}
 use Rattle.finite_sums.proofs.Totals.{HasPlace, total_place}
-use Rattle.freeze_levels.specs.declared.freezes.Freeze.{Freeze}
-use Rattle.freeze_levels.specs.declared.freezes.FreezeStep.{FreezeStep}
-use Rattle.freeze_levels.specs.declared.thaws.ThawStep.{ThawStep}
-use Rattle.gate_world.specs.Configs.{IsWithin}
-use Rattle.gate_world.specs.Fits.{PhaseFits}
-use Rattle.gate_world.specs.Levels.{is_frozen_whole}
-use Rattle.gate_world.specs.Roles.{freeze_stage_role, remount_stage_role, snapshot_stage_role, thaw_stage_role, tree_stage_role}
-use Rattle.gate_world.specs.Rules.{IsGood, Stages}
-use Rattle.gate_world.specs.Shown.{stage_role_of, stage_roles}
-use Rattle.gate_world.specs.Views.{held_of}
-use Rattle.gate_world.specs.Worlds.{World}
-use Rattle.gate_world.specs.declared.config.Config.{Config}
-use Rattle.gate_world.specs.declared.work.Phase.{Phase}
-use Rattle.gated_tree.specs.declared.phases.TreePhase.{TreePhase}
-use Rattle.gated_tree.specs.declared.snapshots.SnapshotStep.{SnapshotStep}
-use Rattle.mount_counts.specs.declared.phases.ChangeStep.{ChangeStep}
-use Rattle.mount_counts.specs.declared.phases.MountPhase.{MountPhase}
-use Rattle.mount_counts.specs.declared.remounts.RemountStep.{RemountStep}
-use Rattle.operation_laws.proofs.Layers.{phase_ends}
-use Rattle.operation_laws.proofs.Movers.{fits_at}
-use Rattle.operation_laws.proofs.Whole.{world_goes}
-use Rattle.operation_laws.specs.Progress.{AFreezeIsKept, ChangeIsKept, EventsKeepRule, FreezeIsKept, IsKept, IsKeptAt, KeptIfFreeze, LockIsKept, Progresses, RemountIsKept, ReplyOrFrozen, SnapshotIsKept, ThawIsKept, TreeIsKept}
-use Rattle.operation_laws.specs.Ranks.{most_events_to_reply}
+use Rattle.freeze_levels.specs.declared.{freezes.{Freeze.Freeze, FreezeStep.FreezeStep}, thaws.ThawStep.ThawStep}
+use Rattle.gate_world.specs.{Configs.IsWithin, Fits.PhaseFits, Levels.is_frozen_whole, Roles.{freeze_stage_role, remount_stage_role, snapshot_stage_role}}
+use Rattle.gate_world.specs.{Roles.{thaw_stage_role, tree_stage_role}, Rules.{IsGood, Stages}, Shown.{stage_role_of, stage_roles}, Views.held_of}
+use Rattle.gate_world.specs.{Worlds.World, declared.{config.Config.Config, work.Phase.Phase}}
+use Rattle.gated_tree.specs.declared.{phases.TreePhase.TreePhase, snapshots.SnapshotStep.SnapshotStep}
+use Rattle.mount_counts.specs.declared.{phases.{ChangeStep.ChangeStep, MountPhase.MountPhase}, remounts.RemountStep.RemountStep}
+use Rattle.operation_laws.proofs.{Layers.phase_ends, Movers.fits_at, Whole.world_goes}
+use Rattle.operation_laws.specs.Progress.{AFreezeIsKept, ChangeIsKept, EventsKeepRule, FreezeIsKept, IsKept, IsKeptAt, KeptIfFreeze, LockIsKept, Progresses}
+use Rattle.operation_laws.specs.{Progress.{RemountIsKept, ReplyOrFrozen, SnapshotIsKept, ThawIsKept, TreeIsKept}, Ranks.most_events_to_reply}
 use Rattle.stage_laws.specs.Roles.{bit, closed_by, closes, up_to}
-use Rattle.std.proofs.Common.{Bool, ap, arith, false, inl, inr, refl, subst, sym, true, ℕ, ◌<◌, ◌∙◌, ◌≡◌, ◌≤◌}
-use Rattle.std.proofs.lemmas.Bool.{lt-leb}
+use Rattle.std.proofs.{Common.{Bool, ap, arith, false, inl, inr, refl, subst, sym, true, ℕ, ◌<◌, ◌∙◌, ◌≡◌, ◌≤◌}, lemmas.Bool.lt-leb}
 use Rattle.std.specs.Prelude.{None, Option, Some, ◌&&◌, ◌==◌, ◌⊎◌}
 use Rattle.write_access.specs.declared.phases.WritePhase.{WritePhase}
 

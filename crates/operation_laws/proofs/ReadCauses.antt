@@ -1,21 +1,14 @@
 -- The cause of a down-read's wait or refusal, along a schedule: the level was closed when it last asked. What is said here of a task that
 -- asks as a down-read does serves an operation that goes through one as a part of its own.
-use Rattle.std.proofs.Common.{◌≡◌, ℕ, ◌+◌, ◌≤◌, Bool, true, false, refl, sym, ap, subst, ◌∙◌, inl, inr, arith}
+use Rattle.std.proofs.{Common.{◌≡◌, ℕ, ◌+◌, ◌≤◌, Bool, true, false, refl, sym, ap, subst, ◌∙◌, inl, inr, arith}, lemmas.Bool.Decides.eqb_tells}
 use Rattle.std.specs.Prelude.{◌==◌, ◌&&◌, if◌then◌else◌, ◌⊎◌, Some, List, ◌∷◌}
-use Rattle.std.proofs.lemmas.Bool.Decides.{eqb_tells}
 use Rattle.finite_sums.specs.Sums.{total}
 use Rattle.finite_sums.proofs.Totals.{HasPlace, total_place}
-use Rattle.access_model.specs.declared.replies.Next.{Next}
-use Rattle.access_model.specs.declared.replies.Next.TheVariants.{Go, Wait, Done}
-use Rattle.access_model.specs.Replies.{map_next}
+use Rattle.access_model.specs.{Replies.map_next, declared.replies.Next.{Next, TheVariants.{Go, Wait, Done}}}
 use Rattle.cpu_words.specs.Hooks.{HookAnswer}
-use Rattle.percpu_rwsem.specs.declared.readers.DownRead.{DownRead}
-use Rattle.percpu_rwsem.specs.declared.readers.DownReadStep.{DownReadStep}
-use Rattle.percpu_rwsem.specs.declared.readers.DownReadStep.TheVariants.{LoadsSync, CountsUpFast, LoadsBlock, CountsDown, LeavesBlocked}
-use Rattle.percpu_rwsem.specs.SyncWords.{unpack}
-use Rattle.percpu_rwsem.specs.Readers.{down_read_after, at_down_read, left_blocked}
-use Rattle.level_laws.specs.Roles.{SyncRole, Out, closed}
-use Rattle.level_laws.specs.Operations.{down_read_role}
+use Rattle.percpu_rwsem.specs.{Readers.{down_read_after, at_down_read, left_blocked}, SyncWords.unpack, declared.readers.DownRead.DownRead}
+use Rattle.percpu_rwsem.specs.declared.readers.DownReadStep.{DownReadStep, TheVariants.{LoadsSync, CountsUpFast, LoadsBlock, CountsDown, LeavesBlocked}}
+use Rattle.level_laws.specs.{Operations.down_read_role, Roles.{SyncRole, Out, closed}}
 use Rattle.gate_world.specs.{Causes.{last_asked, asks_level, read_asks, WasClosed}, KeptCauses.{ReadCause, CauseOf}, Levels.{sync_role_of, is_frozen_whole}}
 use Rattle.gate_world.specs.{Roles.sync_role_if, Rules.{IsGood, SyncAt, SyncHoldsIn}, Views.phase_after, Worlds.{World, found_at}}
 use Rattle.gate_world.specs.declared.{config.Config.Config, work.Phase.TheVariants.DownReads}

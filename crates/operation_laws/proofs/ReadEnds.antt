@@ -1,36 +1,22 @@
 -- A start whose level is open, or that doesn't wait, an end, and a write access whose level and mount are open run out.
-use Rattle.std.proofs.Common.{◌≡◌, ℕ, ◌+◌, ◌≤◌, Bool, true, false, refl, ap, ◌∙◌, inl, inr, arith, true≢false}
+use Rattle.std.proofs.{Common.{◌≡◌, ℕ, ◌+◌, ◌≤◌, Bool, true, false, refl, ap, ◌∙◌, inl, inr, arith, true≢false}, lemmas.Bool.Decides.eqb_tells}
 use Rattle.std.specs.Prelude.{Option, Some, None, Ok, Err, is_some}
-use Rattle.std.proofs.lemmas.Bool.Decides.{eqb_tells}
 use Rattle.finite_sums.proofs.Totals.{update_same}
-use Rattle.access_model.specs.declared.replies.Next.{Next}
-use Rattle.access_model.specs.declared.replies.Next.TheVariants.{Go, Wait, Done}
-use Rattle.cpu_words.specs.Words.{Words, read, put}
-use Rattle.cpu_words.specs.Touches.{left, found_by}
-use Rattle.mount_counts.specs.declared.phases.Want.{Want}
-use Rattle.mount_counts.specs.Phases.{has_flag, want_after}
-use Rattle.percpu_rwsem.specs.declared.sync_word.GpState.{GpState}
-use Rattle.percpu_rwsem.specs.declared.sync_word.GpState.TheVariants.{Idle, Enter, Passed, Exit, Replay}
-use Rattle.percpu_rwsem.specs.declared.sync_word.SyncWord.{SyncWord}
-use Rattle.percpu_rwsem.specs.SyncWords.{unpack}
-use Rattle.percpu_rwsem.specs.declared.readers.DownRead.{DownRead}
-use Rattle.percpu_rwsem.specs.declared.readers.DownReadStep.{DownReadStep}
-use Rattle.percpu_rwsem.specs.declared.readers.DownReadStep.TheVariants.{EntersSection, LoadsSync, CountsUpFast, CountsUpSlow, LoadsBlock, CountsDown, LeavesAdmitted, LeavesBlocked}
-use Rattle.percpu_rwsem.specs.declared.readers.UpRead.{UpRead}
-use Rattle.percpu_rwsem.specs.Readers.{down_read_next, down_read_after, step_in, step_found, left_blocked}
-use Rattle.write_access.specs.declared.phases.WritePhase.{WritePhase}
+use Rattle.access_model.specs.declared.replies.Next.{Next, TheVariants.{Go, Wait, Done}}
+use Rattle.cpu_words.specs.{Touches.{left, found_by}, Words.{Words, read, put}}
+use Rattle.mount_counts.specs.{Phases.{has_flag, want_after}, declared.phases.Want.Want}
+use Rattle.percpu_rwsem.specs.{Readers.{down_read_next, down_read_after, step_in, step_found, left_blocked}, SyncWords.unpack}
+use Rattle.percpu_rwsem.specs.declared.readers.{DownRead.DownRead, DownReadStep.{DownReadStep, TheVariants.{EntersSection, LoadsSync, CountsUpFast}}}
+use Rattle.percpu_rwsem.specs.declared.readers.{DownReadStep.TheVariants.{CountsUpSlow, LoadsBlock, CountsDown, LeavesAdmitted, LeavesBlocked}, UpRead.UpRead}
+use Rattle.percpu_rwsem.specs.declared.sync_word.{GpState.{GpState, TheVariants.{Idle, Enter, Passed, Exit, Replay}}, SyncWord.SyncWord}
+use Rattle.write_access.specs.{Phases.{then_wants, then_gives_back, next as write_next, after as write_after}, declared.phases.WritePhase.WritePhase}
 use Rattle.write_access.specs.declared.phases.WritePhase.TheVariants.{Takes, Wants as WriteWants, GivesBack, Drops, Ends}
-use Rattle.write_access.specs.Phases.{then_wants, then_gives_back, next as write_next, after as write_after}
-use Rattle.gate_world.specs.declared.config.Config.{Config}
-use Rattle.gate_world.specs.declared.work.Phase.TheVariants.{DownReads, UpReads, Writes}
-use Rattle.gate_world.specs.Worlds.{words_after, found_at}
-use Rattle.gate_world.specs.Courses.{MayHold}
+use Rattle.gate_world.specs.{Courses.MayHold, Worlds.{words_after, found_at}, declared.{config.Config.Config, work.Phase.TheVariants.{DownReads, UpReads}}}
+use Rattle.gate_world.specs.declared.work.Phase.TheVariants.{Writes}
 use Rattle.gate_frames.proofs.MayHolds.{events_may_be}
-use Rattle.operation_laws.specs.Progress.{is_admitted}
-use Rattle.operation_laws.specs.Ranks.{rank, want_rank, blocked_rank, read_rank, write_rank}
-use Rattle.operation_laws.specs.Ways.{IsFree, HoldIsClear, ReadIsFree, WriteIsFree, Falls, PhaseEnds}
-use Rattle.operation_laws.proofs.Falls.{falls_as}
-use Rattle.operation_laws.proofs.MountEnds.{want_flags, want_falls}
+use Rattle.operation_laws.specs.{Progress.is_admitted, Ranks.{rank, want_rank, blocked_rank, read_rank, write_rank}, Ways.{IsFree, HoldIsClear, ReadIsFree}}
+use Rattle.operation_laws.specs.Ways.{WriteIsFree, Falls, PhaseEnds}
+use Rattle.operation_laws.proofs.{Falls.falls_as, MountEnds.{want_flags, want_falls}}
 
 -- the step after the load of a sync word
 in_rank : (wait : Bool) (s : GpState) → read_rank wait (step_in s) ≤ 3

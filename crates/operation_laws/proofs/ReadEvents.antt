@@ -1,51 +1,26 @@
 -- Each event of a start.
-use Rattle.access_model.specs.Actions.{IsAllowed}
-use Rattle.access_model.specs.Replies.{map_next}
-use Rattle.access_model.specs.declared.actions.Action.{Action}
-use Rattle.access_model.specs.declared.actions.Action.TheVariants.{Grant}
-use Rattle.access_model.specs.declared.actions.Gate.TheVariants.{Level}
-use Rattle.access_model.specs.declared.replies.Next.{Next}
-use Rattle.access_model.specs.declared.replies.Next.TheVariants.{Done, Go}
-use Rattle.access_model.specs.declared.replies.Reply.TheVariants.{Unit as UnitReply}
-use Rattle.cpu_words.specs.Hooks.{HookAnswer}
-use Rattle.cpu_words.specs.Touches.{wrap_add}
-use Rattle.cpu_words.specs.Words.{Words, put, read}
-use Rattle.cpu_words.specs.declared.events.Touch.{Touch}
-use Rattle.cpu_words.specs.declared.events.Touch.TheVariants.{Add, Load, Sub}
-use Rattle.cpu_words.specs.declared.names.WordName.{WordName}
-use Rattle.cpu_words.specs.declared.names.WordName.TheVariants.{Block, LevelCount, Section, Sync}
+use Rattle.access_model.specs.{Actions.IsAllowed, Replies.map_next, declared.actions.{Action.{Action, TheVariants.Grant}, Gate.TheVariants.Level}}
+use Rattle.access_model.specs.declared.replies.{Next.{Next, TheVariants.{Done, Go}}, Reply.TheVariants.Unit as UnitReply}
+use Rattle.cpu_words.specs.{Hooks.HookAnswer, Touches.wrap_add, Words.{Words, put, read}, declared.events.Touch.{Touch, TheVariants.{Add, Load, Sub}}}
+use Rattle.cpu_words.specs.declared.names.WordName.{WordName, TheVariants.{Block, LevelCount, Section, Sync}}
 use Rattle.finite_sums.proofs.Totals.{update_at, update_off, update_same}
 use Rattle.finite_sums.specs.Sums.{update}
 use Rattle.gate_counts.proofs.LevelLaws.{is_granted, is_refused}
 use Rattle.gate_counts.specs.Levels.{Out as CountsNot}
-use Rattle.gate_frames.proofs.Frames.{count_none, level_view_as}
-use Rattle.gate_frames.proofs.LevelWorlds.{fast_finds_open, not_passed, sync_on}
-use Rattle.gate_world.specs.Configs.{IsWithin, model_limits}
-use Rattle.gate_world.specs.Fits.{Fits, ReadFits, ReadStepFits}
-use Rattle.gate_world.specs.Holdings.{Holdings}
-use Rattle.gate_world.specs.Levels.{at_level, level_role_of, sync_role_of}
-use Rattle.gate_world.specs.Operations.{holds_none_from}
-use Rattle.gate_world.specs.Roles.{count_role_if, read_count_role}
-use Rattle.gate_world.specs.Rules.{AtLevel, Fitting, IsGood, Moves, StepKeeps}
-use Rattle.gate_world.specs.Shown.{shown}
-use Rattle.gate_world.specs.Views.{has_open, held_at, held_of, holds_level, phase_after, view_with}
-use Rattle.gate_world.specs.Worlds.{World, after_step}
-use Rattle.gate_world.specs.declared.config.Config.{Config}
-use Rattle.gate_world.specs.declared.views.View.{View}
-use Rattle.gate_world.specs.declared.work.Phase.{Phase}
-use Rattle.gate_world.specs.declared.work.Phase.TheVariants.{DownReads}
+use Rattle.gate_frames.proofs.{Frames.{count_none, level_view_as}, LevelWorlds.{fast_finds_open, not_passed, sync_on}}
+use Rattle.gate_world.specs.{Configs.{IsWithin, model_limits}, Fits.{Fits, ReadFits, ReadStepFits}, Holdings.Holdings, Levels.{at_level, level_role_of}}
+use Rattle.gate_world.specs.{Levels.sync_role_of, Operations.holds_none_from, Roles.{count_role_if, read_count_role}, Rules.{AtLevel, Fitting, IsGood, Moves}}
+use Rattle.gate_world.specs.{Rules.StepKeeps, Shown.shown, Views.{has_open, held_at, held_of, holds_level, phase_after, view_with}, Worlds.World}
+use Rattle.gate_world.specs.{Worlds.after_step, declared.{config.Config.Config, views.View.View, work.Phase.{Phase, TheVariants.DownReads}}}
 use Rattle.level_laws.specs.Roles.{Fast}
-use Rattle.operation_laws.proofs.LevelCounts.{LevelHoldsAfter, SameElsewhere, backs_off, bit_room, count_off, count_on, down_beside, enters_fast, held_bit, level_follows, seeks, up_beside, words_down, words_up}
-use Rattle.operation_laws.proofs.LevelParts.{IsAtLevels, IsBeside, SameAtMounts, beside_levels, counts_left_at, level_parts, level_shown, level_still, reads_at_levels}
-use Rattle.operation_laws.proofs.ReadLevels.{LevelsHold, read_levels}
-use Rattle.percpu_rwsem.specs.Readers.{at_down_read, left_blocked, step_found, step_in}
-use Rattle.percpu_rwsem.specs.SyncWords.{unpack}
-use Rattle.percpu_rwsem.specs.declared.readers.DownRead.{DownRead}
-use Rattle.percpu_rwsem.specs.declared.readers.DownReadStep.{DownReadStep}
-use Rattle.percpu_rwsem.specs.declared.readers.DownReadStep.TheVariants.{CountsDown, CountsUpFast, CountsUpSlow, EntersSection, LeavesAdmitted, LeavesBlocked, LoadsBlock, LoadsSync}
-use Rattle.percpu_rwsem.specs.declared.sync_word.GpState.{GpState}
-use Rattle.percpu_rwsem.specs.declared.sync_word.GpState.TheVariants.{Idle}
-use Rattle.percpu_rwsem.specs.declared.sync_word.SyncWord.{SyncWord}
+use Rattle.operation_laws.proofs.LevelCounts.{LevelHoldsAfter, SameElsewhere, backs_off, bit_room, count_off, count_on, down_beside, enters_fast, held_bit}
+use Rattle.operation_laws.proofs.{LevelCounts.{level_follows, seeks, up_beside, words_down, words_up}, LevelParts.{IsAtLevels, IsBeside, SameAtMounts}}
+use Rattle.operation_laws.proofs.{LevelParts.{beside_levels, counts_left_at, level_parts, level_shown, level_still, reads_at_levels}, ReadLevels.LevelsHold}
+use Rattle.operation_laws.proofs.ReadLevels.{read_levels}
+use Rattle.percpu_rwsem.specs.{Readers.{at_down_read, left_blocked, step_found, step_in}, SyncWords.unpack, declared.readers.DownRead.DownRead}
+use Rattle.percpu_rwsem.specs.declared.readers.DownReadStep.{DownReadStep, TheVariants.{CountsDown, CountsUpFast, CountsUpSlow, EntersSection}}
+use Rattle.percpu_rwsem.specs.declared.{readers.DownReadStep.TheVariants.{LeavesAdmitted, LeavesBlocked, LoadsBlock, LoadsSync}, sync_word.GpState.GpState}
+use Rattle.percpu_rwsem.specs.declared.sync_word.{GpState.TheVariants.Idle, SyncWord.SyncWord}
 use Rattle.std.proofs.Common.{Bool, ap, arith, false, inl, inr, refl, subst, suc, sym, true, true≢false, zero, ℕ, ◌+◌, ◌<◌, ◌∙◌, ◌≡◌, ◌≤◌}
 use Rattle.std.proofs.lemmas.Bool.Decides.{eqb_tells, nat_tests}
 use Rattle.std.specs.Prelude.{None, Ok, Option, Some, nat_lt, not, ◌&&◌, ◌==◌, ◌||◌}

@@ -1,34 +1,15 @@
 -- All that is proved of a start and of an end.
-use Rattle.gate_frames.proofs.Frames.{count_none, sync_none}
-use Rattle.gate_frames.proofs.Keeps.{IsSmall, OpKeeps, PhaseKeeps, by_bool}
-use Rattle.gate_frames.proofs.Says.{is_short, is_short_well, tells, tells_well}
-use Rattle.gate_frames.proofs.Snapshots.{completes_none}
-use Rattle.gate_world.specs.Causes.{asks_level}
-use Rattle.gate_world.specs.Fits.{Fits}
-use Rattle.gate_world.specs.Holdings.{held_after}
-use Rattle.gate_world.specs.Levels.{sync_role_of}
-use Rattle.gate_world.specs.Operations.{is_level_number}
-use Rattle.gate_world.specs.Roles.{no_roles}
-use Rattle.gate_world.specs.Rules.{Fitting}
-use Rattle.gate_world.specs.Traces.{most_events}
-use Rattle.gate_world.specs.Views.{held_of}
-use Rattle.gate_world.specs.Worlds.{World, after_step, found_at}
-use Rattle.gate_world.specs.declared.config.Config.{Config}
-use Rattle.gate_world.specs.declared.operations.Op.TheVariants.{End, Start}
-use Rattle.gate_world.specs.declared.work.Phase.TheVariants.{DownReads, UpReads}
+use Rattle.gate_frames.proofs.{Frames.{count_none, sync_none}, Keeps.{IsSmall, OpKeeps, PhaseKeeps, by_bool}, Says.{is_short, is_short_well, tells}}
+use Rattle.gate_frames.proofs.{Says.tells_well, Snapshots.completes_none}
+use Rattle.gate_world.specs.{Causes.asks_level, Fits.Fits, Holdings.held_after, Levels.sync_role_of, Operations.is_level_number, Roles.no_roles}
+use Rattle.gate_world.specs.{Rules.Fitting, Traces.most_events, Views.held_of, Worlds.{World, after_step, found_at}, declared.config.Config.Config}
+use Rattle.gate_world.specs.declared.{operations.Op.TheVariants.{End, Start}, work.Phase.TheVariants.{DownReads, UpReads}}
 use Rattle.level_laws.specs.Roles.{closed}
-use Rattle.operation_laws.proofs.EndEvents.{end_keeps}
-use Rattle.operation_laws.proofs.ReadCauses.{asks_next, next_cause, read_not_closed, read_own, read_stays}
-use Rattle.operation_laws.proofs.ReadEvents.{read_keeps}
+use Rattle.operation_laws.proofs.{EndEvents.end_keeps, ReadCauses.{asks_next, next_cause, read_not_closed, read_own, read_stays}, ReadEvents.read_keeps}
 use Rattle.operation_laws.proofs.ReadFits.{both_true, level_there, none_from_agree, read_acts, read_fits, read_goes, read_step_agrees, read_there}
-use Rattle.operation_laws.proofs.ReadRuns.{end_runs, read_runs}
-use Rattle.operation_laws.proofs.ReadTraces.{EndAt, StartAt, end_kept, start_kept}
-use Rattle.operation_laws.proofs.ReadWaits.{read_waits, start_waits}
-use Rattle.percpu_rwsem.specs.Readers.{down_read_after}
-use Rattle.percpu_rwsem.specs.declared.readers.DownRead.{DownRead}
-use Rattle.percpu_rwsem.specs.declared.readers.UpRead.{UpRead}
-use Rattle.std.proofs.Common.{Bool, ap, arith, refl, subst, sym, true, ℕ, ◌+◌, ◌-◌, ◌<◌, ◌∙◌, ◌≡◌, ◌≤◌}
-use Rattle.std.proofs.lemmas.Bool.{ltb-true}
+use Rattle.operation_laws.proofs.{ReadRuns.{end_runs, read_runs}, ReadTraces.{EndAt, StartAt, end_kept, start_kept}, ReadWaits.{read_waits, start_waits}}
+use Rattle.percpu_rwsem.specs.{Readers.down_read_after, declared.readers.{DownRead.DownRead, UpRead.UpRead}}
+use Rattle.std.proofs.{Common.{Bool, ap, arith, refl, subst, sym, true, ℕ, ◌+◌, ◌-◌, ◌<◌, ◌∙◌, ◌≡◌, ◌≤◌}, lemmas.Bool.ltb-true}
 use Rattle.std.specs.Prelude.{Some, nat_lt, ◌&&◌}
 
 -- of each phase of a start

@@ -1,23 +1,14 @@
 -- Events of a down-read leave the rcu_sync of each level, and the sections.
-use Rattle.std.proofs.Common.{◌≡◌, ℕ, ◌-◌, ◌<◌, ◌≤◌, refl, sym, ap, ◌∙◌, subst, inl, inr}
+use Rattle.std.proofs.{Common.{◌≡◌, ℕ, ◌-◌, ◌<◌, ◌≤◌, refl, sym, ap, ◌∙◌, subst, inl, inr}, lemmas.Bool.Decides.eqb_tells}
 use Rattle.std.specs.Prelude.{Some, Bool, true, false, ◌==◌, if◌then◌else◌}
-use Rattle.std.proofs.lemmas.Bool.Decides.{eqb_tells}
 use Rattle.finite_sums.specs.Sums.{update}
-use Rattle.access_model.specs.declared.replies.Next.{Next}
-use Rattle.access_model.specs.declared.replies.Next.TheVariants.{Go, Wait, Done}
-use Rattle.access_model.specs.Replies.{map_next}
-use Rattle.cpu_words.specs.declared.names.WordName.{WordName}
-use Rattle.cpu_words.specs.declared.events.Touch.{Touch}
-use Rattle.cpu_words.specs.Touches.{found_by}
-use Rattle.cpu_words.specs.Words.{read}
-use Rattle.cpu_words.specs.Hooks.{HookAnswer}
-use Rattle.percpu_rwsem.specs.declared.readers.DownRead.{DownRead}
-use Rattle.percpu_rwsem.specs.declared.readers.DownReadStep.{DownReadStep}
-use Rattle.percpu_rwsem.specs.declared.readers.DownReadStep.TheVariants.{EntersSection, LoadsSync, CountsUpFast, CountsUpSlow, LoadsBlock, CountsDown, LeavesAdmitted, LeavesBlocked}
-use Rattle.percpu_rwsem.specs.Readers.{at_down_read, down_read_next, down_read_after, left_blocked}
+use Rattle.access_model.specs.{Replies.map_next, declared.replies.Next.{Next, TheVariants.{Go, Wait, Done}}}
+use Rattle.cpu_words.specs.{Hooks.HookAnswer, Touches.found_by, Words.read, declared.{events.Touch.Touch, names.WordName.WordName}}
+use Rattle.percpu_rwsem.specs.{Readers.{at_down_read, down_read_next, down_read_after, left_blocked}, declared.readers.DownRead.DownRead}
+use Rattle.percpu_rwsem.specs.declared.readers.DownReadStep.{DownReadStep, TheVariants.{EntersSection, LoadsSync, CountsUpFast, CountsUpSlow, LoadsBlock}}
+use Rattle.percpu_rwsem.specs.declared.readers.DownReadStep.TheVariants.{CountsDown, LeavesAdmitted, LeavesBlocked}
+use Rattle.level_laws.specs.{Events.{SyncLevelHolds, SyncStep}, Operations.{down_read_role, down_read_inside, left_by, by_next, HoldsOfNext}}
 use Rattle.level_laws.specs.Roles.{Out as IsApart, fast}
-use Rattle.level_laws.specs.Events.{SyncLevelHolds, SyncStep}
-use Rattle.level_laws.specs.Operations.{down_read_role, down_read_inside, left_by, by_next, HoldsOfNext}
 use Rattle.level_laws.proofs.ReadOperations.{down_reads_are_there}
 use Rattle.gate_world.specs.{LevelRuns.level_in, Levels.{sync_role_of, inside}, Roles.sync_role_if, Rules.{IsGood, SyncAt, Sections, Holds}, Views.view_after}
 use Rattle.gate_world.specs.{Views.phase_after, Worlds.{World, after_step}, declared.{config.Config.Config, views.View.View}}

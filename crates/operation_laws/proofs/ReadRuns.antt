@@ -1,43 +1,22 @@
 -- Each event of a down-read, of an up-read and of a callback is one of each level's kinds of event.
-use Rattle.access_model.specs.Replies.{map_next}
-use Rattle.access_model.specs.declared.replies.Next.TheVariants.{Go}
-use Rattle.cpu_words.specs.Hooks.{HookAnswer}
-use Rattle.cpu_words.specs.Touches.{found_by, left, wrap_add}
-use Rattle.cpu_words.specs.Words.{put, read}
-use Rattle.cpu_words.specs.declared.events.Touch.{Touch}
-use Rattle.cpu_words.specs.declared.events.Touch.TheVariants.{Load}
-use Rattle.cpu_words.specs.declared.names.WordName.{WordName}
-use Rattle.cpu_words.specs.declared.names.WordName.TheVariants.{Block, LevelCount, Section, Sync}
+use Rattle.access_model.specs.{Replies.map_next, declared.replies.Next.TheVariants.Go}
+use Rattle.cpu_words.specs.{Hooks.HookAnswer, Touches.{found_by, left, wrap_add}, Words.{put, read}, declared.events.Touch.{Touch, TheVariants.Load}}
+use Rattle.cpu_words.specs.declared.names.WordName.{WordName, TheVariants.{Block, LevelCount, Section, Sync}}
 use Rattle.finite_sums.proofs.Totals.{update_at, update_off, update_same}
 use Rattle.finite_sums.specs.Sums.{update}
-use Rattle.gate_frames.proofs.LevelSteps.{level_kept, level_moved, level_stays}
-use Rattle.gate_frames.proofs.LevelWorlds.{IsEventAt, IsOfLevel, sync_off}
-use Rattle.gate_world.specs.Fits.{Fits}
-use Rattle.gate_world.specs.LevelRuns.{level_in}
-use Rattle.gate_world.specs.Levels.{inside, is_frozen_whole, sync_role_of}
-use Rattle.gate_world.specs.Roles.{sync_role_if}
-use Rattle.gate_world.specs.Rules.{Fitting, IsGood}
-use Rattle.gate_world.specs.Views.{held_of, phase_after, view_after}
-use Rattle.gate_world.specs.Worlds.{World, after_step}
-use Rattle.gate_world.specs.declared.config.Config.{Config}
-use Rattle.gate_world.specs.declared.views.View.{View}
+use Rattle.gate_frames.proofs.{LevelSteps.{level_kept, level_moved, level_stays}, LevelWorlds.{IsEventAt, IsOfLevel, sync_off}}
+use Rattle.gate_world.specs.{Fits.Fits, LevelRuns.level_in, Levels.{inside, is_frozen_whole, sync_role_of}, Roles.sync_role_if, Rules.{Fitting, IsGood}}
+use Rattle.gate_world.specs.{Views.{held_of, phase_after, view_after}, Worlds.{World, after_step}, declared.{config.Config.Config, views.View.View}}
 use Rattle.gate_world.specs.declared.work.Phase.TheVariants.{Callbacks, DownReads, UpReads}
-use Rattle.level_laws.specs.Events.{SyncStep, TurnsSection}
-use Rattle.level_laws.specs.Operations.{down_read_inside, down_read_role, left_by}
-use Rattle.level_laws.specs.Roles.{Out as IsApart, fast}
-use Rattle.operation_laws.proofs.CallbackEvents.{event_of_level, seen_after as callback_seen, stays_apart, stays_outside, steps_there as callback_steps, word_of_level as callback_word}
-use Rattle.operation_laws.proofs.ReadLevels.{apart_if, blocked_apart, blocked_outside, keeps_level, role_elsewhere, seen_after, steps_there, word_of_level}
-use Rattle.operation_laws.proofs.ReadTraces.{by_word}
-use Rattle.percpu_rwsem.specs.Callbacks.{callback_next}
-use Rattle.percpu_rwsem.specs.Readers.{at_down_read, down_read_after, down_read_next}
-use Rattle.percpu_rwsem.specs.SyncWords.{unpack}
-use Rattle.percpu_rwsem.specs.declared.callbacks.Callback.{Callback}
-use Rattle.percpu_rwsem.specs.declared.readers.DownRead.{DownRead}
-use Rattle.percpu_rwsem.specs.declared.readers.DownReadStep.{DownReadStep}
-use Rattle.percpu_rwsem.specs.declared.readers.DownReadStep.TheVariants.{CountsDown, CountsUpFast, CountsUpSlow, EntersSection, LeavesAdmitted, LeavesBlocked, LoadsBlock, LoadsSync}
-use Rattle.percpu_rwsem.specs.declared.readers.UpRead.{UpRead}
-use Rattle.std.proofs.Common.{ap, inl, inr, refl, subst, sym, ℕ, ◌-◌, ◌<◌, ◌∙◌, ◌≡◌, ◌≤◌}
-use Rattle.std.proofs.lemmas.Bool.Decides.{eqb_tells}
+use Rattle.level_laws.specs.{Events.{SyncStep, TurnsSection}, Operations.{down_read_inside, down_read_role, left_by}, Roles.{Out as IsApart, fast}}
+use Rattle.operation_laws.proofs.CallbackEvents.{event_of_level, seen_after as callback_seen, stays_apart, stays_outside, steps_there as callback_steps}
+use Rattle.operation_laws.proofs.{CallbackEvents.word_of_level as callback_word, ReadLevels.{apart_if, blocked_apart, blocked_outside, keeps_level}}
+use Rattle.operation_laws.proofs.{ReadLevels.{role_elsewhere, seen_after, steps_there, word_of_level}, ReadTraces.by_word}
+use Rattle.percpu_rwsem.specs.{Callbacks.callback_next, Readers.{at_down_read, down_read_after, down_read_next}, SyncWords.unpack}
+use Rattle.percpu_rwsem.specs.declared.{callbacks.Callback.Callback, readers.{DownRead.DownRead, DownReadStep.{DownReadStep, TheVariants.CountsDown}}}
+use Rattle.percpu_rwsem.specs.declared.readers.DownReadStep.TheVariants.{CountsUpFast, CountsUpSlow, EntersSection, LeavesAdmitted, LeavesBlocked, LoadsBlock}
+use Rattle.percpu_rwsem.specs.declared.readers.{DownReadStep.TheVariants.LoadsSync, UpRead.UpRead}
+use Rattle.std.proofs.{Common.{ap, inl, inr, refl, subst, sym, ℕ, ◌-◌, ◌<◌, ◌∙◌, ◌≡◌, ◌≤◌}, lemmas.Bool.Decides.eqb_tells}
 use Rattle.std.specs.Prelude.{Bool, Some, false, if◌then◌else◌, true, ◌==◌}
 
 module _ (w : World) (t : ℕ) (v : View) where

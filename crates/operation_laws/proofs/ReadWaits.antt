@@ -1,38 +1,18 @@
 -- A down-read waits only where it found the level closed; a callback only where another task is inside a read-side section.
-use Rattle.access_model.specs.declared.errors.GateError.TheVariants.{Again}
-use Rattle.access_model.specs.declared.errors.GateError.{GateError}
-use Rattle.std.proofs.Common.{◌≡◌, ℕ, ◌+◌, ◌%◌, ◌<◌, sym, ap, ◌∙◌, inl, inr, arith}
+use Rattle.access_model.specs.{Replies.map_next, declared.{errors.GateError.{TheVariants.Again, GateError}, replies.Next.{Next, TheVariants.{Go, Wait}}}}
+use Rattle.access_model.specs.declared.replies.Next.TheVariants.{Done}
+use Rattle.std.proofs.{Common.{◌≡◌, ℕ, ◌+◌, ◌%◌, ◌<◌, sym, ap, ◌∙◌, inl, inr, arith}, lemmas.Bool.{cases_Bool, Decides.eqb_tells}}
 use Rattle.std.specs.Prelude.{◌==◌, nat_lt, Some, List, ◌∷◌, Ok, Err}
-use Rattle.std.proofs.lemmas.Bool.{cases_Bool}
-use Rattle.std.proofs.lemmas.Bool.Decides.{eqb_tells}
-use Rattle.access_model.specs.declared.replies.Next.{Next}
-use Rattle.access_model.specs.declared.replies.Next.TheVariants.{Go, Wait, Done}
-use Rattle.access_model.specs.Replies.{map_next}
 use Rattle.cpu_words.specs.Hooks.{HookAnswer}
-use Rattle.percpu_rwsem.specs.declared.grace.Grace.{Grace}
-use Rattle.percpu_rwsem.specs.declared.transitions.TransitionNext.{TransitionNext}
-use Rattle.percpu_rwsem.specs.declared.transitions.TransitionNext.TheVariants.{More}
-use Rattle.percpu_rwsem.specs.declared.readers.DownRead.{DownRead}
-use Rattle.percpu_rwsem.specs.declared.readers.DownReadStep.{DownReadStep}
-use Rattle.percpu_rwsem.specs.declared.readers.DownReadStep.TheVariants.{LoadsSync, LoadsBlock, LeavesBlocked, EntersSection, CountsUpFast, CountsUpSlow}
-use Rattle.percpu_rwsem.specs.declared.callbacks.Callback.{Callback}
-use Rattle.percpu_rwsem.specs.declared.callbacks.CallbackStep.{CallbackStep}
-use Rattle.percpu_rwsem.specs.declared.callbacks.CallbackStep.TheVariants.{Claims, AwaitsSections, CallsBack}
-use Rattle.percpu_rwsem.specs.SyncWords.{unpack, on_claim, on_callback}
-use Rattle.percpu_rwsem.specs.Graces.{is_first, passed_on}
-use Rattle.percpu_rwsem.specs.Transitions.{transition_after}
-use Rattle.percpu_rwsem.specs.Readers.{down_read_after, at_down_read, left_blocked}
-use Rattle.percpu_rwsem.specs.Callbacks.{at_callback, claimed, callback_looked, called_back}
-use Rattle.gate_world.specs.declared.config.Config.{Config}
+use Rattle.percpu_rwsem.specs.{Callbacks.{at_callback, claimed, callback_looked, called_back}, Graces.{is_first, passed_on}, Readers.down_read_after}
+use Rattle.percpu_rwsem.specs.{Readers.{at_down_read, left_blocked}, SyncWords.{unpack, on_claim, on_callback}, Transitions.transition_after}
+use Rattle.percpu_rwsem.specs.declared.callbacks.{Callback.Callback, CallbackStep.{CallbackStep, TheVariants.{Claims, AwaitsSections, CallsBack}}}
+use Rattle.percpu_rwsem.specs.declared.{grace.Grace.Grace, readers.{DownRead.DownRead, DownReadStep.{DownReadStep, TheVariants.{LoadsSync, LoadsBlock}}}}
+use Rattle.percpu_rwsem.specs.declared.readers.DownReadStep.TheVariants.{LeavesBlocked, EntersSection, CountsUpFast, CountsUpSlow}
+use Rattle.percpu_rwsem.specs.declared.transitions.TransitionNext.{TransitionNext, TheVariants.More}
+use Rattle.gate_world.specs.{Causes.{last_asked, WasClosed, ReadRefused}, Fits.GraceFits, KeptCauses.ReadCause, Levels.inside, Rules.{IsGood, Sections}}
+use Rattle.gate_world.specs.{Waits.{HasCulprit, HasReason}, Work.after_of, Worlds.{World, found_at}, declared.config.Config.Config}
 use Rattle.gate_world.specs.declared.work.Phase.TheVariants.{DownReads, Callbacks}
-use Rattle.gate_world.specs.Causes.{last_asked, WasClosed, ReadRefused}
-use Rattle.gate_world.specs.Fits.{GraceFits}
-use Rattle.gate_world.specs.KeptCauses.{ReadCause}
-use Rattle.gate_world.specs.Levels.{inside}
-use Rattle.gate_world.specs.Rules.{IsGood, Sections}
-use Rattle.gate_world.specs.Waits.{HasCulprit, HasReason}
-use Rattle.gate_world.specs.Work.{after_of}
-use Rattle.gate_world.specs.Worlds.{World, found_at}
 use Rattle.gate_frames.proofs.Keeps.{by_bool}
 use Rattle.operation_laws.proofs.ReadTraces.{by_word}
 

@@ -1,60 +1,38 @@
 -- The other events of a remount, and all of them as one law.
-use Rattle.access_model.specs.Actions.{marked as marked_as}
-use Rattle.access_model.specs.States.{IsFile, is_removed, one_if}
-use Rattle.access_model.specs.declared.actions.Action.{Action}
-use Rattle.access_model.specs.declared.errors.GateError.{GateError}
-use Rattle.access_model.specs.declared.replies.Next.{Next}
-use Rattle.access_model.specs.declared.replies.Reply.{Reply}
-use Rattle.cpu_words.specs.Hooks.{HookAnswer}
-use Rattle.cpu_words.specs.Words.{Words}
-use Rattle.cpu_words.specs.declared.events.Event.{Event}
-use Rattle.cpu_words.specs.declared.events.Touch.{Touch}
-use Rattle.cpu_words.specs.declared.names.WordName.{WordName}
+use Rattle.access_model.specs.{Actions.marked as marked_as, States.{IsFile, is_removed, one_if}, declared.{actions.Action.Action, errors.GateError.GateError}}
+use Rattle.access_model.specs.declared.replies.{Next.Next, Reply.Reply}
+use Rattle.cpu_words.specs.{Hooks.HookAnswer, Words.Words, declared.{events.{Event.Event, Touch.Touch}, names.WordName.WordName}}
 use Rattle.finite_sums.proofs.Totals.{total_at, update_at, update_map, update_same}
 use Rattle.finite_sums.specs.Sums.{total, update}
-use Rattle.gate_frames.proofs.Beside.{update_twice}
-use Rattle.gate_frames.proofs.Frames.{left_alone, owner_same}
-use Rattle.gate_frames.proofs.Loads.{after_load, steady}
-use Rattle.gate_frames.proofs.MountEvents.{is_known_part}
-use Rattle.gate_frames.proofs.Owners.{locks_umount, no_remount, releases_umount, remount_stands}
-use Rattle.gate_frames.proofs.Stages.{nobody_owns, stages_in}
-use Rattle.gate_frames.proofs.Trees.{nobody_reads, shown_clean}
-use Rattle.gate_world.specs.Configs.{IsWithin}
-use Rattle.gate_world.specs.Fits.{PhaseFits}
-use Rattle.gate_world.specs.Holdings.{holdings_of}
-use Rattle.gate_world.specs.Levels.{is_frozen_whole}
-use Rattle.gate_world.specs.Remounts.{AllBelow, RemountFits, giving_role, held_role, loop_role, remount_owns, remount_role, remount_sets}
-use Rattle.gate_world.specs.Roles.{remount_stage_role, remount_tree_role}
+use Rattle.gate_frames.proofs.{Beside.update_twice, Frames.{left_alone, owner_same}, Loads.{after_load, steady}, MountEvents.is_known_part}
+use Rattle.gate_frames.proofs.{Owners.{locks_umount, no_remount, releases_umount, remount_stands}, Stages.{nobody_owns, stages_in}, Trees.nobody_reads}
+use Rattle.gate_frames.proofs.Trees.{shown_clean}
+use Rattle.gate_world.specs.{Configs.IsWithin, Fits.PhaseFits, Holdings.holdings_of, Levels.is_frozen_whole, Remounts.{AllBelow, RemountFits, giving_role}}
+use Rattle.gate_world.specs.{Remounts.{held_role, loop_role, remount_owns, remount_role, remount_sets}, Roles.{remount_stage_role, remount_tree_role}}
 use Rattle.gate_world.specs.Rules.{AtMount, Holds, IsGood, MountHoldsIn, Owner, Part, Stages, StepKeeps, Tree, at_mount, marks_of, owns, remounts, role_of}
-use Rattle.gate_world.specs.Shown.{shown, stage_role_of}
-use Rattle.gate_world.specs.Trees.{is_bare_at, tree_bounds, tree_of, tree_roles}
-use Rattle.gate_world.specs.Views.{actions_after, held_at, held_of, view_with}
-use Rattle.gate_world.specs.Worlds.{World}
-use Rattle.gate_world.specs.declared.config.Config.{Config}
-use Rattle.gate_world.specs.declared.views.View.{View}
-use Rattle.gate_world.specs.declared.work.Phase.{Phase}
+use Rattle.gate_world.specs.{Shown.{shown, stage_role_of}, Trees.{is_bare_at, tree_bounds, tree_of, tree_roles}, Views.{actions_after, held_at, held_of}}
+use Rattle.gate_world.specs.{Views.view_with, Worlds.World, declared.{config.Config.Config, views.View.View, work.Phase.Phase}}
 use Rattle.gated_tree.proofs.ClearedMarks.{clean_stays, cleared_shown, clears_mark, directory_clean, without_mark}
-use Rattle.gated_tree.specs.Nodes.{IsNode, dirty_in, node_shown}
-use Rattle.gated_tree.specs.Roles.{Bare, Bounds, Clearing, HasNoCharge, Out as OffTree, Role as TreeRole, RoleHolds, TreeState, charge, child_charge, removal, sealed_by}
-use Rattle.mount_counts.specs.Phases.{has_flag}
-use Rattle.mount_counts.specs.Remounts.{at_remount, give_up, leave_holds, let_go, past_node, remount_from}
-use Rattle.mount_counts.specs.Roles.{Empty, Out, Skipped, admitted, has_hold, past_flags, processor_of, questions_of, ro_bit, skips}
-use Rattle.mount_counts.specs.Sets.{has_mount, lowest, no_mounts, without_lowest}
-use Rattle.mount_counts.specs.declared.remounts.Remount.{Remount}
-use Rattle.mount_counts.specs.declared.remounts.RemountStep.{RemountStep}
-use Rattle.mount_counts.specs.declared.sets.MountSet.{MountSet}
-use Rattle.mount_laws.proofs.Bits.{and_not_hold, without_hold}
-use Rattle.mount_laws.proofs.MountLaws.{SeeksNone, clears_hold as mount_clears_hold, closed, empties, is_left, marks_empty, marks_skipped, none_remounting, remounting, sealed, stores as mount_stores}
-use Rattle.mount_laws.proofs.Sets.{leaves_here, leaves_there, lowest_held, none_held}
+use Rattle.gated_tree.specs.{Nodes.{IsNode, dirty_in, node_shown}, Roles.{Bare, Bounds, Clearing, HasNoCharge, Out as OffTree, Role as TreeRole, RoleHolds}}
+use Rattle.gated_tree.specs.Roles.{TreeState, charge, child_charge, removal, sealed_by}
+use Rattle.mount_counts.specs.{Phases.has_flag, Remounts.{at_remount, give_up, leave_holds, let_go, past_node, remount_from}, Roles.{Empty, Out, Skipped}}
+use Rattle.mount_counts.specs.{Roles.{admitted, has_hold, past_flags, processor_of, questions_of, ro_bit, skips}, Sets.{has_mount, lowest, no_mounts}}
+use Rattle.mount_counts.specs.{Sets.without_lowest, declared.{remounts.{Remount.Remount, RemountStep.RemountStep}, sets.MountSet.MountSet}}
+use Rattle.mount_laws.proofs.{Bits.{and_not_hold, without_hold}, MountLaws.{SeeksNone, clears_hold as mount_clears_hold, closed, empties, is_left}}
+use Rattle.mount_laws.proofs.{MountLaws.{marks_empty, marks_skipped, none_remounting, remounting, sealed, stores as mount_stores}, Sets.leaves_here}
+use Rattle.mount_laws.proofs.Sets.{leaves_there, lowest_held, none_held}
 use Rattle.operation_laws.proofs.RemountFits.{give_up_fits, leave_holds_fits, leaves_below, let_go_fits, none_below, past_node_fits, state_fits}
-use Rattle.operation_laws.proofs.RemountLoop.{give_up_on, give_up_stays, leave_holds_on, leave_holds_stays, let_go_on, let_go_stage, let_go_stays, loads_flags, past_node_stage, past_node_stays, sets_hold, sums}
-use Rattle.operation_laws.proofs.RemountParts.{GoesOn, Mount, PartsHold, RemountKeeps, StageHolds, Stays, flags_change, here_cleared, here_fits, here_knows, load_event, load_found, mount_stays, node_changes, owner_on, role_stays, role_was, stage_holds, stores, tree_by, tree_by_two, tree_stays, tree_was, tree_where, umount_changes, whole_remount}
-use Rattle.operation_laws.proofs.RemountRoles.{give_up_role, leave_holds_role, let_go_role, no_giving, past_node_role, remount_seeks}
-use Rattle.stage_laws.specs.Events.{CancelsRemount, ClearsMarkReadOnly, ClearsRemount as TakesRemount, IsAlike, Locks as LocksStage, Releases as ReleasesStage, SetsReadOnly as StoresReadOnly, SetsRemount as StoresRemount, SetsWritable as StoresWritable, playing}
-use Rattle.stage_laws.specs.Roles.{CleanBelow, IsKnown, Owning}
-use Rattle.std.proofs.Common.{Bool, Err, None, Ok, Option, Result, Some, ap, arith, bit_and, eq-eqb, false, inl, inr, le-ltb, nat_lt, ne_eqb, not, option_map, refl, subst, suc, sym, true, true≢false, ℕ, ◌+◌, ◌<◌, ◌==◌, ◌||◌, ◌∙◌, ◌∷◌, ◌≡◌}
-use Rattle.std.proofs.lemmas.Bool.{cases_Bool}
-use Rattle.std.proofs.lemmas.Bool.Decides.{eqb_tells}
+use Rattle.operation_laws.proofs.RemountLoop.{give_up_on, give_up_stays, leave_holds_on, leave_holds_stays, let_go_on, let_go_stage, let_go_stays}
+use Rattle.operation_laws.proofs.{RemountLoop.{loads_flags, past_node_stage, past_node_stays, sets_hold, sums}, RemountParts.{GoesOn, Mount, PartsHold}}
+use Rattle.operation_laws.proofs.RemountParts.{RemountKeeps, StageHolds, Stays, flags_change, here_cleared, here_fits, here_knows, load_event, load_found}
+use Rattle.operation_laws.proofs.RemountParts.{mount_stays, node_changes, owner_on, role_stays, role_was, stage_holds, stores, tree_by, tree_by_two}
+use Rattle.operation_laws.proofs.{RemountParts.{tree_stays, tree_was, tree_where, umount_changes, whole_remount}, RemountRoles.give_up_role}
+use Rattle.operation_laws.proofs.RemountRoles.{leave_holds_role, let_go_role, no_giving, past_node_role, remount_seeks}
+use Rattle.stage_laws.specs.Events.{CancelsRemount, ClearsMarkReadOnly, ClearsRemount as TakesRemount, IsAlike, Locks as LocksStage}
+use Rattle.stage_laws.specs.Events.{Releases as ReleasesStage, SetsReadOnly as StoresReadOnly, SetsRemount as StoresRemount, SetsWritable as StoresWritable}
+use Rattle.stage_laws.specs.{Events.playing, Roles.{CleanBelow, IsKnown, Owning}}
+use Rattle.std.proofs.Common.{Bool, Err, None, Ok, Option, Result, Some, ap, arith, bit_and, eq-eqb, false, inl, inr, le-ltb, nat_lt, ne_eqb, not, option_map}
+use Rattle.std.proofs.{Common.{refl, subst, suc, sym, true, true≢false, ℕ, ◌+◌, ◌<◌, ◌==◌, ◌||◌, ◌∙◌, ◌∷◌, ◌≡◌}, lemmas.Bool.{cases_Bool, Decides.eqb_tells}}
 use Rattle.std.proofs.lemmas.Nat.Bits.{and_pow}
 use Rattle.tree_laws.specs.Events.{BeginsClearing, Clears, Event as TreeEvent, FindsNone, GoesBare, Leaves, Opens, Passes, Seals, StopsBare, turned}
 

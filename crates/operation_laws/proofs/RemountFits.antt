@@ -1,18 +1,14 @@
 -- What fits after an event of a remount.
 use Rattle.std.proofs.Common.{ℕ, ◌≡◌, ◌<◌, Bool, ◌+◌, arith, Option, true≢false, sym, nat_lt, inl, inr, ◌∙◌, ltb-true, if◌then◌else◌, ap, Ok, Some, Err, ◌==◌}
-use Rattle.std.proofs.Common.{None, not, refl, true, false}
-use Rattle.std.proofs.lemmas.Bool.{cases_Bool, Decides.eqb_tells}
+use Rattle.std.proofs.{Common.{None, not, refl, true, false}, lemmas.Bool.{cases_Bool, Decides.eqb_tells}}
 use Rattle.access_model.specs.{Replies.map_next, declared.{actions.Action.Action, errors.GateError.GateError, replies.Next.Next}}
 use Rattle.cpu_words.specs.{Hooks.HookAnswer, Names.IsWord, Touches.wrap_add, declared.sums.Sum.Sum}
-use Rattle.mount_counts.specs.Phases.{has_flag}
-use Rattle.mount_counts.specs.Remounts.{give_up, leave_holds, past_node, let_go, remount_from, remount_summed, past_mount, remount_after, remount_next}
-use Rattle.mount_counts.specs.Remounts.{at_remount}
-use Rattle.mount_counts.specs.Sets.{no_mounts, without_lowest, with_mount, lowest, has_mount}
+use Rattle.mount_counts.specs.{Phases.has_flag, Remounts.{give_up, leave_holds, past_node, let_go, remount_from, remount_summed, past_mount, remount_after}}
+use Rattle.mount_counts.specs.{Remounts.{remount_next, at_remount}, Sets.{no_mounts, without_lowest, with_mount, lowest, has_mount}}
 use Rattle.mount_counts.specs.declared.{remounts.{Remount.Remount, RemountStep.RemountStep}, sets.MountSet.MountSet}
 use Rattle.mount_laws.proofs.Sets.{leaves_within, joins_within, joins_there, none_held, leaves_here, lowest_held, leaves_there}
-use Rattle.gate_world.specs.{Configs.{IsWithin, extents_of}, Fits.{ActionFits, PhaseFits, Fits}, Holdings.{Holdings, held_after}}
-use Rattle.gate_world.specs.Remounts.{AllBelow, RemountFits}
-use Rattle.gate_world.specs.{Views.phase_after, declared.{config.Config.Config, work.Phase.Phase}}
+use Rattle.gate_world.specs.{Configs.{IsWithin, extents_of}, Fits.{ActionFits, PhaseFits, Fits}, Holdings.{Holdings, held_after}, Remounts.AllBelow}
+use Rattle.gate_world.specs.{Remounts.RemountFits, Views.phase_after, declared.{config.Config.Config, work.Phase.Phase}}
 use Rattle.gate_frames.proofs.Keeps.{by_bool}
 
 pub joins_below : (m : ℕ) (held : MountSet) → m < 8 → AllBelow m held → AllBelow (m + 1) (with_mount held m)

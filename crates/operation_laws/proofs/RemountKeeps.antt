@@ -1,21 +1,9 @@
 -- All that is proved of a remount.
-use Rattle.gate_frames.proofs.Agreeing.{none_agree}
-use Rattle.gate_frames.proofs.Keeps.{OpKeeps, PhaseKeeps, word_among}
-use Rattle.gate_frames.proofs.Says.{is_short, tells}
-use Rattle.gate_frames.proofs.Snapshots.{completes_none}
-use Rattle.gate_world.specs.Fits.{Fits}
-use Rattle.gate_world.specs.Rules.{Fitting}
-use Rattle.gate_world.specs.Views.{held_of}
-use Rattle.gate_world.specs.Worlds.{after_step}
-use Rattle.gate_world.specs.declared.config.Config.{Config}
-use Rattle.gate_world.specs.declared.operations.Op.{Op}
-use Rattle.gate_world.specs.declared.work.Phase.{Phase}
+use Rattle.gate_frames.proofs.{Agreeing.none_agree, Keeps.{OpKeeps, PhaseKeeps, word_among}, Says.{is_short, tells}, Snapshots.completes_none}
+use Rattle.gate_world.specs.{Fits.Fits, Rules.Fitting, Views.held_of, Worlds.after_step, declared.{config.Config.Config, operations.Op.Op, work.Phase.Phase}}
 use Rattle.mount_counts.specs.declared.remounts.Remount.{Remount}
-use Rattle.operation_laws.proofs.RemountCauses.{remount_own, remount_stays}
-use Rattle.operation_laws.proofs.RemountEvents.{remount_keeps}
-use Rattle.operation_laws.proofs.RemountFits.{remount_acts, remount_goes, remount_there}
-use Rattle.operation_laws.proofs.RemountRuns.{remount_runs}
-use Rattle.operation_laws.proofs.RemountTraces.{RemountAt, remount_kept, remount_restores}
+use Rattle.operation_laws.proofs.{RemountCauses.{remount_own, remount_stays}, RemountEvents.remount_keeps, RemountFits.{remount_acts, remount_goes}}
+use Rattle.operation_laws.proofs.{RemountFits.remount_there, RemountRuns.remount_runs, RemountTraces.{RemountAt, remount_kept, remount_restores}}
 use Rattle.operation_laws.proofs.RemountWaits.{remount_waits}
 use Rattle.std.proofs.Common.{Bool, refl, subst}
 use Rattle.std.specs.Prelude.{Some}

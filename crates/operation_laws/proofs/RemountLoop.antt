@@ -1,42 +1,23 @@
 -- Events of a remount's loop over the mounts.
-use Rattle.access_model.specs.declared.errors.GateError.{GateError}
-use Rattle.access_model.specs.declared.replies.Next.{Next}
-use Rattle.cpu_words.specs.Hooks.{HookAnswer}
-use Rattle.cpu_words.specs.Touches.{wrap_add}
-use Rattle.cpu_words.specs.declared.events.Touch.{Touch}
-use Rattle.cpu_words.specs.declared.names.WordName.{WordName}
-use Rattle.cpu_words.specs.declared.sums.Sum.{Sum}
-use Rattle.gate_frames.proofs.Keeps.{by_bool}
-use Rattle.gate_frames.proofs.Owners.{no_hold}
-use Rattle.gate_world.specs.Configs.{IsWithin}
-use Rattle.gate_world.specs.Fits.{PhaseFits}
-use Rattle.gate_world.specs.Remounts.{AllBelow, giving_role, loop_role, remount_role}
-use Rattle.gate_world.specs.Roles.{remount_stage_role}
-use Rattle.gate_world.specs.Rules.{AtMount, IsGood, MountHoldsIn, marks_of, owns, role_of}
-use Rattle.gate_world.specs.Views.{held_of, view_with}
-use Rattle.gate_world.specs.Worlds.{World}
-use Rattle.gate_world.specs.declared.config.Config.{Config}
-use Rattle.gate_world.specs.declared.views.View.{View}
-use Rattle.gate_world.specs.declared.work.Phase.{Phase}
+use Rattle.access_model.specs.declared.{errors.GateError.GateError, replies.Next.Next}
+use Rattle.cpu_words.specs.{Hooks.HookAnswer, Touches.wrap_add, declared.{events.Touch.Touch, names.WordName.WordName, sums.Sum.Sum}}
+use Rattle.gate_frames.proofs.{Keeps.by_bool, Owners.no_hold}
+use Rattle.gate_world.specs.{Configs.IsWithin, Fits.PhaseFits, Remounts.{AllBelow, giving_role, loop_role, remount_role}, Roles.remount_stage_role}
+use Rattle.gate_world.specs.{Rules.{AtMount, IsGood, MountHoldsIn, marks_of, owns, role_of}, Views.{held_of, view_with}, Worlds.World}
+use Rattle.gate_world.specs.declared.{config.Config.Config, views.View.View, work.Phase.Phase}
 use Rattle.gated_tree.specs.Roles.{Clearing, Out as OffTree}
-use Rattle.mount_counts.specs.Phases.{has_flag}
-use Rattle.mount_counts.specs.Remounts.{at_remount, give_up, leave_holds, let_go, past_mount, past_node}
-use Rattle.mount_counts.specs.Roles.{Out, Summing, has_hold, hold_bit}
-use Rattle.mount_counts.specs.Sets.{has_mount, with_mount}
-use Rattle.mount_counts.specs.declared.remounts.Remount.{Remount}
-use Rattle.mount_counts.specs.declared.remounts.RemountStep.{RemountStep}
+use Rattle.mount_counts.specs.{Phases.has_flag, Remounts.{at_remount, give_up, leave_holds, let_go, past_mount, past_node}, Roles.{Out, Summing, has_hold}}
+use Rattle.mount_counts.specs.{Roles.hold_bit, Sets.{has_mount, with_mount}, declared.remounts.{Remount.Remount, RemountStep.RemountStep}}
 use Rattle.mount_counts.specs.declared.sets.MountSet.{MountSet}
-use Rattle.mount_laws.proofs.Bits.{or_hold, read_only_set}
-use Rattle.mount_laws.proofs.MountLaws.{SeeksNone, is_left, is_skipped, sets_hold as mount_sets_hold, sums_on, sums_to_none, sums_to_some}
-use Rattle.mount_laws.proofs.Sets.{joins_here, joins_there}
-use Rattle.operation_laws.proofs.RemountFits.{give_up_fits, joins_below, past_mount_fits}
-use Rattle.operation_laws.proofs.RemountParts.{GoesOn, Mount, RemountKeeps, Stays, alike_same, flags_change, here_fits, here_knows, in_loop, load_event, mount_stays, owner_on, role_was}
-use Rattle.operation_laws.proofs.RemountRoles.{give_up_role, not_passed, passed_here, passed_there, past_mount_role, remount_seeks, summing_here, summing_there}
-use Rattle.stage_laws.specs.Events.{IsAlike}
-use Rattle.stage_laws.specs.Roles.{CleanBelow, Remounting}
-use Rattle.std.proofs.Common.{Bool, Err, None, Some, add-one, ap, arith, bit_or, eq-eqb, false, if◌then◌else◌, inl, inr, ltb-false, ltb-true, nat_lt, ne_eqb, refl, subst, suc, sym, true, ℕ, ◌+◌, ◌<◌, ◌==◌, ◌∙◌, ◌≡◌, ◌⊎◌}
-use Rattle.std.proofs.lemmas.Bool.{cases_Bool}
-use Rattle.std.proofs.lemmas.Bool.Decides.{eqb_tells}
+use Rattle.mount_laws.proofs.{Bits.{or_hold, read_only_set}, MountLaws.{SeeksNone, is_left, is_skipped, sets_hold as mount_sets_hold, sums_on, sums_to_none}}
+use Rattle.mount_laws.proofs.{MountLaws.sums_to_some, Sets.{joins_here, joins_there}}
+use Rattle.operation_laws.proofs.{RemountFits.{give_up_fits, joins_below, past_mount_fits}, RemountParts.{GoesOn, Mount, RemountKeeps, Stays, alike_same}}
+use Rattle.operation_laws.proofs.RemountParts.{flags_change, here_fits, here_knows, in_loop, load_event, mount_stays, owner_on, role_was}
+use Rattle.operation_laws.proofs.RemountRoles.{give_up_role, not_passed, passed_here, passed_there, past_mount_role, remount_seeks, summing_here}
+use Rattle.operation_laws.proofs.RemountRoles.{summing_there}
+use Rattle.stage_laws.specs.{Events.IsAlike, Roles.{CleanBelow, Remounting}}
+use Rattle.std.proofs.Common.{Bool, Err, None, Some, add-one, ap, arith, bit_or, eq-eqb, false, if◌then◌else◌, inl, inr, ltb-false, ltb-true, nat_lt, ne_eqb}
+use Rattle.std.proofs.{Common.{refl, subst, suc, sym, true, ℕ, ◌+◌, ◌<◌, ◌==◌, ◌∙◌, ◌≡◌, ◌⊎◌}, lemmas.Bool.{cases_Bool, Decides.eqb_tells}}
 
 -- what stays where the loop goes on, where holds are to be cleared, and where marks are
 past_mount_stays : (nodes mounts m : ℕ) (held : MountSet) → Stays nodes (past_mount mounts m held) 0 OffTree

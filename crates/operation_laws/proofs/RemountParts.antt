@@ -1,53 +1,29 @@
 -- What an event of a remount may leave: each part of the rule, and the shown model.
-use Rattle.access_model.specs.Replies.{map_next}
-use Rattle.access_model.specs.States.{openers}
-use Rattle.access_model.specs.declared.actions.Action.{Action}
-use Rattle.access_model.specs.declared.replies.Next.{Next}
-use Rattle.cpu_words.specs.Hooks.{HookAnswer}
-use Rattle.cpu_words.specs.Touches.{event_of, found_by}
-use Rattle.cpu_words.specs.Words.{Words, read}
-use Rattle.cpu_words.specs.declared.events.Touch.{Touch}
-use Rattle.cpu_words.specs.declared.names.WordName.{WordName}
+use Rattle.access_model.specs.{Replies.map_next, States.openers, declared.{actions.Action.Action, replies.Next.Next}}
+use Rattle.cpu_words.specs.{Hooks.HookAnswer, Touches.{event_of, found_by}, Words.{Words, read}, declared.{events.Touch.Touch, names.WordName.WordName}}
 use Rattle.finite_sums.proofs.Totals.{each_updated, update_at, update_map, update_off, update_same}
 use Rattle.finite_sums.specs.Sums.{update}
 use Rattle.freeze_levels.specs.Holders.{holders_in}
-use Rattle.gate_frames.proofs.Frames.{IsOffLevels, SameLevelCounts, SameLevelWords, added_load, holds_as, left_alone, level_left, opens_left, owner_same, sections_left, shown_held, shown_still, sync_left, taken_load, view_as}
-use Rattle.gate_frames.proofs.Holders.{holders_stay}
-use Rattle.gate_frames.proofs.Known.{IsOwnersWork, known_after}
-use Rattle.gate_frames.proofs.Loads.{after_load, steady}
-use Rattle.gate_frames.proofs.MountEvents.{is_known_part, known_is, level_added_load, level_taken_load}
-use Rattle.gate_frames.proofs.Owners.{remount_stored}
-use Rattle.gate_frames.proofs.Stages.{IsStageEvent, stages_after, stages_in}
-use Rattle.gate_frames.proofs.Trees.{marks_right, tree_after, tree_holds, tree_then, tree_within}
-use Rattle.gate_frames.proofs.Words.{load_same}
-use Rattle.gate_world.specs.Configs.{IsWithin}
-use Rattle.gate_world.specs.Fits.{Fits, HasFile, PhaseFits, file_of}
-use Rattle.gate_world.specs.Found.{is_load}
-use Rattle.gate_world.specs.Holdings.{Holdings}
-use Rattle.gate_world.specs.Levels.{is_frozen_whole, level_added_by, level_taken_by}
-use Rattle.gate_world.specs.Owners.{is_owned, takes_lock}
-use Rattle.gate_world.specs.Remounts.{RemountFits, remount_owns, remount_role, remount_sets}
-use Rattle.gate_world.specs.Roles.{remount_stage_role, remount_tree_role}
-use Rattle.gate_world.specs.Rules.{AtLevel, AtMount, Files, Fitting, Holding, Holds, IsGood, IsSteady, Known, Moves, Owner, OwnerHolds, Part, Sections, Stages, StepKeeps, SyncAt, Tree, ViewFits, at_mount, marks_of, owns, remounts, role_of}
-use Rattle.gate_world.specs.Shown.{closing, holder_role_of, shown, stage_role_of}
-use Rattle.gate_world.specs.Trees.{is_bare_at, is_sealed, tree_bounds, tree_of, tree_role_of, tree_roles}
-use Rattle.gate_world.specs.Views.{added_by, has_open, held_of, phase_after, taken_by, view_with}
-use Rattle.gate_world.specs.Worlds.{World, after_step, phase_action, value_at}
-use Rattle.gate_world.specs.declared.config.Config.{Config}
-use Rattle.gate_world.specs.declared.views.View.{View}
-use Rattle.gate_world.specs.declared.work.Phase.{Phase}
-use Rattle.gated_tree.specs.Nodes.{node_shown, opens_in}
-use Rattle.gated_tree.specs.Roles.{Role as TreeRole, TreeState}
+use Rattle.gate_frames.proofs.Frames.{IsOffLevels, SameLevelCounts, SameLevelWords, added_load, holds_as, left_alone, level_left, opens_left, owner_same}
+use Rattle.gate_frames.proofs.{Frames.{sections_left, shown_held, shown_still, sync_left, taken_load, view_as}, Holders.holders_stay, Known.IsOwnersWork}
+use Rattle.gate_frames.proofs.{Known.known_after, Loads.{after_load, steady}, MountEvents.{is_known_part, known_is, level_added_load, level_taken_load}}
+use Rattle.gate_frames.proofs.{Owners.remount_stored, Stages.{IsStageEvent, stages_after, stages_in}, Trees.{marks_right, tree_after, tree_holds, tree_then}}
+use Rattle.gate_frames.proofs.{Trees.tree_within, Words.load_same}
+use Rattle.gate_world.specs.{Configs.IsWithin, Fits.{Fits, HasFile, PhaseFits, file_of}, Found.is_load, Holdings.Holdings, Levels.is_frozen_whole}
+use Rattle.gate_world.specs.{Levels.{level_added_by, level_taken_by}, Owners.{is_owned, takes_lock}, Remounts.{RemountFits, remount_owns, remount_role}}
+use Rattle.gate_world.specs.{Remounts.remount_sets, Roles.{remount_stage_role, remount_tree_role}, Rules.{AtLevel, AtMount, Files, Fitting, Holding, Holds}}
+use Rattle.gate_world.specs.Rules.{IsGood, IsSteady, Known, Moves, Owner, OwnerHolds, Part, Sections, Stages, StepKeeps, SyncAt, Tree, ViewFits, at_mount}
+use Rattle.gate_world.specs.{Rules.{marks_of, owns, remounts, role_of}, Shown.{closing, holder_role_of, shown, stage_role_of}, Trees.{is_bare_at, is_sealed}}
+use Rattle.gate_world.specs.{Trees.{tree_bounds, tree_of, tree_role_of, tree_roles}, Views.{added_by, has_open, held_of, phase_after, taken_by, view_with}}
+use Rattle.gate_world.specs.{Worlds.{World, after_step, phase_action, value_at}, declared.{config.Config.Config, views.View.View, work.Phase.Phase}}
+use Rattle.gated_tree.specs.{Nodes.{node_shown, opens_in}, Roles.{Role as TreeRole, TreeState}}
 use Rattle.holder_laws.specs.Roles.{Apart}
-use Rattle.mount_counts.specs.Remounts.{at_remount, remount_after, remount_next}
-use Rattle.mount_counts.specs.Roles.{MountHolds, Role, ro_bit}
-use Rattle.mount_counts.specs.declared.remounts.Remount.{Remount}
+use Rattle.mount_counts.specs.{Remounts.{at_remount, remount_after, remount_next}, Roles.{MountHolds, Role, ro_bit}, declared.remounts.Remount.Remount}
 use Rattle.mount_counts.specs.declared.remounts.RemountStep.{RemountStep}
 use Rattle.stage_laws.specs.Events.{IsAlike, Recalls, StageEvent, playing}
 use Rattle.stage_laws.specs.Roles.{CleanBelow, IsKnown, KnowsStage, Owning, StageRole, clean_by, sums as stage_sums}
 use Rattle.std.proofs.Common.{Bool, None, Option, Some, ap, arith, false, inl, inr, refl, subst, sym, true, true≢false, ℕ, ◌<◌, ◌==◌, ◌||◌, ◌∙◌, ◌≡◌, ◌⊎◌}
-use Rattle.std.proofs.lemmas.Bool.{cases_Bool}
-use Rattle.std.proofs.lemmas.Bool.Decides.{eqb_tells}
+use Rattle.std.proofs.lemmas.Bool.{cases_Bool, Decides.eqb_tells}
 use Rattle.tree_laws.proofs.Each.{each_event}
 use Rattle.tree_laws.specs.Events.{Event as TreeEvent}
 

@@ -1,48 +1,23 @@
 -- The law of each event of a snapshot.
-use Rattle.access_model.specs.Replies.{map_next}
-use Rattle.access_model.specs.declared.errors.GateError.{GateError}
-use Rattle.access_model.specs.declared.replies.Next.{Next}
-use Rattle.access_model.specs.declared.replies.Reply.{Reply}
-use Rattle.cpu_words.specs.Hooks.{HookAnswer}
-use Rattle.cpu_words.specs.Touches.{event_of, found_by}
-use Rattle.cpu_words.specs.Words.{Words, put, read}
-use Rattle.cpu_words.specs.declared.names.WordName.{WordName}
+use Rattle.access_model.specs.{Replies.map_next, declared.{errors.GateError.GateError, replies.{Next.Next, Reply.Reply}}}
+use Rattle.cpu_words.specs.{Hooks.HookAnswer, Touches.{event_of, found_by}, Words.{Words, put, read}, declared.names.WordName.WordName}
 use Rattle.finite_sums.specs.Sums.{update}
-use Rattle.gate_frames.proofs.Frames.{left_alone}
-use Rattle.gate_frames.proofs.Keeps.{by_bool}
-use Rattle.gate_frames.proofs.Known.{IsOwnersWork, known_after}
-use Rattle.gate_frames.proofs.NodeParts.{TreeKeeps, call_files, call_fitting, call_keeps, call_moves, call_parts, call_view}
-use Rattle.gate_frames.proofs.Owners.{locks_umount, releases_umount}
-use Rattle.gate_frames.proofs.Snapshots.{noted_part}
-use Rattle.gate_frames.proofs.Stages.{alike_same, nobody_owns, owners_alike, stages_after, stages_in}
-use Rattle.gate_frames.proofs.Words.{load_same}
-use Rattle.gate_world.specs.Configs.{IsWithin}
-use Rattle.gate_world.specs.Fits.{Fits, PhaseFits}
-use Rattle.gate_world.specs.Found.{is_load}
-use Rattle.gate_world.specs.Owners.{is_owned, takes_lock}
-use Rattle.gate_world.specs.Roles.{snapshot_stage_role, stage_at_end}
-use Rattle.gate_world.specs.Rules.{AtLevel, AtMount, Files, Fitting, Holding, Holds, IsGood, Known, Owner, Part, Sections, Stages, StepKeeps, SyncAt, Tree, marks_of, owns, remounts}
-use Rattle.gate_world.specs.Shown.{stage_role_of, stage_roles}
-use Rattle.gate_world.specs.Snapshots.{values_noted}
-use Rattle.gate_world.specs.Trees.{tree_bounds, tree_role_of}
-use Rattle.gate_world.specs.Views.{held_of, phase_after, view_with}
-use Rattle.gate_world.specs.Worlds.{World, after_step}
-use Rattle.gate_world.specs.declared.config.Config.{Config}
-use Rattle.gate_world.specs.declared.views.Traced.{Traced}
-use Rattle.gate_world.specs.declared.views.View.{View}
-use Rattle.gate_world.specs.declared.work.Phase.{Phase}
-use Rattle.gated_tree.specs.Calls.{phase_role, role_after}
-use Rattle.gated_tree.specs.Nodes.{dirty_in, node_after, unpacked}
-use Rattle.gated_tree.specs.Phases.{at_snapshot, kids_step, node_step, snapshot_after, snapshot_locked_out, snapshot_next}
-use Rattle.gated_tree.specs.declared.phases.TreePhase.{TreePhase}
-use Rattle.gated_tree.specs.declared.snapshots.Snapshot.{Snapshot}
+use Rattle.gate_frames.proofs.{Frames.left_alone, Keeps.by_bool, Known.{IsOwnersWork, known_after}, NodeParts.{TreeKeeps, call_files, call_fitting}}
+use Rattle.gate_frames.proofs.{NodeParts.{call_keeps, call_moves, call_parts, call_view}, Owners.{locks_umount, releases_umount}, Snapshots.noted_part}
+use Rattle.gate_frames.proofs.{Stages.{alike_same, nobody_owns, owners_alike, stages_after, stages_in}, Words.load_same}
+use Rattle.gate_world.specs.{Configs.IsWithin, Fits.{Fits, PhaseFits}, Found.is_load, Owners.{is_owned, takes_lock}, Roles.snapshot_stage_role}
+use Rattle.gate_world.specs.{Roles.stage_at_end, Rules.{AtLevel, AtMount, Files, Fitting, Holding, Holds, IsGood, Known, Owner, Part, Sections, Stages}}
+use Rattle.gate_world.specs.{Rules.{StepKeeps, SyncAt, Tree, marks_of, owns, remounts}, Shown.{stage_role_of, stage_roles}, Snapshots.values_noted}
+use Rattle.gate_world.specs.{Trees.{tree_bounds, tree_role_of}, Views.{held_of, phase_after, view_with}, Worlds.{World, after_step}}
+use Rattle.gate_world.specs.declared.{config.Config.Config, views.{Traced.Traced, View.View}, work.Phase.Phase}
+use Rattle.gated_tree.specs.{Calls.{phase_role, role_after}, Nodes.{dirty_in, node_after, unpacked}, Phases.{at_snapshot, kids_step, node_step}}
+use Rattle.gated_tree.specs.{Phases.{snapshot_after, snapshot_locked_out, snapshot_next}, declared.{phases.TreePhase.TreePhase, snapshots.Snapshot.Snapshot}}
 use Rattle.gated_tree.specs.declared.snapshots.SnapshotStep.{SnapshotStep}
 use Rattle.operation_laws.proofs.Noted.{notes_step}
 use Rattle.stage_laws.specs.Events.{IsAlike, Locks as LocksStage, Recalls, Releases as ReleasesStage, Stages as StageMoment, playing}
 use Rattle.stage_laws.specs.Roles.{Aside, KnowsStage, Owning, StageRole, clean_by, owns as stage_owns}
 use Rattle.std.proofs.Common.{Bool, List, ap, arith, false, inl, inr, refl, subst, suc, sym, true, true≢false, ℕ, ◌<◌, ◌∙◌, ◌≡◌, ◌⊎◌}
-use Rattle.std.proofs.lemmas.Bool.{cases_Bool}
-use Rattle.std.proofs.lemmas.Bool.Decides.{eqb_tells}
+use Rattle.std.proofs.lemmas.Bool.{cases_Bool, Decides.eqb_tells}
 use Rattle.std.specs.Prelude.{Err, None, Option, Result, Some, if◌then◌else◌, is_some, ◌==◌}
 use Rattle.tree_laws.specs.Steps.{words_left}
 

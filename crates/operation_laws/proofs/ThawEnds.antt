@@ -1,31 +1,14 @@
 -- A thaw that finds `umount` free runs out.
-use Rattle.access_model.specs.Holders.{held_by, is_unheld, with_holder}
-use Rattle.access_model.specs.declared.replies.Next.{Next}
-use Rattle.cpu_words.specs.Hooks.{HookAnswer}
-use Rattle.cpu_words.specs.Touches.{found_by}
-use Rattle.cpu_words.specs.Words.{Words, read}
-use Rattle.freeze_levels.specs.Holders.{holders_in}
-use Rattle.freeze_levels.specs.Thaws.{after_opening, thaw_after, thaw_next}
-use Rattle.freeze_levels.specs.declared.thaws.Thaw.{Thaw}
-use Rattle.freeze_levels.specs.declared.thaws.ThawStep.{ThawStep}
-use Rattle.gate_world.specs.Fits.{Fits, PhaseFits, ThawFits}
-use Rattle.gate_world.specs.Levels.{sync_role_of}
-use Rattle.gate_world.specs.Roles.{stand_sync, sync_beside, thaw_stand}
-use Rattle.gate_world.specs.Rules.{Fitting, IsGood}
-use Rattle.gate_world.specs.Views.{held_of}
-use Rattle.gate_world.specs.Worlds.{World, found_at, words_after}
-use Rattle.gate_world.specs.declared.config.Config.{Config}
-use Rattle.gate_world.specs.declared.work.Phase.{Phase}
+use Rattle.access_model.specs.{Holders.{held_by, is_unheld, with_holder}, declared.replies.Next.Next}
+use Rattle.cpu_words.specs.{Hooks.HookAnswer, Touches.found_by, Words.{Words, read}}
+use Rattle.freeze_levels.specs.{Holders.holders_in, Thaws.{after_opening, thaw_after, thaw_next}, declared.thaws.{Thaw.Thaw, ThawStep.ThawStep}}
+use Rattle.gate_world.specs.{Fits.{Fits, PhaseFits, ThawFits}, Levels.sync_role_of, Roles.{stand_sync, sync_beside, thaw_stand}, Rules.{Fitting, IsGood}}
+use Rattle.gate_world.specs.{Views.held_of, Worlds.{World, found_at, words_after}, declared.{config.Config.Config, work.Phase.Phase}}
 use Rattle.level_laws.specs.Operations.{up_write_role}
-use Rattle.percpu_rwsem.specs.Writers.{up_write_after, up_write_next}
-use Rattle.percpu_rwsem.specs.declared.writers.UpWrite.{UpWrite}
-use Rattle.operation_laws.proofs.Falls.{after_event, falls_as}
-use Rattle.operation_laws.proofs.WriterEnds.{up_falls}
-use Rattle.operation_laws.specs.Ranks.{rank, reopens_rank, thaw_rank, up_rank}
-use Rattle.operation_laws.specs.Ways.{Falls, IsFree, PhaseEnds, ThawIsFree}
-use Rattle.std.proofs.Common.{ap, arith, false, inl, inr, refl, subst, ℕ, ◌+◌, ◌<◌, ◌∙◌, ◌≡◌}
-use Rattle.std.proofs.lemmas.Bool.{cases_Bool, eq-eqb}
-use Rattle.std.proofs.lemmas.Bool.Decides.{eqb_tells}
+use Rattle.percpu_rwsem.specs.{Writers.{up_write_after, up_write_next}, declared.writers.UpWrite.UpWrite}
+use Rattle.operation_laws.proofs.{Falls.{after_event, falls_as}, WriterEnds.up_falls}
+use Rattle.operation_laws.specs.{Ranks.{rank, reopens_rank, thaw_rank, up_rank}, Ways.{Falls, IsFree, PhaseEnds, ThawIsFree}}
+use Rattle.std.proofs.{Common.{ap, arith, false, inl, inr, refl, subst, ℕ, ◌+◌, ◌<◌, ◌∙◌, ◌≡◌}, lemmas.Bool.{cases_Bool, eq-eqb, Decides.eqb_tells}}
 use Rattle.std.specs.Prelude.{Err, Ok, nat_lt, ◌*◌, ◌-◌}
 
 -- after an event of the reopening of a level: those below it are still to be reopened

@@ -1,70 +1,36 @@
 -- The law of each event of a thaw.
-use Rattle.access_model.specs.Holders.{held_by, is_unheld, nobody, with_holder}
-use Rattle.access_model.specs.Replies.{map_next}
-use Rattle.access_model.specs.declared.actions.Action.{Action}
-use Rattle.access_model.specs.declared.actions.Holders.{Holders}
-use Rattle.access_model.specs.declared.errors.GateError.{GateError}
-use Rattle.access_model.specs.declared.replies.Next.{Next}
-use Rattle.access_model.specs.declared.replies.Reply.{Reply}
-use Rattle.cpu_words.specs.Hooks.{HookAnswer}
-use Rattle.cpu_words.specs.Touches.{found_by, left}
-use Rattle.cpu_words.specs.Words.{Words, put, read}
-use Rattle.cpu_words.specs.declared.events.Event.{Event}
-use Rattle.cpu_words.specs.declared.events.Touch.{Touch}
+use Rattle.access_model.specs.{Holders.{held_by, is_unheld, nobody, with_holder}, Replies.map_next, declared.actions.{Action.Action, Holders.Holders}}
+use Rattle.access_model.specs.declared.{errors.GateError.GateError, replies.{Next.Next, Reply.Reply}}
+use Rattle.cpu_words.specs.{Hooks.HookAnswer, Touches.{found_by, left}, Words.{Words, put, read}, declared.events.{Event.Event, Touch.Touch}}
 use Rattle.cpu_words.specs.declared.names.WordName.{WordName}
 use Rattle.finite_sums.specs.Sums.{total, update}
-use Rattle.freeze_levels.specs.Holders.{holders_in, word_of}
-use Rattle.freeze_levels.specs.Levels.{reopening}
-use Rattle.freeze_levels.specs.Thaws.{after_opening, at_thaw, thaw_opens}
-use Rattle.freeze_levels.specs.declared.thaws.Thaw.{Thaw}
+use Rattle.freeze_levels.specs.{Holders.{holders_in, word_of}, Levels.reopening, Thaws.{after_opening, at_thaw, thaw_opens}, declared.thaws.Thaw.Thaw}
 use Rattle.freeze_levels.specs.declared.thaws.ThawStep.{ThawStep}
-use Rattle.gate_frames.proofs.Accesses.{holdings_of_after}
-use Rattle.gate_frames.proofs.Frames.{added_load, taken_load}
-use Rattle.gate_frames.proofs.Holders.{holders_after, holders_at, holders_stay, nobody_minds}
-use Rattle.gate_frames.proofs.Keeps.{by_bool}
-use Rattle.gate_frames.proofs.MountEvents.{level_added_load, level_taken_load}
-use Rattle.gate_frames.proofs.Stages.{IsStageEvent, alike_same, nobody_owns, owners_alike, stages_in}
-use Rattle.gate_frames.proofs.Standing.{LevelsHold, Stands, left_world, stand_after_opening, still_closed}
-use Rattle.gate_frames.proofs.UpLevels.{up_write_levels}
-use Rattle.gate_frames.proofs.WholeLevels.{thaws_all}
-use Rattle.gate_frames.proofs.WriterOwner.{lock_given, lock_taken, owner_stays}
-use Rattle.gate_frames.proofs.WriterParts.{AsksWhere, IsWriter, LeavesRest, WriterKeeps, WriterLaw, idle_writes, reopening_owns, thaw_comes, thaw_work, thaws_write, whole_writer}
+use Rattle.gate_frames.proofs.{Accesses.holdings_of_after, Frames.{added_load, taken_load}, Holders.{holders_after, holders_at, holders_stay, nobody_minds}}
+use Rattle.gate_frames.proofs.{Keeps.by_bool, MountEvents.{level_added_load, level_taken_load}, Stages.{IsStageEvent, alike_same, nobody_owns, owners_alike}}
+use Rattle.gate_frames.proofs.{Stages.stages_in, Standing.{LevelsHold, Stands, left_world, stand_after_opening, still_closed}, UpLevels.up_write_levels}
+use Rattle.gate_frames.proofs.{WholeLevels.thaws_all, WriterOwner.{lock_given, lock_taken, owner_stays}, WriterParts.{AsksWhere, IsWriter, LeavesRest}}
+use Rattle.gate_frames.proofs.WriterParts.{WriterKeeps, WriterLaw, idle_writes, reopening_owns, thaw_comes, thaw_work, thaws_write, whole_writer}
 use Rattle.gate_frames.proofs.WriterStages.{SameStageWords, none_leaves, opened_tree, stays_there, stored_levels, writer_beside, writer_holds, writer_stores}
 use Rattle.gate_frames.proofs.WriterWords.{reopen_leaves, tree_beside, up_write_adds, up_write_counts_none, up_write_words, writer_at_level}
-use Rattle.gate_world.specs.Configs.{IsWithin, model_limits}
-use Rattle.gate_world.specs.Fits.{Fits, PhaseFits, ThawFits}
-use Rattle.gate_world.specs.Holdings.{Holdings, holdings_of}
-use Rattle.gate_world.specs.Levels.{is_frozen_whole, level_added_after, level_added_by, level_taken_after, level_taken_by}
-use Rattle.gate_world.specs.Roles.{closed_to, thaw_holder_role, thaw_stage_role, thaw_stand}
-use Rattle.gate_world.specs.Rules.{Fitting, Holding, Holds, IsGood, OwnerHolds, Stages, StepKeeps, ViewFits, marks_of, owns}
-use Rattle.gate_world.specs.Shown.{holder_role_of, holder_roles, shown, stage_role_of, stage_roles}
-use Rattle.gate_world.specs.Trees.{tree_role_of}
-use Rattle.gate_world.specs.Views.{actions_after, added_after, added_by, held_of, phase_after, taken_after, taken_by, view_with}
-use Rattle.gate_world.specs.Worlds.{World}
-use Rattle.gate_world.specs.declared.config.Config.{Config}
-use Rattle.gate_world.specs.declared.views.Traced.{Traced}
-use Rattle.gate_world.specs.declared.views.View.{View}
-use Rattle.gate_world.specs.declared.work.Phase.{Phase}
-use Rattle.gated_tree.specs.Nodes.{dirty_in}
-use Rattle.gated_tree.specs.Roles.{Out as OffTree}
-use Rattle.holder_laws.proofs.HolderLaws.{roles_tell}
-use Rattle.holder_laws.proofs.Words.{holds_alone, holds_own, leaves_none, unpack_pack}
+use Rattle.gate_world.specs.{Configs.{IsWithin, model_limits}, Fits.{Fits, PhaseFits, ThawFits}, Holdings.{Holdings, holdings_of}, Levels.is_frozen_whole}
+use Rattle.gate_world.specs.{Levels.{level_added_after, level_added_by, level_taken_after, level_taken_by}, Roles.{closed_to, thaw_holder_role}}
+use Rattle.gate_world.specs.{Roles.{thaw_stage_role, thaw_stand}, Rules.{Fitting, Holding, Holds, IsGood, OwnerHolds, Stages, StepKeeps, ViewFits, marks_of}}
+use Rattle.gate_world.specs.{Rules.owns, Shown.{holder_role_of, holder_roles, shown, stage_role_of, stage_roles}, Trees.tree_role_of, Views.actions_after}
+use Rattle.gate_world.specs.{Views.{added_after, added_by, held_of, phase_after, taken_after, taken_by, view_with}, Worlds.World}
+use Rattle.gate_world.specs.declared.{config.Config.Config, views.{Traced.Traced, View.View}, work.Phase.Phase}
+use Rattle.gated_tree.specs.{Nodes.dirty_in, Roles.Out as OffTree}
+use Rattle.holder_laws.proofs.{HolderLaws.roles_tell, Words.{holds_alone, holds_own, leaves_none, unpack_pack}}
 use Rattle.holder_laws.specs.Events.{Finds, Leaves as LeavesOthers, LeavesLast as LeavesNobody, LetsGo as LetsHoldersGo, Thaws as ThawsHolders}
 use Rattle.holder_laws.specs.Roles.{Apart, Empties, Found, between, minds}
 use Rattle.operation_laws.proofs.ThawFits.{finds_cases, thaw_goes}
-use Rattle.percpu_rwsem.specs.SyncWords.{on_exit}
-use Rattle.percpu_rwsem.specs.Transitions.{transition_after}
-use Rattle.percpu_rwsem.specs.Writers.{exit_made, up_write_after, up_write_next}
-use Rattle.percpu_rwsem.specs.declared.transitions.Transition.{Transition}
-use Rattle.percpu_rwsem.specs.declared.transitions.TransitionNext.{TransitionNext}
-use Rattle.percpu_rwsem.specs.declared.writers.UpWrite.{UpWrite}
+use Rattle.percpu_rwsem.specs.{SyncWords.on_exit, Transitions.transition_after, Writers.{exit_made, up_write_after, up_write_next}}
+use Rattle.percpu_rwsem.specs.declared.{transitions.{Transition.Transition, TransitionNext.TransitionNext}, writers.UpWrite.UpWrite}
 use Rattle.percpu_rwsem.specs.declared.writers.UpWriteStep.{UpWriteStep}
-use Rattle.stage_laws.specs.Events.{ClearsBlock as ClearsBlockOf, IsAlike, LeavesOne, Locks as LocksStage, Recalls, Releases as ReleasesStage, StageEvent, Stays, Thaws as StoresThaw, ThawsAtOnce, action_of as stage_action_of, playing}
-use Rattle.stage_laws.specs.Roles.{CleanBelow, KnowsStage, Owning, Reopening, StageRole, clean_by, is_full, owns as stage_owns}
-use Rattle.stage_laws.specs.Shown.{state_after}
-use Rattle.std.proofs.Common.{ap, arith, inl, inr, refl, subst, suc, sym, zero, ℕ, ◌+◌, ◌-◌, ◌<◌, ◌∙◌, ◌≡◌, ◌≤◌}
-use Rattle.std.proofs.lemmas.Bool.{ne_eqb}
-use Rattle.std.proofs.lemmas.Bool.Decides.{eqb_tells}
+use Rattle.stage_laws.specs.Events.{ClearsBlock as ClearsBlockOf, IsAlike, LeavesOne, Locks as LocksStage, Recalls, Releases as ReleasesStage, StageEvent}
+use Rattle.stage_laws.specs.{Events.{Stays, Thaws as StoresThaw, ThawsAtOnce, action_of as stage_action_of, playing}, Roles.{CleanBelow, KnowsStage, Owning}}
+use Rattle.stage_laws.specs.{Roles.{Reopening, StageRole, clean_by, is_full, owns as stage_owns}, Shown.state_after}
+use Rattle.std.proofs.{Common.{ap, arith, inl, inr, refl, subst, suc, sym, zero, ℕ, ◌+◌, ◌-◌, ◌<◌, ◌∙◌, ◌≡◌, ◌≤◌}, lemmas.Bool.{ne_eqb, Decides.eqb_tells}}
 use Rattle.std.specs.Prelude.{Err, List, None, Ok, Option, Result, Some, false, if◌then◌else◌, true, ◌==◌, ◌∷◌}
 
 none_below : (dirty : ℕ → ℕ) → CleanBelow 0 dirty

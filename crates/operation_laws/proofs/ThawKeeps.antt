@@ -1,20 +1,10 @@
 -- All that is proved of a thaw.
 use Rattle.access_model.specs.declared.actions.Holder.{Holder}
 use Rattle.freeze_levels.specs.declared.thaws.Thaw.{Thaw}
-use Rattle.gate_frames.proofs.Agreeing.{none_agree}
-use Rattle.gate_frames.proofs.Keeps.{OpKeeps, PhaseKeeps, word_among}
-use Rattle.gate_frames.proofs.Says.{is_short, tells}
-use Rattle.gate_frames.proofs.Snapshots.{completes_none}
-use Rattle.gate_world.specs.Worlds.{after_step}
-use Rattle.gate_world.specs.declared.config.Config.{Config}
-use Rattle.gate_world.specs.declared.operations.Op.{Op}
-use Rattle.gate_world.specs.declared.work.Phase.{Phase}
-use Rattle.operation_laws.proofs.ThawCauses.{thaw_own, thaw_stays}
-use Rattle.operation_laws.proofs.ThawEvents.{thaw_keeps}
-use Rattle.operation_laws.proofs.ThawFits.{thaw_acts, thaw_goes, thaw_there}
-use Rattle.operation_laws.proofs.ThawRuns.{thaw_runs}
-use Rattle.operation_laws.proofs.ThawTraces.{ThawAt, thaw_kept}
-use Rattle.operation_laws.proofs.ThawWaits.{thaw_waits}
+use Rattle.gate_frames.proofs.{Agreeing.none_agree, Keeps.{OpKeeps, PhaseKeeps, word_among}, Says.{is_short, tells}, Snapshots.completes_none}
+use Rattle.gate_world.specs.{Worlds.after_step, declared.{config.Config.Config, operations.Op.Op, work.Phase.Phase}}
+use Rattle.operation_laws.proofs.{ThawCauses.{thaw_own, thaw_stays}, ThawEvents.thaw_keeps, ThawFits.{thaw_acts, thaw_goes, thaw_there}, ThawRuns.thaw_runs}
+use Rattle.operation_laws.proofs.{ThawTraces.{ThawAt, thaw_kept}, ThawWaits.thaw_waits}
 use Rattle.std.proofs.Common.{refl}
 
 pub thaw_phase : (c : Config) (x : Thaw) → PhaseKeeps c (Phase.Thaws x)

@@ -1,32 +1,14 @@
 -- All that is proved of a want and of a drop.
 use Rattle.access_model.specs.declared.replies.Next.{Next}
-use Rattle.gate_frames.proofs.Frames.{role_none}
-use Rattle.gate_frames.proofs.Keeps.{IsSmall, OpKeeps, PhaseKeeps, by_bool, word_among}
-use Rattle.gate_frames.proofs.MountRuns.{mounts_run}
-use Rattle.gate_frames.proofs.Says.{is_short, tells}
-use Rattle.gate_frames.proofs.Snapshots.{completes_none}
-use Rattle.gate_frames.proofs.TreeHolders.{both_true}
-use Rattle.gate_world.specs.Causes.{asks}
-use Rattle.gate_world.specs.Fits.{Fits}
-use Rattle.gate_world.specs.Roles.{no_roles}
-use Rattle.gate_world.specs.Rules.{Fitting}
-use Rattle.gate_world.specs.Traces.{most_events}
-use Rattle.gate_world.specs.Views.{held_of}
-use Rattle.gate_world.specs.Worlds.{World, after_step, found_at}
-use Rattle.gate_world.specs.declared.config.Config.{Config}
-use Rattle.gate_world.specs.declared.operations.Op.{Op}
-use Rattle.gate_world.specs.declared.work.Phase.{Phase}
-use Rattle.mount_counts.specs.Phases.{want_after}
-use Rattle.mount_counts.specs.declared.phases.MountPhase.{MountPhase}
-use Rattle.mount_counts.specs.declared.phases.Want.{Want}
-use Rattle.operation_laws.proofs.WantCauses.{next_asked, next_cause, want_kept, want_own}
-use Rattle.operation_laws.proofs.WantFits.{want_acts, want_goes, want_there}
-use Rattle.operation_laws.proofs.WantLoads.{want_here}
-use Rattle.operation_laws.proofs.WantTraces.{DropAt, WantAt, drop_kept, want_kept as want_traced}
-use Rattle.operation_laws.proofs.WantWaits.{next_waits, want_waits}
-use Rattle.operation_laws.proofs.Wants.{drop_keeps, want_keeps}
-use Rattle.std.proofs.Common.{Bool, ap, arith, refl, subst, true, ℕ, ◌∙◌, ◌≡◌}
-use Rattle.std.proofs.lemmas.Bool.{ltb-true}
+use Rattle.gate_frames.proofs.{Frames.role_none, Keeps.{IsSmall, OpKeeps, PhaseKeeps, by_bool, word_among}, MountRuns.mounts_run, Says.{is_short, tells}}
+use Rattle.gate_frames.proofs.{Snapshots.completes_none, TreeHolders.both_true}
+use Rattle.gate_world.specs.{Causes.asks, Fits.Fits, Roles.no_roles, Rules.Fitting, Traces.most_events, Views.held_of, Worlds.{World, after_step, found_at}}
+use Rattle.gate_world.specs.declared.{config.Config.Config, operations.Op.Op, work.Phase.Phase}
+use Rattle.mount_counts.specs.{Phases.want_after, declared.phases.{MountPhase.MountPhase, Want.Want}}
+use Rattle.operation_laws.proofs.{WantCauses.{next_asked, next_cause, want_kept, want_own}, WantFits.{want_acts, want_goes, want_there}, WantLoads.want_here}
+use Rattle.operation_laws.proofs.{WantTraces.{DropAt, WantAt, drop_kept, want_kept as want_traced}, WantWaits.{next_waits, want_waits}, Wants.drop_keeps}
+use Rattle.operation_laws.proofs.Wants.{want_keeps}
+use Rattle.std.proofs.{Common.{Bool, ap, arith, refl, subst, true, ℕ, ◌∙◌, ◌≡◌}, lemmas.Bool.ltb-true}
 use Rattle.std.specs.Prelude.{Some, nat_lt, ◌∷◌}
 
 pub want_phase : (c : Config) (x : Want) → PhaseKeeps c (Phase.Mounts (MountPhase.Want x))

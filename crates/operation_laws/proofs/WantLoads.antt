@@ -1,34 +1,19 @@
 -- Loads of a want: for HOLD, and the three of the read-only question.
-use Rattle.access_model.specs.Actions.{after_action}
-use Rattle.access_model.specs.declared.actions.Action.{Action}
-use Rattle.access_model.specs.declared.actions.Gate.{Gate}
-use Rattle.access_model.specs.declared.errors.GateError.{GateError}
-use Rattle.access_model.specs.declared.replies.Next.{Next}
+use Rattle.access_model.specs.{Actions.after_action, declared.{actions.{Action.Action, Gate.Gate}, errors.GateError.GateError, replies.Next.Next}}
 use Rattle.access_model.specs.declared.replies.Reply.{Reply}
-use Rattle.cpu_words.specs.Hooks.{HookAnswer}
-use Rattle.cpu_words.specs.declared.events.Touch.{Touch}
-use Rattle.cpu_words.specs.declared.names.WordName.{WordName}
+use Rattle.cpu_words.specs.{Hooks.HookAnswer, declared.{events.Touch.Touch, names.WordName.WordName}}
 use Rattle.finite_sums.proofs.Totals.{total_at, update_at, update_off, update_same}
 use Rattle.finite_sums.specs.Sums.{update}
 use Rattle.gate_frames.proofs.Frames.{MountHoldsAfter, gates_after, holds_as, owner_same, role_off, role_on, shown_as, view_as}
 use Rattle.gate_frames.proofs.Loads.{after_load, as_owner, fits_now, load_law}
-use Rattle.gate_world.specs.Fits.{Fits}
-use Rattle.gate_world.specs.Roles.{want_role}
-use Rattle.gate_world.specs.Rules.{AtMount, GateStepKeeps, GatesHold, IsGood, IsSteady, MountHoldsIn, at_mount, owns, remounts, role_of}
-use Rattle.gate_world.specs.Shown.{closing, shown}
-use Rattle.gate_world.specs.Views.{has_open, held_at, held_of, phase_after, view_with}
-use Rattle.gate_world.specs.Worlds.{World}
-use Rattle.gate_world.specs.declared.config.Config.{Config}
-use Rattle.gate_world.specs.declared.views.View.{View}
-use Rattle.gate_world.specs.declared.work.Phase.{Phase}
-use Rattle.mount_counts.specs.Phases.{has_flag}
-use Rattle.mount_counts.specs.Roles.{Out, PastFlags, has_hold, passed_hold, past_flags, past_remount, processor_of, questions_of, ro_bit}
-use Rattle.mount_counts.specs.declared.phases.MountPhase.{MountPhase}
-use Rattle.mount_counts.specs.declared.phases.WantStep.{WantStep}
+use Rattle.gate_world.specs.{Fits.Fits, Roles.want_role, Rules.{AtMount, GateStepKeeps, GatesHold, IsGood, IsSteady, MountHoldsIn, at_mount, owns, remounts}}
+use Rattle.gate_world.specs.{Rules.role_of, Shown.{closing, shown}, Views.{has_open, held_at, held_of, phase_after, view_with}, Worlds.World}
+use Rattle.gate_world.specs.declared.{config.Config.Config, views.View.View, work.Phase.Phase}
+use Rattle.mount_counts.specs.{Phases.has_flag, Roles.{Out, PastFlags, has_hold, passed_hold, past_flags, past_remount, processor_of, questions_of, ro_bit}}
+use Rattle.mount_counts.specs.declared.phases.{MountPhase.MountPhase, WantStep.WantStep}
 use Rattle.mount_laws.proofs.Bits.{hold_clear, read_only_clear}
 use Rattle.mount_laws.proofs.MountLaws.{closed, finds_hold_clear, finds_no_remount, finds_writable, is_granted, is_refused, remounting, waits_on}
-use Rattle.std.proofs.Common.{Bool, ap, arith, false, inl, inr, refl, subst, suc, sym, true, ℕ, ◌+◌, ◌<◌, ◌∙◌, ◌≡◌}
-use Rattle.std.proofs.lemmas.Bool.{cases_Bool, ne_eqb}
+use Rattle.std.proofs.{Common.{Bool, ap, arith, false, inl, inr, refl, subst, suc, sym, true, ℕ, ◌+◌, ◌<◌, ◌∙◌, ◌≡◌}, lemmas.Bool.{cases_Bool, ne_eqb}}
 use Rattle.std.proofs.lemmas.Bool.Decides.{eqb_tells}
 use Rattle.std.specs.Prelude.{None, Ok, Option, Some, ◌⊎◌}
 

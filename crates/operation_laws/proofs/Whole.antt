@@ -1,41 +1,24 @@
 -- Each operation under way is kept, or a reply is near.
-use Rattle.cpu_words.specs.Hooks.{HookAnswer}
-use Rattle.cpu_words.specs.Words.{Words}
+use Rattle.cpu_words.specs.{Hooks.HookAnswer, Words.Words}
 use Rattle.file_closes.specs.declared.phases.ClosePhase.{ClosePhase}
 use Rattle.finite_sums.proofs.Totals.{update_off}
-use Rattle.freeze_levels.specs.Freezes.{at_freeze}
-use Rattle.freeze_levels.specs.declared.freezes.Freeze.{Freeze}
-use Rattle.freeze_levels.specs.declared.freezes.FreezeStep.{FreezeStep}
-use Rattle.freeze_levels.specs.declared.thaws.ThawStep.{ThawStep}
-use Rattle.gate_world.specs.Configs.{IsWithin}
-use Rattle.gate_world.specs.Fits.{PhaseFits}
-use Rattle.gate_world.specs.Remounts.{remount_owns}
-use Rattle.gate_world.specs.Roles.{change_owns, freeze_stage_role, snapshot_stage_role, thaw_stage_role}
-use Rattle.gate_world.specs.Rules.{AtLevel, IsGood, Stages, owns}
-use Rattle.gate_world.specs.Shown.{stage_role_of}
-use Rattle.gate_world.specs.Views.{held_of, phase_after, view_after}
-use Rattle.gate_world.specs.Work.{after_of}
-use Rattle.gate_world.specs.Worlds.{World, after_step, found_at, value_at}
-use Rattle.gate_world.specs.declared.config.Config.{Config}
-use Rattle.gate_world.specs.declared.views.View.{View}
+use Rattle.freeze_levels.specs.{Freezes.at_freeze, declared.{freezes.{Freeze.Freeze, FreezeStep.FreezeStep}, thaws.ThawStep.ThawStep}}
+use Rattle.gate_world.specs.{Configs.IsWithin, Fits.PhaseFits, Remounts.remount_owns, Roles.{change_owns, freeze_stage_role, snapshot_stage_role}}
+use Rattle.gate_world.specs.{Roles.thaw_stage_role, Rules.{AtLevel, IsGood, Stages, owns}, Shown.stage_role_of, Views.{held_of, phase_after, view_after}}
+use Rattle.gate_world.specs.{Work.after_of, Worlds.{World, after_step, found_at, value_at}, declared.{config.Config.Config, views.View.View}}
 use Rattle.gate_world.specs.declared.work.Phase.{Phase}
-use Rattle.gated_tree.specs.declared.phases.TreePhase.{TreePhase}
-use Rattle.gated_tree.specs.declared.snapshots.SnapshotStep.{SnapshotStep}
-use Rattle.mount_counts.specs.declared.phases.ChangeStep.{ChangeStep}
-use Rattle.mount_counts.specs.declared.phases.MountPhase.{MountPhase}
-use Rattle.mount_counts.specs.declared.remounts.RemountStep.{RemountStep}
+use Rattle.gated_tree.specs.declared.{phases.TreePhase.TreePhase, snapshots.SnapshotStep.SnapshotStep}
+use Rattle.mount_counts.specs.declared.{phases.{ChangeStep.ChangeStep, MountPhase.MountPhase}, remounts.RemountStep.RemountStep}
 use Rattle.percpu_rwsem.specs.declared.readers.DownReadStep.{DownReadStep}
-use Rattle.operation_laws.proofs.Bounds.{alone_settled}
-use Rattle.operation_laws.proofs.Falls.{near_by, no_further, stands_after}
-use Rattle.operation_laws.proofs.Freezing.{FirstFree, IdleApart, callback_goes, freeze_goes, kept_or_apart, not_none, search_below}
-use Rattle.operation_laws.proofs.Movers.{HasOwner, fits_at, free_goes, has_owner, owner_free, want_goes}
-use Rattle.operation_laws.specs.Progress.{ChangeIsKept, EventsKeepRule, FreezeIsKept, IsKept, IsKeptAt, KeptIfFreeze, LockIsKept, Progresses, RemountIsKept, ReplyWithin, SnapshotIsKept, ThawIsKept, begins_freeze, is_admitted, is_first_lock, is_last_close, next_level}
-use Rattle.operation_laws.specs.Ranks.{most_alone, most_settled}
-use Rattle.operation_laws.specs.Ways.{ChangeIsFree, IsFree, PhaseEnds, RemountIsFree, SnapshotIsFree, ThawIsFree}
+use Rattle.operation_laws.proofs.{Bounds.alone_settled, Falls.{near_by, no_further, stands_after}, Freezing.{FirstFree, IdleApart, callback_goes}}
+use Rattle.operation_laws.proofs.{Freezing.{freeze_goes, kept_or_apart, not_none, search_below}, Movers.{HasOwner, fits_at, free_goes, has_owner, owner_free}}
+use Rattle.operation_laws.proofs.Movers.{want_goes}
+use Rattle.operation_laws.specs.Progress.{ChangeIsKept, EventsKeepRule, FreezeIsKept, IsKept, IsKeptAt, KeptIfFreeze, LockIsKept, Progresses, RemountIsKept}
+use Rattle.operation_laws.specs.Progress.{ReplyWithin, SnapshotIsKept, ThawIsKept, begins_freeze, is_admitted, is_first_lock, is_last_close, next_level}
+use Rattle.operation_laws.specs.{Ranks.{most_alone, most_settled}, Ways.{ChangeIsFree, IsFree, PhaseEnds, RemountIsFree, SnapshotIsFree, ThawIsFree}}
 use Rattle.stage_laws.specs.Roles.{KnowsStage, bit, owns as stage_owns}
-use Rattle.std.proofs.Common.{Bool, ap, arith, false, inl, inr, refl, subst, sym, true, true≢false, ℕ, ◌+◌, ◌<◌, ◌∙◌, ◌≡◌, ◌≤◌}
-use Rattle.std.proofs.lemmas.Bool.{cases_Bool, cases_lt, le-ltb, ne_eqb}
-use Rattle.std.proofs.lemmas.Bool.Decides.{eqb_tells}
+use Rattle.std.proofs.{Common.{Bool, ap, arith, false, inl, inr, refl, subst, sym, true, true≢false, ℕ, ◌+◌, ◌<◌, ◌∙◌, ◌≡◌, ◌≤◌}, lemmas.Bool.cases_Bool}
+use Rattle.std.proofs.lemmas.Bool.{cases_lt, le-ltb, ne_eqb, Decides.eqb_tells}
 use Rattle.std.specs.Prelude.{None, Option, Some, nat_lt, ◌==◌, ◌⊎◌}
 use Rattle.write_access.specs.declared.phases.WritePhase.{WritePhase}
 

@@ -1,57 +1,24 @@
 -- All that is proved of a taking and of a return of write access, each from what is proved of its gates.
-use Rattle.access_model.specs.Histories.{levels_of}
-use Rattle.access_model.specs.Replies.{map_next}
-use Rattle.access_model.specs.declared.errors.GateError.{GateError}
-use Rattle.access_model.specs.declared.replies.Next.{Next}
-use Rattle.access_model.specs.declared.replies.Reply.{Reply}
+use Rattle.access_model.specs.{Histories.levels_of, Replies.map_next, declared.{errors.GateError.GateError, replies.{Next.Next, Reply.Reply}}}
 use Rattle.cpu_words.specs.Hooks.{HookAnswer}
 use Rattle.finite_sums.proofs.Totals.{update_same}
 use Rattle.finite_sums.specs.Sums.{update}
-use Rattle.gate_frames.proofs.Agreeing.{none_agree}
-use Rattle.gate_frames.proofs.Beside.{update_twice}
-use Rattle.gate_frames.proofs.Frames.{count_none, role_on, sync_none}
-use Rattle.gate_frames.proofs.Keeps.{OpKeeps, PhaseKeeps}
-use Rattle.gate_frames.proofs.Says.{is_short, is_short_well, tells, tells_well}
-use Rattle.gate_frames.proofs.Snapshots.{completes_none}
-use Rattle.gate_frames.proofs.TreeHolders.{both_true}
-use Rattle.gate_world.specs.Causes.{asks, asks_level}
-use Rattle.gate_world.specs.Configs.{IsWithin}
-use Rattle.gate_world.specs.Fits.{Fits, WriteFits}
-use Rattle.gate_world.specs.Holdings.{Holdings, held_after, holdings_of}
-use Rattle.gate_world.specs.LevelRuns.{level_in}
-use Rattle.gate_world.specs.Levels.{sync_role_of}
-use Rattle.gate_world.specs.Roles.{no_roles}
-use Rattle.gate_world.specs.Rules.{IsGood, StepKeeps, role_of}
-use Rattle.gate_world.specs.Views.{held_of, phase_after}
-use Rattle.gate_world.specs.Worlds.{World, after_step, found_at}
-use Rattle.gate_world.specs.declared.config.Config.{Config}
-use Rattle.gate_world.specs.declared.operations.Op.{Op}
-use Rattle.gate_world.specs.declared.work.Phase.{Phase}
-use Rattle.level_laws.specs.Events.{SyncStep}
-use Rattle.level_laws.specs.Roles.{closed}
-use Rattle.mount_counts.specs.Phases.{want_after}
-use Rattle.mount_counts.specs.declared.phases.MountPhase.{MountPhase}
-use Rattle.mount_counts.specs.declared.phases.Want.{Want}
-use Rattle.mount_counts.specs.declared.phases.WantStep.{WantStep}
-use Rattle.operation_laws.proofs.Alikes.{alike_takes, alike_wants, takes_goes, wants_goes}
-use Rattle.operation_laws.proofs.ReadCauses.{read_not_closed, read_own, read_stays}
-use Rattle.operation_laws.proofs.ReadFits.{read_goes, read_mounts}
-use Rattle.operation_laws.proofs.ReadKeeps.{end_phase, read_phase}
-use Rattle.operation_laws.proofs.ReadWaits.{read_waits}
-use Rattle.operation_laws.proofs.WantCauses.{want_kept, want_own}
-use Rattle.operation_laws.proofs.WantFits.{want_leaves}
-use Rattle.operation_laws.proofs.WantKeeps.{drop_phase, want_phase}
-use Rattle.operation_laws.proofs.WantWaits.{want_waits}
-use Rattle.operation_laws.proofs.WriteCauses.{takes_asks, takes_cause, takes_waits, wants_asked, wants_cause, wants_waits}
-use Rattle.operation_laws.proofs.WriteSteps.{first_world, write_fits_now, write_runs, write_step}
-use Rattle.operation_laws.proofs.WriteTraces.{DropAt, WriteAt, drop_kept, write_kept}
-use Rattle.percpu_rwsem.specs.Readers.{down_read_after}
-use Rattle.percpu_rwsem.specs.declared.readers.DownRead.{DownRead}
-use Rattle.std.proofs.Common.{Bool, ap, arith, false, refl, subst, sym, true, true≢false, ℕ, ◌<◌, ◌∙◌, ◌≡◌, ◌≤◌}
-use Rattle.std.proofs.lemmas.Bool.{ltb-true}
+use Rattle.gate_frames.proofs.{Agreeing.none_agree, Beside.update_twice, Frames.{count_none, role_on, sync_none}, Keeps.{OpKeeps, PhaseKeeps}, Says.is_short}
+use Rattle.gate_frames.proofs.{Says.{is_short_well, tells, tells_well}, Snapshots.completes_none, TreeHolders.both_true}
+use Rattle.gate_world.specs.{Causes.{asks, asks_level}, Configs.IsWithin, Fits.{Fits, WriteFits}, Holdings.{Holdings, held_after, holdings_of}}
+use Rattle.gate_world.specs.{LevelRuns.level_in, Levels.sync_role_of, Roles.no_roles, Rules.{IsGood, StepKeeps, role_of}, Views.{held_of, phase_after}}
+use Rattle.gate_world.specs.{Worlds.{World, after_step, found_at}, declared.{config.Config.Config, operations.Op.Op, work.Phase.Phase}}
+use Rattle.level_laws.specs.{Events.SyncStep, Roles.closed}
+use Rattle.mount_counts.specs.{Phases.want_after, declared.phases.{MountPhase.MountPhase, Want.Want, WantStep.WantStep}}
+use Rattle.operation_laws.proofs.{Alikes.{alike_takes, alike_wants, takes_goes, wants_goes}, ReadCauses.{read_not_closed, read_own, read_stays}}
+use Rattle.operation_laws.proofs.{ReadFits.{read_goes, read_mounts}, ReadKeeps.{end_phase, read_phase}, ReadWaits.read_waits, WantCauses.want_kept}
+use Rattle.operation_laws.proofs.{WantCauses.want_own, WantFits.want_leaves, WantKeeps.{drop_phase, want_phase}, WantWaits.want_waits, WriteCauses.takes_asks}
+use Rattle.operation_laws.proofs.{WriteCauses.{takes_cause, takes_waits, wants_asked, wants_cause, wants_waits}, WriteSteps.{first_world, write_fits_now}}
+use Rattle.operation_laws.proofs.{WriteSteps.{write_runs, write_step}, WriteTraces.{DropAt, WriteAt, drop_kept, write_kept}}
+use Rattle.percpu_rwsem.specs.{Readers.down_read_after, declared.readers.DownRead.DownRead}
+use Rattle.std.proofs.{Common.{Bool, ap, arith, false, refl, subst, sym, true, true≢false, ℕ, ◌<◌, ◌∙◌, ◌≡◌, ◌≤◌}, lemmas.Bool.ltb-true}
 use Rattle.std.specs.Prelude.{Err, Ok, Some, nat_lt, not, ◌&&◌, ◌∷◌}
-use Rattle.write_access.specs.Phases.{leaves_on, then_gives_back, then_wants}
-use Rattle.write_access.specs.declared.phases.WritePhase.{WritePhase}
+use Rattle.write_access.specs.{Phases.{leaves_on, then_gives_back, then_wants}, declared.phases.WritePhase.WritePhase}
 
 -- what fits after an event at level 1, with the mount to come
 takes_fits : (c : Config) (t : ℕ) (held : Holdings) (m : ℕ) (r : DownRead) (found : ℕ) →

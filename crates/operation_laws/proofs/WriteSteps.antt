@@ -1,22 +1,11 @@
 -- The law of an event of a write access is that of its gate's event, made by a task that stands at the gate's phase.
-use Rattle.access_model.specs.declared.actions.Action.{Action}
-use Rattle.access_model.specs.declared.replies.Next.{Next}
+use Rattle.access_model.specs.declared.{actions.Action.Action, replies.Next.Next}
 use Rattle.cpu_words.specs.Hooks.{HookAnswer}
 use Rattle.finite_sums.proofs.Totals.{update_at}
-use Rattle.gate_frames.proofs.Beside.{made, made_runs_beside}
-use Rattle.gate_frames.proofs.Rephased.{alike_of, made_keeps, rephased_good}
-use Rattle.gate_world.specs.Alike.{IsAlike, at_phase, off_tree, rephased}
-use Rattle.gate_world.specs.Fits.{Fits, PhaseFits, WriteFits}
-use Rattle.gate_world.specs.Holdings.{Holdings, held_after}
-use Rattle.gate_world.specs.LevelRuns.{level_in}
-use Rattle.gate_world.specs.Rules.{Fitting, IsGood, Moves}
-use Rattle.gate_world.specs.Shown.{shown}
-use Rattle.gate_world.specs.Views.{held_of, phase_after}
-use Rattle.gate_world.specs.Work.{after_of, next_of, plain}
-use Rattle.gate_world.specs.Worlds.{World, found_at}
-use Rattle.gate_world.specs.declared.config.Config.{Config}
-use Rattle.gate_world.specs.declared.views.View.{View}
-use Rattle.gate_world.specs.declared.work.Phase.{Phase}
+use Rattle.gate_frames.proofs.{Beside.{made, made_runs_beside}, Rephased.{alike_of, made_keeps, rephased_good}}
+use Rattle.gate_world.specs.{Alike.{IsAlike, at_phase, off_tree, rephased}, Fits.{Fits, PhaseFits, WriteFits}, Holdings.{Holdings, held_after}}
+use Rattle.gate_world.specs.{LevelRuns.level_in, Rules.{Fitting, IsGood, Moves}, Shown.shown, Views.{held_of, phase_after}, Work.{after_of, next_of, plain}}
+use Rattle.gate_world.specs.{Worlds.{World, found_at}, declared.{config.Config.Config, views.View.View, work.Phase.Phase}}
 use Rattle.level_laws.specs.Events.{SyncStep}
 use Rattle.std.proofs.Common.{ap, arith, subst, ℕ, ◌<◌, ◌≡◌}
 use Rattle.std.specs.Prelude.{Option, Some}

@@ -2,25 +2,20 @@
 -- closed, or kept from being passed, by what no task under way can change.
 use Rattle.std.specs.Prelude.{◌≡◌, ℕ, zero, suc, ◌<◌, ◌≤◌, ◌⊎◌, ◌==◌, ◌&&◌, if◌then◌else◌, Bool, true, false, Option, Some, None, Ok, List}
 use Rattle.cpu_words.specs.{Hooks.HookAnswer, Words.Words}
-use Rattle.gated_tree.specs.Nodes.{removed_in, opens_in}
-use Rattle.gated_tree.specs.declared.phases.TreePhase.{TreePhase, TheVariants.Snapshot as Snapshots}
+use Rattle.gated_tree.specs.{Nodes.{removed_in, opens_in}, declared.phases.TreePhase.{TreePhase, TheVariants.Snapshot as Snapshots}}
 use Rattle.gated_tree.specs.declared.snapshots.SnapshotStep.{SnapshotStep, TheVariants.Locks as SnapshotLocks}
 use Rattle.mount_counts.specs.declared.phases.ChangeStep.{ChangeStep, TheVariants.Locks as ChangeLocks}
 use Rattle.mount_counts.specs.declared.phases.MountPhase.{MountPhase, TheVariants.{Want as Wants, Drop as Drops, Change as Changes}}
 use Rattle.mount_counts.specs.declared.remounts.RemountStep.{RemountStep, TheVariants.Locks as RemountLocks}
 use Rattle.percpu_rwsem.specs.declared.readers.{DownRead.DownRead, DownReadStep.{DownReadStep, TheVariants.{CountsUpFast, LeavesAdmitted}}}
-use Rattle.freeze_levels.specs.declared.freezes.Freeze.{Freeze}
-use Rattle.freeze_levels.specs.declared.freezes.FreezeStep.{FreezeStep}
-use Rattle.freeze_levels.specs.declared.freezes.FreezeStep.TheVariants.{Locks as FreezeLocks, LoadsStage, LoadsHolders, Holds, LoadsSuperblock}
-use Rattle.freeze_levels.specs.declared.freezes.FreezeStep.TheVariants.{CompletesReadOnly, SetsWrite, Unlocks, Closes, LocksAgain, SetsPageFault, Cleans}
-use Rattle.freeze_levels.specs.declared.freezes.FreezeStep.TheVariants.{SetsFs, SetsComplete, Reopens, Releases}
+use Rattle.freeze_levels.specs.declared.freezes.{Freeze.Freeze, FreezeStep.{FreezeStep, TheVariants.{Locks as FreezeLocks, LoadsStage, LoadsHolders, Holds}}}
+use Rattle.freeze_levels.specs.declared.freezes.FreezeStep.TheVariants.{LoadsSuperblock, CompletesReadOnly, SetsWrite, Unlocks, Closes, LocksAgain}
+use Rattle.freeze_levels.specs.declared.freezes.FreezeStep.TheVariants.{SetsPageFault, Cleans, SetsFs, SetsComplete, Reopens, Releases}
 use Rattle.freeze_levels.specs.declared.thaws.ThawStep.{ThawStep, TheVariants.Locks as ThawLocks}
 use Rattle.write_access.specs.declared.phases.WritePhase.{WritePhase, TheVariants.Takes}
 use Rattle.file_closes.specs.declared.phases.ClosePhase.{ClosePhase, TheVariants.{LoadsFile, Enters as EntersLevel}}
 use Rattle.gate_world.specs.{Headline.world_after, Levels.is_frozen_whole, Rules.{IsGood, Moves, owns}, Shown.shown, Views.holds_level, Work.hook_of}
-use Rattle.gate_world.specs.Worlds.{World, Entry, Steps, happens, after_step, phase_action}
-use Rattle.gate_world.specs.declared.config.Config.{Config}
-use Rattle.gate_world.specs.declared.work.Phase.{Phase}
+use Rattle.gate_world.specs.{Worlds.{World, Entry, Steps, happens, after_step, phase_action}, declared.{config.Config.Config, work.Phase.Phase}}
 use Rattle.gate_world.specs.declared.work.Phase.TheVariants.{Mounts, Remounts, DownReads, UpReads, Callbacks, Writes, Freezes, Thaws, Trees}
 use Rattle.gate_world.specs.declared.work.Phase.TheVariants.{Closes as FileCloses}
 

@@ -3,64 +3,48 @@ use Rattle.std.specs.Prelude.{max, ℕ, zero, suc, ◌+◌, ◌-◌, ◌*◌, �
 use Rattle.finite_sums.specs.Sums.{total}
 use Rattle.cpu_words.specs.{Sums.lead, Words.Words, declared.sums.Sum.Sum}
 use Rattle.gated_tree.specs.declared.changes.CreateStep.{CreateStep, TheVariants.{LoadsDirectory, LoadsNode, ChargesChild, TakesNode, RefundsChild}}
-use Rattle.gated_tree.specs.declared.changes.MoveStep.{MoveStep}
-use Rattle.gated_tree.specs.declared.changes.MoveStep.TheVariants.{LoadsFile as LoadsFileToMove, LoadsDirectory as LoadsTarget, ChargesChild as ChargesTarget}
-use Rattle.gated_tree.specs.declared.changes.MoveStep.TheVariants.{MovesFile, RefundsChild as RefundsOne}
-use Rattle.gated_tree.specs.declared.changes.RemoveStep.{RemoveStep}
-use Rattle.gated_tree.specs.declared.changes.RemoveStep.TheVariants.{LoadsFile as LoadsFileToRemove, FreesNode, CountsRemoved, MarksRemoved, RefundsRemoved}
-use Rattle.gated_tree.specs.declared.changes.RemoveStep.TheVariants.{RefundsBlocks as RefundsItsBlocks, RefundsChild as RefundsItsChild}
-use Rattle.gated_tree.specs.declared.growth.GrowStep.{GrowStep, TheVariants.{LoadsFile as LoadsFileToGrow, LoadsUsed, ChargesBlocks, GrowsFile, RefundsBlocks}}
-use Rattle.gated_tree.specs.declared.marks.MarkStep.{MarkStep, TheVariants.{LoadsFile as LoadsFileToMark, MarksFile}}
-use Rattle.gated_tree.specs.declared.opens.OpenStep.{OpenStep, TheVariants.{LoadsFile as LoadsFileToOpen, OpensFile}}
-use Rattle.gated_tree.specs.declared.phases.TreePhase.{TreePhase}
-use Rattle.gated_tree.specs.declared.phases.TreePhase.TheVariants.{Create as Creates, Remove as Removes, Grow as Grows, MoveTo as Moves, Mark as TreeMarks}
-use Rattle.gated_tree.specs.declared.phases.TreePhase.TheVariants.{OpenFile as OpensOne, Snapshot as Snapshots, ClearMarks as TreeClears}
-use Rattle.gated_tree.specs.declared.snapshots.SnapshotStep.{SnapshotStep}
-use Rattle.gated_tree.specs.declared.snapshots.SnapshotStep.TheVariants.{Locks as SLocks, LoadsStage as SLoadsStage, LoadsUsed as SLoadsUsed}
+use Rattle.gated_tree.specs.declared.changes.MoveStep.{MoveStep, TheVariants.{LoadsFile as LoadsFileToMove, LoadsDirectory as LoadsTarget}}
+use Rattle.gated_tree.specs.declared.changes.MoveStep.TheVariants.{ChargesChild as ChargesTarget, MovesFile, RefundsChild as RefundsOne}
+use Rattle.gated_tree.specs.declared.changes.RemoveStep.{RemoveStep, TheVariants.{LoadsFile as LoadsFileToRemove, FreesNode, CountsRemoved, MarksRemoved}}
+use Rattle.gated_tree.specs.declared.changes.RemoveStep.TheVariants.{RefundsRemoved, RefundsBlocks as RefundsItsBlocks, RefundsChild as RefundsItsChild}
+use Rattle.gated_tree.specs.declared.growth.GrowStep.{GrowStep, TheVariants.{LoadsFile as LoadsFileToGrow, LoadsUsed, ChargesBlocks, GrowsFile}}
+use Rattle.gated_tree.specs.declared.{growth.GrowStep.TheVariants.RefundsBlocks, marks.MarkStep.{MarkStep, TheVariants.LoadsFile as LoadsFileToMark}}
+use Rattle.gated_tree.specs.declared.{marks.MarkStep.TheVariants.MarksFile, opens.OpenStep.{OpenStep, TheVariants.{LoadsFile as LoadsFileToOpen, OpensFile}}}
+use Rattle.gated_tree.specs.declared.phases.TreePhase.{TreePhase, TheVariants.{Create as Creates, Remove as Removes, Grow as Grows, MoveTo as Moves}}
+use Rattle.gated_tree.specs.declared.phases.TreePhase.TheVariants.{Mark as TreeMarks, OpenFile as OpensOne, Snapshot as Snapshots, ClearMarks as TreeClears}
+use Rattle.gated_tree.specs.declared.snapshots.SnapshotStep.{SnapshotStep, TheVariants.{Locks as SLocks, LoadsStage as SLoadsStage, LoadsUsed as SLoadsUsed}}
 use Rattle.gated_tree.specs.declared.snapshots.SnapshotStep.TheVariants.{LoadsNode as SLoadsNode, LoadsKids as SLoadsKids, Releases as SReleases}
-use Rattle.mount_counts.specs.Sets.{has_mount}
-use Rattle.mount_counts.specs.declared.phases.ChangeStep.{ChangeStep}
-use Rattle.mount_counts.specs.declared.phases.ChangeStep.TheVariants.{Locks, LoadsFlags, LoadsSuperblock as LoadsSb, ClearsReadOnly, SetsHold, Sums}
-use Rattle.mount_counts.specs.declared.phases.ChangeStep.TheVariants.{SetsReadOnly, ClearsHold, Releases}
-use Rattle.mount_counts.specs.declared.phases.MountPhase.{MountPhase, TheVariants.{Want as Wants, Drop as Drops, Change as Changes}}
-use Rattle.mount_counts.specs.declared.phases.WantStep.{WantStep, TheVariants.{CountsUp, LoadsHold, LoadsRemount, LoadsReadOnly, LoadsSuperblock, CountsDown}}
-use Rattle.mount_counts.specs.declared.remounts.RemountStep.{RemountStep}
-use Rattle.mount_counts.specs.declared.remounts.RemountStep.TheVariants.{Locks as RLocks, LoadsStage as RLoadsStage, LoadsSuperblock as RLoadsSuperblock}
-use Rattle.mount_counts.specs.declared.remounts.RemountStep.TheVariants.{LoadsRemoved as RLoadsRemoved, LoadsRemovedAgain as RLoadsRemovedAgain}
-use Rattle.mount_counts.specs.declared.remounts.RemountStep.TheVariants.{LeavesHolds as RLeavesHolds, SetsWritable, LoadsFlags as RLoadsFlags}
-use Rattle.mount_counts.specs.declared.remounts.RemountStep.TheVariants.{SetsHold as RSetsHold, Sums as RSums, SetsRemount, ClearsHold as RClearsHold, GivesUp}
-use Rattle.mount_counts.specs.declared.remounts.RemountStep.TheVariants.{ClearsMark, SetsReadOnly as RSetsReadOnly, ClearsRemount, Releases as RReleases}
-use Rattle.mount_counts.specs.declared.sets.MountSet.{MountSet}
-use Rattle.percpu_rwsem.specs.SyncWords.{bit, pack}
-use Rattle.percpu_rwsem.specs.declared.callbacks.CallbackStep.{CallbackStep, TheVariants.{Claims, AwaitsSections as CAwaitsSections, CallsBack as CCallsBack}}
-use Rattle.percpu_rwsem.specs.declared.grace.Grace.{Grace}
-use Rattle.percpu_rwsem.specs.declared.readers.DownReadStep.{DownReadStep}
+use Rattle.mount_counts.specs.{Sets.has_mount, declared.phases.ChangeStep.{ChangeStep, TheVariants.{Locks, LoadsFlags, LoadsSuperblock as LoadsSb}}}
+use Rattle.mount_counts.specs.declared.phases.ChangeStep.TheVariants.{ClearsReadOnly, SetsHold, Sums, SetsReadOnly, ClearsHold, Releases}
+use Rattle.mount_counts.specs.declared.phases.{MountPhase.{MountPhase, TheVariants.{Want as Wants, Drop as Drops, Change as Changes}}, WantStep.WantStep}
+use Rattle.mount_counts.specs.declared.phases.WantStep.TheVariants.{CountsUp, LoadsHold, LoadsRemount, LoadsReadOnly, LoadsSuperblock, CountsDown}
+use Rattle.mount_counts.specs.declared.remounts.RemountStep.{RemountStep, TheVariants.{Locks as RLocks, LoadsStage as RLoadsStage}}
+use Rattle.mount_counts.specs.declared.remounts.RemountStep.TheVariants.{LoadsSuperblock as RLoadsSuperblock, LoadsRemoved as RLoadsRemoved}
+use Rattle.mount_counts.specs.declared.remounts.RemountStep.TheVariants.{LoadsRemovedAgain as RLoadsRemovedAgain, LeavesHolds as RLeavesHolds, SetsWritable}
+use Rattle.mount_counts.specs.declared.remounts.RemountStep.TheVariants.{LoadsFlags as RLoadsFlags, SetsHold as RSetsHold, Sums as RSums, SetsRemount}
+use Rattle.mount_counts.specs.declared.remounts.RemountStep.TheVariants.{ClearsHold as RClearsHold, GivesUp, ClearsMark, SetsReadOnly as RSetsReadOnly}
+use Rattle.mount_counts.specs.declared.{remounts.RemountStep.TheVariants.{ClearsRemount, Releases as RReleases}, sets.MountSet.MountSet}
+use Rattle.percpu_rwsem.specs.{SyncWords.{bit, pack}, declared.callbacks.CallbackStep.{CallbackStep, TheVariants.{Claims, AwaitsSections as CAwaitsSections}}}
+use Rattle.percpu_rwsem.specs.declared.{callbacks.CallbackStep.TheVariants.CallsBack as CCallsBack, grace.Grace.Grace, readers.DownReadStep.DownReadStep}
 use Rattle.percpu_rwsem.specs.declared.readers.DownReadStep.TheVariants.{EntersSection, LoadsSync, CountsUpFast, CountsUpSlow, LoadsBlock}
 use Rattle.percpu_rwsem.specs.declared.readers.DownReadStep.TheVariants.{CountsDown as DCountsDown, LeavesAdmitted, LeavesBlocked}
-use Rattle.percpu_rwsem.specs.declared.transitions.Transition.{Transition, TheVariants.{Loads, Exchanges}}
-use Rattle.percpu_rwsem.specs.declared.writers.DownWrite.{DownWrite}
-use Rattle.percpu_rwsem.specs.declared.writers.DownWriteStep.{DownWriteStep}
-use Rattle.percpu_rwsem.specs.declared.writers.DownWriteStep.TheVariants.{Enters, AwaitsSections as WAwaitsSections, CallsBack as WCallsBack, AwaitsPassed}
-use Rattle.percpu_rwsem.specs.declared.writers.DownWriteStep.TheVariants.{SetsBlock, Sums as WSums}
-use Rattle.percpu_rwsem.specs.declared.writers.{UpWrite.UpWrite, UpWriteStep.{UpWriteStep, TheVariants.{ClearsBlock, Exits}}}
-use Rattle.freeze_levels.specs.declared.freezes.Freeze.{Freeze}
-use Rattle.freeze_levels.specs.declared.freezes.FreezeStep.{FreezeStep}
-use Rattle.freeze_levels.specs.declared.freezes.FreezeStep.TheVariants.{Locks as FLocks, LoadsStage as FLoadsStage, LoadsHolders as FLoadsHolders, Holds}
-use Rattle.freeze_levels.specs.declared.freezes.FreezeStep.TheVariants.{LoadsSuperblock as FLoadsSuperblock, CompletesReadOnly, SetsWrite, Unlocks, Closes}
-use Rattle.freeze_levels.specs.declared.freezes.FreezeStep.TheVariants.{LocksAgain, SetsPageFault, Cleans, SetsFs, SetsComplete, Reopens as FReopens}
-use Rattle.freeze_levels.specs.declared.freezes.FreezeStep.TheVariants.{Releases as FReleases}
-use Rattle.freeze_levels.specs.declared.thaws.ThawStep.{ThawStep}
-use Rattle.freeze_levels.specs.declared.thaws.ThawStep.TheVariants.{Locks as TLocks, LoadsStage as TLoadsStage, LoadsHolders as TLoadsHolders}
+use Rattle.percpu_rwsem.specs.declared.{transitions.Transition.{Transition, TheVariants.{Loads, Exchanges}}, writers.DownWrite.DownWrite}
+use Rattle.percpu_rwsem.specs.declared.writers.DownWriteStep.{DownWriteStep, TheVariants.{Enters, AwaitsSections as WAwaitsSections, CallsBack as WCallsBack}}
+use Rattle.percpu_rwsem.specs.declared.writers.{DownWriteStep.TheVariants.{AwaitsPassed, SetsBlock, Sums as WSums}, UpWrite.UpWrite, UpWriteStep.UpWriteStep}
+use Rattle.percpu_rwsem.specs.declared.writers.UpWriteStep.TheVariants.{ClearsBlock, Exits}
+use Rattle.freeze_levels.specs.declared.freezes.{Freeze.Freeze, FreezeStep.{FreezeStep, TheVariants.{Locks as FLocks, LoadsStage as FLoadsStage}}}
+use Rattle.freeze_levels.specs.declared.freezes.FreezeStep.TheVariants.{LoadsHolders as FLoadsHolders, Holds, LoadsSuperblock as FLoadsSuperblock}
+use Rattle.freeze_levels.specs.declared.freezes.FreezeStep.TheVariants.{CompletesReadOnly, SetsWrite, Unlocks, Closes, LocksAgain, SetsPageFault, Cleans}
+use Rattle.freeze_levels.specs.declared.freezes.FreezeStep.TheVariants.{SetsFs, SetsComplete, Reopens as FReopens, Releases as FReleases}
+use Rattle.freeze_levels.specs.declared.thaws.ThawStep.{ThawStep, TheVariants.{Locks as TLocks, LoadsStage as TLoadsStage, LoadsHolders as TLoadsHolders}}
 use Rattle.freeze_levels.specs.declared.thaws.ThawStep.TheVariants.{Leaves as TLeaves, LoadsSuperblock as TLoadsSuperblock, LeavesReadOnly, LeavesLast}
 use Rattle.freeze_levels.specs.declared.thaws.ThawStep.TheVariants.{UnfreezesReadOnly, SetsUnfrozen, Reopens as TReopens, Releases as TReleases}
 use Rattle.write_access.specs.declared.phases.WritePhase.{WritePhase, TheVariants.{Takes, Wants as WWants, GivesBack, Drops as WDrops, Ends}}
 use Rattle.file_closes.specs.declared.phases.ClosePhase.{ClosePhase}
 use Rattle.file_closes.specs.declared.phases.ClosePhase.TheVariants.{LoadsFile as CloseLoadsFile, LowersCount, Enters as EntersLevel, FreesNode as ClosesNode}
 use Rattle.file_closes.specs.declared.phases.ClosePhase.TheVariants.{RefundsBlocks as CloseRefundsBlocks, Uncounts as CloseUncounts, Leaves as CloseLeaves}
-use Rattle.gate_world.specs.declared.config.Config.{Config}
-use Rattle.gate_world.specs.declared.work.Phase.{Phase}
-use Rattle.gate_world.specs.declared.work.Phase.TheVariants.{Mounts, Remounts, DownReads, UpReads, Callbacks, Writes, Freezes, Thaws, Trees}
-use Rattle.gate_world.specs.declared.work.Phase.TheVariants.{Closes as FileCloses}
+use Rattle.gate_world.specs.declared.{config.Config.Config, work.Phase.{Phase, TheVariants.{Mounts, Remounts, DownReads, UpReads, Callbacks, Writes}}}
+use Rattle.gate_world.specs.declared.work.Phase.TheVariants.{Freezes, Thaws, Trees, Closes as FileCloses}
 
 -- a want
 abbrev pub want_rank : WantStep → ℕ

@@ -1,15 +1,11 @@
 -- Words that name verbs, hooks and kinds of nodes, and what a hook answers that a schedule lets fail.
 use Rattle.std.specs.Prelude.{ℕ, Bool, true, false, ◌==◌, ◌||◌, if◌then◌else◌, List, [], ◌∷◌, codes, Option, Some, None, Ok, Err, bytes_eq, find}
-use Rattle.access_model.specs.declared.actions.Holder.{Holder}
-use Rattle.access_model.specs.declared.actions.Holder.TheVariants.{Kernel, User}
-use Rattle.access_model.specs.declared.actions.Kind.{Kind}
-use Rattle.access_model.specs.declared.actions.Kind.TheVariants.{File, Dir}
+use Rattle.access_model.specs.declared.actions.{Holder.{Holder, TheVariants.{Kernel, User}}, Kind.{Kind, TheVariants.{File, Dir}}}
 use Rattle.cpu_words.specs.Hooks.{HookAnswer}
-use Rattle.freeze_levels.specs.declared.hooks.HookKind.{HookKind}
-use Rattle.freeze_levels.specs.declared.hooks.HookKind.TheVariants.{Sync, FreezeFs, UnfreezeFs, Reconfigure}
-use Rattle.schedule_text.specs.declared.commands.HookFailure.{HookFailure}
-use Rattle.schedule_text.specs.declared.commands.Verb.{Verb}
-use Rattle.schedule_text.specs.declared.commands.Verb.TheVariants.{Want, TryWant, Drop, Start, TryStart, End, WantWrite, DropWrite, Change, TryChange, Remount, Callback, Freeze, Thaw, Create, Remove, Grow, Move, Fault, Flush, Open, Close, TryClose, Snapshot, TrySnapshot, Step, Run}
+use Rattle.freeze_levels.specs.declared.hooks.HookKind.{HookKind, TheVariants.{Sync, FreezeFs, UnfreezeFs, Reconfigure}}
+use Rattle.schedule_text.specs.declared.commands.{HookFailure.HookFailure, Verb.{Verb, TheVariants.{Want, TryWant, Drop, Start, TryStart, End, WantWrite}}}
+use Rattle.schedule_text.specs.declared.commands.Verb.TheVariants.{DropWrite, Change, TryChange, Remount, Callback, Freeze, Thaw, Create, Remove, Grow, Move}
+use Rattle.schedule_text.specs.declared.commands.Verb.TheVariants.{Fault, Flush, Open, Close, TryClose, Snapshot, TrySnapshot, Step, Run}
 
 -- all verbs
 abbrev pub verbs : List Verb

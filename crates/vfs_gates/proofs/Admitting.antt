@@ -2,20 +2,11 @@
 use Rattle.std.proofs.Common.{◌≡◌, ℕ, [], ◌∷◌, List, Bool, sym, ap, ◌∙◌}
 use Rattle.std.specs.Prelude.{Option, is_some, Result, Ok, Err}
 use Rattle.access_model.specs.declared.errors.GateError.{GateError}
-use Rattle.gate_world.specs.declared.config.Config.{Config}
-use Rattle.gate_world.specs.declared.operations.Op.{Op}
-use Rattle.gate_world.specs.declared.work.Phase.{Phase}
-use Rattle.gate_world.specs.Beginnings.{first_phase, refusal, or_refusal, beginning}
-use Rattle.gate_world.specs.Configs.{IsWithin}
-use Rattle.gate_world.specs.Views.{held_of}
-use Rattle.call_events.specs.Seat.{Seat}
-use Rattle.call_events.specs.Answers.{unless_refused}
-use Rattle.call_events.specs.Seats.{seat_held}
+use Rattle.gate_world.specs.{Beginnings.{first_phase, refusal, or_refusal, beginning}, Configs.IsWithin, Views.held_of, declared.config.Config.Config}
+use Rattle.gate_world.specs.declared.{operations.Op.Op, work.Phase.Phase}
+use Rattle.call_events.specs.{Answers.unless_refused, Seat.Seat, Seating.SeatItems, Seats.seat_held, Ties.Ties}
 use Rattle.call_events.proofs.Beginnings.{refusal_agree, ok_means, err_means}
-use Rattle.call_events.specs.Seating.{SeatItems}
-use Rattle.vfs_gates.specs.TaskStates.{TaskState, task_state, own_number, own_view, refusal_at, beginning_at}
-use Rattle.vfs_gates.specs.declared.task.Task.TheInside.{Inside}
-use Rattle.call_events.specs.Ties.{Ties}
+use Rattle.vfs_gates.specs.{TaskStates.{TaskState, task_state, own_number, own_view, refusal_at, beginning_at}, declared.task.Task.TheInside.Inside}
 
 module _ (number : ℕ) (c : Config) (begins : Option Op) (kept : Seat) (flags : List Bool) where
   -- the configuration of a task is within its limits

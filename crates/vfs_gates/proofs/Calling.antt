@@ -1,32 +1,15 @@
 -- A call that begins an operation and does its events on what the task keeps, and what it writes down at the end.
 use Rattle.std.proofs.Common.{◌≡◌, ℕ, Bool, false, List, [], ◌∷◌, refl, sym, ap, ◌∙◌, subst}
 use Rattle.std.specs.Prelude.{Option, Some, None, Result, Ok, is_some}
-use Rattle.access_model.specs.declared.errors.GateError.{GateError}
-use Rattle.access_model.specs.declared.replies.Next.{Next}
-use Rattle.access_model.specs.declared.replies.Next.TheVariants.{Done}
-use Rattle.access_model.specs.declared.replies.Reply.{Reply}
-use Rattle.gate_world.specs.declared.config.Config.{Config}
-use Rattle.gate_world.specs.declared.operations.Op.{Op}
-use Rattle.gate_world.specs.declared.work.Phase.{Phase}
-use Rattle.gate_world.specs.Views.{phase_after, held_of}
-use Rattle.gate_world.specs.Beginnings.{first_phase, refusal}
-use Rattle.gate_world.specs.Fits.{Fits}
-use Rattle.call_events.specs.Seat.{Seat}
-use Rattle.gate_world.specs.declared.accesses.Accesses.{Accesses}
-use Rattle.call_events.specs.Answers.{unless_refused}
-use Rattle.call_events.proofs.Beginnings.{MayBegin, may_begin, first_fits}
-use Rattle.call_events.specs.Numbered.{Numbered}
-use Rattle.call_events.specs.Seating.{SeatItems}
+use Rattle.access_model.specs.declared.{errors.GateError.GateError, replies.{Next.{Next, TheVariants.Done}, Reply.Reply}}
+use Rattle.gate_world.specs.{Beginnings.{first_phase, refusal}, Fits.Fits, Views.{phase_after, held_of}, declared.accesses.Accesses.Accesses}
+use Rattle.gate_world.specs.declared.{config.Config.Config, operations.Op.Op, work.Phase.Phase}
+use Rattle.call_events.specs.{Answers.unless_refused, Asking.{GoesWith, CalledAsking}, Numbered.Numbered, Runs.{Goes, Went, Called}, Seat.Seat}
+use Rattle.call_events.specs.{Seating.SeatItems, Ties.{PhaseOk, OwnTies, Ties}, Turns.{kept_at, IsTied, StayTied}}
+use Rattle.call_events.proofs.{Beginnings.{MayBegin, may_begin, first_fits}, Onward.goes_where, Running.{not_refused, starts_asking_none}}
 use Rattle.atomic_table.specs.Seated.{TableId}
-use Rattle.vfs_gates.specs.TaskStates.{TaskState, task_state, own_number, own_view, refusal_at, beginning_at}
-use Rattle.call_events.specs.Ties.{PhaseOk, OwnTies, Ties}
-use Rattle.call_events.specs.Turns.{kept_at, IsTied, StayTied}
-use Rattle.call_events.specs.Runs.{Goes, Went, Called}
-use Rattle.vfs_gates.specs.declared.task.Task.TheInside.{Inside}
+use Rattle.vfs_gates.specs.{TaskStates.{TaskState, task_state, own_number, own_view, refusal_at, beginning_at}, declared.task.Task.TheInside.Inside}
 use Rattle.vfs_gates.proofs.Admitting.{admitted_by, first_so, first_by}
-use Rattle.call_events.proofs.Onward.{goes_where}
-use Rattle.call_events.specs.Asking.{GoesWith, CalledAsking}
-use Rattle.call_events.proofs.Running.{not_refused, starts_asking_none}
 use Rattle.cpu_words.specs.Hooks.{HookAnswer}
 use Rattle.freeze_levels.specs.declared.hooks.HookCall.{HookCall}
 

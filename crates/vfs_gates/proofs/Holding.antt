@@ -1,34 +1,18 @@
 -- What whole calls leave of what a task holds.
-use Rattle.std.proofs.Common.{◌≡◌, ℕ, ◌<◌, Bool, true, false, List, [], ◌∷◌, ◌++◌, refl, sym, ap, ◌∙◌, subst, inl, inr, true≢false}
+use Rattle.std.proofs.{Common.{◌≡◌, ℕ, ◌<◌, Bool, true, false, List, [], ◌∷◌, ◌++◌, refl, sym, ap, ◌∙◌, subst, inl, inr, true≢false}, lemmas.Bool.cases_Bool}
 use Rattle.std.specs.Prelude.{Option, Some, None, Result, Ok, Err}
-use Rattle.std.proofs.lemmas.Bool.{cases_Bool}
-use Rattle.access_model.specs.declared.actions.Action.{Action}
-use Rattle.access_model.specs.declared.actions.Action.TheVariants.{Grant, Return, SbRo, SbRw, Stage as StageAction, Leave, Pass, Clean, Open as OpenAction, Close as CloseAction}
-use Rattle.access_model.specs.declared.errors.GateError.{GateError}
-use Rattle.access_model.specs.declared.replies.Next.{Next}
-use Rattle.access_model.specs.declared.replies.Next.TheVariants.{Go, Wait, Done}
-use Rattle.access_model.specs.declared.replies.Reply.{Reply}
-use Rattle.access_model.specs.declared.replies.Reply.TheVariants.{Node as NodeReply}
-use Rattle.cpu_words.specs.declared.names.WordName.{WordName}
-use Rattle.cpu_words.specs.declared.names.WordName.TheVariants.{Node}
-use Rattle.cpu_words.specs.declared.events.Touch.{Touch}
-use Rattle.cpu_words.specs.declared.events.Touch.TheVariants.{And}
+use Rattle.access_model.specs.declared.actions.Action.{Action, TheVariants.{Grant, Return, SbRo, SbRw, Stage as StageAction, Leave, Pass, Clean}}
+use Rattle.access_model.specs.declared.{actions.Action.TheVariants.{Open as OpenAction, Close as CloseAction}, errors.GateError.GateError, replies.Next.Next}
+use Rattle.access_model.specs.declared.replies.{Next.TheVariants.{Go, Wait, Done}, Reply.{Reply, TheVariants.Node as NodeReply}}
+use Rattle.cpu_words.specs.declared.{events.Touch.{Touch, TheVariants.And}, names.WordName.{WordName, TheVariants.Node}}
 use Rattle.mount_counts.specs.Phases.{has_flag}
-use Rattle.gate_world.specs.Holdings.{Holdings, holdings_of, held_after}
-use Rattle.gate_world.specs.declared.config.Config.{Config}
-use Rattle.gate_world.specs.declared.operations.Op.{Op}
-use Rattle.gate_world.specs.declared.operations.Op.TheVariants.{Want, DropMount, ChangeMount, RemountSb, Start, End, WantWrite, DropWrite, Callback, Freeze, Thaw, Create, Open, Close, Snapshot}
-use Rattle.gate_world.specs.declared.views.Traced.{Traced}
-use Rattle.gate_world.specs.declared.work.Phase.{Phase}
-use Rattle.gate_world.specs.Found.{clean_found, cleans, found_complete, found_read_only, found_sealed, found_shared}
-use Rattle.gate_world.specs.Claims.{all_levels_closed}
-use Rattle.gate_world.specs.Courses.{course_of}
-use Rattle.gate_world.specs.Traces.{actions_of}
+use Rattle.gate_world.specs.{Claims.all_levels_closed, Courses.course_of, Found.{clean_found, cleans, found_complete, found_read_only, found_sealed}}
+use Rattle.gate_world.specs.{Found.found_shared, Holdings.{Holdings, holdings_of, held_after}, Traces.actions_of, declared.config.Config.Config}
+use Rattle.gate_world.specs.declared.operations.Op.{Op, TheVariants.{Want, DropMount, ChangeMount, RemountSb, Start, End, WantWrite, DropWrite, Callback}}
+use Rattle.gate_world.specs.declared.{operations.Op.TheVariants.{Freeze, Thaw, Create, Open, Close, Snapshot}, views.Traced.Traced, work.Phase.Phase}
 use Rattle.call_events.proofs.Asked.{either_way}
-use Rattle.call_events.specs.Runs.{ran_items, IsNextMove, AreMoves, told_as, Called, Replies}
-use Rattle.call_events.specs.Seating.{SeatItems}
-use Rattle.vfs_gates.specs.TaskStates.{TaskState, own_number, own_view, refusal_at, IsIdle}
-use Rattle.vfs_gates.specs.Held.{Rests, own_actions, IsAsBefore, takes_nothing}
+use Rattle.call_events.specs.{Runs.{ran_items, IsNextMove, AreMoves, told_as, Called, Replies}, Seating.SeatItems}
+use Rattle.vfs_gates.specs.{Held.{Rests, own_actions, IsAsBefore, takes_nothing}, TaskStates.{TaskState, own_number, own_view, refusal_at, IsIdle}}
 
 -- an action that is neither a grant nor a return, and neither opens nor closes a file
 abbrev is_free : Action → Bool

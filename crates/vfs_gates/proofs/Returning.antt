@@ -1,27 +1,16 @@
 -- What a return leaves of a task whose access was granted before.
-use Rattle.std.proofs.Common.{◌≡◌, ℕ, ◌+◌, ◌-◌, ◌<◌, Bool, true, false, List, ◌∷◌, refl, sym, ap, ◌∙◌, subst, arith, inl, inr, lt-ltb}
+use Rattle.std.proofs.{Common.{◌≡◌, ℕ, ◌+◌, ◌-◌, ◌<◌, Bool, true, false, List, ◌∷◌, refl, sym, ap, ◌∙◌, subst, arith, inl, inr, lt-ltb}, Math.Path.fun_ext}
+use Rattle.std.proofs.lemmas.Bool.{and_parts, ltb-true, not-true, Decides.eqb_tells}
 use Rattle.std.specs.Prelude.{Option, Some, None, Result, Ok, Err, is_some, nat_lt, not}
-use Rattle.std.proofs.lemmas.Bool.{and_parts, ltb-true, not-true}
-use Rattle.std.proofs.Math.Path.{fun_ext}
-use Rattle.std.proofs.lemmas.Bool.Decides.{eqb_tells}
 use Rattle.finite_sums.specs.Sums.{update}
 use Rattle.finite_sums.proofs.Totals.{update_at, update_off}
-use Rattle.access_model.specs.declared.actions.Action.TheVariants.{Grant, Return}
-use Rattle.access_model.specs.declared.actions.Gate.TheVariants.{Mount, Level}
-use Rattle.access_model.specs.declared.errors.GateError.{GateError}
-use Rattle.access_model.specs.declared.replies.Reply.{Reply}
-use Rattle.access_model.specs.Histories.{mounts_of, levels_of}
-use Rattle.gate_world.specs.declared.config.Config.{Config}
-use Rattle.gate_world.specs.declared.operations.Op.{Op}
-use Rattle.gate_world.specs.declared.operations.Op.TheVariants.{Want, DropMount, WantWrite, DropWrite}
-use Rattle.gate_world.specs.declared.views.Traced.{Traced}
-use Rattle.gate_world.specs.Traces.{IsHonestAnswer}
-use Rattle.gate_world.specs.Holdings.{Holdings, holdings_of, held_after}
-use Rattle.gate_world.specs.Views.{held_of}
+use Rattle.access_model.specs.{Histories.{mounts_of, levels_of}, declared.actions.{Action.TheVariants.{Grant, Return}, Gate.TheVariants.{Mount, Level}}}
+use Rattle.access_model.specs.declared.{errors.GateError.GateError, replies.Reply.Reply}
+use Rattle.gate_world.specs.{Holdings.{Holdings, holdings_of, held_after}, Traces.IsHonestAnswer, Views.held_of, declared.config.Config.Config}
+use Rattle.gate_world.specs.declared.{operations.Op.{Op, TheVariants.{Want, DropMount, WantWrite, DropWrite}}, views.Traced.Traced}
 use Rattle.call_events.proofs.Beginnings.{may_begin, MayBegin}
 use Rattle.call_events.specs.Runs.{told_as, unit_of, Called, Performs}
-use Rattle.vfs_gates.specs.TaskStates.{TaskState, own_view, refusal_at, IsIdle}
-use Rattle.vfs_gates.specs.Held.{own_actions, IsAsBefore, IsGivenBack}
+use Rattle.vfs_gates.specs.{Held.{own_actions, IsAsBefore, IsGivenBack}, TaskStates.{TaskState, own_view, refusal_at, IsIdle}}
 use Rattle.vfs_gates.proofs.Holding.{adds, stays, unchanged}
 
 -- a call that was done began, and was one whole operation that replied
