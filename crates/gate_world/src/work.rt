@@ -13,7 +13,7 @@ use percpu_rwsem::{Callback, DownRead, UpRead};
 use write_access::WritePhase;
 
 /// Where an operation under way stands, between two of its events.
-#[derive(Clone, Copy, PartialEq, Eq, Debug)]
+#[derive(Clone, Copy, PartialEq, Eq)]
 pub enum Phase {
     /// A want, a drop or a change of a mount.
     Mounts(MountPhase),
