@@ -47,14 +47,23 @@ impl Output {
     }
 
     /// Prints a number with no leading zeros. Most have one digit.
+    #[inline(always)]
     #[tactic(auto, using(std::proofs::lemmas::Fmt::decimal_digit))]
     pub fn number(&mut self, number: u64) -> Result<(), AllocError>
         ensures { OnOk result (self.new.bytes.items ≡ self.old.bytes.items ++ decimal number) }
     {
-        if number < 10 {
-            self.bytes.push(b'0' + number as u8)?;
-            return Ok(());
+        if number >= 10 {
+            return self.digits(number);
         }
+        self.bytes.push(b'0' + number as u8)?;
+        Ok(())
+    }
+
+    /// The same, however many digits it has.
+    #[inline(never)]
+    fn digits(&mut self, number: u64) -> Result<(), AllocError>
+        ensures { OnOk result (self.new.bytes.items ≡ self.old.bytes.items ++ decimal number) }
+    {
         let mut buffer = Buffer::new();
         self.text(buffer.format(number).as_bytes())
     }
