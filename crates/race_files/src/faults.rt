@@ -1,6 +1,6 @@
 //! Why a race is refused.
 
-ghost use Rattle.std.specs.Prelude.{◌≡◌, ◌≤◌, ◌+◌};
+ghost use Rattle.std.specs.Prelude.{◌≡◌, ◌≤◌};
 
 use access_model::GateError;
 use schedule_bytes::ReplayFault;
@@ -26,8 +26,12 @@ pub enum RaceFault {
 }
 
 impl RaceFault {
+    ghost use Rattle.race_files.specs.Faults.{text_told, cause_told, IsFaultAfter};
+
     /// The text that is printed of the fault.
-    pub fn text(self) -> &'static str {
+    pub fn text(self) -> &'static str
+        ensures { result.now ≡ text_told self }
+    {
         match self {
             RaceFault::Schedule(fault) => fault.text(),
             RaceFault::RaceExpected => "race expected",
@@ -40,7 +44,9 @@ impl RaceFault {
     }
 
     /// Why the line was refused, where it was understood.
-    pub fn cause(self) -> Option<GateError> {
+    pub fn cause(self) -> Option<GateError>
+        ensures { result ≡ cause_told self }
+    {
         match self {
             RaceFault::Schedule(fault) => fault.cause(),
             _ => None,
@@ -50,7 +56,7 @@ impl RaceFault {
     /// The fault at the line after so many.
     pub fn after(self, done: u32) -> ReplayFault
         requires { done ≤ 1048576 }
-        ensures { result.line ≡ done + 1 }
+        ensures { IsFaultAfter done self result }
     {
         ReplayFault {
             line: done + 1,
@@ -61,6 +67,10 @@ impl RaceFault {
 }
 
 impl From<Fault> for RaceFault {
+    ghost use Rattle.race_files.specs.declared.faults.RaceFault.TheVariants.{Schedule};
+
+    ghost from_gives = { λ fault told. told ≡ Schedule fault };
+
     fn from(fault: Fault) -> RaceFault {
         RaceFault::Schedule(fault)
     }

@@ -2,7 +2,7 @@
 
 use crate::faults::RaceFault;
 use crate::lines::{Lines, is_race};
-use schedule_text::{Fault, LINES, Line, Output, parse};
+use schedule_text::{Fault, Line, Output, parse};
 use std::alloc::Global;
 use transcripts::{Core, Session, no_memory};
 
@@ -10,10 +10,7 @@ use transcripts::{Core, Session, no_memory};
 pub fn set_up(alloc: Global, lines: &mut Lines<'_>) -> Result<Session<Core>, RaceFault> {
     let mut session = open(alloc, lines)?;
     let mut printed = Output::with_room(alloc, 0).map_err(no_memory)?;
-    for _ in 0..LINES {
-        let Some(line) = lines.line()? else {
-            return Err(RaceFault::RaceExpected);
-        };
+    while let Some(line) = lines.line()? {
         if is_race(line)? {
             return Ok(session);
         }
@@ -23,15 +20,12 @@ pub fn set_up(alloc: Global, lines: &mut Lines<'_>) -> Result<Session<Core>, Rac
         }
         lines.take();
     }
-    Err(RaceFault::Schedule(Fault::TooManyLines))
+    Err(RaceFault::RaceExpected)
 }
 
 /// Takes the lines up to the configuration.
 fn open(alloc: Global, lines: &mut Lines<'_>) -> Result<Session<Core>, RaceFault> {
-    for _ in 0..LINES {
-        let Some(line) = lines.line()? else {
-            break;
-        };
+    while let Some(line) = lines.line()? {
         if let Line::Config(config) = parse(line, None)? {
             let session = Session::new(alloc, config)?;
             lines.take();
