@@ -34,15 +34,23 @@ impl Calls {
         ensures { IfOk result (λ calls. calls.race.tasks ≡ tasks) }
     {
         let mut calls = Calls::new(alloc, tasks).map_err(no_memory)?;
+        calls.read_lines(alloc, lines)?;
+        Ok(calls)
+    }
+
+    /// Takes all lines.
+    fn read_lines(&mut self, alloc: Global, lines: &mut Lines<'_>) -> Result<(), RaceFault>
+        ensures { self.new.race.tasks ≡ self.old.race.tasks }
+    {
         for _ in 0..LINES {
             let Some(line) = lines.line()? else {
-                return Ok(calls);
+                return Ok(());
             };
-            calls.read_line(alloc, line)?;
+            self.read_line(alloc, line)?;
             lines.take();
         }
         match lines.line()? {
-            None => Ok(calls),
+            None => Ok(()),
             Some(_) => Err(RaceFault::Schedule(Fault::TooManyLines)),
         }
     }
@@ -120,18 +128,25 @@ impl Calls {
     fn add(&mut self, alloc: Global, task: u8, op: Op, line: &[u8]) -> Result<(), RaceFault>
         ensures { self.new.race.tasks ≡ self.old.race.tasks }
     {
+        let turn = self.put(task, op)?;
         let text = Vec::from_slice(alloc, line).map_err(no_memory)?;
+        match self.lines.push(CallLine { task, turn, text }) {
+            Ok(()) => Ok(()),
+            Err(_) => Err(RaceFault::Schedule(Fault::Refused(GateError::NoMemory))),
+        }
+    }
+
+    /// Puts a call behind the others of a task; says which of its calls it is.
+    fn put(&mut self, task: u8, op: Op) -> Result<u8, RaceFault>
+        ensures { self.new.race.tasks ≡ self.old.race.tasks }
+    {
         let Some(calls) = self.race.calls.get_mut(usize::from(task)) else {
             return Err(RaceFault::Schedule(Fault::NoSuchTask));
         };
         for turn in 0..CALLS as u8 {
             if calls[turn as usize].is_none() {
                 calls[turn as usize] = Some(Call { op, failure: None });
-                let line = CallLine { task, turn, text };
-                return match self.lines.push(line) {
-                    Ok(()) => Ok(()),
-                    Err(_) => Err(RaceFault::Schedule(Fault::Refused(GateError::NoMemory))),
-                };
+                return Ok(turn);
             }
         }
         Err(RaceFault::TooManyCalls)

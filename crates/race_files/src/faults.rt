@@ -7,7 +7,7 @@ use schedule_bytes::ReplayFault;
 use schedule_text::Fault;
 
 /// Why a race is refused at a line.
-#[derive(Clone, Copy, PartialEq, Eq, Debug)]
+#[derive(Clone, Copy)]
 pub enum RaceFault {
     /// As a schedule is.
     Schedule(Fault),

@@ -25,8 +25,8 @@ impl RaceFile {
         session: &Session<Core>,
         lines: &mut Lines<'_>,
     ) -> Result<RaceFile, RaceFault> {
+        expect_idle(session.gates())?;
         let core = session.gates().twin().map_err(no_memory)?;
-        expect_idle(&core)?;
         lines.take();
         let calls = Calls::read(alloc, core.config().tasks, lines)?;
         Ok(RaceFile { core, calls })
