@@ -309,8 +309,11 @@ pub call_goes : (c : Config) (held : Holdings) → IsWithin c → (t : ℕ) (x :
 call_goes c held within t x found hook fits =
     let left : Holdings = held_after (after x found hook).1 held in
     let leaves : LeavesAccesses (after x found hook).1 = call_leaves x found hook in
-    call_goes_on c left within t x found hook (fits.0, access_agrees c held left (λ m lm. ap (λ f. f m) (sym (leaves.mounts held)))
-        (λ i one three. ap (λ f. f i) (sym (leaves.levels held))) x fits.1)
+    call_goes_on c left within t x found hook (
+      fits.0,
+      access_agrees c held left (λ m lm. ap (λ f. f m) (sym (leaves.mounts held)))
+          (λ i one three. ap (λ f. f i) (sym (leaves.levels held))) x fits.1,
+    )
 
 -- these roles but for those of calls at the tree
 abbrev pub off_calls : Roles → Roles
@@ -469,7 +472,7 @@ module _ (c : Config) (w : World) (good : IsGood c w) (t : ℕ) (lt : t < c.task
         files_counted (model_limits c) (shown c w) t (omega (arith, lt, within.tasks, most_tasks_is)) w.words.node words_then.node action_then
         leave moves (good Files).counted n ln ∙
         sym (ap (λ f. openers f n) (update_map has_open w.views t view_then ∙
-            ap (λ (h : Holdings). update (λ y. has_open (w.views y)) t h.files) held_then));
+        ap (λ (h : Holdings). update (λ y. has_open (w.views y)) t h.files) held_then));
     own = λ y ly. each_updated (λ z (u : View). HasFile (has_open u) (file_of u.phase)) w.views t view_then y
         (subst (λ (h : Holdings). HasFile h.files (file_of view_then.phase)) (sym held_then) has)
         (λ ne. (good Files).own y ly);
