@@ -4,10 +4,13 @@ use mathlib.Core.Logic.{dite}
 use native.Mathlib.Decide.{ℕ_discrete, dec_lt}
 use Rattle.access_model.specs.declared.errors.GateError.{GateError, TheVariants.{Order, TooMany, NoMemory}}
 use Rattle.gate_world.specs.declared.config.Config.{Config}
-use Rattle.vfs_gates.specs.{Parts.{SplitOf, SplitRefused}, Rules.first_items, Seating.{SeatItems, times, kept_of, given_of, deal, view_in, without}}
+use Rattle.call_events.specs.Rules.{first_items}
+use Rattle.call_events.specs.Seating.{SeatItems, times, kept_of, given_of, deal, view_in, without}
+use Rattle.call_events.proofs.Giving.{times-without, times-without_other}
+use Rattle.call_events.proofs.Opening.{times-deal, times-deal_below}
+use Rattle.vfs_gates.specs.Parts.{SplitOf, SplitRefused}
 use Rattle.vfs_gates.specs.TaskStates.{TaskState, IsIdle, own_number, own_view, spare_of}
-use Rattle.vfs_gates.proofs.{Giving.{times-without, times-without_other}, Opening.{times-deal, times-deal_below}}
-use Rattle.gate_runs.specs.Splitting.{AreNumbered, Gives, HasBegun, HaveDoneNothing}
+use Rattle.vfs_gates.specs.Splitting.{AreNumbered, Gives, HasBegun, HaveDoneNothing}
 
 -- the numbers behind the first of so many
 later_dealt : (count k : ℕ) → 1 ≤ k → k < count → times k (spare_of (deal 0 count)) ≡ 1
