@@ -1,5 +1,5 @@
 -- The lines of a text, by what it begins with.
-use Rattle.std.proofs.Common.{◌≡◌, ◌∙◌, sym, ap, refl, ℕ, zero, suc, ◌+◌, ◌-◌, ◌<◌, ◌≤◌, arith, List, [], ◌∷◌, length, take, drop, false, Option, None, Some}
+use Rattle.std.proofs.Common.{◌≡◌, ◌∙◌, sym, ap, refl, ℕ, zero, suc, ◌+◌, ◌-◌, ◌<◌, ◌≤◌, arith, List, [], ◌∷◌, length, take, drop, false, None, Some}
 use Rattle.std.specs.Bool.{◌==◌}
 use Rattle.race_files.specs.Left.{Left, none_left, part_left, line_before, behind, lines_in}
 use Rattle.schedule_text.specs.Lines.{front_of}

@@ -1,4 +1,4 @@
-use Rattle.std.proofs.Common.{◌≡◌, ◌∙◌, refl, sym, ap, ℕ, ◌+◌, ◌-◌}
+use Rattle.std.proofs.Common.{◌∙◌, refl, sym, ap, ◌+◌, ◌-◌}
 use Rattle.race_files.proofs.Left.{of_front, none_behind, front_behind, no_first, part_lines}
 use Rattle.race_files.specs.Left.{behind, lines_in}
 use Rattle.race_files.proofs.lines.Lines.take.Goals as goal
