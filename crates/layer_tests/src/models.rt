@@ -1,6 +1,7 @@
 //! The model by its calls, and the printed names and numbers of refusals.
 
 use access_model::{Action, Gate, GateError, Holder, Kind, Model, NodeInfo};
+use std::process::Abort;
 use std::test::Fail;
 
 /// An action of a task, and whether the model does it.
@@ -13,19 +14,19 @@ const FILE: Action = Action::Create {
     kind: Kind::File,
 };
 
-/// Whether the model does each action, or refuses it and says so beforehand.
-fn does(model: &mut Model, rows: &[Row]) -> bool {
+/// That the model does each action, or refuses it and says so beforehand.
+fn does<R: Abort>(rt: &R, model: &mut Model, rows: &[Row]) {
     for (task, action, is_done) in rows.iter() {
-        let is_allowed = model.allows(*task, action);
-        let is_refused = match model.apply(*task, action) {
-            Ok(()) => false,
-            Err(refusal) => refusal == GateError::Invalid,
+        let wanted = if *is_done {
+            Ok(())
+        } else {
+            Err(GateError::Invalid)
         };
-        if is_allowed != *is_done || is_refused == *is_done {
-            return false;
-        }
+        assert!(rt;
+            model.allows(*task, action) == *is_done && model.apply(*task, action) == wanted,
+            "{action:?}"
+        );
     }
-    true
 }
 
 /// A writer inside level 1 fills a file, and no more.
@@ -67,22 +68,16 @@ static THAWS: [Row; 8] = [
     (0, Action::Grant(Gate::Mount(0)), false),
 ];
 
-/// Whether what is held, frozen and read-only is told.
-fn is_told(model: &Model) -> bool {
-    (model.stage(), model.passed()) == (0, 2)
-        && model.mount_ro(0)
-        && !model.sb_ro()
-        && !model.holds(Holder::User)
-}
-
 #[test]
 fn a_model_does_what_is_allowed(rt: HostRuntime) -> Result<(), Fail> {
     let mut model = Model::new(rt.alloc(), 2, 1, 2, 8)?;
-    let is_filled = does(&mut model, FILLS.as_slice());
-    let is_held = model.held_mount(0, 0) == 1 && model.held_level(0, 1);
-    let is_frozen = does(&mut model, FREEZES.as_slice()) && model.holds(Holder::User);
-    let is_thawed = does(&mut model, THAWS.as_slice()) && is_told(&model);
-    assert!(rt; is_filled && is_held && is_frozen && is_thawed);
+    does(&rt, &mut model, FILLS.as_slice());
+    assert!(rt; model.held_mount(0, 0) == 1 && model.held_level(0, 1));
+    does(&rt, &mut model, FREEZES.as_slice());
+    assert!(rt; model.holds(Holder::User) && !model.holds(Holder::Kernel));
+    does(&rt, &mut model, THAWS.as_slice());
+    assert!(rt; (model.stage(), model.passed()) == (0, 2));
+    assert!(rt; model.mount_ro(0) && !model.sb_ro());
     Ok(())
 }
 
@@ -136,34 +131,36 @@ const REMOVED: NodeInfo = NodeInfo {
 #[test]
 fn a_model_frees_a_removed_file_at_its_last_close(rt: HostRuntime) -> Result<(), Fail> {
     let mut model = Model::new(rt.alloc(), 2, 1, 2, 8)?;
-    let is_opened = does(&mut model, OPENS.as_slice()) && model.has_open(1, 1);
-    let is_removed = does(&mut model, REMOVES.as_slice()) && model.tree(1) == Some(REMOVED);
-    let is_freed = does(&mut model, FREES.as_slice()) && model.tree(1).is_none();
-    assert!(rt; is_opened && is_removed && is_freed && !model.has_open(1, 1));
+    does(&rt, &mut model, OPENS.as_slice());
+    assert!(rt; model.has_open(0, 1) && model.has_open(1, 1));
+    assert!(rt; !model.has_open(2, 1) && !model.has_open(0, 2));
+    does(&rt, &mut model, REMOVES.as_slice());
+    assert!(rt; model.tree(1) == Some(REMOVED));
+    does(&rt, &mut model, FREES.as_slice());
+    assert!(rt; model.tree(1).is_none() && !model.has_open(1, 1));
     Ok(())
 }
 
-static REFUSALS: [(GateError, u16, &str); 12] = [
-    (GateError::NoEntry, 2, "NoEntry"),
-    (GateError::Again, 11, "Again"),
-    (GateError::NoMemory, 12, "NoMemory"),
-    (GateError::Busy, 16, "Busy"),
-    (GateError::NotDir, 20, "NotDir"),
-    (GateError::IsDir, 21, "IsDir"),
-    (GateError::Invalid, 22, "Invalid"),
-    (GateError::TooMany, 24, "TooMany"),
-    (GateError::NoSpace, 28, "NoSpace"),
-    (GateError::ReadOnly, 30, "ReadOnly"),
-    (GateError::Order, 35, "Order"),
-    (GateError::Hook(7), 7, "Hook"),
-];
-
 #[test]
 fn refusals_have_the_numbers_of_errno(rt: HostRuntime) {
-    for (error, number, name) in REFUSALS.iter() {
+    let refusals = [
+        (GateError::NoEntry, 2, "NoEntry"),
+        (GateError::Again, 11, "Again"),
+        (GateError::NoMemory, 12, "NoMemory"),
+        (GateError::Busy, 16, "Busy"),
+        (GateError::NotDir, 20, "NotDir"),
+        (GateError::IsDir, 21, "IsDir"),
+        (GateError::Invalid, 22, "Invalid"),
+        (GateError::TooMany, 24, "TooMany"),
+        (GateError::NoSpace, 28, "NoSpace"),
+        (GateError::ReadOnly, 30, "ReadOnly"),
+        (GateError::Order, 35, "Order"),
+        (GateError::Hook(7), 7, "Hook"),
+    ];
+    for (error, number, name) in refusals {
         assert!(rt;
-            error.number() == *number && error.name() == *name,
-            "{name}"
+            error.number() == number && error.name() == name,
+            "{error:?}"
         );
     }
 }

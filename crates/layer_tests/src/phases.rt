@@ -166,7 +166,7 @@ fn an_open_looks_again_where_all_tasks_have_the_file_open(rt: HostRuntime) {
         step: OpenStep::LoadsFile,
     });
     let full = [look(WordName::Node(3), 4194305)];
-    let looks_again = matches!(end_of(open, &full), Some(Next::Go(phase)) if phase == open);
+    assert!(rt; matches!(end_of(open, &full), Some(Next::Go(phase)) if phase == open));
     let last = Touch::Cas {
         expect: 4128769,
         put: 4194305,
@@ -177,7 +177,7 @@ fn an_open_looks_again_where_all_tasks_have_the_file_open(rt: HostRuntime) {
         look(WordName::Node(3), 4128769),
         (WordName::Node(3), last, 4128769, opened),
     ];
-    assert!(rt; looks_again && matches!(end_of(open, &events), Some(Next::Done(Ok(Reply::Unit)))));
+    assert!(rt; matches!(end_of(open, &events), Some(Next::Done(Ok(Reply::Unit)))));
 }
 
 /// Nor is a file closed that nobody has open: 1 is one.
@@ -190,7 +190,7 @@ fn a_close_looks_again_where_nobody_has_the_file_open(rt: HostRuntime) {
         wait: false,
     });
     let none = [look(WordName::Node(3), 1)];
-    let looks_again = matches!(end_of(close, &none), Some(Next::Go(phase)) if phase == close);
+    assert!(rt; matches!(end_of(close, &none), Some(Next::Go(phase)) if phase == close));
     let lower = Touch::Cas {
         expect: 65537,
         put: 1,
@@ -201,7 +201,7 @@ fn a_close_looks_again_where_nobody_has_the_file_open(rt: HostRuntime) {
         look(WordName::Node(3), 65537),
         (WordName::Node(3), lower, 65537, closed),
     ];
-    assert!(rt; looks_again && matches!(end_of(close, &events), Some(Next::Done(Ok(Reply::Unit)))));
+    assert!(rt; matches!(end_of(close, &events), Some(Next::Done(Ok(Reply::Unit)))));
 }
 
 /// The events by which task 1 begins a freeze or a thaw, where it finds this stage and this flag of the superblock.
@@ -271,17 +271,15 @@ impl FsHooks for Failing {
     }
 }
 
-static CALLS: [(HookCall, u16); 5] = [
-    (HookCall::Sync, 1),
-    (HookCall::FreezeFs, 2),
-    (HookCall::UnfreezeFs, 3),
-    (HookCall::Reconfigure { read_only: true }, 4),
-    (HookCall::Reconfigure { read_only: false }, 5),
-];
-
 #[test]
 fn each_call_asks_its_own_hook(rt: HostRuntime) {
-    for (call, code) in CALLS.iter() {
-        assert!(rt; call.ask(&mut Failing) == Err(*code), "{code}");
+    for (call, code) in [
+        (HookCall::Sync, 1),
+        (HookCall::FreezeFs, 2),
+        (HookCall::UnfreezeFs, 3),
+        (HookCall::Reconfigure { read_only: true }, 4),
+        (HookCall::Reconfigure { read_only: false }, 5),
+    ] {
+        assert_eq!(rt; call.ask(&mut Failing), Err(code));
     }
 }

@@ -40,29 +40,25 @@ fn keeps_the_removed_file(tree: &mut Tree) -> bool {
     is_counted && tree.is_sound() && tree.is_clean() && tree.node(1) == Some(removed)
 }
 
-/// A file in the root, as words that are loaded.
-static WORDS: [(WordName, u64); 5] = [
-    (WordName::Used, 4),
-    (WordName::Node(0), 2),
-    (WordName::Node(1), CLEAN),
-    (WordName::Kids(0), 1),
-    (WordName::Kids(1), 0),
-];
-
 #[test]
 fn a_tree_is_loaded_word_by_word(rt: HostRuntime) -> Result<(), Fail> {
     let mut tree = Tree::new(rt.alloc(), 2)?;
-    for (word, found) in WORDS.iter() {
-        tree.load(*word, *found);
+    for (word, found) in [
+        (WordName::Used, 4),
+        (WordName::Node(0), 2),
+        (WordName::Node(1), CLEAN),
+        (WordName::Kids(0), 1),
+        (WordName::Kids(1), 0),
+    ] {
+        tree.load(word, found);
     }
-    let is_shown = shows_the_file(&tree) && tree.is_sound() && tree.is_clean();
+    assert!(rt; shows_the_file(&tree) && tree.is_sound() && tree.is_clean());
     tree.load(WordName::Node(1), DIRTY);
-    let is_dirty = tree.is_sound() && !tree.is_clean();
-    let is_kept = keeps_the_removed_file(&mut tree);
+    assert!(rt; tree.is_sound() && !tree.is_clean());
+    assert!(rt; keeps_the_removed_file(&mut tree));
     tree.load(WordName::Used, 5);
-    let is_unsound = !tree.is_sound();
+    assert!(rt; !tree.is_sound());
     tree.clear();
-    let is_clear = tree.used() == 0 && tree.node(1).is_none();
-    assert!(rt; is_shown && is_dirty && is_kept && is_unsound && is_clear);
+    assert!(rt; tree.used() == 0 && tree.node(1).is_none());
     Ok(())
 }
