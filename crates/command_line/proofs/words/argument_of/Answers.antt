@@ -20,5 +20,6 @@ returns-in-Files-clause-rule c =
     ∙ ap argument_rule (sym c.in-Files.is)
 
 pub returns-in-Needed-clause-rule : goal.returns-in-Needed-clause-rule
-returns-in-Needed-clause-rule c = ap rule_of c.required.ensures ∙ ap (λ (r : Rule). let x : Rule = record r { required = true } in x) c.number-in-Needed.ensures.rule
+returns-in-Needed-clause-rule c =
+    ap rule_of c.required.ensures ∙ ap (λ (r : Rule). let x : Rule = record r { required = true } in x) c.number-in-Needed.ensures.rule
     ∙ ap argument_rule (sym c.in-Needed.is)
