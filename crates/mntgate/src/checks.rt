@@ -5,7 +5,7 @@ ghost use Rattle.endings.specs.declared.ends.Ending.TheVariants.{Passed, Refused
 
 use endings::{Ending, unopened};
 use schedule_bytes::write_out;
-use schedule_checks::check;
+use race_texts::check;
 use schedule_text::Output;
 use std::alloc::{AllocError, Global};
 use std::fs;

@@ -2,10 +2,10 @@
 
 use exploration::Stop;
 use fakes::expect_text;
-use race_files::read_race;
+use race_texts::read_race;
 use schedule_text::Output;
 use std::test::Fail;
-use told_outcomes::{Details, Schedules, tell};
+use race_texts::{Details, Schedules, tell};
 
 /// Nothing under the line of an outcome.
 const BRIEF: Details = Details {
