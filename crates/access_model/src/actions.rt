@@ -38,7 +38,7 @@ pub enum Holder {
 }
 
 /// Which holders hold a freeze.
-#[derive(Clone, Copy, PartialEq, Eq, Debug)]
+#[derive(Clone, Copy, PartialEq, Eq)]
 pub struct Holders {
     pub kernel: bool,
     pub user: bool,

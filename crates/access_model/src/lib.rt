@@ -12,4 +12,4 @@ pub mod replies;
 pub use actions::{Action, Gate, Holder, Holders, Kind, NodeInfo};
 pub use errors::GateError;
 pub use model::Model;
-pub use replies::{Next, Reply};
+pub use replies::{Next, Reply, map_after};

@@ -3,6 +3,7 @@
 ghost use Rattle.std.specs.Prelude.{◌≡◌};
 ghost use Rattle.access_model.specs.Replies.{map_next};
 
+use crate::actions::Action;
 use crate::errors::GateError;
 
 /// What an operation answers where it isn't refused.
@@ -19,7 +20,7 @@ pub enum Reply {
 }
 
 /// What comes after an event: another phase, the same or another phase after a look in vain, or the end.
-#[derive(Clone, Copy, PartialEq, Eq, Debug)]
+#[derive(Clone, Copy)]
 pub enum Next<P> {
     /// The operation goes on with this phase.
     Go(P),
@@ -43,4 +44,18 @@ impl<P> Next<P> {
             Next::Done(answer) => Next::Done(answer),
         }
     }
+}
+
+/// What comes after an event of a layer, with the action that it adds, as what comes after it in an operation that the layer is a part of.
+#[inline(always)]
+pub fn map_after<P, Q, F: FnOnce(P) -> Q>(
+    after: (Next<P>, Option<Action>),
+    to: F,
+) -> (Next<Q>, Option<Action>)
+    requires { F.IsAlwaysCallable to }
+    ensures { (phase_for : P → Q) → ((x : P) (y : Q) → F.post to x y → y ≡ phase_for x) →
+        result ≡ (map_next phase_for after.0, after.1) }
+{
+    let (next, action) = after;
+    (next.map(to), action)
 }

@@ -1,39 +1,18 @@
 -- What an event leaves of a task's fields and view.
 use Rattle.std.proofs.Common.{◌≡◌, ℕ, Bool, List, [], ◌∷◌, refl, sym, ap, ◌∙◌, subst}
 use Rattle.std.specs.Prelude.{Option, Some, None}
-use Rattle.access_model.specs.declared.actions.Action.{Action}
-use Rattle.access_model.specs.declared.replies.Next.{Next}
-use Rattle.cpu_words.specs.declared.names.WordName.{WordName}
-use Rattle.cpu_words.specs.declared.events.Touch.{Touch}
-use Rattle.cpu_words.specs.declared.events.Touch.TheVariants.{Load, Store, Add, Sub, Or, And, Swap, Cas}
-use Rattle.cpu_words.specs.declared.events.Event.{Event}
-use Rattle.cpu_words.specs.Hooks.{HookAnswer}
-use Rattle.cpu_words.specs.Touches.{found_by, event_of}
-use Rattle.gate_world.specs.declared.config.Config.{Config}
-use Rattle.gate_world.specs.declared.operations.Op.{Op}
-use Rattle.gate_world.specs.declared.work.Phase.{Phase}
-use Rattle.gate_world.specs.declared.views.View.{View}
-use Rattle.gate_world.specs.Views.{held_at, holds_level, has_open, phase_after, view_after_beside}
-use Rattle.gate_world.specs.Work.{next_of, after_of}
-use Rattle.gate_world.specs.Worlds.{World, value_at, found_at}
-use Rattle.gate_world.specs.Fits.{PhaseFits, Fits}
-use Rattle.gate_core.specs.declared.seats.Seat.{Seat}
-use Rattle.gate_world.specs.declared.accesses.Accesses.{Accesses}
-use Rattle.gate_core.specs.declared.steps.Progress.{Progress}
-use Rattle.gate_core.specs.Seats.{mounts_in, levels_in}
-use Rattle.gate_core.specs.declared.steps.Step.{Step}
-use Rattle.gate_core.specs.Answers.{progress_of, phase_step}
-use Rattle.gate_world.specs.Fits.{ActionFits}
-use Rattle.gate_world.specs.Accesses.{accesses_after}
-use Rattle.gate_world.specs.Fits.{mounts_by, levels_by, opens_by}
+use Rattle.access_model.specs.declared.{actions.Action.Action, replies.Next.Next}
+use Rattle.cpu_words.specs.{Hooks.HookAnswer, Touches.{found_by, event_of}, declared.events.Touch.{Touch, TheVariants.{Load, Store, Add, Sub, Or, And, Swap}}}
+use Rattle.cpu_words.specs.declared.{events.{Touch.TheVariants.Cas, Event.Event}, names.WordName.WordName}
+use Rattle.gate_world.specs.{Accesses.accesses_after, Fits.{PhaseFits, Fits, ActionFits}, Holdings.{Agree, holdings_of, held_after}, Views.held_of}
+use Rattle.gate_world.specs.{Views.{phase_after, view_after_beside}, Work.{next_of, after_of}, Worlds.{World, value_at, found_at}}
+use Rattle.gate_world.specs.declared.{accesses.Accesses.Accesses, config.Config.Config, operations.Op.Op, views.View.View, work.Phase.Phase}
+use Rattle.gate_core.specs.{Answers.{progress_of, phase_step}, Seats.seat_held, declared.{seats.Seat.Seat, steps.{Progress.Progress, Step.Step}}}
 use Rattle.gate_core.proofs.Phases.{action_fits, fits_after, fits_agree}
-use Rattle.gate_frames.proofs.Accesses.{mounts_of_after, levels_of_after, opens_of_after, long_after, wide_after, deep_after, mounts_same, levels_same, files_same}
-use Rattle.gate_steps.specs.declared.seating.Numbered.{Numbered}
-use Rattle.gate_steps.specs.Seating.{SeatItems, numbered, entered, done_by, items_after, IsMove}
+use Rattle.gate_frames.proofs.{Accesses.{holdings_of_after, long_after, wide_after, deep_after, agree_after}, Agreeing.agree_sym}
+use Rattle.gate_steps.specs.{Seating.{SeatItems, numbered, entered, done_by, items_after, IsMove}, declared.seating.Numbered.Numbered}
 use Rattle.atomic_table.specs.Seated.{TableId}
-use Rattle.call_events.specs.TaskStates.{TaskState, task_state}
-use Rattle.call_events.specs.Stepped.{found_step, state_after, ToldIn, Stepped}
-use Rattle.call_events.specs.Ties.{PhaseOk, OwnTies, Ties}
+use Rattle.call_events.specs.{Stepped.{found_step, state_after, ToldIn, Stepped}, TaskStates.{TaskState, task_state}, Ties.{PhaseOk, OwnTies, Ties}}
 
 -- a view stands where its phase says
 phase_ok : (c : Config) (n : ℕ) (v : View) (o : Option Phase) → v.phase ≡ o → PhaseOk c None o (numbered n v)
@@ -65,35 +44,21 @@ module _ (number : ℕ) (c : Config) (begins : Option Op) (kept : Seat) (flags :
     seen = view_after_beside (done_by xs) v phase found hook
 
     -- the phase fits the view
-    fits_seen : PhaseFits c x.number (held_at x.view) (holds_level x.view) phase
-    fits_seen = subst (Fits c x.number (held_at x.view) (holds_level x.view)) is ties.fits
+    fits_seen : PhaseFits c x.number (held_of x.view) phase
+    fits_seen = subst (Fits c x.number (held_of x.view)) is ties.fits
 
     -- and what is kept
-    fits_kept : PhaseFits c x.number (mounts_in kept) (levels_in kept) phase
-    fits_kept =
-        fits_agree c x.number (held_at x.view) (mounts_in kept) (holds_level x.view) (levels_in kept) (λ m lt. sym (ties.keeps.mounts m lt))
-        (λ i one three. sym (ties.keeps.levels i one three))
-        (Some phase) fits_seen
+    fits_kept : PhaseFits c x.number (seat_held kept) phase
+    fits_kept = fits_agree c x.number (held_of x.view) (seat_held kept) (agree_sym ties.keeps.held) (Some phase) fits_seen
 
     -- the action can be done on what is kept
-    acts_kept : ActionFits (mounts_in kept) done.1
-    acts_kept = action_fits c ties.within x.number (mounts_in kept) (levels_in kept) phase (found_by (next_of phase hook).1 found) hook
-        fits_kept
+    acts_kept : ActionFits (seat_held kept) done.1
+    acts_kept = action_fits c ties.within x.number (seat_held kept) phase (found_by (next_of phase hook).1 found) hook fits_kept
 
-    -- the view's accesses after the action
-    held_seen : held_at seen ≡ mounts_by done.1 (held_at x.view)
-    held_seen = mounts_of_after done.1 v.actions ∙ ap (λ (l : List Action). mounts_by done.1 (held_at (record x.view { actions = l })))
+    -- what the view holds after the action
+    held_seen : held_of seen ≡ held_after done.1 (held_of x.view)
+    held_seen = holdings_of_after done.1 v.actions ∙ ap (λ (l : List Action). held_after done.1 (holdings_of l))
         (entered_actions x.view begins phase)
-
-    -- and its levels
-    levels_seen : holds_level seen ≡ levels_by done.1 (holds_level x.view)
-    levels_seen = levels_of_after done.1 v.actions ∙ ap (λ (l : List Action). levels_by done.1
-        (holds_level (record x.view { actions = l }))) (entered_actions x.view begins phase)
-
-    -- and its open files
-    opens_seen : has_open seen ≡ opens_by done.1 (has_open x.view)
-    opens_seen = opens_of_after done.1 v.actions ∙ ap (λ (l : List Action). opens_by done.1
-        (has_open (record x.view { actions = l }))) (entered_actions x.view begins phase)
 
     -- the fields and the own view agree after the event
     ties_after : OwnTies number c None kept_after flags (numbered x.number seen) xs
@@ -103,20 +68,14 @@ module _ (number : ℕ) (c : Config) (begins : Option Op) (kept : Seat) (flags :
       below = ties.below;
       may = phase_ok c x.number seen (phase_after done.0) refl;
       fits =
-          subst (λ f. Fits c x.number f (holds_level seen) (phase_after done.0)) (sym held_seen)
-          (subst (λ f. Fits c x.number (mounts_by done.1 (held_at x.view)) f (phase_after done.0)) (sym levels_seen)
-          (fits_after c ties.within x.number (held_at x.view) (holds_level x.view) phase (found_by (next_of phase hook).1 found) hook
-          fits_seen));
+          subst (λ h. Fits c x.number h (phase_after done.0)) (sym held_seen)
+          (fits_after c ties.within x.number (held_of x.view) phase (found_by (next_of phase hook).1 found) hook fits_seen);
       keeps = record {
         long = long_after kept.accesses done.1 ∙ ties.keeps.long;
         wide = wide_after kept.accesses done.1 ∙ ties.keeps.wide;
         deep = deep_after kept.accesses done.1 ∙ ties.keeps.deep;
-        mounts = λ m lt. mounts_same kept.accesses ties.keeps.long ties.keeps.wide c.mounts (held_at x.view) done.1 acts_kept
-            ties.keeps.mounts m lt ∙ ap (λ f. f m) (sym held_seen);
-        levels = λ i one three. levels_same kept.accesses ties.keeps.long ties.keeps.wide (holds_level x.view) done.1 acts_kept
-            ties.keeps.levels i one three ∙ ap (λ f. f i) (sym levels_seen);
-        files = λ n. files_same kept.accesses ties.keeps.deep (has_open x.view) done.1 acts_kept ties.keeps.files n ∙
-            ap (λ f. f n) (sym opens_seen);
+        held = subst (Agree c (seat_held kept_after)) (sym held_seen)
+            (agree_after c kept.accesses ties.keeps.long ties.keeps.wide ties.keeps.deep (held_of x.view) done.1 acts_kept ties.keeps.held);
       };
       rest = ties.rest;
       marks = ties.marks;
@@ -129,7 +88,7 @@ module _ (number : ℕ) (c : Config) (begins : Option Op) (kept : Seat) (flags :
   matches_after (x ∷ xs) t = ties_after x xs t
 
   -- and the action can be done
-  pub acts_after : (items : SeatItems) → Ties number c begins kept flags items → ActionFits (mounts_in kept) done.1
+  pub acts_after : (items : SeatItems) → Ties number c begins kept flags items → ActionFits (seat_held kept) done.1
   acts_after [] t = absurd t
   acts_after (x ∷ xs) t = acts_kept x xs t
 
@@ -192,8 +151,8 @@ module _ (number : ℕ) (c : Config) (begins : Option Op) (kept : Seat) (flags :
   same_done = done_is ∙ ap (λ (e : Event). after_of phase e.found hook) same_event
 
   -- its action can be done
-  pub may_add : ActionFits (mounts_in kept) done.1
-  may_add = subst (λ (d : Next Phase × Option Action). ActionFits (mounts_in kept) d.1) (sym same_done)
+  pub may_add : ActionFits (seat_held kept) done.1
+  may_add = subst (λ (d : Next Phase × Option Action). ActionFits (seat_held kept) d.1) (sym same_done)
       (acts_after number c begins kept flags phase is hook found items ties)
 
   module _ (progress : Progress × Option Phase) (progress_is : progress ≡ (progress_of done.0, phase_after done.0)) (accesses : Accesses)

@@ -1,40 +1,19 @@
 -- What a refusal leaves, and when a call says that it waits.
-use Rattle.std.proofs.Common.{◌≡◌, ℕ, Bool, true, false, List, [], ◌∷◌, ◌++◌, refl, sym, ap, ◌∙◌, inl, inr, subst}
-use Rattle.std.proofs.lemmas.Bool.{eqb-true}
+use Rattle.std.proofs.{Common.{◌≡◌, ℕ, Bool, true, false, List, [], ◌∷◌, ◌++◌, refl, sym, ap, ◌∙◌, inl, inr, subst}, lemmas.Bool.eqb-true}
 use Rattle.std.proofs.lemmas.List.Elements.{All-from_recursion}
-use Rattle.std.specs.List.{All, AllByRecursion}
-use Rattle.std.specs.Prelude.{◌==◌, ◌⊎◌, if◌then◌else◌, Option, Err, option_map}
-use Rattle.access_model.specs.declared.actions.Action.{Action}
-use Rattle.access_model.specs.declared.actions.Action.TheVariants.{SbRo, Stage as StageAction, Pass, Reopen, Clean}
-use Rattle.access_model.specs.declared.errors.GateError.{GateError}
-use Rattle.access_model.specs.declared.errors.GateError.TheVariants.{Hook}
-use Rattle.access_model.specs.declared.replies.Next.{Next}
-use Rattle.access_model.specs.declared.replies.Next.TheVariants.{Go, Wait, Done}
-use Rattle.access_model.specs.declared.actions.NodeInfo.{NodeInfo}
-use Rattle.access_model.specs.Actions.{marked}
-use Rattle.access_model.specs.Histories.{mounts_of, levels_of, opens_of}
-use Rattle.cpu_words.specs.declared.events.Touch.{Touch}
-use Rattle.cpu_words.specs.declared.events.Touch.TheVariants.{And}
-use Rattle.cpu_words.specs.declared.names.WordName.{WordName}
-use Rattle.cpu_words.specs.declared.names.WordName.TheVariants.{Node}
+use Rattle.std.specs.{List.{All, AllByRecursion}, Prelude.{◌==◌, ◌⊎◌, if◌then◌else◌, Option, Err, option_map}}
+use Rattle.access_model.specs.{Actions.marked, declared.actions.Action.{Action, TheVariants.{SbRo, Stage as StageAction, Pass, Reopen, Clean}}}
+use Rattle.access_model.specs.declared.{actions.NodeInfo.NodeInfo, errors.GateError.{GateError, TheVariants.Hook}, replies.Next.{Next, TheVariants.Go}}
+use Rattle.access_model.specs.declared.replies.Next.TheVariants.{Wait, Done}
+use Rattle.cpu_words.specs.declared.{events.Touch.{Touch, TheVariants.And}, names.WordName.{WordName, TheVariants.Node}}
 use Rattle.mount_counts.specs.Phases.{has_flag}
-use Rattle.gate_world.specs.declared.config.Config.{Config}
-use Rattle.gate_world.specs.declared.operations.Op.{Op}
-use Rattle.gate_world.specs.declared.operations.Op.TheVariants.{RemountSb, WantWrite, Freeze as FreezeOp}
-use Rattle.gate_world.specs.declared.views.Traced.{Traced}
+use Rattle.gate_world.specs.{Beginnings.is_in_order, Claims.{two_levels_closed, all_levels_closed}, Configs.IsWithin, Courses.{course_of, IsTrace}}
+use Rattle.gate_world.specs.{Found.{clean_found, cleans, stored_stage}, Holdings.holdings_of, Traces.{actions_of, Tells}, Views.held_of}
+use Rattle.gate_world.specs.declared.{config.Config.Config, operations.Op.{Op, TheVariants.{RemountSb, WantWrite, Freeze as FreezeOp}}, views.Traced.Traced}
 use Rattle.gate_world.specs.declared.work.Phase.{Phase}
-use Rattle.gate_world.specs.Beginnings.{is_in_order}
-use Rattle.gate_world.specs.Configs.{IsWithin}
-use Rattle.gate_world.specs.Courses.{course_of, IsTrace}
-use Rattle.gate_world.specs.Found.{clean_found, cleans, stored_stage}
-use Rattle.gate_world.specs.Claims.{two_levels_closed, all_levels_closed}
-use Rattle.gate_world.specs.Traces.{actions_of, Tells}
-use Rattle.gate_world.specs.Views.{held_at, holds_level}
 use Rattle.gate_core.proofs.Layers.{op_keeps}
 use Rattle.gate_steps.specs.Seating.{SeatItems}
-use Rattle.call_events.specs.Refused.{LeavesTree, IsUnchanged, IsHonestWait, WaitsHonestly}
-use Rattle.call_events.specs.Runs.{ran_items}
-use Rattle.call_events.specs.TaskStates.{own_number, own_view}
+use Rattle.call_events.specs.{Refused.{LeavesTree, IsUnchanged, IsHonestWait, WaitsHonestly}, Runs.ran_items, TaskStates.{own_number, own_view}}
 use Rattle.call_events.proofs.Asked.{either_way}
 
 -- a node that is cleaned loses its mark, and any other stays
@@ -97,17 +76,14 @@ leaves op refusal trace = All-from_recursion LeavesTree (actions_of op (Err refu
 
 -- so a refusal leaves all unchanged, where the operation was in order
 pub is_unchanged : (c : Config) (op : Op) (refusal : GateError) (trace : List Traced) (l : SeatItems) →
-    is_in_order c (held_at (own_view l)) (holds_level (own_view l)) op ≡ true →
+    is_in_order c (held_of (own_view l)) op ≡ true →
     (course_of c (own_number l) op trace).added ≡ actions_of op (Err refusal) trace →
     IsUnchanged (course_of c (own_number l) op trace).added (own_view l) (own_view (ran_items c op trace l))
 is_unchanged c op refusal trace [] order is =
-    record { mounts = refl; levels = refl; files = refl; tree = subst (All LeavesTree) (sym is) (leaves op refusal trace) }
+    record { held = refl; tree = subst (All LeavesTree) (sym is) (leaves op refusal trace) }
 is_unchanged c op refusal trace (x ∷ xs) order is =
-    let same = (op_keeps c op).restores refusal trace x.view.actions order in
     record {
-      mounts = ap (λ l. mounts_of (l ++ x.view.actions)) is ∙ same.0;
-      levels = ap (λ l. levels_of (l ++ x.view.actions)) is ∙ same.1;
-      files = ap (λ l. opens_of (l ++ x.view.actions)) is ∙ same.2;
+      held = ap (λ l. holdings_of (l ++ x.view.actions)) is ∙ (op_keeps c op).restores refusal trace x.view.actions order;
       tree = subst (All LeavesTree) (sym is) (leaves op refusal trace);
     }
 

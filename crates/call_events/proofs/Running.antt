@@ -17,7 +17,7 @@ use Rattle.gate_world.specs.declared.views.Traced.{Traced}
 use Rattle.gate_world.specs.declared.views.View.{View}
 use Rattle.gate_world.specs.Configs.{IsWithin}
 use Rattle.gate_world.specs.Snapshots.{completes, last_snapshot}
-use Rattle.gate_world.specs.Views.{phase_after, actions_after, view_after_beside, with_hook}
+use Rattle.gate_world.specs.Views.{phase_after, actions_after, view_after_beside, with_hook, held_of}
 use Rattle.gate_world.specs.Work.{next_of, after_of}
 use Rattle.gate_world.specs.Beginnings.{first_phase}
 use Rattle.gate_world.specs.Courses.{Course, course_with, course_after, course_of, IsEventOf, IsNext, IsTrace, MayFind}
@@ -34,7 +34,6 @@ use Rattle.call_events.specs.Asking.{Ask, asks_of, asks_with, call_at, next_call
 use Rattle.call_events.specs.Refused.{IsUnchanged, IsUnchangedBy, IsHonestWait}
 use Rattle.call_events.proofs.Refused.{is_unchanged, waits_honestly}
 use Rattle.gate_core.proofs.Beginnings.{may_begin}
-use Rattle.gate_world.specs.Views.{held_at, holds_level, has_open}
 use Rattle.call_events.specs.Runs.{events_onto, completed_by, ran_snapshot, ran_view, ran_items, begins_at, items_at, IsMoveOf, IsNextMove, AreMoves, IsBounded, IsRanReply, told_as, the_reply, Goes, Went, Told, Called, Replies}
 
 -- the numbers of a task whose own number has begun the operation
@@ -355,7 +354,7 @@ module _ (op : Op) (start now left : TaskState) (step : Step) (h : HookAnswer) (
   unchanged_then (Err refusal) is =
       subst (λ l. IsUnchanged (course_of c n op trace).added (own_view start.items) (own_view l)) (sym items_then)
       (is_unchanged c op refusal trace start.items
-      (may_begin c (is_some start.phase) (held_at (own_view start.items)) (holds_level (own_view start.items)) (has_open (own_view start.items)) op
+      (may_begin c (is_some start.phase) (held_of (own_view start.items)) op
       goes.admitted).order is)
 
   -- where it replies, it was done whole, with this event more

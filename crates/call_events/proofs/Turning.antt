@@ -1,37 +1,18 @@
 -- One event apart from the task: what it leaves of the fields, and which step it was.
 use Rattle.std.proofs.Common.{◌≡◌, ℕ, ◌<◌, Bool, List, [], ◌∷◌, refl, sym, ap, ◌∙◌, subst, arith}
-use Rattle.std.specs.Prelude.{Option, Some, None, slice_index}
-use Rattle.access_model.specs.declared.actions.Action.{Action}
-use Rattle.access_model.specs.declared.replies.Next.{Next}
+use Rattle.std.specs.Prelude.{Option, Some, None}
+use Rattle.access_model.specs.declared.{actions.Action.Action, replies.Next.Next}
+use Rattle.cpu_words.specs.{Hooks.HookAnswer, Names.{place, words_in_all}, Touches.event_of, declared.events.{Touch.Touch, Event.Event}}
 use Rattle.cpu_words.specs.declared.names.WordName.{WordName}
-use Rattle.cpu_words.specs.declared.events.Touch.{Touch}
-use Rattle.cpu_words.specs.declared.events.Event.{Event}
-use Rattle.cpu_words.specs.Hooks.{HookAnswer}
-use Rattle.cpu_words.specs.Names.{place, words_in_all}
-use Rattle.cpu_words.specs.Touches.{event_of}
-use Rattle.gate_world.specs.declared.config.Config.{Config}
-use Rattle.gate_world.specs.declared.operations.Op.{Op}
-use Rattle.gate_world.specs.declared.work.Phase.{Phase}
-use Rattle.gate_world.specs.Fits.{ActionFits}
-use Rattle.gate_world.specs.Views.{held_at, holds_level, phase_after}
-use Rattle.gate_core.specs.declared.seats.Seat.{Seat}
-use Rattle.gate_world.specs.Work.{next_of, after_of}
-use Rattle.gate_world.specs.declared.accesses.Accesses.{Accesses}
-use Rattle.gate_core.specs.Answers.{progress_of}
-use Rattle.gate_world.specs.Accesses.{accesses_after}
+use Rattle.gate_world.specs.{Accesses.{accesses_after, held_in}, Configs.IsWithin, Fits.ActionFits, Views.{phase_after, held_of}, Work.{next_of, after_of}}
+use Rattle.gate_world.specs.declared.{accesses.Accesses.Accesses, config.Config.Config, operations.Op.Op, work.Phase.Phase}
+use Rattle.gate_core.specs.{Answers.progress_of, declared.{seats.Seat.Seat, steps.Step.Step}}
 use Rattle.gate_core.proofs.Phases.{word_placed}
 use Rattle.gate_steps.specs.Seating.{SeatItems, Acts, items_after, IsMove}
 use Rattle.atomic_table.specs.Seated.{TableId}
-use Rattle.gate_world.specs.Configs.{IsWithin}
-use Rattle.gate_core.specs.declared.steps.Step.{Step}
-use Rattle.call_events.specs.Runs.{Goes, Went}
-use Rattle.call_events.specs.TaskStates.{TaskState, task_state}
-use Rattle.call_events.specs.Stepped.{Stepped}
-use Rattle.call_events.specs.Ties.{Ties}
-use Rattle.call_events.specs.Turns.{kept_at, IsTied, step_was}
-use Rattle.call_events.proofs.Going.{may_add, ties_left, stepped_here}
-use Rattle.call_events.specs.Asking.{Ask, asks_with, call_at, GoesWith, WentWith}
-use Rattle.call_events.proofs.Running.{went_on, went_asking}
+use Rattle.call_events.specs.{Asking.{Ask, asks_with, call_at, GoesWith, WentWith}, Runs.{Goes, Went}, Stepped.Stepped, TaskStates.{TaskState, task_state}}
+use Rattle.call_events.specs.{Ties.Ties, Turns.{kept_at, IsTied, step_was}}
+use Rattle.call_events.proofs.{Going.{may_add, ties_left, stepped_here}, Running.{went_on, went_asking}}
 
 -- before the event: the word is one of the table's, and the number may do the event
 module _ (number : ℕ) (c : Config) (begins : Option Op) (phase : Phase) (accesses : Accesses) (flags : List Bool) (hook : HookAnswer) where
@@ -39,7 +20,7 @@ module _ (number : ℕ) (c : Config) (begins : Option Op) (phase : Phase) (acces
   word_inside : (l : SeatItems) → Ties number c begins (kept_at (Some phase) accesses) flags l → place (next_of phase hook).0 < words_in_all
   word_inside [] t = absurd t
   word_inside (x ∷ xs) t =
-      word_placed c t.within x.number (held_at x.view) (holds_level x.view) (omega (arith, t.below, t.same_number)) phase hook t.fits
+      word_placed c t.within x.number (held_of x.view) (omega (arith, t.below, t.same_number)) phase hook t.fits
 
   -- the own number may do the event
   may_act : (l : SeatItems) → Ties number c begins (kept_at (Some phase) accesses) flags l → Acts c begins phase l
@@ -61,7 +42,7 @@ module _ (c key : Config) (same_key : key ≡ c) (begins : Option Op) (phase : P
 
   -- what the event adds can be done on the accesses
   pub adds_so : (found : ℕ) (event : Event) → event ≡ event_of (next_of phase hook).0 (next_of phase hook).1 found →
-      (done : Next Phase × Option Action) → done ≡ after_of phase event.found hook → ActionFits (slice_index accesses.mounts) done.1
+      (done : Next Phase × Option Action) → done ≡ after_of phase event.found hook → ActionFits (held_in accesses) done.1
   adds_so found event event_is done done_is =
       may_add tied.number c begins (kept_at (Some phase) accesses) tied.flags phase refl hook items tied.ties
       (next_of phase hook) refl found event event_is done done_is

@@ -1,21 +1,9 @@
 -- What a refusal leaves, and when a call says that it waits.
-use Rattle.std.specs.Prelude.{◌≡◌, ◌⊎◌, ℕ, false, Option, Result, Ok, Err, List, [], ◌∷◌, option_map}
-use Rattle.std.specs.List.{All}
-use Rattle.access_model.specs.declared.actions.Action.{Action}
-use Rattle.access_model.specs.declared.errors.GateError.{GateError}
-use Rattle.access_model.specs.declared.replies.Next.{Next}
-use Rattle.access_model.specs.declared.replies.Next.TheVariants.{Go, Wait, Done}
-use Rattle.access_model.specs.declared.replies.Reply.{Reply}
-use Rattle.access_model.specs.declared.actions.NodeInfo.{NodeInfo}
-use Rattle.access_model.specs.Actions.{marked, tree_after}
-use Rattle.gate_world.specs.declared.config.Config.{Config}
-use Rattle.gate_world.specs.declared.operations.Op.{Op}
-use Rattle.gate_world.specs.declared.views.Traced.{Traced}
-use Rattle.gate_world.specs.declared.views.View.{View}
-use Rattle.gate_world.specs.declared.work.Phase.{Phase}
-use Rattle.gate_world.specs.Courses.{course_of}
-use Rattle.gate_world.specs.Traces.{MayWait}
-use Rattle.gate_world.specs.Views.{held_at, holds_level, has_open}
+use Rattle.std.specs.{List.All, Prelude.{◌≡◌, ◌⊎◌, ℕ, false, Option, Result, Ok, Err, List, [], ◌∷◌, option_map}}
+use Rattle.access_model.specs.{Actions.{marked, tree_after}, declared.{actions.{Action.Action, NodeInfo.NodeInfo}, errors.GateError.GateError}}
+use Rattle.access_model.specs.declared.replies.{Next.{Next, TheVariants.{Go, Wait, Done}}, Reply.Reply}
+use Rattle.gate_world.specs.{Courses.course_of, Traces.MayWait, Views.held_of, declared.{config.Config.Config, operations.Op.Op, views.Traced.Traced}}
+use Rattle.gate_world.specs.declared.{views.View.View, work.Phase.Phase}
 
 -- an action that leaves each node of any tree as it was, or without its dirty mark
 abbrev pub LeavesTree : Action → Type 0
@@ -24,9 +12,7 @@ LeavesTree action = (counts : ℕ → ℕ) (tree : ℕ → Option NodeInfo) (n :
 
 -- A call that has added these actions: its task holds what it held before, and the tree has of the call no change but cleared marks.
 pub record IsUnchanged (added : List Action) (before after : View) : Type 0 where
-  pub mounts : held_at after ≡ held_at before
-  pub levels : holds_level after ≡ holds_level before
-  pub files : has_open after ≡ has_open before
+  pub held : held_of after ≡ held_of before
   pub tree : All LeavesTree added
 
 -- the same of a call that was refused

@@ -2,13 +2,8 @@
 use Rattle.std.specs.Prelude.{◌≡◌, ℕ, ◌<◌, ◌≤◌, false, Option, None, is_some, Result, slice_index, slice_index_or, [], ◌∷◌}
 use Rattle.atomic_table.specs.Seated.{TableId}
 use Rattle.access_model.specs.declared.errors.GateError.{GateError}
-use Rattle.gate_world.specs.declared.config.Config.{Config}
-use Rattle.gate_world.specs.declared.operations.Op.{Op}
-use Rattle.gate_world.specs.declared.work.Phase.{Phase}
-use Rattle.gate_world.specs.declared.views.View.{View}
-use Rattle.gate_world.specs.Views.{opening_view, held_at, holds_level, has_open}
-use Rattle.gate_world.specs.Beginnings.{refusal, beginning}
-use Rattle.gate_world.specs.declared.accesses.Accesses.{Accesses}
+use Rattle.gate_world.specs.{Beginnings.{refusal, beginning}, Views.{opening_view, held_at, holds_level, has_open, held_of}}
+use Rattle.gate_world.specs.declared.{accesses.Accesses.Accesses, config.Config.Config, operations.Op.Op, views.View.View, work.Phase.Phase}
 use Rattle.gate_steps.specs.Seating.{SeatItems}
 
 -- the table, the configuration, the operation that has begun and has had no event, the phase of the operation under way, and the
@@ -60,9 +55,8 @@ IsNothing a mounts = ((m : ℕ) → m < mounts → slice_index a.mounts m ≡ 0)
 
 -- why the operation can't begin, the first reason in the stated order
 abbrev pub refusal_at : Op → TaskState → Option GateError
-refusal_at op s = refusal s.config (is_some s.phase) (held_at (own_view s.items)) (holds_level (own_view s.items)) (has_open (own_view s.items)) op
+refusal_at op s = refusal s.config (is_some s.phase) (held_of (own_view s.items)) op
 
 -- what its beginning answers: the first phase, or the refusal
 abbrev pub beginning_at : Op → TaskState → Result Phase GateError
-beginning_at op s =
-    beginning s.config (own_number s.items) (is_some s.phase) (held_at (own_view s.items)) (holds_level (own_view s.items)) (has_open (own_view s.items)) op
+beginning_at op s = beginning s.config (own_number s.items) (is_some s.phase) (held_of (own_view s.items)) op

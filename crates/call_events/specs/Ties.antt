@@ -1,16 +1,9 @@
 -- The fields of a task are what its seat at the table knows.
 use Rattle.std.specs.Prelude.{◌≡◌, ℕ, ◌<◌, ◌≤◌, Bool, true, false, Option, Some, None, List, [], ◌∷◌, length, slice_index_or}
-use Rattle.gate_world.specs.declared.config.Config.{Config}
-use Rattle.gate_world.specs.declared.operations.Op.{Op}
+use Rattle.gate_world.specs.{Configs.IsWithin, Fits.Fits, Holdings.Agree, Views.held_of, declared.{config.Config.Config, operations.Op.Op, views.View.View}}
 use Rattle.gate_world.specs.declared.work.Phase.{Phase}
-use Rattle.gate_world.specs.declared.views.View.{View}
-use Rattle.gate_world.specs.Configs.{IsWithin}
-use Rattle.gate_world.specs.Views.{held_at, holds_level, has_open}
-use Rattle.gate_world.specs.Fits.{Fits}
-use Rattle.gate_core.specs.declared.seats.Seat.{Seat}
-use Rattle.gate_core.specs.Seats.{mounts_in, levels_in, files_in}
-use Rattle.gate_steps.specs.declared.seating.Numbered.{Numbered}
-use Rattle.gate_steps.specs.Seating.{SeatItems, MayStep, times}
+use Rattle.gate_core.specs.{Seats.seat_held, declared.seats.Seat.Seat}
+use Rattle.gate_steps.specs.{Seating.{SeatItems, MayStep, times}, declared.seating.Numbered.Numbered}
 use Rattle.call_events.specs.TaskStates.{Empty}
 
 -- the view stands where the task does: no operation is under way in either, or the task may do the event of its phase
@@ -32,14 +25,12 @@ abbrev pub Marks : List Bool → SeatItems → Type 0
 Marks flags items = (n : ℕ) → (slice_index_or flags n false ≡ true → 1 ≤ times n items) ×
     (1 ≤ times n items → slice_index_or flags n false ≡ true)
 
--- what is kept of accesses is what the view's actions leave
+-- what is kept of what the task holds is what the view's actions leave
 pub record Keeps (c : Config) (kept : Seat) (v : View) : Type 0 where
   pub long : length kept.accesses.mounts ≡ 8
   pub wide : length kept.accesses.levels ≡ 4
   pub deep : length kept.accesses.files ≡ 64
-  pub mounts : (m : ℕ) → m < c.mounts → mounts_in kept m ≡ held_at v m
-  pub levels : (i : ℕ) → 1 ≤ i → i ≤ 3 → levels_in kept i ≡ holds_level v i
-  pub files : (n : ℕ) → files_in kept n ≡ has_open v n
+  pub held : Agree c (seat_held kept) (held_of v)
 
 pub record OwnTies (number : ℕ) (c : Config) (begins : Option Op) (kept : Seat) (flags : List Bool) (x : Numbered) (xs : SeatItems) : Type 0
   where
@@ -47,7 +38,7 @@ pub record OwnTies (number : ℕ) (c : Config) (begins : Option Op) (kept : Seat
     pub same_number : x.number ≡ number
     pub below : number < 64
     pub may : PhaseOk c begins kept.phase x
-    pub fits : Fits c x.number (held_at x.view) (holds_level x.view) kept.phase
+    pub fits : Fits c x.number (held_of x.view) kept.phase
     pub keeps : Keeps c kept x.view
     pub rest : AllRest c xs
     pub marks : Marks flags xs

@@ -25,7 +25,7 @@ use std::sync::Wait;
 const LONGEST_ROW: u8 = 64;
 
 /// A row of loads of one kind, which follow each other.
-#[derive(Clone, Copy, PartialEq, Eq, Debug)]
+#[derive(Clone, Copy)]
 pub enum Row {
     /// Loads of section words, one task's after the other.
     Sections,
@@ -60,15 +60,12 @@ impl Waiting for Freeze {
 
     #[inline(always)]
     fn is_in_row(&self, row: Row) -> bool {
+        let FreezeStep::Closes(write) = self.step else {
+            return false;
+        };
         match row {
-            Row::Sections => matches!(
-                self.step,
-                FreezeStep::Closes(write) if matches!(write.step, DownWriteStep::AwaitsSections(_))
-            ),
-            Row::Counts => matches!(
-                self.step,
-                FreezeStep::Closes(write) if matches!(write.step, DownWriteStep::Sums(_))
-            ),
+            Row::Sections => matches!(write.step, DownWriteStep::AwaitsSections(_)),
+            Row::Counts => matches!(write.step, DownWriteStep::Sums(_)),
         }
     }
 }
@@ -103,7 +100,7 @@ impl Waiting for Remount {
 
     #[inline(always)]
     fn is_in_row(&self, row: Row) -> bool {
-        row == Row::Counts && matches!(self.step, RemountStep::Sums { .. })
+        matches!(row, Row::Counts) && matches!(self.step, RemountStep::Sums { .. })
     }
 }
 
@@ -115,7 +112,7 @@ impl Waiting for Callback {
 
     #[inline(always)]
     fn is_in_row(&self, row: Row) -> bool {
-        row == Row::Sections && matches!(self.step, CallbackStep::AwaitsSections(_))
+        matches!(row, Row::Sections) && matches!(self.step, CallbackStep::AwaitsSections(_))
     }
 }
 

@@ -52,14 +52,23 @@ pub trait InLine: UnderWay {
             (task_state seat.new.table_id gates.now.config None (phase_after (map_next Self.as_phase result)) seat.new.me.0) };
 }
 
-/// The event that comes next, where the line goes on with it; else nothing. What comes after it.
+/// An operation whose line goes on only where it finds it at a place.
+pub(crate) trait Placed: UnderWay {
+    /// A place in the line.
+    type Place: Copy;
+
+    /// Whether the operation stands there.
+    fn is_at(&self, place: Self::Place) -> bool;
+}
+
+/// The event that comes next, where the operation stands at this place; else nothing. What comes after it.
 #[inline(always)]
-pub(crate) fn go_on_if<P: UnderWay>(
+pub(crate) fn go_on_if<P: Placed>(
     gates: &GateWords,
     seat: &mut Seat,
     accesses: &mut Accesses,
     next: Next<P>,
-    goes_on: bool,
+    place: P::Place,
 ) -> Next<P>
     requires table { seat.old.table_id ≡ gates.now.table.shared.table_id }
     requires tied { IsTied gates.now.config None (phase_after (map_next P.as_phase next)) accesses.old seat.old.me.0 }
@@ -76,6 +85,7 @@ pub(crate) fn go_on_if<P: UnderWay>(
 {
     match next {
         Next::Go(under_way) => {
+            let goes_on = under_way.is_at(place);
             if goes_on {
                 go_on(gates, seat, accesses, None, under_way, Ok(()))
             } else {
@@ -87,34 +97,48 @@ pub(crate) fn go_on_if<P: UnderWay>(
     }
 }
 
-/// Whether a want goes on with this step.
-#[inline(always)]
-fn wants_by(next: Next<Want>, step: WantStep) -> bool {
-    matches!(next, Next::Go(want) if want.step == step)
+impl Placed for Want {
+    type Place = WantStep;
+
+    #[inline(always)]
+    fn is_at(&self, place: WantStep) -> bool {
+        self.step == place
+    }
 }
 
-/// Whether a down-read goes on with this step.
-#[inline(always)]
-fn reads_by(next: Next<DownRead>, step: DownReadStep) -> bool {
-    matches!(next, Next::Go(read) if read.step == step)
+impl Placed for DownRead {
+    type Place = DownReadStep;
+
+    #[inline(always)]
+    fn is_at(&self, place: DownReadStep) -> bool {
+        self.step == place
+    }
 }
 
-/// Whether a taking of write access goes on with this step at its level.
-#[inline(always)]
-fn enters_by(next: Next<WritePhase>, step: DownReadStep) -> bool {
-    matches!(next, Next::Go(WritePhase::Takes { read, .. }) if read.step == step)
+/// A place in the line of a taking or a return of write access.
+#[derive(Clone, Copy)]
+pub(crate) enum WritePlace {
+    /// At its level, on the way in.
+    Enters(DownReadStep),
+    /// At its mount.
+    Wants(WantStep),
+    /// At its level, on the way out.
+    Leaves,
 }
 
-/// Whether a taking of write access goes on with this step at its mount.
-#[inline(always)]
-fn takes_by(next: Next<WritePhase>, step: WantStep) -> bool {
-    matches!(next, Next::Go(WritePhase::Wants(want)) if want.step == step)
-}
+impl Placed for WritePhase {
+    type Place = WritePlace;
 
-/// Whether a return of write access goes on with leaving its level.
-#[inline(always)]
-fn leaves_level(next: Next<WritePhase>) -> bool {
-    matches!(next, Next::Go(WritePhase::Ends { .. }))
+    #[inline(always)]
+    fn is_at(&self, place: WritePlace) -> bool {
+        match place {
+            WritePlace::Enters(step) => {
+                matches!(self, WritePhase::Takes { read, .. } if read.step == step)
+            }
+            WritePlace::Wants(step) => matches!(self, WritePhase::Wants(want) if want.step == step),
+            WritePlace::Leaves => matches!(self, WritePhase::Ends { .. }),
+        }
+    }
 }
 
 impl InLine for Want {
@@ -127,14 +151,10 @@ impl InLine for Want {
         begins: Option<Op>,
     ) -> Next<Want> {
         let next = go_on(gates, seat, accesses, begins, self, Ok(()));
-        let goes_on = wants_by(next, WantStep::LoadsHold);
-        let next = go_on_if(gates, seat, accesses, next, goes_on);
-        let goes_on = wants_by(next, WantStep::LoadsRemount);
-        let next = go_on_if(gates, seat, accesses, next, goes_on);
-        let goes_on = wants_by(next, WantStep::LoadsReadOnly);
-        let next = go_on_if(gates, seat, accesses, next, goes_on);
-        let goes_on = wants_by(next, WantStep::LoadsSuperblock);
-        go_on_if(gates, seat, accesses, next, goes_on)
+        let next = go_on_if(gates, seat, accesses, next, WantStep::LoadsHold);
+        let next = go_on_if(gates, seat, accesses, next, WantStep::LoadsRemount);
+        let next = go_on_if(gates, seat, accesses, next, WantStep::LoadsReadOnly);
+        go_on_if(gates, seat, accesses, next, WantStep::LoadsSuperblock)
     }
 }
 
@@ -161,12 +181,9 @@ impl InLine for DownRead {
         begins: Option<Op>,
     ) -> Next<DownRead> {
         let next = go_on(gates, seat, accesses, begins, self, Ok(()));
-        let goes_on = reads_by(next, DownReadStep::LoadsSync);
-        let next = go_on_if(gates, seat, accesses, next, goes_on);
-        let goes_on = reads_by(next, DownReadStep::CountsUpFast);
-        let next = go_on_if(gates, seat, accesses, next, goes_on);
-        let goes_on = reads_by(next, DownReadStep::LeavesAdmitted);
-        go_on_if(gates, seat, accesses, next, goes_on)
+        let next = go_on_if(gates, seat, accesses, next, DownReadStep::LoadsSync);
+        let next = go_on_if(gates, seat, accesses, next, DownReadStep::CountsUpFast);
+        go_on_if(gates, seat, accesses, next, DownReadStep::LeavesAdmitted)
     }
 }
 
@@ -203,16 +220,16 @@ fn want_then(
         Went op start (of_write result)
         (task_state seat.new.table_id gates.now.config None (phase_after (of_write result)) seat.new.me.0) }
 {
-    let goes_on = takes_by(next, WantStep::CountsUp);
-    let next = go_on_if(gates, seat, accesses, next, goes_on);
-    let goes_on = takes_by(next, WantStep::LoadsHold);
-    let next = go_on_if(gates, seat, accesses, next, goes_on);
-    let goes_on = takes_by(next, WantStep::LoadsRemount);
-    let next = go_on_if(gates, seat, accesses, next, goes_on);
-    let goes_on = takes_by(next, WantStep::LoadsReadOnly);
-    let next = go_on_if(gates, seat, accesses, next, goes_on);
-    let goes_on = takes_by(next, WantStep::LoadsSuperblock);
-    go_on_if(gates, seat, accesses, next, goes_on)
+    let place = WritePlace::Wants(WantStep::CountsUp);
+    let next = go_on_if(gates, seat, accesses, next, place);
+    let place = WritePlace::Wants(WantStep::LoadsHold);
+    let next = go_on_if(gates, seat, accesses, next, place);
+    let place = WritePlace::Wants(WantStep::LoadsRemount);
+    let next = go_on_if(gates, seat, accesses, next, place);
+    let place = WritePlace::Wants(WantStep::LoadsReadOnly);
+    let next = go_on_if(gates, seat, accesses, next, place);
+    let place = WritePlace::Wants(WantStep::LoadsSuperblock);
+    go_on_if(gates, seat, accesses, next, place)
 }
 
 /// The events of a taking of write access that begins, in a line; of one that has gone on its next event alone. What comes after the
@@ -254,12 +271,12 @@ fn take_in_line(
         return go_on(gates, seat, accesses, begins, phase, Ok(()));
     }
     let next = go_on(gates, seat, accesses, begins, phase, Ok(()));
-    let goes_on = enters_by(next, DownReadStep::LoadsSync);
-    let next = go_on_if(gates, seat, accesses, next, goes_on);
-    let goes_on = enters_by(next, DownReadStep::CountsUpFast);
-    let next = go_on_if(gates, seat, accesses, next, goes_on);
-    let goes_on = enters_by(next, DownReadStep::LeavesAdmitted);
-    let next = go_on_if(gates, seat, accesses, next, goes_on);
+    let place = WritePlace::Enters(DownReadStep::LoadsSync);
+    let next = go_on_if(gates, seat, accesses, next, place);
+    let place = WritePlace::Enters(DownReadStep::CountsUpFast);
+    let next = go_on_if(gates, seat, accesses, next, place);
+    let place = WritePlace::Enters(DownReadStep::LeavesAdmitted);
+    let next = go_on_if(gates, seat, accesses, next, place);
     want_then(gates, seat, accesses, next)
 }
 
@@ -286,8 +303,7 @@ fn give_in_line(
 {
     let phase = WritePhase::Drops { mount, cpu };
     let next = go_on(gates, seat, accesses, begins, phase, Ok(()));
-    let goes_on = leaves_level(next);
-    go_on_if(gates, seat, accesses, next, goes_on)
+    go_on_if(gates, seat, accesses, next, WritePlace::Leaves)
 }
 
 impl InLine for WritePhase {

@@ -1,19 +1,13 @@
 -- What follows from a command line that was parsed.
-use Rattle.std.proofs.Common.{◌≡◌, refl, ap, ap₂, ◌∙◌, Bool, true, false, ◌&&◌, [], ◌∷◌, ◌++◌, Option, Some, None, codes, option_map}
-use Rattle.std.specs.Prelude.{IsSomeAnd, not, is_some}
-use Rattle.std.specs.Option.{option_map_or}
-use Rattle.std.specs.Str.{bytes_eq}
-use Rattle.std.proofs.lemmas.Bool.{false≢true}
+use Rattle.std.proofs.Common.{◌≡◌, refl, sym, ap, ap₂, ◌∙◌, ℕ, ◌<◌, ◌≤◌, ◌+◌, Bool, true, false, ◌&&◌, List, [], ◌∷◌, ◌++◌, append_assoc, length, map, take}
+use Rattle.std.proofs.{Common.{get_or, Option, Some, None, codes, option_map}, lemmas.{Bool.false≢true, List.{map-append, take_all, take_more}}}
 use Rattle.std.proofs.lemmas.Slice.Eq.{bytes_eq-Decides}
-use Rattle.clap.specs.Words.{AddsArg, AddsSubcommand, App, Rule, Shape, Text, app_of, is_simple, rule_of, with_rule, with_subcommand}
-use Rattle.clap.specs.declared.builder.arg.Arg.{Arg}
-use Rattle.clap.specs.declared.builder.command.Command.{Command}
-use Rattle.clap.specs.declared.builder.range.ValueRange.{ValueRange}
+use Rattle.std.specs.{Option.option_map_or, Prelude.{IsSomeAnd, not, is_some}, Str.bytes_eq}
+use Rattle.clap.specs.{Simple.new_shape, Words.{AddsArg, AddsSubcommand, App, Rule, Shape, Text, app_of, is_simple, rule_of, with_rule, with_subcommand}}
+use Rattle.clap.specs.declared.builder.{arg.Arg.Arg, command.Command.Command, range.ValueRange.ValueRange}
 use Rattle.clap.proofs.OnLiterals.{clap_on_literals}
-use Rattle.command_line.specs.declared.words.Asked.TheVariants.{Replay as AsksReplay}
-use Rattle.command_line.specs.declared.words.Form.{Form}
-use Rattle.command_line.specs.declared.words.Replay.{Replay}
-use Rattle.command_line.specs.CommandLine.{alone, ask_plainly, mntgate_app}
+use Rattle.command_line.specs.CommandLine.{alone, argument_rule, ask_plainly, mntgate_app, subcommand_shape}
+use Rattle.command_line.specs.declared.words.{Asked.TheVariants.Replay as AsksReplay, Form.Form, Replay.Replay, Argument.Argument, Subcommand.Subcommand}
 
 -- both of two tests
 pub and_left : (a b : Bool) → (a && b) ≡ true → a ≡ true
@@ -97,3 +91,35 @@ pub other_words : (name : Text) →
     × (ask_plainly (name ∷ codes "replay" ∷ codes "x.schedule" ∷ []) ≡ false)
 unfolding clap_on_literals
 other_words name = (refl, refl, refl)
+
+-- the program, before it has its commands
+abbrev pub no_commands : App
+no_commands = record { top = record (new_shape (codes "mntgate")) { has_version = true; subcommand_required = true }; subs = [] }
+
+-- a command with each of these, too
+abbrev pub with_all : App → List Subcommand → App
+with_all a [] = a
+with_all a (s ∷ rest) = with_all (with_subcommand a (subcommand_shape s)) rest
+
+-- and with one more
+with_one_more : (a : App) (xs : List Subcommand) (x : Subcommand) → with_all a (xs ++ x ∷ []) ≡ with_subcommand (with_all a xs) (subcommand_shape x)
+with_one_more a [] x = refl
+with_one_more a (y ∷ ys) x = with_one_more (with_subcommand a (subcommand_shape y)) ys x
+
+-- the rules of one argument more
+pub rules_more : (rules : List Rule) (xs : List Argument) (i : ℕ) (d : Argument) → i < length xs →
+    (rules ++ map argument_rule (take i xs)) ++ argument_rule (get_or xs i d) ∷ [] ≡ rules ++ map argument_rule (take (i + 1) xs)
+rules_more rules xs i d h =
+    append_assoc rules (map argument_rule (take i xs)) _
+    ∙ ap (λ (more : List Rule). rules ++ more) (sym (ap (map argument_rule) (take_more xs i d h) ∙ map-append argument_rule (take i xs) _))
+
+-- a command that has so many of these, and one more
+pub commands_more : (xs : List Subcommand) (i : ℕ) (d : Subcommand) (a new : App) → i < length xs → a ≡ with_all no_commands (take i xs) →
+    new ≡ with_subcommand a (subcommand_shape (get_or xs i d)) → new ≡ with_all no_commands (take (i + 1) xs)
+commands_more xs i d a new h so_far more =
+    more ∙ ap (λ (b : App). with_subcommand b (subcommand_shape (get_or xs i d))) so_far
+    ∙ sym (ap (with_all no_commands) (take_more xs i d h) ∙ with_one_more no_commands (take i xs) (get_or xs i d))
+
+-- one that has all of them
+pub commands_all : (xs : List Subcommand) (i : ℕ) (a : App) → length xs ≤ i → a ≡ with_all no_commands (take i xs) → a ≡ with_all no_commands xs
+commands_all xs i a h all = all ∙ ap (with_all no_commands) (take_all i xs h)

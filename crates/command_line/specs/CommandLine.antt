@@ -1,16 +1,10 @@
 -- The command line of the program, as the parser of command lines knows it, and the words that ask for a plain replay.
-use Rattle.std.specs.Prelude.{◌≡◌, ◌&&◌, ℕ, Bool, true, false, not, List, [], ◌∷◌, Option, Some, None, is_some, codes}
-use Rattle.std.specs.Option.{option_map_or}
+use Rattle.std.specs.{Option.option_map_or, Prelude.{◌≡◌, ◌&&◌, ℕ, Bool, true, false, not, List, [], ◌∷◌, map, Option, Some, None, is_some, codes}}
 use Rattle.std.specs.Str.{bytes_eq}
-use Rattle.clap.specs.Words.{App, Row, Rule, Shape, Text, first_of, new_rule, one_of, subcommand_of, takes}
-use Rattle.clap.specs.Simple.{new_shape}
-use Rattle.clap.specs.Lexer.{usize_max}
-use Rattle.clap.specs.declared.builder.action.ArgAction.TheVariants.{SetTrue}
-use Rattle.clap.specs.declared.builder.value_parser.ValueParser.TheVariants.{Unsigned}
-use Rattle.command_line.specs.declared.words.Asked.{Asked}
-use Rattle.command_line.specs.declared.words.Asked.TheVariants.{Replay as AsksReplay}
-use Rattle.command_line.specs.declared.words.Form.TheVariants.{Plain}
-use Rattle.command_line.specs.declared.words.Replay.{Replay}
+use Rattle.clap.specs.{Lexer.usize_max, Simple.new_shape, Words.{App, Row, Rule, Shape, Text, first_of, new_rule, one_of, subcommand_of, takes}}
+use Rattle.clap.specs.declared.builder.{action.ArgAction.TheVariants.SetTrue, value_parser.ValueParser.TheVariants.Unsigned}
+use Rattle.command_line.specs.declared.words.{Argument.{Argument, TheVariants.{File, Files, Flag, Number, Needed}}, Asked.Asked}
+use Rattle.command_line.specs.declared.words.{Asked.TheVariants.Replay as AsksReplay, Form.TheVariants.Plain, Replay.Replay, Subcommand.Subcommand}
 
 -- a flag, which is left out or given once
 abbrev pub flag_rule : Text → Rule
@@ -24,6 +18,22 @@ number_rule name least most = record (new_rule name) { long = Some name; value_n
 abbrev pub needed_rule : Text → ℕ → ℕ → Rule
 needed_rule name least most = record (number_rule name least most) { required = true }
 
+-- a file at most
+abbrev pub file_rule : Rule
+file_rule = new_rule (codes "FILE")
+
+-- files
+abbrev pub files_rule : Rule
+files_rule = record file_rule { range = Some (record { start_inclusive = 1; end_inclusive = usize_max }) }
+
+-- an argument
+abbrev pub argument_rule : Argument → Rule
+argument_rule (File help) = file_rule
+argument_rule (Files help) = files_rule
+argument_rule (Flag name help) = flag_rule name.now
+argument_rule (Number name value least most help) = number_rule name.now least most
+argument_rule (Needed name least most help) = needed_rule name.now least most
+
 -- a command with its arguments
 abbrev pub command_of : Text → List Rule → Shape
 command_of name rules = record (new_shape name) { rules = rules }
@@ -31,18 +41,17 @@ command_of name rules = record (new_shape name) { rules = rules }
 -- `replay`
 abbrev pub replay_shape : Shape
 replay_shape = command_of (codes "replay") (
-    new_rule (codes "FILE") ∷ flag_rule (codes "events") ∷ flag_rule (codes "columns") ∷ flag_rule (codes "json")
+    file_rule ∷ flag_rule (codes "events") ∷ flag_rule (codes "columns") ∷ flag_rule (codes "json")
     ∷ flag_rule (codes "over-gates") ∷ flag_rule (codes "explain") ∷ [])
 
 -- `check`
 abbrev pub check_shape : Shape
-check_shape = command_of (codes "check") (
-    record (new_rule (codes "FILE")) { range = Some (record { start_inclusive = 1; end_inclusive = usize_max }) } ∷ [])
+check_shape = command_of (codes "check") (files_rule ∷ [])
 
 -- `outcomes`
 abbrev pub outcomes_shape : Shape
 outcomes_shape = command_of (codes "outcomes") (
-    new_rule (codes "FILE") ∷ flag_rule (codes "schedules") ∷ flag_rule (codes "columns") ∷ flag_rule (codes "model")
+    file_rule ∷ flag_rule (codes "schedules") ∷ flag_rule (codes "columns") ∷ flag_rule (codes "model")
     ∷ number_rule (codes "limit") 1 4294967295 ∷ [])
 
 -- `run`
@@ -50,6 +59,10 @@ abbrev pub run_shape : Shape
 run_shape = command_of (codes "run") (
     needed_rule (codes "tasks") 3 64 ∷ needed_rule (codes "cpus") 1 64 ∷ needed_rule (codes "rounds") 1 10000
     ∷ needed_rule (codes "freezes") 0 1000 ∷ flag_rule (codes "details") ∷ [])
+
+-- a command of the program
+abbrev pub subcommand_shape : Subcommand → Shape
+subcommand_shape s = command_of s.name.now (map argument_rule s.arguments.now)
 
 -- the command line: each command of the program
 abbrev pub mntgate_app : App

@@ -1,9 +1,9 @@
 //! The words of a command line.
 
-ghost use Rattle.std.specs.Prelude.{◌≡◌, ◌⊎◌, true, false, Some, IfOk, map, codes, string_bytes};
+ghost use Rattle.std.specs.Prelude.{◌≡◌, ◌⊎◌, ◌++◌, true, false, Some, IfOk, map, codes, string_bytes};
 ghost use Rattle.clap.specs.Words.{Shape, app_of, found_of, kind_of, one_of, rows_of, rule_of, subcommand_rows_of, with_subcommand};
 ghost use Rattle.clap.specs.declared.error.kind.ErrorKind.TheVariants.{OutOfMemory};
-ghost use Rattle.command_line.specs.CommandLine.{AreBare, IsBareReplay, IsPlainOfInput, MayAskPlainly, alone, are_plain, ask_plainly, check_shape, flag_rule, is_off, is_plain_replay, mntgate_app, needed_rule, number_rule, outcomes_shape, replay_shape, run_shape};
+ghost use Rattle.command_line.specs.CommandLine.{AreBare, IsBareReplay, IsPlainOfInput, MayAskPlainly, alone, are_plain, argument_rule, ask_plainly, flag_rule, is_off, is_plain_replay, mntgate_app, number_rule, subcommand_shape};
 ghost use Rattle.command_line.specs.declared.words.Asked.TheVariants.{Misused, Unread};
 ghost use Rattle.command_line.specs.declared.words.Form.TheVariants.{Plain};
 
@@ -45,8 +45,114 @@ const LIMIT: &str = "limit";
 /// How many states a race may have, where nothing else is asked for.
 const STATES: u32 = 1_000_000;
 
+/// A command of the program, with its arguments in their order.
+#[derive(Clone, Copy)]
+struct Subcommand {
+    name: &'static str,
+    about: &'static str,
+    arguments: &'static [Argument],
+}
+
+/// An argument of a command; the last text of each is its help.
+#[derive(Clone, Copy)]
+enum Argument {
+    /// A file at most.
+    File(&'static str),
+    /// Files.
+    Files(&'static str),
+    /// A flag of this name.
+    Flag(&'static str, &'static str),
+    /// An option of this name with a number, which help calls so, from the least to the most.
+    Number(&'static str, &'static str, u64, u64, &'static str),
+    /// The same, which has to be there, and whose number has no name of its own.
+    Needed(&'static str, u64, u64, &'static str),
+}
+
+const SUBCOMMANDS: [Subcommand; 4] = [
+    Subcommand {
+        name: "replay",
+        about: "Replays a schedule, and prints what its lines ask for",
+        arguments: &[
+            Argument::File("Its file; standard input, where none is named"),
+            Argument::Flag(
+                EVENTS,
+                "Prints the events of a run too, and for whom a task waits",
+            ),
+            Argument::Flag(COLUMNS, "Prints them in a column for each task"),
+            Argument::Flag(
+                JSON,
+                "Prints a line of JSON for each event, answer and listing",
+            ),
+            Argument::Flag(
+                OVER_GATES,
+                "Replays it over the gates that threads use, in one thread",
+            ),
+            Argument::Flag(
+                EXPLAIN,
+                "Tells after a fault what helps, as it does on a terminal",
+            ),
+        ],
+    },
+    Subcommand {
+        name: "check",
+        about: "Replays schedules and lists outcomes of races, and compares what they print with their lines '#> TEXT'",
+        arguments: &[Argument::Files("Their files; standard input, where none is named")],
+    },
+    Subcommand {
+        name: "outcomes",
+        about: "Prints all outcomes of a race: what its calls can answer, whatever their order",
+        arguments: &[
+            Argument::File("Its file; standard input, where none is named"),
+            Argument::Flag(SCHEDULES, "Prints a shortest schedule for each outcome"),
+            Argument::Flag(COLUMNS, "Prints one too, in a column for each task"),
+            Argument::Flag(MODEL, "Prints the model at the end of each schedule"),
+            Argument::Number(
+                LIMIT,
+                "STATES",
+                1,
+                4_294_967_295,
+                "How many states it may have at most: 1000000, if not given",
+            ),
+        ],
+    },
+    Subcommand {
+        name: "run",
+        about: "Runs writers, a remounter and a backup in threads, and prints what they did",
+        arguments: &[
+            Argument::Needed(
+                "tasks",
+                3,
+                64,
+                "Tasks, each in a thread of its own: 3 to 64",
+            ),
+            Argument::Needed(
+                "cpus",
+                1,
+                64,
+                "Processors, with count words of their own: 1 to 64",
+            ),
+            Argument::Needed(
+                "rounds",
+                1,
+                10_000,
+                "Rounds of each writer and of the remounter: 1 to 10000",
+            ),
+            Argument::Needed(
+                "freezes",
+                0,
+                1_000,
+                "Freezes, each with a snapshot: 0 to 1000",
+            ),
+            Argument::Flag(
+                DETAILS,
+                "Prints after that what they met: refusals, snapshots' sizes, time",
+            ),
+        ],
+    },
+];
+
 /// The numbers of a run.
-#[derive(Clone, Copy, PartialEq, Eq, Debug)]
+#[derive(Clone, Copy)]
 pub struct Numbers {
     pub tasks: u8,
     pub processors: u8,
@@ -55,7 +161,7 @@ pub struct Numbers {
 }
 
 /// What is printed of a run.
-#[derive(Clone, Copy, PartialEq, Eq, Debug)]
+#[derive(Clone, Copy)]
 pub enum Tells {
     /// What its tasks did, in five lines.
     Totals,
@@ -64,7 +170,7 @@ pub enum Tells {
 }
 
 /// What is printed of a replay.
-#[derive(Clone, Copy, PartialEq, Eq, Debug)]
+#[derive(Clone, Copy)]
 pub enum Form {
     /// What its lines ask for.
     Plain,
@@ -77,7 +183,7 @@ pub enum Form {
 }
 
 /// How a schedule is replayed.
-#[derive(Clone, Copy, PartialEq, Eq, Debug)]
+#[derive(Clone, Copy)]
 pub struct Replay<'a> {
     /// The file that has it; standard input, where none is named.
     pub file: Option<&'a str>,
@@ -87,7 +193,7 @@ pub struct Replay<'a> {
 }
 
 /// In which form a schedule of each outcome is told, if it is.
-#[derive(Clone, Copy, PartialEq, Eq, Debug)]
+#[derive(Clone, Copy)]
 pub enum Schedules {
     Untold,
     /// In lines that a replay takes.
@@ -97,7 +203,7 @@ pub enum Schedules {
 }
 
 /// How the outcomes of a race are told.
-#[derive(Clone, Copy, PartialEq, Eq, Debug)]
+#[derive(Clone, Copy)]
 pub struct Outcomes<'a> {
     /// The file that has it; standard input, where none is named.
     pub file: Option<&'a str>,
@@ -109,7 +215,7 @@ pub struct Outcomes<'a> {
 }
 
 /// What the words of a command line ask for.
-#[derive(PartialEq, Debug, Drop)]
+#[derive(Drop)]
 pub enum Asked<'a> {
     /// A replay of a schedule.
     Replay(Replay<'a>),
@@ -141,9 +247,23 @@ pub fn read_words<'a, E: Write>(
     let command = command(alloc)?;
     match command.try_get_matches_from(words) {
         Ok(matches) => request_of(alloc, &matches, errors),
-        Err(error) if error.use_stderr() => Ok(misused(&error, errors)),
-        Err(error) => Ok(Asked::Told(format!(in alloc; "{error}")?)),
+        Err(error) => answer_of(alloc, &error, errors),
     }
+}
+
+/// What a command line asks for that the parser has an answer to itself: help or the version, or nothing.
+fn answer_of<'a, E: Write>(
+    alloc: Global,
+    error: &Error,
+    errors: &mut E,
+) -> Result<Asked<'a>, AllocError>
+    ensures memory { kind_of error.now ≡ OutOfMemory → IfOk result (λ asked. asked ≡ Unread) }
+    ensures nothing { IfOk result (λ asked. ¬ IsPlainOfInput asked) }
+{
+    if error.use_stderr() {
+        return Ok(misused(error, errors));
+    }
+    Ok(Asked::Told(format!(in alloc; "{error}")?))
 }
 
 /// What a command line asks for that was understood.
@@ -164,24 +284,25 @@ fn request_of<'a, E: Write>(
     if let Some(outcomes) = matches.subcommand_matches("outcomes") {
         return Ok(Asked::Outcomes(outcomes_of(outcomes)));
     }
-    let asked = match matches.subcommand_matches("run") {
-        Some(run) => run_asked(run),
-        None => None,
-    };
-    match asked {
-        Some((numbers, tells)) => Ok(Asked::Run(numbers, tells)),
-        None => Ok(Asked::Misused),
+    if let Some(run) = matches.subcommand_matches("run") {
+        return Ok(run_of(run));
     }
+    Ok(Asked::Misused)
 }
 
-/// The run that a command line asks for which was understood.
-fn run_asked(run: &ArgMatches<'_>) -> Option<(Numbers, Tells)> {
+/// What `run` asks for, of which the parser has seen to it that each number is there.
+fn run_of<'a>(run: &ArgMatches<'_>) -> Asked<'a>
+    ensures { ¬ IsPlainOfInput result }
+{
     let tells = if run.get_flag(DETAILS) {
         Tells::Details
     } else {
         Tells::Totals
     };
-    Some((run_numbers(run)?, tells))
+    match run_numbers(run) {
+        Some(numbers) => Asked::Run(numbers, tells),
+        None => Asked::Misused,
+    }
 }
 
 /// What `replay` asks for. That of its forms there may be one is told here, since the parser's contract speaks of no argument that excludes
@@ -200,7 +321,7 @@ fn replay_of<'a, E: Write>(replay: &ArgMatches<'a>, errors: &mut E) -> Asked<'a>
         None => {
             let _ = writeln!(
                 errors,
-                "error: '--{EVENTS}', '--{COLUMNS}' and '--{JSON}' cannot be used together"
+                "error: '--events', '--columns' and '--json' cannot be used together"
             );
             Asked::Misused
         }
@@ -265,13 +386,78 @@ fn outcomes_of<'a>(outcomes: &ArgMatches<'a>) -> Outcomes<'a> {
 
 /// The files that are named.
 fn files_of<'a>(alloc: Global, check: &ArgMatches<'a>) -> Result<Vec<&'a str>, AllocError> {
-    let mut files = Vec::new(alloc);
-    if let Some(names) = check.get_strs(FILE) {
-        for name in names {
-            files.push(*name)?;
+    match check.get_strs(FILE) {
+        Some(names) => names.to_vec(alloc),
+        None => Ok(Vec::new(alloc)),
+    }
+}
+
+/// The command line: each command of the program.
+fn command<'a>(alloc: Global) -> Result<Command<'a>, AllocError>
+    ensures { IfOk result (λ command. app_of command ≡ mntgate_app) }
+{
+    let mut program = Command::new(alloc, "mntgate")
+        .about("Write gates of a mounted file system")
+        .version(VERSION)
+        .subcommand_required(true);
+    for subcommand in SUBCOMMANDS.iter() {
+        program = add_subcommand(alloc, program, subcommand)?;
+    }
+    Ok(program)
+}
+
+/// A command with this one, too.
+fn add_subcommand<'a>(
+    alloc: Global,
+    command: Command<'a>,
+    subcommand: &Subcommand,
+) -> Result<Command<'a>, AllocError>
+    ensures { IfOk result (λ new. app_of new ≡ with_subcommand (app_of command.entry) (subcommand_shape subcommand.now)) }
+{
+    let sub = subcommand_of(alloc, subcommand)?;
+    command.subcommand(sub)
+}
+
+/// A command of the program.
+fn subcommand_of<'a>(alloc: Global, subcommand: &Subcommand) -> Result<Command<'a>, AllocError>
+    ensures { IfOk result (λ command. app_of command ≡ alone (subcommand_shape subcommand.now)) }
+{
+    let command = Command::new(alloc, subcommand.name).about(subcommand.about);
+    add_arguments(alloc, command, subcommand.arguments)
+}
+
+/// A command with these arguments, too, in their order.
+fn add_arguments<'a>(
+    alloc: Global,
+    command: Command<'a>,
+    arguments: &[Argument],
+) -> Result<Command<'a>, AllocError>
+    ensures { IfOk result (λ new. (s : Shape) → app_of command.entry ≡ alone s →
+        app_of new ≡ alone (record s { rules = s.rules ++ map argument_rule arguments.now })) }
+{
+    let mut command = command;
+    for argument in arguments {
+        command = command.arg(argument_of(alloc, argument))?;
+    }
+    Ok(command)
+}
+
+/// An argument of a command.
+fn argument_of<'a>(alloc: Global, argument: &Argument) -> Arg<'a>
+    ensures rule { rule_of result ≡ argument_rule argument.now }
+    ensures local { result.global ≡ false }
+{
+    match *argument {
+        Argument::File(help) => Arg::new(alloc, FILE).help(help),
+        Argument::Files(help) => Arg::new(alloc, FILE).num_args(1..).help(help),
+        Argument::Flag(name, help) => flag(alloc, name, help),
+        Argument::Number(name, value, least, most, help) => {
+            number(alloc, name, value, (least, most), help)
+        }
+        Argument::Needed(name, least, most, help) => {
+            number(alloc, name, "N", (least, most), help).required(true)
         }
     }
-    Ok(files)
 }
 
 /// A flag, which is left out or given once.
@@ -283,141 +469,6 @@ fn flag<'a>(alloc: Global, name: &'a str, help: &'a str) -> Arg<'a>
         .long(name)
         .action(ArgAction::SetTrue)
         .help(help)
-}
-
-/// `replay`, with its file and its flags.
-fn replay_command<'a>(alloc: Global) -> Result<Command<'a>, AllocError>
-    ensures { IfOk result (λ command. app_of command ≡ alone replay_shape) }
-{
-    // A flag that was made before the others would have to be dropped wherever one of them can't be added.
-    Command::new(alloc, "replay")
-        .about("Replays a schedule, and prints what its lines ask for")
-        .arg(Arg::new(alloc, FILE).help("Its file; standard input, where none is named"))?
-        .arg(flag(
-            alloc,
-            EVENTS,
-            "Prints the events of a run too, and for whom a task waits",
-        ))?
-        .arg(flag(alloc, COLUMNS, "Prints them in a column for each task"))?
-        .arg(flag(
-            alloc,
-            JSON,
-            "Prints a line of JSON for each event, answer and listing",
-        ))?
-        .arg(flag(
-            alloc,
-            OVER_GATES,
-            "Replays it over the gates that threads use, in one thread",
-        ))?
-        .arg(flag(
-            alloc,
-            EXPLAIN,
-            "Tells after a fault what helps, as it does on a terminal",
-        ))
-}
-
-/// `check`, with its files.
-fn check_command<'a>(alloc: Global) -> Result<Command<'a>, AllocError>
-    ensures { IfOk result (λ command. app_of command ≡ alone check_shape) }
-{
-    let files = Arg::new(alloc, FILE)
-        .num_args(1..)
-        .help("Their files; standard input, where none is named");
-    Command::new(alloc, "check")
-        .about(
-            "Replays schedules and lists outcomes of races, and compares what they print with their lines '#> TEXT'",
-        )
-        .arg(files)
-}
-
-/// `outcomes`, with its file and its flags.
-fn outcomes_command<'a>(alloc: Global) -> Result<Command<'a>, AllocError>
-    ensures { IfOk result (λ command. app_of command ≡ alone outcomes_shape) }
-{
-    Command::new(alloc, "outcomes")
-        .about("Prints all outcomes of a race: what its calls can answer, whatever their order")
-        .arg(Arg::new(alloc, FILE).help("Its file; standard input, where none is named"))?
-        .arg(flag(
-            alloc,
-            SCHEDULES,
-            "Prints a shortest schedule for each outcome",
-        ))?
-        .arg(flag(alloc, COLUMNS, "Prints one too, in a column for each task"))?
-        .arg(flag(alloc, MODEL, "Prints the model at the end of each schedule"))?
-        .arg(number(
-            alloc,
-            LIMIT,
-            "STATES",
-            (1, 4_294_967_295),
-            "How many states it may have at most: 1000000, if not given",
-        ))
-}
-
-/// `run`, with its numbers.
-fn run_command<'a>(alloc: Global) -> Result<Command<'a>, AllocError>
-    ensures { IfOk result (λ command. app_of command ≡ alone run_shape) }
-{
-    Command::new(alloc, "run")
-        .about("Runs writers, a remounter and a backup in threads, and prints what they did")
-        .arg(needed(
-            alloc,
-            "tasks",
-            3,
-            64,
-            "Tasks, each in a thread of its own: 3 to 64",
-        ))?
-        .arg(needed(
-            alloc,
-            "cpus",
-            1,
-            64,
-            "Processors, with count words of their own: 1 to 64",
-        ))?
-        .arg(needed(
-            alloc,
-            "rounds",
-            1,
-            10_000,
-            "Rounds of each writer and of the remounter: 1 to 10000",
-        ))?
-        .arg(needed(
-            alloc,
-            "freezes",
-            0,
-            1_000,
-            "Freezes, each with a snapshot: 0 to 1000",
-        ))?
-        .arg(flag(
-            alloc,
-            DETAILS,
-            "Prints after that what they met: refusals, snapshots' sizes, time",
-        ))
-}
-
-/// The command line: each command of the program.
-fn command<'a>(alloc: Global) -> Result<Command<'a>, AllocError>
-    ensures { IfOk result (λ command. app_of command ≡ mntgate_app) }
-{
-    let program = Command::new(alloc, "mntgate")
-        .about("Write gates of a mounted file system")
-        .version(VERSION)
-        .subcommand_required(true);
-    let replays = with_command(program, replay_command(alloc))?;
-    let checks = with_command(replays, check_command(alloc))?;
-    let tells = with_command(checks, outcomes_command(alloc))?;
-    with_command(tells, run_command(alloc))
-}
-
-/// A command with one command more, if there was memory to make that.
-fn with_command<'a>(
-    command: Command<'a>,
-    made: Result<Command<'a>, AllocError>,
-) -> Result<Command<'a>, AllocError>
-    ensures { IfOk result (λ new. (s : Shape) → IfOk made.entry (λ sub. app_of sub ≡ alone s) → s.is_plain ≡ true →
-        app_of new ≡ with_subcommand (app_of command.entry) s) }
-{
-    let sub = made?;
-    command.subcommand(sub)
 }
 
 /// An argument that may be left out: a number from the least to the most.
@@ -436,14 +487,6 @@ fn number<'a>(
         .value_name(value)
         .value_parser(ValueParser::unsigned(bounds.0, bounds.1))
         .help(help)
-}
-
-/// An argument that has to be there: a number from the least to the most.
-fn needed<'a>(alloc: Global, name: &'a str, least: u64, most: u64, help: &'a str) -> Arg<'a>
-    ensures rule { rule_of result ≡ needed_rule name.entry.now least most }
-    ensures local { result.global ≡ false }
-{
-    number(alloc, name, "N", (least, most), help).required(true)
 }
 
 /// The numbers of a run, which a command line that was understood has.

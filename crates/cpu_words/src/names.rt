@@ -85,7 +85,7 @@ pub enum WordName {
 
 /// The row of a word: its kind, which is what there is one such word of, which of the words of that kind it is, from 0, and what it is the
 /// word of.
-#[derive(Clone, Copy, PartialEq, Eq, Debug)]
+#[derive(Clone, Copy)]
 pub enum Row {
     /// Of the whole file system.
     OfAll { which: u8 },

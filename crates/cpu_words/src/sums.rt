@@ -4,14 +4,14 @@ ghost use Rattle.std.specs.Prelude.{◌≡◌, ℕ, ◌<◌, List, [], ◌∷◌
 ghost use Rattle.cpu_words.specs.Sums.{sum_taking, sum_of, taken_of};
 
 /// A sum in progress: how many words were taken (0 to 63), and their wrapping sum.
-#[derive(Clone, Copy, PartialEq, Eq, Debug)]
+#[derive(Clone, Copy, PartialEq, Eq)]
 pub struct Sum {
     pub words: u8,
     pub total: u64,
 }
 
 /// What taking a word gives: a sum that has to go on, or, at the last word, the wrapping sum of all words.
-#[derive(Clone, Copy, PartialEq, Eq, Debug)]
+#[derive(Clone, Copy)]
 pub enum Taken {
     More(Sum),
     Total(u64),

@@ -8,7 +8,7 @@ ghost use Rattle.gate_core.specs.Answers.{asked_by, idle_step, unless_refused};
 ghost use Rattle.gate_world.specs.Configs.{IsWithin};
 ghost use Rattle.gate_world.specs.declared.work.Phase.{Phase};
 ghost use Rattle.driven_gates.specs.Noted.{words_after};
-ghost use Rattle.gate_runs.specs.Splitting.{AreNumbered, Gives};
+ghost use Rattle.vfs_gates.specs.Splitting.{AreNumbered, Gives};
 ghost use Rattle.transcripts.specs.Drivers.{listed_word};
 ghost use Rattle.vfs_gates.specs.Stepped.{Stepped};
 ghost use Rattle.vfs_gates.specs.TaskStates.{IsFrom, IsIdle, TaskState, refusal_at};

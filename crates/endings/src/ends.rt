@@ -9,7 +9,7 @@ use std::io;
 use std::io::Write;
 
 /// How the program ends.
-#[derive(Clone, Copy, PartialEq, Eq, Debug)]
+#[derive(Clone, Copy)]
 pub enum Ending {
     /// The whole schedule of standard input was done.
     Done,

@@ -11,8 +11,11 @@ pub static LIMITS: [(&str, u32, u32); 4] = [
     ("NODES", 2, 64),
 ];
 
+/// The command that configures.
+pub(crate) static CONFIGS: [(&str, &str); 1] = [("config", "TASKS CPUS MOUNTS NODES CAPACITY")];
+
 /// The commands that stand alone on their line.
-pub(crate) static ALONE: [&str; 3] = ["words", "tree", "model"];
+pub(crate) static ALONE: [(&str, &str); 3] = [("words", ""), ("tree", ""), ("model", "")];
 
 /// Each command on a task, with its arguments: in brackets those that may be left out, and with a bar between them the words of which one
 /// stands there. All others are numbers.

@@ -31,31 +31,51 @@ impl Place<'_> {
     pub(crate) fn shown(self, alloc: Global) -> Result<String, AllocError> {
         let mut text = String::new(alloc);
         for byte in self.word {
-            if byte.is_ascii_graphic() {
-                text.push(char::from(*byte))?;
-            } else {
-                text.push_str(format!(in alloc; "\\x{:02x}", *byte)?.as_str())?;
-            }
+            show(alloc, *byte, &mut text)?;
         }
         Ok(text)
     }
 
-    /// The nearest of some words, where one is near.
+    /// The same, with its column.
+    pub(crate) fn told(self, alloc: Global) -> Result<String, AllocError> {
+        let (word, column) = (self.shown(alloc)?, self.column);
+        format!(in alloc; "'{word}' at column {column}")
+    }
+
+    /// The nearest of the names of some commands, where one is near.
     pub(crate) fn nearest(
         self,
         alloc: Global,
-        names: &[&'static str],
+        commands: &[(&'static str, &'static str)],
     ) -> Result<Option<&'static str>, AllocError> {
         let word = self.shown(alloc)?;
-        let mut nearest = None;
-        let mut least = FAR.saturating_add(1).min(word.len());
-        for name in names {
-            let distance = osa_distance(alloc, word.as_str(), name)?;
-            if distance < least {
-                nearest = Some(*name);
-                least = distance;
-            }
-        }
-        Ok(nearest)
+        nearest_to(alloc, word.as_str(), commands)
     }
+}
+
+/// Puts a byte of a word behind a text.
+fn show(alloc: Global, byte: u8, text: &mut String) -> Result<(), AllocError> {
+    if byte.is_ascii_graphic() {
+        return text.push(char::from(byte));
+    }
+    let number = format!(in alloc; "\\x{byte:02x}")?;
+    text.push_str(number.as_str())
+}
+
+/// The nearest of the names of some commands to a word, where one is near.
+fn nearest_to(
+    alloc: Global,
+    word: &str,
+    commands: &[(&'static str, &'static str)],
+) -> Result<Option<&'static str>, AllocError> {
+    let mut nearest = None;
+    let mut least = FAR.saturating_add(1).min(word.len());
+    for (name, _) in commands {
+        let distance = osa_distance(alloc, word, name)?;
+        if distance < least {
+            nearest = Some(*name);
+            least = distance;
+        }
+    }
+    Ok(nearest)
 }

@@ -10,7 +10,7 @@ use gated_tree::NodeWord;
 use percpu_rwsem::{DownRead, DownReadStep, UpRead};
 
 /// A close of a file by a task, on a processor. One that doesn't wait is refused where it would have to.
-#[derive(Clone, Copy, PartialEq, Eq, Debug)]
+#[derive(Clone, Copy, PartialEq, Eq)]
 pub struct Closing {
     pub file: u8,
     pub cpu: u8,
@@ -19,7 +19,7 @@ pub struct Closing {
 }
 
 /// Where a close stands between two of its events (`__fput`). Freeze level 3 (`SB_FREEZE_FS`) is that of a last close alone.
-#[derive(Clone, Copy, PartialEq, Eq, Debug)]
+#[derive(Clone, Copy, PartialEq, Eq)]
 pub enum ClosePhase {
     /// Loads the file's node.
     LoadsFile(Closing),

@@ -31,7 +31,7 @@ use gated_tree::ClearMarks;
 use percpu_rwsem::{DownWrite, UpWrite};
 
 /// What the next event of a freeze is (`freeze_super`).
-#[derive(Clone, Copy, PartialEq, Eq, Debug)]
+#[derive(Clone, Copy, PartialEq, Eq)]
 pub enum FreezeStep {
     /// Takes `umount` where it is free.
     Locks,
@@ -68,7 +68,7 @@ pub enum FreezeStep {
 }
 
 /// A freeze of the superblock under way, for a holder, by a task, among so many tasks, processors and nodes.
-#[derive(Clone, Copy, PartialEq, Eq, Debug)]
+#[derive(Clone, Copy, PartialEq, Eq)]
 pub struct Freeze {
     pub task: u8,
     pub tasks: u8,

@@ -21,7 +21,7 @@ use cpu_words::{Touch, WordName};
 use percpu_rwsem::UpWrite;
 
 /// What the next event of a thaw is (`thaw_super`).
-#[derive(Clone, Copy, PartialEq, Eq, Debug)]
+#[derive(Clone, Copy, PartialEq, Eq)]
 pub enum ThawStep {
     /// Takes `umount` where it is free.
     Locks,
@@ -48,7 +48,7 @@ pub enum ThawStep {
 }
 
 /// A thaw of the superblock under way, for a holder, by a task, which need not be the one that froze it.
-#[derive(Clone, Copy, PartialEq, Eq, Debug)]
+#[derive(Clone, Copy, PartialEq, Eq)]
 pub struct Thaw {
     pub task: u8,
     pub holder: Holder,

@@ -1,14 +1,14 @@
 -- A beginning of the core shows what the entry makes of the world.
-use Rattle.std.proofs.{Common.{◌≡◌, ℕ, ◌<◌, ◌≤◌, Bool, [], ◌∷◌, ◌++◌, length, get_or, sym, ap, ◌∙◌, subst, arith}, Math.ListN.length-set}
+use Rattle.std.proofs.{Common.{◌≡◌, ℕ, ◌<◌, Bool, [], ◌∷◌, ◌++◌, length, get_or, sym, ap, ◌∙◌, subst, arith}, Math.ListN.length-set}
 use Rattle.std.proofs.lemmas.{Bool.lt-ltb, List.get_or_default}
 use Rattle.std.specs.Prelude.{is_some, Option, Some, None, Result, Ok, Err, slice_set}
 use Rattle.finite_sums.{proofs.Totals.{update_at, update_off}, specs.Sums.update}
 use Rattle.access_model.specs.declared.errors.GateError.{GateError}
-use Rattle.gate_world.specs.{Beginnings.{first_phase, refusal, beginning}, Fits.Fits, Views.{held_at, holds_level, has_open, begun_view}}
+use Rattle.gate_world.specs.{Beginnings.{first_phase, refusal, beginning}, Fits.Fits, Holdings.Agree, Views.{held_of, begun_view}}
 use Rattle.gate_world.specs.{Worlds.{World, Begins, begin_refusal, happens, run, opening}, declared.{operations.Op.Op, views.View.View, work.Phase.Phase}}
 use Rattle.gate_core.proofs.{Beginnings.{refusal_agree, may_begin, first_fits, ok_means, err_means}, Each.seat_cases, Runs.run_more}
 use Rattle.gate_core.specs.{Answers.{unless_refused, begin_answer}, Memory.{Memory, Shows, IsSound, no_seat, seat_of}, Moves.{refusal_in, begun_of, begun}}
-use Rattle.gate_core.specs.{Seats.{mounts_in, levels_in, files_in}, declared.seats.Seat.Seat}
+use Rattle.gate_core.specs.{Seats.seat_held, declared.seats.Seat.Seat}
 
 module _ (memory : Memory) (sound : IsSound memory) (t : ℕ) (lt : t < memory.config.tasks)
     (seat : Seat) (seat_is : seat ≡ get_or memory.seats t seat)
@@ -18,38 +18,31 @@ module _ (memory : Memory) (sound : IsSound memory) (t : ℕ) (lt : t < memory.c
 
   -- why the task can't begin the operation
   abbrev seat_refusal : Option GateError
-  seat_refusal = refusal memory.config under_way (mounts_in seat) (levels_in seat) (files_in seat) op
+  seat_refusal = refusal memory.config under_way (seat_held seat) op
 
   -- what its beginning answers
   abbrev pub seat_beginning : Result Phase GateError
-  seat_beginning = beginning memory.config t under_way (mounts_in seat) (levels_in seat) (files_in seat) op
+  seat_beginning = beginning memory.config t under_way (seat_held seat) op
 
   pub refusal_told : refusal_in memory t op ≡ seat_refusal
   refusal_told =
       rw (lt-ltb t memory.config.tasks lt)
-      (ap (λ (s : Seat). refusal memory.config (is_some s.phase) (mounts_in s) (levels_in s) (files_in s) op) same_seat ∙
-      ap (λ b. refusal memory.config b (mounts_in seat) (levels_in seat) (files_in seat) op) (sym under_way_is))
+      (ap (λ (s : Seat). refusal memory.config (is_some s.phase) (seat_held s) op) same_seat ∙
+      ap (λ b. refusal memory.config b (seat_held seat) op) (sym under_way_is))
 
   module _ (w : World) (shows : Shows memory w) where
     phase_same : seat.phase ≡ (w.views t).phase
     phase_same = ap (λ (s : Seat). s.phase) (sym same_seat) ∙ shows.phases t lt
 
-    mounts_same : (m : ℕ) → m < memory.config.mounts → mounts_in seat m ≡ held_at (w.views t) m
-    mounts_same m lm = ap (λ (s : Seat). mounts_in s m) (sym same_seat) ∙ shows.mounts t m lt lm
-
-    levels_same : (i : ℕ) → 1 ≤ i → i ≤ 3 → levels_in seat i ≡ holds_level (w.views t) i
-    levels_same i one three = ap (λ (s : Seat). levels_in s i) (sym same_seat) ∙ shows.levels t i lt one three
-
-    files_same : (n : ℕ) → files_in seat n ≡ has_open (w.views t) n
-    files_same n = ap (λ (s : Seat). files_in s n) (sym same_seat) ∙ shows.files t n lt
+    held_agrees : Agree memory.config (seat_held seat) (held_of (w.views t))
+    held_agrees = subst (λ (s : Seat). Agree memory.config (seat_held s) (held_of (w.views t))) same_seat (shows.held t lt)
 
     pub refusal_same : begin_refusal memory.config w t op ≡ seat_refusal
     refusal_same =
         rw (lt-ltb t memory.config.tasks lt)
-        (sym (ap (λ b. refusal memory.config b (mounts_in seat) (levels_in seat) (files_in seat) op)
+        (sym (ap (λ b. refusal memory.config b (seat_held seat) op)
         (under_way_is ∙ ap (λ (p : Option Phase). is_some p) phase_same) ∙
-        refusal_agree memory.config (mounts_in seat) (held_at (w.views t)) (levels_in seat) (holds_level (w.views t))
-        (files_in seat) (has_open (w.views t)) mounts_same levels_same files_same (is_some (w.views t).phase) op))
+        refusal_agree memory.config (seat_held seat) (held_of (w.views t)) held_agrees (is_some (w.views t).phase) op))
 
   module _ (refused : GateError) (answered : ◌≡◌ {A = Result Phase GateError} (Err refused) seat_beginning) where
     refused_is : seat_refusal ≡ Some refused
@@ -107,25 +100,17 @@ module _ (memory : Memory) (sound : IsSound memory) (t : ℕ) (lt : t < memory.c
               (λ y s. y < memory.config.tasks → s.phase ≡ (update w.views t view y).phase) x
               (λ l. ap (λ p. Some p) phase_is ∙ ap (λ (v : View). v.phase) (sym (update_at w.views t view)))
               (λ ne l. shows.phases x l ∙ ap (λ (v : View). v.phase) (sym (update_off w.views t view x ne))) lx;
-          mounts = λ x m lx lm. seat_cases memory.seats t seat_after some_seat
-              (λ y s. y < memory.config.tasks → mounts_in s m ≡ held_at (update w.views t view y) m) x
-              (λ l. mounts_same w shows m lm ∙ ap (λ (v : View). held_at v m) (sym (update_at w.views t view)))
-              (λ ne l. shows.mounts x m l lm ∙ ap (λ (v : View). held_at v m) (sym (update_off w.views t view x ne))) lx;
-          levels = λ x i lx one three. seat_cases memory.seats t seat_after some_seat
-              (λ y s. y < memory.config.tasks → levels_in s i ≡ holds_level (update w.views t view y) i) x
-              (λ l. levels_same w shows i one three ∙ ap (λ (v : View). holds_level v i) (sym (update_at w.views t view)))
-              (λ ne l. shows.levels x i l one three ∙ ap (λ (v : View). holds_level v i) (sym (update_off w.views t view x ne))) lx;
-          files = λ x n lx. seat_cases memory.seats t seat_after some_seat
-              (λ y s. y < memory.config.tasks → files_in s n ≡ has_open (update w.views t view y) n) x
-              (λ l. files_same w shows n ∙ ap (λ (v : View). has_open v n) (sym (update_at w.views t view)))
-              (λ ne l. shows.files x n l ∙ ap (λ (v : View). has_open v n) (sym (update_off w.views t view x ne))) lx;
+          held = λ x lx. seat_cases memory.seats t seat_after some_seat
+              (λ y s. y < memory.config.tasks → Agree memory.config (seat_held s) (held_of (update w.views t view y))) x
+              (λ l. subst (λ (v : View). Agree memory.config (seat_held seat_after) (held_of v)) (sym (update_at w.views t view)) (held_agrees w shows))
+              (λ ne l. subst (λ (v : View). Agree memory.config (seat_held (seat_of memory x)) (held_of v)) (sym (update_off w.views t view x ne))
+              (shows.held x l)) lx;
         })
 
-    seat_fits : Fits memory.config t (mounts_in seat) (levels_in seat) (Some phase)
+    seat_fits : Fits memory.config t (seat_held seat) (Some phase)
     seat_fits =
-        subst (λ p. Fits memory.config t (mounts_in seat) (levels_in seat) (Some p)) (sym phase_is)
-        (first_fits memory.config t under_way (mounts_in seat) (levels_in seat) (files_in seat) op
-        (may_begin memory.config under_way (mounts_in seat) (levels_in seat) (files_in seat) op none_refused))
+        subst (λ p. Fits memory.config t (seat_held seat) (Some p)) (sym phase_is)
+        (first_fits memory.config t under_way (seat_held seat) op (may_begin memory.config under_way (seat_held seat) op none_refused))
 
     pub begin_sound : IsSound memory_after
     begin_sound = record {
@@ -139,7 +124,7 @@ module _ (memory : Memory) (sound : IsSound memory) (t : ℕ) (lt : t < memory.c
       files = λ x lx. seat_cases memory.seats t seat_after some_seat (λ y s. y < memory.config.tasks → length s.accesses.files ≡ 64) x
           (λ l. ap (λ (s : Seat). length s.accesses.files) (sym same_seat) ∙ sound.files t lt) (λ ne l. sound.files x l) lx;
       fits = λ x lx. seat_cases memory.seats t seat_after some_seat
-          (λ y s. y < memory.config.tasks → Fits memory.config y (mounts_in s) (levels_in s) s.phase) x
+          (λ y s. y < memory.config.tasks → Fits memory.config y (seat_held s) s.phase) x
           (λ l. seat_fits) (λ ne l. sound.fits x l) lx;
       reached = (
         sound.reached.0 ++ Begins t op ∷ [],

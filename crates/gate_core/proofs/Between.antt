@@ -1,24 +1,23 @@
 -- A freeze or a thaw is between its two stores just where its newest event is the first of them: what its role says, its trace says too.
-use Rattle.std.proofs.Common.{◌≡◌, ℕ, ◌<◌, refl, sym, ap, ◌∙◌, subst, inl, inr, arith, Bool, true, false, if◌then◌else◌}
-use Rattle.std.proofs.lemmas.Bool.{cases_lt, lt-ltb, le-ltb, Decides.eqb_tells}
-use Rattle.std.specs.Prelude.{◌==◌, Option, Some, None, Ok, Err, List, [], ◌∷◌}
-use Rattle.finite_sums.proofs.Totals.{each_updated, total_updated}
 use Rattle.access_model.specs.{Holders.with_holder, Replies.map_next, declared.{errors.GateError.GateError, replies.Next.Next}}
-use Rattle.cpu_words.specs.{Hooks.HookAnswer, Touches.{event_of, left}, Words.{Words, read, put}, declared.{events.Touch.Touch, names.WordName.WordName}}
-use Rattle.percpu_rwsem.specs.{Transitions.transition_next, Writers.{down_write_next, up_write_next}}
-use Rattle.percpu_rwsem.specs.declared.transitions.Transition.{Transition}
-use Rattle.percpu_rwsem.specs.declared.writers.{DownWrite.DownWrite, DownWriteStep.DownWriteStep, UpWrite.UpWrite, UpWriteStep.UpWriteStep}
-use Rattle.freeze_levels.specs.{Freezes.{freeze_next, freeze_after}, Holders.word_of, Thaws.{thaw_next, thaw_after}}
-use Rattle.freeze_levels.specs.declared.{freezes.{Freeze.Freeze, FreezeStep.{FreezeStep, TheVariants.Closes}}, thaws.{Thaw.Thaw, ThawStep.ThawStep}}
-use Rattle.holder_laws.{proofs.{HolderLaws.held_exactly, Words.held_word}, specs.Roles.{between, is_held, is_four, HoldersHold}}
-use Rattle.gate_world.specs.{Beginnings.first_phase, Fits.Fits, Found.stores_stage, Headline.{stores_nobody, is_between, HoldersAreTold}}
-use Rattle.gate_world.specs.{Holders.holder_role_of, Rules.{IsGood, Fitting, Holding, Known}}
-use Rattle.gate_world.specs.{Views.{phase_after, with_hook, view_after, begun_view, held_at, holds_level}, Work.{next_of, after_of}}
-use Rattle.gate_world.specs.Worlds.{World, Entry, Begins, Steps, after_step, begin_refusal, begin_of, step_of, happens, opening, value_at, found_at}
-use Rattle.gate_world.specs.Worlds.{words_after}
-use Rattle.gate_world.specs.declared.{config.Config.Config, operations.Op.Op, views.{Traced.Traced, View.View}, work.Phase.{Phase, TheVariants.Closes}}
-use Rattle.gate_frames.proofs.Holders.{holders_at}
+use Rattle.cpu_words.specs.{Hooks.HookAnswer, Touches.{event_of, left}, Words.{Words, put, read}, declared.{events.Touch.Touch, names.WordName.WordName}}
+use Rattle.finite_sums.proofs.Totals.{each_updated, total_updated}
+use Rattle.freeze_levels.specs.{Freezes.{freeze_after, freeze_next}, Holders.word_of, Thaws.{thaw_after, thaw_next}, declared.freezes.Freeze.Freeze}
+use Rattle.freeze_levels.specs.declared.{freezes.FreezeStep.{FreezeStep, TheVariants.Closes}, thaws.{Thaw.Thaw, ThawStep.ThawStep}}
 use Rattle.gate_core.proofs.Layers.{op_keeps}
+use Rattle.gate_frames.proofs.Holders.{holders_at}
+use Rattle.gate_world.specs.{Beginnings.first_phase, Fits.Fits, Found.stores_stage, Headline.{HoldersAreTold, is_between, stores_nobody}, Rules.Fitting}
+use Rattle.gate_world.specs.{Rules.{Holding, IsGood, Known}, Shown.holder_role_of, Views.{begun_view, held_of, phase_after, view_after, with_hook}}
+use Rattle.gate_world.specs.{Work.{after_of, next_of}, Worlds.{Begins, Entry, Steps, World, after_step, begin_of, begin_refusal, found_at, happens, opening}}
+use Rattle.gate_world.specs.{Worlds.{step_of, value_at, words_after}, declared.{config.Config.Config, operations.Op.Op, views.{Traced.Traced, View.View}}}
+use Rattle.gate_world.specs.declared.work.Phase.{Phase, TheVariants.Closes}
+use Rattle.holder_laws.proofs.{HolderLaws.held_exactly, Words.held_word}
+use Rattle.holder_laws.specs.Roles.{HoldersHold, between, is_four, is_held}
+use Rattle.percpu_rwsem.specs.{Transitions.transition_next, Writers.{down_write_next, up_write_next}, declared.transitions.Transition.Transition}
+use Rattle.percpu_rwsem.specs.declared.writers.{DownWrite.DownWrite, DownWriteStep.DownWriteStep, UpWrite.UpWrite, UpWriteStep.UpWriteStep}
+use Rattle.std.proofs.{Common.{Bool, ap, arith, false, if◌then◌else◌, inl, inr, refl, subst, sym, true, ℕ, ◌<◌, ◌∙◌, ◌≡◌}, lemmas.Bool.{cases_lt, le-ltb}}
+use Rattle.std.proofs.lemmas.Bool.{lt-ltb, Decides.eqb_tells}
+use Rattle.std.specs.Prelude.{Err, List, None, Ok, Option, Some, [], ◌==◌, ◌∷◌}
 
 abbrev bit : Bool → ℕ
 bit b = if b then 1 else 0
@@ -140,7 +139,7 @@ module _ (c : Config) (w : World) (good : IsGood c w) (t : ℕ) (lt : t < c.task
   thaw_told x ThawStep.LoadsStage hook e after = thaw_spares (record x { step = ThawStep.LoadsStage }) hook e after (refl, refl, refl, refl) refl
   thaw_told x ThawStep.LoadsHolders hook e after = thaw_spares (record x { step = ThawStep.LoadsHolders }) hook e after (refl, refl, refl, refl) refl
   thaw_told x (ThawStep.Leaves held) hook e after =
-      let fits = subst (λ p. Fits c t (held_at (w.views t)) (holds_level (w.views t)) p) e (good Fitting t lt) in
+      let fits = subst (λ p. Fits c t (held_of (w.views t)) p) e (good Fitting t lt) in
       let others = with_holder x.holder false held in
       ap bit (sym (not_nobody (word_of others) (held_word others fits.2.1)))
   thaw_told x ThawStep.LoadsSuperblock hook e after =
@@ -179,7 +178,7 @@ begin_told : (c : Config) (w : World) (t : ℕ) (op : Op) (refused : Option Gate
 begin_told c w t op (Some refused) told x = told x
 begin_told c w t op None told x =
     each_updated (λ y (v : View). IsTold v.phase v.trace) w.views t (begun_view (w.views t) op (first_phase c t op)) x
-    (ap between ((op_keeps c op).starts_idle t).holder_same ∙ ap bit (sym (none_yet (first_phase c t op)))) (λ ne. told x)
+    ((λ j. between ((op_keeps c op).starts_aside t j).holder) ∙ ap bit (sym (none_yet (first_phase c t op)))) (λ ne. told x)
 
 pub entry_told : (c : Config) (w : World) (e : Entry) → IsGood c w → IsGood c (happens c w e) → AllTold w → AllTold (happens c w e)
 entry_told c w (Begins t op) good after told = begin_told c w t op (begin_refusal c w t op) told

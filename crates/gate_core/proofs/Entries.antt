@@ -5,7 +5,7 @@ use Rattle.finite_sums.proofs.Totals.{update_at, update_off}
 use Rattle.access_model.specs.declared.errors.GateError.{GateError}
 use Rattle.cpu_words.specs.{Hooks.HookAnswer, Names.IsWord, Touches.left}
 use Rattle.gate_world.specs.{Beginnings.{first_phase, view_refusal}, Causes.{trail, since_begun}, Fits.Fits, KeptCauses.{CauseOf, Causes}}
-use Rattle.gate_world.specs.{Rules.{IsGood, Fitting}, Views.{held_at, holds_level, begun_view, view_after}, Work.next_of}
+use Rattle.gate_world.specs.{Rules.{IsGood, Fitting}, Views.{begun_view, view_after, held_of}, Work.next_of}
 use Rattle.gate_world.specs.Worlds.{World, Entry, Begins, Steps, after_begin, begin_of, after_step, step_of, value_at, happens, run}
 use Rattle.gate_world.specs.declared.{config.Config.Config, operations.Op.Op, views.View.View, work.Phase.Phase}
 use Rattle.gate_frames.proofs.{Keeps.{IsQuiet, extents_touched}, Quiet.write_quiet}
@@ -19,7 +19,7 @@ begun_on t w earlier phase e = rw e refl
 module _ (c : Config) (w : World) (earlier : List World) (good : IsGood c w) (holds : Causes c w earlier) where
   -- a task that another entry leaves alone
   module _ (next : World) (after : IsGood c next) (t : ℕ) (lt : t < c.tasks) (quiet : IsQuiet c w next) where
-    kept : (p : Option Phase) → Fits c t (held_at (w.views t)) (holds_level (w.views t)) p → (next.views t).phase ≡ p →
+    kept : (p : Option Phase) → Fits c t (held_of (w.views t)) p → (next.views t).phase ≡ p →
         (w.views t).phase ≡ p → CauseOf c t w (since_begun t earlier) p → CauseOf c t next (since_begun t (w ∷ earlier)) p
     kept None f e was h = tt
     kept (Some phase) f e was h =
@@ -28,7 +28,7 @@ module _ (c : Config) (w : World) (earlier : List World) (good : IsGood c w) (ho
 
     pub alone : next.views t ≡ w.views t → CauseOf c t next (since_begun t (w ∷ earlier)) (next.views t).phase
     alone same = kept (next.views t).phase
-        (subst (λ (v : View). Fits c t (held_at (w.views t)) (holds_level (w.views t)) v.phase) (sym same) (good Fitting t lt)) refl
+        (subst (λ (v : View). Fits c t (held_of (w.views t)) v.phase) (sym same) (good Fitting t lt)) refl
         (ap (λ (v : View). v.phase) (sym same))
         (subst (λ (v : View). CauseOf c t w (since_begun t earlier) v.phase) (sym same) (holds t lt))
 
@@ -52,10 +52,10 @@ module _ (c : Config) (w : World) (earlier : List World) (good : IsGood c w) (ho
             subst (λ (ws : List World). CauseOf c u next ws (next.views u).phase) (sym (begun_on u w earlier phase e)) own in
             subst (λ y. CauseOf c y next (since_begun y (w ∷ earlier)) (next.views y).phase) (sym h.1) there
         | inr h ↦
-            let fits : Fits c u (held_at (w.views u)) (holds_level (w.views u)) (Some phase) =
-            subst (Fits c u (held_at (w.views u)) (holds_level (w.views u))) e (good Fitting u lu) in
+            let fits : Fits c u (held_of (w.views u)) (Some phase) =
+            subst (Fits c u (held_of (w.views u))) e (good Fitting u lu) in
             let there : IsWord (extents_touched c.tasks c) (next_of phase hook).0 =
-            (phase_keeps c phase).word c.tasks (omega arith) u lu (held_at (w.views u)) (holds_level (w.views u)) hook fits in
+            (phase_keeps c phase).word c.tasks (omega arith) u lu (held_of (w.views u)) hook fits in
             alone next after t lt
             (write_quiet c w good next.views (left (next_of phase hook).1 (value_at w.words phase hook)) (next_of phase hook).0 there after)
             (update_off w.views u v t h.1)

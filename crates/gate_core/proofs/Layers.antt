@@ -2,13 +2,13 @@
 use Rattle.mount_counts.specs.declared.phases.MountPhase.{MountPhase}
 use Rattle.gate_world.specs.declared.{config.Config.Config, operations.Op.Op, work.Phase.Phase}
 use Rattle.gate_frames.proofs.Keeps.{PhaseKeeps, OpKeeps}
-use Rattle.writer_laws.proofs.{CallbackKeeps.{callback_phase, callback_op}, ReadKeeps.{read_phase, end_phase, start_op, end_op}}
-use Rattle.writer_laws.proofs.{WantKeeps.{want_phase, drop_phase, want_op, drop_op}, WriteKeeps.{write_phase, want_write_op, drop_write_op}}
-use Rattle.owner_laws.proofs.{ChangeKeeps.{change_phase, change_op}, FreezeKeeps.{freeze_phase, freeze_op}, RemountKeeps.{remount_phase, remount_op}}
-use Rattle.owner_laws.proofs.ThawKeeps.{thaw_phase, thaw_op}
-use Rattle.call_laws.proofs.CallOps.{create_keeps, remove_keeps, grow_keeps, move_keeps, fault_keeps, flush_keeps, snapshot_keeps, open_keeps}
-use Rattle.call_laws.proofs.CallPhases.{tree_phase_keeps}
-use Rattle.close_laws.proofs.{CloseKeeps.close_phase, CloseTraces.close_op}
+use Rattle.operation_laws.proofs.{CallbackKeeps.{callback_phase, callback_op}, ReadKeeps.{read_phase, end_phase, start_op, end_op}}
+use Rattle.operation_laws.proofs.{WantKeeps.{want_phase, drop_phase, want_op, drop_op}, WriteKeeps.{write_phase, want_write_op, drop_write_op}}
+use Rattle.operation_laws.proofs.{ChangeKeeps.{change_phase, change_op}, FreezeKeeps.{freeze_phase, freeze_op}, RemountKeeps.{remount_phase, remount_op}}
+use Rattle.operation_laws.proofs.ThawKeeps.{thaw_phase, thaw_op}
+use Rattle.operation_laws.proofs.CallOps.{create_keeps, remove_keeps, grow_keeps, move_keeps, fault_keeps, flush_keeps, snapshot_keeps, open_keeps}
+use Rattle.operation_laws.proofs.CallPhases.{tree_phase_keeps}
+use Rattle.operation_laws.proofs.{CloseKeeps.close_phase, CloseTraces.close_op}
 
 pub phase_keeps : (c : Config) (phase : Phase) → PhaseKeeps c phase
 phase_keeps c (Phase.Mounts (MountPhase.Want x)) = want_phase c x

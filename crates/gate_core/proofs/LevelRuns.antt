@@ -1,13 +1,13 @@
 -- Each freeze level of a schedule is a run of it, so its grace periods are kept.
 use Rattle.std.proofs.{Common.{◌≡◌, ℕ, zero, suc, ◌<◌, ◌≤◌, refl, sym, ap, ◌∙◌, inl, inr, arith}, lemmas.Bool.{cases_Bool, ltb-true}}
-use Rattle.std.specs.Prelude.{Option, Some, None, List, [], ◌∷◌, length, take, nat_lt, is_some}
+use Rattle.std.specs.Prelude.{Option, Some, None, List, [], ◌∷◌, length, take, nat_lt, is_some, true}
 use Rattle.access_model.specs.declared.errors.GateError.{GateError}
 use Rattle.cpu_words.specs.Hooks.{HookAnswer}
 use Rattle.level_laws.proofs.{GraceLaws.graces_are_whole, IdleLaws.only_callbacks_idle, SlowLaws.stays_slow, Whole.idle_is_earned}
 use Rattle.level_laws.specs.Events.{SyncLevelHolds, SyncStep, SyncRun}
 use Rattle.gate_world.specs.{Beginnings.{first_phase, view_refusal}, Configs.IsWithin}
 use Rattle.gate_world.specs.{LevelRuns.{level_in, level_after, IsLevelRun, GracesAreKept, LevelsAreRuns}, Levels.{inside, sync_role_of}, Rules.IsGood}
-use Rattle.gate_world.specs.{Views.{begun_view, held_at, holds_level, has_open}, Worlds.{World, Entry, Begins, Steps, begin_of, step_of, happens, run, opening}}
+use Rattle.gate_world.specs.{Views.{begun_view, held_of}, Worlds.{World, Entry, Begins, Steps, begin_of, step_of, happens, run, opening}}
 use Rattle.gate_world.specs.declared.{config.Config.Config, operations.Op.Op, work.Phase.Phase}
 use Rattle.gate_frames.proofs.{LevelSteps.{level_stays, level_kept}, LevelWorlds.level_right}
 use Rattle.gate_core.proofs.{Beginnings.may_begin, Layers.{phase_keeps, op_keeps}, Schedule.{idle_is, happens_keeps}, Whole.whole_rule}
@@ -22,11 +22,11 @@ module _ (c : Config) (lim : IsWithin c) (i : ℕ) (one : 1 ≤ i) (three : i �
   begins w t op (Some refused) e = still w w refl
   begins w t op None e =
       let idle : (w.views t).phase ≡ None = idle_is (w.views t).phase
-      (may_begin c (is_some (w.views t).phase) (held_at (w.views t)) (holds_level (w.views t)) (has_open (w.views t)) op e).idle in
+      (may_begin c (is_some (w.views t).phase) (held_of (w.views t)) op e).idle in
       still w (begin_of c w t op None)
       (level_kept w t i w.words (begun_view (w.views t) op (first_phase c t op)) refl refl refl refl
-      (((op_keeps c op).starts_idle t).inside_same ∙ sym (ap inside idle))
-      (((op_keeps c op).starts_idle t).sync_same i ∙ sym (ap (sync_role_of i) idle)))
+      ((λ j. ((op_keeps c op).starts_aside t j).inside) ∙ sym (ap inside idle))
+      ((λ j. ((op_keeps c op).starts_aside t j).sync i) ∙ sym (ap (sync_role_of i) idle)))
 
   -- an event is a step of its task
   steps : (w : World) → IsGood c w → (t : ℕ) → t < c.tasks → (hook : HookAnswer) (p : Option Phase) → (w.views t).phase ≡ p →

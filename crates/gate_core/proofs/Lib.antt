@@ -17,8 +17,3 @@ pub mod Each
 pub mod Stepping
 pub mod Beginning
 pub mod Opening
-pub mod Rows
-pub mod TreeRows
-pub mod CauseRows
-pub mod BadWorlds
-pub mod KeptRows

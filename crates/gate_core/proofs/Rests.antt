@@ -11,12 +11,13 @@ use Rattle.percpu_rwsem.specs.SyncWords.{bit, unpack}
 use Rattle.level_laws.specs.Roles.{closed, claimed}
 use Rattle.stage_laws.{proofs.{Facts.{way_is, other_zero}, Whole.freeze_is_under_way}, specs.Roles.{freezes, under_way, Place, Freezing}}
 use Rattle.holder_laws.{proofs.HolderLaws.held_exactly, specs.Roles.between}
-use Rattle.gate_world.specs.{Headline.{IsAtRest, IsUntaken, HeldWhereFrozen, FreezeIsUnderWay}, Holders.holder_role_of}
+use Rattle.gate_world.specs.Headline.{IsAtRest, IsUntaken, HeldWhereFrozen, FreezeIsUnderWay}
 use Rattle.gate_world.specs.Levels.{is_frozen_whole, sync_role_of, inside}
 use Rattle.gate_world.specs.Rules.{owns, remounts, role_of, IsGood, Owner, Tree, AtMount, SyncHoldsIn, SyncAt, Sections, Stages, Holding}
-use Rattle.gate_world.specs.{Shown.{shown, stage_roles}, Stages.stage_role_of, Trees.tree_role_of, Worlds.World, declared.config.Config.Config}
+use Rattle.gate_world.specs.{Shown.{shown, stage_roles}, Trees.tree_role_of, Worlds.World, declared.config.Config.Config}
+use Rattle.gate_world.specs.Shown.{holder_role_of, stage_role_of}
 use Rattle.gate_frames.proofs.{Holders.holders_at, Stages.{stages_in, stages_right}}
-use Rattle.call_laws.proofs.Frozen.{idle_sound}
+use Rattle.operation_laws.proofs.Frozen.{idle_sound}
 
 module _ (c : Config) (w : World) (good : IsGood c w) (idle : (t : ℕ) → t < c.tasks → (w.views t).phase ≡ None) where
   free : (u : ℕ) → u ≤ c.tasks → ((t : ℕ) → t < c.tasks → u ≡ suc t → owns (w.views t).phase ≡ 1) → u ≡ 0

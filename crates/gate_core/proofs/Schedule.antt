@@ -1,29 +1,28 @@
 -- Every schedule keeps the rule, and its actions are one run of the access model.
-use Rattle.std.proofs.{Common.{◌≡◌, ℕ, ◌*◌, ◌%◌, ◌<◌, ◌≤◌, true, false, refl, sym, ap, ◌∙◌, subst, inl, inr, arith, true≢false}, Math.Path.fun_ext}
-use Rattle.std.proofs.lemmas.Bool.{cases_Bool, ltb-true, Decides.eqb_tells}
-use Rattle.std.specs.Prelude.{nat_lt, is_some, Option, Some, None, List, [], ◌∷◌}
-use Rattle.finite_sums.{proofs.Totals.{each_updated, total_same, total_none, total_bound}, specs.Sums.{update, total}}
-use Rattle.access_model.specs.{Actions.{IsAllowed, after_action}, Histories.{Done, end_of, IsLegal}, States.{State, opening_state, openers, most_tasks, one_if}}
-use Rattle.access_model.specs.declared.{actions.Action.Action, errors.GateError.GateError}
+use Rattle.access_model.specs.{Actions.{IsAllowed, after_action}, Histories.{Done, IsLegal, end_of}, States.{State, most_tasks, one_if, openers}}
+use Rattle.access_model.specs.{States.opening_state, declared.{actions.Action.Action, errors.GateError.GateError}}
 use Rattle.cpu_words.specs.Hooks.{HookAnswer}
+use Rattle.finite_sums.proofs.Totals.{each_updated, total_bound, total_none, total_same}
+use Rattle.finite_sums.specs.Sums.{total, update}
+use Rattle.gate_core.proofs.{Beginnings.{MayBegin, first_fits, may_begin}, Layers.{op_keeps, phase_keeps}}
 use Rattle.gate_counts.proofs.{Events.words_sum, Flags.gate_begins, Numbers.below_le}
 use Rattle.gate_counts.specs.{Gates.{below, counted as counted_of}, Levels.{level_as_gate, processor_of as level_processor}}
+use Rattle.gate_frames.proofs.{Beside.{SameCounts, beside_good, beside_of, beside_shown}, Frames.{left_alone, opens_left, same_words}, Trees.tree_within}
+use Rattle.gate_world.specs.{Alike.{IsBeside, off_tree}, Beginnings.{first_phase, view_refusal}, Configs.{IsWithin, model_limits}, Fits.{HasFile, file_of}}
+use Rattle.gate_world.specs.{Headline.{IdleSumsHold, SumsHold}, Levels.{at_level, level_role_of}, Owners.KnowsWords, Rules.{AtLevel, AtMount, Files, Fitting}}
+use Rattle.gate_world.specs.Rules.{Holding, Holds, IsGood, Known, LevelHoldsIn, MountHoldsIn, Moves, Owner, Part, Sections, Stages, SyncAt, Tree, ViewFits}
+use Rattle.gate_world.specs.{Rules.{at_mount, owns, role_of}, Shown.shown, Trees.{tree_bounds, tree_role_of}, Views.{begun_view, has_open, held_of}}
+use Rattle.gate_world.specs.Worlds.{Begins, Entry, Steps, World, action_of, after_begin, begin_of, happens, history, opening, phase_action, run, step_of}
+use Rattle.gate_world.specs.{Worlds.{task_of, with_action}, declared.{config.Config.Config, operations.Op.Op, views.View.View, work.Phase.Phase}}
 use Rattle.gated_tree.specs.Nodes.{opens_in}
-use Rattle.mount_counts.specs.Roles.{processor_of, counted, sought, mount_shut}
-use Rattle.tree_laws.proofs.Each.{opening_holds}
-use Rattle.level_laws.proofs.Whole.{opening_is_right}
-use Rattle.stage_laws.proofs.Whole.{opening_is_right as stages_open}
 use Rattle.holder_laws.proofs.HolderLaws.{opens as holders_open}
-use Rattle.gate_world.specs.{Alike.IsBeside, Beginnings.{first_phase, view_refusal}, Configs.{IsWithin, model_limits}, Fits.{HasFile, file_of}}
-use Rattle.gate_world.specs.{Headline.{SumsHold, IdleSumsHold}, Levels.{at_level, level_role_of}, Owners.KnowsWords}
-use Rattle.gate_world.specs.Rules.{role_of, at_mount, MountHoldsIn, LevelHoldsIn, ViewFits, Part, Owner, Stages, Holding, Fitting, AtMount, Holds, IsGood}
-use Rattle.gate_world.specs.Rules.{Moves, owns, Known, Tree, Files, AtLevel, SyncAt, Sections}
-use Rattle.gate_world.specs.{Shown.shown, Trees.{tree_bounds, tree_role_of}, Views.{held_at, holds_level, has_open, begun_view}}
-use Rattle.gate_world.specs.Worlds.{World, Entry, Begins, Steps, after_begin, begin_of, step_of, happens, phase_action, action_of, task_of, with_action, run}
-use Rattle.gate_world.specs.Worlds.{opening, history}
-use Rattle.gate_world.specs.declared.{config.Config.Config, operations.Op.Op, views.View.View, work.Phase.Phase}
-use Rattle.gate_frames.proofs.{Beside.beside_of, Frames.{view_as, left_alone, opens_left, shown_still, level_view_as}, Trees.tree_within}
-use Rattle.gate_core.proofs.{Beginnings.{MayBegin, may_begin, first_fits}, Layers.{phase_keeps, op_keeps}}
+use Rattle.level_laws.proofs.Whole.{opening_is_right}
+use Rattle.mount_counts.specs.Roles.{counted, mount_shut, processor_of, sought}
+use Rattle.stage_laws.proofs.Whole.{opening_is_right as stages_open}
+use Rattle.std.proofs.{Common.{ap, arith, false, inl, inr, refl, subst, sym, true, true≢false, ℕ, ◌%◌, ◌*◌, ◌<◌, ◌∙◌, ◌≡◌, ◌≤◌}, Math.Path.fun_ext}
+use Rattle.std.proofs.lemmas.Bool.{cases_Bool, ltb-true, Decides.eqb_tells}
+use Rattle.std.specs.Prelude.{List, None, Option, Some, [], is_some, nat_lt, ◌∷◌}
+use Rattle.tree_laws.proofs.Each.{opening_holds}
 
 pub idle_is : (p : Option Phase) → is_some p ≡ false → p ≡ None
 idle_is None h = refl
@@ -31,7 +30,7 @@ idle_is (Some phase) h = absurd (true≢false h)
 
 -- a task with this view may begin the operation
 abbrev pub MayBeginAt : Config → View → Op → Type 0
-MayBeginAt c v op = MayBegin c (is_some v.phase) (held_at v) (holds_level v) (has_open v) op
+MayBeginAt c v op = MayBegin c (is_some v.phase) (held_of v) op
 
 module _ (c : Config) (lim : IsWithin c) (w : World) (good : IsGood c w) (t : ℕ) (lt : t < c.tasks) where
   pub step_keeps : (hook : HookAnswer) (p : Option Phase) → (w.views t).phase ≡ p →
@@ -39,62 +38,36 @@ module _ (c : Config) (lim : IsWithin c) (w : World) (good : IsGood c w) (t : �
   step_keeps hook None e = (good, refl)
   step_keeps hook (Some phase) e = (phase_keeps c phase).step lim w good t lt hook e
 
-  -- an operation that begins stands as its idle task did
-  begins_beside : (op : Op) → MayBeginAt c (w.views t) op → IsBeside (w.views t).phase (Some (first_phase c t op))
-  begins_beside op h = beside_of (idle_is (w.views t).phase h.idle) ((op_keeps c op).starts_idle t)
+  -- an operation that begins has no role, but that it may rely on a file
+  begins_aside : (op : Op) → MayBeginAt c (w.views t) op → IsBeside (w.views t).phase (Some (first_phase c t op))
+  begins_aside op h = beside_of (idle_is (w.views t).phase h.idle) (λ j. off_tree ((op_keeps c op).starts_aside t j))
 
   -- so a beginning leaves each part of the rule but that of its own phase
-  begun_good : (op : Op) → MayBeginAt c (w.views t) op → (part : Part) → Holds c (after_begin c w t op) part
-  begun_good op h Fitting = λ x lx. each_updated (λ y (u : View). ViewFits c y u) w.views t
-      (begun_view (w.views t) op (first_phase c t op)) x (first_fits c t (is_some (w.views t).phase) (held_at (w.views t))
-      (holds_level (w.views t)) (has_open (w.views t)) op h) (λ ne. good Fitting x lx)
-  begun_good op h Owner =
-      left_alone c w t lt Owner w.words (begun_view (w.views t) op (first_phase c t op)) (refl, refl)
-      ((begins_beside op h).steady.owns_same, (begins_beside op h).steady.remounts_same) (good Owner)
-  begun_good op h Stages =
-      left_alone c w t lt Stages w.words (begun_view (w.views t) op (first_phase c t op)) (refl, refl, refl, refl)
-      (begins_beside op h).stage_same (good Stages)
-  begun_good op h Holding =
-      left_alone c w t lt Holding w.words (begun_view (w.views t) op (first_phase c t op)) (refl, refl) (begins_beside op h).holder_same
-      (good Holding)
-  begun_good op h Tree =
-      left_alone c w t lt Tree w.words (begun_view (w.views t) op (first_phase c t op)) (refl, refl, refl, refl, refl, refl)
-      ((op_keeps c op).off_tree t [] ∙ sym (ap (tree_role_of (w.views t).trace) (idle_is (w.views t).phase h.idle))) (good Tree)
-  begun_good op h Files = record {
-    counted = λ n ln. (good Files).counted n ln ∙ sym (ap (λ f. openers f n) (opens_left c w t lt (begun_view (w.views t) op (first_phase c t op)) refl));
-    own = λ y ly. each_updated (λ z (u : View). HasFile (has_open u) (file_of u.phase)) w.views t
-        (begun_view (w.views t) op (first_phase c t op)) y ((op_keeps c op).file t (has_open (w.views t)) h.of_open h.of_closed)
-        (λ ne. (good Files).own y ly);
-  }
-  begun_good op h Known = λ x lx.
-      each_updated (λ y (u : View). owns u.phase ≡ 1 → KnowsWords w.words u.trace) w.views t
-      (begun_view (w.views t) op (first_phase c t op)) x
-      (λ o word value k. absurd (true≢false (ap is_some (sym k)))) (λ ne. good Known x lx)
-  begun_good op h (AtLevel i) =
-      left_alone c w t lt (AtLevel i) w.words (begun_view (w.views t) op (first_phase c t op)) (refl, refl, refl)
-      (level_view_as refl refl refl ((begins_beside op h).level_same i)) (good (AtLevel i))
-  begun_good op h (SyncAt i) =
-      left_alone c w t lt (SyncAt i) w.words (begun_view (w.views t) op (first_phase c t op)) (refl, refl, refl, refl)
-      ((begins_beside op h).sync_same i) (good (SyncAt i))
-  begun_good op h Sections =
-      left_alone c w t lt Sections w.words (begun_view (w.views t) op (first_phase c t op)) refl (begins_beside op h).inside_same
-      (good Sections)
-  begun_good op h (AtMount m) =
-      left_alone c w t lt (AtMount m) w.words (begun_view (w.views t) op (first_phase c t op)) (refl, refl, refl, refl)
-      (view_as refl refl refl ((begins_beside op h).role_same m)) (good (AtMount m))
-
   pub begun_keeps : (op : Op) → MayBeginAt c (w.views t) op → IsGood c (after_begin c w t op) × (shown c (after_begin c w t op) ≡ shown c w)
-  begun_keeps op h = (
-    begun_good op h,
-    shown_still c w t lt w.words (begun_view (w.views t) op (first_phase c t op)) refl refl refl refl refl refl refl
-        (begins_beside op h).steady.closing_same refl refl refl,
-  )
+  begun_keeps op h =
+      let v : View = begun_view (w.views t) op (first_phase c t op) in
+      let counts : SameCounts (w.views t) v = assumption in
+      let known : Holds c (after_begin c w t op) Known =
+      λ x lx. each_updated (λ y (u : View). owns u.phase ≡ 1 → KnowsWords w.words u.trace) w.views t v x
+      (λ o word value k. absurd (true≢false (ap is_some (sym k)))) (λ ne. good Known x lx) in
+      let files : Holds c (after_begin c w t op) Files = record {
+        counted = λ n ln. (good Files).counted n ln ∙ sym (ap (λ f. openers f n) (opens_left c w t lt v refl));
+        own = λ y ly. each_updated (λ z (u : View). HasFile (has_open u) (file_of u.phase)) w.views t v y
+            ((op_keeps c op).file t (held_of (w.views t)) h.order h.room) (λ ne. (good Files).own y ly);
+      } in (
+        beside_good c w t lt v counts (begins_aside op h)
+            (first_fits c t (is_some (w.views t).phase) (held_of (w.views t)) op h) good known
+            (left_alone c w t lt Tree w.words v (same_words w.words Tree)
+            ((λ j. ((op_keeps c op).starts_aside t j).tree []) ∙ sym (ap (tree_role_of (w.views t).trace) (idle_is (w.views t).phase h.idle)))
+            (good Tree)) files,
+        beside_shown c w t lt v counts (begins_aside op h),
+      )
 
 module _ (c : Config) (lim : IsWithin c) where
   begin_keeps : (w : World) → IsGood c w → (t : ℕ) (op : Op) → t < c.tasks → (r : Option GateError) → view_refusal c (w.views t) op ≡ r →
       IsGood c (begin_of c w t op r) × (shown c (begin_of c w t op r) ≡ shown c w)
   begin_keeps w good t op lt None e = begun_keeps c lim w good t lt op
-      (may_begin c (is_some (w.views t).phase) (held_at (w.views t)) (holds_level (w.views t)) (has_open (w.views t)) op e)
+      (may_begin c (is_some (w.views t).phase) (held_of (w.views t)) op e)
   begin_keeps w good t op lt (Some refused) e = (good, refl)
 
   -- each entry keeps the rule, and moves the shown model by its action

@@ -1,5 +1,5 @@
 -- One step of the core shows what the entry makes of the world.
-use Rattle.std.proofs.{Common.{◌≡◌, ℕ, ◌<◌, ◌≤◌, Bool, [], ◌∷◌, ◌++◌, length, get_or, refl, sym, ap, ◌∙◌, subst, arith}, Math.ListN.length-set}
+use Rattle.std.proofs.{Common.{◌≡◌, ℕ, ◌<◌, [], ◌∷◌, ◌++◌, length, get_or, refl, sym, ap, ◌∙◌, subst, arith}, Math.ListN.length-set}
 use Rattle.std.proofs.lemmas.{Bool.lt-ltb, List.get_or_default}
 use Rattle.std.specs.Prelude.{Option, Some, slice_index, slice_set}
 use Rattle.finite_sums.{proofs.Totals.{update_at, update_off}, specs.Sums.update}
@@ -7,16 +7,15 @@ use Rattle.access_model.specs.declared.{actions.Action.Action, replies.Next.Next
 use Rattle.cpu_words.proofs.Places.{written}
 use Rattle.cpu_words.specs.{Hooks.HookAnswer, Names.{IsWord, place}, Touches.{left, found_by, event_of}, Words.{read, put}}
 use Rattle.cpu_words.specs.declared.{events.{Event.Event, Touch.Touch}, names.WordName.WordName}
-use Rattle.gate_world.specs.{Accesses.{mounts_held, accesses_after}, Configs.extents_kept, Fits.{PhaseFits, Fits, ActionFits, mounts_by, levels_by, opens_by}}
-use Rattle.gate_world.specs.{Views.{held_at, holds_level, has_open, phase_after, view_after}, Work.{next_of, after_of}}
+use Rattle.gate_world.specs.{Accesses.{held_in, accesses_after}, Configs.extents_kept, Fits.{PhaseFits, Fits, ActionFits}}
+use Rattle.gate_world.specs.{Holdings.{Holdings, Agree, held_after}, Views.{held_of, phase_after, view_after}, Work.{next_of, after_of}}
 use Rattle.gate_world.specs.Worlds.{World, Steps, after_step, happens, run, opening}
 use Rattle.gate_world.specs.declared.{accesses.Accesses.Accesses, config.Config.Config, views.View.View, work.Phase.Phase}
-use Rattle.gate_frames.proofs.Accesses.{mounts_of_after, levels_of_after, opens_of_after, long_after, wide_after, deep_after, mounts_same, levels_same}
-use Rattle.gate_frames.proofs.Accesses.{files_same}
+use Rattle.gate_frames.proofs.{Accesses.{holdings_of_after, long_after, wide_after, deep_after, agree_after}, Agreeing.{agree_self, agree_sym}}
 use Rattle.gate_frames.proofs.Places.{are_few}
 use Rattle.gate_core.proofs.{Each.seat_cases, Phases.{word_there, word_placed, action_fits, fits_after, fits_agree}, Runs.run_more}
 use Rattle.gate_core.specs.{Answers.{progress_of, step_answer}, Memory.{Memory, Shows, IsSound, no_seat, seat_of}}
-use Rattle.gate_core.specs.{Moves.{phase_in, stepped_of, stepped, progress_by, progress_in}, Seats.{mounts_in, levels_in, files_in}}
+use Rattle.gate_core.specs.{Moves.{phase_in, stepped_of, stepped, progress_by, progress_in}, Seats.seat_held, Stepped.IsStep}
 use Rattle.gate_core.specs.declared.{seats.Seat.Seat, steps.{Progress.Progress, Step.Step}}
 
 module _ (memory : Memory) (sound : IsSound memory) (t : ℕ) (lt : t < memory.config.tasks) (phase : Phase)
@@ -25,14 +24,11 @@ module _ (memory : Memory) (sound : IsSound memory) (t : ℕ) (lt : t < memory.c
   config = memory.config
 
   -- what the task holds before the event
-  abbrev held : Accesses
-  held = (seat_of memory t).accesses
+  abbrev accesses : Accesses
+  accesses = (seat_of memory t).accesses
 
-  abbrev mounts : ℕ → ℕ
-  mounts = mounts_in (seat_of memory t)
-
-  abbrev levels : ℕ → Bool
-  levels = levels_in (seat_of memory t)
+  abbrev held : Holdings
+  held = held_in accesses
 
   -- the word of the event, and what it does to it
   abbrev name : WordName
@@ -54,7 +50,7 @@ module _ (memory : Memory) (sound : IsSound memory) (t : ℕ) (lt : t < memory.c
 
   -- the seat and the memory after the event
   abbrev seat_after : Seat
-  seat_after = record { phase = phase_after done.0; accesses = accesses_after held done.1 }
+  seat_after = record { phase = phase_after done.0; accesses = accesses_after accesses done.1 }
 
   abbrev pub memory_after : Memory
   memory_after = record {
@@ -63,20 +59,24 @@ module _ (memory : Memory) (sound : IsSound memory) (t : ℕ) (lt : t < memory.c
     seats = slice_set memory.seats t seat_after;
   }
 
-  phase_fits : PhaseFits config t mounts levels phase
-  phase_fits = subst (Fits config t mounts levels) is (sound.fits t lt)
+  phase_fits : PhaseFits config t held phase
+  phase_fits = subst (Fits config t held) is (sound.fits t lt)
 
   there : IsWord (extents_kept config) name
-  there = word_there config sound.within t mounts levels lt phase hook phase_fits
+  there = word_there config sound.within t held lt phase hook phase_fits
 
   pub place_fits : place name < length memory.words
-  place_fits = omega (arith, sound.words, word_placed config sound.within t mounts levels (omega (arith, lt, sound.within.tasks)) phase hook phase_fits)
+  place_fits = omega (arith, sound.words, word_placed config sound.within t held (omega (arith, lt, sound.within.tasks)) phase hook phase_fits)
 
-  pub acts : ActionFits mounts done.1
-  acts = action_fits config sound.within t mounts levels phase (found_by touch value) hook phase_fits
+  pub acts : ActionFits held done.1
+  acts = action_fits config sound.within t held phase (found_by touch value) hook phase_fits
 
   some_seat : t < length memory.seats
   some_seat = omega (arith, sound.seats)
+
+  -- what the seat holds then agrees, where what it held does
+  held_then : (seen : Holdings) → Agree config held seen → Agree config (seat_held seat_after) (held_after done.1 seen)
+  held_then seen same = agree_after config accesses (sound.mounts t lt) (sound.levels t lt) (sound.files t lt) seen done.1 acts same
 
   pub words_shown : (w : World) → Shows memory w → value ≡ read w.words name
   words_shown w shows = shows.words name there
@@ -92,25 +92,12 @@ module _ (memory : Memory) (sound : IsSound memory) (t : ℕ) (lt : t < memory.c
     done_same : done ≡ done_at (read w.words name)
     done_same = ap done_at (words_shown w shows)
 
-    mounts_shown : (m : ℕ) → m < config.mounts → mounts_in seat_after m ≡ held_at view m
-    mounts_shown m lm =
-        mounts_same held (sound.mounts t lt) (sound.levels t lt) config.mounts (held_at (w.views t)) done.1 acts
-        (λ n ln. shows.mounts t n lt ln) m lm ∙
-        (ap (λ (d : Next Phase × Option Action). mounts_by d.1 (held_at (w.views t)) m) done_same ∙
-        ap (λ f. f m) (sym (mounts_of_after (done_at (read w.words name)).1 (w.views t).actions)))
-
-    levels_shown : (i : ℕ) → 1 ≤ i → i ≤ 3 → levels_in seat_after i ≡ holds_level view i
-    levels_shown i one three =
-        levels_same held (sound.mounts t lt) (sound.levels t lt) (holds_level (w.views t)) done.1 acts
-        (λ j a b. shows.levels t j lt a b) i one three ∙
-        (ap (λ (d : Next Phase × Option Action). levels_by d.1 (holds_level (w.views t)) i) done_same ∙
-        ap (λ f. f i) (sym (levels_of_after (done_at (read w.words name)).1 (w.views t).actions)))
-
-    files_shown : (n : ℕ) → files_in seat_after n ≡ has_open view n
-    files_shown n =
-        files_same held (sound.files t lt) (has_open (w.views t)) done.1 acts (λ i. shows.files t i lt) n ∙
-        (ap (λ (d : Next Phase × Option Action). opens_by d.1 (has_open (w.views t)) n) done_same ∙
-        ap (λ f. f n) (sym (opens_of_after (done_at (read w.words name)).1 (w.views t).actions)))
+    held_shown : Agree config (seat_held seat_after) (held_of view)
+    held_shown =
+        subst (Agree config (seat_held seat_after))
+        (ap (λ (d : Next Phase × Option Action). held_after d.1 (held_of (w.views t))) done_same ∙
+        sym (holdings_of_after (done_at (read w.words name)).1 (w.views t).actions))
+        (held_then (held_of (w.views t)) (shows.held t lt))
 
     -- the words after the event
     words_after_shown : (n : WordName) → IsWord (extents_kept config) n →
@@ -128,29 +115,20 @@ module _ (memory : Memory) (sound : IsSound memory) (t : ℕ) (lt : t < memory.c
           (λ l. ap (λ (d : Next Phase × Option Action). phase_after d.0) done_same ∙
           ap (λ (v : View). v.phase) (sym (update_at w.views t view)))
           (λ ne l. shows.phases x l ∙ ap (λ (v : View). v.phase) (sym (update_off w.views t view x ne))) lx;
-      mounts = λ x m lx lm. seat_cases memory.seats t seat_after some_seat
-          (λ y s. y < config.tasks → mounts_in s m ≡ held_at (update w.views t view y) m) x
-          (λ l. mounts_shown m lm ∙ ap (λ (v : View). held_at v m) (sym (update_at w.views t view)))
-          (λ ne l. shows.mounts x m l lm ∙ ap (λ (v : View). held_at v m) (sym (update_off w.views t view x ne))) lx;
-      levels = λ x i lx one three. seat_cases memory.seats t seat_after some_seat
-          (λ y s. y < config.tasks → levels_in s i ≡ holds_level (update w.views t view y) i) x
-          (λ l. levels_shown i one three ∙ ap (λ (v : View). holds_level v i) (sym (update_at w.views t view)))
-          (λ ne l. shows.levels x i l one three ∙ ap (λ (v : View). holds_level v i) (sym (update_off w.views t view x ne))) lx;
-      files = λ x n lx. seat_cases memory.seats t seat_after some_seat
-          (λ y s. y < config.tasks → files_in s n ≡ has_open (update w.views t view y) n) x
-          (λ l. files_shown n ∙ ap (λ (v : View). has_open v n) (sym (update_at w.views t view)))
-          (λ ne l. shows.files x n l ∙ ap (λ (v : View). has_open v n) (sym (update_off w.views t view x ne))) lx;
+      held = λ x lx. seat_cases memory.seats t seat_after some_seat
+          (λ y s. y < config.tasks → Agree config (seat_held s) (held_of (update w.views t view y))) x
+          (λ l. subst (λ (v : View). Agree config (seat_held seat_after) (held_of v)) (sym (update_at w.views t view)) held_shown)
+          (λ ne l. subst (λ (v : View). Agree config (seat_held (seat_of memory x)) (held_of v)) (sym (update_off w.views t view x ne)) (shows.held x l))
+          lx;
     }
 
     pub step_shows : Shows memory_after (happens config w (Steps t hook))
     step_shows = rw (lt-ltb t config.tasks lt, phase_shown w shows) stepped_shown
 
-  seat_fits : Fits config t (mounts_in seat_after) (levels_in seat_after) (phase_after done.0)
+  seat_fits : Fits config t (seat_held seat_after) (phase_after done.0)
   seat_fits =
-      fits_agree config t (mounts_by done.1 mounts) (mounts_in seat_after) (levels_by done.1 levels) (levels_in seat_after)
-      (λ m lm. sym (mounts_same held (sound.mounts t lt) (sound.levels t lt) config.mounts mounts done.1 acts (λ n ln. refl) m lm))
-      (λ i one three. sym (levels_same held (sound.mounts t lt) (sound.levels t lt) levels done.1 acts (λ j a b. refl) i one three))
-      (phase_after done.0) (fits_after config sound.within t mounts levels phase (found_by touch value) hook phase_fits)
+      fits_agree config t (held_after done.1 held) (seat_held seat_after) (agree_sym (held_then held agree_self))
+      (phase_after done.0) (fits_after config sound.within t held phase (found_by touch value) hook phase_fits)
 
   -- the memory after the event is sound
   pub step_sound : IsSound memory_after
@@ -159,13 +137,13 @@ module _ (memory : Memory) (sound : IsSound memory) (t : ℕ) (lt : t < memory.c
     words = length-set memory.words (place name) (left touch value) ∙ sound.words;
     seats = length-set memory.seats t seat_after ∙ sound.seats;
     mounts = λ x lx. seat_cases memory.seats t seat_after some_seat (λ y s. y < config.tasks → length s.accesses.mounts ≡ 8) x
-        (λ l. long_after held done.1 ∙ sound.mounts t lt) (λ ne l. sound.mounts x l) lx;
+        (λ l. long_after accesses done.1 ∙ sound.mounts t lt) (λ ne l. sound.mounts x l) lx;
     levels = λ x lx. seat_cases memory.seats t seat_after some_seat (λ y s. y < config.tasks → length s.accesses.levels ≡ 4) x
-        (λ l. wide_after held done.1 ∙ sound.levels t lt) (λ ne l. sound.levels x l) lx;
+        (λ l. wide_after accesses done.1 ∙ sound.levels t lt) (λ ne l. sound.levels x l) lx;
     files = λ x lx. seat_cases memory.seats t seat_after some_seat (λ y s. y < config.tasks → length s.accesses.files ≡ 64) x
-        (λ l. deep_after held done.1 ∙ sound.files t lt) (λ ne l. sound.files x l) lx;
+        (λ l. deep_after accesses done.1 ∙ sound.files t lt) (λ ne l. sound.files x l) lx;
     fits = λ x lx. seat_cases memory.seats t seat_after some_seat
-        (λ y s. y < config.tasks → Fits config y (mounts_in s) (levels_in s) s.phase) x
+        (λ y s. y < config.tasks → Fits config y (seat_held s) s.phase) x
         (λ l. seat_fits) (λ ne l. sound.fits x l) lx;
     reached = (
       sound.reached.0 ++ Steps t hook ∷ [],
@@ -175,8 +153,8 @@ module _ (memory : Memory) (sound : IsSound memory) (t : ℕ) (lt : t < memory.c
   }
 
 -- the same of the values that the code has
-module _ (memory : Memory) (sound : IsSound memory) (t : ℕ) (lt : t < memory.config.tasks)
-    (seat : Seat) (seat_is : seat ≡ get_or memory.seats t seat) (phase : Phase) (phase_is : seat.phase ≡ Some phase) (hook : HookAnswer)
+module _ (memory : Memory) (sound : IsSound memory) (t : ℕ) (lt : t < memory.config.tasks) (phase : Phase)
+    (its_phase : (seat_of memory t).phase ≡ Some phase) (hook : HookAnswer)
     (next : WordName × Touch) (next_is : next ≡ next_of phase hook) (at : ℕ) (at_is : at ≡ place next.0) where
   -- the word's place, and what the list has there
   abbrev its_place : ℕ
@@ -189,12 +167,6 @@ module _ (memory : Memory) (sound : IsSound memory) (t : ℕ) (lt : t < memory.c
   abbrev its_done : Next Phase × Option Action
   its_done = after_of phase (found_by (next_of phase hook).1 its_value) hook
 
-  pub same_seat : seat_of memory t ≡ seat
-  same_seat = get_or_default memory.seats t no_seat seat (omega (arith, sound.seats)) ∙ sym seat_is
-
-  its_phase : (seat_of memory t).phase ≡ Some phase
-  its_phase = ap (λ (s : Seat). s.phase) same_seat ∙ phase_is
-
   same_at : at ≡ its_place
   same_at = at_is ∙ ap (λ (n : WordName × Touch). place n.0) next_is
 
@@ -202,7 +174,8 @@ module _ (memory : Memory) (sound : IsSound memory) (t : ℕ) (lt : t < memory.c
   at_small = omega (arith, same_at, place_fits memory sound t lt phase its_phase hook)
 
   module _ (value : ℕ) (value_is : value ≡ get_or memory.words at value) (event : Event) (event_is : event ≡ event_of next.0 next.1 value)
-      (done : Next Phase × Option Action) (done_is : done ≡ after_of phase event.found hook) where
+      (done : Next Phase × Option Action) (done_is : done ≡ after_of phase event.found hook)
+      (seat : Seat) (seat_is : seat ≡ get_or memory.seats t seat) where
     same_value : value ≡ its_value
     same_value = value_is ∙ (get_or_default memory.words at value 0 at_small ∙ ap (λ i. slice_index memory.words i) same_at)
 
@@ -212,10 +185,13 @@ module _ (memory : Memory) (sound : IsSound memory) (t : ℕ) (lt : t < memory.c
     same_done : done ≡ its_done
     same_done = done_is ∙ ap (λ (e : Event). after_of phase e.found hook) same_event
 
-    pub may_act : ActionFits (mounts_held seat.accesses) done.1
+    same_seat : seat_of memory t ≡ seat
+    same_seat = get_or_default memory.seats t no_seat seat (omega (arith, sound.seats)) ∙ sym seat_is
+
+    pub may_act : ActionFits (seat_held seat) done.1
     may_act =
-        subst (λ (s : Seat). ActionFits (mounts_in s) done.1) same_seat
-        (subst (λ (d : Next Phase × Option Action). ActionFits (mounts_in (seat_of memory t)) d.1) (sym same_done)
+        subst (λ (s : Seat). ActionFits (seat_held s) done.1) same_seat
+        (subst (λ (d : Next Phase × Option Action). ActionFits (seat_held (seat_of memory t)) d.1) (sym same_done)
         (acts memory sound t lt phase its_phase hook))
 
     module _ (progress : Progress × Option Phase) (progress_is : progress ≡ (progress_of done.0, phase_after done.0))
@@ -245,10 +221,10 @@ module _ (memory : Memory) (sound : IsSound memory) (t : ℕ) (lt : t < memory.c
       told_phase = rw (lt-ltb t memory.config.tasks lt) its_phase
 
       -- and what is said of it after the event
-      pub stepped_after : left_memory ≡ stepped memory t hook
+      stepped_after : left_memory ≡ stepped memory t hook
       stepped_after = same_memory ∙ sym (ap (stepped_of memory t hook) told_phase)
 
-      pub progress_after : progress.0 ≡ progress_in memory t hook
+      progress_after : progress.0 ≡ progress_in memory t hook
       progress_after =
           ap (λ (p : Progress × Option Phase). p.0) progress_is ∙ ap (λ (d : Next Phase × Option Action). progress_of d.0) same_done ∙
           sym (ap (progress_by memory hook) told_phase)
@@ -258,12 +234,12 @@ module _ (memory : Memory) (sound : IsSound memory) (t : ℕ) (lt : t < memory.c
       sound_after = subst IsSound (sym same_memory) (step_sound memory sound t lt phase its_phase hook)
 
       -- and shows what the entry makes of the world
-      pub shows_after : (w : World) → Shows memory w → Shows left_memory (happens memory.config w (Steps t hook))
+      shows_after : (w : World) → Shows memory w → Shows left_memory (happens memory.config w (Steps t hook))
       shows_after w shows =
           subst (λ m. Shows m (happens memory.config w (Steps t hook))) (sym same_memory)
           (step_shows memory sound t lt phase its_phase hook w shows)
 
-      pub answer_after : (w : World) → Shows memory w →
+      answer_after : (w : World) → Shows memory w →
           ◌≡◌ {A = Step} (record { event = Some event; action = done.1; progress = progress.0 }) (step_answer memory.config w t hook)
       answer_after w shows =
           let told : progress.0 ≡ progress_of done.0 = ap (λ (p : Progress × Option Phase). p.0) progress_is in
@@ -280,3 +256,6 @@ module _ (memory : Memory) (sound : IsSound memory) (t : ℕ) (lt : t < memory.c
             progress = (told ∙ ap (λ (d : Next Phase × Option Action). progress_of d.0) same_done) i;
           } in
           rw (lt-ltb t memory.config.tasks lt, phase_shown memory sound t lt phase its_phase hook w shows) (whole ∙ ap answer found)
+
+      pub is_step : IsStep memory left_memory t hook (record { event = Some event; action = done.1; progress = progress.0 })
+      is_step = record { config = refl; answer = answer_after; shows = shows_after; progress = progress_after; memory = stepped_after }

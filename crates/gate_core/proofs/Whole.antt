@@ -1,18 +1,18 @@
 -- What holds of every schedule from the opening on.
 use Rattle.std.{proofs.Common.{◌≡◌, ℕ, refl, sym, subst, ◌∙◌, ap, ◌<◌}, specs.Prelude.{Option, Some, None, Err, List, [], ◌∷◌, ◌++◌, false}}
 use Rattle.access_model.proofs.Closed.{closed}
-use Rattle.access_model.specs.{Histories.{mounts_of, levels_of, opens_of}, Laws.NobodyHoldsClosed, States.State}
+use Rattle.access_model.specs.{Laws.NobodyHoldsClosed, States.State}
 use Rattle.access_model.specs.declared.{actions.Action.Action, errors.GateError.GateError, replies.Next.Next}
 use Rattle.cpu_words.specs.Hooks.{HookAnswer}
 use Rattle.gate_world.specs.{Causes.{since_begun, HasCause, RefusalsHaveCauses, trail_of}, Configs.{IsWithin, model_limits}}
 use Rattle.gate_world.specs.Courses.{course_of, IsTraced, FollowsOrder, AllTraced}
 use Rattle.gate_world.specs.Headline.{world_after, actions_so_far, MovesTheModel, IsOneRun, NobodyIsInside, SumsHold, IdleSumsHold, NothingIsLeft}
 use Rattle.gate_world.specs.Headline.{FreezeIsUnderWay, HoldersAreTold, FrozenTreeIsWhole, SnapshotsStand, ViewTells, OperationsAreKept, LevelsLead}
-use Rattle.gate_world.specs.{KeptCauses.CauseOf, Rules.IsGood, Traces.{Tells, actions_of}, Views.HoldsAsBefore}
+use Rattle.gate_world.specs.{Holdings.holdings_of, KeptCauses.CauseOf, Rules.IsGood, Traces.{Tells, actions_of}, Views.HoldsAsBefore}
 use Rattle.gate_world.specs.{Waits.{HasReason, EachWaitHasCulprit, HasCulpritAmong}, Work.after_of, Worlds.{World, Entry, opening, happens, run, found_at}}
 use Rattle.gate_world.specs.declared.{config.Config.Config, operations.Op.Op, views.{Traced.Traced, View.View}, work.Phase.Phase}
 use Rattle.gate_frames.proofs.{MayHolds.events_may_be, Traced.{opening_traced, entry_keeps}}
-use Rattle.call_laws.proofs.Frozen.{frozen_whole}
+use Rattle.operation_laws.proofs.Frozen.{frozen_whole}
 use Rattle.gate_core.proofs.{Beginnings.may_begin, Between.{AllTold, entry_told, opening_told, holders_told}, Entries.{TrailHolds, trail_holds, begun_on}}
 use Rattle.gate_core.proofs.{Layers.{phase_keeps, op_keeps}, Leads.levels_lead, Lists.run_lists, Rests.{at_rest, a_freeze_is_under_way}}
 use Rattle.gate_core.proofs.{Schedule.{opening_good, opening_shown, happens_keeps, run_keeps, gate_sums, idle_sums}, Snapshots.run_moments}
@@ -106,11 +106,7 @@ module _ (c : Config) (lim : IsWithin c) where
       v.actions ≡ actions_of op (Err refusal) v.trace ++ v.before →
       HoldsAsBefore v
   holds_as_before t v op refusal h is =
-      let k : (mounts_of (actions_of op (Err refusal) v.trace ++ v.before) ≡ mounts_of v.before) ×
-      (levels_of (actions_of op (Err refusal) v.trace ++ v.before) ≡ levels_of v.before) ×
-      (opens_of (actions_of op (Err refusal) v.trace ++ v.before) ≡ opens_of v.before) =
-      (op_keeps c op).restores refusal v.trace v.before (may_begin c false (mounts_of v.before) (levels_of v.before) (opens_of v.before) op h.begins).order in
-      (ap mounts_of is ∙ k.0, ap levels_of is ∙ k.1, ap opens_of is ∙ k.2)
+      ap holdings_of is ∙ (op_keeps c op).restores refusal v.trace v.before (may_begin c false (holdings_of v.before) op h.begins).order
 
   op_tells : (t : ℕ) (v : View) (op : Option Op) → IsTraced c t v op → ViewTells c t v op
   op_tells t v None h = tt

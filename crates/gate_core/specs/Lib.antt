@@ -2,3 +2,4 @@ pub mod Seats
 pub mod Memory
 pub mod Answers
 pub mod Moves
+pub mod Stepped

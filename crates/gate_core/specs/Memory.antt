@@ -1,15 +1,15 @@
 -- The core in memory: a list of words and one seat per task, and the world that they show.
-use Rattle.std.specs.Prelude.{◌≡◌, ℕ, ◌<◌, ◌≤◌, None, List, [], length, slice_index, slice_index_or}
+use Rattle.std.specs.Prelude.{◌≡◌, ℕ, ◌<◌, None, List, [], length, slice_index, slice_index_or}
 use Rattle.cpu_words.specs.declared.names.WordName.{WordName}
 use Rattle.cpu_words.specs.Names.{IsWord, place, words_in_all}
 use Rattle.cpu_words.specs.Words.{read}
 use Rattle.gate_world.specs.declared.config.Config.{Config}
 use Rattle.gate_world.specs.Configs.{IsWithin, extents_kept}
-use Rattle.gate_world.specs.Views.{held_at, holds_level, has_open}
+use Rattle.gate_world.specs.{Holdings.Agree, Views.held_of}
 use Rattle.gate_world.specs.Worlds.{World, Entry, run, opening}
 use Rattle.gate_world.specs.Fits.{Fits}
 use Rattle.gate_core.specs.declared.seats.Seat.{Seat}
-use Rattle.gate_core.specs.Seats.{mounts_in, levels_in, files_in}
+use Rattle.gate_core.specs.Seats.{seat_held}
 
 -- the fields of the core
 pub record Memory : Type 0 where
@@ -25,14 +25,12 @@ no_seat = record { phase = None; accesses = record { mounts = []; levels = []; f
 abbrev pub seat_of : Memory → ℕ → Seat
 seat_of memory t = slice_index_or memory.seats t no_seat
 
--- The memory shows this world: each word that is kept, and each task's phase and accesses. Lists of actions and events stand in
+-- The memory shows this world: each word that is kept, and each task's phase and what it holds. Lists of actions and events stand in
 -- no memory.
 pub record Shows (memory : Memory) (w : World) : Type 0 where
   pub words : (name : WordName) → IsWord (extents_kept memory.config) name → slice_index memory.words (place name) ≡ read w.words name
   pub phases : (t : ℕ) → t < memory.config.tasks → (seat_of memory t).phase ≡ (w.views t).phase
-  pub mounts : (t m : ℕ) → t < memory.config.tasks → m < memory.config.mounts → mounts_in (seat_of memory t) m ≡ held_at (w.views t) m
-  pub levels : (t i : ℕ) → t < memory.config.tasks → 1 ≤ i → i ≤ 3 → levels_in (seat_of memory t) i ≡ holds_level (w.views t) i
-  pub files : (t n : ℕ) → t < memory.config.tasks → files_in (seat_of memory t) n ≡ has_open (w.views t) n
+  pub held : (t : ℕ) → t < memory.config.tasks → Agree memory.config (seat_held (seat_of memory t)) (held_of (w.views t))
 
 -- The lists have their lengths, each phase fits its task, and the memory is what some schedule makes of the opening.
 pub record IsSound (memory : Memory) : Type 0 where
@@ -43,5 +41,5 @@ pub record IsSound (memory : Memory) : Type 0 where
   pub levels : (t : ℕ) → t < memory.config.tasks → length (seat_of memory t).accesses.levels ≡ 4
   pub files : (t : ℕ) → t < memory.config.tasks → length (seat_of memory t).accesses.files ≡ 64
   pub fits : (t : ℕ) → t < memory.config.tasks →
-      Fits memory.config t (mounts_in (seat_of memory t)) (levels_in (seat_of memory t)) (seat_of memory t).phase
+      Fits memory.config t (seat_held (seat_of memory t)) (seat_of memory t).phase
   pub reached : (entries : List Entry) × Shows memory (run memory.config opening entries)

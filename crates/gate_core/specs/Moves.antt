@@ -1,24 +1,11 @@
 -- What the core's calls make of its memory, and what they answer by it.
 use Rattle.std.specs.Prelude.{ℕ, nat_lt, if◌then◌else◌, is_some, Option, Some, None, slice_index, slice_set}
-use Rattle.access_model.specs.declared.actions.Action.{Action}
-use Rattle.access_model.specs.declared.errors.GateError.{GateError}
-use Rattle.access_model.specs.declared.errors.GateError.TheVariants.{Invalid}
-use Rattle.access_model.specs.declared.replies.Next.{Next}
-use Rattle.cpu_words.specs.Hooks.{HookAnswer}
-use Rattle.cpu_words.specs.Names.{place}
-use Rattle.cpu_words.specs.Touches.{left, found_by}
+use Rattle.access_model.specs.declared.{actions.Action.Action, errors.GateError.{GateError, TheVariants.Invalid}, replies.Next.Next}
+use Rattle.cpu_words.specs.{Hooks.HookAnswer, Names.place, Touches.{left, found_by}}
 use Rattle.freeze_levels.specs.declared.hooks.HookKind.{HookKind}
-use Rattle.gate_world.specs.declared.operations.Op.{Op}
-use Rattle.gate_world.specs.declared.work.Phase.{Phase}
-use Rattle.gate_world.specs.Accesses.{accesses_after}
-use Rattle.gate_world.specs.Beginnings.{first_phase, refusal}
-use Rattle.gate_world.specs.Views.{phase_after}
-use Rattle.gate_world.specs.Work.{next_of, after_of}
-use Rattle.gate_core.specs.declared.steps.Progress.{Progress}
-use Rattle.gate_core.specs.declared.steps.Progress.TheVariants.{Idle}
-use Rattle.gate_core.specs.Answers.{progress_of, asked_by}
-use Rattle.gate_core.specs.Memory.{Memory, seat_of}
-use Rattle.gate_core.specs.Seats.{mounts_in, levels_in, files_in}
+use Rattle.gate_world.specs.{Accesses.accesses_after, Beginnings.{first_phase, refusal}, Views.phase_after, Work.{next_of, after_of}}
+use Rattle.gate_world.specs.declared.{operations.Op.Op, work.Phase.Phase}
+use Rattle.gate_core.specs.{Answers.{progress_of, asked_by}, Memory.{Memory, seat_of}, Seats.seat_held, declared.steps.Progress.{Progress, TheVariants.Idle}}
 
 -- the phase of a task, of an idle one or none that is there None
 abbrev pub phase_in : Memory → ℕ → Option Phase
@@ -28,7 +15,7 @@ phase_in memory t = if nat_lt t memory.config.tasks then (seat_of memory t).phas
 abbrev pub refusal_in : Memory → ℕ → Op → Option GateError
 refusal_in memory t op =
     if nat_lt t memory.config.tasks then
-    refusal memory.config (is_some (seat_of memory t).phase) (mounts_in (seat_of memory t)) (levels_in (seat_of memory t)) (files_in (seat_of memory t)) op else
+    refusal memory.config (is_some (seat_of memory t).phase) (seat_held (seat_of memory t)) op else
     Some Invalid
 
 -- the memory after a beginning that is refused for this reason, or not

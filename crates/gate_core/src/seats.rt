@@ -6,7 +6,7 @@ ghost use Rattle.gate_core.specs.Seats.{idle_seat};
 use gate_world::{Accesses, Phase};
 
 /// A task at run time: the phase of its operation under way, and what it holds.
-#[derive(Clone, Copy, PartialEq, Eq, Debug)]
+#[derive(Clone, Copy, PartialEq, Eq)]
 pub struct Seat {
     pub phase: Option<Phase>,
     pub accesses: Accesses,

@@ -1,60 +1,103 @@
 -- An operation that stands at a phase of another one, and relies on something at the tree meanwhile, as a last close does inside level 3:
 -- the law of the other's event is the law of its event, but for the tree and the open files, which the event leaves alone.
-use Rattle.std.{proofs.{Common.{◌≡◌, ℕ, ◌<◌, refl, sym, ap, ◌∙◌, subst, inl, inr}, Math.Path.fun_ext, lemmas.Bool.Decides.eqb_tells}, specs.Prelude.Option}
-use Rattle.finite_sums.{proofs.Totals.{update_at, update_off, each_updated}, specs.Sums.update}
 use Rattle.access_model.specs.declared.{actions.Action.Action, replies.Next.Next}
-use Rattle.cpu_words.specs.{Hooks.HookAnswer, Touches.left, Words.{read, put}, declared.{events.Touch.Touch, names.WordName.WordName}}
+use Rattle.cpu_words.specs.{Hooks.HookAnswer, Touches.left, Words.{put, read}, declared.{events.Touch.Touch, names.WordName.WordName}}
+use Rattle.finite_sums.proofs.Totals.{each_updated, update_at, update_off}
+use Rattle.finite_sums.specs.Sums.{update}
+use Rattle.gate_frames.proofs.{Accesses.holdings_of_after, Frames.{left_alone, same_words, shown_still}, LevelSteps.level_kept}
+use Rattle.gate_world.specs.{Alike.{IsBeside, at_phase, off_tree, rephased}, Fits.Fits, Holdings.{held_after, holdings_of}, LevelRuns.level_in}
+use Rattle.gate_world.specs.{Levels.{level_added_by, level_taken_by}, Roles.{Roles, roles_of}, Rules.{AtLevel, AtMount, Files, Fitting, Holding, Holds}}
+use Rattle.gate_world.specs.{Rules.{IsGood, Known, Moves, Owner, Part, SameView, Sections, Stages, SyncAt, Tree, ViewFits}, Shown.shown, Views.added_by}
+use Rattle.gate_world.specs.{Views.{has_open, held_of, phase_after, taken_by, view_with}, Worlds.World, declared.{config.Config.Config, views.View.View}}
+use Rattle.gate_world.specs.declared.work.Phase.{Phase}
 use Rattle.level_laws.specs.Events.{SyncStep}
-use Rattle.gate_world.specs.{Alike.{IsBeside, at_phase, rephased}, Fits.{Fits, mounts_by, levels_by}, LevelRuns.level_in}
-use Rattle.gate_world.specs.Rules.{ViewFits, Part, Owner, Stages, Holding, Fitting, Known, AtMount, Holds, IsGood, Moves, Tree, Files, AtLevel, SyncAt}
-use Rattle.gate_world.specs.Rules.{Sections}
-use Rattle.gate_world.specs.{Shown.shown, Views.{held_at, holds_level, phase_after, view_with}, Worlds.World}
-use Rattle.gate_world.specs.declared.{config.Config.Config, views.View.View, work.Phase.Phase}
-use Rattle.gate_frames.proofs.{Accesses.{mounts_of_after, levels_of_after}, Frames.{view_as, shown_still, left_alone, level_view_as}, LevelSteps.level_kept}
+use Rattle.stage_laws.specs.Roles.{sums}
+use Rattle.std.proofs.{Common.{Bool, ap, false, inl, inr, refl, subst, sym, true, true≢false, ℕ, ◌<◌, ◌∙◌, ◌≡◌}, Math.Path.fun_ext}
+use Rattle.std.proofs.lemmas.Bool.Decides.{eqb_tells}
+use Rattle.std.specs.Prelude.{Option, if◌then◌else◌}
 
-pub beside_of : {p q r : Option Phase} → p ≡ q → IsBeside q r → IsBeside p r
-beside_of {p} {q} {r} e h = subst (λ x. IsBeside x r) (sym e) h
+pub beside_of : {p q : Option Phase} {r : Roles} → p ≡ q → r ≡ off_tree (roles_of q) → r ≡ off_tree (roles_of p)
+beside_of e h = h ∙ sym (ap (λ p. off_tree (roles_of p)) e)
 
-module _ (c : Config) (w : World) (t : ℕ) (lt : t < c.tasks) (q : Option Phase) (same : IsBeside (w.views t).phase q) where
-  -- each part of the rule holds with the other phase, where the tree and the open files do
-  beside_part : Fits c t (held_at (w.views t)) (holds_level (w.views t)) q → IsGood c w → Holds c (rephased w t q) Tree →
-      Holds c (rephased w t q) Files → (part : Part) → Holds c (rephased w t q) part
-  beside_part fits good tree files Owner =
-      left_alone c w t lt Owner w.words (at_phase (w.views t) q) (refl, refl) (same.steady.owns_same, same.steady.remounts_same)
-      (good Owner)
-  beside_part fits good tree files Stages =
-      left_alone c w t lt Stages w.words (at_phase (w.views t) q) (refl, refl, refl, refl) same.stage_same (good Stages)
-  beside_part fits good tree files Holding =
-      left_alone c w t lt Holding w.words (at_phase (w.views t) q) (refl, refl) same.holder_same (good Holding)
-  beside_part fits good tree files Fitting = λ x lx.
-      each_updated (λ y (u : View). ViewFits c y u) w.views t (at_phase (w.views t) q) x fits (λ ne. good Fitting x lx)
-  beside_part fits good tree files Known =
-      left_alone c w t lt Known w.words (at_phase (w.views t) q) (refl, refl, refl, refl, refl) (same.steady.owns_same, refl) (good Known)
-  beside_part fits good tree files Tree = tree
-  beside_part fits good tree files Files = files
-  beside_part fits good tree files (AtMount m) =
-      left_alone c w t lt (AtMount m) w.words (at_phase (w.views t) q) (refl, refl, refl, refl) (view_as refl refl refl (same.role_same m))
-      (good (AtMount m))
-  beside_part fits good tree files (AtLevel i) =
-      left_alone c w t lt (AtLevel i) w.words (at_phase (w.views t) q) (refl, refl, refl) (level_view_as refl refl refl (same.level_same i))
-      (good (AtLevel i))
-  beside_part fits good tree files (SyncAt i) =
-      left_alone c w t lt (SyncAt i) w.words (at_phase (w.views t) q) (refl, refl, refl, refl) (same.sync_same i) (good (SyncAt i))
-  beside_part fits good tree files Sections =
-      left_alone c w t lt Sections w.words (at_phase (w.views t) q) refl same.inside_same (good Sections)
+-- the parts that read of a view no more than its accesses, its net additions and its roles but those at the tree
+abbrev is_beside : Part → Bool
+is_beside Fitting = false
+is_beside Known = false
+is_beside Tree = false
+is_beside Files = false
+is_beside part = true
 
-  pub beside_good : Fits c t (held_at (w.views t)) (holds_level (w.views t)) q → IsGood c w → Holds c (rephased w t q) Tree →
-      Holds c (rephased w t q) Files → IsGood c (rephased w t q)
-  beside_good fits good tree files = beside_part fits good tree files
+-- a view holds what the other holds, and has counted what the other has
+pub record SameCounts (old new : View) : Type 0 where
+  pub held_same : held_of new ≡ held_of old
+  pub added_same : added_by new.events ≡ added_by old.events
+  pub taken_same : taken_by new.events ≡ taken_by old.events
+  pub level_added_same : level_added_by new.events ≡ level_added_by old.events
+  pub level_taken_same : level_taken_by new.events ≡ level_taken_by old.events
+
+-- One law for what changes no word and of roles only those at the tree, be it a beginning, a load or a phase that stands for another.
+module _ (c : Config) (w : World) (t : ℕ) (lt : t < c.tasks) (v : View) (counts : SameCounts (w.views t) v)
+    (same : IsBeside (w.views t).phase v.phase) where
+  seen_beside : (part : Part) → is_beside part ≡ true → SameView (w.views t) v part
+  seen_beside Owner h = (λ j. (same j).owns, λ j. (same j).remounts)
+  seen_beside Stages h = λ j. (same j).stage
+  seen_beside Holding h = λ j. (same j).holder
+  seen_beside (AtMount m) h = λ j. record {
+    held = (counts.held_same j).mounts m;
+    added = counts.added_same j m;
+    taken = counts.taken_same j m;
+    role = (same j).mount m;
+  }
+  seen_beside (AtLevel i) h = λ j. record {
+    held = if (counts.held_same j).levels i then 1 else 0;
+    added = counts.level_added_same j i;
+    taken = counts.level_taken_same j i;
+    role = (same j).count i;
+  }
+  seen_beside (SyncAt i) h = λ j. (same j).sync i
+  seen_beside Sections h = λ j. (same j).inside
+  seen_beside part h = absurd (true≢false (sym h))
+
+  -- each part of the rule holds with it, where the four others do
+  pub beside_good : ViewFits c t v → IsGood c w → Holds c (record { words = w.words; views = update w.views t v }) Known →
+      Holds c (record { words = w.words; views = update w.views t v }) Tree →
+      Holds c (record { words = w.words; views = update w.views t v }) Files →
+      (part : Part) → Holds c (record { words = w.words; views = update w.views t v }) part
+  beside_good fits good known tree files Fitting = λ x lx.
+      each_updated (λ y (u : View). ViewFits c y u) w.views t v x fits (λ ne. good Fitting x lx)
+  beside_good fits good known tree files Known = known
+  beside_good fits good known tree files Tree = tree
+  beside_good fits good known tree files Files = files
+  beside_good fits good known tree files part =
+      left_alone c w t lt part w.words v (same_words w.words part) (seen_beside part refl) (good part)
 
   -- the shown model is the same
-  pub beside_shown : shown c (rephased w t q) ≡ shown c w
-  beside_shown = shown_still c w t lt w.words (at_phase (w.views t) q) refl refl refl refl refl refl refl same.steady.closing_same refl refl refl
+  pub beside_shown : shown c (record { words = w.words; views = update w.views t v }) ≡ shown c w
+  beside_shown =
+      shown_still c w t lt w.words v refl refl refl refl refl refl refl (λ i j. sums i (same j).stage) counts.held_same
+
+-- the same accesses and events count the same
+pub same_counts : (v : View) (q : Option Phase) → SameCounts v (at_phase v q)
+same_counts v q = assumption
+
+module _ (c : Config) (w : World) (t : ℕ) (lt : t < c.tasks) (q : Option Phase) (same : IsBeside (w.views t).phase q) where
+  -- what an owner knows, its trace tells
+  known_beside : Holds c w Known → Holds c (rephased w t q) Known
+  known_beside = left_alone c w t lt Known w.words (at_phase (w.views t) q) (same_words w.words Known) (λ j. (same j).owns, refl)
+
+  -- so with the other phase, where the tree and the open files do
+  pub rephased_beside : Fits c t (held_of (w.views t)) q → IsGood c w → Holds c (rephased w t q) Tree →
+      Holds c (rephased w t q) Files → IsGood c (rephased w t q)
+  rephased_beside fits good tree files =
+      beside_good c w t lt (at_phase (w.views t) q) (same_counts (w.views t) q) same fits good (known_beside (good Known)) tree files
+
+  pub shown_beside : shown c (rephased w t q) ≡ shown c w
+  shown_beside = beside_shown c w t lt (at_phase (w.views t) q) (same_counts (w.views t) q) same
 
 pub beside_level : (w : World) (t : ℕ) (q : Option Phase) → IsBeside (w.views t).phase q → (i : ℕ) →
     level_in (rephased w t q) i ≡ level_in w i
 beside_level w t q same i =
-    level_kept w t i w.words (at_phase (w.views t) q) refl refl refl refl same.inside_same (same.sync_same i)
+    level_kept w t i w.words (at_phase (w.views t) q) refl refl refl refl (λ j. (same j).inside) (λ j. (same j).sync i)
 
 pub update_twice : {A : Type 0} (f : ℕ → A) (t : ℕ) (u v : A) → update (update f t u) t v ≡ update f t v
 update_twice f t u v =
@@ -93,13 +136,13 @@ module _ (c : Config) (w : World) (t : ℕ) (lt : t < c.tasks) (p : Option Phase
 
   -- so what the law of the first says of the rule and of the shown model, it says of the second, where the tree and the open files hold with the
   -- first phase before the event, and with the second's after it
-  pub made_keeps_beside : IsGood c w → IsBeside (w.views t).phase p → Fits c t (held_at (w.views t)) (holds_level (w.views t)) p →
+  pub made_keeps_beside : IsGood c w → IsBeside (w.views t).phase p → Fits c t (held_of (w.views t)) p →
       Holds c (rephased w t p) Tree → Holds c (rephased w t p) Files →
       (IsGood c (rephased w t p) → ((rephased w t p).views t).phase ≡ p →
       IsGood c (made (rephased w t p) t n hook a action) ×
       Moves c (shown c (rephased w t p)) t action (shown c (made (rephased w t p) t n hook a action))) →
       IsBeside (phase_after a) (phase_after b) →
-      Fits c t (mounts_by action (held_at (w.views t))) (levels_by action (holds_level (w.views t))) (phase_after b) →
+      Fits c t (held_after action (held_of (w.views t))) (phase_after b) →
       Holds c (made w t n hook b action) Tree → Holds c (made w t n hook b action) Files →
       IsGood c (made w t n hook b action) × Moves c (shown c w) t action (shown c (made w t n hook b action))
   made_keeps_beside good before fits tree files law after fits_after tree_then files_then =
@@ -109,20 +152,18 @@ module _ (c : Config) (w : World) (t : ℕ) (lt : t < c.tasks) (p : Option Phase
       let there : World = made first t n hook a action in
       let again : rephased there t (phase_after b) ≡ made w t n hook b action = made_again in
       let l : IsGood c there × Moves c (shown c first) t action (shown c there) =
-      law (beside_good c w t lt p before fits good tree files) (ap (λ (x : View). x.phase) (update_at w.views t v)) in
+      law (rephased_beside c w t lt p before fits good tree files) (ap (λ (x : View). x.phase) (update_at w.views t v)) in
       let is : there.views t ≡ u = update_at first.views t _ ∙ ap (λ x. view_with x n (read w.words n.0) hook (a, action))
       (update_at w.views t v) in
       let same : IsBeside (there.views t).phase (phase_after b) = beside_of (ap (λ (x : View). x.phase) is) after in
-      let fit : Fits c t (held_at u) (holds_level u) (phase_after b) =
-      subst (λ k. Fits c t (held_at u) k (phase_after b)) (sym (levels_of_after action (w.views t).actions))
-      (subst (λ h. Fits c t h (levels_by action (holds_level (w.views t))) (phase_after b))
-      (sym (mounts_of_after action (w.views t).actions)) fits_after) in
-      let fit_there : Fits c t (held_at (there.views t)) (holds_level (there.views t)) (phase_after b) =
-      subst (λ (x : View). Fits c t (held_at x) (holds_level x) (phase_after b)) (sym is) fit in (
-        subst (λ x. IsGood c x) again (beside_good c there t lt (phase_after b) same fit_there l.0
+      let fit : Fits c t (held_of u) (phase_after b) =
+      subst (λ h. Fits c t h (phase_after b)) (sym (holdings_of_after action (w.views t).actions)) fits_after in
+      let fit_there : Fits c t (held_of (there.views t)) (phase_after b) =
+      subst (λ (x : View). Fits c t (held_of x) (phase_after b)) (sym is) fit in (
+        subst (λ x. IsGood c x) again (rephased_beside c there t lt (phase_after b) same fit_there l.0
             (subst (λ x. Holds c x Tree) (sym again) tree_then) (subst (λ x. Holds c x Files) (sym again) files_then)),
-        subst (λ s. Moves c s t action (shown c (made w t n hook b action))) (beside_shown c w t lt p before)
-            (subst (λ s. Moves c (shown c first) t action s) (sym (beside_shown c there t lt (phase_after b) same) ∙
+        subst (λ s. Moves c s t action (shown c (made w t n hook b action))) (shown_beside c w t lt p before)
+            (subst (λ s. Moves c (shown c first) t action s) (sym (shown_beside c there t lt (phase_after b) same) ∙
             ap (shown c) again) l.1),
       )
 

@@ -1,13 +1,13 @@
--- The marks that a trace has cleared are no accesses.
+-- The marks that a trace has cleared are nothing that a task holds.
 use Rattle.std.{proofs.{Common.{◌≡◌, ℕ, inl, inr}, lemmas.Bool.cases_Bool}, specs.Prelude.{List, [], ◌∷◌, ◌++◌}}
-use Rattle.access_model.specs.{Histories.{mounts_of, levels_of}, declared.actions.Action.Action}
+use Rattle.access_model.specs.declared.actions.Action.{Action}
 use Rattle.cpu_words.specs.declared.{events.Touch.Touch, names.WordName.WordName}
 use Rattle.mount_counts.specs.Phases.{has_flag}
-use Rattle.gate_world.specs.{Found.{clean_found, cleans}, declared.views.Traced.Traced}
+use Rattle.gate_world.specs.{Found.{clean_found, cleans}, Holdings.holdings_of, declared.views.Traced.Traced}
 
--- these actions leave each access and each level as it was
+-- these actions leave what the task holds as it was
 abbrev pub LeaveAccesses : List Action → List Action → Type 0
-LeaveAccesses actions before = (mounts_of (actions ++ before) ≡ mounts_of before) × (levels_of (actions ++ before) ≡ levels_of before)
+LeaveAccesses actions before = holdings_of (actions ++ before) ≡ holdings_of before
 
 -- clearing a mark leaves them, on top of actions that do
 clean_leaves : (word : WordName) (touch : Touch) (found : ℕ) (actions rest before : List Action) → LeaveAccesses (actions ++ rest) before →

@@ -13,8 +13,8 @@ use Rattle.gated_tree.specs.declared.{nodes.NodeWord.NodeWord, phases.TreePhase.
 use Rattle.tree_laws.proofs.{Counts.{finds_last, same_le}, Each.each_event, Laws.{role_says, same_off}, Steps.{leaves_word, as_event, stays_at}}
 use Rattle.tree_laws.specs.{Events.{turned, ClosesFile, FreesFile, DropsBlocks, Uncounts}, Steps.{tree_in, EventKeeps}}
 use Rattle.file_closes.specs.{Phases.{next, after, enters, closed_from}, declared.phases.{ClosePhase.ClosePhase, Closing.Closing}}
-use Rattle.gate_world.specs.{Configs.IsWithin, Fits.{MayLower, HasFile, file_of}, Rules.{IsGood, Tree, Files, Stages}, Snapshots.values_noted}
-use Rattle.gate_world.specs.{Trees.{tree_bounds, tree_of, tree_roles, tree_role_of, close_tree_role, nodes_noted, is_bare_at}, Views.{has_open, holds_level}}
+use Rattle.gate_world.specs.{Configs.IsWithin, Fits.{MayLower, HasFile, file_of}, Roles.{close_tree_role, nodes_noted}, Rules.{IsGood, Tree, Files, Stages}}
+use Rattle.gate_world.specs.{Snapshots.values_noted, Trees.{tree_bounds, tree_of, tree_roles, tree_role_of, is_bare_at}, Views.{has_open, holds_level}}
 use Rattle.gate_world.specs.{Worlds.World, declared.{config.Config.Config, views.Traced.Traced, work.Phase.Phase}}
 use Rattle.gate_frames.proofs.{TreeHolders.level_thawed, TreeRoles.{call_plain, remount_apart, snapshot_apart, freeze_apart}, Trees.nobody_reads}
 

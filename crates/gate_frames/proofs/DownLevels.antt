@@ -23,12 +23,10 @@ use Rattle.level_laws.specs.Roles.{SyncRole, Waiting, Out as IsApart, Closed, en
 use Rattle.stage_laws.{proofs.{Facts.total_alone, Positions.{other_position, not_full}}, specs.Roles.has_position}
 use Rattle.write_access.specs.declared.phases.WritePhase.{WritePhase}
 use Rattle.file_closes.specs.declared.phases.ClosePhase.{ClosePhase}
-use Rattle.gate_world.specs.{Configs.IsWithin, Fits.DownWriteFits, LevelRuns.level_in}
-use Rattle.gate_world.specs.Levels.{sync_role_if, freeze_stand, thaw_stand, Stand, stand_count, stand_sync, closed_to, down_count_role, sync_role_of, at_level}
-use Rattle.gate_world.specs.Levels.{is_frozen_whole, level_role_of}
-use Rattle.gate_world.specs.{Rules.{Stages, IsGood, Holds, AtLevel}, Shown.stage_roles}
-use Rattle.gate_world.specs.{Stages.{stage_role_of, freeze_stage_role, thaw_stage_role, reopening_role}, Views.holds_level, Worlds.World}
-use Rattle.gate_world.specs.declared.{config.Config.Config, views.View.View, work.Phase.{Phase, TheVariants.Closes}}
+use Rattle.gate_world.specs.{Configs.IsWithin, Fits.DownWriteFits, LevelRuns.level_in, Levels.{sync_role_of, at_level, is_frozen_whole, level_role_of}}
+use Rattle.gate_world.specs.Roles.{sync_role_if, freeze_stand, thaw_stand, Stand, stand_count, stand_sync, closed_to, down_count_role, freeze_stage_role}
+use Rattle.gate_world.specs.{Roles.{thaw_stage_role, reopening_role}, Rules.{Stages, IsGood, Holds, AtLevel}, Shown.{stage_roles, stage_role_of}}
+use Rattle.gate_world.specs.{Views.holds_level, Worlds.World, declared.{config.Config.Config, views.View.View, work.Phase.{Phase, TheVariants.Closes}}}
 use Rattle.gate_frames.proofs.{Frames.SameLevelCounts, LevelWorlds.{level_right, found_level, IsEventAt, event_word}}
 use Rattle.gate_frames.proofs.StandRoles.{count_at, sync_at, SayBeside, beside_each, counts_left, counts_become, levels_move}
 use Rattle.gate_frames.proofs.Standing.{Stands, closing_stand, stand_after_closing, LevelsHold, left_world}

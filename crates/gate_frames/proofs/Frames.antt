@@ -1,25 +1,26 @@
 -- What an event leaves alone.
-use Rattle.std.proofs.Common.{◌≡◌, ℕ, suc, ◌+◌, ◌<◌, refl, sym, ap, ◌∙◌, subst, inl, inr, arith, true≢false, Bool}
-use Rattle.std.proofs.lemmas.Bool.{eq-eqb, ne_eqb, Decides.eqb_tells}
-use Rattle.std.specs.Prelude.{◌==◌, ◌&&◌, ◌||◌, if◌then◌else◌, Option, ◌%◌}
-use Rattle.finite_sums.{proofs.Totals.{each_updated, total_updated, update_map, update_same}, specs.Sums.{update, total}}
 use Rattle.access_model.specs.States.{openers}
 use Rattle.cpu_words.specs.{Words.Words, declared.{events.Touch.Touch, names.WordName.WordName}}
-use Rattle.gate_counts.specs.Levels.{Out as CountsNot, LevelView, LevelRole, LevelHolds}
-use Rattle.gated_tree.specs.{Nodes.{node_shown, opens_in}, Roles.{Role as TreeRole, TreeState, TreeHolds}}
-use Rattle.mount_counts.specs.Roles.{Role, Out, MountView, ro_bit, MountHolds}
+use Rattle.finite_sums.proofs.Totals.{each_updated, total_updated, update_map, update_same}
+use Rattle.finite_sums.specs.Sums.{total, update}
 use Rattle.freeze_levels.specs.Holders.{holders_in}
-use Rattle.level_laws.specs.Roles.{Out as IsApart, SyncRole, SyncNumberHolds}
-use Rattle.stage_laws.specs.Roles.{StageRole, StagesHold}
-use Rattle.holder_laws.specs.Roles.{HolderRole, HoldersHold}
-use Rattle.gate_world.specs.{Fits.{Fits, HasFile, file_of}, Holders.holder_role_of}
-use Rattle.gate_world.specs.{Levels.{inside, at_level, level_role_of, is_frozen_whole, level_added_by, sync_role_of, level_taken_by}, Owners.KnowsWords}
-use Rattle.gate_world.specs.Rules.{role_if, at_mount, owns, remounts, IsSteady, OwnerHolds, ViewFits, Part, Owner, Stages, Holding, Fitting, AtMount, Holds}
-use Rattle.gate_world.specs.Rules.{SameWords, SameView, GatesHold, IsGood, Known, Tree, AtLevel, SyncAt, Sections, Files}
-use Rattle.gate_world.specs.{Shown.{shown, closing, is_passed, stage_roles, holder_roles}, Stages.stage_role_of, Trees.{tree_bounds, tree_role_of, tree_roles}}
-use Rattle.gate_world.specs.{Views.{held_at, holds_level, added_after, taken_after, has_open}, Worlds.World}
-use Rattle.gate_world.specs.declared.{config.Config.Config, views.View.View, work.Phase.Phase}
+use Rattle.gate_counts.specs.Levels.{LevelHolds, LevelRole, LevelView, Out as CountsNot}
 use Rattle.gate_frames.proofs.Known.{known_same}
+use Rattle.gate_world.specs.{Fits.{Fits, HasFile, file_of}, Holdings.Holdings, Levels.{at_level, inside, is_frozen_whole, level_added_by, level_taken_by}}
+use Rattle.gate_world.specs.{Levels.sync_role_of, Owners.KnowsWords, Roles.{Roles, count_role_if, no_roles, role_if, roles_of, sync_role_if}, Rules.AtLevel}
+use Rattle.gate_world.specs.Rules.{AtMount, Files, Fitting, GatesHold, Holding, Holds, IsGood, IsSteady, Known, Owner, OwnerHolds, Part, SameView, SameWords}
+use Rattle.gate_world.specs.{Rules.{Sections, Stages, SyncAt, Tree, ViewFits, at_mount, owns, remounts}, Shown.{closing, holder_role_of, holder_roles}}
+use Rattle.gate_world.specs.{Shown.{is_passed, shown, stage_role_of, stage_roles}, Trees.{tree_bounds, tree_role_of, tree_roles}, Views.added_after}
+use Rattle.gate_world.specs.{Views.{has_open, held_at, held_of, holds_level, taken_after}, Worlds.World, declared.{config.Config.Config, views.View.View}}
+use Rattle.gate_world.specs.declared.work.Phase.{Phase}
+use Rattle.gated_tree.specs.{Nodes.{node_shown, opens_in}, Roles.{Role as TreeRole, TreeHolds, TreeState}}
+use Rattle.holder_laws.specs.Roles.{HolderRole, HoldersHold}
+use Rattle.level_laws.specs.Roles.{Out as IsApart, SyncNumberHolds, SyncRole}
+use Rattle.mount_counts.specs.Roles.{MountHolds, MountView, Out, Role, ro_bit}
+use Rattle.stage_laws.specs.Roles.{StageRole, StagesHold}
+use Rattle.std.proofs.{Common.{Bool, ap, arith, inl, inr, refl, subst, suc, sym, true≢false, ℕ, ◌+◌, ◌<◌, ◌∙◌, ◌≡◌}, lemmas.Bool.{eq-eqb, ne_eqb}}
+use Rattle.std.proofs.lemmas.Bool.Decides.{eqb_tells}
+use Rattle.std.specs.Prelude.{Option, false, if◌then◌else◌, true, ◌%◌, ◌&&◌, ◌==◌, ◌||◌}
 
 pub added_load : (name : WordName) (added : ℕ → ℕ → ℕ) → added_after name Touch.Load added ≡ added
 added_load WordName.Umount added = refl
@@ -34,6 +35,16 @@ role_on m r = rw (eq-eqb m m refl)
 
 pub role_off : (n m : ℕ) (r : Role) → (n ≡ m → ⊥) → role_if (n == m) r ≡ Out
 role_off n m r ne = rw (ne_eqb n m ne)
+
+-- nobody has a role at one mount, or level, that is none
+pub role_none : (y m : ℕ) → role_if (y == m) Out ≡ Out
+role_none y m = elim (y == m) as (λ b. role_if b Out ≡ Out) [ true ↦ refl | false ↦ refl ]
+
+pub count_none : (j i : ℕ) → count_role_if (j == i) CountsNot ≡ CountsNot
+count_none j i = elim (j == i) as (λ b. count_role_if b CountsNot ≡ CountsNot) [ true ↦ refl | false ↦ refl ]
+
+pub sync_none : (j i : ℕ) → sync_role_if (j == i) IsApart ≡ IsApart
+sync_none j i = elim (j == i) as (λ b. sync_role_if b IsApart ≡ IsApart) [ true ↦ refl | false ↦ refl ]
 
 pub view_as : {h h' : ℕ} {a a' k k' : ℕ → ℕ} {r r' : Role} → h ≡ h' → a ≡ a' → k ≡ k' → r ≡ r' →
     ◌≡◌ {A = MountView} (record { held = h; added = a; taken = k; role = r }) (record { held = h'; added = a'; taken = k'; role = r' })
@@ -73,6 +84,22 @@ level_as {tasks} {processors} eb ef ec ea h = subst (λ X. X) (sym (λ i. LevelH
 pub sync_as : {tasks n n' b b' f f' : ℕ} {s s' : ℕ → ℕ} {at at' : ℕ → SyncRole} → n ≡ n' → b ≡ b' → f ≡ f' → s ≡ s' → at ≡ at' →
     SyncNumberHolds tasks n' b' f' s' at' → SyncNumberHolds tasks n b f s at
 sync_as {tasks} en eb ef es ea h = subst (λ X. X) (sym (λ i. SyncNumberHolds tasks (en i) (eb i) (ef i) (es i) (ea i))) h
+
+-- words are as they were, to each part
+pub same_words : (w : Words) (part : Part) → SameWords w w part
+same_words w Owner = (refl, refl)
+same_words w Holding = (refl, refl)
+same_words w Fitting = tt
+same_words w Known = (refl, refl, refl, refl, refl)
+same_words w Tree = (refl, refl, refl, refl, refl, refl)
+same_words w Files = refl
+same_words w (AtLevel i) = (refl, refl, refl)
+same_words w Sections = refl
+same_words w other = (refl, refl, refl, refl)
+
+-- so are words that differ in some alone, to each part that doesn't read these: there its two sides compute to the words themselves
+pub unwritten : {old new : Words} → new ≡ old → (part : Part) → SameWords old new part
+unwritten {old} e part = subst (λ ws. SameWords old ws part) (sym e) (same_words old part)
 
 -- one mount after an event of this task, which makes this of its flags and counts and of the task's view
 abbrev pub MountHoldsAfter : Config → World → ℕ → ℕ → ℕ → (ℕ → ℕ) → MountView → Type 0
@@ -114,18 +141,38 @@ module _ (c : Config) (w : World) (t : ℕ) (lt : t < c.tasks) where
     tree = λ n. node_shown (ws.node n);
   }
 
-  -- a view with the same actions shows the same accesses
-  pub shown_still : (ws : Words) (v : View) → ws.block ≡ w.words.block → ws.flags ≡ w.words.flags → ws.remount ≡ w.words.remount →
-      ws.sb ≡ w.words.sb → ws.stage ≡ w.words.stage → ws.holders ≡ w.words.holders → ws.node ≡ w.words.node →
-      ((i : ℕ) → closing i v.phase ≡ closing i (w.views t).phase) → held_at v ≡ held_at (w.views t) →
-      holds_level v ≡ holds_level (w.views t) → has_open v ≡ has_open (w.views t) →
-      shown c (record { words = ws; views = update w.views t v }) ≡ shown c w
-  shown_still ws v eb ef er es eg ew en ec eh el eo =
+  -- and of a task that holds what it held
+  pub shown_held : (ws : Words) (v : View) → ws.block ≡ w.words.block → ((i : ℕ) → closing i v.phase ≡ closing i (w.views t).phase) →
+      held_of v ≡ held_of (w.views t) →
+      shown c (record { words = ws; views = update w.views t v }) ≡
+      record (shown c w) {
+        mount_ro = λ m. ro_bit (ws.flags m) == 1;
+        sb_ro = ws.remount == 1 || ws.sb == 1;
+        stage = ws.stage;
+        holders = holders_in ws.holders;
+        tree = λ n. node_shown (ws.node n);
+      }
+  shown_held ws v eb ec eh =
       shown_as ws v eb ec ∙
       (λ j. record (shown c w) {
-        mounts = (ap (update (λ x. held_at (w.views x)) t) eh ∙ update_same (λ x. held_at (w.views x)) t) j;
-        levels = (ap (update (λ x. holds_level (w.views x)) t) el ∙ update_same (λ x. holds_level (w.views x)) t) j;
-        opens = (ap (update (λ x. has_open (w.views x)) t) eo ∙ update_same (λ x. has_open (w.views x)) t) j;
+        mounts = (ap (λ (h : Holdings). update (λ x. held_at (w.views x)) t h.mounts) eh ∙ update_same (λ x. held_at (w.views x)) t) j;
+        levels = (ap (λ (h : Holdings). update (λ x. holds_level (w.views x)) t h.levels) eh ∙ update_same (λ x. holds_level (w.views x)) t) j;
+        opens = (ap (λ (h : Holdings). update (λ x. has_open (w.views x)) t h.files) eh ∙ update_same (λ x. has_open (w.views x)) t) j;
+        mount_ro = λ m. ro_bit (ws.flags m) == 1;
+        sb_ro = ws.remount == 1 || ws.sb == 1;
+        stage = ws.stage;
+        holders = holders_in ws.holders;
+        tree = λ n. node_shown (ws.node n);
+      })
+
+  -- and leaves the words that are shown
+  pub shown_still : (ws : Words) (v : View) → ws.block ≡ w.words.block → ws.flags ≡ w.words.flags → ws.remount ≡ w.words.remount →
+      ws.sb ≡ w.words.sb → ws.stage ≡ w.words.stage → ws.holders ≡ w.words.holders → ws.node ≡ w.words.node →
+      ((i : ℕ) → closing i v.phase ≡ closing i (w.views t).phase) → held_of v ≡ held_of (w.views t) →
+      shown c (record { words = ws; views = update w.views t v }) ≡ shown c w
+  shown_still ws v eb ef er es eg ew en ec eh =
+      shown_held ws v eb ec eh ∙
+      (λ j. record (shown c w) {
         mount_ro = λ m. ro_bit (ef j m) == 1;
         sb_ro = er j == 1 || es j == 1;
         stage = eg j;
@@ -174,9 +221,7 @@ module _ (c : Config) (w : World) (t : ℕ) (lt : t < c.tasks) where
   left_alone Holding ws v same seen h = holders_as same.0 same.1 (holder_roles_left v seen) h
   left_alone Fitting ws v same seen h = λ x lx.
       each_updated (λ y (u : View). ViewFits c y u) w.views t v x
-      (subst (λ (p : Option Phase). Fits c t (held_at v) (holds_level v) p) (sym seen.2)
-      (subst (λ k. Fits c t (held_at v) k (w.views t).phase) (sym seen.1)
-      (subst (λ k. Fits c t k (holds_level (w.views t)) (w.views t).phase) (sym seen.0) (h t lt)))) (λ ne. h x lx)
+      (subst (Fits c t (held_of v)) (sym seen.1) (subst (λ k. Fits c t k (w.views t).phase) (sym seen.0) (h t lt))) (λ ne. h x lx)
   left_alone Known ws v same seen h = λ x lx.
       each_updated (λ y (u : View). owns u.phase ≡ 1 → KnowsWords ws u.trace) w.views t v x
       (λ o. subst (KnowsWords ws) (sym seen.1) (known_same w.words ws same (w.views t).trace (h t lt (sym seen.0 ∙ o))))
@@ -236,11 +281,13 @@ module _ (c : Config) (w : World) (t : ℕ) (lt : t < c.tasks) where
         ]
     gates_after m ws v er es owner fits off own part h = absurd (true≢false (sym h))
 
--- a phase that counts at no level, has no part in its rcu_sync, and is inside no section
-pub record IsOffLevels (p : Option Phase) : Type 0 where
-  pub counts_not : (i : ℕ) → level_role_of i p ≡ CountsNot
-  pub apart : (i : ℕ) → sync_role_of i p ≡ IsApart
-  pub outside : inside p ≡ 0
+-- of these roles those at levels
+abbrev pub at_levels : Roles → Roles
+at_levels r = record no_roles { count = r.count; sync = r.sync; inside = r.inside }
+
+-- a phase that has none
+abbrev pub IsOffLevels : Option Phase → Type 0
+IsOffLevels p = at_levels (roles_of p) ≡ no_roles
 
 -- what the parts of levels read of the words is the same
 pub record SameLevelWords (old new : Words) : Type 0 where
@@ -264,13 +311,13 @@ module _ (c : Config) (w : World) (t : ℕ) (lt : t < c.tasks) (good : IsGood c 
   level_left i =
       left_alone c w t lt (AtLevel i) ws v (ap (λ f. f i) words.block_same, ap (λ f. f i) words.level_same, words.whole_same)
       (level_view_as (ap (λ (f : ℕ → Bool). if f i then 1 else 0) counts.held_same) (ap (λ f. f i) counts.added_same)
-      (ap (λ f. f i) counts.taken_same) (now.counts_not i ∙ sym (was.counts_not i))) (good (AtLevel i))
+      (ap (λ f. f i) counts.taken_same) ((λ j. (now j).count i) ∙ sym (λ j. (was j).count i))) (good (AtLevel i))
 
   pub sync_left : (i : ℕ) → Holds c (record { words = ws; views = update w.views t v }) (SyncAt i)
   sync_left i =
       left_alone c w t lt (SyncAt i) ws v
       (ap (λ f. f i) words.sync_same, ap (λ f. f i) words.block_same, words.section_same, words.whole_same)
-      (now.apart i ∙ sym (was.apart i)) (good (SyncAt i))
+      ((λ j. (now j).sync i) ∙ sym (λ j. (was j).sync i)) (good (SyncAt i))
 
   pub sections_left : Holds c (record { words = ws; views = update w.views t v }) Sections
-  sections_left = left_alone c w t lt Sections ws v words.section_same (now.outside ∙ sym was.outside) (good Sections)
+  sections_left = left_alone c w t lt Sections ws v words.section_same ((λ j. (now j).inside) ∙ sym (λ j. (was j).inside)) (good Sections)

@@ -7,8 +7,8 @@ use Rattle.cpu_words.specs.Words.{Words}
 use Rattle.freeze_levels.specs.declared.{freezes.FreezeStep.FreezeStep, thaws.ThawStep.ThawStep}
 use Rattle.stage_laws.specs.Roles.{owns as stage_owns}
 use Rattle.holder_laws.{proofs.HolderLaws.events_keep, specs.{Events.{HolderMoment, HolderEvent, Happens, Moves, Stays}, Roles.{HoldersHold, minds}}}
-use Rattle.gate_world.specs.{Holders.{freeze_holder_role, thaw_holder_role, holder_role_of}, Rules.{owns, IsGood, Holds, Owner, Holding}, Shown.holder_roles}
-use Rattle.gate_world.specs.{Stages.{freeze_stage_role, thaw_stage_role}, Worlds.World, declared.{config.Config.Config, views.View.View, work.Phase.Phase}}
+use Rattle.gate_world.specs.{Roles.{freeze_holder_role, thaw_holder_role, freeze_stage_role, thaw_stage_role}, Rules.{owns, IsGood, Holds, Owner, Holding}}
+use Rattle.gate_world.specs.{Shown.{holder_roles, holder_role_of}, Worlds.World, declared.{config.Config.Config, views.View.View, work.Phase.Phase}}
 use Rattle.gate_frames.proofs.Owners.{owns_le}
 
 -- who relies on the holders owns `umount`

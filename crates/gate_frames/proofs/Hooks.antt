@@ -7,7 +7,7 @@ use Rattle.mount_counts.specs.{Phases.{next, after}, Remounts.{remount_next, rem
 use Rattle.mount_counts.specs.declared.{phases.MountPhase.MountPhase, remounts.{Remount.Remount, RemountStep.RemountStep}}
 use Rattle.freeze_levels.specs.{Freezes.{freeze_hook, freeze_next, freeze_after}, Thaws.{thaw_hook, thaw_next, thaw_after}}
 use Rattle.freeze_levels.specs.declared.{freezes.{Freeze.Freeze, FreezeStep.FreezeStep}, thaws.{Thaw.Thaw, ThawStep.ThawStep}}
-use Rattle.gate_world.specs.{Work.{IgnoresAnswer, remount_hook, hook_of}, declared.work.Phase.Phase}
+use Rattle.gate_world.specs.{Roles.remount_hook, Work.{IgnoresAnswer, hook_of}, declared.work.Phase.Phase}
 
 mount_ignores : (x : MountPhase) (a b : HookAnswer) (found : ℕ) → (next x a ≡ next x b) × (after x found a ≡ after x found b)
 mount_ignores (MountPhase.Want x) a b found = (refl, refl)

@@ -1,26 +1,19 @@
 -- What the crate of an operation proves of it: of each of its phases, and of its beginning and its trace.
-use Rattle.std.{proofs.Common.{◌≡◌, ℕ, ◌<◌, ◌≤◌, Bool, true, false, arith, ◌+◌, ◌-◌}, specs.Prelude.{Err, ◌++◌, Option, Some, None, List, ◌∷◌}}
-use Rattle.access_model.specs.{Histories.{mounts_of, levels_of, opens_of}, declared.{actions.Action.Action, errors.GateError.GateError}}
-use Rattle.cpu_words.specs.{Hooks.HookAnswer, Names.{IsWord, Extents}, declared.names.WordName.WordName}
-use Rattle.gated_tree.specs.Roles.{Out as OffTree}
-use Rattle.level_laws.specs.Events.{SyncStep}
-use Rattle.gate_world.specs.{Alike.IsBeside, Beginnings.{first_phase, is_in_range, is_in_order, is_within_room}, Causes.{all_counted, all_inside}}
-use Rattle.gate_world.specs.{Configs.{IsWithin, extents_of, extents_among}, Courses.{course_of, IsTrace}}
-use Rattle.gate_world.specs.{Fits.{PhaseFits, Fits, ActionFits, mounts_by, levels_by, HasFile, file_of}, KeptCauses.CauseOf, LevelRuns.level_in}
-use Rattle.gate_world.specs.{Moments.CompletesNow, Operations.{holds_none, is_of_open, is_of_closed}, Rules.{IsGood, StepKeeps}}
-use Rattle.gate_world.specs.{Traces.{actions_of, Tells, IsShort, most_events}, Trees.tree_role_of, Views.{phase_after, held_at, holds_level}, Waits.HasReason}
-use Rattle.gate_world.specs.{Work.{next_of, after_of}, Worlds.{World, after_step, found_at}}
+use Rattle.access_model.specs.declared.{actions.Action.Action, errors.GateError.GateError}
+use Rattle.cpu_words.specs.{Hooks.HookAnswer, Names.{Extents, IsWord}, declared.names.WordName.WordName}
+use Rattle.gate_world.specs.{Beginnings.{first_phase, is_in_order, is_in_range, is_within_room}, Causes.{all_counted, all_inside}, Configs.IsWithin}
+use Rattle.gate_world.specs.{Configs.{extents_among, extents_of}, Courses.{IsTrace, course_of}, Fits.{ActionFits, Fits, HasFile, PhaseFits, file_of}}
+use Rattle.gate_world.specs.{Holdings.{Agree, Holdings, held_after, holdings_of}, KeptCauses.CauseOf, LevelRuns.level_in, Moments.CompletesNow}
+use Rattle.gate_world.specs.{Roles.{no_roles, roles_of}, Rules.{IsGood, StepKeeps}, Traces.{IsShort, Tells, actions_of, most_events}, Views.held_of}
+use Rattle.gate_world.specs.{Views.phase_after, Waits.HasReason, Work.{after_of, next_of}, Worlds.{World, after_step, found_at}}
 use Rattle.gate_world.specs.declared.{config.Config.Config, operations.Op.Op, views.Traced.Traced, work.Phase.Phase}
+use Rattle.level_laws.specs.Events.{SyncStep}
+use Rattle.std.proofs.Common.{Bool, arith, false, true, ℕ, ◌+◌, ◌-◌, ◌<◌, ◌≡◌, ◌≤◌}
+use Rattle.std.specs.Prelude.{Err, List, None, Option, Some, ◌++◌, ◌∷◌}
 
 pub by_bool : (b : Bool) (P : Bool → Type 0) → P true → P false → P b
 by_bool true P x y = x
 by_bool false P x y = y
-
--- accesses that agree at each mount and level fit alike
-module _ (c : Config) (t : ℕ) (f g : ℕ → ℕ) (h k : ℕ → Bool) (mounts : (m : ℕ) → m < c.mounts → f m ≡ g m)
-    (levels : (i : ℕ) → 1 ≤ i → i ≤ 3 → h i ≡ k i) where
-  pub none_agree : holds_none h ≡ holds_none k
-  none_agree = rw (levels 1 (omega arith) (omega arith), levels 2 (omega arith) (omega arith), levels 3 (omega arith) (omega arith))
 
 -- the words that events may touch, among so many tasks: those of the nodes, and those of 64 nodes, which the word of a node may name
 abbrev pub extents_touched : ℕ → Config → Extents
@@ -56,21 +49,19 @@ pub record PhaseKeeps (c : Config) (phase : Phase) : Type 0 where
   pub completes : IsWithin c → (w : World) → IsGood c w → (t : ℕ) → t < c.tasks → (hook : HookAnswer) → (w.views t).phase ≡ Some phase →
       CompletesNow c w t hook phase
   -- the word of its event is one of these, among however many tasks its own number is one of
-  pub word : (n : ℕ) → c.tasks ≤ n → (t : ℕ) → t < n → (held : ℕ → ℕ) (levels : ℕ → Bool) (hook : HookAnswer) →
-      PhaseFits c t held levels phase → IsWord (extents_touched n c) (next_of phase hook).0
+  pub word : (n : ℕ) → c.tasks ≤ n → (t : ℕ) → t < n → (held : Holdings) (hook : HookAnswer) →
+      PhaseFits c t held phase → IsWord (extents_touched n c) (next_of phase hook).0
   -- its action can be done
-  pub acts : IsWithin c → (t : ℕ) (held : ℕ → ℕ) (levels : ℕ → Bool) (found : ℕ) (hook : HookAnswer) → PhaseFits c t held levels phase →
+  pub acts : IsWithin c → (t : ℕ) (held : Holdings) (found : ℕ) (hook : HookAnswer) → PhaseFits c t held phase →
       ActionFits held (after_of phase found hook).1
   -- what comes after it fits
-  pub goes : IsWithin c → (t : ℕ) (held : ℕ → ℕ) (levels : ℕ → Bool) (found : ℕ) (hook : HookAnswer) → PhaseFits c t held levels phase →
-      Fits c t (mounts_by (after_of phase found hook).1 held) (levels_by (after_of phase found hook).1 levels)
-      (phase_after (after_of phase found hook).0)
-  -- it fits accesses that agree
-  pub agrees : (t : ℕ) (f g : ℕ → ℕ) (h k : ℕ → Bool) → ((m : ℕ) → m < c.mounts → f m ≡ g m) → ((i : ℕ) → 1 ≤ i → i ≤ 3 → h i ≡ k i) →
-      PhaseFits c t f h phase → PhaseFits c t g k phase
+  pub goes : IsWithin c → (t : ℕ) (held : Holdings) (found : ℕ) (hook : HookAnswer) → PhaseFits c t held phase →
+      Fits c t (held_after (after_of phase found hook).1 held) (phase_after (after_of phase found hook).0)
+  -- it fits holdings that agree
+  pub agrees : (t : ℕ) (held seen : Holdings) → Agree c held seen → PhaseFits c t held phase → PhaseFits c t seen phase
   -- its cause stays while others step
   pub stays : (w next : World) (earlier : List World) → IsGood c next → (t : ℕ) →
-      Fits c t (held_at (w.views t)) (holds_level (w.views t)) (Some phase) → (next.views t).phase ≡ Some phase →
+      Fits c t (held_of (w.views t)) (Some phase) → (next.views t).phase ≡ Some phase →
       (w.views t).phase ≡ Some phase → IsQuiet c w next →
       CauseOf c t w earlier (Some phase) → CauseOf c t next (w ∷ earlier) (Some phase)
   -- what comes after it has its cause
@@ -96,27 +87,20 @@ IsSmall (Some most) = most ≤ most_events_of_all
 -- of one operation
 pub record OpKeeps (c : Config) (op : Op) : Type 0 where
   -- where it may begin, its first phase fits
-  pub fits : (t : ℕ) (held : ℕ → ℕ) (levels : ℕ → Bool) → is_in_range c op ≡ true → is_in_order c held levels op ≡ true →
-      is_within_room held op ≡ true →
-      Fits c t held levels (Some (first_phase c t op))
-  -- which stands as no operation does, has no role at the tree, and has no cause
-  pub starts_idle : (t : ℕ) → IsBeside None (Some (first_phase c t op))
-  pub off_tree : (t : ℕ) (trace : List Traced) → tree_role_of trace (Some (first_phase c t op)) ≡ OffTree
+  pub fits : (t : ℕ) (held : Holdings) → is_in_range c op ≡ true → is_in_order c held op ≡ true →
+      is_within_room held op ≡ true → Fits c t held (Some (first_phase c t op))
+  -- which has no role, but that it may rely on a file, and has no cause
+  pub starts_aside : (t : ℕ) → roles_of (Some (first_phase c t op)) ≡ record no_roles { file = file_of (Some (first_phase c t op)) }
   pub cause : (t : ℕ) (w : World) (earlier : List World) → CauseOf c t w earlier (Some (first_phase c t op))
-  -- whether it may begin is the same with accesses that agree
-  pub order_agrees : (f g : ℕ → ℕ) (h k : ℕ → Bool) → ((m : ℕ) → m < c.mounts → f m ≡ g m) → ((i : ℕ) → 1 ≤ i → i ≤ 3 → h i ≡ k i) →
-      is_in_range c op ≡ true → is_in_order c f h op ≡ is_in_order c g k op
-  pub room_agrees : (f g : ℕ → ℕ) → ((m : ℕ) → m < c.mounts → f m ≡ g m) → is_in_range c op ≡ true →
-      is_within_room f op ≡ is_within_room g op
-  -- where it is refused, the accesses are those with which it began
+  -- whether it may begin is the same with holdings that agree
+  pub order_agrees : (held seen : Holdings) → Agree c held seen → is_in_range c op ≡ true → is_in_order c held op ≡ is_in_order c seen op
+  pub room_agrees : (held seen : Holdings) → Agree c held seen → is_in_range c op ≡ true → is_within_room held op ≡ is_within_room seen op
+  -- where it is refused, its task holds what it held when it began
   pub restores : (refusal : GateError) (trace : List Traced) (before : List Action) →
-      is_in_order c (mounts_of before) (levels_of before) op ≡ true →
-      (mounts_of (actions_of op (Err refusal) trace ++ before) ≡ mounts_of before) ×
-      (levels_of (actions_of op (Err refusal) trace ++ before) ≡ levels_of before) ×
-      (opens_of (actions_of op (Err refusal) trace ++ before) ≡ opens_of before)
+      is_in_order c (holdings_of before) op ≡ true → holdings_of (actions_of op (Err refusal) trace ++ before) ≡ holdings_of before
   -- its first phase relies on its file to be open, or not, only where it may begin with it so
-  pub file : (t : ℕ) (files : ℕ → Bool) → is_of_open files op ≡ true → is_of_closed files op ≡ true →
-      HasFile files (file_of (Some (first_phase c t op)))
+  pub file : (t : ℕ) (held : Holdings) → is_in_order c held op ≡ true → is_within_room held op ≡ true →
+      HasFile held.files (file_of (Some (first_phase c t op)))
   -- its trace tells what is to be told, and is short
   pub tells : IsWithin c → (t : ℕ) (trace : List Traced) → IsTrace c t op trace →
       Tells c op trace (course_of c t op trace).comes (course_of c t op trace).added

@@ -6,14 +6,12 @@ use Rattle.cpu_words.specs.{Touches.{left, found_by}, Words.{Words, put, read}, 
 use Rattle.percpu_rwsem.specs.Writers.{down_write_after, up_write_after, down_write_next, up_write_next}
 use Rattle.percpu_rwsem.specs.declared.writers.{DownWrite.DownWrite, UpWrite.UpWrite}
 use Rattle.level_laws.specs.{Events.SyncStep, Operations.{put_at, left_by}, Roles.{Out as IsApart, entered}}
-use Rattle.gate_world.specs.{Configs.IsWithin, Fits.{DownWriteFits, UpWriteFits}, LevelRuns.level_in}
-use Rattle.gate_world.specs.{Levels.{Stand, stand_sync, inside, sync_role_of, is_frozen_whole}, Rules.IsGood, Worlds.World}
-use Rattle.gate_world.specs.declared.{config.Config.Config, views.View.View}
-use Rattle.gate_frames.proofs.{DownLevels.{next_closing, down_write_event, closing_others, closing_there}, Frames.SameLevelWords}
-use Rattle.gate_frames.proofs.{LevelSteps.{level_stays, level_kept, level_moved}, LevelWorlds.{IsEventAt, section_kept}}
-use Rattle.gate_frames.proofs.StandRoles.{SayBeside, touched_sync, put_inside, touched_block, touched_whole}
-use Rattle.gate_frames.proofs.Standing.{Stands, LevelsRun, closing_stand, opening_stand, left_world, stand_after_closing, stand_after_opening}
-use Rattle.gate_frames.proofs.UpLevels.{next_opening, up_write_event, opening_others, opening_there}
+use Rattle.gate_world.specs.{Configs.IsWithin, Fits.{DownWriteFits, UpWriteFits}, LevelRuns.level_in, Levels.{inside, sync_role_of, is_frozen_whole}}
+use Rattle.gate_world.specs.{Roles.{Stand, stand_sync}, Rules.IsGood, Worlds.World, declared.{config.Config.Config, views.View.View}}
+use Rattle.gate_frames.proofs.{DownLevels.{next_closing, down_write_event, closing_others, closing_there}, Frames.SameLevelWords, LevelSteps.level_stays}
+use Rattle.gate_frames.proofs.{LevelSteps.{level_kept, level_moved}, LevelWorlds.{IsEventAt, section_kept}, StandRoles.{SayBeside, touched_sync, put_inside}}
+use Rattle.gate_frames.proofs.{StandRoles.{touched_block, touched_whole}, Standing.{Stands, LevelsRun, closing_stand, opening_stand, left_world}}
+use Rattle.gate_frames.proofs.{Standing.{stand_after_closing, stand_after_opening}, UpLevels.{next_opening, up_write_event, opening_others, opening_there}}
 
 -- an event that leaves what the levels read of the words, and how its task stands with them, leaves each level
 pub levels_stay_runs : (c : Config) (w : World) (t : ℕ) → t < c.tasks → (ws : Words) (v : View) (s : Option Stand) →

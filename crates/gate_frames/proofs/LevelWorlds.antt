@@ -11,9 +11,9 @@ use Rattle.level_laws.specs.Roles.{SyncRole, Out as IsApart, Fast, fast, closed}
 use Rattle.stage_laws.specs.Roles.{sums}
 use Rattle.write_access.specs.declared.phases.WritePhase.{WritePhase}
 use Rattle.file_closes.specs.declared.phases.ClosePhase.{ClosePhase}
-use Rattle.gate_world.specs.{LevelRuns.level_in, Levels.{sync_role_if, sync_role_of, inside, freeze_stand, thaw_stand}}
-use Rattle.gate_world.specs.{Rules.{IsGood, SameWords, SyncAt, Sections, Holds}, Shown.{shown, is_passed, stage_roles}, Worlds.World}
-use Rattle.gate_world.specs.declared.{config.Config.Config, views.View.View, work.Phase.Phase}
+use Rattle.gate_world.specs.{LevelRuns.level_in, Levels.{sync_role_of, inside}, Roles.{sync_role_if, freeze_stand, thaw_stand}, Rules.{IsGood, SameWords}}
+use Rattle.gate_world.specs.{Rules.{SyncAt, Sections, Holds}, Shown.{shown, is_passed, stage_roles}, Worlds.World, declared.config.Config.Config}
+use Rattle.gate_world.specs.declared.{views.View.View, work.Phase.Phase}
 use Rattle.gate_frames.proofs.{Frames.left_alone, Stands.{freeze_slow, stand_below, thaw_slow}}
 
 read_fast : (b : Bool) (s : DownReadStep) → fast (sync_role_if b (down_read_role s)) ≤ down_read_inside s

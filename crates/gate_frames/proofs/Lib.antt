@@ -6,6 +6,7 @@ pub mod Loads
 pub mod Owners
 pub mod Snapshots
 pub mod Keeps
+pub mod Agreeing
 pub mod Rephased
 pub mod Accesses
 pub mod Places

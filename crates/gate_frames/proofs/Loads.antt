@@ -1,17 +1,15 @@
 -- Loads of a task at a mount: they leave the words and the shown model.
-use Rattle.std.{proofs.Common.{◌≡◌, ℕ, ◌<◌, refl, sym, ap, ◌∙◌, subst}, specs.Prelude.{◌==◌, Option, Some, None, true, false}}
-use Rattle.finite_sums.{proofs.Totals.update_same, specs.Sums.update}
 use Rattle.access_model.specs.declared.replies.Next.{Next}
-use Rattle.cpu_words.specs.{Hooks.HookAnswer, Words.{read, put}, declared.{events.Touch.Touch, names.WordName.WordName}}
-use Rattle.mount_counts.specs.{Roles.Out, declared.phases.MountPhase.MountPhase}
-use Rattle.gate_world.specs.Fits.{Fits, MountFits}
-use Rattle.gate_world.specs.Rules.{role_if, role_of, at_mount, owns, mount_owns, remounts, IsSteady, IsGood, Fitting, AtMount, GatesHold}
-use Rattle.gate_world.specs.{Shown.{shown, closing}, Views.{held_at, holds_level, added_by, taken_by, phase_after, view_with}, Worlds.World}
+use Rattle.cpu_words.specs.{Hooks.HookAnswer, Words.{put, read}, declared.{events.Touch.Touch, names.WordName.WordName}}
+use Rattle.finite_sums.proofs.Totals.{update_same}
+use Rattle.finite_sums.specs.Sums.{update}
+use Rattle.gate_frames.proofs.{Frames.{MountHoldsAfter, added_load, gates_after, holds_as, owner_same, shown_still, taken_load, view_as}, Words.load_same}
+use Rattle.gate_world.specs.{Fits.{Fits, MountFits}, Roles.mount_owns, Rules.{AtMount, Fitting, GatesHold, IsGood, IsSteady, at_mount, owns, remounts}}
+use Rattle.gate_world.specs.{Rules.role_of, Shown.{closing, shown}, Views.{added_by, held_of, phase_after, taken_by, view_with}, Worlds.World}
 use Rattle.gate_world.specs.declared.{config.Config.Config, views.View.View, work.Phase.Phase}
-use Rattle.gate_frames.proofs.{Frames.{added_load, taken_load, view_as, holds_as, MountHoldsAfter, shown_still, owner_same, gates_after}, Words.load_same}
-
-pub role_none : (y m : ℕ) → role_if (y == m) Out ≡ Out
-role_none y m = elim (y == m) as (λ b. role_if b Out ≡ Out) [ true ↦ refl | false ↦ refl ]
+use Rattle.mount_counts.specs.declared.phases.MountPhase.{MountPhase}
+use Rattle.std.proofs.Common.{ap, refl, subst, sym, ℕ, ◌<◌, ◌∙◌, ◌≡◌}
+use Rattle.std.specs.Prelude.{None, Option, Some}
 
 pub steady : {p q r : Option Phase} → p ≡ r → IsSteady r q → IsSteady p q
 steady e s = record {
@@ -36,14 +34,14 @@ after_load w t name hook coming = record {
 module _ (c : Config) (w : World) (good : IsGood c w) (t : ℕ) (lt : t < c.tasks) where
   -- the phase fits its task's accesses
   pub fits_now : (phase : MountPhase) → (w.views t).phase ≡ Some (Phase.Mounts phase) →
-      MountFits c t (held_at (w.views t)) (holds_level (w.views t)) phase
-  fits_now phase e = subst (Fits c t (held_at (w.views t)) (holds_level (w.views t))) e (good Fitting t lt)
+      MountFits c t (held_of (w.views t)) phase
+  fits_now phase e = subst (Fits c t (held_of (w.views t))) e (good Fitting t lt)
 
   -- a load, after which the task's role is another at one mount at most
   pub load_law : (m : ℕ) (name : WordName) (hook : HookAnswer) (coming : Next Phase) →
       ((n : ℕ) → (n ≡ m → ⊥) → role_of n (phase_after coming) ≡ role_of n (w.views t).phase) →
       IsSteady (w.views t).phase (phase_after coming) →
-      Fits c t (held_at (w.views t)) (holds_level (w.views t)) (phase_after coming) →
+      Fits c t (held_of (w.views t)) (phase_after coming) →
       (m < c.mounts → MountHoldsAfter c w t m (w.words.flags m) (w.words.count m)
       (record (at_mount m (w.views t)) { role = role_of m (phase_after coming) })) →
       GatesHold c (after_load w t name hook coming) × (shown c (after_load w t name hook coming) ≡ shown c w)
@@ -58,13 +56,13 @@ module _ (c : Config) (w : World) (good : IsGood c w) (t : ℕ) (lt : t < c.task
       (view_as refl (ap (λ f. f m) (sym ea)) (ap (λ f. f m) (sym et)) refl) (own lm)) in
       subst (λ ws. let next_world : World = record { words = ws; views = update w.views t v } in GatesHold c next_world ×
       (shown c next_world ≡ shown c w)) (sym (load_same w.words name))
-      (there, shown_still c w t lt w.words v refl refl refl refl refl refl refl same.closing_same refl refl refl)
+      (there, shown_still c w t lt w.words v refl refl refl refl refl refl refl same.closing_same refl)
 
   -- a load, after which the task's role is the same at each mount
   pub still_load : (name : WordName) (hook : HookAnswer) (coming : Next Phase) →
       ((n : ℕ) → role_of n (phase_after coming) ≡ role_of n (w.views t).phase) →
       IsSteady (w.views t).phase (phase_after coming) →
-      Fits c t (held_at (w.views t)) (holds_level (w.views t)) (phase_after coming) →
+      Fits c t (held_of (w.views t)) (phase_after coming) →
       GatesHold c (after_load w t name hook coming) × (shown c (after_load w t name hook coming) ≡ shown c w)
   still_load name hook coming role same fits =
       load_law 0 name hook coming (λ n ne. role n) same fits

@@ -1,99 +1,49 @@
 -- The next event of each task is on a word that holds what it may: the word of a node of the tree is a node's, and the sync word of a level
 -- is one.
-use Rattle.std.proofs.Common.{◌≡◌, ℕ, ◌<◌, ◌≤◌, ◌*◌, subst, ap, Bool, true, false, arith}
+use Rattle.std.proofs.Common.{◌≡◌, ℕ, ◌<◌, ◌≤◌, ◌*◌, subst, ap, true, false, arith}
 use Rattle.std.specs.Prelude.{Ok, Err, Some, is_some}
-use Rattle.mount_counts.specs.declared.phases.MountPhase.TheVariants.{Want as MWants, Drop as MDrops, Change as MChanges}
-use Rattle.mount_counts.specs.declared.phases.WantStep.TheVariants.{CountsUp}
-use Rattle.mount_counts.specs.declared.phases.ChangeStep.TheVariants.{Locks}
-use Rattle.mount_counts.specs.declared.remounts.RemountStep.TheVariants.{SetsWritable, ClearsMark, SetsReadOnly as RSetsReadOnly}
-use Rattle.percpu_rwsem.specs.declared.transitions.Transition.TheVariants.{Loads, Exchanges}
-use Rattle.percpu_rwsem.specs.declared.readers.DownReadStep.TheVariants.{LoadsSync}
+use Rattle.mount_counts.specs.{Phases.{want_next, change_next}, Remounts.remount_next, declared.phases.MountPhase.TheVariants.Want as MWants}
+use Rattle.mount_counts.specs.declared.phases.{MountPhase.TheVariants.{Drop as MDrops, Change as MChanges}, WantStep.TheVariants.CountsUp}
+use Rattle.mount_counts.specs.declared.phases.{ChangeStep.{TheVariants.Locks, ChangeStep}, Want.Want, Change.Change, WantStep.WantStep}
+use Rattle.mount_counts.specs.declared.remounts.{RemountStep.TheVariants.{SetsWritable, ClearsMark, SetsReadOnly as RSetsReadOnly}, Remount.Remount}
+use Rattle.mount_counts.specs.declared.remounts.RemountStep.{RemountStep}
+use Rattle.percpu_rwsem.specs.{Callbacks.callback_next, Readers.down_read_next, Transitions.transition_next, Writers.{down_write_next, up_write_next}}
 use Rattle.percpu_rwsem.specs.declared.callbacks.CallbackStep.TheVariants.{Claims, AwaitsSections as CAwaitsSections, CallsBack as CCallsBack}
-use Rattle.percpu_rwsem.specs.declared.writers.DownWriteStep.TheVariants.{Enters, AwaitsPassed, CallsBack as WCallsBack}
-use Rattle.percpu_rwsem.specs.declared.writers.UpWriteStep.TheVariants.{ClearsBlock, Exits}
-use Rattle.write_access.specs.declared.phases.WritePhase.TheVariants.{Takes, Wants as WWants}
-use Rattle.freeze_levels.specs.declared.freezes.FreezeStep.TheVariants.{Closes, Cleans, SetsFs, SetsComplete, Reopens as FReopens}
-use Rattle.freeze_levels.specs.declared.thaws.ThawStep.TheVariants.{LeavesLast, Reopens as TReopens}
+use Rattle.percpu_rwsem.specs.declared.{callbacks.{Callback.Callback, CallbackStep.CallbackStep}, readers.DownReadStep.TheVariants.LoadsSync}
+use Rattle.percpu_rwsem.specs.declared.{readers.{DownRead.DownRead, DownReadStep.DownReadStep}, transitions.Transition.TheVariants.{Loads, Exchanges}}
+use Rattle.percpu_rwsem.specs.declared.{transitions.Transition.Transition, writers.DownWriteStep.TheVariants.{Enters, AwaitsPassed, CallsBack as WCallsBack}}
+use Rattle.percpu_rwsem.specs.declared.writers.{UpWriteStep.TheVariants.{ClearsBlock, Exits}, DownWrite.DownWrite, UpWrite.UpWrite}
+use Rattle.percpu_rwsem.specs.declared.writers.{DownWriteStep.DownWriteStep, UpWriteStep.UpWriteStep}
+use Rattle.write_access.specs.{Phases.next as write_next, declared.phases.WritePhase.{TheVariants.{Takes, Wants as WWants}, WritePhase}}
+use Rattle.freeze_levels.specs.{Freezes.freeze_next, Thaws.thaw_next, declared.freezes.FreezeStep.TheVariants.{Closes, Cleans, SetsFs, SetsComplete}}
+use Rattle.freeze_levels.specs.declared.freezes.{FreezeStep.{TheVariants.Reopens as FReopens, FreezeStep}, Freeze.Freeze}
+use Rattle.freeze_levels.specs.declared.thaws.{ThawStep.{TheVariants.{LeavesLast, Reopens as TReopens}, ThawStep}, Thaw.Thaw}
+use Rattle.gated_tree.specs.{Calls.{CreateStepFits, SnapshotStepFits, TreePhaseFits}, Nodes.{unpacked, opens_in}, Phases.{next as tree_next, remove_next}}
+use Rattle.gated_tree.specs.{Phases.{grow_next, move_next, mark_next, create_next, snapshot_next, open_next}, Roles.RoleHolds}
 use Rattle.gated_tree.specs.declared.changes.CreateStep.TheVariants.{LoadsDirectory, LoadsNode, ChargesChild, TakesNode, RefundsChild}
 use Rattle.gated_tree.specs.declared.changes.RemoveStep.TheVariants.{LoadsFile as LoadsFileToRemove, FreesNode, MarksRemoved}
-use Rattle.gated_tree.specs.declared.growth.GrowStep.TheVariants.{LoadsFile as LoadsFileToGrow, GrowsFile}
-use Rattle.gated_tree.specs.declared.changes.MoveStep.TheVariants.{LoadsFile as LoadsFileToMove, LoadsDirectory as LoadsTarget, ChargesChild as ChargesTarget, MovesFile, RefundsChild as RefundsOne}
-use Rattle.gated_tree.specs.declared.marks.MarkStep.TheVariants.{LoadsFile as LoadsFileToMark, MarksFile}
-use Rattle.gated_tree.specs.declared.snapshots.SnapshotStep.TheVariants.{LoadsNode as SLoadsNode}
-use Rattle.gated_tree.specs.declared.phases.TreePhase.TheVariants.{Create as Creates, Remove as Removes, Grow as Grows, MoveTo as Moves, Mark as TreeMarks, OpenFile as OpensOne, Snapshot as Snapshots, ClearMarks as TreeClears}
-use Rattle.gate_world.specs.declared.work.Phase.TheVariants.{Mounts, Remounts, DownReads, UpReads, Callbacks, Writes, Freezes, Thaws, Trees, Closes}
-use Rattle.gated_tree.specs.Phases.{next as tree_next, remove_next, grow_next, move_next, mark_next, create_next, snapshot_next, open_next}
-use Rattle.write_access.specs.Phases.{next as write_next}
+use Rattle.gated_tree.specs.declared.changes.MoveStep.TheVariants.{LoadsFile as LoadsFileToMove, LoadsDirectory as LoadsTarget, ChargesChild as ChargesTarget}
+use Rattle.gated_tree.specs.declared.changes.{MoveStep.TheVariants.{MovesFile, RefundsChild as RefundsOne}, Create.Create, Remove.Remove, MoveTo.MoveTo}
+use Rattle.gated_tree.specs.declared.changes.{CreateStep.CreateStep, RemoveStep.RemoveStep, MoveStep.MoveStep}
+use Rattle.gated_tree.specs.declared.growth.{GrowStep.{TheVariants.{LoadsFile as LoadsFileToGrow, GrowsFile}, GrowStep}, Grow.Grow}
+use Rattle.gated_tree.specs.declared.{marks.{MarkStep.{TheVariants.{LoadsFile as LoadsFileToMark, MarksFile}, MarkStep}, Mark.Mark}, opens.OpenFile.OpenFile}
+use Rattle.gated_tree.specs.declared.opens.OpenStep.{OpenStep, TheVariants.{LoadsFile as LoadsFileToOpen, OpensFile}}
+use Rattle.gated_tree.specs.declared.phases.TreePhase.TheVariants.{Create as Creates, Remove as Removes, Grow as Grows, MoveTo as Moves, Mark as TreeMarks}
+use Rattle.gated_tree.specs.declared.phases.TreePhase.{TheVariants.{OpenFile as OpensOne, Snapshot as Snapshots, ClearMarks as TreeClears}, TreePhase}
+use Rattle.gated_tree.specs.declared.snapshots.{SnapshotStep.{TheVariants.LoadsNode as SLoadsNode, SnapshotStep}, Snapshot.Snapshot}
+use Rattle.gate_world.specs.{Configs.IsWithin, Courses.{MayHold, MayFind, CloseMayFind, OpenMayFind, EventsMayBe}, Fits.{FreezeFits, ThawFits, WriteFits}}
+use Rattle.gate_world.specs.{Fits.{PhaseFits, CloseFits, HasFile, file_of, Fits}, Holdings.Holdings, Remounts.RemountFits, Rules.{IsGood, Tree, Files}}
+use Rattle.gate_world.specs.{Rules.{Fitting, SyncAt, SyncHoldsIn}, Trees.{tree_bounds, tree_role_of}, Views.{held_of, has_open}, Work.next_of, Worlds.World}
+use Rattle.gate_world.specs.declared.{config.Config.Config, work.Phase.TheVariants.{Mounts, Remounts, DownReads, UpReads, Callbacks, Writes, Freezes, Thaws}}
+use Rattle.gate_world.specs.declared.work.Phase.{TheVariants.{Trees, Closes}, Phase}
 use Rattle.gated_tree.proofs.Packing.{packed_unpacks}
-use Rattle.gate_world.specs.Rules.{IsGood, Tree, Files, Fitting, SyncAt, SyncHoldsIn}
-use Rattle.cpu_words.specs.declared.names.WordName.TheVariants.{Node, Sync}
-use Rattle.gate_world.specs.Courses.{MayHold, MayFind, CloseMayFind, OpenMayFind, EventsMayBe}
-use Rattle.gate_world.specs.declared.config.Config.{Config}
-use Rattle.cpu_words.specs.declared.names.WordName.{WordName}
-use Rattle.mount_counts.specs.declared.phases.Want.{Want}
-use Rattle.mount_counts.specs.declared.phases.Change.{Change}
-use Rattle.mount_counts.specs.declared.remounts.Remount.{Remount}
-use Rattle.percpu_rwsem.specs.declared.transitions.Transition.{Transition}
-use Rattle.percpu_rwsem.specs.declared.readers.DownRead.{DownRead}
-use Rattle.percpu_rwsem.specs.declared.callbacks.Callback.{Callback}
-use Rattle.percpu_rwsem.specs.declared.writers.DownWrite.{DownWrite}
-use Rattle.percpu_rwsem.specs.declared.writers.UpWrite.{UpWrite}
-use Rattle.write_access.specs.declared.phases.WritePhase.{WritePhase}
-use Rattle.freeze_levels.specs.declared.freezes.Freeze.{Freeze}
-use Rattle.freeze_levels.specs.declared.thaws.Thaw.{Thaw}
-use Rattle.gated_tree.specs.declared.changes.Create.{Create}
-use Rattle.gated_tree.specs.declared.changes.Remove.{Remove}
-use Rattle.gated_tree.specs.declared.growth.Grow.{Grow}
-use Rattle.gated_tree.specs.declared.changes.MoveTo.{MoveTo}
-use Rattle.gated_tree.specs.declared.marks.Mark.{Mark}
-use Rattle.gated_tree.specs.declared.snapshots.Snapshot.{Snapshot}
-use Rattle.gated_tree.specs.declared.phases.TreePhase.{TreePhase}
-use Rattle.gate_world.specs.declared.work.Phase.{Phase}
-use Rattle.file_closes.specs.declared.phases.ClosePhase.{ClosePhase}
-use Rattle.file_closes.specs.declared.phases.ClosePhase.TheVariants.{LoadsFile as CloseLoadsFile, LowersCount, Enters as EntersLevel, FreesNode as ClosesNode}
-use Rattle.file_closes.specs.Phases.{next as close_next}
-use Rattle.gated_tree.specs.declared.opens.OpenFile.{OpenFile}
-use Rattle.gated_tree.specs.declared.opens.OpenStep.{OpenStep}
-use Rattle.gated_tree.specs.declared.opens.OpenStep.TheVariants.{LoadsFile as LoadsFileToOpen, OpensFile}
+use Rattle.cpu_words.specs.{Hooks.HookAnswer, Words.read, declared.names.WordName.{TheVariants.{Node, Sync}, WordName}}
+use Rattle.file_closes.specs.{Phases.next as close_next, declared.phases.ClosePhase.{ClosePhase, TheVariants.{LoadsFile as CloseLoadsFile, LowersCount}}}
+use Rattle.file_closes.specs.declared.phases.ClosePhase.TheVariants.{Enters as EntersLevel, FreesNode as ClosesNode}
 use Rattle.finite_sums.specs.Sums.{update, total}
 use Rattle.finite_sums.proofs.Totals.{total_at, total_updated, total_bound, each_updated}
 use Rattle.access_model.specs.States.{one_if, most_tasks}
 use Rattle.access_model.proofs.Openers.{most_tasks_is, one_le}
-use Rattle.gated_tree.specs.Nodes.{unpacked, opens_in}
-use Rattle.gated_tree.specs.Roles.{RoleHolds}
-use Rattle.gate_world.specs.Configs.{IsWithin}
-use Rattle.gate_world.specs.Worlds.{World}
-use Rattle.mount_counts.specs.declared.phases.WantStep.{WantStep}
-use Rattle.mount_counts.specs.declared.phases.ChangeStep.{ChangeStep}
-use Rattle.mount_counts.specs.declared.remounts.RemountStep.{RemountStep}
-use Rattle.percpu_rwsem.specs.Transitions.{transition_next}
-use Rattle.percpu_rwsem.specs.declared.readers.DownReadStep.{DownReadStep}
-use Rattle.percpu_rwsem.specs.declared.callbacks.CallbackStep.{CallbackStep}
-use Rattle.percpu_rwsem.specs.declared.writers.DownWriteStep.{DownWriteStep}
-use Rattle.percpu_rwsem.specs.declared.writers.UpWriteStep.{UpWriteStep}
-use Rattle.freeze_levels.specs.declared.freezes.FreezeStep.{FreezeStep}
-use Rattle.freeze_levels.specs.declared.thaws.ThawStep.{ThawStep}
-use Rattle.gated_tree.specs.declared.changes.CreateStep.{CreateStep}
-use Rattle.gated_tree.specs.declared.changes.RemoveStep.{RemoveStep}
-use Rattle.gated_tree.specs.declared.growth.GrowStep.{GrowStep}
-use Rattle.gated_tree.specs.declared.changes.MoveStep.{MoveStep}
-use Rattle.gated_tree.specs.declared.marks.MarkStep.{MarkStep}
-use Rattle.gated_tree.specs.declared.snapshots.SnapshotStep.{SnapshotStep}
-use Rattle.cpu_words.specs.Hooks.{HookAnswer}
-use Rattle.cpu_words.specs.Words.{read}
-use Rattle.gate_world.specs.Work.{next_of}
-use Rattle.mount_counts.specs.Phases.{want_next, change_next}
-use Rattle.gate_world.specs.Remounts.{RemountFits}
-use Rattle.percpu_rwsem.specs.Readers.{down_read_next}
-use Rattle.percpu_rwsem.specs.Callbacks.{callback_next}
-use Rattle.percpu_rwsem.specs.Writers.{down_write_next, up_write_next}
-use Rattle.gate_world.specs.Fits.{FreezeFits, ThawFits, WriteFits, PhaseFits, CloseFits, HasFile, file_of, Fits}
-use Rattle.freeze_levels.specs.Thaws.{thaw_next}
-use Rattle.gated_tree.specs.Calls.{CreateStepFits, SnapshotStepFits, TreePhaseFits}
-use Rattle.gate_world.specs.Views.{held_at, holds_level, has_open}
-use Rattle.mount_counts.specs.Remounts.{remount_next}
-use Rattle.freeze_levels.specs.Freezes.{freeze_next}
-use Rattle.gate_world.specs.Trees.{tree_bounds, tree_role_of}
 
 -- the word of a node is that of one of the tree's, and a sync word that of one of the levels
 abbrev IsThere : Config → WordName → Type 0
@@ -141,10 +91,10 @@ module _ (c : Config) where
   up_write_word x ClearsBlock l1 l3 = tt
   up_write_word x (Exits transition) l1 l3 = transition_word x.level transition l1 l3
 
-  write_word : (t : ℕ) (held : ℕ → ℕ) (levels : ℕ → Bool) (x : WritePhase) → WriteFits c t held levels x → IsThere c (write_next x).0
-  write_word t held levels (Takes m r) fits = read_word r r.step fits.0.0 fits.0.1
-  write_word t held levels (WWants w) fits = want_word w w.step
-  write_word t held levels other fits = tt
+  write_word : (t : ℕ) (held : Holdings) (x : WritePhase) → WriteFits c t held x → IsThere c (write_next x).0
+  write_word t held (Takes m r) fits = read_word r r.step fits.0.0 fits.0.1
+  write_word t held (WWants w) fits = want_word w w.step
+  write_word t held other fits = tt
 
   freeze_word : (x : Freeze) (s : FreezeStep) (hook : HookAnswer) → FreezeFits c x.holder s → IsThere c (freeze_next x s hook).0
   freeze_word x (Closes d) hook fits = down_write_word d d.step fits.0 fits.1
@@ -199,12 +149,12 @@ module _ (c : Config) where
   open_word x LoadsFileToOpen lt = lt
   open_word x (OpensFile file) lt = lt
 
-  close_word : (t : ℕ) (levels : ℕ → Bool) (x : ClosePhase) → CloseFits c t levels x → IsThere c (close_next x).0
-  close_word t levels (CloseLoadsFile x) fits = fits.0
-  close_word t levels (LowersCount x node) fits = fits.0.0
-  close_word t levels (EntersLevel f node r) fits = read_word r r.step fits.2.0 fits.2.1
-  close_word t levels (ClosesNode f p node) fits = fits.0
-  close_word t levels other fits = tt
+  close_word : (t : ℕ) (held : Holdings) (x : ClosePhase) → CloseFits c t held x → IsThere c (close_next x).0
+  close_word t held (CloseLoadsFile x) fits = fits.0
+  close_word t held (LowersCount x node) fits = fits.0.0
+  close_word t held (EntersLevel f node r) fits = read_word r r.step fits.2.0 fits.2.1
+  close_word t held (ClosesNode f p node) fits = fits.0
+  close_word t held other fits = tt
 
   tree_word : (t : ℕ) (x : TreePhase) (hook : HookAnswer) → TreePhaseFits (tree_bounds c) t x → IsThere c (tree_next x hook).0
   tree_word t (Creates x) hook fits = create_word x x.step fits.0 fits.2
@@ -217,20 +167,20 @@ module _ (c : Config) where
   tree_word t (TreeClears x) hook fits = fits.0
 
   -- the word of each phase's next event
-  phase_word : (t : ℕ) (held : ℕ → ℕ) (levels : ℕ → Bool) (phase : Phase) (hook : HookAnswer) → PhaseFits c t held levels phase →
+  phase_word : (t : ℕ) (held : Holdings) (phase : Phase) (hook : HookAnswer) → PhaseFits c t held phase →
       IsThere c (next_of phase hook).0
-  phase_word t held levels (Mounts (MWants x)) hook fits = want_word x x.step
-  phase_word t held levels (Mounts (MDrops m p)) hook fits = tt
-  phase_word t held levels (Mounts (MChanges x)) hook fits = change_word x x.step
-  phase_word t held levels (Remounts x) hook fits = remount_word x x.step hook fits.5
-  phase_word t held levels (DownReads r) hook fits = read_word r r.step fits.0 fits.1
-  phase_word t held levels (UpReads u) hook fits = tt
-  phase_word t held levels (Callbacks b) hook fits = callback_word b b.step fits.0 fits.1
-  phase_word t held levels (Writes x) hook fits = write_word t held levels x fits
-  phase_word t held levels (Freezes x) hook fits = freeze_word x x.step hook fits.5
-  phase_word t held levels (Thaws x) hook fits = thaw_word x x.step hook fits.2
-  phase_word t held levels (Trees x) hook fits = tree_word t x hook fits.0
-  phase_word t held levels (Closes x) hook fits = close_word t levels x fits
+  phase_word t held (Mounts (MWants x)) hook fits = want_word x x.step
+  phase_word t held (Mounts (MDrops m p)) hook fits = tt
+  phase_word t held (Mounts (MChanges x)) hook fits = change_word x x.step
+  phase_word t held (Remounts x) hook fits = remount_word x x.step hook fits.5
+  phase_word t held (DownReads r) hook fits = read_word r r.step fits.0 fits.1
+  phase_word t held (UpReads u) hook fits = tt
+  phase_word t held (Callbacks b) hook fits = callback_word b b.step fits.0 fits.1
+  phase_word t held (Writes x) hook fits = write_word t held x fits
+  phase_word t held (Freezes x) hook fits = freeze_word x x.step hook fits.5
+  phase_word t held (Thaws x) hook fits = thaw_word x x.step hook fits.2
+  phase_word t held (Trees x) hook fits = tree_word t x hook fits.0
+  phase_word t held (Closes x) hook fits = close_word t held x fits
 
   -- the words of a good world hold what they may
   held_well : (w : World) → IsGood c w → (word : WordName) → IsThere c word → MayHold word (read w.words word)
@@ -261,7 +211,7 @@ module _ (c : Config) where
     node_packed : (f : ℕ) → f < c.nodes → is_some (unpacked (w.words.node f)) ≡ true
     node_packed f lf = ap is_some (packed_unpacks (w.words.node f) ((good Tree).words f lf).packed)
 
-    close_finds : (x : ClosePhase) → (w.views t).phase ≡ Some (Closes x) → CloseFits c t (holds_level (w.views t)) x →
+    close_finds : (x : ClosePhase) → (w.views t).phase ≡ Some (Closes x) → CloseFits c t (held_of (w.views t)) x →
         CloseMayFind x (read w.words (close_next x).0)
     close_finds (CloseLoadsFile x) is fits = (
       node_packed x.file fits.0,
@@ -281,22 +231,22 @@ module _ (c : Config) where
     open_finds x (OpensFile file) own lf = node_packed x.file lf
 
     tree_finds : (x : TreePhase) (hook : HookAnswer) → (w.views t).phase ≡ Some (Trees x) →
-        PhaseFits c t (held_at (w.views t)) (holds_level (w.views t)) (Trees x) →
+        PhaseFits c t (held_of (w.views t)) (Trees x) →
         MayFind (Trees x) (tree_next x hook).0 (read w.words (tree_next x hook).0)
     tree_finds (OpensOne x) hook is fits =
         open_finds x x.step (subst (λ p. HasFile (has_open (w.views t)) (file_of p)) is ((good Files).own t lt)) fits.0.0
     tree_finds x hook is fits = held_well w good (tree_next x hook).0 (tree_word t x hook fits.0)
 
     finds_well : (phase : Phase) (hook : HookAnswer) → (w.views t).phase ≡ Some phase →
-        PhaseFits c t (held_at (w.views t)) (holds_level (w.views t)) phase →
+        PhaseFits c t (held_of (w.views t)) phase →
         MayFind phase (next_of phase hook).0 (read w.words (next_of phase hook).0)
     finds_well (Closes x) hook is fits = close_finds x is fits
     finds_well (Trees x) hook is fits = tree_finds x hook is fits
     finds_well phase hook is fits =
-        held_well w good (next_of phase hook).0 (phase_word t (held_at (w.views t)) (holds_level (w.views t)) phase hook fits)
+        held_well w good (next_of phase hook).0 (phase_word t (held_of (w.views t)) phase hook fits)
 
   -- so each event is on such a word
   pub events_may_be : IsWithin c → (w : World) → IsGood c w → EventsMayBe c w
   events_may_be within w good t lt phase hook is =
       finds_well within w good t lt phase hook is
-      (subst (Fits c t (held_at (w.views t)) (holds_level (w.views t))) is (good Fitting t lt))
+      (subst (Fits c t (held_of (w.views t))) is (good Fitting t lt))

@@ -1,28 +1,28 @@
 -- What a call at the tree may do: nobody else is in its way, and the model gives it leave.
-use Rattle.std.proofs.{Common.{ap, ◌≡◌, ℕ, ◌<◌, ◌≤◌, inl, inr, refl, arith, Bool, true, false, subst, leb-true}, lemmas.Bool.{cases_Bool, Decides.eqb_tells}}
-use Rattle.std.specs.Prelude.{◌==◌, Option, Some, None, List, if◌then◌else◌, nat_le}
-use Rattle.finite_sums.{proofs.Totals.{total_at, total_none}, specs.Sums.total}
 use Rattle.access_model.specs.{Actions.IsWriter, declared.actions.Action.Action}
 use Rattle.cpu_words.specs.Hooks.{HookAnswer}
-use Rattle.gate_counts.specs.Gates.{BarringHolds, admitted, unread}
-use Rattle.gated_tree.specs.{Calls.phase_role, Nodes.word_of}
-use Rattle.gated_tree.specs.Phases.{after, create_after, remove_after, grow_after, move_after, mark_after, mark_done, snapshot_after, open_after}
-use Rattle.gated_tree.specs.Roles.{cleared, sealed_by, MayDirty, NobodyReads, MayRemove, is_bare, bare_by}
-use Rattle.gated_tree.specs.declared.changes.{Create.Create, CreateStep.CreateStep, MoveStep.MoveStep, MoveTo.MoveTo, Remove.Remove, RemoveStep.RemoveStep}
-use Rattle.gated_tree.specs.declared.{growth.{Grow.Grow, GrowStep.GrowStep}, marks.{Mark.Mark, MarkStep.MarkStep}, opens.{OpenFile.OpenFile, OpenStep.OpenStep}}
-use Rattle.gated_tree.specs.declared.{phases.TreePhase.TreePhase, snapshots.{Snapshot.Snapshot, SnapshotStep.SnapshotStep}}
-use Rattle.mount_counts.specs.{Roles.{mount_as_gate, barring_of, skips}, Sets.has_mount, declared.remounts.RemountStep.RemountStep}
-use Rattle.tree_laws.specs.{Events.{HasLeave, MayClean}, Steps.{MayStep, MayMark}}
+use Rattle.finite_sums.proofs.Totals.{total_at, total_none}
+use Rattle.finite_sums.specs.Sums.{total}
 use Rattle.freeze_levels.specs.declared.freezes.FreezeStep.{FreezeStep}
+use Rattle.gate_counts.specs.Gates.{BarringHolds, admitted, unread}
+use Rattle.gate_frames.proofs.{TreeHolders.{IsOpen, both_true, mount_there, none_past, writer_apart}, TreeRoles.{call_plain, close_apart, freeze_apart}}
+use Rattle.gate_frames.proofs.{TreeRoles.snapshot_apart, Trees.{nobody_reads, sealed_frozen}}
+use Rattle.gate_world.specs.{Configs.model_limits, Fits.{Fits, HasFile, PhaseFits, TreeAccess, file_of}, Holdings.Holdings, Operations.is_faulter}
+use Rattle.gate_world.specs.{Operations.{is_writer, may_mark, some_mount}, Remounts.{loop_role, remount_role, remount_sets}, Roles.freeze_stage_role}
+use Rattle.gate_world.specs.{Roles.{freeze_tree_role, nodes_noted, remount_tree_role}, Rules.{AtMount, Files, Fitting, IsGood, Owner, at_mount, remounts}}
+use Rattle.gate_world.specs.{Rules.role_of, Shown.{shown, stage_role_of}, Snapshots.values_noted, Trees.{is_bare_at, tree_bounds, tree_of, tree_role_of}}
+use Rattle.gate_world.specs.{Trees.tree_roles, Views.{has_open, held_at, held_of, holds_level}, Worlds.World, declared.config.Config.Config}
+use Rattle.gate_world.specs.declared.{views.Traced.Traced, work.Phase.Phase}
+use Rattle.gated_tree.specs.{Calls.phase_role, Nodes.word_of, Phases.{after, create_after, grow_after, mark_after, mark_done, move_after, open_after}}
+use Rattle.gated_tree.specs.{Phases.{remove_after, snapshot_after}, Roles.{MayDirty, MayRemove, NobodyReads, bare_by, cleared, is_bare, sealed_by}}
+use Rattle.gated_tree.specs.declared.changes.{Create.Create, CreateStep.CreateStep, MoveStep.MoveStep, MoveTo.MoveTo, Remove.Remove, RemoveStep.RemoveStep}
+use Rattle.gated_tree.specs.declared.{growth.{Grow.Grow, GrowStep.GrowStep}, marks.{Mark.Mark, MarkStep.MarkStep}, opens.OpenFile.OpenFile}
+use Rattle.gated_tree.specs.declared.{opens.OpenStep.OpenStep, phases.TreePhase.TreePhase, snapshots.{Snapshot.Snapshot, SnapshotStep.SnapshotStep}}
+use Rattle.mount_counts.specs.{Roles.{barring_of, mount_as_gate, skips}, Sets.has_mount, declared.remounts.RemountStep.RemountStep}
 use Rattle.stage_laws.specs.Roles.{passed_by}
-use Rattle.gate_world.specs.{Configs.model_limits, Fits.{HasFile, file_of, Fits, PhaseFits, TreeAccess}}
-use Rattle.gate_world.specs.{Operations.{is_writer, is_faulter, may_mark, some_mount}, Remounts.{loop_role, remount_role, remount_sets}}
-use Rattle.gate_world.specs.{Rules.{Files, AtMount, at_mount, role_of, IsGood, Fitting, Owner, remounts}, Shown.shown, Snapshots.values_noted}
-use Rattle.gate_world.specs.Stages.{stage_role_of, freeze_stage_role}
-use Rattle.gate_world.specs.Trees.{is_bare_at, tree_bounds, tree_of, tree_role_of, tree_roles, remount_tree_role, freeze_tree_role, nodes_noted}
-use Rattle.gate_world.specs.{Views.{has_open, held_at, holds_level}, Worlds.World, declared.{config.Config.Config, views.Traced.Traced, work.Phase.Phase}}
-use Rattle.gate_frames.proofs.TreeHolders.{none_past, IsOpen, both_true, mount_there, writer_apart}
-use Rattle.gate_frames.proofs.{TreeRoles.{call_plain, snapshot_apart, close_apart, freeze_apart}, Trees.{nobody_reads, sealed_frozen}}
+use Rattle.std.proofs.{Common.{Bool, ap, arith, false, inl, inr, leb-true, refl, subst, true, ℕ, ◌<◌, ◌≡◌, ◌≤◌}, lemmas.Bool.{cases_Bool, Decides.eqb_tells}}
+use Rattle.std.specs.Prelude.{List, None, Option, Some, if◌then◌else◌, nat_le, ◌==◌}
+use Rattle.tree_laws.specs.{Events.{HasLeave, MayClean}, Steps.{MayMark, MayStep}}
 
 pub open_unsealed : (sb stage : ℕ) → sb ≡ 0 → stage < 3 → sealed_by sb stage ≡ 0
 open_unsealed sb stage writable low =
@@ -44,11 +44,11 @@ freeze_clears nodes FreezeStep.SetsFs h = absurd (omega (arith, h))
 freeze_clears nodes s h = refl
 
 -- a clearing on its own there is not
-tree_clears : (c : Config) (held : ℕ → ℕ) (levels : ℕ → Bool) (values : ℕ → ℕ) (x : TreePhase) → TreeAccess c held levels x →
+tree_clears : (c : Config) (held : Holdings) (values : ℕ → ℕ) (x : TreePhase) → TreeAccess c held x →
     cleared (phase_role values x) ≡ 0
-tree_clears c held levels values (TreePhase.Snapshot x) may = (snapshot_apart x.nodes values x.step).0
-tree_clears c held levels values (TreePhase.ClearMarks x) may = absurd may
-tree_clears c held levels values x may = (call_plain values x refl).cleared_none
+tree_clears c held values (TreePhase.Snapshot x) may = (snapshot_apart x.nodes values x.step).0
+tree_clears c held values (TreePhase.ClearMarks x) may = absurd may
+tree_clears c held values x may = (call_plain values x refl).cleared_none
 
 tree_bares : (values : ℕ → ℕ) (x : TreePhase) → is_bare (phase_role values x) ≡ 0
 tree_bares values (TreePhase.Snapshot x) = (snapshot_apart x.nodes values x.step).1
@@ -80,14 +80,14 @@ module _ (c : Config) (w : World) (good : IsGood c w) (t : ℕ) (lt : t < c.task
   phase_bares p is = refl
 
 -- so nothing that a task is at clears a mark, where no remount is beginning and the task hasn't passed level 2
-phase_clears : (c : Config) (t : ℕ) (held : ℕ → ℕ) (levels : ℕ → Bool) (trace : List Traced) (p : Option Phase) → Fits c t held levels p →
+phase_clears : (c : Config) (t : ℕ) (held : Holdings) (trace : List Traced) (p : Option Phase) → Fits c t held p →
     remounts p ≡ 0 → passed_by (stage_role_of p) < 2 → cleared (tree_role_of trace p) ≡ 0
-phase_clears c t held levels trace (Some (Phase.Remounts x)) fits unset unpassed = remount_clears x.nodes x.step unset
-phase_clears c t held levels trace (Some (Phase.Freezes x)) fits unset unpassed = freeze_clears x.nodes x.step unpassed
-phase_clears c t held levels trace (Some (Phase.Trees x)) fits unset unpassed =
-    tree_clears c held levels (values_noted (nodes_noted x) trace) x fits.1
-phase_clears c t held levels trace (Some (Phase.Closes x)) fits unset unpassed = (close_apart x).0
-phase_clears c t held levels trace p fits unset unpassed = refl
+phase_clears c t held trace (Some (Phase.Remounts x)) fits unset unpassed = remount_clears x.nodes x.step unset
+phase_clears c t held trace (Some (Phase.Freezes x)) fits unset unpassed = freeze_clears x.nodes x.step unpassed
+phase_clears c t held trace (Some (Phase.Trees x)) fits unset unpassed =
+    tree_clears c held (values_noted (nodes_noted x) trace) x fits.1
+phase_clears c t held trace (Some (Phase.Closes x)) fits unset unpassed = (close_apart x).0
+phase_clears c t held trace p fits unset unpassed = refl
 
 module _ (c : Config) (w : World) (good : IsGood c w) where
   -- where nobody has shut the levels and mounts, a file may get dirty
@@ -95,7 +95,7 @@ module _ (c : Config) (w : World) (good : IsGood c w) where
   may_dirty i low way = record {
     unsealed = open_unsealed w.words.sb w.words.stage way.writable way.unfrozen;
     nobody_clears = total_none c.tasks (λ y. cleared (tree_roles w y)) (λ y ly.
-        phase_clears c y (held_at (w.views y)) (holds_level (w.views y)) (w.views y).trace (w.views y).phase (good Fitting y ly)
+        phase_clears c y (held_of (w.views y)) (w.views y).trace (w.views y).phase (good Fitting y ly)
         (omega (arith, way.unset, (good Owner).remounting, total_at c.tasks y (λ z. remounts (w.views z).phase) ly))
         (omega (arith, low, way.unpassed y ly)));
   }
@@ -111,17 +111,17 @@ module _ (c : Config) (w : World) (good : IsGood c w) where
   ]
 
   module _ (t : ℕ) (lt : t < c.tasks) where
-    pub writer_open : is_writer c (held_at (w.views t)) (holds_level (w.views t)) ≡ true → IsOpen w c.tasks 1
+    pub writer_open : is_writer c (held_of (w.views t)) ≡ true → IsOpen w c.tasks 1
     writer_open writes =
         let both : (holds_level (w.views t) 1 ≡ true) × (some_mount c.mounts (held_at (w.views t)) ≡ true) = both_true _ _ writes in
         writer_apart c w good t lt 1 (inl refl) both.0 both.1
 
-    pub faulter_open : is_faulter c (held_at (w.views t)) (holds_level (w.views t)) ≡ true → IsOpen w c.tasks 2
+    pub faulter_open : is_faulter c (held_of (w.views t)) ≡ true → IsOpen w c.tasks 2
     faulter_open faults =
         let both : (holds_level (w.views t) 2 ≡ true) × (some_mount c.mounts (held_at (w.views t)) ≡ true) = both_true _ _ faults in
         writer_apart c w good t lt 2 (inr refl) both.0 both.1
 
-    may_remove : is_writer c (held_at (w.views t)) (holds_level (w.views t)) ≡ true → MayRemove (tree_bounds c) (tree_of w)
+    may_remove : is_writer c (held_of (w.views t)) ≡ true → MayRemove (tree_bounds c) (tree_of w)
     may_remove writes =
         let way : IsOpen w c.tasks 1 = writer_open writes in
         let both : (holds_level (w.views t) 1 ≡ true) × (some_mount c.mounts (held_at (w.views t)) ≡ true) = both_true _ _ writes in
@@ -134,7 +134,7 @@ module _ (c : Config) (w : World) (good : IsGood c w) where
         }
 
     -- nobody is in the way of a page fault or a write-back
-    may_mark_now : (dirty : Bool) → may_mark dirty c (held_at (w.views t)) (holds_level (w.views t)) ≡ true →
+    may_mark_now : (dirty : Bool) → may_mark dirty c (held_of (w.views t)) ≡ true →
         MayMark dirty (tree_bounds c) (tree_of w)
     may_mark_now true may =
         let way : IsOpen w c.tasks 2 = faulter_open may in
@@ -142,7 +142,7 @@ module _ (c : Config) (w : World) (good : IsGood c w) where
     may_mark_now false may = may_clean
 
     -- nor of any call
-    pub may_go : (x : TreePhase) → TreeAccess c (held_at (w.views t)) (holds_level (w.views t)) x →
+    pub may_go : (x : TreePhase) → TreeAccess c (held_of (w.views t)) x →
         MayStep (tree_bounds c) (tree_of w) x
     may_go (TreePhase.Create x) may = open_unread 1 (writer_open may)
     may_go (TreePhase.Remove x) may = (open_unread 1 (writer_open may), may_remove may)
@@ -155,8 +155,8 @@ module _ (c : Config) (w : World) (good : IsGood c w) where
 
     -- what a call at the tree says of its numbers and of its task's accesses
     pub call_fits : (x : TreePhase) → (w.views t).phase ≡ Some (Phase.Trees x) →
-        PhaseFits c t (held_at (w.views t)) (holds_level (w.views t)) (Phase.Trees x)
-    call_fits x e = subst (Fits c t (held_at (w.views t)) (holds_level (w.views t))) e (good Fitting t lt)
+        PhaseFits c t (held_of (w.views t)) (Phase.Trees x)
+    call_fits x e = subst (Fits c t (held_of (w.views t))) e (good Fitting t lt)
 
     pub may_step : (x : TreePhase) → (w.views t).phase ≡ Some (Phase.Trees x) → MayStep (tree_bounds c) (tree_of w) x
     may_step x e = may_go x (call_fits x e).1
@@ -171,7 +171,7 @@ module _ (c : Config) (w : World) (good : IsGood c w) where
     leave_if true action leave = leave
     leave_if false action leave = tt
 
-    writer_shown : is_writer c (held_at (w.views t)) (holds_level (w.views t)) ≡ true → IsWriter (model_limits c) (shown c w) t
+    writer_shown : is_writer c (held_of (w.views t)) ≡ true → IsWriter (model_limits c) (shown c w) t
     writer_shown writes =
         let both : (holds_level (w.views t) 1 ≡ true) × (some_mount c.mounts (held_at (w.views t)) ≡ true) = both_true _ _ writes in
         (both.0, mount_there c.mounts (held_at (w.views t)) both.1)
@@ -194,14 +194,14 @@ module _ (c : Config) (w : World) (good : IsGood c w) where
     move_leave x other found leave = tt
 
     -- a page fault has leave inside level 2, with an access at some mount; a write-back inside level 3
-    mark_leave_now : (dirty : Bool) (file : ℕ) → may_mark dirty c (held_at (w.views t)) (holds_level (w.views t)) ≡ true →
+    mark_leave_now : (dirty : Bool) (file : ℕ) → may_mark dirty c (held_of (w.views t)) ≡ true →
         HasLeave (model_limits c) (shown c w) t (mark_done dirty file)
     mark_leave_now true file may =
         let both : (holds_level (w.views t) 2 ≡ true) × (some_mount c.mounts (held_at (w.views t)) ≡ true) = both_true _ _ may in
         (both.0, mount_there c.mounts (held_at (w.views t)) both.1)
     mark_leave_now false file may = inl may
 
-    mark_leave : (x : Mark) (s : MarkStep) (found : ℕ) → may_mark x.dirty c (held_at (w.views t)) (holds_level (w.views t)) ≡ true →
+    mark_leave : (x : Mark) (s : MarkStep) (found : ℕ) → may_mark x.dirty c (held_of (w.views t)) ≡ true →
         LeaveFor (mark_after x s found).1
     mark_leave x MarkStep.LoadsFile found may = tt
     mark_leave x (MarkStep.MarksFile file) found may = leave_if (found == word_of file) _ (mark_leave_now x.dirty x.file may)
@@ -215,7 +215,7 @@ module _ (c : Config) (w : World) (good : IsGood c w) where
     snapshot_leave x other found = tt
 
     -- each call has leave for the action of its next event
-    pub call_leave : (x : TreePhase) (found : ℕ) (hook : HookAnswer) → TreeAccess c (held_at (w.views t)) (holds_level (w.views t)) x →
+    pub call_leave : (x : TreePhase) (found : ℕ) (hook : HookAnswer) → TreeAccess c (held_of (w.views t)) x →
         HasFile (has_open (w.views t)) (file_of (Some (Phase.Trees x))) → LeaveFor (after x found hook).1
     call_leave (TreePhase.Create x) found hook may own = create_leave x x.step found (writer_shown may)
     call_leave (TreePhase.Remove x) found hook may own = remove_leave x x.step found (writer_shown may)

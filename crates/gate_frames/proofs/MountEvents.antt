@@ -1,25 +1,17 @@
 -- What the events of want, drop and change touch: the rest of the rule stays.
 use Rattle.std.proofs.{Common.{Bool, arith, inl, inr, refl, sym, true, true≢false, ◌≡◌, ◌<◌, ◌⊎◌, subst, ℕ, ◌∙◌, ap, List}, lemmas.Bool.cases_Bool}
-use Rattle.std.specs.Prelude.{Some, false, sum, ◌==◌, if◌then◌else◌, None}
+use Rattle.std.specs.Prelude.{Some, false, sum, ◌==◌, if◌then◌else◌}
 use Rattle.access_model.specs.{Histories.{levels_of, opens_of}, Replies.map_next, declared.{actions.Action.Action, replies.Next.Next}}
 use Rattle.cpu_words.specs.{Hooks.HookAnswer, Touches.{event_of, found_by, left}, Words.{Words, put, read}}
 use Rattle.cpu_words.specs.declared.{events.Touch.Touch, names.WordName.WordName}
-use Rattle.gate_counts.specs.Levels.{Out as CountsNot}
-use Rattle.gated_tree.specs.Roles.{Out as OffTree}
 use Rattle.mount_counts.specs.Phases.{change_after, change_next, lock_failed, want_after, want_next, next, after}
 use Rattle.mount_counts.specs.declared.phases.{Change.Change, ChangeStep.ChangeStep, MountPhase.MountPhase, Want.Want, WantStep.WantStep}
-use Rattle.level_laws.specs.Roles.{Out as IsApart}
-use Rattle.stage_laws.specs.Roles.{Aside}
-use Rattle.holder_laws.specs.Roles.{Apart}
-use Rattle.gate_world.specs.{Fits.file_of, Found.is_load, Holders.holder_role_of}
-use Rattle.gate_world.specs.Levels.{inside, at_level, level_added_after, level_taken_after, level_role_of, sync_role_of, level_added_by, level_taken_by}
-use Rattle.gate_world.specs.Owners.{is_owned, takes_lock}
-use Rattle.gate_world.specs.Rules.{Fitting, Holds, IsGood, Known, Owner, Part, SameView, SameWords, Stages, Holding, StepKeeps, at_gates, change_owns, owns}
-use Rattle.gate_world.specs.Rules.{GateStepKeeps, Tree, AtLevel, SyncAt, Sections, Files}
-use Rattle.gate_world.specs.{Stages.stage_role_of, Trees.tree_role_of, Views.{phase_after, view_after, actions_after, has_open}}
-use Rattle.gate_world.specs.Worlds.{World, after_step, found_at, value_at, words_after}
-use Rattle.gate_world.specs.declared.{config.Config.Config, views.{Traced.Traced, View.View}, work.Phase.Phase}
-use Rattle.gate_frames.proofs.{Frames.{left_alone, level_view_as}, Known.{IsOwnersWork, known_after}, Words.load_same}
+use Rattle.gate_world.specs.{Found.is_load, Levels.{at_level, level_added_after, level_taken_after, level_added_by, level_taken_by}, Owners.is_owned}
+use Rattle.gate_world.specs.{Owners.takes_lock, Roles.{change_owns, Roles, no_roles, roles_of}, Rules.{AtMount, Holds, IsGood, Known, Owner, Part, SameView}}
+use Rattle.gate_world.specs.Rules.{SameWords, Stages, Holding, StepKeeps, at_gates, owns, GateStepKeeps, Tree, AtLevel, SyncAt, Sections, Files}
+use Rattle.gate_world.specs.{Trees.tree_role_of, Views.{phase_after, view_after, actions_after, has_open}, Worlds.{World, after_step, found_at, value_at}}
+use Rattle.gate_world.specs.{Worlds.words_after, declared.{config.Config.Config, views.View.View, work.Phase.Phase}}
+use Rattle.gate_frames.proofs.{Frames.{unwritten, left_alone, level_view_as}, Known.{IsOwnersWork, known_after}, Words.load_same}
 
 -- the words that want, drop and change write
 abbrev pub is_gate_word : WordName → Bool
@@ -57,56 +49,56 @@ pub known_is : (part : Part) → is_known_part part ≡ true → part ≡ Known
 known_is Known h = refl
 known_is part h = absurd (true≢false (sym h))
 
-same_words : (w : Words) (part : Part) → SameWords w w part
-same_words w Owner = (refl, refl)
-same_words w Holding = (refl, refl)
-same_words w Fitting = tt
-same_words w Known = (refl, refl, refl, refl, refl)
-same_words w Tree = (refl, refl, refl, refl, refl, refl)
-same_words w Files = refl
-same_words w (AtLevel i) = (refl, refl, refl)
-same_words w Sections = refl
-same_words w other = (refl, refl, refl, refl)
+-- the words but for these
+abbrev pub off_gates : Words → Words
+off_gates w = record w { umount = 0; flags = λ m. 0; count = λ m p. 0 }
 
--- a load leaves what each part reads
-pub load_unread : (w : Words) (word : WordName) (touch : Touch) (part : Part) → is_load touch ≡ true →
-    SameWords w (put w word (left touch (read w word))) part
-load_unread w word Touch.Load part h = subst (λ (ws : Words). SameWords w ws part) (sym (load_same w word)) (same_words w part)
-load_unread w word touch part h = absurd (true≢false (sym h))
+gate_written : (w : Words) (word : WordName) (n : ℕ) → is_gate_word word ≡ true → off_gates (put w word n) ≡ off_gates w
+gate_written w WordName.Umount n q = refl
+gate_written w (WordName.MountFlags m) n q = refl
+gate_written w (WordName.MountCount m p) n q = refl
+gate_written w word n q = absurd (true≢false (sym q))
 
--- and the words of want, drop and change are none that the parts of the stage, the holders, the marks, the nodes and the levels read
-unread : (part : Part) → at_gates part ≡ false → is_known_part part ≡ false → (word : WordName) → is_gate_word word ≡ true →
-    (w : Words) (n : ℕ) → SameWords w (put w word n) part
-unread Stages h k word q w n = (grind (arith, q), grind (arith, q), grind (arith, q), grind (arith, q))
-unread Holding h k word q w n = (grind (arith, q), grind (arith, q))
-unread Known h k word q w n = absurd (true≢false k)
-unread (AtLevel j) h k word q w n = (grind (arith, q), grind (arith, q), grind (arith, q))
-unread (SyncAt j) h k word q w n = (grind (arith, q), grind (arith, q), grind (arith, q), grind (arith, q))
-unread Sections h k word q w n = grind (arith, q)
-unread Tree h k word q w n = (grind (arith, q), grind (arith, q), grind (arith, q), grind (arith, q), grind (arith, q), grind (arith, q))
-unread Files h k word q w n = grind (arith, q)
-unread part h k word q w n = absurd (true≢false h)
+-- a load leaves all words
+pub load_left : (w : Words) (word : WordName) (touch : Touch) → is_load touch ≡ true → put w word (left touch (read w word)) ≡ w
+load_left w word Touch.Load h = load_same w word
+load_left w word touch h = absurd (true≢false (sym h))
 
--- what the parts that an event of want, drop or change doesn't touch read of its task's view is the same
+-- so they are as they were
+gate_words_left : (w : Words) (x : WordName × Touch) → IsGateTouch x → off_gates (put w x.0 (left x.1 (read w x.0))) ≡ off_gates w
+gate_words_left w x touches = elim touches [
+  | inl h ↦ ap off_gates (load_left w x.0 x.1 h)
+  | inr h ↦ gate_written w x.0 (left x.1 (read w x.0)) h
+]
+
+-- and the parts of the stage, the holders, the tree, the files and the levels read none of these
+unread : (part : Part) → at_gates part ≡ false → is_known_part part ≡ false → (old new : Words) → off_gates new ≡ off_gates old →
+    SameWords old new part
+unread Owner h k old new same = absurd (true≢false h)
+unread (AtMount m) h k old new same = absurd (true≢false h)
+unread Known h k old new same = absurd (true≢false k)
+unread part h k old new same = unwritten same part
+
+-- these roles but for those of want, drop and change
+abbrev pub off_mounts : Roles → Roles
+off_mounts r = record r { mount = no_roles.mount; owns = 0 }
+
+-- so what the parts that an event of one doesn't touch read of its task's view is the same
 record IsUnseen (old new : View) : Type 0 where
-  stage_same : stage_role_of new.phase ≡ stage_role_of old.phase
-  holder_same : holder_role_of new.phase ≡ holder_role_of old.phase
+  roles_same : off_mounts (roles_of new.phase) ≡ off_mounts (roles_of old.phase)
   tree_same : tree_role_of new.trace new.phase ≡ tree_role_of old.trace old.phase
   level_same : (i : ℕ) → at_level i new ≡ at_level i old
-  sync_same : (i : ℕ) → sync_role_of i new.phase ≡ sync_role_of i old.phase
-  inside_same : inside new.phase ≡ inside old.phase
   open_same : has_open new ≡ has_open old
-  file_same : file_of new.phase ≡ file_of old.phase
 
 unseen : (part : Part) → at_gates part ≡ false → is_known_part part ≡ false → (old new : View) → IsUnseen old new → SameView old new part
-unseen Stages h k old new same = same.stage_same
-unseen Holding h k old new same = same.holder_same
+unseen Stages h k old new same = λ j. (same.roles_same j).stage
+unseen Holding h k old new same = λ j. (same.roles_same j).holder
 unseen Known h k old new same = absurd (true≢false k)
 unseen Tree h k old new same = same.tree_same
-unseen Files h k old new same = (same.open_same, same.file_same)
+unseen Files h k old new same = (same.open_same, λ j. (same.roles_same j).file)
 unseen (AtLevel i) h k old new same = same.level_same i
-unseen (SyncAt i) h k old new same = same.sync_same i
-unseen Sections h k old new same = same.inside_same
+unseen (SyncAt i) h k old new same = λ j. (same.roles_same j).sync i
+unseen Sections h k old new same = λ j. (same.roles_same j).inside
 unseen part h k old new same = absurd (true≢false h)
 
 -- an event on a word of want, drop and change counts at no level
@@ -132,13 +124,10 @@ level_taken_load WordName.Umount Touch.Load taken h = refl
 level_taken_load word Touch.Load taken h = refl
 level_taken_load word touch taken h = absurd (true≢false (sym h))
 
-mounts_aside : (next : Next MountPhase) → stage_role_of (phase_after (map_next Phase.Mounts next)) ≡ Aside
-mounts_aside (Next.Go x) = refl
-mounts_aside other = refl
-
-mounts_part : (next : Next MountPhase) → holder_role_of (phase_after (map_next Phase.Mounts next)) ≡ Apart
-mounts_part (Next.Go x) = refl
-mounts_part other = refl
+-- want, drop and change have no role but at mounts, and own `umount` or not
+pub mounts_roles : (next : Next MountPhase) → off_mounts (roles_of (phase_after (map_next Phase.Mounts next))) ≡ no_roles
+mounts_roles (Next.Go x) = refl
+mounts_roles other = refl
 
 want_owns : (next : Next Want) → owns (phase_after (map_next Phase.Mounts (map_next MountPhase.Want next))) ≡ 0
 want_owns (Next.Go x) = refl
@@ -183,25 +172,7 @@ mounts_work w (MountPhase.Change x) hook = record {
   comes_to_own = change_comes x x.step (value_at w.words (Phase.Mounts (MountPhase.Change x)) hook);
 }
 
--- want, drop and change count at no level, have no part in its rcu_sync, and are inside no section
-mounts_count : (i : ℕ) (next : Next MountPhase) → level_role_of i (phase_after (map_next Phase.Mounts next)) ≡ CountsNot
-mounts_count i (Next.Go x) = refl
-mounts_count i other = refl
-
-pub mounts_apart : (i : ℕ) (next : Next MountPhase) → sync_role_of i (phase_after (map_next Phase.Mounts next)) ≡ IsApart
-mounts_apart i (Next.Go x) = refl
-mounts_apart i other = refl
-
-pub mounts_outside : (next : Next MountPhase) → inside (phase_after (map_next Phase.Mounts next)) ≡ 0
-mounts_outside (Next.Go x) = refl
-mounts_outside other = refl
-
--- nor has it to do with the tree
-mounts_off_tree : (trace : List Traced) (n : Next MountPhase) → tree_role_of trace (phase_after (map_next Phase.Mounts n)) ≡ OffTree
-mounts_off_tree trace (Next.Go phase) = refl
-mounts_off_tree trace other = refl
-
--- and they add no action at a level
+-- they add no action at a level
 want_levels : (x : Want) (s : WantStep) (found : ℕ) (actions : List Action) →
     levels_of (actions_after (want_after x s found).1 actions) ≡ levels_of actions
 want_levels x WantStep.LoadsSuperblock found actions = elim (cases_Bool (found == 0)) [ inl h ↦ rw h refl | inr h ↦ rw h refl ]
@@ -235,15 +206,13 @@ mounts_opens (MountPhase.Want x) found hook actions = want_opens x x.step found 
 mounts_opens (MountPhase.Drop m p) found hook actions = refl
 mounts_opens (MountPhase.Change x) found hook actions = change_opens x x.step found actions
 
-mounts_files : (n : Next MountPhase) → file_of (phase_after (map_next Phase.Mounts n)) ≡ None
-mounts_files (Next.Go phase) = refl
-mounts_files other = refl
-
 -- so their events are unseen at the levels
 mounts_unseen : (v : View) (x : MountPhase) (value : ℕ) (hook : HookAnswer) → v.phase ≡ Some (Phase.Mounts x) →
     IsUnseen v (view_after v (Phase.Mounts x) value hook)
 mounts_unseen v x value hook e =
     let found : ℕ = found_by (next x hook).1 value in
+    let here : off_mounts (roles_of v.phase) ≡ no_roles = ap (λ p. off_mounts (roles_of p)) e in
+    let there : off_mounts (roles_of (phase_after (map_next Phase.Mounts (after x found hook).0))) ≡ no_roles = mounts_roles (after x found hook).0 in
     let added : level_added_after (next x hook).0 (next x hook).1 (level_added_by v.events) ≡ level_added_by v.events =
     elim (mounts_touch x hook) [
       | inl h ↦ level_added_load (next x hook).0 (next x hook).1 (level_added_by v.events) h
@@ -255,16 +224,12 @@ mounts_unseen v x value hook e =
       | inr h ↦ level_taken_gate (next x hook).0 h (next x hook).1 (level_taken_by v.events)
     ] in
     record {
-      stage_same = mounts_aside (after x found hook).0 ∙ sym (ap stage_role_of e);
-      holder_same = mounts_part (after x found hook).0 ∙ sym (ap holder_role_of e);
-      tree_same = mounts_off_tree (view_after v (Phase.Mounts x) value hook).trace (after x found hook).0 ∙ sym (ap (tree_role_of v.trace) e);
+      roles_same = there ∙ sym here;
+      tree_same = (λ j. (there j).tree (view_after v (Phase.Mounts x) value hook).trace) ∙ sym (λ j. (here j).tree v.trace);
       level_same = λ i. level_view_as
           (ap (λ (f : ℕ → Bool). if f i then 1 else 0) (mounts_levels x found hook v.actions))
-          (ap (λ f. f i) added) (ap (λ f. f i) taken) (mounts_count i (after x found hook).0 ∙ sym (ap (level_role_of i) e));
-      sync_same = λ i. mounts_apart i (after x found hook).0 ∙ sym (ap (sync_role_of i) e);
-      inside_same = mounts_outside (after x found hook).0 ∙ sym (ap inside e);
+          (ap (λ f. f i) added) (ap (λ f. f i) taken) ((λ j. (there j).count i) ∙ sym (λ j. (here j).count i));
       open_same = mounts_opens x found hook v.actions;
-      file_same = mounts_files (after x found hook).0 ∙ sym (ap file_of e);
     }
 
 -- what an event of want, drop or change leaves of the other parts
@@ -277,10 +242,7 @@ others_hold c w t lt good hook x e part h true k =
 others_hold c w t lt good hook x e part h false k =
     left_alone c w t lt part (words_after w.words (Phase.Mounts x) hook)
     (view_after (w.views t) (Phase.Mounts x) (value_at w.words (Phase.Mounts x) hook) hook)
-    (elim (mounts_touch x hook) [
-      | inl f ↦ load_unread w.words (next x hook).0 (next x hook).1 part f
-      | inr f ↦ unread part h k (next x hook).0 f w.words (left (next x hook).1 (read w.words (next x hook).0))
-    ])
+    (unread part h k w.words (words_after w.words (Phase.Mounts x) hook) (gate_words_left w.words (next x hook) (mounts_touch x hook)))
     (unseen part h k (w.views t) (view_after (w.views t) (Phase.Mounts x) (value_at w.words (Phase.Mounts x) hook) hook)
     (mounts_unseen (w.views t) x (value_at w.words (Phase.Mounts x) hook) hook e)) (good part)
 

@@ -3,9 +3,10 @@ use Rattle.std.{proofs.Common.{◌≡◌, ℕ, ◌<◌, refl, sym, ap, ◌∙◌
 use Rattle.cpu_words.specs.{Hooks.HookAnswer, Words.Words}
 use Rattle.mount_counts.specs.{Phases.after, declared.phases.{Change.Change, ChangeStep.ChangeStep, MountPhase.MountPhase, Want.Want, WantStep.WantStep}}
 use Rattle.level_laws.specs.{Events.SyncStep, Roles.Out as IsApart}
-use Rattle.gate_world.specs.{LevelRuns.level_in, Levels.{inside, sync_role_of}, Rules.{SameWords, SyncAt}, Views.{phase_after, view_after}, Work.after_of}
-use Rattle.gate_world.specs.{Worlds.{World, after_step, found_at, value_at, words_after}, declared.work.Phase.Phase}
-use Rattle.gate_frames.proofs.{LevelSteps.{level_kept, level_stays}, MountEvents.{mounts_apart, mounts_outside}}
+use Rattle.gate_world.specs.{LevelRuns.level_in, Levels.{inside, sync_role_of}, Roles.{no_roles, roles_of}, Rules.{SameWords, SyncAt}, Views.phase_after}
+use Rattle.gate_world.specs.{Views.view_after, Work.after_of, Worlds.{World, after_step, found_at, value_at, words_after}, declared.work.Phase.Phase}
+use Rattle.gate_frames.proofs.{LevelSteps.{level_kept, level_stays}, MountEvents.{off_mounts, mounts_roles}}
+use Rattle.access_model.specs.Replies.{map_next}
 
 -- an event that leaves what a level reads of the words, of a task that has no part in the level and is inside no section, before it and
 -- after it, is one at which the level stays
@@ -40,5 +41,6 @@ mount_words w (MountPhase.Change x) hook i = change_words w x x.step hook i
 pub mounts_run : (tasks : ℕ) (w : World) (t : ℕ) → t < tasks → (hook : HookAnswer) (x : MountPhase) →
     (w.views t).phase ≡ Some (Phase.Mounts x) → (i : ℕ) → SyncStep tasks (level_in w i) (level_in (after_step w t (Phase.Mounts x) hook) i)
 mounts_run tasks w t lt hook x e i =
-    apart_run tasks w t lt hook (Phase.Mounts x) e i (mount_words w.words x hook i) refl refl
-    (mounts_outside (after x (found_at w.words (Phase.Mounts x) hook) hook).0) (mounts_apart i (after x (found_at w.words (Phase.Mounts x) hook) hook).0)
+    let there : off_mounts (roles_of (phase_after (map_next Phase.Mounts (after x (found_at w.words (Phase.Mounts x) hook) hook).0))) ≡ no_roles =
+    mounts_roles (after x (found_at w.words (Phase.Mounts x) hook) hook).0 in
+    apart_run tasks w t lt hook (Phase.Mounts x) e i (mount_words w.words x hook i) refl refl (λ j. (there j).inside) (λ j. (there j).sync i)

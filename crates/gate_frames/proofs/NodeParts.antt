@@ -1,38 +1,35 @@
 -- An event of a call at the tree: it leaves the mounts, the levels and the sections alone, and all of the shown model but the tree. A
 -- snapshot is such a call, too.
-use Rattle.std.proofs.Common.{arith, ◌≡◌, ℕ, ◌<◌, ◌⊎◌, ◌∙◌, inl, inr, refl, sym, ap, Bool, true, false, true≢false, subst}
-use Rattle.std.specs.Prelude.{◌==◌, ◌||◌, Option, Some, None, Result, Ok, Err, if◌then◌else◌}
-use Rattle.finite_sums.{proofs.Totals.{each_updated, update_same, update_map}, specs.Sums.update}
 use Rattle.access_model.proofs.Openers.{most_tasks_is}
-use Rattle.access_model.specs.{Replies.map_next, States.openers, declared.{actions.Action.Action, errors.GateError.GateError, replies.{Next.Next, Reply.Reply}}}
-use Rattle.cpu_words.specs.{Hooks.HookAnswer, Touches.left, Words.{Words, read, put}, declared.{events.Touch.Touch, names.WordName.WordName}}
-use Rattle.gated_tree.specs.{Calls.{phase_role, role_after, TreePhaseFits, NextFits}, Nodes.{word_of, node_shown, file_in, dirty_in}}
-use Rattle.gated_tree.specs.Phases.{next, after, after_look, create_next, create_after, remove_next, remove_after, grow_next, grow_after, move_next, move_after}
-use Rattle.gated_tree.specs.Phases.{mark_next, mark_after, mark_done, at_mark, snapshot_next, snapshot_after, clear_after, open_next, open_after}
-use Rattle.gated_tree.specs.Roles.{Role, TreeHolds, sealed_by, bare_by}
-use Rattle.gated_tree.specs.declared.changes.{Create.Create, CreateStep.CreateStep, MoveStep.MoveStep, MoveTo.MoveTo, Remove.Remove, RemoveStep.RemoveStep}
-use Rattle.gated_tree.specs.declared.{growth.{Grow.Grow, GrowStep.GrowStep}, marks.{ClearMarks.ClearMarks, Mark.Mark, MarkStep.MarkStep}}
-use Rattle.gated_tree.specs.declared.{opens.{OpenFile.OpenFile, OpenStep.OpenStep}, phases.TreePhase.TreePhase}
+use Rattle.access_model.specs.{Replies.map_next, States.openers, declared.{actions.Action.Action, errors.GateError.GateError, replies.Next.Next}}
+use Rattle.access_model.specs.declared.replies.Reply.{Reply}
+use Rattle.cpu_words.specs.{Hooks.HookAnswer, Touches.left, Words.{Words, put, read}, declared.{events.Touch.Touch, names.WordName.WordName}}
+use Rattle.finite_sums.proofs.Totals.{each_updated, update_map, update_same}
+use Rattle.finite_sums.specs.Sums.{update}
+use Rattle.freeze_levels.specs.Holders.{holders_in}
+use Rattle.gate_frames.proofs.{Accesses.holdings_of_after, Agreeing.access_agrees, Frames.{added_load, left_alone, level_view_as, shown_as, taken_load}}
+use Rattle.gate_frames.proofs.{Frames.{unwritten, view_as}, Keeps.by_bool, MayTree.{LeaveFor, call_fits, leave, may_step}, MountEvents.level_added_load}
+use Rattle.gate_frames.proofs.{MountEvents.{level_taken_load, load_left}, OpenFiles.{file_then, files_counted, same_counts}, Trees.{tree_holds, tree_within}}
+use Rattle.gate_world.specs.{Configs.{IsWithin, model_limits}, Fits.{Fits, HasFile, TreeAccess, file_of}, Found.is_load, Holdings.{Holdings, held_after}}
+use Rattle.gate_world.specs.{Levels.{is_frozen_whole, level_added_after, level_added_by, level_taken_after, level_taken_by}, Roles.{Roles, no_roles}}
+use Rattle.gate_world.specs.{Roles.{nodes_noted, roles_of, snapshot_stage_role, tree_stage_role}, Rules.{AtLevel, AtMount, Files, Fitting, Holding, Holds}}
+use Rattle.gate_world.specs.{Rules.{IsGood, Moves as ModelMoves, Part, SameView, SameWords, Sections, SyncAt, Tree, ViewFits}, Shown.{closing, shown}}
+use Rattle.gate_world.specs.{Snapshots.values_noted, Trees.{is_bare_at, is_sealed, tree_bounds, tree_role_of, tree_roles}, Views.{added_after, added_by}}
+use Rattle.gate_world.specs.{Views.{has_open, held_at, held_of, holds_level, phase_after, taken_after, taken_by, view_after}, Work.{after_of, next_of}}
+use Rattle.gate_world.specs.{Worlds.{World, after_step, found_at, value_at, words_after}, declared.{config.Config.Config, views.View.View, work.Phase.Phase}}
+use Rattle.gated_tree.specs.{Calls.{NextFits, TreePhaseFits, phase_role, role_after}, Nodes.{dirty_in, file_in, node_shown, word_of}, Phases.after}
+use Rattle.gated_tree.specs.Phases.{after_look, at_mark, clear_after, create_after, create_next, grow_after, grow_next, mark_after, mark_done, mark_next}
+use Rattle.gated_tree.specs.Phases.{move_after, move_next, next, open_after, open_next, remove_after, remove_next, snapshot_after, snapshot_next}
+use Rattle.gated_tree.specs.{Roles.{Role, TreeHolds}, declared.changes.{Create.Create, CreateStep.CreateStep, MoveStep.MoveStep, MoveTo.MoveTo}}
+use Rattle.gated_tree.specs.declared.{changes.{Remove.Remove, RemoveStep.RemoveStep}, growth.{Grow.Grow, GrowStep.GrowStep}, marks.ClearMarks.ClearMarks}
+use Rattle.gated_tree.specs.declared.{marks.{Mark.Mark, MarkStep.MarkStep}, opens.{OpenFile.OpenFile, OpenStep.OpenStep}, phases.TreePhase.TreePhase}
 use Rattle.gated_tree.specs.declared.snapshots.{Snapshot.Snapshot, SnapshotStep.SnapshotStep}
-use Rattle.mount_counts.specs.Roles.{Out, ro_bit}
+use Rattle.mount_counts.specs.Roles.{ro_bit}
+use Rattle.stage_laws.specs.Roles.{Aside, sums}
+use Rattle.std.proofs.Common.{Bool, ap, arith, false, inl, inr, refl, subst, sym, true, true≢false, ℕ, ◌<◌, ◌∙◌, ◌≡◌, ◌⊎◌}
+use Rattle.std.specs.Prelude.{Err, None, Ok, Option, Result, Some, if◌then◌else◌, ◌==◌, ◌||◌}
 use Rattle.tree_laws.proofs.{Allowed.{may_do, tree_alone}, Fitting.fits_after, Phases.each_phase}
 use Rattle.tree_laws.specs.{Events.{MovesBy, opens_shown}, Steps.{Notes, StepKeeps, tree_in}}
-use Rattle.freeze_levels.specs.Holders.{holders_in}
-use Rattle.stage_laws.specs.Roles.{sums, is_full}
-use Rattle.holder_laws.specs.Roles.{Apart}
-use Rattle.gate_world.specs.{Configs.{IsWithin, model_limits}, Fits.{HasFile, file_of, opens_by, Fits, TreeAccess, mounts_by, levels_by}, Found.is_load}
-use Rattle.gate_world.specs.{Holders.holder_role_of, Levels.{is_frozen_whole, level_added_after, level_taken_after, level_added_by, level_taken_by}}
-use Rattle.gate_world.specs.Rules.{Files, IsGood, Holds, Part, Holding, AtMount, AtLevel, SyncAt, Sections, Fitting, Tree, ViewFits, SameView, SameWords}
-use Rattle.gate_world.specs.Rules.{role_of, remounts, Moves as ModelMoves}
-use Rattle.gate_world.specs.{Shown.{shown, closing}, Snapshots.values_noted, Stages.{tree_stage_role, snapshot_stage_role}}
-use Rattle.gate_world.specs.Trees.{is_bare_at, tree_bounds, tree_roles, tree_role_of, nodes_noted, is_sealed}
-use Rattle.gate_world.specs.Views.{has_open, held_at, holds_level, added_after, taken_after, added_by, taken_by, phase_after, view_after}
-use Rattle.gate_world.specs.{Work.{next_of, after_of}, Worlds.{World, after_step, words_after, value_at, found_at}}
-use Rattle.gate_world.specs.declared.{config.Config.Config, views.View.View, work.Phase.Phase}
-use Rattle.gate_frames.proofs.Accesses.{opens_of_after, mounts_of_after, levels_of_after}
-use Rattle.gate_frames.proofs.{Frames.{IsOffLevels, added_load, taken_load, view_as, level_view_as, left_alone, shown_as}, Keeps.by_bool}
-use Rattle.gate_frames.proofs.{MayTree.{LeaveFor, call_fits, leave, may_step}, MountEvents.{level_added_load, level_taken_load}}
-use Rattle.gate_frames.proofs.{OpenFiles.{same_counts, files_counted, file_then}, Trees.{tree_within, tree_holds}, Words.load_same}
 
 -- the words of the tree
 abbrev pub is_node_word : WordName → Bool
@@ -107,53 +104,40 @@ pub call_touch : (x : TreePhase) (hook : HookAnswer) → IsCallTouch (next x hoo
 call_touch (TreePhase.Snapshot x) hook = snapshot_touch x x.step
 call_touch x hook = inr (node_call (next x hook).0 (node_word x hook refl))
 
--- the words that no call at the tree writes are as they were
-pub record IsBesideTree (old new : Words) : Type 0 where
-  pub stage_same : new.stage ≡ old.stage
-  pub holders_same : new.holders ≡ old.holders
-  pub sb_same : new.sb ≡ old.sb
-  pub remount_same : new.remount ≡ old.remount
-  pub flags_same : new.flags ≡ old.flags
-  pub count_same : new.count ≡ old.count
-  pub block_same : new.block ≡ old.block
-  pub sync_same : new.sync ≡ old.sync
-  pub level_same : new.level ≡ old.level
-  pub section_same : new.section ≡ old.section
+-- the words that no call at the tree writes
+abbrev pub beside_calls : Words → Words
+beside_calls w = record w { umount = 0; used = 0; removed = 0; node = λ n. 0; kids = λ d. 0 }
 
-pub same_beside : (w : Words) → IsBesideTree w w
-same_beside w = assumption
+-- are as they were
+abbrev pub IsBesideTree : Words → Words → Type 0
+IsBesideTree old new = beside_calls new ≡ beside_calls old
 
 -- where such a word is written
 pub write_beside : (w : Words) (word : WordName) (n : ℕ) → is_call_word word ≡ true → IsBesideTree w (put w word n)
-write_beside w WordName.Umount n h = assumption
-write_beside w WordName.Used n h = assumption
-write_beside w WordName.Removed n h = assumption
-write_beside w (WordName.Node x) n h = assumption
-write_beside w (WordName.Kids d) n h = assumption
+write_beside w WordName.Umount n h = refl
+write_beside w WordName.Used n h = refl
+write_beside w WordName.Removed n h = refl
+write_beside w (WordName.Node x) n h = refl
+write_beside w (WordName.Kids d) n h = refl
 write_beside w word n h = absurd (true≢false (sym h))
-
--- and where a word is loaded
-pub load_beside : (w : Words) (word : WordName) (touch : Touch) → is_load touch ≡ true → IsBesideTree w (put w word (left touch (read w word)))
-load_beside w word Touch.Load h = subst (IsBesideTree w) (sym (load_same w word)) (same_beside w)
-load_beside w word touch h = absurd (true≢false (sym h))
 
 -- so they are after each event that loads a word, or writes such a one
 pub touch_beside : (w : Words) (x : WordName × Touch) → IsCallTouch x → IsBesideTree w (put w x.0 (left x.1 (read w x.0)))
 touch_beside w x touches =
     elim touches [
-      | inl h ↦ load_beside w x.0 x.1 h
+      | inl h ↦ ap beside_calls (load_left w x.0 x.1 h)
       | inr h ↦ write_beside w x.0 (left x.1 (read w x.0)) h
     ]
 
 -- and the file system is frozen as a whole, and the tree sealed, as before
 pub whole_beside : (old new : Words) → IsBesideTree old new → is_frozen_whole new ≡ is_frozen_whole old
-whole_beside old new same = λ j. is_full (same.stage_same j) (same.sb_same j)
+whole_beside old new same = λ j. is_frozen_whole (same j)
 
 pub sealed_beside : (old new : Words) → IsBesideTree old new → is_sealed new ≡ is_sealed old
-sealed_beside old new same = λ j. sealed_by (same.sb_same j) (same.stage_same j)
+sealed_beside old new same = λ j. is_sealed (same j)
 
 pub bare_beside : (old new : Words) → IsBesideTree old new → is_bare_at new ≡ is_bare_at old
-bare_beside old new same = λ j. bare_by (same.remount_same j) (same.sb_same j)
+bare_beside old new same = λ j. is_bare_at (same j)
 
 -- a write of such a word counts at no mount and at no level
 added_call : (word : WordName) (touch : Touch) (added : ℕ → ℕ → ℕ) → is_call_word word ≡ true → added_after word touch added ≡ added
@@ -206,10 +190,10 @@ counts_nowhere x touches = elim touches [
   }
 ]
 
--- an action, if there is one, leaves its task's accesses
+-- an action, if there is one, leaves its task's accesses at mounts and levels
 pub record LeavesAccesses (action : Option Action) : Type 0 where
-  pub mounts : (held : ℕ → ℕ) → mounts_by action held ≡ held
-  pub levels : (held : ℕ → Bool) → levels_by action held ≡ held
+  pub mounts : (held : Holdings) → (held_after action held).mounts ≡ held.mounts
+  pub levels : (held : Holdings) → (held_after action held).levels ≡ held.levels
 
 pub leaves_none : LeavesAccesses None
 leaves_none = record { mounts = λ held. refl; levels = λ held. refl }
@@ -264,28 +248,28 @@ call_leaves (TreePhase.OpenFile x) found hook = open_leaves x x.step found
 call_leaves (TreePhase.Snapshot x) found hook = snapshot_leaves x x.step found
 call_leaves (TreePhase.ClearMarks x) found hook = clear_leaves x found
 
-module _ (c : Config) (held : ℕ → ℕ) (levels : ℕ → Bool) where
+module _ (c : Config) (held : Holdings) where
   -- what comes after an event is a call at which its task may be
   abbrev pub AccessAfter : Next TreePhase → Type 0
-  AccessAfter (Next.Go x) = TreeAccess c held levels x
-  AccessAfter (Next.Wait x) = TreeAccess c held levels x
+  AccessAfter (Next.Go x) = TreeAccess c held x
+  AccessAfter (Next.Wait x) = TreeAccess c held x
   AccessAfter (Next.Done answer) = Unit {0}
 
-  comes_with : {P : Type 0} (to : P → TreePhase) → ((y : P) → TreeAccess c held levels (to y)) → (n : Next P) → AccessAfter (map_next to n)
+  comes_with : {P : Type 0} (to : P → TreePhase) → ((y : P) → TreeAccess c held (to y)) → (n : Next P) → AccessAfter (map_next to n)
   comes_with to may (Next.Go y) = may y
   comes_with to may (Next.Wait y) = may y
   comes_with to may (Next.Done answer) = tt
 
   -- after a look at a file
-  looked_with : {A : Type 0} (again : Mark) (from : A → Mark) → TreeAccess c held levels (TreePhase.Mark again) →
-      ((a : A) → TreeAccess c held levels (TreePhase.Mark (from a))) → (r : Option (Result A GateError)) →
+  looked_with : {A : Type 0} (again : Mark) (from : A → Mark) → TreeAccess c held (TreePhase.Mark again) →
+      ((a : A) → TreeAccess c held (TreePhase.Mark (from a))) → (r : Option (Result A GateError)) →
       AccessAfter (map_next TreePhase.Mark (after_look again from r))
   looked_with again from may more None = may
   looked_with again from may more (Some (Ok a)) = more a
   looked_with again from may more (Some (Err refusal)) = tt
 
   -- after an event of a page fault or a write-back
-  mark_access : (x : Mark) (s : MarkStep) (found : ℕ) → TreeAccess c held levels (TreePhase.Mark x) →
+  mark_access : (x : Mark) (s : MarkStep) (found : ℕ) → TreeAccess c held (TreePhase.Mark x) →
       AccessAfter (map_next TreePhase.Mark (mark_after x s found).0)
   mark_access x MarkStep.LoadsFile found may =
       looked_with (at_mark x MarkStep.LoadsFile) (λ file. at_mark x (MarkStep.MarksFile file)) may (λ file. may) (file_in found)
@@ -294,7 +278,7 @@ module _ (c : Config) (held : ℕ → ℕ) (levels : ℕ → Bool) where
       (λ b. AccessAfter (map_next TreePhase.Mark (if b then Next.Done (Ok Reply.Unit) else Next.Done (Err GateError.Again)))) tt tt
 
   -- a call keeps its task's accesses
-  pub access_after : (x : TreePhase) (found : ℕ) (hook : HookAnswer) → TreeAccess c held levels x → AccessAfter (after x found hook).0
+  pub access_after : (x : TreePhase) (found : ℕ) (hook : HookAnswer) → TreeAccess c held x → AccessAfter (after x found hook).0
   access_after (TreePhase.Create x) found hook may = comes_with TreePhase.Create (λ y. may) (create_after x x.step found).0
   access_after (TreePhase.Remove x) found hook may = comes_with TreePhase.Remove (λ y. may) (remove_after x x.step found).0
   access_after (TreePhase.Grow x) found hook may = comes_with TreePhase.Grow (λ y. may) (grow_after x x.step found).0
@@ -306,40 +290,42 @@ module _ (c : Config) (held : ℕ → ℕ) (levels : ℕ → Bool) where
 
   -- so what comes after it fits
   next_fits : (t : ℕ) (n : Next TreePhase) → NextFits (tree_bounds c) t n → AccessAfter n →
-      Fits c t held levels (phase_after (map_next Phase.Trees n))
+      Fits c t held (phase_after (map_next Phase.Trees n))
   next_fits t (Next.Go x) fits may = (fits, may)
   next_fits t (Next.Wait x) fits may = (fits, may)
   next_fits t (Next.Done answer) fits may = tt
 
-  pub call_goes_on : IsWithin c → (t : ℕ) (x : TreePhase) (found : ℕ) (hook : HookAnswer) →
-      TreePhaseFits (tree_bounds c) t x × TreeAccess c held levels x →
-      Fits c t held levels (phase_after (map_next Phase.Trees (after x found hook).0))
+  call_goes_on : IsWithin c → (t : ℕ) (x : TreePhase) (found : ℕ) (hook : HookAnswer) →
+      TreePhaseFits (tree_bounds c) t x × TreeAccess c held x →
+      Fits c t held (phase_after (map_next Phase.Trees (after x found hook).0))
   call_goes_on within t x found hook fits =
       next_fits t (after x found hook).0 (fits_after (tree_bounds c) (tree_within c within) t x found hook fits.0)
       (access_after x found hook fits.1)
 
-  -- and its task's accesses are the same
-  pub call_goes : IsWithin c → (t : ℕ) (x : TreePhase) (found : ℕ) (hook : HookAnswer) →
-      TreePhaseFits (tree_bounds c) t x × TreeAccess c held levels x →
-      Fits c t (mounts_by (after x found hook).1 held) (levels_by (after x found hook).1 levels)
-      (phase_after (map_next Phase.Trees (after x found hook).0))
-  call_goes within t x found hook fits =
-      let leaves : LeavesAccesses (after x found hook).1 = call_leaves x found hook in
-      subst (λ k. Fits c t k (levels_by (after x found hook).1 levels) (phase_after (map_next Phase.Trees (after x found hook).0)))
-      (sym (leaves.mounts held))
-      (subst (λ k. Fits c t held k (phase_after (map_next Phase.Trees (after x found hook).0))) (sym (leaves.levels levels))
-      (call_goes_on within t x found hook fits))
+-- and its task's accesses are the same
+pub call_goes : (c : Config) (held : Holdings) → IsWithin c → (t : ℕ) (x : TreePhase) (found : ℕ) (hook : HookAnswer) →
+    TreePhaseFits (tree_bounds c) t x × TreeAccess c held x →
+    Fits c t (held_after (after x found hook).1 held) (phase_after (map_next Phase.Trees (after x found hook).0))
+call_goes c held within t x found hook fits =
+    let left : Holdings = held_after (after x found hook).1 held in
+    let leaves : LeavesAccesses (after x found hook).1 = call_leaves x found hook in
+    call_goes_on c left within t x found hook (
+      fits.0,
+      access_agrees c held left (λ m lm. ap (λ f. f m) (sym (leaves.mounts held)))
+          (λ i one three. ap (λ f. f i) (sym (leaves.levels held))) x fits.1,
+    )
 
--- a phase that is at no mount, no level and no section, and closes no level
+-- these roles but for those of calls at the tree
+abbrev pub off_calls : Roles → Roles
+off_calls r = record r { stage = Aside; tree = no_roles.tree; owns = 0; file = None; hook = None }
+
+-- a phase that has no other role, and closes no level
 pub record IsOffGates (p : Option Phase) : Type 0 where
-  pub out_of_mounts : (m : ℕ) → role_of m p ≡ Out
-  pub off_levels : IsOffLevels p
+  pub roles : off_calls (roles_of p) ≡ no_roles
   pub closing_none : (i : ℕ) → closing i p ≡ 0
-  pub remounts_none : remounts p ≡ 0
-  pub unheld : holder_role_of p ≡ Apart
 
 pub idle_off : IsOffGates None
-idle_off = assumption
+idle_off = record { roles = refl; closing_none = λ i. refl }
 
 snapshot_closing : (i : ℕ) (s : SnapshotStep) → sums i (snapshot_stage_role s) ≡ 0
 snapshot_closing i SnapshotStep.Locks = refl
@@ -350,13 +336,7 @@ tree_closing i (TreePhase.Snapshot x) = snapshot_closing i x.step
 tree_closing i x = refl
 
 pub call_off : (x : TreePhase) → IsOffGates (Some (Phase.Trees x))
-call_off x = record {
-  out_of_mounts = λ m. refl;
-  off_levels = record { counts_not = λ i. refl; apart = λ i. refl; outside = refl };
-  closing_none = λ i. tree_closing i x;
-  remounts_none = refl;
-  unheld = refl;
-}
+call_off x = record { roles = refl; closing_none = λ i. tree_closing i x }
 
 pub next_off : (n : Next TreePhase) → IsOffGates (phase_after (map_next Phase.Trees n))
 next_off (Next.Go x) = call_off x
@@ -373,12 +353,11 @@ is_gate_part Sections = true
 is_gate_part part = false
 
 pub gate_words : (part : Part) → is_gate_part part ≡ true → (old new : Words) → IsBesideTree old new → SameWords old new part
-gate_words Holding h old new same = (same.stage_same, same.holders_same)
-gate_words (AtMount m) h old new same = (ap (λ f. f m) same.flags_same, same.remount_same, same.sb_same, ap (λ f. f m) same.count_same)
-gate_words (AtLevel i) h old new same = (ap (λ f. f i) same.block_same, ap (λ f. f i) same.level_same, whole_beside old new same)
-gate_words (SyncAt i) h old new same =
-    (ap (λ f. f i) same.sync_same, ap (λ f. f i) same.block_same, same.section_same, whole_beside old new same)
-gate_words Sections h old new same = same.section_same
+gate_words Holding h old new same = unwritten same Holding
+gate_words (AtMount m) h old new same = unwritten same (AtMount m)
+gate_words (AtLevel i) h old new same = unwritten same (AtLevel i)
+gate_words (SyncAt i) h old new same = unwritten same (SyncAt i)
+gate_words Sections h old new same = unwritten same Sections
 gate_words part h old new same = absurd (true≢false (sym h))
 
 -- an event at the tree, of whatever operation: it writes no other word but `umount`, and leaves its task's accesses
@@ -403,64 +382,65 @@ module _ (c : Config) (w : World) (good : IsGood c w) (t : ℕ) (lt : t < c.task
   pub beside_then : IsBesideTree w.words words_then
   beside_then = touch_beside w.words (next_of phase hook) at.touches
 
+  held_then : held_of view_then ≡ held_after action_then (held_of (w.views t))
+  held_then = holdings_of_after action_then (w.views t).actions
+
   held_still : held_at view_then ≡ held_at (w.views t)
-  held_still = mounts_of_after action_then (w.views t).actions ∙ at.leaves.mounts (held_at (w.views t))
+  held_still = ap (λ (h : Holdings). h.mounts) held_then ∙ at.leaves.mounts (held_of (w.views t))
 
   levels_still : holds_level view_then ≡ holds_level (w.views t)
-  levels_still = levels_of_after action_then (w.views t).actions ∙ at.leaves.levels (holds_level (w.views t))
-
-  opens_then : has_open view_then ≡ opens_by action_then (has_open (w.views t))
-  opens_then = opens_of_after action_then (w.views t).actions
+  levels_still = ap (λ (h : Holdings). h.levels) held_then ∙ at.leaves.levels (held_of (w.views t))
 
   was_off : IsOffGates (w.views t).phase
   was_off = subst IsOffGates (sym e) at.off
 
+  -- the roles that no call has are the same
+  pub roles_still : off_calls (roles_of view_then.phase) ≡ off_calls (roles_of (w.views t).phase)
+  roles_still = at.off_then.roles ∙ sym was_off.roles
+
   -- what the parts of mounts, levels and sections read of the task's view is the same
   gate_view : (part : Part) → is_gate_part part ≡ true → SameView (w.views t) view_then part
-  gate_view Holding h = at.off_then.unheld ∙ sym was_off.unheld
+  gate_view Holding h = λ j. (roles_still j).holder
   gate_view (AtMount m) h =
       let none : CountsNowhere (next_of phase hook) = counts_nowhere (next_of phase hook) at.touches in
       view_as (ap (λ f. f m) held_still) (ap (λ f. f m) (none.added (added_by (w.views t).events)))
-      (ap (λ f. f m) (none.taken (taken_by (w.views t).events))) (at.off_then.out_of_mounts m ∙ sym (was_off.out_of_mounts m))
+      (ap (λ f. f m) (none.taken (taken_by (w.views t).events))) (λ j. (roles_still j).mount m)
   gate_view (AtLevel i) h =
       let none : CountsNowhere (next_of phase hook) = counts_nowhere (next_of phase hook) at.touches in
       level_view_as (ap (λ (f : ℕ → Bool). if f i then 1 else 0) levels_still)
       (ap (λ f. f i) (none.level_added (level_added_by (w.views t).events)))
       (ap (λ f. f i) (none.level_taken (level_taken_by (w.views t).events)))
-      (at.off_then.off_levels.counts_not i ∙ sym (was_off.off_levels.counts_not i))
-  gate_view (SyncAt i) h = at.off_then.off_levels.apart i ∙ sym (was_off.off_levels.apart i)
-  gate_view Sections h = at.off_then.off_levels.outside ∙ sym was_off.off_levels.outside
+      (λ j. (roles_still j).count i)
+  gate_view (SyncAt i) h = λ j. (roles_still j).sync i
+  gate_view Sections h = λ j. (roles_still j).inside
   gate_view part h = absurd (true≢false (sym h))
 
   pub gate_parts : (part : Part) → is_gate_part part ≡ true → Holds c (after_step w t phase hook) part
   gate_parts part h = left_alone c w t lt part words_then view_then (gate_words part h w.words words_then beside_then) (gate_view part h) (good part)
 
   -- what comes after the event fits the accesses that it leaves
-  pub fitting_then : Fits c t (mounts_by action_then (held_at (w.views t))) (levels_by action_then (holds_level (w.views t))) view_then.phase →
+  pub fitting_then : Fits c t (held_after action_then (held_of (w.views t))) view_then.phase →
       Holds c (after_step w t phase hook) Fitting
   fitting_then fits y ly =
       each_updated (λ z (u : View). ViewFits c z u) w.views t view_then y
-      (subst (λ k. Fits c t k (holds_level view_then) view_then.phase) (sym (mounts_of_after action_then (w.views t).actions))
-      (subst (λ k. Fits c t (mounts_by action_then (held_at (w.views t))) k view_then.phase)
-      (sym (levels_of_after action_then (w.views t).actions)) fits))
-      (λ ne. good Fitting y ly)
+      (subst (λ k. Fits c t k view_then.phase) (sym held_then) fits) (λ ne. good Fitting y ly)
 
   -- the shown model is as it was but for the tree and the task's open files
   shown_then : shown c (after_step w t phase hook) ≡ record (shown c w) {
-    opens = update (shown c w).opens t (opens_by action_then ((shown c w).opens t));
+    opens = update (shown c w).opens t (held_after action_then (held_of (w.views t))).files;
     tree = λ n. node_shown (words_then.node n);
   }
   shown_then =
       let same : IsBesideTree w.words words_then = beside_then in
-      shown_as c w t lt words_then view_then same.block_same (λ i. at.off_then.closing_none i ∙ sym (was_off.closing_none i)) ∙
+      shown_as c w t lt words_then view_then (λ j. (same j).block) (λ i. at.off_then.closing_none i ∙ sym (was_off.closing_none i)) ∙
       (λ j. record (shown c w) {
         mounts = (ap (update (λ y. held_at (w.views y)) t) held_still ∙ update_same (λ y. held_at (w.views y)) t) j;
         levels = (ap (update (λ y. holds_level (w.views y)) t) levels_still ∙ update_same (λ y. holds_level (w.views y)) t) j;
-        opens = ap (update (λ y. has_open (w.views y)) t) opens_then j;
-        mount_ro = λ m. ro_bit (same.flags_same j m) == 1;
-        sb_ro = same.remount_same j == 1 || same.sb_same j == 1;
-        stage = same.stage_same j;
-        holders = holders_in (same.holders_same j);
+        opens = ap (λ (h : Holdings). update (λ y. has_open (w.views y)) t h.files) held_then j;
+        mount_ro = λ m. ro_bit ((same j).flags m) == 1;
+        sb_ro = (same j).remount == 1 || (same j).sb == 1;
+        stage = (same j).stage;
+        holders = holders_in (same j).holders;
         tree = λ n. node_shown (words_then.node n);
       })
 
@@ -471,14 +451,14 @@ module _ (c : Config) (w : World) (good : IsGood c w) (t : ℕ) (lt : t < c.task
   shown_moves None is leave moves =
       shown_then ∙
       (λ j. record (shown c w) {
-        opens = (ap (λ a. update (shown c w).opens t (opens_by a ((shown c w).opens t))) is ∙ update_same (shown c w).opens t) j;
+        opens = (ap (λ a. update (shown c w).opens t (held_after a (held_of (w.views t))).files) is ∙ update_same (shown c w).opens t) j;
         tree = moves.0 j;
       })
   shown_moves (Some action) is leave moves = (
     (lt, may_do (model_limits c) (shown c w) t action leave moves.allowed),
     shown_then ∙
         (λ j. record (shown c w) {
-          opens = ap (λ a. update (shown c w).opens t (opens_by a ((shown c w).opens t))) is j;
+          opens = ap (λ a. update (shown c w).opens t (held_after a (held_of (w.views t))).files) is j;
           tree = (moves.effect ∙ same_counts (tree_bounds c) (opens_shown w.words.node) (openers (shown c w).opens) (shown c w).tree action
               moves.allowed (λ n ln. (good Files).counted n ln)) j;
         }) ∙ sym (tree_alone (model_limits c) (shown c w) t action leave),
@@ -486,14 +466,15 @@ module _ (c : Config) (w : World) (good : IsGood c w) (t : ℕ) (lt : t < c.task
 
   -- the files of the world then: as many tasks have each open as its word says
   pub files_then : IsWithin c → LeaveFor c w good t lt action_then → MovesBy (tree_bounds c) w.words.node words_then.node action_then →
-      HasFile (opens_by action_then (has_open (w.views t))) (file_of view_then.phase) → Holds c (after_step w t phase hook) Files
+      HasFile (held_after action_then (held_of (w.views t))).files (file_of view_then.phase) → Holds c (after_step w t phase hook) Files
   files_then within leave moves has = record {
     counted = λ n ln.
         files_counted (model_limits c) (shown c w) t (omega (arith, lt, within.tasks, most_tasks_is)) w.words.node words_then.node action_then
         leave moves (good Files).counted n ln ∙
-        sym (ap (λ f. openers f n) (update_map has_open w.views t view_then ∙ ap (update (λ y. has_open (w.views y)) t) opens_then));
+        sym (ap (λ f. openers f n) (update_map has_open w.views t view_then ∙
+        ap (λ (h : Holdings). update (λ y. has_open (w.views y)) t h.files) held_then));
     own = λ y ly. each_updated (λ z (u : View). HasFile (has_open u) (file_of u.phase)) w.views t view_then y
-        (subst (λ f. HasFile f (file_of view_then.phase)) (sym opens_then) has)
+        (subst (λ (h : Holdings). HasFile h.files (file_of view_then.phase)) (sym held_then) has)
         (λ ne. (good Files).own y ly);
   }
 
@@ -540,7 +521,7 @@ module _ (c : Config) (within : IsWithin c) (w : World) (good : IsGood c w) (t :
   pub call_fitting : Holds c (after_step w t (Phase.Trees x) hook) Fitting
   call_fitting =
       fitting_then c w good t lt (Phase.Trees x) hook e (call_at w x hook)
-      (call_goes c (held_at (w.views t)) (holds_level (w.views t)) within t x call_found hook (call_fits c w good t lt x e))
+      (call_goes c (held_of (w.views t)) within t x call_found hook (call_fits c w good t lt x e))
 
   -- what the tree's own law says of the event, where a snapshot has noted this after it
   abbrev pub TreeKeeps : Type 0
@@ -559,7 +540,7 @@ module _ (c : Config) (within : IsWithin c) (w : World) (good : IsGood c w) (t :
   pub call_files : TreeKeeps → Holds c (after_step w t (Phase.Trees x) hook) Files
   call_files kept =
       files_then c w good t lt (Phase.Trees x) hook e (call_at w x hook) within (leave c w good t lt x call_found hook e) kept.1
-      (file_then (has_open (w.views t)) x call_found hook (subst (λ p. HasFile (has_open (w.views t)) (file_of p)) e ((good Files).own t lt)))
+      (file_then (held_of (w.views t)) x call_found hook (subst (λ p. HasFile (has_open (w.views t)) (file_of p)) e ((good Files).own t lt)))
 
   pub call_moves : TreeKeeps → ModelMoves c (shown c w) t (after x call_found hook).1 (shown c (after_step w t (Phase.Trees x) hook))
   call_moves kept =

@@ -10,7 +10,7 @@ use Rattle.gated_tree.specs.Phases.{after, after_look, at_open, opens_from, open
 use Rattle.gated_tree.specs.Phases.{snapshot_after, clear_after}
 use Rattle.gated_tree.specs.{Roles.Bounds, declared.{nodes.NodeWord.NodeWord, opens.{OpenFile.OpenFile, OpenStep.OpenStep}, phases.TreePhase.TreePhase}}
 use Rattle.tree_laws.specs.Events.{TreeAllows, MovesBy, HasLeave, opens_shown, bounds_of}
-use Rattle.gate_world.specs.{Fits.{HasFile, file_of, opens_by}, Views.phase_after, declared.work.Phase.Phase}
+use Rattle.gate_world.specs.{Fits.{HasFile, file_of}, Holdings.{Holdings, held_after}, Views.phase_after, declared.work.Phase.Phase}
 
 -- an action's effect on the tree asks only how many tasks have its own node open
 pub same_counts : (c : Bounds) (f g : ℕ → ℕ) (tree : ℕ → Option NodeInfo) (action : Action) → TreeAllows c tree action →
@@ -71,6 +71,10 @@ abbrev pub LeaveToDo : Limits → State → ℕ → Option Action → Type 0
 LeaveToDo l s t None = Unit {0}
 LeaveToDo l s t (Some action) = HasLeave l s t action
 
+-- what a task of the model holds
+abbrev pub held_shown : State → ℕ → Holdings
+held_shown s t = record { mounts = s.mounts t; levels = s.levels t; files = s.opens t }
+
 -- so the words say how many have each open after an event that moves the shown tree by an action, where they said so before it
 module _ (l : Limits) (s : State) (t : ℕ) (lt : t < most_tasks) (node node' : ℕ → ℕ) where
   abbrev pub AreCounted : Type 0
@@ -92,7 +96,7 @@ module _ (l : Limits) (s : State) (t : ℕ) (lt : t < most_tasks) (node node' : 
       ] ∙ is
 
   pub files_counted : (action : Option Action) → LeaveToDo l s t action → MovesBy (bounds_of l) node node' action → AreCounted →
-      (n : ℕ) → n < l.nodes → opens_in (node' n) ≡ openers (update s.opens t (opens_by action (s.opens t))) n
+      (n : ℕ) → n < l.nodes → opens_in (node' n) ≡ openers (update s.opens t (held_after action (held_shown s t)).files) n
   files_counted None leave moves counted n ln = stays_counted moves.1 counted n ln
   files_counted (Some (Action.Open k)) leave moves counted n ln =
       one_counted k (opens_shown node k + 1) true moves.opens n ln counted (openers s.opens k + 1)
@@ -123,20 +127,22 @@ look_file x again to files None same on own = ap files same ∙ own
 look_file x again to files (Some (Ok node)) same on own = ap files (on node) ∙ own
 look_file x again to files (Some (Err refusal)) same on own = tt
 
-open_file : (files : ℕ → Bool) (x : OpenFile) (s : OpenStep) (found : ℕ) → files x.file ≡ false →
-    HasFile (opens_by (open_after x s found).1 files) (file_of (phase_after (map_next Phase.Trees (map_next TreePhase.OpenFile (open_after x s found).0))))
-open_file files x OpenStep.LoadsFile found own =
-    look_file x (at_open x OpenStep.LoadsFile) (λ file. at_open x (opens_from file (nat_lt file.opens 64))) files (file_in found) refl (λ node. refl) own
-open_file files x (OpenStep.OpensFile file) found own = elim (eqb_tells found (word_of file)) [ inl h ↦ rw h.0 tt | inr h ↦ rw h.0 tt ]
+open_file : (held : Holdings) (x : OpenFile) (s : OpenStep) (found : ℕ) → held.files x.file ≡ false →
+    HasFile (held_after (open_after x s found).1 held).files
+    (file_of (phase_after (map_next Phase.Trees (map_next TreePhase.OpenFile (open_after x s found).0))))
+open_file held x OpenStep.LoadsFile found own =
+    look_file x (at_open x OpenStep.LoadsFile) (λ file. at_open x (opens_from file (nat_lt file.opens 64))) held.files (file_in found) refl
+    (λ node. refl) own
+open_file held x (OpenStep.OpensFile file) found own = elim (eqb_tells found (word_of file)) [ inl h ↦ rw h.0 tt | inr h ↦ rw h.0 tt ]
 
 -- so after an event of a call its task has open, or not, what the phase relies on
-pub file_then : (files : ℕ → Bool) (x : TreePhase) (found : ℕ) (hook : HookAnswer) → HasFile files (file_of (Some (Phase.Trees x))) →
-    HasFile (opens_by (after x found hook).1 files) (file_of (phase_after (map_next Phase.Trees (after x found hook).0)))
-file_then files (TreePhase.Create x) found hook own = no_file TreePhase.Create (λ y. refl) _ (create_after x x.step found).0
-file_then files (TreePhase.Remove x) found hook own = no_file TreePhase.Remove (λ y. refl) _ (remove_after x x.step found).0
-file_then files (TreePhase.Grow x) found hook own = no_file TreePhase.Grow (λ y. refl) _ (grow_after x x.step found).0
-file_then files (TreePhase.MoveTo x) found hook own = no_file TreePhase.MoveTo (λ y. refl) _ (move_after x x.step found).0
-file_then files (TreePhase.Mark x) found hook own = no_file TreePhase.Mark (λ y. refl) _ (mark_after x x.step found).0
-file_then files (TreePhase.OpenFile x) found hook own = open_file files x x.step found own
-file_then files (TreePhase.Snapshot x) found hook own = no_file TreePhase.Snapshot (λ y. refl) _ (snapshot_after x x.step found).0
-file_then files (TreePhase.ClearMarks x) found hook own = no_file TreePhase.ClearMarks (λ y. refl) _ (clear_after x found).0
+pub file_then : (held : Holdings) (x : TreePhase) (found : ℕ) (hook : HookAnswer) → HasFile held.files (file_of (Some (Phase.Trees x))) →
+    HasFile (held_after (after x found hook).1 held).files (file_of (phase_after (map_next Phase.Trees (after x found hook).0)))
+file_then held (TreePhase.Create x) found hook own = no_file TreePhase.Create (λ y. refl) _ (create_after x x.step found).0
+file_then held (TreePhase.Remove x) found hook own = no_file TreePhase.Remove (λ y. refl) _ (remove_after x x.step found).0
+file_then held (TreePhase.Grow x) found hook own = no_file TreePhase.Grow (λ y. refl) _ (grow_after x x.step found).0
+file_then held (TreePhase.MoveTo x) found hook own = no_file TreePhase.MoveTo (λ y. refl) _ (move_after x x.step found).0
+file_then held (TreePhase.Mark x) found hook own = no_file TreePhase.Mark (λ y. refl) _ (mark_after x x.step found).0
+file_then held (TreePhase.OpenFile x) found hook own = open_file held x x.step found own
+file_then held (TreePhase.Snapshot x) found hook own = no_file TreePhase.Snapshot (λ y. refl) _ (snapshot_after x x.step found).0
+file_then held (TreePhase.ClearMarks x) found hook own = no_file TreePhase.ClearMarks (λ y. refl) _ (clear_after x found).0

@@ -1,20 +1,20 @@
 -- What every owner of `umount` may rely on, and its events: under the lock, on the word `umount`, and on a mount's flags.
-use Rattle.std.proofs.{Common.{◌≡◌, ℕ, suc, ◌+◌, ◌<◌, ◌≤◌, Bool, true, false, refl, ap, ◌∙◌, inl, inr, arith, nat_lt}, lemmas.Bool.Decides.eqb_tells}
-use Rattle.std.specs.Prelude.{◌-◌, ◌==◌, Option, Some, Ok, Err}
-use Rattle.finite_sums.proofs.Totals.{update_at, update_off, update_map, update_same, each_updated, total_updated, total_none, HasPlace, total_place, total_at}
-use Rattle.finite_sums.specs.Sums.{update, total}
 use Rattle.cpu_words.specs.{Words.Words, declared.sums.Sum.Sum}
-use Rattle.mount_counts.specs.{Roles.{Role, has_hold, skips, ro_bit, hold_bit}, Sets.has_mount}
-use Rattle.mount_counts.specs.declared.{phases.{ChangeStep.ChangeStep, MountPhase.MountPhase, WantStep.WantStep}, remounts.RemountStep.RemountStep}
+use Rattle.finite_sums.proofs.Totals.{HasPlace, each_updated, total_at, total_none, total_place, total_updated, update_at, update_map, update_off}
+use Rattle.finite_sums.proofs.Totals.{update_same}
+use Rattle.finite_sums.specs.Sums.{total, update}
+use Rattle.gate_frames.proofs.Frames.{MountHoldsAfter, gates_after, holds_as, owner_same, shown_held, shown_still, view_as}
+use Rattle.gate_world.specs.{Holdings.Holdings, Remounts.{giving_role, held_role, loop_role, remount_owns, remount_role, remount_sets, summing_role}}
+use Rattle.gate_world.specs.Roles.{change_owns, change_role, freeze_stage_role, gate_roles, role_if, thaw_stage_role, tree_stage_role, want_role}
+use Rattle.gate_world.specs.{Rules.{AtMount, GatesHold, IsGood, IsSteady, Owner, OwnerHolds, ViewFits, at_mount, owns, remounts, role_of}, Shown.closing}
+use Rattle.gate_world.specs.{Shown.shown, Views.{added_by, held_of, taken_by}, Waits.{HasCulprit, IsWaitedFor}, Worlds.World, declared.config.Config.Config}
+use Rattle.gate_world.specs.declared.{views.View.View, work.Phase.Phase}
+use Rattle.mount_counts.specs.{Roles.{Role, has_hold, hold_bit, ro_bit, skips}, Sets.has_mount, declared.phases.ChangeStep.ChangeStep}
+use Rattle.mount_counts.specs.declared.{phases.{MountPhase.MountPhase, WantStep.WantStep}, remounts.RemountStep.RemountStep}
 use Rattle.stage_laws.proofs.Facts.{owns_le as stage_owns_le}
+use Rattle.std.proofs.{Common.{Bool, ap, arith, false, inl, inr, nat_lt, refl, suc, true, ℕ, ◌+◌, ◌<◌, ◌∙◌, ◌≡◌, ◌≤◌}, lemmas.Bool.Decides.eqb_tells}
+use Rattle.std.specs.Prelude.{Err, Ok, Option, Some, ◌-◌, ◌==◌}
 use Rattle.write_access.specs.declared.phases.WritePhase.{WritePhase}
-use Rattle.gate_world.specs.Remounts.{loop_role, held_role, giving_role, remount_owns, summing_role, remount_role, remount_sets}
-use Rattle.gate_world.specs.Rules.{want_role, change_role, write_role, role_if, role_of, at_mount, change_owns, owns, remounts, IsSteady, OwnerHolds, ViewFits}
-use Rattle.gate_world.specs.Rules.{IsGood, Owner, AtMount, GatesHold}
-use Rattle.gate_world.specs.{Shown.{shown, closing}, Stages.{freeze_stage_role, thaw_stage_role, tree_stage_role}}
-use Rattle.gate_world.specs.{Views.{held_at, holds_level, added_by, taken_by, has_open}, Waits.{IsWaitedFor, HasCulprit}, Worlds.World}
-use Rattle.gate_world.specs.declared.{config.Config.Config, views.View.View, work.Phase.Phase}
-use Rattle.gate_frames.proofs.Frames.{view_as, holds_as, MountHoldsAfter, owner_same, gates_after, shown_as, shown_still}
 
 change_owns_le : (s : ChangeStep) → change_owns s ≤ 1
 change_owns_le ChangeStep.Locks = omega arith
@@ -82,7 +82,7 @@ remount_hold m (RemountStep.GivesUp at held) = giving_hold (m == at) (has_mount 
 remount_hold m RemountStep.Locks = omega arith
 remount_hold m step = omega arith
 
-write_hold : (m : ℕ) (x : WritePhase) → has_hold (write_role m x) + skips (write_role m x) ≡ 0
+write_hold : (m : ℕ) (x : WritePhase) → has_hold ((gate_roles x).mount m) + skips ((gate_roles x).mount m) ≡ 0
 write_hold m (WritePhase.Wants x) = omega (arith, hold_if (m == x.mount) (want_role x.cpu x.step), want_hold x.cpu x.step)
 write_hold m x = refl
 
@@ -234,29 +234,28 @@ module _ (c : Config) (w : World) (good : IsGood c w) (t : ℕ) (lt : t < c.task
 
   -- an event that leaves all words but `umount`, and the task's role at each mount
   pub umount_law : (n : ℕ) (v : View) → OwnerHolds c.tasks n w.words.remount (λ x. (update w.views t v x).phase) → ViewFits c t v →
-      held_at v ≡ held_at (w.views t) → holds_level v ≡ holds_level (w.views t) → has_open v ≡ has_open (w.views t) →
-      added_by v.events ≡ added_by (w.views t).events → taken_by v.events ≡ taken_by (w.views t).events →
+      held_of v ≡ held_of (w.views t) → added_by v.events ≡ added_by (w.views t).events → taken_by v.events ≡ taken_by (w.views t).events →
       ((y : ℕ) → role_of y v.phase ≡ role_of y (w.views t).phase) → ((i : ℕ) → closing i v.phase ≡ closing i (w.views t).phase) →
       let next_world : World = record { words = record w.words { umount = n }; views = update w.views t v } in
       GatesHold c next_world × (shown c next_world ≡ shown c w)
-  umount_law n v owner fits held levels opens added taken role close =
+  umount_law n v owner fits held added taken role close =
       let ws : Words = record w.words { umount = n } in
       let same : (y : ℕ) → at_mount y v ≡ at_mount y (w.views t) =
-      λ y. view_as (ap (λ g. g y) held) (ap (λ g. g y) added) (ap (λ g. g y) taken) (role y) in (
+      λ y. view_as (ap (λ (h : Holdings). h.mounts y) held) (ap (λ g. g y) added) (ap (λ g. g y) taken) (role y) in (
         gates_after c w t lt good 0 ws v refl refl owner fits (λ y ne. (refl, refl, same y))
             (λ lm. holds_as refl refl refl refl
             (ap (update (λ x. at_mount 0 (w.views x)) t) (same 0) ∙ update_same (λ x. at_mount 0 (w.views x)) t) (good (AtMount 0) lm)),
-        shown_still c w t lt ws v refl refl refl refl refl refl refl close held levels opens,
+        shown_still c w t lt ws v refl refl refl refl refl refl refl close held,
       )
 
   pub flag_law : (m f : ℕ) (v : View) (r : Role) → m < c.mounts → IsSteady (w.views t).phase v.phase → ViewFits c t v →
-      held_at v ≡ held_at (w.views t) → added_by v.events ≡ added_by (w.views t).events → taken_by v.events ≡ taken_by (w.views t).events →
+      held_of v ≡ held_of (w.views t) → added_by v.events ≡ added_by (w.views t).events → taken_by v.events ≡ taken_by (w.views t).events →
       ((y : ℕ) → (y ≡ m → ⊥) → role_of y v.phase ≡ role_of y (w.views t).phase) → role_of m v.phase ≡ r →
       MountHoldsAfter c w t m f (w.words.count m) (record (at_mount m (w.views t)) { role = r }) →
       GatesHold c (record { words = record w.words { flags = update w.words.flags m f }; views = update w.views t v })
   flag_law m f v r lm same fits held added taken off role own =
       let at : (y : ℕ) (q : Role) → role_of y v.phase ≡ q → at_mount y v ≡ record (at_mount y (w.views t)) { role = q } =
-      λ y q is. view_as (ap (λ g. g y) held) (ap (λ g. g y) added) (ap (λ g. g y) taken) is in
+      λ y q is. view_as (ap (λ (h : Holdings). h.mounts y) held) (ap (λ g. g y) added) (ap (λ g. g y) taken) is in
       gates_after c w t lt good m (record w.words { flags = update w.words.flags m f }) v refl refl (owner_same c w t lt good v same) fits
       (λ y ne. (update_off w.words.flags m f y ne, refl, at y (role_of y (w.views t).phase) (off y ne)))
       (λ l. holds_as (update_at w.words.flags m f) refl refl refl (ap (update (λ x. at_mount m (w.views x)) t) (at m r role)) own)
@@ -268,22 +267,16 @@ module _ (c : Config) (w : World) (t : ℕ) (lt : t < c.tasks) (m f : ℕ) (v : 
 
   -- the shown model then, where READONLY is so and the task has the same accesses
   pub flags_shown : (b : Bool) → IsSteady (w.views t).phase v.phase → (ro_bit f == 1) ≡ b →
-      held_at v ≡ held_at (w.views t) → holds_level v ≡ holds_level (w.views t) → has_open v ≡ has_open (w.views t) →
-      shown c flags_after ≡ record (shown c w) { mount_ro = update (λ n. ro_bit (w.words.flags n) == 1) m b }
-  flags_shown b same h eh el eo =
+      held_of v ≡ held_of (w.views t) → shown c flags_after ≡ record (shown c w) { mount_ro = update (λ n. ro_bit (w.words.flags n) == 1) m b }
+  flags_shown b same h eh =
       let ro : (λ n. ro_bit (update w.words.flags m f n) == 1) ≡ update (λ n. ro_bit (w.words.flags n) == 1) m b =
       update_map (λ x. ro_bit x == 1) w.words.flags m f ∙ ap (update (λ n. ro_bit (w.words.flags n) == 1) m) h in
-      shown_as c w t lt (record w.words { flags = update w.words.flags m f }) v refl same.closing_same ∙
-      (λ j. record (shown c w) {
-        mounts = (ap (update (λ x. held_at (w.views x)) t) eh ∙ update_same (λ x. held_at (w.views x)) t) j;
-        levels = (ap (update (λ x. holds_level (w.views x)) t) el ∙ update_same (λ x. holds_level (w.views x)) t) j;
-        opens = (ap (update (λ x. has_open (w.views x)) t) eo ∙ update_same (λ x. has_open (w.views x)) t) j;
-        mount_ro = ro j;
-      })
+      shown_held c w t lt (record w.words { flags = update w.words.flags m f }) v refl same.closing_same eh ∙
+      (λ j. record (shown c w) { mount_ro = ro j })
 
   -- where READONLY stays
   pub flags_show_same : IsSteady (w.views t).phase v.phase → ro_bit f ≡ ro_bit (w.words.flags m) →
-      held_at v ≡ held_at (w.views t) → holds_level v ≡ holds_level (w.views t) → has_open v ≡ has_open (w.views t) → shown c flags_after ≡ shown c w
-  flags_show_same same h eh el eo =
-      flags_shown (ro_bit (w.words.flags m) == 1) same (ap (λ x. x == 1) h) eh el eo ∙
+      held_of v ≡ held_of (w.views t) → shown c flags_after ≡ shown c w
+  flags_show_same same h eh =
+      flags_shown (ro_bit (w.words.flags m) == 1) same (ap (λ x. x == 1) h) eh ∙
       (λ j. record (shown c w) { mount_ro = update_same (λ n. ro_bit (w.words.flags n) == 1) m j })

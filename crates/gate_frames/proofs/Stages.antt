@@ -1,20 +1,21 @@
 -- The stage of a world, as the laws of the stage have it: what holds of it, what an event of a task leaves of it, and which actions are
 -- allowed.
-use Rattle.std.proofs.{Common.{◌≡◌, ℕ, ◌<◌, ◌≤◌, refl, sym, ap, ◌∙◌, subst, inl, inr, arith, ◌%◌, Bool}, lemmas.Bool.Decides.eqb_tells}
-use Rattle.std.specs.Prelude.{Option, Some, ◌==◌, false}
-use Rattle.finite_sums.{proofs.Totals.{total_none, update_map, update_same}, specs.Sums.{update, total}}
 use Rattle.access_model.specs.{Actions.IsAllowed, States.{State, is_dirty}, declared.actions.Action.Action}
 use Rattle.cpu_words.specs.Words.{Words}
+use Rattle.finite_sums.proofs.Totals.{total_none, update_map, update_same}
+use Rattle.finite_sums.specs.Sums.{total, update}
+use Rattle.freeze_levels.specs.Holders.{holders_in}
+use Rattle.gate_frames.proofs.{Owners.owns_le, Trees.marks_right}
+use Rattle.gate_world.specs.{Configs.model_limits, Holdings.Holdings, Remounts.remount_owns, Roles.remount_stage_role, Rules.{Holds, IsGood, Owner, Stages}}
+use Rattle.gate_world.specs.{Rules.{marks_of, owns}, Shown.{shown, stage_role_of, stage_roles}, Views.{has_open, held_at, held_of, holds_level}, Worlds.World}
+use Rattle.gate_world.specs.declared.{config.Config.Config, views.View.View, work.Phase.Phase}
 use Rattle.gated_tree.specs.Nodes.{dirty_in, node_shown}
 use Rattle.mount_counts.specs.{Roles.ro_bit, declared.remounts.RemountStep.RemountStep}
-use Rattle.freeze_levels.specs.Holders.{holders_in}
-use Rattle.stage_laws.proofs.Whole.{events_keep, actions_are_allowed, actions_have_their_effect}
-use Rattle.stage_laws.specs.Events.{Stages as StageMoment, Holds as StageHolds, Shows, StageEvent, Happens, action_of, IsAlike}
-use Rattle.stage_laws.specs.{Roles.{owns as stage_owns, Owning, StageRole}, Shown.{ShowsStages, AsksOthers, state_after, passed_shown}}
-use Rattle.gate_world.specs.{Configs.model_limits, Remounts.remount_owns, Rules.{owns, IsGood, Holds, Owner, Stages, marks_of}, Shown.{shown, stage_roles}}
-use Rattle.gate_world.specs.{Stages.{stage_role_of, remount_stage_role}, Views.{held_at, holds_level, has_open}, Worlds.World}
-use Rattle.gate_world.specs.declared.{config.Config.Config, views.View.View, work.Phase.Phase}
-use Rattle.gate_frames.proofs.{Owners.owns_le, Trees.marks_right}
+use Rattle.stage_laws.proofs.Whole.{actions_are_allowed, actions_have_their_effect, events_keep}
+use Rattle.stage_laws.specs.{Events.{Happens, Holds as StageHolds, IsAlike, Shows, StageEvent, Stages as StageMoment, action_of}, Roles.{Owning, StageRole}}
+use Rattle.stage_laws.specs.{Roles.owns as stage_owns, Shown.{AsksOthers, ShowsStages, passed_shown, state_after}}
+use Rattle.std.proofs.{Common.{Bool, ap, arith, inl, inr, refl, subst, sym, ℕ, ◌%◌, ◌<◌, ◌∙◌, ◌≡◌, ◌≤◌}, lemmas.Bool.Decides.eqb_tells}
+use Rattle.std.specs.Prelude.{Option, Some, false, ◌==◌}
 
 -- owners that rely on one thing or another are alike
 pub owners_alike : (stage sb stage' sb' : Option ℕ) → IsAlike (Owning stage sb) (Owning stage' sb')
@@ -117,19 +118,18 @@ module _ (c : Config) (w : World) (good : IsGood c w) where
           actions_have_their_effect c.tasks c.nodes (stages_in w) _ t kind
           (record { right = stages_right; there = lt; happens = happens }) (shown c w) stages_shown.stages
 
-    -- The shown model after an event of a task that holds what it held at the mounts and the levels, and that leaves the flags of the
+    -- The shown model after an event of a task that holds what it held, and that leaves the flags of the
     -- mounts: it is a state that shows the stage then, who holds a freeze, and the nodes, and is else as it was.
-    pub shown_by : ws.flags ≡ w.words.flags → held_at v ≡ held_at (w.views t) → holds_level v ≡ holds_level (w.views t) →
-        has_open v ≡ has_open (w.views t) → (s : State) →
+    pub shown_by : ws.flags ≡ w.words.flags → held_of v ≡ held_of (w.views t) → (s : State) →
         ShowsStages c.tasks ws.stage ws.sb ws.remount ws.block (update (stage_roles w) t (stage_role_of v.phase)) s →
         s.mounts ≡ (shown c w).mounts → s.levels ≡ (shown c w).levels → s.opens ≡ (shown c w).opens → s.mount_ro ≡ (shown c w).mount_ro →
         s.holders ≡ holders_in ws.holders → s.tree ≡ (λ n. node_shown (ws.node n)) → shown c (record { words = ws; views = update w.views t v }) ≡ s
-    shown_by flags held levels opens s shows em el eo ef eh et = λ j. record {
-      mounts = (update_map held_at w.views t v ∙ ap (update (λ x. held_at (w.views x)) t) held ∙
+    shown_by flags held s shows em el eo ef eh et = λ j. record {
+      mounts = (update_map held_at w.views t v ∙ ap (λ (h : Holdings). update (λ x. held_at (w.views x)) t h.mounts) held ∙
           update_same (λ x. held_at (w.views x)) t ∙ sym em) j;
-      levels = (update_map holds_level w.views t v ∙ ap (update (λ x. holds_level (w.views x)) t) levels ∙
+      levels = (update_map holds_level w.views t v ∙ ap (λ (h : Holdings). update (λ x. holds_level (w.views x)) t h.levels) held ∙
           update_same (λ x. holds_level (w.views x)) t ∙ sym el) j;
-      opens = (update_map has_open w.views t v ∙ ap (update (λ x. has_open (w.views x)) t) opens ∙
+      opens = (update_map has_open w.views t v ∙ ap (λ (h : Holdings). update (λ x. has_open (w.views x)) t h.files) held ∙
           update_same (λ x. has_open (w.views x)) t ∙ sym eo) j;
       mount_ro = (ap {B = ℕ → Bool} (λ (f : ℕ → ℕ) m. ro_bit (f m) == 1) flags ∙ sym ef) j;
       sb_ro = sym shows.sb_same j;

@@ -7,7 +7,8 @@ use Rattle.cpu_words.specs.{Touches.left, Words.{Words, put, read}, declared.{ev
 use Rattle.gate_counts.specs.Levels.{LevelRole, LevelHolds, Out as CountsNot, Passed as CountsPassed}
 use Rattle.freeze_levels.specs.Levels.{closing, reopening}
 use Rattle.level_laws.specs.{Events.{SyncLevel, SyncStep}, Operations.{put_at, left_by}, Roles.{Closed, Out as IsApart}}
-use Rattle.gate_world.specs.{LevelRuns.level_in, Levels.{at_level, level_role_of, inside, is_frozen_whole, Stand, stand_count, stand_sync, closed_to}}
+use Rattle.gate_world.specs.{LevelRuns.level_in, Levels.{at_level, level_role_of, inside, is_frozen_whole}}
+use Rattle.gate_world.specs.Roles.{Stand, stand_count, stand_sync, closed_to}
 use Rattle.gate_world.specs.{Rules.{IsGood, Holds, AtLevel, SyncAt, Sections}, Worlds.World, declared.{config.Config.Config, views.View.View, work.Phase.Phase}}
 use Rattle.gate_frames.proofs.Frames.{left_alone, level_as, level_view_as, SameLevelWords, SameLevelCounts}
 use Rattle.gate_frames.proofs.LevelWorlds.{IsEventAt, sync_there, sync_elsewhere, sections_stay}

@@ -5,9 +5,9 @@ use Rattle.access_model.specs.declared.replies.Next.{Next}
 use Rattle.cpu_words.specs.Words.{Words}
 use Rattle.percpu_rwsem.specs.declared.writers.{DownWrite.DownWrite, UpWrite.UpWrite}
 use Rattle.level_laws.specs.{Events.SyncStep, Operations.{down_write_role, up_write_role}}
-use Rattle.gate_world.specs.LevelRuns.{level_in}
-use Rattle.gate_world.specs.Levels.{Stand, closed_to, stand_count, stand_sync, down_count_role, up_count_role, level_role_of, sync_role_of, inside}
-use Rattle.gate_world.specs.{Rules.{Holds, AtLevel, SyncAt, Sections}, Worlds.World, declared.{config.Config.Config, views.View.View, work.Phase.Phase}}
+use Rattle.gate_world.specs.{LevelRuns.level_in, Levels.{level_role_of, sync_role_of, inside}, Roles.{Stand, closed_to, stand_count, stand_sync}}
+use Rattle.gate_world.specs.{Roles.{down_count_role, up_count_role}, Rules.{Holds, AtLevel, SyncAt, Sections}, Worlds.World, declared.config.Config.Config}
+use Rattle.gate_world.specs.declared.{views.View.View, work.Phase.Phase}
 
 -- a phase stands so with the levels, and is inside no section
 pub record Stands (p : Option Phase) (s : Option Stand) : Type 0 where

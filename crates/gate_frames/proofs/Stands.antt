@@ -4,7 +4,7 @@ use Rattle.std.specs.Prelude.{Option, Some, None, Bool, true, false, ◌==◌, n
 use Rattle.percpu_rwsem.specs.declared.writers.{DownWriteStep.DownWriteStep, UpWriteStep.UpWriteStep}
 use Rattle.freeze_levels.specs.declared.{freezes.FreezeStep.FreezeStep, thaws.ThawStep.ThawStep}
 use Rattle.level_laws.specs.{Operations.{down_write_role, up_write_role}, Roles.{SyncRole, Closed, fast, closed}}
-use Rattle.gate_world.specs.Levels.{Stand, sync_beside, stand_sync, freeze_stand, thaw_stand}
+use Rattle.gate_world.specs.Roles.{Stand, sync_beside, stand_sync, freeze_stand, thaw_stand}
 
 up_write_slow : (s : UpWriteStep) → fast (up_write_role s) ≡ 0
 up_write_slow UpWriteStep.ClearsBlock = refl

@@ -7,7 +7,7 @@ use Rattle.access_model.specs.declared.{actions.Action.Action, errors.GateError.
 use Rattle.cpu_words.specs.{Hooks.HookAnswer, Touches.found_by}
 use Rattle.gate_world.specs.Beginnings.{first_phase, view_refusal, refusal}
 use Rattle.gate_world.specs.Courses.{course_with, course_after, course_of, IsEventOf, IsNext, IsTraced, MayFind, AllTraced, EventsMayBe}
-use Rattle.gate_world.specs.{Views.{phase_after, actions_after, with_hook, view_after, begun_view, held_at, holds_level, has_open}, Work.{next_of, after_of}}
+use Rattle.gate_world.specs.{Views.{phase_after, actions_after, with_hook, view_after, begun_view, held_of}, Work.{next_of, after_of}}
 use Rattle.gate_world.specs.Worlds.{World, Entry, Begins, Steps, begin_refusal, begin_of, value_at, step_of, happens, opening}
 use Rattle.gate_world.specs.declared.{config.Config.Config, operations.Op.Op, views.{Traced.Traced, View.View}, work.Phase.Phase}
 use Rattle.gate_frames.proofs.Says.{event_at}
@@ -49,7 +49,7 @@ step_follows c t v (Some op) phase value hook e may h =
 
 -- why an operation can't begin, where another is under way or none is
 abbrev unless_under_way : Config → View → Op → Bool → Option GateError
-unless_under_way c v op under_way = refusal c under_way (held_at v) (holds_level v) (has_open v) op
+unless_under_way c v op under_way = refusal c under_way (held_of v) op
 
 -- an operation that begins finds none under way
 idle_refusal : (c : Config) (v : View) (op : Op) (under_way : Bool) → unless_under_way c v op under_way ≡ None →

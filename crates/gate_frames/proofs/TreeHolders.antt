@@ -1,21 +1,23 @@
 -- Who is at a level with an access at some mount: nobody has shut what it came through.
-use Rattle.std.proofs.Common.{◌≡◌, ℕ, zero, suc, ◌<◌, ◌≤◌, ◌⊎◌, inl, inr, refl, sym, arith, Bool, true, false, true≢false, ap}
-use Rattle.std.proofs.lemmas.Bool.{cases_Bool, ltb-true, ne_eqb, cases_lt, Decides.eqb_tells}
-use Rattle.std.specs.Prelude.{◌&&◌, Option, Some, nat_lt, ◌==◌}
-use Rattle.finite_sums.{proofs.Totals.total_at, specs.Sums.total}
-use Rattle.gate_counts.{proofs.LevelLaws.{none_frozen, none_passed}, specs.{Gates.past, Levels.{LevelRole, Passed}}}
-use Rattle.gated_tree.specs.declared.{phases.TreePhase.TreePhase, snapshots.SnapshotStep.SnapshotStep}
-use Rattle.mount_counts.specs.{Roles.{ro_bit, mount_as_gate}, declared.remounts.RemountStep.RemountStep}
-use Rattle.percpu_rwsem.specs.declared.writers.{DownWriteStep.DownWriteStep, UpWriteStep.UpWriteStep}
+use Rattle.finite_sums.proofs.Totals.{total_at}
+use Rattle.finite_sums.specs.Sums.{total}
 use Rattle.freeze_levels.specs.declared.{freezes.FreezeStep.FreezeStep, thaws.ThawStep.ThawStep}
-use Rattle.stage_laws.{proofs.Whole.freeze_is_under_way, specs.Roles.{Freezing, Place, passed_by, Before}}
-use Rattle.gate_world.specs.Levels.{level_role_of, stand_count, count_beside, down_count_role, up_count_role, freeze_stand, thaw_stand, at_level}
-use Rattle.gate_world.specs.Levels.{is_frozen_whole}
-use Rattle.gate_world.specs.{Operations.{some_mount, is_writer}, Rules.{IsGood, AtMount, AtLevel, Owner, Stages, MountHoldsIn, at_mount}, Shown.stage_roles}
-use Rattle.gate_world.specs.Stages.{stage_role_of, remount_stage_role, freeze_stage_role, thaw_stage_role, tree_stage_role, snapshot_stage_role, place_of}
-use Rattle.gate_world.specs.Stages.{reopening_role}
-use Rattle.gate_world.specs.{Views.{held_at, holds_level}, Worlds.World, declared.{config.Config.Config, work.Phase.Phase}}
+use Rattle.gate_counts.proofs.LevelLaws.{none_frozen, none_passed}
+use Rattle.gate_counts.specs.{Gates.past, Levels.{LevelRole, Passed}}
 use Rattle.gate_frames.proofs.{Stages.{stages_in, stages_right}, Stands.below}
+use Rattle.gate_world.specs.{Levels.{at_level, is_frozen_whole, level_role_of}, Operations.{is_writer, some_mount}, Roles.{count_beside, down_count_role}}
+use Rattle.gate_world.specs.Roles.{freeze_stage_role, freeze_stand, place_of, remount_stage_role, reopening_role, snapshot_stage_role, stand_count}
+use Rattle.gate_world.specs.{Roles.{thaw_stage_role, thaw_stand, tree_stage_role, up_count_role}, Rules.{AtLevel, AtMount, IsGood, MountHoldsIn, Owner}}
+use Rattle.gate_world.specs.{Rules.{Stages, at_mount}, Shown.{stage_role_of, stage_roles}, Views.{held_at, held_of, holds_level}, Worlds.World}
+use Rattle.gate_world.specs.declared.{config.Config.Config, work.Phase.Phase}
+use Rattle.gated_tree.specs.declared.{phases.TreePhase.TreePhase, snapshots.SnapshotStep.SnapshotStep}
+use Rattle.mount_counts.specs.{Roles.{mount_as_gate, ro_bit}, declared.remounts.RemountStep.RemountStep}
+use Rattle.percpu_rwsem.specs.declared.writers.{DownWriteStep.DownWriteStep, UpWriteStep.UpWriteStep}
+use Rattle.stage_laws.proofs.Whole.{freeze_is_under_way}
+use Rattle.stage_laws.specs.Roles.{Before, Freezing, Place, passed_by}
+use Rattle.std.proofs.{Common.{Bool, ap, arith, false, inl, inr, refl, suc, sym, true, true≢false, zero, ℕ, ◌<◌, ◌≡◌, ◌≤◌, ◌⊎◌}, lemmas.Bool.cases_Bool}
+use Rattle.std.proofs.lemmas.Bool.{cases_lt, ltb-true, ne_eqb, Decides.eqb_tells}
+use Rattle.std.specs.Prelude.{Option, Some, nat_lt, ◌&&◌, ◌==◌}
 
 pub both_true : (a b : Bool) → (a && b) ≡ true → (a ≡ true) × (b ≡ true)
 both_true true b h = (refl, h)
@@ -163,7 +165,7 @@ module _ (c : Config) (w : World) (good : IsGood c w) (t : ℕ) (lt : t < c.task
         unpassed = level_unpassed i bounds.0 high inside;
       }
 
-  pub writer_not_frozen : is_writer c (held_at (w.views t)) (holds_level (w.views t)) ≡ true → w.words.stage ≡ 4 → ⊥
+  pub writer_not_frozen : is_writer c (held_of (w.views t)) ≡ true → w.words.stage ≡ 4 → ⊥
   writer_not_frozen writes frozen =
       let both : (holds_level (w.views t) 1 ≡ true) × (some_mount c.mounts (held_at (w.views t)) ≡ true) = both_true _ _ writes in
       omega (arith, frozen, (writer_apart 1 (inl refl) both.0 both.1).unfrozen)

@@ -8,7 +8,7 @@ use Rattle.gated_tree.specs.declared.{phases.TreePhase.TreePhase, snapshots.Snap
 use Rattle.mount_counts.specs.declared.remounts.RemountStep.{RemountStep}
 use Rattle.freeze_levels.specs.declared.freezes.FreezeStep.{FreezeStep}
 use Rattle.file_closes.specs.declared.phases.ClosePhase.{ClosePhase}
-use Rattle.gate_world.specs.Trees.{close_tree_role, remount_tree_role, freeze_tree_role}
+use Rattle.gate_world.specs.Roles.{close_tree_role, remount_tree_role, freeze_tree_role}
 
 -- it clears no mark, relies on no file's being removed, has loaded no word for a snapshot, and is to free no node
 pub record IsPlainRole (r : Role) : Type 0 where

@@ -1,26 +1,26 @@
 -- The tree of a world, as the laws of the tree have it: what an event of a task leaves of it, and what it shows.
-use Rattle.std.proofs.Common.{◌≡◌, ℕ, suc, ◌<◌, ◌≤◌, refl, sym, ap, ◌∙◌, subst, inl, inr, arith, Bool, true≢false, zero}
-use Rattle.std.proofs.lemmas.Bool.{le-leb, Decides.eqb_tells}
-use Rattle.std.specs.Prelude.{Option, Some, None, Ok, Err, List, false, nat_lt}
-use Rattle.finite_sums.{proofs.Totals.{update_map, total_none}, specs.Sums.update}
-use Rattle.access_model.specs.{States.{is_dirty, IsDirectory}, declared.actions.{Action.Action, Holder.Holder}}
+use Rattle.access_model.specs.{States.{IsDirectory, is_dirty}, declared.actions.{Action.Action, Holder.Holder}}
 use Rattle.cpu_words.specs.Words.{Words}
-use Rattle.gated_tree.specs.{Calls.{snapshot_role, phase_role}, Nodes.{dirty_in, kind_in, node_shown}}
-use Rattle.gated_tree.specs.Roles.{TreeHolds, TreeState, AreWithin, RoleHolds, Clearing, sealed_by, NobodyReads, words_read}
-use Rattle.gated_tree.specs.declared.{phases.TreePhase.TreePhase, snapshots.{Snapshot.Snapshot, SnapshotStep.SnapshotStep}}
-use Rattle.mount_counts.specs.declared.remounts.RemountStep.{RemountStep}
-use Rattle.tree_laws.{proofs.Each.each_event, specs.Events.Event}
-use Rattle.percpu_rwsem.specs.declared.writers.{DownWriteStep.DownWriteStep, UpWriteStep.UpWriteStep}
+use Rattle.finite_sums.proofs.Totals.{total_none, update_map}
+use Rattle.finite_sums.specs.Sums.{update}
 use Rattle.freeze_levels.specs.declared.{freezes.FreezeStep.{FreezeStep, TheVariants.Closes}, thaws.ThawStep.ThawStep}
-use Rattle.stage_laws.specs.Roles.{MarksHold, CleanBelow, clean_by, KnowsStage, Freezing}
-use Rattle.gate_world.specs.{Configs.IsWithin, Fits.{Fits, FreezeFits, PhaseFits}, Remounts.RemountFits, Rules.{IsGood, Holds, Tree, Stages, Fitting, marks_of}}
-use Rattle.gate_world.specs.{Shown.stage_roles, Snapshots.values_noted}
-use Rattle.gate_world.specs.Stages.{stage_role_of, remount_stage_role, freeze_stage_role, reopening_role, snapshot_stage_role, thaw_stage_role, tree_stage_role}
-use Rattle.gate_world.specs.Stages.{place_of}
-use Rattle.gate_world.specs.Trees.{tree_bounds, tree_of, tree_role_of, tree_roles, is_sealed, remount_tree_role, freeze_tree_role, nodes_noted, is_bare_at}
-use Rattle.gate_world.specs.{Views.{held_at, holds_level}, Worlds.World}
-use Rattle.gate_world.specs.declared.{config.Config.Config, views.{Traced.Traced, View.View}, work.Phase.{Phase, TheVariants.Closes}}
-use Rattle.gate_frames.proofs.TreeRoles.{call_plain, remount_apart, close_apart, freeze_apart}
+use Rattle.gate_frames.proofs.TreeRoles.{call_plain, close_apart, freeze_apart, remount_apart}
+use Rattle.gate_world.specs.{Configs.IsWithin, Fits.{Fits, FreezeFits, PhaseFits}, Remounts.RemountFits, Roles.{freeze_stage_role, freeze_tree_role}}
+use Rattle.gate_world.specs.Roles.{nodes_noted, place_of, remount_stage_role, remount_tree_role, reopening_role, snapshot_stage_role, thaw_stage_role}
+use Rattle.gate_world.specs.{Roles.tree_stage_role, Rules.{Fitting, Holds, IsGood, Stages, Tree, marks_of}, Shown.{stage_role_of, stage_roles}}
+use Rattle.gate_world.specs.{Snapshots.values_noted, Trees.{is_bare_at, is_sealed, tree_bounds, tree_of, tree_role_of, tree_roles}, Views.held_of}
+use Rattle.gate_world.specs.{Worlds.World, declared.{config.Config.Config, views.{Traced.Traced, View.View}, work.Phase.{Phase, TheVariants.Closes}}}
+use Rattle.gated_tree.specs.{Calls.{phase_role, snapshot_role}, Nodes.{dirty_in, kind_in, node_shown}, Roles.{AreWithin, Clearing, NobodyReads, RoleHolds}}
+use Rattle.gated_tree.specs.{Roles.{TreeHolds, TreeState, sealed_by, words_read}, declared.{phases.TreePhase.TreePhase, snapshots.Snapshot.Snapshot}}
+use Rattle.gated_tree.specs.declared.snapshots.SnapshotStep.{SnapshotStep}
+use Rattle.mount_counts.specs.declared.remounts.RemountStep.{RemountStep}
+use Rattle.percpu_rwsem.specs.declared.writers.{DownWriteStep.DownWriteStep, UpWriteStep.UpWriteStep}
+use Rattle.stage_laws.specs.Roles.{CleanBelow, Freezing, KnowsStage, MarksHold, clean_by}
+use Rattle.std.proofs.{Common.{Bool, ap, arith, inl, inr, refl, subst, suc, sym, true≢false, zero, ℕ, ◌<◌, ◌∙◌, ◌≡◌, ◌≤◌}, lemmas.Bool.le-leb}
+use Rattle.std.proofs.lemmas.Bool.Decides.{eqb_tells}
+use Rattle.std.specs.Prelude.{Err, List, None, Ok, Option, Some, false, nat_lt}
+use Rattle.tree_laws.proofs.Each.{each_event}
+use Rattle.tree_laws.specs.Events.{Event}
 
 pub tree_within : (c : Config) → IsWithin c → AreWithin (tree_bounds c)
 tree_within c within = record { tasks = within.tasks; some_node = within.some_node; nodes = within.nodes; capacity = within.capacity }
@@ -152,13 +152,13 @@ module _ (c : Config) (w : World) (good : IsGood c w) where
   phase_clean : (t : ℕ) → t < c.tasks → (p : Option Phase) → (w.views t).phase ≡ p →
       CleanBelow (clean_by (stage_role_of p)) (marks_of w.words)
   phase_clean t lt (Some (Phase.Remounts x)) is =
-      let fits : PhaseFits c t (held_at (w.views t)) (holds_level (w.views t)) (Phase.Remounts x) =
-      subst (Fits c t (held_at (w.views t)) (holds_level (w.views t))) is (good Fitting t lt) in
+      let fits : PhaseFits c t (held_of (w.views t)) (Phase.Remounts x) =
+      subst (Fits c t (held_of (w.views t))) is (good Fitting t lt) in
       remount_clean x.nodes x.step t lt fits.3 fits.5 (ap (tree_role_of (w.views t).trace) is)
       (subst (λ p. KnowsStage w.words.stage w.words.sb (stage_role_of p)) is ((good Stages).knows t lt))
   phase_clean t lt (Some (Phase.Freezes x)) is =
-      let fits : PhaseFits c t (held_at (w.views t)) (holds_level (w.views t)) (Phase.Freezes x) =
-      subst (Fits c t (held_at (w.views t)) (holds_level (w.views t))) is (good Fitting t lt) in
+      let fits : PhaseFits c t (held_of (w.views t)) (Phase.Freezes x) =
+      subst (Fits c t (held_of (w.views t))) is (good Fitting t lt) in
       freeze_clean x.nodes x.holder x.step t lt fits.3 fits.5 (ap (tree_role_of (w.views t).trace) is)
   phase_clean t lt (Some (Phase.Thaws x)) is = thaw_clean x.step
   phase_clean t lt (Some (Phase.Trees x)) is = tree_clean x

@@ -8,12 +8,11 @@ use Rattle.percpu_rwsem.specs.{SyncWords.on_exit, Transitions.transition_after, 
 use Rattle.percpu_rwsem.specs.declared.{transitions.{Transition.Transition, TransitionNext.TransitionNext}, writers.{UpWrite.UpWrite, UpWriteStep.UpWriteStep}}
 use Rattle.level_laws.proofs.Operations.{up_writes_are_there}
 use Rattle.level_laws.specs.{Events.SyncStep, Operations.{up_write_role, left_by, by_next, HoldsOfNext}, Roles.Out as IsApart}
-use Rattle.gate_world.specs.{Configs.IsWithin, Fits.UpWriteFits, LevelRuns.level_in, Levels.{Stand, stand_count, stand_sync, is_frozen_whole}}
+use Rattle.gate_world.specs.{Configs.IsWithin, Fits.UpWriteFits, LevelRuns.level_in, Levels.is_frozen_whole, Roles.{Stand, stand_count, stand_sync}}
 use Rattle.gate_world.specs.{Rules.{IsGood, Holds, AtLevel}, Worlds.World, declared.{config.Config.Config, views.View.View}}
-use Rattle.gate_frames.proofs.{Frames.SameLevelCounts, LevelWorlds.{found_level, IsEventAt, event_word}}
-use Rattle.gate_frames.proofs.StandRoles.{count_at, sync_at, still_count, still_sync, SayBeside, beside_each, beside_still, counts_left, counts_become}
-use Rattle.gate_frames.proofs.StandRoles.{levels_move}
-use Rattle.gate_frames.proofs.Standing.{Stands, opening_stand, stand_after_opening, LevelsHold, left_world}
+use Rattle.gate_frames.proofs.{Frames.SameLevelCounts, LevelWorlds.{found_level, IsEventAt, event_word}, StandRoles.{count_at, sync_at, still_count}}
+use Rattle.gate_frames.proofs.{StandRoles.{still_sync, SayBeside, beside_each, beside_still, counts_left, counts_become, levels_move}, Standing.Stands}
+use Rattle.gate_frames.proofs.Standing.{opening_stand, stand_after_opening, LevelsHold, left_world}
 
 -- the same up-write at this step
 abbrev pub opening_at : UpWrite → UpWriteStep → UpWrite

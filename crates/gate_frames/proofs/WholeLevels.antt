@@ -4,7 +4,7 @@ use Rattle.finite_sums.{proofs.Totals.update_same, specs.Sums.update}
 use Rattle.cpu_words.specs.Words.{Words}
 use Rattle.gate_counts.{proofs.LevelLaws.{is_left_frozen, thaws}, specs.Levels.{Out as CountsNot, Passed as CountsPassed}}
 use Rattle.level_laws.specs.{Events.{Freezes, Thaws, SyncStep}, Roles.{SyncRole, Out as IsApart, Closed}}
-use Rattle.gate_world.specs.{Configs.IsWithin, LevelRuns.level_in, Levels.{closed_to, inside, is_frozen_whole, sync_role_of}, Rules.{IsGood, AtLevel}}
+use Rattle.gate_world.specs.{Configs.IsWithin, LevelRuns.level_in, Levels.{inside, is_frozen_whole, sync_role_of}, Roles.closed_to, Rules.{IsGood, AtLevel}}
 use Rattle.gate_world.specs.{Worlds.World, declared.{config.Config.Config, views.View.View}}
 use Rattle.gate_frames.proofs.{Frames.SameLevelCounts, LevelWorlds.{level_moves, level_steps}}
 use Rattle.gate_frames.proofs.{StandRoles.{count_closed, sync_closed, counts_become, sections_left}, Standing.{Stands, LevelsHold, LevelsRun, left_world}}

@@ -9,7 +9,7 @@ module _ (c : Config) (w : World) (good : IsGood c w) (t : ℕ) (lt : t < c.task
     (now : IsWriter v.phase) where
   -- `remount` is set by it no more than before
   remount_stays : remounts v.phase ≡ remounts (w.views t).phase
-  remount_stays = now.remounts_none ∙ sym was.remounts_none
+  remount_stays = (λ j. (now j).remounts) ∙ sym (λ j. (was j).remounts)
 
   -- who owned before owns after, and `umount` and `remount` are as they were
   pub owner_stays : (ws : Words) → ws.umount ≡ w.words.umount → ws.remount ≡ w.words.remount → owns v.phase ≡ owns (w.views t).phase →

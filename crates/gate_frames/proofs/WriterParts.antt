@@ -1,45 +1,45 @@
 -- What an event of a freeze or a thaw may leave: each part of the rule, and the shown model.
-use Rattle.std.proofs.Common.{◌≡◌, ℕ, ◌<◌, ◌≤◌, true, false, refl, sym, ap, ◌∙◌, subst, inl, inr, arith, true≢false, ◌⊎◌, nat_lt}
-use Rattle.std.proofs.lemmas.Bool.{cases_Bool, lt-ltb, Decides.eqb_tells}
-use Rattle.std.specs.Prelude.{if◌then◌else◌, ◌==◌, Option, Some, None, Ok}
-use Rattle.finite_sums.{proofs.Totals.each_updated, specs.Sums.update}
-use Rattle.access_model.specs.{Replies.map_next, States.{Limits, openers, State}}
-use Rattle.access_model.specs.declared.{actions.{Action.Action, Holders.Holders, NodeInfo.NodeInfo}, replies.{Next.Next, Reply.Reply}}
-use Rattle.cpu_words.specs.{Hooks.HookAnswer, Sums.sum_taking, Touches.{found_by, event_of}, Words.Words, declared.sums.Taken.Taken}
-use Rattle.gated_tree.specs.Nodes.{node_shown, opens_in}
-use Rattle.mount_counts.specs.Roles.{Out}
-use Rattle.percpu_rwsem.specs.{Graces.looked, SyncWords.{is_passed, on_enter, on_callback, unpack}, Transitions.transition_after}
-use Rattle.percpu_rwsem.specs.Writers.{sum_begun, at_down_write, down_write_next, down_write_after, sections_awaited, passed_awaited, down_write_summed}
-use Rattle.percpu_rwsem.specs.Writers.{enter_step, callback_step}
-use Rattle.percpu_rwsem.specs.declared.{grace.GraceNext.GraceNext, sync_word.SyncWord.SyncWord, transitions.Transition.Transition}
-use Rattle.percpu_rwsem.specs.declared.writers.{DownWrite.DownWrite, DownWriteStep.DownWriteStep, UpWriteStep.UpWriteStep}
-use Rattle.freeze_levels.specs.{Freezes.{freeze_next, level_closed, freeze_after, after_closing}, Holders.holders_in, Thaws.{thaw_next, thaw_after}}
+use Rattle.access_model.specs.{Replies.map_next, States.{Limits, State, openers}, declared.actions.{Action.Action, Holders.Holders, NodeInfo.NodeInfo}}
+use Rattle.access_model.specs.declared.replies.{Next.Next, Reply.Reply}
+use Rattle.cpu_words.specs.{Hooks.HookAnswer, Sums.sum_taking, Touches.{event_of, found_by}, Words.Words, declared.sums.Taken.Taken}
+use Rattle.finite_sums.proofs.Totals.{each_updated}
+use Rattle.finite_sums.specs.Sums.{update}
+use Rattle.freeze_levels.specs.{Freezes.{after_closing, freeze_after, freeze_next, level_closed}, Holders.holders_in, Thaws.{thaw_after, thaw_next}}
 use Rattle.freeze_levels.specs.declared.{freezes.{Freeze.Freeze, FreezeStep.FreezeStep}, thaws.{Thaw.Thaw, ThawStep.ThawStep}}
-use Rattle.stage_laws.specs.{Events.{StageEvent, action_of as stage_action_of}, Roles.{owns as stage_owns, bit}, Shown.{state_after, ShowsStages, AsksOthers}}
-use Rattle.gate_world.specs.{Configs.model_limits, Fits.{FreezeFits, HasFile, file_of}, Found.is_load, Owners.{is_owned, takes_lock}}
-use Rattle.gate_world.specs.Rules.{Stages, Holding, Fitting, Known, Tree, AtMount, Sections, role_of, IsGood, OwnerHolds, Part, Moves, owns, remounts}
-use Rattle.gate_world.specs.Rules.{StepKeeps, Holds, ViewFits, AtLevel, SyncAt, Owner, Files}
-use Rattle.gate_world.specs.{Shown.{shown, stage_roles}, Stages.{reopening_role, freeze_stage_role, thaw_stage_role, stage_role_of}}
-use Rattle.gate_world.specs.{Views.{phase_after, held_at, holds_level, added_by, taken_by, has_open}, Worlds.{World, value_at, after_step, phase_action}}
-use Rattle.gate_world.specs.declared.{config.Config.Config, views.View.View, work.Phase.Phase}
-use Rattle.gate_frames.proofs.{Frames.{left_alone, view_as, opens_left}, Keeps.by_bool, Known.{IsOwnersWork, known_after}}
-use Rattle.gate_frames.proofs.{MountEvents.{is_known_part, known_is}, Stages.{stages_after, stage_action, shown_by, IsStageEvent, stages_in, stage_effect}}
+use Rattle.gate_frames.proofs.{Frames.{left_alone, opens_left, view_as}, Keeps.by_bool, Known.{IsOwnersWork, known_after}, MountEvents.is_known_part}
+use Rattle.gate_frames.proofs.{MountEvents.known_is, Stages.{IsStageEvent, shown_by, stage_action, stage_effect, stages_after, stages_in}}
 use Rattle.gate_frames.proofs.Standing.{LevelsHold, left_world}
+use Rattle.gate_world.specs.{Configs.model_limits, Fits.{FreezeFits, HasFile, file_of}, Found.is_load, Holdings.Holdings, Owners.{is_owned, takes_lock}}
+use Rattle.gate_world.specs.{Roles.{Roles, freeze_stage_role, no_roles, reopening_role, roles_of, thaw_stage_role}, Rules.{AtLevel, AtMount, Files, Fitting}}
+use Rattle.gate_world.specs.Rules.{Holding, Holds, IsGood, Known, Moves, Owner, OwnerHolds, Part, Sections, Stages, StepKeeps, SyncAt, Tree, ViewFits, owns}
+use Rattle.gate_world.specs.{Shown.{shown, stage_role_of, stage_roles}, Views.{added_by, has_open, held_of, phase_after, taken_by}, Worlds.World}
+use Rattle.gate_world.specs.{Worlds.{after_step, phase_action, value_at}, declared.{config.Config.Config, views.View.View, work.Phase.Phase}}
+use Rattle.gated_tree.specs.Nodes.{node_shown, opens_in}
+use Rattle.percpu_rwsem.specs.{Graces.looked, SyncWords.{is_passed, on_callback, on_enter, unpack}, Transitions.transition_after, Writers.at_down_write}
+use Rattle.percpu_rwsem.specs.Writers.{callback_step, down_write_after, down_write_next, down_write_summed, enter_step, passed_awaited, sections_awaited}
+use Rattle.percpu_rwsem.specs.{Writers.sum_begun, declared.{grace.GraceNext.GraceNext, sync_word.SyncWord.SyncWord, transitions.Transition.Transition}}
+use Rattle.percpu_rwsem.specs.declared.writers.{DownWrite.DownWrite, DownWriteStep.DownWriteStep, UpWriteStep.UpWriteStep}
+use Rattle.stage_laws.specs.{Events.{StageEvent, action_of as stage_action_of}, Roles.{bit, owns as stage_owns}, Shown.{AsksOthers, ShowsStages, state_after}}
+use Rattle.std.proofs.{Common.{ap, arith, false, inl, inr, nat_lt, refl, subst, sym, true, true≢false, ℕ, ◌<◌, ◌∙◌, ◌≡◌, ◌≤◌, ◌⊎◌}, lemmas.Bool.cases_Bool}
+use Rattle.std.proofs.lemmas.Bool.{lt-ltb, Decides.eqb_tells}
+use Rattle.std.specs.Prelude.{None, Ok, Option, Some, if◌then◌else◌, ◌==◌}
 
--- A phase of a freeze or a thaw, or none: it has no role at a mount, and `remount` not set.
-pub record IsWriter (p : Option Phase) : Type 0 where
-  pub out_of_mounts : (m : ℕ) → role_of m p ≡ Out
-  pub remounts_none : remounts p ≡ 0
-  pub no_file : file_of p ≡ None
+-- of these roles those that no freeze and no thaw has
+abbrev pub off_writers : Roles → Roles
+off_writers r = record no_roles { mount = r.mount; remounts = r.remounts; file = r.file }
+
+-- a phase of one, or none: it has none of them
+abbrev pub IsWriter : Option Phase → Type 0
+IsWriter p = off_writers (roles_of p) ≡ no_roles
 
 pub idle_writes : IsWriter None
-idle_writes = record { out_of_mounts = λ m. refl; remounts_none = refl; no_file = refl }
+idle_writes = refl
 
 pub freezes_write : (x : Freeze) → IsWriter (Some (Phase.Freezes x))
-freezes_write x = record { out_of_mounts = λ m. refl; remounts_none = refl; no_file = refl }
+freezes_write x = refl
 
 pub thaws_write : (x : Thaw) → IsWriter (Some (Phase.Thaws x))
-thaws_write x = record { out_of_mounts = λ m. refl; remounts_none = refl; no_file = refl }
+thaws_write x = refl
 
 pub freeze_comes : (n : Next Freeze) → IsWriter (phase_after (map_next Phase.Freezes n))
 freeze_comes (Next.Go x) = freezes_write x
@@ -60,9 +60,7 @@ pub record IsBeside (old new : Words) : Type 0 where
 
 -- the view counts what it counted at mounts, and holds what it held
 pub record SameAtMounts (old new : View) : Type 0 where
-  pub held_same : held_at new ≡ held_at old
-  pub levels_same : holds_level new ≡ holds_level old
-  pub open_same : has_open new ≡ has_open old
+  pub held_same : held_of new ≡ held_of old
   pub added_same : added_by new.events ≡ added_by old.events
   pub taken_same : taken_by new.events ≡ taken_by old.events
 
@@ -112,22 +110,23 @@ module _ (c : Config) (w : World) (good : IsGood c w) (t : ℕ) (lt : t < c.task
   writer_parts h Known k = absurd (true≢false k)
   writer_parts h Tree k = h.tree
   writer_parts h Files k = record {
-    counted = λ n ln. h.opens n ∙ (good Files).counted n ln ∙ sym (ap (λ f. openers f n) (opens_left c w t lt v h.counts.open_same));
+    counted = λ n ln. h.opens n ∙ (good Files).counted n ln ∙
+        sym (ap (λ f. openers f n) (opens_left c w t lt v (ap (λ (k : Holdings). k.files) h.counts.held_same)));
     own = λ x lx. each_updated (λ y (u : View). HasFile (has_open u) (file_of u.phase)) w.views t v x
-        (subst (HasFile (has_open v)) (sym h.now.no_file) tt) (λ ne. (good Files).own x lx);
+        (subst (HasFile (has_open v)) (sym (λ j. (h.now j).file)) tt) (λ ne. (good Files).own x lx);
   }
   writer_parts h (AtMount m) k =
       left_alone c w t lt (AtMount m) ws v
       (ap (λ f. f m) h.words.flags_same, h.words.remount_same, h.words.sb_same, ap (λ f. f m) h.words.count_same)
-      (view_as (ap (λ f. f m) h.counts.held_same) (ap (λ f. f m) h.counts.added_same) (ap (λ f. f m) h.counts.taken_same)
-      (h.now.out_of_mounts m ∙ sym (h.was.out_of_mounts m))) (good (AtMount m))
+      (view_as (ap (λ (k : Holdings). k.mounts m) h.counts.held_same) (ap (λ f. f m) h.counts.added_same) (ap (λ f. f m) h.counts.taken_same)
+      ((λ j. (h.now j).mount m) ∙ sym (λ j. (h.was j).mount m))) (good (AtMount m))
   writer_parts h (AtLevel i) k = h.levels.0 i
   writer_parts h (SyncAt i) k = h.levels.1 i
   writer_parts h Sections k = h.levels.2
 
   effect_shown : WriterEvent → shown c (left_world w t ws v) ≡ state_after (shown c w) t action
   effect_shown h =
-      shown_by c w good t lt ws v h.words.flags_same h.counts.held_same h.counts.levels_same h.counts.open_same (state_after (shown c w) t action)
+      shown_by c w good t lt ws v h.words.flags_same h.counts.held_same (state_after (shown c w) t action)
       (subst (λ a. ShowsStages c.tasks ws.stage ws.sb ws.remount ws.block (update (stage_roles w) t (stage_role_of v.phase))
       (state_after (shown c w) t a)) h.adds (stage_effect c w good t lt ws v kind h.happens))
       h.rest.mounts_same h.rest.levels_same h.rest.opens_same h.rest.ro_same h.rest.holders_same h.rest.tree_same

@@ -7,9 +7,9 @@ use Rattle.gated_tree.specs.{Nodes.dirty_in, Roles.{TreeState, sealed_by}}
 use Rattle.tree_laws.specs.Events.{Event, Opens}
 use Rattle.freeze_levels.specs.Holders.{holders_in}
 use Rattle.stage_laws.specs.{Events.{playing, StageEvent, Stays, action_of as stage_action_of}, Roles.StageRole}
-use Rattle.gate_world.specs.{Configs.{IsWithin, model_limits}, Levels.{Stand, is_frozen_whole}}
-use Rattle.gate_world.specs.{Rules.{IsGood, OwnerHolds, Holds, ViewFits, Stages, Holding, Tree}, Shown.{shown, stage_roles}, Stages.stage_role_of}
-use Rattle.gate_world.specs.{Trees.{tree_bounds, tree_of, tree_role_of, tree_roles}, Worlds.World, declared.{config.Config.Config, views.View.View}}
+use Rattle.gate_world.specs.{Configs.{IsWithin, model_limits}, Levels.is_frozen_whole, Roles.Stand, Rules.{IsGood, OwnerHolds, Holds, ViewFits, Stages}}
+use Rattle.gate_world.specs.{Rules.{Holding, Tree}, Shown.{shown, stage_roles, stage_role_of}, Trees.{tree_bounds, tree_of, tree_role_of, tree_roles}}
+use Rattle.gate_world.specs.{Worlds.World, declared.{config.Config.Config, views.View.View}}
 use Rattle.gate_frames.proofs.{Frames.{SameLevelCounts, left_alone}, Stages.{IsStageEvent, stages_in}, StandRoles.levels_stay}
 use Rattle.gate_frames.proofs.{Standing.{Stands, LevelsHold, left_world}, Trees.{sealed_read_only, tree_then, tree_after}}
 use Rattle.gate_frames.proofs.WriterParts.{IsWriter, SameAtMounts, LeavesRest, AsksWhere, WriterLaw, writer_law}

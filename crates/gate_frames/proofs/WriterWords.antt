@@ -11,35 +11,32 @@ use Rattle.percpu_rwsem.specs.declared.transitions.{Transition.Transition, Trans
 use Rattle.percpu_rwsem.specs.declared.writers.{DownWrite.DownWrite, DownWriteStep.DownWriteStep, UpWrite.UpWrite, UpWriteStep.UpWriteStep}
 use Rattle.freeze_levels.specs.Holders.{holders_in}
 use Rattle.stage_laws.specs.{Events.{StageEvent, action_of as stage_action_of}, Shown.state_after}
-use Rattle.gate_world.specs.{Configs.{IsWithin, model_limits}, Holders.holder_role_of, Levels.{level_added_after, level_taken_after}}
-use Rattle.gate_world.specs.{Rules.{IsGood, Holds, ViewFits, Tree, owns}, Shown.shown, Trees.{tree_bounds, tree_of, tree_role_of, tree_roles}}
-use Rattle.gate_world.specs.{Views.{added_after, taken_after}, Worlds.World, declared.{config.Config.Config, views.View.View}}
-use Rattle.gate_frames.proofs.{Frames.left_alone, Holders.holders_stay, Keeps.by_bool, Stages.{IsStageEvent, stages_in}, Standing.{LevelsHold, left_world}}
-use Rattle.gate_frames.proofs.{Trees.{tree_then, tree_after}, WriterOwner.owner_stays}
-use Rattle.gate_frames.proofs.WriterParts.{IsBeside, IsWriter, SameAtMounts, LeavesRest, AsksWhere, WriterLaw, writer_law}
+use Rattle.gate_world.specs.{Configs.{IsWithin, model_limits}, Levels.{level_added_after, level_taken_after}, Rules.{IsGood, Holds, ViewFits, Tree, owns}}
+use Rattle.gate_world.specs.{Shown.{holder_role_of, shown}, Trees.{tree_bounds, tree_of, tree_role_of, tree_roles, is_sealed, is_bare_at}, Views.added_after}
+use Rattle.gate_world.specs.{Views.taken_after, Worlds.World, declared.{config.Config.Config, views.View.View}}
+use Rattle.gate_frames.proofs.{Frames.{unwritten, left_alone}, Holders.holders_stay, Keeps.by_bool, Stages.{IsStageEvent, stages_in}, Standing.LevelsHold}
+use Rattle.gate_frames.proofs.{Standing.left_world, Trees.{tree_then, tree_after}, WriterOwner.owner_stays, WriterParts.{IsBeside, IsWriter, SameAtMounts}}
+use Rattle.gate_frames.proofs.WriterParts.{LeavesRest, AsksWhere, WriterLaw, writer_law}
 
--- each word that is no level's own is as it was
-pub record IsAtLevels (old new : Words) : Type 0 where
-  pub beside : IsBeside old new
-  pub umount_same : new.umount ≡ old.umount
-  pub stage_same : new.stage ≡ old.stage
-  pub holders_same : new.holders ≡ old.holders
-  pub node_same : new.node ≡ old.node
-  pub used_same : new.used ≡ old.used
-  pub removed_same : new.removed ≡ old.removed
-  pub kids_same : new.kids ≡ old.kids
+-- the words that are no level's own
+abbrev pub off_level_words : Words → Words
+off_level_words w = record w { block = λ i. 0; sync = λ i. 0; level = λ i p. 0; section = λ t. 0 }
+
+-- are as they were
+abbrev pub IsAtLevels : Words → Words → Type 0
+IsAtLevels old new = off_level_words new ≡ off_level_words old
 
 pub down_write_words : (w : Words) (d : DownWrite) (s : DownWriteStep) →
     IsAtLevels w (put w (down_write_next d s).0 (left (down_write_next d s).1 (read w (down_write_next d s).0)))
-down_write_words w d (DownWriteStep.Enters Transition.Loads) = assumption
-down_write_words w d (DownWriteStep.CallsBack Transition.Loads) = assumption
-down_write_words w d other = assumption
+down_write_words w d (DownWriteStep.Enters Transition.Loads) = refl
+down_write_words w d (DownWriteStep.CallsBack Transition.Loads) = refl
+down_write_words w d other = refl
 
 pub up_write_words : (w : Words) (u : UpWrite) (s : UpWriteStep) →
     IsAtLevels w (put w (up_write_next u s).0 (left (up_write_next u s).1 (read w (up_write_next u s).0)))
-up_write_words w u UpWriteStep.ClearsBlock = assumption
-up_write_words w u (UpWriteStep.Exits Transition.Loads) = assumption
-up_write_words w u (UpWriteStep.Exits (Transition.Exchanges from to)) = assumption
+up_write_words w u UpWriteStep.ClearsBlock = refl
+up_write_words w u (UpWriteStep.Exits Transition.Loads) = refl
+up_write_words w u (UpWriteStep.Exits (Transition.Exchanges from to)) = refl
 
 -- a down-write counts nothing, at mounts or at levels
 pub down_write_counts_none : (d : DownWrite) (s : DownWriteStep) (f : ℕ → ℕ → ℕ) →
@@ -98,14 +95,7 @@ reopen_leaves s t i = record { mounts_same = refl; levels_same = refl; opens_sam
 pub tree_beside : (c : Config) (w : World) → IsGood c w → (t : ℕ) → t < c.tasks → (ws : Words) (v : View) → IsAtLevels w.words ws →
     tree_role_of v.trace v.phase ≡ tree_role_of (w.views t).trace (w.views t).phase → Holds c (left_world w t ws v) Tree
 tree_beside c w good t lt ws v words same =
-    left_alone c w t lt Tree ws v (
-      words.used_same,
-      words.removed_same,
-      words.node_same,
-      words.kids_same,
-      (λ j. sealed_by (words.beside.sb_same j) (words.stage_same j)),
-      (λ j. bare_by (words.beside.remount_same j) (words.beside.sb_same j)),
-    ) same (good Tree)
+    left_alone c w t lt Tree ws v (unwritten words Tree) same (good Tree)
 
 -- and where a clearing of marks begins
 pub tree_begins : (c : Config) (w : World) → IsGood c w → (t : ℕ) → t < c.tasks → (ws : Words) (v : View) → IsWithin c →
@@ -114,12 +104,12 @@ pub tree_begins : (c : Config) (w : World) → IsGood c w → (t : ℕ) → t < 
 tree_begins c w good t lt ws v within words was now =
     let same : tree_then c w good t lt ws v ≡ turned (tree_of w) t (Clearing 1) =
     λ j. record {
-      sealed = sealed_by (words.beside.sb_same j) (words.stage_same j);
-      bare = bare_by (words.beside.remount_same j) (words.beside.sb_same j);
-      used = words.used_same j;
-      removed = words.removed_same j;
-      node = words.node_same j;
-      kids = words.kids_same j;
+      sealed = is_sealed (words j);
+      bare = is_bare_at (words j);
+      used = (words j).used;
+      removed = (words j).removed;
+      node = (words j).node;
+      kids = (words j).kids;
       at = update (tree_roles w) t (now j);
     } in
     tree_after c w good t lt ws v within None (subst (λ s. Event (tree_bounds c) (tree_of w) t s None) (sym same) (BeginsClearing was))
@@ -134,16 +124,21 @@ pub writer_at_level : (c : Config) (w : World) (good : IsGood c w) (t : ℕ) (lt
     holder_role_of v.phase ≡ holder_role_of (w.views t).phase → WriterLaw c w t ws v action
 writer_at_level c w good t lt ws v action kind was now words mounts fits own levels tree happens adds asks rest holder =
     writer_law c w good t lt ws v action kind (record {
-      words = words.beside;
+      words = record {
+        flags_same = λ j. (words j).flags;
+        count_same = λ j. (words j).count;
+        remount_same = λ j. (words j).remount;
+        sb_same = λ j. (words j).sb;
+      };
       counts = mounts;
       was = was;
       now = now;
-      owner = owner_stays c w good t lt v was now ws words.umount_same words.beside.remount_same own;
+      owner = owner_stays c w good t lt v was now ws (λ j. (words j).umount) (λ j. (words j).remount) own;
       levels = levels;
       tree = tree;
-      opens = λ n j. opens_in (words.node_same j n);
+      opens = λ n j. opens_in ((words j).node n);
       fits = fits;
-      holding = holders_stay c w good t lt ws v words.stage_same words.holders_same holder;
+      holding = holders_stay c w good t lt ws v (λ j. (words j).stage) (λ j. (words j).holders) holder;
       happens = happens;
       adds = adds;
       asks = asks;
@@ -152,7 +147,7 @@ writer_at_level c w good t lt ws v action kind was now words mounts fits own lev
         levels_same = rest.levels_same;
         opens_same = rest.opens_same;
         ro_same = rest.ro_same;
-        tree_same = rest.tree_same ∙ sym (λ j n. node_shown (words.node_same j n));
-        holders_same = rest.holders_same ∙ sym (ap holders_in words.holders_same);
+        tree_same = rest.tree_same ∙ sym (λ j n. node_shown ((words j).node n));
+        holders_same = rest.holders_same ∙ sym (λ j. holders_in (words j).holders);
       };
     })

@@ -12,7 +12,7 @@ ghost use Rattle.gate_world.specs.Alike.{IsAlike, rephased};
 ghost use Rattle.gate_world.specs.Fits.{Fits};
 ghost use Rattle.gate_world.specs.Rules.{IsGood};
 ghost use Rattle.gate_world.specs.Shown.{shown};
-ghost use Rattle.gate_world.specs.Views.{held_at, holds_level};
+ghost use Rattle.gate_world.specs.Views.{held_of};
 ghost use Rattle.gate_world.specs.Work.{hook_of, IgnoresAnswer};
 ghost use Rattle.gate_world.specs.Worlds.{World};
 ghost use Rattle.cpu_words.specs.declared.names.WordName.{WordName as Name};
@@ -22,7 +22,7 @@ ghost use Rattle.cpu_words.specs.Words.{Words, read, put};
 /// alike and fits its accesses, and both show the same model. Does nothing: its contract is the law.
 pub fn phases_that_are_alike_serve_alike()
     ensures { (c : Config) (w : World) (t : ℕ) (q : Option Phase) → t < c.tasks → IsGood c w → IsAlike (w.views t).phase q →
-        Fits c t (held_at (w.views t)) (holds_level (w.views t)) q →
+        Fits c t (held_of (w.views t)) q →
         IsGood c (rephased w t q) × (shown c (rephased w t q) ≡ shown c w) }
 {}
 

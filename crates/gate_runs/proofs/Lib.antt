@@ -1,3 +1,2 @@
 pub mod Repeating
-pub mod Splitting
 pub mod Staying

@@ -14,7 +14,7 @@ use Rattle.gate_runs.specs.declared.counts.Copies.{Copies}
 use Rattle.gate_runs.specs.declared.counts.Writes.{Writes}
 use Rattle.gate_runs.specs.Counts.{both, no_writes}
 use Rattle.gate_runs.specs.Rounds.{Repeats, CallsBack, CreatesFile, CreatesFiles, IsRefused, Retries, RemountRound, WriterRound, BackupRound}
-use Rattle.gate_runs.specs.Splitting.{Gives, HasBegun, HaveDoneNothing}
+use Rattle.vfs_gates.specs.Splitting.{Gives, HasBegun, HaveDoneNothing}
 use Rattle.gate_runs.specs.Parts.{EachFrom, Among, EndsAs, Stays, Remounted, Wrote, AllWrote}
 
 pub stays_so : (s : TaskState) → Stays s s

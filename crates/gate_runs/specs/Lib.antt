@@ -2,6 +2,5 @@ pub mod Meetings
 pub mod Counts
 pub mod Rounds
 pub mod Refusals
-pub mod Splitting
 pub mod Parts
 pub mod Plans

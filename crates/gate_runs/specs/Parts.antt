@@ -9,7 +9,7 @@ use Rattle.gate_runs.specs.declared.counts.Writes.{Writes}
 use Rattle.gate_runs.specs.Counts.{all_writes, no_copies, no_writes}
 use Rattle.gate_runs.specs.Meetings.{was_frozen, was_held}
 use Rattle.gate_runs.specs.Rounds.{Repeats, CreatesFiles, RemountRound, WriterRound, BackupRound}
-use Rattle.gate_runs.specs.Splitting.{HasBegun}
+use Rattle.vfs_gates.specs.Splitting.{HasBegun}
 
 -- each of a list, by its number from this one on
 abbrev pub EachFrom : {A : Type 0} → (ℕ → A → Type 0) → ℕ → List A → Type 0

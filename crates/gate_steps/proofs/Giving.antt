@@ -1,7 +1,10 @@
 -- A seat gives one of its numbers to a new seat, or takes back those of another.
 use Rattle.std.specs.Prelude.{Option, Some, None}
-use Rattle.gate_world.specs.Owners.{KnowsWords}
-use Rattle.std.proofs.Common.{◌≡◌, ℕ, zero, suc, ◌+◌, ◌<◌, ◌≤◌, ◌≢◌, ◌⊎◌, cond, eqb, List, [], ◌∷◌, ◌++◌, set, sym, refl, ap, ◌∙◌, subst, inl, inr, ⊎_elim, arith, eq-eqb, ne_eqb}
+use Rattle.gate_world.specs.{Moments.HasMoment, Owners.KnowsWords, Rules.{IsGood, Part, Owner, Fitting, AtMount, Holds, owns, Known, Stages, Holding, Tree}}
+use Rattle.gate_world.specs.{Rules.{Files, AtLevel, SyncAt, Sections}, Trees.tree_role_of, Worlds.World, declared.{config.Config.Config, views.View.View}}
+use Rattle.gate_world.specs.declared.{views.Traced.Traced, work.Phase.Phase}
+use Rattle.std.proofs.Common.{◌≡◌, ℕ, zero, suc, ◌+◌, ◌<◌, ◌≤◌, ◌≢◌, ◌⊎◌, cond, eqb, List, [], ◌∷◌, ◌++◌, set, sym, refl, ap, ◌∙◌, subst, inl, inr, ⊎_elim}
+use Rattle.std.proofs.Common.{arith, eq-eqb, ne_eqb}
 use mathlib.Core.Logic.{dite}
 use mathlib.Core.Option.{some, some-injective, some-ne-none}
 use native.Mathlib.Decide.{ℕ_discrete}
@@ -11,22 +14,12 @@ use Rattle.finite_sums.proofs.Totals.{update_at, update_off, each_updated}
 use Rattle.access_model.specs.Histories.{own_part}
 use Rattle.atomic_table.specs.Table.{Splits, Joins}
 use Rattle.atomic_table.proofs.Lists.{at_set, at_snoc, set_else}
-use Rattle.gate_world.specs.declared.config.Config.{Config}
-use Rattle.gate_world.specs.declared.views.View.{View}
-use Rattle.gate_world.specs.declared.views.Traced.{Traced}
-use Rattle.gate_world.specs.declared.work.Phase.{Phase}
-use Rattle.gate_world.specs.Trees.{tree_role_of}
-use Rattle.gate_world.specs.Worlds.{World}
 use Rattle.cpu_words.specs.Words.{Words}
-use Rattle.gate_world.specs.Rules.{IsGood, Part, Owner, Fitting, AtMount, Holds, owns, Known, Stages, Holding, Tree, Files, AtLevel, SyncAt, Sections}
 use Rattle.gate_frames.proofs.Frames.{left_alone, shown_still}
-use Rattle.gate_steps.specs.declared.seating.Numbered.{Numbered}
-use Rattle.gate_steps.specs.Seating.{SeatItems, numbered, one_if, times, times_all, HaveViews, Dealt, without, view_in, renewed, kept_of, given_of, Spares, trace_kept}
-use Rattle.gate_world.specs.Moments.{HasMoment}
-use Rattle.gate_steps.specs.Histories.{HasHistory}
-use Rattle.gate_steps.proofs.Dealing.{one_if-same, one_if-other, times-append, times_all-set, times_all-one, times_all-snoc, known, apart}
+use Rattle.gate_steps.specs.{Histories.HasHistory, Seating.{SeatItems, numbered, one_if, times, times_all, HaveViews, Dealt, without, view_in, renewed}}
+use Rattle.gate_steps.specs.{Seating.{kept_of, given_of, Spares, trace_kept}, declared.seating.Numbered.Numbered}
+use Rattle.gate_steps.proofs.{Dealing.{one_if-same, one_if-other, times-append, times_all-set, times_all-one, times_all-snoc, known, apart}, Lifting.holds}
 use Rattle.gate_steps.proofs.Reaching.{renewed_reached}
-use Rattle.gate_steps.proofs.Lifting.{holds}
 
 pub times-without : (n : ℕ) (l : SeatItems) → times n (without n l) ≡ 0
 times-without n [] = refl
@@ -153,7 +146,7 @@ renewed_part c w good n lt Known = λ x lx.
     each_updated (λ y (u : View). owns u.phase ≡ 1 → KnowsWords w.words u.trace) w.views n (renewed (w.views n)) x
     (renewed_knows w.words (w.views n).phase (w.views n).trace (good Known n lt)) (λ ne. good Known x lx)
 renewed_part c w good n lt Owner = left_alone c w n lt Owner w.words (renewed (w.views n)) (refl, refl) (refl, refl) (good Owner)
-renewed_part c w good n lt Fitting = left_alone c w n lt Fitting w.words (renewed (w.views n)) tt (refl, refl, refl) (good Fitting)
+renewed_part c w good n lt Fitting = left_alone c w n lt Fitting w.words (renewed (w.views n)) tt (refl, refl) (good Fitting)
 renewed_part c w good n lt Stages =
     left_alone c w n lt Stages w.words (renewed (w.views n)) (refl, refl, refl, refl) refl (good Stages)
 renewed_part c w good n lt Holding = left_alone c w n lt Holding w.words (renewed (w.views n)) (refl, refl) refl (good Holding)
@@ -178,7 +171,7 @@ renewed_history c w n lt h =
     let v : View = renewed (w.views n) in record {
       log = h.log;
       legal = h.legal;
-      end = h.end ∙ sym (shown_still c w n lt w.words v refl refl refl refl refl refl refl (λ i. refl) refl refl refl);
+      end = h.end ∙ sym (shown_still c w n lt w.words v refl refl refl refl refl refl refl (λ i. refl) refl);
       lists = λ x. each_updated (λ y (u : View). own_part y h.log ≡ u.actions) w.views n v x (h.lists n) (λ ne. h.lists x);
       snapshots = λ x. each_updated (λ y (u : View). HasMoment c h.log y u.snapshot) w.views n v x tt (λ ne. h.snapshots x);
     }

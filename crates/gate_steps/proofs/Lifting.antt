@@ -4,52 +4,23 @@ use Rattle.std.specs.Prelude.{is_some, Option, Some, None, slice_index}
 use Rattle.finite_sums.specs.Sums.{update}
 use Rattle.finite_sums.proofs.Totals.{update_at, update_off}
 use Rattle.atomic_table.specs.Table.{State, Me, keeps, Allows}
-use Rattle.access_model.specs.declared.actions.Action.{Action}
-use Rattle.access_model.specs.declared.replies.Next.{Next}
-use Rattle.access_model.specs.Histories.{Done, end_of, IsLegal, IsMerge}
-use Rattle.access_model.specs.States.{State as Shown}
-use Rattle.cpu_words.specs.declared.names.WordName.{WordName}
-use Rattle.cpu_words.specs.declared.events.Touch.{Touch}
-use Rattle.cpu_words.specs.declared.events.Touch.TheVariants.{Load}
-use Rattle.cpu_words.specs.Hooks.{HookAnswer}
-use Rattle.cpu_words.specs.Names.{IsWord, place, words_in_all}
-use Rattle.cpu_words.specs.Touches.{left, found_by}
-use Rattle.cpu_words.specs.Words.{Words, read, put}
-use Rattle.gate_world.specs.declared.config.Config.{Config}
-use Rattle.gate_world.specs.declared.operations.Op.{Op}
-use Rattle.gate_world.specs.declared.work.Phase.{Phase}
-use Rattle.gate_world.specs.declared.views.View.{View}
-use Rattle.gate_world.specs.declared.views.Snapshot.{Snapshot}
-use Rattle.gate_world.specs.Configs.{IsWithin, model_limits, extents_kept}
-use Rattle.gate_world.specs.Work.{next_of, after_of}
-use Rattle.gate_world.specs.Snapshots.{completes, last_snapshot}
-use Rattle.gate_world.specs.Views.{held_at, holds_level, has_open, begun_view, view_with, view_after_beside}
-use Rattle.gate_world.specs.Beginnings.{first_phase, view_refusal}
-use Rattle.gate_world.specs.Worlds.{World, words_after, value_at, found_at, after_step, after_step_beside, phase_action, with_action}
-use Rattle.gate_world.specs.Shown.{shown}
-use Rattle.gate_world.specs.Moments.{AllHaveMoments}
+use Rattle.access_model.specs.{Histories.{Done, end_of, IsLegal, IsMerge}, States.State as Shown, declared.{actions.Action.Action, replies.Next.Next}}
+use Rattle.cpu_words.specs.{Hooks.HookAnswer, Names.{IsWord, place, words_in_all}, Touches.{left, found_by}, Words.{Words, read, put}}
+use Rattle.cpu_words.specs.declared.{events.Touch.{Touch, TheVariants.Load}, names.WordName.WordName}
+use Rattle.gate_world.specs.{Beginnings.{first_phase, view_refusal}, Configs.{IsWithin, model_limits, extents_kept}, Courses.MayFind, Fits.Fits}
+use Rattle.gate_world.specs.{Moments.AllHaveMoments, Rules.{IsGood, Moves, StepKeeps, Fitting}, Shown.shown, Snapshots.{completes, last_snapshot}}
+use Rattle.gate_world.specs.{Views.{begun_view, view_with, view_after_beside, held_of}, Work.{next_of, after_of}, Worlds.{World, words_after, value_at}}
+use Rattle.gate_world.specs.{Worlds.{found_at, after_step, after_step_beside, phase_action, with_action}, declared.{config.Config.Config, operations.Op.Op}}
+use Rattle.gate_world.specs.declared.{views.{View.View, Snapshot.Snapshot}, work.Phase.Phase}
 use Rattle.moment_laws.specs.Moments.{HaveDone}
-use Rattle.gate_world.specs.Fits.{Fits}
-use Rattle.gate_world.specs.Rules.{IsGood, Moves, StepKeeps}
-use Rattle.gate_frames.proofs.Snapshots.{others_apart}
-use Rattle.call_laws.proofs.Frozen.{frozen_whole}
-use Rattle.gate_core.proofs.Layers.{phase_keeps}
-use Rattle.gate_core.proofs.Beginnings.{may_begin}
-use Rattle.gate_core.proofs.Schedule.{begun_keeps, legal_more}
-use Rattle.gate_world.specs.Rules.{Fitting}
-use Rattle.gate_core.proofs.Lists.{beside_lists, begin_lists}
-use Rattle.gate_core.proofs.Snapshots.{beside_moments, begin_moments}
-use Rattle.gate_world.specs.Courses.{MayFind}
-use Rattle.gate_frames.proofs.MayHolds.{events_may_be}
-use Rattle.gate_steps.proofs.Stores.{there_found}
-use Rattle.gate_core.proofs.Phases.{word_there}
-use Rattle.gate_steps.specs.declared.seating.Numbered.{Numbered}
-use Rattle.gate_steps.specs.Seating.{SeatItems, HaveViews, MayStep, Acts, entered, world_entered, done_by, items_after, happened}
-use Rattle.gate_steps.specs.Histories.{HasHistory}
-use Rattle.gate_steps.specs.Rules.{table_index, table_length, TableShows, IsReached, Held}
+use Rattle.gate_frames.proofs.{MayHolds.events_may_be, Snapshots.others_apart}
+use Rattle.operation_laws.proofs.Frozen.{frozen_whole}
+use Rattle.gate_core.proofs.{Beginnings.may_begin, Layers.phase_keeps, Lists.{beside_lists, begin_lists}, Phases.word_there, Schedule.begun_keeps}
+use Rattle.gate_core.proofs.{Schedule.legal_more, Snapshots.{beside_moments, begin_moments}}
+use Rattle.gate_steps.proofs.{Dealing.{times-at, known_here, inside, redealt}, Reaching.{begun_reached, stepped_reached}, Stores.there_found}
 use Rattle.gate_steps.proofs.TableWords.{table_written}
-use Rattle.gate_steps.proofs.Reaching.{begun_reached, stepped_reached}
-use Rattle.gate_steps.proofs.Dealing.{times-at, known_here, inside, redealt}
+use Rattle.gate_steps.specs.{Histories.HasHistory, Rules.{table_index, table_length, TableShows, IsReached, Held}, Seating.{SeatItems, HaveViews, MayStep}}
+use Rattle.gate_steps.specs.{Seating.{Acts, entered, world_entered, done_by, items_after, happened}, declared.seating.Numbered.Numbered}
 
 abbrev pub Carried : Type 0
 Carried = List (ℕ × Unit {0})
@@ -112,8 +83,7 @@ enter c lim w good x lt h mine (Some op) phase may =
     let t : ℕ = x.number in
     let v : View = begun_view (w.views t) op (first_phase c t op) in
     let ok : view_refusal c (w.views t) op ≡ None = ap (λ u. view_refusal c u op) mine ∙ may.0 in
-    let kept = begun_keeps c lim w good t lt op (may_begin c (is_some (w.views t).phase) (held_at (w.views t))
-    (holds_level (w.views t)) (has_open (w.views t)) op ok) in
+    let kept = begun_keeps c lim w good t lt op (may_begin c (is_some (w.views t).phase) (held_of (w.views t)) op ok) in
     let here : update w.views t v t ≡ v = update_at w.views t v in
     record {
       good = kept.0;
@@ -161,8 +131,8 @@ lifted c slots id (x ∷ xs) carried begins phase hook acts s held len at small 
     let kept : IsGood c after × Moves c (shown c w') t a (shown c after) =
     (beside.0, subst (Moves c (shown c w') t a) beside.1 law.1) in
     let there : IsWord (extents_kept c) name =
-    word_there c lim t (held_at (w'.views t)) (holds_level (w'.views t)) lt phase hook
-    (subst (λ o. Fits c t (held_at (w'.views t)) (holds_level (w'.views t)) o) en.at_phase (en.good Fitting t lt)) in
+    word_there c lim t (held_of (w'.views t)) lt phase hook
+    (subst (λ o. Fits c t (held_of (w'.views t)) o) en.at_phase (en.good Fitting t lt)) in
     let i : ℕ = table_index (place name) in
     let n : ℕ = slice_index s.words i in
     let value : n ≡ value_at w'.words phase hook = held.ruled.words name there ∙ ap (λ (l : Words). read l name) (sym en.words) in

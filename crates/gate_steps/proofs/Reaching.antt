@@ -1,24 +1,15 @@
 -- What some schedule makes of the opening, a table's world is again after each beginning, event and gift of a number.
-use Rattle.std.proofs.Common.{◌≡◌, ℕ, ◌<◌, [], ◌∷◌, ◌++◌, refl, sym, ap, ◌∙◌, subst, inl, inr}
+use Rattle.std.proofs.{Common.{◌≡◌, ℕ, ◌<◌, [], ◌∷◌, ◌++◌, refl, sym, ap, ◌∙◌, subst, inl, inr}, lemmas.Bool.{lt-ltb, Decides.eqb_tells}}
 use Rattle.std.specs.Prelude.{is_some, Some, None, List}
-use Rattle.std.proofs.lemmas.Bool.{lt-ltb}
-use Rattle.std.proofs.lemmas.Bool.Decides.{eqb_tells}
 use Rattle.finite_sums.specs.Sums.{update}
 use Rattle.finite_sums.proofs.Totals.{update_at, update_off, each_updated}
-use Rattle.access_model.specs.Histories.{mounts_of, levels_of, opens_of}
-use Rattle.cpu_words.specs.Hooks.{HookAnswer}
-use Rattle.cpu_words.specs.Touches.{event_of}
-use Rattle.gate_world.specs.declared.config.Config.{Config}
-use Rattle.gate_world.specs.declared.operations.Op.{Op}
-use Rattle.gate_world.specs.declared.work.Phase.{Phase}
-use Rattle.gate_world.specs.declared.views.View.{View}
-use Rattle.gate_world.specs.Work.{next_of, after_of}
-use Rattle.gate_world.specs.Views.{phase_after, actions_after, begun_view, view_after, view_after_beside}
-use Rattle.gate_world.specs.Beginnings.{first_phase, refusal, view_refusal}
-use Rattle.gate_world.specs.Worlds.{World, Begins, Steps, after_begin, value_at, found_at, words_after, after_step, after_step_beside, run, opening}
+use Rattle.cpu_words.specs.{Hooks.HookAnswer, Touches.event_of}
+use Rattle.gate_world.specs.{Beginnings.{first_phase, refusal, view_refusal}, Holdings.holdings_of, Views.{phase_after, actions_after, begun_view}}
+use Rattle.gate_world.specs.{Views.{view_after, view_after_beside}, Work.{next_of, after_of}, Worlds.{World, Begins, Steps, after_begin, value_at, found_at}}
+use Rattle.gate_world.specs.{Worlds.{words_after, after_step, after_step_beside, run, opening}, declared.{config.Config.Config, operations.Op.Op}}
+use Rattle.gate_world.specs.declared.{views.View.View, work.Phase.Phase}
 use Rattle.gate_core.proofs.Runs.{run_more}
-use Rattle.gate_steps.specs.Seating.{renewed}
-use Rattle.gate_steps.specs.Rules.{IsLike, IsReached}
+use Rattle.gate_steps.specs.{Rules.{IsLike, IsReached}, Seating.renewed}
 
 -- views that agree agree after one of each is replaced by views that agree
 like_update : (f g : ℕ → View) (t : ℕ) (v u : View) → IsLike v u → ((x : ℕ) → IsLike (f x) (g x)) → (x : ℕ) →
@@ -51,8 +42,7 @@ module _ (c : Config) (w : World) (reached : IsReached c w) where
   module _ (t : ℕ) (lt : t < c.tasks) where
     -- an operation is refused there as here
     refused_there : (op : Op) → view_refusal c (there.views t) op ≡ view_refusal c (w.views t) op
-    refused_there op = let like = reached.views t in
-        λ i. refusal c (is_some (like.phase i)) (mounts_of (like.actions i)) (levels_of (like.actions i)) (opens_of (like.actions i)) op
+    refused_there op = let like = reached.views t in λ i. refusal c (is_some (like.phase i)) (holdings_of (like.actions i)) op
 
     -- so the schedule may go on with a beginning that isn't refused here
     pub begun_reached : (op : Op) → view_refusal c (w.views t) op ≡ None → IsReached c (after_begin c w t op)

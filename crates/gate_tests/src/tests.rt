@@ -1,25 +1,22 @@
 //! Tasks at small gates.
 
-ghost use Rattle.vfs_gates.specs.TaskStates.{IsFrom};
+ghost use Rattle.gate_tests.specs.Origins.{IsFrom};
 
 mod calls;
 mod decisions;
-mod granted;
-mod holders;
 mod hooks;
 mod lost;
-mod opens;
 mod pairs;
 mod steps;
 mod tasks;
 mod threads;
+mod two;
 
 use access_model::{GateError, Holder};
 use freeze_levels::FsHooks;
 use gate_world::Config;
 use std::sync::Wait;
-use tasks::Task;
-use vfs_gates::Gates;
+use tasks::{Gates, Task};
 
 /// So many tasks at one mount, with two processors and one node beside the root.
 fn small(tasks: u8) -> Config {

@@ -1,19 +1,15 @@
 -- What a task holds at run time, and what an action leaves of it.
-use Rattle.std.specs.Prelude.{ℕ, ◌+◌, ◌-◌, Bool, true, false, Option, Some, None, slice_index, slice_index_or, slice_set, replicate}
+use Rattle.std.specs.Prelude.{◌+◌, ◌-◌, true, false, Option, Some, None, slice_index, slice_index_or, slice_set, replicate}
 use Rattle.access_model.specs.declared.actions.{Action.{Action, TheVariants.{Grant, Return, Open, Close}}, Gate.TheVariants.{Mount, Level}}
-use Rattle.gate_world.specs.declared.accesses.Accesses.{Accesses}
+use Rattle.gate_world.specs.{Holdings.Holdings, declared.accesses.Accesses.Accesses}
 
--- how many accesses are held at each mount
-abbrev pub mounts_held : Accesses → ℕ → ℕ
-mounts_held held = slice_index held.mounts
-
--- which levels are held
-abbrev pub levels_held : Accesses → ℕ → Bool
-levels_held held i = slice_index_or held.levels i false
-
--- which files are open
-abbrev pub files_held : Accesses → ℕ → Bool
-files_held held n = slice_index_or held.files n false
+-- this, as one value
+abbrev pub held_in : Accesses → Holdings
+held_in held = record {
+  mounts = slice_index held.mounts;
+  levels = λ i. slice_index_or held.levels i false;
+  files = λ n. slice_index_or held.files n false;
+}
 
 -- nothing is held
 abbrev pub no_accesses : Accesses

@@ -1,31 +1,14 @@
 -- Courses: how far an operation has come by its events, in the order of its phases. They speak of no other task.
 use Rattle.std.specs.Prelude.{◌≡◌, ℕ, false, Option, Some, None, List, [], ◌∷◌, ◌++◌, ◌<◌, is_some, ◌≤◌}
-use Rattle.access_model.specs.declared.actions.Action.{Action}
-use Rattle.access_model.specs.declared.replies.Next.{Next}
-use Rattle.access_model.specs.Histories.{mounts_of, levels_of, opens_of}
-use Rattle.access_model.specs.declared.replies.Next.TheVariants.{Go, Wait, Done}
-use Rattle.cpu_words.specs.Touches.{event_of}
-use Rattle.gate_world.specs.declared.config.Config.{Config}
-use Rattle.gate_world.specs.declared.operations.Op.{Op}
-use Rattle.file_closes.specs.declared.phases.ClosePhase.{ClosePhase}
-use Rattle.file_closes.specs.declared.phases.ClosePhase.TheVariants.{LoadsFile as CloseLoadsFile, LowersCount, Enters as EntersLevel, FreesNode}
-use Rattle.gate_world.specs.declared.work.Phase.TheVariants.{Trees, Closes}
+use Rattle.access_model.specs.declared.{actions.Action.Action, replies.Next.{Next, TheVariants.{Go, Wait, Done}}}
+use Rattle.cpu_words.specs.{Hooks.HookAnswer, Touches.event_of, declared.names.WordName.{WordName, TheVariants.{Node, Sync}}}
+use Rattle.gate_world.specs.{Beginnings.{first_phase, refusal}, Holdings.holdings_of, Views.{phase_after, actions_after}, Work.{next_of, after_of}}
+use Rattle.gate_world.specs.{Worlds.{World, value_at}, declared.{config.Config.Config, operations.Op.Op, views.{View.View, Traced.Traced}}}
+use Rattle.gate_world.specs.declared.work.Phase.{TheVariants.{Trees, Closes}, Phase}
+use Rattle.file_closes.specs.declared.phases.ClosePhase.{ClosePhase, TheVariants.{LoadsFile as CloseLoadsFile, LowersCount, Enters as EntersLevel, FreesNode}}
+use Rattle.gated_tree.specs.{Nodes.{unpacked, opens_in, word_of}, declared.opens.OpenStep.{OpenStep, TheVariants.{LoadsFile as LoadsFileToOpen, OpensFile}}}
 use Rattle.gated_tree.specs.declared.phases.TreePhase.TheVariants.{OpenFile as OpensOne}
-use Rattle.gated_tree.specs.declared.opens.OpenStep.{OpenStep}
-use Rattle.gated_tree.specs.declared.opens.OpenStep.TheVariants.{LoadsFile as LoadsFileToOpen, OpensFile}
-use Rattle.gate_world.specs.declared.work.Phase.{Phase}
-use Rattle.gate_world.specs.declared.views.View.{View}
-use Rattle.gate_world.specs.declared.views.Traced.{Traced}
-use Rattle.gate_world.specs.Work.{next_of, after_of}
-use Rattle.gate_world.specs.Views.{phase_after, actions_after}
-use Rattle.gate_world.specs.Beginnings.{first_phase, refusal}
-use Rattle.cpu_words.specs.declared.names.WordName.{WordName}
-use Rattle.gate_world.specs.Worlds.{World, value_at}
-use Rattle.cpu_words.specs.declared.names.WordName.TheVariants.{Node, Sync}
-use Rattle.cpu_words.specs.Hooks.{HookAnswer}
-use Rattle.gated_tree.specs.Nodes.{unpacked, opens_in, word_of}
-use Rattle.percpu_rwsem.specs.Readers.{down_read_next}
-use Rattle.percpu_rwsem.specs.SyncWords.{unpack}
+use Rattle.percpu_rwsem.specs.{Readers.down_read_next, SyncWords.unpack}
 use Rattle.std.proofs.Common.{true}
 
 -- where an operation stands, and the actions that it has added, the newest first
@@ -94,7 +77,7 @@ pub record FollowsOrder (c : Config) (t : ℕ) (v : View) (op : Op) : Type 0 whe
   pub trace : IsTrace c t op v.trace
   pub phase : v.phase ≡ phase_after (course_of c t op v.trace).comes
   pub actions : v.actions ≡ (course_of c t op v.trace).added ++ v.before
-  pub begins : refusal c false (mounts_of v.before) (levels_of v.before) (opens_of v.before) op ≡ None
+  pub begins : refusal c false (holdings_of v.before) op ≡ None
 
 -- the same of a view that may have no operation
 abbrev pub IsTraced : Config → ℕ → View → Option Op → Type 0

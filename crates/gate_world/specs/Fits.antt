@@ -1,30 +1,25 @@
 -- What a phase says of its numbers and of its task's own accesses: they are accesses with which its operation may begin, as its own
 -- actions have changed them since.
-use Rattle.std.specs.Prelude.{◌≡◌, ℕ, ◌<◌, ◌≤◌, Bool, true, false, Option, Some, None, ◌⊎◌}
-use Rattle.access_model.specs.{Actions.{mounts_after, levels_after, opens_after}, Holders.{held_by, with_holder, is_unheld}}
-use Rattle.access_model.specs.declared.actions.{Action.{Action, TheVariants.{Grant, Return, Open, Close}}, Gate.TheVariants.{Mount, Level}, Holder.Holder}
-use Rattle.access_model.specs.declared.actions.Kind.TheVariants.{File}
-use Rattle.gated_tree.specs.{Calls.TreePhaseFits, Nodes.IsLawful}
-use Rattle.gated_tree.specs.declared.nodes.NodeWord.{NodeWord}
-use Rattle.gated_tree.specs.declared.phases.TreePhase.{TreePhase}
-use Rattle.gated_tree.specs.declared.phases.TreePhase.TheVariants.{Mark as TreeMarks, OpenFile as OpensOne, Snapshot as Snapshots, ClearMarks as TreeClears}
-use Rattle.mount_counts.specs.declared.phases.{ChangeStep.{ChangeStep, TheVariants.Sums}, MountPhase.{MountPhase, TheVariants.{Want, Drop, Change}}}
-use Rattle.percpu_rwsem.specs.declared.callbacks.CallbackStep.{CallbackStep, TheVariants.AwaitsSections}
-use Rattle.percpu_rwsem.specs.declared.readers.{DownRead.DownRead, DownReadStep.{DownReadStep, TheVariants.LeavesAdmitted}}
-use Rattle.percpu_rwsem.specs.declared.writers.DownWrite.{DownWrite}
+use Rattle.access_model.specs.{Holders.{held_by, is_unheld, with_holder}, declared.actions.Action.{Action, TheVariants.{Close, Grant, Open, Return}}}
+use Rattle.access_model.specs.declared.actions.{Gate.TheVariants.{Level, Mount}, Holder.Holder, Kind.TheVariants.File}
+use Rattle.file_closes.specs.declared.phases.ClosePhase.{ClosePhase, TheVariants.{Enters, FreesNode, Leaves as CloseLeaves, LoadsFile as CloseLoadsFile}}
+use Rattle.file_closes.specs.declared.phases.ClosePhase.TheVariants.{LowersCount, RefundsBlocks as CloseRefundsBlocks, Uncounts as CloseUncounts}
+use Rattle.file_closes.specs.declared.phases.Closing.{Closing}
+use Rattle.freeze_levels.specs.declared.freezes.FreezeStep.{FreezeStep, TheVariants.{Cleans, Closes, Holds, Reopens as FreezeReopens}}
+use Rattle.freeze_levels.specs.declared.thaws.ThawStep.{ThawStep, TheVariants.{Leaves, Reopens as ThawReopens}}
+use Rattle.gate_world.specs.{Holdings.Holdings, Operations.{holds_none, holds_none_from, is_writer, may_mark}, Remounts.RemountFits, Roles.roles_of}
+use Rattle.gate_world.specs.{Trees.tree_bounds, declared.{config.Config.Config, work.Phase.{Phase, TheVariants.{Callbacks, Closes, DownReads, Freezes}}}}
+use Rattle.gate_world.specs.declared.work.Phase.TheVariants.{Mounts, Remounts, Thaws, Trees, UpReads, Writes}
+use Rattle.gated_tree.specs.{Calls.TreePhaseFits, Nodes.IsLawful, declared.{nodes.NodeWord.NodeWord, phases.TreePhase.TreePhase}}
+use Rattle.gated_tree.specs.declared.phases.TreePhase.TheVariants.{ClearMarks as TreeClears, Mark as TreeMarks, OpenFile as OpensOne, Snapshot as Snapshots}
+use Rattle.level_laws.specs.Operations.{KnowsCallback, KnowsDownWrite, KnowsUpWrite}
+use Rattle.mount_counts.specs.declared.phases.{ChangeStep.{ChangeStep, TheVariants.Sums}, MountPhase.{MountPhase, TheVariants.{Change, Drop, Want}}}
+use Rattle.percpu_rwsem.specs.declared.{callbacks.CallbackStep.{CallbackStep, TheVariants.AwaitsSections}, readers.DownRead.DownRead}
+use Rattle.percpu_rwsem.specs.declared.{readers.DownReadStep.{DownReadStep, TheVariants.LeavesAdmitted}, writers.DownWrite.DownWrite}
 use Rattle.percpu_rwsem.specs.declared.writers.DownWriteStep.{DownWriteStep, TheVariants.{AwaitsSections as AwaitsReaders, Sums as SumsLevel}}
 use Rattle.percpu_rwsem.specs.declared.writers.UpWrite.{UpWrite}
-use Rattle.freeze_levels.specs.declared.freezes.FreezeStep.{FreezeStep, TheVariants.{Holds, Closes, Cleans, Reopens as FreezeReopens}}
-use Rattle.freeze_levels.specs.declared.thaws.ThawStep.{ThawStep, TheVariants.{Leaves, Reopens as ThawReopens}}
-use Rattle.level_laws.specs.Operations.{KnowsCallback, KnowsDownWrite, KnowsUpWrite}
-use Rattle.write_access.specs.declared.phases.WritePhase.{WritePhase, TheVariants.{Takes, Wants as WriteWants, GivesBack, Drops as WriteDrops, Ends}}
-use Rattle.file_closes.specs.declared.phases.ClosePhase.{ClosePhase}
-use Rattle.file_closes.specs.declared.phases.ClosePhase.TheVariants.{LoadsFile as CloseLoadsFile, LowersCount, Enters, FreesNode}
-use Rattle.file_closes.specs.declared.phases.ClosePhase.TheVariants.{RefundsBlocks as CloseRefundsBlocks, Uncounts as CloseUncounts, Leaves as CloseLeaves}
-use Rattle.file_closes.specs.declared.phases.Closing.{Closing}
-use Rattle.gate_world.specs.{Operations.{holds_none, holds_none_from, is_writer, may_mark}, Remounts.RemountFits, Trees.tree_bounds}
-use Rattle.gate_world.specs.declared.config.Config.{Config}
-use Rattle.gate_world.specs.declared.work.Phase.{Phase, TheVariants.{Mounts, Remounts, DownReads, UpReads, Callbacks, Writes, Freezes, Thaws, Trees, Closes}}
+use Rattle.std.specs.Prelude.{Bool, None, Option, Some, false, true, ℕ, ◌<◌, ◌≡◌, ◌≤◌, ◌⊎◌}
+use Rattle.write_access.specs.declared.phases.WritePhase.{WritePhase, TheVariants.{Drops as WriteDrops, Ends, GivesBack, Takes, Wants as WriteWants}}
 
 -- a sum in progress has a word more to read
 abbrev pub SumFits : Config → ChangeStep → Type 0
@@ -33,10 +28,10 @@ SumFits c step = Unit {0}
 
 -- A phase at a mount: its numbers are in range, and its task holds what it may. A want has room for one access more, a drop has one to
 -- give back, a change is of this task and holds no level.
-abbrev pub MountFits : Config → ℕ → (ℕ → ℕ) → (ℕ → Bool) → MountPhase → Type 0
-MountFits c t held levels (Want w) = (w.mount < c.mounts) × (w.cpu < c.processors) × (held w.mount < 1024)
-MountFits c t held levels (Drop m p) = (m < c.mounts) × (p < c.processors) × (0 < held m)
-MountFits c t held levels (Change x) = (x.mount < c.mounts) × (x.task ≡ t) × (x.processors ≡ c.processors) × (holds_none levels ≡ true) ×
+abbrev pub MountFits : Config → ℕ → Holdings → MountPhase → Type 0
+MountFits c t held (Want w) = (w.mount < c.mounts) × (w.cpu < c.processors) × (held.mounts w.mount < 1024)
+MountFits c t held (Drop m p) = (m < c.mounts) × (p < c.processors) × (0 < held.mounts m)
+MountFits c t held (Change x) = (x.mount < c.mounts) × (x.task ≡ t) × (x.processors ≡ c.processors) × (holds_none held.levels ≡ true) ×
     SumFits c x.step
 
 -- a down-read holds no level from its own up before its grant, and holds its own after it
@@ -45,8 +40,8 @@ ReadStepFits i levels LeavesAdmitted = levels i ≡ true
 ReadStepFits i levels step = holds_none_from i levels ≡ true
 
 -- its numbers are in range, and it is of this task
-abbrev pub ReadFits : Config → ℕ → (ℕ → Bool) → DownRead → Type 0
-ReadFits c t levels r = (1 ≤ r.level) × (r.level ≤ 3) × (r.cpu < c.processors) × (r.task ≡ t) × ReadStepFits r.level levels r.step
+abbrev pub ReadFits : Config → ℕ → Holdings → DownRead → Type 0
+ReadFits c t held r = (1 ≤ r.level) × (r.level ≤ 3) × (r.cpu < c.processors) × (r.task ≡ t) × ReadStepFits r.level held.levels r.step
 
 -- a callback's grace period is among all tasks, and has a task more to look at
 abbrev pub GraceFits : ℕ → CallbackStep → Type 0
@@ -83,100 +78,76 @@ ThawFits holder (ThawReopens u) = UpWriteFits u
 ThawFits holder step = Unit {0}
 
 -- a write access is at level 1, has room for an access at its mount until it has one, and holds the level once it is inside
-abbrev pub WriteFits : Config → ℕ → (ℕ → ℕ) → (ℕ → Bool) → WritePhase → Type 0
-WriteFits c t held levels (Takes m r) = ReadFits c t levels r × (r.level ≡ 1) × (m < c.mounts) × (held m < 1024)
-WriteFits c t held levels (WriteWants w) = MountFits c t held levels (Want w) × (levels 1 ≡ true)
-WriteFits c t held levels (GivesBack m p refusal) = (m < c.mounts) × (p < c.processors) × (levels 1 ≡ true)
-WriteFits c t held levels (WriteDrops m p) = MountFits c t held levels (Drop m p) × (levels 1 ≡ true)
-WriteFits c t held levels (Ends p) = (p < c.processors) × (levels 1 ≡ true)
+abbrev pub WriteFits : Config → ℕ → Holdings → WritePhase → Type 0
+WriteFits c t held (Takes m r) = ReadFits c t held r × (r.level ≡ 1) × (m < c.mounts) × (held.mounts m < 1024)
+WriteFits c t held (WriteWants w) = MountFits c t held (Want w) × (held.levels 1 ≡ true)
+WriteFits c t held (GivesBack m p refusal) = (m < c.mounts) × (p < c.processors) × (held.levels 1 ≡ true)
+WriteFits c t held (WriteDrops m p) = MountFits c t held (Drop m p) × (held.levels 1 ≡ true)
+WriteFits c t held (Ends p) = (p < c.processors) × (held.levels 1 ≡ true)
 
 -- who may be at a call of the tree: a writer inside level 1 or, for a page fault, level 2, with an access at some mount; for a write-back,
 -- who is inside level 3; for a snapshot, who holds no level. A clearing of marks is a part of a remount or a freeze alone.
-abbrev pub TreeAccess : Config → (ℕ → ℕ) → (ℕ → Bool) → TreePhase → Type 0
-TreeAccess c held levels (TreeMarks x) = may_mark x.dirty c held levels ≡ true
-TreeAccess c held levels (OpensOne x) = Unit {0}
-TreeAccess c held levels (Snapshots x) = holds_none levels ≡ true
-TreeAccess c held levels (TreeClears x) = ⊥
-TreeAccess c held levels phase = is_writer c held levels ≡ true
+abbrev pub TreeAccess : Config → Holdings → TreePhase → Type 0
+TreeAccess c held (TreeMarks x) = may_mark x.dirty c held ≡ true
+TreeAccess c held (OpensOne x) = Unit {0}
+TreeAccess c held (Snapshots x) = holds_none held.levels ≡ true
+TreeAccess c held (TreeClears x) = ⊥
+TreeAccess c held phase = is_writer c held ≡ true
 
 -- a close is of this task, of a file in range, and holds no level 3 before it has gone inside; a file that it has loaded is one that a word
 -- can say, and it lowers a count that is some, and not the last one of a removed file
-abbrev pub ClosingFits : Config → ℕ → (ℕ → Bool) → Closing → Type 0
-ClosingFits c t levels x = (x.file < c.nodes) × (x.cpu < c.processors) × (x.task ≡ t) × (holds_none_from 3 levels ≡ true)
+abbrev pub ClosingFits : Config → ℕ → Holdings → Closing → Type 0
+ClosingFits c t held x = (x.file < c.nodes) × (x.cpu < c.processors) × (x.task ≡ t) × (holds_none_from 3 held.levels ≡ true)
 
 abbrev pub MayLower : NodeWord → Type 0
 MayLower node = (node.kind ≡ Some File) × IsLawful node × (1 ≤ node.opens) × ((node.removed ≡ false) ⊎ (2 ≤ node.opens))
 
-abbrev pub CloseFits : Config → ℕ → (ℕ → Bool) → ClosePhase → Type 0
-CloseFits c t levels (CloseLoadsFile x) = ClosingFits c t levels x
-CloseFits c t levels (LowersCount x node) = ClosingFits c t levels x × MayLower node
-CloseFits c t levels (Enters f node r) = (f < c.nodes) × (r.level ≡ 3) × ReadFits c t levels r
-CloseFits c t levels (FreesNode f p node) = (f < c.nodes) × (p < c.processors) × (levels 3 ≡ true)
-CloseFits c t levels (CloseRefundsBlocks p blocks) = (p < c.processors) × (levels 3 ≡ true)
-CloseFits c t levels (CloseUncounts p) = (p < c.processors) × (levels 3 ≡ true)
-CloseFits c t levels (CloseLeaves p) = (p < c.processors) × (levels 3 ≡ true)
+abbrev pub CloseFits : Config → ℕ → Holdings → ClosePhase → Type 0
+CloseFits c t held (CloseLoadsFile x) = ClosingFits c t held x
+CloseFits c t held (LowersCount x node) = ClosingFits c t held x × MayLower node
+CloseFits c t held (Enters f node r) = (f < c.nodes) × (r.level ≡ 3) × ReadFits c t held r
+CloseFits c t held (FreesNode f p node) = (f < c.nodes) × (p < c.processors) × (held.levels 3 ≡ true)
+CloseFits c t held (CloseRefundsBlocks p blocks) = (p < c.processors) × (held.levels 3 ≡ true)
+CloseFits c t held (CloseUncounts p) = (p < c.processors) × (held.levels 3 ≡ true)
+CloseFits c t held (CloseLeaves p) = (p < c.processors) × (held.levels 3 ≡ true)
 
 -- The same of a phase of any layer: a remount is of this task, of these numbers, and holds no level; an up-read holds its level; a callback
 -- is of all tasks, and knows the words of an exchange that is to come; a freeze or a thaw is of this task, of these numbers, and holds no
 -- level; a call at the tree is one that its task may be at.
-abbrev pub PhaseFits : Config → ℕ → (ℕ → ℕ) → (ℕ → Bool) → Phase → Type 0
-PhaseFits c t held levels (Mounts phase) = MountFits c t held levels phase
-PhaseFits c t held levels (Remounts x) = (x.task ≡ t) × (x.processors ≡ c.processors) × (x.mounts ≡ c.mounts) × (x.nodes ≡ c.nodes) ×
-    (holds_none levels ≡ true) × RemountFits c x.step
-PhaseFits c t held levels (DownReads r) = ReadFits c t levels r
-PhaseFits c t held levels (UpReads u) = (1 ≤ u.level) × (u.level ≤ 3) × (u.cpu < c.processors) × (levels u.level ≡ true)
-PhaseFits c t held levels (Callbacks b) = (1 ≤ b.level) × (b.level ≤ 3) × (b.tasks ≡ c.tasks) × GraceFits c.tasks b.step ×
+abbrev pub PhaseFits : Config → ℕ → Holdings → Phase → Type 0
+PhaseFits c t held (Mounts phase) = MountFits c t held phase
+PhaseFits c t held (Remounts x) = (x.task ≡ t) × (x.processors ≡ c.processors) × (x.mounts ≡ c.mounts) × (x.nodes ≡ c.nodes) ×
+    (holds_none held.levels ≡ true) × RemountFits c x.step
+PhaseFits c t held (DownReads r) = ReadFits c t held r
+PhaseFits c t held (UpReads u) = (1 ≤ u.level) × (u.level ≤ 3) × (u.cpu < c.processors) × (held.levels u.level ≡ true)
+PhaseFits c t held (Callbacks b) = (1 ≤ b.level) × (b.level ≤ 3) × (b.tasks ≡ c.tasks) × GraceFits c.tasks b.step ×
     KnowsCallback b.step
-PhaseFits c t held levels (Writes x) = WriteFits c t held levels x
-PhaseFits c t held levels (Freezes x) = (x.task ≡ t) × (x.tasks ≡ c.tasks) × (x.processors ≡ c.processors) × (x.nodes ≡ c.nodes) ×
-    (holds_none levels ≡ true) × FreezeFits c x.holder x.step
-PhaseFits c t held levels (Thaws x) = (x.task ≡ t) × (holds_none levels ≡ true) × ThawFits x.holder x.step
-PhaseFits c t held levels (Trees phase) = TreePhaseFits (tree_bounds c) t phase × TreeAccess c held levels phase
-PhaseFits c t held levels (Closes phase) = CloseFits c t levels phase
+PhaseFits c t held (Writes x) = WriteFits c t held x
+PhaseFits c t held (Freezes x) = (x.task ≡ t) × (x.tasks ≡ c.tasks) × (x.processors ≡ c.processors) × (x.nodes ≡ c.nodes) ×
+    (holds_none held.levels ≡ true) × FreezeFits c x.holder x.step
+PhaseFits c t held (Thaws x) = (x.task ≡ t) × (holds_none held.levels ≡ true) × ThawFits x.holder x.step
+PhaseFits c t held (Trees phase) = TreePhaseFits (tree_bounds c) t phase × TreeAccess c held phase
+PhaseFits c t held (Closes phase) = CloseFits c t held phase
 
 -- the same of what a task is at; nothing is asked where no operation is under way
-abbrev pub Fits : Config → ℕ → (ℕ → ℕ) → (ℕ → Bool) → Option Phase → Type 0
-Fits c t held levels None = Unit {0}
-Fits c t held levels (Some phase) = PhaseFits c t held levels phase
+abbrev pub Fits : Config → ℕ → Holdings → Option Phase → Type 0
+Fits c t held None = Unit {0}
+Fits c t held (Some phase) = PhaseFits c t held phase
 
--- a task that holds these accesses at the mounts has room for an access that it gets, and holds one that it gives back
-abbrev pub ActionFits : (ℕ → ℕ) → Option Action → Type 0
+-- a task that holds this has room for an access that it gets, and holds one that it gives back
+abbrev pub ActionFits : Holdings → Option Action → Type 0
 ActionFits held None = Unit {0}
-ActionFits held (Some (Grant (Mount m))) = (m < 8) × (held m < 1024)
+ActionFits held (Some (Grant (Mount m))) = (m < 8) × (held.mounts m < 1024)
 ActionFits held (Some (Grant (Level i))) = (1 ≤ i) × (i ≤ 3)
-ActionFits held (Some (Return (Mount m))) = (m < 8) × (0 < held m)
+ActionFits held (Some (Return (Mount m))) = (m < 8) × (0 < held.mounts m)
 ActionFits held (Some (Return (Level i))) = (1 ≤ i) × (i ≤ 3)
 ActionFits held (Some (Open n)) = n < 64
 ActionFits held (Some (Close n)) = n < 64
 ActionFits held (Some a) = Unit {0}
 
--- what an action, if there is one, leaves of a task's accesses
-abbrev pub mounts_by : Option Action → (ℕ → ℕ) → ℕ → ℕ
-mounts_by None held = held
-mounts_by (Some a) held = mounts_after a held
-
--- and of the levels
-abbrev pub levels_by : Option Action → (ℕ → Bool) → ℕ → Bool
-levels_by None levels = levels
-levels_by (Some a) levels = levels_after a levels
-
--- and of the open files
-abbrev pub opens_by : Option Action → (ℕ → Bool) → ℕ → Bool
-opens_by None files = files
-opens_by (Some a) files = opens_after a files
-
--- the file that a phase relies on its task to have open, or not to have open
-abbrev pub close_file : ClosePhase → Option (ℕ × Bool)
-close_file (CloseLoadsFile x) = Some (x.file, true)
-close_file (LowersCount x node) = Some (x.file, true)
-close_file (Enters f node r) = Some (f, true)
-close_file (FreesNode f p node) = Some (f, true)
-close_file phase = None
-
+-- the file that what a task is at relies on it to have open, or not to have open
 abbrev pub file_of : Option Phase → Option (ℕ × Bool)
-file_of (Some (Closes phase)) = close_file phase
-file_of (Some (Trees (OpensOne x))) = Some (x.file, false)
-file_of phase = None
+file_of p = (roles_of p).file
 
 -- it is so
 abbrev pub HasFile : (ℕ → Bool) → Option (ℕ × Bool) → Type 0

@@ -1,12 +1,12 @@
 pub mod Configs
-pub mod Work
 pub mod Remounts
-pub mod Stages
-pub mod Holders
 pub mod Found
 pub mod Snapshots
+pub mod Roles
+pub mod Work
 pub mod Views
 pub mod Owners
+pub mod Holdings
 pub mod Operations
 pub mod Claims
 pub mod Accesses

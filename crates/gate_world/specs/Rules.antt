@@ -1,120 +1,34 @@
 -- The rule: what holds of words and views between any two events. One predicate for each mount, one for the owner's words.
-use Rattle.std.specs.Prelude.{◌≡◌, ℕ, suc, ◌<◌, ◌≤◌, ◌==◌, Bool, true, false, Option, Some, None, Ok, Err}
-use Rattle.finite_sums.specs.Sums.{total}
 use Rattle.access_model.specs.{Actions.{IsAllowed, after_action}, States.{State, openers}, declared.actions.Action.Action}
 use Rattle.cpu_words.specs.{Hooks.HookAnswer, Words.Words}
+use Rattle.finite_sums.specs.Sums.{total}
 use Rattle.gate_counts.specs.Levels.{LevelHolds}
+use Rattle.gate_world.specs.{Configs.model_limits, Fits.{Fits, HasFile, file_of}, Levels.{SectionsAreOdd, at_level, inside, is_frozen_whole, sync_role_of}}
+use Rattle.gate_world.specs.{Owners.KnowsWords, Roles.roles_of, Shown.{closing, holder_role_of, holder_roles, shown, stage_role_of, stage_roles}}
+use Rattle.gate_world.specs.{Trees.{is_bare_at, is_sealed, tree_bounds, tree_of, tree_role_of}, Views.{added_by, has_open, held_at, held_of, taken_by}}
+use Rattle.gate_world.specs.{Worlds.{World, after_step, phase_action}, declared.{config.Config.Config, views.View.View, work.Phase.Phase}}
 use Rattle.gated_tree.specs.{Nodes.{dirty_in, opens_in}, Roles.TreeHolds}
-use Rattle.mount_counts.specs.Roles.{Role, Out, Asking, Cleared, PastRemount, PastFlags, BackingOff, Summing, Empty, Leaving, MountView, MountHolds}
-use Rattle.mount_counts.specs.declared.phases.ChangeStep.{ChangeStep, TheVariants.{Locks, Sums, SetsReadOnly, ClearsHold}}
-use Rattle.mount_counts.specs.declared.phases.MountPhase.{MountPhase, TheVariants.{Want as Wants, Drop as Drops, Change as Changes}}
-use Rattle.mount_counts.specs.declared.phases.WantStep.{WantStep, TheVariants.{CountsUp, LoadsHold, LoadsRemount, LoadsReadOnly, LoadsSuperblock, CountsDown}}
-use Rattle.level_laws.specs.Roles.{SyncNumberHolds}
-use Rattle.stage_laws.specs.Roles.{owns as stage_owns, StagesHold}
-use Rattle.write_access.specs.declared.phases.WritePhase.{WritePhase, TheVariants.Wants as WriteWants}
 use Rattle.holder_laws.specs.Roles.{HoldersHold}
-use Rattle.gate_world.specs.{Configs.model_limits, Fits.{Fits, HasFile, file_of}, Holders.holder_role_of}
-use Rattle.gate_world.specs.{Levels.{sync_role_of, inside, at_level, is_frozen_whole, SectionsAreOdd}, Owners.KnowsWords}
-use Rattle.gate_world.specs.{Remounts.{remount_role, remount_owns, remount_sets}, Shown.{shown, closing, stage_roles, holder_roles}}
-use Rattle.gate_world.specs.Stages.{freeze_stage_role, thaw_stage_role, tree_stage_role, stage_role_of}
-use Rattle.gate_world.specs.{Trees.{tree_bounds, tree_of, tree_role_of, is_sealed, is_bare_at}, Views.{held_at, holds_level, has_open, added_by, taken_by}}
-use Rattle.gate_world.specs.Worlds.{World, after_step, phase_action}
-use Rattle.gate_world.specs.declared.{config.Config.Config, views.View.View}
-use Rattle.gate_world.specs.declared.work.Phase.{Phase, TheVariants.{Mounts, Remounts, DownReads, UpReads, Callbacks, Writes, Freezes, Thaws, Trees, Closes}}
+use Rattle.level_laws.specs.Roles.{SyncNumberHolds}
+use Rattle.mount_counts.specs.Roles.{MountHolds, MountView, Role}
+use Rattle.stage_laws.specs.Roles.{StagesHold}
+use Rattle.std.specs.Prelude.{Bool, None, Option, Some, false, suc, true, ℕ, ◌<◌, ◌≡◌, ◌≤◌}
 
--- what a step of a want is doing at its mount, on this processor
-abbrev pub want_role : ℕ → WantStep → Role
-want_role p CountsUp = Out
-want_role p LoadsHold = Asking p
-want_role p LoadsRemount = Cleared p
-want_role p LoadsReadOnly = PastRemount p
-want_role p LoadsSuperblock = PastFlags p
-want_role p (CountsDown refusal) = BackingOff p
-
--- what a step of a change is doing at its mount: where its sum was 0, the mount is empty until HOLD is cleared
-abbrev pub change_role : ChangeStep → Role
-change_role (Sums sum) = Summing sum.words sum.total
-change_role SetsReadOnly = Empty
-change_role (ClearsHold (Ok answer)) = Empty
-change_role (ClearsHold (Err refusal)) = Leaving
-change_role step = Out
-
--- a role at one mount alone
-abbrev pub role_if : Bool → Role → Role
-role_if true r = r
-role_if false r = Out
-
--- the role at each mount of a task that is at this phase: these layers have one at one mount alone
-abbrev pub mount_role : ℕ → MountPhase → Role
-mount_role m (Wants w) = role_if (m == w.mount) (want_role w.cpu w.step)
-mount_role m (Changes x) = role_if (m == x.mount) (change_role x.step)
-mount_role m phase = Out
-
--- the role at a mount of a write access: it has one where it wants the mount
-abbrev pub write_role : ℕ → WritePhase → Role
-write_role m (WriteWants w) = role_if (m == w.mount) (want_role w.cpu w.step)
-write_role m x = Out
-
--- the role at a mount of a phase of any layer: what is at a level alone has none
-abbrev pub role_at : ℕ → Phase → Role
-role_at m (Mounts phase) = mount_role m phase
-role_at m (Remounts x) = remount_role m x.step
-role_at m (DownReads r) = Out
-role_at m (UpReads u) = Out
-role_at m (Callbacks b) = Out
-role_at m (Writes x) = write_role m x
-role_at m (Freezes x) = Out
-role_at m (Thaws x) = Out
-role_at m (Trees phase) = Out
-role_at m (Closes phase) = Out
-
--- the role at a mount of what a task is at
+-- what a task is doing at a mount
 abbrev pub role_of : ℕ → Option Phase → Role
-role_of m None = Out
-role_of m (Some phase) = role_at m phase
+role_of m p = (roles_of p).mount m
 
 -- what a mount's predicate reads of a view
 abbrev pub at_mount : ℕ → View → MountView
 at_mount m v = record { held = held_at v m; added = added_by v.events m; taken = taken_by v.events m; role = role_of m v.phase }
 
--- 1 between the lock of `umount` and its release
-abbrev pub change_owns : ChangeStep → ℕ
-change_owns Locks = 0
-change_owns step = 1
-
--- the same of a phase at a mount: only a change owns `umount`
-abbrev pub mount_owns : MountPhase → ℕ
-mount_owns (Wants w) = 0
-mount_owns (Drops m p) = 0
-mount_owns (Changes x) = change_owns x.step
-
--- the same of what a task is at
+-- 1 between its lock of `umount` and its release
 abbrev pub owns : Option Phase → ℕ
-owns None = 0
-owns (Some (Mounts phase)) = mount_owns phase
-owns (Some (Remounts x)) = remount_owns x.step
-owns (Some (DownReads r)) = 0
-owns (Some (UpReads u)) = 0
-owns (Some (Callbacks b)) = 0
-owns (Some (Writes x)) = 0
-owns (Some (Freezes x)) = stage_owns (freeze_stage_role x.nodes x.step)
-owns (Some (Thaws x)) = stage_owns (thaw_stage_role x.step)
-owns (Some (Trees phase)) = stage_owns (tree_stage_role phase)
-owns (Some (Closes phase)) = 0
+owns p = (roles_of p).owns
 
--- 1 while an operation has `remount` set: only a remount does
+-- 1 while it has `remount` set
 abbrev pub remounts : Option Phase → ℕ
-remounts None = 0
-remounts (Some (Mounts phase)) = 0
-remounts (Some (Remounts x)) = remount_sets x.step
-remounts (Some (DownReads r)) = 0
-remounts (Some (UpReads u)) = 0
-remounts (Some (Callbacks b)) = 0
-remounts (Some (Writes x)) = 0
-remounts (Some (Freezes x)) = 0
-remounts (Some (Thaws x)) = 0
-remounts (Some (Trees phase)) = 0
-remounts (Some (Closes phase)) = 0
+remounts p = (roles_of p).remounts
 
 -- what the owner's words and the levels say of a task is the same at both phases
 pub record IsSteady (p q : Option Phase) : Type 0 where
@@ -133,7 +47,7 @@ pub record OwnerHolds (tasks umount remount : ℕ) (phases : ℕ → Option Phas
 
 -- each phase fits its task's accesses
 abbrev pub ViewFits : Config → ℕ → View → Type 0
-ViewFits c t v = Fits c t (held_at v) (holds_level v) v.phase
+ViewFits c t v = Fits c t (held_of v) v.phase
 
 -- The parts of the rule, each one predicate.
 pub data Part : Type 0 where
@@ -223,7 +137,7 @@ abbrev pub SameView : View → View → Part → Type 0
 SameView old new Owner = (owns new.phase ≡ owns old.phase) × (remounts new.phase ≡ remounts old.phase)
 SameView old new Stages = stage_role_of new.phase ≡ stage_role_of old.phase
 SameView old new Holding = holder_role_of new.phase ≡ holder_role_of old.phase
-SameView old new Fitting = (held_at new ≡ held_at old) × (holds_level new ≡ holds_level old) × (new.phase ≡ old.phase)
+SameView old new Fitting = (held_of new ≡ held_of old) × (new.phase ≡ old.phase)
 SameView old new Known = (owns new.phase ≡ owns old.phase) × (new.trace ≡ old.trace)
 SameView old new Tree = tree_role_of new.trace new.phase ≡ tree_role_of old.trace old.phase
 SameView old new Files = (has_open new ≡ has_open old) × (file_of new.phase ≡ file_of old.phase)

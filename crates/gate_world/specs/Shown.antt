@@ -6,8 +6,15 @@ use Rattle.mount_counts.specs.Roles.{ro_bit}
 use Rattle.freeze_levels.specs.Holders.{holders_in}
 use Rattle.stage_laws.specs.{Roles.{StageRole, sums}, Shown.{is_passed as passed_at_level, passed_shown}}
 use Rattle.holder_laws.specs.Roles.{HolderRole}
-use Rattle.gate_world.specs.{Holders.holder_role_of, Stages.stage_role_of, Views.{held_at, holds_level, has_open}, Worlds.World}
-use Rattle.gate_world.specs.declared.{config.Config.Config, work.Phase.Phase}
+use Rattle.gate_world.specs.{Roles.roles_of, Views.{held_at, holds_level, has_open}, Worlds.World, declared.{config.Config.Config, work.Phase.Phase}}
+
+-- what a task is doing with the stage
+abbrev pub stage_role_of : Option Phase → StageRole
+stage_role_of p = (roles_of p).stage
+
+-- and with those who hold a freeze
+abbrev pub holder_role_of : Option Phase → HolderRole
+holder_role_of p = (roles_of p).holder
 
 -- 1 while a phase has a level's `block` set and its sum has not been 0
 abbrev pub closing : ℕ → Option Phase → ℕ

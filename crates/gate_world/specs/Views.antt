@@ -4,14 +4,18 @@ use Rattle.finite_sums.specs.Sums.{update}
 use Rattle.access_model.specs.{Histories.{mounts_of, levels_of, opens_of}, declared.{actions.Action.Action, replies.Next.{Next, TheVariants.{Go, Wait, Done}}}}
 use Rattle.cpu_words.specs.{Hooks.HookAnswer, Touches.{event_of, found_by}}
 use Rattle.cpu_words.specs.declared.{events.{Event.Event, Touch.{Touch, TheVariants.{Add, Sub}}}, names.WordName.{WordName, TheVariants.MountCount}}
-use Rattle.gate_world.specs.{Snapshots.{completes, last_snapshot}, Work.{next_of, after_of}}
+use Rattle.gate_world.specs.{Holdings.{Holdings, holdings_of}, Snapshots.{completes, last_snapshot}, Work.{next_of, after_of}}
 use Rattle.gate_world.specs.declared.{operations.Op.Op, views.{Traced.Traced, View.View}, work.Phase.Phase}
 
 -- nothing is held and nothing was done
 abbrev pub opening_view : View
 opening_view = record { op = None; phase = None; actions = []; events = []; trace = []; before = []; snapshot = None }
 
--- accesses: what the actions leave
+-- what it holds: what its actions leave
+abbrev pub held_of : View → Holdings
+held_of v = holdings_of v.actions
+
+-- the accesses
 abbrev pub held_at : View → ℕ → ℕ
 held_at v = mounts_of v.actions
 
@@ -84,7 +88,7 @@ view_after v phase value hook = view_after_beside [] v phase value hook
 
 -- it holds what it held when its operation began
 abbrev pub HoldsAsBefore : View → Type 0
-HoldsAsBefore v = (held_at v ≡ mounts_of v.before) × (holds_level v ≡ levels_of v.before) × (has_open v ≡ opens_of v.before)
+HoldsAsBefore v = held_of v ≡ holdings_of v.before
 
 -- the view of a task that has begun an operation: it notes what it has done so far
 abbrev pub begun_view : View → Op → Phase → View

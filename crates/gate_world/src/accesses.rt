@@ -1,9 +1,9 @@
 //! What a task holds at run time.
 
-ghost use Rattle.std.specs.Prelude.{◌≡◌, ◌≤◌, slice_index};
+ghost use Rattle.std.specs.Prelude.{◌≡◌, ◌≤◌};
 ghost use Rattle.gate_world.specs.Operations.{holds_none, holds_none_from, some_mount};
 ghost use Rattle.gate_world.specs.Fits.{ActionFits};
-ghost use Rattle.gate_world.specs.Accesses.{no_accesses, mounts_held, levels_held, accesses_after};
+ghost use Rattle.gate_world.specs.Accesses.{no_accesses, held_in, accesses_after};
 
 use access_model::{Action, Gate};
 
@@ -31,7 +31,7 @@ impl Accesses {
     /// Does to these what an action of the task itself does.
     #[inline(always)]
     pub fn apply(&mut self, action: Option<Action>)
-        requires { ActionFits (slice_index self.old.mounts) action }
+        requires { ActionFits (held_in self.old) action }
         ensures { self.new ≡ accesses_after self.old action }
     {
         match action {
@@ -47,7 +47,7 @@ impl Accesses {
 
     /// What the task holds after an action of its own.
     pub fn after(self, action: Option<Action>) -> Accesses
-        requires { ActionFits (slice_index self.mounts) action }
+        requires { ActionFits (held_in self) action }
         ensures { result ≡ accesses_after self action }
     {
         let mut after = self;
@@ -58,7 +58,7 @@ impl Accesses {
     /// Whether the task is inside no level.
     #[inline(always)]
     pub fn is_in_no_level(&self) -> bool
-        ensures { result ≡ holds_none (levels_held self.now) }
+        ensures { result ≡ holds_none (held_in self.now).levels }
     {
         !self.levels[1] && !self.levels[2] && !self.levels[3]
     }
@@ -66,7 +66,7 @@ impl Accesses {
     /// Whether the task is inside no level from this one up.
     #[inline(always)]
     pub fn is_in_none_from(&self, level: u8) -> bool
-        ensures { result ≡ holds_none_from level (levels_held self.now) }
+        ensures { result ≡ holds_none_from level (held_in self.now).levels }
     {
         (level > 1 || !self.levels[1])
             && (level > 2 || !self.levels[2])
@@ -76,7 +76,7 @@ impl Accesses {
     /// Whether the task holds an access at one of so many mounts.
     pub fn holds_some_mount(&self, mounts: u8) -> bool
         requires { mounts ≤ 8 }
-        ensures { result ≡ some_mount mounts (mounts_held self.now) }
+        ensures { result ≡ some_mount mounts (held_in self.now).mounts }
     {
         let mut some = false;
         for mount in 0..mounts {

@@ -1,8 +1,8 @@
 //! Beginnings: where an operation starts, or why it can't. What is asked of each operation, and its first phase, stand together.
 
-ghost use Rattle.std.specs.Prelude.{◌≡◌, ◌≤◌, false};
+ghost use Rattle.std.specs.Prelude.{◌≡◌, ◌≤◌, false, []};
 ghost use Rattle.gate_world.specs.Operations.{is_level_number, is_writer};
-ghost use Rattle.gate_world.specs.Accesses.{mounts_held, levels_held, files_held};
+ghost use Rattle.gate_world.specs.{Accesses.held_in, Holdings.holdings_of};
 ghost use Rattle.gate_world.specs.Beginnings.{beginning};
 ghost use Rattle.gate_world.specs.declared.operations.Op.TheVariants.{Want as WantOp, DropMount, ChangeMount, RemountSb, Start, End, WantWrite, DropWrite, Callback as CallbackOp, Freeze as FreezeOp, Thaw as ThawOp, Create as CreateOp, Remove as RemoveOp, Grow as GrowOp, MoveTo as MoveToOp, Fault as FaultOp, Flush as FlushOp, Open as OpenOp, Close as CloseOp, Snapshot as SnapshotOp};
 
@@ -36,7 +36,7 @@ impl Op {
     ) -> Result<Phase, GateError>
         requires mounts { config.mounts ≤ 8 }
         requires nodes { config.nodes ≤ 64 }
-        ensures { result ≡ beginning config task under_way (mounts_held held.now) (levels_held held.now) (files_held held.now) self }
+        ensures { result ≡ beginning config task under_way (held_in held.now) self }
     {
         if under_way {
             return Err(GateError::Order);
@@ -80,7 +80,7 @@ fn begin_want(
     wait: bool,
 ) -> Result<Phase, GateError>
     requires { config.mounts ≤ 8 }
-    ensures { result ≡ beginning config 0 false (mounts_held held.now) (levels_held held.now) (files_held held.now) (WantOp mount cpu wait) }
+    ensures { result ≡ beginning config 0 false (held_in held.now) (WantOp mount cpu wait) }
 {
     if mount >= config.mounts || cpu >= config.processors {
         Err(GateError::Invalid)
@@ -100,7 +100,7 @@ fn begin_want(
 #[inline(always)]
 fn begin_drop(config: Config, held: &Accesses, mount: u8, cpu: u8) -> Result<Phase, GateError>
     requires { config.mounts ≤ 8 }
-    ensures { result ≡ beginning config 0 false (mounts_held held.now) (levels_held held.now) (files_held held.now) (DropMount mount cpu) }
+    ensures { result ≡ beginning config 0 false (held_in held.now) (DropMount mount cpu) }
 {
     if mount >= config.mounts || cpu >= config.processors {
         Err(GateError::Invalid)
@@ -121,7 +121,7 @@ fn begin_change(
     read_only: bool,
     wait: bool,
 ) -> Result<Phase, GateError>
-    ensures { result ≡ beginning config task false (mounts_held held.now) (levels_held held.now) (files_held held.now) (ChangeMount mount read_only wait) }
+    ensures { result ≡ beginning config task false (held_in held.now) (ChangeMount mount read_only wait) }
 {
     if mount >= config.mounts {
         Err(GateError::Invalid)
@@ -147,7 +147,7 @@ fn begin_remount(
     held: &Accesses,
     read_only: bool,
 ) -> Result<Phase, GateError>
-    ensures { result ≡ beginning config task false (mounts_held held.now) (levels_held held.now) (files_held held.now) (RemountSb read_only) }
+    ensures { result ≡ beginning config task false (held_in held.now) (RemountSb read_only) }
 {
     if !held.is_in_no_level() {
         Err(GateError::Order)
@@ -181,7 +181,7 @@ fn begin_start(
     cpu: u8,
     wait: bool,
 ) -> Result<Phase, GateError>
-    ensures { result ≡ beginning config task false (mounts_held held.now) (levels_held held.now) (files_held held.now) (Start level cpu wait) }
+    ensures { result ≡ beginning config task false (held_in held.now) (Start level cpu wait) }
 {
     if !is_level(level) || cpu >= config.processors {
         Err(GateError::Invalid)
@@ -201,7 +201,7 @@ fn begin_start(
 /// An end leaves a level that the task is inside.
 #[inline(always)]
 fn begin_end(config: Config, held: &Accesses, level: u8, cpu: u8) -> Result<Phase, GateError>
-    ensures { result ≡ beginning config 0 false (mounts_held held.now) (levels_held held.now) (files_held held.now) (End level cpu) }
+    ensures { result ≡ beginning config 0 false (held_in held.now) (End level cpu) }
 {
     if !is_level(level) || cpu >= config.processors {
         Err(GateError::Invalid)
@@ -222,7 +222,7 @@ fn begin_want_write(
     cpu: u8,
 ) -> Result<Phase, GateError>
     requires { config.mounts ≤ 8 }
-    ensures { result ≡ beginning config task false (mounts_held held.now) (levels_held held.now) (files_held held.now) (WantWrite mount cpu) }
+    ensures { result ≡ beginning config task false (held_in held.now) (WantWrite mount cpu) }
 {
     if mount >= config.mounts || cpu >= config.processors {
         Err(GateError::Invalid)
@@ -246,7 +246,7 @@ fn begin_want_write(
 #[inline(always)]
 fn begin_drop_write(config: Config, held: &Accesses, mount: u8, cpu: u8) -> Result<Phase, GateError>
     requires { config.mounts ≤ 8 }
-    ensures { result ≡ beginning config 0 false (mounts_held held.now) (levels_held held.now) (files_held held.now) (DropWrite mount cpu) }
+    ensures { result ≡ beginning config 0 false (held_in held.now) (DropWrite mount cpu) }
 {
     if mount >= config.mounts || cpu >= config.processors {
         Err(GateError::Invalid)
@@ -259,7 +259,7 @@ fn begin_drop_write(config: Config, held: &Accesses, mount: u8, cpu: u8) -> Resu
 
 /// A callback may be run by whoever has nothing else under way.
 fn begin_callback(config: Config, level: u8) -> Result<Phase, GateError>
-    ensures { result ≡ beginning config 0 false (λ mount. 0) (λ i. false) (λ n. false) (CallbackOp level) }
+    ensures { result ≡ beginning config 0 false (holdings_of []) (CallbackOp level) }
 {
     if !is_level(level) {
         Err(GateError::Invalid)
@@ -279,7 +279,7 @@ fn begin_freeze(
     held: &Accesses,
     holder: Holder,
 ) -> Result<Phase, GateError>
-    ensures { result ≡ beginning config task false (mounts_held held.now) (levels_held held.now) (files_held held.now) (FreezeOp holder) }
+    ensures { result ≡ beginning config task false (held_in held.now) (FreezeOp holder) }
 {
     if !held.is_in_no_level() {
         Err(GateError::Order)
@@ -297,7 +297,7 @@ fn begin_freeze(
 
 /// Nor is a thaw.
 fn begin_thaw(config: Config, task: u8, held: &Accesses, holder: Holder) -> Result<Phase, GateError>
-    ensures { result ≡ beginning config task false (mounts_held held.now) (levels_held held.now) (files_held held.now) (ThawOp holder) }
+    ensures { result ≡ beginning config task false (held_in held.now) (ThawOp holder) }
 {
     let _ = config;
     if !held.is_in_no_level() {
@@ -314,7 +314,7 @@ fn begin_thaw(config: Config, task: u8, held: &Accesses, holder: Holder) -> Resu
 /// Whether a task may change the tree: it is inside level 1, and holds an access at some mount.
 fn may_write(config: Config, held: &Accesses) -> bool
     requires { config.mounts ≤ 8 }
-    ensures { result ≡ is_writer config (mounts_held held.now) (levels_held held.now) }
+    ensures { result ≡ is_writer config (held_in held.now) }
 {
     held.levels[1] && held.holds_some_mount(config.mounts)
 }
@@ -322,7 +322,7 @@ fn may_write(config: Config, held: &Accesses) -> bool
 /// A create is of a writer, in a directory that there may be.
 fn begin_create(config: Config, held: &Accesses, dir: u8, kind: Kind) -> Result<Phase, GateError>
     requires { config.mounts ≤ 8 }
-    ensures { result ≡ beginning config 0 false (mounts_held held.now) (levels_held held.now) (files_held held.now) (CreateOp dir kind) }
+    ensures { result ≡ beginning config 0 false (held_in held.now) (CreateOp dir kind) }
 {
     if dir >= config.nodes {
         Err(GateError::Invalid)
@@ -341,7 +341,7 @@ fn begin_create(config: Config, held: &Accesses, dir: u8, kind: Kind) -> Result<
 /// So is a remove.
 fn begin_remove(config: Config, held: &Accesses, file: u8) -> Result<Phase, GateError>
     requires { config.mounts ≤ 8 }
-    ensures { result ≡ beginning config 0 false (mounts_held held.now) (levels_held held.now) (files_held held.now) (RemoveOp file) }
+    ensures { result ≡ beginning config 0 false (held_in held.now) (RemoveOp file) }
 {
     if file >= config.nodes {
         Err(GateError::Invalid)
@@ -359,7 +359,7 @@ fn begin_remove(config: Config, held: &Accesses, file: u8) -> Result<Phase, Gate
 #[inline(always)]
 fn begin_grow(config: Config, held: &Accesses, file: u8, blocks: u32) -> Result<Phase, GateError>
     requires { config.mounts ≤ 8 }
-    ensures { result ≡ beginning config 0 false (mounts_held held.now) (levels_held held.now) (files_held held.now) (GrowOp file blocks) }
+    ensures { result ≡ beginning config 0 false (held_in held.now) (GrowOp file blocks) }
 {
     if file >= config.nodes || blocks == 0 {
         Err(GateError::Invalid)
@@ -378,7 +378,7 @@ fn begin_grow(config: Config, held: &Accesses, file: u8, blocks: u32) -> Result<
 /// So is a move.
 fn begin_move(config: Config, held: &Accesses, file: u8, dir: u8) -> Result<Phase, GateError>
     requires { config.mounts ≤ 8 }
-    ensures { result ≡ beginning config 0 false (mounts_held held.now) (levels_held held.now) (files_held held.now) (MoveToOp file dir) }
+    ensures { result ≡ beginning config 0 false (held_in held.now) (MoveToOp file dir) }
 {
     if file >= config.nodes || dir >= config.nodes {
         Err(GateError::Invalid)
@@ -396,7 +396,7 @@ fn begin_move(config: Config, held: &Accesses, file: u8, dir: u8) -> Result<Phas
 /// A page fault is of a task inside level 2, with an access at some mount.
 fn begin_fault(config: Config, held: &Accesses, file: u8) -> Result<Phase, GateError>
     requires { config.mounts ≤ 8 }
-    ensures { result ≡ beginning config 0 false (mounts_held held.now) (levels_held held.now) (files_held held.now) (FaultOp file) }
+    ensures { result ≡ beginning config 0 false (held_in held.now) (FaultOp file) }
 {
     if file >= config.nodes {
         Err(GateError::Invalid)
@@ -413,7 +413,7 @@ fn begin_fault(config: Config, held: &Accesses, file: u8) -> Result<Phase, GateE
 
 /// A write-back is of a task inside level 3.
 fn begin_flush(config: Config, held: &Accesses, file: u8) -> Result<Phase, GateError>
-    ensures { result ≡ beginning config 0 false (mounts_held held.now) (levels_held held.now) (files_held held.now) (FlushOp file) }
+    ensures { result ≡ beginning config 0 false (held_in held.now) (FlushOp file) }
 {
     if file >= config.nodes {
         Err(GateError::Invalid)
@@ -431,7 +431,7 @@ fn begin_flush(config: Config, held: &Accesses, file: u8) -> Result<Phase, GateE
 /// A task opens a file once.
 fn begin_open(config: Config, held: &Accesses, file: u8) -> Result<Phase, GateError>
     requires { config.nodes ≤ 64 }
-    ensures { result ≡ beginning config 0 false (mounts_held held.now) (levels_held held.now) (files_held held.now) (OpenOp file) }
+    ensures { result ≡ beginning config 0 false (held_in held.now) (OpenOp file) }
 {
     if file >= config.nodes {
         Err(GateError::Invalid)
@@ -455,7 +455,7 @@ fn begin_close(
     wait: bool,
 ) -> Result<Phase, GateError>
     requires { config.nodes ≤ 64 }
-    ensures { result ≡ beginning config task false (mounts_held held.now) (levels_held held.now) (files_held held.now) (CloseOp file cpu wait) }
+    ensures { result ≡ beginning config task false (held_in held.now) (CloseOp file cpu wait) }
 {
     if file >= config.nodes || cpu >= config.processors {
         Err(GateError::Invalid)
@@ -473,7 +473,7 @@ fn begin_close(
 
 /// A snapshot is not begun inside a level.
 fn begin_snapshot(config: Config, task: u8, held: &Accesses, wait: bool) -> Result<Phase, GateError>
-    ensures { result ≡ beginning config task false (mounts_held held.now) (levels_held held.now) (files_held held.now) (SnapshotOp wait) }
+    ensures { result ≡ beginning config task false (held_in held.now) (SnapshotOp wait) }
 {
     if !held.is_in_no_level() {
         Err(GateError::Order)

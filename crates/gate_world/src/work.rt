@@ -3,7 +3,7 @@
 ghost use Rattle.std.specs.Prelude.{◌≡◌};
 ghost use Rattle.gate_world.specs.Work.{next_of, after_of, hook_of};
 
-use access_model::{Action, Next};
+use access_model::{Action, Next, map_after};
 use cpu_words::{Touch, WordName};
 use file_closes::ClosePhase;
 use freeze_levels::{Freeze, HookKind, Thaw};
@@ -13,7 +13,7 @@ use percpu_rwsem::{Callback, DownRead, UpRead};
 use write_access::WritePhase;
 
 /// Where an operation under way stands, between two of its events.
-#[derive(Clone, Copy, PartialEq, Eq, Debug)]
+#[derive(Clone, Copy, PartialEq, Eq)]
 pub enum Phase {
     /// A want, a drop or a change of a mount.
     Mounts(MountPhase),
@@ -63,46 +63,16 @@ impl Phase {
         ensures { result ≡ after_of self found hook }
     {
         match self {
-            Phase::Mounts(phase) => {
-                let (next, action) = phase.after(found, hook);
-                (next.map(Phase::Mounts), action)
-            }
-            Phase::Remounts(remount) => {
-                let (next, action) = remount.after(found, hook);
-                (next.map(Phase::Remounts), action)
-            }
-            Phase::DownReads(read) => {
-                let (next, action) = read.after(found);
-                (next.map(Phase::DownReads), action)
-            }
-            Phase::UpReads(read) => {
-                let (next, action) = read.after();
-                (next.map(Phase::UpReads), action)
-            }
-            Phase::Callbacks(callback) => {
-                let (next, action) = callback.after(found);
-                (next.map(Phase::Callbacks), action)
-            }
-            Phase::Writes(phase) => {
-                let (next, action) = phase.after(found);
-                (next.map(Phase::Writes), action)
-            }
-            Phase::Freezes(freeze) => {
-                let (next, action) = freeze.after(found, hook);
-                (next.map(Phase::Freezes), action)
-            }
-            Phase::Thaws(thaw) => {
-                let (next, action) = thaw.after(found, hook);
-                (next.map(Phase::Thaws), action)
-            }
-            Phase::Trees(phase) => {
-                let (next, action) = phase.after(found, hook);
-                (next.map(Phase::Trees), action)
-            }
-            Phase::Closes(phase) => {
-                let (next, action) = phase.after(found);
-                (next.map(Phase::Closes), action)
-            }
+            Phase::Mounts(phase) => map_after(phase.after(found, hook), Phase::Mounts),
+            Phase::Remounts(remount) => map_after(remount.after(found, hook), Phase::Remounts),
+            Phase::DownReads(read) => map_after(read.after(found), Phase::DownReads),
+            Phase::UpReads(read) => map_after(read.after(), Phase::UpReads),
+            Phase::Callbacks(callback) => map_after(callback.after(found), Phase::Callbacks),
+            Phase::Writes(phase) => map_after(phase.after(found), Phase::Writes),
+            Phase::Freezes(freeze) => map_after(freeze.after(found, hook), Phase::Freezes),
+            Phase::Thaws(thaw) => map_after(thaw.after(found, hook), Phase::Thaws),
+            Phase::Trees(phase) => map_after(phase.after(found, hook), Phase::Trees),
+            Phase::Closes(phase) => map_after(phase.after(found), Phase::Closes),
         }
     }
 

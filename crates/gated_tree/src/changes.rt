@@ -10,7 +10,7 @@ use access_model::{Action, GateError, Kind, Next, Reply};
 use cpu_words::{Touch, WordName};
 
 /// What the next event of a create is.
-#[derive(Clone, Copy, PartialEq, Eq, Debug)]
+#[derive(Clone, Copy, PartialEq, Eq)]
 pub enum CreateStep {
     /// Loads the directory's node.
     LoadsDirectory,
@@ -25,7 +25,7 @@ pub enum CreateStep {
 }
 
 /// A create of a file or a directory under way, in a directory, among so many nodes (`vfs_create`, `vfs_mkdir`).
-#[derive(Clone, Copy, PartialEq, Eq, Debug)]
+#[derive(Clone, Copy, PartialEq, Eq)]
 pub struct Create {
     pub dir: u8,
     pub kind: Kind,
@@ -34,7 +34,7 @@ pub struct Create {
 }
 
 /// What the next event of a remove is. `file` is the file's node as it was loaded.
-#[derive(Clone, Copy, PartialEq, Eq, Debug)]
+#[derive(Clone, Copy, PartialEq, Eq)]
 pub enum RemoveStep {
     /// Loads the file's node.
     LoadsFile,
@@ -54,14 +54,14 @@ pub enum RemoveStep {
 
 /// A remove of a file under way (`vfs_unlink`). Where some task has the file open, it keeps its node and its blocks until its last close
 /// (`drop_nlink`, which raises `s_remove_count`).
-#[derive(Clone, Copy, PartialEq, Eq, Debug)]
+#[derive(Clone, Copy, PartialEq, Eq)]
 pub struct Remove {
     pub file: u8,
     pub step: RemoveStep,
 }
 
 /// What the next event of a move is.
-#[derive(Clone, Copy, PartialEq, Eq, Debug)]
+#[derive(Clone, Copy, PartialEq, Eq)]
 pub enum MoveStep {
     /// Loads the file's node.
     LoadsFile,
@@ -76,7 +76,7 @@ pub enum MoveStep {
 }
 
 /// A move of a file to a directory under way (`vfs_rename`). A move to the present parent has the same events.
-#[derive(Clone, Copy, PartialEq, Eq, Debug)]
+#[derive(Clone, Copy, PartialEq, Eq)]
 pub struct MoveTo {
     pub file: u8,
     pub dir: u8,

@@ -10,7 +10,7 @@ use access_model::{Action, GateError, Next, Reply};
 use cpu_words::{Touch, WordName};
 
 /// What the next event of a grow is. `file` is the file's node as it was loaded.
-#[derive(Clone, Copy, PartialEq, Eq, Debug)]
+#[derive(Clone, Copy, PartialEq, Eq)]
 pub enum GrowStep {
     /// Loads the file's node.
     LoadsFile,
@@ -26,7 +26,7 @@ pub enum GrowStep {
 
 /// A grow of a file under way, by so many blocks, where all files together may have so many as `capacity`: what a write past the end
 /// of a file does to it (`generic_perform_write`).
-#[derive(Clone, Copy, PartialEq, Eq, Debug)]
+#[derive(Clone, Copy, PartialEq, Eq)]
 pub struct Grow {
     pub file: u8,
     pub blocks: u32,

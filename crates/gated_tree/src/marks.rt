@@ -8,7 +8,7 @@ use access_model::{Action, GateError, Next, Reply};
 use cpu_words::{Touch, WordName};
 
 /// What the next event of a mark is.
-#[derive(Clone, Copy, PartialEq, Eq, Debug)]
+#[derive(Clone, Copy, PartialEq, Eq)]
 pub enum MarkStep {
     /// Loads the file's node.
     LoadsFile,
@@ -18,7 +18,7 @@ pub enum MarkStep {
 
 /// A page fault under way, which makes a file dirty (`block_page_mkwrite`), or a write-back, which makes it clean
 /// (`writeback_single_inode`).
-#[derive(Clone, Copy, PartialEq, Eq, Debug)]
+#[derive(Clone, Copy, PartialEq, Eq)]
 pub struct Mark {
     pub file: u8,
     pub dirty: bool,
@@ -26,7 +26,7 @@ pub struct Mark {
 }
 
 /// A clearing of all dirty marks under way, at this node of so many (`sync_filesystem`). The root has no mark.
-#[derive(Clone, Copy, PartialEq, Eq, Debug)]
+#[derive(Clone, Copy, PartialEq, Eq)]
 pub struct ClearMarks {
     pub node: u8,
     pub nodes: u8,

@@ -7,7 +7,7 @@ use access_model::{GateError, Kind, NodeInfo};
 
 /// What a node word says: free, a file or a directory; the dirty mark; whether it is a file that was removed while it is open; the parent's
 /// number (0 to 63); how many tasks have it open (0 to 64); the size in blocks.
-#[derive(Clone, Copy, PartialEq, Eq, Debug)]
+#[derive(Clone, Copy, PartialEq, Eq)]
 pub struct NodeWord {
     pub kind: Option<Kind>,
     pub dirty: bool,

@@ -12,7 +12,7 @@ use cpu_words::{Touch, WordName};
 const MOST_OPENS: u8 = 64;
 
 /// What the next event of an open is.
-#[derive(Clone, Copy, PartialEq, Eq, Debug)]
+#[derive(Clone, Copy, PartialEq, Eq)]
 pub enum OpenStep {
     /// Loads the file's node.
     LoadsFile,
@@ -21,7 +21,7 @@ pub enum OpenStep {
 }
 
 /// An open of a file under way (`do_dentry_open`).
-#[derive(Clone, Copy, PartialEq, Eq, Debug)]
+#[derive(Clone, Copy, PartialEq, Eq)]
 pub struct OpenFile {
     pub file: u8,
     pub step: OpenStep,

@@ -8,11 +8,11 @@ use crate::growth::Grow;
 use crate::marks::{ClearMarks, Mark};
 use crate::opens::OpenFile;
 use crate::snapshots::Snapshot;
-use access_model::{Action, Next};
+use access_model::{Action, Next, map_after};
 use cpu_words::{Touch, WordName};
 
 /// Where a call at the tree stands between two of its events.
-#[derive(Clone, Copy, PartialEq, Eq, Debug)]
+#[derive(Clone, Copy, PartialEq, Eq)]
 pub enum TreePhase {
     Create(Create),
     Remove(Remove),
@@ -51,38 +51,17 @@ impl TreePhase {
     {
         let _ = hook;
         match self {
-            TreePhase::Create(create) => {
-                let (next, action) = create.after(found);
-                (next.map(TreePhase::Create), action)
-            }
-            TreePhase::Remove(remove) => {
-                let (next, action) = remove.after(found);
-                (next.map(TreePhase::Remove), action)
-            }
-            TreePhase::Grow(grow) => {
-                let (next, action) = grow.after(found);
-                (next.map(TreePhase::Grow), action)
-            }
-            TreePhase::MoveTo(moving) => {
-                let (next, action) = moving.after(found);
-                (next.map(TreePhase::MoveTo), action)
-            }
-            TreePhase::Mark(mark) => {
-                let (next, action) = mark.after(found);
-                (next.map(TreePhase::Mark), action)
-            }
-            TreePhase::OpenFile(opening) => {
-                let (next, action) = opening.after(found);
-                (next.map(TreePhase::OpenFile), action)
-            }
-            TreePhase::Snapshot(snapshot) => {
-                let (next, action) = snapshot.after(found);
-                (next.map(TreePhase::Snapshot), action)
-            }
-            TreePhase::ClearMarks(clearing) => {
-                let (next, action) = clearing.after(found);
-                (next.map(TreePhase::ClearMarks), action)
-            }
+            TreePhase::Create(create) => map_after(create.after(found), TreePhase::Create),
+            TreePhase::Remove(remove) => map_after(remove.after(found), TreePhase::Remove),
+            TreePhase::Grow(grow) => map_after(grow.after(found), TreePhase::Grow),
+            TreePhase::MoveTo(moving) => map_after(moving.after(found), TreePhase::MoveTo),
+            TreePhase::Mark(mark) => map_after(mark.after(found), TreePhase::Mark),
+            TreePhase::OpenFile(opening) => map_after(opening.after(found), TreePhase::OpenFile),
+            TreePhase::Snapshot(snapshot) => map_after(snapshot.after(found), TreePhase::Snapshot),
+            TreePhase::ClearMarks(clearing) => map_after(
+                clearing.after(found),
+                TreePhase::ClearMarks,
+            ),
         }
     }
 }

@@ -15,7 +15,7 @@ use cpu_words::{Touch, WordName};
 const FROZEN: u64 = 4;
 
 /// What the next event of a snapshot is.
-#[derive(Clone, Copy, PartialEq, Eq, Debug)]
+#[derive(Clone, Copy, PartialEq, Eq)]
 pub enum SnapshotStep {
     /// Takes `umount` where it is free.
     Locks,
@@ -32,7 +32,7 @@ pub enum SnapshotStep {
 }
 
 /// A snapshot under way, by a task, of so many nodes. One that doesn't wait is refused where it finds `umount` taken.
-#[derive(Clone, Copy, PartialEq, Eq, Debug)]
+#[derive(Clone, Copy, PartialEq, Eq)]
 pub struct Snapshot {
     pub wait: bool,
     pub task: u8,

@@ -119,7 +119,7 @@ fn a_want_on_an_idle_mount_is_granted(rt: HostRuntime) {
         look(WordName::MountFlags(2), 0),
         (WordName::SbFlags, Touch::Load, 0, granted),
     ];
-    assert!(rt; end_of(want, &events) == Some(Next::Done(Ok(Reply::Unit))));
+    assert!(rt; matches!(end_of(want, &events), Some(Next::Done(Ok(Reply::Unit)))));
 }
 
 /// 5 is no word of an rcu_sync, nor is 2, GP_PASSED with no writer; 3 is GP_EXIT.
@@ -142,7 +142,7 @@ fn a_down_read_looks_again_where_there_is_no_word(rt: HostRuntime) {
         (WordName::Block(2), Touch::Load, 0, granted),
         (WordName::Section(3), Touch::Add(1), 1, None),
     ];
-    assert!(rt; end_of(read, &events) == Some(Next::Done(Ok(Reply::Unit))));
+    assert!(rt; matches!(end_of(read, &events), Some(Next::Done(Ok(Reply::Unit)))));
 }
 
 /// 3 is no node's word.
@@ -155,7 +155,7 @@ fn a_create_looks_again_where_there_is_no_word(rt: HostRuntime) {
         step: CreateStep::LoadsDirectory,
     });
     let stray = [look(WordName::Node(3), 3)];
-    assert!(rt; end_of(create, &stray) == Some(Next::Go(create)));
+    assert!(rt; matches!(end_of(create, &stray), Some(Next::Go(phase)) if phase == create));
 }
 
 /// No schedule has 65 tasks that open a file. 4194305 is a file that 64 have open, 4128769 one that 63 have open.
@@ -166,7 +166,7 @@ fn an_open_looks_again_where_all_tasks_have_the_file_open(rt: HostRuntime) {
         step: OpenStep::LoadsFile,
     });
     let full = [look(WordName::Node(3), 4194305)];
-    assert!(rt; end_of(open, &full) == Some(Next::Go(open)));
+    assert!(rt; matches!(end_of(open, &full), Some(Next::Go(phase)) if phase == open));
     let last = Touch::Cas {
         expect: 4128769,
         put: 4194305,
@@ -177,7 +177,7 @@ fn an_open_looks_again_where_all_tasks_have_the_file_open(rt: HostRuntime) {
         look(WordName::Node(3), 4128769),
         (WordName::Node(3), last, 4128769, opened),
     ];
-    assert!(rt; end_of(open, &events) == Some(Next::Done(Ok(Reply::Unit))));
+    assert!(rt; matches!(end_of(open, &events), Some(Next::Done(Ok(Reply::Unit)))));
 }
 
 /// Nor is a file closed that nobody has open: 1 is one.
@@ -190,7 +190,7 @@ fn a_close_looks_again_where_nobody_has_the_file_open(rt: HostRuntime) {
         wait: false,
     });
     let none = [look(WordName::Node(3), 1)];
-    assert!(rt; end_of(close, &none) == Some(Next::Go(close)));
+    assert!(rt; matches!(end_of(close, &none), Some(Next::Go(phase)) if phase == close));
     let lower = Touch::Cas {
         expect: 65537,
         put: 1,
@@ -201,7 +201,7 @@ fn a_close_looks_again_where_nobody_has_the_file_open(rt: HostRuntime) {
         look(WordName::Node(3), 65537),
         (WordName::Node(3), lower, 65537, closed),
     ];
-    assert!(rt; end_of(close, &events) == Some(Next::Done(Ok(Reply::Unit))));
+    assert!(rt; matches!(end_of(close, &events), Some(Next::Done(Ok(Reply::Unit)))));
 }
 
 /// The events by which task 1 begins a freeze or a thaw, where it finds this stage and this flag of the superblock.
@@ -233,7 +233,7 @@ fn a_read_only_superblock_is_frozen_at_once(rt: HostRuntime) {
     let held = Some(Action::Hold(Holder::Kernel));
     let holds = (WordName::Holders, Touch::Store(1), 1, held);
     let events = [lock, stage, flag, stored, holds, UNLOCK];
-    assert!(rt; end_of(freeze, &events) == Some(Next::Done(Ok(Reply::Unit))));
+    assert!(rt; matches!(end_of(freeze, &events), Some(Next::Done(Ok(Reply::Unit)))));
 }
 
 #[test]
@@ -245,8 +245,8 @@ fn a_failed_unfreeze_fs_leaves_all_frozen(rt: HostRuntime) {
     };
     let [lock, stage, flag] = begins(4, 0);
     let holders = look(WordName::Holders, 2);
-    let refused = Some(Next::Done(Err(GateError::Hook(7))));
-    assert!(rt; end_of(thaw, &[lock, stage, holders, flag, UNLOCK]) == refused);
+    let end = end_of(thaw, &[lock, stage, holders, flag, UNLOCK]);
+    assert!(rt; matches!(end, Some(Next::Done(Err(GateError::Hook(7))))));
 }
 
 /// A file system of which each hook fails with a code of its own.

@@ -14,9 +14,9 @@ const LAST: u64 = 18446744073709551615;
 fn a_sum_of_three_wraps(rt: HostRuntime) {
     let one = Sum { words: 1, total: 5 };
     let two = Sum { words: 2, total: 4 };
-    assert_eq!(rt; Sum::start().take(5, 3), Taken::More(one));
-    assert_eq!(rt; one.take(LAST, 3), Taken::More(two));
-    assert_eq!(rt; two.take(7, 3), Taken::Total(11));
+    assert!(rt; matches!(Sum::start().take(5, 3), Taken::More(sum) if sum == one));
+    assert!(rt; matches!(one.take(LAST, 3), Taken::More(sum) if sum == two));
+    assert!(rt; matches!(two.take(7, 3), Taken::Total(11)));
 }
 
 #[test]
@@ -84,7 +84,7 @@ fn transitions_of_packed_words(rt: HostRuntime) {
 #[test]
 fn numbers_that_are_no_word(rt: HostRuntime) {
     for number in [5, 16, 8, 256, 1, 2, 10, 16777216, LAST] {
-        assert_eq!(rt; SyncWord::unpack(number), None, "{number}");
+        assert!(rt; SyncWord::unpack(number).is_none(), "{number}");
     }
     // A kind 3, stray bits and a free node that says something; then a mark on a free node, on a file that nobody has open, on a directory and
     // on a dirty file; then 65 and 127 tasks that have a file open, and one that has a directory or a free node open.
@@ -93,7 +93,7 @@ fn numbers_that_are_no_word(rt: HostRuntime) {
         8, 9, 10, 65546, 65549, //
         4259841, 8323073, 4259849, 65538, 65536, 65544,
     ] {
-        assert_eq!(rt; NodeWord::unpack(number), None, "{number}");
+        assert!(rt; NodeWord::unpack(number).is_none(), "{number}");
     }
 }
 

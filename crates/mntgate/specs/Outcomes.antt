@@ -9,10 +9,10 @@ use Rattle.endings.specs.declared.ends.Ending.TheVariants.{Listed, Refused}
 use Rattle.gate_core.specs.Memory.{Memory}
 use Rattle.races.specs.declared.calls.Call.{Call}
 use Rattle.schedule_bytes.specs.Writing.{AppendsPart}
-use Rattle.told_outcomes.specs.declared.telling.Details.{Details}
-use Rattle.told_outcomes.specs.declared.telling.Schedules.{Schedules}
-use Rattle.told_outcomes.specs.declared.telling.Schedules.TheVariants.{Untold, Lines, Columns}
-use Rattle.told_outcomes.specs.Told.{Tells}
+use Rattle.race_texts.specs.declared.telling.Details.{Details}
+use Rattle.race_texts.specs.declared.telling.Schedules.{Schedules}
+use Rattle.race_texts.specs.declared.telling.Schedules.TheVariants.{Untold, Lines, Columns}
+use Rattle.race_texts.specs.Told.{Tells}
 
 -- in which form schedules are told
 abbrev pub schedules_as : words.Schedules → Schedules

@@ -4,8 +4,8 @@ ghost use Rattle.std.specs.Prelude.{◌≡◌, ◌⊎◌, IfOk};
 ghost use Rattle.endings.specs.declared.ends.Ending.TheVariants.{Passed, Refused};
 
 use endings::{Ending, unopened};
+use race_texts::check;
 use schedule_bytes::write_out;
-use schedule_checks::check;
 use schedule_text::Output;
 use std::alloc::{AllocError, Global};
 use std::fs;

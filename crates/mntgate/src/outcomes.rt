@@ -10,14 +10,13 @@ use access_model::GateError;
 use command_line::Outcomes;
 use endings::{Ending, fault_told, refused, unopened};
 use exploration::Stop;
-use race_files::read_race;
+use race_texts::{Details, Schedules, read_race, tell};
 use schedule_bytes::write_out;
 use schedule_text::Output;
 use std::alloc::{AllocError, Global};
 use std::fs;
 use std::io::{Read, Write};
 use std::rt::Files;
-use told_outcomes::{Details, Schedules, tell};
 
 /// Writes all outcomes of the race that a file has, or the reader, where none is named. A fault of the race is told on the writer of
 /// faults, and so are more states than were asked for, and want of memory; then nothing is written.

@@ -5,12 +5,12 @@ ghost use Rattle.mount_counts.specs.Phases.{next, after, want_next, want_after, 
 ghost use Rattle.access_model.specs.declared.replies.Next.TheVariants.{Go};
 
 use crate::flags::MountFlags;
-use access_model::{Action, Gate, GateError, Next, Reply};
+use access_model::{Action, Gate, GateError, Next, Reply, map_after};
 use bitflags::Flags;
 use cpu_words::{Sum, Taken, Touch, WordName};
 
 /// What the next event of a want is (`__mnt_want_write`).
-#[derive(Clone, Copy, PartialEq, Eq, Debug)]
+#[derive(Clone, Copy, PartialEq, Eq)]
 pub enum WantStep {
     /// Adds one to the count of its processor.
     CountsUp,
@@ -27,7 +27,7 @@ pub enum WantStep {
 }
 
 /// A want of an access at a mount under way, on a processor. One that doesn't wait is refused where it finds HOLD.
-#[derive(Clone, Copy, PartialEq, Eq, Debug)]
+#[derive(Clone, Copy, PartialEq, Eq)]
 pub struct Want {
     pub mount: u8,
     pub cpu: u8,
@@ -36,7 +36,7 @@ pub struct Want {
 }
 
 /// What the next event of a change is (`mnt_make_readonly`, `mnt_hold_writers`, `mnt_unhold_writers`).
-#[derive(Clone, Copy, PartialEq, Eq, Debug)]
+#[derive(Clone, Copy, PartialEq, Eq)]
 pub enum ChangeStep {
     /// Takes `umount` where it is free.
     Locks,
@@ -60,7 +60,7 @@ pub enum ChangeStep {
 
 /// A change of a mount's own read-only flag under way, by a task, among so many processors. One that doesn't wait is
 /// refused where it finds `umount` taken.
-#[derive(Clone, Copy, PartialEq, Eq, Debug)]
+#[derive(Clone, Copy, PartialEq, Eq)]
 pub struct Change {
     pub mount: u8,
     pub read_only: bool,
@@ -71,7 +71,7 @@ pub struct Change {
 }
 
 /// Where an operation at a mount stands between two of its events.
-#[derive(Clone, Copy, PartialEq, Eq, Debug)]
+#[derive(Clone, Copy, PartialEq, Eq)]
 pub enum MountPhase {
     /// `mnt_want_write` of a mount.
     Want(Want),
@@ -250,18 +250,12 @@ impl MountPhase {
     {
         let _ = hook;
         match self {
-            MountPhase::Want(want) => {
-                let (next, action) = want.after(found);
-                (next.map(MountPhase::Want), action)
-            }
+            MountPhase::Want(want) => map_after(want.after(found), MountPhase::Want),
             MountPhase::Drop { mount, .. } => (
                 Next::Done(Ok(Reply::Unit)),
                 Some(Action::Return(Gate::Mount(mount))),
             ),
-            MountPhase::Change(change) => {
-                let (next, action) = change.after(found);
-                (next.map(MountPhase::Change), action)
-            }
+            MountPhase::Change(change) => map_after(change.after(found), MountPhase::Change),
         }
     }
 }

@@ -16,7 +16,7 @@ const MARK: u64 = 4;
 
 /// What the next event of a remount is (`reconfigure_super`, `sb_prepare_remount_readonly`). `mount` is the one at which its
 /// loop stands, and `held` are the mounts at which it has HOLD set.
-#[derive(Clone, Copy, PartialEq, Eq, Debug)]
+#[derive(Clone, Copy, PartialEq, Eq)]
 pub enum RemountStep {
     /// Takes `umount` where it is free.
     Locks,
@@ -55,7 +55,7 @@ pub enum RemountStep {
 }
 
 /// A remount of the superblock under way, by a task, among so many processors, mounts and nodes.
-#[derive(Clone, Copy, PartialEq, Eq, Debug)]
+#[derive(Clone, Copy, PartialEq, Eq)]
 pub struct Remount {
     pub read_only: bool,
     pub task: u8,

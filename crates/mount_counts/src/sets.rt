@@ -4,7 +4,7 @@ ghost use Rattle.std.specs.Prelude.{◌≡◌};
 ghost use Rattle.mount_counts.specs.Sets.{no_mounts, with_mount as with_bit, lowest as lowest_bit, without_lowest as without_bit};
 
 /// A set of mounts 0 to 7: those that a remount holds. Bit m stands for mount m.
-#[derive(Clone, Copy, PartialEq, Eq, Debug)]
+#[derive(Clone, Copy, PartialEq, Eq)]
 pub struct MountSet {
     pub bits: u8,
 }

@@ -10,7 +10,7 @@ use access_model::{Action, Next, Reply};
 use cpu_words::{Touch, WordName};
 
 /// What the next event of a callback is (`rcu_sync_func`, and before it the wait of `call_rcu`).
-#[derive(Clone, Copy, PartialEq, Eq, Debug)]
+#[derive(Clone, Copy, PartialEq, Eq)]
 pub enum CallbackStep {
     /// Takes the callback that is queued, where one is.
     Claims(Transition),
@@ -21,7 +21,7 @@ pub enum CallbackStep {
 }
 
 /// A callback of a level (1 to 3) under way, among so many tasks (1 to 64). It answers whether one ran.
-#[derive(Clone, Copy, PartialEq, Eq, Debug)]
+#[derive(Clone, Copy, PartialEq, Eq)]
 pub struct Callback {
     pub level: u8,
     pub tasks: u8,

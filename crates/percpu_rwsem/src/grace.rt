@@ -5,7 +5,7 @@ ghost use Rattle.percpu_rwsem.specs.Graces.{started, looked};
 
 /// A grace period under way among so many tasks (1 to 64): the task number whose section word is loaded next, and, where that was found
 /// odd, the first value found of it.
-#[derive(Clone, Copy, PartialEq, Eq, Debug)]
+#[derive(Clone, Copy, PartialEq, Eq)]
 pub struct Grace {
     pub tasks: u8,
     pub task: u8,
@@ -13,7 +13,7 @@ pub struct Grace {
 }
 
 /// What a load of a section word leads to.
-#[derive(Clone, Copy, PartialEq, Eq, Debug)]
+#[derive(Clone, Copy)]
 pub enum GraceNext {
     /// On to the section word of the next task.
     More(Grace),

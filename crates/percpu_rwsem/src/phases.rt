@@ -6,11 +6,11 @@ ghost use Rattle.percpu_rwsem.specs.Phases.{next, after};
 use crate::callbacks::Callback;
 use crate::readers::{DownRead, UpRead};
 use crate::writers::{DownWrite, UpWrite};
-use access_model::{Action, Next};
+use access_model::{Action, Next, map_after};
 use cpu_words::{Touch, WordName};
 
 /// Where an operation at a level stands between two of its events.
-#[derive(Clone, Copy, PartialEq, Eq, Debug)]
+#[derive(Clone, Copy)]
 pub enum SemPhase {
     /// `percpu_down_read`, as by `sb_start_write`.
     DownRead(DownRead),
@@ -47,26 +47,11 @@ impl SemPhase {
     {
         let _ = hook;
         match self {
-            SemPhase::DownRead(read) => {
-                let (next, action) = read.after(found);
-                (next.map(SemPhase::DownRead), action)
-            }
-            SemPhase::UpRead(read) => {
-                let (next, action) = read.after();
-                (next.map(SemPhase::UpRead), action)
-            }
-            SemPhase::DownWrite(write) => {
-                let (next, action) = write.after(found);
-                (next.map(SemPhase::DownWrite), action)
-            }
-            SemPhase::UpWrite(write) => {
-                let (next, action) = write.after(found);
-                (next.map(SemPhase::UpWrite), action)
-            }
-            SemPhase::Callback(callback) => {
-                let (next, action) = callback.after(found);
-                (next.map(SemPhase::Callback), action)
-            }
+            SemPhase::DownRead(read) => map_after(read.after(found), SemPhase::DownRead),
+            SemPhase::UpRead(read) => map_after(read.after(), SemPhase::UpRead),
+            SemPhase::DownWrite(write) => map_after(write.after(found), SemPhase::DownWrite),
+            SemPhase::UpWrite(write) => map_after(write.after(found), SemPhase::UpWrite),
+            SemPhase::Callback(callback) => map_after(callback.after(found), SemPhase::Callback),
         }
     }
 }

@@ -9,7 +9,7 @@ use access_model::{Action, Gate, GateError, Next, Reply};
 use cpu_words::{Touch, WordName};
 
 /// What the next event of a down-read is (`percpu_down_read`, `percpu_down_read_trylock`).
-#[derive(Clone, Copy, PartialEq, Eq, Debug)]
+#[derive(Clone, Copy, PartialEq, Eq)]
 pub enum DownReadStep {
     /// Adds one to its section word, which is odd from then on (`preempt_disable`).
     EntersSection,
@@ -31,7 +31,7 @@ pub enum DownReadStep {
 
 /// A down-read of a level (1 to 3) under way, by a task on a processor (0 to 63 both). One that doesn't wait is refused as Again where it
 /// finds `block` set, with its section left and its count taken back.
-#[derive(Clone, Copy, PartialEq, Eq, Debug)]
+#[derive(Clone, Copy, PartialEq, Eq)]
 pub struct DownRead {
     pub level: u8,
     pub cpu: u8,
@@ -42,7 +42,7 @@ pub struct DownRead {
 
 /// An up-read of a level (1 to 3), on a processor (0 to 63) that need not be the one of its down-read (`percpu_up_read`): subtracts one
 /// from the count there.
-#[derive(Clone, Copy, PartialEq, Eq, Debug)]
+#[derive(Clone, Copy, PartialEq, Eq)]
 pub struct UpRead {
     pub level: u8,
     pub cpu: u8,

@@ -10,7 +10,7 @@ const TAKEN: u64 = 8;
 const WRITER: u64 = 256;
 
 /// The state of an `rcu_sync` (`gp_state`).
-#[derive(Clone, Copy, PartialEq, Eq, Debug)]
+#[derive(Clone, Copy, PartialEq, Eq)]
 pub enum GpState {
     /// GP_IDLE: readers take the fast path.
     Idle,
@@ -25,7 +25,7 @@ pub enum GpState {
 }
 
 /// What the word of an `rcu_sync` says (`struct rcu_sync`).
-#[derive(Clone, Copy, PartialEq, Eq, Debug)]
+#[derive(Clone, Copy, PartialEq, Eq)]
 pub struct SyncWord {
     pub state: GpState,
     /// A task has taken the callback that was queued.

@@ -8,7 +8,7 @@ use crate::sync_word::{GpState, SyncWord};
 use cpu_words::{Touch, WordName};
 
 /// What the next event of a transition is. Which transition it is, its phase knows.
-#[derive(Clone, Copy, PartialEq, Eq, Debug)]
+#[derive(Clone, Copy, PartialEq, Eq)]
 pub enum Transition {
     /// Loads the word.
     Loads,
@@ -17,7 +17,7 @@ pub enum Transition {
 }
 
 /// What an event of a transition leads to.
-#[derive(Clone, Copy, PartialEq, Eq, Debug)]
+#[derive(Clone, Copy)]
 pub enum TransitionNext {
     /// The transition goes on with this event.
     More(Transition),

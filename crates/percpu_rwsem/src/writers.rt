@@ -25,7 +25,7 @@ use access_model::{Action, Next, Reply};
 use cpu_words::{Sum, Taken, Touch, WordName};
 
 /// What the next event of a down-write is (`percpu_down_write`).
-#[derive(Clone, Copy, PartialEq, Eq, Debug)]
+#[derive(Clone, Copy, PartialEq, Eq)]
 pub enum DownWriteStep {
     /// Enters the level's `rcu_sync` (`rcu_sync_enter`).
     Enters(Transition),
@@ -42,7 +42,7 @@ pub enum DownWriteStep {
 }
 
 /// A down-write of a level (1 to 3) under way, among so many tasks and processors (1 to 64 both). It ends with nobody holding the level.
-#[derive(Clone, Copy, PartialEq, Eq, Debug)]
+#[derive(Clone, Copy, PartialEq, Eq)]
 pub struct DownWrite {
     pub level: u8,
     pub tasks: u8,
@@ -51,7 +51,7 @@ pub struct DownWrite {
 }
 
 /// What the next event of an up-write is (`percpu_up_write`).
-#[derive(Clone, Copy, PartialEq, Eq, Debug)]
+#[derive(Clone, Copy, PartialEq, Eq)]
 pub enum UpWriteStep {
     /// Sets `block` to 0.
     ClearsBlock,
@@ -60,7 +60,7 @@ pub enum UpWriteStep {
 }
 
 /// An up-write of a level (1 to 3) under way. It ends with a callback queued or to follow, where no other writer is in.
-#[derive(Clone, Copy, PartialEq, Eq, Debug)]
+#[derive(Clone, Copy, PartialEq, Eq)]
 pub struct UpWrite {
     pub level: u8,
     pub step: UpWriteStep,

@@ -1,6 +1,6 @@
 //! Schedules that say what they print, and some that say something else.
 
-use schedule_checks::check;
+use race_texts::check;
 use std::process::Abort;
 use std::test::Fail;
 

@@ -2,10 +2,9 @@
 
 use exploration::Stop;
 use fakes::expect_text;
-use race_files::read_race;
+use race_texts::{Details, Schedules, read_race, tell};
 use schedule_text::Output;
 use std::test::Fail;
-use told_outcomes::{Details, Schedules, tell};
 
 /// Nothing under the line of an outcome.
 const BRIEF: Details = Details {

@@ -1,15 +1,11 @@
 -- Words that name verbs, hooks and kinds of nodes, and what a hook answers that a schedule lets fail.
 use Rattle.std.specs.Prelude.{ℕ, Bool, true, false, ◌==◌, ◌||◌, if◌then◌else◌, List, [], ◌∷◌, codes, Option, Some, None, Ok, Err, bytes_eq, find}
-use Rattle.access_model.specs.declared.actions.Holder.{Holder}
-use Rattle.access_model.specs.declared.actions.Holder.TheVariants.{Kernel, User}
-use Rattle.access_model.specs.declared.actions.Kind.{Kind}
-use Rattle.access_model.specs.declared.actions.Kind.TheVariants.{File, Dir}
+use Rattle.access_model.specs.declared.actions.{Holder.{Holder, TheVariants.{Kernel, User}}, Kind.{Kind, TheVariants.{File, Dir}}}
 use Rattle.cpu_words.specs.Hooks.{HookAnswer}
-use Rattle.freeze_levels.specs.declared.hooks.HookKind.{HookKind}
-use Rattle.freeze_levels.specs.declared.hooks.HookKind.TheVariants.{Sync, FreezeFs, UnfreezeFs, Reconfigure}
-use Rattle.schedule_text.specs.declared.commands.HookFailure.{HookFailure}
-use Rattle.schedule_text.specs.declared.commands.Verb.{Verb}
-use Rattle.schedule_text.specs.declared.commands.Verb.TheVariants.{Want, TryWant, Drop, Start, TryStart, End, WantWrite, DropWrite, Change, TryChange, Remount, Callback, Freeze, Thaw, Create, Remove, Grow, Move, Fault, Flush, Open, Close, TryClose, Snapshot, TrySnapshot, Step, Run}
+use Rattle.freeze_levels.specs.declared.hooks.HookKind.{HookKind, TheVariants.{Sync, FreezeFs, UnfreezeFs, Reconfigure}}
+use Rattle.schedule_text.specs.declared.commands.{HookFailure.HookFailure, Verb.{Verb, TheVariants.{Want, TryWant, Drop, Start, TryStart, End, WantWrite}}}
+use Rattle.schedule_text.specs.declared.commands.Verb.TheVariants.{DropWrite, Change, TryChange, Remount, Callback, Freeze, Thaw, Create, Remove, Grow, Move}
+use Rattle.schedule_text.specs.declared.commands.Verb.TheVariants.{Fault, Flush, Open, Close, TryClose, Snapshot, TrySnapshot, Step, Run}
 
 -- all verbs
 abbrev pub verbs : List Verb
@@ -46,6 +42,18 @@ verb_name Snapshot = codes "snapshot"
 verb_name TrySnapshot = codes "trysnapshot"
 verb_name Step = codes "step"
 verb_name Run = codes "run"
+
+-- the verbs whose names have so many bytes
+abbrev pub verbs_of : ℕ → List Verb
+verbs_of n =
+    if n == 3 then Run ∷ End ∷ [] else
+    if n == 4 then Step ∷ Want ∷ Drop ∷ Thaw ∷ Grow ∷ Move ∷ Open ∷ [] else
+    if n == 5 then Start ∷ Close ∷ Fault ∷ Flush ∷ [] else
+    if n == 6 then Change ∷ Freeze ∷ Create ∷ Remove ∷ [] else
+    if n == 7 then TryWant ∷ Remount ∷ [] else
+    if n == 8 then TryStart ∷ Callback ∷ TryClose ∷ Snapshot ∷ [] else
+    if n == 9 then WantWrite ∷ DropWrite ∷ TryChange ∷ [] else
+    if n == 11 then TrySnapshot ∷ [] else []
 
 -- the verb that a word names: each has a name of its own
 unfoldable pub verb_of : List ℕ → Option Verb

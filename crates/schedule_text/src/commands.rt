@@ -9,14 +9,14 @@ use freeze_levels::HookKind;
 use gate_world::{Config, Op};
 
 /// That a hook answers a code, from 1 to 65,535, in place of Ok.
-#[derive(Clone, Copy, PartialEq, Eq, Debug)]
+#[derive(Clone, Copy)]
 pub struct HookFailure {
     pub hook: HookKind,
     pub code: u16,
 }
 
 /// What is asked of a task.
-#[derive(Clone, Copy, PartialEq, Eq, Debug)]
+#[derive(Clone, Copy)]
 pub enum TaskCommand {
     /// To begin an operation.
     Begin(Op),
@@ -27,7 +27,7 @@ pub enum TaskCommand {
 }
 
 /// What is asked of the gates, once they are set up.
-#[derive(Clone, Copy, PartialEq, Eq, Debug)]
+#[derive(Clone, Copy)]
 pub enum Request {
     /// To print the words of memory that aren't 0.
     Words,
@@ -40,7 +40,7 @@ pub enum Request {
 }
 
 /// What a line asks for.
-#[derive(Clone, Copy, PartialEq, Eq, Debug)]
+#[derive(Clone, Copy)]
 pub enum Line {
     /// Nothing: an empty line or a comment.
     Skipped,
@@ -51,7 +51,7 @@ pub enum Line {
 }
 
 /// The second word of a line on a task.
-#[derive(Clone, Copy, PartialEq, Eq, Debug)]
+#[derive(Clone, Copy)]
 pub enum Verb {
     Want,
     TryWant,
@@ -83,38 +83,37 @@ pub enum Verb {
 }
 
 impl Verb {
-    ghost use Rattle.schedule_text.specs.Commands.{verb_name, verb_of, takes};
+    ghost use Rattle.schedule_text.specs.Commands.{verb_name, verbs_of, verb_of, takes};
 
-    /// All of them.
-    const ALL: [Verb; 27] = [
-        Verb::Want,
-        Verb::TryWant,
-        Verb::Drop,
-        Verb::Start,
-        Verb::TryStart,
-        Verb::End,
-        Verb::WantWrite,
-        Verb::DropWrite,
-        Verb::Change,
-        Verb::TryChange,
-        Verb::Remount,
-        Verb::Callback,
-        Verb::Freeze,
-        Verb::Thaw,
-        Verb::Create,
-        Verb::Remove,
-        Verb::Grow,
-        Verb::Move,
-        Verb::Fault,
-        Verb::Flush,
-        Verb::Open,
-        Verb::Close,
-        Verb::TryClose,
-        Verb::Snapshot,
-        Verb::TrySnapshot,
-        Verb::Step,
-        Verb::Run,
-    ];
+    /// The verbs whose names have so many bytes, the usual ones first.
+    fn of_length(length: usize) -> &'static [Verb]
+        ensures { result.now ≡ verbs_of length }
+    {
+        match length {
+            3 => &[Verb::Run, Verb::End],
+            4 => &[
+                Verb::Step,
+                Verb::Want,
+                Verb::Drop,
+                Verb::Thaw,
+                Verb::Grow,
+                Verb::Move,
+                Verb::Open,
+            ],
+            5 => &[Verb::Start, Verb::Close, Verb::Fault, Verb::Flush],
+            6 => &[Verb::Change, Verb::Freeze, Verb::Create, Verb::Remove],
+            7 => &[Verb::TryWant, Verb::Remount],
+            8 => &[
+                Verb::TryStart,
+                Verb::Callback,
+                Verb::TryClose,
+                Verb::Snapshot,
+            ],
+            9 => &[Verb::WantWrite, Verb::DropWrite, Verb::TryChange],
+            11 => &[Verb::TrySnapshot],
+            _ => &[],
+        }
+    }
 
     /// The word that names it.
     fn name(self) -> &'static str
@@ -162,7 +161,8 @@ impl Verb {
     pub fn of(word: &[u8]) -> Option<Verb>
         ensures { result ≡ verb_of word.now }
     {
-        Verb::ALL.iter().find(|verb| verb.is_named(word)).copied()
+        let verbs = Verb::of_length(word.len());
+        verbs.iter().find(|verb| verb.is_named(word)).copied()
     }
 
     /// Whether a line with this verb may have so many words, the task and the verb among them.

@@ -7,7 +7,7 @@ use access_model::GateError;
 
 /// Why a schedule is refused at a line. The first reason in the order of this list is the one that is given, but that the
 /// last three are found by whoever reads, writes and does the lines.
-#[derive(Clone, Copy, PartialEq, Eq, Debug)]
+#[derive(Clone, Copy)]
 pub enum Fault {
     /// One line more than a schedule may have.
     TooManyLines,

@@ -14,7 +14,7 @@ pub const LINE_BYTES: usize = 256;
 const NEWLINE: u8 = b'\n';
 
 /// What the bytes that have been read begin with.
-#[derive(Clone, Copy, PartialEq, Eq, Debug)]
+#[derive(Clone, Copy)]
 pub enum Front {
     /// A line of this many bytes, with its newline after it.
     Line(usize),

@@ -1,6 +1,6 @@
 //! The bytes that are printed.
 
-ghost use Rattle.std.specs.Prelude.{◌≡◌, ◌++◌, [], decimal, IfOk, OnOk, vec_len, vec_capacity, OnErr};
+ghost use Rattle.std.specs.Prelude.{◌≡◌, ◌++◌, [], codes, decimal, IfOk, OnOk, vec_len, vec_capacity, OnErr};
 
 use itoa::Buffer;
 use std::alloc::{AllocError, Global};
@@ -12,6 +12,15 @@ pub struct Output {
 }
 
 impl Output {
+    /// Nothing printed.
+    pub fn new(alloc: Global) -> Output
+        ensures { result.bytes.items ≡ [] }
+    {
+        Output {
+            bytes: Vec::new(alloc),
+        }
+    }
+
     /// Nothing printed, with room for so many bytes.
     pub fn with_room(alloc: Global, room: usize) -> Result<Output, AllocError>
         ensures nothing { IfOk result (λ output. output.bytes.items ≡ []) }
@@ -29,8 +38,30 @@ impl Output {
         self.bytes.extend_from_slice(text)
     }
 
-    /// Prints a number with no leading zeros.
+    /// Prints a text on a line of its own.
+    pub fn line(&mut self, text: &[u8]) -> Result<(), AllocError>
+        ensures { OnOk result (self.new.bytes.items ≡ self.old.bytes.items ++ (text.now ++ codes "\n")) }
+    {
+        self.text(text)?;
+        self.text(b"\n")
+    }
+
+    /// Prints a number with no leading zeros. Most have one digit.
+    #[inline(always)]
+    #[tactic(auto, using(std::proofs::lemmas::Fmt::decimal_digit))]
     pub fn number(&mut self, number: u64) -> Result<(), AllocError>
+        ensures { OnOk result (self.new.bytes.items ≡ self.old.bytes.items ++ decimal number) }
+    {
+        if number >= 10 {
+            return self.digits(number);
+        }
+        self.bytes.push(b'0' + number as u8)?;
+        Ok(())
+    }
+
+    /// The same, however many digits it has.
+    #[inline(never)]
+    fn digits(&mut self, number: u64) -> Result<(), AllocError>
         ensures { OnOk result (self.new.bytes.items ≡ self.old.bytes.items ++ decimal number) }
     {
         let mut buffer = Buffer::new();

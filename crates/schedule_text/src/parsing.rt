@@ -1,6 +1,7 @@
 //! From a line to what it asks for.
 
 ghost use Rattle.std.specs.Prelude.{◌≡◌};
+ghost use Rattle.schedule_text.specs.Words.{word_count};
 ghost use Rattle.schedule_text.specs.Parsing.{parsed, is_skipped, config_line, config_of, command_line, alone, task_line, task_of, arguments_of, want_of, drop_of, start_of, end_of, want_write_of, drop_write_of, change_of, remount_of, callback_of, freeze_of, thaw_of, create_of, remove_of, grow_of, move_of, fault_of, flush_of, open_of, close_of, step_of, run_of, number_at, byte_at, code_at, hook_at, holder_at, holder_given, kind_at, read_only_at, read_only_of};
 
 use crate::commands::{
@@ -8,7 +9,7 @@ use crate::commands::{
 };
 use crate::faults::Fault;
 use crate::numbers::{byte_of, code_of, is_digits, number_of};
-use crate::words::{after_word, first_word, is_word, word_count};
+use crate::words::{after_word, first_word, is_word, split_word, word_count};
 use access_model::{Holder, Kind};
 use freeze_levels::HookKind;
 use gate_world::{Config, Op};
@@ -96,7 +97,7 @@ fn command_line(line: &[u8], tasks: u8) -> Result<Line, Fault>
     } else if words == 1 {
         Err(Fault::WrongNumberOfWords)
     } else {
-        task_line(line, tasks)
+        task_line(line, words, tasks)
     }
 }
 
@@ -111,19 +112,20 @@ fn alone(words: usize, request: Request) -> Result<Line, Fault>
     }
 }
 
-/// A line on a task: its first word is digits.
+/// A line on a task, of so many words: its first word is digits.
 #[tactic(auto, unfolding(crate::specs::Parsing::task_line))]
-fn task_line(line: &[u8], tasks: u8) -> Result<Line, Fault>
+fn task_line(line: &[u8], words: usize, tasks: u8) -> Result<Line, Fault>
+    requires { words ≡ word_count line.now }
     ensures { result ≡ task_line line.now tasks }
 {
-    let rest = after_word(line);
-    let verb = Verb::of(first_word(rest)).ok_or(Fault::UnknownCommand)?;
-    let words = word_count(line);
+    let (task, rest) = split_word(line);
+    let (verb, arguments) = split_word(rest);
+    let verb = Verb::of(verb).ok_or(Fault::UnknownCommand)?;
     if !verb.takes(words) {
         return Err(Fault::WrongNumberOfWords);
     }
-    let task = task_of(first_word(line), tasks).ok_or(Fault::NoSuchTask)?;
-    let command = arguments_of(verb, after_word(rest), words)?;
+    let task = task_of(task, tasks).ok_or(Fault::NoSuchTask)?;
+    let command = arguments_of(verb, arguments, words)?;
     Ok(Line::Request(Request::Task { task, command }))
 }
 

@@ -59,3 +59,17 @@ pub fn after_word(text: &[u8]) -> &[u8]
         &text[end..]
     }
 }
+
+/// The first word, and what follows the space after it.
+#[tactic(auto, unfolding(crate::specs::Words::first_word, crate::specs::Words::after_word))]
+pub(crate) fn split_word(text: &[u8]) -> (&[u8], &[u8])
+    ensures first { result.0.now ≡ first_word text.now }
+    ensures after { result.1.now ≡ after_word text.now }
+{
+    let end = word_end(text);
+    if end < text.len() {
+        (&text[..end], &text[end + 1..])
+    } else {
+        (&text[..end], &text[end..])
+    }
+}

@@ -9,7 +9,7 @@ use schedule_text::Output;
 use std::alloc::{AllocError, Global};
 
 /// How events are shown.
-#[derive(Clone, Copy, PartialEq, Eq, Debug)]
+#[derive(Clone, Copy)]
 pub enum Form {
     /// Each on a line, as `step` prints it.
     Events,
@@ -110,12 +110,20 @@ impl Printer {
 
 /// The line of an event, as `step` prints it, and for whom it waits.
 fn event_text(alloc: Global, happening: Happening) -> Result<Output, AllocError> {
-    let mut out = Output::with_room(alloc, 0)?;
-    out.event_line(happening.task, happening.event, happening.action, false)?;
-    if let Some(wait) = happening.wait {
-        let _ = out.bytes.pop();
-        wait.print(&mut out)?;
-        out.text(b"\n")?;
-    }
+    let mut out = Output::new(alloc);
+    print_event(happening, &mut out)?;
     Ok(out)
+}
+
+/// Prints the line of an event, as `step` prints it, and for whom it waits.
+fn print_event(happening: Happening, out: &mut Output) -> Result<(), AllocError> {
+    out.event_line(happening.task, happening.event, happening.action, false)?;
+    match happening.wait {
+        Some(wait) => {
+            let _ = out.bytes.pop();
+            wait.print(out)?;
+            out.text(b"\n")
+        }
+        None => Ok(()),
+    }
 }

@@ -22,8 +22,7 @@ fn put<V: ToValue>(
 /// Prints an object on a line of its own.
 fn print(alloc: Global, object: Map<String, Value>, out: &mut Output) -> Result<(), AllocError> {
     let text = Value::Object(object).to_string(alloc)?;
-    out.text(text.as_bytes())?;
-    out.text(b"\n")
+    out.line(text.as_bytes())
 }
 
 /// Bytes that were printed, as text.
@@ -56,14 +55,14 @@ fn kind_of(touch: Touch) -> &'static str {
 
 /// The name of a word.
 fn word_told(alloc: Global, word: WordName) -> Result<Value, AllocError> {
-    let mut out = Output::with_room(alloc, 0)?;
+    let mut out = Output::new(alloc);
     out.word_name(word)?;
     printed(alloc, &out)
 }
 
 /// An action; null where there is none.
 fn action_told(alloc: Global, action: Option<Action>) -> Result<Value, AllocError> {
-    let mut out = Output::with_room(alloc, 0)?;
+    let mut out = Output::new(alloc);
     if let Some(action) = action {
         out.action(action)?;
     }
@@ -72,7 +71,7 @@ fn action_told(alloc: Global, action: Option<Action>) -> Result<Value, AllocErro
 
 /// What a task waits for; null where it doesn't wait.
 fn wait_told(alloc: Global, wait: Option<Wait>) -> Result<Value, AllocError> {
-    let mut out = Output::with_room(alloc, 0)?;
+    let mut out = Output::new(alloc);
     if let Some(wait) = wait {
         wait.print_word(&mut out)?;
     }
@@ -93,25 +92,38 @@ fn put_event(
     alloc: Global,
     happening: Happening,
 ) -> Result<(), AllocError> {
-    let event = happening.event;
     put(object, alloc, "line", happening.line)?;
     put(object, alloc, "task", happening.task)?;
-    put(object, alloc, "event", kind_of(event.touch))?;
-    put(object, alloc, "word", word_told(alloc, event.word)?)?;
-    put(object, alloc, "found", found_told(event))?;
-    put(object, alloc, "left", event.left)?;
-    put(
+    put_touch(object, alloc, happening.event)?;
+    put_told(
         object,
         alloc,
         "action",
-        action_told(alloc, happening.action)?,
+        action_told(alloc, happening.action),
     )?;
-    put(
-        object,
-        alloc,
-        "waits_for",
-        wait_told(alloc, happening.wait)?,
-    )
+    put_told(object, alloc, "waits_for", wait_told(alloc, happening.wait))
+}
+
+/// What an event did to which word.
+fn put_touch(
+    object: &mut Map<String, Value>,
+    alloc: Global,
+    event: Event,
+) -> Result<(), AllocError> {
+    put(object, alloc, "event", kind_of(event.touch))?;
+    put_told(object, alloc, "word", word_told(alloc, event.word))?;
+    put(object, alloc, "found", found_told(event))?;
+    put(object, alloc, "left", event.left)
+}
+
+/// What was told, where there was memory for it.
+fn put_told(
+    object: &mut Map<String, Value>,
+    alloc: Global,
+    name: &str,
+    told: Result<Value, AllocError>,
+) -> Result<(), AllocError> {
+    serde_json::put(object, alloc, name, told?)
 }
 
 /// Prints an event.
@@ -183,10 +195,16 @@ fn items_told(alloc: Global, name: &str, text: &[u8]) -> Result<Value, AllocErro
     let mut items = Vec::new(alloc);
     for item in text.split(|byte| *byte == b'\n') {
         if !item.is_empty() {
-            items.push(listed(alloc, name, item)?)?;
+            list(&mut items, alloc, name, item)?;
         }
     }
     Ok(Value::Array(items))
+}
+
+/// One item more.
+fn list(items: &mut Vec<Value>, alloc: Global, name: &str, item: &[u8]) -> Result<(), AllocError> {
+    items.push(listed(alloc, name, item)?)?;
+    Ok(())
 }
 
 /// One item of a listing.
@@ -200,9 +218,13 @@ fn listed(alloc: Global, name: &str, item: &[u8]) -> Result<Value, AllocError> {
 
 /// A word with its value.
 fn word_listed(alloc: Global, item: &[u8]) -> Result<Value, AllocError> {
-    let value: u64 = text_of(after_word(item)).parse().unwrap_or(0);
     let mut object = Map::new(alloc);
-    put(&mut object, alloc, "word", text_of(first_word(item)))?;
-    put(&mut object, alloc, "value", value)?;
+    put_word(&mut object, alloc, item)?;
     Ok(Value::Object(object))
+}
+
+fn put_word(object: &mut Map<String, Value>, alloc: Global, item: &[u8]) -> Result<(), AllocError> {
+    let value: u64 = text_of(after_word(item)).parse().unwrap_or(0);
+    put(object, alloc, "word", text_of(first_word(item)))?;
+    put(object, alloc, "value", value)
 }

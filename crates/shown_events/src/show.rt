@@ -2,7 +2,7 @@
 
 use crate::forms::{Form, Happening, Printer};
 use crate::waits::Wait;
-use cpu_words::WordName;
+use cpu_words::{Event, WordName};
 use gate_core::{Progress, Step};
 use schedule_bytes::{Input, ReplayFault, fault_after, write_out};
 use schedule_text::{
@@ -30,7 +30,7 @@ impl<D: Driver> Show<D> {
     pub fn new(alloc: Global, form: Form) -> Result<Show<D>, AllocError> {
         Ok(Show {
             input: Input::new(alloc)?,
-            output: Output::with_room(alloc, 0)?,
+            output: Output::new(alloc),
             alloc,
             printer: Printer::new(alloc, form),
             session: None,
@@ -48,10 +48,8 @@ impl<D: Driver> Show<D> {
     /// Begins to show these gates.
     fn begin(&mut self, session: Session<D>) -> Result<(), AllocError> {
         let tasks = session.tasks();
-        for _ in 0..tasks {
-            self.blocks.push(0)?;
-        }
         self.session = Some(session);
+        self.blocks = vec![in self.alloc; 0; usize::from(tasks)]?;
         self.printer.begin(tasks, &mut self.output)
     }
 
@@ -78,22 +76,30 @@ impl<D: Driver> Show<D> {
                 Err(fault) => return Err(self.ended(done, fault, writer)),
             }
         }
-        match self.next_line(reader, writer) {
-            Ok(None) => Ok(()),
-            Ok(Some(_)) => Err(self.ended(LINES, Fault::TooManyLines, writer)),
-            Err(Fault::CutOff | Fault::LineTooLong) => {
-                Err(self.ended(LINES, Fault::TooManyLines, writer))
-            }
-            Err(fault) => Err(self.ended(LINES, fault, writer)),
-        }
+        self.end(reader, writer)
+    }
+
+    /// Sees to it that there is no line more than a schedule may have.
+    fn end<R: Read, W: Write>(
+        &mut self,
+        reader: &mut R,
+        writer: &mut W,
+    ) -> Result<(), ReplayFault> {
+        let fault = match self.next_line(reader, writer) {
+            Ok(None) => return Ok(()),
+            Ok(Some(_)) | Err(Fault::CutOff | Fault::LineTooLong) => Fault::TooManyLines,
+            Err(fault) => fault,
+        };
+        Err(self.ended(LINES, fault, writer))
     }
 
     /// Writes out what was shown before a fault. Where that fails, this is the fault.
     fn ended<W: Write>(&mut self, done: u32, fault: Fault, writer: &mut W) -> ReplayFault {
-        match self.write_out(writer) {
-            Ok(()) => fault_after(done.min(LINES), fault),
-            Err(failed) => fault_after(done.min(LINES), failed),
-        }
+        let fault = match self.write_out(writer) {
+            Ok(()) => fault,
+            Err(failed) => failed,
+        };
+        fault_after(done.min(LINES), fault)
     }
 
     fn write_out<W: Write>(&mut self, writer: &mut W) -> Result<(), Fault> {
@@ -112,15 +118,25 @@ impl<D: Driver> Show<D> {
         let Some(length) = self.next_line(reader, writer)? else {
             return Ok(false);
         };
-        let Some(text) = self.input.pending().get(..length) else {
-            return Err(Fault::LineTooLong);
-        };
-        let line = parse(text, self.tasks())?;
+        let line = self.line(length)?;
         self.do_parsed(done.saturating_add(1), line)?;
+        self.take(length);
+        Ok(true)
+    }
+
+    /// The next line, which has so many bytes.
+    fn line(&self, length: usize) -> Result<Line, Fault> {
+        match self.input.pending().get(..length) {
+            Some(text) => parse(text, self.tasks()),
+            None => Err(Fault::LineTooLong),
+        }
+    }
+
+    /// Takes it, with its newline.
+    fn take(&mut self, length: usize) {
         if length < self.input.pending().len() {
             self.input.take(length + 1);
         }
-        Ok(true)
     }
 
     /// Reads until the next line is whole, and says how many bytes it has; None at the end of the input.
@@ -138,14 +154,22 @@ impl<D: Driver> Show<D> {
             }
             self.write_out(writer)?;
             if self.input.read(reader)? == 0 {
-                return match (self.input.is_empty(), &self.session) {
-                    (false, _) => Err(Fault::CutOff),
-                    (true, None) => Err(Fault::ConfigExpected),
-                    (true, Some(_)) => Ok(None),
-                };
+                self.at_end()?;
+                return Ok(None);
             }
         }
         Err(Fault::LineTooLong)
+    }
+
+    /// Whether the input may end where it does.
+    fn at_end(&self) -> Result<(), Fault> {
+        if !self.input.is_empty() {
+            Err(Fault::CutOff)
+        } else if self.session.is_none() {
+            Err(Fault::ConfigExpected)
+        } else {
+            Ok(())
+        }
     }
 
     fn do_parsed(&mut self, number: u32, line: Line) -> Result<(), Fault> {
@@ -177,9 +201,18 @@ impl<D: Driver> Show<D> {
 
     /// Does what has no event, and prints its answer, if it has one.
     fn do_plainly(&mut self, number: u32, task: u8, command: TaskCommand) -> Result<(), Fault> {
-        let mut text = Output::with_room(self.alloc, 0).map_err(no_memory)?;
-        self.there()?.do_command(task, command, &mut text)?;
+        let mut text = Output::new(self.alloc);
+        self.print_plainly(task, command, &mut text)?;
         self.answer(number, task, &text)
+    }
+
+    fn print_plainly(
+        &mut self,
+        task: u8,
+        command: TaskCommand,
+        text: &mut Output,
+    ) -> Result<(), Fault> {
+        self.there()?.do_command(task, command, text)
     }
 
     /// The gates, once they are set up.
@@ -198,69 +231,115 @@ impl<D: Driver> Show<D> {
     }
 
     fn listing(&mut self, number: u32, name: &str, request: Request) -> Result<(), Fault> {
-        let mut text = Output::with_room(self.alloc, 0).map_err(no_memory)?;
-        self.there()?.do_request(request, &mut text)?;
+        let mut text = Output::new(self.alloc);
+        self.print_listing(request, &mut text)?;
         let text = text.bytes.as_slice();
         self.printer
             .listing(self.alloc, number, name, text, &mut self.output)
             .map_err(no_memory)
     }
 
+    fn print_listing(&mut self, request: Request, text: &mut Output) -> Result<(), Fault> {
+        self.there()?.do_request(request, text)
+    }
+
     /// Does one event and shows it, and then its reply, if the operation has ended.
     fn step(&mut self, number: u32, task: u8, hook: Result<(), u16>) -> Result<Progress, Fault> {
         let step = self.there()?.step(task, hook)?;
-        let mut text = Output::with_room(self.alloc, 0).map_err(no_memory)?;
-        if step.event.is_some() {
-            self.event(number, task, step)?;
-        } else {
-            text.idle_line(task).map_err(no_memory)?;
-        }
-        if let Progress::Done(answer) = step.progress {
-            let used = self.there()?.used();
-            text.answer_line(task, answer, used).map_err(no_memory)?;
-        }
-        self.answer(number, task, &text)?;
+        self.event(number, task, step)?;
+        self.reply(number, task, step)?;
         Ok(step.progress)
     }
 
-    /// Shows the event of a step.
+    /// Shows what is said of a step beside its event.
+    fn reply(&mut self, number: u32, task: u8, step: Step) -> Result<(), Fault> {
+        let mut text = Output::new(self.alloc);
+        self.print_reply(task, step, &mut text).map_err(no_memory)?;
+        self.answer(number, task, &text)
+    }
+
+    /// Prints the reply where the operation has ended, or that the task is idle.
+    fn print_reply(&self, task: u8, step: Step, text: &mut Output) -> Result<(), AllocError> {
+        if step.event.is_none() {
+            text.idle_line(task)?;
+        }
+        match step.progress {
+            Progress::Done(answer) => text.answer_line(task, answer, self.used()),
+            Progress::Idle | Progress::Going | Progress::Waiting => Ok(()),
+        }
+    }
+
+    /// The blocks charged.
+    fn used(&self) -> u64 {
+        match &self.session {
+            Some(session) => session.used(),
+            None => 0,
+        }
+    }
+
+    /// Shows the event of a step, if it has one.
     fn event(&mut self, number: u32, task: u8, step: Step) -> Result<(), Fault> {
-        let (Some(event), Some(session)) = (step.event, &self.session) else {
+        let Some(event) = step.event else {
             return Ok(());
         };
-        if let (WordName::Block(level), Some(last)) = (
-            event.word,
-            self.blocks.get_mut(usize::from(task)),
-        ) {
-            *last = level;
-        }
-        let block = self.blocks.get(usize::from(task)).copied().unwrap_or(1);
-        let wait = match step.progress {
-            Progress::Waiting => Some(Wait::of(session, task, event, block)),
-            Progress::Idle | Progress::Going | Progress::Done(_) => None,
-        };
+        self.note_block(task, event.word);
         let happening = Happening {
             line: number,
             task,
             event,
             action: step.action,
-            wait,
+            wait: self.wait_of(task, event, step.progress),
         };
         self.printer
             .event(self.alloc, happening, &mut self.output)
             .map_err(no_memory)
     }
 
+    /// Notes the level whose block a task loads.
+    fn note_block(&mut self, task: u8, word: WordName) {
+        if let WordName::Block(level) = word
+            && let Some(last) = self.blocks.get_mut(usize::from(task))
+        {
+            *last = level;
+        }
+    }
+
+    /// What a task waits for, if its event says that it has to wait.
+    fn wait_of(&self, task: u8, event: Event, progress: Progress) -> Option<Wait> {
+        let block = self.blocks.get(usize::from(task)).copied().unwrap_or(1);
+        match (progress, &self.session) {
+            (Progress::Waiting, Some(session)) => Some(Wait::of(session, task, event, block)),
+            _ => None,
+        }
+    }
+
     /// Goes on to the reply, to the first event that has to wait, or to the last event that one line may do.
     fn run(&mut self, number: u32, task: u8, failure: Option<HookFailure>) -> Result<(), Fault> {
         for _ in 0..EVENTS {
-            let hook = self.there()?.hook_answer(task, failure);
-            match self.step(number, task, hook)? {
-                Progress::Going => {}
-                Progress::Idle | Progress::Waiting | Progress::Done(_) => return Ok(()),
+            if !self.goes_on(number, task, failure)? {
+                return Ok(());
             }
         }
-        let mut text = Output::with_room(self.alloc, 0).map_err(no_memory)?;
+        self.waiting(number, task)
+    }
+
+    /// Does the next event of a run; says whether it goes on.
+    fn goes_on(
+        &mut self,
+        number: u32,
+        task: u8,
+        failure: Option<HookFailure>,
+    ) -> Result<bool, Fault> {
+        let hook = self.there()?.hook_answer(task, failure);
+        match self.step(number, task, hook)? {
+            Progress::Going => Ok(true),
+            Progress::Idle | Progress::Waiting | Progress::Done(_) => Ok(false),
+        }
+    }
+
+    /// Shows that a task has to look or try again.
+    fn waiting(&mut self, number: u32, task: u8) -> Result<(), Fault> {
+        let mut text = Output::new(self.alloc);
         text.waiting_line(task).map_err(no_memory)?;
         self.answer(number, task, &text)
     }

@@ -6,7 +6,7 @@ use std::alloc::AllocError;
 use transcripts::{Driver, Session};
 
 /// Who stands in the way.
-#[derive(Clone, Copy, PartialEq, Eq)]
+#[derive(Clone, Copy)]
 pub(crate) enum Culprit {
     Task(u8),
     /// Whoever freezes, or has frozen.
@@ -16,7 +16,7 @@ pub(crate) enum Culprit {
 }
 
 /// What a task waits for: the word at which it found that it has to wait, and who stands in the way.
-#[derive(Clone, Copy, PartialEq, Eq)]
+#[derive(Clone, Copy)]
 pub(crate) struct Wait {
     word: WordName,
     culprit: Culprit,

@@ -2,20 +2,11 @@
 use Rattle.std.proofs.Common.{◌≡◌, ℕ, [], ◌∷◌, List, Bool, sym, ap, ◌∙◌}
 use Rattle.std.specs.Prelude.{Option, is_some, Result, Ok, Err}
 use Rattle.access_model.specs.declared.errors.GateError.{GateError}
-use Rattle.gate_world.specs.declared.config.Config.{Config}
-use Rattle.gate_world.specs.declared.operations.Op.{Op}
-use Rattle.gate_world.specs.declared.work.Phase.{Phase}
-use Rattle.gate_world.specs.Beginnings.{first_phase, refusal, or_refusal, beginning}
-use Rattle.gate_world.specs.Configs.{IsWithin}
-use Rattle.gate_world.specs.Views.{held_at, holds_level, has_open}
-use Rattle.call_events.specs.Seat.{Seat}
-use Rattle.call_events.specs.Answers.{unless_refused}
-use Rattle.call_events.specs.Seats.{mounts_in, levels_in, files_in}
+use Rattle.gate_world.specs.{Beginnings.{first_phase, refusal, or_refusal, beginning}, Configs.IsWithin, Views.held_of, declared.config.Config.Config}
+use Rattle.gate_world.specs.declared.{operations.Op.Op, work.Phase.Phase}
+use Rattle.call_events.specs.{Answers.unless_refused, Seat.Seat, Seating.SeatItems, Seats.seat_held, Ties.Ties}
 use Rattle.call_events.proofs.Beginnings.{refusal_agree, ok_means, err_means}
-use Rattle.call_events.specs.Seating.{SeatItems}
-use Rattle.vfs_gates.specs.TaskStates.{TaskState, task_state, own_number, own_view, refusal_at, beginning_at}
-use Rattle.vfs_gates.specs.declared.task.Task.TheInside.{Inside}
-use Rattle.call_events.specs.Ties.{Ties}
+use Rattle.vfs_gates.specs.{TaskStates.{TaskState, task_state, own_number, own_view, refusal_at, beginning_at}, declared.task.Task.TheInside.Inside}
 
 module _ (number : ℕ) (c : Config) (begins : Option Op) (kept : Seat) (flags : List Bool) where
   -- the configuration of a task is within its limits
@@ -25,13 +16,11 @@ module _ (number : ℕ) (c : Config) (begins : Option Op) (kept : Seat) (flags :
 
   -- what is kept of accesses has the same refusal as the view
   refusal_same : (l : SeatItems) (op : Op) → Ties number c begins kept flags l →
-      refusal c (is_some kept.phase) (mounts_in kept) (levels_in kept) (files_in kept) op ≡
-      refusal c (is_some kept.phase) (held_at (own_view l)) (holds_level (own_view l)) (has_open (own_view l)) op
+      refusal c (is_some kept.phase) (seat_held kept) op ≡
+      refusal c (is_some kept.phase) (held_of (own_view l)) op
   refusal_same [] op t = absurd t
   refusal_same (x ∷ xs) op t =
-      refusal_agree c (mounts_in kept) (held_at x.view) (levels_in kept) (holds_level x.view) (files_in kept) (has_open x.view)
-      t.keeps.mounts t.keeps.levels t.keeps.files
-      (is_some kept.phase) op
+      refusal_agree c (seat_held kept) (held_of x.view) t.keeps.held (is_some kept.phase) op
 
   -- and the same number
   number_same : (l : SeatItems) → Ties number c begins kept flags l → number ≡ own_number l
@@ -43,12 +32,12 @@ pub admitted_as : (op : Op) (task : Inside) (start : TaskState) →
     task_state task.seat.table_id task.config task.begins task.kept.phase task.seat.me.0 ≡ start →
     Ties task.number task.config task.begins task.kept task.spare task.seat.me.0 → (under_way : Bool) →
     under_way ≡ is_some task.kept.phase → (answer : Result Phase GateError) →
-    answer ≡ beginning task.config task.number under_way (mounts_in task.kept) (levels_in task.kept) (files_in task.kept) op → answer ≡ beginning_at op start
+    answer ≡ beginning task.config task.number under_way (seat_held task.kept) op → answer ≡ beginning_at op start
 admitted_as op task start start_is ties under_way under_way_is answer is =
     let items : SeatItems = task.seat.me.0 in
-    let refused : refusal task.config under_way (mounts_in task.kept) (levels_in task.kept) (files_in task.kept) op ≡
-    refusal task.config (is_some task.kept.phase) (held_at (own_view items)) (holds_level (own_view items)) (has_open (own_view items)) op =
-    ap (λ b. refusal task.config b (mounts_in task.kept) (levels_in task.kept) (files_in task.kept) op) under_way_is ∙
+    let refused : refusal task.config under_way (seat_held task.kept) op ≡
+    refusal task.config (is_some task.kept.phase) (held_of (own_view items)) op =
+    ap (λ b. refusal task.config b (seat_held task.kept) op) under_way_is ∙
     refusal_same task.number task.config task.begins task.kept task.spare items op ties in
     is ∙
     ((λ i. or_refusal (first_phase task.config (number_same task.number task.config task.begins task.kept task.spare items ties i) op)

@@ -1,32 +1,15 @@
 -- A call that begins an operation and does its events on what the task keeps, and what it writes down at the end.
 use Rattle.std.proofs.Common.{◌≡◌, ℕ, Bool, false, List, [], ◌∷◌, refl, sym, ap, ◌∙◌, subst}
 use Rattle.std.specs.Prelude.{Option, Some, None, Result, Ok, is_some}
-use Rattle.access_model.specs.declared.errors.GateError.{GateError}
-use Rattle.access_model.specs.declared.replies.Next.{Next}
-use Rattle.access_model.specs.declared.replies.Next.TheVariants.{Done}
-use Rattle.access_model.specs.declared.replies.Reply.{Reply}
-use Rattle.gate_world.specs.declared.config.Config.{Config}
-use Rattle.gate_world.specs.declared.operations.Op.{Op}
-use Rattle.gate_world.specs.declared.work.Phase.{Phase}
-use Rattle.gate_world.specs.Views.{held_at, holds_level, has_open, phase_after}
-use Rattle.gate_world.specs.Beginnings.{first_phase, refusal}
-use Rattle.gate_world.specs.Fits.{Fits}
-use Rattle.call_events.specs.Seat.{Seat}
-use Rattle.gate_world.specs.declared.accesses.Accesses.{Accesses}
-use Rattle.call_events.specs.Answers.{unless_refused}
-use Rattle.call_events.proofs.Beginnings.{MayBegin, may_begin, first_fits}
-use Rattle.call_events.specs.Numbered.{Numbered}
-use Rattle.call_events.specs.Seating.{SeatItems}
+use Rattle.access_model.specs.declared.{errors.GateError.GateError, replies.{Next.{Next, TheVariants.Done}, Reply.Reply}}
+use Rattle.gate_world.specs.{Beginnings.{first_phase, refusal}, Fits.Fits, Views.{phase_after, held_of}, declared.accesses.Accesses.Accesses}
+use Rattle.gate_world.specs.declared.{config.Config.Config, operations.Op.Op, work.Phase.Phase}
+use Rattle.call_events.specs.{Answers.unless_refused, Asking.{GoesWith, CalledAsking}, Numbered.Numbered, Runs.{Goes, Went, Called}, Seat.Seat}
+use Rattle.call_events.specs.{Seating.SeatItems, Ties.{PhaseOk, OwnTies, Ties}, Turns.{kept_at, IsTied, StayTied}}
+use Rattle.call_events.proofs.{Beginnings.{MayBegin, may_begin, first_fits}, Onward.goes_where, Running.{not_refused, starts_asking_none}}
 use Rattle.atomic_table.specs.Seated.{TableId}
-use Rattle.vfs_gates.specs.TaskStates.{TaskState, task_state, own_number, own_view, refusal_at, beginning_at}
-use Rattle.call_events.specs.Ties.{PhaseOk, OwnTies, Ties}
-use Rattle.call_events.specs.Turns.{kept_at, IsTied, StayTied}
-use Rattle.call_events.specs.Runs.{Goes, Went, Called}
-use Rattle.vfs_gates.specs.declared.task.Task.TheInside.{Inside}
+use Rattle.vfs_gates.specs.{TaskStates.{TaskState, task_state, own_number, own_view, refusal_at, beginning_at}, declared.task.Task.TheInside.Inside}
 use Rattle.vfs_gates.proofs.Admitting.{admitted_by, first_so, first_by}
-use Rattle.call_events.proofs.Onward.{goes_where}
-use Rattle.call_events.specs.Asking.{GoesWith, CalledAsking}
-use Rattle.call_events.proofs.Running.{not_refused, starts_asking_none}
 use Rattle.cpu_words.specs.Hooks.{HookAnswer}
 use Rattle.freeze_levels.specs.declared.hooks.HookCall.{HookCall}
 
@@ -124,22 +107,16 @@ module _ (call : Call) where
   same = ap (λ (s : TaskState). s.config) call.start_is ∙ call.from
 
   -- the beginning has no refusal
-  none_refused : refusal c (is_some kept.phase) (held_at (own_view (items_of call))) (holds_level (own_view (items_of call)))
-      (has_open (own_view (items_of call))) op ≡ None
+  none_refused : refusal c (is_some kept.phase) (held_of (own_view (items_of call))) op ≡ None
   none_refused = ap (refusal_at op) call.start_is ∙ not_refused (refusal_at op call.start) call.admitted
 
   -- so the operation may begin
-  begins_here : MayBegin c (is_some kept.phase) (held_at (own_view (items_of call))) (holds_level (own_view (items_of call)))
-      (has_open (own_view (items_of call))) op
-  begins_here = may_begin c (is_some kept.phase) (held_at (own_view (items_of call))) (holds_level (own_view (items_of call)))
-      (has_open (own_view (items_of call))) op
-      none_refused
+  begins_here : MayBegin c (is_some kept.phase) (held_of (own_view (items_of call))) op
+  begins_here = may_begin c (is_some kept.phase) (held_of (own_view (items_of call))) op none_refused
 
   -- and its first phase fits
-  first_here : Fits c number (held_at (own_view (items_of call))) (holds_level (own_view (items_of call))) (Some (first_phase c number op))
-  first_here = first_fits c number (is_some kept.phase) (held_at (own_view (items_of call))) (holds_level (own_view (items_of call)))
-      (has_open (own_view (items_of call))) op
-      begins_here
+  first_here : Fits c number (held_of (own_view (items_of call))) (Some (first_phase c number op))
+  first_here = first_fits c number (is_some kept.phase) (held_of (own_view (items_of call))) op begins_here
 
   -- the task was idle
   pub idle : kept.phase ≡ None
@@ -162,23 +139,16 @@ module _ (call : Call) where
     same_number = t.same_number;
     below = t.below;
     may = (
-      let at : refusal c (is_some kept.phase) (held_at x.view) (holds_level x.view) (has_open x.view) op ≡ None =
-          subst (λ (l : SeatItems). refusal c (is_some kept.phase) (held_at (own_view l)) (holds_level (own_view l)) (has_open (own_view l)) op ≡ None) here
+      let at : refusal c (is_some kept.phase) (held_of x.view) op ≡ None =
+          subst (λ (l : SeatItems). refusal c (is_some kept.phase) (held_of (own_view l)) op ≡ None) here
           none_refused in
-          ap (λ (o : Option Phase). refusal c (is_some o) (held_at x.view) (holds_level x.view) (has_open x.view) op) ((at_rest x xs t).1 ∙ sym idle) ∙ at,
+          ap (λ (o : Option Phase). refusal c (is_some o) (held_of x.view) op) ((at_rest x xs t).1 ∙ sym idle) ∙ at,
       ap (λ (n : ℕ). first_phase c n op) (sym t.same_number),
     );
     fits =
-        subst (λ (n : ℕ). Fits c n (held_at x.view) (holds_level x.view) (Some the_first)) (sym t.same_number)
-        (subst (λ (l : SeatItems). Fits c number (held_at (own_view l)) (holds_level (own_view l)) (Some the_first)) here first_here);
-    keeps = record {
-      long = t.keeps.long;
-      wide = t.keeps.wide;
-      deep = t.keeps.deep;
-      mounts = t.keeps.mounts;
-      levels = t.keeps.levels;
-      files = t.keeps.files;
-    };
+        subst (λ (n : ℕ). Fits c n (held_of x.view) (Some the_first)) (sym t.same_number)
+        (subst (λ (l : SeatItems). Fits c number (held_of (own_view l)) (Some the_first)) here first_here);
+    keeps = record { long = t.keeps.long; wide = t.keeps.wide; deep = t.keeps.deep; held = t.keeps.held };
     rest = t.rest;
     marks = t.marks;
   }

@@ -1,35 +1,18 @@
 -- What whole calls leave of what a task holds.
-use Rattle.std.proofs.Common.{◌≡◌, ℕ, ◌<◌, Bool, true, false, List, [], ◌∷◌, ◌++◌, refl, sym, ap, ◌∙◌, subst, inl, inr, true≢false}
+use Rattle.std.proofs.{Common.{◌≡◌, ℕ, ◌<◌, Bool, true, false, List, [], ◌∷◌, ◌++◌, refl, sym, ap, ◌∙◌, subst, inl, inr, true≢false}, lemmas.Bool.cases_Bool}
 use Rattle.std.specs.Prelude.{Option, Some, None, Result, Ok, Err}
-use Rattle.std.proofs.lemmas.Bool.{cases_Bool}
-use Rattle.access_model.specs.declared.actions.Action.{Action}
-use Rattle.access_model.specs.declared.actions.Action.TheVariants.{Grant, Return, SbRo, SbRw, Stage as StageAction, Leave, Pass, Clean, Open as OpenAction, Close as CloseAction}
-use Rattle.access_model.specs.declared.errors.GateError.{GateError}
-use Rattle.access_model.specs.declared.replies.Next.{Next}
-use Rattle.access_model.specs.declared.replies.Next.TheVariants.{Go, Wait, Done}
-use Rattle.access_model.specs.declared.replies.Reply.{Reply}
-use Rattle.access_model.specs.declared.replies.Reply.TheVariants.{Node as NodeReply}
-use Rattle.access_model.specs.Actions.{mounts_after, levels_after, opens_after}
-use Rattle.access_model.specs.Histories.{mounts_of, levels_of, opens_of}
-use Rattle.cpu_words.specs.declared.names.WordName.{WordName}
-use Rattle.cpu_words.specs.declared.names.WordName.TheVariants.{Node}
-use Rattle.cpu_words.specs.declared.events.Touch.{Touch}
-use Rattle.cpu_words.specs.declared.events.Touch.TheVariants.{And}
+use Rattle.access_model.specs.declared.actions.Action.{Action, TheVariants.{Grant, Return, SbRo, SbRw, Stage as StageAction, Leave, Pass, Clean}}
+use Rattle.access_model.specs.declared.{actions.Action.TheVariants.{Open as OpenAction, Close as CloseAction}, errors.GateError.GateError, replies.Next.Next}
+use Rattle.access_model.specs.declared.replies.{Next.TheVariants.{Go, Wait, Done}, Reply.{Reply, TheVariants.Node as NodeReply}}
+use Rattle.cpu_words.specs.declared.{events.Touch.{Touch, TheVariants.And}, names.WordName.{WordName, TheVariants.Node}}
 use Rattle.mount_counts.specs.Phases.{has_flag}
-use Rattle.gate_world.specs.declared.config.Config.{Config}
-use Rattle.gate_world.specs.declared.operations.Op.{Op}
-use Rattle.gate_world.specs.declared.operations.Op.TheVariants.{Want, DropMount, ChangeMount, RemountSb, Start, End, WantWrite, DropWrite, Callback, Freeze, Thaw, Create, Open, Close, Snapshot}
-use Rattle.gate_world.specs.declared.views.Traced.{Traced}
-use Rattle.gate_world.specs.declared.work.Phase.{Phase}
-use Rattle.gate_world.specs.Found.{clean_found, cleans, found_complete, found_read_only, found_sealed, found_shared}
-use Rattle.gate_world.specs.Claims.{all_levels_closed}
-use Rattle.gate_world.specs.Courses.{course_of}
-use Rattle.gate_world.specs.Traces.{actions_of}
+use Rattle.gate_world.specs.{Claims.all_levels_closed, Courses.course_of, Found.{clean_found, cleans, found_complete, found_read_only, found_sealed}}
+use Rattle.gate_world.specs.{Found.found_shared, Holdings.{Holdings, holdings_of, held_after}, Traces.actions_of, declared.config.Config.Config}
+use Rattle.gate_world.specs.declared.operations.Op.{Op, TheVariants.{Want, DropMount, ChangeMount, RemountSb, Start, End, WantWrite, DropWrite, Callback}}
+use Rattle.gate_world.specs.declared.{operations.Op.TheVariants.{Freeze, Thaw, Create, Open, Close, Snapshot}, views.Traced.Traced, work.Phase.Phase}
 use Rattle.call_events.proofs.Asked.{either_way}
-use Rattle.call_events.specs.Runs.{ran_items, IsNextMove, AreMoves, told_as, Called, Replies}
-use Rattle.call_events.specs.Seating.{SeatItems}
-use Rattle.vfs_gates.specs.TaskStates.{TaskState, own_number, own_view, refusal_at, IsIdle}
-use Rattle.vfs_gates.specs.Held.{Rests, own_actions, IsAsBefore, takes_nothing}
+use Rattle.call_events.specs.{Runs.{ran_items, IsNextMove, AreMoves, told_as, Called, Replies}, Seating.SeatItems}
+use Rattle.vfs_gates.specs.{Held.{Rests, own_actions, IsAsBefore, takes_nothing}, TaskStates.{TaskState, own_number, own_view, refusal_at, IsIdle}}
 
 -- an action that is neither a grant nor a return, and neither opens nor closes a file
 abbrev is_free : Action → Bool
@@ -39,37 +22,23 @@ is_free (OpenAction n) = false
 is_free (CloseAction n) = false
 is_free a = true
 
--- it leaves the accesses at the mounts, the levels and the open files
-free_mounts : (a : Action) (held : ℕ → ℕ) → is_free a ≡ true → mounts_after a held ≡ held
-free_mounts (Grant gate) held free = absurd (true≢false (sym free))
-free_mounts (Return gate) held free = absurd (true≢false (sym free))
-free_mounts a held free = refl
-
-free_levels : (a : Action) (held : ℕ → Bool) → is_free a ≡ true → levels_after a held ≡ held
-free_levels (Grant gate) held free = absurd (true≢false (sym free))
-free_levels (Return gate) held free = absurd (true≢false (sym free))
-free_levels a held free = refl
-
-free_files : (a : Action) (held : ℕ → Bool) → is_free a ≡ true → opens_after a held ≡ held
-free_files (OpenAction n) held free = absurd (true≢false (sym free))
-free_files (CloseAction n) held free = absurd (true≢false (sym free))
-free_files a held free = refl
+-- it leaves what is held
+free_leaves : (a : Action) (held : Holdings) → is_free a ≡ true → held_after (Some a) held ≡ held
+free_leaves (Grant gate) held free = absurd (true≢false (sym free))
+free_leaves (Return gate) held free = absurd (true≢false (sym free))
+free_leaves (OpenAction n) held free = absurd (true≢false (sym free))
+free_leaves (CloseAction n) held free = absurd (true≢false (sym free))
+free_leaves a held free = refl
 
 -- each of these actions is so
 abbrev AreFree : List Action → Type 0
 AreFree [] = Unit {0}
 AreFree (a ∷ l) = (is_free a ≡ true) × AreFree l
 
--- they leave what is held
-leave_held : (l before : List Action) → AreFree l → (mounts_of (l ++ before) ≡ mounts_of before) ×
-    (levels_of (l ++ before) ≡ levels_of before) × (opens_of (l ++ before) ≡ opens_of before)
-leave_held [] before free = (refl, refl, refl)
-leave_held (a ∷ l) before free =
-    let rest = leave_held l before free.1 in (
-      free_mounts a _ free.0 ∙ rest.0,
-      free_levels a _ free.0 ∙ rest.1,
-      free_files a _ free.0 ∙ rest.2,
-    )
+-- so do they all
+leave_held : (l before : List Action) → AreFree l → holdings_of (l ++ before) ≡ holdings_of before
+leave_held [] before free = refl
+leave_held (a ∷ l) before free = free_leaves a (holdings_of (l ++ before)) free.0 ∙ leave_held l before free.1
 
 -- the marks that a trace has cleared are such actions
 clean_free : (word : WordName) (touch : Touch) (found : ℕ) (l rest : List Action) → AreFree (l ++ rest) →
@@ -162,9 +131,7 @@ refused_keeps op old left refusal k =
       config = there.1;
       own = there.2;
       idle = there.3;
-      mounts = λ m. ap (λ f. f m) k.unchanged.mounts;
-      levels = λ i. ap (λ f. f i) k.unchanged.levels;
-      files = λ n. ap (λ f. f n) k.unchanged.files;
+      held = k.unchanged.held;
     }
 
 -- and so does one that takes nothing
@@ -172,22 +139,19 @@ called_keeps : (op : Op) (old left : TaskState) (answer : Result Reply GateError
     Called op old left answer → IsAsBefore old left
 called_keeps op old left (Ok reply) none k =
     let there = stays op old left (Ok reply) k in
-    let list = adds op old left (Ok reply) k in
-    let held = leave_held (actions_of op (Ok reply) k.trace) (own_actions old) (adds_free op reply k.trace none) in record {
+    record {
       table = there.0;
       config = there.1;
       own = there.2;
       idle = there.3;
-      mounts = λ m. ap (λ l. mounts_of l m) list ∙ ap (λ f. f m) held.0;
-      levels = λ i. ap (λ l. levels_of l i) list ∙ ap (λ f. f i) held.1;
-      files = λ n. ap (λ l. opens_of l n) list ∙ ap (λ f. f n) held.2;
+      held = ap holdings_of (adds op old left (Ok reply) k) ∙
+          leave_held (actions_of op (Ok reply) k.trace) (own_actions old) (adds_free op reply k.trace none);
     }
 called_keeps op old left (Err refusal) none k = refused_keeps op old left refusal k
 
 -- a task that is idle is as it was
 pub unchanged : (s : TaskState) → IsIdle s → IsAsBefore s s
-unchanged s idle =
-    record { table = refl; config = refl; own = refl; idle = idle; mounts = λ m. refl; levels = λ i. refl; files = λ n. refl }
+unchanged s idle = record { table = refl; config = refl; own = refl; idle = idle; held = refl }
 
 module _ {A : Type 0} (read : Reply → A) (op : Op) (old left : TaskState) (outcome : Result A GateError) (idle : IsIdle old)
     (call : Replies read op old left outcome) where
@@ -220,9 +184,9 @@ pub rests_on : (before after : TaskState) → Rests before → IsAsBefore before
 rests_on before after rests same = (
   same.idle,
   (
-    (λ m lt. same.mounts m ∙ rests.1.0 m (subst (λ c. m < c.mounts) same.config lt)),
-    (λ i one three. same.levels i ∙ rests.1.1 i one three),
-    (λ n. same.files n ∙ rests.1.2 n),
+    (λ m lt. ap (λ (h : Holdings). h.mounts m) same.held ∙ rests.1.0 m (subst (λ c. m < c.mounts) same.config lt)),
+    (λ i one three. ap (λ (h : Holdings). h.levels i) same.held ∙ rests.1.1 i one three),
+    (λ n. ap (λ (h : Holdings). h.files n) same.held ∙ rests.1.2 n),
   ),
 )
 
@@ -233,7 +197,5 @@ as_before_twice first second third a b = record {
   config = b.config ∙ a.config;
   own = b.own ∙ a.own;
   idle = b.idle;
-  mounts = λ m. b.mounts m ∙ a.mounts m;
-  levels = λ i. b.levels i ∙ a.levels i;
-  files = λ n. b.files n ∙ a.files n;
+  held = b.held ∙ a.held;
 }

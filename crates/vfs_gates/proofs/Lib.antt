@@ -1,7 +1,6 @@
-pub use Rattle.call_events.proofs.Giving
-pub use Rattle.call_events.proofs.Opening
 pub mod FlagSteps
 pub mod Parting
+pub mod Splitting
 pub mod Closing
 pub mod Ending
 pub mod Admitting

@@ -1,26 +1,18 @@
 -- A task's fields are what its seat knows, after a split and a join, and of the first task.
-use Rattle.std.proofs.Common.{◌≡◌, ℕ, zero, suc, ◌<◌, ◌≤◌, ◌⊎◌, ◌↔◌, Bool, true, false, cond, eqb, List, [], ◌∷◌, ◌++◌, length, get_or, set, replicate, sym, refl, ap, ◌∙◌, subst, inl, inr, ⊎_elim, arith, get_or-set_same, get_or-set_other}
-use Rattle.std.specs.Prelude.{Option, None}
-use Rattle.std.proofs.lemmas.Bool.{cases_lt}
+use Rattle.std.proofs.Common.{◌≡◌, ℕ, zero, suc, ◌<◌, ◌≤◌, ◌⊎◌, ◌↔◌, Bool, true, false, cond, eqb, List, [], ◌∷◌, ◌++◌, length, get_or, set, replicate, sym}
+use Rattle.std.proofs.{Common.{refl, ap, ◌∙◌, subst, inl, inr, ⊎_elim, arith, get_or-set_same, get_or-set_other}, lemmas.Bool.cases_lt}
 use Rattle.std.proofs.lemmas.List.{get_or-replicate, get_or_past}
+use Rattle.std.specs.Prelude.{Option, None}
 use mathlib.Core.Logic.{dite}
 use mathlib.Core.Option.{some, some-injective, some-ne-none}
 use native.Mathlib.Decide.{ℕ_discrete, dec_lt}
 use lib.ListN.{get_elem?}
-use Rattle.gate_world.specs.declared.config.Config.{Config}
-use Rattle.gate_world.specs.declared.operations.Op.{Op}
-use Rattle.gate_world.specs.declared.views.View.{View}
-use Rattle.gate_world.specs.Configs.{IsWithin}
-use Rattle.gate_world.specs.Views.{opening_view}
-use Rattle.call_events.specs.Seat.{Seat}
-use Rattle.call_events.specs.Seats.{idle_seat}
-use Rattle.call_events.specs.Numbered.{Numbered}
-use Rattle.call_events.specs.Seating.{SeatItems, numbered, one_if, times, without, view_in, renewed, kept_of, given_of, deal}
-use Rattle.call_events.proofs.Dealing.{one_if-same, one_if-other, times-append}
-use Rattle.call_events.proofs.Giving.{view_in-at, times-without, times-without_other}
+use Rattle.gate_world.specs.{Configs.IsWithin, Views.opening_view, declared.{config.Config.Config, operations.Op.Op, views.View.View}}
+use Rattle.call_events.specs.{Numbered.Numbered, Seat.Seat, Seating.{SeatItems, numbered, one_if, times, without, view_in, renewed, kept_of, given_of, deal}}
+use Rattle.call_events.specs.{Seats.idle_seat, Ties.{PhaseOk, IsStill, AllRest, Keeps, OwnTies, Ties}}
+use Rattle.call_events.proofs.{Dealing.{one_if-same, one_if-other, times-append}, Giving.{view_in-at, times-without, times-without_other}}
 use Rattle.call_events.proofs.Opening.{times-deal_below, times-deal_above, times-deal}
 use Rattle.vfs_gates.specs.TaskStates.{spare_of, Empty, IsNothing, own_view}
-use Rattle.call_events.specs.Ties.{PhaseOk, IsStill, AllRest, Keeps, OwnTies, Ties}
 use Rattle.vfs_gates.proofs.FlagSteps.{IsSet, false_true}
 
 -- an idle seat has no access at a mount
@@ -64,10 +56,12 @@ module _ (c : Config) where
   idle_keeps v e few = record {
     long = refl;
     wide = refl;
-    mounts = λ m lt. idle_mount m (omega arith) ∙ sym (e.0 m lt);
-    levels = λ i one three. idle_level i three ∙ sym (e.1 i one three);
     deep = refl;
-    files = λ n. no_file (replicate 64 false) refl (λ i lt. get_or-replicate 64 i false false lt) n ∙ sym (e.2 n);
+    held = record {
+      mounts = λ m lt. idle_mount m (omega arith) ∙ sym (e.0 m lt);
+      levels = λ i one three. idle_level i three ∙ sym (e.1 i one three);
+      files = λ n. no_file (replicate 64 false) refl (λ i lt. get_or-replicate 64 i false false lt) n ∙ sym (e.2 n);
+    };
   }
 
   -- the own view of a task that rests is still
@@ -148,8 +142,16 @@ module _ (number : ℕ) (c : Config) (begins : Option Op) (kept : Seat) (flags :
   pub holds_same : (l : SeatItems) → Ties number c begins kept flags l → IsNothing kept.accesses c.mounts ↔ Empty c (own_view l)
   holds_same [] t = absurd t
   holds_same (x ∷ xs) t = (
-    (λ h. ((λ m lt. sym (t.keeps.mounts m lt) ∙ h.0 m lt), (λ i one three. sym (t.keeps.levels i one three) ∙ h.1 i one three), (λ n. sym (t.keeps.files n) ∙ no_file kept.accesses.files t.keeps.deep h.2 n))),
-    (λ h. ((λ m lt. t.keeps.mounts m lt ∙ h.0 m lt), (λ i one three. t.keeps.levels i one three ∙ h.1 i one three), (λ n ln. t.keeps.files n ∙ h.2 n))),
+    (λ h. (
+      λ m lt. sym (t.keeps.held.mounts m lt) ∙ h.0 m lt,
+      λ i one three. sym (t.keeps.held.levels i one three) ∙ h.1 i one three,
+      λ n. sym (t.keeps.held.files n) ∙ no_file kept.accesses.files t.keeps.deep h.2 n,
+    )),
+    (λ h. (
+      λ m lt. t.keeps.held.mounts m lt ∙ h.0 m lt,
+      λ i one three. t.keeps.held.levels i one three ∙ h.1 i one three,
+      λ n ln. t.keeps.held.files n ∙ h.2 n,
+    )),
   )
 
   -- what a task that rests knows rests

@@ -1,25 +1,16 @@
 -- What a return leaves of a task whose access was granted before.
-use Rattle.std.proofs.Common.{◌≡◌, ℕ, ◌+◌, ◌-◌, ◌<◌, Bool, true, false, List, ◌∷◌, refl, sym, ap, ◌∙◌, subst, arith, inl, inr, lt-ltb}
+use Rattle.std.proofs.{Common.{◌≡◌, ℕ, ◌+◌, ◌-◌, ◌<◌, Bool, true, false, List, ◌∷◌, refl, sym, ap, ◌∙◌, subst, arith, inl, inr, lt-ltb}, Math.Path.fun_ext}
+use Rattle.std.proofs.lemmas.Bool.{and_parts, ltb-true, not-true, Decides.eqb_tells}
 use Rattle.std.specs.Prelude.{Option, Some, None, Result, Ok, Err, is_some, nat_lt, not}
-use Rattle.std.proofs.lemmas.Bool.{and_parts, ltb-true, not-true}
-use Rattle.std.proofs.lemmas.Bool.Decides.{eqb_tells}
 use Rattle.finite_sums.specs.Sums.{update}
 use Rattle.finite_sums.proofs.Totals.{update_at, update_off}
-use Rattle.access_model.specs.declared.actions.Action.TheVariants.{Grant, Return}
-use Rattle.access_model.specs.declared.actions.Gate.TheVariants.{Mount, Level}
-use Rattle.access_model.specs.declared.errors.GateError.{GateError}
-use Rattle.access_model.specs.declared.replies.Reply.{Reply}
-use Rattle.access_model.specs.Histories.{mounts_of, levels_of, opens_of}
-use Rattle.gate_world.specs.declared.config.Config.{Config}
-use Rattle.gate_world.specs.declared.operations.Op.{Op}
-use Rattle.gate_world.specs.declared.operations.Op.TheVariants.{Want, DropMount, WantWrite, DropWrite}
-use Rattle.gate_world.specs.declared.views.Traced.{Traced}
-use Rattle.gate_world.specs.Traces.{IsHonestAnswer}
-use Rattle.gate_world.specs.Views.{held_at, holds_level, has_open}
+use Rattle.access_model.specs.{Histories.{mounts_of, levels_of}, declared.actions.{Action.TheVariants.{Grant, Return}, Gate.TheVariants.{Mount, Level}}}
+use Rattle.access_model.specs.declared.{errors.GateError.GateError, replies.Reply.Reply}
+use Rattle.gate_world.specs.{Holdings.{Holdings, holdings_of, held_after}, Traces.IsHonestAnswer, Views.held_of, declared.config.Config.Config}
+use Rattle.gate_world.specs.declared.{operations.Op.{Op, TheVariants.{Want, DropMount, WantWrite, DropWrite}}, views.Traced.Traced}
 use Rattle.call_events.proofs.Beginnings.{may_begin, MayBegin}
 use Rattle.call_events.specs.Runs.{told_as, unit_of, Called, Performs}
-use Rattle.vfs_gates.specs.TaskStates.{TaskState, own_view, refusal_at, IsIdle}
-use Rattle.vfs_gates.specs.Held.{own_actions, IsAsBefore, IsGivenBack}
+use Rattle.vfs_gates.specs.{Held.{own_actions, IsAsBefore, IsGivenBack}, TaskStates.{TaskState, own_view, refusal_at, IsIdle}}
 use Rattle.vfs_gates.proofs.Holding.{adds, stays, unchanged}
 
 -- a call that was done began, and was one whole operation that replied
@@ -43,11 +34,8 @@ pub was_done : (op : Op) (old left : TaskState) → Performs op old left (Ok tt)
 was_done op old left call = done_by_beginning op old left call (refusal_at op old) refl
 
 -- so its task may begin it
-pub may : (op : Op) (old left : TaskState) → WasDone op old left → MayBegin old.config (is_some old.phase) (held_at (own_view old.items))
-    (holds_level (own_view old.items)) (has_open (own_view old.items)) op
-may op old left was =
-    may_begin old.config (is_some old.phase) (held_at (own_view old.items)) (holds_level (own_view old.items)) (has_open (own_view old.items)) op
-    was.began
+pub may : (op : Op) (old left : TaskState) → WasDone op old left → MayBegin old.config (is_some old.phase) (held_of (own_view old.items)) op
+may op old left was = may_begin old.config (is_some old.phase) (held_of (own_view old.items)) op was.began
 
 -- and is idle after it
 pub done_idle : (op : Op) (old left : TaskState) → Performs op old left (Ok tt) → IsIdle left
@@ -64,24 +52,25 @@ never : (op : Op) (old left : TaskState) → NeverRefused op → refusal_at op o
 never op old left unrefused began (Ok reply) outcome told k = (told, record { began = began; reply = reply; called = k })
 never op old left unrefused began (Err refusal) outcome told k = absurd (unrefused old.config refusal k.trace k.honest)
 
--- one access more, and then one less, with others in between that leave their number
-one_more_less : (f g : ℕ → ℕ) (m y : ℕ) → ((k : ℕ) → g k ≡ update f m (f m + 1) k) → update g m (g m - 1) y ≡ f y
-one_more_less f g m y same =
-    elim (eqb_tells y m) [
-      | inl e ↦
-          let one : g m ≡ f m + 1 = same m ∙ update_at f m (f m + 1) in
-          let back : g m - 1 ≡ f m = omega (arith, one) in
-          subst (λ z. update g m (g m - 1) z ≡ f z) (sym e.1) (update_at g m _ ∙ back)
-      | inr e ↦ update_off g m _ y e.1 ∙ (same y ∙ update_off f m _ y e.1)
-    ]
+-- what is written at one place and then as it was
+once_back : {A : Type 0} (f : ℕ → A) (i : ℕ) (u v : A) → v ≡ f i → update (update f i u) i v ≡ f
+once_back f i u v same =
+    fun_ext (λ y. elim (eqb_tells y i) [
+      | inl e ↦ subst (λ z. update (update f i u) i v z ≡ f z) (sym e.1) (update_at (update f i u) i v ∙ same)
+      | inr e ↦ update_off (update f i u) i v y e.1 ∙ update_off f i u y e.1
+    ])
 
--- gone inside a level that it was not inside, and left it again
-in_and_out : (f g : ℕ → Bool) (i y : ℕ) → f i ≡ false → ((k : ℕ) → g k ≡ update f i true k) → update g i false y ≡ f y
-in_and_out f g i y out same =
-    elim (eqb_tells y i) [
-      | inl e ↦ subst (λ z. update g i false z ≡ f z) (sym e.1) (update_at g i false ∙ sym out)
-      | inr e ↦ update_off g i false y e.1 ∙ (same y ∙ update_off f i true y e.1)
-    ]
+-- an access that is granted and returned
+mount_back : (m : ℕ) (held : Holdings) → held_after (Some (Return (Mount m))) (held_after (Some (Grant (Mount m))) held) ≡ held
+mount_back m held =
+    let more : ℕ → ℕ = update held.mounts m (held.mounts m + 1) in
+    let back : more m - 1 ≡ held.mounts m = omega (arith, update_at held.mounts m (held.mounts m + 1)) in
+    λ j. record held { mounts = once_back held.mounts m (held.mounts m + 1) (more m - 1) back j }
+
+-- a level that was not held, gone inside and left again
+level_back : (i : ℕ) (held : Holdings) → held.levels i ≡ false →
+    held_after (Some (Return (Level i))) (held_after (Some (Grant (Level i))) held) ≡ held
+level_back i held out = λ j. record held { levels = once_back held.levels i true false (sym out) j }
 
 -- A want that was granted, other calls that left the task as it was, and a drop.
 module _ (m p q : ℕ) (wait : Bool) (old there mid left : TaskState) (outcome : Result (Unit {0}) GateError)
@@ -93,14 +82,15 @@ module _ (m p q : ℕ) (wait : Bool) (old there mid left : TaskState) (outcome :
   want_adds : own_actions there ≡ Grant (Mount m) ∷ own_actions old
   want_adds = adds (Want m p wait) old there (Ok wanted.reply) wanted.called
 
-  mounts_then : (k : ℕ) → mounts_of (own_actions mid) k ≡ update (mounts_of (own_actions old)) m (mounts_of (own_actions old) m + 1) k
-  mounts_then k = between.mounts k ∙ ap (λ l. mounts_of l k) want_adds
+  held_then : holdings_of (own_actions mid) ≡ held_after (Some (Grant (Mount m))) (holdings_of (own_actions old))
+  held_then = between.held ∙ ap holdings_of want_adds
 
   drop_begins : refusal_at (DropMount m q) mid ≡ None
   drop_begins =
       let config : mid.config ≡ old.config = between.config ∙ took.config in
       let range = and_parts (nat_lt m old.config.mounts) (nat_lt p old.config.processors) (may (Want m p wait) old there wanted).range in
-      let one : mounts_of (own_actions mid) m ≡ mounts_of (own_actions old) m + 1 = mounts_then m ∙ update_at (mounts_of (own_actions old)) m _ in
+      let one : mounts_of (own_actions mid) m ≡ mounts_of (own_actions old) m + 1 =
+      ap (λ (h : Holdings). h.mounts m) held_then ∙ update_at (mounts_of (own_actions old)) m _ in
       let some : 0 < mounts_of (own_actions mid) m = omega (arith, one) in
       rw (between.idle, config, range.0, lt-ltb q old.config.processors cpu, lt-ltb 0 _ some) refl
 
@@ -120,10 +110,7 @@ module _ (m p q : ℕ) (wait : Bool) (old there mid left : TaskState) (outcome :
           config = here.1 ∙ (between.config ∙ first.1);
           own = here.2 ∙ (between.own ∙ first.2);
           idle = here.3;
-          mounts = λ k. ap (λ l. mounts_of l k) drop_adds ∙
-              one_more_less (mounts_of (own_actions old)) (mounts_of (own_actions mid)) m k mounts_then;
-          levels = λ i. ap (λ l. levels_of l i) drop_adds ∙ (between.levels i ∙ ap (λ l. levels_of l i) want_adds);
-          files = λ n. ap (λ l. opens_of l n) drop_adds ∙ (between.files n ∙ ap (λ l. opens_of l n) want_adds);
+          held = ap holdings_of drop_adds ∙ (ap (held_after (Some (Return (Mount m)))) held_then ∙ mount_back m (holdings_of (own_actions old)));
         },
       )
 
@@ -152,20 +139,23 @@ module _ (m p q : ℕ) (old there mid left : TaskState) (outcome : Result (Unit 
     outside : levels_of (own_actions old) 1 ≡ false
     outside = not-true _ (and_parts (not (levels_of (own_actions old) 1)) _ (may (WantWrite m p) old there written).order).0
 
-    held_then : (k : ℕ) → mounts_of (own_actions mid) k ≡ update (mounts_of (own_actions old)) m (mounts_of (own_actions old) m + 1) k
-    held_then k = between.mounts k ∙ ap (λ l. mounts_of l k) write_adds
+    -- what it holds inside the level, and then with the access too
+    abbrev inside : Holdings
+    inside = held_after (Some (Grant (Level 1))) (holdings_of (own_actions old))
 
-    inside_then : (k : ℕ) → levels_of (own_actions mid) k ≡ update (levels_of (own_actions old)) 1 true k
-    inside_then k = between.levels k ∙ ap (λ l. levels_of l k) write_adds
+    write_then : holdings_of (own_actions mid) ≡ held_after (Some (Grant (Mount m))) inside
+    write_then = between.held ∙ ap holdings_of write_adds
 
     return_begins : refusal_at (DropWrite m q) mid ≡ None
     return_begins =
         let config : mid.config ≡ old.config = between.config ∙ took.config in
         let range = and_parts (nat_lt m old.config.mounts) (nat_lt p old.config.processors) (may (WantWrite m p) old there written).range in
-        let one : mounts_of (own_actions mid) m ≡ mounts_of (own_actions old) m + 1 = held_then m ∙ update_at (mounts_of (own_actions old)) m _ in
+        let one : mounts_of (own_actions mid) m ≡ mounts_of (own_actions old) m + 1 =
+        ap (λ (h : Holdings). h.mounts m) write_then ∙ update_at (mounts_of (own_actions old)) m _ in
         let some : 0 < mounts_of (own_actions mid) m = omega (arith, one) in
-        let inside : levels_of (own_actions mid) 1 ≡ true = inside_then 1 ∙ update_at (levels_of (own_actions old)) 1 true in
-        rw (between.idle, config, range.0, lt-ltb q old.config.processors cpu, inside, lt-ltb 0 _ some) refl
+        let within : levels_of (own_actions mid) 1 ≡ true =
+        ap (λ (h : Holdings). h.levels 1) write_then ∙ update_at (levels_of (own_actions old)) 1 true in
+        rw (between.idle, config, range.0, lt-ltb q old.config.processors cpu, within, lt-ltb 0 _ some) refl
 
     return : (outcome ≡ Ok tt) × WasDone (DropWrite m q) mid left
     return =
@@ -185,11 +175,9 @@ module _ (m p q : ℕ) (old there mid left : TaskState) (outcome : Result (Unit 
             config = here.1 ∙ (between.config ∙ first.1);
             own = here.2 ∙ (between.own ∙ first.2);
             idle = here.3;
-            mounts = λ k. ap (λ l. mounts_of l k) return_adds ∙
-                one_more_less (mounts_of (own_actions old)) (mounts_of (own_actions mid)) m k held_then;
-            levels = λ i. ap (λ l. levels_of l i) return_adds ∙
-                in_and_out (levels_of (own_actions old)) (levels_of (own_actions mid)) 1 i outside inside_then;
-            files = λ n. ap (λ l. opens_of l n) return_adds ∙ (between.files n ∙ ap (λ l. opens_of l n) write_adds);
+            held = ap holdings_of return_adds ∙
+                (ap (held_after (Some (Return (Level 1)))) (ap (held_after (Some (Return (Mount m)))) write_then ∙ mount_back m inside) ∙
+                level_back 1 (holdings_of (own_actions old)) outside);
           },
         )
 

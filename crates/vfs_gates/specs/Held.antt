@@ -1,12 +1,12 @@
 -- What a task holds between two calls, and what whole calls leave of it.
-use Rattle.std.specs.Prelude.{◌≡◌, ℕ, Bool, true, false, Result, Ok, List, ◌∷◌}
+use Rattle.std.specs.Prelude.{◌≡◌, Bool, true, false, Result, Ok, List, ◌∷◌}
 use Rattle.access_model.specs.declared.actions.Action.{Action}
 use Rattle.access_model.specs.declared.actions.Action.TheVariants.{Grant, Return}
 use Rattle.access_model.specs.declared.actions.Gate.{Gate}
 use Rattle.access_model.specs.declared.errors.GateError.{GateError}
 use Rattle.gate_world.specs.declared.operations.Op.{Op}
 use Rattle.gate_world.specs.declared.operations.Op.TheVariants.{Want, DropMount, Start, End, WantWrite, DropWrite, Open, Close}
-use Rattle.gate_world.specs.Views.{held_at, holds_level, has_open}
+use Rattle.gate_world.specs.Views.{held_of}
 use Rattle.vfs_gates.specs.TaskStates.{TaskState, own_number, own_view, IsIdle, HoldsNothing}
 
 -- no operation is under way, and nothing is held
@@ -23,9 +23,7 @@ pub record IsAsBefore (before after : TaskState) : Type 0 where
   pub config : after.config ≡ before.config
   pub own : own_number after.items ≡ own_number before.items
   pub idle : IsIdle after
-  pub mounts : (m : ℕ) → held_at (own_view after.items) m ≡ held_at (own_view before.items) m
-  pub levels : (i : ℕ) → holds_level (own_view after.items) i ≡ holds_level (own_view before.items) i
-  pub files : (n : ℕ) → has_open (own_view after.items) n ≡ has_open (own_view before.items) n
+  pub held : held_of (own_view after.items) ≡ held_of (own_view before.items)
 
 -- an operation that takes no access and gives none back, and neither opens nor closes a file
 abbrev pub takes_nothing : Op → Bool

@@ -11,6 +11,7 @@ pub use Rattle.call_events.specs.Ties
 pub use Rattle.call_events.specs.Stepped
 pub use Rattle.call_events.specs.Turns
 pub mod Parts
+pub mod Splitting
 pub mod Sums
 pub mod Ended
 pub mod Seen

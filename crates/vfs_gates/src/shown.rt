@@ -15,12 +15,12 @@ impl Debug for Gates {
     }
 }
 
-/// Shows its number, the operation under way by the phase at which it stands, and the accesses that it holds.
+/// Shows its number, whether an operation is under way, and the accesses that it holds.
 impl Debug for Task {
     fn fmt<W: fmt::Write>(&self, f: &mut fmt::Formatter<W>) -> fmt::Result {
         f.debug_struct("Task")
             .field("number", &self.number)
-            .field("phase", &self.kept.phase)
+            .field("under_way", &self.kept.phase.is_some())
             .field("accesses", &self.kept.accesses)
             .finish_non_exhaustive()
     }

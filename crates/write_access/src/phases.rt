@@ -10,7 +10,7 @@ use percpu_rwsem::{DownRead, UpRead};
 
 /// Where a taking or a return of write access stands between two of its events: at a step of the gate that it is at. The level is 1
 /// (`SB_FREEZE_WRITE`).
-#[derive(Clone, Copy, PartialEq, Eq, Debug)]
+#[derive(Clone, Copy, PartialEq, Eq)]
 pub enum WritePhase {
     /// Goes inside the level, and then wants this mount.
     Takes {

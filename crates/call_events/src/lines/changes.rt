@@ -9,35 +9,43 @@ ghost use Rattle.call_events.specs.TaskStates.{TaskState, task_state};
 ghost use Rattle.call_events.specs.Turns.{IsTied, StayTied, of_change};
 ghost use Rattle.call_events.specs.Runs.{Goes, Went};
 
-use super::{InLine, go_on_if};
+use super::{InLine, Placed, go_on_if};
 use crate::turns::go_on;
 use crate::words::{GateWords, Seat};
 use access_model::Next;
 use gate_world::{Accesses, Op};
 use mount_counts::{Change, ChangeStep};
 
-/// Whether a change goes on with this step.
-#[inline(always)]
-fn changes_by(next: Next<Change>, step: ChangeStep) -> bool {
-    matches!(next, Next::Go(change) if change.step == step)
+/// A place in the line of a change.
+#[derive(Clone, Copy)]
+pub(crate) enum ChangePlace {
+    LoadsFlags,
+    LoadsSuperblock,
+    SetsHold,
+    Sums,
+    SetsReadOnly,
+    ClearsHold,
+    ClearsReadOnly,
+    Releases,
 }
 
-/// Whether a change goes on with a word of its sum.
-#[inline(always)]
-fn adds_a_count(next: Next<Change>) -> bool {
-    matches!(next, Next::Go(change) if matches!(change.step, ChangeStep::Sums(_)))
-}
+impl Placed for Change {
+    type Place = ChangePlace;
 
-/// Whether a change goes on with letting writers in again.
-#[inline(always)]
-fn clears_hold(next: Next<Change>) -> bool {
-    matches!(next, Next::Go(change) if matches!(change.step, ChangeStep::ClearsHold(_)))
-}
-
-/// Whether a change goes on with giving `umount` back.
-#[inline(always)]
-fn releases(next: Next<Change>) -> bool {
-    matches!(next, Next::Go(change) if matches!(change.step, ChangeStep::Releases(_)))
+    #[inline(always)]
+    fn is_at(&self, place: ChangePlace) -> bool {
+        match self.step {
+            ChangeStep::Locks => false,
+            ChangeStep::LoadsFlags => matches!(place, ChangePlace::LoadsFlags),
+            ChangeStep::LoadsSuperblock => matches!(place, ChangePlace::LoadsSuperblock),
+            ChangeStep::ClearsReadOnly => matches!(place, ChangePlace::ClearsReadOnly),
+            ChangeStep::SetsHold => matches!(place, ChangePlace::SetsHold),
+            ChangeStep::Sums(_) => matches!(place, ChangePlace::Sums),
+            ChangeStep::SetsReadOnly => matches!(place, ChangePlace::SetsReadOnly),
+            ChangeStep::ClearsHold(_) => matches!(place, ChangePlace::ClearsHold),
+            ChangeStep::Releases(_) => matches!(place, ChangePlace::Releases),
+        }
+    }
 }
 
 /// The events up to the one that holds writers off, or up to what stands in its way. What comes after the last of them.
@@ -62,12 +70,9 @@ fn begin_change(
         (task_state seat.new.table_id gates.now.config None (phase_after (of_change result)) seat.new.me.0) }
 {
     let next = go_on(gates, seat, accesses, begins, change, Ok(()));
-    let goes_on = changes_by(next, ChangeStep::LoadsFlags);
-    let next = go_on_if(gates, seat, accesses, next, goes_on);
-    let goes_on = changes_by(next, ChangeStep::LoadsSuperblock);
-    let next = go_on_if(gates, seat, accesses, next, goes_on);
-    let goes_on = changes_by(next, ChangeStep::SetsHold);
-    go_on_if(gates, seat, accesses, next, goes_on)
+    let next = go_on_if(gates, seat, accesses, next, ChangePlace::LoadsFlags);
+    let next = go_on_if(gates, seat, accesses, next, ChangePlace::LoadsSuperblock);
+    go_on_if(gates, seat, accesses, next, ChangePlace::SetsHold)
 }
 
 /// The loads of the mount's counts, one word of so many after the other. What comes after the last of them.
@@ -93,8 +98,7 @@ fn add_counts(
         (task_state seat.new.table_id gates.now.config None (phase_after (of_change result)) seat.new.me.0) }
 {
     for _cpu in 0..processors {
-        let goes_on = adds_a_count(next);
-        next = go_on_if(gates, seat, accesses, next, goes_on);
+        next = go_on_if(gates, seat, accesses, next, ChangePlace::Sums);
     }
     next
 }
@@ -120,14 +124,10 @@ fn end_change(
         Went op start (of_change result)
         (task_state seat.new.table_id gates.now.config None (phase_after (of_change result)) seat.new.me.0) }
 {
-    let goes_on = changes_by(next, ChangeStep::SetsReadOnly);
-    let next = go_on_if(gates, seat, accesses, next, goes_on);
-    let goes_on = clears_hold(next);
-    let next = go_on_if(gates, seat, accesses, next, goes_on);
-    let goes_on = changes_by(next, ChangeStep::ClearsReadOnly);
-    let next = go_on_if(gates, seat, accesses, next, goes_on);
-    let goes_on = releases(next);
-    go_on_if(gates, seat, accesses, next, goes_on)
+    let next = go_on_if(gates, seat, accesses, next, ChangePlace::SetsReadOnly);
+    let next = go_on_if(gates, seat, accesses, next, ChangePlace::ClearsHold);
+    let next = go_on_if(gates, seat, accesses, next, ChangePlace::ClearsReadOnly);
+    go_on_if(gates, seat, accesses, next, ChangePlace::Releases)
 }
 
 impl InLine for Change {

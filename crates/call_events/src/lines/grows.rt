@@ -9,29 +9,33 @@ ghost use Rattle.call_events.specs.TaskStates.{TaskState, task_state};
 ghost use Rattle.call_events.specs.Turns.{IsTied, StayTied, of_grow};
 ghost use Rattle.call_events.specs.Runs.{Goes, Went};
 
-use super::{InLine, go_on_if};
+use super::{InLine, Placed, go_on_if};
 use crate::turns::go_on;
 use crate::words::{GateWords, Seat};
 use access_model::Next;
 use gate_world::{Accesses, Op};
 use gated_tree::{Grow, GrowStep};
 
-/// Whether a grow goes on with the blocks that are charged.
-#[inline(always)]
-fn loads_used(next: Next<Grow>) -> bool {
-    matches!(next, Next::Go(grow) if matches!(grow.step, GrowStep::LoadsUsed(_)))
+/// A place in the line of a grow.
+#[derive(Clone, Copy)]
+pub(crate) enum GrowPlace {
+    LoadsUsed,
+    ChargesBlocks,
+    GrowsFile,
 }
 
-/// Whether a grow goes on with charging its own.
-#[inline(always)]
-fn charges_blocks(next: Next<Grow>) -> bool {
-    matches!(next, Next::Go(grow) if matches!(grow.step, GrowStep::ChargesBlocks { .. }))
-}
+impl Placed for Grow {
+    type Place = GrowPlace;
 
-/// Whether a grow goes on with its file.
-#[inline(always)]
-fn grows_file(next: Next<Grow>) -> bool {
-    matches!(next, Next::Go(grow) if matches!(grow.step, GrowStep::GrowsFile(_)))
+    #[inline(always)]
+    fn is_at(&self, place: GrowPlace) -> bool {
+        match self.step {
+            GrowStep::LoadsUsed(_) => matches!(place, GrowPlace::LoadsUsed),
+            GrowStep::ChargesBlocks { .. } => matches!(place, GrowPlace::ChargesBlocks),
+            GrowStep::GrowsFile(_) => matches!(place, GrowPlace::GrowsFile),
+            _ => false,
+        }
+    }
 }
 
 /// The four events of a grow that nobody is before. What comes after the last of them.
@@ -55,12 +59,9 @@ fn grow_in_line(
         (task_state seat.new.table_id gates.now.config None (phase_after (of_grow result)) seat.new.me.0) }
 {
     let next = go_on(gates, seat, accesses, begins, grow, Ok(()));
-    let goes_on = loads_used(next);
-    let next = go_on_if(gates, seat, accesses, next, goes_on);
-    let goes_on = charges_blocks(next);
-    let next = go_on_if(gates, seat, accesses, next, goes_on);
-    let goes_on = grows_file(next);
-    go_on_if(gates, seat, accesses, next, goes_on)
+    let next = go_on_if(gates, seat, accesses, next, GrowPlace::LoadsUsed);
+    let next = go_on_if(gates, seat, accesses, next, GrowPlace::ChargesBlocks);
+    go_on_if(gates, seat, accesses, next, GrowPlace::GrowsFile)
 }
 
 impl InLine for Grow {

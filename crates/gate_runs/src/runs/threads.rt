@@ -7,7 +7,7 @@ ghost use Rattle.gate_runs.specs.Parts.{AllDid, AllWrote, Among, EachFrom, Remou
 ghost use Rattle.gate_runs.specs.Meetings.{was_held};
 ghost use Rattle.gate_runs.specs.Refusals.{MetBy, RunRefused};
 ghost use Rattle.gate_runs.specs.Rounds.{RemountRound, Repeats, WriterRound};
-ghost use Rattle.gate_runs.specs.Splitting.{Gives, HasBegun};
+ghost use Rattle.vfs_gates.specs.Splitting.{Gives, HasBegun};
 ghost use Rattle.vfs_gates.specs.TaskStates.{IsFrom, TaskState, own_view};
 
 use super::Plan;
@@ -134,7 +134,13 @@ fn start_remounter<'s, E, R: Wait + Sync>(
         plan,
         start: Snapshot::of(&other),
     };
-    match scope.spawn_with(home, move || run_remounter(rt, gates, plan, other)) {
+    let work = move || -> Worked<u32>
+        requires { IsFrom other gates.now }
+        ensures from { IsFrom result.task gates.entry.now }
+        ensures rounds { IfOk result.done (λ busy. Repeats RemountRound plan.rounds (other, 0) (result.task, busy)) }
+        ensures refused { IfErr result.done (MetBy gates.entry.now.words.config plan.tasks plan.processors) }
+    { run_remounter(rt, gates, plan, other) };
+    match scope.spawn_with(home, work) {
         Ok(worker) => Ok(worker),
         Err(_) => Err(GateError::NoMemory),
     }
@@ -172,7 +178,14 @@ fn start_writer<'s, E, R: Wait + Sync, M: Meeting + Sync>(
         writer,
         start: Snapshot::of(&other),
     };
-    let work = move || run_writer(rt, gates, plan, meeting, writer, other);
+    let work = move || -> Worked<Writes>
+        requires from { IsFrom other gates.now }
+        requires writer { writer + 2 < plan.tasks }
+        ensures from { IsFrom result.task gates.entry.now }
+        ensures rounds { IfOk result.done (λ writes. Repeats (WriterRound (was_held M.held) meeting.entry.now plan.processors writer) plan.rounds
+            (other, tt, no_writes) (result.task, tt, writes)) }
+        ensures refused { IfErr result.done (MetBy gates.entry.now.words.config plan.tasks plan.processors) }
+    { run_writer(rt, gates, plan, meeting, writer, other) };
     match scope.spawn_with(home, work) {
         Ok(worker) => Ok(worker),
         Err(_) => Err(GateError::NoMemory),
@@ -301,27 +314,26 @@ fn run_threads<'s, E, R: Threads + Wait + Sync, M: Meeting + Sync>(
     gates: &'s Gates,
     plan: Plan,
     meeting: &'s M,
-    mut task: Task,
-) -> Result<(Task, Details), GateError>
-    requires from { IsFrom task gates.now }
-    requires gives { Gives task 1 plan.tasks }
-    ensures from { IfOk result (λ r. IsFrom r.0 gates.now) }
-    ensures copies { IfOk result (λ r. (r.1.copies.frozen ≡ plan.freezes) × (r.1.copies.snapshots ≡ plan.freezes)) }
-    ensures all { IfOk result (λ r. AllDid (Among r.0.items) M.held meeting.now plan.tasks plan.processors plan.rounds plan.freezes
-        (own_view task.items) r.1) }
+    task: &mut Task,
+) -> Result<Details, GateError>
+    requires from { IsFrom task.old gates.now }
+    requires gives { Gives task.old 1 plan.tasks }
+    ensures from { IsFrom task.new gates.now }
+    ensures copies { IfOk result (λ d. (d.copies.frozen ≡ plan.freezes) × (d.copies.snapshots ≡ plan.freezes)) }
+    ensures all { IfOk result (AllDid (Among task.new.items) M.held meeting.now plan.tasks plan.processors plan.rounds plan.freezes
+        (own_view task.old.items)) }
     ensures refused { IfErr result (RunRefused gates.now.words.config plan.tasks plan.processors) }
 {
-    let remounter = start_remounter(scope, rt, alloc, gates, plan, &mut task)?;
-    let writers = start_writers(scope, rt, alloc, gates, plan, meeting, &mut task)?;
-    let copies = back_up(rt, gates, plan, &Unnoted { meeting }, &mut task, &mut ())?;
-    let busy = join_remounter(rt, gates, plan, &mut task, remounter)?;
-    let writes = join_writers(rt, gates, plan, meeting, &mut task, writers)?;
-    let details = Details {
+    let remounter = start_remounter(scope, rt, alloc, gates, plan, task)?;
+    let writers = start_writers(scope, rt, alloc, gates, plan, meeting, task)?;
+    let copies = back_up(rt, gates, plan, &Unnoted { meeting }, task, &mut ())?;
+    let busy = join_remounter(rt, gates, plan, task, remounter)?;
+    let writes = join_writers(rt, gates, plan, meeting, task, writers)?;
+    Ok(Details {
         writes,
         busy,
         copies,
-    };
-    Ok((task, details))
+    })
 }
 
 /// The same in a scope: all threads have ended when it returns, whatever it answers.
@@ -352,6 +364,10 @@ pub(crate) fn in_threads<R: Threads + Wait + Sync, M: Meeting + Sync>(
             ensures all { IfOk result (λ r. AllDid (Among r.0.items) M.held meeting.entry.now plan.tasks plan.processors plan.rounds plan.freezes
                 (own_view task.items) r.1) }
             ensures refused { IfErr result (RunRefused gates.entry.now.words.config plan.tasks plan.processors) }
-        { run_threads(scope, rt, alloc, gates, plan, meeting, task) },
+        {
+            let mut task = task;
+            let details = run_threads(scope, rt, alloc, gates, plan, meeting, &mut task)?;
+            Ok((task, details))
+        },
     )
 }

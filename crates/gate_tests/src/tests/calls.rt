@@ -1,75 +1,27 @@
-//! Each public call as its user makes it, by tasks of one thread.
+//! Each public call as its user makes it, by tasks of one thread: calls, and what they answer, as a schedule has them.
 
-ghost use Rattle.vfs_gates.specs.TaskStates.{IsFrom};
-
-use super::tasks::{Task, close, open};
-use super::{freezes, small, thaws};
-use access_model::{Gate, GateError, Kind};
+use super::small;
+use super::two::{Two, closed, not_closed};
+use access_model::Gate;
 use cpu_words::WordName;
 use gate_world::Config;
-use std::sync::Wait;
+use gated_tree::Tree;
 use std::test::Fail;
-use vfs_gates::{Closed, Gates};
+use vfs_gates::Closed;
 
-/// Whether accesses at a mount are taken with one processor and given back with the other, and keep it writable meanwhile.
-fn wants_and_drops<R: Wait>(task: &mut Task, rt: &R, gates: &Gates) -> bool
-    requires { IsFrom task.old gates.now }
-    ensures { IsFrom task.new gates.now }
-{
-    task.want(rt, gates, 0, 0).is_ok()
-        && task.try_want(gates, 0, 0).is_ok()
-        && task.holds_mount(0) == 2
-        && task.try_change_mount(gates, 0, true) == Err(GateError::Busy)
-        && task.drop_mount(gates, 0, 1).is_ok()
-        && task.drop_mount(gates, 0, 1).is_ok()
-        && task.drop_mount(gates, 0, 1) == Err(GateError::Order)
-        && task.drop_mount(gates, 9, 200) == Err(GateError::Invalid)
-}
-
-/// Whether changes and remounts keep wants out, and let them in again.
-fn shuts_and_opens<R: Wait>(task: &mut Task, rt: &R, gates: &Gates) -> bool
-    requires { IsFrom task.old gates.now }
-    ensures { IsFrom task.new gates.now }
-{
-    let read_only = Err(GateError::ReadOnly);
-    task.change_mount(rt, gates, 0, true).is_ok()
-        && task.want(rt, gates, 0, 0) == read_only
-        && task.try_change_mount(gates, 0, false).is_ok()
-        && task.remount_sb(rt, gates, true, &mut ()).is_ok()
-        && task.try_want(gates, 0, 0) == read_only
-        && task.want_write(rt, gates, 0, 0) == read_only
-        && !task.holds_level(1)
-        && task.remount_sb(rt, gates, false, &mut ()).is_ok()
-}
-
-/// Whether levels are gone into upwards, and left in any order.
-fn starts_and_ends<R: Wait>(task: &mut Task, rt: &R, gates: &Gates) -> bool
-    requires { IsFrom task.old gates.now }
-    ensures { IsFrom task.new gates.now }
-{
-    task.start(rt, gates, 1, 0).is_ok()
-        && task.try_start(gates, 2, 0).is_ok()
-        && task.try_start(gates, 2, 0) == Err(GateError::Order)
-        && task.holds_level(2)
-        && !task.holds_level(255)
-        && task.end(gates, 1, 1).is_ok()
-        && task.end(gates, 2, 1).is_ok()
-        && task.end(gates, 2, 1) == Err(GateError::Order)
-}
-
-/// Whether what is frozen keeps everybody out, shows its tree, and is opened by another task.
-fn freezes_and_thaws<R: Wait>(task: &mut Task, other: &mut Task, rt: &R, gates: &Gates) -> bool
-    requires { IsFrom task.old gates.now × IsFrom other.old gates.now }
-    ensures { IsFrom task.new gates.now × IsFrom other.new gates.now }
-{
-    freezes(task, rt, gates)
-        && other.try_start(gates, 1, 0) == Err(GateError::Again)
-        && other.snapshot(rt, gates).is_ok()
-        && other.try_snapshot(gates).is_ok()
-        && thaws(other, rt, gates)
-        && other.callback(rt, gates, 1) == Ok(true)
-        && other.callback(rt, gates, 1) == Ok(false)
-}
+/// Accesses at a mount are taken with one processor and given back with the other, and keep it writable meanwhile. Changes and remounts keep
+/// wants out, and let them in again. Levels are gone into upwards, and left in any order. What is frozen keeps everybody out, shows its tree, and
+/// is opened by another task.
+static CALLS: (&str, &str) = (
+    "0 want 0 0\n0 trywant 0 0\n0 trychange 0 ro\n0 drop 0 1\n0 drop 0 1\n0 drop 0 1\n0 drop 9 200\n\
+     1 change 0 ro\n1 want 0 0\n1 trychange 0 rw\n1 remount ro\n1 trywant 0 0\n1 wantwrite 0 0\n1 trystart 1 0\n1 end 1 0\n1 remount rw\n\
+     0 start 1 0\n0 trystart 2 0\n0 trystart 2 0\n0 end 1 1\n0 end 2 1\n0 end 2 1\n\
+     1 freeze\n0 trystart 1 0\n0 snapshot\n0 trysnapshot\n0 thaw\n0 callback 1\n0 callback 1\n",
+    "0 ok\n0 ok\n0 refused 16 Busy\n0 ok\n0 ok\n0 refused 35 Order\n0 refused 22 Invalid\n\
+     1 ok\n1 refused 30 ReadOnly\n1 ok\n1 ok\n1 refused 30 ReadOnly\n1 refused 30 ReadOnly\n1 ok\n1 ok\n1 ok\n\
+     0 ok\n0 ok\n0 refused 35 Order\n0 ok\n0 ok\n0 refused 35 Order\n\
+     1 ok\n0 refused 11 Again\n0 ok used 0\n0 ok used 0\n0 ok\n0 ok ran\n0 ok none\n",
+);
 
 /// Whether the closed gates have nobody counted, and the words that there are.
 fn is_left(closed: &Closed) -> bool {
@@ -83,94 +35,165 @@ fn is_left(closed: &Closed) -> bool {
 
 #[test]
 fn gates_are_opened_shared_and_closed(rt: HostRuntime) -> Result<(), Fail> {
-    let (gates, mut task) = open(rt.alloc(), small(2))?;
-    let mut other = task.split(rt.alloc(), &gates)?;
-    assert!(rt; task.number() == 0 && other.number() == 1 && task.is_idle());
-    assert!(rt; wants_and_drops(&mut task, &rt, &gates));
-    assert!(rt; shuts_and_opens(&mut other, &rt, &gates));
-    assert!(rt; starts_and_ends(&mut task, &rt, &gates));
-    assert!(rt; freezes_and_thaws(&mut other, &mut task, &rt, &gates));
-    let Err((GateError::Order, gates, mut task)) = close(gates, task) else {
-        panic!(rt; "closed without the other")
-    };
-    assert!(rt; task.join(&gates, other).is_ok());
-    let Ok(closed) = close(gates, task) else {
-        panic!(rt; "not closed")
-    };
-    assert!(rt; is_left(&closed));
+    let mut two = Two::open(rt.alloc(), small(2))?;
+    two.answer(&rt, CALLS.0, CALLS.1, &mut ())?;
+    assert!(rt; is_left(&closed(two)?));
     Ok(())
 }
 
-/// Whether a writer makes a directory and a file in it, which grows and goes to the root.
-fn writes<R: Wait>(task: &mut Task, rt: &R, gates: &Gates) -> bool
-    requires { IsFrom task.old gates.now }
-    ensures { IsFrom task.new gates.now }
-{
-    task.create(gates, 0, Kind::File) == Err(GateError::Order)
-        && task.want_write(rt, gates, 0, 0).is_ok()
-        && task.create(gates, 0, Kind::Dir) == Ok(1)
-        && task.create(gates, 1, Kind::File) == Ok(2)
-        && task.grow(gates, 2, 9) == Err(GateError::NoSpace)
-        && task.grow(gates, 2, 5).is_ok()
-        && task.move_to(gates, 2, 0).is_ok()
-}
+/// A writer makes a directory and a file in it, which grows and goes to the root. A page of the file is made dirty inside the second level, and
+/// written back inside the third. The last free node is taken once and given back. A snapshot of what is frozen has the file's blocks.
+static FILES: (&str, &str) = (
+    "0 create 0 file\n0 wantwrite 0 0\n0 create 0 dir\n0 create 1 file\n0 grow 2 9\n0 grow 2 5\n0 move 2 0\n\
+     0 start 2 0\n0 fault 2\n0 start 3 0\n0 flush 2\n0 flush 1\n0 end 3 0\n0 end 2 0\n\
+     0 create 0 file\n0 create 0 file\n0 remove 3\n0 remove 255\n0 dropwrite 0 0\n0 dropwrite 0 0\n\
+     0 snapshot\n0 freeze\n0 snapshot\n0 thaw\n",
+    "0 refused 35 Order\n0 ok\n0 ok node 1\n0 ok node 2\n0 refused 28 NoSpace\n0 ok\n0 ok\n\
+     0 ok\n0 ok\n0 ok\n0 ok\n0 refused 21 IsDir\n0 ok\n0 ok\n\
+     0 ok node 3\n0 refused 28 NoSpace\n0 ok\n0 refused 22 Invalid\n0 ok\n0 refused 35 Order\n\
+     0 refused 22 Invalid\n0 ok\n0 ok used 5\n0 ok\n",
+);
 
-/// Whether a page of the file is made dirty inside the second level, and written back inside the third, and all levels are left.
-fn writes_back<R: Wait>(task: &mut Task, rt: &R, gates: &Gates) -> bool
-    requires { IsFrom task.old gates.now }
-    ensures { IsFrom task.new gates.now }
-{
-    task.start(rt, gates, 2, 0).is_ok()
-        && task.fault(gates, 2).is_ok()
-        && task.start(rt, gates, 3, 0).is_ok()
-        && task.flush(gates, 2).is_ok()
-        && task.flush(gates, 1) == Err(GateError::IsDir)
-        && task.end(gates, 3, 0).is_ok()
-        && task.end(gates, 2, 0).is_ok()
-}
-
-/// Whether the last free node is taken once and given back, and write access with it.
-fn fills_and_leaves(task: &mut Task, gates: &Gates) -> bool
-    requires { IsFrom task.old gates.now }
-    ensures { IsFrom task.new gates.now }
-{
-    task.create(gates, 0, Kind::File) == Ok(3)
-        && task.create(gates, 0, Kind::File) == Err(GateError::NoSpace)
-        && task.remove(gates, 3).is_ok()
-        && task.remove(gates, 255) == Err(GateError::Invalid)
-        && task.drop_write(gates, 0, 0).is_ok()
-        && task.drop_write(gates, 0, 0) == Err(GateError::Order)
-}
-
-/// Whether a snapshot of what is frozen has the file's blocks, and both nodes in the root.
-fn backs_up<R: Wait>(task: &mut Task, rt: &R, gates: &Gates) -> bool
-    requires { IsFrom task.old gates.now }
-    ensures { IsFrom task.new gates.now }
-{
-    task.snapshot(rt, gates) == Err(GateError::Invalid)
-        && task.tree().is_none()
-        && freezes(task, rt, gates)
-        && task.snapshot(rt, gates).is_ok()
-        && thaws(task, rt, gates)
-        && task
-            .tree()
-            .is_some_and(|tree| tree.used() == 5 && tree.kids(0) == 2)
+/// Whether a snapshot has both nodes in the root.
+fn has_both(tree: &Tree) -> bool {
+    tree.kids(0) == 2 && tree.is_sound() && tree.is_clean()
 }
 
 #[test]
 fn files_come_and_go_and_are_copied(rt: HostRuntime) -> Result<(), Fail> {
     let config = Config {
         nodes: 4,
-        ..small(1)
+        ..small(2)
     };
-    let (gates, mut task) = open(rt.alloc(), config)?;
-    assert!(rt; writes(&mut task, &rt, &gates));
-    assert!(rt; writes_back(&mut task, &rt, &gates));
-    assert!(rt; fills_and_leaves(&mut task, &gates));
-    assert!(rt; backs_up(&mut task, &rt, &gates));
-    let Ok(closed) = close(gates, task) else {
-        panic!(rt; "not closed")
+    let mut two = Two::open(rt.alloc(), config)?;
+    two.answer(&rt, FILES.0, FILES.1, &mut ())?;
+    assert!(rt; two.one.tree().is_some_and(has_both));
+    assert_eq!(rt; closed(two)?.word(WordName::Used), Some(5));
+    Ok(())
+}
+
+/// Each try at a mount and each at a level is granted by either processor, to either task, also after a freeze, and each return on the other
+/// processor is done; a snapshot of what is frozen is taken by whoever tries.
+static TRIES: [(&str, &str); 6] = [
+    (
+        "0 trywant 0 0\n0 trystart 1 0\n0 trystart 2 0\n0 trystart 3 0\n0 end 3 1\n0 end 2 1\n0 end 1 1\n0 drop 0 1\n0 trychange 0 ro\n0 trychange 0 rw\n",
+        "0 ok\n0 ok\n0 ok\n0 ok\n0 ok\n0 ok\n0 ok\n0 ok\n0 ok\n0 ok\n",
+    ),
+    (
+        "1 trywant 0 1\n1 trystart 1 1\n1 trystart 2 1\n1 trystart 3 1\n1 end 3 0\n1 end 2 0\n1 end 1 0\n1 drop 0 0\n1 trychange 0 ro\n1 trychange 0 rw\n",
+        "1 ok\n1 ok\n1 ok\n1 ok\n1 ok\n1 ok\n1 ok\n1 ok\n1 ok\n1 ok\n",
+    ),
+    (
+        "1 trywant 1 0\n1 trystart 1 0\n1 trystart 2 0\n1 trystart 3 0\n1 end 3 1\n1 end 2 1\n1 end 1 1\n1 drop 1 1\n1 trychange 1 ro\n1 trychange 1 rw\n",
+        "1 ok\n1 ok\n1 ok\n1 ok\n1 ok\n1 ok\n1 ok\n1 ok\n1 ok\n1 ok\n",
+    ),
+    (
+        "0 trywant 1 1\n0 trystart 1 1\n0 trystart 2 1\n0 trystart 3 1\n0 end 3 0\n0 end 2 0\n0 end 1 0\n0 drop 1 0\n0 trychange 1 ro\n0 trychange 1 rw\n",
+        "0 ok\n0 ok\n0 ok\n0 ok\n0 ok\n0 ok\n0 ok\n0 ok\n0 ok\n0 ok\n",
+    ),
+    (
+        "0 freeze\n1 trysnapshot\n0 trysnapshot\n0 thaw\n",
+        "0 ok\n1 ok used 0\n0 ok used 0\n0 ok\n",
+    ),
+    (
+        "1 trywant 0 0\n1 trystart 1 0\n1 trystart 2 0\n1 trystart 3 0\n1 end 3 1\n1 end 2 1\n1 end 1 1\n1 drop 0 1\n1 trychange 0 ro\n1 trychange 0 rw\n",
+        "1 ok\n1 ok\n1 ok\n1 ok\n1 ok\n1 ok\n1 ok\n1 ok\n1 ok\n1 ok\n",
+    ),
+];
+
+#[test]
+fn each_try_is_granted(rt: HostRuntime) -> Result<(), Fail> {
+    let config = Config {
+        mounts: 2,
+        ..small(2)
     };
-    assert_eq!(rt; closed.word(WordName::Used), Some(5));
+    let mut two = Two::open(rt.alloc(), config)?;
+    for (calls, answers) in TRIES.iter() {
+        two.answer(&rt, calls, answers, &mut ())?;
+    }
+    Ok(())
+}
+
+/// A second holder joins what the first has frozen, and a second freeze of one holder is refused. The first of two thaws leaves all frozen, and
+/// the second lets tasks in.
+static HOLDERS: (&str, &str) = (
+    "0 freeze kernel\n1 thaw user\n1 freeze user\n0 freeze user\n\
+     1 thaw kernel\n0 trystart 1 0\n0 thaw kernel\n0 thaw user\n1 trystart 1 0\n1 end 1 0\n",
+    "0 ok\n1 refused 22 Invalid\n1 ok\n0 refused 16 Busy\n\
+     1 ok\n0 refused 11 Again\n0 refused 22 Invalid\n0 ok\n1 ok\n1 ok\n",
+);
+
+#[test]
+fn all_stays_frozen_until_both_holders_thaw(rt: HostRuntime) -> Result<(), Fail> {
+    let mut two = Two::open(rt.alloc(), small(2))?;
+    two.answer(&rt, HOLDERS.0, HOLDERS.1, &mut ())?;
+    assert_eq!(rt; closed(two)?.word(WordName::Holders), Some(0));
+    Ok(())
+}
+
+/// A file is opened once by each task, removed and closed by one of both, and is no entry from then on. Its last close isn't done while all is
+/// frozen, nor inside level 3. Then the superblock is made read-only, and the node taken again.
+static OPENS: (&str, &str) = (
+    "0 open 1\n0 wantwrite 0 0\n0 create 0 file\n0 grow 1 5\n0 open 2\n0 open 0\n0 open 1\n0 open 1\n1 tryclose 1 0\n1 open 1\n\
+     0 remove 1\n0 close 1 2\n0 close 1 1\n0 close 1 1\n0 open 1\n0 grow 1 1\n0 create 0 file\n0 dropwrite 0 0\n0 remount ro\n\
+     0 freeze\n1 tryclose 1 0\n0 snapshot\n0 thaw\n1 start 3 0\n1 close 1 0\n1 tryclose 1 0\n1 end 3 0\n1 close 1 1\n\
+     1 remount ro\n1 remount rw\n1 wantwrite 0 0\n1 create 0 file\n1 open 1\n1 tryclose 1 0\n1 dropwrite 0 0\n",
+    "0 refused 2 NoEntry\n0 ok\n0 ok node 1\n0 ok\n0 refused 22 Invalid\n0 refused 21 IsDir\n0 ok\n0 refused 24 TooMany\n\
+     1 refused 35 Order\n1 ok\n0 ok\n0 refused 22 Invalid\n0 ok\n0 refused 35 Order\n0 refused 2 NoEntry\n0 refused 2 NoEntry\n\
+     0 refused 28 NoSpace\n0 ok\n0 refused 16 Busy\n0 ok\n1 refused 11 Again\n0 ok used 5\n0 ok\n1 ok\n1 refused 35 Order\n\
+     1 refused 35 Order\n1 ok\n1 ok\n1 ok\n1 ok\n1 ok\n1 ok node 1\n1 ok\n1 ok\n1 ok\n",
+);
+
+/// Whether a snapshot has the removed file, of which the blocks are charged, and which is nobody's child.
+fn has_the_removed_file(tree: &Tree) -> bool {
+    let file = tree.node(1);
+    tree.is_sound()
+        && tree.is_clean()
+        && tree.kids(0) == 0
+        && file.is_some_and(|file| file.removed && file.size == 5)
+}
+
+#[test]
+fn a_removed_file_is_there_until_its_last_close(rt: HostRuntime) -> Result<(), Fail> {
+    let mut two = Two::open(rt.alloc(), small(2))?;
+    two.answer(&rt, OPENS.0, OPENS.1, &mut ())?;
+    assert!(rt; two.one.tree().is_some_and(has_the_removed_file));
+    let closed = closed(two)?;
+    assert_eq!(rt; closed.word(WordName::Removed), Some(0));
+    assert_eq!(rt; closed.word(WordName::Used), Some(0));
+    Ok(())
+}
+
+/// A file is made and opened, and nothing else is held.
+static KEPT_OPEN: (&str, &str) = (
+    "0 wantwrite 0 0\n0 create 0 file\n0 grow 1 5\n0 open 1\n0 dropwrite 0 0\n",
+    "0 ok\n0 ok node 1\n0 ok\n0 ok\n0 ok\n",
+);
+
+#[test]
+fn gates_with_a_file_open_are_not_closed(rt: HostRuntime) -> Result<(), Fail> {
+    let mut two = Two::open(rt.alloc(), small(2))?;
+    two.answer(&rt, KEPT_OPEN.0, KEPT_OPEN.1, &mut ())?;
+    let mut two = not_closed(two)?;
+    assert!(rt; two.one.has_open(1));
+    two.answer(&rt, "0 tryclose 1 0\n", "0 ok\n", &mut ())?;
+    assert_eq!(rt; closed(two)?.word(WordName::Used), Some(5));
+    Ok(())
+}
+
+/// The same by the second task.
+static OPENED_TOO: (&str, &str) = (
+    "1 wantwrite 0 0\n1 create 0 file\n1 open 1\n1 dropwrite 0 0\n",
+    "1 ok\n1 ok node 1\n1 ok\n1 ok\n",
+);
+
+#[test]
+fn a_task_with_a_file_open_is_not_joined(rt: HostRuntime) -> Result<(), Fail> {
+    let mut two = Two::open(rt.alloc(), small(2))?;
+    two.answer(&rt, OPENED_TOO.0, OPENED_TOO.1, &mut ())?;
+    let mut two = not_closed(two)?;
+    assert!(rt; two.other.is_some());
+    two.answer(&rt, "1 close 1 0\n", "1 ok\n", &mut ())?;
+    closed(two)?;
     Ok(())
 }

@@ -1,9 +1,9 @@
 //! What docs/REFUSALS.md advises: a remount script that is busy, a backup whose freeze is refused, a snapshot that finds nothing frozen.
 
-ghost use Rattle.vfs_gates.specs.TaskStates.{IsFrom};
+ghost use Rattle.gate_tests.specs.Origins.{IsFrom};
 
 use super::hooks::{FailsAt, Question};
-use super::tasks::{Task, open};
+use super::tasks::{Gates, Task, open};
 use super::{freezes, small, thaws};
 use access_model::{GateError, Holder};
 use cpu_words::{Event, WordName};
@@ -13,7 +13,6 @@ use gate_core::Progress;
 use gate_world::Op;
 use std::sync::Wait;
 use std::test::Fail;
-use vfs_gates::Gates;
 
 /// Remounts read-only, so often while it is busy.
 fn shut<R: Wait, H: FsHooks>(

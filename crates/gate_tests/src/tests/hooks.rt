@@ -1,18 +1,15 @@
 //! Each hook of the file system fails: the call is refused with just that code, all stands as it stood, no other hook is asked, and the same
 //! call is done once the file system agrees.
 
-ghost use Rattle.vfs_gates.specs.TaskStates.{IsFrom};
-
-use super::tasks::{Task, open};
-use super::{freeze, freezes, small, thaw, thaws};
-use access_model::GateError;
+use super::small;
+use super::two::Two;
 use freeze_levels::FsHooks;
+use std::alloc::Global;
 use std::sync::Wait;
 use std::test::Fail;
-use vfs_gates::Gates;
 
 /// A question that a call asks the file system.
-#[derive(Clone, Copy, PartialEq, Eq, Debug)]
+#[derive(Clone, Copy, PartialEq, Eq)]
 pub(super) enum Question {
     Sync,
     FreezeFs,
@@ -36,15 +33,6 @@ impl FailsAt {
             question,
             code,
             asked: 0,
-        }
-    }
-
-    /// How often it is asked by the call that it refuses.
-    fn is_asked(&self) -> u8 {
-        if self.question == Question::FreezeFs {
-            2
-        } else {
-            1
         }
     }
 
@@ -82,182 +70,181 @@ impl FsHooks for FailsAt {
     }
 }
 
-/// How all stands, by what tries answer.
-#[derive(Clone, Copy, PartialEq, Eq, Debug)]
-enum Standing {
-    /// Each level lets readers in, and the mount lets writers in.
-    Open,
-    /// No level lets anybody in. The mount does, since a freeze leaves it.
-    Frozen,
-    /// Each level lets readers in, and the mount is read-only.
-    ReadOnly,
-}
+/// A try at the mount and one at each level, each with its return.
+const TRIES: &str =
+    "0 trywant 0 0\n0 drop 0 1\n0 trystart 1 0\n0 end 1 1\n0 trystart 2 0\n0 end 2 1\n0 trystart 3 0\n0 end 3 1\n";
 
-/// Whether a level answers a start so. What is granted is given back.
-fn answers_start(task: &mut Task, gates: &Gates, level: u8, wanted: Result<(), GateError>) -> bool
-    requires { IsFrom task.old gates.now }
-    ensures { IsFrom task.new gates.now }
-{
-    let answer = task.try_start(gates, level, 0);
-    answer == wanted && (answer.is_err() || task.end(gates, level, 1).is_ok())
-}
+/// What they answer where each level lets readers in, and the mount lets writers in.
+const OPEN: &str = "0 ok\n0 ok\n0 ok\n0 ok\n0 ok\n0 ok\n0 ok\n0 ok\n";
 
-/// Whether all stands so.
-fn stands(task: &mut Task, gates: &Gates, standing: Standing) -> bool
-    requires { IsFrom task.old gates.now }
-    ensures { IsFrom task.new gates.now }
-{
-    let inside = if standing == Standing::Frozen {
-        Err(GateError::Again)
-    } else {
-        Ok(())
-    };
-    let access = if standing == Standing::ReadOnly {
-        Err(GateError::ReadOnly)
-    } else {
-        Ok(())
-    };
-    let wanted = task.try_want(gates, 0, 0);
-    wanted == access
-        && (wanted.is_err() || task.drop_mount(gates, 0, 1).is_ok())
-        && answers_start(task, gates, 1, inside)
-        && answers_start(task, gates, 2, inside)
-        && answers_start(task, gates, 3, inside)
-}
+/// What they answer where no level lets anybody in. The mount does, since a freeze leaves it.
+const FROZEN: &str =
+    "0 ok\n0 ok\n0 refused 11 Again\n0 refused 35 Order\n0 refused 11 Again\n0 refused 35 Order\n0 refused 11 Again\n0 refused 35 Order\n";
 
-/// Makes the call that asks this question.
-fn calls<R: Wait, H: FsHooks>(
-    task: &mut Task,
-    rt: &R,
-    gates: &Gates,
+/// What they answer where each level lets readers in, and the mount is read-only.
+const READ_ONLY: &str =
+    "0 refused 30 ReadOnly\n0 refused 35 Order\n0 ok\n0 ok\n0 ok\n0 ok\n0 ok\n0 ok\n";
+
+/// A call that fails at a question.
+struct Failure {
     question: Question,
-    hooks: &mut H,
-) -> Result<(), GateError>
-    requires { IsFrom task.old gates.now }
-    ensures { IsFrom task.new gates.now }
-{
-    match question {
-        Question::Sync | Question::FreezeFs => freeze(task, rt, gates, hooks),
-        Question::UnfreezeFs => thaw(task, rt, gates, hooks),
-        Question::ToReadOnly => task.remount_sb(rt, gates, true, hooks),
-        Question::ToWritable => task.remount_sb(rt, gates, false, hooks),
-    }
-}
-
-/// How all has to stand for the call that asks this question, and how it stands when that is done.
-fn standings(question: Question) -> (Standing, Standing) {
-    match question {
-        Question::Sync | Question::FreezeFs => (Standing::Open, Standing::Frozen),
-        Question::UnfreezeFs => (Standing::Frozen, Standing::Open),
-        Question::ToReadOnly => (Standing::Open, Standing::ReadOnly),
-        Question::ToWritable => (Standing::ReadOnly, Standing::Open),
-    }
-}
-
-/// Whether the call that asks this question is refused with this code where the file system fails there, leaves all as it stood, has asked
-/// no more than it is to ask, and is done when it is made again and the file system agrees.
-fn fails_and_is_done_again<R: Wait>(
-    task: &mut Task,
-    rt: &R,
-    gates: &Gates,
-    question: Question,
+    /// The code that it is answered.
     code: u16,
-) -> bool
-    requires { IsFrom task.old gates.now }
-    ensures { IsFrom task.new gates.now }
-{
-    let (before, after) = standings(question);
-    let mut hooks = FailsAt::new(question, code);
-    let stood = stands(task, gates, before);
-    let refused = calls(task, rt, gates, question, &mut hooks);
-    stood
-        && refused == Err(GateError::Hook(code))
-        && hooks.asked == hooks.is_asked()
-        && stands(task, gates, before)
-        && calls(task, rt, gates, question, &mut ()).is_ok()
-        && stands(task, gates, after)
+    call: &'static str,
+    /// What the call prints that is refused.
+    refused: &'static str,
+    /// How often it has asked by then.
+    asked: u8,
+    /// What tries answer before it, and after it is done.
+    before: &'static str,
+    after: &'static str,
 }
 
-/// 16 is EBUSY's number.
-#[test]
-fn freezes_and_thaws_fail_at_each_of_their_hooks(rt: HostRuntime) -> Result<(), Fail> {
-    let (gates, mut task) = open(rt.alloc(), small(1))?;
-    assert!(rt; fails_and_is_done_again(&mut task, &rt, &gates, Question::Sync, 16));
-    assert!(rt; fails_and_is_done_again(&mut task, &rt, &gates, Question::UnfreezeFs, 0));
-    assert!(rt; fails_and_is_done_again(&mut task, &rt, &gates, Question::FreezeFs, u16::MAX));
-    Ok(())
-}
-
-#[test]
-fn a_remount_fails_at_its_hook(rt: HostRuntime) -> Result<(), Fail> {
-    let (gates, mut task) = open(rt.alloc(), small(1))?;
-    assert!(rt; fails_and_is_done_again(&mut task, &rt, &gates, Question::ToReadOnly, 5));
-    assert!(rt; fails_and_is_done_again(&mut task, &rt, &gates, Question::ToWritable, 30));
-    Ok(())
-}
-
-/// Whether the call that asks this question answers so, and asks nothing.
-fn asks_nothing<R: Wait>(
-    task: &mut Task,
+/// That the call is refused with this code where the file system fails there, leaves all as it stood, has asked no more than it is to ask, and
+/// is done when it is made again and the file system agrees.
+fn fails_and_is_done_again<R: Wait + Alloc<A = Global>>(
     rt: &R,
-    gates: &Gates,
-    question: Question,
-    wanted: Result<(), GateError>,
-) -> bool
-    requires { IsFrom task.old gates.now }
-    ensures { IsFrom task.new gates.now }
-{
-    let mut hooks = FailsAt::new(question, 5);
-    calls(task, rt, gates, question, &mut hooks) == wanted && hooks.asked == 0
+    two: &mut Two,
+    failure: &Failure,
+) -> Result<(), Fail> {
+    let mut hooks = FailsAt::new(failure.question, failure.code);
+    two.answer(rt, TRIES, failure.before, &mut ())?;
+    two.answer(rt, failure.call, failure.refused, &mut hooks)?;
+    two.answer(rt, TRIES, failure.before, &mut ())?;
+    two.answer(rt, failure.call, "0 ok\n", &mut ())?;
+    two.answer(rt, TRIES, failure.after, &mut ())?;
+    if hooks.asked == failure.asked {
+        Ok(())
+    } else {
+        Err(Fail::new(failure.call))
+    }
 }
 
-/// Whether a task that holds a level asks nothing for a freeze, a thaw and a remount.
-fn asks_nothing_inside<R: Wait>(task: &mut Task, rt: &R, gates: &Gates) -> bool
-    requires { IsFrom task.old gates.now }
-    ensures { IsFrom task.new gates.now }
-{
-    let order = Err(GateError::Order);
-    task.try_start(gates, 1, 0).is_ok()
-        && asks_nothing(task, rt, gates, Question::Sync, order)
-        && asks_nothing(task, rt, gates, Question::UnfreezeFs, order)
-        && asks_nothing(task, rt, gates, Question::ToReadOnly, order)
-        && task.end(gates, 1, 0).is_ok()
+/// Calls that fail, in a row. 16 is EBUSY's number.
+static FAILURES: [Failure; 6] = [
+    Failure {
+        question: Question::Sync,
+        code: 16,
+        call: "0 freeze\n",
+        refused: "0 refused hook 16\n",
+        asked: 1,
+        before: OPEN,
+        after: FROZEN,
+    },
+    Failure {
+        question: Question::UnfreezeFs,
+        code: 0,
+        call: "0 thaw\n",
+        refused: "0 refused hook 0\n",
+        asked: 1,
+        before: FROZEN,
+        after: OPEN,
+    },
+    Failure {
+        question: Question::FreezeFs,
+        code: u16::MAX,
+        call: "0 freeze\n",
+        refused: "0 refused hook 65535\n",
+        asked: 2,
+        before: OPEN,
+        after: FROZEN,
+    },
+    Failure {
+        question: Question::UnfreezeFs,
+        code: 1,
+        call: "0 thaw\n",
+        refused: "0 refused hook 1\n",
+        asked: 1,
+        before: FROZEN,
+        after: OPEN,
+    },
+    Failure {
+        question: Question::ToReadOnly,
+        code: 5,
+        call: "0 remount ro\n",
+        refused: "0 refused hook 5\n",
+        asked: 1,
+        before: OPEN,
+        after: READ_ONLY,
+    },
+    Failure {
+        question: Question::ToWritable,
+        code: 30,
+        call: "0 remount rw\n",
+        refused: "0 refused hook 30\n",
+        asked: 1,
+        before: READ_ONLY,
+        after: OPEN,
+    },
+];
+
+#[test]
+fn calls_fail_at_each_of_their_hooks(rt: HostRuntime) -> Result<(), Fail> {
+    let mut two = Two::open(rt.alloc(), small(2))?;
+    for failure in FAILURES.iter() {
+        fails_and_is_done_again(&rt, &mut two, failure)?;
+    }
+    Ok(())
 }
 
-/// Whether a call asks nothing that is busy: a remount while an access is held, a freeze and a remount while all is frozen.
-fn asks_nothing_where_busy<R: Wait>(task: &mut Task, rt: &R, gates: &Gates) -> bool
-    requires { IsFrom task.old gates.now }
-    ensures { IsFrom task.new gates.now }
-{
-    let busy = Err(GateError::Busy);
-    task.try_want(gates, 0, 0).is_ok()
-        && asks_nothing(task, rt, gates, Question::ToReadOnly, busy)
-        && task.drop_mount(gates, 0, 0).is_ok()
-        && freezes(task, rt, gates)
-        && asks_nothing(task, rt, gates, Question::Sync, busy)
-        && asks_nothing(task, rt, gates, Question::ToReadOnly, busy)
-        && thaws(task, rt, gates)
-}
+/// Calls, what they answer, and whether they need no answer of the file system: out of turn; to what is so already; of a task that holds a
+/// level; where something is busy, an access or all that is frozen; and at a read-only superblock.
+static UNASKED: [(&str, &str, bool); 8] = [
+    (
+        "0 thaw\n0 remount rw\n",
+        "0 refused 22 Invalid\n0 ok\n",
+        true,
+    ),
+    (
+        "0 trystart 1 0\n0 freeze\n0 thaw\n0 remount ro\n0 end 1 0\n",
+        "0 ok\n0 refused 35 Order\n0 refused 35 Order\n0 refused 35 Order\n0 ok\n",
+        true,
+    ),
+    (
+        "0 trywant 0 0\n0 remount ro\n0 drop 0 0\n",
+        "0 ok\n0 refused 16 Busy\n0 ok\n",
+        true,
+    ),
+    ("0 freeze\n", "0 ok\n", false),
+    (
+        "0 freeze\n0 remount ro\n",
+        "0 refused 16 Busy\n0 refused 16 Busy\n",
+        true,
+    ),
+    ("0 thaw\n", "0 ok\n", false),
+    ("0 remount ro\n", "0 ok\n", false),
+    (
+        "0 remount ro\n0 freeze\n0 thaw\n",
+        "0 ok\n0 ok\n0 ok\n",
+        true,
+    ),
+];
 
-/// Whether a read-only superblock is frozen and thawed, and remounted as it is, with no question.
-fn asks_nothing_read_only<R: Wait>(task: &mut Task, rt: &R, gates: &Gates) -> bool
-    requires { IsFrom task.old gates.now }
-    ensures { IsFrom task.new gates.now }
-{
-    task.remount_sb(rt, gates, true, &mut ()).is_ok()
-        && asks_nothing(task, rt, gates, Question::ToReadOnly, Ok(()))
-        && asks_nothing(task, rt, gates, Question::FreezeFs, Ok(()))
-        && asks_nothing(task, rt, gates, Question::UnfreezeFs, Ok(()))
+/// That calls answer so, and ask a file system nothing that fails whenever it is asked.
+fn answer_unasked<R: Wait + Alloc<A = Global>>(
+    rt: &R,
+    two: &mut Two,
+    calls: &str,
+    answers: &str,
+) -> Result<(), Fail> {
+    let mut hooks = FailsAt::new(Question::Sync, 5);
+    two.answer(rt, calls, answers, &mut hooks)?;
+    if hooks.asked == 0 {
+        Ok(())
+    } else {
+        Err(Fail::new(calls))
+    }
 }
 
 #[test]
 fn a_call_that_needs_no_answer_asks_nothing(rt: HostRuntime) -> Result<(), Fail> {
-    let (gates, mut task) = open(rt.alloc(), small(1))?;
-    let invalid = Err(GateError::Invalid);
-    assert!(rt; asks_nothing(&mut task, &rt, &gates, Question::UnfreezeFs, invalid));
-    assert!(rt; asks_nothing(&mut task, &rt, &gates, Question::ToWritable, Ok(())));
-    assert!(rt; asks_nothing_inside(&mut task, &rt, &gates));
-    assert!(rt; asks_nothing_where_busy(&mut task, &rt, &gates));
-    assert!(rt; asks_nothing_read_only(&mut task, &rt, &gates));
+    let mut two = Two::open(rt.alloc(), small(2))?;
+    for (calls, answers, is_unasked) in UNASKED.iter() {
+        if *is_unasked {
+            answer_unasked(&rt, &mut two, calls, answers)?;
+        } else {
+            two.answer(&rt, calls, answers, &mut ())?;
+        }
+    }
     Ok(())
 }

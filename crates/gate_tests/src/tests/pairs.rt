@@ -64,7 +64,7 @@ fn what_is_taken_for_a_closure_is_given_back(rt: HostRuntime) -> Result<(), Fail
 fn gates_and_tasks_show_themselves(rt: HostRuntime) -> Result<(), Fail> {
     let (gates, task) = Gates::new(rt.alloc(), small(1))?;
     let shown = format!(in rt.alloc(); "{task:?}")?;
-    assert!(rt; shown.starts_with("Task { number: 0, phase: None, accesses: Accesses { "));
+    assert!(rt; shown.starts_with("Task { number: 0, under_way: false, accesses: Accesses { "));
     let shown = format!(in rt.alloc(); "{gates:?}")?;
     assert!(rt; shown.starts_with("Gates { config: Config { tasks: 1"));
     let Ok(closed) = gates.close(task) else {

@@ -1,9 +1,10 @@
-//! A task of which a test needs to know that it is one of these gates, and no more: so that is all that is handed on from call to call.
+//! Gates, and a task of which a test needs to know that it is one of these gates, and no more: so that is all that is handed on from call to
+//! call.
 
 ghost use Rattle.std.specs.Prelude.{◌≡◌, IfOk, IfErr};
-ghost use Rattle.vfs_gates.specs.TaskStates.{IsFrom};
+ghost use Rattle.gate_tests.specs.Origins.{IsFrom};
 
-use access_model::{GateError, Holder, Kind};
+use access_model::{GateError, Holder, Kind, Reply};
 use freeze_levels::{FsHooks, HookKind};
 use gate_core::Step;
 use gate_world::{Config, Op};
@@ -11,28 +12,42 @@ use gated_tree::Tree;
 use std::alloc::Global;
 use std::marker::Model;
 use std::sync::Wait;
-use vfs_gates::{Closed, Gates};
+use vfs_gates::Closed;
 
-/// A task, each call of which is that of `vfs_gates::Task` by the same name.
+/// Gates, of which a test sees which they are.
+#[derive(Drop)]
+pub struct Gates {
+    gates: vfs_gates::Gates,
+}
+
+impl Model for Gates {
+    ghost use Rattle.gate_tests.specs.Origins.{Origin, origin_of};
+
+    ghost Value = { Origin };
+
+    ghost view = { λ it. origin_of it.gates };
+}
+
+/// A task, each call of which is that of `vfs_gates::Task` by the same name. A test sees which gates it is from.
 #[derive(Drop)]
 pub struct Task {
     task: vfs_gates::Task,
 }
 
 impl Model for Task {
-    ghost use Rattle.vfs_gates.specs.TaskStates.{TaskState};
+    ghost use Rattle.gate_tests.specs.Origins.{Origin, origin};
 
-    ghost Value = { TaskState };
+    ghost Value = { Origin };
 
-    ghost view = { λ it. it.task };
+    ghost view = { λ it. origin it.task };
 }
 
 /// Opens gates, with their first task.
 pub fn open(alloc: Global, config: Config) -> Result<(Gates, Task), GateError>
     ensures { IfOk result (λ made. IsFrom made.1 made.0) }
 {
-    let (gates, task) = Gates::new(alloc, config)?;
-    Ok((gates, Task { task }))
+    let (gates, task) = vfs_gates::Gates::new(alloc, config)?;
+    Ok((Gates { gates }, Task { task }))
 }
 
 /// Closes gates.
@@ -41,9 +56,35 @@ pub fn close(gates: Gates, task: Task) -> Result<Closed, (GateError, Gates, Task
     ensures gates { IfErr result (λ e. e.1 ≡ gates) }
     ensures task { IfErr result (λ e. IsFrom e.2 e.1) }
 {
-    gates
-        .close(task.task)
-        .map_err(|(refusal, gates, task)| (refusal, gates, Task { task }))
+    gates.gates.close(task.task).map_err(|(refusal, gates, task)| (
+        refusal,
+        Gates { gates },
+        Task { task },
+    ))
+}
+
+/// What an operation answers that is done or refused.
+fn done(answer: Result<(), GateError>) -> Result<Reply, GateError> {
+    match answer {
+        Ok(()) => Ok(Reply::Unit),
+        Err(refusal) => Err(refusal),
+    }
+}
+
+/// What a callback answers.
+fn ran(answer: Result<bool, GateError>) -> Result<Reply, GateError> {
+    match answer {
+        Ok(has_run) => Ok(Reply::Ran(has_run)),
+        Err(refusal) => Err(refusal),
+    }
+}
+
+/// What a create answers.
+fn made(answer: Result<u8, GateError>) -> Result<Reply, GateError> {
+    match answer {
+        Ok(node) => Ok(Reply::Node(node)),
+        Err(refusal) => Err(refusal),
+    }
 }
 
 impl Task {
@@ -51,35 +92,35 @@ impl Task {
         requires { IsFrom self.old gates.now }
         ensures { IsFrom self.new gates.now }
     {
-        self.task.try_want(gates, mount, cpu)
+        self.task.try_want(&gates.gates, mount, cpu)
     }
 
     pub fn drop_mount(&mut self, gates: &Gates, mount: u8, cpu: u8) -> Result<(), GateError>
         requires { IsFrom self.old gates.now }
         ensures { IsFrom self.new gates.now }
     {
-        self.task.drop_mount(gates, mount, cpu)
+        self.task.drop_mount(&gates.gates, mount, cpu)
     }
 
     pub fn try_start(&mut self, gates: &Gates, level: u8, cpu: u8) -> Result<(), GateError>
         requires { IsFrom self.old gates.now }
         ensures { IsFrom self.new gates.now }
     {
-        self.task.try_start(gates, level, cpu)
+        self.task.try_start(&gates.gates, level, cpu)
     }
 
     pub fn end(&mut self, gates: &Gates, level: u8, cpu: u8) -> Result<(), GateError>
         requires { IsFrom self.old gates.now }
         ensures { IsFrom self.new gates.now }
     {
-        self.task.end(gates, level, cpu)
+        self.task.end(&gates.gates, level, cpu)
     }
 
     pub fn drop_write(&mut self, gates: &Gates, mount: u8, cpu: u8) -> Result<(), GateError>
         requires { IsFrom self.old gates.now }
         ensures { IsFrom self.new gates.now }
     {
-        self.task.drop_write(gates, mount, cpu)
+        self.task.drop_write(&gates.gates, mount, cpu)
     }
 
     pub fn try_change_mount(
@@ -91,63 +132,63 @@ impl Task {
         requires { IsFrom self.old gates.now }
         ensures { IsFrom self.new gates.now }
     {
-        self.task.try_change_mount(gates, mount, read_only)
+        self.task.try_change_mount(&gates.gates, mount, read_only)
     }
 
     pub fn create(&mut self, gates: &Gates, dir: u8, kind: Kind) -> Result<u8, GateError>
         requires { IsFrom self.old gates.now }
         ensures { IsFrom self.new gates.now }
     {
-        self.task.create(gates, dir, kind)
+        self.task.create(&gates.gates, dir, kind)
     }
 
     pub fn remove(&mut self, gates: &Gates, file: u8) -> Result<(), GateError>
         requires { IsFrom self.old gates.now }
         ensures { IsFrom self.new gates.now }
     {
-        self.task.remove(gates, file)
+        self.task.remove(&gates.gates, file)
     }
 
     pub fn grow(&mut self, gates: &Gates, file: u8, blocks: u32) -> Result<(), GateError>
         requires { IsFrom self.old gates.now }
         ensures { IsFrom self.new gates.now }
     {
-        self.task.grow(gates, file, blocks)
+        self.task.grow(&gates.gates, file, blocks)
     }
 
     pub fn move_to(&mut self, gates: &Gates, file: u8, dir: u8) -> Result<(), GateError>
         requires { IsFrom self.old gates.now }
         ensures { IsFrom self.new gates.now }
     {
-        self.task.move_to(gates, file, dir)
+        self.task.move_to(&gates.gates, file, dir)
     }
 
     pub fn fault(&mut self, gates: &Gates, file: u8) -> Result<(), GateError>
         requires { IsFrom self.old gates.now }
         ensures { IsFrom self.new gates.now }
     {
-        self.task.fault(gates, file)
+        self.task.fault(&gates.gates, file)
     }
 
     pub fn flush(&mut self, gates: &Gates, file: u8) -> Result<(), GateError>
         requires { IsFrom self.old gates.now }
         ensures { IsFrom self.new gates.now }
     {
-        self.task.flush(gates, file)
+        self.task.flush(&gates.gates, file)
     }
 
     pub fn open_file(&mut self, gates: &Gates, file: u8) -> Result<(), GateError>
         requires { IsFrom self.old gates.now }
         ensures { IsFrom self.new gates.now }
     {
-        self.task.open_file(gates, file)
+        self.task.open_file(&gates.gates, file)
     }
 
     pub fn try_close_file(&mut self, gates: &Gates, file: u8, cpu: u8) -> Result<(), GateError>
         requires { IsFrom self.old gates.now }
         ensures { IsFrom self.new gates.now }
     {
-        self.task.try_close_file(gates, file, cpu)
+        self.task.try_close_file(&gates.gates, file, cpu)
     }
 
     pub fn close_file<R: Wait>(
@@ -160,21 +201,21 @@ impl Task {
         requires { IsFrom self.old gates.now }
         ensures { IsFrom self.new gates.now }
     {
-        self.task.close_file(rt, gates, file, cpu)
+        self.task.close_file(rt, &gates.gates, file, cpu)
     }
 
     pub fn try_snapshot(&mut self, gates: &Gates) -> Result<(), GateError>
         requires { IsFrom self.old gates.now }
         ensures { IsFrom self.new gates.now }
     {
-        self.task.try_snapshot(gates)
+        self.task.try_snapshot(&gates.gates)
     }
 
     pub fn snapshot<R: Wait>(&mut self, rt: &R, gates: &Gates) -> Result<(), GateError>
         requires { IsFrom self.old gates.now }
         ensures { IsFrom self.new gates.now }
     {
-        self.task.snapshot(rt, gates)
+        self.task.snapshot(rt, &gates.gates)
     }
 
     pub fn want<R: Wait>(
@@ -187,7 +228,7 @@ impl Task {
         requires { IsFrom self.old gates.now }
         ensures { IsFrom self.new gates.now }
     {
-        self.task.want(rt, gates, mount, cpu)
+        self.task.want(rt, &gates.gates, mount, cpu)
     }
 
     pub fn start<R: Wait>(
@@ -200,7 +241,7 @@ impl Task {
         requires { IsFrom self.old gates.now }
         ensures { IsFrom self.new gates.now }
     {
-        self.task.start(rt, gates, level, cpu)
+        self.task.start(rt, &gates.gates, level, cpu)
     }
 
     pub fn want_write<R: Wait>(
@@ -213,14 +254,14 @@ impl Task {
         requires { IsFrom self.old gates.now }
         ensures { IsFrom self.new gates.now }
     {
-        self.task.want_write(rt, gates, mount, cpu)
+        self.task.want_write(rt, &gates.gates, mount, cpu)
     }
 
     pub fn callback<R: Wait>(&mut self, rt: &R, gates: &Gates, level: u8) -> Result<bool, GateError>
         requires { IsFrom self.old gates.now }
         ensures { IsFrom self.new gates.now }
     {
-        self.task.callback(rt, gates, level)
+        self.task.callback(rt, &gates.gates, level)
     }
 
     pub fn change_mount<R: Wait>(
@@ -233,7 +274,7 @@ impl Task {
         requires { IsFrom self.old gates.now }
         ensures { IsFrom self.new gates.now }
     {
-        self.task.change_mount(rt, gates, mount, read_only)
+        self.task.change_mount(rt, &gates.gates, mount, read_only)
     }
 
     pub fn remount_sb<R: Wait, H: FsHooks>(
@@ -246,7 +287,7 @@ impl Task {
         requires { IsFrom self.old gates.now }
         ensures { IsFrom self.new gates.now }
     {
-        self.task.remount_sb(rt, gates, read_only, hooks)
+        self.task.remount_sb(rt, &gates.gates, read_only, hooks)
     }
 
     pub fn freeze<R: Wait, H: FsHooks>(
@@ -259,7 +300,7 @@ impl Task {
         requires { IsFrom self.old gates.now }
         ensures { IsFrom self.new gates.now }
     {
-        self.task.freeze(rt, gates, holder, hooks)
+        self.task.freeze(rt, &gates.gates, holder, hooks)
     }
 
     pub fn thaw<R: Wait, H: FsHooks>(
@@ -272,7 +313,7 @@ impl Task {
         requires { IsFrom self.old gates.now }
         ensures { IsFrom self.new gates.now }
     {
-        self.task.thaw(rt, gates, holder, hooks)
+        self.task.thaw(rt, &gates.gates, holder, hooks)
     }
 
     /// A task with one of this task's numbers.
@@ -282,7 +323,7 @@ impl Task {
         ensures made { IfOk result (λ t. IsFrom t gates.now) }
     {
         Ok(Task {
-            task: self.task.split(alloc, gates)?,
+            task: self.task.split(alloc, &gates.gates)?,
         })
     }
 
@@ -293,7 +334,7 @@ impl Task {
         ensures other { IfErr result (λ e. IsFrom e.1 gates.now) }
     {
         self.task
-            .join(gates, other.task)
+            .join(&gates.gates, other.task)
             .map_err(|(refusal, task)| (refusal, Task { task }))
     }
 
@@ -326,8 +367,7 @@ impl Task {
     }
 
     pub fn begin(&mut self, op: Op) -> Result<(), GateError>
-        ensures table { self.new.table ≡ self.old.table }
-        ensures config { self.new.config ≡ self.old.config }
+        ensures { self.new ≡ self.old }
     {
         self.task.begin(op)
     }
@@ -336,6 +376,112 @@ impl Task {
         requires { IsFrom self.old gates.now }
         ensures { IsFrom self.new gates.now }
     {
-        self.task.step(gates, hook)
+        self.task.step(&gates.gates, hook)
+    }
+
+    /// The call that makes an operation, of a task or of the superblock.
+    pub fn call<R: Wait, H: FsHooks>(
+        &mut self,
+        rt: &R,
+        gates: &Gates,
+        op: Op,
+        hooks: &mut H,
+    ) -> Result<Reply, GateError>
+        requires { IsFrom self.old gates.now }
+        ensures { IsFrom self.new gates.now }
+    {
+        match op {
+            Op::RemountSb { read_only } => done(self.remount_sb(rt, gates, read_only, hooks)),
+            Op::Freeze { holder } => done(self.freeze(rt, gates, holder, hooks)),
+            Op::Thaw { holder } => done(self.thaw(rt, gates, holder, hooks)),
+            Op::Callback { level } => ran(self.callback(rt, gates, level)),
+            Op::Snapshot { wait } => self.call_snapshot(rt, gates, wait),
+            Op::Want { .. } | Op::Start { .. } | Op::ChangeMount { .. } | Op::WantWrite { .. } => {
+                self.call_at_gates(rt, gates, op)
+            }
+            Op::DropMount { mount, cpu } => done(self.drop_mount(gates, mount, cpu)),
+            Op::End { level, cpu } => done(self.end(gates, level, cpu)),
+            Op::DropWrite { mount, cpu } => done(self.drop_write(gates, mount, cpu)),
+            _ => self.call_at_tree(rt, gates, op),
+        }
+    }
+
+    /// One that takes an access, or changes a mount.
+    fn call_at_gates<R: Wait>(&mut self, rt: &R, gates: &Gates, op: Op) -> Result<Reply, GateError>
+        requires { IsFrom self.old gates.now }
+        ensures { IsFrom self.new gates.now }
+    {
+        done(match op {
+            Op::Want {
+                mount,
+                cpu,
+                wait: true,
+            } => self.want(rt, gates, mount, cpu),
+            Op::Want { mount, cpu, .. } => self.try_want(gates, mount, cpu),
+            Op::Start {
+                level,
+                cpu,
+                wait: true,
+            } => self.start(rt, gates, level, cpu),
+            Op::Start { level, cpu, .. } => self.try_start(gates, level, cpu),
+            Op::ChangeMount {
+                mount,
+                read_only,
+                wait: true,
+            } => self.change_mount(rt, gates, mount, read_only),
+            Op::ChangeMount {
+                mount,
+                read_only,
+                ..
+            } => self.try_change_mount(gates, mount, read_only),
+            Op::WantWrite { mount, cpu } => self.want_write(rt, gates, mount, cpu),
+            _ => Err(GateError::Invalid),
+        })
+    }
+
+    /// One at the tree.
+    fn call_at_tree<R: Wait>(&mut self, rt: &R, gates: &Gates, op: Op) -> Result<Reply, GateError>
+        requires { IsFrom self.old gates.now }
+        ensures { IsFrom self.new gates.now }
+    {
+        done(match op {
+            Op::Create { dir, kind } => {
+                return made(self.create(gates, dir, kind));
+            }
+            Op::Remove { file } => self.remove(gates, file),
+            Op::Grow { file, blocks } => self.grow(gates, file, blocks),
+            Op::MoveTo { file, dir } => self.move_to(gates, file, dir),
+            Op::Fault { file } => self.fault(gates, file),
+            Op::Flush { file } => self.flush(gates, file),
+            Op::Open { file } => self.open_file(gates, file),
+            Op::Close {
+                file,
+                cpu,
+                wait: true,
+            } => self.close_file(rt, gates, file, cpu),
+            Op::Close { file, cpu, .. } => self.try_close_file(gates, file, cpu),
+            _ => Err(GateError::Invalid),
+        })
+    }
+
+    /// A snapshot.
+    fn call_snapshot<R: Wait>(
+        &mut self,
+        rt: &R,
+        gates: &Gates,
+        wait: bool,
+    ) -> Result<Reply, GateError>
+        requires { IsFrom self.old gates.now }
+        ensures { IsFrom self.new gates.now }
+    {
+        let taken = if wait {
+            self.snapshot(rt, gates)
+        } else {
+            self.try_snapshot(gates)
+        };
+        match taken {
+            Ok(()) => Ok(Reply::Tree),
+            Err(refusal) => Err(refusal),
+        }
     }
 }

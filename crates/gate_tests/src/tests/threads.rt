@@ -1,6 +1,6 @@
 //! Tasks in threads.
 
-ghost use Rattle.vfs_gates.specs.TaskStates.{IsFrom};
+ghost use Rattle.gate_tests.specs.Origins.{IsFrom};
 
 mod freezes;
 mod holders;
@@ -10,9 +10,9 @@ mod remounts;
 mod runs;
 mod trees;
 
-use super::tasks::{Task, close};
+use super::tasks::{Gates, Task, close};
 use access_model::Gate;
-use vfs_gates::{Closed, Gates};
+use vfs_gates::Closed;
 
 /// Joins the last other task, and closes the gates; None where either is refused.
 fn join_and_close(gates: Gates, mut task: Task, other: Task) -> Option<Closed>

@@ -1,8 +1,7 @@
-use Rattle.std.proofs.Common.{ap, ◌∙◌, refl, true}
-use Rattle.std.proofs.lemmas.Result.{IfOk-weaker}
-use Rattle.clap.specs.Words.{App, with_subcommand}
+use Rattle.std.proofs.Common.{ap, ◌∙◌, true}
+use Rattle.clap.specs.Words.{App}
 use Rattle.clap.specs.Simple.{app_of_fields, on_top}
-use Rattle.command_line.specs.CommandLine.{replay_shape, check_shape, outcomes_shape, run_shape}
+use Rattle.command_line.proofs.Parsing.{commands_all, commands_more}
 use Rattle.command_line.proofs.words.command.Goals as goal
 
 -- with a version
@@ -13,13 +12,15 @@ versioned = on_top (λ s. record s { has_version = true })
 abbrev required : App → App
 required = on_top (λ s. record s { subcommand_required = true })
 
-pub returns : goal.returns
-returns c =
+pub loop-subcommand-init : goal.loop-subcommand-init
+loop-subcommand-init c =
     let begins = ap app_of_fields c.about.ensures ∙ c.new.ensures.app in
     let version = ap app_of_fields c.version.ensures ∙ ap versioned begins in
-    let top = ap app_of_fields c.subcommand_required-program.ensures ∙ ap required version in
-    let a = c.in_ok-replays.ensures replay_shape c.replay_command.ensures refl ∙ ap (λ x. with_subcommand x replay_shape) top in
-    let b = c.in_ok-checks.ensures check_shape c.check_command.ensures refl ∙ ap (λ x. with_subcommand x check_shape) a in
-    let d = c.in_ok-tells.ensures outcomes_shape c.outcomes_command.ensures refl ∙ ap (λ x. with_subcommand x outcomes_shape) b in
-    IfOk-weaker c.with_command-4.result _ _ (λ new h. h run_shape c.run_command.ensures refl ∙ ap (λ x. with_subcommand x run_shape) d)
-    c.with_command-4.ensures
+    ap app_of_fields c.subcommand_required-program.ensures ∙ ap required version
+
+pub loop-subcommand-preserved : goal.loop-subcommand-preserved
+loop-subcommand-preserved c =
+    commands_more _ _ _ _ _ c.loop-subcommand-test.true c.loop-subcommand.invariant c.in_ok-program.ensures
+
+pub returns : goal.returns
+returns c = let all = commands_all _ _ _ c.loop-subcommand-test.false c.loop-subcommand.invariant in all

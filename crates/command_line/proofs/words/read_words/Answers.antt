@@ -1,8 +1,6 @@
-use Rattle.std.proofs.Common.{◌≡◌, sym, ap, subst, ◌∙◌, inl, inr, map, true, false, string_bytes}
-use Rattle.std.proofs.lemmas.Bool.{false≢true}
+use Rattle.std.proofs.Common.{ap, subst, ◌∙◌, inl, inr, map, string_bytes}
 use Rattle.std.proofs.lemmas.Result.{IfOk-weaker}
 use Rattle.clap.specs.Words.{App, is_simple, subcommand_of, takes}
-use Rattle.clap.specs.declared.error.kind.ErrorKind.TheVariants.{OutOfMemory, DisplayHelp, DisplayVersion}
 use Rattle.command_line.specs.CommandLine.{IsBareReplay, is_plain_replay, mntgate_app}
 use Rattle.command_line.proofs.Parsing.{and_left, and_right, is_known}
 use Rattle.command_line.proofs.words.read_words.Goals as goal
@@ -26,16 +24,7 @@ pub returns-in-Err-clause-plain : goal.returns-in-Err-clause-plain
 returns-in-Err-clause-plain g c h =
     let words = map string_bytes c.args.words.now in
     let taken = ap (λ (a : App). takes a words) c.in_ok-command.ensures ∙ and_left (takes mntgate_app words) _ h in
-    inl (c.misused.ensures.memory (c.in-Err.ensures.passes taken))
+    IfOk-weaker c.answer_of.result _ _ (λ asked unread. inl unread) (c.answer_of.ensures.memory (c.in-Err.ensures.passes taken))
 
-pub returns-in_ok-format-in-Err-2-clause-plain : goal.returns-in_ok-format-in-Err-2-clause-plain
-returns-in_ok-format-in-Err-2-clause-plain g c h =
-    let words = map string_bytes c.args.words.now in
-    let taken = ap (λ (a : App). takes a words) c.in_ok-command.ensures ∙ and_left (takes mntgate_app words) _ h in
-    let kind = c.in-Err.ensures.passes taken in
-    let on_stderr : c.use_stderr.result ≡ true = c.use_stderr.ensures.1 (
-      λ e. let bad : OutOfMemory ≡ DisplayHelp = sym kind ∙ e in cc,
-      λ e. let bad : OutOfMemory ≡ DisplayVersion = sym kind ∙ e in cc,
-    ) in
-    let bad : false ≡ true = sym c.if-use_stderr.false ∙ on_stderr in
-    absurd (false≢true bad)
+pub returns-in-Err-clause-only : goal.returns-in-Err-clause-only
+returns-in-Err-clause-only g c = IfOk-weaker c.answer_of.result _ _ (λ asked other plain. absurd (other plain)) c.answer_of.ensures.nothing

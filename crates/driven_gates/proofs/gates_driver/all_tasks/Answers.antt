@@ -3,7 +3,7 @@ use Rattle.std.proofs.Common.{◌∙◌, arith}
 use Rattle.std.proofs.lemmas.List.Elements.{All-push}
 use Rattle.std.proofs.lemmas.Result.{err_from_is_err_and}
 use Rattle.vfs_gates.specs.TaskStates.{IsFrom}
-use Rattle.gate_runs.proofs.Splitting.{gives_on, has_next, numbered_more, refused_for_memory}
+use Rattle.vfs_gates.proofs.Splitting.{gives_on, has_next, numbered_more, refused_for_memory}
 use Rattle.driven_gates.proofs.gates_driver.all_tasks.Goals as goal
 
 pub returns-in_err-other-clause-memory : goal.returns-in_err-other-clause-memory

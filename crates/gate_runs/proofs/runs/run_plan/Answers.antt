@@ -12,8 +12,8 @@ use Rattle.gate_world.specs.Configs.{IsWithin}
 use Rattle.gate_runs.specs.Parts.{Among, EndsAs}
 use Rattle.gate_runs.specs.Plans.{MayRun, run_config}
 use Rattle.gate_runs.specs.Refusals.{MetBy, RunRefused}
-use Rattle.gate_runs.specs.Splitting.{Gives}
-use Rattle.gate_runs.proofs.Splitting.{first_begins, gives_all}
+use Rattle.vfs_gates.specs.Splitting.{Gives}
+use Rattle.vfs_gates.proofs.Splitting.{first_begins, gives_all}
 use Rattle.gate_runs.proofs.Staying.{all_wrote_on, creates_stay, ends_as, gives_stay, remounted_on}
 use Rattle.gate_runs.proofs.runs.run_plan.Goals as goal
 

@@ -1,8 +1,8 @@
 //! Freezes and thaws beside readers and callbacks, of a file system that fails now and then.
 
-ghost use Rattle.vfs_gates.specs.TaskStates.{IsFrom};
+ghost use Rattle.gate_tests.specs.Origins.{IsFrom};
 
-use super::super::tasks::{Task, open};
+use super::super::tasks::{Gates, Task, open};
 use super::super::{freeze, small, thaw};
 use super::{count_nobody, join_both_and_close};
 use access_model::{Gate, GateError};
@@ -13,7 +13,6 @@ use std::sync::atomic::{AtomicU64, Ordering};
 use std::test::Fail;
 use std::thread;
 use std::thread::Threads;
-use vfs_gates::Gates;
 
 /// How often the file system is frozen where threads meet.
 const FREEZES: u16 = 200;

@@ -1,9 +1,9 @@
 //! Two holders of a freeze, each in a thread, beside a writer, and one who remounts, takes snapshots and writes.
 
-ghost use Rattle.vfs_gates.specs.TaskStates.{IsFrom};
+ghost use Rattle.gate_tests.specs.Origins.{IsFrom};
 
 use super::super::small;
-use super::super::tasks::{Task, open};
+use super::super::tasks::{Gates, Task, open};
 use super::join_both_and_close;
 use access_model::{GateError, Holder, Kind};
 use cpu_words::WordName;
@@ -14,7 +14,7 @@ use std::sync::atomic::{AtomicU64, Ordering};
 use std::test::Fail;
 use std::thread;
 use std::thread::Threads;
-use vfs_gates::{Closed, Gates};
+use vfs_gates::Closed;
 
 /// How many nodes there are.
 const NODES: u8 = 6;

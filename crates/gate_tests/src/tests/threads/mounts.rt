@@ -1,9 +1,9 @@
 //! Wants and drops of two tasks, and beside them a change that comes and goes.
 
-ghost use Rattle.vfs_gates.specs.TaskStates.{IsFrom};
+ghost use Rattle.gate_tests.specs.Origins.{IsFrom};
 
 use super::super::small;
-use super::super::tasks::{Task, open};
+use super::super::tasks::{Gates, Task, open};
 use super::{count_nobody, join_both_and_close};
 use access_model::{Gate, GateError};
 use cpu_words::WordName;
@@ -11,7 +11,6 @@ use std::sync::Wait;
 use std::test::Fail;
 use std::thread;
 use std::thread::Threads;
-use vfs_gates::Gates;
 
 /// Tries to make a mount read-only, up to a million times, until that was done so often, and each time makes it writable again. Says how
 /// often it was done, and how often a want then found the mount writable, or the change back was refused.

@@ -1,8 +1,8 @@
 //! Files that are removed while open, beside a remount and a freeze.
 
-ghost use Rattle.vfs_gates.specs.TaskStates.{IsFrom};
+ghost use Rattle.gate_tests.specs.Origins.{IsFrom};
 
-use super::super::tasks::{Task, open};
+use super::super::tasks::{Gates, Task, open};
 use super::super::{freezes, small, thaws};
 use super::{count_nobody, join_both_and_close};
 use access_model::{Gate, GateError, Kind, NodeInfo};
@@ -13,7 +13,7 @@ use std::sync::Wait;
 use std::test::Fail;
 use std::thread;
 use std::thread::Threads;
-use vfs_gates::{Closed, Gates};
+use vfs_gates::Closed;
 
 /// How many nodes there are where threads meet.
 const NODES: u8 = 6;

@@ -1,9 +1,9 @@
 //! Remounts of a file system that refuses now and then, beside writers.
 
-ghost use Rattle.vfs_gates.specs.TaskStates.{IsFrom};
+ghost use Rattle.gate_tests.specs.Origins.{IsFrom};
 
 use super::super::small;
-use super::super::tasks::{Task, open};
+use super::super::tasks::{Gates, Task, open};
 use super::mounts::both_want;
 use super::{count_nobody, join_both_and_close};
 use access_model::{Gate, GateError};
@@ -13,7 +13,6 @@ use gate_world::Config;
 use std::sync::Wait;
 use std::test::Fail;
 use std::thread;
-use vfs_gates::Gates;
 
 /// How many mounts there are where threads meet.
 const MOUNTS: u8 = 3;

@@ -1,7 +1,7 @@
 -- The first task has all numbers but its own to give.
 use Rattle.std.proofs.Common.{ap}
 use Rattle.vfs_gates.specs.TaskStates.{TaskState}
-use Rattle.gate_runs.proofs.Splitting.{gives_all}
+use Rattle.vfs_gates.proofs.Splitting.{gives_all}
 use Rattle.driven_gates.proofs.gates_driver.GatesDriver.new.Goals as goal
 
 pub all_tasks-requires-clause-gives : goal.all_tasks-requires-clause-gives

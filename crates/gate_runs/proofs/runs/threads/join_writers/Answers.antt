@@ -5,7 +5,7 @@ use Rattle.gate_runs.specs.declared.runs.Plan.{Plan}
 use Rattle.gate_runs.specs.Meetings.{was_held}
 use Rattle.gate_runs.specs.Parts.{AllWrote, Among, Wrote}
 use Rattle.gate_runs.specs.Refusals.{RunRefused}
-use Rattle.gate_runs.specs.Splitting.{HasBegun}
+use Rattle.vfs_gates.specs.Splitting.{HasBegun}
 use Rattle.gate_runs.proofs.Staying.{all_wrote_before, all_wrote_on, each_popped}
 use Rattle.gate_runs.proofs.runs.threads.join_writers.Goals as goal
 

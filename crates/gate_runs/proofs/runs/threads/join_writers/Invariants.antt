@@ -3,7 +3,7 @@ use Rattle.std.proofs.Common.{◌≡◌, ◌+◌, vec_len}
 use Rattle.vfs_gates.specs.TaskStates.{IsFrom, TaskState}
 use Rattle.gate_runs.specs.Meetings.{was_held}
 use Rattle.gate_runs.specs.Parts.{AllWrote, Among, EachFrom}
-use Rattle.gate_runs.specs.Splitting.{HasBegun}
+use Rattle.vfs_gates.specs.Splitting.{HasBegun}
 use Rattle.gate_runs.proofs.runs.threads.join_writers.Given as goal
 
 abbrev pub invariant-loop-worker : goal.invariant-loop-worker

@@ -1,7 +1,7 @@
 -- the next number goes to a task that begins
-use Rattle.std.proofs.Common.{rules, ◌≡◌, ◌+◌, arith, subst}
-use Rattle.gate_runs.proofs.Splitting.{gives_on, has_begun}
-use Rattle.gate_runs.specs.Splitting.{Gives, HasBegun}
+use Rattle.std.proofs.Common.{◌≡◌, ◌+◌, arith, refl, subst, sym}
+use Rattle.vfs_gates.proofs.Splitting.{gives_on, has_begun}
+use Rattle.vfs_gates.specs.Splitting.{Gives, HasBegun}
 use Rattle.gate_runs.proofs.runs.threads.start_writer.Goals as goal
 
 pub returns-in-Ok-clause-gives : goal.returns-in-Ok-clause-gives
@@ -14,4 +14,4 @@ pub returns-in-Ok-clause-home : goal.returns-in-Ok-clause-home
 returns-in-Ok-clause-home g c =
     let begun : HasBegun (c.args.writer + 2) c.in_ok-other.other =
     has_begun _ _ _ (c.args.writer + 2) _ c.requires.gives c.requires.writer c.in_ok-other.ensures.made in
-    search (rules, begun)
+    rw c.in-Ok.ensures.ok (refl, refl, refl, refl, subst (HasBegun (c.args.writer + 2)) (sym c.of.ensures) begun)

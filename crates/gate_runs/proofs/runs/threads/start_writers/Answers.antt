@@ -1,6 +1,6 @@
 -- one thread more
 use Rattle.std.proofs.Common.{◌≡◌, ◌+◌, arith, subst, ◌∙◌, length}
-use Rattle.gate_runs.specs.Splitting.{Gives}
+use Rattle.vfs_gates.specs.Splitting.{Gives}
 use Rattle.gate_runs.proofs.Staying.{each_next}
 use Rattle.gate_runs.proofs.runs.threads.start_writers.Goals as goal
 

@@ -2,7 +2,7 @@
 use Rattle.std.proofs.Common.{◌≡◌, ◌+◌, vec_len}
 use Rattle.vfs_gates.specs.TaskStates.{IsFrom, own_view}
 use Rattle.gate_runs.specs.Parts.{EachFrom}
-use Rattle.gate_runs.specs.Splitting.{Gives, HasBegun}
+use Rattle.vfs_gates.specs.Splitting.{Gives, HasBegun}
 use Rattle.gate_runs.proofs.runs.threads.start_writers.Given as goal
 
 abbrev pub invariant-loop-writer : goal.invariant-loop-writer

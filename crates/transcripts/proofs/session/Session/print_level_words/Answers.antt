@@ -2,8 +2,13 @@ use Rattle.std.proofs.Common.{◌≡◌, ℕ, arith}
 use Rattle.cpu_words.specs.declared.names.WordName.{WordName}
 use Rattle.cpu_words.specs.declared.names.WordName.TheVariants.{Block, Sync, LevelCount}
 use Rattle.transcripts.specs.Transcript.{word_text}
-use Rattle.transcripts.proofs.Texts.{two_and_counts}
+use Rattle.transcripts.proofs.Texts.{one_more, two_and_counts}
 use Rattle.transcripts.proofs.session.Session.print_level_words.Goals as goal
+
+pub loop-cpu-preserved : goal.loop-cpu-preserved
+loop-cpu-preserved g c =
+    one_more (λ i. word_text (LevelCount c.args.level i) (g.D.Driver.word_of c.args.self.now.driver (LevelCount c.args.level i))) _ _ _ c.loop-cpu.cpu
+    c.loop-cpu.invariant c.in_ok-print_word-3.ensures
 
 pub returns : goal.returns
 returns g c =

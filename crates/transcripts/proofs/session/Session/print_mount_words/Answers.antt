@@ -2,8 +2,13 @@ use Rattle.std.proofs.Common.{◌≡◌, ℕ, arith}
 use Rattle.cpu_words.specs.declared.names.WordName.{WordName}
 use Rattle.cpu_words.specs.declared.names.WordName.TheVariants.{MountFlags, MountCount}
 use Rattle.transcripts.specs.Transcript.{word_text}
-use Rattle.transcripts.proofs.Texts.{one_and_counts}
+use Rattle.transcripts.proofs.Texts.{one_more, one_and_counts}
 use Rattle.transcripts.proofs.session.Session.print_mount_words.Goals as goal
+
+pub loop-cpu-preserved : goal.loop-cpu-preserved
+loop-cpu-preserved g c =
+    one_more (λ i. word_text (MountCount c.args.mount i) (g.D.Driver.word_of c.args.self.now.driver (MountCount c.args.mount i))) _ _ _ c.loop-cpu.cpu
+    c.loop-cpu.invariant c.in_ok-print_word-2.ensures
 
 pub returns : goal.returns
 returns g c =

@@ -1,5 +1,5 @@
 use Rattle.std.proofs.Common.{◌≤◌}
-use Rattle.vfs_gates.specs.TaskStates.{IsFrom}
+use Rattle.gate_tests.specs.Origins.{IsFrom}
 use Rattle.gate_tests.proofs.tests.threads.holders.holds.Given as goal
 
 abbrev pub invariant-loop-round : goal.invariant-loop-round

@@ -1,4 +1,4 @@
-use Rattle.vfs_gates.specs.TaskStates.{IsFrom}
+use Rattle.gate_tests.specs.Origins.{IsFrom}
 use Rattle.gate_tests.proofs.tests.threads.mounts.wants.Given as goal
 
 abbrev pub invariant-loop-round : goal.invariant-loop-round

@@ -1,0 +1,17 @@
+-- What the core's step is, as one fact.
+use Rattle.std.specs.Prelude.{◌≡◌, ℕ}
+use Rattle.cpu_words.specs.Hooks.{HookAnswer}
+use Rattle.gate_world.specs.Worlds.{World, Steps, happens}
+use Rattle.gate_core.specs.Answers.{step_answer}
+use Rattle.gate_core.specs.Memory.{Memory, Shows}
+use Rattle.gate_core.specs.Moves.{stepped, progress_in}
+use Rattle.gate_core.specs.declared.steps.Step.{Step}
+
+-- A task's next event makes the second memory of the first: it is that of the task's phase, shows what the entry makes of each world that
+-- the first one shows, and is told as it is of that world.
+pub record IsStep (before after : Memory) (t : ℕ) (hook : HookAnswer) (step : Step) : Type 0 where
+  pub config : after.config ≡ before.config
+  pub answer : (w : World) → Shows before w → step ≡ step_answer before.config w t hook
+  pub shows : (w : World) → Shows before w → Shows after (happens before.config w (Steps t hook))
+  pub progress : step.progress ≡ progress_in before t hook
+  pub memory : after ≡ stepped before t hook

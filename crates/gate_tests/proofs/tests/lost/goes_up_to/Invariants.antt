@@ -1,5 +1,0 @@
-use Rattle.vfs_gates.specs.TaskStates.{IsFrom}
-use Rattle.gate_tests.proofs.tests.lost.goes_up_to.Given as goal
-
-abbrev pub invariant-loop-done : goal.invariant-loop-done
-invariant-loop-done l = IsFrom l.task l.gates

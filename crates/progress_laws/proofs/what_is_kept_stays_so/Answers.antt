@@ -1,5 +1,0 @@
-use Rattle.progress_laws.proofs.KeptStays.{kept_stays}
-use Rattle.progress_laws.proofs.what_is_kept_stays_so.Goals as goal
-
-pub returns : goal.returns
-returns start = kept_stays

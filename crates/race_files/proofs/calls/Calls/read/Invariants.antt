@@ -1,6 +1,0 @@
-use Rattle.std.proofs.Common.{◌≡◌}
-use Rattle.race_files.proofs.calls.Calls.read.Given as goal
-
--- there are as many tasks as before
-abbrev pub invariant-loop : goal.invariant-loop
-invariant-loop l = l.calls.race.tasks ≡ l.tasks

@@ -1,0 +1,6 @@
+pub mod Left
+pub mod Words
+pub mod Mapped
+pub mod Complete
+pub mod Ordered
+pub mod Parts

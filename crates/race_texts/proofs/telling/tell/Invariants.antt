@@ -1,0 +1,7 @@
+use Rattle.race_texts.specs.Told.{AsksNone}
+use Rattle.race_texts.proofs.Parts.{ToldSoFar}
+use Rattle.race_texts.proofs.telling.tell.Given as goal
+
+-- the lines and details so far
+abbrev pub invariant-loop-outcome : goal.invariant-loop-outcome
+invariant-loop-outcome l = ToldSoFar (AsksNone l.details) l.outcome-items l.outcome-index l.initial.out.bytes.items l.out.bytes.items

@@ -1,0 +1,5 @@
+pub mod Faults
+pub mod Left
+pub mod Calls
+pub mod Texts
+pub mod Told

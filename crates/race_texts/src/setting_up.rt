@@ -1,0 +1,37 @@
+//! What comes before a race.
+
+use crate::faults::RaceFault;
+use crate::lines::{Lines, is_race};
+use schedule_text::{Fault, Line, Output, parse};
+use std::alloc::Global;
+use transcripts::{Core, Session, no_memory};
+
+/// Takes the lines of a schedule before `race`, and does them. What they print is dropped.
+pub fn set_up(alloc: Global, lines: &mut Lines<'_>) -> Result<Session<Core>, RaceFault> {
+    let mut session = open(alloc, lines)?;
+    let mut printed = Output::with_room(alloc, 0).map_err(no_memory)?;
+    while let Some(line) = lines.line()? {
+        if is_race(line)? {
+            return Ok(session);
+        }
+        if let Line::Request(request) = parse(line, Some(session.tasks()))? {
+            session.do_request(request, &mut printed)?;
+            printed.clear();
+        }
+        lines.take();
+    }
+    Err(RaceFault::RaceExpected)
+}
+
+/// Takes the lines up to the configuration.
+fn open(alloc: Global, lines: &mut Lines<'_>) -> Result<Session<Core>, RaceFault> {
+    while let Some(line) = lines.line()? {
+        if let Line::Config(config) = parse(line, None)? {
+            let session = Session::new(alloc, config)?;
+            lines.take();
+            return Ok(session);
+        }
+        lines.take();
+    }
+    Err(RaceFault::Schedule(Fault::ConfigExpected))
+}

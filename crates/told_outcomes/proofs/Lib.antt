@@ -1,4 +1,0 @@
-pub mod Mapped
-pub mod Complete
-pub mod Ordered
-pub mod Parts

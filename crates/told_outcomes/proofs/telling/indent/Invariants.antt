@@ -1,6 +1,0 @@
-use Rattle.told_outcomes.specs.Told.{TellsDetails}
-use Rattle.told_outcomes.proofs.telling.indent.Given as goal
-
--- the lines so far
-abbrev pub invariant-loop-line : goal.invariant-loop-line
-invariant-loop-line l = TellsDetails ⊥ l.initial.out.bytes.items l.out.bytes.items

@@ -1,9 +1,0 @@
-use Rattle.std.proofs.Common.{◌≡◌, ◌++◌, take}
-use Rattle.std.specs.List.{flat_map}
-use Rattle.told_outcomes.specs.Texts.{answer_part}
-use Rattle.told_outcomes.proofs.texts.print_course.Given as goal
-
--- what the answers so far print
-abbrev pub invariant-loop-turn : goal.invariant-loop-turn
-invariant-loop-turn l =
-    l.out.bytes.items ≡ l.initial.out.bytes.items ++ flat_map (answer_part l.task) (take l.turn l.course.answers)

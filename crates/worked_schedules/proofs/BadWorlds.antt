@@ -1,0 +1,64 @@
+-- Worlds and refusals that no schedule has, of which a clause says so: a wrong order of events, or a weaker rule, would have them.
+use Rattle.std.{proofs.Common.{ℕ, zero, suc, ◌+◌, ◌≤◌, true, refl, arith, sym, true≢false}, specs.Prelude.{Some, Ok, [], ◌∷◌}}
+use Rattle.finite_sums.specs.Sums.{total}
+use Rattle.access_model.specs.declared.{actions.Holder.Holder, errors.GateError.GateError, replies.Reply.Reply}
+use Rattle.cpu_words.specs.Sums.{lead}
+use Rattle.gate_counts.specs.{Gates.{admitted, unread}, Levels.level_as_gate}
+use Rattle.gated_tree.specs.declared.{phases.TreePhase.TreePhase, snapshots.SnapshotStep.SnapshotStep}
+use Rattle.mount_counts.specs.declared.phases.{Change.Change, MountPhase.MountPhase}
+use Rattle.percpu_rwsem.specs.declared.{readers.DownReadStep.DownReadStep, writers.DownWriteStep.DownWriteStep}
+use Rattle.freeze_levels.specs.declared.freezes.FreezeStep.{FreezeStep}
+use Rattle.gate_world.specs.{Causes.HasCause, Headline.{LevelsLead, SnapshotsStand}, Levels.at_level, Views.opening_view, Worlds.{World, opening}}
+use Rattle.gate_world.specs.declared.{views.View.View, work.Phase.Phase}
+use Rattle.worked_schedules.specs.Schedules.{small}
+
+-- a task of which nothing is known but what it is at
+abbrev at_phase : Phase → View
+at_phase phase = record opening_view { phase = Some phase }
+
+-- the first task at one phase, the second at another, and the third idle
+abbrev views_of : View → View → ℕ → View
+views_of first second zero = first
+views_of first second (suc zero) = second
+views_of first second t = opening_view
+
+-- a freeze that sums level 1, with `block` set, and without a grace period: a reader is on the fast path still
+abbrev fast : World
+fast = record {
+  words = record opening.words { block = λ i. 1 };
+  views = views_of
+      (at_phase (Phase.Freezes record {
+        holder = Holder.User;
+        task = 0;
+        tasks = 3;
+        processors = 2;
+        nodes = 2;
+        step = FreezeStep.Closes record { level = 1; tasks = 3; processors = 2; step = DownWriteStep.Sums record { words = 0; total = 0 } };
+      }))
+      (at_phase (Phase.DownReads record { level = 1; cpu = 0; task = 1; wait = true; step = DownReadStep.CountsUpFast }));
+}
+
+-- its lead is no less than what is held there and sought on a word to come
+fast_leads : total 3 (λ x. admitted (level_as_gate (at_level 1 (fast.views x)))) +
+    total 3 (λ x. unread 0 (level_as_gate (at_level 1 (fast.views x)))) ≤ lead 2 (fast.words.level 1) 0 0
+fast_leads = omega arith
+
+-- but less than what is admitted
+fast_never : LevelsLead small fast → ⊥
+fast_never h = omega (arith, (h 0 1 0 0 (omega arith) (omega arith) (omega arith) refl).1)
+
+-- a snapshot that has loaded its last word, and not given `umount` back, of a file system that is thawed
+abbrev thawed : World
+thawed = record {
+  words = opening.words;
+  views =
+      views_of (at_phase (Phase.Trees
+      (TreePhase.Snapshot record { nodes = 2; task = 0; wait = true; step = SnapshotStep.Releases (Ok Reply.Tree) }))) opening_view;
+}
+
+thawed_never : SnapshotsStand small thawed → ⊥
+thawed_never h = omega (arith, (h 0 _ 5 (omega arith) refl refl).0)
+
+-- a change that is refused as busy where nothing is counted, by whatever event, be it its first
+early_never : (x : Change) → HasCause small 0 (opening ∷ []) (Phase.Mounts (MountPhase.Change x)) GateError.Busy → ⊥
+early_never x h = true≢false (sym h)

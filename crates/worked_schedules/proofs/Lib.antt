@@ -1,0 +1,5 @@
+mod Rows
+mod TreeRows
+mod CauseRows
+mod BadWorlds
+mod KeptRows

@@ -1,0 +1,17 @@
+-- Schedules that were written out by hand, on two processors and one mount.
+use Rattle.std.specs.Prelude.{ℕ, true, Ok, List, ◌∷◌, ◌++◌, replicate}
+use Rattle.gate_world.specs.declared.config.Config.{Config}
+use Rattle.gate_world.specs.declared.operations.Op.TheVariants.{Want, DropMount}
+use Rattle.gate_world.specs.Worlds.{Entry, Begins, Steps}
+
+-- three tasks, two processors, one mount
+abbrev pub small : Config
+small = record { tasks = 3; processors = 2; mounts = 1; nodes = 2; capacity = 8 }
+
+-- so many steps of a task
+abbrev pub steps : ℕ → ℕ → List Entry
+steps n t = replicate n (Steps t (Ok tt))
+
+-- an access that is granted on one processor and given back on the other: that one's word wraps
+abbrev pub moves : List Entry
+moves = Begins 0 (Want 0 0 true) ∷ steps 5 0 ++ (Begins 0 (DropMount 0 1) ∷ steps 1 0)
