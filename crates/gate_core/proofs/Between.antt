@@ -7,7 +7,7 @@ use Rattle.freeze_levels.specs.declared.{freezes.FreezeStep.{FreezeStep, TheVari
 use Rattle.gate_core.proofs.Layers.{op_keeps}
 use Rattle.gate_frames.proofs.Holders.{holders_at}
 use Rattle.gate_world.specs.{Beginnings.first_phase, Fits.Fits, Found.stores_stage, Headline.{HoldersAreTold, is_between, stores_nobody}, Rules.Fitting}
-use Rattle.gate_world.specs.{Rules.{Holding, IsGood, Known}, Shown.holder_role_of, Views.{begun_view, held_of, phase_after, view_after, with_hook}}
+use Rattle.gate_world.specs.{Rules.{Holding, IsGood, Known, holder_role_of}, Views.{begun_view, held_of, phase_after, view_after, with_hook}}
 use Rattle.gate_world.specs.{Work.{after_of, next_of}, Worlds.{Begins, Entry, Steps, World, after_step, begin_of, begin_refusal, found_at, happens, opening}}
 use Rattle.gate_world.specs.{Worlds.{step_of, value_at, words_after}, declared.{config.Config.Config, operations.Op.Op, views.{Traced.Traced, View.View}}}
 use Rattle.gate_world.specs.declared.work.Phase.{Phase, TheVariants.Closes}

@@ -1,6 +1,6 @@
 -- Each freeze level of a schedule is a run of it, so its grace periods are kept.
 use Rattle.std.proofs.{Common.{◌≡◌, ℕ, zero, suc, ◌<◌, ◌≤◌, refl, sym, ap, ◌∙◌, inl, inr, arith}, lemmas.Bool.{cases_Bool, ltb-true}}
-use Rattle.std.specs.Prelude.{Option, Some, None, List, [], ◌∷◌, length, take, nat_lt, is_some, true}
+use Rattle.std.specs.Prelude.{Option, Some, None, List, [], ◌∷◌, length, take, nat_lt, is_some}
 use Rattle.access_model.specs.declared.errors.GateError.{GateError}
 use Rattle.cpu_words.specs.Hooks.{HookAnswer}
 use Rattle.level_laws.proofs.{GraceLaws.graces_are_whole, IdleLaws.only_callbacks_idle, SlowLaws.stays_slow, Whole.idle_is_earned}

@@ -1,6 +1,6 @@
 -- A phase that fits: the word of its next event is there and has a place, the action of the event can be done, and the phase that comes
 -- fits.
-use Rattle.std.{proofs.Common.{◌≡◌, ℕ, ◌<◌, arith}, specs.Prelude.{Option, Some, None}}
+use Rattle.std.{proofs.Common.{ℕ, ◌<◌, arith}, specs.Prelude.{Option, Some, None}}
 use Rattle.cpu_words.{proofs.Places.place_small, specs.{Hooks.HookAnswer, Names.{IsWord, place, words_in_all}}}
 use Rattle.gate_world.specs.{Configs.{IsWithin, extents_kept, extents_among}, Fits.{PhaseFits, Fits, ActionFits}}
 use Rattle.gate_world.specs.{Holdings.{Holdings, Agree, held_after}, Views.phase_after, Work.{next_of, after_of}}

@@ -13,10 +13,9 @@ use Rattle.stage_laws.{proofs.{Facts.{way_is, other_zero}, Whole.freeze_is_under
 use Rattle.holder_laws.{proofs.HolderLaws.held_exactly, specs.Roles.between}
 use Rattle.gate_world.specs.Headline.{IsAtRest, IsUntaken, HeldWhereFrozen, FreezeIsUnderWay}
 use Rattle.gate_world.specs.Levels.{is_frozen_whole, sync_role_of, inside}
-use Rattle.gate_world.specs.Rules.{owns, remounts, role_of, IsGood, Owner, Tree, AtMount, SyncHoldsIn, SyncAt, Sections, Stages, Holding}
-use Rattle.gate_world.specs.{Shown.{shown, stage_roles}, Trees.tree_role_of, Worlds.World, declared.config.Config.Config}
-use Rattle.gate_world.specs.Shown.{holder_role_of, stage_role_of}
-use Rattle.gate_frames.proofs.{Holders.holders_at, Stages.{stages_in, stages_right}}
+use Rattle.gate_world.specs.Rules.{AtMount, Holding, IsGood, Owner, Sections, Stages, SyncAt, SyncHoldsIn, Tree, holder_role_of, owns, remounts, role_of}
+use Rattle.gate_world.specs.{Rules.{stage_role_of, stage_roles}, Shown.shown, Trees.tree_role_of, Worlds.World, declared.config.Config.Config}
+use Rattle.gate_frames.proofs.{ByPhase.{apart_stage, freezing_is, stage_of}, Holders.holders_at, Stages.{stages_in, stages_right}}
 use Rattle.operation_laws.proofs.Frozen.{idle_sound}
 
 module _ (c : Config) (w : World) (good : IsGood c w) (idle : (t : ℕ) → t < c.tasks → (w.views t).phase ≡ None) where
@@ -93,5 +92,10 @@ pub a_freeze_is_under_way : (c : Config) (w : World) → IsGood c w → FreezeIs
 a_freeze_is_under_way c w good low high =
     let f : (t : ℕ) × (t < c.tasks) × (place : Place) × (owner : Bool) × (stage_roles w t ≡ Freezing w.words.stage place owner) =
     freeze_is_under_way c.tasks c.nodes (stages_in w) (stages_right c w good) low high in
-    let one : total c.tasks (λ u. freezes (stage_roles w u)) ≤ 1 = at_most_one c w good in
-    (f.0, f.1, f.2, f.3, f.4, λ u lu ne. other_zero c.tasks f.0 (λ y. freezes (stage_roles w y)) one f.1 (ap freezes f.4) u lu ne)
+    let one : total c.tasks (λ u. freezes (stage_roles w u)) ≤ 1 = at_most_one c w good in (
+      f.0,
+      f.1,
+      freezing_is (w.views f.0).phase ∙ ap stage_of f.4,
+      λ u lu ne. freezing_is (w.views u).phase ∙
+          apart_stage (stage_roles w u) (other_zero c.tasks f.0 (λ y. freezes (stage_roles w y)) one f.1 (ap freezes f.4) u lu ne),
+    )

@@ -10,7 +10,7 @@ use Rattle.gate_counts.specs.{Gates.{below, counted as counted_of}, Levels.{leve
 use Rattle.gate_frames.proofs.{Beside.{SameCounts, beside_good, beside_of, beside_shown}, Frames.{left_alone, opens_left, same_words}, Trees.tree_within}
 use Rattle.gate_world.specs.{Alike.{IsBeside, off_tree}, Beginnings.{first_phase, view_refusal}, Configs.{IsWithin, model_limits}, Fits.{HasFile, file_of}}
 use Rattle.gate_world.specs.{Headline.{IdleSumsHold, SumsHold}, Levels.{at_level, level_role_of}, Owners.KnowsWords, Rules.{AtLevel, AtMount, Files, Fitting}}
-use Rattle.gate_world.specs.Rules.{Holding, Holds, IsGood, Known, LevelHoldsIn, MountHoldsIn, Moves, Owner, Part, Sections, Stages, SyncAt, Tree, ViewFits}
+use Rattle.gate_world.specs.Rules.{Holding, Holds, IsGood, Known, LevelHoldsIn, MountHoldsIn, Moves, Owner, Part, Sections, Stages, SyncAt, Tree}
 use Rattle.gate_world.specs.{Rules.{at_mount, owns, role_of}, Shown.shown, Trees.{tree_bounds, tree_role_of}, Views.{begun_view, has_open, held_of}}
 use Rattle.gate_world.specs.Worlds.{Begins, Entry, Steps, World, action_of, after_begin, begin_of, happens, history, opening, phase_action, run, step_of}
 use Rattle.gate_world.specs.{Worlds.{task_of, with_action}, declared.{config.Config.Config, operations.Op.Op, views.View.View, work.Phase.Phase}}
@@ -19,7 +19,7 @@ use Rattle.holder_laws.proofs.HolderLaws.{opens as holders_open}
 use Rattle.level_laws.proofs.Whole.{opening_is_right}
 use Rattle.mount_counts.specs.Roles.{counted, mount_shut, processor_of, sought}
 use Rattle.stage_laws.proofs.Whole.{opening_is_right as stages_open}
-use Rattle.std.proofs.{Common.{ap, arith, false, inl, inr, refl, subst, sym, true, true≢false, ℕ, ◌%◌, ◌*◌, ◌<◌, ◌∙◌, ◌≡◌, ◌≤◌}, Math.Path.fun_ext}
+use Rattle.std.proofs.{Common.{ap, arith, false, inl, inr, refl, subst, sym, true≢false, ℕ, ◌%◌, ◌*◌, ◌<◌, ◌∙◌, ◌≡◌, ◌≤◌}, Math.Path.fun_ext}
 use Rattle.std.proofs.lemmas.Bool.{cases_Bool, ltb-true, Decides.eqb_tells}
 use Rattle.std.specs.Prelude.{List, None, Option, Some, [], is_some, nat_lt, ◌∷◌}
 use Rattle.tree_laws.proofs.Each.{opening_holds}

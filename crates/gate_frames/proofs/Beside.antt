@@ -5,13 +5,13 @@ use Rattle.cpu_words.specs.{Hooks.HookAnswer, Touches.left, Words.{put, read}, d
 use Rattle.finite_sums.proofs.Totals.{each_updated, update_at, update_off}
 use Rattle.finite_sums.specs.Sums.{update}
 use Rattle.gate_frames.proofs.{Accesses.holdings_of_after, Frames.{left_alone, same_words, shown_still}, LevelSteps.level_kept}
-use Rattle.gate_world.specs.{Alike.{IsBeside, at_phase, off_tree, rephased}, Fits.Fits, Holdings.{held_after, holdings_of}, LevelRuns.level_in}
-use Rattle.gate_world.specs.{Levels.{level_added_by, level_taken_by}, Roles.{Roles, roles_of}, Rules.{AtLevel, AtMount, Files, Fitting, Holding, Holds}}
+use Rattle.gate_world.specs.{Alike.{IsBeside, Roles, at_phase, off_tree, rephased, roles_of}, Fits.Fits, Holdings.{held_after}, LevelRuns.level_in}
+use Rattle.gate_world.specs.{Levels.{level_added_by, level_taken_by}, Rules.{AtLevel, AtMount, Files, Fitting, Holding, Holds}}
 use Rattle.gate_world.specs.{Rules.{IsGood, Known, Moves, Owner, Part, SameView, Sections, Stages, SyncAt, Tree, ViewFits}, Shown.shown, Views.added_by}
-use Rattle.gate_world.specs.{Views.{has_open, held_of, phase_after, taken_by, view_with}, Worlds.World, declared.{config.Config.Config, views.View.View}}
+use Rattle.gate_world.specs.{Views.{held_of, phase_after, taken_by, view_with}, Worlds.World, declared.{config.Config.Config, views.View.View}}
 use Rattle.gate_world.specs.declared.work.Phase.{Phase}
 use Rattle.level_laws.specs.Events.{SyncStep}
-use Rattle.stage_laws.specs.Roles.{sums}
+use Rattle.gate_frames.proofs.ByPhase.{closing_as}
 use Rattle.std.proofs.{Common.{Bool, ap, false, inl, inr, refl, subst, sym, true, true≢false, ℕ, ◌<◌, ◌∙◌, ◌≡◌}, Math.Path.fun_ext}
 use Rattle.std.proofs.lemmas.Bool.Decides.{eqb_tells}
 use Rattle.std.specs.Prelude.{Option, if◌then◌else◌}
@@ -74,7 +74,7 @@ module _ (c : Config) (w : World) (t : ℕ) (lt : t < c.tasks) (v : View) (count
   -- the shown model is the same
   pub beside_shown : shown c (record { words = w.words; views = update w.views t v }) ≡ shown c w
   beside_shown =
-      shown_still c w t lt w.words v refl refl refl refl refl refl refl (λ i j. sums i (same j).stage) counts.held_same
+      shown_still c w t lt w.words v refl refl refl refl refl refl refl (closing_as _ _ (λ j. (same j).stage)) counts.held_same
 
 -- the same accesses and events count the same
 pub same_counts : (v : View) (q : Option Phase) → SameCounts v (at_phase v q)

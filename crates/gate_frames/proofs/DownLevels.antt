@@ -25,7 +25,7 @@ use Rattle.write_access.specs.declared.phases.WritePhase.{WritePhase}
 use Rattle.file_closes.specs.declared.phases.ClosePhase.{ClosePhase}
 use Rattle.gate_world.specs.{Configs.IsWithin, Fits.DownWriteFits, LevelRuns.level_in, Levels.{sync_role_of, at_level, is_frozen_whole, level_role_of}}
 use Rattle.gate_world.specs.Roles.{sync_role_if, freeze_stand, thaw_stand, Stand, stand_count, stand_sync, closed_to, down_count_role, freeze_stage_role}
-use Rattle.gate_world.specs.{Roles.{thaw_stage_role, reopening_role}, Rules.{Stages, IsGood, Holds, AtLevel}, Shown.{stage_roles, stage_role_of}}
+use Rattle.gate_world.specs.{Roles.{reopening_role, thaw_stage_role}, Rules.{AtLevel, Holds, IsGood, Stages, stage_role_of, stage_roles}}
 use Rattle.gate_world.specs.{Views.holds_level, Worlds.World, declared.{config.Config.Config, views.View.View, work.Phase.{Phase, TheVariants.Closes}}}
 use Rattle.gate_frames.proofs.{Frames.SameLevelCounts, LevelWorlds.{level_right, found_level, IsEventAt, event_word}}
 use Rattle.gate_frames.proofs.StandRoles.{count_at, sync_at, SayBeside, beside_each, counts_left, counts_become, levels_move}

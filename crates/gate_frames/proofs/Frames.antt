@@ -7,10 +7,10 @@ use Rattle.freeze_levels.specs.Holders.{holders_in}
 use Rattle.gate_counts.specs.Levels.{LevelHolds, LevelRole, LevelView, Out as CountsNot}
 use Rattle.gate_frames.proofs.Known.{known_same}
 use Rattle.gate_world.specs.{Fits.{Fits, HasFile, file_of}, Holdings.Holdings, Levels.{at_level, inside, is_frozen_whole, level_added_by, level_taken_by}}
-use Rattle.gate_world.specs.{Levels.sync_role_of, Owners.KnowsWords, Roles.{Roles, count_role_if, no_roles, role_if, roles_of, sync_role_if}, Rules.AtLevel}
-use Rattle.gate_world.specs.Rules.{AtMount, Files, Fitting, GatesHold, Holding, Holds, IsGood, IsSteady, Known, Owner, OwnerHolds, Part, SameView, SameWords}
-use Rattle.gate_world.specs.{Rules.{Sections, Stages, SyncAt, Tree, ViewFits, at_mount, owns, remounts}, Shown.{closing, holder_role_of, holder_roles}}
-use Rattle.gate_world.specs.{Shown.{is_passed, shown, stage_role_of, stage_roles}, Trees.{tree_bounds, tree_role_of, tree_roles}, Views.added_after}
+use Rattle.gate_world.specs.{Alike.{Roles, no_roles, roles_of}, Levels.sync_role_of, Owners.KnowsWords, Roles.{count_role_if, role_if, sync_role_if}}
+use Rattle.gate_world.specs.Rules.{AtLevel, AtMount, Files, Fitting, GatesHold, Holding, Holds, IsGood, IsSteady, Known, Owner, OwnerHolds, Part, SameView}
+use Rattle.gate_world.specs.Rules.{SameWords, Sections, Stages, SyncAt, Tree, ViewFits, at_mount, holder_role_of, holder_roles, owns, remounts, stage_role_of}
+use Rattle.gate_world.specs.{Rules.stage_roles, Shown.{closing, is_passed, shown}, Trees.{tree_bounds, tree_role_of, tree_roles}, Views.added_after}
 use Rattle.gate_world.specs.{Views.{has_open, held_at, held_of, holds_level, taken_after}, Worlds.World, declared.{config.Config.Config, views.View.View}}
 use Rattle.gate_world.specs.declared.work.Phase.{Phase}
 use Rattle.gated_tree.specs.{Nodes.{node_shown, opens_in}, Roles.{Role as TreeRole, TreeHolds, TreeState}}

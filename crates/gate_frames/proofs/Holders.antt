@@ -5,24 +5,23 @@ use Rattle.finite_sums.{proofs.Totals.{total_none, update_map, update_same}, spe
 use Rattle.access_model.specs.{Holders.is_unheld, declared.actions.Holder.Holder}
 use Rattle.cpu_words.specs.Words.{Words}
 use Rattle.freeze_levels.specs.declared.{freezes.FreezeStep.FreezeStep, thaws.ThawStep.ThawStep}
-use Rattle.stage_laws.specs.Roles.{owns as stage_owns}
 use Rattle.holder_laws.{proofs.HolderLaws.events_keep, specs.{Events.{HolderMoment, HolderEvent, Happens, Moves, Stays}, Roles.{HoldersHold, minds}}}
-use Rattle.gate_world.specs.{Roles.{freeze_holder_role, thaw_holder_role, freeze_stage_role, thaw_stage_role}, Rules.{owns, IsGood, Holds, Owner, Holding}}
-use Rattle.gate_world.specs.{Shown.{holder_roles, holder_role_of}, Worlds.World, declared.{config.Config.Config, views.View.View, work.Phase.Phase}}
+use Rattle.gate_world.specs.{Roles.{freeze_holder_role, freeze_owns, thaw_holder_role, thaw_owns}, Rules.{Holding, Holds, IsGood, Owner}}
+use Rattle.gate_world.specs.{Rules.{holder_role_of, holder_roles, owns}, Worlds.World, declared.{config.Config.Config, views.View.View, work.Phase.Phase}}
 use Rattle.gate_frames.proofs.Owners.{owns_le}
 
 -- who relies on the holders owns `umount`
-freeze_minds : (nodes : ℕ) (s : FreezeStep) → minds (freeze_holder_role s) ≤ stage_owns (freeze_stage_role nodes s)
-freeze_minds nodes (FreezeStep.Holds beside) =
+freeze_minds : (s : FreezeStep) → minds (freeze_holder_role s) ≤ freeze_owns s
+freeze_minds (FreezeStep.Holds beside) =
     elim (cases_Bool (is_unheld beside)) [ inl h ↦ rw h (omega arith) | inr h ↦ rw h (omega arith) ]
-freeze_minds nodes s = omega arith
+freeze_minds s = omega arith
 
-thaw_minds : (holder : Holder) (s : ThawStep) → minds (thaw_holder_role holder s) ≤ stage_owns (thaw_stage_role s)
+thaw_minds : (holder : Holder) (s : ThawStep) → minds (thaw_holder_role holder s) ≤ thaw_owns s
 thaw_minds holder (ThawStep.Leaves held) = omega arith
 thaw_minds holder s = omega arith
 
 pub holder_owner : (p : Option Phase) → minds (holder_role_of p) ≤ owns p
-holder_owner (Some (Phase.Freezes x)) = freeze_minds x.nodes x.step
+holder_owner (Some (Phase.Freezes x)) = freeze_minds x.step
 holder_owner (Some (Phase.Thaws x)) = thaw_minds x.holder x.step
 holder_owner other = omega arith
 

@@ -4,7 +4,7 @@ use Rattle.cpu_words.specs.{Hooks.HookAnswer, Names.{Extents, IsWord}, declared.
 use Rattle.gate_world.specs.{Beginnings.{first_phase, is_in_order, is_in_range, is_within_room}, Causes.{all_counted, all_inside}, Configs.IsWithin}
 use Rattle.gate_world.specs.{Configs.{extents_among, extents_of}, Courses.{IsTrace, course_of}, Fits.{ActionFits, Fits, HasFile, PhaseFits, file_of}}
 use Rattle.gate_world.specs.{Holdings.{Agree, Holdings, held_after, holdings_of}, KeptCauses.CauseOf, LevelRuns.level_in, Moments.CompletesNow}
-use Rattle.gate_world.specs.{Roles.{no_roles, roles_of}, Rules.{IsGood, StepKeeps}, Traces.{IsShort, Tells, actions_of, most_events}, Views.held_of}
+use Rattle.gate_world.specs.{Alike.{no_roles, roles_of}, Rules.{IsGood, StepKeeps}, Traces.{IsShort, Tells, actions_of, most_events}, Views.held_of}
 use Rattle.gate_world.specs.{Views.phase_after, Waits.HasReason, Work.{after_of, next_of}, Worlds.{World, after_step, found_at}}
 use Rattle.gate_world.specs.declared.{config.Config.Config, operations.Op.Op, views.Traced.Traced, work.Phase.Phase}
 use Rattle.level_laws.specs.Events.{SyncStep}

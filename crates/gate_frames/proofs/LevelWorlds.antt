@@ -8,11 +8,10 @@ use Rattle.level_laws.proofs.Whole.{events_keep, fast_finds_open as level_is_ope
 use Rattle.level_laws.specs.Events.{SyncLevelHolds, SyncStep, TurnsSection}
 use Rattle.level_laws.specs.Operations.{down_read_role, callback_role, down_read_inside, put_at, value_at, left_by}
 use Rattle.level_laws.specs.Roles.{SyncRole, Out as IsApart, Fast, fast, closed}
-use Rattle.stage_laws.specs.Roles.{sums}
 use Rattle.write_access.specs.declared.phases.WritePhase.{WritePhase}
 use Rattle.file_closes.specs.declared.phases.ClosePhase.{ClosePhase}
-use Rattle.gate_world.specs.{LevelRuns.level_in, Levels.{sync_role_of, inside}, Roles.{sync_role_if, freeze_stand, thaw_stand}, Rules.{IsGood, SameWords}}
-use Rattle.gate_world.specs.{Rules.{SyncAt, Sections, Holds}, Shown.{shown, is_passed, stage_roles}, Worlds.World, declared.config.Config.Config}
+use Rattle.gate_world.specs.{LevelRuns.level_in, Levels.{inside, sync_role_of}, Roles.{freeze_stand, sync_role_if, thaw_stand}, Rules.{Holds, IsGood}}
+use Rattle.gate_world.specs.{Rules.{SameWords, Sections, SyncAt}, Shown.{closing, is_passed, shown}, Worlds.World, declared.config.Config.Config}
 use Rattle.gate_world.specs.declared.{views.View.View, work.Phase.Phase}
 use Rattle.gate_frames.proofs.{Frames.left_alone, Stands.{freeze_slow, stand_below, thaw_slow}}
 
@@ -152,7 +151,7 @@ module _ (c : Config) (w : World) (good : IsGood c w) where
   clear_above i j one le three e = passed_blocked c w j (omega (arith, block_below i j one le three, e))
 
   counts_once : (i : ℕ) → is_passed c w i ≤ 1
-  counts_once i = passed_once (w.words.block i == 1 && total c.tasks (λ x. sums i (stage_roles w x)) == 0)
+  counts_once i = passed_once (w.words.block i == 1 && total c.tasks (λ x. closing i (w.views x).phase) == 0)
 
   pub not_passed : (i : ℕ) → 1 ≤ i → i ≤ 3 → w.words.block i ≡ 0 → (shown c w).passed < i
   not_passed zero one three e = absurd (omega arith)

@@ -13,6 +13,7 @@ pub mod Places
 pub mod Hooks
 pub mod TreeRoles
 pub mod Trees
+pub mod ByPhase
 pub mod Stages
 pub mod Holders
 pub mod MayHolds

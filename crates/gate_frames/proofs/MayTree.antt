@@ -10,7 +10,7 @@ use Rattle.gate_frames.proofs.{TreeRoles.snapshot_apart, Trees.{nobody_reads, se
 use Rattle.gate_world.specs.{Configs.model_limits, Fits.{Fits, HasFile, PhaseFits, TreeAccess, file_of}, Holdings.Holdings, Operations.is_faulter}
 use Rattle.gate_world.specs.{Operations.{is_writer, may_mark, some_mount}, Remounts.{loop_role, remount_role, remount_sets}, Roles.freeze_stage_role}
 use Rattle.gate_world.specs.{Roles.{freeze_tree_role, nodes_noted, remount_tree_role}, Rules.{AtMount, Files, Fitting, IsGood, Owner, at_mount, remounts}}
-use Rattle.gate_world.specs.{Rules.role_of, Shown.{shown, stage_role_of}, Snapshots.values_noted, Trees.{is_bare_at, tree_bounds, tree_of, tree_role_of}}
+use Rattle.gate_world.specs.{Rules.{role_of, stage_role_of}, Shown.shown, Snapshots.values_noted, Trees.{is_bare_at, tree_bounds, tree_of, tree_role_of}}
 use Rattle.gate_world.specs.{Trees.tree_roles, Views.{has_open, held_at, held_of, holds_level}, Worlds.World, declared.config.Config.Config}
 use Rattle.gate_world.specs.declared.{views.Traced.Traced, work.Phase.Phase}
 use Rattle.gated_tree.specs.{Calls.phase_role, Nodes.word_of, Phases.{after, create_after, grow_after, mark_after, mark_done, move_after, open_after}}

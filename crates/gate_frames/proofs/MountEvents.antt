@@ -7,7 +7,8 @@ use Rattle.cpu_words.specs.declared.{events.Touch.Touch, names.WordName.WordName
 use Rattle.mount_counts.specs.Phases.{change_after, change_next, lock_failed, want_after, want_next, next, after}
 use Rattle.mount_counts.specs.declared.phases.{Change.Change, ChangeStep.ChangeStep, MountPhase.MountPhase, Want.Want, WantStep.WantStep}
 use Rattle.gate_world.specs.{Found.is_load, Levels.{at_level, level_added_after, level_taken_after, level_added_by, level_taken_by}, Owners.is_owned}
-use Rattle.gate_world.specs.{Owners.takes_lock, Roles.{change_owns, Roles, no_roles, roles_of}, Rules.{AtMount, Holds, IsGood, Known, Owner, Part, SameView}}
+use Rattle.gate_world.specs.{Alike.{Roles, no_roles, roles_of}, Owners.takes_lock, Roles.change_owns, Rules.{AtMount, Holds, IsGood, Known, Owner, Part}}
+use Rattle.gate_world.specs.Rules.{SameView}
 use Rattle.gate_world.specs.Rules.{SameWords, Stages, Holding, StepKeeps, at_gates, owns, GateStepKeeps, Tree, AtLevel, SyncAt, Sections, Files}
 use Rattle.gate_world.specs.{Trees.tree_role_of, Views.{phase_after, view_after, actions_after, has_open}, Worlds.{World, after_step, found_at, value_at}}
 use Rattle.gate_world.specs.{Worlds.words_after, declared.{config.Config.Config, views.View.View, work.Phase.Phase}}

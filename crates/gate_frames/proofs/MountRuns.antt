@@ -3,7 +3,7 @@ use Rattle.std.{proofs.Common.{◌≡◌, ℕ, ◌<◌, refl, sym, ap, ◌∙◌
 use Rattle.cpu_words.specs.{Hooks.HookAnswer, Words.Words}
 use Rattle.mount_counts.specs.{Phases.after, declared.phases.{Change.Change, ChangeStep.ChangeStep, MountPhase.MountPhase, Want.Want, WantStep.WantStep}}
 use Rattle.level_laws.specs.{Events.SyncStep, Roles.Out as IsApart}
-use Rattle.gate_world.specs.{LevelRuns.level_in, Levels.{inside, sync_role_of}, Roles.{no_roles, roles_of}, Rules.{SameWords, SyncAt}, Views.phase_after}
+use Rattle.gate_world.specs.{Alike.{no_roles, roles_of}, LevelRuns.level_in, Levels.{inside, sync_role_of}, Rules.{SameWords, SyncAt}, Views.phase_after}
 use Rattle.gate_world.specs.{Views.view_after, Work.after_of, Worlds.{World, after_step, found_at, value_at, words_after}, declared.work.Phase.Phase}
 use Rattle.gate_frames.proofs.{LevelSteps.{level_kept, level_stays}, MountEvents.{off_mounts, mounts_roles}}
 use Rattle.access_model.specs.Replies.{map_next}

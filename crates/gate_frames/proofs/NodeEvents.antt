@@ -8,8 +8,8 @@ use Rattle.gated_tree.specs.declared.phases.TreePhase.{TreePhase}
 use Rattle.tree_laws.specs.Steps.{Notes}
 use Rattle.level_laws.specs.Events.{SyncStep}
 use Rattle.stage_laws.specs.Roles.{Aside}
-use Rattle.gate_world.specs.{Configs.IsWithin, LevelRuns.level_in, Owners.is_owned, Roles.nodes_noted, Rules.{Files, IsGood, Holds, Part, Owner, Stages}}
-use Rattle.gate_world.specs.{Rules.{Fitting, Known, Tree, SyncAt, StepKeeps, owns}, Shown.stage_role_of, Snapshots.values_noted, Trees.tree_role_of}
+use Rattle.gate_world.specs.{Configs.IsWithin, LevelRuns.level_in, Owners.is_owned, Roles.nodes_noted, Rules.{Files, Fitting, Holds, IsGood, Known, Owner}}
+use Rattle.gate_world.specs.{Rules.{Part, Stages, StepKeeps, SyncAt, Tree, owns, stage_role_of}, Snapshots.values_noted, Trees.tree_role_of}
 use Rattle.gate_world.specs.{Views.phase_after, Work.{next_of, after_of}, Worlds.{World, after_step, found_at, words_after}, declared.config.Config.Config}
 use Rattle.gate_world.specs.declared.{views.Traced.Traced, work.Phase.Phase}
 use Rattle.gate_frames.proofs.{Frames.{left_alone, unwritten}, Known.{IsOwnersWork, known_after}, MountRuns.apart_run, NodeParts.{call_files, is_node_word}}

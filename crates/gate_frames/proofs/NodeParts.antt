@@ -11,8 +11,8 @@ use Rattle.gate_frames.proofs.{Accesses.holdings_of_after, Agreeing.access_agree
 use Rattle.gate_frames.proofs.{Frames.{unwritten, view_as}, Keeps.by_bool, MayTree.{LeaveFor, call_fits, leave, may_step}, MountEvents.level_added_load}
 use Rattle.gate_frames.proofs.{MountEvents.{level_taken_load, load_left}, OpenFiles.{file_then, files_counted, same_counts}, Trees.{tree_holds, tree_within}}
 use Rattle.gate_world.specs.{Configs.{IsWithin, model_limits}, Fits.{Fits, HasFile, TreeAccess, file_of}, Found.is_load, Holdings.{Holdings, held_after}}
-use Rattle.gate_world.specs.{Levels.{is_frozen_whole, level_added_after, level_added_by, level_taken_after, level_taken_by}, Roles.{Roles, no_roles}}
-use Rattle.gate_world.specs.{Roles.{nodes_noted, roles_of, snapshot_stage_role, tree_stage_role}, Rules.{AtLevel, AtMount, Files, Fitting, Holding, Holds}}
+use Rattle.gate_world.specs.{Alike.{Roles, no_roles, roles_of}, Levels.{is_frozen_whole, level_added_after, level_added_by, level_taken_after, level_taken_by}}
+use Rattle.gate_world.specs.{Roles.{nodes_noted}, Rules.{AtLevel, AtMount, Files, Fitting, Holding, Holds}}
 use Rattle.gate_world.specs.{Rules.{IsGood, Moves as ModelMoves, Part, SameView, SameWords, Sections, SyncAt, Tree, ViewFits}, Shown.{closing, shown}}
 use Rattle.gate_world.specs.{Snapshots.values_noted, Trees.{is_bare_at, is_sealed, tree_bounds, tree_role_of, tree_roles}, Views.{added_after, added_by}}
 use Rattle.gate_world.specs.{Views.{has_open, held_at, held_of, holds_level, phase_after, taken_after, taken_by, view_after}, Work.{after_of, next_of}}
@@ -25,7 +25,7 @@ use Rattle.gated_tree.specs.declared.{changes.{Remove.Remove, RemoveStep.RemoveS
 use Rattle.gated_tree.specs.declared.{marks.{Mark.Mark, MarkStep.MarkStep}, opens.{OpenFile.OpenFile, OpenStep.OpenStep}, phases.TreePhase.TreePhase}
 use Rattle.gated_tree.specs.declared.snapshots.{Snapshot.Snapshot, SnapshotStep.SnapshotStep}
 use Rattle.mount_counts.specs.Roles.{ro_bit}
-use Rattle.stage_laws.specs.Roles.{Aside, sums}
+use Rattle.stage_laws.specs.Roles.{Aside}
 use Rattle.std.proofs.Common.{Bool, ap, arith, false, inl, inr, refl, subst, sym, true, true≢false, ℕ, ◌<◌, ◌∙◌, ◌≡◌, ◌⊎◌}
 use Rattle.std.specs.Prelude.{Err, None, Ok, Option, Result, Some, if◌then◌else◌, ◌==◌, ◌||◌}
 use Rattle.tree_laws.proofs.{Allowed.{may_do, tree_alone}, Fitting.fits_after, Phases.each_phase}
@@ -317,7 +317,7 @@ call_goes c held within t x found hook fits =
 
 -- these roles but for those of calls at the tree
 abbrev pub off_calls : Roles → Roles
-off_calls r = record r { stage = Aside; tree = no_roles.tree; owns = 0; file = None; hook = None }
+off_calls r = record r { stage = Aside; tree = no_roles.tree; owns = 0; file = None }
 
 -- a phase that has no other role, and closes no level
 pub record IsOffGates (p : Option Phase) : Type 0 where
@@ -327,16 +327,8 @@ pub record IsOffGates (p : Option Phase) : Type 0 where
 pub idle_off : IsOffGates None
 idle_off = record { roles = refl; closing_none = λ i. refl }
 
-snapshot_closing : (i : ℕ) (s : SnapshotStep) → sums i (snapshot_stage_role s) ≡ 0
-snapshot_closing i SnapshotStep.Locks = refl
-snapshot_closing i other = refl
-
-tree_closing : (i : ℕ) (x : TreePhase) → sums i (tree_stage_role x) ≡ 0
-tree_closing i (TreePhase.Snapshot x) = snapshot_closing i x.step
-tree_closing i x = refl
-
 pub call_off : (x : TreePhase) → IsOffGates (Some (Phase.Trees x))
-call_off x = record { roles = refl; closing_none = λ i. tree_closing i x }
+call_off x = record { roles = refl; closing_none = λ i. refl }
 
 pub next_off : (n : Next TreePhase) → IsOffGates (phase_after (map_next Phase.Trees n))
 next_off (Next.Go x) = call_off x

@@ -5,13 +5,15 @@ use Rattle.finite_sums.proofs.Totals.{update_same}
 use Rattle.finite_sums.specs.Sums.{total, update}
 use Rattle.gate_frames.proofs.Frames.{MountHoldsAfter, gates_after, holds_as, owner_same, shown_held, shown_still, view_as}
 use Rattle.gate_world.specs.{Holdings.Holdings, Remounts.{giving_role, held_role, loop_role, remount_owns, remount_role, remount_sets, summing_role}}
-use Rattle.gate_world.specs.Roles.{change_owns, change_role, freeze_stage_role, gate_roles, role_if, thaw_stage_role, tree_stage_role, want_role}
+use Rattle.gate_world.specs.Roles.{change_owns, change_role, freeze_owns, role_if, snapshot_owns, thaw_owns, tree_owns, want_role, write_role}
 use Rattle.gate_world.specs.{Rules.{AtMount, GatesHold, IsGood, IsSteady, Owner, OwnerHolds, ViewFits, at_mount, owns, remounts, role_of}, Shown.closing}
 use Rattle.gate_world.specs.{Shown.shown, Views.{added_by, held_of, taken_by}, Waits.{HasCulprit, IsWaitedFor}, Worlds.World, declared.config.Config.Config}
 use Rattle.gate_world.specs.declared.{views.View.View, work.Phase.Phase}
 use Rattle.mount_counts.specs.{Roles.{Role, has_hold, hold_bit, ro_bit, skips}, Sets.has_mount, declared.phases.ChangeStep.ChangeStep}
 use Rattle.mount_counts.specs.declared.{phases.{MountPhase.MountPhase, WantStep.WantStep}, remounts.RemountStep.RemountStep}
-use Rattle.stage_laws.proofs.Facts.{owns_le as stage_owns_le}
+use Rattle.freeze_levels.specs.declared.{freezes.FreezeStep.FreezeStep, thaws.ThawStep.ThawStep}
+use Rattle.gated_tree.specs.declared.{phases.TreePhase.TreePhase, snapshots.SnapshotStep.SnapshotStep}
+use Rattle.stage_laws.proofs.Facts.{bit_le}
 use Rattle.std.proofs.{Common.{Bool, ap, arith, false, inl, inr, nat_lt, refl, suc, true, ℕ, ◌+◌, ◌<◌, ◌∙◌, ◌≡◌, ◌≤◌}, lemmas.Bool.Decides.eqb_tells}
 use Rattle.std.specs.Prelude.{Err, Ok, Option, Some, ◌-◌, ◌==◌}
 use Rattle.write_access.specs.declared.phases.WritePhase.{WritePhase}
@@ -24,12 +26,30 @@ remount_owns_le : (s : RemountStep) → remount_owns s ≤ 1
 remount_owns_le RemountStep.Locks = omega arith
 remount_owns_le step = omega arith
 
+freeze_owns_le : (s : FreezeStep) → freeze_owns s ≤ 1
+freeze_owns_le FreezeStep.Locks = omega arith
+freeze_owns_le (FreezeStep.Closes d) = bit_le (nat_lt 1 d.level)
+freeze_owns_le FreezeStep.LocksAgain = omega arith
+freeze_owns_le step = omega arith
+
+thaw_owns_le : (s : ThawStep) → thaw_owns s ≤ 1
+thaw_owns_le ThawStep.Locks = omega arith
+thaw_owns_le step = omega arith
+
+snapshot_owns_le : (s : SnapshotStep) → snapshot_owns s ≤ 1
+snapshot_owns_le SnapshotStep.Locks = omega arith
+snapshot_owns_le s = omega arith
+
+tree_owns_le : (x : TreePhase) → tree_owns x ≤ 1
+tree_owns_le (TreePhase.Snapshot x) = snapshot_owns_le x.step
+tree_owns_le x = omega arith
+
 pub owns_le : (p : Option Phase) → owns p ≤ 1
 owns_le (Some (Phase.Mounts (MountPhase.Change x))) = change_owns_le x.step
 owns_le (Some (Phase.Remounts x)) = remount_owns_le x.step
-owns_le (Some (Phase.Freezes x)) = stage_owns_le (freeze_stage_role x.nodes x.step)
-owns_le (Some (Phase.Thaws x)) = stage_owns_le (thaw_stage_role x.step)
-owns_le (Some (Phase.Trees x)) = stage_owns_le (tree_stage_role x)
+owns_le (Some (Phase.Freezes x)) = freeze_owns_le x.step
+owns_le (Some (Phase.Thaws x)) = thaw_owns_le x.step
+owns_le (Some (Phase.Trees x)) = tree_owns_le x
 owns_le other = omega arith
 
 want_hold : (p : ℕ) (s : WantStep) → has_hold (want_role p s) + skips (want_role p s) ≡ 0
@@ -82,7 +102,7 @@ remount_hold m (RemountStep.GivesUp at held) = giving_hold (m == at) (has_mount 
 remount_hold m RemountStep.Locks = omega arith
 remount_hold m step = omega arith
 
-write_hold : (m : ℕ) (x : WritePhase) → has_hold ((gate_roles x).mount m) + skips ((gate_roles x).mount m) ≡ 0
+write_hold : (m : ℕ) (x : WritePhase) → has_hold (write_role m x) + skips (write_role m x) ≡ 0
 write_hold m (WritePhase.Wants x) = omega (arith, hold_if (m == x.mount) (want_role x.cpu x.step), want_hold x.cpu x.step)
 write_hold m x = refl
 

@@ -3,14 +3,14 @@ use Rattle.access_model.specs.declared.{actions.Action.Action, replies.Next.Next
 use Rattle.cpu_words.specs.{Hooks.HookAnswer, declared.{events.Touch.Touch, names.WordName.WordName}}
 use Rattle.finite_sums.proofs.Totals.{update_at}
 use Rattle.gate_frames.proofs.{Beside.{made, made_again, made_keeps_beside, rephased_beside, shown_beside}, Frames.left_alone}
-use Rattle.gate_world.specs.{Alike.{IsAlike, as_ruled, at_phase, off_tree, rephased}, Fits.Fits, Holdings.held_after, Roles.{Roles, roles_of}, Rules.Files}
+use Rattle.gate_world.specs.{Alike.{IsAlike, Roles, at_phase, off_tree, rephased, roles_of}, Fits.Fits, Holdings.held_after, Rules.Files}
 use Rattle.gate_world.specs.{Rules.{Holds, IsGood, Moves, Tree}, Shown.shown, Views.{held_of, phase_after}, Worlds.World, declared.config.Config.Config}
 use Rattle.gate_world.specs.declared.{views.View.View, work.Phase.Phase}
 use Rattle.std.proofs.Common.{ap, refl, subst, sym, ℕ, ◌<◌, ◌∙◌, ◌≡◌}
 use Rattle.std.specs.Prelude.{Option}
 
-pub alike_of : {p q : Option Phase} {r : Roles} → p ≡ q → r ≡ as_ruled (roles_of q) → r ≡ as_ruled (roles_of p)
-alike_of e h = h ∙ sym (ap (λ p. as_ruled (roles_of p)) e)
+pub alike_of : {p q : Option Phase} {r : Roles} → p ≡ q → r ≡ roles_of q → r ≡ roles_of p
+alike_of e h = h ∙ sym (ap roles_of e)
 
 module _ (c : Config) (w : World) (t : ℕ) (lt : t < c.tasks) (q : Option Phase) (same : IsAlike (w.views t).phase q) where
   rephased_tree : Holds c w Tree → Holds c (rephased w t q) Tree

@@ -5,11 +5,11 @@ use Rattle.cpu_words.specs.Words.{Words}
 use Rattle.finite_sums.proofs.Totals.{total_none, update_map, update_same}
 use Rattle.finite_sums.specs.Sums.{total, update}
 use Rattle.freeze_levels.specs.Holders.{holders_in}
-use Rattle.gate_frames.proofs.{Owners.owns_le, Trees.marks_right}
+use Rattle.gate_frames.proofs.{ByPhase.{freeze_owner, shown_passed, snapshot_owner, thaw_owner}, Owners.owns_le, Trees.marks_right}
 use Rattle.gate_world.specs.{Configs.model_limits, Holdings.Holdings, Remounts.remount_owns, Roles.remount_stage_role, Rules.{Holds, IsGood, Owner, Stages}}
-use Rattle.gate_world.specs.{Rules.{marks_of, owns}, Shown.{shown, stage_role_of, stage_roles}, Views.{has_open, held_at, held_of, holds_level}, Worlds.World}
+use Rattle.gate_world.specs.{Rules.{marks_of, owns, stage_role_of, stage_roles}, Shown.shown, Views.{has_open, held_at, held_of, holds_level}, Worlds.World}
 use Rattle.gate_world.specs.declared.{config.Config.Config, views.View.View, work.Phase.Phase}
-use Rattle.gated_tree.specs.Nodes.{dirty_in, node_shown}
+use Rattle.gated_tree.specs.{Nodes.{dirty_in, node_shown}, declared.phases.TreePhase.TreePhase}
 use Rattle.mount_counts.specs.{Roles.ro_bit, declared.remounts.RemountStep.RemountStep}
 use Rattle.stage_laws.proofs.Whole.{actions_are_allowed, actions_have_their_effect, events_keep}
 use Rattle.stage_laws.specs.{Events.{Happens, Holds as StageHolds, IsAlike, Shows, StageEvent, Stages as StageMoment, action_of}, Roles.{Owning, StageRole}}
@@ -42,6 +42,9 @@ remount_owner nodes s = omega arith
 
 pub stage_owner : (p : Option Phase) → stage_owns (stage_role_of p) ≤ owns p
 stage_owner (Some (Phase.Remounts x)) = remount_owner x.nodes x.step
+stage_owner (Some (Phase.Freezes x)) = omega (arith, freeze_owner x.nodes x.step)
+stage_owner (Some (Phase.Thaws x)) = omega (arith, thaw_owner x.step)
+stage_owner (Some (Phase.Trees (TreePhase.Snapshot x))) = omega (arith, snapshot_owner x.step)
 stage_owner other = omega arith
 
 clean_shown : (word : ℕ) → dirty_in word ≡ 0 → is_dirty (node_shown word) ≡ false
@@ -56,7 +59,7 @@ module _ (c : Config) (w : World) (good : IsGood c w) where
 
   pub stages_shown : Shows (model_limits c) (stages_in w) (shown c w)
   stages_shown = record {
-    stages = record { stage_same = refl; passed_same = refl; sb_same = refl };
+    stages = record { stage_same = refl; passed_same = shown_passed c w; sb_same = refl };
     marks = λ n lt e. clean_shown (w.words.node n) e;
   }
 
@@ -135,7 +138,8 @@ module _ (c : Config) (w : World) (good : IsGood c w) where
       sb_ro = sym shows.sb_same j;
       stage = sym shows.stage_same j;
       holders = sym eh j;
-      passed = (ap (passed_shown c.tasks ws.block) (update_map (λ (u : View). stage_role_of u.phase) w.views t v) ∙
+      passed = (shown_passed c (record { words = ws; views = update w.views t v }) ∙
+          ap (passed_shown c.tasks ws.block) (update_map (λ (u : View). stage_role_of u.phase) w.views t v) ∙
           sym shows.passed_same) j;
       tree = sym et j;
     }

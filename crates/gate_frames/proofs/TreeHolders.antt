@@ -7,8 +7,8 @@ use Rattle.gate_counts.specs.{Gates.past, Levels.{LevelRole, Passed}}
 use Rattle.gate_frames.proofs.{Stages.{stages_in, stages_right}, Stands.below}
 use Rattle.gate_world.specs.{Levels.{at_level, is_frozen_whole, level_role_of}, Operations.{is_writer, some_mount}, Roles.{count_beside, down_count_role}}
 use Rattle.gate_world.specs.Roles.{freeze_stage_role, freeze_stand, place_of, remount_stage_role, reopening_role, snapshot_stage_role, stand_count}
-use Rattle.gate_world.specs.{Roles.{thaw_stage_role, thaw_stand, tree_stage_role, up_count_role}, Rules.{AtLevel, AtMount, IsGood, MountHoldsIn, Owner}}
-use Rattle.gate_world.specs.{Rules.{Stages, at_mount}, Shown.{stage_role_of, stage_roles}, Views.{held_at, held_of, holds_level}, Worlds.World}
+use Rattle.gate_world.specs.{Roles.{thaw_stage_role, thaw_stand, tree_stage_role, up_count_role}, Rules.{AtLevel, AtMount, IsGood, MountHoldsIn, Owner, Stages}}
+use Rattle.gate_world.specs.{Rules.{at_mount, stage_role_of, stage_roles}, Views.{held_at, held_of, holds_level}, Worlds.World}
 use Rattle.gate_world.specs.declared.{config.Config.Config, work.Phase.Phase}
 use Rattle.gated_tree.specs.declared.{phases.TreePhase.TreePhase, snapshots.SnapshotStep.SnapshotStep}
 use Rattle.mount_counts.specs.{Roles.{mount_as_gate, ro_bit}, declared.remounts.RemountStep.RemountStep}

@@ -7,7 +7,7 @@ use Rattle.freeze_levels.specs.declared.{freezes.FreezeStep.{FreezeStep, TheVari
 use Rattle.gate_frames.proofs.TreeRoles.{call_plain, close_apart, freeze_apart, remount_apart}
 use Rattle.gate_world.specs.{Configs.IsWithin, Fits.{Fits, FreezeFits, PhaseFits}, Remounts.RemountFits, Roles.{freeze_stage_role, freeze_tree_role}}
 use Rattle.gate_world.specs.Roles.{nodes_noted, place_of, remount_stage_role, remount_tree_role, reopening_role, snapshot_stage_role, thaw_stage_role}
-use Rattle.gate_world.specs.{Roles.tree_stage_role, Rules.{Fitting, Holds, IsGood, Stages, Tree, marks_of}, Shown.{stage_role_of, stage_roles}}
+use Rattle.gate_world.specs.{Roles.tree_stage_role, Rules.{Fitting, Holds, IsGood, Stages, Tree, marks_of, stage_role_of, stage_roles}}
 use Rattle.gate_world.specs.{Snapshots.values_noted, Trees.{is_bare_at, is_sealed, tree_bounds, tree_of, tree_role_of, tree_roles}, Views.held_of}
 use Rattle.gate_world.specs.{Worlds.World, declared.{config.Config.Config, views.{Traced.Traced, View.View}, work.Phase.{Phase, TheVariants.Closes}}}
 use Rattle.gated_tree.specs.{Calls.{phase_role, snapshot_role}, Nodes.{dirty_in, kind_in, node_shown}, Roles.{AreWithin, Clearing, NobodyReads, RoleHolds}}

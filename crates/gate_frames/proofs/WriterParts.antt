@@ -10,16 +10,16 @@ use Rattle.gate_frames.proofs.{Frames.{left_alone, opens_left, view_as}, Keeps.b
 use Rattle.gate_frames.proofs.{MountEvents.known_is, Stages.{IsStageEvent, shown_by, stage_action, stage_effect, stages_after, stages_in}}
 use Rattle.gate_frames.proofs.Standing.{LevelsHold, left_world}
 use Rattle.gate_world.specs.{Configs.model_limits, Fits.{FreezeFits, HasFile, file_of}, Found.is_load, Holdings.Holdings, Owners.{is_owned, takes_lock}}
-use Rattle.gate_world.specs.{Roles.{Roles, freeze_stage_role, no_roles, reopening_role, roles_of, thaw_stage_role}, Rules.{AtLevel, AtMount, Files, Fitting}}
-use Rattle.gate_world.specs.Rules.{Holding, Holds, IsGood, Known, Moves, Owner, OwnerHolds, Part, Sections, Stages, StepKeeps, SyncAt, Tree, ViewFits, owns}
-use Rattle.gate_world.specs.{Shown.{shown, stage_role_of, stage_roles}, Views.{added_by, has_open, held_of, phase_after, taken_by}, Worlds.World}
+use Rattle.gate_world.specs.{Alike.{Roles, no_roles, roles_of}, Roles.{freeze_owns, thaw_owns}, Rules.{AtLevel, AtMount, Files}}
+use Rattle.gate_world.specs.Rules.{Fitting, Holding, Holds, IsGood, Known, Moves, Owner, OwnerHolds, Part, Sections, Stages, StepKeeps, SyncAt, Tree, ViewFits}
+use Rattle.gate_world.specs.{Rules.{owns, stage_role_of, stage_roles}, Shown.shown, Views.{added_by, has_open, held_of, phase_after, taken_by}, Worlds.World}
 use Rattle.gate_world.specs.{Worlds.{after_step, phase_action, value_at}, declared.{config.Config.Config, views.View.View, work.Phase.Phase}}
 use Rattle.gated_tree.specs.Nodes.{node_shown, opens_in}
 use Rattle.percpu_rwsem.specs.{Graces.looked, SyncWords.{is_passed, on_callback, on_enter, unpack}, Transitions.transition_after, Writers.at_down_write}
 use Rattle.percpu_rwsem.specs.Writers.{callback_step, down_write_after, down_write_next, down_write_summed, enter_step, passed_awaited, sections_awaited}
 use Rattle.percpu_rwsem.specs.{Writers.sum_begun, declared.{grace.GraceNext.GraceNext, sync_word.SyncWord.SyncWord, transitions.Transition.Transition}}
-use Rattle.percpu_rwsem.specs.declared.writers.{DownWrite.DownWrite, DownWriteStep.DownWriteStep, UpWriteStep.UpWriteStep}
-use Rattle.stage_laws.specs.{Events.{StageEvent, action_of as stage_action_of}, Roles.{bit, owns as stage_owns}, Shown.{AsksOthers, ShowsStages, state_after}}
+use Rattle.percpu_rwsem.specs.declared.writers.{DownWrite.DownWrite, DownWriteStep.DownWriteStep}
+use Rattle.stage_laws.specs.{Events.{StageEvent, action_of as stage_action_of}, Roles.bit, Shown.{AsksOthers, ShowsStages, state_after}}
 use Rattle.std.proofs.{Common.{ap, arith, false, inl, inr, nat_lt, refl, subst, sym, true, true≢false, ℕ, ◌<◌, ◌∙◌, ◌≡◌, ◌≤◌, ◌⊎◌}, lemmas.Bool.cases_Bool}
 use Rattle.std.proofs.lemmas.Bool.{lt-ltb, Decides.eqb_tells}
 use Rattle.std.specs.Prelude.{None, Ok, Option, Some, if◌then◌else◌, ◌==◌}
@@ -202,20 +202,15 @@ down_write_off d (DownWriteStep.Enters Transition.Loads) = refl
 down_write_off d (DownWriteStep.CallsBack Transition.Loads) = refl
 down_write_off d other = refl
 
-pub reopening_owns : (level : ℕ) (s : UpWriteStep) → stage_owns (reopening_role level s) ≡ 1
-reopening_owns level UpWriteStep.ClearsBlock = refl
-reopening_owns level (UpWriteStep.Exits transition) = refl
-
 freeze_changes : (x : Freeze) (s : FreezeStep) (hook : HookAnswer) → is_owned (freeze_next x s hook).0 ≡ true →
-    (is_load (freeze_next x s hook).1 ≡ true) ⊎ (stage_owns (freeze_stage_role x.nodes s) ≡ 1)
+    (is_load (freeze_next x s hook).1 ≡ true) ⊎ (freeze_owns s ≡ 1)
 freeze_changes x FreezeStep.Locks hook h = absurd (true≢false (sym h))
 freeze_changes x (FreezeStep.Closes d) hook h = absurd (true≢false (sym h ∙ down_write_off d d.step))
 freeze_changes x FreezeStep.LocksAgain hook h = absurd (true≢false (sym h))
-freeze_changes x (FreezeStep.Reopens u code) hook h = inr (reopening_owns u.level u.step)
 freeze_changes x s hook h = inr refl
 
 -- a level that is closed is closed by the owner as before, but for level 1, after which `umount` is to be taken again
-closed_comes : (x : Freeze) (level : ℕ) → 1 ≤ level → stage_owns (freeze_stage_role x.nodes (level_closed level x.nodes)) ≡ 1 →
+closed_comes : (x : Freeze) (level : ℕ) → 1 ≤ level → freeze_owns (level_closed level x.nodes) ≡ 1 →
     bit (nat_lt 1 level) ≡ 1
 closed_comes x level low h =
     elim (eqb_tells level 1) [
@@ -226,7 +221,7 @@ closed_comes x level low h =
 -- and comes to own `umount` by taking it
 freeze_comes_to : (c : Config) (x : Freeze) (s : FreezeStep) (hook : HookAnswer) (value : ℕ) → FreezeFits c x.holder s →
     owns (phase_after (map_next Phase.Freezes (freeze_after x s (found_by (freeze_next x s hook).1 value) hook).0)) ≡ 1 →
-    (stage_owns (freeze_stage_role x.nodes s) ≡ 1) ⊎ (takes_lock (event_of (freeze_next x s hook).0 (freeze_next x s hook).1 value) ≡ true)
+    (freeze_owns s ≡ 1) ⊎ (takes_lock (event_of (freeze_next x s hook).0 (freeze_next x s hook).1 value) ≡ true)
 freeze_comes_to c x FreezeStep.Locks hook value f h =
     elim (cases_Bool (value == 0)) [
       | inl z ↦ inr z
@@ -243,7 +238,6 @@ freeze_comes_to c x (FreezeStep.Closes d) hook value f h =
     down_write_comes d (λ n. owns (phase_after (map_next Phase.Freezes (after_closing x d.level n))) ≡ 1 → bit (nat_lt 1 d.level) ≡ 1)
     (λ s q. q) (λ s q. q) (closed_comes x d.level f.0) d.step found h in
     inl own
-freeze_comes_to c x (FreezeStep.Reopens u code) hook value f h = inl (reopening_owns u.level u.step)
 freeze_comes_to c x s hook value f h = inl refl
 
 pub freeze_work : (c : Config) (w : World) (x : Freeze) (hook : HookAnswer) → FreezeFits c x.holder x.step → IsOwnersWork w (Phase.Freezes x) hook
@@ -254,21 +248,19 @@ freeze_work c w x hook f = record {
 
 -- a thaw changes an owned word as the owner
 thaw_changes : (x : Thaw) (s : ThawStep) (hook : HookAnswer) → is_owned (thaw_next x s hook).0 ≡ true →
-    (is_load (thaw_next x s hook).1 ≡ true) ⊎ (stage_owns (thaw_stage_role s) ≡ 1)
+    (is_load (thaw_next x s hook).1 ≡ true) ⊎ (thaw_owns s ≡ 1)
 thaw_changes x ThawStep.Locks hook h = absurd (true≢false (sym h))
-thaw_changes x (ThawStep.Reopens u) hook h = inr (reopening_owns u.level u.step)
 thaw_changes x s hook h = inr refl
 
 -- and comes to own `umount` by taking it
 thaw_comes_to : (x : Thaw) (s : ThawStep) (hook : HookAnswer) (value : ℕ) →
     owns (phase_after (map_next Phase.Thaws (thaw_after x s (found_by (thaw_next x s hook).1 value) hook).0)) ≡ 1 →
-    (stage_owns (thaw_stage_role s) ≡ 1) ⊎ (takes_lock (event_of (thaw_next x s hook).0 (thaw_next x s hook).1 value) ≡ true)
+    (thaw_owns s ≡ 1) ⊎ (takes_lock (event_of (thaw_next x s hook).0 (thaw_next x s hook).1 value) ≡ true)
 thaw_comes_to x ThawStep.Locks hook value h =
     elim (cases_Bool (value == 0)) [
       | inl z ↦ inr z
       | inr z ↦ absurd (omega (arith, rw z at h))
     ]
-thaw_comes_to x (ThawStep.Reopens u) hook value h = inl (reopening_owns u.level u.step)
 thaw_comes_to x s hook value h = inl refl
 
 pub thaw_work : (w : World) (x : Thaw) (hook : HookAnswer) → IsOwnersWork w (Phase.Thaws x) hook

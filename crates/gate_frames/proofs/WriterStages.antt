@@ -7,8 +7,8 @@ use Rattle.gated_tree.specs.{Nodes.dirty_in, Roles.{TreeState, sealed_by}}
 use Rattle.tree_laws.specs.Events.{Event, Opens}
 use Rattle.freeze_levels.specs.Holders.{holders_in}
 use Rattle.stage_laws.specs.{Events.{playing, StageEvent, Stays, action_of as stage_action_of}, Roles.StageRole}
-use Rattle.gate_world.specs.{Configs.{IsWithin, model_limits}, Levels.is_frozen_whole, Roles.Stand, Rules.{IsGood, OwnerHolds, Holds, ViewFits, Stages}}
-use Rattle.gate_world.specs.{Rules.{Holding, Tree}, Shown.{shown, stage_roles, stage_role_of}, Trees.{tree_bounds, tree_of, tree_role_of, tree_roles}}
+use Rattle.gate_world.specs.{Configs.{IsWithin, model_limits}, Levels.is_frozen_whole, Roles.Stand, Rules.{Holding, Holds, IsGood, OwnerHolds, Stages, Tree}}
+use Rattle.gate_world.specs.{Rules.{ViewFits, stage_role_of, stage_roles}, Shown.shown, Trees.{tree_bounds, tree_of, tree_role_of, tree_roles}}
 use Rattle.gate_world.specs.{Worlds.World, declared.{config.Config.Config, views.View.View}}
 use Rattle.gate_frames.proofs.{Frames.{SameLevelCounts, left_alone}, Stages.{IsStageEvent, stages_in}, StandRoles.levels_stay}
 use Rattle.gate_frames.proofs.{Standing.{Stands, LevelsHold, left_world}, Trees.{sealed_read_only, tree_then, tree_after}}

@@ -1,9 +1,9 @@
 -- Events of a down-write and of an up-write: the words that they leave, the counts, and what they add.
-use Rattle.std.{proofs.Common.{ap, ◌≡◌, ℕ, ◌<◌, refl, sym, ◌∙◌, subst}, specs.Prelude.{Ok, ◌==◌, if◌then◌else◌, Option, Some, None}}
+use Rattle.std.{proofs.Common.{◌≡◌, ℕ, ◌<◌, refl, sym, ◌∙◌, subst}, specs.Prelude.{Ok, ◌==◌, if◌then◌else◌, Option, Some, None}}
 use Rattle.finite_sums.specs.Sums.{update}
 use Rattle.access_model.specs.{Actions.after_action, States.State, declared.{actions.Action.Action, replies.{Next.Next, Reply.Reply}}}
 use Rattle.cpu_words.specs.{Sums.sum_taking, Touches.left, Words.{Words, read, put}, declared.sums.Taken.Taken}
-use Rattle.gated_tree.specs.{Nodes.{node_shown, opens_in}, Roles.{Out, Clearing, sealed_by, bare_by}}
+use Rattle.gated_tree.specs.{Nodes.{node_shown, opens_in}, Roles.{Out, Clearing}}
 use Rattle.tree_laws.specs.Events.{Event, turned, BeginsClearing}
 use Rattle.percpu_rwsem.specs.{SyncWords.on_exit, Transitions.transition_after}
 use Rattle.percpu_rwsem.specs.Writers.{exit_made, down_write_next, down_write_after, down_write_summed, up_write_next, up_write_after}
@@ -11,11 +11,12 @@ use Rattle.percpu_rwsem.specs.declared.transitions.{Transition.Transition, Trans
 use Rattle.percpu_rwsem.specs.declared.writers.{DownWrite.DownWrite, DownWriteStep.DownWriteStep, UpWrite.UpWrite, UpWriteStep.UpWriteStep}
 use Rattle.freeze_levels.specs.Holders.{holders_in}
 use Rattle.stage_laws.specs.{Events.{StageEvent, action_of as stage_action_of}, Shown.state_after}
-use Rattle.gate_world.specs.{Configs.{IsWithin, model_limits}, Levels.{level_added_after, level_taken_after}, Rules.{IsGood, Holds, ViewFits, Tree, owns}}
-use Rattle.gate_world.specs.{Shown.{holder_role_of, shown}, Trees.{tree_bounds, tree_of, tree_role_of, tree_roles, is_sealed, is_bare_at}, Views.added_after}
+use Rattle.gate_world.specs.{Configs.{IsWithin, model_limits}, Levels.{level_added_after, level_taken_after}, Rules.{Holds, IsGood, Tree, ViewFits}}
+use Rattle.gate_world.specs.{Rules.{holder_role_of, owns}, Shown.shown, Trees.{is_bare_at, is_sealed, tree_bounds, tree_of, tree_role_of, tree_roles}}
+use Rattle.gate_world.specs.Views.{added_after}
 use Rattle.gate_world.specs.{Views.taken_after, Worlds.World, declared.{config.Config.Config, views.View.View}}
 use Rattle.gate_frames.proofs.{Frames.{unwritten, left_alone}, Holders.holders_stay, Keeps.by_bool, Stages.{IsStageEvent, stages_in}, Standing.LevelsHold}
-use Rattle.gate_frames.proofs.{Standing.left_world, Trees.{tree_then, tree_after}, WriterOwner.owner_stays, WriterParts.{IsBeside, IsWriter, SameAtMounts}}
+use Rattle.gate_frames.proofs.{Standing.left_world, Trees.{tree_then, tree_after}, WriterOwner.owner_stays, WriterParts.{IsWriter, SameAtMounts}}
 use Rattle.gate_frames.proofs.WriterParts.{LeavesRest, AsksWhere, WriterLaw, writer_law}
 
 -- the words that are no level's own

@@ -1,20 +1,65 @@
 -- Phases that stand for one another: all that the rule reads of the one it reads of the other. So an operation that goes through the
 -- phases of another, as a part of its own, needs no second proof of its events.
-use Rattle.std.specs.Prelude.{◌≡◌, ℕ, Option, None}
+use Rattle.std.specs.Prelude.{◌≡◌, ℕ, Bool, Option, None, List}
 use Rattle.finite_sums.specs.Sums.{update}
-use Rattle.gate_world.specs.{Roles.{Roles, no_roles, roles_of}, Worlds.World, declared.{views.View.View, work.Phase.Phase}}
+use Rattle.gate_counts.specs.Levels.{LevelRole}
+use Rattle.gated_tree.specs.Roles.{Role as TreeRole}
+use Rattle.mount_counts.specs.Roles.{Role}
+use Rattle.level_laws.specs.Roles.{SyncRole}
+use Rattle.stage_laws.specs.Roles.{StageRole}
+use Rattle.holder_laws.specs.Roles.{HolderRole}
+use Rattle.gate_world.specs.{Fits.file_of, Levels.{inside, level_role_of, sync_role_of}, Rules.{holder_role_of, owns, remounts, role_of, stage_role_of}}
+use Rattle.gate_world.specs.{Trees.tree_role_of, Worlds.World, declared.{views.{Traced.Traced, View.View}, work.Phase.Phase}}
 
--- these roles as the rule reads them: it reads no hook
-abbrev pub as_ruled : Roles → Roles
-as_ruled r = record r { hook = None }
+-- all that the rule and the shown model read of what a task is at
+pub record Roles : Type 0 where
+  -- what it is doing at each mount
+  pub mount : ℕ → Role
+  -- at the counts of each level
+  pub count : ℕ → LevelRole
+  -- and at its rcu_sync
+  pub sync : ℕ → SyncRole
+  -- 1 inside a read-side section
+  pub inside : ℕ
+  -- what it is doing with the stage
+  pub stage : StageRole
+  -- with those who hold a freeze
+  pub holder : HolderRole
+  -- and at the tree, after these events of its operation
+  pub tree : List Traced → TreeRole
+  -- 1 between the lock of `umount` and its release
+  pub owns : ℕ
+  -- 1 while it has `remount` set
+  pub remounts : ℕ
+  -- the file that it relies on its task to have open, or not to have open
+  pub file : Option (ℕ × Bool)
+
+-- these of what a task is at
+abbrev pub roles_of : Option Phase → Roles
+roles_of p = record {
+  mount = λ m. role_of m p;
+  count = λ i. level_role_of i p;
+  sync = λ i. sync_role_of i p;
+  inside = inside p;
+  stage = stage_role_of p;
+  holder = holder_role_of p;
+  tree = λ trace. tree_role_of trace p;
+  owns = owns p;
+  remounts = remounts p;
+  file = file_of p;
+}
+
+-- who has a part in nothing
+abbrev pub no_roles : Roles
+no_roles = roles_of None
 
 -- all that the rule and the shown model read of a phase, but for the accesses that it asks for, is the same of both
 abbrev pub IsAlike : Option Phase → Option Phase → Type 0
-IsAlike p q = as_ruled (roles_of q) ≡ as_ruled (roles_of p)
+IsAlike p q = roles_of q ≡ roles_of p
 
 -- and these roles but for what is done at the tree, and for the file that is relied on
 abbrev pub off_tree : Roles → Roles
-off_tree r = record r { tree = no_roles.tree; file = None; hook = None }
+off_tree r = record r { tree = no_roles.tree; file = None }
 
 -- so it is but for these two
 abbrev pub IsBeside : Option Phase → Option Phase → Type 0

@@ -7,7 +7,7 @@ use Rattle.file_closes.specs.declared.phases.ClosePhase.TheVariants.{LowersCount
 use Rattle.file_closes.specs.declared.phases.Closing.{Closing}
 use Rattle.freeze_levels.specs.declared.freezes.FreezeStep.{FreezeStep, TheVariants.{Cleans, Closes, Holds, Reopens as FreezeReopens}}
 use Rattle.freeze_levels.specs.declared.thaws.ThawStep.{ThawStep, TheVariants.{Leaves, Reopens as ThawReopens}}
-use Rattle.gate_world.specs.{Holdings.Holdings, Operations.{holds_none, holds_none_from, is_writer, may_mark}, Remounts.RemountFits, Roles.roles_of}
+use Rattle.gate_world.specs.{Holdings.Holdings, Operations.{holds_none, holds_none_from, is_writer, may_mark}, Remounts.RemountFits, Roles.{close_file, tree_file}}
 use Rattle.gate_world.specs.{Trees.tree_bounds, declared.{config.Config.Config, work.Phase.{Phase, TheVariants.{Callbacks, Closes, DownReads, Freezes}}}}
 use Rattle.gate_world.specs.declared.work.Phase.TheVariants.{Mounts, Remounts, Thaws, Trees, UpReads, Writes}
 use Rattle.gated_tree.specs.{Calls.TreePhaseFits, Nodes.IsLawful, declared.{nodes.NodeWord.NodeWord, phases.TreePhase.TreePhase}}
@@ -147,7 +147,9 @@ ActionFits held (Some a) = Unit {0}
 
 -- the file that what a task is at relies on it to have open, or not to have open
 abbrev pub file_of : Option Phase → Option (ℕ × Bool)
-file_of p = (roles_of p).file
+file_of (Some (Trees phase)) = tree_file phase
+file_of (Some (Closes phase)) = close_file phase
+file_of p = None
 
 -- it is so
 abbrev pub HasFile : (ℕ → Bool) → Option (ℕ × Bool) → Type 0

@@ -11,10 +11,10 @@ use Rattle.mount_counts.specs.{Phases.has_flag, Roles.counted}
 use Rattle.percpu_rwsem.specs.{SyncWords.unpack, declared.sync_word.SyncWord.SyncWord}
 use Rattle.freeze_levels.specs.Holders.{word_of}
 use Rattle.level_laws.specs.Roles.{fast}
-use Rattle.stage_laws.specs.Roles.{Place, Freezing, freezes}
+use Rattle.freeze_levels.specs.declared.freezes.FreezeStep.{FreezeStep}
 use Rattle.gate_world.specs.{Configs.model_limits, Courses.{course_of, IsTraced}, Found.{stores_stage, newest}}
 use Rattle.gate_world.specs.{Levels.{at_level, level_role_of, sync_role_of, is_frozen_whole}, Moments.AllHaveMoments, Owners.last_left}
-use Rattle.gate_world.specs.{Rules.{at_mount, owns, Moves}, Shown.{shown, stage_roles}, Snapshots.values_noted, Traces.{Tells, IsShort, most_events}}
+use Rattle.gate_world.specs.{Rules.{at_mount, owns, Moves}, Shown.shown, Snapshots.values_noted, Traces.{Tells, IsShort, most_events}}
 use Rattle.gate_world.specs.{Views.{held_at, holds_level, HoldsAsBefore}, Worlds.{World, Entry, happens, action_of, task_of, run, opening, history}}
 use Rattle.gate_world.specs.declared.{config.Config.Config, operations.Op.Op, views.{Traced.Traced, View.View}}
 use Rattle.gate_world.specs.declared.work.Phase.{Phase, TheVariants.{Freezes, Thaws, Trees}}
@@ -146,11 +146,27 @@ pub record IsAtRest (c : Config) (w : World) : Type 0 where
 abbrev pub NothingIsLeft : Config → World → Type 0
 NothingIsLeft c w = ((t : ℕ) → t < c.tasks → (w.views t).phase ≡ None) → IsAtRest c w
 
+-- the stage that a freeze stored last, between its store of 1 and its store of 4 or 0
+abbrev pub stage_stored : FreezeStep → Option ℕ
+stage_stored FreezeStep.Unlocks = Some 1
+stage_stored (FreezeStep.Closes d) = Some d.level
+stage_stored FreezeStep.LocksAgain = Some 1
+stage_stored FreezeStep.SetsPageFault = Some 1
+stage_stored (FreezeStep.Cleans marks) = Some 2
+stage_stored FreezeStep.SetsFs = Some 2
+stage_stored FreezeStep.SetsComplete = Some 3
+stage_stored step = None
+
+-- the same of what a task is at
+abbrev pub freezing_at : Option Phase → Option ℕ
+freezing_at (Some (Freezes x)) = stage_stored x.step
+freezing_at phase = None
+
 -- At stages 1 to 3 one task is in a freeze, between its store of 1 and its store of 4 or 0, and the stage is the one that it stored last.
 abbrev pub FreezeIsUnderWay : Config → World → Type 0
 FreezeIsUnderWay c w = 1 ≤ w.words.stage → w.words.stage ≤ 3 →
-    (t : ℕ) × (t < c.tasks) × (place : Place) × (owner : Bool) × (stage_roles w t ≡ Freezing w.words.stage place owner) ×
-    ((u : ℕ) → u < c.tasks → (u ≡ t → ⊥) → freezes (stage_roles w u) ≡ 0)
+    (t : ℕ) × (t < c.tasks) × (freezing_at (w.views t).phase ≡ Some w.words.stage) ×
+    ((u : ℕ) → u < c.tasks → (u ≡ t → ⊥) → freezing_at (w.views u).phase ≡ None)
 
 -- nobody holds an access at a read-only mount, or a level that a freeze has passed
 abbrev pub NobodyIsInside : Config → World → Type 0

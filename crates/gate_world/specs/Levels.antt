@@ -1,12 +1,15 @@
 -- Freeze levels: what each predicate of one reads of the words and of each task's view.
-use Rattle.std.specs.Prelude.{◌≡◌, ℕ, ◌+◌, ◌%◌, ◌<◌, if◌then◌else◌, Option, List, [], ◌∷◌}
+use Rattle.std.specs.Prelude.{◌≡◌, ℕ, ◌+◌, ◌%◌, ◌<◌, ◌==◌, if◌then◌else◌, Option, Some, List, [], ◌∷◌}
 use Rattle.finite_sums.specs.Sums.{update}
 use Rattle.cpu_words.specs.Words.{Words}
 use Rattle.cpu_words.specs.declared.{events.{Event.Event, Touch.{Touch, TheVariants.{Add, Sub}}}, names.WordName.{WordName, TheVariants.LevelCount}}
-use Rattle.gate_counts.specs.Levels.{LevelRole, LevelView}
-use Rattle.level_laws.specs.Roles.{SyncRole}
+use Rattle.gate_counts.specs.Levels.{LevelRole, LevelView, Out as CountsNot}
+use Rattle.level_laws.specs.{Operations.{callback_role, down_read_inside}, Roles.{SyncRole, Out as IsApart}}
 use Rattle.stage_laws.specs.Roles.{is_full}
-use Rattle.gate_world.specs.{Roles.roles_of, Views.holds_level, declared.{views.View.View, work.Phase.Phase}}
+use Rattle.write_access.specs.declared.phases.WritePhase.{WritePhase}
+use Rattle.file_closes.specs.declared.phases.ClosePhase.{ClosePhase}
+use Rattle.gate_world.specs.Roles.{freeze_stand, read_level_role, read_sync_role, stand_count, stand_sync, sync_role_if, thaw_stand}
+use Rattle.gate_world.specs.{Views.holds_level, declared.{views.View.View, work.Phase.Phase}}
 
 -- net additions are what was added to a level's count word less what was taken away: each is a sum over the events
 abbrev pub level_added_after : WordName → Touch → (ℕ → ℕ → ℕ) → ℕ → ℕ → ℕ
@@ -30,15 +33,29 @@ level_taken_by (e ∷ earlier) = level_taken_after e.word e.touch (level_taken_b
 
 -- what a task is doing at a level's counts
 abbrev pub level_role_of : ℕ → Option Phase → LevelRole
-level_role_of i p = (roles_of p).count i
+level_role_of i (Some (Phase.DownReads r)) = read_level_role i r
+level_role_of i (Some (Phase.Writes (WritePhase.Takes m r))) = read_level_role i r
+level_role_of i (Some (Phase.Closes (ClosePhase.Enters f node r))) = read_level_role i r
+level_role_of i (Some (Phase.Freezes x)) = stand_count i (freeze_stand x.step)
+level_role_of i (Some (Phase.Thaws x)) = stand_count i (thaw_stand x.step)
+level_role_of i p = CountsNot
 
 -- and at its rcu_sync
 abbrev pub sync_role_of : ℕ → Option Phase → SyncRole
-sync_role_of i p = (roles_of p).sync i
+sync_role_of i (Some (Phase.DownReads r)) = read_sync_role i r
+sync_role_of i (Some (Phase.Writes (WritePhase.Takes m r))) = read_sync_role i r
+sync_role_of i (Some (Phase.Closes (ClosePhase.Enters f node r))) = read_sync_role i r
+sync_role_of i (Some (Phase.Callbacks b)) = sync_role_if (i == b.level) (callback_role b.step)
+sync_role_of i (Some (Phase.Freezes x)) = stand_sync i (freeze_stand x.step)
+sync_role_of i (Some (Phase.Thaws x)) = stand_sync i (thaw_stand x.step)
+sync_role_of i p = IsApart
 
 -- 1 while it is inside a read-side section
 abbrev pub inside : Option Phase → ℕ
-inside p = (roles_of p).inside
+inside (Some (Phase.DownReads r)) = down_read_inside r.step
+inside (Some (Phase.Writes (WritePhase.Takes m r))) = down_read_inside r.step
+inside (Some (Phase.Closes (ClosePhase.Enters f node r))) = down_read_inside r.step
+inside p = 0
 
 -- what a level's counts read of a view
 abbrev pub at_level : ℕ → View → LevelView

@@ -1,64 +1,21 @@
--- Roles: all that the rule and the shown model read of what a task is at. Each layer gives its phases theirs by one function, which names what
--- they have a part in.
-use Rattle.std.specs.Prelude.{ℕ, ◌-◌, ◌==◌, nat_lt, Bool, true, false, if◌then◌else◌, Option, Some, None, Result, Ok, Err, List}
+-- Roles: what each step of a phase is doing at a mount, at a level, with the stage and the holders, and at the tree.
+use Rattle.std.specs.Prelude.{ℕ, ◌-◌, ◌==◌, nat_lt, Bool, true, false, if◌then◌else◌, Option, Some, None, Result, Ok, Err}
 use Rattle.access_model.specs.{Holders.{nobody, with_holder, is_unheld}, declared.{actions.Holder.Holder, errors.GateError.GateError, replies.Reply.Reply}}
 use Rattle.gate_counts.specs.Levels.{LevelRole, Out as CountsNot, Seeking, BackingOff as BacksOff, Summing as SumsLevel, Passed}
-use Rattle.gated_tree.specs.{Calls.phase_role, Roles.{Role as TreeRole, Out as OffTree, Freeing, Dropped, Uncounting, Bare, Clearing}}
+use Rattle.gated_tree.specs.Roles.{Role as TreeRole, Out as OffTree, Freeing, Dropped, Uncounting, Bare, Clearing}
 use Rattle.gated_tree.specs.declared.{phases.TreePhase.TreePhase, snapshots.SnapshotStep.SnapshotStep}
 use Rattle.mount_counts.specs.Roles.{Role, Out, Asking, Cleared, PastRemount, PastFlags, BackingOff, Summing, Empty, Leaving}
 use Rattle.mount_counts.specs.declared.phases.{ChangeStep.ChangeStep, MountPhase.MountPhase, WantStep.WantStep}
-use Rattle.mount_counts.specs.declared.remounts.{Remount.Remount, RemountStep.RemountStep}
-use Rattle.percpu_rwsem.specs.declared.{callbacks.Callback.Callback, readers.{DownRead.DownRead, DownReadStep.DownReadStep}}
+use Rattle.mount_counts.specs.declared.remounts.RemountStep.{RemountStep}
+use Rattle.percpu_rwsem.specs.declared.readers.{DownRead.DownRead, DownReadStep.DownReadStep}
 use Rattle.percpu_rwsem.specs.declared.writers.{DownWriteStep.DownWriteStep, UpWriteStep.UpWriteStep}
-use Rattle.freeze_levels.specs.{Freezes.freeze_hook, Thaws.thaw_hook, declared.{freezes.{Freeze.Freeze, FreezeStep.FreezeStep}, hooks.HookKind.HookKind}}
-use Rattle.freeze_levels.specs.declared.thaws.{Thaw.Thaw, ThawStep.ThawStep}
-use Rattle.level_laws.specs.Operations.{down_read_role, down_read_inside, down_write_role, up_write_role, callback_role}
+use Rattle.freeze_levels.specs.declared.{freezes.FreezeStep.FreezeStep, hooks.HookKind.HookKind, thaws.ThawStep.ThawStep}
+use Rattle.level_laws.specs.Operations.{down_read_role, down_write_role, up_write_role}
 use Rattle.level_laws.specs.Roles.{SyncRole, Out as IsApart, Closed}
-use Rattle.stage_laws.specs.Roles.{Place, Before, Closing, HasPassed, StageRole, Aside, Owning, Remounting, Freezing, Reopening, owns as stage_owns}
+use Rattle.stage_laws.specs.Roles.{Place, Before, Closing, HasPassed, StageRole, Aside, Owning, Remounting, Freezing, Reopening}
 use Rattle.holder_laws.specs.Roles.{HolderRole, Apart, Found, Fills, Empties}
 use Rattle.write_access.specs.declared.phases.WritePhase.{WritePhase}
 use Rattle.file_closes.specs.declared.phases.ClosePhase.{ClosePhase}
-use Rattle.gate_world.specs.{Remounts.{remount_role, remount_owns, remount_sets}, Snapshots.values_noted, declared.{views.Traced.Traced, work.Phase.Phase}}
-
-pub record Roles : Type 0 where
-  -- what it is doing at each mount
-  pub mount : ℕ → Role
-  -- at the counts of each level
-  pub count : ℕ → LevelRole
-  -- and at its rcu_sync
-  pub sync : ℕ → SyncRole
-  -- 1 inside a read-side section
-  pub inside : ℕ
-  -- what it is doing with the stage
-  pub stage : StageRole
-  -- with those who hold a freeze
-  pub holder : HolderRole
-  -- and at the tree, after these events of its operation
-  pub tree : List Traced → TreeRole
-  -- 1 between the lock of `umount` and its release
-  pub owns : ℕ
-  -- 1 while it has `remount` set
-  pub remounts : ℕ
-  -- the file that it relies on its task to have open, or not to have open
-  pub file : Option (ℕ × Bool)
-  -- the hook whose answer its event reads
-  pub hook : Option HookKind
-
--- who has a part in nothing
-abbrev pub no_roles : Roles
-no_roles = record {
-  mount = λ m. Out;
-  count = λ i. CountsNot;
-  sync = λ i. IsApart;
-  inside = 0;
-  stage = Aside;
-  holder = Apart;
-  tree = λ trace. OffTree;
-  owns = 0;
-  remounts = 0;
-  file = None;
-  hook = None;
-}
 
 -- what a step of a want is doing at its mount, on this processor
 abbrev pub want_role : ℕ → WantStep → Role
@@ -95,13 +52,13 @@ change_owns step = 1
 
 -- at a mount only a change owns `umount`
 abbrev pub mount_owns : MountPhase → ℕ
-mount_owns (MountPhase.Want w) = 0
-mount_owns (MountPhase.Drop m p) = 0
 mount_owns (MountPhase.Change x) = change_owns x.step
+mount_owns phase = 0
 
--- want, drop and change
-abbrev pub mount_roles : MountPhase → Roles
-mount_roles phase = record no_roles { mount = λ m. mount_role m phase; owns = mount_owns phase }
+-- and of a write access, which has the role of its want
+abbrev pub write_role : ℕ → WritePhase → Role
+write_role m (WritePhase.Wants w) = mount_role m (MountPhase.Want w)
+write_role m x = Out
 
 -- A remount, among so many nodes: in its loop it relies on the stage 0 and the flags 0 that it found, and with `remount` set it clears the
 -- marks from node 1 on; the root, node 0, never has one.
@@ -131,17 +88,6 @@ remount_hook RemountStep.SetsWritable = Some HookKind.Reconfigure
 remount_hook RemountStep.SetsReadOnly = Some HookKind.Reconfigure
 remount_hook step = None
 
--- a remount
-abbrev pub remount_roles : Remount → Roles
-remount_roles x = record no_roles {
-  mount = λ m. remount_role m x.step;
-  stage = remount_stage_role x.nodes x.step;
-  tree = λ trace. remount_tree_role x.nodes x.step;
-  owns = remount_owns x.step;
-  remounts = remount_sets x.step;
-  hook = remount_hook x.step;
-}
-
 -- a role at one level alone
 abbrev pub count_role_if : Bool → LevelRole → LevelRole
 count_role_if true r = r
@@ -158,32 +104,13 @@ read_count_role p DownReadStep.LoadsBlock = Seeking p
 read_count_role p DownReadStep.CountsDown = BacksOff p
 read_count_role p step = CountsNot
 
--- a down-read, at its level
-abbrev pub read_roles : DownRead → Roles
-read_roles r = record no_roles {
-  count = λ i. count_role_if (i == r.level) (read_count_role r.cpu r.step);
-  sync = λ i. sync_role_if (i == r.level) (down_read_role r.step);
-  inside = down_read_inside r.step;
-}
+-- a down-read, at the counts of each level
+abbrev pub read_level_role : ℕ → DownRead → LevelRole
+read_level_role i r = count_role_if (i == r.level) (read_count_role r.cpu r.step)
 
--- a callback, at its level
-abbrev pub callback_roles : Callback → Roles
-callback_roles b = record no_roles { sync = λ i. sync_role_if (i == b.level) (callback_role b.step) }
-
--- a write access has the roles of the phase of its own gate at which it stands
-abbrev pub gate_roles : WritePhase → Roles
-gate_roles (WritePhase.Takes m r) = read_roles r
-gate_roles (WritePhase.Wants w) = mount_roles (MountPhase.Want w)
-gate_roles x = no_roles
-
--- which are those at its mount and at level 1
-abbrev pub write_roles : WritePhase → Roles
-write_roles x = record no_roles {
-  mount = (gate_roles x).mount;
-  count = (gate_roles x).count;
-  sync = (gate_roles x).sync;
-  inside = (gate_roles x).inside;
-}
+-- and at its rcu_sync
+abbrev pub read_sync_role : ℕ → DownRead → SyncRole
+read_sync_role i r = sync_role_if (i == r.level) (down_read_role r.step)
 
 -- what a step of a down-write is doing at its level's counts
 abbrev pub down_count_role : DownWriteStep → LevelRole
@@ -284,17 +211,12 @@ freeze_tree_role nodes (FreezeStep.Cleans marks) = Clearing marks.node
 freeze_tree_role nodes FreezeStep.SetsFs = Clearing nodes
 freeze_tree_role nodes step = OffTree
 
--- a freeze
-abbrev pub freeze_roles : Freeze → Roles
-freeze_roles x = record no_roles {
-  count = λ i. stand_count i (freeze_stand x.step);
-  sync = λ i. stand_sync i (freeze_stand x.step);
-  stage = freeze_stage_role x.nodes x.step;
-  holder = freeze_holder_role x.step;
-  tree = λ trace. freeze_tree_role x.nodes x.step;
-  owns = stage_owns (freeze_stage_role x.nodes x.step);
-  hook = freeze_hook x.step;
-}
+-- it gives `umount` back while it closes level 1
+abbrev pub freeze_owns : FreezeStep → ℕ
+freeze_owns FreezeStep.Locks = 0
+freeze_owns (FreezeStep.Closes d) = if nat_lt 1 d.level then 1 else 0
+freeze_owns FreezeStep.LocksAgain = 0
+freeze_owns step = 1
 
 -- what a step of a thaw is doing with the stage
 abbrev pub thaw_stage_role : ThawStep → StageRole
@@ -320,16 +242,10 @@ thaw_holder_role holder ThawStep.UnfreezesReadOnly = Empties
 thaw_holder_role holder ThawStep.SetsUnfrozen = Empties
 thaw_holder_role holder step = Apart
 
--- a thaw, whose roles are also those of a freeze that failed, where it reopens a level
-abbrev pub thaw_roles : Thaw → Roles
-thaw_roles x = record no_roles {
-  count = λ i. stand_count i (thaw_stand x.step);
-  sync = λ i. stand_sync i (thaw_stand x.step);
-  stage = thaw_stage_role x.step;
-  holder = thaw_holder_role x.holder x.step;
-  owns = stage_owns (thaw_stage_role x.step);
-  hook = thaw_hook x.step;
-}
+-- a thaw owns `umount` once it has locked it
+abbrev pub thaw_owns : ThawStep → ℕ
+thaw_owns ThawStep.Locks = 0
+thaw_owns step = 1
 
 -- the stage on which a snapshot relies that ends with this answer
 abbrev pub stage_at_end : Result Reply GateError → Option ℕ
@@ -348,6 +264,16 @@ abbrev pub tree_stage_role : TreePhase → StageRole
 tree_stage_role (TreePhase.Snapshot x) = snapshot_stage_role x.step
 tree_stage_role phase = Aside
 
+-- a snapshot owns `umount` once it has locked it
+abbrev pub snapshot_owns : SnapshotStep → ℕ
+snapshot_owns SnapshotStep.Locks = 0
+snapshot_owns step = 1
+
+-- at the tree only a snapshot owns it
+abbrev pub tree_owns : TreePhase → ℕ
+tree_owns (TreePhase.Snapshot x) = snapshot_owns x.step
+tree_owns phase = 0
+
 -- the number of nodes of which a snapshot notes the words; no other call notes any
 abbrev pub nodes_noted : TreePhase → ℕ
 nodes_noted (TreePhase.Snapshot x) = x.nodes
@@ -357,15 +283,6 @@ nodes_noted phase = 0
 abbrev pub tree_file : TreePhase → Option (ℕ × Bool)
 tree_file (TreePhase.OpenFile x) = Some (x.file, false)
 tree_file phase = None
-
--- a call at the tree
-abbrev pub call_roles : TreePhase → Roles
-call_roles phase = record no_roles {
-  stage = tree_stage_role phase;
-  tree = λ trace. phase_role (values_noted (nodes_noted phase) trace) phase;
-  owns = stage_owns (tree_stage_role phase);
-  file = tree_file phase;
-}
 
 -- a last close: its file's word is as it was loaded until it frees the node, whose blocks and removal it then still counts
 abbrev pub close_tree_role : ClosePhase → TreeRole
@@ -382,36 +299,3 @@ close_file (ClosePhase.LowersCount x node) = Some (x.file, true)
 close_file (ClosePhase.Enters f node r) = Some (f, true)
 close_file (ClosePhase.FreesNode f p node) = Some (f, true)
 close_file phase = None
-
--- a last close inside level 3 has the roles of the phase there at which it stands
-abbrev pub inner_roles : ClosePhase → Roles
-inner_roles (ClosePhase.Enters f node r) = read_roles r
-inner_roles x = no_roles
-
--- a close, beside these
-abbrev pub close_roles : ClosePhase → Roles
-close_roles x = record no_roles {
-  count = (inner_roles x).count;
-  sync = (inner_roles x).sync;
-  inside = (inner_roles x).inside;
-  tree = λ trace. close_tree_role x;
-  file = close_file x;
-}
-
--- the roles of a phase of any layer
-abbrev pub phase_roles : Phase → Roles
-phase_roles (Phase.Mounts phase) = mount_roles phase
-phase_roles (Phase.Remounts x) = remount_roles x
-phase_roles (Phase.DownReads r) = read_roles r
-phase_roles (Phase.UpReads u) = no_roles
-phase_roles (Phase.Callbacks b) = callback_roles b
-phase_roles (Phase.Writes x) = write_roles x
-phase_roles (Phase.Freezes x) = freeze_roles x
-phase_roles (Phase.Thaws x) = thaw_roles x
-phase_roles (Phase.Trees phase) = call_roles phase
-phase_roles (Phase.Closes phase) = close_roles phase
-
--- and of what a task is at
-abbrev pub roles_of : Option Phase → Roles
-roles_of None = no_roles
-roles_of (Some phase) = phase_roles phase

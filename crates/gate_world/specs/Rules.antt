@@ -4,19 +4,24 @@ use Rattle.cpu_words.specs.{Hooks.HookAnswer, Words.Words}
 use Rattle.finite_sums.specs.Sums.{total}
 use Rattle.gate_counts.specs.Levels.{LevelHolds}
 use Rattle.gate_world.specs.{Configs.model_limits, Fits.{Fits, HasFile, file_of}, Levels.{SectionsAreOdd, at_level, inside, is_frozen_whole, sync_role_of}}
-use Rattle.gate_world.specs.{Owners.KnowsWords, Roles.roles_of, Shown.{closing, holder_role_of, holder_roles, shown, stage_role_of, stage_roles}}
+use Rattle.gate_world.specs.{Owners.KnowsWords, Remounts.{remount_owns, remount_role, remount_sets}, Shown.{closing, shown}}
+use Rattle.gate_world.specs.Roles.{freeze_holder_role, freeze_owns, freeze_stage_role, mount_owns, mount_role, remount_stage_role, thaw_holder_role, thaw_owns}
+use Rattle.gate_world.specs.Roles.{thaw_stage_role, tree_owns, tree_stage_role, write_role}
 use Rattle.gate_world.specs.{Trees.{is_bare_at, is_sealed, tree_bounds, tree_of, tree_role_of}, Views.{added_by, has_open, held_at, held_of, taken_by}}
 use Rattle.gate_world.specs.{Worlds.{World, after_step, phase_action}, declared.{config.Config.Config, views.View.View, work.Phase.Phase}}
 use Rattle.gated_tree.specs.{Nodes.{dirty_in, opens_in}, Roles.TreeHolds}
-use Rattle.holder_laws.specs.Roles.{HoldersHold}
+use Rattle.holder_laws.specs.Roles.{Apart, HolderRole, HoldersHold}
 use Rattle.level_laws.specs.Roles.{SyncNumberHolds}
-use Rattle.mount_counts.specs.Roles.{MountHolds, MountView, Role}
-use Rattle.stage_laws.specs.Roles.{StagesHold}
+use Rattle.mount_counts.specs.Roles.{MountHolds, MountView, Out, Role}
+use Rattle.stage_laws.specs.Roles.{Aside, StageRole, StagesHold}
 use Rattle.std.specs.Prelude.{Bool, None, Option, Some, false, suc, true, ℕ, ◌<◌, ◌≡◌, ◌≤◌}
 
 -- what a task is doing at a mount
 abbrev pub role_of : ℕ → Option Phase → Role
-role_of m p = (roles_of p).mount m
+role_of m (Some (Phase.Mounts phase)) = mount_role m phase
+role_of m (Some (Phase.Remounts x)) = remount_role m x.step
+role_of m (Some (Phase.Writes x)) = write_role m x
+role_of m p = Out
 
 -- what a mount's predicate reads of a view
 abbrev pub at_mount : ℕ → View → MountView
@@ -24,11 +29,39 @@ at_mount m v = record { held = held_at v m; added = added_by v.events m; taken =
 
 -- 1 between its lock of `umount` and its release
 abbrev pub owns : Option Phase → ℕ
-owns p = (roles_of p).owns
+owns (Some (Phase.Mounts phase)) = mount_owns phase
+owns (Some (Phase.Remounts x)) = remount_owns x.step
+owns (Some (Phase.Freezes x)) = freeze_owns x.step
+owns (Some (Phase.Thaws x)) = thaw_owns x.step
+owns (Some (Phase.Trees phase)) = tree_owns phase
+owns p = 0
 
 -- 1 while it has `remount` set
 abbrev pub remounts : Option Phase → ℕ
-remounts p = (roles_of p).remounts
+remounts (Some (Phase.Remounts x)) = remount_sets x.step
+remounts p = 0
+
+-- what a task is doing with the stage
+abbrev pub stage_role_of : Option Phase → StageRole
+stage_role_of (Some (Phase.Remounts x)) = remount_stage_role x.nodes x.step
+stage_role_of (Some (Phase.Freezes x)) = freeze_stage_role x.nodes x.step
+stage_role_of (Some (Phase.Thaws x)) = thaw_stage_role x.step
+stage_role_of (Some (Phase.Trees phase)) = tree_stage_role phase
+stage_role_of p = Aside
+
+-- and with those who hold a freeze
+abbrev pub holder_role_of : Option Phase → HolderRole
+holder_role_of (Some (Phase.Freezes x)) = freeze_holder_role x.step
+holder_role_of (Some (Phase.Thaws x)) = thaw_holder_role x.holder x.step
+holder_role_of p = Apart
+
+-- what each task is doing with the stage
+abbrev pub stage_roles : World → ℕ → StageRole
+stage_roles w t = stage_role_of (w.views t).phase
+
+-- and with those who hold a freeze
+abbrev pub holder_roles : World → ℕ → HolderRole
+holder_roles w t = holder_role_of (w.views t).phase
 
 -- what the owner's words and the levels say of a task is the same at both phases
 pub record IsSteady (p q : Option Phase) : Type 0 where

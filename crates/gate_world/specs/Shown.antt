@@ -1,36 +1,32 @@
 -- The shown model: what words and views show of the access model.
-use Rattle.std.specs.Prelude.{ℕ, ◌||◌, ◌==◌, Option}
+use Rattle.std.specs.Prelude.{ℕ, ◌+◌, ◌&&◌, ◌||◌, ◌==◌, if◌then◌else◌, Option, Some}
 use Rattle.access_model.specs.States.{State}
 use Rattle.gated_tree.specs.Nodes.{node_shown}
 use Rattle.mount_counts.specs.Roles.{ro_bit}
 use Rattle.freeze_levels.specs.Holders.{holders_in}
-use Rattle.stage_laws.specs.{Roles.{StageRole, sums}, Shown.{is_passed as passed_at_level, passed_shown}}
-use Rattle.holder_laws.specs.Roles.{HolderRole}
-use Rattle.gate_world.specs.{Roles.roles_of, Views.{held_at, holds_level, has_open}, Worlds.World, declared.{config.Config.Config, work.Phase.Phase}}
+use Rattle.finite_sums.specs.Sums.{total}
+use Rattle.percpu_rwsem.specs.declared.writers.DownWriteStep.{DownWriteStep}
+use Rattle.freeze_levels.specs.declared.freezes.FreezeStep.{FreezeStep}
+use Rattle.gate_world.specs.{Views.{held_at, holds_level, has_open}, Worlds.World, declared.{config.Config.Config, work.Phase.Phase}}
 
--- what a task is doing with the stage
-abbrev pub stage_role_of : Option Phase → StageRole
-stage_role_of p = (roles_of p).stage
+-- 1 for a down-write that has set `block` of this level, its own, and whose sum has not been 0
+abbrev pub is_summing : ℕ → ℕ → DownWriteStep → ℕ
+is_summing i level (DownWriteStep.Sums sum) = if i == level then 1 else 0
+is_summing i level step = 0
 
--- and with those who hold a freeze
-abbrev pub holder_role_of : Option Phase → HolderRole
-holder_role_of p = (roles_of p).holder
+-- the same of a freeze
+abbrev pub freeze_closing : ℕ → FreezeStep → ℕ
+freeze_closing i (FreezeStep.Closes d) = is_summing i d.level d.step
+freeze_closing i step = 0
 
--- 1 while a phase has a level's `block` set and its sum has not been 0
+-- and of what a task is at: 1 while it has a level's `block` set and its sum has not been 0
 abbrev pub closing : ℕ → Option Phase → ℕ
-closing i p = sums i (stage_role_of p)
-
--- what each task is doing with the stage
-abbrev pub stage_roles : World → ℕ → StageRole
-stage_roles w t = stage_role_of (w.views t).phase
-
--- what each task is doing with those who hold a freeze
-abbrev pub holder_roles : World → ℕ → HolderRole
-holder_roles w t = holder_role_of (w.views t).phase
+closing i (Some (Phase.Freezes x)) = freeze_closing i x.step
+closing i p = 0
 
 -- 1 where a level's `block` is set and no task is still closing it
 abbrev pub is_passed : Config → World → ℕ → ℕ
-is_passed c w i = passed_at_level c.tasks w.words.block (stage_roles w) i
+is_passed c w i = if w.words.block i == 1 && total c.tasks (λ t. closing i (w.views t).phase) == 0 then 1 else 0
 
 -- the model that words and views show
 abbrev pub shown : Config → World → State
@@ -42,6 +38,6 @@ shown c w = record {
   sb_ro = w.words.remount == 1 || w.words.sb == 1;
   stage = w.words.stage;
   holders = holders_in w.words.holders;
-  passed = passed_shown c.tasks w.words.block (stage_roles w);
+  passed = is_passed c w 1 + (is_passed c w 2 + is_passed c w 3);
   tree = λ n. node_shown (w.words.node n);
 }

@@ -1,8 +1,9 @@
 -- The tree of a world: its words, and what each task is doing at them.
-use Rattle.std.specs.Prelude.{ℕ, Option, List}
+use Rattle.std.specs.Prelude.{ℕ, Option, Some, List}
 use Rattle.cpu_words.specs.Words.{Words}
-use Rattle.gated_tree.specs.Roles.{Role, Bounds, TreeState, sealed_by, bare_by}
-use Rattle.gate_world.specs.{Roles.roles_of, Worlds.World, declared.{config.Config.Config, views.Traced.Traced, work.Phase.Phase}}
+use Rattle.gated_tree.specs.{Calls.phase_role, Roles.{Role, Out, Bounds, TreeState, sealed_by, bare_by}}
+use Rattle.gate_world.specs.Roles.{close_tree_role, freeze_tree_role, nodes_noted, remount_tree_role}
+use Rattle.gate_world.specs.{Snapshots.values_noted, Worlds.World, declared.{config.Config.Config, views.Traced.Traced, work.Phase.Phase}}
 
 -- what the laws of the tree read of a configuration
 abbrev pub tree_bounds : Config → Bounds
@@ -18,7 +19,11 @@ is_bare_at w = bare_by w.remount w.sb
 
 -- what a task is doing at the tree, which after these events of its operation is at this phase
 abbrev pub tree_role_of : List Traced → Option Phase → Role
-tree_role_of trace p = (roles_of p).tree trace
+tree_role_of trace (Some (Phase.Remounts x)) = remount_tree_role x.nodes x.step
+tree_role_of trace (Some (Phase.Freezes x)) = freeze_tree_role x.nodes x.step
+tree_role_of trace (Some (Phase.Trees phase)) = phase_role (values_noted (nodes_noted phase) trace) phase
+tree_role_of trace (Some (Phase.Closes x)) = close_tree_role x
+tree_role_of trace p = Out
 
 -- what all tasks are doing at the tree
 abbrev pub tree_roles : World → ℕ → Role

@@ -6,12 +6,12 @@ use Rattle.gated_tree.specs.Phases.{next as tree_next, after as tree_after}
 use Rattle.mount_counts.specs.{Phases.{next, after}, Remounts.{remount_next, remount_after}}
 use Rattle.mount_counts.specs.declared.phases.MountPhase.TheVariants.{Want as PlainWant, Drop as PlainDrop}
 use Rattle.percpu_rwsem.specs.{Callbacks.{callback_next, callback_after}, Readers.{down_read_next, down_read_after, up_read_next, up_read_after}}
-use Rattle.freeze_levels.specs.{Freezes.{freeze_next, freeze_after}, Thaws.{thaw_next, thaw_after}}
+use Rattle.freeze_levels.specs.{Freezes.{freeze_next, freeze_after, freeze_hook}, Thaws.{thaw_next, thaw_after, thaw_hook}}
 use Rattle.freeze_levels.specs.declared.hooks.HookKind.{HookKind}
 use Rattle.write_access.specs.Phases.{next as write_next, after as write_after, leaves_on}
 use Rattle.write_access.specs.declared.phases.WritePhase.{WritePhase, TheVariants.{Takes, Wants, GivesBack, Drops, Ends}}
 use Rattle.file_closes.specs.Phases.{next as close_next, after as close_after}
-use Rattle.gate_world.specs.Roles.{phase_roles}
+use Rattle.gate_world.specs.Roles.{remount_hook}
 use Rattle.gate_world.specs.declared.work.Phase.{Phase, TheVariants.{Mounts, Remounts, DownReads, UpReads, Callbacks, Writes, Freezes, Thaws, Trees, Closes}}
 
 -- the word and the touch of the next event
@@ -50,7 +50,10 @@ plain (Ends p) = UpReads (leaves_on p)
 
 -- the hook whose answer the next event reads: any other event is the same whatever a hook answers
 abbrev pub hook_of : Phase → Option HookKind
-hook_of phase = (phase_roles phase).hook
+hook_of (Remounts x) = remount_hook x.step
+hook_of (Freezes x) = freeze_hook x.step
+hook_of (Thaws x) = thaw_hook x.step
+hook_of phase = None
 
 -- where no hook's answer is read, the next event is the same for any two answers, and so is what comes after it
 abbrev pub IgnoresAnswer : Phase → Option HookKind → Type 0

@@ -2,7 +2,7 @@
 -- causes and of waits.
 use Rattle.access_model.specs.{Replies.map_next, declared.replies.Next.Next}
 use Rattle.gate_frames.proofs.Frames.{role_none}
-use Rattle.gate_world.specs.{Alike.IsAlike, Fits.Fits, Holdings.Holdings, Roles.no_roles, Views.phase_after, Work.plain, declared.config.Config.Config}
+use Rattle.gate_world.specs.{Alike.{IsAlike, no_roles}, Fits.Fits, Holdings.Holdings, Views.phase_after, Work.plain, declared.config.Config.Config}
 use Rattle.gate_world.specs.declared.work.Phase.{Phase}
 use Rattle.mount_counts.specs.declared.phases.{MountPhase.MountPhase, Want.Want}
 use Rattle.operation_laws.proofs.ReadFits.{ReadGoes}

@@ -1,7 +1,7 @@
 -- All that is proved of a change.
 use Rattle.gate_frames.proofs.{Agreeing.none_agree, Frames.role_none, Keeps.{IsSmall, OpKeeps, PhaseKeeps, by_bool, word_among}, MountRuns.mounts_run}
 use Rattle.gate_frames.proofs.{Says.{is_short, tells}, Snapshots.completes_none}
-use Rattle.gate_world.specs.{Fits.Fits, Roles.no_roles, Rules.Fitting, Traces.most_events, Views.held_of, Worlds.after_step, declared.config.Config.Config}
+use Rattle.gate_world.specs.{Alike.no_roles, Fits.Fits, Rules.Fitting, Traces.most_events, Views.held_of, Worlds.after_step, declared.config.Config.Config}
 use Rattle.gate_world.specs.declared.{operations.Op.Op, work.Phase.Phase}
 use Rattle.mount_counts.specs.declared.phases.{Change.Change, MountPhase.MountPhase}
 use Rattle.operation_laws.proofs.{ChangeCauses.{change_kept, change_own}, ChangeFits.{change_acts, change_goes, change_there}, ChangeTraces.ChangeAt}

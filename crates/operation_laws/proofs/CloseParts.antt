@@ -8,7 +8,7 @@ use Rattle.gate_frames.proofs.{CloseEvents.{freeing_removed, frees_alone}, Frame
 use Rattle.gate_frames.proofs.{NodeEvents.{plain_parts, tree_run}, NodeParts.{IsAtTree, IsOffGates, LeavesAccesses, files_then, fitting_then, idle_off}}
 use Rattle.gate_frames.proofs.{NodeParts.{is_node_word, leaves_if, leaves_none, node_call, shown_moves, tree_then}, Trees.tree_within}
 use Rattle.gate_world.specs.{Configs.{IsWithin, model_limits}, Fits.{CloseFits, Fits, HasFile, MayLower, file_of}, Holdings.{Holdings, held_after}}
-use Rattle.gate_world.specs.{LevelRuns.level_in, Roles.{close_tree_role, no_roles}, Rules.{Files, Fitting, IsGood, StepKeeps, Tree}, Shown.shown}
+use Rattle.gate_world.specs.{Alike.no_roles, LevelRuns.level_in, Roles.close_tree_role, Rules.{Files, Fitting, IsGood, StepKeeps, Tree}, Shown.shown}
 use Rattle.gate_world.specs.{Trees.{is_bare_at, is_sealed, tree_bounds, tree_role_of, tree_roles}, Views.{has_open, held_of, phase_after, view_after}}
 use Rattle.gate_world.specs.{Worlds.{World, after_step, found_at, value_at}, declared.{config.Config.Config, views.{Traced.Traced, View.View}}}
 use Rattle.gate_world.specs.declared.work.Phase.{Phase}

@@ -1,4 +1,5 @@
 -- The events of a freeze on the words of a level that it closes.
+use Rattle.gate_frames.proofs.ByPhase.{freeze_owner}
 use Rattle.access_model.specs.{Replies.map_next, declared.{actions.Action.Action, replies.{Next.Next, Reply.Reply}}}
 use Rattle.cpu_words.specs.{Hooks.HookAnswer, Sums.sum_taking, Touches.{found_by, left}, Words.{Words, put, read}, declared.sums.{Sum.Sum, Taken.Taken}}
 use Rattle.finite_sums.proofs.Totals.{total_at}
@@ -11,7 +12,7 @@ use Rattle.gate_frames.proofs.{WriterStages.{stays_there, still_plays}, WriterWo
 use Rattle.gate_frames.proofs.WriterWords.{tree_begins, tree_beside, writer_at_level}
 use Rattle.gate_world.specs.{Configs.{IsWithin, model_limits}, Fits.Fits, Holdings.{Holdings, holdings_of}, Levels.{level_added_by, level_taken_by}}
 use Rattle.gate_world.specs.{Roles.{closed_to, freeze_holder_role, freeze_stage_role, freeze_tree_role, place_of}, Rules.{Holds, IsGood, Tree, ViewFits}}
-use Rattle.gate_world.specs.{Rules.{marks_of, owns}, Shown.{holder_role_of, shown, stage_role_of}, Trees.{tree_role_of, tree_roles}, Views.actions_after}
+use Rattle.gate_world.specs.{Rules.{holder_role_of, marks_of, owns, stage_role_of}, Shown.shown, Trees.{tree_role_of, tree_roles}, Views.actions_after}
 use Rattle.gate_world.specs.{Views.{added_by, held_of, holds_level, phase_after, taken_by, view_with}, Worlds.World, declared.config.Config.Config}
 use Rattle.gate_world.specs.declared.{views.View.View, work.Phase.Phase}
 use Rattle.gated_tree.proofs.ClearedMarks.{directory_clean}
@@ -189,7 +190,8 @@ module _ (c : Config) (lim : IsWithin c) (w : World) (good : IsGood c w) (t : �
     owns_then : owns view_then.phase ≡ bit (nat_lt 1 d.level)
     owns_then =
         down_write_comes d (λ n. owns (phase_after (map_next Phase.Freezes (after_closing x d.level n))) ≡ bit (nat_lt 1 d.level))
-        (λ s. refl) (λ s. refl) (ap stage_owns (closed_role x d.level fits_now.5.0 fits_now.5.1)) d.step found_here
+        (λ s. refl) (λ s. refl) (sym (freeze_owner x.nodes (level_closed d.level x.nodes)) ∙
+        ap stage_owns (closed_role x d.level fits_now.5.0 fits_now.5.1)) d.step found_here
 
     -- how it stands with the levels
     pub stands_then : Stands view_then.phase (stand_after_closing d.level next_here)

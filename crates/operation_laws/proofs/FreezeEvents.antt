@@ -1,4 +1,5 @@
 -- The events of a freeze on nodes and on the words of a level that it reopens, and all of its events as one law.
+use Rattle.gate_frames.proofs.ByPhase.{freeze_owner}
 use Rattle.access_model.specs.{Actions.marked, Replies.map_next, States.IsFile, declared.{actions.Action.Action, errors.GateError.GateError}}
 use Rattle.access_model.specs.declared.replies.Next.{Next}
 use Rattle.cpu_words.specs.{Hooks.HookAnswer, Touches.found_by, Words.{Words, read}, declared.{events.Touch.Touch, names.WordName.WordName}}
@@ -12,7 +13,7 @@ use Rattle.gate_frames.proofs.WriterParts.{AsksWhere, IsWriter, LeavesRest, Same
 use Rattle.gate_frames.proofs.WriterWords.{up_write_comes}
 use Rattle.gate_world.specs.{Alike.{IsAlike, rephased}, Configs.{IsWithin, model_limits}, Fits.FreezeFits, Holdings.Holdings, Roles.closed_to}
 use Rattle.gate_world.specs.{Roles.{freeze_holder_role, freeze_stage_role, freeze_stand, freeze_tree_role}, Rules.{Holds, IsGood, StepKeeps, Tree, ViewFits}}
-use Rattle.gate_world.specs.{Rules.{marks_of, owns}, Shown.{holder_role_of, shown, stage_role_of, stage_roles}, Trees.{tree_bounds, tree_of}, Views.held_of}
+use Rattle.gate_world.specs.{Rules.{holder_role_of, marks_of, owns, stage_role_of, stage_roles}, Shown.shown, Trees.{tree_bounds, tree_of}, Views.held_of}
 use Rattle.gate_world.specs.{Views.phase_after, Worlds.World, declared.{config.Config.Config, views.View.View, work.Phase.Phase}}
 use Rattle.gated_tree.proofs.ClearedMarks.{clean_stays, cleared_shown, clears_mark, without_mark}
 use Rattle.gated_tree.specs.{Nodes.{IsNode, dirty_in, node_shown, opens_in}, Roles.{Clearing, TreeState}, declared.marks.ClearMarks.ClearMarks}
@@ -125,7 +126,7 @@ module _ (c : Config) (lim : IsWithin c) (w : World) (good : IsGood c w) (t : �
           counts = mounts;
           was = was;
           now = now;
-          owner = owner_stays c w good t lt v was now cleared_words refl refl (ap stage_owns role ∙ sym (ap owns e));
+          owner = owner_stays c w good t lt v was now cleared_words refl refl (sym (freeze_owner x.nodes s) ∙ ap stage_owns role ∙ sym (ap owns e));
           levels = levels_stay c w good t lt cleared_words v (Some (closed_to 2)) (assumption)
               (record { held_same = ap (λ (h : Holdings). h.levels) mounts.held_same; added_same = refl; taken_same = refl })
               (here_stands c lim w good t lt x (FreezeStep.Cleans marks) e)

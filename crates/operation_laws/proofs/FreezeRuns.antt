@@ -6,7 +6,7 @@ use Rattle.gated_tree.specs.{Nodes.node_after, Phases.clears_at, declared.marks.
 use Rattle.freeze_levels.specs.{Freezes.{at_freeze, freeze_closes, freeze_fails, freeze_after, freeze_locked, after_clearing}, Holders.holders_in}
 use Rattle.freeze_levels.specs.declared.freezes.{Freeze.Freeze, FreezeStep.FreezeStep}
 use Rattle.stage_laws.specs.Roles.{has_position}
-use Rattle.gate_world.specs.{Configs.IsWithin, Roles.{Stand, closed_to}, Rules.{IsGood, Stages}, Shown.stage_role_of, Views.{phase_after, view_after}}
+use Rattle.gate_world.specs.{Configs.IsWithin, Roles.{Stand, closed_to}, Rules.{IsGood, Stages, stage_role_of}, Views.{phase_after, view_after}}
 use Rattle.gate_world.specs.{Worlds.{World, after_step, words_after, found_at, value_at}, declared.{config.Config.Config, work.Phase.Phase}}
 use Rattle.gate_frames.proofs.{DownLevels.entered_by_nobody, Frames.SameLevelWords, Keeps.by_bool, LevelRuns.{levels_stay_runs, down_write_runs, up_write_runs}}
 use Rattle.gate_frames.proofs.{StandRoles.{closing_first, closing_next}, Standing.{Stands, LevelsRun}, WholeLevels.freezes_runs}

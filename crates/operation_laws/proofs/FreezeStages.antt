@@ -1,4 +1,5 @@
 -- The events of a freeze on `umount`, the stage and the superblock's flag, and its clearing of marks.
+use Rattle.gate_world.specs.Roles.{freeze_owns}
 use Rattle.access_model.specs.{Holders.{held_by, is_unheld, nobody, with_holder}, declared.actions.{Action.Action, Holders.Holders}}
 use Rattle.access_model.specs.declared.{errors.GateError.GateError, replies.{Next.Next, Reply.Reply}}
 use Rattle.cpu_words.specs.{Hooks.HookAnswer, Words.Words, declared.{events.{Event.Event, Touch.Touch}, names.WordName.WordName}}
@@ -13,7 +14,7 @@ use Rattle.gate_frames.proofs.{WriterParts.idle_writes, WriterStages.{opened_tre
 use Rattle.gate_frames.proofs.WriterStages.{writer_stores}
 use Rattle.gate_world.specs.{Configs.{IsWithin, model_limits}, Fits.{Fits, FreezeFits, PhaseFits}, Roles.{Stand, closed_to, freeze_holder_role}}
 use Rattle.gate_world.specs.{Roles.{freeze_stage_role, freeze_stand, freeze_tree_role}, Rules.{Fitting, Holding, Holds, IsGood, OwnerHolds, Stages, Tree}}
-use Rattle.gate_world.specs.{Rules.owns, Shown.{holder_role_of, holder_roles, shown, stage_role_of}, Trees.{tree_bounds, tree_of, tree_role_of, tree_roles}}
+use Rattle.gate_world.specs.{Rules.{holder_role_of, holder_roles, owns, stage_role_of}, Shown.shown, Trees.{tree_bounds, tree_of, tree_role_of, tree_roles}}
 use Rattle.gate_world.specs.{Views.{held_of, view_with}, Worlds.World, declared.{config.Config.Config, views.View.View, work.Phase.Phase}}
 use Rattle.gated_tree.specs.Roles.{HasNoCharge, Out as OffTree, TreeState, sealed_by}
 use Rattle.holder_laws.proofs.{HolderLaws.{finds_some, roles_tell}, Words.{is_nobody, none_held, unpack_pack}}
@@ -22,7 +23,6 @@ use Rattle.operation_laws.proofs.FreezeFits.{found_cases}
 use Rattle.stage_laws.specs.Events.{Advances, Begins, Completes, Fails, FreezesAtOnce, Happens, HoldsOne, LetsGo, LoadsSb, LoadsStage as FindsStage}
 use Rattle.stage_laws.specs.Events.{Locks as LocksStage, LocksAgain as LocksStageAgain, Recalls, Releases as ReleasesStage, StageEvent, Stays, Syncs}
 use Rattle.stage_laws.specs.{Events.{action_of as stage_action_of, playing}, Roles.{Before, HasPassed, KnowsStage, Owning, StageRole, is_full}}
-use Rattle.stage_laws.specs.Roles.{owns as stage_owns}
 use Rattle.std.proofs.{Common.{ap, arith, inl, inr, refl, subst, sym, ℕ, ◌+◌, ◌<◌, ◌∙◌, ◌≡◌}, lemmas.Bool.Decides.eqb_tells}
 use Rattle.std.specs.Prelude.{Err, None, Ok, Option, Result, Some, false, if◌then◌else◌, true, ◌∷◌}
 use Rattle.tree_laws.specs.Events.{Event as TreeEvent, Leaves, Seals, turned}
@@ -71,7 +71,7 @@ module _ (c : Config) (lim : IsWithin c) (w : World) (good : IsGood c w) (t : �
   view_at n value hook s action = view_with (w.views t) n value hook (Next.Go (Phase.Freezes (at_freeze x s)), action)
 
   stores : (hook : HookAnswer) (s s' : FreezeStep) (e : IsHere s) (n : ℕ) (kind : StageEvent) →
-      stage_owns (freeze_stage_role x.nodes s) ≡ 1 → stage_owns (freeze_stage_role x.nodes s') ≡ 1 → FreezeFits c x.holder s' →
+      freeze_owns s ≡ 1 → freeze_owns s' ≡ 1 → FreezeFits c x.holder s' →
       let v : View = view_at (WordName.Stage, Touch.Store n) w.words.stage hook s' (Some (Action.Stage n)) in
       let ws : Words = record w.words { stage = n } in
       LevelsHold c (left_world w t ws v) → Holds c (left_world w t ws v) Tree → IsStageEvent c w good t lt ws v kind →
@@ -97,7 +97,7 @@ module _ (c : Config) (lim : IsWithin c) (w : World) (good : IsGood c w) (t : �
 
   -- and with stage 4 the freeze is to store its holder
   completed : (hook : HookAnswer) (s : FreezeStep) (e : IsHere s) → freeze_holder_role s ≡ Apart →
-      stage_owns (freeze_stage_role x.nodes s) ≡ 1 → (w.words.stage ≡ 4 → ⊥) →
+      freeze_owns s ≡ 1 → (w.words.stage ≡ 4 → ⊥) →
       let v : View = view_at (WordName.Stage, Touch.Store 4) w.words.stage hook (FreezeStep.Holds nobody) (Some (Action.Stage 4)) in
       Holds c (left_world w t (record w.words { stage = 4 }) v) Holding
   completed hook s e role own off =
@@ -326,7 +326,7 @@ module _ (c : Config) (lim : IsWithin c) (w : World) (good : IsGood c w) (t : �
   -- a load by the owner, after which this step comes
   loads : (hook : HookAnswer) (word : WordName) (value : ℕ) (s s' : FreezeStep) (e : IsHere s) (kind : StageEvent) →
       let v : View = view_at (word, Touch.Load) value hook s' None in
-      stage_owns (freeze_stage_role x.nodes s) ≡ 1 → stage_owns (freeze_stage_role x.nodes s') ≡ 1 →
+      freeze_owns s ≡ 1 → freeze_owns s' ≡ 1 →
       freeze_stand s ≡ None → freeze_stand s' ≡ None → freeze_tree_role x.nodes s' ≡ freeze_tree_role x.nodes s →
       FreezeFits c x.holder s' → SameAtMounts (w.views t) v → SameLevelCounts (w.views t) v →
       IsStageEvent c w good t lt w.words v kind → stage_action_of kind (stages_in w) ≡ None →

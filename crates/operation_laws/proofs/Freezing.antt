@@ -1,4 +1,6 @@
 -- A freeze that no idle task keeps, and a callback, have a reply near, whoever is inside a section.
+use Rattle.gate_world.specs.Roles.{freeze_owns}
+use Rattle.gate_frames.proofs.ByPhase.{freeze_owner}
 use Rattle.access_model.specs.declared.actions.Holder.{Holder}
 use Rattle.cpu_words.specs.{Hooks.HookAnswer, Words.Words}
 use Rattle.file_closes.specs.declared.phases.ClosePhase.{ClosePhase}
@@ -6,7 +8,7 @@ use Rattle.finite_sums.proofs.Totals.{each_updated, total_at, total_bound, total
 use Rattle.finite_sums.specs.Sums.{total, update}
 use Rattle.freeze_levels.specs.declared.freezes.{Freeze.Freeze, FreezeStep.FreezeStep}
 use Rattle.gate_world.specs.{Configs.IsWithin, Fits.{FreezeFits, PhaseFits, ReadStepFits}, Levels.inside, Operations.holds_none_from, Roles.freeze_stage_role}
-use Rattle.gate_world.specs.{Roles.{place_of, reopening_role}, Rules.{IsGood, Owner, Sections, Stages, owns}, Shown.{stage_role_of, stage_roles}}
+use Rattle.gate_world.specs.{Roles.{place_of, reopening_role}, Rules.{IsGood, Owner, Sections, Stages, owns, stage_role_of, stage_roles}}
 use Rattle.gate_world.specs.{Views.{held_of, holds_level, view_after}, Worlds.{World, after_step, value_at}, declared.{config.Config.Config, views.View.View}}
 use Rattle.gate_world.specs.declared.work.Phase.{Phase}
 use Rattle.gated_tree.specs.declared.phases.TreePhase.{TreePhase}
@@ -109,7 +111,7 @@ reopening_knows stage sb level (UpWriteStep.Exits x) k = k.0
 -- Another freeze that owns `umount` at stage 1 is to find so, or to release it.
 owner_step : (c : Config) (w : Words) (nodes : ℕ) (s : FreezeStep) → NobodyInside c w → w.stage ≡ 1 →
     KnowsStage w.stage w.sb (freeze_stage_role nodes s) → freezes (freeze_stage_role nodes s) ≡ 0 →
-    stage_owns (freeze_stage_role nodes s) ≡ 1 → FreezeIsFree c w s
+    freeze_owns s ≡ 1 → FreezeIsFree c w s
 owner_step c w nodes FreezeStep.Locks even one k f o = absurd (omega (arith, o))
 owner_step c w nodes FreezeStep.LoadsStage even one k f o =
     let q : (w.stage == 0) ≡ false = ne_eqb w.stage 0 (λ z. omega (arith, z, one)) in
@@ -205,7 +207,7 @@ module _ (c : Config) (lim : IsWithin c)
             | inr u ↦
                 let own : owns (w.views u.0).phase ≡ 1 = (good Owner).owned u.0 u.1 u.4 in
                 let few : total c.tasks (λ v. freezes (stage_roles w v)) ≤ 1 = omega (arith, (good Stages).freezing, ap under_way one) in
-                let ne : u.0 ≡ t → ⊥ = λ e. omega (arith, own, ap (λ v. owns (w.views v).phase) e, ap owns at, ap stage_owns n.2) in
+                let ne : u.0 ≡ t → ⊥ = λ e. omega (arith, own, ap (λ v. owns (w.views v).phase) e, ap owns at, freeze_owner x.nodes x.step, ap stage_owns n.2) in
                 let none : freezes (stage_roles w u.0) ≡ 0 =
                 other_zero c.tasks t (λ v. freezes (stage_roles w v)) few lt (ap freezes role) u.0 u.1 ne in
                 let its : stage_roles w u.0 ≡ freeze_stage_role u.2.nodes u.2.step = ap stage_role_of u.3 in

@@ -1,4 +1,5 @@
 -- Where each operation under way is kept, no event of one of them is a reply, and all stay kept.
+use Rattle.gate_world.specs.Roles.{freeze_owns}
 use Rattle.access_model.specs.{Replies.map_next, declared.{actions.Action.{Action, TheVariants.Pass}, replies.Next.{Next, TheVariants.{Done, Go, Wait}}}}
 use Rattle.cpu_words.specs.{Hooks.HookAnswer, Touches.{found_by, left}, Words.{Words, put, read}, declared.events.Touch.TheVariants.Cas}
 use Rattle.cpu_words.specs.declared.names.WordName.TheVariants.{Node, Umount}
@@ -10,8 +11,8 @@ use Rattle.freeze_levels.specs.declared.freezes.FreezeStep.{FreezeStep, TheVaria
 use Rattle.freeze_levels.specs.declared.{freezes.FreezeStep.TheVariants.{LocksAgain, SetsFs, SetsPageFault, SetsWrite, Unlocks}, thaws.Thaw.Thaw}
 use Rattle.freeze_levels.specs.declared.thaws.ThawStep.{ThawStep, TheVariants.Locks as ThawLocks}
 use Rattle.gate_frames.proofs.{Owners.owns_le, Words.load_same}
-use Rattle.gate_world.specs.{Fits.{FreezeFits, PhaseFits}, Levels.{is_frozen_whole, sync_role_of}, Roles.freeze_stage_role, Rules.IsGood}
-use Rattle.gate_world.specs.{Rules.{Moves as MovesModel, Owner, Stages, SyncAt, SyncHoldsIn, Tree, owns}, Shown.{shown, stage_role_of}, Views.held_of}
+use Rattle.gate_world.specs.{Fits.{FreezeFits, PhaseFits}, Levels.{is_frozen_whole, sync_role_of}, Roles.freeze_stage_role, Rules.{IsGood, Moves as MovesModel}}
+use Rattle.gate_world.specs.{Rules.{Owner, Stages, SyncAt, SyncHoldsIn, Tree, owns, stage_role_of}, Shown.shown, Views.held_of}
 use Rattle.gate_world.specs.{Views.{holds_level, phase_after, view_after}, Work.after_of, Worlds.{World, after_step, found_at, phase_action, value_at}}
 use Rattle.gate_world.specs.{Worlds.words_after, declared.{config.Config.Config, views.View.View, work.Phase.{Phase, TheVariants.Closes as FileCloses}}}
 use Rattle.gate_world.specs.declared.work.Phase.TheVariants.{DownReads, Freezes, Mounts, Remounts, Thaws, Trees, Writes}
@@ -30,7 +31,7 @@ use Rattle.operation_laws.proofs.{Leaves.read_beside, LevelFacts.blocked_slow, M
 use Rattle.operation_laws.specs.Progress.{AllAreKept, ChangeIsKept, EventsMoveModel, FreezeIsKept, HasReply, IsAgreed, IsHeldIdle, IsKept, IsKeptAt}
 use Rattle.operation_laws.specs.Progress.{KeptIfFreeze, KeptStays, LockIsKept, RemountIsKept, SnapshotIsKept, StartIsKept, ThawIsKept, begins_freeze}
 use Rattle.operation_laws.specs.Progress.{is_admitted, is_first_lock, is_last_close, next_level}
-use Rattle.stage_laws.specs.Roles.{KnowsStage, bit, owns as stage_owns}
+use Rattle.stage_laws.specs.Roles.{KnowsStage, bit}
 use Rattle.std.proofs.{Common.{Bool, ap, arith, false, inl, inr, refl, subst, sym, true, true≢false, ℕ, ◌<◌, ◌∙◌, ◌≡◌, ◌≤◌}, lemmas.Bool.and_parts}
 use Rattle.std.proofs.lemmas.Bool.{cases_Bool, eqb-true, ne_eqb, Decides.eqb_tells}
 use Rattle.std.specs.Prelude.{Err, Ok, Option, Some, if◌then◌else◌, nat_lt, ◌&&◌, ◌+◌, ◌==◌}
@@ -48,12 +49,12 @@ far_same w next LoadsSuperblock two three = absurd (omega (arith, if_far (w.sb =
 far_same w next s two three = refl
 
 -- nor does one that isn't at its first lock and doesn't own `umount`
-apart_same : (w next : Words) (nodes : ℕ) (s : FreezeStep) → stage_owns (freeze_stage_role nodes s) ≡ 0 → is_first_lock s ≡ false →
+apart_same : (w next : Words) (s : FreezeStep) → freeze_owns s ≡ 0 → is_first_lock s ≡ false →
     next_level next s ≡ next_level w s
-apart_same w next nodes FreezeLocks none later = absurd (true≢false later)
-apart_same w next nodes LoadsStage none later = absurd (omega (arith, none))
-apart_same w next nodes LoadsSuperblock none later = absurd (omega (arith, none))
-apart_same w next nodes s none later = refl
+apart_same w next FreezeLocks none later = absurd (true≢false later)
+apart_same w next LoadsStage none later = absurd (omega (arith, none))
+apart_same w next LoadsSuperblock none later = absurd (omega (arith, none))
+apart_same w next s none later = refl
 
 later_kept : (c : Config) (v : World) (s : FreezeStep) → is_first_lock s ≡ false → FreezeIsKept c v s → IsKept c v s
 later_kept c v FreezeLocks later h = absurd (true≢false later)
@@ -177,7 +178,7 @@ module _ (c : Config) (w : World) (good : IsGood c w) (t : ℕ) (lt : t < c.task
               subst (FreezeIsKept c next) (sym e) (first_stays y ly ne (ap begins_freeze is ∙ f) (subst (FreezeIsKept c w) e h))
           | inr later ↦
               let same : next_level next.words x.step ≡ next_level w.words x.step = elim (eqb_tells (owns (Some p)) 1) [
-                | inl mine ↦ apart_same w.words next.words x.nodes x.step (elim (eqb_tells (owns (w.views y).phase) 1) [
+                | inl mine ↦ apart_same w.words next.words x.step (elim (eqb_tells (owns (w.views y).phase) 1) [
                   | inl own ↦ absurd (ne (one_owner y ly own.1 mine.1))
                   | inr none ↦ omega (arith, owns_le (w.views y).phase, none.1, ap owns is)
                 ]) later

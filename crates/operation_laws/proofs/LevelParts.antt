@@ -1,4 +1,5 @@
 -- What an event at a freeze level leaves alone, where it leaves the word `block` of each.
+use Rattle.gate_frames.proofs.ByPhase.{closing_as}
 use Rattle.std.{proofs.Common.{◌≡◌, ℕ, ◌<◌, sym, ap, ◌∙◌, arith}, specs.Prelude.{◌==◌, ◌||◌, Option, Some}}
 use Rattle.finite_sums.{proofs.Totals.{update_same, each_updated}, specs.Sums.update}
 use Rattle.access_model.specs.{Replies.map_next, declared.replies.Next.Next}
@@ -7,8 +8,7 @@ use Rattle.gated_tree.specs.{Nodes.node_shown}
 use Rattle.mount_counts.specs.Roles.{ro_bit}
 use Rattle.percpu_rwsem.specs.declared.readers.{DownRead.DownRead, UpRead.UpRead}
 use Rattle.freeze_levels.specs.Holders.{holders_in}
-use Rattle.stage_laws.specs.Roles.{sums}
-use Rattle.gate_world.specs.{Levels.{is_frozen_whole, sync_role_of, inside, at_level}, Owners.KnowsWords, Roles.{Roles, no_roles, roles_of}, Rules.owns}
+use Rattle.gate_world.specs.{Alike.{Roles, no_roles, roles_of}, Levels.{at_level, inside, is_frozen_whole, sync_role_of}, Owners.KnowsWords, Rules.owns}
 use Rattle.gate_world.specs.Rules.{IsGood, Holds, ViewFits, Owner, Known, AtMount, AtLevel, SyncAt, Sections, Stages, Holding, Fitting, Tree, Files}
 use Rattle.gate_world.specs.{Shown.{closing, shown}, Views.{held_at, added_by, phase_after, taken_by, holds_level, has_open}, Worlds.World}
 use Rattle.gate_world.specs.declared.{config.Config.Config, views.View.View, work.Phase.Phase}
@@ -106,7 +106,7 @@ module _ (c : Config) (w : World) (good : IsGood c w) (t : ℕ) (lt : t < c.task
 
   -- a level is closed as before
   pub closing_same : (i : ℕ) → closing i v.phase ≡ closing i (w.views t).phase
-  closing_same i = λ j. sums i (same j).stage
+  closing_same = closing_as (w.views t).phase v.phase (λ j. (same j).stage)
 
   -- the shown model, where the task's accesses at levels alone may be others
   pub level_shown : SameAtMounts (w.views t) v → shown c then_world ≡

@@ -1,5 +1,6 @@
 -- Who can move: a task whose way is free, who has HOLD set at a mount, and an owner of `umount` that is no freeze; and what the rule says of who
 -- holds a level.
+use Rattle.gate_world.specs.Roles.{snapshot_owns, thaw_owns}
 use Rattle.cpu_words.specs.Words.{Words}
 use Rattle.file_closes.specs.declared.phases.ClosePhase.{ClosePhase}
 use Rattle.finite_sums.proofs.Totals.{total_at, total_none}
@@ -10,7 +11,7 @@ use Rattle.gate_counts.specs.{Gates.{BarringHolds, admitted, below, counted, unr
 use Rattle.gate_frames.proofs.{LevelWorlds.{callback_opens, read_opens}, Owners.{hold_owns, owns_le, who_holds}}
 use Rattle.gate_world.specs.{Configs.IsWithin, Fits.{Fits, PhaseFits}, Levels.{at_level, inside, is_frozen_whole, level_role_of, sync_role_of}}
 use Rattle.gate_world.specs.{Operations.{holds_none, holds_none_from}, Remounts.remount_owns, Roles.{Stand, change_owns, count_beside, count_role_if}}
-use Rattle.gate_world.specs.Roles.{down_count_role, freeze_stand, read_count_role, snapshot_stage_role, stand_count, stand_sync, thaw_stage_role, thaw_stand}
+use Rattle.gate_world.specs.Roles.{down_count_role, freeze_stand, read_count_role, stand_count, stand_sync, thaw_stand}
 use Rattle.gate_world.specs.{Roles.up_count_role, Rules.{AtLevel, AtMount, Fitting, IsGood, LevelHoldsIn, Owner, SyncAt, SyncHoldsIn, owns, role_of}}
 use Rattle.gate_world.specs.{Views.{held_of, holds_level}, Worlds.World, declared.{config.Config.Config, work.Phase.Phase}}
 use Rattle.gated_tree.specs.declared.{phases.TreePhase.TreePhase, snapshots.SnapshotStep.SnapshotStep}
@@ -22,7 +23,6 @@ use Rattle.percpu_rwsem.specs.declared.{readers.DownReadStep.DownReadStep, write
 use Rattle.operation_laws.proofs.{Bounds.{beside_small, is_beside, rank_small}, Falls.runs_out}
 use Rattle.operation_laws.specs.{Progress.{EventsKeepRule, ReplyWithin}, Ranks.{most_alone, most_beside}, Ways.{ChangeIsFree, HoldIsClear, IsFree}}
 use Rattle.operation_laws.specs.Ways.{NothingCounted, PhaseEnds, RemountIsFree, SnapshotIsFree, ThawIsFree}
-use Rattle.stage_laws.specs.Roles.{owns as stage_owns}
 use Rattle.std.proofs.Common.{Bool, ap, arith, false, inl, inr, refl, subst, suc, sym, true, true≢false, zero, ℕ, ◌<◌, ◌∙◌, ◌≡◌, ◌≤◌}
 use Rattle.std.proofs.lemmas.Bool.{and_parts, cases_Bool, cases_lt, le-ltb, lt-ltb, ltb-true, ne_eqb, not-true, or_cases}
 use Rattle.std.specs.Prelude.{None, Option, Some, if◌then◌else◌, nat_lt, not, ◌&&◌, ◌-◌, ◌==◌, ◌||◌, ◌⊎◌}
@@ -36,11 +36,11 @@ remount_owner : (w : Words) (s : RemountStep) → remount_owns s ≡ 1 → Remou
 remount_owner w RemountStep.Locks h = absurd (omega (arith, h))
 remount_owner w s h = tt
 
-thaw_owner : (w : Words) (s : ThawStep) → stage_owns (thaw_stage_role s) ≡ 1 → ThawIsFree w s
+thaw_owner : (w : Words) (s : ThawStep) → thaw_owns s ≡ 1 → ThawIsFree w s
 thaw_owner w ThawStep.Locks h = absurd (omega (arith, h))
 thaw_owner w s h = tt
 
-snapshot_owner : (w : Words) (wait : Bool) (s : SnapshotStep) → stage_owns (snapshot_stage_role s) ≡ 1 → SnapshotIsFree w s wait
+snapshot_owner : (w : Words) (wait : Bool) (s : SnapshotStep) → snapshot_owns s ≡ 1 → SnapshotIsFree w s wait
 snapshot_owner w wait SnapshotStep.Locks h = absurd (omega (arith, h))
 snapshot_owner w wait s h = tt
 

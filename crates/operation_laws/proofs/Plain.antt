@@ -3,7 +3,7 @@ use Rattle.file_closes.specs.declared.phases.ClosePhase.{ClosePhase}
 use Rattle.finite_sums.proofs.Totals.{HasPlace, total_place}
 use Rattle.freeze_levels.specs.declared.{freezes.{Freeze.Freeze, FreezeStep.FreezeStep}, thaws.ThawStep.ThawStep}
 use Rattle.gate_world.specs.{Configs.IsWithin, Fits.PhaseFits, Levels.is_frozen_whole, Roles.{freeze_stage_role, remount_stage_role, snapshot_stage_role}}
-use Rattle.gate_world.specs.{Roles.{thaw_stage_role, tree_stage_role}, Rules.{IsGood, Stages}, Shown.{stage_role_of, stage_roles}, Views.held_of}
+use Rattle.gate_world.specs.{Roles.{thaw_stage_role, tree_stage_role}, Rules.{IsGood, Stages, stage_role_of, stage_roles}, Views.held_of}
 use Rattle.gate_world.specs.{Worlds.World, declared.{config.Config.Config, work.Phase.Phase}}
 use Rattle.gated_tree.specs.declared.{phases.TreePhase.TreePhase, snapshots.SnapshotStep.SnapshotStep}
 use Rattle.mount_counts.specs.declared.{phases.{ChangeStep.ChangeStep, MountPhase.MountPhase}, remounts.RemountStep.RemountStep}

@@ -10,7 +10,7 @@ use Rattle.gate_frames.proofs.Trees.{shown_clean}
 use Rattle.gate_world.specs.{Configs.IsWithin, Fits.PhaseFits, Holdings.holdings_of, Levels.is_frozen_whole, Remounts.{AllBelow, RemountFits, giving_role}}
 use Rattle.gate_world.specs.{Remounts.{held_role, loop_role, remount_owns, remount_role, remount_sets}, Roles.{remount_stage_role, remount_tree_role}}
 use Rattle.gate_world.specs.Rules.{AtMount, Holds, IsGood, MountHoldsIn, Owner, Part, Stages, StepKeeps, Tree, at_mount, marks_of, owns, remounts, role_of}
-use Rattle.gate_world.specs.{Shown.{shown, stage_role_of}, Trees.{is_bare_at, tree_bounds, tree_of, tree_roles}, Views.{actions_after, held_at, held_of}}
+use Rattle.gate_world.specs.{Rules.stage_role_of, Shown.shown, Trees.{is_bare_at, tree_bounds, tree_of, tree_roles}, Views.{actions_after, held_at, held_of}}
 use Rattle.gate_world.specs.{Views.view_with, Worlds.World, declared.{config.Config.Config, views.View.View, work.Phase.Phase}}
 use Rattle.gated_tree.proofs.ClearedMarks.{clean_stays, cleared_shown, clears_mark, directory_clean, without_mark}
 use Rattle.gated_tree.specs.{Nodes.{IsNode, dirty_in, node_shown}, Roles.{Bare, Bounds, Clearing, HasNoCharge, Out as OffTree, Role as TreeRole, RoleHolds}}

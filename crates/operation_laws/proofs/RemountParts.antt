@@ -13,7 +13,7 @@ use Rattle.gate_world.specs.{Configs.IsWithin, Fits.{Fits, HasFile, PhaseFits, f
 use Rattle.gate_world.specs.{Levels.{level_added_by, level_taken_by}, Owners.{is_owned, takes_lock}, Remounts.{RemountFits, remount_owns, remount_role}}
 use Rattle.gate_world.specs.{Remounts.remount_sets, Roles.{remount_stage_role, remount_tree_role}, Rules.{AtLevel, AtMount, Files, Fitting, Holding, Holds}}
 use Rattle.gate_world.specs.Rules.{IsGood, IsSteady, Known, Moves, Owner, OwnerHolds, Part, Sections, Stages, StepKeeps, SyncAt, Tree, ViewFits, at_mount}
-use Rattle.gate_world.specs.{Rules.{marks_of, owns, remounts, role_of}, Shown.{closing, holder_role_of, shown, stage_role_of}, Trees.{is_bare_at, is_sealed}}
+use Rattle.gate_world.specs.{Rules.{holder_role_of, marks_of, owns, remounts, role_of, stage_role_of}, Shown.{closing, shown}, Trees.{is_bare_at, is_sealed}}
 use Rattle.gate_world.specs.{Trees.{tree_bounds, tree_of, tree_role_of, tree_roles}, Views.{added_by, has_open, held_of, phase_after, taken_by, view_with}}
 use Rattle.gate_world.specs.{Worlds.{World, after_step, phase_action, value_at}, declared.{config.Config.Config, views.View.View, work.Phase.Phase}}
 use Rattle.gated_tree.specs.{Nodes.{node_shown, opens_in}, Roles.{Role as TreeRole, TreeState}}
@@ -21,7 +21,7 @@ use Rattle.holder_laws.specs.Roles.{Apart}
 use Rattle.mount_counts.specs.{Remounts.{at_remount, remount_after, remount_next}, Roles.{MountHolds, Role, ro_bit}, declared.remounts.Remount.Remount}
 use Rattle.mount_counts.specs.declared.remounts.RemountStep.{RemountStep}
 use Rattle.stage_laws.specs.Events.{IsAlike, Recalls, StageEvent, playing}
-use Rattle.stage_laws.specs.Roles.{CleanBelow, IsKnown, KnowsStage, Owning, StageRole, clean_by, sums as stage_sums}
+use Rattle.stage_laws.specs.Roles.{CleanBelow, IsKnown, KnowsStage, Owning, StageRole, clean_by}
 use Rattle.std.proofs.Common.{Bool, None, Option, Some, ap, arith, false, inl, inr, refl, subst, sym, true, true≢false, ℕ, ◌<◌, ◌==◌, ◌||◌, ◌∙◌, ◌≡◌, ◌⊎◌}
 use Rattle.std.proofs.lemmas.Bool.{cases_Bool, Decides.eqb_tells}
 use Rattle.tree_laws.proofs.Each.{each_event}
@@ -93,10 +93,6 @@ owner_on old_stage old_sb new_stage new_sb stage sb dirty a b = (
   (a, b),
   λ m below. absurd (omega (arith, below)),
 )
-
-pub remount_closes_none : (i nodes : ℕ) (s : RemountStep) → stage_sums i (remount_stage_role nodes s) ≡ 0
-remount_closes_none i nodes RemountStep.Locks = refl
-remount_closes_none i nodes s = refl
 
 module _ (c : Config) (w : World) (good : IsGood c w) (t : ℕ) (lt : t < c.tasks) (x : Remount) (s : RemountStep)
     (e : (w.views t).phase ≡ Some (Phase.Remounts (at_remount x s))) where
@@ -263,14 +259,13 @@ module _ (c : Config) (w : World) (good : IsGood c w) (t : ℕ) (lt : t < c.task
 
     -- it closes no level, as before
     closes_same : (i : ℕ) → closing i v.phase ≡ closing i (w.views t).phase
-    closes_same i =
-        ap (closing i) is ∙ (remount_closes_none i x.nodes s' ∙ (sym (remount_closes_none i x.nodes s) ∙ sym (ap (closing i) e)))
+    closes_same i = ap (closing i) is ∙ sym (ap (closing i) e)
 
     steady_to : remount_owns s' ≡ 1 → remount_sets s' ≡ remount_sets s → IsSteady (w.views t).phase v.phase
     steady_to o' q = steady e (record {
       owns_same = ap owns is ∙ (o' ∙ sym o);
       remounts_same = ap remounts is ∙ q;
-      closing_same = λ i. ap (closing i) is ∙ (remount_closes_none i x.nodes s' ∙ sym (remount_closes_none i x.nodes s));
+      closing_same = λ i. ap (closing i) is;
     })
 
     tree_now : tree_role_of v.trace v.phase ≡ remount_tree_role x.nodes s'
@@ -409,5 +404,5 @@ module _ (c : Config) (w : World) (good : IsGood c w) (t : ℕ) (lt : t < c.task
             (holders_stay c w good t lt ws v refl refl (apart ∙ sym (ap holder_role_of e))) fits
             (λ m lm. mount_stays m lm (role_of m v.phase) (role m)),
         shown_still c w t lt ws v refl refl refl refl refl refl refl
-            (λ i. close i ∙ (sym (remount_closes_none i x.nodes s) ∙ sym (ap (closing i) e))) same.0,
+            (λ i. close i ∙ sym (ap (closing i) e)) same.0,
       )

@@ -1,4 +1,6 @@
 -- The law of each event of a snapshot.
+use Rattle.gate_world.specs.Roles.{snapshot_owns}
+use Rattle.gate_frames.proofs.ByPhase.{snapshot_owner}
 use Rattle.access_model.specs.{Replies.map_next, declared.{errors.GateError.GateError, replies.{Next.Next, Reply.Reply}}}
 use Rattle.cpu_words.specs.{Hooks.HookAnswer, Touches.{event_of, found_by}, Words.{Words, put, read}, declared.names.WordName.WordName}
 use Rattle.finite_sums.specs.Sums.{update}
@@ -7,7 +9,7 @@ use Rattle.gate_frames.proofs.{NodeParts.{call_keeps, call_moves, call_parts, ca
 use Rattle.gate_frames.proofs.{Stages.{alike_same, nobody_owns, owners_alike, stages_after, stages_in}, Words.load_same}
 use Rattle.gate_world.specs.{Configs.IsWithin, Fits.{Fits, PhaseFits}, Found.is_load, Owners.{is_owned, takes_lock}, Roles.snapshot_stage_role}
 use Rattle.gate_world.specs.{Roles.stage_at_end, Rules.{AtLevel, AtMount, Files, Fitting, Holding, Holds, IsGood, Known, Owner, Part, Sections, Stages}}
-use Rattle.gate_world.specs.{Rules.{StepKeeps, SyncAt, Tree, marks_of, owns, remounts}, Shown.{stage_role_of, stage_roles}, Snapshots.values_noted}
+use Rattle.gate_world.specs.{Rules.{StepKeeps, SyncAt, Tree, marks_of, owns, remounts, stage_role_of, stage_roles}, Snapshots.values_noted}
 use Rattle.gate_world.specs.{Trees.{tree_bounds, tree_role_of}, Views.{held_of, phase_after, view_with}, Worlds.{World, after_step}}
 use Rattle.gate_world.specs.declared.{config.Config.Config, views.{Traced.Traced, View.View}, work.Phase.Phase}
 use Rattle.gated_tree.specs.{Calls.{phase_role, role_after}, Nodes.{dirty_in, node_after, unpacked}, Phases.{at_snapshot, kids_step, node_step}}
@@ -89,11 +91,11 @@ node_role x n found =
 later_owns : (x : Snapshot) (s : SnapshotStep) (found : ℕ) →
     owns (later (snapshot_after x s found).0) ≡ stage_owns (stage_role_of (later (snapshot_after x s found).0))
 later_owns x s found =
-    snapshot_comes x (λ n. owns (later n) ≡ stage_owns (stage_role_of (later n))) (λ s'. refl) refl (λ answer. refl) s found
+    snapshot_comes x (λ n. owns (later n) ≡ stage_owns (stage_role_of (later n))) (λ s'. sym (snapshot_owner s')) refl (λ answer. refl) s found
 
 -- it changes a word that only the owner changes as the owner
 snapshot_changes : (x : Snapshot) (s : SnapshotStep) → is_owned (snapshot_next x s).0 ≡ true →
-    (is_load (snapshot_next x s).1 ≡ true) ⊎ (stage_owns (snapshot_stage_role s) ≡ 1)
+    (is_load (snapshot_next x s).1 ≡ true) ⊎ (snapshot_owns s ≡ 1)
 snapshot_changes x SnapshotStep.Locks h = absurd (true≢false (sym h))
 snapshot_changes x (SnapshotStep.Releases answer) h = absurd (true≢false (sym h))
 snapshot_changes x s h = inl refl
@@ -101,7 +103,7 @@ snapshot_changes x s h = inl refl
 -- and comes to own `umount` by taking it
 snapshot_comes_to : (x : Snapshot) (s : SnapshotStep) (value : ℕ) →
     owns (later (snapshot_after x s (found_by (snapshot_next x s).1 value)).0) ≡ 1 →
-    (stage_owns (snapshot_stage_role s) ≡ 1) ⊎ (takes_lock (event_of (snapshot_next x s).0 (snapshot_next x s).1 value) ≡ true)
+    (snapshot_owns s ≡ 1) ⊎ (takes_lock (event_of (snapshot_next x s).0 (snapshot_next x s).1 value) ≡ true)
 snapshot_comes_to x SnapshotStep.Locks value h =
     elim (cases_Bool (value == 0)) [
       | inl z ↦ inr z
@@ -228,7 +230,8 @@ module _ (c : Config) (within : IsWithin c) (w : World) (good : IsGood c w) (t :
       (later_owns x (SnapshotStep.LoadsNode n) (found_here (SnapshotStep.LoadsNode n)) ∙ ap stage_owns
       (node_role x n (found_here (SnapshotStep.LoadsNode n))) ∙ sym (ap owns e))
   owner_law (SnapshotStep.LoadsKids n) e own =
-      load_owner (SnapshotStep.LoadsKids n) e (umount_left (WordName.Kids n)) (ap stage_owns (kids_step_role (node_after n x.nodes)) ∙ sym (ap owns e))
+      load_owner (SnapshotStep.LoadsKids n) e (umount_left (WordName.Kids n)) (later_owns x (SnapshotStep.LoadsKids n)
+      (found_here (SnapshotStep.LoadsKids n)) ∙ ap stage_owns (kids_step_role (node_after n x.nodes)) ∙ sym (ap owns e))
   owner_law (SnapshotStep.Releases answer) e own =
       releases_umount c w good t lt (view_here (SnapshotStep.Releases answer)) (ap owns e) refl (later_remounts (SnapshotStep.Releases answer) e)
 

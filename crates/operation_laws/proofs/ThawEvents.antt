@@ -1,4 +1,6 @@
 -- The law of each event of a thaw.
+use Rattle.gate_world.specs.Roles.{thaw_owns}
+use Rattle.gate_frames.proofs.ByPhase.{thaw_owner}
 use Rattle.access_model.specs.{Holders.{held_by, is_unheld, nobody, with_holder}, Replies.map_next, declared.actions.{Action.Action, Holders.Holders}}
 use Rattle.access_model.specs.declared.{errors.GateError.GateError, replies.{Next.Next, Reply.Reply}}
 use Rattle.cpu_words.specs.{Hooks.HookAnswer, Touches.{found_by, left}, Words.{Words, put, read}, declared.events.{Event.Event, Touch.Touch}}
@@ -10,13 +12,14 @@ use Rattle.gate_frames.proofs.{Accesses.holdings_of_after, Frames.{added_load, t
 use Rattle.gate_frames.proofs.{Keeps.by_bool, MountEvents.{level_added_load, level_taken_load}, Stages.{IsStageEvent, alike_same, nobody_owns, owners_alike}}
 use Rattle.gate_frames.proofs.{Stages.stages_in, Standing.{LevelsHold, Stands, left_world, stand_after_opening, still_closed}, UpLevels.up_write_levels}
 use Rattle.gate_frames.proofs.{WholeLevels.thaws_all, WriterOwner.{lock_given, lock_taken, owner_stays}, WriterParts.{AsksWhere, IsWriter, LeavesRest}}
-use Rattle.gate_frames.proofs.WriterParts.{WriterKeeps, WriterLaw, idle_writes, reopening_owns, thaw_comes, thaw_work, thaws_write, whole_writer}
+use Rattle.gate_frames.proofs.WriterParts.{WriterKeeps, WriterLaw, idle_writes, thaw_comes, thaw_work, thaws_write, whole_writer}
 use Rattle.gate_frames.proofs.WriterStages.{SameStageWords, none_leaves, opened_tree, stays_there, stored_levels, writer_beside, writer_holds, writer_stores}
 use Rattle.gate_frames.proofs.WriterWords.{reopen_leaves, tree_beside, up_write_adds, up_write_counts_none, up_write_words, writer_at_level}
 use Rattle.gate_world.specs.{Configs.{IsWithin, model_limits}, Fits.{Fits, PhaseFits, ThawFits}, Holdings.{Holdings, holdings_of}, Levels.is_frozen_whole}
 use Rattle.gate_world.specs.{Levels.{level_added_after, level_added_by, level_taken_after, level_taken_by}, Roles.{closed_to, thaw_holder_role}}
-use Rattle.gate_world.specs.{Roles.{thaw_stage_role, thaw_stand}, Rules.{Fitting, Holding, Holds, IsGood, OwnerHolds, Stages, StepKeeps, ViewFits, marks_of}}
-use Rattle.gate_world.specs.{Rules.owns, Shown.{holder_role_of, holder_roles, shown, stage_role_of, stage_roles}, Trees.tree_role_of, Views.actions_after}
+use Rattle.gate_world.specs.{Roles.{thaw_stage_role, thaw_stand}, Rules.{Fitting, Holding, Holds, IsGood, OwnerHolds, Stages, StepKeeps, ViewFits}}
+use Rattle.gate_world.specs.{Rules.{holder_role_of, holder_roles, marks_of, owns, stage_role_of, stage_roles}, Shown.shown, Trees.tree_role_of}
+use Rattle.gate_world.specs.Views.{actions_after}
 use Rattle.gate_world.specs.{Views.{added_after, added_by, held_of, phase_after, taken_after, taken_by, view_with}, Worlds.World}
 use Rattle.gate_world.specs.declared.{config.Config.Config, views.{Traced.Traced, View.View}, work.Phase.Phase}
 use Rattle.gated_tree.specs.{Nodes.dirty_in, Roles.Out as OffTree}
@@ -60,15 +63,18 @@ module _ (x : Thaw) where
   opening_stands level (Next.Done answer) = opens_stand (level - 1)
 
   -- it owns `umount`, with the levels up to one still closed
-  opens_own : (level : ℕ) → stage_owns (thaw_stage_role (thaw_opens level)) ≡ 1
+  opens_own : (level : ℕ) → thaw_owns (thaw_opens level) ≡ 1
   opens_own level =
-      by_bool (level == 0) (λ b. stage_owns (thaw_stage_role (if b then ThawStep.Releases (Ok Reply.Unit) else ThawStep.Reopens (reopening level))) ≡ 1)
+      by_bool (level == 0) (λ b. thaw_owns (if b then ThawStep.Releases (Ok Reply.Unit) else ThawStep.Reopens (reopening level)) ≡ 1)
       refl refl
 
   opening_owns : (level : ℕ) (n : Next UpWrite) → owns (phase_after (map_next Phase.Thaws (after_opening x level n))) ≡ 1
-  opening_owns level (Next.Go u) = reopening_owns u.level u.step
-  opening_owns level (Next.Wait u) = reopening_owns u.level u.step
+  opening_owns level (Next.Go u) = refl
+  opening_owns level (Next.Wait u) = refl
   opening_owns level (Next.Done answer) = opens_own (level - 1)
+
+role_owns : {stage sb : Option ℕ} (s : ThawStep) → thaw_stage_role s ≡ Owning stage sb → thaw_owns s ≡ 1
+role_owns s role = sym (thaw_owner s) ∙ ap stage_owns role
 
 -- a level's reopening has nothing to do with the holders, nor what comes after it
 opening_apart : (x : Thaw) (level : ℕ) (n : Next UpWrite) → holder_role_of (phase_after (map_next Phase.Thaws (after_opening x level n))) ≡ Apart
@@ -165,7 +171,7 @@ module _ (c : Config) (lim : IsWithin c) (w : World) (good : IsGood c w) (t : �
         taken_same = level_taken_load name Touch.Load (level_taken_by (w.views t).events) refl;
       })
       (goes_to s s' e fit) w.words.umount None (Recalls (Owning stage sb) (Owning stage' sb'))
-      (owner_stays c w good t lt v (here_writes s e) now w.words refl refl (ap stage_owns role' ∙ sym (ap owns e ∙ ap stage_owns role)))
+      (owner_stays c w good t lt v (here_writes s e) now w.words refl refl (role_owns s' role' ∙ sym (ap owns e ∙ role_owns s role)))
       (subst (Stands (w.views t).phase) none (here_stands s e))
       (subst (Stands (Some (Phase.Thaws (at_thaw x s')))) none' (thaw_stands (at_thaw x s'))) (sym (here_off_tree s e)) (
         ap stage_role_of e ∙ role,
@@ -188,8 +194,8 @@ module _ (c : Config) (lim : IsWithin c) (w : World) (good : IsGood c w) (t : �
   found s e held role = ((roles_tell c.tasks t (holders_at w) (good Holding) lt).1 held (ap holder_role_of e ∙ role)).0
 
   -- the owner's store of stage 0, by what it leaves of the levels and by its kind
-  store_law : (hook : HookAnswer) (s s' : ThawStep) (e : IsHere s) (kind : StageEvent) → stage_owns (thaw_stage_role s) ≡ 1 →
-      stage_owns (thaw_stage_role s') ≡ 1 → ThawFits x.holder s' → thaw_holder_role x.holder s ≡ Empties →
+  store_law : (hook : HookAnswer) (s s' : ThawStep) (e : IsHere s) (kind : StageEvent) → thaw_owns s ≡ 1 →
+      thaw_owns s' ≡ 1 → ThawFits x.holder s' → thaw_holder_role x.holder s ≡ Empties →
       thaw_holder_role x.holder s' ≡ Apart →
       let v : View = view_at (WordName.Stage, Touch.Store 0) w.words.stage hook s' (Some (Action.Stage 0)) in
       let ws : Words = record w.words { stage = 0 } in
@@ -222,7 +228,7 @@ module _ (c : Config) (lim : IsWithin c) (w : World) (good : IsGood c w) (t : �
       writer_beside c w good t lt v (here_writes s e) idle_writes (assumption)
       (record { held_same = refl; added_same = refl; taken_same = refl })
       tt 0 None (ReleasesStage stage sb)
-      (lock_given c w good t lt v (here_writes s e) idle_writes (ap owns e ∙ ap stage_owns role) refl)
+      (lock_given c w good t lt v (here_writes s e) idle_writes (ap owns e ∙ role_owns s role) refl)
       (subst (Stands (w.views t).phase) none (here_stands s e)) idle_stands (sym (here_off_tree s e)) (ap stage_role_of e ∙ role, refl)
       refl holding
 
@@ -328,7 +334,7 @@ module _ (c : Config) (lim : IsWithin c) (w : World) (good : IsGood c w) (t : �
       let is : holders_in w.words.holders ≡ held = found s e held finds in
       writer_holds c w good t lt v (here_writes s e) now (assumption) (record { held_same = refl; added_same = refl; taken_same = refl })
       (goes_to s s' e fit) n (Action.Leave x.holder) None (LeavesOne x.holder sb (Owning stage' sb'))
-      (owner_stays c w good t lt v (here_writes s e) now w.words refl refl (ap stage_owns role' ∙ sym (ap owns e ∙ ap stage_owns role)))
+      (owner_stays c w good t lt v (here_writes s e) now w.words refl refl (role_owns s' role' ∙ sym (ap owns e ∙ role_owns s role)))
       (subst (Stands (w.views t).phase) none (here_stands s e))
       (subst (Stands (Some (Phase.Thaws (at_thaw x s')))) none' (thaw_stands (at_thaw x s'))) (sym (here_off_tree s e)) (
         ap stage_role_of e ∙ role,
@@ -461,7 +467,7 @@ module _ (c : Config) (lim : IsWithin c) (w : World) (good : IsGood c w) (t : �
           taken_same = (none (taken_by (w.views t).events)).1;
         })
         (fits_here f)
-        (opening_owns x u.level next_here.0 ∙ sym (ap owns e ∙ reopening_owns u.level u.step))
+        (opening_owns x u.level next_here.0 ∙ sym (ap owns e))
         (up_write_levels c lim w good t lt u view_here
         (record {
           held_same = ap (λ (h : Holdings). h.levels) held_here;

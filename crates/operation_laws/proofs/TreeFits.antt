@@ -1,5 +1,5 @@
 -- The action of each event of a call at the tree can be done.
-use Rattle.std.proofs.Common.{◌≡◌, ℕ, ◌<◌, Bool, true, false, arith}
+use Rattle.std.proofs.Common.{ℕ, ◌<◌, Bool, true, false, arith}
 use Rattle.std.specs.Prelude.{Some, None, if◌then◌else◌, ◌==◌}
 use Rattle.access_model.specs.declared.actions.Action.{Action}
 use Rattle.cpu_words.specs.Hooks.{HookAnswer}

@@ -1,10 +1,11 @@
 -- Each operation under way is kept, or a reply is near.
+use Rattle.gate_world.specs.Roles.{freeze_owns, snapshot_owns, thaw_owns}
 use Rattle.cpu_words.specs.{Hooks.HookAnswer, Words.Words}
 use Rattle.file_closes.specs.declared.phases.ClosePhase.{ClosePhase}
 use Rattle.finite_sums.proofs.Totals.{update_off}
 use Rattle.freeze_levels.specs.{Freezes.at_freeze, declared.{freezes.{Freeze.Freeze, FreezeStep.FreezeStep}, thaws.ThawStep.ThawStep}}
-use Rattle.gate_world.specs.{Configs.IsWithin, Fits.PhaseFits, Remounts.remount_owns, Roles.{change_owns, freeze_stage_role, snapshot_stage_role}}
-use Rattle.gate_world.specs.{Roles.thaw_stage_role, Rules.{AtLevel, IsGood, Stages, owns}, Shown.stage_role_of, Views.{held_of, phase_after, view_after}}
+use Rattle.gate_world.specs.{Configs.IsWithin, Fits.PhaseFits, Remounts.remount_owns, Roles.{change_owns}}
+use Rattle.gate_world.specs.{Rules.{AtLevel, IsGood, Stages, owns, stage_role_of}, Views.{held_of, phase_after, view_after}}
 use Rattle.gate_world.specs.{Work.after_of, Worlds.{World, after_step, found_at, value_at}, declared.{config.Config.Config, views.View.View}}
 use Rattle.gate_world.specs.declared.work.Phase.{Phase}
 use Rattle.gated_tree.specs.declared.{phases.TreePhase.TreePhase, snapshots.SnapshotStep.SnapshotStep}
@@ -16,7 +17,7 @@ use Rattle.operation_laws.proofs.Movers.{want_goes}
 use Rattle.operation_laws.specs.Progress.{ChangeIsKept, EventsKeepRule, FreezeIsKept, IsKept, IsKeptAt, KeptIfFreeze, LockIsKept, Progresses, RemountIsKept}
 use Rattle.operation_laws.specs.Progress.{ReplyWithin, SnapshotIsKept, ThawIsKept, begins_freeze, is_admitted, is_first_lock, is_last_close, next_level}
 use Rattle.operation_laws.specs.{Ranks.{most_alone, most_settled}, Ways.{ChangeIsFree, IsFree, PhaseEnds, RemountIsFree, SnapshotIsFree, ThawIsFree}}
-use Rattle.stage_laws.specs.Roles.{KnowsStage, bit, owns as stage_owns}
+use Rattle.stage_laws.specs.Roles.{KnowsStage, bit}
 use Rattle.std.proofs.{Common.{Bool, ap, arith, false, inl, inr, refl, subst, sym, true, true≢false, ℕ, ◌+◌, ◌<◌, ◌∙◌, ◌≡◌, ◌≤◌}, lemmas.Bool.cases_Bool}
 use Rattle.std.proofs.lemmas.Bool.{cases_lt, le-ltb, ne_eqb, Decides.eqb_tells}
 use Rattle.std.specs.Prelude.{None, Option, Some, nat_lt, ◌==◌, ◌⊎◌}
@@ -71,9 +72,9 @@ last_either block true false le = inl (λ q a. absurd (true≢false (sym a)))
 last_either block true true le =
     elim (eqb_tells block 0) [ inl z ↦ inl (λ q a. z.1) | inr z ↦ inr (refl, refl, omega (arith, z.1, le)) ]
 
-first_owned : (w : Words) (nodes : ℕ) (s : FreezeStep) → stage_owns (freeze_stage_role nodes s) ≡ 1 → FirstFree w s
-first_owned w nodes FreezeStep.Locks h = absurd (omega (arith, h))
-first_owned w nodes s h = tt
+first_owned : (w : Words) (s : FreezeStep) → freeze_owns s ≡ 1 → FirstFree w s
+first_owned w FreezeStep.Locks h = absurd (omega (arith, h))
+first_owned w s h = tt
 
 first_or_kept : (c : Config) (w : World) (s : FreezeStep) → (s ≡ FreezeStep.Locks) ⊎ (IsKept c w s → FreezeIsKept c w s)
 first_or_kept c w FreezeStep.Locks = inl refl
@@ -171,7 +172,7 @@ module _ (c : Config) (lim : IsWithin c)
 
       -- so a freeze that owns `umount` with level 1 still to be passed
       release_goes : (s : FreezeStep) (v : World) → IsGood c v → (v.views u).phase ≡ Some (Phase.Freezes (at_freeze y s)) →
-          (v.views t).phase ≡ Some phase → stage_owns (freeze_stage_role y.nodes s) ≡ 1 → next_level v.words s < 2 → ReplyWithin c (most_settled c + 4) v
+          (v.views t).phase ≡ Some phase → freeze_owns s ≡ 1 → next_level v.words s < 2 → ReplyWithin c (most_settled c + 4) v
       release_goes FreezeStep.LoadsStage v good at mine own low =
           elim (cases_Bool (v.words.stage == 0)) [
             | inl z ↦ elim (cases_Bool (v.words.sb == 0)) [
@@ -217,7 +218,7 @@ module _ (c : Config) (lim : IsWithin c)
               let ne : t ≡ u.task → ⊥ = λ e. omega (arith, own, ap (λ a. owns (w.views a).phase) e, ap owns at, none) in
               elim (kept_or_apart c w y.0.step) [
                 | inr apart ↦ inl (nearly (freeze_goes c lim keeps ends w good u.task u.there y.0 there apart
-                    (first_owned w.words y.0.nodes y.0.step (sym (ap owns there) ∙ own))))
+                    (first_owned w.words y.0.step (sym (ap owns there) ∙ own))))
                 | inl kept ↦ elim (cases_lt (next_level w.words y.0.step) 2) [
                   | inr past ↦ inr (u.task, u.there, own, subst (KeptIfFreeze c w) (sym there) (past, kept))
                   | inl low ↦ inl (lastly (release_goes t phase waits u.task u.there ne y.0 y.0.step w good there at
@@ -309,13 +310,13 @@ module _ (c : Config) (lim : IsWithin c)
               ]
               | inr apart ↦ inl (nearly (freeze_goes c lim keeps ends w good t lt x at apart first))
             ]
-            | inr n ↦ elim (lock_taken t lt (Phase.Freezes x) at (ap (λ s. stage_owns (freeze_stage_role x.nodes s)) n.1)
+            | inr n ↦ elim (lock_taken t lt (Phase.Freezes x) at (ap freeze_owns n.1)
                 (freeze_waits x n.1) n.0) [ inl h ↦ inl h | inr kept ↦ inr (subst (FreezeIsKept c w) (sym n.1) (inl kept)) ]
           ]
       task_goes (Phase.Thaws x) at f =
           elim (thaw_either w.words x.step) [
             | inl free ↦ goes (Phase.Thaws x) at free
-            | inr n ↦ elim (lock_taken t lt (Phase.Thaws x) at (ap (λ s. stage_owns (thaw_stage_role s)) n.1)
+            | inr n ↦ elim (lock_taken t lt (Phase.Thaws x) at (ap thaw_owns n.1)
                 (λ v good' at' free one. reaches v good' (Phase.Thaws x) at' (subst (ThawIsFree v.words) (sym n.1) free)) n.0) [
                   | inl h ↦ inl h
                   | inr kept ↦ inr (subst (ThawIsKept c w) (sym n.1) kept)
@@ -324,7 +325,7 @@ module _ (c : Config) (lim : IsWithin c)
       task_goes (Phase.Trees (TreePhase.Snapshot x)) at f =
           elim (snapshot_either w.words x.step x.wait) [
             | inl free ↦ goes (Phase.Trees (TreePhase.Snapshot x)) at free
-            | inr n ↦ elim (lock_taken t lt (Phase.Trees (TreePhase.Snapshot x)) at (ap (λ s. stage_owns (snapshot_stage_role s)) n.2)
+            | inr n ↦ elim (lock_taken t lt (Phase.Trees (TreePhase.Snapshot x)) at (ap snapshot_owns n.2)
                 (λ v good' at' free one. reaches v good' (Phase.Trees (TreePhase.Snapshot x)) at'
                 (subst (λ s. SnapshotIsFree v.words s x.wait) (sym n.2) (λ e. free))) n.1) [
                   | inl h ↦ inl h

@@ -6,7 +6,7 @@ use Rattle.finite_sums.specs.Sums.{update}
 use Rattle.gate_frames.proofs.{Agreeing.none_agree, Beside.update_twice, Frames.{count_none, role_on, sync_none}, Keeps.{OpKeeps, PhaseKeeps}, Says.is_short}
 use Rattle.gate_frames.proofs.{Says.{is_short_well, tells, tells_well}, Snapshots.completes_none, TreeHolders.both_true}
 use Rattle.gate_world.specs.{Causes.{asks, asks_level}, Configs.IsWithin, Fits.{Fits, WriteFits}, Holdings.{Holdings, held_after, holdings_of}}
-use Rattle.gate_world.specs.{LevelRuns.level_in, Levels.sync_role_of, Roles.no_roles, Rules.{IsGood, StepKeeps, role_of}, Views.{held_of, phase_after}}
+use Rattle.gate_world.specs.{Alike.no_roles, LevelRuns.level_in, Levels.sync_role_of, Rules.{IsGood, StepKeeps, role_of}, Views.{held_of, phase_after}}
 use Rattle.gate_world.specs.{Worlds.{World, after_step, found_at}, declared.{config.Config.Config, operations.Op.Op, work.Phase.Phase}}
 use Rattle.level_laws.specs.{Events.SyncStep, Roles.closed}
 use Rattle.mount_counts.specs.{Phases.want_after, declared.phases.{MountPhase.MountPhase, Want.Want, WantStep.WantStep}}
