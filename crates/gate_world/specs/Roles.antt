@@ -45,7 +45,7 @@ mount_role m (MountPhase.Want w) = role_if (m == w.mount) (want_role w.cpu w.ste
 mount_role m (MountPhase.Change x) = role_if (m == x.mount) (change_role x.step)
 mount_role m phase = Out
 
--- a change owns `umount` once it has locked it
+-- 1 while a change owns `umount`: once it has locked it, up to its release
 abbrev pub change_owns : ChangeStep → ℕ
 change_owns ChangeStep.Locks = 0
 change_owns step = 1
@@ -211,7 +211,7 @@ freeze_tree_role nodes (FreezeStep.Cleans marks) = Clearing marks.node
 freeze_tree_role nodes FreezeStep.SetsFs = Clearing nodes
 freeze_tree_role nodes step = OffTree
 
--- it gives `umount` back while it closes level 1
+-- 1 while a freeze owns `umount`: from its lock to its release, but for the closing of level 1
 abbrev pub freeze_owns : FreezeStep → ℕ
 freeze_owns FreezeStep.Locks = 0
 freeze_owns (FreezeStep.Closes d) = if nat_lt 1 d.level then 1 else 0
@@ -242,7 +242,7 @@ thaw_holder_role holder ThawStep.UnfreezesReadOnly = Empties
 thaw_holder_role holder ThawStep.SetsUnfrozen = Empties
 thaw_holder_role holder step = Apart
 
--- a thaw owns `umount` once it has locked it
+-- 1 while a thaw owns it
 abbrev pub thaw_owns : ThawStep → ℕ
 thaw_owns ThawStep.Locks = 0
 thaw_owns step = 1
@@ -264,7 +264,7 @@ abbrev pub tree_stage_role : TreePhase → StageRole
 tree_stage_role (TreePhase.Snapshot x) = snapshot_stage_role x.step
 tree_stage_role phase = Aside
 
--- a snapshot owns `umount` once it has locked it
+-- 1 while a snapshot owns `umount`
 abbrev pub snapshot_owns : SnapshotStep → ℕ
 snapshot_owns SnapshotStep.Locks = 0
 snapshot_owns step = 1

@@ -9,7 +9,7 @@ use Rattle.percpu_rwsem.specs.declared.writers.DownWriteStep.{DownWriteStep}
 use Rattle.freeze_levels.specs.declared.freezes.FreezeStep.{FreezeStep}
 use Rattle.gate_world.specs.{Views.{held_at, holds_level, has_open}, Worlds.World, declared.{config.Config.Config, work.Phase.Phase}}
 
--- 1 for a down-write that has set `block` of this level, its own, and whose sum has not been 0
+-- 1 where a down-write of its own level sums the words of this one: its `block` is set, and no sum was 0 yet
 abbrev pub is_summing : ℕ → ℕ → DownWriteStep → ℕ
 is_summing i level (DownWriteStep.Sums sum) = if i == level then 1 else 0
 is_summing i level step = 0
@@ -19,7 +19,7 @@ abbrev pub freeze_closing : ℕ → FreezeStep → ℕ
 freeze_closing i (FreezeStep.Closes d) = is_summing i d.level d.step
 freeze_closing i step = 0
 
--- and of what a task is at: 1 while it has a level's `block` set and its sum has not been 0
+-- and of what a task is at: 1 while it is closing this level
 abbrev pub closing : ℕ → Option Phase → ℕ
 closing i (Some (Phase.Freezes x)) = freeze_closing i x.step
 closing i p = 0
