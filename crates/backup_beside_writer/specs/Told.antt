@@ -7,8 +7,7 @@ use Rattle.backup_beside_writer.specs.declared.told.Told.{Told}
 abbrev pub Copies : ℕ → TaskState → TaskState → Type 0
 Copies = Rounds (BothDone (ChangeMount 0 true true) (ChangeMount 0 false true))
 
--- In the world that the closed gates leave, the writer was granted an access for each write that is told, and the backup has made as many copies,
--- each from where its task had done nothing.
+-- In the closed gates' world the writer was granted an access for each write that is told, and the backup made all copies told, each from no action.
 pub record IsTold (told : Told) (closed : Ending) : Type 0 where
   pub ended : Ended closed.config closed.words
   pub writes : Did (ended.world.views told.writer) (Granted (Mount 0) told.writes)

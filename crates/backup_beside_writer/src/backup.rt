@@ -9,8 +9,7 @@ use std::sync::Wait;
 use std::sync::atomic::{AtomicU64, Ordering};
 use vfs_gates::{GateError, Gates, Task};
 
-/// Reads the file twice while the mount is read-only, and says whether the reads differ. Refused only as Busy; whatever it answers, the
-/// task rests again.
+/// Whether two reads of the file differ while the mount is read-only. Refused only as Busy; whatever it answers, the task rests again.
 pub(crate) fn copy_once<R: Wait>(
     rt: &R,
     gates: &Gates,
@@ -47,13 +46,15 @@ pub(crate) fn back_up<R: Wait>(
     ensures rests { Rests result.0 }
     ensures copied { Copies copies task result.0 }
 {
+    let mut made = 0;
     let mut torn = 0;
-    for _copy in 0..copies {
-        for _ in rt.forever() {
-            if let Ok(differs) = copy_once(rt, gates, &mut task, file) {
-                torn += u32::from(differs);
-                break;
-            }
+    for _ in rt.forever() {
+        if made == copies {
+            break;
+        }
+        if let Ok(differs) = copy_once(rt, gates, &mut task, file) {
+            made += 1;
+            torn += u32::from(differs);
         }
     }
     (task, torn)

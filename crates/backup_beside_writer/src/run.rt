@@ -33,8 +33,7 @@ fn join(gates: &Gates, mut first: Task, second: Task) -> Task
     first
 }
 
-/// Lets the writer and the backup work at one mount, each in a thread, and closes the gates. Tells what was done, by the lists that both
-/// tasks have in the end.
+/// Lets the writer and the backup work at one mount, each in a thread, and closes the gates. Tells what both tasks' lists have in the end.
 pub(crate) fn run<R: Threads + Wait + Sync>(rt: &R, alloc: Global) -> Result<(Told, Closed)>
     ensures { IfOk result (λ done. IsTold done.0 done.1) }
 {

@@ -45,12 +45,12 @@ pub(crate) fn write<R: Wait>(
     ensures rests { Rests result }
     ensures wrote { Granted (Mount 0) writes task result }
 {
-    for _write in 0..writes {
-        for _ in rt.forever() {
-            if write_once(rt, gates, &mut task, file).is_ok() {
-                break;
-            }
+    let mut wrote = 0;
+    for _ in rt.forever() {
+        if wrote == writes {
+            break;
         }
+        wrote += u32::from(write_once(rt, gates, &mut task, file).is_ok());
     }
     task
 }

@@ -1,19 +1,23 @@
--- Laws for a caller. Their arguments are found from what its calls ensure.
-use Rattle.std.proofs.Common.{◌≡◌, ℕ, ◌<◌, ◌≤◌, Bool, true, false, List, [], ◌++◌, length, refl, sym, ap, ◌∙◌, subst}
+-- Laws for a caller, with the words that its proofs cite them by. Their arguments are found from what its calls ensure.
+pub use Rattle.std.proofs.Common.{ℕ, ◌≤◌, rules}
+use Rattle.std.proofs.Common.{◌≡◌, ◌<◌, Bool, true, false, List, ◌++◌, length, refl, sym, ap, ◌∙◌, subst}
 use Rattle.std.proofs.lemmas.Bool.{and_parts, ltb-true}
-use Rattle.std.specs.Prelude.{Result, Ok, nat_lt}
+use Rattle.std.specs.Prelude.{None, Result, Ok, nat_lt}
+use Rattle.atomic_table.specs.Seated.{TableId}
 use Rattle.access_model.specs.declared.replies.{Reply.Reply}
 use Rattle.gate_world.specs.declared.operations.Op.TheVariants.{Want, DropMount}
+use Rattle.call_events.specs.Rules.{first_items}
 use Rattle.call_events.specs.Runs.{told_as, unit_of}
 use Rattle.call_events.specs.Seating.{SeatItems}
 use Rattle.gate_world.specs.declared.config.Config.{Config}
 use Rattle.vfs_gates.specs.Held.{IsGivenBack, takes_nothing}
 use Rattle.vfs_gates.specs.Ended.{EndedWith}
-use Rattle.vfs_gates.specs.Rounds.{GateError, Mount, Op, ChangeMount, Performs, Rests, TaskState, Did, Ended, own_actions}
-use Rattle.vfs_gates.specs.TaskStates.{own_number}
+pub use Rattle.vfs_gates.specs.Rounds.{GateError, Mount, Op, ChangeMount, Performs, Rests, TaskState, IsFrom, Did, Ended, Granted, refused, round}
+use Rattle.vfs_gates.specs.Parts.{SplitOf}
+use Rattle.vfs_gates.specs.TaskStates.{own_number, task_state}
 use Rattle.vfs_gates.proofs.Holding.{keeps, rests_on}
 use Rattle.vfs_gates.proofs.Reopening.{Opens, opens}
-use Rattle.vfs_gates.proofs.Resting.{both_end, change_begins}
+use Rattle.vfs_gates.proofs.Resting.{both_end, change_begins, split_done_nothing}
 use Rattle.vfs_gates.proofs.Returning.{may, was_done, dropped}
 
 -- a call that takes nothing leaves a task at rest
@@ -29,6 +33,11 @@ given_back {m = m} {p = p} {wait = wait} {old = old} {there = there} {left = lef
     let began = may (Want m p wait) old there (was_done (Want m p wait) old there took) in
     let range = and_parts (nat_lt m old.config.mounts) (nat_lt p old.config.processors) began.range in
     dropped m p p wait old there left outcome (ltb-true p old.config.processors range.1) took gives
+
+-- and a task at rest rests again
+pub rests_back : {m p : ℕ} {wait : Bool} {old there left : TaskState} {outcome : Result (Unit {0}) GateError} → Rests old →
+    Performs (Want m p wait) old there (Ok tt) → Performs (DropMount m p) there left outcome → (outcome ≡ Ok tt) × Rests left
+rests_back {old = old} {left = left} rests took gives = let given = given_back took gives in (given.done, rests_on old left rests given.as_before)
 
 -- a change to writable that waits is done
 pub made_writable : {m : ℕ} {old left : TaskState} {outcome : Result (Unit {0}) GateError} → Rests old → m < old.config.mounts →
@@ -47,13 +56,15 @@ reopened {m = m} {old = old} {there = there} rests closed call =
     let at_rest = rests_after refl rests closed in
     (made_writable at_rest mount call, rests_after refl at_rest call)
 
--- Two tasks that had done nothing, did this each, and were joined, whose gates were closed: their numbers have it in the end.
-pub joined_did : {c : Config} {ws : List ℕ} {items : SeatItems} {one two : ℕ} (F S : TaskState → TaskState → Type 0)
-    (f s first second : TaskState) → (e : EndedWith c ws items) → items ≡ first.items ++ second.items →
-    one ≡ own_number first.items → 1 ≤ length first.items → two ≡ own_number second.items → 1 ≤ length second.items →
-    (own_actions f ≡ []) × (own_actions s ≡ []) → F f first → S s second →
+-- Two tasks, the first of some gates and one that was split off it, did this each, were joined, and closed the gates: their numbers have it in the
+-- end, from where they had done nothing.
+pub joined_did : {c : Config} {ws : List ℕ} {items : SeatItems} {one two : ℕ} {opening : Config} {id : TableId} {old f s : TaskState}
+    (F S : TaskState → TaskState → Type 0) (first second : TaskState) → old ≡ task_state id opening None None (first_items opening) → SplitOf old f s →
+    (e : EndedWith c ws items) → items ≡ first.items ++ second.items → one ≡ own_number first.items → 1 ≤ length first.items →
+    two ≡ own_number second.items → 1 ≤ length second.items → F f first → S s second →
     (ended : Ended c ws) × Did (ended.world.views one) F × Did (ended.world.views two) S
-joined_did {c = c} {ws = ws} F S f s first second e joined own there own' there' nothing did did' =
+joined_did {c = c} {ws = ws} {opening = opening} {id = id} {old = old} {f = f} {s = s} F S first second is made e joined own there own' there' did did' =
+    let nothing = split_done_nothing opening id old f s is made in
     let both : EndedWith c ws (first.items ++ second.items) = subst (EndedWith c ws) joined e in
     let ends = both_end c ws first.items second.items both there there' in (
       both.ended,

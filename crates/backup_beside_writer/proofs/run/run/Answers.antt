@@ -1,17 +1,11 @@
 -- Each task ends in the closed gates' world with the list that it brought back, which it had begun with none.
-use Rattle.std.proofs.Common.{rules}
-use Rattle.vfs_gates.specs.Rounds.{Granted, Mount}
-use Rattle.vfs_gates.proofs.Resting.{split_done_nothing}
-use Rattle.vfs_gates.proofs.Rounds.{joined_did}
+use Rattle.vfs_gates.proofs.Rounds.{rules, joined_did, Granted, Mount}
 use Rattle.backup_beside_writer.specs.Told.{Copies}
 use Rattle.backup_beside_writer.proofs.run.run.Goals as goal
 
 pub returns : goal.returns
 returns g c =
-    let nothing = split_done_nothing _ _ _ _ _ c.in_ok-gates.ensures.made.1 c.in_ok-second.ensures.made in
-    let wrote : Granted (Mount 0) 10000 c.split.new.self c.join-first.result.0 = search (rules, c.join-first.ensures.first) in
-    let made : Copies 100 c.in_ok-second.second c.join-first.result.1.0 = search (rules, c.join-first.ensures.second) in
-    let did = joined_did (Granted (Mount 0) 10000) (Copies 100) c.split.new.self c.in_ok-second.second c.join-first.result.0 c.join-first.result.1.0
-    c.in-Ok.ensures.closed.2 c.join-task.ensures.numbers c.number.ensures.own c.number.ensures.there c.number-2.ensures.own
-    c.number-2.ensures.there nothing wrote made in
+    let did = joined_did (Granted (Mount 0) 10000) (Copies 100) c.join-first.result.0 c.join-first.result.1.0 c.in_ok-gates.ensures.made.1
+    c.in_ok-second.ensures.made c.in-Ok.ensures.closed.2 c.join-task.ensures.numbers c.number.ensures.own c.number.ensures.there c.number-2.ensures.own
+    c.number-2.ensures.there (search (rules, c.join-first.ensures.first)) (search (rules, c.join-first.ensures.second)) in
     record { ended = did.0; writes = did.1; copies = did.2 }
