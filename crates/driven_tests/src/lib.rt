@@ -1,4 +1,4 @@
-//! Tests of replays over the gates that threads use.
+//! Tests of replays over the core and over the gates that threads use.
 #![tactic(auto)]
 
 #[cfg(test)]

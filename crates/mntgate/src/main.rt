@@ -1,17 +1,9 @@
 //! The program: write gates of a mounted file system, driven from the command line.
 #![tactic(auto)]
 
-mod checks;
-mod outcomes;
-mod program;
-mod replay;
-mod runs;
-#[cfg(test)]
-mod tests;
-
 use anyhow::Result;
 use endings::unreadable;
-use program::Person;
+use program::{Person, run};
 use std::io::IsTerminal;
 use std::process::ExitCode;
 
@@ -29,7 +21,7 @@ fn main(rt: HostRuntime) -> Result<ExitCode> {
     let ending = match std::env::args(&rt) {
         Ok(words) => {
             let words: Vec<String> = words.collect(alloc)?;
-            program::run(
+            run(
                 &rt,
                 alloc,
                 words.as_slice(),

@@ -1,0 +1,127 @@
+//! All outcomes of a race, from the command line.
+
+ghost use Rattle.std.specs.Prelude.{◌≡◌, ◌⊎◌, IfOk, IfErr, OnErr};
+ghost use Rattle.std.specs.Io.KnownBytes.{Appends, Keeps};
+ghost use Rattle.endings.specs.declared.ends.Ending.TheVariants.{Listed, Refused};
+ghost use Rattle.asked_files.specs.Outcomes.{EndsTold, TellsRace, schedules_as};
+ghost use Rattle.schedule_bytes.specs.Writing.{AppendsPart};
+
+use access_model::GateError;
+use command_line::Outcomes;
+use endings::{Ending, fault_told, refused, unopened};
+use exploration::Stop;
+use race_texts::{Details, Schedules, read_race, tell};
+use schedule_bytes::write_out;
+use schedule_text::Output;
+use std::alloc::{AllocError, Global};
+use std::fs;
+use std::io::{Read, Write};
+use std::rt::Files;
+
+/// Writes all outcomes of the race that a file has, or the reader, where none is named. A fault of the race is told on the writer of
+/// faults, and so are more states than were asked for, and want of memory; then nothing is written.
+pub fn run_outcomes<R: Files + Alloc<A = Global>, I: Read, W: Write, E: Write>(
+    rt: &R,
+    alloc: Global,
+    asked: Outcomes<'_>,
+    reader: &mut I,
+    writer: &mut W,
+    errors: &mut E,
+) -> Result<Ending, AllocError>
+    ensures ends { IfOk result (λ ending. (ending ≡ Listed) ⊎ (ending ≡ Refused)) }
+    ensures told { IfOk result (EndsTold asked.entry (W.contents writer.old) (W.contents writer.new)) }
+    ensures memory { OnErr result (Keeps (W.contents writer.old) (W.contents writer.new)) }
+{
+    let mut told = Output::with_room(alloc, 0)?;
+    let bytes = match read_bytes(rt, alloc, asked.file, reader, errors) {
+        Ok(bytes) => bytes,
+        Err(ending) => return Ok(ending),
+    };
+    match tell_race(alloc, asked, bytes.as_slice(), &mut told, errors) {
+        Ending::Listed => Ok(write_told(&told, writer, errors)),
+        ending => Ok(ending),
+    }
+}
+
+/// All bytes of a file, or of the reader, where none is named; or how the program ends, where they can't be read.
+fn read_bytes<R: Files + Alloc<A = Global>, I: Read, E: Write>(
+    rt: &R,
+    alloc: Global,
+    file: Option<&str>,
+    reader: &mut I,
+    errors: &mut E,
+) -> Result<Vec<u8>, Ending>
+    ensures { IfErr result (λ ending. ending ≡ Refused) }
+{
+    match file {
+        Some(file) => match fs::read(rt, file) {
+            Ok(bytes) => Ok(bytes),
+            Err(error) => Err(unopened(file, &error, errors)),
+        },
+        None => {
+            let mut bytes = Vec::new(alloc);
+            match reader.read_to_end(&mut bytes) {
+                Ok(_) => Ok(bytes),
+                Err(error) => Err(unopened("standard input", &error, errors)),
+            }
+        }
+    }
+}
+
+/// Writes what is told.
+fn write_told<W: Write, E: Write>(told: &Output, writer: &mut W, errors: &mut E) -> Ending
+    ensures written { result ≡ Listed → Appends (W.contents writer.old) (W.contents writer.new) told.now.bytes.items }
+    ensures part { result ≡ Refused → AppendsPart (W.contents writer.old) (W.contents writer.new) told.now.bytes.items }
+    ensures ends { (result ≡ Listed) ⊎ (result ≡ Refused) }
+{
+    match write_out(writer, told.bytes.as_slice()) {
+        Ok(()) => Ending::Listed,
+        Err(fault) => {
+            let _ = writeln!(errors, "{}", fault.text());
+            Ending::Refused
+        }
+    }
+}
+
+/// Tells all outcomes of a race, or why they aren't told.
+fn tell_race<E: Write>(
+    alloc: Global,
+    asked: Outcomes<'_>,
+    bytes: &[u8],
+    told: &mut Output,
+    errors: &mut E,
+) -> Ending
+    ensures ends { (result ≡ Listed) ⊎ (result ≡ Refused) }
+    ensures told { result ≡ Listed → TellsRace asked.entry told.old.bytes.items told.new.bytes.items }
+{
+    let file = match read_race(alloc, bytes) {
+        Ok(file) => file,
+        Err(fault) => return fault_told(fault, asked.file, errors),
+    };
+    let details = Details {
+        schedules: schedules_of(asked.schedules),
+        model: asked.model,
+    };
+    match tell(alloc, bytes, file, asked.limit as usize, details, told) {
+        Ok(()) => Ending::Listed,
+        Err(Stop::NoMemory) => refused(GateError::NoMemory, errors),
+        Err(Stop::TooMany) => {
+            let _ = match asked.file {
+                None => writeln!(errors, "more than {} states", asked.limit),
+                Some(file) => writeln!(errors, "{file}: more than {} states", asked.limit),
+            };
+            Ending::Refused
+        }
+    }
+}
+
+/// In which form schedules are told.
+fn schedules_of(asked: command_line::Schedules) -> Schedules
+    ensures { result ≡ schedules_as asked }
+{
+    match asked {
+        command_line::Schedules::Untold => Schedules::Untold,
+        command_line::Schedules::Lines => Schedules::Lines,
+        command_line::Schedules::Columns => Schedules::Columns,
+    }
+}

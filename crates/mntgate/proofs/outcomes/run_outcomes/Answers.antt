@@ -1,7 +1,0 @@
-use Rattle.mntgate.proofs.Listed.{ends_written}
-use Rattle.mntgate.proofs.outcomes.run_outcomes.Goals as goal
-
-pub returns-in-Listed-clause-told : goal.returns-in-Listed-clause-told
-returns-in-Listed-clause-told g c =
-    ends_written _ _ _ c.write_told.ensures.ends _ _ _ c.in_ok-told.ensures.nothing (c.tell_race.ensures.told c.in-Listed.is)
-    c.write_told.ensures.written c.write_told.ensures.part

@@ -1,4 +1,0 @@
-//! The program apart from its process.
-
-mod exits;
-mod outcomes;
