@@ -11,6 +11,7 @@ impl Task {
     ghost use Rattle.vfs_gates.specs.TaskStates.{IsFrom, IsIdle};
     ghost use Rattle.vfs_gates.specs.Held.{IsAsBefore};
     ghost use Rattle.vfs_gates.specs.Settled.{Settles, SettlesLevel};
+    ghost use Rattle.access_model.specs.declared.errors.GateError.TheVariants.{Order};
 
     /// Calls back what a level, 1 to 3, has queued, until none is.
     fn settle_level<R: Wait>(&mut self, rt: &R, gates: &Gates, level: u8) -> Result<(), GateError>
@@ -19,6 +20,7 @@ impl Task {
         ensures from { IsFrom self.new gates.now }
         ensures settled { OnOk result (SettlesLevel level self.old self.new) }
         ensures idle { IsIdle self.old → (result ≡ Ok tt) × IsAsBefore self.old self.new }
+        ensures refused { ¬ IsIdle self.old → (result ≡ Err Order) × (self.new ≡ self.old) }
     {
         for _ in rt.forever() {
             if !self.callback(rt, gates, level)? {
@@ -34,12 +36,13 @@ impl Task {
     ///
     /// # Errors
     ///
-    /// Order where an operation is under way.
+    /// Order where an operation is under way; then nothing is changed.
     pub fn settle<R: Wait>(&mut self, rt: &R, gates: &Gates) -> Result<(), GateError>
         requires { IsFrom self.old gates.now }
         ensures from { IsFrom self.new gates.now }
         ensures settled { OnOk result (Settles self.old self.new) }
         ensures idle { IsIdle self.old → (result ≡ Ok tt) × IsAsBefore self.old self.new }
+        ensures refused { ¬ IsIdle self.old → (result ≡ Err Order) × (self.new ≡ self.old) }
     {
         self.settle_level(rt, gates, 1)?;
         self.settle_level(rt, gates, 2)?;

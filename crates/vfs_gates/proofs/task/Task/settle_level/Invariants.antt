@@ -1,5 +1,5 @@
--- Each callback so far ran, and an idle task is as it was.
-use Rattle.std.proofs.Common.{ℕ}
+-- Each callback so far ran, an idle task is as it was, and one that isn't idle is unchanged.
+use Rattle.std.proofs.Common.{◌≡◌, ℕ}
 use Rattle.vfs_gates.specs.TaskStates.{IsFrom, IsIdle}
 use Rattle.vfs_gates.specs.Held.{IsAsBefore}
 use Rattle.vfs_gates.specs.Settled.{CallsBack}
@@ -12,4 +12,5 @@ invariant-loop g l = record {
   from : IsFrom l.self l.gates;
   ran : (times : ℕ) × CallsBack l.level times l.fn.self l.self;
   as_before : IsIdle l.fn.self → IsAsBefore l.fn.self l.self;
+  busy : ¬ IsIdle l.fn.self → l.self ≡ l.fn.self;
 }
