@@ -96,7 +96,7 @@ call_is (Wait q) p is = ap call_at (let f : q ≡ p = cc in f)
 call_is (Done a) p is = absurd (let f : ⊥ = cc in f)
 
 -- the course after it
-course_is : (s : Next Phase) (p : Phase) (added : List Action) (e : Traced) → phase_after s ≡ Some p → course_after s added e ≡
+pub course_is : (s : Next Phase) (p : Phase) (added : List Action) (e : Traced) → phase_after s ≡ Some p → course_after s added e ≡
     course_with added (after_of p e.event.found e.hook)
 course_is (Go q) p added e is = ap (λ r. course_with added (after_of r e.event.found e.hook)) (let f : q ≡ p = cc in f)
 course_is (Wait q) p added e is = ap (λ r. course_with added (after_of r e.event.found e.hook)) (let f : q ≡ p = cc in f)
