@@ -1,5 +1,5 @@
 -- The hooks that one event more asks, and those of a whole call.
-use Rattle.std.proofs.Common.{◌≡◌, List, refl, ap, sym, subst, ◌∙◌}
+use Rattle.std.proofs.Common.{◌≡◌, ℕ, List, refl, ap, sym, subst, ◌∙◌}
 use Rattle.std.specs.Prelude.{Option, Some, None, Result, Ok, Err}
 use Rattle.access_model.specs.declared.errors.GateError.{GateError}
 use Rattle.access_model.specs.declared.replies.Reply.{Reply}
@@ -47,8 +47,8 @@ module _ {H : Type 0} (answers : HookCall → SeatItems → H → HookAnswer →
   -- and one that was done, those that its events read
   pub was_done_asking : {A : Type 0} (read : Reply → A) (op : Op) (old left : TaskState) (answer : Result Reply GateError)
       (outcome : Result A GateError) → outcome ≡ told_as read answer → Ok tt ≡ unless_refused (refusal_at op old) →
-      (before hooks : H) → CalledAsking answers op old before left answer hooks → RepliesAsking answers read op old left outcome before hooks
-  was_done_asking read op old left answer outcome told admitted before hooks called = record {
+      (before hooks : H) (waited : ℕ) → CalledAsking answers op old before left answer waited hooks → RepliesAsking answers read op old left outcome before hooks
+  was_done_asking read op old left answer outcome told admitted before hooks waited called = record {
     replies = was_done read op old left answer outcome told admitted called.0;
     refused = λ r at. absurd (let some : Ok tt ≡ Err r = admitted ∙ ap unless_refused at in let no : ⊥ = cc in no);
     asked = λ at. called.1;

@@ -8,6 +8,7 @@ pub use Rattle.gate_steps.proofs.Giving
 pub use Rattle.gate_steps.proofs.Opening
 pub mod Going
 pub mod Turning
+pub mod Waited
 pub mod Running
 pub mod Onward
 pub mod Asking

@@ -1,5 +1,5 @@
 -- An operation, event after event, from its beginning to its reply.
-use Rattle.std.proofs.Common.{◌≡◌, ℕ, ◌+◌, ◌-◌, ◌<◌, ◌≤◌, List, [], ◌∷◌, ◌++◌, length, refl, sym, ap, ◌∙◌, subst, arith}
+use Rattle.std.proofs.Common.{◌≡◌, ℕ, ◌+◌, ◌-◌, ◌<◌, ◌≤◌, List, [], ◌∷◌, ◌++◌, length, refl, sym, ap, ◌∙◌, subst, arith, add-zero}
 use Rattle.std.specs.Prelude.{true, false, Option, Some, None, Result, Ok, Err, IfOk, is_some}
 use Rattle.access_model.specs.declared.actions.Action.{Action}
 use Rattle.access_model.specs.declared.errors.GateError.{GateError}
@@ -24,13 +24,15 @@ use Rattle.gate_world.specs.Courses.{Course, course_with, course_after, course_o
 use Rattle.gate_world.specs.Traces.{actions_of, Tells, IsHonestAnswer, IsTold, most_events, IsShort, MayWait}
 use Rattle.gate_frames.proofs.Keeps.{most_events_of_all, IsSmall}
 use Rattle.gate_core.proofs.Layers.{op_keeps}
-use Rattle.gate_core.specs.declared.steps.Progress.TheVariants.{Done as Ended}
+use Rattle.gate_core.specs.declared.steps.Progress.{Progress}
+use Rattle.gate_core.specs.declared.steps.Progress.TheVariants.{Done as Ended, Waiting}
 use Rattle.gate_core.specs.declared.steps.Step.{Step}
 use Rattle.gate_core.specs.Answers.{progress_of, unless_refused}
 use Rattle.gate_steps.specs.Seating.{SeatItems, numbered, HaveHistory, entered, done_by, items_after, world_left, IsMove}
 use Rattle.call_events.specs.TaskStates.{TaskState, own_number, own_view, refusal_at}
 use Rattle.call_events.specs.Stepped.{Stepped}
 use Rattle.call_events.specs.Asking.{Ask, asks_of, asks_with, call_at, next_call, GoesWith, WentWith}
+use Rattle.call_events.specs.Waited.{is_wait, waits_in}
 use Rattle.call_events.specs.Refused.{IsUnchanged, IsUnchangedBy, IsHonestWait}
 use Rattle.call_events.proofs.Refused.{is_unchanged, waits_honestly}
 use Rattle.gate_core.proofs.Beginnings.{may_begin}
@@ -94,7 +96,7 @@ call_is (Wait q) p is = ap call_at (let f : q ≡ p = cc in f)
 call_is (Done a) p is = absurd (let f : ⊥ = cc in f)
 
 -- the course after it
-course_is : (s : Next Phase) (p : Phase) (added : List Action) (e : Traced) → phase_after s ≡ Some p → course_after s added e ≡
+pub course_is : (s : Next Phase) (p : Phase) (added : List Action) (e : Traced) → phase_after s ≡ Some p → course_after s added e ≡
     course_with added (after_of p e.event.found e.hook)
 course_is (Go q) p added e is = ap (λ r. course_with added (after_of r e.event.found e.hook)) (let f : q ≡ p = cc in f)
 course_is (Wait q) p added e is = ap (λ r. course_with added (after_of r e.event.found e.hook)) (let f : q ≡ p = cc in f)
@@ -116,6 +118,19 @@ goes_on : (x : Next Phase) → ((a : Result Reply GateError) → progress_of x �
 goes_on (Go q) not = (q, refl)
 goes_on (Wait q) not = (q, refl)
 goes_on (Done a) not = absurd (not a refl)
+
+-- and who waits is told so
+abbrev waits_told : Progress → ℕ
+waits_told Waiting = 1
+waits_told progress = 0
+
+wait_told : (x : Next Phase) → is_wait x ≡ waits_told (progress_of x)
+wait_told (Go q) = refl
+wait_told (Wait q) = refl
+wait_told (Done a) = refl
+
+pub same_wait : (x y : Next Phase) → progress_of x ≡ progress_of y → is_wait x ≡ is_wait y
+same_wait x y same = wait_told x ∙ (ap waits_told same ∙ sym (wait_told y))
 
 -- how many events the operation under way has had
 abbrev pub steps_of : TaskState → ℕ
@@ -176,13 +191,13 @@ ran_so_far op start now goes =
     λ i. entered_items (goes.begins i) (goes.phase i) (goes.items i) in
     same ∙ entered_at start.config op goes.trace start.items
 
--- as it begins, with no hook asked
+-- as it begins, with no hook asked and no wait
 pub starts_asking_none : (op : Op) (start now : TaskState) → Ok tt ≡ unless_refused (refusal_at op start) → now ≡ record start {
   begins = Some op;
   phase =
       Some (first_phase start.config (own_number start.items) op);
-} → GoesWith [] op start now
-starts_asking_none op start now admitted is = subst (GoesWith [] op start) (sym is) (
+} → GoesWith [] 0 op start now
+starts_asking_none op start now admitted is = subst (GoesWith [] 0 op start) (sym is) (
   record {
     trace = [];
     admitted = not_refused (refusal_at op start) admitted;
@@ -195,6 +210,7 @@ starts_asking_none op start now admitted is = subst (GoesWith [] op start) (sym 
     items = refl;
     moves = tt;
   },
+  refl,
   refl,
 )
 
@@ -404,18 +420,31 @@ module _ (op : Op) (start now left : TaskState) (step : Step) (h : HookAnswer) (
   asks_then asks is = λ i.
       asks_with (call_is (course_of c n op goes.trace).comes p stands_there i) (sym goes.items i) h (is i)
 
+  -- how many of its events have come to a wait then
+  waits_then : (waits : ℕ) → waits_in c n op goes.trace ≡ waits → (next : Next Phase) → step.progress ≡ progress_of next →
+      waits_in c n op trace ≡ waits + is_wait next
+  waits_then waits is next at = λ i.
+      is i + (ap (λ (o : Course). is_wait o.comes) course_here ∙ same_wait after.0 next (sym progress_then ∙ at)) i
+
   -- so it went, by what comes after the event
-  pub went_asking : (asks : List Ask) → asks_of c op start.items goes.trace ≡ asks → IsWithin c → (next : Next Phase) →
-      step.progress ≡ progress_of next → WentWith (asks_with (call_at p) now.items h asks) op start next left
-  went_asking asks is within (Go q) at =
+  pub went_asking : (asks : List Ask) (waits : ℕ) → asks_of c op start.items goes.trace ≡ asks → waits_in c n op goes.trace ≡ waits →
+      IsWithin c → (next : Next Phase) → step.progress ≡ progress_of next →
+      WentWith (asks_with (call_at p) now.items h asks) waits op start next left
+  went_asking asks waits is came within (Go q) at =
+      let g = goes_with_it (λ a ended. absurd (let f : ⊥ = cc in f)) in (
+        g.0,
+        ap (asks_of c op start.items) g.1 ∙ asks_then asks is,
+        ap (waits_in c n op) g.1 ∙ (waits_then waits came (Go q) at ∙ add-zero waits),
+      )
+  went_asking asks waits is came within (Wait q) at =
       let g = goes_with_it (λ a ended. absurd (let f : ⊥ = cc in f)) in
-      (g.0, ap (asks_of c op start.items) g.1 ∙ asks_then asks is)
-  went_asking asks is within (Wait q) at =
-      let g = goes_with_it (λ a ended. absurd (let f : ⊥ = cc in f)) in
-      (g.0, ap (asks_of c op start.items) g.1 ∙ asks_then asks is)
-  went_asking asks is within (Done a) at =
-      let g = ends_with_it within a at in
-      (g.0, ap (asks_of c op start.items) g.1 ∙ asks_then asks is)
+      (g.0, ap (asks_of c op start.items) g.1 ∙ asks_then asks is, ap (waits_in c n op) g.1 ∙ waits_then waits came (Wait q) at)
+  went_asking asks waits is came within (Done a) at =
+      let g = ends_with_it within a at in (
+        g.0,
+        ap (asks_of c op start.items) g.1 ∙ asks_then asks is,
+        ap (waits_in c n op) g.1 ∙ (waits_then waits came (Done a) at ∙ add-zero waits),
+      )
 
   -- and its trace has one event more
   grown : (begins : Option Op) (o : Option Phase) (l : SeatItems) → o ≡ Some p → IsMove now.config begins p h l found →

@@ -1,7 +1,7 @@
 -- One event apart from the task: what it leaves of the fields, and which step it was.
 use Rattle.std.proofs.Common.{◌≡◌, ℕ, ◌<◌, Bool, List, [], ◌∷◌, refl, sym, ap, ◌∙◌, subst, arith}
 use Rattle.std.specs.Prelude.{Option, Some, None}
-use Rattle.access_model.specs.declared.{actions.Action.Action, replies.Next.Next}
+use Rattle.access_model.specs.declared.{actions.Action.Action, replies.Next.{Next, TheVariants.{Go, Wait, Done}}}
 use Rattle.cpu_words.specs.{Hooks.HookAnswer, Names.{place, words_in_all}, Touches.event_of, declared.events.{Touch.Touch, Event.Event}}
 use Rattle.cpu_words.specs.declared.names.WordName.{WordName}
 use Rattle.gate_world.specs.{Accesses.{accesses_after, held_in}, Configs.IsWithin, Fits.ActionFits, Views.{phase_after, held_of}, Work.{next_of, after_of}}
@@ -10,7 +10,7 @@ use Rattle.gate_core.specs.{Answers.progress_of, declared.{seats.Seat.Seat, step
 use Rattle.gate_core.proofs.Phases.{word_placed}
 use Rattle.gate_steps.specs.Seating.{SeatItems, Acts, items_after, IsMove}
 use Rattle.atomic_table.specs.Seated.{TableId}
-use Rattle.call_events.specs.{Asking.{Ask, asks_with, call_at, GoesWith, WentWith}, Runs.{Goes, Went}, Stepped.Stepped, TaskStates.{TaskState, task_state}}
+use Rattle.call_events.specs.{Asking.{Ask, asks_with, call_at, GoesWith, WentWith}, Runs.{Goes, Went}, Stepped.Stepped, Waited.{GoesWaiting, WentWaiting}, TaskStates.{TaskState, task_state}}
 use Rattle.call_events.specs.{Ties.Ties, Turns.{kept_at, IsTied, step_was}}
 use Rattle.call_events.proofs.{Going.{may_add, ties_left, stepped_here}, Running.{went_on, went_asking}}
 
@@ -89,23 +89,41 @@ went_so c within op start event action next hook {table} {left_table} {begins} {
     (λ p is. subst (λ (q : Phase). Stepped q hook now step after) (let same : phase ≡ p = cc in same) after_step)
     (subst IsWithin goes.config within) next refl
 
--- and which hooks it has asked
+-- and which hooks it has asked, and how many of its events came to a wait
 pub went_with_so : (c : Config) → IsWithin c → (op : Op) (start : TaskState) (event : Event) (action : Option Action) (next : Next Phase)
-    (hook : HookAnswer) (asks : List Ask)
+    (hook : HookAnswer) (asks : List Ask) (waits : ℕ)
     {table left_table : TableId} {begins : Option Op} {phase : Phase} {items left : SeatItems} →
-    GoesWith asks op start (task_state table c begins (Some phase) items) →
+    GoesWith asks waits op start (task_state table c begins (Some phase) items) →
     Stepped phase hook (task_state table c begins (Some phase) items) (step_was event action next)
     (task_state left_table c None (phase_after next) left) →
-    WentWith (asks_with (call_at phase) items hook asks) op start next (task_state left_table c None (phase_after next) left)
-went_with_so c within op start event action next hook asks {table} {left_table} {begins} {phase} {items} {left} goes after_step =
+    WentWith (asks_with (call_at phase) items hook asks) waits op start next (task_state left_table c None (phase_after next) left)
+went_with_so c within op start event action next hook asks waits {table} {left_table} {begins} {phase} {items} {left} goes after_step =
     let now : TaskState = task_state table c begins (Some phase) items in
     let after : TaskState = task_state left_table c None (phase_after next) left in
     let step : Step = step_was event action next in
     let same : goes.0.going.0 ≡ phase = let at : Some phase ≡ Some goes.0.going.0 = goes.0.going.1 in cc in
-    subst (λ (p : Phase). WentWith (asks_with (call_at p) items hook asks) op start next after) same
+    subst (λ (p : Phase). WentWith (asks_with (call_at p) items hook asks) waits op start next after) same
     (went_asking op start now after step hook goes.0
     (λ p is. subst (λ (q : Phase). Stepped q hook now step after) (let other : phase ≡ p = cc in other) after_step)
-    asks goes.1 (subst IsWithin goes.0.config within) next refl)
+    asks waits goes.1 goes.2 (subst IsWithin goes.0.config within) next refl)
+
+-- of which the hooks may be left out
+unasked : (op : Op) (start : TaskState) (next : Next Phase) (now : TaskState) (asks : List Ask) (waits : ℕ) →
+    WentWith asks waits op start next now → WentWaiting waits op start next now
+unasked op start (Go q) now asks waits went = (went.0, went.2)
+unasked op start (Wait q) now asks waits went = (went.0, went.2)
+unasked op start (Done a) now asks waits went = (went.0, went.2)
+
+pub went_waiting_so : (c : Config) → IsWithin c → (waits : ℕ) (op : Op) (start : TaskState) (event : Event) (action : Option Action)
+    (next : Next Phase) (hook : HookAnswer)
+    {table left_table : TableId} {begins : Option Op} {phase : Phase} {items left : SeatItems} →
+    GoesWaiting waits op start (task_state table c begins (Some phase) items) →
+    Stepped phase hook (task_state table c begins (Some phase) items) (step_was event action next)
+    (task_state left_table c None (phase_after next) left) →
+    WentWaiting waits op start next (task_state left_table c None (phase_after next) left)
+went_waiting_so c within waits op start event action next hook goes after_step =
+    unasked op start next _ _ waits
+    (went_with_so c within op start event action next hook _ waits (goes.0, refl, goes.1) after_step)
 
 -- a task's fields, said with another name of the config and of the phase
 pub tied_at : (number : ℕ) {c d : Config} (begins : Option Op) (flags : List Bool) (items : SeatItems) (kept : Seat)

@@ -1,5 +1,5 @@
 -- The hooks that an operation asks: which, at which moment, and with what answer.
-use Rattle.std.specs.Prelude.{◌≡◌, Bool, false, Option, Some, None, Result, List, [], ◌∷◌, option_map}
+use Rattle.std.specs.Prelude.{◌≡◌, ℕ, ◌+◌, Bool, false, Option, Some, None, Result, List, [], ◌∷◌, option_map}
 use Rattle.access_model.specs.declared.errors.GateError.{GateError}
 use Rattle.access_model.specs.declared.replies.Next.{Next}
 use Rattle.access_model.specs.declared.replies.Next.TheVariants.{Go, Wait, Done}
@@ -19,6 +19,7 @@ use Rattle.gate_world.specs.Work.{hook_of}
 use Rattle.gate_steps.specs.Seating.{SeatItems}
 use Rattle.call_events.specs.Runs.{items_at, unit_of, Goes, Called, Replies}
 use Rattle.call_events.specs.TaskStates.{TaskState, own_number, refusal_at}
+use Rattle.call_events.specs.Waited.{counted, waits_in}
 
 -- the state for which a remount asks; nothing else asks for one
 abbrev pub state_at : Phase → Bool
@@ -65,35 +66,40 @@ abbrev pub WereAsked : {H : Type 0} → (HookCall → SeatItems → H → HookAn
 WereAsked {H} answers [] old new = new ≡ old
 WereAsked {H} answers (a ∷ earlier) old new = (mid : H) × WereAsked answers earlier old mid × answers a.call a.at mid a.answer new
 
--- an operation under way, of whose events these read an answer
-abbrev pub GoesWith : List Ask → Op → TaskState → TaskState → Type 0
-GoesWith asks op start now = (goes : Goes op start now) × (asks_of start.config op start.items goes.trace ≡ asks)
+-- an operation under way, of whose events these read an answer, and so many came to a wait
+abbrev pub GoesWith : List Ask → ℕ → Op → TaskState → TaskState → Type 0
+GoesWith asks waits op start now = (goes : Goes op start now) × (asks_of start.config op start.items goes.trace ≡ asks)
+    × (waits_in start.config (own_number start.items) op goes.trace ≡ waits)
 
 -- one that was done whole
-abbrev pub CalledWith : List Ask → Op → TaskState → TaskState → Result Reply GateError → Type 0
-CalledWith asks op start left answer =
-    (called : Called op start left answer) × (asks_of start.config op start.items called.trace ≡ asks)
+abbrev pub CalledWith : List Ask → ℕ → Op → TaskState → TaskState → Result Reply GateError → Type 0
+CalledWith asks waits op start left answer = (called : Called op start left answer)
+    × (asks_of start.config op start.items called.trace ≡ asks)
+    × (waits_in start.config (own_number start.items) op called.trace ≡ waits)
 
--- the same by what comes after the last event
-abbrev pub WentWith : List Ask → Op → TaskState → Next Phase → TaskState → Type 0
-WentWith asks op start (Go phase) now = GoesWith asks op start now
-WentWith asks op start (Wait phase) now = GoesWith asks op start now
-WentWith asks op start (Done answer) now = CalledWith asks op start now answer
+-- the same by what comes after the last event, before which so many came to a wait
+abbrev pub WentWith : List Ask → ℕ → Op → TaskState → Next Phase → TaskState → Type 0
+WentWith asks waits op start (Go phase) now = GoesWith asks waits op start now
+WentWith asks waits op start (Wait phase) now = GoesWith asks (waits + 1) op start now
+WentWith asks waits op start (Done answer) now = CalledWith asks waits op start now answer
 
 -- an operation under way, which has asked just the hooks whose answers its events read
-abbrev pub GoesAsking : {H : Type 0} → (HookCall → SeatItems → H → HookAnswer → H → Type 0) → Op → TaskState → H → TaskState → H → Type 0
-GoesAsking answers op start before now hooks = (asks : List Ask) × GoesWith asks op start now × WereAsked answers asks before hooks
+abbrev pub GoesAsking : {H : Type 0} → (HookCall → SeatItems → H → HookAnswer → H → Type 0) → ℕ → Op → TaskState → H → TaskState → H → Type 0
+GoesAsking answers waits op start before now hooks =
+    (asks : List Ask) × GoesWith asks waits op start now × WereAsked answers asks before hooks
 
 -- the same by what comes after the last event
-abbrev pub WentAsking : {H : Type 0} → (HookCall → SeatItems → H → HookAnswer → H → Type 0) → Op → TaskState → H → Next Phase → TaskState →
-    H → Type 0
-WentAsking answers op start before next now hooks = (asks : List Ask) × WentWith asks op start next now × WereAsked answers asks before hooks
+abbrev pub WentAsking : {H : Type 0} → (HookCall → SeatItems → H → HookAnswer → H → Type 0) → ℕ → Op → TaskState → H → Next Phase →
+    TaskState → H → Type 0
+WentAsking answers waits op start before next now hooks =
+    (asks : List Ask) × WentWith asks waits op start next now × WereAsked answers asks before hooks
 
--- one that was done whole, and has asked just these
+-- one that was done whole, has asked just these, and tells how many of its events came to a wait
 abbrev pub CalledAsking : {H : Type 0} → (HookCall → SeatItems → H → HookAnswer → H → Type 0) → Op → TaskState → H → TaskState →
-    Result Reply GateError → H → Type 0
-CalledAsking answers op start before left answer hooks =
+    Result Reply GateError → ℕ → H → Type 0
+CalledAsking answers op start before left answer waited hooks =
     (called : Called op start left answer) × WereAsked answers (asks_of start.config op start.items called.trace) before hooks
+    × (waited ≡ counted (waits_in start.config (own_number start.items) op called.trace))
 
 -- A call that asks hooks. Where its beginning is refused, none is asked; else just those are whose answers the events of its trace read, each
 -- once, in their order, where the events before had led, with the answer that stands in the trace.

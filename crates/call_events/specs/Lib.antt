@@ -13,5 +13,6 @@ pub mod Stepped
 pub mod Turns
 pub mod Refused
 pub mod Runs
+pub mod Waited
 pub mod Asking
 pub mod Asked

@@ -1,6 +1,6 @@
 //! Operations done to their end, event after event, each in the form of its own kind, with nothing written down in between.
 
-ghost use Rattle.std.specs.Prelude.{◌≡◌, Some, None, List, IfSome};
+ghost use Rattle.std.specs.Prelude.{◌≡◌, ℕ, Some, None, List, IfSome};
 ghost use Rattle.access_model.specs.Replies.{map_next};
 ghost use Rattle.access_model.specs.declared.replies.Next.TheVariants.{Go};
 ghost use Rattle.gate_world.specs.Views.{phase_after};
@@ -133,10 +133,10 @@ fn go_on_asking<P: Waiting, H: TimedHooks>(
     ensures tied { StayTied gates.now.config begins (Some (P.as_phase under_way)) accesses.old seat.old.me.0
         (phase_after (map_next P.as_phase result)) accesses.new seat.new.me.0 }
     ensures still { IsTied gates.now.config None (phase_after (map_next P.as_phase result)) accesses.new seat.new.me.0 }
-    ensures asked { (op : OpType) (start : TaskState) (before : H) →
-        GoesAsking H.answers op start before
+    ensures asked { (waits : ℕ) (op : OpType) (start : TaskState) (before : H) →
+        GoesAsking H.answers waits op start before
         (task_state seat.old.table_id gates.now.config begins (Some (P.as_phase under_way)) seat.old.me.0) hooks.old →
-        WentAsking H.answers op start before (map_next P.as_phase result)
+        WentAsking H.answers waits op start before (map_next P.as_phase result)
         (task_state seat.new.table_id gates.now.config None (phase_after (map_next P.as_phase result)) seat.new.me.0) hooks.new }
 {
     let hook = match under_way.asks() {
@@ -174,10 +174,10 @@ fn go_along_row<P: Waiting>(
     ensures tied { StayTied gates.now.config None (phase_after (map_next P.as_phase next)) accesses.old seat.old.me.0
         (phase_after (map_next P.as_phase result)) accesses.new seat.new.me.0 }
     ensures still { IsTied gates.now.config None (phase_after (map_next P.as_phase result)) accesses.new seat.new.me.0 }
-    ensures went { (op : OpType) (start : TaskState) (asks : List Ask) →
-        WentWith asks op start (map_next P.as_phase next)
+    ensures went { (op : OpType) (start : TaskState) (asks : List Ask) (waits : ℕ) →
+        WentWith asks waits op start (map_next P.as_phase next)
         (task_state seat.old.table_id gates.now.config None (phase_after (map_next P.as_phase next)) seat.old.me.0) →
-        WentWith asks op start (map_next P.as_phase result)
+        WentWith asks waits op start (map_next P.as_phase result)
         (task_state seat.new.table_id gates.now.config None (phase_after (map_next P.as_phase result)) seat.new.me.0) }
 {
     for _load in 0..LONGEST_ROW {
@@ -228,7 +228,7 @@ pub fn go_to_end<P: UnderWay>(
 /// Does the events of an operation from its first to its reply, however long it has to wait. A hook of the file system is asked once,
 /// right before the event that reads its answer. Where an event found what the operation waits for, it waits a little, and the longer the more
 /// often one did: soon the processor is left to others each time, since who is waited for may need it. A wait may take several events
-/// before it looks again, so none of these makes the pauses short again.
+/// before it looks again, so none of these makes the pauses short again. It tells how many events did.
 #[inline(never)]
 pub fn wait_to_end<R: Wait, H: TimedHooks, P: Waiting>(
     rt: &R,
@@ -238,7 +238,7 @@ pub fn wait_to_end<R: Wait, H: TimedHooks, P: Waiting>(
     op: Op,
     first: P,
     hooks: &mut H,
-) -> Result<Reply, GateError>
+) -> (Result<Reply, GateError>, u64)
     requires table { seat.old.table_id ≡ gates.now.table.shared.table_id }
     requires tied { IsTied gates.now.config (Some op) (Some (P.as_phase first)) accesses.old seat.old.me.0 }
     ensures table { seat.new.table_id ≡ seat.old.table_id }
@@ -246,11 +246,13 @@ pub fn wait_to_end<R: Wait, H: TimedHooks, P: Waiting>(
     ensures tied { StayTied gates.now.config (Some op) (Some (P.as_phase first)) accesses.old seat.old.me.0
         None accesses.new seat.new.me.0 }
     ensures called { (of : OpType) (start : TaskState) (before : H) →
-        GoesAsking H.answers of start before
+        GoesAsking H.answers 0 of start before
         (task_state seat.old.table_id gates.now.config (Some op) (Some (P.as_phase first)) seat.old.me.0) hooks.old →
-        CalledAsking H.answers of start before (task_state seat.new.table_id gates.now.config None None seat.new.me.0) result hooks.new }
+        CalledAsking H.answers of start before (task_state seat.new.table_id gates.now.config None None seat.new.me.0) result.0 result.1
+        hooks.new }
 {
     let backoff = Backoff::new();
+    let mut waited: u64 = 0;
     let mut begins = Some(op);
     let mut under_way = first;
     for _ in rt.forever() {
@@ -259,9 +261,10 @@ pub fn wait_to_end<R: Wait, H: TimedHooks, P: Waiting>(
         let next = go_along_row(gates, seat, accesses, next, Row::Counts);
         begins = None;
         under_way = match next {
-            Next::Done(answer) => return answer,
+            Next::Done(answer) => return (answer, waited),
             Next::Go(further) => further,
             Next::Wait(further) => {
+                waited = waited.saturating_add(1);
                 backoff.snooze();
                 further
             }

@@ -1,6 +1,6 @@
 //! Operations whose usual events are known ahead: they are done in a straight line of code, and nothing is written down in between.
 
-ghost use Rattle.std.specs.Prelude.{◌≡◌, Some, None};
+ghost use Rattle.std.specs.Prelude.{◌≡◌, ℕ, Some, None};
 ghost use Rattle.access_model.specs.Replies.{map_next};
 ghost use Rattle.gate_world.specs.Views.{phase_after};
 ghost use Rattle.gate_world.specs.declared.operations.Op.{Op as OpType};
@@ -8,7 +8,7 @@ ghost use Rattle.gate_world.specs.declared.work.Phase.TheVariants.{Writes};
 ghost use Rattle.call_events.specs.TaskStates.{TaskState, task_state};
 ghost use Rattle.call_events.specs.Turns.{IsTied, StayTied, of_write, taking};
 ghost use Rattle.write_access.specs.declared.phases.WritePhase.TheVariants.{Drops};
-ghost use Rattle.call_events.specs.Runs.{Goes, Went};
+ghost use Rattle.call_events.specs.Waited.{GoesWaiting, WentWaiting};
 
 mod changes;
 mod grows;
@@ -23,13 +23,13 @@ use write_access::WritePhase;
 
 /// An operation under way, in a form of its own, whose usual events stand in a line.
 pub trait InLine: UnderWay {
-    ghost use Rattle.std.specs.Prelude.{◌≡◌, Some, None};
+    ghost use Rattle.std.specs.Prelude.{◌≡◌, ℕ, Some, None};
     ghost use Rattle.access_model.specs.Replies.{map_next};
     ghost use Rattle.gate_world.specs.Views.{phase_after};
     ghost use Rattle.gate_world.specs.declared.operations.Op.{Op as OpType};
     ghost use Rattle.call_events.specs.TaskStates.{TaskState, task_state};
     ghost use Rattle.call_events.specs.Turns.{IsTied, StayTied};
-    ghost use Rattle.call_events.specs.Runs.{Goes, Went};
+    ghost use Rattle.call_events.specs.Waited.{GoesWaiting, WentWaiting};
 
     /// The events up to the operation's usual end; where one of them finds something else, the events up to it. What comes after the
     /// last of them.
@@ -46,9 +46,9 @@ pub trait InLine: UnderWay {
         ensures slots { seat.new.me.1 ≡ seat.old.me.1 }
         ensures tied { StayTied gates.now.config begins (Some (Self.as_phase self)) accesses.old seat.old.me.0
             (phase_after (map_next Self.as_phase result)) accesses.new seat.new.me.0 }
-        ensures went { (op : OpType) (start : TaskState) →
-            Goes op start (task_state seat.old.table_id gates.now.config begins (Some (Self.as_phase self)) seat.old.me.0) →
-            Went op start (map_next Self.as_phase result)
+        ensures went { (waits : ℕ) (op : OpType) (start : TaskState) →
+            GoesWaiting waits op start (task_state seat.old.table_id gates.now.config begins (Some (Self.as_phase self)) seat.old.me.0) →
+            WentWaiting waits op start (map_next Self.as_phase result)
             (task_state seat.new.table_id gates.now.config None (phase_after (map_next Self.as_phase result)) seat.new.me.0) };
 }
 
@@ -77,10 +77,10 @@ pub(crate) fn go_on_if<P: Placed>(
     ensures tied { StayTied gates.now.config None (phase_after (map_next P.as_phase next)) accesses.old seat.old.me.0
         (phase_after (map_next P.as_phase result)) accesses.new seat.new.me.0 }
     ensures still { IsTied gates.now.config None (phase_after (map_next P.as_phase result)) accesses.new seat.new.me.0 }
-    ensures went { (op : OpType) (start : TaskState) →
-        Went op start (map_next P.as_phase next)
+    ensures went { (waits : ℕ) (op : OpType) (start : TaskState) →
+        WentWaiting waits op start (map_next P.as_phase next)
         (task_state seat.old.table_id gates.now.config None (phase_after (map_next P.as_phase next)) seat.old.me.0) →
-        Went op start (map_next P.as_phase result)
+        WentWaiting waits op start (map_next P.as_phase result)
         (task_state seat.new.table_id gates.now.config None (phase_after (map_next P.as_phase result)) seat.new.me.0) }
 {
     match next {
@@ -214,10 +214,10 @@ fn want_then(
     ensures slots { seat.new.me.1 ≡ seat.old.me.1 }
     ensures tied { StayTied gates.now.config None (phase_after (of_write next)) accesses.old seat.old.me.0
         (phase_after (of_write result)) accesses.new seat.new.me.0 }
-    ensures went { (op : OpType) (start : TaskState) →
-        Went op start (of_write next)
+    ensures went { (waits : ℕ) (op : OpType) (start : TaskState) →
+        WentWaiting waits op start (of_write next)
         (task_state seat.old.table_id gates.now.config None (phase_after (of_write next)) seat.old.me.0) →
-        Went op start (of_write result)
+        WentWaiting waits op start (of_write result)
         (task_state seat.new.table_id gates.now.config None (phase_after (of_write result)) seat.new.me.0) }
 {
     let place = WritePlace::Wants(WantStep::CountsUp);
@@ -254,9 +254,9 @@ fn take_in_line(
     ensures slots { seat.new.me.1 ≡ seat.old.me.1 }
     ensures tied { StayTied gates.now.config begins (taking mount level cpu task wait step) accesses.old seat.old.me.0
         (phase_after (of_write result)) accesses.new seat.new.me.0 }
-    ensures went { (op : OpType) (start : TaskState) →
-        Goes op start (task_state seat.old.table_id gates.now.config begins (taking mount level cpu task wait step) seat.old.me.0) →
-        Went op start (of_write result)
+    ensures went { (waits : ℕ) (op : OpType) (start : TaskState) →
+        GoesWaiting waits op start (task_state seat.old.table_id gates.now.config begins (taking mount level cpu task wait step) seat.old.me.0) →
+        WentWaiting waits op start (of_write result)
         (task_state seat.new.table_id gates.now.config None (phase_after (of_write result)) seat.new.me.0) }
 {
     let read = DownRead {
@@ -296,9 +296,9 @@ fn give_in_line(
     ensures slots { seat.new.me.1 ≡ seat.old.me.1 }
     ensures tied { StayTied gates.now.config begins (Some (Writes (Drops mount cpu))) accesses.old seat.old.me.0
         (phase_after (of_write result)) accesses.new seat.new.me.0 }
-    ensures went { (op : OpType) (start : TaskState) →
-        Goes op start (task_state seat.old.table_id gates.now.config begins (Some (Writes (Drops mount cpu))) seat.old.me.0) →
-        Went op start (of_write result)
+    ensures went { (waits : ℕ) (op : OpType) (start : TaskState) →
+        GoesWaiting waits op start (task_state seat.old.table_id gates.now.config begins (Some (Writes (Drops mount cpu))) seat.old.me.0) →
+        WentWaiting waits op start (of_write result)
         (task_state seat.new.table_id gates.now.config None (phase_after (of_write result)) seat.new.me.0) }
 {
     let phase = WritePhase::Drops { mount, cpu };

@@ -1,13 +1,13 @@
 //! One event of an operation under way, apart from the task that does it: so nothing is written down between two events of a
 //! call, and what is known of the operation lets its events become a straight line of code.
 
-ghost use Rattle.std.specs.Prelude.{◌≡◌, Some, None, List};
+ghost use Rattle.std.specs.Prelude.{◌≡◌, ℕ, Some, None, List};
 ghost use Rattle.gate_world.specs.Views.{phase_after};
 ghost use Rattle.access_model.specs.Replies.{map_next};
 ghost use Rattle.call_events.specs.TaskStates.{task_state};
 ghost use Rattle.call_events.specs.Stepped.{Stepped};
 ghost use Rattle.call_events.specs.Turns.{IsTied, StayTied, step_was};
-ghost use Rattle.call_events.specs.Runs.{Goes, Went};
+ghost use Rattle.call_events.specs.Waited.{GoesWaiting, WentWaiting};
 ghost use Rattle.call_events.specs.Asking.{Ask, asks_with, call_at, GoesWith, WentWith};
 ghost use Rattle.call_events.specs.TaskStates.{TaskState};
 ghost use Rattle.gate_world.specs.declared.operations.Op.{Op as OpType};
@@ -75,13 +75,13 @@ pub(crate) fn go_on<P: UnderWay>(
     ensures tied { StayTied gates.now.config begins (Some (P.as_phase under_way)) accesses.old seat.old.me.0
         (phase_after (map_next P.as_phase result)) accesses.new seat.new.me.0 }
     ensures still { IsTied gates.now.config None (phase_after (map_next P.as_phase result)) accesses.new seat.new.me.0 }
-    ensures went { (op : OpType) (start : TaskState) →
-        Goes op start (task_state seat.old.table_id gates.now.config begins (Some (P.as_phase under_way)) seat.old.me.0) →
-        Went op start (map_next P.as_phase result)
+    ensures went { (waits : ℕ) (op : OpType) (start : TaskState) →
+        GoesWaiting waits op start (task_state seat.old.table_id gates.now.config begins (Some (P.as_phase under_way)) seat.old.me.0) →
+        WentWaiting waits op start (map_next P.as_phase result)
         (task_state seat.new.table_id gates.now.config None (phase_after (map_next P.as_phase result)) seat.new.me.0) }
-    ensures asks { (op : OpType) (start : TaskState) (asks : List Ask) →
-        GoesWith asks op start (task_state seat.old.table_id gates.now.config begins (Some (P.as_phase under_way)) seat.old.me.0) →
-        WentWith (asks_with (call_at (P.as_phase under_way)) seat.old.me.0 hook asks) op start (map_next P.as_phase result)
+    ensures asks { (op : OpType) (start : TaskState) (asks : List Ask) (waits : ℕ) →
+        GoesWith asks waits op start (task_state seat.old.table_id gates.now.config begins (Some (P.as_phase under_way)) seat.old.me.0) →
+        WentWith (asks_with (call_at (P.as_phase under_way)) seat.old.me.0 hook asks) waits op start (map_next P.as_phase result)
         (task_state seat.new.table_id gates.now.config None (phase_after (map_next P.as_phase result)) seat.new.me.0) }
 {
     let Turn {

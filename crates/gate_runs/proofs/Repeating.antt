@@ -2,6 +2,7 @@
 use Rattle.std.proofs.Common.{◌≡◌, ℕ, zero, suc, ◌+◌, ◌-◌, ◌^◌, ◌≤◌, min, ap, refl, inl, inr, ◌∙◌, arith, subst}
 use Rattle.std.specs.Prelude.{Result, Ok, Err, OnOk, IfOk}
 use Rattle.access_model.specs.declared.errors.GateError.{GateError}
+use Rattle.access_model.specs.declared.errors.GateError.TheVariants.{ReadOnly}
 use Rattle.gate_world.specs.declared.operations.Op.{Op}
 use Rattle.gate_world.specs.declared.operations.Op.TheVariants.{WantWrite, DropWrite}
 use Rattle.vfs_gates.specs.TaskStates.{TaskState}
@@ -12,7 +13,7 @@ use Rattle.gate_runs.specs.declared.counts.Writes.{Writes}
 use Rattle.gate_runs.specs.Counts.{counted}
 use Rattle.gate_runs.specs.Refusals.{IsRunCall, MetBy, WasRefused}
 use Rattle.gate_world.specs.declared.config.Config.{Config}
-use Rattle.gate_runs.specs.Rounds.{Closes, CreatesFile, CreatesFiles, Does, IsRefused, Repeats, Retries, WriterRound, BackupRound}
+use Rattle.gate_runs.specs.Rounds.{Closes, CreatesFile, CreatesFiles, Does, IsRefused, Repeats, Retries, Takes, Waits, WriterRound, BackupRound}
 
 -- one round more
 pub one_more : {S : Type 0} (Round : ℕ → S → S → Type 0) (k : ℕ) (first mid last : S) → Repeats Round k first mid → Round k mid last →
@@ -47,6 +48,7 @@ writes_on link meeting other there on processors writer rounds first last did =
     repeats_on (WriterRound link meeting processors writer) (WriterRound other there processors writer) (λ k x y was. record {
       held = was.held;
       grown = was.grown;
+      waits = was.waits;
       took = was.took;
       grew = was.grew;
       met = on was.grown k x.1 y.1 was.met;
@@ -69,6 +71,7 @@ backs_on link meeting other there on freezes first last did =
       met = on was.copied k x.1 y.1 was.met;
       thaws = was.thaws;
       ran = was.ran;
+      waits = was.waits;
       calls_back = was.calls_back;
       counts = was.counts;
     }) freezes first last did
@@ -78,6 +81,12 @@ pub answered : (op : Op) (refusal : GateError) (first mid last : TaskState) (tri
     Repeats (λ k. IsRefused op refusal) tries first mid → Does op mid last → tried ≡ counted tries →
     (did : Retries op refusal first last) × (tried ≡ counted did.0)
 answered op refusal first mid last tries tried so_far did counts = ((tries, mid, so_far, did), counts)
+
+-- the same of write access, with the waits so far
+pub taken : (cpu : ℕ) (first mid last : TaskState × ℕ) (tries tried : ℕ) →
+    Repeats (λ k. Waits (IsRefused (WantWrite 0 cpu) ReadOnly)) tries first mid → Waits (Does (WantWrite 0 cpu)) mid last → tried ≡ counted tries →
+    (did : Takes cpu first last) × (tried ≡ counted did.0)
+taken cpu first mid last tries tried so_far did counts = ((tries, mid, so_far, did), counts)
 
 -- one more
 stands_still : (most n : ℕ) → min (min n most + 1) most ≡ min (n + 1) most

@@ -2,18 +2,21 @@
 use Rattle.std.proofs.Common.{◌≡◌, ℕ, zero, suc, ◌+◌, ◌≤◌, List, [], ◌∷◌, ◌++◌, length, refl, ap, sym, subst, ◌∙◌, arith, inl, inr}
 use Rattle.std.specs.Prelude.{Option, Some, None, Result}
 use Rattle.access_model.specs.declared.errors.GateError.{GateError}
+use Rattle.access_model.specs.declared.errors.GateError.TheVariants.{ReadOnly}
 use Rattle.access_model.specs.declared.replies.Reply.{Reply}
 use Rattle.gate_world.specs.declared.config.Config.{Config}
 use Rattle.gate_world.specs.declared.operations.Op.{Op}
+use Rattle.gate_world.specs.declared.operations.Op.TheVariants.{WantWrite}
 use Rattle.gate_world.specs.declared.views.Traced.{Traced}
 use Rattle.gate_world.specs.declared.views.View.{View}
 use Rattle.vfs_gates.specs.Seating.{SeatItems, HaveViews, numbered, times}
 use Rattle.vfs_gates.specs.TaskStates.{TaskState, own_number, own_view, spare_of, refusal_at}
 use Rattle.vfs_gates.specs.Runs.{Replies, ran_items}
 use Rattle.gate_runs.specs.declared.counts.Copies.{Copies}
+use Rattle.gate_runs.specs.declared.counts.Remounts.{Remounts}
 use Rattle.gate_runs.specs.declared.counts.Writes.{Writes}
-use Rattle.gate_runs.specs.Counts.{both, no_writes}
-use Rattle.gate_runs.specs.Rounds.{Repeats, CallsBack, CreatesFile, CreatesFiles, IsRefused, Retries, RemountRound, WriterRound, BackupRound}
+use Rattle.gate_runs.specs.Counts.{both, no_remounts, no_writes, with_waits}
+use Rattle.gate_runs.specs.Rounds.{Repeats, CallsBack, CreatesFile, CreatesFiles, IsRefused, Retries, Takes, Waits, RemountRound, WriterRound, BackupRound}
 use Rattle.vfs_gates.specs.Splitting.{Gives, HasBegun, HaveDoneNothing}
 use Rattle.gate_runs.specs.Parts.{EachFrom, Among, EndsAs, Stays, Remounted, Wrote, AllWrote}
 
@@ -76,13 +79,18 @@ retries_stay : (op : Op) (refusal : GateError) (first last : TaskState) → Retr
 retries_stay op refusal first last did =
     stays_on (calls_stay (λ k. IsRefused op refusal) (λ k x y was. stays _ op x y _ was) did.0 first did.1 did.2) (stays _ op did.1 last _ did.3)
 
+-- of write access that was taken
+takes_stay : (cpu : ℕ) (first last : TaskState × ℕ) → Takes cpu first last → Stays first.0 last.0
+takes_stay cpu first last did = stays_on (rounds_stay (λ (x : TaskState × ℕ). x.0) (λ k. Waits (IsRefused (WantWrite 0 cpu) ReadOnly))
+    (λ k x y was. stays _ _ x.0 y.0 _ was.0) did.0 first did.1 did.2) (stays _ _ did.1.0 last.0 _ did.3.0)
+
 pub creates_stay : (writers : ℕ) (first last : TaskState) → CreatesFiles writers first last → Stays first last
 creates_stay writers first last did =
     stays_on (stays _ _ first did.held _ did.took) (stays_on
     (calls_stay (λ k. CreatesFile) (λ k x y was. stays _ _ x y _ was.1) writers did.held did.made did.creates)
     (stays _ _ did.made last _ did.gave))
 
-pub remounts_stay : (rounds : ℕ) (first last : TaskState × ℕ) → Repeats RemountRound rounds first last → Stays first.0 last.0
+pub remounts_stay : (rounds : ℕ) (first last : TaskState × Remounts) → Repeats RemountRound rounds first last → Stays first.0 last.0
 remounts_stay rounds first last did = rounds_stay (λ x. x.0) RemountRound (λ k x y was. stays_on
     (elim was.closed [ inl done ↦ stays _ _ x.0 was.mid _ done.0 | inr busy ↦ stays _ _ x.0 was.mid _ busy.0 ])
     (stays _ _ was.mid y.0 _ was.opened)) rounds first last did
@@ -91,7 +99,7 @@ module _ {M N : Type 0} (link : M → TaskState → ℕ → N → N → Type 0) 
   pub writes_stay : (processors writer rounds : ℕ) (first last : TaskState × N × Writes) →
       Repeats (WriterRound link meeting processors writer) rounds first last → Stays first.0 last.0
   writes_stay processors writer rounds first last did = rounds_stay (λ x. x.0) (WriterRound link meeting processors writer) (λ k x y was. stays_on
-      (retries_stay _ _ x.0 was.held was.took) (stays_on (retries_stay _ _ was.held was.grown was.grew) (stays _ _ was.grown y.0 _ was.gave)))
+      (takes_stay _ (x.0, x.2.waits) (was.held, was.waits) was.took) (stays_on (retries_stay _ _ was.held was.grown was.grew) (stays _ _ was.grown y.0 _ was.gave)))
       rounds first last did
 
   pub backs_stay : (freezes : ℕ) (first last : TaskState × N × Copies) → Repeats (BackupRound link meeting) freezes first last →
@@ -99,8 +107,8 @@ module _ {M N : Type 0} (link : M → TaskState → ℕ → N → N → Type 0) 
   backs_stay freezes first last did = rounds_stay (λ x. x.0) (BackupRound link meeting) (λ k x y was. stays_on
       (stays _ _ x.0 was.frozen _ was.freezes) (stays_on (stays _ _ was.frozen was.copied _ was.copies) (stays_on
       (stays _ _ was.copied was.thawed _ was.thaws)
-      (rounds_stay (λ (x : TaskState × ℕ). x.0) (λ k. CallsBack (k + 1)) (λ k x y ran. stays _ _ x.0 y.0 _ ran.1) 3 (was.thawed, 0) (y.0, was.ran)
-      was.calls_back)))) freezes first last did
+      (rounds_stay (λ (x : TaskState × ℕ × ℕ). x.0) (λ k. CallsBack (k + 1)) (λ k x y ran. stays _ _ x.0 y.0 _ ran.1) 3
+      (was.thawed, 0, with_waits (with_waits (with_waits x.2.waits was.frozen) was.copied) was.thawed) (y.0, was.ran, was.waits) was.calls_back)))) freezes first last did
 
 -- who stands among these does so among more
 pub among_more : (s : TaskState) (items more : SeatItems) → Among items s → Among (items ++ more) s
@@ -137,8 +145,8 @@ ends_as views (x ∷ xs) s have (inr h) = ends_as views xs s (λ k y e. have (su
 
 -- parts of those who end so are parts of those who end otherwise
 module _ (Ends Other : TaskState → Type 0) (on : (s : TaskState) → Ends s → Other s) where
-  pub remounted_on : (rounds busy : ℕ) → Remounted Ends rounds busy → Remounted Other rounds busy
-  remounted_on rounds busy r = record { first = r.first; last = r.last; begun = r.begun; did = r.did; own = r.own; ends = on r.last r.ends }
+  pub remounted_on : (rounds : ℕ) (met : Remounts) → Remounted Ends rounds met → Remounted Other rounds met
+  remounted_on rounds met r = record { first = r.first; last = r.last; begun = r.begun; did = r.did; own = r.own; ends = on r.last r.ends }
 
   module _ {M N : Type 0} (link : M → TaskState → ℕ → N → N → Type 0) (meeting : M) (processors rounds : ℕ) (before after : N) where
     pub wrote_on : (writer : ℕ) (writes : Writes) → Wrote Ends link meeting processors rounds writer before after writes →
@@ -214,10 +222,10 @@ comes_among old other new took there =
     subst (λ (t : TaskState). Among t.items other) (sym took) (joins_them other old.items there)
 
 -- the remounter's part, once its task was taken back
-pub remounter_part : (rounds busy : ℕ) (first last old new : TaskState) → HasBegun 1 first →
-    Repeats RemountRound rounds (first, 0) (last, busy) → TookBack old last new → Remounted (Among new.items) rounds busy
-remounter_part rounds busy first last old new begun did took =
-    let stayed = remounts_stay rounds (first, 0) (last, busy) did in record {
+pub remounter_part : (rounds : ℕ) (met : Remounts) (first last old new : TaskState) → HasBegun 1 first →
+    Repeats RemountRound rounds (first, no_remounts) (last, met) → TookBack old last new → Remounted (Among new.items) rounds met
+remounter_part rounds met first last old new begun did took =
+    let stayed = remounts_stay rounds (first, no_remounts) (last, met) did in record {
       first = first;
       last = last;
       begun = begun;

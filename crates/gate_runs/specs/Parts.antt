@@ -5,8 +5,9 @@ use Rattle.vfs_gates.specs.Seating.{SeatItems, numbered}
 use Rattle.vfs_gates.specs.TaskStates.{TaskState, IsIdle, own_number, own_view, spare_of}
 use Rattle.gate_runs.specs.declared.counts.Copies.{Copies}
 use Rattle.gate_runs.specs.declared.counts.Details.{Details}
+use Rattle.gate_runs.specs.declared.counts.Remounts.{Remounts}
 use Rattle.gate_runs.specs.declared.counts.Writes.{Writes}
-use Rattle.gate_runs.specs.Counts.{all_writes, no_copies, no_writes}
+use Rattle.gate_runs.specs.Counts.{all_writes, no_copies, no_remounts, no_writes, remounts_of}
 use Rattle.gate_runs.specs.Meetings.{was_frozen, was_held}
 use Rattle.gate_runs.specs.Rounds.{Repeats, CreatesFiles, RemountRound, WriterRound, BackupRound}
 use Rattle.vfs_gates.specs.Splitting.{HasBegun}
@@ -35,12 +36,12 @@ pub record Stays (first last : TaskState) : Type 0 where
 
 -- What each task has done. `Ends` says of the last state of each how it stands at the end.
 module _ (Ends : TaskState → Type 0) where
-  -- the remounter: from its beginning on so many rounds, in which the mount was busy so often, and nothing else
-  pub record Remounted (rounds busy : ℕ) : Type 0 where
+  -- the remounter: from its beginning on so many rounds, which met this, and nothing else
+  pub record Remounted (rounds : ℕ) (remounts : Remounts) : Type 0 where
     pub first : TaskState
     pub last : TaskState
     pub begun : HasBegun 1 first
-    pub did : Repeats RemountRound rounds (first, 0) (last, busy)
+    pub did : Repeats RemountRound rounds (first, no_remounts) (last, remounts)
     pub own : own_number last.items ≡ 1
     pub ends : Ends last
 
@@ -84,5 +85,5 @@ pub record AllDid (Ends : TaskState → Type 0) {M : Type 0} (held : M → ℕ �
   pub backup : Repeats (BackupRound was_frozen meeting) freezes (first, tt, no_copies) (last, tt, details.copies)
   pub own : own_number last.items ≡ 0
   pub ends : Ends last
-  pub remounter : Remounted Ends rounds details.busy
+  pub remounter : Remounted Ends rounds (remounts_of details)
   pub writers : AllWrote Ends (was_held held) meeting processors rounds 0 (tasks - 2) tt tt details.writes

@@ -6,6 +6,7 @@ use Rattle.gate_world.specs.declared.config.Config.{Config}
 use Rattle.gate_runs.specs.declared.counts.Details.{Details}
 use Rattle.gate_runs.specs.declared.runs.Totals.{Totals}
 use Rattle.vfs_gates.specs.Ended.{Ended, Ending}
+use Rattle.gate_runs.specs.Counts.{remounts_of}
 use Rattle.gate_runs.specs.Meetings.{was_frozen, was_held}
 use Rattle.gate_runs.specs.Parts.{AllWrote, BackedUp, EndsAs, Remounted}
 
@@ -38,5 +39,5 @@ pub record TellsRun {M : Type 0} (held : M → ℕ → ℕ → Type 0) (meeting 
   pub remounts : totals.remounts ≡ rounds
   pub ended : Ended closed.config closed.words
   pub backup : BackedUp (EndsAs ended.world.views) was_frozen meeting (tasks - 2) freezes tt tt details.copies
-  pub remounter : Remounted (EndsAs ended.world.views) rounds details.busy
+  pub remounter : Remounted (EndsAs ended.world.views) rounds (remounts_of details)
   pub writers : AllWrote (EndsAs ended.world.views) (was_held held) meeting processors rounds 0 (tasks - 2) tt tt details.writes

@@ -1,7 +1,7 @@
 //! What the tasks of a run met on their way, counted. Each task counts for itself, and its counts are added up once it has ended.
 
 ghost use Rattle.std.specs.Prelude.{◌≡◌, ◌*◌, ◌≤◌, ◌<◌, ℕ, Some};
-ghost use Rattle.gate_runs.specs.Counts.{both, counted, no_copies, no_writes, sizes_with, with_copy, with_round};
+ghost use Rattle.gate_runs.specs.Counts.{all_waits, both, counted, no_copies, no_remounts, no_writes, sizes_with, with_copy, with_round};
 
 /// What a writer has met in its rounds, or several together. Each number stands still at 2^64 - 1.
 #[derive(Clone, Copy, PartialEq, Eq, Debug)]
@@ -12,6 +12,8 @@ pub struct Writes {
     pub read_only: u64,
     /// How often a growth was refused as Again, before it was done.
     pub again: u64,
+    /// How often its calls for write access came to a wait, refused ones too.
+    pub waits: u64,
 }
 
 impl Writes {
@@ -22,17 +24,20 @@ impl Writes {
             granted: 0,
             read_only: 0,
             again: 0,
+            waits: 0,
         }
     }
 
-    /// A round more, in which the access and the growth were refused so often before they were done.
-    pub(crate) fn with_round(self, read_only: u64, again: u64) -> Writes
-        ensures { (denied raced : ℕ) → read_only ≡ counted denied → again ≡ counted raced → result ≡ with_round denied raced self }
+    /// A round more, in which the access and the growth were refused so often before they were done, and after which so many waits are
+    /// counted.
+    pub(crate) fn with_round(self, read_only: u64, again: u64, waits: u64) -> Writes
+        ensures { (denied raced : ℕ) → read_only ≡ counted denied → again ≡ counted raced → result ≡ with_round denied raced waits self }
     {
         Writes {
             granted: self.granted.saturating_add(1),
             read_only: self.read_only.saturating_add(read_only),
             again: self.again.saturating_add(again),
+            waits,
         }
     }
 
@@ -44,7 +49,25 @@ impl Writes {
             granted: self.granted.saturating_add(other.granted),
             read_only: self.read_only.saturating_add(other.read_only),
             again: self.again.saturating_add(other.again),
+            waits: self.waits.saturating_add(other.waits),
         }
+    }
+}
+
+/// What the changes of the mount have met.
+#[derive(Clone, Copy, PartialEq, Eq, Debug)]
+pub(crate) struct Remounts {
+    /// How often the mount was busy when it was to be made read-only.
+    pub(crate) busy: u32,
+    /// How often the changes came to a wait; it stands still at 2^64 - 1.
+    pub(crate) waits: u64,
+}
+
+impl Remounts {
+    pub(crate) fn none() -> Remounts
+        ensures { result ≡ no_remounts }
+    {
+        Remounts { busy: 0, waits: 0 }
     }
 }
 
@@ -80,6 +103,8 @@ pub struct Copies {
     pub snapshots: u32,
     /// How many callbacks ran.
     pub callbacks: u32,
+    /// How often its calls came to a wait; it stands still at 2^64 - 1.
+    pub waits: u64,
     /// The sizes of the snapshots; None where there was none.
     pub sizes: Option<Sizes>,
 }
@@ -92,17 +117,19 @@ impl Copies {
             frozen: 0,
             snapshots: 0,
             callbacks: 0,
+            waits: 0,
             sizes: None,
         }
     }
 
-    /// A freeze more, with its callbacks that ran, and its snapshot's blocks, where that was sound and clean.
-    pub(crate) fn with_copy(self, ran: u32, blocks: Option<u64>) -> Copies
+    /// A freeze more, with its callbacks that ran, after which so many waits are counted, and its snapshot's blocks, where that was sound and
+    /// clean.
+    pub(crate) fn with_copy(self, ran: u32, waits: u64, blocks: Option<u64>) -> Copies
         requires frozen { self.frozen < 1000 }
         requires snapshots { self.snapshots < 1000 }
         requires callbacks { self.callbacks ≤ 3000 }
         requires ran { ran ≤ 3 }
-        ensures { (size : ℕ) → blocks ≡ Some size → result ≡ with_copy ran size self }
+        ensures { (size : ℕ) → blocks ≡ Some size → result ≡ with_copy ran waits size self }
     {
         let frozen = self.frozen + 1;
         let callbacks = self.callbacks + ran;
@@ -111,11 +138,13 @@ impl Copies {
                 frozen,
                 snapshots: self.snapshots + 1,
                 callbacks,
+                waits,
                 sizes: sizes_and(self.sizes, blocks),
             },
             None => Copies {
                 frozen,
                 callbacks,
+                waits,
                 ..self
             },
         }
@@ -129,6 +158,18 @@ pub struct Details {
     pub writes: Writes,
     /// How often the mount was busy when it was to be made read-only.
     pub busy: u32,
+    /// How often the changes of the mount came to a wait; it stands still at 2^64 - 1.
+    pub remount_waits: u64,
     /// What the backup did and met.
     pub copies: Copies,
+}
+
+impl Details {
+    /// How often all these calls came to a wait. It stands still at 2^64 - 1.
+    pub fn waits(&self) -> u64
+        ensures { result ≡ all_waits self.now }
+    {
+        let own = self.writes.waits.saturating_add(self.remount_waits);
+        own.saturating_add(self.copies.waits)
+    }
 }

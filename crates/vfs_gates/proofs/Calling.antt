@@ -1,12 +1,12 @@
 -- A call that begins an operation and does its events on what the task keeps, and what it writes down at the end.
 use Rattle.std.proofs.Common.{◌≡◌, ℕ, Bool, false, List, [], ◌∷◌, refl, sym, ap, ◌∙◌, subst}
 use Rattle.std.specs.Prelude.{Option, Some, None, Result, Ok, is_some}
-use Rattle.access_model.specs.declared.{errors.GateError.GateError, replies.{Next.{Next, TheVariants.Done}, Reply.Reply}}
+use Rattle.access_model.specs.declared.{errors.GateError.GateError, replies.{Next.{Next, TheVariants.{Go, Wait, Done}}, Reply.Reply}}
 use Rattle.gate_world.specs.{Beginnings.{first_phase, refusal}, Fits.Fits, Views.{phase_after, held_of}, declared.accesses.Accesses.Accesses}
 use Rattle.gate_world.specs.declared.{config.Config.Config, operations.Op.Op, work.Phase.Phase}
-use Rattle.call_events.specs.{Answers.unless_refused, Asking.{GoesWith, CalledAsking}, Numbered.Numbered, Runs.{Goes, Went, Called}, Seat.Seat}
-use Rattle.call_events.specs.{Seating.SeatItems, Ties.{PhaseOk, OwnTies, Ties}, Turns.{kept_at, IsTied, StayTied}}
-use Rattle.call_events.proofs.{Beginnings.{MayBegin, may_begin, first_fits}, Onward.goes_where, Running.{not_refused, starts_asking_none}}
+use Rattle.call_events.specs.{Answers.unless_refused, Asking.{GoesWith, CalledAsking}, Numbered.Numbered, Runs.{Goes, Called}, Seat.Seat}
+use Rattle.call_events.specs.{Seating.SeatItems, Ties.{PhaseOk, OwnTies, Ties}, Turns.{kept_at, IsTied, StayTied}, Waited.{GoesWaiting, WentWaiting}}
+use Rattle.call_events.proofs.{Beginnings.{MayBegin, may_begin, first_fits}, Running.{not_refused, starts_asking_none}}
 use Rattle.atomic_table.specs.Seated.{TableId}
 use Rattle.vfs_gates.specs.{TaskStates.{TaskState, task_state, own_number, own_view, refusal_at, beginning_at}, declared.task.Task.TheInside.Inside}
 use Rattle.vfs_gates.proofs.Admitting.{admitted_by, first_so, first_by}
@@ -71,14 +71,23 @@ call_with op task gates start start_is from ties answered admitted first is =
 abbrev pub items_of : Call → SeatItems
 items_of call = call.task.seat.me.0
 
--- What comes after the last event of a call that has done some, and what it has left of the accesses and the numbers.
+-- What comes after the last event of a call that has done some, and what it has left of the accesses and the numbers. Before that event so
+-- many came to a wait.
 pub record Left (call : Call) : Type 0 where
   pub next : Next Phase
   pub accesses : Accesses
   pub items : SeatItems
   pub table : TableId
   pub tied : StayTied call.gates (Some call.op) (Some call.first) call.task.kept.accesses (items_of call) (phase_after next) accesses items
-  pub went : Went call.op call.start next (task_state table call.gates None (phase_after next) items)
+  pub waits : ℕ
+  pub went : WentWaiting waits call.op call.start next (task_state table call.gates None (phase_after next) items)
+
+-- where a phase comes next, the operation goes on
+goes_on : (op : Op) (start now : TaskState) (next : Next Phase) (phase : Phase) → phase_after next ≡ Some phase → (waits : ℕ) →
+    WentWaiting waits op start next now → Goes op start now
+goes_on op start now (Go q) phase is waits went = went.0
+goes_on op start now (Wait q) phase is waits went = went.0
+goes_on op start now (Done answer) phase is waits went = absurd (let f : ⊥ = cc in f)
 
 -- before the first event
 module _ (call : Call) where
@@ -103,7 +112,7 @@ module _ (call : Call) where
   op = call.op
 
   -- the gates name the same configuration
-  same : c ≡ call.gates
+  pub same : c ≡ call.gates
   same = ap (λ (s : TaskState). s.config) call.start_is ∙ call.from
 
   -- the beginning has no refusal
@@ -193,14 +202,17 @@ module _ (call : Call) where
   pub is_tied : IsTied call.gates (Some op) (Some call.first) kept.accesses (items_of call)
   is_tied = record { number = number; flags = flags; ties = after_begin }
 
-  -- the operation goes on from there, with no hook asked
-  pub has_asked_none : GoesWith [] op call.start (task_state call.task.seat.table_id call.gates (Some op) (Some call.first) (items_of call))
+  -- the operation goes on from there, with no hook asked and no wait
+  pub has_asked_none : GoesWith [] 0 op call.start (task_state call.task.seat.table_id call.gates (Some op) (Some call.first) (items_of call))
   has_asked_none =
       starts_asking_none op call.start (task_state call.task.seat.table_id call.gates (Some op) (Some call.first) (items_of call)) call.admitted
       ((λ i. task_state call.task.seat.table_id (sym same i) (Some op) (Some call.first) (items_of call)) ∙ begun_state)
 
   pub has_begun : Goes op call.start (task_state call.task.seat.table_id call.gates (Some op) (Some call.first) (items_of call))
   has_begun = has_asked_none.0
+
+  pub has_not_waited : GoesWaiting 0 op call.start (task_state call.task.seat.table_id call.gates (Some op) (Some call.first) (items_of call))
+  has_not_waited = (has_asked_none.0, has_asked_none.2)
 
   -- after the last event, as it is written down
   module _ (left : Left call) where
@@ -226,7 +238,7 @@ module _ (call : Call) where
     -- the operation goes on at this phase
     pub goes_at : (phase : Phase) → phase_after left.next ≡ Some phase →
         Goes op call.start (task_state left.table c call.task.begins (Some phase) left.items)
-    goes_at phase is = subst (Goes op call.start) (there_at (Some phase) is) (goes_where op call.start found left.next phase is left.went)
+    goes_at phase is = subst (Goes op call.start) (there_at (Some phase) is) (goes_on op call.start found left.next phase is left.waits left.went)
 
     -- or it was done whole
     pub ended_at : (answer : Result Reply GateError) → left.next ≡ Done answer →
@@ -234,14 +246,14 @@ module _ (call : Call) where
     ended_at answer is =
         let stands : phase_after left.next ≡ kept.phase = ap (λ (n : Next Phase). phase_after n) is ∙ sym idle in
         subst (λ (s : TaskState). Called op call.start s answer) (there_at kept.phase stands)
-        (subst (λ (n : Next Phase). Went op call.start n found) is left.went)
+        (subst (λ (n : Next Phase). WentWaiting left.waits op call.start n found) is left.went).0
 
     -- with the hooks that it has asked
     pub ended_asking : {H : Type 0} (answers : HookCall → SeatItems → H → HookAnswer → H → Type 0) (before hooks : H)
-        (answer : Result Reply GateError) → left.next ≡ Done answer →
-        CalledAsking answers op call.start before (task_state left.table call.gates None None left.items) answer hooks →
-        CalledAsking answers op call.start before (task_state left.table c call.task.begins kept.phase left.items) answer hooks
-    ended_asking answers before hooks answer is called =
+        (answer : Result Reply GateError) (waited : ℕ) → left.next ≡ Done answer →
+        CalledAsking answers op call.start before (task_state left.table call.gates None None left.items) answer waited hooks →
+        CalledAsking answers op call.start before (task_state left.table c call.task.begins kept.phase left.items) answer waited hooks
+    ended_asking answers before hooks answer waited is called =
         let at : task_state left.table call.gates None None left.items ≡ task_state left.table c call.task.begins kept.phase left.items =
         λ i. task_state left.table (sym same i) (sym not_begun i) (sym idle i) left.items in
-        subst (λ s. CalledAsking answers op call.start before s answer hooks) at called
+        subst (λ s. CalledAsking answers op call.start before s answer waited hooks) at called

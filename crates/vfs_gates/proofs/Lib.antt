@@ -5,6 +5,7 @@ pub mod Closing
 pub mod Ending
 pub mod Admitting
 pub mod Calling
+pub mod Waiting
 pub mod Rooming
 pub mod Seeing
 pub mod Taking

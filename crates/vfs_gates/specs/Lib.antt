@@ -6,6 +6,7 @@ pub use Rattle.access_model.specs.declared.errors.GateError
 pub use Rattle.gate_world.specs.declared.operations.Op
 pub use Rattle.gate_world.specs.declared.views.View
 pub mod Room
+pub mod Waits
 pub mod TaskStates
 pub use Rattle.call_events.specs.Ties
 pub use Rattle.call_events.specs.Stepped

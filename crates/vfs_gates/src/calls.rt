@@ -1,15 +1,17 @@
 //! Calls that wait for nobody.
 
 ghost use Rattle.std.specs.Prelude.{◌≡◌, false};
+ghost use Rattle.access_model.specs.Replies.{map_next};
 ghost use Rattle.gate_world.specs.declared.operations.Op.{Op as OpType};
 ghost use Rattle.vfs_gates.specs.TaskStates.{TaskState};
+ghost use Rattle.vfs_gates.specs.Waits.{is_wait};
 ghost use Rattle.call_events.specs.Runs.{told_as, unit_of, Goes};
 
 use crate::gates::Gates;
 use crate::task::Task;
 use access_model::{GateError, Next, Reply};
 use call_events::{InLine, Progress};
-use gate_world::{Op, Phase};
+use gate_world::{Op, Phase, UnderWay};
 use mount_counts::{Change, ChangeStep, MountPhase, Want, WantStep};
 use percpu_rwsem::{DownRead, DownReadStep, UpRead};
 use write_access::WritePhase;
@@ -21,6 +23,17 @@ pub(crate) fn outcome(answer: Result<Reply, GateError>) -> Result<(), GateError>
     match answer {
         Ok(_) => Ok(()),
         Err(refusal) => Err(refusal),
+    }
+}
+
+/// 1 where the event before found what the operation waits for, else 0.
+#[inline(always)]
+pub(crate) fn waits<P: UnderWay>(next: &Next<P>) -> u64
+    ensures { result ≡ is_wait (map_next P.as_phase next.now) }
+{
+    match next {
+        Next::Wait(_) => 1,
+        Next::Go(_) | Next::Done(_) => 0,
     }
 }
 
@@ -76,7 +89,9 @@ impl Task {
     {
         self.admit(op)?;
         let accesses = &mut self.kept.accesses;
-        match first.go_in_line(&gates.words, &mut self.seat, accesses, Some(op)) {
+        let next = first.go_in_line(&gates.words, &mut self.seat, accesses, Some(op));
+        self.waited = waits(&next);
+        match next {
             Next::Done(answer) => outcome(answer),
             Next::Go(under_way) | Next::Wait(under_way) => {
                 self.kept.phase = Some(under_way.phase());

@@ -49,6 +49,7 @@ impl Task {
             kept: Kept::idle(),
             spare: none(),
             rooms,
+            waited: 0,
             seat,
         })
     }
@@ -78,6 +79,7 @@ impl Task {
             kept: _,
             spare,
             rooms: _,
+            waited: _,
             seat,
         } = other;
         gates.words.take_back(&mut self.seat, seat);

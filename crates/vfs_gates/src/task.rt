@@ -7,6 +7,7 @@ ghost use Rattle.gate_world.specs.declared.work.Phase.{Phase as PhaseType};
 ghost use Rattle.vfs_gates.specs.TaskStates.{TaskState, IsNothing};
 ghost use Rattle.call_events.specs.Rules.{first_items};
 
+use crate::calls::waits;
 use crate::gates::Gates;
 use crate::numbers::{Numbers, are_all, others_of};
 use crate::rooms::Rooms;
@@ -52,13 +53,16 @@ pub struct Task {
     /// The numbers that it has to give.
     pub(crate) spare: Numbers,
     pub(crate) rooms: Rooms,
+    /// How often its last operation came to a wait.
+    pub(crate) waited: u64,
     pub(crate) seat: Seat,
 }
 
 impl Model for Task {
     ghost use Rattle.std.specs.Prelude.{◌≡◌, []};
-    ghost use Rattle.vfs_gates.specs.TaskStates.{TaskState, task_state};
+    ghost use Rattle.vfs_gates.specs.TaskStates.{TaskState, own_number, own_view, task_state};
     ghost use Rattle.vfs_gates.specs.Room.{RoomTells};
+    ghost use Rattle.vfs_gates.specs.Waits.{WaitsTell};
     ghost use Rattle.call_events.specs.Ties.{Ties};
 
     ghost Value = { TaskState };
@@ -66,7 +70,8 @@ impl Model for Task {
     ghost view = { λ t. task_state t.seat.table_id t.config t.begins t.kept.phase t.seat.me.0 };
 
     ghost invariant = { λ t. Ties t.number t.config t.begins t.kept t.spare t.seat.me.0 × (t.seat.me.1 ≡ [])
-        × RoomTells t.config.nodes t.rooms t.begins t.kept.phase t.seat.me.0 };
+        × RoomTells t.config.nodes t.rooms t.begins t.kept.phase t.seat.me.0
+        × WaitsTell t.config (own_number t.seat.me.0) (own_view t.seat.me.0) t.waited };
 }
 
 impl Task {
@@ -78,6 +83,7 @@ impl Task {
     ghost use Rattle.call_events.specs.Stepped.{Stepped};
     ghost use Rattle.call_events.specs.Runs.{Goes, Told};
     ghost use Rattle.vfs_gates.specs.Ended.{HasAll};
+    ghost use Rattle.vfs_gates.specs.Waits.{waited_at};
     ghost use Rattle.call_events.specs.Ties.{AllRest};
     ghost use Rattle.gate_world.specs.declared.views.Snapshot.{Snapshot};
     ghost use Rattle.gated_tree.specs.Trees.{words_of};
@@ -95,6 +101,7 @@ impl Task {
             kept: Kept::idle(),
             spare: others_of(config.tasks),
             rooms,
+            waited: 0,
             seat,
         }
     }
@@ -140,6 +147,14 @@ impl Task {
         ensures not_there { self.now.config.nodes ≤ node → result ≡ false }
     {
         node < self.config.nodes && self.kept.accesses.files[node as usize]
+    }
+
+    /// How often the task's last operation came to a wait: how many of its events found what it waits for. It stands still at 2^64 - 1. Until an
+    /// operation that has begun has its first event, it is told of the one before; where there was none, 0.
+    pub fn waited(&self) -> u64
+        ensures { result ≡ waited_at self.now }
+    {
+        self.waited
     }
 
     /// The last snapshot that the task has taken; None before its first. What it shows is the tree of one moment at which all was frozen,
@@ -206,6 +221,8 @@ impl Task {
             next,
         } = do_event(&gates.words, &mut self.seat, accesses, begins, phase, hook);
         self.rooms.follow(phase, event);
+        let so_far = if begins.is_some() { 0 } else { self.waited };
+        self.waited = so_far.saturating_add(waits(&next));
         let (progress, phase) = Progress::of(next);
         self.begins = None;
         self.kept.phase = phase;
@@ -242,6 +259,7 @@ impl Task {
             kept: _,
             spare: _,
             rooms: _,
+            waited: _,
             seat,
         } = self;
         seat

@@ -60,6 +60,7 @@ impl Task {
         ensures { Replies the_reply op self.old self.new result }
     {
         self.admit(op)?;
+        self.waited = 0;
         go_to_end(
             &gates.words,
             &mut self.seat,

@@ -5,7 +5,7 @@ ghost use Rattle.gate_world.specs.declared.operations.Op.{Op as OpType};
 ghost use Rattle.vfs_gates.specs.TaskStates.{TaskState};
 ghost use Rattle.call_events.specs.Runs.{told_as, ran_of, IsRanReply, Goes};
 
-use crate::calls::outcome;
+use crate::calls::{outcome, waits};
 use crate::gates::Gates;
 use crate::task::Task;
 use access_model::{GateError, Holder, Next, Reply};
@@ -88,7 +88,10 @@ impl Task {
     {
         self.admit(op)?;
         let accesses = &mut self.kept.accesses;
-        wait_to_end(rt, &gates.words, &mut self.seat, accesses, op, first, hooks)
+        let seat = &mut self.seat;
+        let (answer, waited) = wait_to_end(rt, &gates.words, seat, accesses, op, first, hooks);
+        self.waited = waited;
+        answer
     }
 
     /// Begins an operation that has this first phase and asks no hook, and does its events in a line. Where one of them finds something
@@ -108,7 +111,9 @@ impl Task {
     {
         self.admit(op)?;
         let accesses = &mut self.kept.accesses;
-        match first.go_in_line(&gates.words, &mut self.seat, accesses, Some(op)) {
+        let next = first.go_in_line(&gates.words, &mut self.seat, accesses, Some(op));
+        self.waited = waits(&next);
+        match next {
             Next::Done(answer) => outcome(answer),
             Next::Go(under_way) | Next::Wait(under_way) => {
                 self.kept.phase = Some(under_way.phase());

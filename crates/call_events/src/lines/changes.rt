@@ -1,13 +1,13 @@
 //! The events of a change of a mount, in a line: its beginning, the sum of the mount's counts, its end.
 
-ghost use Rattle.std.specs.Prelude.{◌≡◌, Some, None};
+ghost use Rattle.std.specs.Prelude.{◌≡◌, ℕ, Some, None};
 ghost use Rattle.gate_world.specs.Views.{phase_after};
 ghost use Rattle.gate_world.specs.declared.operations.Op.{Op as OpType};
 ghost use Rattle.gate_world.specs.declared.work.Phase.TheVariants.{Mounts};
 ghost use Rattle.mount_counts.specs.declared.phases.MountPhase.TheVariants.{Change as Changes};
 ghost use Rattle.call_events.specs.TaskStates.{TaskState, task_state};
 ghost use Rattle.call_events.specs.Turns.{IsTied, StayTied, of_change};
-ghost use Rattle.call_events.specs.Runs.{Goes, Went};
+ghost use Rattle.call_events.specs.Waited.{GoesWaiting, WentWaiting};
 
 use super::{InLine, Placed, go_on_if};
 use crate::turns::go_on;
@@ -64,9 +64,9 @@ fn begin_change(
     ensures tied { StayTied gates.now.config begins (Some (Mounts (Changes change))) accesses.old seat.old.me.0
         (phase_after (of_change result)) accesses.new seat.new.me.0 }
     ensures still { IsTied gates.now.config None (phase_after (of_change result)) accesses.new seat.new.me.0 }
-    ensures went { (op : OpType) (start : TaskState) →
-        Goes op start (task_state seat.old.table_id gates.now.config begins (Some (Mounts (Changes change))) seat.old.me.0) →
-        Went op start (of_change result)
+    ensures went { (waits : ℕ) (op : OpType) (start : TaskState) →
+        GoesWaiting waits op start (task_state seat.old.table_id gates.now.config begins (Some (Mounts (Changes change))) seat.old.me.0) →
+        WentWaiting waits op start (of_change result)
         (task_state seat.new.table_id gates.now.config None (phase_after (of_change result)) seat.new.me.0) }
 {
     let next = go_on(gates, seat, accesses, begins, change, Ok(()));
@@ -91,10 +91,10 @@ fn add_counts(
     ensures tied { StayTied gates.now.config None (phase_after (of_change next)) accesses.old seat.old.me.0
         (phase_after (of_change result)) accesses.new seat.new.me.0 }
     ensures still { IsTied gates.now.config None (phase_after (of_change result)) accesses.new seat.new.me.0 }
-    ensures went { (op : OpType) (start : TaskState) →
-        Went op start (of_change next)
+    ensures went { (waits : ℕ) (op : OpType) (start : TaskState) →
+        WentWaiting waits op start (of_change next)
         (task_state seat.old.table_id gates.now.config None (phase_after (of_change next)) seat.old.me.0) →
-        Went op start (of_change result)
+        WentWaiting waits op start (of_change result)
         (task_state seat.new.table_id gates.now.config None (phase_after (of_change result)) seat.new.me.0) }
 {
     for _cpu in 0..processors {
@@ -118,10 +118,10 @@ fn end_change(
     ensures slots { seat.new.me.1 ≡ seat.old.me.1 }
     ensures tied { StayTied gates.now.config None (phase_after (of_change next)) accesses.old seat.old.me.0
         (phase_after (of_change result)) accesses.new seat.new.me.0 }
-    ensures went { (op : OpType) (start : TaskState) →
-        Went op start (of_change next)
+    ensures went { (waits : ℕ) (op : OpType) (start : TaskState) →
+        WentWaiting waits op start (of_change next)
         (task_state seat.old.table_id gates.now.config None (phase_after (of_change next)) seat.old.me.0) →
-        Went op start (of_change result)
+        WentWaiting waits op start (of_change result)
         (task_state seat.new.table_id gates.now.config None (phase_after (of_change result)) seat.new.me.0) }
 {
     let next = go_on_if(gates, seat, accesses, next, ChangePlace::SetsReadOnly);

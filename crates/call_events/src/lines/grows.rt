@@ -1,13 +1,13 @@
 //! The events of a grow of a file, in a line.
 
-ghost use Rattle.std.specs.Prelude.{◌≡◌, Some, None};
+ghost use Rattle.std.specs.Prelude.{◌≡◌, ℕ, Some, None};
 ghost use Rattle.gate_world.specs.Views.{phase_after};
 ghost use Rattle.gate_world.specs.declared.operations.Op.{Op as OpType};
 ghost use Rattle.gate_world.specs.declared.work.Phase.TheVariants.{Trees};
 ghost use Rattle.gated_tree.specs.declared.phases.TreePhase.TheVariants.{Grow as Grows};
 ghost use Rattle.call_events.specs.TaskStates.{TaskState, task_state};
 ghost use Rattle.call_events.specs.Turns.{IsTied, StayTied, of_grow};
-ghost use Rattle.call_events.specs.Runs.{Goes, Went};
+ghost use Rattle.call_events.specs.Waited.{GoesWaiting, WentWaiting};
 
 use super::{InLine, Placed, go_on_if};
 use crate::turns::go_on;
@@ -53,9 +53,9 @@ fn grow_in_line(
     ensures slots { seat.new.me.1 ≡ seat.old.me.1 }
     ensures tied { StayTied gates.now.config begins (Some (Trees (Grows grow))) accesses.old seat.old.me.0
         (phase_after (of_grow result)) accesses.new seat.new.me.0 }
-    ensures went { (op : OpType) (start : TaskState) →
-        Goes op start (task_state seat.old.table_id gates.now.config begins (Some (Trees (Grows grow))) seat.old.me.0) →
-        Went op start (of_grow result)
+    ensures went { (waits : ℕ) (op : OpType) (start : TaskState) →
+        GoesWaiting waits op start (task_state seat.old.table_id gates.now.config begins (Some (Trees (Grows grow))) seat.old.me.0) →
+        WentWaiting waits op start (of_grow result)
         (task_state seat.new.table_id gates.now.config None (phase_after (of_grow result)) seat.new.me.0) }
 {
     let next = go_on(gates, seat, accesses, begins, grow, Ok(()));

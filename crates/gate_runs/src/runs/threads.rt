@@ -2,7 +2,7 @@
 
 ghost use Rattle.std.specs.Prelude.{◌≡◌, ◌+◌, ◌-◌, ◌<◌, ◌++◌, IfErr, IfOk, OnOk, vec_len};
 ghost use Rattle.access_model.specs.declared.errors.GateError.TheVariants.{NoMemory, Order};
-ghost use Rattle.gate_runs.specs.Counts.{no_writes};
+ghost use Rattle.gate_runs.specs.Counts.{no_remounts, no_writes};
 ghost use Rattle.gate_runs.specs.Parts.{AllDid, AllWrote, Among, EachFrom, Remounted as RemountedPart, Wrote as WrotePart};
 ghost use Rattle.gate_runs.specs.Meetings.{was_held};
 ghost use Rattle.gate_runs.specs.Refusals.{MetBy, RunRefused};
@@ -12,7 +12,7 @@ ghost use Rattle.vfs_gates.specs.TaskStates.{IsFrom, TaskState, own_view};
 
 use super::Plan;
 use super::workers::{back_up, remount, write};
-use crate::counts::{Details, Writes};
+use crate::counts::{Details, Remounts, Writes};
 use crate::meetings::{Meeting, Unnoted};
 use access_model::GateError;
 use std::alloc::Global;
@@ -38,9 +38,9 @@ struct RemounterHome<'g> {
     start: Snapshot<Task>,
 }
 
-impl<'g> Promise<Worked<u32>> for RemounterHome<'g> {
+impl<'g> Promise<Worked<Remounts>> for RemounterHome<'g> {
     ghost kept_by = { λ home ended. IsFrom ended.task home.gates.now
-        × IfOk ended.done (λ busy. Repeats RemountRound home.plan.rounds (home.start.value, 0) (ended.task, busy))
+        × IfOk ended.done (λ met. Repeats RemountRound home.plan.rounds (home.start.value, no_remounts) (ended.task, met))
         × IfErr ended.done (MetBy home.gates.now.words.config home.plan.tasks home.plan.processors) };
 }
 
@@ -73,10 +73,10 @@ impl<'g, M: Meeting> Promise<Worked<Writes>> for WriterHome<'g, M> {
 }
 
 /// What the remounter's thread does.
-fn run_remounter<R: Wait>(rt: &R, gates: &Gates, plan: Plan, mut task: Task) -> Worked<u32>
+fn run_remounter<R: Wait>(rt: &R, gates: &Gates, plan: Plan, mut task: Task) -> Worked<Remounts>
     requires { IsFrom task gates.now }
     ensures from { IsFrom result.task gates.now }
-    ensures rounds { IfOk result.done (λ busy. Repeats RemountRound plan.rounds (task, 0) (result.task, busy)) }
+    ensures rounds { IfOk result.done (λ met. Repeats RemountRound plan.rounds (task, no_remounts) (result.task, met)) }
     ensures refused { IfErr result.done (MetBy gates.now.words.config plan.tasks plan.processors) }
 {
     let done = remount(rt, gates, plan, &mut task);
@@ -119,7 +119,7 @@ fn start_remounter<'s, E, R: Wait + Sync>(
     gates: &'s Gates,
     plan: Plan,
     task: &mut Task,
-) -> Result<PromisedHandle<Worked<u32>, RemounterHome<'s>>, GateError>
+) -> Result<PromisedHandle<Worked<Remounts>, RemounterHome<'s>>, GateError>
     requires from { IsFrom task.old gates.now }
     requires gives { Gives task.old 1 plan.tasks }
     ensures from { IsFrom task.new gates.now }
@@ -134,10 +134,10 @@ fn start_remounter<'s, E, R: Wait + Sync>(
         plan,
         start: Snapshot::of(&other),
     };
-    let work = move || -> Worked<u32>
+    let work = move || -> Worked<Remounts>
         requires { IsFrom other gates.now }
         ensures from { IsFrom result.task gates.entry.now }
-        ensures rounds { IfOk result.done (λ busy. Repeats RemountRound plan.rounds (other, 0) (result.task, busy)) }
+        ensures rounds { IfOk result.done (λ met. Repeats RemountRound plan.rounds (other, no_remounts) (result.task, met)) }
         ensures refused { IfErr result.done (MetBy gates.entry.now.words.config plan.tasks plan.processors) }
     { run_remounter(rt, gates, plan, other) };
     match scope.spawn_with(home, work) {
@@ -243,8 +243,8 @@ fn join_remounter<R: Threads>(
     gates: &Gates,
     plan: Plan,
     task: &mut Task,
-    worker: PromisedHandle<Worked<u32>, RemounterHome<'_>>,
-) -> Result<u32, GateError>
+    worker: PromisedHandle<Worked<Remounts>, RemounterHome<'_>>,
+) -> Result<Remounts, GateError>
     requires from { IsFrom task.old gates.now }
     requires home { (worker.promise.gates.now ≡ gates.now) × (worker.promise.plan ≡ plan) × HasBegun 1 worker.promise.start.value }
     ensures from { IsFrom task.new gates.now }
@@ -253,9 +253,9 @@ fn join_remounter<R: Threads>(
     ensures refused { IfErr result (RunRefused gates.now.words.config plan.tasks plan.processors) }
 {
     let Worked { task: other, done } = worker.join(rt);
-    let busy = done?;
+    let met = done?;
     take_back(gates, task, other)?;
-    Ok(busy)
+    Ok(met)
 }
 
 /// The same of a writer's.
@@ -327,11 +327,12 @@ fn run_threads<'s, E, R: Threads + Wait + Sync, M: Meeting + Sync>(
     let remounter = start_remounter(scope, rt, alloc, gates, plan, task)?;
     let writers = start_writers(scope, rt, alloc, gates, plan, meeting, task)?;
     let copies = back_up(rt, gates, plan, &Unnoted { meeting }, task, &mut ())?;
-    let busy = join_remounter(rt, gates, plan, task, remounter)?;
+    let Remounts { busy, waits } = join_remounter(rt, gates, plan, task, remounter)?;
     let writes = join_writers(rt, gates, plan, meeting, task, writers)?;
     Ok(Details {
         writes,
         busy,
+        remount_waits: waits,
         copies,
     })
 }

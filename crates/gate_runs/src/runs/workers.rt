@@ -3,15 +3,15 @@
 ghost use Rattle.std.specs.Prelude.{◌≡◌, ◌+◌, ◌-◌, ◌<◌, ◌≤◌, ℕ, IfErr, IfOk, OnOk, Some, length, true};
 ghost use Rattle.access_model.specs.declared.errors.GateError.TheVariants.{Again, ReadOnly};
 ghost use Rattle.gated_tree.specs.Trees.{LoadedClean, LoadedSound};
-ghost use Rattle.gate_runs.specs.Counts.{blocks_of, counted, no_copies, no_writes};
+ghost use Rattle.gate_runs.specs.Counts.{blocks_of, counted, no_copies, no_remounts, no_writes};
 ghost use Rattle.gate_runs.specs.Refusals.{MetBy, WasRefused};
-ghost use Rattle.gate_runs.specs.Rounds.{BackupRound, CallsBack, Closes, CreatesFiles, Does, RemountRound, Repeats, Retries, WriterRound};
+ghost use Rattle.gate_runs.specs.Rounds.{BackupRound, CallsBack, Closes, CreatesFiles, Does, RemountRound, Repeats, Retries, Takes, WriterRound};
 ghost use Rattle.gate_world.specs.declared.operations.Op.TheVariants.{ChangeMount, WantWrite, Grow, Snapshot as SnapshotOp};
 ghost use Rattle.gate_world.specs.declared.views.Snapshot.{Snapshot};
 ghost use Rattle.vfs_gates.specs.TaskStates.{IsFrom, own_number, own_view};
 
 use super::Plan;
-use crate::counts::{Copies, Writes};
+use crate::counts::{Copies, Remounts, Writes};
 use crate::meetings::NotedMeeting;
 use access_model::{GateError, Holder, Kind};
 use crossbeam_utils::Backoff;
@@ -46,20 +46,29 @@ pub(crate) fn create_files<R: Wait>(
     task.drop_write(gates, MOUNT, 0)
 }
 
-/// Takes write access on a processor, again while the mount is read-only, and tells how often it was.
-fn want_write<R: Wait>(rt: &R, gates: &Gates, task: &mut Task, cpu: u8) -> Result<u64, GateError>
+/// Takes write access on a processor, again while the mount is read-only, and tells how often it was, and the waits so far with those of each
+/// of these calls.
+fn want_write<R: Wait>(
+    rt: &R,
+    gates: &Gates,
+    task: &mut Task,
+    cpu: u8,
+    so_far: u64,
+) -> Result<(u64, u64), GateError>
     requires { IsFrom task.old gates.now }
     ensures from { IsFrom task.new gates.now }
-    ensures took { IfOk result (λ denied. (took : Retries (WantWrite 0 cpu) ReadOnly task.old task.new) × (denied ≡ counted took.0)) }
+    ensures took { IfOk result (λ met. (took : Takes cpu (task.old, so_far) (task.new, met.1)) × (met.0 ≡ counted took.0)) }
     ensures refused { IfErr result (WasRefused gates.now.words.config (WantWrite 0 cpu)) }
 {
     let backoff = Backoff::new();
     let mut denied = 0u64;
+    let mut waits = so_far;
     for _ in rt.forever() {
         let answer = task.want_write(rt, gates, MOUNT, cpu);
+        waits = waits.saturating_add(task.waited());
         if answer != Err(GateError::ReadOnly) {
             answer?;
-            return Ok(denied);
+            return Ok((denied, waits));
         }
         denied = denied.saturating_add(1);
         backoff.snooze();
@@ -105,11 +114,12 @@ pub(crate) fn write<R: Wait, M: NotedMeeting>(
 {
     let mut writes = Writes::none();
     for round in 0..plan.rounds {
-        let denied = want_write(rt, gates, task, plan.processor(writer, round))?;
+        let cpu = plan.processor(writer, round);
+        let (denied, waits) = want_write(rt, gates, task, cpu, writes.waits)?;
         let grown = grow(rt, gates, task, writer + 1);
         meeting.holding(task, round, notes);
         task.drop_write(gates, MOUNT, plan.processor(writer, round + 1))?;
-        writes = writes.with_round(denied, grown?);
+        writes = writes.with_round(denied, grown?, waits);
     }
     Ok(writes)
 }
@@ -128,25 +138,27 @@ fn close_mount<R: Wait>(rt: &R, gates: &Gates, task: &mut Task) -> Result<u32, G
     }
 }
 
-/// In each round makes the mount read-only, or finds it busy, and then makes it writable. Tells how often it was busy.
+/// In each round makes the mount read-only, or finds it busy, and then makes it writable. Tells what it met.
 pub(crate) fn remount<R: Wait>(
     rt: &R,
     gates: &Gates,
     plan: Plan,
     task: &mut Task,
-) -> Result<u32, GateError>
+) -> Result<Remounts, GateError>
     requires { IsFrom task.old gates.now }
     ensures from { IsFrom task.new gates.now }
-    ensures rounds { IfOk result (λ busy. Repeats RemountRound plan.rounds (task.old, 0) (task.new, busy)) }
+    ensures rounds { IfOk result (λ met. Repeats RemountRound plan.rounds (task.old, no_remounts) (task.new, met)) }
     ensures refused { IfErr result (MetBy gates.now.words.config plan.tasks plan.processors) }
 {
-    let mut busy = 0;
+    let mut met = Remounts::none();
     for _round in 0..plan.rounds {
-        let found = close_mount(rt, gates, task)?;
+        let busy = met.busy + close_mount(rt, gates, task)?;
+        let waits = met.waits.saturating_add(task.waited());
         task.change_mount(rt, gates, MOUNT, false)?;
-        busy += found;
+        let waits = waits.saturating_add(task.waited());
+        met = Remounts { busy, waits };
     }
-    Ok(busy)
+    Ok(met)
 }
 
 /// The blocks of a task's last snapshot, where it is sound and clean.
@@ -175,23 +187,30 @@ fn take_snapshot<R: Wait>(rt: &R, gates: &Gates, task: &mut Task) -> Result<Opti
     Ok(whole_blocks(task))
 }
 
-/// Calls back what the three levels have queued, and tells how many callbacks ran.
-fn call_back<R: Wait>(rt: &R, gates: &Gates, task: &mut Task) -> Result<u32, GateError>
+/// Calls back what the three levels have queued, and tells how many callbacks ran, and the waits so far with those of these calls.
+fn call_back<R: Wait>(
+    rt: &R,
+    gates: &Gates,
+    task: &mut Task,
+    so_far: u64,
+) -> Result<(u32, u64), GateError>
     requires { IsFrom task.old gates.now }
     ensures from { IsFrom task.new gates.now }
-    ensures few { IfOk result (λ ran. ran ≤ 3) }
-    ensures ran { IfOk result (λ ran. Repeats (λ k. CallsBack (k + 1)) 3 (task.old, 0) (task.new, ran)) }
+    ensures few { IfOk result (λ met. met.0 ≤ 3) }
+    ensures ran { IfOk result (λ met. Repeats (λ k. CallsBack (k + 1)) 3 (task.old, 0, so_far) (task.new, met.0, met.1)) }
     ensures refused { (tasks processors : ℕ) → IfErr result (MetBy gates.now.words.config tasks processors) }
 {
     let mut ran = 0;
+    let mut waits = so_far;
     for level in 1..4 {
         ran += u32::from(task.callback(rt, gates, level)?);
+        waits = waits.saturating_add(task.waited());
     }
-    Ok(ran)
+    Ok((ran, waits))
 }
 
 /// Freezes, takes a snapshot, meets, thaws, and calls back what the levels have queued, so often. Counts the freezes, the snapshots that
-/// were sound and clean, their blocks, and the callbacks that ran.
+/// were sound and clean, their blocks, the callbacks that ran, and the waits of all these calls.
 pub(crate) fn back_up<R: Wait, M: NotedMeeting>(
     rt: &R,
     gates: &Gates,
@@ -210,12 +229,15 @@ pub(crate) fn back_up<R: Wait, M: NotedMeeting>(
     let mut copies = Copies::none();
     for freeze in 0..plan.freezes {
         task.freeze(rt, gates, Holder::User, &mut ())?;
+        let waits = copies.waits.saturating_add(task.waited());
         let taken = take_snapshot(rt, gates, task);
+        let waits = waits.saturating_add(task.waited());
         meeting.frozen(task, freeze, notes);
         task.thaw(rt, gates, Holder::User, &mut ())?;
+        let waits = waits.saturating_add(task.waited());
         let blocks = taken?;
-        let ran = call_back(rt, gates, task)?;
-        copies = copies.with_copy(ran, blocks);
+        let (ran, waits) = call_back(rt, gates, task, waits)?;
+        copies = copies.with_copy(ran, waits, blocks);
     }
     Ok(copies)
 }

@@ -6,7 +6,7 @@ use Rattle.call_events.proofs.ends.go_on_asking.Goals.{in-Some, in-None}
 use Rattle.call_events.proofs.ends.go_on_asking.Goals as goal
 
 pub returns-clause-asked : goal.returns-clause-asked
-returns-clause-asked g c op start before goes =
+returns-clause-asked g c waits op start before goes =
     let wanted = call_at (g.P.UnderWay.as_phase c.args.under_way) in
     let at = c.args.seat.now.me.0 in
     let asked : AskedFor g.H.TimedHooks.answers wanted at c.match-asks.hook c.args.hooks.now c.match-asks.hooks =
@@ -17,6 +17,6 @@ returns-clause-asked g c op start before goes =
           c.match-asks.hook c.args.hooks.now c.match-asks.hooks w.hooks-is
     ] in (
       asks_with wanted at c.match-asks.hook goes.0,
-      c.go_on.ensures.asks op start goes.0 goes.1,
+      c.go_on.ensures.asks op start goes.0 waits goes.1,
       asks_more g.H.TimedHooks.answers wanted at c.match-asks.hook goes.0 before c.args.hooks.now c.match-asks.hooks goes.2 asked,
     )

@@ -1,6 +1,8 @@
 -- each event goes on from what the one before it left
-use Rattle.std.proofs.Common.{refl, sym, ◌∙◌, subst}
+use Rattle.std.proofs.Common.{◌+◌, refl, sym, ap, ◌∙◌, subst}
 use Rattle.call_events.specs.Asking.{WereAsked}
+use Rattle.call_events.specs.Waited.{counted}
+use Rattle.call_events.proofs.Waited.{one_more}
 use Rattle.call_events.proofs.ends.wait_to_end.Goals as goal
 
 pub loop-init : goal.loop-init
@@ -11,7 +13,7 @@ loop-init g c = record {
   slots = refl;
   tied = c.requires.tied;
   stay = λ number flags ties. ties;
-  goes = λ of start before goes. goes;
+  goes = λ of start before goes. (0, refl, goes);
 }
 
 pub loop-preserved-in-Go : goal.loop-preserved-in-Go
@@ -28,8 +30,9 @@ loop-preserved-in-Go g c =
       tied = left.still;
       stay = λ number flags ties. left.tied number flags (sections.tied number flags (asked.tied number flags (now.stay number flags ties)));
       goes = λ of start before goes.
-          let went = asked.asked of start before (now.goes of start before goes) in
-          (went.0, left.went of start went.0 (sections.went of start went.0 went.1), went.2);
+          let had = now.goes of start before goes in
+          let went = asked.asked had.0 of start before had.2 in
+          (had.0, had.1, (went.0, left.went of start went.0 had.0 (sections.went of start went.0 had.0 went.1), went.2));
     }
 
 pub loop-preserved : goal.loop-preserved
@@ -46,8 +49,12 @@ loop-preserved g c =
       tied = left.still;
       stay = λ number flags ties. left.tied number flags (sections.tied number flags (asked.tied number flags (now.stay number flags ties)));
       goes = λ of start before goes.
-          let went = asked.asked of start before (now.goes of start before goes) in
-          (went.0, left.went of start went.0 (sections.went of start went.0 went.1), went.2);
+          let had = now.goes of start before goes in
+          let went = asked.asked had.0 of start before had.2 in (
+            had.0 + 1,
+            one_more had.0 c.loop.waited _ had.1 c.saturating_add-waited.ensures,
+            (went.0, left.went of start went.0 had.0 (sections.went of start went.0 had.0 went.1), went.2),
+          );
     }
 
 pub returns-in-Done-clause-tied : goal.returns-in-Done-clause-tied
@@ -58,6 +65,10 @@ returns-in-Done-clause-tied g c number flags ties =
 
 pub returns-in-Done-clause-called : goal.returns-in-Done-clause-called
 returns-in-Done-clause-called g c of start before goes =
-    let went = c.go_on_asking-next.ensures.asked of start before (c.loop.invariant.goes of start before goes) in
-    let called = c.in-Done.ensures.went of start went.0 (c.go_along_row-next.ensures.went of start went.0 went.1) in
-    (called.0, subst (λ asks. WereAsked g.H.TimedHooks.answers asks before c.go_on_asking-next.new.hooks) (sym called.1) went.2)
+    let had = c.loop.invariant.goes of start before goes in
+    let went = c.go_on_asking-next.ensures.asked had.0 of start before had.2 in
+    let called = c.in-Done.ensures.went of start went.0 had.0 (c.go_along_row-next.ensures.went of start went.0 had.0 went.1) in (
+      called.0,
+      subst (λ asks. WereAsked g.H.TimedHooks.answers asks before c.go_on_asking-next.new.hooks) (sym called.1) went.2,
+      had.1 ∙ ap (λ n. counted n) (sym called.2),
+    )

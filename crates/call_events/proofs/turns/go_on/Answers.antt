@@ -1,10 +1,10 @@
 use Rattle.access_model.specs.Replies.{map_next}
-use Rattle.call_events.proofs.Turning.{went_so, went_with_so}
+use Rattle.call_events.proofs.Turning.{went_waiting_so, went_with_so}
 use Rattle.call_events.proofs.turns.go_on.Goals as goal
 
 pub returns-clause-went : goal.returns-clause-went
-returns-clause-went g c op start goes =
-    went_so c.args.gates.now.config c.args.gates.now.within op start c.do_event-next.result.event c.do_event-next.result.action
+returns-clause-went g c waits op start goes =
+    went_waiting_so c.args.gates.now.config c.args.gates.now.within waits op start c.do_event-next.result.event c.do_event-next.result.action
     (map_next g.P.UnderWay.as_phase c.do_event-next.result.next) c.args.hook
     goes c.do_event-next.ensures.stepped
 
@@ -19,7 +19,7 @@ returns-clause-still g c = let t = c.requires.tied in
     record { number = t.number; flags = t.flags; ties = c.do_event-next.ensures.tied t.number t.flags t.ties }
 
 pub returns-clause-asks : goal.returns-clause-asks
-returns-clause-asks g c op start asks goes =
+returns-clause-asks g c op start asks waits goes =
     went_with_so c.args.gates.now.config c.args.gates.now.within op start c.do_event-next.result.event c.do_event-next.result.action
-    (map_next g.P.UnderWay.as_phase c.do_event-next.result.next) c.args.hook asks
+    (map_next g.P.UnderWay.as_phase c.do_event-next.result.next) c.args.hook asks waits
     goes c.do_event-next.ensures.stepped

@@ -9,6 +9,7 @@ use Rattle.gate_runs.specs.Meetings.{was_held}
 use Rattle.std.proofs.lemmas.Nat.{mul-le}
 use Rattle.std.proofs.lemmas.Result.{err_from_is_err_and}
 use Rattle.gate_world.specs.Configs.{IsWithin}
+use Rattle.gate_runs.specs.Counts.{remounts_of}
 use Rattle.gate_runs.specs.Parts.{Among, EndsAs}
 use Rattle.gate_runs.specs.Plans.{MayRun, run_config}
 use Rattle.gate_runs.specs.Refusals.{MetBy, RunRefused}
@@ -59,7 +60,7 @@ returns-clause-tells g c =
         own = did.own;
         ends = on did.last did.ends;
       };
-      remounter = remounted_on (Among items) (EndsAs views) on c.args.plan.rounds c.in_ok-task.details.busy did.remounter;
+      remounter = remounted_on (Among items) (EndsAs views) on c.args.plan.rounds (remounts_of c.in_ok-task.details) did.remounter;
       writers = all_wrote_on (Among items) (EndsAs views) on (was_held g.M.Meeting.held) c.args.meeting.now c.args.plan.processors
           c.args.plan.rounds tt tt 0 (c.args.plan.tasks - 2) c.in_ok-task.details.writes did.writers;
     }

@@ -8,5 +8,5 @@ loop-cpu-preserved c = let now = c.loop-cpu.invariant in record {
   slots = c.go_on_if-next.ensures.slots ∙ now.slots;
   tied = λ number flags ties. c.go_on_if-next.ensures.tied number flags (now.tied number flags ties);
   still = c.go_on_if-next.ensures.still;
-  went = λ op start went. c.go_on_if-next.ensures.went op start (now.went op start went);
+  went = λ waits op start went. c.go_on_if-next.ensures.went waits op start (now.went waits op start went);
 }

@@ -26,7 +26,7 @@ returns-clause-all g c =
       own = stayed.own ∙ gives.own;
       ends = joined.others last (remounter.others last (is_among last (stayed.there gives.there)));
       remounter = remounted_on (Among c.join_remounter.new.task.items) (Among c.join_writers.new.task.items) joined.others
-          c.args.plan.rounds c.in_ok-busy.busy remounter.part;
+          c.args.plan.rounds c.in_ok-busy.field-0 remounter.part;
       writers = record {
         each = joined.parts.each;
         all = omega (arith, joined.parts.all, c.in_ok-writers.ensures.all);

@@ -1,9 +1,9 @@
 -- one freeze more
-use Rattle.std.proofs.Common.{◌≡◌, ◌+◌, ap, arith, ◌∙◌}
+use Rattle.std.proofs.Common.{◌≡◌, ◌+◌, ap, arith, subst, ◌∙◌}
 use Rattle.gate_runs.specs.declared.counts.Copies.{Copies}
 use Rattle.gate_runs.proofs.Repeating.{one_more}
-use Rattle.gate_runs.specs.Counts.{blocks_of, no_copies, with_copy}
-use Rattle.gate_runs.specs.Rounds.{BackupRound}
+use Rattle.gate_runs.specs.Counts.{blocks_of, counted, no_copies, with_copy}
+use Rattle.gate_runs.specs.Rounds.{BackupRound, CallsBack, Repeats}
 use Rattle.gate_runs.proofs.runs.workers.back_up.Goals as goal
 
 pub loop-freeze-preserved : goal.loop-freeze-preserved
@@ -11,9 +11,12 @@ loop-freeze-preserved g c =
     let before = c.loop-freeze.invariant in
     let copied = c.take_snapshot-taken.new.task in
     let ran = c.in_ok-ran.ran in
-    let counts : c.with_copy-copies.result ≡ with_copy ran (blocks_of copied) c.loop-freeze.copies =
+    let counts : c.with_copy-copies.result ≡ with_copy ran c.in_ok-ran.waits (blocks_of copied) c.loop-freeze.copies =
     c.with_copy-copies.ensures (blocks_of copied) c.in_ok-blocks.ensures.whole in
     let callbacks : c.with_copy-copies.result.callbacks ≡ c.loop-freeze.copies.callbacks + ran = ap (λ (x : Copies). x.callbacks) counts in
+    let frozen = c.saturating_add-waits.ensures ∙ ap (λ n. counted (c.loop-freeze.copies.waits + n)) c.waited.ensures in
+    let taken = c.saturating_add-waits-in-loop-freeze.ensures ∙ (λ i. counted (frozen i + c.waited-in-loop-freeze.ensures i)) in
+    let thawed = c.saturating_add-waits-in-loop-freeze-2.ensures ∙ (λ i. counted (taken i + c.waited-in-loop-freeze-2.ensures i)) in
     record {
       from = c.in_ok-ran.ensures.from;
       frozen = ap (λ (x : Copies). x.frozen) counts ∙ ap (λ n. n + 1) before.frozen;
@@ -31,7 +34,9 @@ loop-freeze-preserved g c =
             met = c.frozen.ensures;
             thaws = c.in_ok-thaw.ensures.replies;
             ran = ran;
-            calls_back = c.in_ok-ran.ensures.ran;
+            waits = c.in_ok-ran.waits;
+            calls_back = subst (λ n. Repeats (λ k. CallsBack (k + 1)) 3 (c.thaw.new.self, 0, n) (c.call_back.new.task, ran, c.in_ok-ran.waits))
+                thawed c.in_ok-ran.ensures.ran;
             counts = counts;
           });
     }

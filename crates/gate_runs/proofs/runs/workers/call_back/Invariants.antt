@@ -8,5 +8,5 @@ abbrev pub invariant-loop-level : goal.invariant-loop-level
 invariant-loop-level g l = record {
   from : IsFrom l.task l.fn.gates;
   few : l.ran + 1 ≤ l.level;
-  did : Repeats (λ k. CallsBack (k + 1)) (l.level - 1) (l.fn.task, 0) (l.task, l.ran);
+  did : Repeats (λ k. CallsBack (k + 1)) (l.level - 1) (l.fn.task, 0, l.fn.so_far) (l.task, l.ran, l.waits);
 }

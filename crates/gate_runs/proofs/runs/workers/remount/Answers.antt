@@ -1,22 +1,26 @@
 -- one round more
-use Rattle.std.proofs.Common.{◌≤◌, arith, refl, ◌∙◌}
+use Rattle.std.proofs.Common.{◌≤◌, ◌+◌, ap, arith, ◌∙◌}
 use Rattle.gate_runs.proofs.Repeating.{busy_once, one_more}
+use Rattle.gate_runs.specs.Counts.{counted}
 use Rattle.gate_runs.specs.Rounds.{RemountRound}
 use Rattle.gate_runs.proofs.runs.workers.remount.Goals as goal
 
 pub loop-round-preserved : goal.loop-round-preserved
 loop-round-preserved g c =
     let before = c.loop-round.invariant in
-    let found = c.in_ok-found.found in
-    let once : found ≤ 1 = busy_once found _ _ c.in_ok-found.ensures.closed in
+    let found = c.in_ok-busy.field-0 in
+    let closed = c.in_ok-busy.ensures in
+    let once : found ≤ 1 = busy_once found _ _ closed.closed in
+    let shut = c.saturating_add-waits.ensures ∙ ap (λ n. counted (c.loop-round.met.waits + n)) c.waited.ensures in
+    let open_again = c.saturating_add-waits-in-loop-round.ensures ∙ (λ i. counted (shut i + c.waited-in-loop-round.ensures i)) in
     record {
-      from = (c.change_mount.ensures.table ∙ c.in_ok-found.ensures.from.0, c.change_mount.ensures.config ∙ c.in_ok-found.ensures.from.1);
+      from = (c.change_mount.ensures.table ∙ closed.from.0, c.change_mount.ensures.config ∙ closed.from.1);
       few = omega (arith, before.few, once);
       did = one_more RemountRound c.loop-round._round _ _ _ before.did (record {
         mid = c.close_mount.new.task;
         busy = found;
-        closed = c.in_ok-found.ensures.closed;
+        closed = closed.closed;
         opened = c.in_ok-change_mount.ensures;
-        counts = refl;
+        counts = λ i. record { busy = c.loop-round.met.busy + found; waits = open_again i };
       });
     }

@@ -4,23 +4,28 @@ use Rattle.std.specs.Prelude.{Err}
 use Rattle.access_model.specs.declared.errors.GateError.TheVariants.{ReadOnly}
 use Rattle.gate_world.specs.declared.operations.Op.TheVariants.{WantWrite}
 use Rattle.vfs_gates.specs.Runs.{Performs}
-use Rattle.gate_runs.proofs.Repeating.{answered, counted_more, one_more}
-use Rattle.gate_runs.specs.Rounds.{IsRefused}
+use Rattle.gate_runs.proofs.Repeating.{counted_more, one_more, taken}
+use Rattle.gate_runs.specs.Counts.{counted}
+use Rattle.gate_runs.specs.Rounds.{IsRefused, Waits}
 use Rattle.gate_runs.proofs.runs.workers.want_write.Goals as goal
 
 pub loop-preserved : goal.loop-preserved
 loop-preserved g c =
     let before = c.loop.invariant in
-    let refused : c.want_write-answer.result ≡ Err ReadOnly = search rules in (
+    let refused : c.want_write-answer.result ≡ Err ReadOnly = search rules in
+    let waits = c.saturating_add-waits.ensures ∙ ap (λ n. counted (c.loop.waits + n)) c.waited.ensures in (
       (c.want_write-answer.ensures.table ∙ before.0.0, c.want_write-answer.ensures.config ∙ before.0.1),
       before.1 + 1,
-      one_more (λ k. IsRefused (WantWrite 0 c.args.cpu) ReadOnly) before.1 _ _ _ before.2
-          (subst (Performs (WantWrite 0 c.args.cpu) c.loop.task c.want_write-answer.new.self) refused c.want_write-answer.ensures),
+      one_more (λ k. Waits (IsRefused (WantWrite 0 c.args.cpu) ReadOnly)) before.1 _ _ _ before.2
+          (subst (Performs (WantWrite 0 c.args.cpu) c.loop.task c.want_write-answer.new.self) refused c.want_write-answer.ensures, waits),
       c.saturating_add-denied.ensures ∙ (ap (λ n. min (n + 1) (2 ^ 64 - 1)) before.3 ∙ counted_more before.1),
     )
 
 pub returns-then-ne-clause-took : goal.returns-then-ne-clause-took
 returns-then-ne-clause-took g c =
     let before = c.loop.invariant in
-    answered (WantWrite 0 c.args.cpu) ReadOnly c.args.task.now c.loop.task c.want_write-answer.new.self before.1 c.loop.denied before.2
-    (subst (Performs (WantWrite 0 c.args.cpu) c.loop.task c.want_write-answer.new.self) c.in_ok-answer.was c.want_write-answer.ensures) before.3
+    let waits = c.saturating_add-waits.ensures ∙ ap (λ n. counted (c.loop.waits + n)) c.waited.ensures in
+    taken c.args.cpu (c.args.task.now, c.args.so_far) (c.loop.task, c.loop.waits) (c.want_write-answer.new.self, c.saturating_add-waits.result)
+    before.1 c.loop.denied before.2
+    (subst (Performs (WantWrite 0 c.args.cpu) c.loop.task c.want_write-answer.new.self) c.in_ok-answer.was c.want_write-answer.ensures, waits)
+    before.3

@@ -7,6 +7,8 @@ use Rattle.call_events.specs.Runs.{the_reply}
 use Rattle.vfs_gates.proofs.Admitting.{refused_by}
 use Rattle.vfs_gates.proofs.Calling.{Call, Left, call_with, is_tied, has_begun, ties_done, ended_at}
 use Rattle.vfs_gates.proofs.Rooming.{room_done}
+use Rattle.vfs_gates.proofs.Waiting.{left_tells, waits_for_nobody}
+use Rattle.vfs_gates.specs.TaskStates.{own_number}
 use Rattle.call_events.proofs.Running.{was_refused, was_done, told_whole}
 use Rattle.vfs_gates.proofs.task.Task.call.Goals as goal
 use Rattle.vfs_gates.proofs.task.Task.call.Goals.{After-go_to_end}
@@ -24,7 +26,9 @@ left c = record {
   items = c.go_to_end.new.seat.me.0;
   table = c.go_to_end.new.seat.table_id;
   tied = c.go_to_end.ensures.tied;
-  went = c.go_to_end.ensures.called (call c).op (call c).start (has_begun (call c));
+  waits = 0;
+  went = let called = c.go_to_end.ensures.called (call c).op (call c).start (has_begun (call c)) in
+      (called, waits_for_nobody (call c).start.config (own_number (call c).start.items) (call c).op called.trace c.requires.tries called.waits);
 }
 
 pub go_to_end-requires-clause-tied : goal.go_to_end-requires-clause-tied
@@ -43,6 +47,7 @@ invariant_of-self c = (
   ties_done (call c) (left c) c.go_to_end.result refl,
   c.go_to_end.ensures.slots ∙ c.self.invariant.1,
   room_done (call c) _ c.requires.other c.self.invariant.2 (left c) c.go_to_end.result refl,
+  left_tells (call c) (left c) 0 refl,
 )
 
 pub returns : goal.returns

@@ -5,6 +5,7 @@ use Rattle.vfs_gates.proofs.Parting.{first_ties}
 use Rattle.call_events.specs.Seat.{Seat}
 use Rattle.vfs_gates.specs.TaskStates.{own_view}
 use Rattle.vfs_gates.proofs.Rooming.{first_unseen, room_new}
+use Rattle.vfs_gates.proofs.Waiting.{first_tells}
 use Rattle.vfs_gates.proofs.task.Task.first.Goals as goal
 
 pub invariant_of-result : goal.invariant_of-result
@@ -15,4 +16,5 @@ invariant_of-result c = let within = c.requires.within in
       ap (λ z. z.1) c.requires.seat,
       room_new c.args.config.nodes c.args.rooms None c.idle.result.phase c.args.seat.me.0 c.requires.room.0 c.requires.room.1
           (ap (λ z. (own_view z.0).snapshot) c.requires.seat ∙ first_unseen c.args.config) (ap (λ (k : Seat). k.phase) c.idle.ensures),
+      first_tells c.args.config c.args.seat.me.0 (ap (λ z. z.0) c.requires.seat),
     )

@@ -1,10 +1,11 @@
 use Rattle.std.proofs.Common.{◌≡◌, set, true, length, arith, refl, sym, ap, ◌∙◌, subst, None}
 use Rattle.gate_world.specs.declared.config.Config.{Config}
 use Rattle.call_events.specs.Seating.{SeatItems}
-use Rattle.vfs_gates.specs.TaskStates.{TaskState, Empty, own_view}
+use Rattle.vfs_gates.specs.TaskStates.{TaskState, Empty, own_number, own_view}
 use Rattle.call_events.specs.Ties.{Ties}
 use Rattle.vfs_gates.proofs.Parting.{join_self, below}
 use Rattle.vfs_gates.proofs.Rooming.{joined_view, room_same}
+use Rattle.vfs_gates.proofs.Waiting.{joined_number, tell_same}
 use Rattle.vfs_gates.proofs.task.Task.join.Goals as goal
 
 pub invariant_of-self : goal.invariant_of-self
@@ -29,4 +30,9 @@ invariant_of-self c = let mine = c.self.inside in let others = c.other.inside in
       room_same mine.config.nodes mine.rooms mine.begins mine.kept.phase mine.seat.me.0 c.take_back.new.seat.me.0
           (ap (λ z. own_view z.0) joined ∙ joined_view mine.number mine.config mine.begins mine.kept mine.spare mine.seat.me.0
           others.seat.me.0 c.self.invariant.0) c.self.invariant.2,
+      tell_same mine.config mine.seat.me.0 c.take_back.new.seat.me.0 mine.waited
+          (ap (λ z. own_number z.0) joined ∙ joined_number mine.number mine.config mine.begins mine.kept mine.spare mine.seat.me.0
+          others.seat.me.0 c.self.invariant.0)
+          (ap (λ z. own_view z.0) joined ∙ joined_view mine.number mine.config mine.begins mine.kept mine.spare mine.seat.me.0
+          others.seat.me.0 c.self.invariant.0) c.self.invariant.3,
     )

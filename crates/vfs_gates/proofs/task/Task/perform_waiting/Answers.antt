@@ -1,5 +1,5 @@
 -- a call that does its events until it replies: its beginning, the events, and what the task shows then
-use Rattle.std.proofs.Common.{refl, sym, ◌∙◌, []}
+use Rattle.std.proofs.Common.{refl, sym, ap, ◌∙◌, [], add-zero}
 use Rattle.std.specs.Prelude.{None}
 use Rattle.std.proofs.lemmas.Result.{err_from_is_err_and}
 use Rattle.access_model.specs.declared.replies.Next.TheVariants.{Done}
@@ -10,50 +10,58 @@ use Rattle.vfs_gates.proofs.Rooming.{room_done}
 use Rattle.call_events.specs.Asking.{CalledAsking}
 use Rattle.call_events.proofs.Asking.{was_refused_asking, was_done_asking}
 use Rattle.call_events.proofs.Running.{told_whole}
-use Rattle.vfs_gates.specs.TaskStates.{task_state}
+use Rattle.call_events.specs.Waited.{counted, waits_in}
+use Rattle.vfs_gates.proofs.Waiting.{left_tells}
+use Rattle.vfs_gates.specs.TaskStates.{own_number, task_state}
 use Rattle.vfs_gates.proofs.task.Task.perform_waiting.Goals as goal
-use Rattle.vfs_gates.proofs.task.Task.perform_waiting.Goals.{After-wait_to_end}
+use Rattle.vfs_gates.proofs.task.Task.perform_waiting.Goals.{After-wait_to_end-answer}
 
 -- the call, and what its events have left
-abbrev call : (g : _) → After-wait_to_end g → Call
+abbrev call : (g : _) → After-wait_to_end-answer g → Call
 call g c =
     call_with c.args.op c.self.inside c.args.gates.now.words.config c.args.self.now c.self.view_is c.requires.from.1 c.self.invariant.0
     c.in_ok-admit.field-0 c.in_ok-admit.ensures (g.P.UnderWay.as_phase c.args.first) c.requires.first
 
 -- done whole, it has asked the hooks that its events read
-asking : (g : _) (c : After-wait_to_end g) →
+asking : (g : _) (c : After-wait_to_end-answer g) →
     CalledAsking g.H.TimedHooks.answers (call g c).op (call g c).start c.args.hooks.now
-    (task_state c.wait_to_end.new.seat.table_id c.args.gates.now.words.config None None c.wait_to_end.new.seat.me.0) c.wait_to_end.result
-    c.wait_to_end.new.hooks
-asking g c = c.wait_to_end.ensures.called (call g c).op (call g c).start c.args.hooks.now ([], has_asked_none (call g c), refl)
+    (task_state c.wait_to_end-answer.new.seat.table_id c.args.gates.now.words.config None None c.wait_to_end-answer.new.seat.me.0) c.wait_to_end-answer.result.0
+    c.wait_to_end-answer.result.1 c.wait_to_end-answer.new.hooks
+asking g c = c.wait_to_end-answer.ensures.called (call g c).op (call g c).start c.args.hooks.now ([], has_asked_none (call g c), refl)
 
-abbrev left : (g : _) (c : After-wait_to_end g) → Left (call g c)
+abbrev left : (g : _) (c : After-wait_to_end-answer g) → Left (call g c)
 left g c = record {
-  next = Done c.wait_to_end.result;
-  accesses = c.wait_to_end.new.accesses;
-  items = c.wait_to_end.new.seat.me.0;
-  table = c.wait_to_end.new.seat.table_id;
-  tied = c.wait_to_end.ensures.tied;
-  went = (asking g c).0;
+  next = Done c.wait_to_end-answer.result.0;
+  accesses = c.wait_to_end-answer.new.accesses;
+  items = c.wait_to_end-answer.new.seat.me.0;
+  table = c.wait_to_end-answer.new.seat.table_id;
+  tied = c.wait_to_end-answer.ensures.tied;
+  waits = waits_in (call g c).start.config (own_number (call g c).start.items) (call g c).op (asking g c).0.trace;
+  went = ((asking g c).0, refl);
 }
 
-pub wait_to_end-requires-clause-tied : goal.wait_to_end-requires-clause-tied
-wait_to_end-requires-clause-tied g c =
+pub wait_to_end-answer-requires-clause-tied : goal.wait_to_end-answer-requires-clause-tied
+wait_to_end-answer-requires-clause-tied g c =
     is_tied (call_with c.args.op c.self.inside c.args.gates.now.words.config c.args.self.now c.self.view_is c.requires.from.1 c.self.invariant.0
     c.in_ok-admit.field-0 c.in_ok-admit.ensures (g.P.UnderWay.as_phase c.args.first) c.requires.first)
 
 pub invariant_of-self : goal.invariant_of-self
-invariant_of-self g c = (
-  ties_done (call g c) (left g c) c.wait_to_end.result refl,
-  c.wait_to_end.ensures.slots ∙ c.self.invariant.1,
-  room_done (call g c) _ c.requires.other c.self.invariant.2 (left g c) c.wait_to_end.result refl,
-)
+invariant_of-self g c =
+    let d = (goal.at.invariant_of-self g c).After-wait_to_end-answer in (
+      ties_done (call g d) (left g d) c.wait_to_end-answer.result.0 refl,
+      c.wait_to_end-answer.ensures.slots ∙ c.self.invariant.1,
+      room_done (call g d) _ c.requires.other c.self.invariant.2 (left g d) c.wait_to_end-answer.result.0 refl,
+      left_tells (call g d) (left g d) c.wait_to_end-answer.result.1 ((asking g d).2 ∙ ap (λ n. counted n) (sym (add-zero (left g d).waits))),
+    )
 
 pub returns : goal.returns
 returns g c =
-    was_done_asking g.H.TimedHooks.answers the_reply (call g c).op (call g c).start _ c.wait_to_end.result c.wait_to_end.result
-    (sym (told_whole c.wait_to_end.result)) (call g c).admitted c.args.hooks.now c.wait_to_end.new.hooks
-    (ended_asking (call g c) (left g c) g.H.TimedHooks.answers c.args.hooks.now c.wait_to_end.new.hooks c.wait_to_end.result refl (asking g c))
+    let d = (goal.at.returns g c).After-wait_to_end-answer in
+    was_done_asking g.H.TimedHooks.answers the_reply (call g d).op (call g d).start _ c.wait_to_end-answer.result.0 c.wait_to_end-answer.result.0
+    (sym (told_whole c.wait_to_end-answer.result.0)) (call g d).admitted c.args.hooks.now c.wait_to_end-answer.new.hooks
+    c.wait_to_end-answer.result.1
+    (ended_asking (call g d) (left g d) g.H.TimedHooks.answers c.args.hooks.now c.wait_to_end-answer.new.hooks c.wait_to_end-answer.result.0
+    c.wait_to_end-answer.result.1 refl (asking g d))
 
 pub returns-in_err-admit : goal.returns-in_err-admit
 returns-in_err-admit g c = let p = err_from_is_err_and c.from_residual.result c.from_residual.ensures.1 in

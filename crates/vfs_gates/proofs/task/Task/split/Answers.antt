@@ -4,21 +4,25 @@ use Rattle.call_events.specs.Seating.{SeatItems}
 use Rattle.call_events.specs.Ties.{Ties}
 use Rattle.vfs_gates.proofs.Parting.{split_self, split_new, lowest_there, none_begun}
 use Rattle.call_events.specs.Seat.{Seat}
-use Rattle.vfs_gates.specs.TaskStates.{TaskState, task_state, own_view, Empty}
+use Rattle.vfs_gates.specs.TaskStates.{TaskState, task_state, own_number, own_view, Empty}
 use Rattle.vfs_gates.specs.Parts.{SplitOf}
 use Rattle.vfs_gates.proofs.Rooming.{given_unseen, kept_view, room_new, room_same}
 use Rattle.vfs_gates.proofs.Resting.{given_empty}
+use Rattle.vfs_gates.proofs.Waiting.{given_tells, kept_number, tell_same}
 use Rattle.vfs_gates.proofs.task.Task.split.Goals as goal
 
 pub invariant_of-result : goal.invariant_of-result
 invariant_of-result c = let old = c.self.inside in let n : ℕ = c.in-Some.number in let low = c.in-Some.ensures.some in
     let m = split_new old.number old.config old.begins old.kept old.spare old.seat.me.0 n c.none.result c.idle.result c.self.invariant.0
     low.1 low.0 c.none.ensures.unset c.idle.ensures in
-    let given = c.give-seat.ensures.given in (
-      subst (λ (l : SeatItems). Ties n old.config None c.idle.result c.none.result l) (sym (ap (λ z. z.0) given)) m,
+    let given = c.give-seat.ensures.given in
+    let ties = subst (λ (l : SeatItems). Ties n old.config None c.idle.result c.none.result l) (sym (ap (λ z. z.0) given)) m in (
+      ties,
       ap (λ z. z.1) given,
       room_new old.config.nodes _ None c.idle.result.phase c.give-seat.result.me.0 c.in-Ok.ensures.0 c.in-Ok.ensures.1
           (ap (λ z. (own_view z.0).snapshot) given ∙ given_unseen n old.seat.me.0) (ap (λ (k : Seat). k.phase) c.idle.ensures),
+      given_tells n old.config c.idle.result c.none.result n old.seat.me.0 c.give-seat.result.me.0 (ap (λ z. z.0) given) ties
+          (ap (λ (k : Seat). k.phase) c.idle.ensures),
     )
 
 pub invariant_of-self : goal.invariant_of-self
@@ -30,6 +34,9 @@ invariant_of-self c = let old = c.self.inside in let n : ℕ = c.in-Some.number 
       ap (λ z. z.1) kept ∙ c.self.invariant.1,
       room_same old.config.nodes old.rooms old.begins old.kept.phase old.seat.me.0 c.give-seat.new.seat.me.0
           (ap (λ z. own_view z.0) kept ∙ kept_view n old.seat.me.0) c.self.invariant.2,
+      tell_same old.config old.seat.me.0 c.give-seat.new.seat.me.0 old.waited
+          (ap (λ z. own_number z.0) kept ∙ kept_number n old.seat.me.0)
+          (ap (λ z. own_view z.0) kept ∙ kept_view n old.seat.me.0) c.self.invariant.3,
     )
 
 pub returns-clause-made : goal.returns-clause-made

@@ -1,5 +1,5 @@
 -- the fields after an event are what the seat knows after it
-use Rattle.std.proofs.Common.{◌≡◌, ◌∙◌, sym, ap, refl, subst}
+use Rattle.std.proofs.Common.{◌≡◌, ◌+◌, ◌∙◌, sym, ap, refl, subst}
 use Rattle.std.proofs.lemmas.Option.{none-some}
 use Rattle.std.specs.Prelude.{Option, Some, None}
 use Rattle.access_model.specs.declared.replies.Next.{Next}
@@ -15,6 +15,9 @@ use Rattle.access_model.proofs.Mapped.{map_next_same}
 use Rattle.access_model.specs.Replies.{map_next}
 use Rattle.vfs_gates.specs.Room.{RoomTells}
 use Rattle.vfs_gates.proofs.Rooming.{stepped_room}
+use Rattle.vfs_gates.specs.Waits.{counted, is_wait}
+use Rattle.vfs_gates.proofs.Waiting.{noted_tells, since, since_begun, since_going}
+use Rattle.vfs_gates.proofs.task.Task.step.Goals.{then-is_some, else-is_some}
 use Rattle.vfs_gates.proofs.task.Task.step.Goals as goal
 
 pub do_event-action-requires-clause-tied : goal.do_event-action-requires-clause-tied
@@ -35,7 +38,13 @@ invariant_of-self c =
     let next : Next Phase = c.do_event-action.result.next in
     let stands = ap (λ (n : Next Phase). phase_after n) (map_next_same next) ∙ sym (ap (λ p. p.1) c.of-progress.ensures) in
     let tied = c.do_event-action.ensures.tied t.number t.spare
-    (tied_at t.number t.begins t.spare t.seat.me.0 t.kept (Some c.in-Some.phase) c.self.invariant.0 same c.in-Some.is) in (
+    (tied_at t.number t.begins t.spare t.seat.me.0 t.kept (Some c.in-Some.phase) c.self.invariant.0 same c.in-Some.is) in
+    let so_far : c.if-is_some.so_far ≡ since t.begins t.waited = elim c.if-is_some.branch [
+      | then-is_some w ↦ w.so_far-is ∙ sym (since_begun t.begins t.waited (sym c.is_some.ensures ∙ w.if-is_some.true))
+      | else-is_some w ↦ w.so_far-is ∙ sym (since_going t.begins t.waited (sym c.is_some.ensures ∙ w.if-is_some.false))
+    ] in
+    let noted : c.saturating_add-self-inside.result ≡ counted (since t.begins t.waited + is_wait (map_next (λ phase. phase) next)) =
+    c.saturating_add-self-inside.ensures ∙ ((λ i. counted (so_far i + c.waits.ensures i))) in (
       tied_at t.number None t.spare c.do_event-action.new.seat.me.0 (kept_at _ c.do_event-action.new.accesses) c.of-progress.result.1 tied
           (sym same) stands,
       c.do_event-action.ensures.slots ∙ c.self.invariant.1,
@@ -49,6 +58,11 @@ invariant_of-self c =
           c.do_event-action.ensures.stepped
           (subst (λ (o : Option Phase). RoomTells t.config.nodes t.rooms t.begins o t.seat.me.0) c.in-Some.is c.self.invariant.2)
           (λ found some is tells. c.follow.ensures t.config.nodes t.begins c.args.hook found t.seat.me.0 some is tells)),
+      noted_tells same t.begins c.in-Some.phase c.args.hook t.seat.table_id c.do_event-action.new.seat.table_id t.seat.me.0
+          c.do_event-action.new.seat.me.0 c.do_event-action.result.event c.do_event-action.result.action (map_next (λ phase. phase) next)
+          t.number t.waited c.saturating_add-self-inside.result t.kept.accesses t.spare
+          (tied_at t.number t.begins t.spare t.seat.me.0 t.kept (Some c.in-Some.phase) c.self.invariant.0 same c.in-Some.is)
+          c.do_event-action.ensures.stepped c.self.invariant.3 noted,
     )
 
 pub returns-clause-event : goal.returns-clause-event

@@ -1,0 +1,18 @@
+-- What a task keeps of its waits.
+use Rattle.std.specs.Prelude.{◌≡◌, ℕ, Option, Some, None}
+use Rattle.gate_world.specs.Courses.{course_of}
+use Rattle.gate_world.specs.Views.{phase_after}
+use Rattle.gate_world.specs.declared.config.Config.{Config}
+use Rattle.gate_world.specs.declared.operations.Op.{Op}
+use Rattle.gate_world.specs.declared.views.View.{View}
+pub use Rattle.call_events.specs.Waited.{counted, is_wait, waited_at, waits_of}
+
+-- a view stands where the events of its operation have led; one with no operation is idle
+abbrev pub StandsBy : Config → ℕ → View → Option Op → Type 0
+StandsBy c t v None = v.phase ≡ None
+StandsBy c t v (Some op) = v.phase ≡ phase_after (course_of c t op v.trace).comes
+
+-- A number with this view stands where its events have led, and so many of the last operation's that came to a wait are told.
+pub record WaitsTell (c : Config) (t : ℕ) (v : View) (waited : ℕ) : Type 0 where
+  pub stands : StandsBy c t v v.op
+  pub told : waited ≡ counted (waits_of c t v)
