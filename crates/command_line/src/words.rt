@@ -145,7 +145,7 @@ const SUBCOMMANDS: [Subcommand; 4] = [
             ),
             Argument::Flag(
                 DETAILS,
-                "Prints after that what they met: refusals, snapshots' sizes, time",
+                "Prints after that what they met: refusals, waits, snapshots' sizes, time",
             ),
         ],
     },

@@ -132,6 +132,7 @@ fn add_details(
     add(lines, alloc, "busy", u64::from(details.busy))?;
     add(lines, alloc, "again", writes.again)?;
     add(lines, alloc, "callbacks", u64::from(copies.callbacks))?;
+    add(lines, alloc, "waits", details.waits())?;
     if let Some(Sizes { least, most }) = copies.sizes {
         add(lines, alloc, "least_blocks", least)?;
         add(lines, alloc, "most_blocks", most)?;

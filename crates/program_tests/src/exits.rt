@@ -91,7 +91,14 @@ fn are_counts<R: Abort>(rt: &R, lines: &str, names: &[&str]) {
 
 #[test]
 fn details_follow_what_a_run_counted(rt: HostRuntime) -> Result<(), Fail> {
-    let met = ["granted", "read_only", "busy", "again", "callbacks"];
+    let met = [
+        "granted",
+        "read_only",
+        "busy",
+        "again",
+        "callbacks",
+        "waits",
+    ];
     let sizes = ["least_blocks", "most_blocks"];
     let times = ["milliseconds", "rounds_a_second"];
     for (line, counted, granted, sizes) in [

@@ -36,6 +36,33 @@ fn ends(task: &mut Task, gates: &Gates) -> bool
         && task.step(gates, Ok(())).progress == Progress::Idle
 }
 
+/// Whether a snapshot waits twice for `umount`, and tells so after each event.
+fn waits(task: &mut Task, gates: &Gates) -> bool
+    requires { IsFrom task.old gates.now }
+    ensures { IsFrom task.new gates.now }
+{
+    task.begin(Op::Snapshot { wait: true }).is_ok()
+        && task.waited() == 0
+        && task.step(gates, Ok(())).progress == Progress::Waiting
+        && task.waited() == 1
+        && task.step(gates, Ok(())).progress == Progress::Waiting
+        && task.waited() == 2
+}
+
+/// Whether it finds nothing frozen once it has `umount`, and still tells these two waits, and the next call none.
+fn ends_after_waits(task: &mut Task, gates: &Gates) -> bool
+    requires { IsFrom task.old gates.now }
+    ensures { IsFrom task.new gates.now }
+{
+    let invalid = Err(GateError::Invalid);
+    task.step(gates, Ok(())).progress == Progress::Going
+        && task.step(gates, Ok(())).progress == Progress::Going
+        && task.step(gates, Ok(())).progress == Progress::Done(invalid)
+        && task.waited() == 2
+        && task.try_snapshot(gates).is_err()
+        && task.waited() == 0
+}
+
 #[test]
 fn a_task_goes_by_steps(rt: HostRuntime) -> Result<(), Fail> {
     let (gates, mut task) = open(rt.alloc(), small(2))?;
@@ -44,7 +71,9 @@ fn a_task_goes_by_steps(rt: HostRuntime) -> Result<(), Fail> {
     let Err((GateError::Order, mut other)) = task.join(&gates, other) else {
         panic!(rt; "joined while an operation is under way")
     };
+    assert!(rt; waits(&mut task, &gates));
     assert!(rt; ends(&mut other, &gates));
+    assert!(rt; ends_after_waits(&mut task, &gates));
     assert!(rt; task.join(&gates, other).is_ok());
     Ok(())
 }

@@ -358,6 +358,10 @@ impl Task {
         self.task.has_open(node)
     }
 
+    pub fn waited(&self) -> u64 {
+        self.task.waited()
+    }
+
     pub fn tree(&self) -> Option<&Tree> {
         self.task.tree()
     }
