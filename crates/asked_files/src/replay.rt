@@ -6,8 +6,8 @@ ghost use Rattle.transcripts.specs.Replayed.{Replayed};
 
 use endings::fault_told;
 use explained_faults::explanation;
-use replays::replay::replay_to_end;
 use replays::Driver;
+use replays::replay::replay_to_end;
 use schedule_bytes::{ReplayFault, fault_after};
 use shown_events::{Form, Show};
 use std::alloc::Global;

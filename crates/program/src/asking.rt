@@ -176,7 +176,9 @@ fn replay_as<I: Read, W: Write, E: Write>(
 {
     let form = match asked.form {
         Form::Plain if asked.over_gates => {
-            return match replay_told::<GatesDriver, I, W, E>(alloc, telling, reader, writer, errors) {
+            return match replay_told::<GatesDriver, I, W, E>(
+                alloc, telling, reader, writer, errors,
+            ) {
                 Ok(()) => Ending::DoneOverGates,
                 Err(_) => Ending::Refused,
             };

@@ -33,11 +33,7 @@ pub struct Progress<'r, R> {
 
 impl<'r, R: Clock> Progress<'r, R> {
     /// That of a run which begins now. The clock's error, where it can't be read.
-    pub fn new(
-        rt: &'r R,
-        asked: Numbers,
-        errors: Stderr,
-    ) -> Result<Progress<'r, R>, io::Error> {
+    pub fn new(rt: &'r R, asked: Numbers, errors: Stderr) -> Result<Progress<'r, R>, io::Error> {
         Ok(Progress {
             rt,
             start: Instant::now(rt)?,
