@@ -29,9 +29,7 @@ fn ends(task: &mut Task, gates: &Gates) -> bool
 {
     let looks = task.step(gates, Err(4));
     let ends = task.step(gates, Err(4));
-    looks
-        .event
-        .is_some_and(|event| event.word == WordName::SbFlags)
+    matches!(looks.event, Some(event) if event.word == WordName::SbFlags)
         && matches!(ends.progress, Progress::Done(Ok(_)))
         && task.step(gates, Ok(())).progress == Progress::Idle
 }
@@ -71,9 +69,9 @@ fn a_task_goes_by_steps(rt: HostRuntime) -> Result<(), Fail> {
     let Err((GateError::Order, mut other)) = task.join(&gates, other) else {
         panic!(rt; "joined while an operation is under way")
     };
-    assert!(rt; waits(&mut task, &gates));
-    assert!(rt; ends(&mut other, &gates));
-    assert!(rt; ends_after_waits(&mut task, &gates));
-    assert!(rt; task.join(&gates, other).is_ok());
+    let tells = waits(&mut task, &gates)
+        && ends(&mut other, &gates)
+        && ends_after_waits(&mut task, &gates);
+    assert!(rt; tells && task.join(&gates, other).is_ok());
     Ok(())
 }
