@@ -12,8 +12,7 @@ mod tasks;
 mod threads;
 mod two;
 
-use access_model::{GateError, Holder};
-use freeze_levels::FsHooks;
+use access_model::Holder;
 use gate_world::Config;
 use std::sync::Wait;
 use tasks::{Gates, Task};
@@ -29,38 +28,12 @@ fn small(tasks: u8) -> Config {
     }
 }
 
-/// A freeze of a file system, which user space holds.
-fn freeze<R: Wait, H: FsHooks>(
-    task: &mut Task,
-    rt: &R,
-    gates: &Gates,
-    hooks: &mut H,
-) -> Result<(), GateError>
-    requires { IsFrom task.old gates.now }
-    ensures { IsFrom task.new gates.now }
-{
-    task.freeze(rt, gates, Holder::User, hooks)
-}
-
-/// A thaw of what user space holds.
-fn thaw<R: Wait, H: FsHooks>(
-    task: &mut Task,
-    rt: &R,
-    gates: &Gates,
-    hooks: &mut H,
-) -> Result<(), GateError>
-    requires { IsFrom task.old gates.now }
-    ensures { IsFrom task.new gates.now }
-{
-    task.thaw(rt, gates, Holder::User, hooks)
-}
-
 /// Whether a task freezes a file system that agrees.
 fn freezes<R: Wait>(task: &mut Task, rt: &R, gates: &Gates) -> bool
     requires { IsFrom task.old gates.now }
     ensures { IsFrom task.new gates.now }
 {
-    freeze(task, rt, gates, &mut ()).is_ok()
+    task.freeze(rt, gates, Holder::User, &mut ()).is_ok()
 }
 
 /// Whether a task thaws a file system that agrees.
@@ -68,5 +41,5 @@ fn thaws<R: Wait>(task: &mut Task, rt: &R, gates: &Gates) -> bool
     requires { IsFrom task.old gates.now }
     ensures { IsFrom task.new gates.now }
 {
-    thaw(task, rt, gates, &mut ()).is_ok()
+    task.thaw(rt, gates, Holder::User, &mut ()).is_ok()
 }

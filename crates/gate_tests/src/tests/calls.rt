@@ -1,11 +1,13 @@
 //! Each public call as its user makes it, by tasks of one thread: calls, and what they answer, as a schedule has them.
 
 use super::small;
-use super::two::{Two, closed, not_closed};
+use super::two::{Two, closed, closed_after, not_closed};
 use access_model::Gate;
 use cpu_words::WordName;
 use gate_world::Config;
 use gated_tree::Tree;
+use std::alloc::Global;
+use std::sync::Wait;
 use std::test::Fail;
 use vfs_gates::Closed;
 
@@ -35,9 +37,7 @@ fn is_left(closed: &Closed) -> bool {
 
 #[test]
 fn gates_are_opened_shared_and_closed(rt: HostRuntime) -> Result<(), Fail> {
-    let mut two = Two::open(rt.alloc(), small(2))?;
-    two.answer(&rt, CALLS.0, CALLS.1, &mut ())?;
-    assert!(rt; is_left(&closed(two)?));
+    assert!(rt; is_left(&closed_after(&rt, small(2), CALLS)?));
     Ok(())
 }
 
@@ -65,10 +65,10 @@ fn files_come_and_go_and_are_copied(rt: HostRuntime) -> Result<(), Fail> {
         nodes: 4,
         ..small(2)
     };
-    let mut two = Two::open(rt.alloc(), config)?;
-    two.answer(&rt, FILES.0, FILES.1, &mut ())?;
-    assert!(rt; two.one.tree().is_some_and(has_both));
-    assert_eq!(rt; closed(two)?.word(WordName::Used), Some(5));
+    let two = Two::after(&rt, config, FILES)?;
+    let has_copied = matches!(two.one.tree(), Some(tree) if has_both(tree));
+    let used = closed(two)?.word(WordName::Used);
+    assert_eq!(rt; (has_copied, used), (true, Some(5)));
     Ok(())
 }
 
@@ -125,9 +125,8 @@ static HOLDERS: (&str, &str) = (
 
 #[test]
 fn all_stays_frozen_until_both_holders_thaw(rt: HostRuntime) -> Result<(), Fail> {
-    let mut two = Two::open(rt.alloc(), small(2))?;
-    two.answer(&rt, HOLDERS.0, HOLDERS.1, &mut ())?;
-    assert_eq!(rt; closed(two)?.word(WordName::Holders), Some(0));
+    let closed = closed_after(&rt, small(2), HOLDERS)?;
+    assert_eq!(rt; closed.word(WordName::Holders), Some(0));
     Ok(())
 }
 
@@ -146,21 +145,19 @@ static OPENS: (&str, &str) = (
 
 /// Whether a snapshot has the removed file, of which the blocks are charged, and which is nobody's child.
 fn has_the_removed_file(tree: &Tree) -> bool {
-    let file = tree.node(1);
     tree.is_sound()
         && tree.is_clean()
         && tree.kids(0) == 0
-        && file.is_some_and(|file| file.removed && file.size == 5)
+        && matches!(tree.node(1), Some(file) if file.removed && file.size == 5)
 }
 
 #[test]
 fn a_removed_file_is_there_until_its_last_close(rt: HostRuntime) -> Result<(), Fail> {
-    let mut two = Two::open(rt.alloc(), small(2))?;
-    two.answer(&rt, OPENS.0, OPENS.1, &mut ())?;
-    assert!(rt; two.one.tree().is_some_and(has_the_removed_file));
+    let two = Two::after(&rt, small(2), OPENS)?;
+    let has_copied = matches!(two.one.tree(), Some(tree) if has_the_removed_file(tree));
     let closed = closed(two)?;
-    assert_eq!(rt; closed.word(WordName::Removed), Some(0));
-    assert_eq!(rt; closed.word(WordName::Used), Some(0));
+    let left = (closed.word(WordName::Removed), closed.word(WordName::Used));
+    assert_eq!(rt; (has_copied, left), (true, (Some(0), Some(0))));
     Ok(())
 }
 
@@ -170,14 +167,29 @@ static KEPT_OPEN: (&str, &str) = (
     "0 ok\n0 ok node 1\n0 ok\n0 ok\n0 ok\n",
 );
 
+/// The gates, closed, once this line of a schedule is done, and not before, while the first task or the second one has the file open.
+fn closed_once<R: Wait + Alloc<A = Global>>(
+    rt: &R,
+    opened: (&str, &str),
+    close: &str,
+    done: &str,
+) -> Result<Closed, Fail> {
+    let mut two = not_closed(Two::after(rt, small(2), opened)?)?;
+    let is_second = match &two.other {
+        Some(other) => other.has_open(1),
+        None => false,
+    };
+    if two.one.has_open(1) == is_second {
+        return Err(Fail::new("not open"));
+    }
+    two.answer(rt, close, done, &mut ())?;
+    closed(two)
+}
+
 #[test]
 fn gates_with_a_file_open_are_not_closed(rt: HostRuntime) -> Result<(), Fail> {
-    let mut two = Two::open(rt.alloc(), small(2))?;
-    two.answer(&rt, KEPT_OPEN.0, KEPT_OPEN.1, &mut ())?;
-    let mut two = not_closed(two)?;
-    assert!(rt; two.one.has_open(1));
-    two.answer(&rt, "0 tryclose 1 0\n", "0 ok\n", &mut ())?;
-    assert_eq!(rt; closed(two)?.word(WordName::Used), Some(5));
+    let closed = closed_once(&rt, KEPT_OPEN, "0 tryclose 1 0\n", "0 ok\n")?;
+    assert_eq!(rt; closed.word(WordName::Used), Some(5));
     Ok(())
 }
 
@@ -189,11 +201,7 @@ static OPENED_TOO: (&str, &str) = (
 
 #[test]
 fn a_task_with_a_file_open_is_not_joined(rt: HostRuntime) -> Result<(), Fail> {
-    let mut two = Two::open(rt.alloc(), small(2))?;
-    two.answer(&rt, OPENED_TOO.0, OPENED_TOO.1, &mut ())?;
-    let mut two = not_closed(two)?;
-    assert!(rt; two.other.is_some());
-    two.answer(&rt, "1 close 1 0\n", "1 ok\n", &mut ())?;
-    closed(two)?;
+    let closed = closed_once(&rt, OPENED_TOO, "1 close 1 0\n", "1 ok\n")?;
+    assert_eq!(rt; closed.word(WordName::Used), Some(0));
     Ok(())
 }

@@ -2,13 +2,13 @@
 
 ghost use Rattle.gate_tests.specs.Origins.{IsFrom};
 
-use super::hooks::{FailsAt, Question};
+use super::hooks::{FailsAt, Hooks};
 use super::tasks::{Gates, Task, open};
 use super::{freezes, small, thaws};
 use access_model::{GateError, Holder};
 use cpu_words::{Event, WordName};
 use crossbeam_utils::Backoff;
-use freeze_levels::FsHooks;
+use freeze_levels::{FsHooks, HookCall};
 use gate_core::Progress;
 use gate_world::Op;
 use std::sync::Wait;
@@ -57,12 +57,12 @@ fn shut_and_see<R: Wait, H: FsHooks>(
         let step = task.step(gates, hook);
         if let Some(
             Event {
-                word: WordName::Stage | WordName::Removed | WordName::MountCount(_, _),
+                word: word @ (WordName::Stage | WordName::Removed | WordName::MountCount(_, _)),
                 ..
             },
         ) = step.event
         {
-            seen = step.event.map(|event| event.word);
+            seen = Some(word);
         }
         match step.progress {
             Progress::Done(Err(GateError::Busy)) => return Ok(seen),
@@ -136,13 +136,15 @@ fn take<R: Wait, H: FsHooks>(
     Err(GateError::Invalid)
 }
 
-/// Whether a remount is busy for the access that another task took with the second processor, each time.
-fn meets_an_access<R: Wait>(task: &mut Task, rt: &R, gates: &Gates) -> bool
-    requires { IsFrom task.old gates.now }
-    ensures { IsFrom task.new gates.now }
+/// Whether a remount is busy for the access that another task takes with the second processor, each time.
+fn meets_an_access<R: Wait>(task: &mut Task, other: &mut Task, rt: &R, gates: &Gates) -> bool
+    requires { IsFrom task.old gates.now × IsFrom other.old gates.now }
+    ensures { IsFrom task.new gates.now × IsFrom other.new gates.now }
 {
-    shut(rt, gates, task, &mut (), 3) == Err(GateError::Busy)
+    other.want(rt, gates, 0, 1).is_ok()
+        && shut(rt, gates, task, &mut (), 3) == Err(GateError::Busy)
         && shut_and_see(rt, gates, task, &mut ()) == Ok(Some(WordName::MountCount(0, 1)))
+        && other.drop_mount(gates, 0, 0).is_ok()
 }
 
 /// Whether a remount is busy for what is frozen, and is done when that is thawed by the other task.
@@ -160,10 +162,9 @@ fn meets_a_freeze<R: Wait>(task: &mut Task, other: &mut Task, rt: &R, gates: &Ga
 fn a_busy_remount_tells_what_was_in_the_way(rt: HostRuntime) -> Result<(), Fail> {
     let (gates, mut task) = open(rt.alloc(), small(2))?;
     let mut other = task.split(rt.alloc(), &gates)?;
-    assert_eq!(rt; other.want(&rt, &gates, 0, 1), Ok(()));
-    assert!(rt; meets_an_access(&mut task, &rt, &gates));
-    assert_eq!(rt; other.drop_mount(&gates, 0, 0), Ok(()));
-    assert!(rt; meets_a_freeze(&mut other, &mut task, &rt, &gates));
+    let has_told = meets_an_access(&mut task, &mut other, &rt, &gates)
+        && meets_a_freeze(&mut other, &mut task, &rt, &gates);
+    assert!(rt; has_told);
     Ok(())
 }
 
@@ -184,8 +185,8 @@ fn is_refused<R: Wait>(task: &mut Task, rt: &R, gates: &Gates) -> bool
     requires { IsFrom task.old gates.now }
     ensures { IsFrom task.new gates.now }
 {
-    let mut fails = FailsAt::new(Question::FreezeFs, 16);
-    back_up(rt, gates, task, &mut fails) == Err(GateError::Hook(16))
+    let file_system = &FailsAt::new(HookCall::FreezeFs, 16);
+    back_up(rt, gates, task, &mut Hooks { file_system }) == Err(GateError::Hook(16))
         && task.tree().is_none()
         && task.callback(rt, gates, 1) == Ok(true)
         && task.callback(rt, gates, 1) == Ok(false)
@@ -195,16 +196,18 @@ fn is_refused<R: Wait>(task: &mut Task, rt: &R, gates: &Gates) -> bool
 fn a_backup_takes_what_another_froze(rt: HostRuntime) -> Result<(), Fail> {
     let (gates, mut task) = open(rt.alloc(), small(2))?;
     let mut other = task.split(rt.alloc(), &gates)?;
-    assert!(rt; backs_up_anothers(&mut other, &mut task, &rt, &gates));
-    assert!(rt; is_refused(&mut task, &rt, &gates));
+    let is_well = backs_up_anothers(&mut other, &mut task, &rt, &gates)
+        && is_refused(&mut task, &rt, &gates);
+    assert!(rt; is_well);
     Ok(())
 }
 
 #[test]
 fn a_snapshot_freezes_where_nothing_is_frozen(rt: HostRuntime) -> Result<(), Fail> {
     let (gates, mut task) = open(rt.alloc(), small(1))?;
-    assert_eq!(rt; task.snapshot(&rt, &gates), Err(GateError::Invalid));
-    assert_eq!(rt; take(&rt, &gates, &mut task, &mut (), 2), Ok(()));
-    assert!(rt; task.tree().is_some());
+    let early = task.snapshot(&rt, &gates);
+    let taken = take(&rt, &gates, &mut task, &mut (), 2);
+    let seen = (early, taken, task.tree().is_some());
+    assert_eq!(rt; seen, (Err(GateError::Invalid), Ok(()), true));
     Ok(())
 }

@@ -3,70 +3,70 @@
 
 use super::small;
 use super::two::Two;
-use freeze_levels::FsHooks;
+use freeze_levels::{FsHooks, HookCall};
 use std::alloc::Global;
 use std::sync::Wait;
+use std::sync::atomic::{AtomicU64, Ordering};
 use std::test::Fail;
 
-/// A question that a call asks the file system.
-#[derive(Clone, Copy, PartialEq, Eq)]
-pub(super) enum Question {
-    Sync,
-    FreezeFs,
-    UnfreezeFs,
-    ToReadOnly,
-    ToWritable,
+/// A file system that answers whatever it is asked by one function, which threads may share.
+pub(super) trait FileSystem: Drop {
+    fn answer(&self, call: HookCall) -> Result<(), u16>;
 }
 
-/// A file system that fails at one question with this code. It agrees to `sync` where it fails at `freeze_fs`, and fails at any other with
-/// another code.
+/// The hooks of such a file system.
 #[derive(Drop)]
-pub(super) struct FailsAt {
-    question: Question,
-    code: u16,
-    asked: u8,
+pub(super) struct Hooks<'f, F: FileSystem> {
+    pub(super) file_system: &'f F,
 }
 
-impl FailsAt {
-    pub(super) fn new(question: Question, code: u16) -> FailsAt {
-        FailsAt {
-            question,
-            code,
-            asked: 0,
-        }
-    }
-
-    fn answer(&mut self, question: Question) -> Result<(), u16> {
-        self.asked = self.asked.saturating_add(1);
-        if question == self.question {
-            return Err(self.code);
-        }
-        if question == Question::Sync && self.question == Question::FreezeFs {
-            return Ok(());
-        }
-        Err(self.code ^ 1)
-    }
-}
-
-impl FsHooks for FailsAt {
+impl<F: FileSystem> FsHooks for Hooks<'_, F> {
     fn sync(&mut self) -> Result<(), u16> {
-        self.answer(Question::Sync)
+        self.file_system.answer(HookCall::Sync)
     }
 
     fn freeze_fs(&mut self) -> Result<(), u16> {
-        self.answer(Question::FreezeFs)
+        self.file_system.answer(HookCall::FreezeFs)
     }
 
     fn unfreeze_fs(&mut self) -> Result<(), u16> {
-        self.answer(Question::UnfreezeFs)
+        self.file_system.answer(HookCall::UnfreezeFs)
     }
 
     fn reconfigure(&mut self, read_only: bool) -> Result<(), u16> {
-        self.answer(if read_only {
-            Question::ToReadOnly
+        self.file_system.answer(HookCall::Reconfigure { read_only })
+    }
+}
+
+/// A file system that fails at one question with this code. It agrees to `sync` where it fails at `freeze_fs`, and fails at any other with
+/// another code. It counts how often it is asked.
+#[derive(Drop)]
+pub(super) struct FailsAt {
+    question: HookCall,
+    code: u16,
+    asked: AtomicU64,
+}
+
+impl FailsAt {
+    pub(super) fn new(question: HookCall, code: u16) -> FailsAt {
+        FailsAt {
+            question,
+            code,
+            asked: AtomicU64::new(0),
+        }
+    }
+}
+
+impl FileSystem for FailsAt {
+    fn answer(&self, call: HookCall) -> Result<(), u16> {
+        self.asked.fetch_add(1, Ordering::SeqCst);
+        if call == self.question {
+            Err(self.code)
+        } else if call == HookCall::Sync && self.question == HookCall::FreezeFs {
+            Ok(())
         } else {
-            Question::ToWritable
-        })
+            Err(self.code ^ 1)
+        }
     }
 }
 
@@ -87,14 +87,14 @@ const READ_ONLY: &str =
 
 /// A call that fails at a question.
 struct Failure {
-    question: Question,
+    question: HookCall,
     /// The code that it is answered.
     code: u16,
     call: &'static str,
     /// What the call prints that is refused.
     refused: &'static str,
     /// How often it has asked by then.
-    asked: u8,
+    asked: u64,
     /// What tries answer before it, and after it is done.
     before: &'static str,
     after: &'static str,
@@ -107,13 +107,18 @@ fn fails_and_is_done_again<R: Wait + Alloc<A = Global>>(
     two: &mut Two,
     failure: &Failure,
 ) -> Result<(), Fail> {
-    let mut hooks = FailsAt::new(failure.question, failure.code);
+    let file_system = &FailsAt::new(failure.question, failure.code);
     two.answer(rt, TRIES, failure.before, &mut ())?;
-    two.answer(rt, failure.call, failure.refused, &mut hooks)?;
+    two.answer(
+        rt,
+        failure.call,
+        failure.refused,
+        &mut Hooks { file_system },
+    )?;
     two.answer(rt, TRIES, failure.before, &mut ())?;
     two.answer(rt, failure.call, "0 ok\n", &mut ())?;
     two.answer(rt, TRIES, failure.after, &mut ())?;
-    if hooks.asked == failure.asked {
+    if file_system.asked.load(Ordering::SeqCst) == failure.asked {
         Ok(())
     } else {
         Err(Fail::new(failure.call))
@@ -123,7 +128,7 @@ fn fails_and_is_done_again<R: Wait + Alloc<A = Global>>(
 /// Calls that fail, in a row. 16 is EBUSY's number.
 static FAILURES: [Failure; 6] = [
     Failure {
-        question: Question::Sync,
+        question: HookCall::Sync,
         code: 16,
         call: "0 freeze\n",
         refused: "0 refused hook 16\n",
@@ -132,7 +137,7 @@ static FAILURES: [Failure; 6] = [
         after: FROZEN,
     },
     Failure {
-        question: Question::UnfreezeFs,
+        question: HookCall::UnfreezeFs,
         code: 0,
         call: "0 thaw\n",
         refused: "0 refused hook 0\n",
@@ -141,7 +146,7 @@ static FAILURES: [Failure; 6] = [
         after: OPEN,
     },
     Failure {
-        question: Question::FreezeFs,
+        question: HookCall::FreezeFs,
         code: u16::MAX,
         call: "0 freeze\n",
         refused: "0 refused hook 65535\n",
@@ -150,7 +155,7 @@ static FAILURES: [Failure; 6] = [
         after: FROZEN,
     },
     Failure {
-        question: Question::UnfreezeFs,
+        question: HookCall::UnfreezeFs,
         code: 1,
         call: "0 thaw\n",
         refused: "0 refused hook 1\n",
@@ -159,7 +164,7 @@ static FAILURES: [Failure; 6] = [
         after: OPEN,
     },
     Failure {
-        question: Question::ToReadOnly,
+        question: HookCall::Reconfigure { read_only: true },
         code: 5,
         call: "0 remount ro\n",
         refused: "0 refused hook 5\n",
@@ -168,7 +173,7 @@ static FAILURES: [Failure; 6] = [
         after: READ_ONLY,
     },
     Failure {
-        question: Question::ToWritable,
+        question: HookCall::Reconfigure { read_only: false },
         code: 30,
         call: "0 remount rw\n",
         refused: "0 refused hook 30\n",
@@ -227,9 +232,9 @@ fn answer_unasked<R: Wait + Alloc<A = Global>>(
     calls: &str,
     answers: &str,
 ) -> Result<(), Fail> {
-    let mut hooks = FailsAt::new(Question::Sync, 5);
-    two.answer(rt, calls, answers, &mut hooks)?;
-    if hooks.asked == 0 {
+    let file_system = &FailsAt::new(HookCall::Sync, 5);
+    two.answer(rt, calls, answers, &mut Hooks { file_system })?;
+    if file_system.asked.load(Ordering::SeqCst) == 0 {
         Ok(())
     } else {
         Err(Fail::new(calls))

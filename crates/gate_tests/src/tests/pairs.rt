@@ -3,6 +3,8 @@
 ghost use Rattle.vfs_gates.specs.TaskStates.{IsFrom, IsIdle};
 
 use super::small;
+use std::alloc::Global;
+use std::fmt::Debug;
 use std::sync::Wait;
 use std::test::Fail;
 use vfs_gates::{GateError, Gates, Holder, Kind, Task};
@@ -53,24 +55,34 @@ fn shows_its_tree<R: Wait>(task: &mut Task, rt: &R, gates: &Gates) -> bool
 #[test]
 fn what_is_taken_for_a_closure_is_given_back(rt: HostRuntime) -> Result<(), Fail> {
     let (gates, mut task) = Gates::new(rt.alloc(), small(1))?;
-    assert!(rt; writes_inside(&mut task, &rt, &gates));
-    assert!(rt; copies_inside(&mut task, &rt, &gates));
-    assert!(rt; shows_its_tree(&mut task, &rt, &gates));
-    assert!(rt; gates.close(task).is_ok());
+    let is_well = writes_inside(&mut task, &rt, &gates)
+        && copies_inside(&mut task, &rt, &gates)
+        && shows_its_tree(&mut task, &rt, &gates);
+    assert!(rt; is_well && gates.close(task).is_ok());
     Ok(())
+}
+
+/// That a value shows itself so, to begin with.
+fn shows<D: Debug>(alloc: Global, shown: &D, beginning: &str) -> Result<(), Fail> {
+    let text = format!(in alloc; "{shown:?}")?;
+    if text.starts_with(beginning) {
+        Ok(())
+    } else {
+        Err(Fail::new(beginning))
+    }
 }
 
 #[test]
 fn gates_and_tasks_show_themselves(rt: HostRuntime) -> Result<(), Fail> {
     let (gates, task) = Gates::new(rt.alloc(), small(1))?;
-    let shown = format!(in rt.alloc(); "{task:?}")?;
-    assert!(rt; shown.starts_with("Task { number: 0, under_way: false, accesses: Accesses { "));
-    let shown = format!(in rt.alloc(); "{gates:?}")?;
-    assert!(rt; shown.starts_with("Gates { config: Config { tasks: 1"));
-    let Ok(closed) = gates.close(task) else {
-        panic!(rt; "not closed")
-    };
-    let shown = format!(in rt.alloc(); "{closed:?}")?;
-    assert!(rt; shown.starts_with("Closed { config: Config { tasks: 1"));
-    Ok(())
+    shows(
+        rt.alloc(),
+        &task,
+        "Task { number: 0, under_way: false, accesses: Accesses { ",
+    )?;
+    shows(rt.alloc(), &gates, "Gates { config: Config { tasks: 1")?;
+    match gates.close(task) {
+        Ok(closed) => shows(rt.alloc(), &closed, "Closed { config: Config { tasks: 1"),
+        Err(_) => Err(Fail::new("not closed")),
+    }
 }

@@ -29,9 +29,7 @@ fn ends(task: &mut Task, gates: &Gates) -> bool
 {
     let looks = task.step(gates, Err(4));
     let ends = task.step(gates, Err(4));
-    looks
-        .event
-        .is_some_and(|event| event.word == WordName::SbFlags)
+    matches!(looks.event, Some(event) if event.word == WordName::SbFlags)
         && matches!(ends.progress, Progress::Done(Ok(_)))
         && task.step(gates, Ok(())).progress == Progress::Idle
 }
@@ -44,7 +42,6 @@ fn a_task_goes_by_steps(rt: HostRuntime) -> Result<(), Fail> {
     let Err((GateError::Order, mut other)) = task.join(&gates, other) else {
         panic!(rt; "joined while an operation is under way")
     };
-    assert!(rt; ends(&mut other, &gates));
-    assert!(rt; task.join(&gates, other).is_ok());
+    assert!(rt; ends(&mut other, &gates) && task.join(&gates, other).is_ok());
     Ok(())
 }

@@ -56,34 +56,9 @@ pub fn close(gates: Gates, task: Task) -> Result<Closed, (GateError, Gates, Task
     ensures gates { IfErr result (λ e. e.1 ≡ gates) }
     ensures task { IfErr result (λ e. IsFrom e.2 e.1) }
 {
-    gates.gates.close(task.task).map_err(|(refusal, gates, task)| (
-        refusal,
-        Gates { gates },
-        Task { task },
-    ))
-}
-
-/// What an operation answers that is done or refused.
-fn done(answer: Result<(), GateError>) -> Result<Reply, GateError> {
-    match answer {
-        Ok(()) => Ok(Reply::Unit),
-        Err(refusal) => Err(refusal),
-    }
-}
-
-/// What a callback answers.
-fn ran(answer: Result<bool, GateError>) -> Result<Reply, GateError> {
-    match answer {
-        Ok(has_run) => Ok(Reply::Ran(has_run)),
-        Err(refusal) => Err(refusal),
-    }
-}
-
-/// What a create answers.
-fn made(answer: Result<u8, GateError>) -> Result<Reply, GateError> {
-    match answer {
-        Ok(node) => Ok(Reply::Node(node)),
-        Err(refusal) => Err(refusal),
+    match gates.gates.close(task.task) {
+        Ok(closed) => Ok(closed),
+        Err((refusal, gates, task)) => Err((refusal, Gates { gates }, Task { task })),
     }
 }
 
@@ -333,9 +308,10 @@ impl Task {
         ensures new { IsFrom self.new gates.now }
         ensures other { IfErr result (λ e. IsFrom e.1 gates.now) }
     {
-        self.task
-            .join(&gates.gates, other.task)
-            .map_err(|(refusal, task)| (refusal, Task { task }))
+        match self.task.join(&gates.gates, other.task) {
+            Ok(()) => Ok(()),
+            Err((refusal, task)) => Err((refusal, Task { task })),
+        }
     }
 
     pub fn number(&self) -> u8 {
@@ -344,14 +320,6 @@ impl Task {
 
     pub fn is_idle(&self) -> bool {
         self.task.is_idle()
-    }
-
-    pub fn holds_mount(&self, mount: u8) -> u16 {
-        self.task.holds_mount(mount)
-    }
-
-    pub fn holds_level(&self, level: u8) -> bool {
-        self.task.holds_level(level)
     }
 
     pub fn has_open(&self, node: u8) -> bool {
@@ -379,7 +347,7 @@ impl Task {
         self.task.step(&gates.gates, hook)
     }
 
-    /// The call that makes an operation, of a task or of the superblock.
+    /// The call that makes an operation.
     pub fn call<R: Wait, H: FsHooks>(
         &mut self,
         rt: &R,
@@ -391,27 +359,36 @@ impl Task {
         ensures { IsFrom self.new gates.now }
     {
         match op {
-            Op::RemountSb { read_only } => done(self.remount_sb(rt, gates, read_only, hooks)),
-            Op::Freeze { holder } => done(self.freeze(rt, gates, holder, hooks)),
-            Op::Thaw { holder } => done(self.thaw(rt, gates, holder, hooks)),
-            Op::Callback { level } => ran(self.callback(rt, gates, level)),
-            Op::Snapshot { wait } => self.call_snapshot(rt, gates, wait),
-            Op::Want { .. } | Op::Start { .. } | Op::ChangeMount { .. } | Op::WantWrite { .. } => {
-                self.call_at_gates(rt, gates, op)
+            Op::Callback { level } => return Ok(Reply::Ran(self.callback(rt, gates, level)?)),
+            Op::Create { dir, kind } => return Ok(Reply::Node(self.create(gates, dir, kind)?)),
+            Op::Snapshot { wait: true } => {
+                self.snapshot(rt, gates)?;
+                return Ok(Reply::Tree);
             }
-            Op::DropMount { mount, cpu } => done(self.drop_mount(gates, mount, cpu)),
-            Op::End { level, cpu } => done(self.end(gates, level, cpu)),
-            Op::DropWrite { mount, cpu } => done(self.drop_write(gates, mount, cpu)),
-            _ => self.call_at_tree(rt, gates, op),
+            Op::Snapshot { .. } => {
+                self.try_snapshot(gates)?;
+                return Ok(Reply::Tree);
+            }
+            Op::RemountSb { read_only } => self.remount_sb(rt, gates, read_only, hooks)?,
+            Op::Freeze { holder } => self.freeze(rt, gates, holder, hooks)?,
+            Op::Thaw { holder } => self.thaw(rt, gates, holder, hooks)?,
+            Op::Want { .. } | Op::Start { .. } | Op::ChangeMount { .. } | Op::WantWrite { .. } => {
+                self.call_at_gates(rt, gates, op)?;
+            }
+            Op::DropMount { mount, cpu } => self.drop_mount(gates, mount, cpu)?,
+            Op::End { level, cpu } => self.end(gates, level, cpu)?,
+            Op::DropWrite { mount, cpu } => self.drop_write(gates, mount, cpu)?,
+            _ => self.call_at_tree(rt, gates, op)?,
         }
+        Ok(Reply::Unit)
     }
 
     /// One that takes an access, or changes a mount.
-    fn call_at_gates<R: Wait>(&mut self, rt: &R, gates: &Gates, op: Op) -> Result<Reply, GateError>
+    fn call_at_gates<R: Wait>(&mut self, rt: &R, gates: &Gates, op: Op) -> Result<(), GateError>
         requires { IsFrom self.old gates.now }
         ensures { IsFrom self.new gates.now }
     {
-        done(match op {
+        match op {
             Op::Want {
                 mount,
                 cpu,
@@ -436,18 +413,15 @@ impl Task {
             } => self.try_change_mount(gates, mount, read_only),
             Op::WantWrite { mount, cpu } => self.want_write(rt, gates, mount, cpu),
             _ => Err(GateError::Invalid),
-        })
+        }
     }
 
-    /// One at the tree.
-    fn call_at_tree<R: Wait>(&mut self, rt: &R, gates: &Gates, op: Op) -> Result<Reply, GateError>
+    /// One at the tree that makes no node.
+    fn call_at_tree<R: Wait>(&mut self, rt: &R, gates: &Gates, op: Op) -> Result<(), GateError>
         requires { IsFrom self.old gates.now }
         ensures { IsFrom self.new gates.now }
     {
-        done(match op {
-            Op::Create { dir, kind } => {
-                return made(self.create(gates, dir, kind));
-            }
+        match op {
             Op::Remove { file } => self.remove(gates, file),
             Op::Grow { file, blocks } => self.grow(gates, file, blocks),
             Op::MoveTo { file, dir } => self.move_to(gates, file, dir),
@@ -461,27 +435,6 @@ impl Task {
             } => self.close_file(rt, gates, file, cpu),
             Op::Close { file, cpu, .. } => self.try_close_file(gates, file, cpu),
             _ => Err(GateError::Invalid),
-        })
-    }
-
-    /// A snapshot.
-    fn call_snapshot<R: Wait>(
-        &mut self,
-        rt: &R,
-        gates: &Gates,
-        wait: bool,
-    ) -> Result<Reply, GateError>
-        requires { IsFrom self.old gates.now }
-        ensures { IsFrom self.new gates.now }
-    {
-        let taken = if wait {
-            self.snapshot(rt, gates)
-        } else {
-            self.try_snapshot(gates)
-        };
-        match taken {
-            Ok(()) => Ok(Reply::Tree),
-            Err(refusal) => Err(refusal),
         }
     }
 }

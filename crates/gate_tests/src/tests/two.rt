@@ -9,6 +9,7 @@ use fakes::expect_text;
 use freeze_levels::FsHooks;
 use gate_core::Progress;
 use gate_world::{Config, Op};
+use gated_tree::Tree;
 use schedule_text::{Line, Output, Request, TaskCommand, parse};
 use std::alloc::Global;
 use std::sync::Wait;
@@ -59,6 +60,17 @@ impl Two {
         Ok(Two { gates, one, other })
     }
 
+    /// Gates whose tasks have made these calls, which answered so.
+    pub fn after<R: Wait + Alloc<A = Global>>(
+        rt: &R,
+        config: Config,
+        calls: (&str, &str),
+    ) -> Result<Two, Fail> {
+        let mut two = Two::open(rt.alloc(), config)?;
+        two.answer(rt, calls.0, calls.1, &mut ())?;
+        Ok(two)
+    }
+
     /// What a task's call answers; Invalid, where the task was lost.
     fn call<R: Wait, H: FsHooks>(
         &mut self,
@@ -76,14 +88,23 @@ impl Two {
         }
     }
 
+    /// The last snapshot of a task.
+    fn tree(&self, task: u8) -> Option<&Tree> {
+        if task == 0 {
+            return self.one.tree();
+        }
+        match &self.other {
+            Some(other) => other.tree(),
+            None => None,
+        }
+    }
+
     /// How many blocks the last snapshot of a task has.
     fn used(&self, task: u8) -> u64 {
-        let shown = if task == 0 {
-            self.one.tree()
-        } else {
-            self.other.as_ref().and_then(|other| other.tree())
-        };
-        shown.map_or(0, |tree| tree.used())
+        match self.tree(task) {
+            Some(tree) => tree.used(),
+            None => 0,
+        }
     }
 
     /// Makes each call, with these hooks, and prints what it answers, as a replay does.
@@ -157,7 +178,10 @@ impl Two {
 
 /// The gates, closed.
 pub fn closed(two: Two) -> Result<Closed, Fail> {
-    two.close().map_err(|_| Fail::new("not closed"))
+    match two.close() {
+        Ok(closed) => Ok(closed),
+        Err(_) => Err(Fail::new("not closed")),
+    }
 }
 
 /// Both tasks and the gates, where these can't be closed, as that would be out of order.
@@ -166,4 +190,13 @@ pub fn not_closed(two: Two) -> Result<Two, Fail> {
         Err((GateError::Order, two)) => Ok(two),
         _ => Err(Fail::new("closed, or refused otherwise")),
     }
+}
+
+/// The gates, closed, after these calls, which answered so.
+pub fn closed_after<R: Wait + Alloc<A = Global>>(
+    rt: &R,
+    config: Config,
+    calls: (&str, &str),
+) -> Result<Closed, Fail> {
+    closed(Two::after(rt, config, calls)?)
 }

@@ -2,20 +2,17 @@
 
 ghost use Rattle.gate_tests.specs.Origins.{IsFrom};
 
-use super::super::tasks::{Gates, Task, open};
-use super::super::{freeze, small, thaw};
-use super::{count_nobody, join_both_and_close};
-use access_model::{Gate, GateError};
+use super::super::hooks::{FileSystem, Hooks};
+use super::super::small;
+use super::super::tasks::{Gates, Task};
+use super::{Crew, Ending, count_nobody, meet};
+use access_model::{Gate, GateError, Holder};
 use cpu_words::WordName;
-use freeze_levels::FsHooks;
+use freeze_levels::HookCall;
 use std::sync::Wait;
 use std::sync::atomic::{AtomicU64, Ordering};
 use std::test::Fail;
 use std::thread;
-use std::thread::Threads;
-
-/// How often the file system is frozen where threads meet.
-const FREEZES: u16 = 200;
 
 /// How many readers are inside the levels, by their own account: each counts itself once it is inside, and no more before it leaves.
 #[derive(Drop)]
@@ -57,38 +54,25 @@ impl Readers {
 /// A file system that fails every fifth time that it is asked. Whenever it is asked, it looks for readers inside the levels that are
 /// passed then, and counts how often it found some.
 #[derive(Drop)]
-struct InTurn<'a> {
-    readers: &'a Readers,
-    asked: u16,
-    met: u16,
+struct InTurn {
+    readers: Readers,
+    asked: AtomicU64,
+    met: AtomicU64,
 }
 
-impl InTurn<'_> {
-    /// Notes whether nobody was inside, and answers.
-    fn answer(&mut self, is_none: bool) -> Result<(), u16> {
+impl FileSystem for InTurn {
+    fn answer(&self, call: HookCall) -> Result<(), u16> {
+        let is_none = match call {
+            HookCall::Reconfigure { .. } => return Ok(()),
+            HookCall::Sync => self.readers.is_none_below_three(),
+            HookCall::FreezeFs | HookCall::UnfreezeFs => self.readers.is_none(),
+        };
         if !is_none {
-            self.met = self.met.saturating_add(1);
+            self.met.fetch_add(1, Ordering::SeqCst);
         }
-        self.asked = self.asked.saturating_add(1);
-        if self.asked % 5 == 0 { Err(7) } else { Ok(()) }
-    }
-}
-
-impl FsHooks for InTurn<'_> {
-    fn sync(&mut self) -> Result<(), u16> {
-        self.answer(self.readers.is_none_below_three())
-    }
-
-    fn freeze_fs(&mut self) -> Result<(), u16> {
-        self.answer(self.readers.is_none())
-    }
-
-    fn unfreeze_fs(&mut self) -> Result<(), u16> {
-        self.answer(self.readers.is_none())
-    }
-
-    fn reconfigure(&mut self, read_only: bool) -> Result<(), u16> {
-        let _ = read_only;
+        if self.asked.fetch_add(1, Ordering::SeqCst) % 5 == 4 {
+            return Err(7);
+        }
         Ok(())
     }
 }
@@ -111,169 +95,80 @@ fn visit<R: Wait>(
     is_inside && task.end(gates, level, cpu ^ 1).is_ok()
 }
 
-/// Visits all levels, so often, and says how often all three visits were done.
-fn visits<R: Wait>(
-    mut task: Task,
-    rt: &R,
-    gates: &Gates,
-    readers: &Readers,
-    cpu: u8,
-    count: u16,
-) -> (Task, u16)
-    requires { IsFrom task gates.now }
-    ensures { IsFrom result.0 gates.now }
-{
-    let mut done = 0;
-    for _round in 0..count {
-        let first = visit(&mut task, rt, gates, readers, 1, cpu);
-        let second = visit(&mut task, rt, gates, readers, 2, cpu ^ 1);
-        let third = visit(&mut task, rt, gates, readers, 3, cpu);
-        if first && second && third {
-            done += 1;
-        }
-    }
-    (task, done)
-}
-
-/// Runs the callbacks of all levels, so often, and says how often none was refused.
-fn callbacks<R: Wait>(mut task: Task, rt: &R, gates: &Gates, count: u16) -> (Task, u16)
-    requires { IsFrom task gates.now }
-    ensures { IsFrom result.0 gates.now }
-{
-    let mut done = 0;
-    for _round in 0..count {
-        if task.callback(rt, gates, 1).is_ok()
-            && task.callback(rt, gates, 2).is_ok()
-            && task.callback(rt, gates, 3).is_ok()
-        {
-            done += 1;
-        }
-        thread::yield_now();
-    }
-    (task, done)
-}
-
-/// Freezes once, looks whether each level is shut, and thaws, however often the file system fails meanwhile. Says whether all was as it
-/// ought to be, and None where the freeze itself was refused by the file system.
-fn freeze_and_thaw<R: Wait>(
-    task: &mut Task,
-    rt: &R,
-    gates: &Gates,
-    hooks: &mut InTurn,
-) -> Option<bool>
+/// Visits all levels.
+fn visit_all<R: Wait>(task: &mut Task, rt: &R, gates: &Gates, readers: &Readers, cpu: u8) -> Ending
     requires { IsFrom task.old gates.now }
     ensures { IsFrom task.new gates.now }
 {
-    match freeze(task, rt, gates, hooks) {
+    let first = visit(task, rt, gates, readers, 1, cpu);
+    let second = visit(task, rt, gates, readers, 2, cpu ^ 1);
+    let third = visit(task, rt, gates, readers, 3, cpu);
+    Ending::of(first && second && third)
+}
+
+/// Runs the callbacks of all levels.
+fn run_callbacks<R: Wait>(task: &mut Task, rt: &R, gates: &Gates) -> Ending
+    requires { IsFrom task.old gates.now }
+    ensures { IsFrom task.new gates.now }
+{
+    let have_run = task.callback(rt, gates, 1).is_ok()
+        && task.callback(rt, gates, 2).is_ok()
+        && task.callback(rt, gates, 3).is_ok();
+    thread::yield_now();
+    Ending::of(have_run)
+}
+
+/// Freezes once, looks whether each level is shut, and thaws, however often the file system fails meanwhile. Refused, where the freeze itself
+/// was refused by the file system.
+fn freeze_and_thaw<R: Wait>(task: &mut Task, rt: &R, gates: &Gates, file_system: &InTurn) -> Ending
+    requires { IsFrom task.old gates.now }
+    ensures { IsFrom task.new gates.now }
+{
+    let mut hooks = Hooks { file_system };
+    match task.freeze(rt, gates, Holder::User, &mut hooks) {
         Ok(()) => {}
-        Err(GateError::Hook(7)) => return None,
-        Err(_) => return Some(false),
+        Err(GateError::Hook(7)) => return Ending::Refused,
+        Err(_) => return Ending::Wrong,
     }
     let again = Err(GateError::Again);
     let is_shut = task.try_start(gates, 1, 0) == again
         && task.try_start(gates, 2, 1) == again
         && task.try_start(gates, 3, 0) == again;
-    let is_empty = hooks.readers.is_none();
-    let is_thawed = thaw(task, rt, gates, hooks).is_ok() || thaw(task, rt, gates, hooks).is_ok();
-    Some(is_shut && is_empty && is_thawed)
+    let is_empty = file_system.readers.is_none();
+    let is_thawed = task.thaw(rt, gates, Holder::User, &mut hooks).is_ok()
+        || task.thaw(rt, gates, Holder::User, &mut hooks).is_ok();
+    Ending::of(is_shut && is_empty && is_thawed)
 }
 
-/// Freezes and thaws, up to a million times, until both were done so often. Says how often they were, how often something was wrong,
-/// and how often the file system met a reader inside a level that was passed.
-fn freezes<R: Wait>(
-    mut task: Task,
-    rt: &R,
-    gates: &Gates,
-    readers: &Readers,
-    wanted: u16,
-) -> (Task, u16, u16, u16)
-    requires { IsFrom task gates.now }
-    ensures { IsFrom result.0 gates.now }
-{
-    let (asked, met) = (0, 0);
-    let mut hooks = InTurn {
-        readers,
-        asked,
-        met,
-    };
-    let mut done = 0;
-    let mut wrong = 0u16;
-    for _round in 0..1_000_000 {
-        if done == wanted {
-            break;
-        }
-        match freeze_and_thaw(&mut task, rt, gates, &mut hooks) {
-            Some(true) => done += 1,
-            Some(false) => wrong = wrong.saturating_add(1),
-            None => thread::yield_now(),
+/// One who freezes and thaws, two readers, and one who runs callbacks.
+impl Crew for InTurn {
+    fn round<R: Wait>(&self, task: &mut Task, rt: &R, gates: &Gates, _round: u32) -> Ending {
+        match task.number() {
+            0 => freeze_and_thaw(task, rt, gates, self),
+            1 => visit_all(task, rt, gates, &self.readers, 0),
+            2 => visit_all(task, rt, gates, &self.readers, 1),
+            _ => run_callbacks(task, rt, gates),
         }
     }
-    let met = hooks.met;
-    (task, done, wrong, met)
-}
-
-/// Two tasks that visit all levels, so often, each on a thread.
-fn both_visit<R: Wait + Threads + Sync>(
-    one: Task,
-    two: Task,
-    rt: &R,
-    gates: &Gates,
-    readers: &Readers,
-    count: u16,
-) -> ((Task, u16), (Task, u16))
-    requires one { IsFrom one gates.now }
-    requires two { IsFrom two gates.now }
-    ensures one { IsFrom result.0.0 gates.now }
-    ensures two { IsFrom result.1.0 gates.now }
-{
-    thread::join(
-        rt,
-        || visits(one, rt, gates, readers, 0, count),
-        || visits(two, rt, gates, readers, 1, count),
-    )
-}
-
-/// A task that freezes and thaws, and one that runs callbacks, each on a thread.
-fn freezes_and_callbacks<R: Wait + Threads + Sync>(
-    task: Task,
-    caller: Task,
-    rt: &R,
-    gates: &Gates,
-    readers: &Readers,
-) -> ((Task, u16, u16, u16), (Task, u16))
-    requires task { IsFrom task gates.now }
-    requires caller { IsFrom caller gates.now }
-    ensures task { IsFrom result.0.0 gates.now }
-    ensures caller { IsFrom result.1.0 gates.now }
-{
-    thread::join(
-        rt,
-        || freezes(task, rt, gates, readers, FREEZES),
-        || callbacks(caller, rt, gates, 1000),
-    )
 }
 
 #[test]
 fn nobody_is_inside_while_it_is_frozen(rt: HostRuntime) -> Result<(), Fail> {
-    let (gates, mut task) = open(rt.alloc(), small(4))?;
-    let one = task.split(rt.alloc(), &gates)?;
-    let two = task.split(rt.alloc(), &gates)?;
-    let caller = task.split(rt.alloc(), &gates)?;
-    let readers = Readers::none();
-    let readers = &readers;
-    let (((mut task, done, wrong, met), (caller, called)), ((one, first), (two, second))) =
-        thread::join(
-            &rt,
-            || freezes_and_callbacks(task, caller, &rt, &gates, readers),
-            || both_visit(one, two, &rt, &gates, readers, 5000),
-        );
-    assert_eq!(rt; (done, wrong, met), (FREEZES, 0, 0));
-    assert_eq!(rt; (called, first, second), (1000, 5000, 5000));
-    assert!(rt; task.join(&gates, one).is_ok());
-    let Some(closed) = join_both_and_close(gates, task, two, caller) else {
-        panic!(rt; "not closed")
+    let file_system = InTurn {
+        readers: Readers::none(),
+        asked: AtomicU64::new(0),
+        met: AtomicU64::new(0),
     };
-    assert!(rt; count_nobody(&closed, &[Gate::Level(1), Gate::Level(2), Gate::Level(3)]));
-    assert_eq!(rt; closed.word(WordName::Stage), Some(0));
+    let wanted = [200, 5000, 5000, 1000];
+    let met = meet(&rt, small(4), &file_system, wanted)?;
+    assert_eq!(rt; (met.done, met.wrong), (wanted, [0; 4]));
+    assert_eq!(rt; file_system.met.load(Ordering::SeqCst), 0);
+    assert!(rt;
+        count_nobody(
+            &met.closed,
+            &[Gate::Level(1), Gate::Level(2), Gate::Level(3)]
+        )
+    );
+    assert_eq!(rt; met.closed.word(WordName::Stage), Some(0));
     Ok(())
 }

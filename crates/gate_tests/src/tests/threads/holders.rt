@@ -3,8 +3,8 @@
 ghost use Rattle.gate_tests.specs.Origins.{IsFrom};
 
 use super::super::small;
-use super::super::tasks::{Gates, Task, open};
-use super::join_both_and_close;
+use super::super::tasks::{Gates, Task};
+use super::{Crew, Ending, has_grown_fairly, is_fair, meet};
 use access_model::{GateError, Holder, Kind};
 use cpu_words::WordName;
 use gate_world::Config;
@@ -13,17 +13,9 @@ use std::sync::Wait;
 use std::sync::atomic::{AtomicU64, Ordering};
 use std::test::Fail;
 use std::thread;
-use std::thread::Threads;
-use vfs_gates::Closed;
 
 /// How many nodes there are.
 const NODES: u8 = 6;
-
-/// How often each holder freezes.
-const FREEZES: u16 = 100;
-
-/// How often a writer asks for write access, and how often the superblock is remounted and a snapshot taken beside it.
-const ROUNDS: u16 = 1000;
 
 /// What a snapshot shows of the tree.
 #[derive(Clone, Copy, PartialEq, Eq)]
@@ -57,65 +49,29 @@ fn look<R: Wait>(task: &mut Task, rt: &R, gates: &Gates, writers: &AtomicU64) ->
     }
 }
 
-/// Freezes once for a holder, looks twice at what is frozen, with the other holder free to thaw in between, and thaws. Says whether nothing
-/// was opened or changed meanwhile, and None where the other's freeze was under way.
+/// Freezes once for a holder, looks twice at what is frozen, with the other holder free to thaw in between, and thaws. Wrong, where something
+/// was opened or changed meanwhile; refused, where the other's freeze was under way.
 fn hold<R: Wait>(
     task: &mut Task,
     rt: &R,
     gates: &Gates,
     holder: Holder,
     writers: &AtomicU64,
-) -> Option<bool>
+) -> Ending
     requires { IsFrom task.old gates.now }
     ensures { IsFrom task.new gates.now }
 {
     match task.freeze(rt, gates, holder, &mut ()) {
         Ok(()) => {}
-        Err(GateError::Busy) => return None,
-        Err(_) => return Some(false),
+        Err(GateError::Busy) => return Ending::Refused,
+        Err(_) => return Ending::Wrong,
     }
     let first = look(task, rt, gates, writers);
     thread::yield_now();
     let second = look(task, rt, gates, writers);
     let is_thawed = task.thaw(rt, gates, holder, &mut ()).is_ok();
-    Some(first.is_some() && first == second && is_thawed)
-}
-
-/// Freezes and thaws for a holder, up to a million times, until both were done so often. Says how often they were, and how often something
-/// was wrong.
-fn holds<R: Wait>(
-    mut task: Task,
-    rt: &R,
-    gates: &Gates,
-    holder: Holder,
-    writers: &AtomicU64,
-    wanted: u16,
-) -> (Task, u16, u16)
-    requires { IsFrom task gates.now }
-    ensures { IsFrom result.0 gates.now }
-{
-    let mut done = 0;
-    let mut wrong = 0u16;
-    for _round in 0..1_000_000 {
-        if done == wanted {
-            break;
-        }
-        match hold(&mut task, rt, gates, holder, writers) {
-            Some(true) => done += 1,
-            Some(false) => wrong = wrong.saturating_add(1),
-            None => {}
-        }
-        thread::yield_now();
-    }
-    (task, done, wrong)
-}
-
-/// Whether a call was done, or refused as it may be beside another writer.
-fn is_fair(outcome: Result<(), GateError>) -> bool {
-    matches!(
-        outcome,
-        Ok(()) | Err(GateError::Again | GateError::NoEntry | GateError::NoSpace)
-    )
+    thread::yield_now();
+    Ending::of(first.is_some() && first == second && is_thawed)
 }
 
 /// Makes a file and makes it larger; where no node or no block is left, removes one. Says whether each call was answered as it may be.
@@ -124,7 +80,7 @@ fn change_tree(task: &mut Task, gates: &Gates, node: u8) -> bool
     ensures { IsFrom task.new gates.now }
 {
     match task.create(gates, 0, Kind::File) {
-        Ok(file) => is_fair(task.grow(gates, file, 1)),
+        Ok(file) => has_grown_fairly(task.grow(gates, file, 1)),
         Err(GateError::Again) => true,
         Err(GateError::NoSpace) => is_fair(task.remove(gates, node)),
         Err(_) => false,
@@ -153,27 +109,6 @@ fn write<R: Wait>(
     task.drop_write(gates, 0, cpu ^ 1).is_ok() && is_well
 }
 
-/// Writes so often, and says how often something was wrong.
-fn writes<R: Wait>(
-    mut task: Task,
-    rt: &R,
-    gates: &Gates,
-    cpu: u8,
-    writers: &AtomicU64,
-) -> (Task, u16)
-    requires { IsFrom task gates.now }
-    ensures { IsFrom result.0 gates.now }
-{
-    let mut wrong = 0u16;
-    for round in 0..ROUNDS {
-        let node = 1 + (round % u16::from(NODES - 1)) as u8;
-        if !write(&mut task, rt, gates, cpu, node, writers) {
-            wrong = wrong.saturating_add(1);
-        }
-    }
-    (task, wrong)
-}
-
 /// Makes the superblock read-only or writable, unless a writer or a freeze is in the way. Says whether all was well.
 fn remount<R: Wait>(task: &mut Task, rt: &R, gates: &Gates, read_only: bool) -> bool
     requires { IsFrom task.old gates.now }
@@ -189,77 +124,47 @@ fn copy<R: Wait>(task: &mut Task, rt: &R, gates: &Gates) -> bool
     ensures { IsFrom task.new gates.now }
 {
     match task.snapshot(rt, gates) {
-        Ok(()) => task.tree().is_some_and(|tree| show(tree).is_some()),
+        Ok(()) => match task.tree() {
+            Some(tree) => show(tree).is_some(),
+            None => false,
+        },
         Err(refusal) => refusal == GateError::Invalid,
     }
 }
 
-/// Remounts, takes a snapshot and writes, so often in turn, and says how often something was wrong.
-fn works<R: Wait>(mut task: Task, rt: &R, gates: &Gates, writers: &AtomicU64) -> (Task, u16)
-    requires { IsFrom task gates.now }
-    ensures { IsFrom result.0 gates.now }
-{
-    let mut wrong = 0u16;
-    for round in 0..ROUNDS {
-        let is_well = remount(&mut task, rt, gates, round % 2 == 0)
-            && copy(&mut task, rt, gates)
-            && write(&mut task, rt, gates, 1, 1, writers);
-        if !is_well {
-            wrong = wrong.saturating_add(1);
-        }
+/// Two who freeze, as the kernel and as user space, one who writes, and one who remounts, takes snapshots and writes. Each writer is counted
+/// while it is inside.
+#[derive(Drop)]
+struct Holders {
+    writers: AtomicU64,
+}
+
+impl Holders {
+    /// Remounts, takes a snapshot and writes. Says whether all was well.
+    fn work<R: Wait>(&self, task: &mut Task, rt: &R, gates: &Gates, round: u32) -> bool
+        requires { IsFrom task.old gates.now }
+        ensures { IsFrom task.new gates.now }
+    {
+        let is_well = remount(task, rt, gates, round % 2 == 0)
+            && copy(task, rt, gates)
+            && write(task, rt, gates, 1, 1, &self.writers);
         thread::yield_now();
+        is_well
     }
-    (task, wrong)
 }
 
-/// The kernel and user space freeze, each in a thread.
-fn both_hold<R: Wait + Threads + Sync>(
-    one: Task,
-    two: Task,
-    rt: &R,
-    gates: &Gates,
-    writers: &AtomicU64,
-) -> ((Task, u16, u16), (Task, u16, u16))
-    requires { IsFrom one gates.now × IsFrom two gates.now }
-    ensures { IsFrom result.0.0 gates.now × IsFrom result.1.0 gates.now }
-{
-    thread::join(
-        rt,
-        || holds(one, rt, gates, Holder::Kernel, writers, FREEZES),
-        || holds(two, rt, gates, Holder::User, writers, FREEZES),
-    )
-}
-
-/// One task writes, and one remounts, takes snapshots and writes, each in a thread.
-fn both_work<R: Wait + Threads + Sync>(
-    one: Task,
-    two: Task,
-    rt: &R,
-    gates: &Gates,
-    writers: &AtomicU64,
-) -> ((Task, u16), (Task, u16))
-    requires { IsFrom one gates.now × IsFrom two gates.now }
-    ensures { IsFrom result.0.0 gates.now × IsFrom result.1.0 gates.now }
-{
-    thread::join(
-        rt,
-        || writes(one, rt, gates, 0, writers),
-        || works(two, rt, gates, writers),
-    )
-}
-
-/// Joins all others, and closes the gates; None where one of these is refused.
-fn join_all_and_close(
-    gates: Gates,
-    mut task: Task,
-    one: Task,
-    two: Task,
-    three: Task,
-) -> Option<Closed>
-    requires { IsFrom task gates × IsFrom one gates × IsFrom two gates × IsFrom three gates }
-{
-    task.join(&gates, one).ok()?;
-    join_both_and_close(gates, task, two, three)
+impl Crew for Holders {
+    fn round<R: Wait>(&self, task: &mut Task, rt: &R, gates: &Gates, round: u32) -> Ending {
+        match task.number() {
+            0 => hold(task, rt, gates, Holder::Kernel, &self.writers),
+            1 => hold(task, rt, gates, Holder::User, &self.writers),
+            2 => {
+                let node = 1 + (round % u32::from(NODES - 1)) as u8;
+                Ending::of(write(task, rt, gates, 0, node, &self.writers))
+            }
+            _ => Ending::of(self.work(task, rt, gates, round)),
+        }
+    }
 }
 
 #[test]
@@ -268,23 +173,13 @@ fn no_snapshot_is_of_an_open_file_system(rt: HostRuntime) -> Result<(), Fail> {
         nodes: NODES,
         ..small(4)
     };
-    let (gates, mut task) = open(rt.alloc(), config)?;
-    let one = task.split(rt.alloc(), &gates)?;
-    let two = task.split(rt.alloc(), &gates)?;
-    let three = task.split(rt.alloc(), &gates)?;
-    let writers = AtomicU64::new(0);
-    let writers = &writers;
-    let (((task, kernel, bad), (one, user, worse)), ((two, first), (three, second))) = thread::join(
-        &rt,
-        || both_hold(task, one, &rt, &gates, writers),
-        || both_work(two, three, &rt, &gates, writers),
-    );
-    assert_eq!(rt; (kernel, bad, user, worse), (FREEZES, 0, FREEZES, 0));
-    assert_eq!(rt; (first, second), (0, 0));
-    let Some(closed) = join_all_and_close(gates, task, one, two, three) else {
-        panic!(rt; "not closed")
+    let holders = Holders {
+        writers: AtomicU64::new(0),
     };
-    assert_eq!(rt; closed.word(WordName::Holders), Some(0));
-    assert_eq!(rt; closed.word(WordName::Stage), Some(0));
+    let wanted = [100, 100, 1000, 1000];
+    let met = meet(&rt, config, &holders, wanted)?;
+    assert_eq!(rt; (met.done, met.wrong), (wanted, [0; 4]));
+    assert_eq!(rt; met.closed.word(WordName::Holders), Some(0));
+    assert_eq!(rt; met.closed.word(WordName::Stage), Some(0));
     Ok(())
 }

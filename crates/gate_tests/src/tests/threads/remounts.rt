@@ -2,17 +2,18 @@
 
 ghost use Rattle.gate_tests.specs.Origins.{IsFrom};
 
+use super::super::hooks::{FileSystem, Hooks};
 use super::super::small;
-use super::super::tasks::{Gates, Task, open};
-use super::mounts::both_want;
-use super::{count_nobody, join_both_and_close};
+use super::super::tasks::{Gates, Task};
+use super::mounts::want_each;
+use super::{Crew, Ending, count_nobody, meet};
 use access_model::{Gate, GateError};
 use cpu_words::WordName;
-use freeze_levels::FsHooks;
+use freeze_levels::HookCall;
 use gate_world::Config;
 use std::sync::Wait;
+use std::sync::atomic::{AtomicBool, AtomicU64, Ordering};
 use std::test::Fail;
-use std::thread;
 
 /// How many mounts there are where threads meet.
 const MOUNTS: u8 = 3;
@@ -21,43 +22,23 @@ const MOUNTS: u8 = 3;
 /// the remounts.
 #[derive(Drop)]
 struct EveryThird {
-    asked: u16,
-    is_read_only: bool,
+    asked: AtomicU64,
+    is_read_only: AtomicBool,
 }
 
-impl EveryThird {
-    /// One that is writable, and has been asked so often.
-    fn writable(asked: u16) -> EveryThird {
-        let is_read_only = false;
-        EveryThird {
-            asked,
-            is_read_only,
-        }
-    }
-}
-
-impl FsHooks for EveryThird {
-    fn sync(&mut self) -> Result<(), u16> {
-        Err(1)
-    }
-
-    fn freeze_fs(&mut self) -> Result<(), u16> {
-        Err(2)
-    }
-
-    fn unfreeze_fs(&mut self) -> Result<(), u16> {
-        Err(3)
-    }
-
-    fn reconfigure(&mut self, read_only: bool) -> Result<(), u16> {
-        self.asked = self.asked.saturating_add(1);
-        if self.is_read_only == read_only {
+impl FileSystem for EveryThird {
+    fn answer(&self, call: HookCall) -> Result<(), u16> {
+        let HookCall::Reconfigure { read_only } = call else {
+            return Err(1);
+        };
+        let before = self.asked.fetch_add(1, Ordering::SeqCst);
+        if self.is_read_only.load(Ordering::SeqCst) == read_only {
             return Err(4);
         }
-        if self.asked % 3 == 0 {
+        if before % 3 == 2 {
             return Err(5);
         }
-        self.is_read_only = read_only;
+        self.is_read_only.store(read_only, Ordering::SeqCst);
         Ok(())
     }
 }
@@ -80,27 +61,18 @@ fn read_only_mounts(task: &mut Task, gates: &Gates) -> u8
     shut
 }
 
-/// How a remount ended.
-#[derive(Clone, Copy, PartialEq, Eq, Debug)]
-enum Ending {
-    Done,
-    Refused,
-    /// By an answer that it can't have, or with a mount that isn't as the answer says.
-    Wrong,
-}
-
 /// Remounts, and asks every mount afterwards. A remount that is refused leaves the superblock as it was, so as it wasn't asked for.
 fn remount<R: Wait>(
     task: &mut Task,
     rt: &R,
     gates: &Gates,
     read_only: bool,
-    hooks: &mut EveryThird,
+    file_system: &EveryThird,
 ) -> Ending
     requires { IsFrom task.old gates.now }
     ensures { IsFrom task.new gates.now }
 {
-    let answer = task.remount_sb(rt, gates, read_only, hooks);
+    let answer = task.remount_sb(rt, gates, read_only, &mut Hooks { file_system });
     let shut = if answer.is_ok() == read_only {
         MOUNTS
     } else {
@@ -116,34 +88,25 @@ fn remount<R: Wait>(
     }
 }
 
-/// Remounts to read-only and back, up to a million times, until the one was done so often. Says how often it was done, and how often a
-/// remount ended wrong.
-fn remount_to_and_fro<R: Wait>(
-    mut task: Task,
-    rt: &R,
-    gates: &Gates,
-    wanted: u16,
-) -> (Task, u16, u16)
-    requires { IsFrom task gates.now }
-    ensures { IsFrom result.0 gates.now }
-{
-    let mut hooks = EveryThird::writable(0);
-    let mut done = 0;
-    let mut wrong = 0u16;
-    for _round in 0..1_000_000 {
-        if done == wanted {
-            break;
-        }
-        match remount(&mut task, rt, gates, true, &mut hooks) {
-            Ending::Done => done += 1,
-            Ending::Refused => thread::yield_now(),
-            Ending::Wrong => wrong = wrong.saturating_add(1),
-        }
-        if remount(&mut task, rt, gates, false, &mut hooks) == Ending::Wrong {
-            wrong = wrong.saturating_add(1);
+/// One who remounts to read-only and back, and two who want at all mounts.
+impl Crew for EveryThird {
+    fn round<R: Wait>(&self, task: &mut Task, rt: &R, gates: &Gates, _round: u32) -> Ending {
+        match task.number() {
+            0 => {
+                let there = remount(task, rt, gates, true, self);
+                match remount(task, rt, gates, false, self) {
+                    Ending::Wrong => Ending::Wrong,
+                    _ => there,
+                }
+            }
+            1 => want_each(task, rt, gates, 0, MOUNTS),
+            _ => want_each(task, rt, gates, 1, MOUNTS),
         }
     }
-    (task, done, wrong)
+
+    fn after<R: Wait>(&self, task: &mut Task, rt: &R, gates: &Gates) -> bool {
+        task.remount_sb(rt, gates, false, &mut ()).is_ok()
+    }
 }
 
 #[test]
@@ -152,21 +115,20 @@ fn a_remount_keeps_its_own_thread_out(rt: HostRuntime) -> Result<(), Fail> {
         mounts: MOUNTS,
         ..small(3)
     };
-    let (gates, mut task) = open(rt.alloc(), config)?;
-    let one = task.split(rt.alloc(), &gates)?;
-    let two = task.split(rt.alloc(), &gates)?;
-    let ((mut task, done, wrong), ((one, bad), (two, worse))) = thread::join(
-        &rt,
-        || remount_to_and_fro(task, &rt, &gates, 50),
-        || both_want(one, two, &rt, &gates, MOUNTS),
-    );
-    assert_eq!(rt; (done, wrong, bad, worse), (50, 0, 0, 0));
-    assert_eq!(rt; task.remount_sb(&rt, &gates, false, &mut ()), Ok(()));
-    let Some(closed) = join_both_and_close(gates, task, one, two) else {
-        panic!(rt; "not closed")
+    let file_system = EveryThird {
+        asked: AtomicU64::new(0),
+        is_read_only: AtomicBool::new(false),
     };
-    assert!(rt; count_nobody(&closed, &[Gate::Mount(0), Gate::Mount(1), Gate::Mount(2)]));
-    assert_eq!(rt; closed.word(WordName::SbFlags), Some(0));
-    assert_eq!(rt; closed.word(WordName::Remount), Some(0));
+    let wanted = [50, 300, 300, 0];
+    let met = meet(&rt, config, &file_system, wanted)?;
+    assert_eq!(rt; (met.done, met.wrong), (wanted, [0; 4]));
+    assert!(rt;
+        count_nobody(
+            &met.closed,
+            &[Gate::Mount(0), Gate::Mount(1), Gate::Mount(2)]
+        )
+    );
+    assert_eq!(rt; met.closed.word(WordName::SbFlags), Some(0));
+    assert_eq!(rt; met.closed.word(WordName::Remount), Some(0));
     Ok(())
 }

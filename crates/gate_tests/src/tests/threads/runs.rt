@@ -1,8 +1,8 @@
 //! Runs: what they count, and that their tasks run at the same time.
 
+use super::file_at;
 use cpu_words::WordName;
 use gate_runs::{Meeting, Totals, run_with};
-use gated_tree::NodeWord;
 use std::sync::atomic::{AtomicBool, AtomicU32, Ordering};
 use std::test::Fail;
 use std::thread;
@@ -42,8 +42,7 @@ fn a_run_counts_what_it_does(rt: HostRuntime) -> Result<(), Fail> {
     assert_eq!(rt; counting.held.load(Ordering::SeqCst), 200);
     assert_eq!(rt; counting.frozen.load(Ordering::SeqCst), 3);
     for node in 1..3 {
-        let file = closed.word(WordName::Node(node)).and_then(NodeWord::unpack);
-        assert_eq!(rt; file.map(|file| file.size), Some(100));
+        assert!(rt; matches!(file_at(&closed, node), Some(file) if file.size == 100));
     }
     assert_eq!(rt; closed.word(WordName::Node(3)), None);
     Ok(())

@@ -1,6 +1,0 @@
-use Rattle.std.proofs.Common.{◌≤◌}
-use Rattle.gate_tests.specs.Origins.{IsFrom}
-use Rattle.gate_tests.proofs.tests.threads.freezes.freezes.Given as goal
-
-abbrev pub invariant-loop-round : goal.invariant-loop-round
-invariant-loop-round g l = IsFrom l.task l.gates × (l.done ≤ l.wanted)
