@@ -1,6 +1,6 @@
 //! Checks of schedules, from the command line.
 
-ghost use Rattle.std.specs.Prelude.{◌≡◌, ◌⊎◌, IfOk};
+ghost use Rattle.std.specs.Prelude.{◌≡◌, ◌⊎◌, ◌≤◌, IfOk};
 ghost use Rattle.endings.specs.declared.ends.Ending.TheVariants.{Passed, Refused};
 
 use endings::{Ending, unopened};
@@ -22,7 +22,9 @@ struct Checks {
 
 impl Checks {
     /// Checks one schedule more.
-    fn add(&mut self, alloc: Global, name: &str, schedule: &[u8]) -> Result<(), AllocError> {
+    fn add(&mut self, alloc: Global, name: &str, schedule: &[u8]) -> Result<(), AllocError>
+        ensures { self.old.failed ≤ self.new.failed }
+    {
         let checked = check(alloc, name, schedule)?;
         self.told.text(checked.told.bytes.as_slice())?;
         if checked.passed {
@@ -40,7 +42,9 @@ impl Checks {
         alloc: Global,
         file: &str,
         errors: &mut E,
-    ) -> Result<(), AllocError> {
+    ) -> Result<(), AllocError>
+        ensures { self.old.failed ≤ self.new.failed }
+    {
         match fs::read(rt, file) {
             Ok(schedule) => {
                 let name = format!(in alloc; "{file}: ")?;
@@ -60,7 +64,9 @@ impl Checks {
         alloc: Global,
         reader: &mut I,
         errors: &mut E,
-    ) -> Result<(), AllocError> {
+    ) -> Result<(), AllocError>
+        ensures { self.old.failed ≤ self.new.failed }
+    {
         let mut schedule = Vec::new(alloc);
         match reader.read_to_end(&mut schedule) {
             Ok(_) => self.add(alloc, "", schedule.as_slice()),
@@ -73,7 +79,10 @@ impl Checks {
     }
 
     /// Counts one that failed.
-    fn fail(&mut self) {
+    fn fail(&mut self)
+        ensures counted { 1 ≤ self.new.failed }
+        ensures more { self.old.failed ≤ self.new.failed }
+    {
         self.failed = self.failed.saturating_add(1);
     }
 
@@ -84,7 +93,8 @@ impl Checks {
         writer: &mut W,
         errors: &mut E,
     ) -> Result<Ending, AllocError>
-        ensures { IfOk result (λ ending. (ending ≡ Passed) ⊎ (ending ≡ Refused)) }
+        ensures ends { IfOk result (λ ending. (ending ≡ Passed) ⊎ (ending ≡ Refused)) }
+        ensures passed { IfOk result (λ ending. ending ≡ Passed → self.old.failed ≡ 0) }
     {
         let text = format!(in alloc; "{} passed, {} failed\n", self.passed, self.failed)?;
         self.told.text(text.as_bytes())?;
