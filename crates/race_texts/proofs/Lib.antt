@@ -1,4 +1,5 @@
 pub mod Left
+pub mod Reading
 pub mod Words
 pub mod Mapped
 pub mod Complete

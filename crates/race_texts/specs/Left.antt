@@ -1,6 +1,9 @@
 -- The lines of a text.
-use Rattle.std.specs.Prelude.{ℕ, zero, suc, ◌+◌, ◌-◌, List, [], ◌∷◌, take, drop, Option, Some, None}
+use Rattle.std.specs.Prelude.{ℕ, zero, suc, ◌+◌, ◌-◌, List, [], ◌∷◌, take, drop, Option, Some, None, Result}
+use Rattle.race_texts.specs.Calls.{calls_of, no_calls}
+use Rattle.race_texts.specs.declared.faults.RaceFault.{RaceFault}
 use Rattle.race_texts.specs.declared.lines.Lines.{Lines}
+use Rattle.races.specs.declared.calls.Call.{Call}
 use Rattle.schedule_text.specs.Lines.{front_of}
 use Rattle.schedule_text.specs.declared.faults.Fault.{Fault}
 use Rattle.schedule_text.specs.declared.faults.Fault.TheVariants.{TooManyLines, LineTooLong, CutOff}
@@ -41,3 +44,7 @@ lines_in (suc more) bytes =
 -- those that are left
 abbrev pub left_in : Lines → Left
 left_in lines = lines_in (1048576 - lines.done) lines.rest.now
+
+-- what all lines left behind `race` call, where there are so many tasks
+abbrev pub calls_left : ℕ → Left → Result (List (List (Option Call))) RaceFault
+calls_left tasks left = calls_of tasks left.fault left.lines (no_calls tasks)

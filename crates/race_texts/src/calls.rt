@@ -4,6 +4,7 @@ ghost use Rattle.std.specs.Prelude.{◌≡◌, ◌≤◌, is_none, length, Some,
 ghost use Rattle.std.specs.List.{position};
 ghost use Rattle.race_texts.specs.Calls.{no_calls, count_of, with_call, with_failure, added, failing, as_run, hook_line, calls_after};
 ghost use Rattle.race_texts.specs.Faults.{IsToldOrMemory};
+ghost use Rattle.race_texts.specs.Left.{calls_left, left_in};
 ghost use Rattle.schedule_text.specs.Parsing.{parsed};
 
 use crate::faults::RaceFault;
@@ -33,9 +34,12 @@ pub struct Calls {
 }
 
 impl Calls {
-    /// Takes all lines after `race`, where there are so many tasks.
+    /// Takes all lines after `race`, where there are so many tasks. Its fault is that of the first line that has one, at which it stops, or
+    /// that memory was refused.
     pub fn read(alloc: Global, tasks: u8, lines: &mut Lines<'_>) -> Result<Calls, RaceFault>
-        ensures { IfOk result (λ calls. calls.race.tasks ≡ tasks) }
+        ensures tasks { IfOk result (λ calls. calls.race.tasks ≡ tasks) }
+        ensures read { IfOk result (λ calls. calls_left tasks (left_in lines.old) ≡ Ok calls.race.calls.items) }
+        ensures fault { IfErr result (IsToldOrMemory (calls_left tasks (left_in lines.old))) }
     {
         let mut calls = Calls::new(alloc, tasks).map_err(no_memory)?;
         while let Some(line) = lines.line()? {

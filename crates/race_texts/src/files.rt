@@ -1,6 +1,7 @@
 //! A whole file of a race.
 
-ghost use Rattle.std.specs.Prelude.{◌≡◌};
+ghost use Rattle.std.specs.Prelude.{◌≡◌, IfOk, Ok};
+ghost use Rattle.race_texts.specs.Left.{behind, calls_left, left_in};
 
 use crate::calls::Calls;
 use crate::faults::RaceFault;
@@ -19,12 +20,14 @@ pub struct RaceFile {
 }
 
 impl RaceFile {
-    /// Takes the lines from `race` on, on gates that were set up.
+    /// Takes the lines from `race` on, on gates that were set up: the calls are those of all lines behind it.
     pub fn read(
         alloc: Global,
         session: &Session<Core>,
         lines: &mut Lines<'_>,
-    ) -> Result<RaceFile, RaceFault> {
+    ) -> Result<RaceFile, RaceFault>
+        ensures { IfOk result (λ file. calls_left file.core.config.tasks (behind (left_in lines.old)) ≡ Ok file.calls.race.calls.items) }
+    {
         let core = session.gates().twin().map_err(no_memory)?;
         expect_idle(&core)?;
         lines.take();

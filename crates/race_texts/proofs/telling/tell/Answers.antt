@@ -14,8 +14,8 @@ loop-outcome-preserved c =
     c.loop-outcome.out.bytes.items c.tell_line.new.out.bytes.items c.tell_details.new.out.bytes.items within c.outcome-item.is
     c.loop-outcome.invariant c.in_ok-tell_line.ensures c.in_ok-tell_details.ensures
 
-pub returns : goal.returns
-returns c =
+pub returns-clause-told : goal.returns-clause-told
+returns-clause-told c =
     let listing = c.in_ok-listing.listing in
     let counts = c.tell_counts.new.out.bytes.items in
     let after = c.loop-outcome.out.bytes.items in

@@ -13,8 +13,8 @@ loop-outcome-preserved c =
     c.tell_line.new.out.bytes.items c.deref-outcome-items.result.now c.loop-outcome.outcome-index c.outcome-item.result within
     c.outcome-item.is c.loop-outcome.invariant c.in_ok-tell_line.ensures
 
-pub returns : goal.returns
-returns c =
+pub returns-clause-told : goal.returns-clause-told
+returns-clause-told c =
     let line = λ (o : Outcome). line_of o.text.items in
     let listing = c.in_ok-listing.listing in
     let counts = c.tell_counts.new.out.bytes.items in
