@@ -1,5 +1,5 @@
 -- What the program writes of a race.
-use Rattle.std.specs.Prelude.{◌≡◌, ℕ, List, [], Option}
+use Rattle.std.specs.Prelude.{◌≡◌, ℕ, List, [], Option, None, IfSome}
 use Rattle.std.specs.Io.KnownBytes.{Appends, Keeps}
 use Rattle.command_line.specs.declared.words.Outcomes.{Outcomes}
 use Rattle.command_line.specs.declared.words.Schedules as words
@@ -12,6 +12,7 @@ use Rattle.schedule_bytes.specs.Writing.{AppendsPart}
 use Rattle.race_texts.specs.declared.telling.Details.{Details}
 use Rattle.race_texts.specs.declared.telling.Schedules.{Schedules}
 use Rattle.race_texts.specs.declared.telling.Schedules.TheVariants.{Untold, Lines, Columns}
+use Rattle.race_texts.specs.Left.{IsRaceIn, lines_in}
 use Rattle.race_texts.specs.Told.{Tells}
 
 -- in which form schedules are told
@@ -24,15 +25,22 @@ schedules_as words_as.Columns = Columns
 abbrev pub details_of : Outcomes → Details
 details_of asked = record { schedules = schedules_as asked.schedules; model = asked.model }
 
--- all outcomes of a race are told behind what was there, as was asked for, and nothing else is
-pub record TellsRace (asked : Outcomes) (before after : List ℕ) : Type 0 where
+-- all outcomes of the race that these bytes call are told behind what was there, as was asked for, and nothing else is
+pub record TellsRace (asked : Outcomes) (bytes before after : List ℕ) : Type 0 where
   pub core : Memory
   pub calls : List (List (Option Call))
+  pub race : IsRaceIn (lines_in 1048576 bytes) core.config.tasks calls
   pub tells : Tells core calls (details_of asked) before after
 
--- How it ends where all outcomes of a race were asked for: they are written, and no more; or, where that is refused, nothing; or, where a
--- write failed, the first bytes of them.
-pub data EndsTold (asked : Outcomes) (held holds : Option (List ℕ)) (ending : Ending) : Type 0 where
-  IsWritten : (text : List ℕ) → TellsRace asked [] text → Appends held holds text → ending ≡ Listed → EndsTold asked held holds ending
-  IsRefused : Keeps held holds → ending ≡ Refused → EndsTold asked held holds ending
-  IsCutOff : (text : List ℕ) → TellsRace asked [] text → AppendsPart held holds text → ending ≡ Refused → EndsTold asked held holds ending
+-- these bytes are all of what was there to be read; of a file's no contract tells
+abbrev pub AreRead : Outcomes → Option (List ℕ) → List ℕ → Type 0
+AreRead asked input bytes = asked.file ≡ None → IfSome input (λ all. bytes ≡ all)
+
+-- How it ends where all outcomes of a race were asked for: those of the race that was read are written, and no more; or, where that is
+-- refused, nothing; or, where a write failed, the first bytes of them.
+pub data EndsTold (asked : Outcomes) (input held holds : Option (List ℕ)) (ending : Ending) : Type 0 where
+  IsWritten : (bytes text : List ℕ) → AreRead asked input bytes → TellsRace asked bytes [] text → Appends held holds text →
+      ending ≡ Listed → EndsTold asked input held holds ending
+  IsRefused : Keeps held holds → ending ≡ Refused → EndsTold asked input held holds ending
+  IsCutOff : (bytes text : List ℕ) → AreRead asked input bytes → TellsRace asked bytes [] text → AppendsPart held holds text →
+      ending ≡ Refused → EndsTold asked input held holds ending

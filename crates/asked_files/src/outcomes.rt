@@ -1,6 +1,6 @@
 //! All outcomes of a race, from the command line.
 
-ghost use Rattle.std.specs.Prelude.{◌≡◌, ◌⊎◌, IfOk, IfErr, OnErr};
+ghost use Rattle.std.specs.Prelude.{◌≡◌, ◌⊎◌, None, IfOk, IfErr, IfSome, OnErr};
 ghost use Rattle.std.specs.Io.KnownBytes.{Appends, Keeps};
 ghost use Rattle.endings.specs.declared.ends.Ending.TheVariants.{Listed, Refused};
 ghost use Rattle.asked_files.specs.Outcomes.{EndsTold, TellsRace, schedules_as};
@@ -29,7 +29,7 @@ pub fn run_outcomes<R: Files + Alloc<A = Global>, I: Read, W: Write, E: Write>(
     errors: &mut E,
 ) -> Result<Ending, AllocError>
     ensures ends { IfOk result (λ ending. (ending ≡ Listed) ⊎ (ending ≡ Refused)) }
-    ensures told { IfOk result (EndsTold asked.entry (W.contents writer.old) (W.contents writer.new)) }
+    ensures told { IfOk result (EndsTold asked.entry (I.remaining reader.old) (W.contents writer.old) (W.contents writer.new)) }
     ensures memory { OnErr result (Keeps (W.contents writer.old) (W.contents writer.new)) }
 {
     let mut told = Output::with_room(alloc, 0)?;
@@ -51,7 +51,8 @@ fn read_bytes<R: Files + Alloc<A = Global>, I: Read, E: Write>(
     reader: &mut I,
     errors: &mut E,
 ) -> Result<Vec<u8>, Ending>
-    ensures { IfErr result (λ ending. ending ≡ Refused) }
+    ensures read { IfOk result (λ bytes. file.entry ≡ None → IfSome (I.remaining reader.old) (λ all. bytes.items ≡ all)) }
+    ensures refused { IfErr result (λ ending. ending ≡ Refused) }
 {
     match file {
         Some(file) => match fs::read(rt, file) {
@@ -92,7 +93,7 @@ fn tell_race<E: Write>(
     errors: &mut E,
 ) -> Ending
     ensures ends { (result ≡ Listed) ⊎ (result ≡ Refused) }
-    ensures told { result ≡ Listed → TellsRace asked.entry told.old.bytes.items told.new.bytes.items }
+    ensures told { result ≡ Listed → TellsRace asked.entry bytes.now told.old.bytes.items told.new.bytes.items }
 {
     let file = match read_race(alloc, bytes) {
         Ok(file) => file,

@@ -88,8 +88,8 @@ fn do_asked<
     ensures of_file { (r : ReplayAsked) (file : Bor (List ℕ)) → asked.entry ≡ AsksReplay r → IsPlain r → r.file ≡ Some file →
         IfOk result (λ ending. EndsReplayedFile (W.contents writer.old) (W.contents writer.new) ending
         ⊎ IsRefusedUnread (I.remaining reader.old) (I.remaining reader.new) (W.contents writer.old) (W.contents writer.new) ending) }
-    ensures listed { (r : OutcomesAsked) → asked.entry ≡ AsksOutcomes r → IfOk result (EndsTold r (W.contents writer.old)
-        (W.contents writer.new)) }
+    ensures listed { (r : OutcomesAsked) → asked.entry ≡ AsksOutcomes r → IfOk result (EndsTold r (I.remaining reader.old)
+        (W.contents writer.old) (W.contents writer.new)) }
 {
     match asked {
         Asked::Replay(replay) => {

@@ -1,8 +1,8 @@
--- What all lines call, by the first of them.
-use Rattle.std.proofs.Common.{◌≡◌, ◌∙◌, sym, ap, ℕ, List, ◌∷◌, Option, Result, Ok, Err, inl, inr}
+-- What all lines call, by the first of them; and lines that are left.
+use Rattle.std.proofs.Common.{◌≡◌, ◌∙◌, sym, ap, refl, ℕ, zero, suc, List, ◌∷◌, Option, Result, Ok, Err, inl, inr}
 use Rattle.race_texts.specs.Calls.{Row, calls_after, calls_of, ended}
 use Rattle.race_texts.specs.Faults.{IsToldOrMemory}
-use Rattle.race_texts.specs.Left.{Left, behind, none_left}
+use Rattle.race_texts.specs.Left.{AreLeftOf, Left, after_lines, behind, none_left}
 use Rattle.race_texts.specs.declared.faults.RaceFault.{RaceFault}
 use Rattle.schedule_text.specs.declared.faults.Fault.{Fault}
 
@@ -34,3 +34,19 @@ pub at_end : (tasks : ℕ) (left : Left) (end : Option Fault) (calls : List Row)
     calls_of tasks left.fault left.lines calls ≡ ended end calls
 unfolding calls_of
 at_end tasks left end calls e = ap (λ (x : Left). calls_of tasks x.fault x.lines calls) e
+
+-- all are left
+pub all_left : (all : Left) → AreLeftOf all all
+unfolding after_lines
+all_left all = (zero, refl)
+
+-- one line less
+pub one_less : (all left now : Left) → AreLeftOf all left → now ≡ behind left → AreLeftOf all now
+unfolding after_lines
+one_less all left now h e = (suc h.0, e ∙ ap behind h.1)
+
+-- some lines less
+pub some_less : (all left now : Left) (n : ℕ) → AreLeftOf all left → now ≡ after_lines n left → AreLeftOf all now
+unfolding after_lines
+some_less all left now zero h e = (h.0, e ∙ h.1)
+some_less all left now (suc n) h e = one_less all (after_lines n left) now (some_less all left (after_lines n left) n h refl) e

@@ -1,6 +1,6 @@
 -- The lines of a text.
-use Rattle.std.specs.Prelude.{ℕ, zero, suc, ◌+◌, ◌-◌, List, [], ◌∷◌, take, drop, Option, Some, None, Result}
-use Rattle.race_texts.specs.Calls.{calls_of, no_calls}
+use Rattle.std.specs.Prelude.{◌≡◌, ℕ, zero, suc, ◌+◌, ◌-◌, List, [], ◌∷◌, take, drop, Option, Some, None, Result, Ok, true}
+use Rattle.race_texts.specs.Calls.{calls_of, is_race, no_calls}
 use Rattle.race_texts.specs.declared.faults.RaceFault.{RaceFault}
 use Rattle.race_texts.specs.declared.lines.Lines.{Lines}
 use Rattle.races.specs.declared.calls.Call.{Call}
@@ -45,6 +45,28 @@ lines_in (suc more) bytes =
 abbrev pub left_in : Lines → Left
 left_in lines = lines_in (1048576 - lines.done) lines.rest.now
 
+-- without so many lines
+unfoldable pub after_lines : ℕ → Left → Left
+after_lines zero left = left
+after_lines (suc n) left = behind (after_lines n left)
+
+-- these lines are what is left after some of those
+abbrev pub AreLeftOf : Left → Left → Type 0
+AreLeftOf all left = (n : ℕ) × (left ≡ after_lines n all)
+
+-- and the first of them is `race`
+pub record BeginRace (all left : Left) : Type 0 where
+  pub after : AreLeftOf all left
+  pub line : List ℕ
+  pub first : left.lines ≡ line ∷ (behind left).lines
+  pub race : is_race line ≡ Ok true
+
 -- what all lines left behind `race` call, where there are so many tasks
 abbrev pub calls_left : ℕ → Left → Result (List (List (Option Call))) RaceFault
 calls_left tasks left = calls_of tasks left.fault left.lines (no_calls tasks)
+
+-- The calls of a race of so many tasks in a text: some lines set up, then comes `race`, and all lines behind it call this.
+pub record IsRaceIn (all : Left) (tasks : ℕ) (calls : List (List (Option Call))) : Type 0 where
+  pub left : Left
+  pub begin : BeginRace all left
+  pub called : calls_left tasks (behind left) ≡ Ok calls

@@ -1,7 +1,7 @@
 //! A whole file of a race.
 
 ghost use Rattle.std.specs.Prelude.{◌≡◌, IfOk, Ok};
-ghost use Rattle.race_texts.specs.Left.{behind, calls_left, left_in};
+ghost use Rattle.race_texts.specs.Left.{IsRaceIn, behind, calls_left, left_in, lines_in};
 
 use crate::calls::Calls;
 use crate::faults::RaceFault;
@@ -47,7 +47,9 @@ fn expect_idle(core: &Core) -> Result<(), RaceFault> {
 }
 
 /// Reads a race; its fault is the first.
-pub fn read_race(alloc: Global, bytes: &[u8]) -> Result<RaceFile, ReplayFault> {
+pub fn read_race(alloc: Global, bytes: &[u8]) -> Result<RaceFile, ReplayFault>
+    ensures { IfOk result (λ file. IsRaceIn (lines_in 1048576 bytes.now) file.core.config.tasks file.calls.race.calls.items) }
+{
     let mut lines = Lines::new(bytes);
     match read_lines(alloc, &mut lines) {
         Ok(file) => Ok(file),
@@ -55,7 +57,9 @@ pub fn read_race(alloc: Global, bytes: &[u8]) -> Result<RaceFile, ReplayFault> {
     }
 }
 
-fn read_lines(alloc: Global, lines: &mut Lines<'_>) -> Result<RaceFile, RaceFault> {
+fn read_lines(alloc: Global, lines: &mut Lines<'_>) -> Result<RaceFile, RaceFault>
+    ensures { IfOk result (λ file. IsRaceIn (left_in lines.old) file.core.config.tasks file.calls.race.calls.items) }
+{
     let session = set_up(alloc, lines)?;
     RaceFile::read(alloc, &session, lines)
 }
