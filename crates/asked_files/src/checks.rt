@@ -1,6 +1,7 @@
 //! Checks of schedules, from the command line.
 
-ghost use Rattle.std.specs.Prelude.{◌≡◌, ◌⊎◌, ◌≤◌, IfOk};
+ghost use Rattle.std.specs.Prelude.{◌≡◌, ◌⊎◌, ◌<◌, ◌≤◌, ◌+◌, ◌++◌, ◌^◌, IfOk, OnOk, length};
+ghost use Rattle.asked_files.specs.Checks.{TellsPassed, count_checked, counts_text};
 ghost use Rattle.endings.specs.declared.ends.Ending.TheVariants.{Passed, Refused};
 
 use endings::{Ending, unopened};
@@ -15,22 +16,23 @@ use std::rt::Files;
 /// How many schedules passed and failed, and what is told of those that failed.
 #[derive(Drop)]
 struct Checks {
-    passed: u32,
-    failed: u32,
+    passed: u64,
+    failed: u64,
     told: Output,
 }
 
 impl Checks {
     /// Checks one schedule more.
     fn add(&mut self, alloc: Global, name: &str, schedule: &[u8]) -> Result<(), AllocError>
-        ensures { self.old.failed ≤ self.new.failed }
+        requires { self.old.passed + self.old.failed + 1 < 2 ^ 64 }
+        ensures { OnOk result (self.new.passed + self.new.failed ≡ self.old.passed + self.old.failed + 1) }
     {
         let checked = check(alloc, name, schedule)?;
         self.told.text(checked.told.bytes.as_slice())?;
         if checked.passed {
-            self.passed = self.passed.saturating_add(1);
+            self.passed += 1;
         } else {
-            self.fail();
+            self.failed += 1;
         }
         Ok(())
     }
@@ -43,7 +45,8 @@ impl Checks {
         file: &str,
         errors: &mut E,
     ) -> Result<(), AllocError>
-        ensures { self.old.failed ≤ self.new.failed }
+        requires { self.old.passed + self.old.failed + 1 < 2 ^ 64 }
+        ensures { OnOk result (self.new.passed + self.new.failed ≡ self.old.passed + self.old.failed + 1) }
     {
         match fs::read(rt, file) {
             Ok(schedule) => {
@@ -52,7 +55,7 @@ impl Checks {
             }
             Err(error) => {
                 let _ = unopened(file, &error, errors);
-                self.fail();
+                self.failed += 1;
                 Ok(())
             }
         }
@@ -65,39 +68,31 @@ impl Checks {
         reader: &mut I,
         errors: &mut E,
     ) -> Result<(), AllocError>
-        ensures { self.old.failed ≤ self.new.failed }
+        requires { self.old.passed + self.old.failed + 1 < 2 ^ 64 }
+        ensures { OnOk result (self.new.passed + self.new.failed ≡ self.old.passed + self.old.failed + 1) }
     {
         let mut schedule = Vec::new(alloc);
         match reader.read_to_end(&mut schedule) {
             Ok(_) => self.add(alloc, "", schedule.as_slice()),
             Err(error) => {
                 let _ = unopened("standard input", &error, errors);
-                self.fail();
+                self.failed += 1;
                 Ok(())
             }
         }
     }
 
-    /// Counts one that failed.
-    fn fail(&mut self)
-        ensures counted { 1 ≤ self.new.failed }
-        ensures more { self.old.failed ≤ self.new.failed }
-    {
-        self.failed = self.failed.saturating_add(1);
-    }
-
     /// Writes what was told, and last how many passed and failed.
     fn write<W: Write, E: Write>(
         &mut self,
-        alloc: Global,
         writer: &mut W,
         errors: &mut E,
     ) -> Result<Ending, AllocError>
         ensures ends { IfOk result (λ ending. (ending ≡ Passed) ⊎ (ending ≡ Refused)) }
-        ensures passed { IfOk result (λ ending. ending ≡ Passed → self.old.failed ≡ 0) }
+        ensures passed { IfOk result (λ ending. ending ≡ Passed →
+            (self.old.failed ≡ 0) × TellsPassed (self.old.passed) (W.contents writer.old) (W.contents writer.new)) }
     {
-        let text = format!(in alloc; "{} passed, {} failed\n", self.passed, self.failed)?;
-        self.told.text(text.as_bytes())?;
+        tell_counts(self.passed, self.failed, &mut self.told)?;
         match write_out(writer, self.told.bytes.as_slice()) {
             Ok(()) if self.failed == 0 => Ok(Ending::Passed),
             Ok(()) => Ok(Ending::Refused),
@@ -107,6 +102,16 @@ impl Checks {
             }
         }
     }
+}
+
+/// Tells how many passed and failed.
+#[tactic(auto, unfolding(crate::specs::Checks::counts_text))]
+fn tell_counts(passed: u64, failed: u64, told: &mut Output) -> Result<(), AllocError>
+    ensures { OnOk result (told.new.bytes.items ≡ told.old.bytes.items ++ counts_text passed failed) }
+{
+    told.number(passed)?;
+    told.numbered(b" passed, ", failed)?;
+    told.text(b" failed\n")
 }
 
 /// Checks the schedules of some files, or that of the reader, where none is named. Writes what differs, and last how many passed and
@@ -119,7 +124,9 @@ pub fn run_checks<R: Files + Alloc<A = Global>, I: Read, W: Write, E: Write>(
     writer: &mut W,
     errors: &mut E,
 ) -> Result<Ending, AllocError>
-    ensures { IfOk result (λ ending. (ending ≡ Passed) ⊎ (ending ≡ Refused)) }
+    ensures ends { IfOk result (λ ending. (ending ≡ Passed) ⊎ (ending ≡ Refused)) }
+    ensures passed { IfOk result (λ ending. ending ≡ Passed →
+        TellsPassed (count_checked (length files.now)) (W.contents writer.old) (W.contents writer.new)) }
 {
     let mut checks = Checks {
         passed: 0,
@@ -132,5 +139,5 @@ pub fn run_checks<R: Files + Alloc<A = Global>, I: Read, W: Write, E: Write>(
     if files.is_empty() {
         checks.add_read(alloc, reader, errors)?;
     }
-    checks.write(alloc, writer, errors)
+    checks.write(writer, errors)
 }
