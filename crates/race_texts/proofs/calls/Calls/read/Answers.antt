@@ -26,10 +26,11 @@ loop-calls-preserved c =
     let left = left_in c.loop-calls.lines in
     let more = c.read_line.new.self.race.calls.items in
     let first : left.lines ≡ c.in-Some.line.now ∷ (behind left).lines =
-    subst (λ found. IfSome found (λ line. left.lines ≡ line.now ∷ (behind left).lines)) c.in-Some.is c.in_ok-line.ensures.some in
-    (c.in_ok-read_line.ensures.tasks ∙ c.loop-calls.invariant.0,
-    c.loop-calls.invariant.1 ∙ at_line _ _ _ _ _ (Ok more) c.loop-calls.invariant.0 first c.in_ok-read_line.ensures.read
-    ∙ sym (ap (λ (x : Left). calls_of c.args.tasks x.fault x.lines more) c.take.ensures.left))
+    subst (λ found. IfSome found (λ line. left.lines ≡ line.now ∷ (behind left).lines)) c.in-Some.is c.in_ok-line.ensures.some in (
+      c.in_ok-read_line.ensures.tasks ∙ c.loop-calls.invariant.0,
+      c.loop-calls.invariant.1 ∙ at_line _ _ _ _ _ (Ok more) c.loop-calls.invariant.0 first c.in_ok-read_line.ensures.read
+          ∙ sym (ap (λ (x : Left). calls_of c.args.tasks x.fault x.lines more) c.take.ensures.left),
+    )
 
 pub returns-clause-read : goal.returns-clause-read
 returns-clause-read c = c.loop-calls.invariant.1 ∙ at_end _ _ _ _ (c.in_ok-line.ensures.none (ap Ok c.in_default.is))
