@@ -1,5 +1,5 @@
 -- How the program ends that did what was asked for.
-use Rattle.std.proofs.Common.{◌≡◌, inl, inr, refl, sym, subst, ◌∙◌, ℕ, Bool, true, false, List, Option, Some, None, Result, Ok, Err, IfOk}
+use Rattle.std.proofs.Common.{◌≡◌, inl, inr, refl, sym, subst, ◌∙◌, ℕ, zero, suc, Bool, true, false, List, Option, Some, None, Result, Ok, Err, IfOk}
 use Rattle.std.specs.Borrow.{Bor}
 use Rattle.std.specs.declared.alloc.AllocError.{AllocError}
 use Rattle.command_line.specs.CommandLine.{IsPlain, IsPlainOfInput}
@@ -11,7 +11,8 @@ use Rattle.command_line.specs.declared.words.Replay.{Replay}
 use Rattle.endings.specs.Endings.{of_file}
 use Rattle.endings.specs.declared.ends.Ending.{Ending}
 use Rattle.endings.specs.declared.ends.Ending.TheVariants.{Done, DoneOfFile, DoneOverGates, Shown, Passed, Listed, Ran, Told, Refused, Misused}
-use Rattle.program.specs.Asking.{EndsReplayed, MayEnd, done_in, done_of, ending_of}
+use Rattle.asked_files.specs.Checks.{TellsPassed, count_checked}
+use Rattle.program.specs.Asking.{EndsChecked, EndsReplayed, MayEnd, TellsSomePassed, done_in, done_of, ending_of}
 use Rattle.schedule_bytes.specs.declared.replay_faults.ReplayFault.{ReplayFault}
 use Rattle.transcripts.specs.Replayed.{Replayed}
 
@@ -59,6 +60,39 @@ done_plainly (ask.Told text) ending (inr e) done = cc
 done_plainly ask.Unread ending e done = cc
 done_plainly ask.Misused ending e done = cc
 
+-- no replay ends with `Passed`
+never_passed : (file : Option (Bor (List ℕ))) (form : Form) (over_gates : Bool) → done_of file (done_in form over_gates) ≡ Passed → ⊥
+never_passed None Plain true e = cc
+never_passed None Plain false e = cc
+never_passed None Events over_gates e = cc
+never_passed None Columns over_gates e = cc
+never_passed None Json over_gates e = cc
+never_passed (Some file) Plain true e = cc
+never_passed (Some file) Plain false e = cc
+never_passed (Some file) Events over_gates e = cc
+never_passed (Some file) Columns over_gates e = cc
+never_passed (Some file) Json over_gates e = cc
+
+-- one at least is checked
+some_told : (n : ℕ) (held holds : Option (List ℕ)) → TellsPassed (count_checked n) held holds → TellsSomePassed held holds
+some_told zero held holds told = record { others = 0; told = told }
+some_told (suc n) held holds told = record { others = n; told = told }
+
+-- who ends with `Passed` was asked for checks, and tells of one at least that it passed
+passes : (asked : Asked) (ending : Ending) (held holds : Option (List ℕ)) → MayEnd asked ending → EndsChecked asked held holds ending →
+    ending ≡ Passed → TellsSomePassed held holds
+passes (ask.Replay r) ending held holds (inl e) told passed = absurd (never_passed r.file r.form r.over_gates (sym e ∙ passed))
+passes (ask.Replay r) ending held holds (inr e) told passed = cc
+passes (ask.Check files) ending held holds may told passed = some_told _ held holds (told passed)
+passes (ask.Outcomes race) ending held holds (inl e) told passed = cc
+passes (ask.Outcomes race) ending held holds (inr e) told passed = cc
+passes (ask.Run numbers tells) ending held holds (inl e) told passed = cc
+passes (ask.Run numbers tells) ending held holds (inr e) told passed = cc
+passes (ask.Told text) ending held holds (inl e) told passed = cc
+passes (ask.Told text) ending held holds (inr e) told passed = cc
+passes ask.Unread ending held holds e told passed = cc
+passes ask.Misused ending held holds e told passed = cc
+
 -- a replay that ended well
 answered : (answer : Result (Unit {0}) ReplayFault) → ending_of answer ≡ Done → answer ≡ Ok tt
 answered (Ok x) e = refl
@@ -89,3 +123,13 @@ module _ (r : Result Ending AllocError) (asked : Asked) (ends : IfOk r (MayEnd a
           IfOk r (λ ending. ending ≡ Done → P)
       by (Err e) ends P how = tt
       by (Ok ending) ends P how = λ done. how (done_plainly asked ending ends done)
+
+  -- where it ends with `Passed`, one check at least was told to have passed
+  pub passed_told : (held holds : Option (List ℕ)) → IfOk r (EndsChecked asked held holds) →
+      IfOk r (λ ending. ending ≡ Passed → TellsSomePassed held holds)
+  passed_told = by r ends
+    where
+      by : (r : Result Ending AllocError) → IfOk r (MayEnd asked) → (held holds : Option (List ℕ)) → IfOk r (EndsChecked asked held holds) →
+          IfOk r (λ ending. ending ≡ Passed → TellsSomePassed held holds)
+      by (Err e) ends held holds told = tt
+      by (Ok ending) ends held holds told = passes asked ending held holds ends told

@@ -1,7 +1,8 @@
 -- What the program does that is asked for something, and how it ends.
-use Rattle.std.specs.Prelude.{◌≡◌, ◌⊎◌, ℕ, Bool, true, false, List, Option, Some, None, Result, Ok, Err}
+use Rattle.std.specs.Prelude.{◌≡◌, ◌⊎◌, ℕ, suc, Bool, true, false, List, Option, Some, None, Result, Ok, Err, vec_len}
 use Rattle.std.specs.Borrow.{Bor}
 use Rattle.std.specs.Io.KnownBytes.{Keeps}
+use Rattle.asked_files.specs.Checks.{TellsPassed, count_checked}
 use Rattle.command_line.specs.declared.words.Asked.{Asked}
 use Rattle.command_line.specs.declared.words.Asked.TheVariants as ask
 use Rattle.command_line.specs.declared.words.Form.{Form}
@@ -57,3 +58,13 @@ pub record IsRefusedUnread (input left held holds : Option (List ℕ)) (ending :
   pub unread : Keeps input left
   pub unwritten : Keeps held holds
   pub ends : ending ≡ Refused
+
+-- checks that passed: what is written ends with the line that says so of as many as were asked for
+abbrev pub EndsChecked : Asked → Option (List ℕ) → Option (List ℕ) → Ending → Type 0
+EndsChecked (ask.Check files) held holds ending = ending ≡ Passed → TellsPassed (count_checked (vec_len files)) held holds
+EndsChecked asked held holds ending = Unit {0}
+
+-- the same of one schedule at least
+pub record TellsSomePassed (held holds : Option (List ℕ)) : Type 0 where
+  pub others : ℕ
+  pub told : TellsPassed (suc others) held holds

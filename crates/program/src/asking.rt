@@ -6,8 +6,8 @@ ghost use Rattle.command_line.specs.CommandLine.{IsPlain, MayAskPlainly, ask_pla
 ghost use Rattle.command_line.specs.declared.words.Asked.TheVariants.{Outcomes as AsksOutcomes, Replay as AsksReplay, Unread};
 ghost use Rattle.command_line.specs.declared.words.Outcomes.{Outcomes as OutcomesAsked};
 ghost use Rattle.command_line.specs.declared.words.Replay.{Replay as ReplayAsked};
-ghost use Rattle.endings.specs.declared.ends.Ending.TheVariants.{Done, Ran, Refused};
-ghost use Rattle.program.specs.Asking.{MayEnd, EndsReplayed, EndsReplayedFile, IsRefusedUnread, done_in, done_of};
+ghost use Rattle.endings.specs.declared.ends.Ending.TheVariants.{Done, Passed, Ran, Refused};
+ghost use Rattle.program.specs.Asking.{MayEnd, EndsChecked, EndsReplayed, EndsReplayedFile, IsRefusedUnread, TellsSomePassed, done_in, done_of};
 ghost use Rattle.asked_files.specs.Outcomes.{EndsTold};
 ghost use Rattle.transcripts.specs.Replayed.{Replayed};
 
@@ -60,6 +60,7 @@ pub fn run<
     ensures only { IfOk result (λ ending. ending ≡ Done → MayAskPlainly (map string_bytes words.now)) }
     ensures done { IfOk result (λ ending. ending ≡ Done →
         Replayed (I.remaining reader.old) (I.remaining reader.new) (W.contents writer.old) (W.contents writer.new) (Ok tt)) }
+    ensures passed { IfOk result (λ ending. ending ≡ Passed → TellsSomePassed (W.contents writer.old) (W.contents writer.new)) }
 {
     let asked = read_words(alloc, words, errors)?;
     do_asked(rt, alloc, asked, reader, writer, errors, person)
@@ -90,6 +91,7 @@ fn do_asked<
         ⊎ IsRefusedUnread (I.remaining reader.old) (I.remaining reader.new) (W.contents writer.old) (W.contents writer.new) ending) }
     ensures listed { (r : OutcomesAsked) → asked.entry ≡ AsksOutcomes r → IfOk result (EndsTold r (I.remaining reader.old)
         (W.contents writer.old) (W.contents writer.new)) }
+    ensures checked { IfOk result (EndsChecked asked.entry (W.contents writer.old) (W.contents writer.new)) }
 {
     match asked {
         Asked::Replay(replay) => {

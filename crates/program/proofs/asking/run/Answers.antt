@@ -1,6 +1,6 @@
 use Rattle.std.proofs.Common.{inl, inr}
 use Rattle.std.proofs.lemmas.Result.{IfOk-weaker}
-use Rattle.program.proofs.Asked.{done_asked, done_replayed}
+use Rattle.program.proofs.Asked.{done_asked, done_replayed, passed_told}
 use Rattle.program.proofs.asking.run.Goals as goal
 
 pub returns-clause-plain : goal.returns-clause-plain
@@ -14,3 +14,6 @@ returns-clause-only g c = done_asked c.do_asked.result c.in_ok-asked.asked c.do_
 
 pub returns-clause-done : goal.returns-clause-done
 returns-clause-done g c = done_replayed c.do_asked.result c.in_ok-asked.asked c.do_asked.ensures.ends _ _ _ _ c.do_asked.ensures.plain
+
+pub returns-clause-passed : goal.returns-clause-passed
+returns-clause-passed g c = passed_told c.do_asked.result c.in_ok-asked.asked c.do_asked.ensures.ends _ _ c.do_asked.ensures.checked
