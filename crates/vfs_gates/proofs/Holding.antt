@@ -6,7 +6,7 @@ use Rattle.access_model.specs.declared.{actions.Action.TheVariants.{Open as Open
 use Rattle.access_model.specs.declared.replies.{Next.TheVariants.{Go, Wait, Done}, Reply.{Reply, TheVariants.Node as NodeReply}}
 use Rattle.cpu_words.specs.declared.{events.Touch.{Touch, TheVariants.And}, names.WordName.{WordName, TheVariants.Node}}
 use Rattle.mount_counts.specs.Phases.{has_flag}
-use Rattle.gate_world.specs.{Claims.all_levels_closed, Courses.course_of, Found.{clean_found, cleans, found_complete, found_read_only, found_sealed}}
+use Rattle.gate_world.specs.{Operations.all_levels_closed, Courses.course_of, Found.{clean_found, cleans, found_complete, found_read_only, found_sealed}}
 use Rattle.gate_world.specs.{Found.found_shared, Holdings.{Holdings, holdings_of, held_after}, Traces.actions_of, declared.config.Config.Config}
 use Rattle.gate_world.specs.declared.operations.Op.{Op, TheVariants.{Want, DropMount, ChangeMount, RemountSb, Start, End, WantWrite, DropWrite, Callback}}
 use Rattle.gate_world.specs.declared.{operations.Op.TheVariants.{Freeze, Thaw, Create, Open, Close, Snapshot}, views.Traced.Traced, work.Phase.Phase}
