@@ -7,11 +7,11 @@ use Rattle.access_model.specs.declared.{actions.NodeInfo.NodeInfo, errors.GateEr
 use Rattle.access_model.specs.declared.replies.Next.TheVariants.{Wait, Done}
 use Rattle.cpu_words.specs.declared.{events.Touch.{Touch, TheVariants.And}, names.WordName.{WordName, TheVariants.Node}}
 use Rattle.mount_counts.specs.Phases.{has_flag}
-use Rattle.gate_world.specs.{Beginnings.is_in_order, Claims.{two_levels_closed, all_levels_closed}, Configs.IsWithin, Courses.{course_of, IsTrace}}
+use Rattle.gate_world.specs.{Beginnings.is_in_order, Operations.{two_levels_closed, all_levels_closed}, Configs.IsWithin, Courses.{course_of, IsTrace}}
 use Rattle.gate_world.specs.{Found.{clean_found, cleans, stored_stage}, Holdings.holdings_of, Traces.{actions_of, Tells}, Views.held_of}
 use Rattle.gate_world.specs.declared.{config.Config.Config, operations.Op.{Op, TheVariants.{RemountSb, WantWrite, Freeze as FreezeOp}}, views.Traced.Traced}
 use Rattle.gate_world.specs.declared.work.Phase.{Phase}
-use Rattle.gate_core.proofs.Layers.{op_keeps}
+use Rattle.operation_laws.proofs.Layers.{op_keeps}
 use Rattle.gate_steps.specs.Seating.{SeatItems}
 use Rattle.call_events.specs.{Refused.{LeavesTree, IsUnchanged, IsHonestWait, WaitsHonestly}, Runs.ran_items, TaskStates.{own_number, own_view}}
 use Rattle.call_events.proofs.Asked.{either_way}

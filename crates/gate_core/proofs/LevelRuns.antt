@@ -10,7 +10,8 @@ use Rattle.gate_world.specs.{LevelRuns.{level_in, level_after, IsLevelRun, Grace
 use Rattle.gate_world.specs.{Views.{begun_view, held_of}, Worlds.{World, Entry, Begins, Steps, begin_of, step_of, happens, run, opening}}
 use Rattle.gate_world.specs.declared.{config.Config.Config, operations.Op.Op, work.Phase.Phase}
 use Rattle.gate_frames.proofs.{LevelSteps.{level_stays, level_kept}, LevelWorlds.level_right}
-use Rattle.gate_core.proofs.{Beginnings.may_begin, Layers.{phase_keeps, op_keeps}, Schedule.{idle_is, happens_keeps}, Whole.whole_rule}
+use Rattle.operation_laws.proofs.Layers.{phase_keeps, op_keeps}
+use Rattle.gate_core.proofs.{Beginnings.may_begin, Schedule.{idle_is, happens_keeps}, Whole.whole_rule}
 
 module _ (c : Config) (lim : IsWithin c) (i : ℕ) (one : 1 ≤ i) (three : i ≤ 3) where
   still : (w next : World) → level_in next i ≡ level_in w i → SyncStep c.tasks (level_in w i) (level_in next i)

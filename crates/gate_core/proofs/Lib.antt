@@ -1,4 +1,3 @@
-pub mod Layers
 pub mod Beginnings
 pub mod Phases
 pub mod Entries

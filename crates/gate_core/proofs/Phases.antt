@@ -6,7 +6,7 @@ use Rattle.gate_world.specs.{Configs.{IsWithin, extents_kept, extents_among}, Fi
 use Rattle.gate_world.specs.{Holdings.{Holdings, Agree, held_after}, Views.phase_after, Work.{next_of, after_of}}
 use Rattle.gate_world.specs.declared.{config.Config.Config, work.Phase.Phase}
 use Rattle.gate_frames.proofs.{Keeps.word_kept, Places.few_among}
-use Rattle.gate_core.proofs.Layers.{phase_keeps}
+use Rattle.operation_laws.proofs.Layers.{phase_keeps}
 
 module _ (c : Config) (within : IsWithin c) (t : ℕ) (held : Holdings) where
   -- the word of its next event is there

@@ -4,7 +4,8 @@ use Rattle.access_model.specs.{States.opening_state, declared.{actions.Action.Ac
 use Rattle.cpu_words.specs.Hooks.{HookAnswer}
 use Rattle.finite_sums.proofs.Totals.{each_updated, total_bound, total_none, total_same}
 use Rattle.finite_sums.specs.Sums.{total, update}
-use Rattle.gate_core.proofs.{Beginnings.{MayBegin, first_fits, may_begin}, Layers.{op_keeps, phase_keeps}}
+use Rattle.operation_laws.proofs.Layers.{op_keeps, phase_keeps}
+use Rattle.gate_core.proofs.Beginnings.{MayBegin, first_fits, may_begin}
 use Rattle.gate_counts.proofs.{Events.words_sum, Flags.gate_begins, Numbers.below_le}
 use Rattle.gate_counts.specs.{Gates.{below, counted as counted_of}, Levels.{level_as_gate, processor_of as level_processor}}
 use Rattle.gate_frames.proofs.{Beside.{SameCounts, beside_good, beside_of, beside_shown}, Frames.{left_alone, opens_left, same_words}, Trees.tree_within}

@@ -13,8 +13,8 @@ use Rattle.gate_world.specs.{Snapshots.{completes, last_snapshot}, Views.{view_a
 use Rattle.gate_world.specs.Worlds.{World, Entry, Begins, Steps, begin_of, after_step_beside, step_of, happens, phase_action, action_of, task_of, with_action}
 use Rattle.gate_world.specs.Worlds.{found_at, value_at, run, history}
 use Rattle.gate_world.specs.declared.{config.Config.Config, operations.Op.Op, views.{Snapshot.Snapshot, View.View}, work.Phase.Phase}
-use Rattle.operation_laws.proofs.Frozen.{frozen_whole}
-use Rattle.gate_core.proofs.{Layers.phase_keeps, Lists.{lists, happens_lists}, Schedule.{happens_keeps, legal_more}}
+use Rattle.operation_laws.proofs.{Frozen.frozen_whole, Layers.phase_keeps}
+use Rattle.gate_core.proofs.{Lists.{lists, happens_lists}, Schedule.{happens_keeps, legal_more}}
 
 -- the parent of a node is a directory also in a tree that shows the same nodes
 directory_as : (nodes : ℕ) (old new : ℕ → Option NodeInfo) → ((n : ℕ) → n < nodes → old n ≡ new n) → (node : Option NodeInfo) →

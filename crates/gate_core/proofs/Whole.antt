@@ -12,9 +12,9 @@ use Rattle.gate_world.specs.{Holdings.holdings_of, KeptCauses.CauseOf, Rules.IsG
 use Rattle.gate_world.specs.{Waits.{HasReason, EachWaitHasCulprit, HasCulpritAmong}, Work.after_of, Worlds.{World, Entry, opening, happens, run, found_at}}
 use Rattle.gate_world.specs.declared.{config.Config.Config, operations.Op.Op, views.{Traced.Traced, View.View}, work.Phase.Phase}
 use Rattle.gate_frames.proofs.{MayHolds.events_may_be, Traced.{opening_traced, entry_keeps}}
-use Rattle.operation_laws.proofs.Frozen.{frozen_whole}
+use Rattle.operation_laws.proofs.{Frozen.frozen_whole, Layers.{phase_keeps, op_keeps}}
 use Rattle.gate_core.proofs.{Beginnings.may_begin, Between.{AllTold, entry_told, opening_told, holders_told}, Entries.{TrailHolds, trail_holds, begun_on}}
-use Rattle.gate_core.proofs.{Layers.{phase_keeps, op_keeps}, Leads.levels_lead, Lists.run_lists, Rests.{at_rest, a_freeze_is_under_way}}
+use Rattle.gate_core.proofs.{Leads.levels_lead, Lists.run_lists, Rests.{at_rest, a_freeze_is_under_way}}
 use Rattle.gate_core.proofs.{Schedule.{opening_good, opening_shown, happens_keeps, run_keeps, gate_sums, idle_sums}, Snapshots.run_moments}
 use Rattle.gate_core.proofs.Standing.{snapshots_stand}
 

@@ -3,7 +3,7 @@
 use Rattle.std.proofs.Common.{◌≡◌, ℕ, ◌<◌, ◌≤◌, ◌*◌, subst, ap, true, false, arith}
 use Rattle.std.specs.Prelude.{Ok, Err, Some, is_some}
 use Rattle.mount_counts.specs.{Phases.{want_next, change_next}, Remounts.remount_next, declared.phases.MountPhase.TheVariants.Want as MWants}
-use Rattle.mount_counts.specs.declared.phases.{MountPhase.TheVariants.{Drop as MDrops, Change as MChanges}, WantStep.TheVariants.CountsUp}
+use Rattle.mount_counts.specs.declared.phases.{MountPhase.TheVariants.{Change as MChanges}, WantStep.TheVariants.CountsUp}
 use Rattle.mount_counts.specs.declared.phases.{ChangeStep.{TheVariants.Locks, ChangeStep}, Want.Want, Change.Change, WantStep.WantStep}
 use Rattle.mount_counts.specs.declared.remounts.{RemountStep.TheVariants.{SetsWritable, ClearsMark, SetsReadOnly as RSetsReadOnly}, Remount.Remount}
 use Rattle.mount_counts.specs.declared.remounts.RemountStep.{RemountStep}
@@ -34,7 +34,7 @@ use Rattle.gated_tree.specs.declared.snapshots.{SnapshotStep.{TheVariants.LoadsN
 use Rattle.gate_world.specs.{Configs.IsWithin, Courses.{MayHold, MayFind, CloseMayFind, OpenMayFind, EventsMayBe}, Fits.{FreezeFits, ThawFits, WriteFits}}
 use Rattle.gate_world.specs.{Fits.{PhaseFits, CloseFits, HasFile, file_of, Fits}, Holdings.Holdings, Remounts.RemountFits, Rules.{IsGood, Tree, Files}}
 use Rattle.gate_world.specs.{Rules.{Fitting, SyncAt, SyncHoldsIn}, Trees.{tree_bounds, tree_role_of}, Views.{held_of, has_open}, Work.next_of, Worlds.World}
-use Rattle.gate_world.specs.declared.{config.Config.Config, work.Phase.TheVariants.{Mounts, Remounts, DownReads, UpReads, Callbacks, Writes, Freezes, Thaws}}
+use Rattle.gate_world.specs.declared.{config.Config.Config, work.Phase.TheVariants.{Mounts, Remounts, DownReads, Callbacks, Writes, Freezes, Thaws}}
 use Rattle.gate_world.specs.declared.work.Phase.{TheVariants.{Trees, Closes}, Phase}
 use Rattle.gated_tree.proofs.Packing.{packed_unpacks}
 use Rattle.cpu_words.specs.{Hooks.HookAnswer, Words.read, declared.names.WordName.{TheVariants.{Node, Sync}, WordName}}
@@ -170,17 +170,16 @@ module _ (c : Config) where
   phase_word : (t : ℕ) (held : Holdings) (phase : Phase) (hook : HookAnswer) → PhaseFits c t held phase →
       IsThere c (next_of phase hook).0
   phase_word t held (Mounts (MWants x)) hook fits = want_word x x.step
-  phase_word t held (Mounts (MDrops m p)) hook fits = tt
   phase_word t held (Mounts (MChanges x)) hook fits = change_word x x.step
   phase_word t held (Remounts x) hook fits = remount_word x x.step hook fits.5
   phase_word t held (DownReads r) hook fits = read_word r r.step fits.0 fits.1
-  phase_word t held (UpReads u) hook fits = tt
   phase_word t held (Callbacks b) hook fits = callback_word b b.step fits.0 fits.1
   phase_word t held (Writes x) hook fits = write_word t held x fits
   phase_word t held (Freezes x) hook fits = freeze_word x x.step hook fits.5
   phase_word t held (Thaws x) hook fits = thaw_word x x.step hook fits.2
   phase_word t held (Trees x) hook fits = tree_word t x hook fits.0
   phase_word t held (Closes x) hook fits = close_word t held x fits
+  phase_word t held other hook fits = tt
 
   -- the words of a good world hold what they may
   held_well : (w : World) → IsGood c w → (word : WordName) → IsThere c word → MayHold word (read w.words word)

@@ -1,5 +1,5 @@
 -- What the events of want, drop and change touch: the rest of the rule stays.
-use Rattle.std.proofs.{Common.{Bool, arith, inl, inr, refl, sym, true, true≢false, ◌≡◌, ◌<◌, ◌⊎◌, subst, ℕ, ◌∙◌, ap, List}, lemmas.Bool.cases_Bool}
+use Rattle.std.proofs.{Common.{Bool, arith, inl, inr, refl, sym, true, true≢false, ◌≡◌, ◌<◌, ◌⊎◌, subst, ℕ, ◌∙◌, ap, List}, lemmas.Bool.{cases_Bool, or_cases}}
 use Rattle.std.specs.Prelude.{Some, false, sum, ◌==◌, if◌then◌else◌}
 use Rattle.access_model.specs.{Histories.{levels_of, opens_of}, Replies.map_next, declared.{actions.Action.Action, replies.Next.Next}}
 use Rattle.cpu_words.specs.{Hooks.HookAnswer, Touches.{event_of, found_by, left}, Words.{Words, put, read}}
@@ -38,8 +38,8 @@ change_touches x s = inr refl
 
 mounts_touch : (x : MountPhase) (hook : HookAnswer) → IsGateTouch (next x hook)
 mounts_touch (MountPhase.Want x) hook = want_touches x x.step
-mounts_touch (MountPhase.Drop m p) hook = inr refl
 mounts_touch (MountPhase.Change x) hook = change_touches x x.step
+mounts_touch x hook = or_cases _ _ refl
 
 -- the part of what an owner knows, which each event's own trace moves
 abbrev pub is_known_part : Part → Bool
@@ -167,11 +167,11 @@ mounts_work w (MountPhase.Want x) hook = record {
   changes = λ h. inl (want_changes x x.step h);
   comes_to_own = λ h. absurd (omega (arith, want_owns (want_after x x.step (found_at w.words (Phase.Mounts (MountPhase.Want x)) hook)).0, h));
 }
-mounts_work w (MountPhase.Drop m p) hook = record { changes = λ h. absurd (true≢false (sym h)); comes_to_own = λ h. absurd (omega (arith, h)) }
 mounts_work w (MountPhase.Change x) hook = record {
   changes = change_changes x x.step;
   comes_to_own = change_comes x x.step (value_at w.words (Phase.Mounts (MountPhase.Change x)) hook);
 }
+mounts_work w x hook = record { changes = λ h. inl (cc); comes_to_own = λ h. absurd (omega (arith, h)) }
 
 -- they add no action at a level
 want_levels : (x : Want) (s : WantStep) (found : ℕ) (actions : List Action) →
@@ -187,8 +187,8 @@ change_levels x s found actions = refl
 mounts_levels : (x : MountPhase) (found : ℕ) (hook : HookAnswer) (actions : List Action) →
     levels_of (actions_after (after x found hook).1 actions) ≡ levels_of actions
 mounts_levels (MountPhase.Want x) found hook actions = want_levels x x.step found actions
-mounts_levels (MountPhase.Drop m p) found hook actions = refl
 mounts_levels (MountPhase.Change x) found hook actions = change_levels x x.step found actions
+mounts_levels x found hook actions = refl
 
 -- nor of a file
 want_opens : (x : Want) (s : WantStep) (found : ℕ) (actions : List Action) →
@@ -204,8 +204,8 @@ change_opens x s found actions = refl
 mounts_opens : (x : MountPhase) (found : ℕ) (hook : HookAnswer) (actions : List Action) →
     opens_of (actions_after (after x found hook).1 actions) ≡ opens_of actions
 mounts_opens (MountPhase.Want x) found hook actions = want_opens x x.step found actions
-mounts_opens (MountPhase.Drop m p) found hook actions = refl
 mounts_opens (MountPhase.Change x) found hook actions = change_opens x x.step found actions
+mounts_opens x found hook actions = refl
 
 -- so their events are unseen at the levels
 mounts_unseen : (v : View) (x : MountPhase) (value : ℕ) (hook : HookAnswer) → v.phase ≡ Some (Phase.Mounts x) →

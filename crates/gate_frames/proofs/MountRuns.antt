@@ -34,8 +34,8 @@ change_words w x s hook i = (refl, refl, refl, refl)
 
 mount_words : (w : Words) (x : MountPhase) (hook : HookAnswer) (i : ℕ) → SameWords w (words_after w (Phase.Mounts x) hook) (SyncAt i)
 mount_words w (MountPhase.Want x) hook i = want_words w x x.step hook i
-mount_words w (MountPhase.Drop m p) hook i = (refl, refl, refl, refl)
 mount_words w (MountPhase.Change x) hook i = change_words w x x.step hook i
+mount_words w x hook i = (refl, refl, refl, refl)
 
 -- each event of want, drop or change is one at which each level stays
 pub mounts_run : (tasks : ℕ) (w : World) (t : ℕ) → t < tasks → (hook : HookAnswer) (x : MountPhase) →

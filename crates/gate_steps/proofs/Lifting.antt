@@ -14,8 +14,8 @@ use Rattle.gate_world.specs.{Worlds.{found_at, after_step, after_step_beside, ph
 use Rattle.gate_world.specs.declared.{views.{View.View, Snapshot.Snapshot}, work.Phase.Phase}
 use Rattle.moment_laws.specs.Moments.{HaveDone}
 use Rattle.gate_frames.proofs.{MayHolds.events_may_be, Snapshots.others_apart}
-use Rattle.operation_laws.proofs.Frozen.{frozen_whole}
-use Rattle.gate_core.proofs.{Beginnings.may_begin, Layers.phase_keeps, Lists.{beside_lists, begin_lists}, Phases.word_there, Schedule.begun_keeps}
+use Rattle.operation_laws.proofs.{Frozen.frozen_whole, Layers.phase_keeps}
+use Rattle.gate_core.proofs.{Beginnings.may_begin, Lists.{beside_lists, begin_lists}, Phases.word_there, Schedule.begun_keeps}
 use Rattle.gate_core.proofs.{Schedule.legal_more, Snapshots.{beside_moments, begin_moments}}
 use Rattle.gate_steps.proofs.{Dealing.{times-at, known_here, inside, redealt}, Reaching.{begun_reached, stepped_reached}, Stores.there_found}
 use Rattle.gate_steps.proofs.TableWords.{table_written}

@@ -1,7 +1,7 @@
 -- No event stores into the word of a node or a sync word, so what it finds there is what the word held.
 use Rattle.std.proofs.Common.{ℕ}
 use Rattle.std.specs.Prelude.{Ok, Err}
-use Rattle.mount_counts.specs.declared.phases.MountPhase.TheVariants.{Want as MWants, Drop as MDrops, Change as MChanges}
+use Rattle.mount_counts.specs.declared.phases.MountPhase.TheVariants.{Want as MWants, Change as MChanges}
 use Rattle.mount_counts.specs.declared.phases.WantStep.TheVariants.{CountsUp}
 use Rattle.mount_counts.specs.declared.phases.ChangeStep.TheVariants.{Locks}
 use Rattle.mount_counts.specs.declared.remounts.RemountStep.TheVariants.{SetsWritable, SetsReadOnly as RSetsReadOnly}
@@ -20,7 +20,7 @@ use Rattle.gated_tree.specs.declared.changes.MoveStep.TheVariants.{LoadsFile as 
 use Rattle.gated_tree.specs.declared.marks.MarkStep.TheVariants.{LoadsFile as LoadsFileToMark, MarksFile}
 use Rattle.gated_tree.specs.declared.snapshots.SnapshotStep.TheVariants.{Locks as SLocks}
 use Rattle.gated_tree.specs.declared.phases.TreePhase.TheVariants.{Create as Creates, Remove as Removes, Grow as Grows, MoveTo as Moves, Mark as TreeMarks, OpenFile as OpensOne, Snapshot as Snapshots, ClearMarks as TreeClears}
-use Rattle.gate_world.specs.declared.work.Phase.TheVariants.{Mounts, Remounts, DownReads, UpReads, Callbacks, Writes, Freezes, Thaws, Trees, Closes}
+use Rattle.gate_world.specs.declared.work.Phase.TheVariants.{Mounts, Remounts, DownReads, Callbacks, Writes, Freezes, Thaws, Trees, Closes}
 use Rattle.gated_tree.specs.Phases.{next as tree_next, remove_next, grow_next, move_next, mark_next, create_next, snapshot_next, open_next}
 use Rattle.file_closes.specs.Phases.{next as close_next}
 use Rattle.write_access.specs.Phases.{next as write_next}
@@ -188,17 +188,16 @@ close_word other = tt
 -- by no phase's next event
 pub no_store : (phase : Phase) (hook : HookAnswer) → IsNoStore (next_of phase hook)
 no_store (Mounts (MWants x)) hook = want_word x x.step
-no_store (Mounts (MDrops m p)) hook = tt
 no_store (Mounts (MChanges x)) hook = change_word x x.step
 no_store (Remounts x) hook = remount_word x x.step hook
 no_store (DownReads r) hook = read_word r r.step
-no_store (UpReads u) hook = tt
 no_store (Callbacks b) hook = callback_word b b.step
 no_store (Writes x) hook = write_word x
 no_store (Freezes x) hook = freeze_word x x.step hook
 no_store (Thaws x) hook = thaw_word x x.step hook
 no_store (Trees x) hook = tree_word x hook
 no_store (Closes x) hook = close_word x
+no_store other hook = tt
 
 -- so what an event finds in a word is what the word held, where that is a node's or a sync word
 held_found : (word : WordName) (touch : Touch) (value : ℕ) → IsNoStore (word, touch) → MayHold word value →

@@ -20,7 +20,7 @@ use Rattle.gated_tree.specs.declared.phases.TreePhase.TheVariants.{OpenFile as O
 use Rattle.gated_tree.specs.declared.snapshots.SnapshotStep.{SnapshotStep, TheVariants.LoadsStage as SnapshotLoadsStage}
 use Rattle.mount_counts.specs.Roles.{counted, has_hold}
 use Rattle.mount_counts.specs.declared.phases.ChangeStep.{ChangeStep, TheVariants.Sums}
-use Rattle.mount_counts.specs.declared.phases.MountPhase.TheVariants.{Want as Wants, Drop as Drops, Change as Changes}
+use Rattle.mount_counts.specs.declared.phases.MountPhase.TheVariants.{Want as Wants, Change as Changes}
 use Rattle.mount_counts.specs.declared.phases.WantStep.{WantStep, TheVariants.{LoadsHold, LoadsRemount, LoadsReadOnly, LoadsSuperblock}}
 use Rattle.mount_counts.specs.declared.remounts.RemountStep.{RemountStep, TheVariants.{LoadsStage, LoadsRemoved, LoadsRemovedAgain, Sums as RemountSums}}
 use Rattle.percpu_rwsem.specs.declared.readers.DownReadStep.{DownReadStep, TheVariants.LoadsBlock}
@@ -34,7 +34,7 @@ use Rattle.file_closes.specs.declared.phases.ClosePhase.{ClosePhase, TheVariants
 use Rattle.gate_world.specs.{Levels.{sync_role_of, is_frozen_whole, at_level}, Rules.{at_mount, role_of, owns}, Shown.shown, Work.after_of}
 use Rattle.gate_world.specs.Worlds.{World, Entry, happens, run, opening, found_at}
 use Rattle.gate_world.specs.declared.config.Config.{Config}
-use Rattle.gate_world.specs.declared.work.Phase.{Phase, TheVariants.{Mounts, Remounts, DownReads, UpReads, Callbacks, Writes, Freezes, Thaws, Trees, Closes}}
+use Rattle.gate_world.specs.declared.work.Phase.{Phase, TheVariants.{Mounts, Remounts, DownReads, Writes, Freezes, Thaws, Trees, Closes}}
 
 -- the worlds of a schedule, the newest first: the one that it leaves, and each that an entry found
 abbrev pub trail : Config → List World → World → List Entry → List World
@@ -322,7 +322,7 @@ TellsOf entry IsDir = IsDirectory entry
 TellsOf entry refusal = Unit {0}
 
 -- What a refusal says that an event brings in the newest of these worlds, by what its task is at there. A kind of phase has rows of its own,
--- by the refusal, so that a new one says its causes.
+-- by the refusal; one with none is never refused, so that a new one says its causes.
 
 -- a want: as read-only, and the mount was so when it last asked; again, and another task had HOLD set at the mount then
 abbrev pub WantRefused : Config → ℕ → ℕ → Option World → GateError → Type 0
@@ -392,17 +392,15 @@ TreeRefused c t worlds phase refusal = CallRefused c worlds phase refusal
 -- so of each phase
 abbrev pub HasCause : Config → ℕ → List World → Phase → GateError → Type 0
 HasCause c t worlds (Mounts (Wants x)) refusal = WantRefused c t x.mount (last_question t worlds) refusal
-HasCause c t worlds (Mounts (Drops m p)) refusal = Unit {0}
 HasCause c t worlds (Mounts (Changes x)) refusal = ChangeRefused c t worlds x.mount refusal
 HasCause c t worlds (Remounts x) refusal = RemountRefused c t worlds refusal
 HasCause c t worlds (DownReads r) refusal = ReadRefused c t worlds r.level refusal
-HasCause c t worlds (UpReads u) refusal = Unit {0}
-HasCause c t worlds (Callbacks b) refusal = Unit {0}
 HasCause c t worlds (Writes x) refusal = WriteRefused c t worlds x refusal
 HasCause c t worlds (Freezes x) refusal = FreezeRefused c t worlds x.holder refusal
 HasCause c t worlds (Thaws x) refusal = ThawRefused c t worlds x.holder refusal
 HasCause c t worlds (Trees phase) refusal = TreeRefused c t worlds phase refusal
 HasCause c t worlds (Closes phase) refusal = CloseRefused c t worlds phase refusal
+HasCause c t worlds phase refusal = ⊥
 
 -- Every refusal has its cause: after any schedule, where the next event of a task ends its operation with a refusal, whatever its phase, that
 -- has its cause among the worlds since the task began the operation.

@@ -8,7 +8,6 @@ pub mod Views
 pub mod Owners
 pub mod Holdings
 pub mod Operations
-pub mod Claims
 pub mod Accesses
 pub mod Beginnings
 pub mod Worlds

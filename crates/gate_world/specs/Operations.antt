@@ -1,5 +1,6 @@
--- One row for each operation: where it begins. What it does are its events; what is claimed of it stands in Claims.
-use Rattle.std.specs.Prelude.{ℕ, zero, suc, Bool, true, false, not, ◌&&◌, ◌||◌, nat_lt}
+-- Two rows for each operation: where it begins, and what is claimed of it. What it does are its events.
+use Rattle.std.specs.Prelude.{◌≡◌, ◌≢◌, ◌⊎◌, ℕ, zero, suc, ◌+◌, ◌*◌, ◌<◌, Bool, true, false, not, ◌&&◌, ◌||◌, nat_lt, if◌then◌else◌}
+use Rattle.std.specs.Prelude.{Option, Some, None, Result, Ok, Err, List, [], ◌∷◌, ◌++◌}
 use Rattle.access_model.specs.declared.actions.Kind.{Kind}
 use Rattle.gated_tree.specs.declared.changes.{Create.Create, CreateStep.TheVariants.LoadsDirectory, MoveStep.TheVariants.LoadsFile as LoadsFileToMove}
 use Rattle.gated_tree.specs.declared.{changes.{MoveTo.MoveTo, Remove.Remove, RemoveStep.TheVariants.LoadsFile as LoadsFileToRemove}, growth.Grow.Grow}
@@ -21,6 +22,21 @@ use Rattle.gate_world.specs.declared.operations.Op.TheVariants.{Start, End, Want
 use Rattle.gate_world.specs.declared.operations.Op.TheVariants.{Create as CreateOp, Remove as RemoveOp, Grow as GrowOp, MoveTo as MoveToOp, Fault as FaultOp}
 use Rattle.gate_world.specs.declared.operations.Op.TheVariants.{Flush as FlushOp, Open as OpenOp, Close as CloseOp, Snapshot as SnapshotOp}
 use Rattle.gate_world.specs.declared.work.Phase.{Phase, TheVariants.{Mounts, Remounts, DownReads, UpReads, Callbacks, Writes, Freezes, Thaws, Trees, Closes}}
+use Rattle.access_model.specs.declared.actions.Action.{Action}
+use Rattle.access_model.specs.declared.actions.Action.TheVariants.{Grant, Return, MountRo, MountRw, SbRo, SbRw, Stage as StageAction, Hold, Leave, Pass, Reopen}
+use Rattle.access_model.specs.declared.actions.Action.TheVariants.{Create as CreateAction, Remove as RemoveAction, Grow as GrowAction, MoveTo as MoveToAction}
+use Rattle.access_model.specs.declared.actions.Action.TheVariants.{Open as OpenAction, Close as CloseAction}
+use Rattle.access_model.specs.declared.actions.{Gate.TheVariants.{Mount, Level}, Holder.Holder}
+use Rattle.access_model.specs.declared.errors.GateError.{GateError, TheVariants.{Again, Busy, ReadOnly, Invalid, NoEntry, IsDir, Hook}}
+use Rattle.access_model.specs.declared.replies.Reply.{Reply, TheVariants.{Unit as UnitReply, Node as NodeReply, Ran, Tree as TreeReply}}
+use Rattle.cpu_words.specs.declared.names.WordName.{WordName, TheVariants.{Umount, Remount, Stage}}
+use Rattle.gated_tree.specs.Phases.{mark_done}
+use Rattle.gated_tree.specs.Refusals.{CreateHonest, FileHonest, GrowHonest, MoveHonest, SnapshotHonest, finds_free, finds_directory, finds_other}
+use Rattle.gate_world.specs.Found.{found_read_only, found_hold, found_taken, found_sealed, SeenIn, found_frozen, found_removed, found_dropped, finds_hold}
+use Rattle.gate_world.specs.Found.{finds_taken, each_event, looks_again, counts_loaded, IsEachCount, sum_loaded, ReadAnswer, cleans, newest, found_closed}
+use Rattle.gate_world.specs.Found.{left_closed, holds_since, finds_inside, finds_none_queued, transitions_made, found_incomplete, found_complete, found_moving}
+use Rattle.gate_world.specs.Found.{found_held, found_unheld, found_shared, stored_stage, finds_readers, FoundInside}
+use Rattle.gate_world.specs.declared.views.Traced.{Traced}
 
 -- where an operation begins, and who may begin it
 pub record OpRow : Type 1 where
@@ -232,4 +248,319 @@ row (SnapshotOp wait) = record {
   in_range = λ c. true;
   in_order = λ c held. holds_none held.levels;
   within_room = λ held. true;
+}
+
+-- what is claimed of an operation
+pub record OpClaims : Type 1 where
+  -- the most events, where it waits for nobody
+  pub most_events : Config → Option ℕ
+  -- what it has added, by its answer and what its trace found
+  pub actions : Result Reply GateError → List Traced → List Action
+  -- a refusal has its cause in the trace, and there is no other refusal
+  pub IsHonest : Config → GateError → List Traced → Type 0
+  -- a reply says what the trace found
+  pub IsTold : Reply → List Traced → Type 0
+  -- it may report that it waits after these events
+  pub MayWait : Config → List Traced → Type 0
+
+-- actions of an operation that adds nothing where it is refused
+abbrev pub where_done : List Action → Result Reply GateError → List Action
+where_done actions (Ok reply) = actions
+where_done actions (Err refusal) = []
+
+-- a want is refused as read-only where it found the mount so, and again where it found HOLD and doesn't wait
+abbrev want_honest : ℕ → Bool → GateError → List Traced → Type 0
+want_honest m wait ReadOnly trace = found_read_only m trace ≡ true
+want_honest m wait Again trace = (wait ≡ false) × (found_hold m trace ≡ true)
+want_honest m wait refusal trace = ⊥
+
+-- a change has added the mount's new state, but nothing where its trace found the state as it was asked for
+abbrev unless_so : Bool → Bool → ℕ → List Action
+unless_so true true m = []
+unless_so true false m = MountRo m ∷ []
+unless_so false true m = MountRw m ∷ []
+unless_so false false m = []
+
+-- the counts loaded of a mount, one of each processor, have a sum other than 0
+abbrev FoundBusy : Config → ℕ → List Traced → Type 0
+FoundBusy c m trace = IsEachCount c.processors (counts_loaded m trace) × (sum_loaded (counts_loaded m trace) ≢ 0)
+
+-- a change is refused again where it found `umount` taken and doesn't wait, and as busy where the counts that it loaded, one of each
+-- processor, have a sum other than 0
+abbrev change_honest : Config → ℕ → Bool → GateError → List Traced → Type 0
+change_honest c m wait Again trace = (wait ≡ false) × (found_taken trace ≡ true)
+change_honest c m wait Busy trace = FoundBusy c m trace
+change_honest c m wait refusal trace = ⊥
+
+-- A remount to read-only has added `sb ro` and the marks that it cleared, and `sb rw` after them where the file system refused; one to
+-- writable has added `sb rw`. It has added nothing where its trace found the superblock as it was asked for, or where it is busy.
+abbrev remount_adds : Bool → Result Reply GateError → List Traced → List Action
+remount_adds true (Ok reply) trace = if found_sealed trace then [] else cleans trace ++ (SbRo ∷ [])
+remount_adds true (Err (Hook code)) trace = SbRw ∷ (cleans trace ++ (SbRo ∷ []))
+remount_adds false (Ok reply) trace = if found_sealed trace then SbRw ∷ [] else []
+remount_adds read_only answer trace = []
+
+-- the word whose clearing the file system's refusal decides: `remount` on the way to read-only, `umount` on the way to writable
+abbrev refusing_word : Bool → WordName
+refusing_word true = Remount
+refusing_word false = Umount
+
+-- a remount is refused as busy where it found a stage other than 0, or a removed file, or the counts of one mount with a sum other than 0, and by the file
+-- system where that answered so at the event that its answer decides
+abbrev remount_honest : Config → Bool → GateError → List Traced → Type 0
+remount_honest c read_only Busy trace =
+    (found_frozen trace ≡ true) ⊎ ((found_removed trace ≡ true) ⊎ ((m : ℕ) × (m < c.mounts) × FoundBusy c m trace))
+remount_honest c read_only (Hook code) trace = ReadAnswer (refusing_word read_only) (Err code) trace
+remount_honest c read_only refusal trace = ⊥
+
+-- a start is refused again where it found the level closed and doesn't wait
+abbrev start_honest : ℕ → Bool → GateError → List Traced → Type 0
+start_honest i wait Again trace = (wait ≡ false) × (found_closed i trace ≡ true)
+start_honest i wait refusal trace = ⊥
+
+-- a taking of write access has added the grants of both gates; where it is refused, the grant of level 1 and its return
+abbrev write_adds : ℕ → Result Reply GateError → List Action
+write_adds m (Ok reply) = Grant (Mount m) ∷ (Grant (Level 1) ∷ [])
+write_adds m (Err refusal) = Return (Level 1) ∷ (Grant (Level 1) ∷ [])
+
+-- it is refused as read-only alone, where it found the mount so
+abbrev write_honest : ℕ → GateError → List Traced → Type 0
+write_honest m ReadOnly trace = found_read_only m trace ≡ true
+write_honest m refusal trace = ⊥
+
+-- A callback ran where it has made two transitions, its claim and its own; where it says that none did, it has made none, and its newest
+-- event found none queued.
+abbrev callback_told : ℕ → Reply → List Traced → Type 0
+callback_told i (Ran true) trace = transitions_made i trace ≡ 2
+callback_told i (Ran false) trace = (transitions_made i trace ≡ 0) × (newest (finds_none_queued i) trace ≡ true)
+callback_told i reply trace = ⊥
+
+-- What a freeze has added on its way to stage 3: stage 1, level 1 passed, stage 2, level 2 passed, and the marks that it cleared.
+abbrev pub two_levels_closed : List Traced → List Action
+two_levels_closed trace = cleans trace ++ (Pass 2 ∷ (StageAction 2 ∷ (Pass 1 ∷ (StageAction 1 ∷ []))))
+
+-- and on its way to stage 4: stage 3 and level 3 passed, too
+abbrev pub all_levels_closed : List Traced → List Action
+all_levels_closed trace = Pass 3 ∷ (StageAction 3 ∷ two_levels_closed trace)
+
+-- A freeze has added all this, stage 4 and its holder; stage 4 and its holder, where it found the superblock read-only; its holder alone,
+-- where it found all frozen. Where the file system failed, stage 0 stands in their place, and the levels that it had closed are reopened,
+-- the highest first: two, where it could not be synced, and all three, where stage 3 was stored. It has added nothing where it is busy.
+abbrev pub freeze_adds : Holder → Result Reply GateError → List Traced → List Action
+freeze_adds holder (Ok reply) trace =
+    Hold holder ∷ (
+    if found_complete trace then [] else StageAction 4 ∷ (if found_sealed trace then [] else all_levels_closed trace)
+    )
+freeze_adds holder (Err (Hook code)) trace =
+    Reopen 1 ∷ (Reopen 2 ∷ (
+    if stored_stage 3 trace
+    then Reopen 3 ∷ (StageAction 0 ∷ all_levels_closed trace)
+    else StageAction 0 ∷ two_levels_closed trace
+    ))
+freeze_adds holder (Err refusal) trace = []
+
+-- a freeze is refused as busy where it found another one under way, or its holder among those who hold one, and by the file system where
+-- that answered so at the store of stage 0
+abbrev freeze_honest : Holder → GateError → List Traced → Type 0
+freeze_honest holder Busy trace = (found_moving trace ≡ true) ⊎ (found_held holder trace ≡ true)
+freeze_honest holder (Hook code) trace = ReadAnswer Stage (Err code) trace
+freeze_honest holder refusal trace = ⊥
+
+-- A thaw has added that its holder left, stage 0 and the levels reopened, the highest first; that and stage 0, where it found the superblock
+-- read-only; that alone, where it found another holder beside its own; nothing, where it is refused.
+abbrev pub thaw_adds : Holder → Result Reply GateError → List Traced → List Action
+thaw_adds holder (Ok reply) trace =
+    if found_shared holder trace then Leave holder ∷ [] else
+    if found_sealed trace then StageAction 0 ∷ (Leave holder ∷ []) else
+    Reopen 1 ∷ (Reopen 2 ∷ (Reopen 3 ∷ (StageAction 0 ∷ (Leave holder ∷ []))))
+thaw_adds holder (Err refusal) trace = []
+
+-- a thaw is refused as invalid where it found a stage other than 4, or that its holder holds no freeze, and by the file system where that
+-- answered so at the release
+abbrev thaw_honest : Holder → GateError → List Traced → Type 0
+thaw_honest holder Invalid trace = (found_incomplete trace ≡ true) ⊎ (found_unheld holder trace ≡ true)
+thaw_honest holder (Hook code) trace = ReadAnswer Umount (Err code) trace
+thaw_honest holder refusal trace = ⊥
+
+-- what a create has added, by its answer: the node that it names
+abbrev pub create_adds : ℕ → Kind → Result Reply GateError → List Action
+create_adds d kind (Ok (NodeReply n)) = CreateAction n d kind ∷ []
+create_adds d kind answer = []
+
+-- a create answers the number of a node
+abbrev pub IsNodeReply : Reply → Type 0
+IsNodeReply (NodeReply n) = Unit {0}
+IsNodeReply reply = ⊥
+
+-- a call that is done answers nothing else
+abbrev pub IsUnit : Reply → Type 0
+IsUnit reply = reply ≡ UnitReply
+
+-- A call on a file is refused where it found the file's node free or a directory, or where that changed meanwhile.
+abbrev file_claims : ℕ → ℕ → Action → OpClaims
+file_claims file most action = record {
+  most_events = λ c. Some most;
+  actions = λ answer trace. where_done (action ∷ []) answer;
+  IsHonest = λ c refusal trace. FileHonest (SeenIn trace) file refusal;
+  IsTold = λ reply trace. IsUnit reply;
+  MayWait = λ c trace. ⊥;
+}
+
+-- a page fault sets a file's mark, a write-back clears it
+abbrev mark_claims : Bool → ℕ → OpClaims
+mark_claims dirty file = file_claims file 2 (mark_done dirty file)
+
+-- a close has added its action; the last one of a removed file, which counts one removed file less, has added it inside level 3
+abbrev pub close_adds : ℕ → Result Reply GateError → List Traced → List Action
+close_adds file (Ok reply) trace =
+    if found_dropped trace then Return (Level 3) ∷ (CloseAction file ∷ (Grant (Level 3) ∷ [])) else CloseAction file ∷ []
+close_adds file (Err refusal) trace = []
+
+-- it is refused where its file was free or a directory, which never happens behind the gates, or changed meanwhile, or where it found level
+-- 3 closed and doesn't wait
+abbrev close_honest : ℕ → Bool → GateError → List Traced → Type 0
+close_honest file wait NoEntry trace = SeenIn trace (finds_free file)
+close_honest file wait IsDir trace = SeenIn trace (finds_directory file)
+close_honest file wait Again trace = SeenIn trace finds_other ⊎ ((wait ≡ false) × (found_closed 3 trace ≡ true))
+close_honest file wait refusal trace = ⊥
+
+-- where a snapshot doesn't wait, it has a most number of events
+abbrev pub snapshot_most : Bool → ℕ → Option ℕ
+snapshot_most true nodes = None
+snapshot_most false nodes = Some (2 * nodes + 4)
+
+-- the claims of each operation
+abbrev pub claims : Op → OpClaims
+-- a want that is granted has added its grant; one that waits has found HOLD, and nothing else since its addition
+claims (Want m p wait) = record {
+  most_events = λ c. if wait then None else Some 6;
+  actions = λ answer trace. where_done (Grant (Mount m) ∷ []) answer;
+  IsHonest = λ c refusal trace. want_honest m wait refusal trace;
+  IsTold = λ reply trace. Unit {0};
+  MayWait = λ c trace. (wait ≡ true) × (looks_again (finds_hold m) trace ≡ true);
+}
+-- a drop has added its return, and is never refused
+claims (DropMount m p) = record {
+  most_events = λ c. Some 1;
+  actions = λ answer trace. where_done (Return (Mount m) ∷ []) answer;
+  IsHonest = λ c refusal trace. ⊥;
+  IsTold = λ reply trace. Unit {0};
+  MayWait = λ c trace. ⊥;
+}
+-- one that waits has found `umount` taken, and nothing else
+claims (ChangeMount m read_only wait) = record {
+  most_events = λ c. if wait then None else Some (c.processors + 7);
+  actions = λ answer trace. where_done (unless_so read_only (found_read_only m trace) m) answer;
+  IsHonest = λ c refusal trace. change_honest c m wait refusal trace;
+  IsTold = λ reply trace. Unit {0};
+  MayWait = λ c trace. (wait ≡ true) × (each_event finds_taken trace ≡ true);
+}
+-- it waits where it has found `umount` taken, and nothing else
+claims (RemountSb read_only) = record {
+  most_events = λ c. None;
+  actions = λ answer trace. remount_adds read_only answer trace;
+  IsHonest = λ c refusal trace. remount_honest c read_only refusal trace;
+  IsTold = λ reply trace. Unit {0};
+  MayWait = λ c trace. each_event finds_taken trace ≡ true;
+}
+-- a start that is granted has added its grant; one that waits has found the level closed, taken its count back and left its section
+claims (Start i p wait) = record {
+  most_events = λ c. if wait then None else Some 6;
+  actions = λ answer trace. where_done (Grant (Level i) ∷ []) answer;
+  IsHonest = λ c refusal trace. start_honest i wait refusal trace;
+  IsTold = λ reply trace. Unit {0};
+  MayWait = λ c trace. (wait ≡ true) × (left_closed i trace ≡ true);
+}
+-- an end has added its return, and is never refused
+claims (End i p) = record {
+  most_events = λ c. Some 1;
+  actions = λ answer trace. where_done (Return (Level i) ∷ []) answer;
+  IsHonest = λ c refusal trace. ⊥;
+  IsTold = λ reply trace. Unit {0};
+  MayWait = λ c trace. ⊥;
+}
+-- it waits for level 1 as a start does, and then for the mount as a want does
+claims (WantWrite m p) = record {
+  most_events = λ c. None;
+  actions = λ answer trace. write_adds m answer;
+  IsHonest = λ c refusal trace. write_honest m refusal trace;
+  IsTold = λ reply trace. Unit {0};
+  MayWait = λ c trace. (left_closed 1 trace ≡ true) ⊎ (holds_since m trace ≡ true);
+}
+-- a return of write access has added both returns, and is never refused
+claims (DropWrite m p) = record {
+  most_events = λ c. Some 2;
+  actions = λ answer trace. where_done (Return (Level 1) ∷ (Return (Mount m) ∷ [])) answer;
+  IsHonest = λ c refusal trace. ⊥;
+  IsTold = λ reply trace. Unit {0};
+  MayWait = λ c trace. ⊥;
+}
+-- a callback adds no action and is never refused; it waits where it found a task inside a section
+claims (Callback i) = record {
+  most_events = λ c. None;
+  actions = λ answer trace. [];
+  IsHonest = λ c refusal trace. ⊥;
+  IsTold = λ reply trace. callback_told i reply trace;
+  MayWait = λ c trace. newest finds_inside trace ≡ true;
+}
+-- it waits where it found `umount` taken, readers or a writer at the level that it closes, or all counts of a level with a sum other than 0
+claims (FreezeOp holder) = record {
+  most_events = λ c. None;
+  actions = λ answer trace. freeze_adds holder answer trace;
+  IsHonest = λ c refusal trace. freeze_honest holder refusal trace;
+  IsTold = λ reply trace. Unit {0};
+  MayWait = λ c trace. (newest finds_taken trace ≡ true) ⊎ ((newest finds_readers trace ≡ true) ⊎ FoundInside c.processors trace);
+}
+-- it waits where it has found `umount` taken, and nothing else
+claims (ThawOp holder) = record {
+  most_events = λ c. None;
+  actions = λ answer trace. thaw_adds holder answer trace;
+  IsHonest = λ c refusal trace. thaw_honest holder refusal trace;
+  IsTold = λ reply trace. Unit {0};
+  MayWait = λ c trace. each_event finds_taken trace ≡ true;
+}
+-- A create is refused where it found its directory free or a file, all nodes taken, or its node taken meanwhile.
+claims (CreateOp d kind) = record {
+  most_events = λ c. Some (c.nodes + 3);
+  actions = λ answer trace. create_adds d kind answer;
+  IsHonest = λ c refusal trace. CreateHonest (SeenIn trace) (first_create c d kind) refusal;
+  IsTold = λ reply trace. IsNodeReply reply;
+  MayWait = λ c trace. ⊥;
+}
+claims (RemoveOp file) = file_claims file 4 (RemoveAction file)
+-- a grow is refused also where it found no room for its blocks
+claims (GrowOp file blocks) = record {
+  most_events = λ c. Some 5;
+  actions = λ answer trace. where_done (GrowAction file blocks ∷ []) answer;
+  IsHonest = λ c refusal trace. GrowHonest (SeenIn trace) (first_grow c file blocks) refusal;
+  IsTold = λ reply trace. IsUnit reply;
+  MayWait = λ c trace. ⊥;
+}
+-- a move also where it found its directory free or a file
+claims (MoveToOp file dir) = record {
+  most_events = λ c. Some 5;
+  actions = λ answer trace. where_done (MoveToAction file dir ∷ []) answer;
+  IsHonest = λ c refusal trace. MoveHonest (SeenIn trace) (first_move file dir) refusal;
+  IsTold = λ reply trace. IsUnit reply;
+  MayWait = λ c trace. ⊥;
+}
+claims (FaultOp file) = mark_claims true file
+claims (FlushOp file) = mark_claims false file
+claims (OpenOp file) = file_claims file 2 (OpenAction file)
+-- one that waits has found level 3 closed, taken its count back and left its section
+claims (CloseOp file p wait) = record {
+  most_events = λ c. if wait then None else Some 10;
+  actions = λ answer trace. close_adds file answer trace;
+  IsHonest = λ c refusal trace. close_honest file wait refusal trace;
+  IsTold = λ reply trace. IsUnit reply;
+  MayWait = λ c trace. (wait ≡ true) × (left_closed 3 trace ≡ true);
+}
+-- A snapshot has added nothing, and answers a tree. It is refused where it found `umount` taken and doesn't wait, or a stage other than 4;
+-- one that waits has found `umount` taken, and nothing else.
+claims (SnapshotOp wait) = record {
+  most_events = λ c. snapshot_most wait c.nodes;
+  actions = λ answer trace. [];
+  IsHonest = λ c refusal trace. SnapshotHonest (SeenIn trace) (first_snapshot c 0 wait) refusal;
+  IsTold = λ reply trace. reply ≡ TreeReply;
+  MayWait = λ c trace. (wait ≡ true) × (each_event finds_taken trace ≡ true);
 }

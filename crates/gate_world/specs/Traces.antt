@@ -1,7 +1,7 @@
 -- What the trace of an operation tells.
 use Rattle.std.specs.Prelude.{◌≡◌, ℕ, ◌≤◌, Option, Some, None, Result, Ok, Err, List, [], ◌∷◌, length}
 use Rattle.access_model.specs.declared.{actions.Action.Action, errors.GateError.GateError, replies.{Next.{Next, TheVariants.{Go, Wait, Done}}, Reply.Reply}}
-use Rattle.gate_world.specs.{Claims.claims, declared.{config.Config.Config, operations.Op.Op, views.Traced.Traced, work.Phase.Phase}}
+use Rattle.gate_world.specs.{Operations.claims, declared.{config.Config.Config, operations.Op.Op, views.Traced.Traced, work.Phase.Phase}}
 
 -- what an operation with this answer and trace has added
 abbrev pub actions_of : Op → Result Reply GateError → List Traced → List Action

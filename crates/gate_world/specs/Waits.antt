@@ -3,7 +3,7 @@ use Rattle.std.specs.Prelude.{◌≡◌, ℕ, ◌<◌, true, Some, Ok, Err, List
 use Rattle.access_model.specs.declared.replies.Next.{Next, TheVariants.{Go, Wait, Done}}
 use Rattle.cpu_words.specs.Hooks.{HookAnswer}
 use Rattle.gated_tree.specs.declared.phases.TreePhase.{TreePhase, TheVariants.Snapshot as Snapshots}
-use Rattle.mount_counts.specs.{Roles.has_hold, declared.phases.MountPhase.{MountPhase, TheVariants.{Want as Wants, Drop as Drops, Change as Changes}}}
+use Rattle.mount_counts.specs.{Roles.has_hold, declared.phases.MountPhase.{MountPhase, TheVariants.{Want as Wants, Change as Changes}}}
 use Rattle.percpu_rwsem.specs.declared.writers.DownWriteStep.{DownWriteStep, TheVariants.{AwaitsSections, Sums as SumsLevel}}
 use Rattle.freeze_levels.specs.declared.freezes.{Freeze.Freeze, FreezeStep.{FreezeStep, TheVariants.{Locks, LocksAgain, Closes}}}
 use Rattle.write_access.specs.declared.phases.WritePhase.{WritePhase, TheVariants.{Takes, Wants as WriteWants}}
@@ -11,13 +11,14 @@ use Rattle.file_closes.specs.declared.phases.ClosePhase.{ClosePhase, TheVariants
 use Rattle.gate_world.specs.{Causes.{trail_of, since_begun, HasCause, last_asked, WasClosed, moments_of_sum, was_inside}, Headline.world_after, Levels.inside}
 use Rattle.gate_world.specs.{Rules.{role_of, owns}, Work.after_of, Worlds.{World, Entry, found_at}}
 use Rattle.gate_world.specs.declared.config.Config.{Config}
-use Rattle.gate_world.specs.declared.work.Phase.{Phase, TheVariants.{Mounts, Remounts, DownReads, UpReads, Callbacks, Writes, Freezes, Thaws, Trees, Closes}}
+use Rattle.gate_world.specs.declared.work.Phase.{Phase, TheVariants.{Mounts, Remounts, DownReads, Callbacks, Writes, Freezes, Thaws, Trees, Closes}}
 
--- What a phase waits for, task y has: a want waits for who has HOLD set at its mount, a change for who has `umount`, a drop for nobody.
+-- What a phase waits for, task y has: a want waits for who has HOLD set at its mount, a change for who has `umount`. One with no row waits for
+-- nobody, so that none can be proved to wait by omission.
 abbrev pub MountIsWaitedFor : World → MountPhase → ℕ → Type 0
 MountIsWaitedFor w (Wants x) y = has_hold (role_of x.mount (w.views y).phase) ≡ 1
-MountIsWaitedFor w (Drops m p) y = ⊥
 MountIsWaitedFor w (Changes x) y = owns (w.views y).phase ≡ 1
+MountIsWaitedFor w phase y = ⊥
 
 -- a down-write waits for who is inside a read-side section; where it sums, it waits for who was counted while it did
 abbrev pub DownWriteIsWaitedFor : World → DownWriteStep → ℕ → Type 0
@@ -41,14 +42,11 @@ TreeIsWaitedFor w phase y = ⊥
 abbrev pub IsWaitedFor : World → Phase → ℕ → Type 0
 IsWaitedFor w (Mounts phase) y = MountIsWaitedFor w phase y
 IsWaitedFor w (Remounts x) y = owns (w.views y).phase ≡ 1
-IsWaitedFor w (DownReads r) y = ⊥
-IsWaitedFor w (UpReads u) y = ⊥
 IsWaitedFor w (Callbacks b) y = inside (w.views y).phase ≡ 1
-IsWaitedFor w (Writes x) y = ⊥
 IsWaitedFor w (Freezes x) y = FreezeIsWaitedFor w x.step y
 IsWaitedFor w (Thaws x) y = owns (w.views y).phase ≡ 1
 IsWaitedFor w (Trees phase) y = TreeIsWaitedFor w phase y
-IsWaitedFor w (Closes phase) y = ⊥
+IsWaitedFor w phase y = ⊥
 
 -- another task has what task t, which is at this phase, waits for
 pub record HasCulprit (c : Config) (w : World) (t : ℕ) (phase : Phase) : Type 0 where
@@ -81,16 +79,11 @@ FreezeHasCulprit c w earlier t x step = HasCulprit c w t (Freezes x)
 -- what makes a phase wait, with the present world and the earlier ones: for a reader, that the level was closed when it last asked; for
 -- a freeze that sums, that something was counted at the level meanwhile; for any other, that another task has now what it waits for
 abbrev pub HasCulpritSince : Config → World → List World → ℕ → Phase → Type 0
-HasCulpritSince c w earlier t (Mounts phase) = HasCulprit c w t (Mounts phase)
-HasCulpritSince c w earlier t (Remounts x) = HasCulprit c w t (Remounts x)
 HasCulpritSince c w earlier t (DownReads r) = WasClosed c t r.level (last_asked t (w ∷ earlier))
-HasCulpritSince c w earlier t (UpReads u) = ⊥
-HasCulpritSince c w earlier t (Callbacks b) = HasCulprit c w t (Callbacks b)
 HasCulpritSince c w earlier t (Writes x) = WriteHasCulprit c w earlier t x
 HasCulpritSince c w earlier t (Freezes x) = FreezeHasCulprit c w earlier t x x.step
-HasCulpritSince c w earlier t (Thaws x) = HasCulprit c w t (Thaws x)
-HasCulpritSince c w earlier t (Trees phase) = HasCulprit c w t (Trees phase)
 HasCulpritSince c w earlier t (Closes phase) = CloseHasCulprit c w earlier t phase
+HasCulpritSince c w earlier t phase = HasCulprit c w t phase
 
 -- an event after which this comes has its reason: where it is a wait, its phase waits for what another task has or had; where it is a
 -- refusal, that has its cause

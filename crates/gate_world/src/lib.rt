@@ -3,7 +3,6 @@
 #![tactic(auto)]
 
 pub mod accesses;
-pub mod beginnings;
 pub mod config;
 pub mod operations;
 pub mod views;

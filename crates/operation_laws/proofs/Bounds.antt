@@ -163,11 +163,9 @@ is_beside phase = true
 pub beside_small : (c : Config) → IsWithin c → (w : Words) (t : ℕ) (held : Holdings) (phase : Phase) →
     PhaseFits c t held phase → is_beside phase ≡ true → rank w phase < most_beside c
 beside_small c lim w t held (Phase.Mounts (MountPhase.Want x)) f b = omega (arith, want_small x.step)
-beside_small c lim w t held (Phase.Mounts (MountPhase.Drop m p)) f b = omega arith
 beside_small c lim w t held (Phase.Mounts (MountPhase.Change x)) f b = omega (arith, change_small x.processors x.step, f.2)
 beside_small c lim w t held (Phase.Remounts x) f b = absurd (true≢false (sym b))
 beside_small c lim w t held (Phase.DownReads r) f b = omega (arith, read_small c lim r.wait r.step)
-beside_small c lim w t held (Phase.UpReads u) f b = omega arith
 beside_small c lim w t held (Phase.Callbacks q) f b =
     let k : GraceFits q.tasks q.step = subst (λ n. GraceFits n q.step) (sym f.2) f.3 in
     omega (arith, callback_small c lim q.tasks (w.sync q.level) q.step k, f.2)
@@ -183,6 +181,7 @@ beside_small c lim w t held (Phase.Trees (TreePhase.OpenFile x)) f b = omega (ar
 beside_small c lim w t held (Phase.Trees (TreePhase.Snapshot x)) f b = absurd (true≢false (sym b))
 beside_small c lim w t held (Phase.Trees (TreePhase.ClearMarks x)) f b = absurd f.1
 beside_small c lim w t held (Phase.Closes x) f b = omega (arith, close_small c lim x)
+beside_small c lim w t held phase f b = omega arith
 
 pub rank_small : (c : Config) → IsWithin c → (w : Words) (t : ℕ) (held : Holdings) (phase : Phase) →
     PhaseFits c t held phase → rank w phase < most_alone c

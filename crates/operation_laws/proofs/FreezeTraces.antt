@@ -12,7 +12,7 @@ use Rattle.percpu_rwsem.specs.declared.transitions.{Transition.Transition, Trans
 use Rattle.percpu_rwsem.specs.declared.writers.{DownWrite.DownWrite, DownWriteStep.DownWriteStep, UpWrite.UpWrite, UpWriteStep.UpWriteStep}
 use Rattle.freeze_levels.specs.{Freezes.{after_closing, after_clearing, after_reopening, freeze_fails, level_closed}, Holders.holders_in}
 use Rattle.freeze_levels.specs.declared.freezes.{Freeze.Freeze, FreezeStep.FreezeStep}
-use Rattle.gate_world.specs.{Claims.{two_levels_closed, all_levels_closed}, Configs.IsWithin, Courses.{IsTrace, course_of}}
+use Rattle.gate_world.specs.{Operations.{two_levels_closed, all_levels_closed}, Configs.IsWithin, Courses.{IsTrace, course_of}}
 use Rattle.gate_world.specs.Found.{found_sealed, found_complete, found_held, stored_stage, cleans, ReadAnswer}
 use Rattle.gate_world.specs.{Traces.{actions_of, IsHonestAnswer, Tells, IsShort, most_events}, Views.{actions_after, with_hook}}
 use Rattle.gate_world.specs.declared.{config.Config.Config, operations.Op.Op, views.Traced.Traced, work.Phase.Phase}

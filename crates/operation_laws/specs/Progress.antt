@@ -5,7 +5,7 @@ use Rattle.cpu_words.specs.{Hooks.HookAnswer, Words.Words}
 use Rattle.gated_tree.specs.{Nodes.{removed_in, opens_in}, declared.phases.TreePhase.{TreePhase, TheVariants.Snapshot as Snapshots}}
 use Rattle.gated_tree.specs.declared.snapshots.SnapshotStep.{SnapshotStep, TheVariants.Locks as SnapshotLocks}
 use Rattle.mount_counts.specs.declared.phases.ChangeStep.{ChangeStep, TheVariants.Locks as ChangeLocks}
-use Rattle.mount_counts.specs.declared.phases.MountPhase.{MountPhase, TheVariants.{Want as Wants, Drop as Drops, Change as Changes}}
+use Rattle.mount_counts.specs.declared.phases.MountPhase.{MountPhase, TheVariants.{Change as Changes}}
 use Rattle.mount_counts.specs.declared.remounts.RemountStep.{RemountStep, TheVariants.Locks as RemountLocks}
 use Rattle.percpu_rwsem.specs.declared.readers.{DownRead.DownRead, DownReadStep.{DownReadStep, TheVariants.{CountsUpFast, LeavesAdmitted}}}
 use Rattle.freeze_levels.specs.declared.freezes.{Freeze.Freeze, FreezeStep.{FreezeStep, TheVariants.{Locks as FreezeLocks, LoadsStage, LoadsHolders, Holds}}}
@@ -16,7 +16,7 @@ use Rattle.write_access.specs.declared.phases.WritePhase.{WritePhase, TheVariant
 use Rattle.file_closes.specs.declared.phases.ClosePhase.{ClosePhase, TheVariants.{LoadsFile, Enters as EntersLevel}}
 use Rattle.gate_world.specs.{Headline.world_after, Levels.is_frozen_whole, Rules.{IsGood, Moves, owns}, Shown.shown, Views.holds_level, Work.hook_of}
 use Rattle.gate_world.specs.{Worlds.{World, Entry, Steps, happens, after_step, phase_action}, declared.{config.Config.Config, work.Phase.Phase}}
-use Rattle.gate_world.specs.declared.work.Phase.TheVariants.{Mounts, Remounts, DownReads, UpReads, Callbacks, Writes, Freezes, Thaws, Trees}
+use Rattle.gate_world.specs.declared.work.Phase.TheVariants.{Mounts, Remounts, DownReads, Writes, Freezes, Thaws, Trees}
 use Rattle.gate_world.specs.declared.work.Phase.TheVariants.{Closes as FileCloses}
 
 -- a task has an operation under way
@@ -87,9 +87,8 @@ ChangeIsKept c w ChangeLocks wait = (wait ≡ true) × LockIsKept c w
 ChangeIsKept c w step wait = ⊥
 
 abbrev pub MountIsKept : Config → World → MountPhase → Type 0
-MountIsKept c w (Wants x) = ⊥
-MountIsKept c w (Drops m p) = ⊥
 MountIsKept c w (Changes x) = ChangeIsKept c w x.step x.wait
+MountIsKept c w phase = ⊥
 
 abbrev pub RemountIsKept : Config → World → RemountStep → Type 0
 RemountIsKept c w RemountLocks = LockIsKept c w
@@ -148,13 +147,12 @@ abbrev pub IsKeptAt : Config → World → Phase → Type 0
 IsKeptAt c w (Mounts phase) = MountIsKept c w phase
 IsKeptAt c w (Remounts x) = RemountIsKept c w x.step
 IsKeptAt c w (DownReads r) = StartIsKept w r
-IsKeptAt c w (UpReads u) = ⊥
-IsKeptAt c w (Callbacks b) = ⊥
 IsKeptAt c w (Writes x) = WriteIsKept w x
 IsKeptAt c w (Freezes x) = FreezeIsKept c w x.step
 IsKeptAt c w (Thaws x) = ThawIsKept c w x.step
 IsKeptAt c w (Trees phase) = TreeIsKept c w phase
 IsKeptAt c w (FileCloses phase) = CloseIsKept w phase
+IsKeptAt c w phase = ⊥
 
 -- each operation under way is kept
 abbrev pub AllAreKept : Config → World → Type 0

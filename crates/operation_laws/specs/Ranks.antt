@@ -16,7 +16,7 @@ use Rattle.gated_tree.specs.declared.snapshots.SnapshotStep.{SnapshotStep, TheVa
 use Rattle.gated_tree.specs.declared.snapshots.SnapshotStep.TheVariants.{LoadsNode as SLoadsNode, LoadsKids as SLoadsKids, Releases as SReleases}
 use Rattle.mount_counts.specs.{Sets.has_mount, declared.phases.ChangeStep.{ChangeStep, TheVariants.{Locks, LoadsFlags, LoadsSuperblock as LoadsSb}}}
 use Rattle.mount_counts.specs.declared.phases.ChangeStep.TheVariants.{ClearsReadOnly, SetsHold, Sums, SetsReadOnly, ClearsHold, Releases}
-use Rattle.mount_counts.specs.declared.phases.{MountPhase.{MountPhase, TheVariants.{Want as Wants, Drop as Drops, Change as Changes}}, WantStep.WantStep}
+use Rattle.mount_counts.specs.declared.phases.{MountPhase.{MountPhase, TheVariants.{Want as Wants, Change as Changes}}, WantStep.WantStep}
 use Rattle.mount_counts.specs.declared.phases.WantStep.TheVariants.{CountsUp, LoadsHold, LoadsRemount, LoadsReadOnly, LoadsSuperblock, CountsDown}
 use Rattle.mount_counts.specs.declared.remounts.RemountStep.{RemountStep, TheVariants.{Locks as RLocks, LoadsStage as RLoadsStage}}
 use Rattle.mount_counts.specs.declared.remounts.RemountStep.TheVariants.{LoadsSuperblock as RLoadsSuperblock, LoadsRemoved as RLoadsRemoved}
@@ -67,11 +67,11 @@ change_rank processors SetsReadOnly = 2
 change_rank processors (ClearsHold answer) = 1
 change_rank processors (Releases answer) = 0
 
--- a phase of these
+-- a phase of these; that of another is one event, after which none comes
 abbrev pub mount_rank : MountPhase → ℕ
 mount_rank (Wants x) = want_rank x.step
-mount_rank (Drops m p) = 0
 mount_rank (Changes x) = change_rank x.processors x.step
+mount_rank phase = 0
 
 -- so many mounts of a remount's loop, each with its flags, HOLD and a word of each processor
 abbrev pub loop_rank : (processors mounts : ℕ) → ℕ

@@ -7,7 +7,7 @@ use Rattle.gated_tree.specs.declared.phases.TreePhase.{TreePhase, TheVariants.Sn
 use Rattle.gated_tree.specs.declared.snapshots.SnapshotStep.{SnapshotStep, TheVariants.Locks as SnapshotLocks}
 use Rattle.mount_counts.specs.Phases.{has_flag}
 use Rattle.mount_counts.specs.declared.phases.ChangeStep.{ChangeStep, TheVariants.Locks as ChangeLocks}
-use Rattle.mount_counts.specs.declared.phases.MountPhase.{MountPhase, TheVariants.{Want as Wants, Drop as Drops, Change as Changes}}
+use Rattle.mount_counts.specs.declared.phases.MountPhase.{MountPhase, TheVariants.{Want as Wants, Change as Changes}}
 use Rattle.mount_counts.specs.declared.remounts.RemountStep.{RemountStep, TheVariants.Locks as RemountLocks}
 use Rattle.percpu_rwsem.specs.declared.readers.DownRead.{DownRead}
 use Rattle.freeze_levels.specs.declared.freezes.FreezeStep.{FreezeStep, TheVariants.{Locks as FreezeLocks, Closes, LocksAgain}}
@@ -17,7 +17,7 @@ use Rattle.file_closes.specs.declared.phases.ClosePhase.{ClosePhase, TheVariants
 use Rattle.gate_world.specs.{Configs.IsWithin, Rules.IsGood, Work.after_of, Worlds.{World, words_after, found_at}}
 use Rattle.gate_world.specs.declared.config.Config.{Config}
 use Rattle.gate_world.specs.declared.work.Phase.{Phase}
-use Rattle.gate_world.specs.declared.work.Phase.TheVariants.{Mounts, Remounts, DownReads, UpReads, Callbacks, Writes, Freezes, Thaws, Trees}
+use Rattle.gate_world.specs.declared.work.Phase.TheVariants.{Mounts, Remounts, DownReads, Callbacks, Writes, Freezes, Thaws, Trees}
 use Rattle.gate_world.specs.declared.work.Phase.TheVariants.{Closes as FileCloses}
 use Rattle.operation_laws.specs.{Progress.{is_admitted, next_level, is_last_close}, Ranks.rank}
 
@@ -38,11 +38,11 @@ abbrev pub ChangeIsFree : Words → ChangeStep → Bool → Type 0
 ChangeIsFree w ChangeLocks wait = wait ≡ true → w.umount ≡ 0
 ChangeIsFree w step wait = Unit {0}
 
--- a want finds HOLD clear
+-- a want finds HOLD clear; another waits for nothing
 abbrev pub MountIsFree : Words → MountPhase → Type 0
 MountIsFree w (Wants x) = HoldIsClear w x.mount
-MountIsFree w (Drops m p) = Unit {0}
 MountIsFree w (Changes x) = ChangeIsFree w x.step x.wait
+MountIsFree w phase = Unit {0}
 
 -- so does a remount
 abbrev pub RemountIsFree : Words → RemountStep → Type 0
@@ -100,13 +100,13 @@ abbrev pub IsFree : Config → Words → Phase → Type 0
 IsFree c w (Mounts phase) = MountIsFree w phase
 IsFree c w (Remounts x) = RemountIsFree w x.step
 IsFree c w (DownReads r) = ReadIsFree w r
-IsFree c w (UpReads u) = Unit {0}
 IsFree c w (Callbacks b) = NobodyInside c w
 IsFree c w (Writes x) = WriteIsFree w x
 IsFree c w (Freezes x) = FreezeIsFree c w x.step
 IsFree c w (Thaws x) = ThawIsFree w x.step
 IsFree c w (Trees phase) = TreeIsFree w phase
 IsFree c w (FileCloses phase) = CloseIsFree w phase
+IsFree c w phase = Unit {0}
 
 -- what comes after an event has a lower rank and a free way, or it is the reply
 abbrev pub Falls : {P : Type 0} → (P → ℕ) → (P → Type 0) → ℕ → Next P → Type 0

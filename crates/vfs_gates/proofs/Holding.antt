@@ -6,10 +6,10 @@ use Rattle.access_model.specs.declared.{actions.Action.TheVariants.{Open as Open
 use Rattle.access_model.specs.declared.replies.{Next.TheVariants.{Go, Wait, Done}, Reply.{Reply, TheVariants.Node as NodeReply}}
 use Rattle.cpu_words.specs.declared.{events.Touch.{Touch, TheVariants.And}, names.WordName.{WordName, TheVariants.Node}}
 use Rattle.mount_counts.specs.Phases.{has_flag}
-use Rattle.gate_world.specs.{Claims.all_levels_closed, Courses.course_of, Found.{clean_found, cleans, found_complete, found_read_only, found_sealed}}
+use Rattle.gate_world.specs.{Operations.all_levels_closed, Courses.course_of, Found.{clean_found, cleans, found_complete, found_read_only, found_sealed}}
 use Rattle.gate_world.specs.{Found.found_shared, Holdings.{Holdings, holdings_of, held_after}, Traces.actions_of, declared.config.Config.Config}
-use Rattle.gate_world.specs.declared.operations.Op.{Op, TheVariants.{Want, DropMount, ChangeMount, RemountSb, Start, End, WantWrite, DropWrite, Callback}}
-use Rattle.gate_world.specs.declared.{operations.Op.TheVariants.{Freeze, Thaw, Create, Open, Close, Snapshot}, views.Traced.Traced, work.Phase.Phase}
+use Rattle.gate_world.specs.declared.operations.Op.{Op, TheVariants.{Want, DropMount, ChangeMount, RemountSb, Start, End, WantWrite, DropWrite}}
+use Rattle.gate_world.specs.declared.{operations.Op.TheVariants.{Freeze, Thaw, Create, Open, Close}, views.Traced.Traced, work.Phase.Phase}
 use Rattle.call_events.proofs.Asked.{either_way}
 use Rattle.call_events.specs.{Runs.{ran_items, IsNextMove, AreMoves, told_as, Called, Replies}, Seating.SeatItems}
 use Rattle.vfs_gates.specs.{Held.{Rests, own_actions, IsAsBefore, takes_nothing}, TaskStates.{TaskState, own_number, own_view, refusal_at, IsIdle}}
@@ -84,9 +84,7 @@ adds_free (Thaw holder) reply trace none =
     (refl, (refl, (refl, (refl, (refl, tt))))))
 adds_free (Create d kind) (NodeReply n) trace none = (refl, tt)
 adds_free (Create d kind) reply trace none = tt
-adds_free (Callback i) reply trace none = tt
-adds_free (Snapshot wait) reply trace none = tt
-adds_free op reply trace none = (refl, tt)
+adds_free op reply trace none = search refl
 
 -- a task with no number of its own has no event
 no_move : (c : Config) (op : Op) (earlier : List Traced) (e : Traced) (s : Next Phase) → IsNextMove c op [] earlier e s → ⊥

@@ -8,7 +8,6 @@ use Rattle.atomic_table.specs.Seated.{TableId}
 use Rattle.cpu_words.specs.Hooks.{HookAnswer}
 use Rattle.cpu_words.specs.Touches.{event_of, found_by}
 use Rattle.cpu_words.specs.declared.events.Event.{Event}
-use Rattle.gate_world.specs.Beginnings.{first_phase}
 use Rattle.gate_world.specs.Courses.{Course, course_of}
 use Rattle.gate_world.specs.Traces.{MayWait, most_events}
 use Rattle.gate_world.specs.Views.{begun_view, opening_view, phase_after, view_after_beside, with_hook}
@@ -16,12 +15,11 @@ use Rattle.gate_world.specs.Work.{after_of, next_of}
 use Rattle.gate_world.specs.declared.accesses.Accesses.{Accesses}
 use Rattle.gate_world.specs.declared.config.Config.{Config}
 use Rattle.gate_world.specs.declared.operations.Op.{Op}
-use Rattle.gate_world.specs.declared.operations.Op.TheVariants.{Want, DropMount, ChangeMount, RemountSb, Start, End, WantWrite, DropWrite, Callback, Freeze, Thaw, Create, Remove, Grow, MoveTo, Fault, Flush, Open, Close, Snapshot}
+use Rattle.gate_world.specs.declared.operations.Op.TheVariants.{Want, ChangeMount, RemountSb, Start, WantWrite, Callback, Freeze, Thaw, Close, Snapshot}
 use Rattle.gate_world.specs.declared.views.Traced.{Traced}
 use Rattle.gate_world.specs.declared.views.View.{View}
 use Rattle.gate_world.specs.declared.work.Phase.{Phase}
 use Rattle.call_events.proofs.Running.{course_is, same_wait}
-use Rattle.call_events.specs.Answers.{progress_of}
 use Rattle.call_events.specs.Refused.{IsHonestWait, WaitsHonestly}
 use Rattle.call_events.specs.Rules.{first_items}
 use Rattle.call_events.specs.Runs.{begins_at, items_at, ran_items, IsBounded}
@@ -33,8 +31,8 @@ use Rattle.call_events.specs.Ties.{PhaseOk, Ties}
 use Rattle.call_events.specs.Turns.{kept_at, step_was}
 use Rattle.call_events.specs.Waited.{GoesWaiting, WentWaiting, waits_by, waits_in}
 use Rattle.vfs_gates.specs.TaskStates.{TaskState, own_number, own_view, task_state}
-use Rattle.vfs_gates.specs.Waits.{StandsBy, WaitsTell, counted, is_wait, waits_of}
-use Rattle.vfs_gates.proofs.Calling.{Call, Left, items_of, same}
+use Rattle.vfs_gates.specs.Waits.{StandsBy, WaitsTell, counted, is_wait}
+use Rattle.vfs_gates.proofs.Calling.{Call, Left, same}
 
 -- an idle number with no operation has none to tell
 pub tell_none : (c : Config) (t : ℕ) (v : View) → v.op ≡ None → v.phase ≡ None → WaitsTell c t v 0

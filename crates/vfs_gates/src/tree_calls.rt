@@ -1,7 +1,7 @@
 //! Calls at the tree behind the gates, and snapshots of it. All but one wait for nobody.
 
 ghost use Rattle.std.specs.Prelude.{◌≡◌, true, false, IfOk};
-ghost use Rattle.gate_world.specs.Claims.{IsNodeReply};
+ghost use Rattle.gate_world.specs.Operations.{IsNodeReply};
 ghost use Rattle.gated_tree.specs.declared.marks.MarkStep.TheVariants.{LoadsFile};
 ghost use Rattle.gated_tree.specs.declared.phases.TreePhase.TheVariants.{Mark as Marks};
 ghost use Rattle.call_events.specs.Runs.{told_as, node_of};

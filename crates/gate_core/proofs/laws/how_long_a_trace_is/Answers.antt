@@ -1,4 +1,4 @@
-use Rattle.gate_core.proofs.Layers.{op_keeps}
+use Rattle.operation_laws.proofs.Layers.{op_keeps}
 use Rattle.gate_core.proofs.laws.how_long_a_trace_is.Goals as goal
 
 pub returns : goal.returns

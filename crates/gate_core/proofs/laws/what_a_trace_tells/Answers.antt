@@ -1,4 +1,4 @@
-use Rattle.gate_core.proofs.Layers.{op_keeps}
+use Rattle.operation_laws.proofs.Layers.{op_keeps}
 use Rattle.gate_core.proofs.laws.what_a_trace_tells.Goals as goal
 
 pub returns : goal.returns
