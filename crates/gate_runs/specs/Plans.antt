@@ -26,11 +26,11 @@ run_config tasks processors rounds =
     record { tasks = tasks; processors = processors; mounts = 1; nodes = tasks - 1; capacity = (tasks - 2) * rounds }
 
 -- What a run tells of gates that are closed: the blocks that their files have in the end, and that nothing is held. In the world that they
--- leave, each task has done its part from where it began, and nothing else: the backup all freezes, each with a snapshot, a thaw and three
--- callbacks; the remounter all rounds of changes; each writer all its rounds, with a call of the meeting between each grant and its return.
--- As many are told, and just what these calls met.
-pub record TellsRun {M : Type 0} (held : M → ℕ → ℕ → Type 0) (meeting : M) (tasks processors rounds freezes : ℕ) (totals : Totals)
-    (details : Details) (closed : Ending) : Type 0 where
+-- leave, each task has done its part from where it began, and nothing else: the backup all freezes, each with a snapshot, a call of the watch,
+-- a thaw and three callbacks; the remounter all rounds of changes; each writer all its rounds, with a call of the watch between each grant and its
+-- return. As many are told, and just what these calls met.
+pub record TellsRun (held : ℕ → ℕ → Type 0) (seen : ℕ → Type 0) (tasks processors rounds freezes : ℕ) (totals : Totals) (details : Details)
+    (closed : Ending) : Type 0 where
   pub config : closed.config ≡ run_config tasks processors rounds
   pub grown : totals.grown ≡ slice_index closed.words (stride * place Used)
   pub none_held : totals.held ≡ 0
@@ -38,6 +38,6 @@ pub record TellsRun {M : Type 0} (held : M → ℕ → ℕ → Type 0) (meeting 
   pub snapshots : totals.snapshots ≡ freezes
   pub remounts : totals.remounts ≡ rounds
   pub ended : Ended closed.config closed.words
-  pub backup : BackedUp (EndsAs ended.world.views) was_frozen meeting (tasks - 2) freezes tt tt details.copies
+  pub backup : BackedUp (EndsAs ended.world.views) (was_frozen seen) (tasks - 2) freezes tt tt details.copies
   pub remounter : Remounted (EndsAs ended.world.views) rounds (remounts_of details)
-  pub writers : AllWrote (EndsAs ended.world.views) (was_held held) meeting processors rounds 0 (tasks - 2) tt tt details.writes
+  pub writers : AllWrote (EndsAs ended.world.views) (was_held held) processors rounds 0 (tasks - 2) tt tt details.writes

@@ -12,7 +12,7 @@ ghost use Rattle.vfs_gates.specs.TaskStates.{IsFrom, own_number, own_view};
 
 use super::Plan;
 use crate::counts::{Copies, Remounts, Writes};
-use crate::meetings::NotedMeeting;
+use crate::meetings::NotedWatch;
 use access_model::{GateError, Holder, Kind};
 use crossbeam_utils::Backoff;
 use std::sync::Wait;
@@ -96,19 +96,19 @@ fn grow<R: Wait>(rt: &R, gates: &Gates, task: &mut Task, file: u8) -> Result<u64
 }
 
 /// Writes in each round, with the access given back on the processor after the one on which it was taken. Tells what it met.
-pub(crate) fn write<R: Wait, M: NotedMeeting>(
+pub(crate) fn write<R: Wait, W: NotedWatch>(
     rt: &R,
     gates: &Gates,
     plan: Plan,
-    meeting: &M,
+    watch: &W,
     task: &mut Task,
     writer: u8,
-    notes: &mut M::Notes,
+    notes: &mut W::Notes,
 ) -> Result<Writes, GateError>
     requires from { IsFrom task.old gates.now }
     requires writer { writer + 2 < plan.tasks }
     ensures from { IsFrom task.new gates.now }
-    ensures rounds { IfOk result (λ writes. Repeats (WriterRound M.meets meeting.now plan.processors writer) plan.rounds
+    ensures rounds { IfOk result (λ writes. Repeats (WriterRound (W.meets watch.now) plan.processors writer) plan.rounds
         (task.old, notes.old, no_writes) (task.new, notes.new, writes)) }
     ensures refused { IfErr result (MetBy gates.now.words.config plan.tasks plan.processors) }
 {
@@ -117,7 +117,7 @@ pub(crate) fn write<R: Wait, M: NotedMeeting>(
         let cpu = plan.processor(writer, round);
         let (denied, waits) = want_write(rt, gates, task, cpu, writes.waits)?;
         let grown = grow(rt, gates, task, writer + 1);
-        meeting.holding(task, round, notes);
+        watch.holding(task, round, notes);
         task.drop_write(gates, MOUNT, plan.processor(writer, round + 1))?;
         writes = writes.with_round(denied, grown?, waits);
     }
@@ -211,18 +211,18 @@ fn call_back<R: Wait>(
 
 /// Freezes, takes a snapshot, meets, thaws, and calls back what the levels have queued, so often. Counts the freezes, the snapshots that
 /// were sound and clean, their blocks, the callbacks that ran, and the waits of all these calls.
-pub(crate) fn back_up<R: Wait, M: NotedMeeting>(
+pub(crate) fn back_up<R: Wait, W: NotedWatch>(
     rt: &R,
     gates: &Gates,
     plan: Plan,
-    meeting: &M,
+    watch: &W,
     task: &mut Task,
-    notes: &mut M::Notes,
+    notes: &mut W::Notes,
 ) -> Result<Copies, GateError>
     requires { IsFrom task.old gates.now }
     ensures from { IsFrom task.new gates.now }
     ensures all { IfOk result (λ copies. (copies.frozen ≡ plan.freezes) × (copies.snapshots ≡ plan.freezes)) }
-    ensures rounds { IfOk result (λ copies. Repeats (BackupRound M.sees meeting.now) plan.freezes
+    ensures rounds { IfOk result (λ copies. Repeats (BackupRound (W.sees watch.now)) plan.freezes
         (task.old, notes.old, no_copies) (task.new, notes.new, copies)) }
     ensures refused { IfErr result (MetBy gates.now.words.config plan.tasks plan.processors) }
 {
@@ -232,7 +232,7 @@ pub(crate) fn back_up<R: Wait, M: NotedMeeting>(
         let waits = copies.waits.saturating_add(task.waited());
         let taken = take_snapshot(rt, gates, task);
         let waits = waits.saturating_add(task.waited());
-        meeting.frozen(task, freeze, notes);
+        watch.frozen(task, freeze, notes);
         task.thaw(rt, gates, Holder::User, &mut ())?;
         let waits = waits.saturating_add(task.waited());
         let blocks = taken?;

@@ -61,8 +61,8 @@ returns-clause-tells g c =
         ends = on did.last did.ends;
       };
       remounter = remounted_on (Among items) (EndsAs views) on c.args.plan.rounds (remounts_of c.in_ok-task.details) did.remounter;
-      writers = all_wrote_on (Among items) (EndsAs views) on (was_held g.M.Meeting.held) c.args.meeting.now c.args.plan.processors
-          c.args.plan.rounds tt tt 0 (c.args.plan.tasks - 2) c.in_ok-task.details.writes did.writers;
+      writers = all_wrote_on (Among items) (EndsAs views) on (was_held (g.W.Watch.held c.args.watch.now)) c.args.plan.processors c.args.plan.rounds
+          tt tt 0 (c.args.plan.tasks - 2) c.in_ok-task.details.writes did.writers;
     }
 
 -- a run's gates are within their limits

@@ -4,7 +4,6 @@ use Rattle.gate_runs.specs.Counts.{no_copies}
 use Rattle.gate_runs.specs.Meetings.{was_frozen}
 use Rattle.gate_runs.specs.Parts.{Among}
 use Rattle.gate_runs.proofs.Staying.{backs_stay, is_among, remounted_on}
-use Rattle.gate_runs.proofs.Repeating.{backs_on}
 use Rattle.gate_runs.proofs.runs.threads.run_threads.Goals as goal
 
 pub returns-clause-all : goal.returns-clause-all
@@ -14,10 +13,9 @@ returns-clause-all g c =
     let gives = c.in_ok-writers.ensures.gives in
     let remounter = c.in_ok-busy.ensures in
     let joined = c.in_ok-writes.ensures in
-    let meeting = c.args.meeting.now in
-    let did = backs_on _ _ was_frozen meeting (λ task k old new was. tt) c.args.plan.freezes
-    (first, tt, no_copies) (last, tt, c.in_ok-copies.copies) c.in_ok-copies.ensures.rounds in
-    let stayed = backs_stay was_frozen meeting c.args.plan.freezes (first, tt, no_copies) (last, tt, c.in_ok-copies.copies) did in
+    let did = c.in_ok-copies.ensures.rounds in
+    let stayed = backs_stay (was_frozen (g.W.Watch.seen c.args.watch.now)) c.args.plan.freezes (first, tt, no_copies)
+    (last, tt, c.in_ok-copies.copies) did in
     record {
       first = first;
       last = last;
