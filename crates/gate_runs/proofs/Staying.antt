@@ -1,5 +1,5 @@
 -- What calls of its own leave a task, and what it is among others in the end.
-use Rattle.std.proofs.Common.{◌≡◌, ℕ, zero, suc, ◌+◌, ◌≤◌, List, [], ◌∷◌, ◌++◌, length, refl, ap, sym, subst, ◌∙◌, arith, inl, inr}
+use Rattle.std.proofs.Common.{◌≡◌, ℕ, zero, suc, ◌+◌, ◌-◌, ◌≤◌, List, [], ◌∷◌, ◌++◌, length, refl, ap, sym, subst, ◌∙◌, arith, inl, inr}
 use Rattle.std.specs.Prelude.{Option, Some, None, Result}
 use Rattle.access_model.specs.declared.errors.GateError.{GateError}
 use Rattle.access_model.specs.declared.errors.GateError.TheVariants.{ReadOnly}
@@ -13,12 +13,14 @@ use Rattle.vfs_gates.specs.Seating.{SeatItems, HaveViews, numbered, times}
 use Rattle.vfs_gates.specs.TaskStates.{TaskState, own_number, own_view, spare_of, refusal_at}
 use Rattle.vfs_gates.specs.Runs.{Replies, ran_items}
 use Rattle.gate_runs.specs.declared.counts.Copies.{Copies}
+use Rattle.gate_runs.specs.declared.counts.Details.{Details}
 use Rattle.gate_runs.specs.declared.counts.Remounts.{Remounts}
 use Rattle.gate_runs.specs.declared.counts.Writes.{Writes}
-use Rattle.gate_runs.specs.Counts.{both, no_remounts, no_writes, with_waits}
+use Rattle.gate_runs.specs.Counts.{both, no_remounts, no_writes, remounts_of, with_waits}
+use Rattle.gate_runs.specs.Meetings.{was_held}
 use Rattle.gate_runs.specs.Rounds.{Repeats, CallsBack, CreatesFile, CreatesFiles, IsRefused, Retries, Takes, Waits, RemountRound, WriterRound, BackupRound}
 use Rattle.vfs_gates.specs.Splitting.{Gives, HasBegun, HaveDoneNothing}
-use Rattle.gate_runs.specs.Parts.{EachFrom, Among, EndsAs, Stays, Remounted, Wrote, AllWrote}
+use Rattle.gate_runs.specs.Parts.{EachFrom, Among, EndsAs, Stays, Remounted, Wrote, AllWrote, AllDid}
 
 pub stays_so : (s : TaskState) → Stays s s
 stays_so s = record { config = refl; own = refl; spare = refl; idle = λ i. i; there = λ h. h }
@@ -163,6 +165,25 @@ module _ (Ends Other : TaskState → Type 0) (on : (s : TaskState) → Ends s �
           (λ writer. Wrote Other link processors rounds writer before after) wrote_on from w.each w.parts;
       sum = w.sum;
     }
+
+  pub all_did_on : (held : ℕ → ℕ → Type 0) (seen : ℕ → Type 0) (tasks processors rounds freezes : ℕ) (details : Details) →
+      AllDid Ends held seen tasks processors rounds freezes details → AllDid Other held seen tasks processors rounds freezes details
+  all_did_on held seen tasks processors rounds freezes details did = record {
+    backup = record {
+      begins = did.backup.begins;
+      made = did.backup.made;
+      first = did.backup.first;
+      last = did.backup.last;
+      begun = did.backup.begun;
+      creates = did.backup.creates;
+      same = did.backup.same;
+      did = did.backup.did;
+      own = did.backup.own;
+      ends = on did.backup.last did.backup.ends;
+    };
+    remounter = remounted_on rounds (remounts_of details) did.remounter;
+    writers = all_wrote_on (was_held held) processors rounds tt tt 0 (tasks - 2) details.writes did.writers;
+  }
 
 -- one writer more, before all that come after it
 pub all_wrote_before : (Ends : TaskState → Type 0) {N : Type 0} (link : TaskState → ℕ → N → N → Type 0)

@@ -76,14 +76,9 @@ module _ (Ends : TaskState → Type 0) where
       pub own : own_number last.items ≡ 0
       pub ends : Ends last
 
--- what all tasks of a run have done and met, the backup from this view on, with which it has given all numbers away
-pub record AllDid (Ends : TaskState → Type 0) (held : ℕ → ℕ → Type 0) (seen : ℕ → Type 0) (tasks processors rounds freezes : ℕ) (made : View)
+-- what all tasks of a run have done and met
+pub record AllDid (Ends : TaskState → Type 0) (held : ℕ → ℕ → Type 0) (seen : ℕ → Type 0) (tasks processors rounds freezes : ℕ)
     (details : Details) : Type 0 where
-  pub first : TaskState
-  pub last : TaskState
-  pub same : own_view first.items ≡ made
-  pub backup : Repeats (BackupRound (was_frozen seen)) freezes (first, tt, no_copies) (last, tt, details.copies)
-  pub own : own_number last.items ≡ 0
-  pub ends : Ends last
+  pub backup : BackedUp Ends (was_frozen seen) (tasks - 2) freezes tt tt details.copies
   pub remounter : Remounted Ends rounds (remounts_of details)
   pub writers : AllWrote Ends (was_held held) processors rounds 0 (tasks - 2) tt tt details.writes

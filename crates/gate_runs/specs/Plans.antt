@@ -6,9 +6,7 @@ use Rattle.gate_world.specs.declared.config.Config.{Config}
 use Rattle.gate_runs.specs.declared.counts.Details.{Details}
 use Rattle.gate_runs.specs.declared.runs.Totals.{Totals}
 use Rattle.vfs_gates.specs.Ended.{Ended, Ending}
-use Rattle.gate_runs.specs.Counts.{remounts_of}
-use Rattle.gate_runs.specs.Meetings.{was_frozen, was_held}
-use Rattle.gate_runs.specs.Parts.{AllWrote, BackedUp, EndsAs, Remounted}
+use Rattle.gate_runs.specs.Parts.{AllDid, EndsAs}
 
 -- 3 to 64 tasks, 1 to 64 processors, 1 to 10,000 rounds, and at most 1,000 freezes
 pub record MayRun (tasks processors rounds freezes : ℕ) : Type 0 where
@@ -38,6 +36,4 @@ pub record TellsRun (held : ℕ → ℕ → Type 0) (seen : ℕ → Type 0) (tas
   pub snapshots : totals.snapshots ≡ freezes
   pub remounts : totals.remounts ≡ rounds
   pub ended : Ended closed.config closed.words
-  pub backup : BackedUp (EndsAs ended.world.views) (was_frozen seen) (tasks - 2) freezes tt tt details.copies
-  pub remounter : Remounted (EndsAs ended.world.views) rounds (remounts_of details)
-  pub writers : AllWrote (EndsAs ended.world.views) (was_held held) processors rounds 0 (tasks - 2) tt tt details.writes
+  pub all : AllDid (EndsAs ended.world.views) held seen tasks processors rounds freezes details

@@ -23,7 +23,7 @@ use std::sync::Wait;
 use std::thread::Threads;
 use threads::in_threads;
 use vfs_gates::{Closed, Gates, Task};
-use workers::{FIRST_WRITER, MOUNT, create_files};
+use workers::{FIRST_WRITER, MOUNT};
 
 /// What a run has done.
 #[derive(Clone, Copy, PartialEq, Eq, Debug)]
@@ -143,8 +143,7 @@ pub fn run_plan<R: Threads + Wait + Sync, W: Watch + Sync>(
     ensures tells { IfOk result (λ r. TellsRun (W.held watch.now) (W.seen watch.now) plan.tasks plan.processors plan.rounds plan.freezes r.0 r.1 r.2) }
     ensures refused { IfErr result (RunRefused (run_config plan.tasks plan.processors plan.rounds) plan.tasks plan.processors) }
 {
-    let (gates, mut task) = Gates::new(alloc, plan.config())?;
-    create_files(rt, &gates, plan, &mut task)?;
+    let (gates, task) = Gates::new(alloc, plan.config())?;
     let (task, details) = in_threads(rt, alloc, &gates, plan, watch, task)?;
     let closed = close(gates, task)?;
     let totals = Totals {

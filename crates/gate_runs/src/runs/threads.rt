@@ -11,7 +11,7 @@ ghost use Rattle.vfs_gates.specs.Splitting.{Gives, HasBegun};
 ghost use Rattle.vfs_gates.specs.TaskStates.{IsFrom, TaskState, own_view};
 
 use super::Plan;
-use super::workers::{back_up, remount, write};
+use super::workers::{back_up, create_files, remount, write};
 use crate::counts::{Details, Remounts, Writes};
 use crate::meetings::Watch;
 use access_model::GateError;
@@ -298,7 +298,7 @@ fn join_writers<R: Threads, W: Watch>(
     Ok(writes)
 }
 
-/// Starts the threads of all other tasks, backs up beside them, and joins them.
+/// Creates the files, starts the threads of all other tasks, backs up beside them, and joins them.
 fn run_threads<'s, E, R: Threads + Wait + Sync, W: Watch + Sync>(
     scope: &Scope<'s, E>,
     rt: &'s R,
@@ -309,13 +309,15 @@ fn run_threads<'s, E, R: Threads + Wait + Sync, W: Watch + Sync>(
     task: &mut Task,
 ) -> Result<Details, GateError>
     requires from { IsFrom task.old gates.now }
+    requires begins { HasBegun 0 task.old }
     requires gives { Gives task.old 1 plan.tasks }
     ensures from { IsFrom task.new gates.now }
     ensures copies { IfOk result (λ d. (d.copies.frozen ≡ plan.freezes) × (d.copies.snapshots ≡ plan.freezes)) }
     ensures all { IfOk result (AllDid (Among task.new.items) (W.held watch.now) (W.seen watch.now) plan.tasks plan.processors plan.rounds
-        plan.freezes (own_view task.old.items)) }
+        plan.freezes) }
     ensures refused { IfErr result (RunRefused gates.now.words.config plan.tasks plan.processors) }
 {
+    create_files(rt, gates, plan, task)?;
     let remounter = start_remounter(scope, rt, alloc, gates, plan, task)?;
     let writers = start_writers(scope, rt, alloc, gates, plan, watch, task)?;
     let copies = back_up(rt, gates, plan, watch, task, &mut ())?;
@@ -339,11 +341,12 @@ pub(crate) fn in_threads<R: Threads + Wait + Sync, W: Watch + Sync>(
     task: Task,
 ) -> Result<(Task, Details), GateError>
     requires from { IsFrom task gates.now }
+    requires begins { HasBegun 0 task }
     requires gives { Gives task 1 plan.tasks }
     ensures from { IfOk result (λ r. IsFrom r.0 gates.now) }
     ensures copies { IfOk result (λ r. (r.1.copies.frozen ≡ plan.freezes) × (r.1.copies.snapshots ≡ plan.freezes)) }
     ensures all { IfOk result (λ r. AllDid (Among r.0.items) (W.held watch.now) (W.seen watch.now) plan.tasks plan.processors plan.rounds
-        plan.freezes (own_view task.items) r.1) }
+        plan.freezes r.1) }
     ensures refused { IfErr result (RunRefused gates.now.words.config plan.tasks plan.processors) }
 {
     thread::scope(
@@ -351,11 +354,12 @@ pub(crate) fn in_threads<R: Threads + Wait + Sync, W: Watch + Sync>(
         rt,
         move |scope| -> Result<(Task, Details), GateError>
             requires from { IsFrom task gates.now }
+            requires begins { HasBegun 0 task }
             requires gives { Gives task 1 plan.tasks }
             ensures from { IfOk result (λ r. IsFrom r.0 gates.entry.now) }
             ensures copies { IfOk result (λ r. (r.1.copies.frozen ≡ plan.freezes) × (r.1.copies.snapshots ≡ plan.freezes)) }
             ensures all { IfOk result (λ r. AllDid (Among r.0.items) (W.held watch.entry.now) (W.seen watch.entry.now) plan.tasks plan.processors
-                plan.rounds plan.freezes (own_view task.items) r.1) }
+                plan.rounds plan.freezes r.1) }
             ensures refused { IfErr result (RunRefused gates.entry.now.words.config plan.tasks plan.processors) }
         {
             let mut task = task;

@@ -3,7 +3,7 @@
 ghost use Rattle.std.specs.Prelude.{◌≡◌, ◌+◌, ◌-◌, ◌<◌, ◌≤◌, ℕ, IfErr, IfOk, OnOk, Some, length, true};
 ghost use Rattle.access_model.specs.declared.errors.GateError.TheVariants.{Again, ReadOnly};
 ghost use Rattle.gated_tree.specs.Trees.{LoadedClean, LoadedSound};
-ghost use Rattle.gate_runs.specs.Counts.{blocks_of, counted, no_copies, no_remounts, no_writes};
+ghost use Rattle.gate_runs.specs.Counts.{blocks_of, counted, no_copies, no_remounts, no_writes, with_waits};
 ghost use Rattle.gate_runs.specs.Refusals.{MetBy, WasRefused};
 ghost use Rattle.gate_runs.specs.Rounds.{BackupRound, CallsBack, Closes, CreatesFiles, Does, RemountRound, Repeats, Retries, Takes, WriterRound};
 ghost use Rattle.gate_world.specs.declared.operations.Op.TheVariants.{ChangeMount, WantWrite, Grow, Snapshot as SnapshotOp};
@@ -46,6 +46,13 @@ pub(crate) fn create_files<R: Wait>(
     task.drop_write(gates, MOUNT, 0)
 }
 
+/// The waits so far, with those of the task's last call.
+fn with_waits(so_far: u64, task: &Task) -> u64
+    ensures { result ≡ with_waits so_far task.now }
+{
+    so_far.saturating_add(task.waited())
+}
+
 /// Takes write access on a processor, again while the mount is read-only, and tells how often it was, and the waits so far with those of each
 /// of these calls.
 fn want_write<R: Wait>(
@@ -65,12 +72,12 @@ fn want_write<R: Wait>(
     let mut waits = so_far;
     for _ in rt.forever() {
         let answer = task.want_write(rt, gates, MOUNT, cpu);
-        waits = waits.saturating_add(task.waited());
-        if answer != Err(GateError::ReadOnly) {
-            answer?;
-            return Ok((denied, waits));
+        waits = with_waits(waits, task);
+        match answer {
+            Ok(()) => return Ok((denied, waits)),
+            Err(GateError::ReadOnly) => denied = denied.saturating_add(1),
+            Err(refusal) => return Err(refusal),
         }
-        denied = denied.saturating_add(1);
         backoff.snooze();
     }
     unreachable!()
@@ -85,12 +92,11 @@ fn grow<R: Wait>(rt: &R, gates: &Gates, task: &mut Task, file: u8) -> Result<u64
 {
     let mut raced = 0u64;
     for _ in rt.forever() {
-        let answer = task.grow(gates, file, 1);
-        if answer != Err(GateError::Again) {
-            answer?;
-            return Ok(raced);
+        match task.grow(gates, file, 1) {
+            Ok(()) => return Ok(raced),
+            Err(GateError::Again) => raced = raced.saturating_add(1),
+            Err(refusal) => return Err(refusal),
         }
-        raced = raced.saturating_add(1);
     }
     unreachable!()
 }
@@ -153,10 +159,12 @@ pub(crate) fn remount<R: Wait>(
     let mut met = Remounts::none();
     for _round in 0..plan.rounds {
         let busy = met.busy + close_mount(rt, gates, task)?;
-        let waits = met.waits.saturating_add(task.waited());
+        let waits = with_waits(met.waits, task);
         task.change_mount(rt, gates, MOUNT, false)?;
-        let waits = waits.saturating_add(task.waited());
-        met = Remounts { busy, waits };
+        met = Remounts {
+            busy,
+            waits: with_waits(waits, task),
+        };
     }
     Ok(met)
 }
@@ -204,7 +212,7 @@ fn call_back<R: Wait>(
     let mut waits = so_far;
     for level in 1..4 {
         ran += u32::from(task.callback(rt, gates, level)?);
-        waits = waits.saturating_add(task.waited());
+        waits = with_waits(waits, task);
     }
     Ok((ran, waits))
 }
@@ -229,12 +237,12 @@ pub(crate) fn back_up<R: Wait, W: NotedWatch>(
     let mut copies = Copies::none();
     for freeze in 0..plan.freezes {
         task.freeze(rt, gates, Holder::User, &mut ())?;
-        let waits = copies.waits.saturating_add(task.waited());
+        let waits = with_waits(copies.waits, task);
         let taken = take_snapshot(rt, gates, task);
-        let waits = waits.saturating_add(task.waited());
+        let waits = with_waits(waits, task);
         watch.frozen(task, freeze, notes);
         task.thaw(rt, gates, Holder::User, &mut ())?;
-        let waits = waits.saturating_add(task.waited());
+        let waits = with_waits(waits, task);
         let blocks = taken?;
         let (ran, waits) = call_back(rt, gates, task, waits)?;
         copies = copies.with_copy(ran, waits, blocks);
