@@ -1,6 +1,6 @@
 -- Rounds that go on.
-use Rattle.std.proofs.Common.{◌≡◌, ℕ, zero, suc, ◌+◌, ◌-◌, ◌^◌, ◌≤◌, min, ap, refl, inl, inr, ◌∙◌, arith, subst}
-use Rattle.std.specs.Prelude.{Result, Ok, Err, OnOk, IfOk}
+use Rattle.std.proofs.Common.{◌≡◌, ℕ, suc, ◌+◌, ◌-◌, ◌^◌, ◌≤◌, min, ap, refl, inl, inr, ◌∙◌, arith, subst}
+use Rattle.std.specs.Prelude.{Result, Ok, Err, OnOk}
 use Rattle.access_model.specs.declared.errors.GateError.{GateError}
 use Rattle.access_model.specs.declared.errors.GateError.TheVariants.{ReadOnly}
 use Rattle.gate_world.specs.declared.operations.Op.{Op}
@@ -8,12 +8,10 @@ use Rattle.gate_world.specs.declared.operations.Op.TheVariants.{WantWrite, DropW
 use Rattle.vfs_gates.specs.TaskStates.{TaskState}
 use Rattle.vfs_gates.specs.Runs.{Performs, Replies, told_as, unit_of}
 use Rattle.access_model.specs.declared.replies.Reply.{Reply}
-use Rattle.gate_runs.specs.declared.counts.Copies.{Copies}
-use Rattle.gate_runs.specs.declared.counts.Writes.{Writes}
 use Rattle.gate_runs.specs.Counts.{counted}
 use Rattle.gate_runs.specs.Refusals.{IsRunCall, MetBy, WasRefused}
 use Rattle.gate_world.specs.declared.config.Config.{Config}
-use Rattle.gate_runs.specs.Rounds.{Closes, CreatesFile, CreatesFiles, Does, IsRefused, Repeats, Retries, Takes, Waits, WriterRound, BackupRound}
+use Rattle.gate_runs.specs.Rounds.{Closes, CreatesFile, CreatesFiles, Does, IsRefused, Repeats, Retries, Takes, Waits}
 
 -- one round more
 pub one_more : {S : Type 0} (Round : ℕ → S → S → Type 0) (k : ℕ) (first mid last : S) → Repeats Round k first mid → Round k mid last →
@@ -32,49 +30,6 @@ created writers first held made last took creates (Ok unit) gave = record {
   gave = gave;
 }
 created writers first held made last took creates (Err refusal) gave = tt
-
--- rounds of one kind that are rounds of another
-pub repeats_on : {S : Type 0} (Round Other : ℕ → S → S → Type 0) → ((k : ℕ) (x y : S) → Round k x y → Other k x y) → (k : ℕ) (first last : S) →
-    Repeats Round k first last → Repeats Other k first last
-repeats_on Round Other on zero first last did = did
-repeats_on Round Other on (suc k) first last did = (did.0, repeats_on Round Other on k first did.0 did.1, on k did.0 last did.2)
-
--- rounds of a writer are such of another meeting, where its calls say as much
-pub writes_on : {M N O : Type 0} (link : M → TaskState → ℕ → N → N → Type 0) (meeting : M) (other : O → TaskState → ℕ → N → N → Type 0) (there : O) →
-    ((task : TaskState) (round : ℕ) (old new : N) → link meeting task round old new → other there task round old new) →
-    (processors writer rounds : ℕ) (first last : TaskState × N × Writes) → Repeats (WriterRound link meeting processors writer) rounds first last →
-    Repeats (WriterRound other there processors writer) rounds first last
-writes_on link meeting other there on processors writer rounds first last did =
-    repeats_on (WriterRound link meeting processors writer) (WriterRound other there processors writer) (λ k x y was. record {
-      held = was.held;
-      grown = was.grown;
-      waits = was.waits;
-      took = was.took;
-      grew = was.grew;
-      met = on was.grown k x.1 y.1 was.met;
-      gave = was.gave;
-      counts = was.counts;
-    }) rounds first last did
-
--- and so are the backup's
-pub backs_on : {M N O : Type 0} (link : M → TaskState → ℕ → N → N → Type 0) (meeting : M) (other : O → TaskState → ℕ → N → N → Type 0) (there : O) →
-    ((task : TaskState) (round : ℕ) (old new : N) → link meeting task round old new → other there task round old new) →
-    (freezes : ℕ) (first last : TaskState × N × Copies) → Repeats (BackupRound link meeting) freezes first last →
-    Repeats (BackupRound other there) freezes first last
-backs_on link meeting other there on freezes first last did =
-    repeats_on (BackupRound link meeting) (BackupRound other there) (λ k x y was. record {
-      frozen = was.frozen;
-      copied = was.copied;
-      thawed = was.thawed;
-      freezes = was.freezes;
-      copies = was.copies;
-      met = on was.copied k x.1 y.1 was.met;
-      thaws = was.thaws;
-      ran = was.ran;
-      waits = was.waits;
-      calls_back = was.calls_back;
-      counts = was.counts;
-    }) freezes first last did
 
 -- a call that was refused again and again, and then was done, and how often it was refused
 pub answered : (op : Op) (refusal : GateError) (first mid last : TaskState) (tries tried : ℕ) →
@@ -113,11 +68,6 @@ refused_so read op first last refusal was = record {
   refused = λ other at. let told = was.refused other at in (ap unit_told told.0, told.1);
   done = λ admitted. let told = was.done admitted in (told.0, ap unit_told told.1 ∙ told_unit read told.0, told.2);
 }
-
--- what an answer says, by what it said before
-pub if_ok_on : {A E : Type 0} {P Q : A → Type 0} → ((x : A) → P x → Q x) → (answer : Result A E) → IfOk answer P → IfOk answer Q
-if_ok_on on (Ok x) p = on x p
-if_ok_on on (Err e) p = tt
 
 -- a call that a run makes, by a task of its gates, was refused so
 pub meets : (config : Config) (tasks processors : ℕ) (op : Op) (refusal : GateError) (first last : TaskState) → IsRunCall tasks processors op →

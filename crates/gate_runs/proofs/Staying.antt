@@ -1,5 +1,5 @@
 -- What calls of its own leave a task, and what it is among others in the end.
-use Rattle.std.proofs.Common.{◌≡◌, ℕ, zero, suc, ◌+◌, ◌≤◌, List, [], ◌∷◌, ◌++◌, length, refl, ap, sym, subst, ◌∙◌, arith, inl, inr}
+use Rattle.std.proofs.Common.{◌≡◌, ℕ, zero, suc, ◌+◌, ◌-◌, ◌≤◌, List, [], ◌∷◌, ◌++◌, length, refl, ap, sym, subst, ◌∙◌, arith, inl, inr}
 use Rattle.std.specs.Prelude.{Option, Some, None, Result}
 use Rattle.access_model.specs.declared.errors.GateError.{GateError}
 use Rattle.access_model.specs.declared.errors.GateError.TheVariants.{ReadOnly}
@@ -13,12 +13,14 @@ use Rattle.vfs_gates.specs.Seating.{SeatItems, HaveViews, numbered, times}
 use Rattle.vfs_gates.specs.TaskStates.{TaskState, own_number, own_view, spare_of, refusal_at}
 use Rattle.vfs_gates.specs.Runs.{Replies, ran_items}
 use Rattle.gate_runs.specs.declared.counts.Copies.{Copies}
+use Rattle.gate_runs.specs.declared.counts.Details.{Details}
 use Rattle.gate_runs.specs.declared.counts.Remounts.{Remounts}
 use Rattle.gate_runs.specs.declared.counts.Writes.{Writes}
-use Rattle.gate_runs.specs.Counts.{both, no_remounts, no_writes, with_waits}
+use Rattle.gate_runs.specs.Counts.{both, no_remounts, no_writes, remounts_of, with_waits}
+use Rattle.gate_runs.specs.Meetings.{was_held}
 use Rattle.gate_runs.specs.Rounds.{Repeats, CallsBack, CreatesFile, CreatesFiles, IsRefused, Retries, Takes, Waits, RemountRound, WriterRound, BackupRound}
 use Rattle.vfs_gates.specs.Splitting.{Gives, HasBegun, HaveDoneNothing}
-use Rattle.gate_runs.specs.Parts.{EachFrom, Among, EndsAs, Stays, Remounted, Wrote, AllWrote}
+use Rattle.gate_runs.specs.Parts.{EachFrom, Among, EndsAs, Stays, Remounted, Wrote, AllWrote, AllDid}
 
 pub stays_so : (s : TaskState) → Stays s s
 stays_so s = record { config = refl; own = refl; spare = refl; idle = λ i. i; there = λ h. h }
@@ -95,16 +97,16 @@ remounts_stay rounds first last did = rounds_stay (λ x. x.0) RemountRound (λ k
     (elim was.closed [ inl done ↦ stays _ _ x.0 was.mid _ done.0 | inr busy ↦ stays _ _ x.0 was.mid _ busy.0 ])
     (stays _ _ was.mid y.0 _ was.opened)) rounds first last did
 
-module _ {M N : Type 0} (link : M → TaskState → ℕ → N → N → Type 0) (meeting : M) where
+module _ {N : Type 0} (link : TaskState → ℕ → N → N → Type 0) where
   pub writes_stay : (processors writer rounds : ℕ) (first last : TaskState × N × Writes) →
-      Repeats (WriterRound link meeting processors writer) rounds first last → Stays first.0 last.0
-  writes_stay processors writer rounds first last did = rounds_stay (λ x. x.0) (WriterRound link meeting processors writer) (λ k x y was. stays_on
+      Repeats (WriterRound link processors writer) rounds first last → Stays first.0 last.0
+  writes_stay processors writer rounds first last did = rounds_stay (λ x. x.0) (WriterRound link processors writer) (λ k x y was. stays_on
       (takes_stay _ (x.0, x.2.waits) (was.held, was.waits) was.took) (stays_on (retries_stay _ _ was.held was.grown was.grew) (stays _ _ was.grown y.0 _ was.gave)))
       rounds first last did
 
-  pub backs_stay : (freezes : ℕ) (first last : TaskState × N × Copies) → Repeats (BackupRound link meeting) freezes first last →
+  pub backs_stay : (freezes : ℕ) (first last : TaskState × N × Copies) → Repeats (BackupRound link) freezes first last →
       Stays first.0 last.0
-  backs_stay freezes first last did = rounds_stay (λ x. x.0) (BackupRound link meeting) (λ k x y was. stays_on
+  backs_stay freezes first last did = rounds_stay (λ x. x.0) (BackupRound link) (λ k x y was. stays_on
       (stays _ _ x.0 was.frozen _ was.freezes) (stays_on (stays _ _ was.frozen was.copied _ was.copies) (stays_on
       (stays _ _ was.copied was.thawed _ was.thaws)
       (rounds_stay (λ (x : TaskState × ℕ × ℕ). x.0) (λ k. CallsBack (k + 1)) (λ k x y ran. stays _ _ x.0 y.0 _ ran.1) 3
@@ -148,34 +150,53 @@ module _ (Ends Other : TaskState → Type 0) (on : (s : TaskState) → Ends s �
   pub remounted_on : (rounds : ℕ) (met : Remounts) → Remounted Ends rounds met → Remounted Other rounds met
   remounted_on rounds met r = record { first = r.first; last = r.last; begun = r.begun; did = r.did; own = r.own; ends = on r.last r.ends }
 
-  module _ {M N : Type 0} (link : M → TaskState → ℕ → N → N → Type 0) (meeting : M) (processors rounds : ℕ) (before after : N) where
-    pub wrote_on : (writer : ℕ) (writes : Writes) → Wrote Ends link meeting processors rounds writer before after writes →
-        Wrote Other link meeting processors rounds writer before after writes
+  module _ {N : Type 0} (link : TaskState → ℕ → N → N → Type 0) (processors rounds : ℕ) (before after : N) where
+    pub wrote_on : (writer : ℕ) (writes : Writes) → Wrote Ends link processors rounds writer before after writes →
+        Wrote Other link processors rounds writer before after writes
     wrote_on writer writes w =
         record { first = w.first; last = w.last; begun = w.begun; did = w.did; own = w.own; ends = on w.last w.ends }
 
-    pub all_wrote_on : (from count : ℕ) (writes : Writes) → AllWrote Ends link meeting processors rounds from count before after writes →
-        AllWrote Other link meeting processors rounds from count before after writes
+    pub all_wrote_on : (from count : ℕ) (writes : Writes) → AllWrote Ends link processors rounds from count before after writes →
+        AllWrote Other link processors rounds from count before after writes
     all_wrote_on from count writes w = record {
       each = w.each;
       all = w.all;
-      parts = each_on (λ writer. Wrote Ends link meeting processors rounds writer before after)
-          (λ writer. Wrote Other link meeting processors rounds writer before after) wrote_on from w.each w.parts;
+      parts = each_on (λ writer. Wrote Ends link processors rounds writer before after)
+          (λ writer. Wrote Other link processors rounds writer before after) wrote_on from w.each w.parts;
       sum = w.sum;
     }
 
+  pub all_did_on : (held : ℕ → ℕ → Type 0) (seen : ℕ → Type 0) (tasks processors rounds freezes : ℕ) (details : Details) →
+      AllDid Ends held seen tasks processors rounds freezes details → AllDid Other held seen tasks processors rounds freezes details
+  all_did_on held seen tasks processors rounds freezes details did = record {
+    backup = record {
+      begins = did.backup.begins;
+      made = did.backup.made;
+      first = did.backup.first;
+      last = did.backup.last;
+      begun = did.backup.begun;
+      creates = did.backup.creates;
+      same = did.backup.same;
+      did = did.backup.did;
+      own = did.backup.own;
+      ends = on did.backup.last did.backup.ends;
+    };
+    remounter = remounted_on rounds (remounts_of details) did.remounter;
+    writers = all_wrote_on (was_held held) processors rounds tt tt 0 (tasks - 2) details.writes did.writers;
+  }
+
 -- one writer more, before all that come after it
-pub all_wrote_before : (Ends : TaskState → Type 0) {M N : Type 0} (link : M → TaskState → ℕ → N → N → Type 0) (meeting : M)
+pub all_wrote_before : (Ends : TaskState → Type 0) {N : Type 0} (link : TaskState → ℕ → N → N → Type 0)
     (processors rounds : ℕ) (before after : N) (writer from count : ℕ) (its writes all : Writes) → from ≡ suc writer →
-    Wrote Ends link meeting processors rounds writer before after its →
-    AllWrote Ends link meeting processors rounds from count before after writes → all ≡ both its writes →
-    AllWrote Ends link meeting processors rounds writer count before after all
-all_wrote_before Ends link meeting processors rounds before after writer from count its writes all next part later is = record {
+    Wrote Ends link processors rounds writer before after its →
+    AllWrote Ends link processors rounds from count before after writes → all ≡ both its writes →
+    AllWrote Ends link processors rounds writer count before after all
+all_wrote_before Ends link processors rounds before after writer from count its writes all next part later is = record {
   each = its ∷ later.each;
   all = let many : count ≡ from + length later.each = later.all in omega (arith, many, next);
   parts = (
     part,
-    subst (λ n. EachFrom (λ k. Wrote Ends link meeting processors rounds k before after) n later.each) next later.parts,
+    subst (λ n. EachFrom (λ k. Wrote Ends link processors rounds k before after) n later.each) next later.parts,
   );
   sum = is ∙ ap (both its) later.sum;
 }
@@ -235,12 +256,12 @@ remounter_part rounds met first last old new begun did took =
     }
 
 -- and a writer's
-pub writer_part : {M N : Type 0} (link : M → TaskState → ℕ → N → N → Type 0) (meeting : M) (processors rounds writer : ℕ) (before after : N)
+pub writer_part : {N : Type 0} (link : TaskState → ℕ → N → N → Type 0) (processors rounds writer : ℕ) (before after : N)
     (writes : Writes) (first last old new : TaskState) → HasBegun (writer + 2) first →
-    Repeats (WriterRound link meeting processors writer) rounds (first, before, no_writes) (last, after, writes) → TookBack old last new →
-    Wrote (Among new.items) link meeting processors rounds writer before after writes
-writer_part link meeting processors rounds writer before after writes first last old new begun did took =
-    let stayed = writes_stay link meeting processors writer rounds (first, before, no_writes) (last, after, writes) did in record {
+    Repeats (WriterRound link processors writer) rounds (first, before, no_writes) (last, after, writes) → TookBack old last new →
+    Wrote (Among new.items) link processors rounds writer before after writes
+writer_part link processors rounds writer before after writes first last old new begun did took =
+    let stayed = writes_stay link processors writer rounds (first, before, no_writes) (last, after, writes) did in record {
       first = first;
       last = last;
       begun = begun;

@@ -1,11 +1,15 @@
--- What a meeting without notes says of a call.
+-- What a watch without notes says of a call.
 use Rattle.std.specs.Prelude.{ℕ}
 use Rattle.vfs_gates.specs.TaskStates.{TaskState, own_number}
 
--- a call by a task that stands so is one by its number
-abbrev pub was_held : {M : Type 0} → (M → ℕ → ℕ → Type 0) → M → TaskState → ℕ → Unit {0} → Unit {0} → Type 0
-was_held held meeting task round before after = held meeting (own_number task.items) round
+-- a call of `holding` by a task that stands so is one by its number
+abbrev pub was_held : (ℕ → ℕ → Type 0) → TaskState → ℕ → Unit {0} → Unit {0} → Type 0
+was_held held task round before after = held (own_number task.items) round
 
--- of a call of `frozen` it says nothing
-abbrev pub was_frozen : {M : Type 0} → M → TaskState → ℕ → Unit {0} → Unit {0} → Type 0
-was_frozen meeting task freeze before after = Unit {0}
+-- a call of `frozen` is one at this freeze
+abbrev pub was_frozen : (ℕ → Type 0) → TaskState → ℕ → Unit {0} → Unit {0} → Type 0
+was_frozen seen task freeze before after = seen freeze
+
+-- what a meeting says of a freeze
+abbrev pub unseen : ℕ → Type 0
+unseen freeze = Unit {0}

@@ -45,13 +45,13 @@ module _ (Ends : TaskState → Type 0) where
     pub own : own_number last.items ≡ 1
     pub ends : Ends last
 
-  module _ {M N : Type 0} (link : M → TaskState → ℕ → N → N → Type 0) (meeting : M) where
+  module _ {N : Type 0} (link : TaskState → ℕ → N → N → Type 0) where
     -- a writer, the first being 0: from its beginning and these notes on so many rounds, which met this, and nothing else
     pub record Wrote (processors rounds writer : ℕ) (before after : N) (writes : Writes) : Type 0 where
       pub first : TaskState
       pub last : TaskState
       pub begun : HasBegun (writer + 2) first
-      pub did : Repeats (WriterRound link meeting processors writer) rounds (first, before, no_writes) (last, after, writes)
+      pub did : Repeats (WriterRound link processors writer) rounds (first, before, no_writes) (last, after, writes)
       pub own : own_number last.items ≡ writer + 2
       pub ends : Ends last
 
@@ -72,18 +72,13 @@ module _ (Ends : TaskState → Type 0) where
       pub begun : HasBegun 0 begins
       pub creates : CreatesFiles writers begins made
       pub same : own_view first.items ≡ own_view made.items
-      pub did : Repeats (BackupRound link meeting) freezes (first, before, no_copies) (last, after, copies)
+      pub did : Repeats (BackupRound link) freezes (first, before, no_copies) (last, after, copies)
       pub own : own_number last.items ≡ 0
       pub ends : Ends last
 
--- what all tasks of a run have done and met, the backup from this view on, with which it has given all numbers away
-pub record AllDid (Ends : TaskState → Type 0) {M : Type 0} (held : M → ℕ → ℕ → Type 0) (meeting : M) (tasks processors rounds freezes : ℕ)
-    (made : View) (details : Details) : Type 0 where
-  pub first : TaskState
-  pub last : TaskState
-  pub same : own_view first.items ≡ made
-  pub backup : Repeats (BackupRound was_frozen meeting) freezes (first, tt, no_copies) (last, tt, details.copies)
-  pub own : own_number last.items ≡ 0
-  pub ends : Ends last
+-- what all tasks of a run have done and met
+pub record AllDid (Ends : TaskState → Type 0) (held : ℕ → ℕ → Type 0) (seen : ℕ → Type 0) (tasks processors rounds freezes : ℕ)
+    (details : Details) : Type 0 where
+  pub backup : BackedUp Ends (was_frozen seen) (tasks - 2) freezes tt tt details.copies
   pub remounter : Remounted Ends rounds (remounts_of details)
-  pub writers : AllWrote Ends (was_held held) meeting processors rounds 0 (tasks - 2) tt tt details.writes
+  pub writers : AllWrote Ends (was_held held) processors rounds 0 (tasks - 2) tt tt details.writes

@@ -6,9 +6,7 @@ use Rattle.gate_world.specs.declared.config.Config.{Config}
 use Rattle.gate_runs.specs.declared.counts.Details.{Details}
 use Rattle.gate_runs.specs.declared.runs.Totals.{Totals}
 use Rattle.vfs_gates.specs.Ended.{Ended, Ending}
-use Rattle.gate_runs.specs.Counts.{remounts_of}
-use Rattle.gate_runs.specs.Meetings.{was_frozen, was_held}
-use Rattle.gate_runs.specs.Parts.{AllWrote, BackedUp, EndsAs, Remounted}
+use Rattle.gate_runs.specs.Parts.{AllDid, EndsAs}
 
 -- 3 to 64 tasks, 1 to 64 processors, 1 to 10,000 rounds, and at most 1,000 freezes
 pub record MayRun (tasks processors rounds freezes : ℕ) : Type 0 where
@@ -26,11 +24,11 @@ run_config tasks processors rounds =
     record { tasks = tasks; processors = processors; mounts = 1; nodes = tasks - 1; capacity = (tasks - 2) * rounds }
 
 -- What a run tells of gates that are closed: the blocks that their files have in the end, and that nothing is held. In the world that they
--- leave, each task has done its part from where it began, and nothing else: the backup all freezes, each with a snapshot, a thaw and three
--- callbacks; the remounter all rounds of changes; each writer all its rounds, with a call of the meeting between each grant and its return.
--- As many are told, and just what these calls met.
-pub record TellsRun {M : Type 0} (held : M → ℕ → ℕ → Type 0) (meeting : M) (tasks processors rounds freezes : ℕ) (totals : Totals)
-    (details : Details) (closed : Ending) : Type 0 where
+-- leave, each task has done its part from where it began, and nothing else: the backup all freezes, each with a snapshot, a call of the watch,
+-- a thaw and three callbacks; the remounter all rounds of changes; each writer all its rounds, with a call of the watch between each grant and its
+-- return. As many are told, and just what these calls met.
+pub record TellsRun (held : ℕ → ℕ → Type 0) (seen : ℕ → Type 0) (tasks processors rounds freezes : ℕ) (totals : Totals) (details : Details)
+    (closed : Ending) : Type 0 where
   pub config : closed.config ≡ run_config tasks processors rounds
   pub grown : totals.grown ≡ slice_index closed.words (stride * place Used)
   pub none_held : totals.held ≡ 0
@@ -38,6 +36,4 @@ pub record TellsRun {M : Type 0} (held : M → ℕ → ℕ → Type 0) (meeting 
   pub snapshots : totals.snapshots ≡ freezes
   pub remounts : totals.remounts ≡ rounds
   pub ended : Ended closed.config closed.words
-  pub backup : BackedUp (EndsAs ended.world.views) was_frozen meeting (tasks - 2) freezes tt tt details.copies
-  pub remounter : Remounted (EndsAs ended.world.views) rounds (remounts_of details)
-  pub writers : AllWrote (EndsAs ended.world.views) (was_held held) meeting processors rounds 0 (tasks - 2) tt tt details.writes
+  pub all : AllDid (EndsAs ended.world.views) held seen tasks processors rounds freezes details

@@ -1,4 +1,4 @@
--- What each task of a run does, call by call, and when the meeting is called.
+-- What each task of a run does, call by call, and when who looks on is called.
 use Rattle.std.specs.Prelude.{◌≡◌, ℕ, zero, suc, ◌+◌, ◌%◌, ◌⊎◌, Bool, true, false, Ok, Err}
 use Rattle.access_model.specs.declared.actions.Holder.TheVariants.{User}
 use Rattle.access_model.specs.declared.actions.Kind.TheVariants.{File}
@@ -74,11 +74,11 @@ pub record RemountRound (round : ℕ) (first last : TaskState × Remounts) : Typ
 abbrev pub processor_of : ℕ → ℕ → ℕ → ℕ
 processor_of processors writer round = (writer + round) % processors
 
--- The rounds that the meeting is called in: a task goes on, and so do its notes and its counts. `meets` is what the meeting says of a call, by
--- the task as it stands at that moment.
-module _ {M N : Type 0} (meets : M → TaskState → ℕ → N → N → Type 0) (meeting : M) where
+-- The rounds that a watch is called in: a task goes on, and so do its notes and its counts. `link` is what the watch says of a call, by the task
+-- as it stands at that moment.
+module _ {N : Type 0} (link : TaskState → ℕ → N → N → Type 0) where
   -- A round of a writer: write access on its processor, again while the mount is read-only; its file larger by one block, again while others
-  -- were before it; one call of the meeting, with the task as it stands then; and the access given back on the next processor. Each call that
+  -- were before it; one call of the watch, with the task as it stands then; and the access given back on the next processor. Each call that
   -- was refused is counted, and so are the waits of each call for write access.
   pub record WriterRound (processors writer round : ℕ) (first last : TaskState × N × Writes) : Type 0 where
     pub held : TaskState
@@ -86,11 +86,11 @@ module _ {M N : Type 0} (meets : M → TaskState → ℕ → N → N → Type 0)
     pub waits : ℕ
     pub took : Takes (processor_of processors writer round) (first.0, first.2.waits) (held, waits)
     pub grew : Retries (Grow (writer + 1) 1) Again held grown
-    pub met : meets meeting grown round first.1 last.1
+    pub met : link grown round first.1 last.1
     pub gave : Does (DropWrite 0 (processor_of processors writer (round + 1))) grown last.0
     pub counts : last.2 ≡ with_round took.0 grew.0 waits first.2
 
-  -- A round of the backup: a freeze, a snapshot, one call of the meeting, a thaw, and the callbacks of the three levels. The snapshot's
+  -- A round of the backup: a freeze, a snapshot, one call of the watch, a thaw, and the callbacks of the three levels. The snapshot's
   -- blocks, the callbacks that ran and the waits of all these calls are counted.
   pub record BackupRound (round : ℕ) (first last : TaskState × N × Copies) : Type 0 where
     pub frozen : TaskState
@@ -98,7 +98,7 @@ module _ {M N : Type 0} (meets : M → TaskState → ℕ → N → N → Type 0)
     pub thawed : TaskState
     pub freezes : Does (Freeze User) first.0 frozen
     pub copies : Does (Snapshot true) frozen copied
-    pub met : meets meeting copied round first.1 last.1
+    pub met : link copied round first.1 last.1
     pub thaws : Does (Thaw User) copied thawed
     pub ran : ℕ
     pub waits : ℕ

@@ -7,5 +7,5 @@ mod meetings;
 mod runs;
 
 pub use counts::{Copies, Details, Sizes, Writes};
-pub use meetings::Meeting;
+pub use meetings::{Meeting, Watch};
 pub use runs::{Plan, Totals, run_plan, run_with};

@@ -5,6 +5,7 @@ ghost use Rattle.access_model.specs.declared.errors.GateError.TheVariants.{Inval
 ghost use Rattle.vfs_gates.specs.Ended.{EndedWith};
 ghost use Rattle.vfs_gates.specs.TaskStates.{IsFrom};
 ghost use Rattle.gate_runs.specs.declared.counts.Details.{Details as DetailsType};
+ghost use Rattle.gate_runs.specs.Meetings.{unseen};
 ghost use Rattle.gate_runs.specs.Plans.{MayRun, TellsRun, run_config};
 ghost use Rattle.gate_runs.specs.Refusals.{RunRefused};
 ghost use Rattle.gate_runs.specs.Rounds.{processor_of};
@@ -13,7 +14,7 @@ mod threads;
 mod workers;
 
 use crate::counts::Details;
-use crate::meetings::Meeting;
+use crate::meetings::{Meeting, Watch};
 use access_model::{Gate, GateError};
 use cpu_words::WordName;
 use gate_world::Config;
@@ -22,7 +23,7 @@ use std::sync::Wait;
 use std::thread::Threads;
 use threads::in_threads;
 use vfs_gates::{Closed, Gates, Task};
-use workers::{FIRST_WRITER, MOUNT, create_files};
+use workers::{FIRST_WRITER, MOUNT};
 
 /// What a run has done.
 #[derive(Clone, Copy, PartialEq, Eq, Debug)]
@@ -131,20 +132,19 @@ fn close(gates: Gates, task: Task) -> Result<Closed, GateError>
 }
 
 /// The same as `run_with`, of numbers that are within their limits: makes the gates and their files, does the plan in threads, and closes
-/// the gates. Tells beside the totals what the tasks met on their way, each refusal and callback counted. NoMemory, and any other refusal, as
-/// there; no number is at fault.
-pub fn run_plan<R: Threads + Wait + Sync, M: Meeting + Sync>(
+/// the gates. Its backup calls the watch too (`Watch::seen` has what these calls show). Tells beside the totals what the tasks met on their way,
+/// each refusal and callback counted. NoMemory, and any other refusal, as there; no number is at fault.
+pub fn run_plan<R: Threads + Wait + Sync, W: Watch + Sync>(
     rt: &R,
     alloc: Global,
     plan: Plan,
-    meeting: &M,
+    watch: &W,
 ) -> Result<(Totals, Details, Closed), GateError>
-    ensures tells { IfOk result (λ r. TellsRun M.held meeting.now plan.tasks plan.processors plan.rounds plan.freezes r.0 r.1 r.2) }
+    ensures tells { IfOk result (λ r. TellsRun (W.held watch.now) (W.seen watch.now) plan.tasks plan.processors plan.rounds plan.freezes r.0 r.1 r.2) }
     ensures refused { IfErr result (RunRefused (run_config plan.tasks plan.processors plan.rounds) plan.tasks plan.processors) }
 {
-    let (gates, mut task) = Gates::new(alloc, plan.config())?;
-    create_files(rt, &gates, plan, &mut task)?;
-    let (task, details) = in_threads(rt, alloc, &gates, plan, meeting, task)?;
+    let (gates, task) = Gates::new(alloc, plan.config())?;
+    let (task, details) = in_threads(rt, alloc, &gates, plan, watch, task)?;
     let closed = close(gates, task)?;
     let totals = Totals {
         grown: closed.word(WordName::Used).unwrap_or(0),
@@ -178,7 +178,7 @@ pub fn run_with<R: Threads + Wait + Sync, M: Meeting + Sync>(
     ensures within { OnOk result (MayRun tasks processors rounds freezes) }
     ensures invalid { ¬ MayRun tasks processors rounds freezes → result ≡ Err Invalid }
     ensures refused { MayRun tasks processors rounds freezes → IfErr result (RunRefused (run_config tasks processors rounds) tasks processors) }
-    ensures tells { IfOk result (λ r. (details : DetailsType) × TellsRun M.held meeting.now tasks processors rounds freezes r.0 details r.1) }
+    ensures tells { IfOk result (λ r. (details : DetailsType) × TellsRun (M.held meeting.now) unseen tasks processors rounds freezes r.0 details r.1) }
 {
     let plan = Plan::new(tasks, processors, rounds, freezes)?;
     let (totals, _details, closed) = run_plan(rt, alloc, plan, meeting)?;

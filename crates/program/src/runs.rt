@@ -7,7 +7,7 @@ ghost use Rattle.gate_runs.specs.Plans.{MayRun};
 use access_model::GateError;
 use command_line::{Numbers, Tells};
 use endings::{Ending, refused};
-use gate_runs::{Details, Meeting, Plan, Sizes, Totals, run_plan};
+use gate_runs::{Details, Plan, Sizes, Totals, Watch, run_plan};
 use schedule_bytes::write_out;
 use std::alloc::{AllocError, Global};
 use std::io;
@@ -81,7 +81,7 @@ impl<'r, R: Clock> Progress<'r, R> {
     }
 }
 
-impl<'r, R: Clock> Meeting for Progress<'r, R> {
+impl<'r, R: Clock> Watch for Progress<'r, R> {
     fn holding(&self, _task: u8, _round: u32) {
         self.rounds.fetch_add(1, Ordering::SeqCst);
         self.tell_each_second();
@@ -168,11 +168,11 @@ pub struct AskedRun {
 
 /// Runs what is asked for, and writes what it counted in five lines, with the details after them, where they are asked for. A refusal is told on
 /// the writer of faults, and so is a write that fails.
-pub fn run<R: Threads + Wait + Clock + Sync, M: Meeting + Sync, W: Write, E: Write>(
+pub fn run<R: Threads + Wait + Clock + Sync, P: Watch + Sync, W: Write, E: Write>(
     rt: &R,
     alloc: Global,
     asked: AskedRun,
-    meeting: &M,
+    watch: &P,
     writer: &mut W,
     errors: &mut E,
 ) -> Ending
@@ -191,7 +191,7 @@ pub fn run<R: Threads + Wait + Clock + Sync, M: Meeting + Sync, W: Write, E: Wri
         Err(refusal) => return refused(refusal, errors),
     };
     let start = Instant::now(rt).ok();
-    let (totals, details) = match run_plan(rt, alloc, plan, meeting) {
+    let (totals, details) = match run_plan(rt, alloc, plan, watch) {
         Ok((totals, details, _)) => (totals, details),
         Err(refusal) => return refused(refusal, errors),
     };

@@ -11,9 +11,9 @@ ghost use Rattle.vfs_gates.specs.Splitting.{Gives, HasBegun};
 ghost use Rattle.vfs_gates.specs.TaskStates.{IsFrom, TaskState, own_view};
 
 use super::Plan;
-use super::workers::{back_up, remount, write};
+use super::workers::{back_up, create_files, remount, write};
 use crate::counts::{Details, Remounts, Writes};
-use crate::meetings::{Meeting, Unnoted};
+use crate::meetings::Watch;
 use access_model::GateError;
 use std::alloc::Global;
 use std::snapshot::Snapshot;
@@ -44,30 +44,30 @@ impl<'g> Promise<Worked<Remounts>> for RemounterHome<'g> {
         × IfErr ended.done (MetBy home.gates.now.words.config home.plan.tasks home.plan.processors) };
 }
 
-/// The same of a writer's, with this meeting.
-struct WriterHome<'g, M> {
+/// The same of a writer's, with this watch.
+struct WriterHome<'g, W> {
     gates: &'g Gates,
     plan: Plan,
-    meeting: &'g M,
+    watch: &'g W,
     writer: u8,
     start: Snapshot<Task>,
 }
 
-impl<'g, M> Drop for WriterHome<'g, M> {
+impl<'g, W> Drop for WriterHome<'g, W> {
     fn drop(self) {
         let WriterHome {
             gates: _,
             plan: _,
-            meeting: _,
+            watch: _,
             writer: _,
             start: _,
         } = self;
     }
 }
 
-impl<'g, M: Meeting> Promise<Worked<Writes>> for WriterHome<'g, M> {
+impl<'g, W: Watch> Promise<Worked<Writes>> for WriterHome<'g, W> {
     ghost kept_by = { λ home ended. IsFrom ended.task home.gates.now
-        × IfOk ended.done (λ writes. Repeats (WriterRound (was_held M.held) home.meeting.now home.plan.processors home.writer) home.plan.rounds
+        × IfOk ended.done (λ writes. Repeats (WriterRound (was_held (W.held home.watch.now)) home.plan.processors home.writer) home.plan.rounds
         (home.start.value, tt, no_writes) (ended.task, tt, writes))
         × IfErr ended.done (MetBy home.gates.now.words.config home.plan.tasks home.plan.processors) };
 }
@@ -84,30 +84,22 @@ fn run_remounter<R: Wait>(rt: &R, gates: &Gates, plan: Plan, mut task: Task) -> 
 }
 
 /// What a writer's thread does.
-fn run_writer<R: Wait, M: Meeting>(
+fn run_writer<R: Wait, W: Watch>(
     rt: &R,
     gates: &Gates,
     plan: Plan,
-    meeting: &M,
+    watch: &W,
     writer: u8,
     mut task: Task,
 ) -> Worked<Writes>
     requires from { IsFrom task gates.now }
     requires writer { writer + 2 < plan.tasks }
     ensures from { IsFrom result.task gates.now }
-    ensures rounds { IfOk result.done (λ writes. Repeats (WriterRound (was_held M.held) meeting.now plan.processors writer) plan.rounds
+    ensures rounds { IfOk result.done (λ writes. Repeats (WriterRound (was_held (W.held watch.now)) plan.processors writer) plan.rounds
         (task, tt, no_writes) (result.task, tt, writes)) }
     ensures refused { IfErr result.done (MetBy gates.now.words.config plan.tasks plan.processors) }
 {
-    let done = write(
-        rt,
-        gates,
-        plan,
-        &Unnoted { meeting },
-        &mut task,
-        writer,
-        &mut (),
-    );
+    let done = write(rt, gates, plan, watch, &mut task, writer, &mut ());
     Worked { task, done }
 }
 
@@ -147,26 +139,26 @@ fn start_remounter<'s, E, R: Wait + Sync>(
 }
 
 /// A writer's thread that is to be joined.
-type Writer<'g, M> = PromisedHandle<Worked<Writes>, WriterHome<'g, M>>;
+type Writer<'g, W> = PromisedHandle<Worked<Writes>, WriterHome<'g, W>>;
 
 /// The same of the next writer.
-fn start_writer<'s, E, R: Wait + Sync, M: Meeting + Sync>(
+fn start_writer<'s, E, R: Wait + Sync, W: Watch + Sync>(
     scope: &Scope<'s, E>,
     rt: &'s R,
     alloc: Global,
     gates: &'s Gates,
     plan: Plan,
-    meeting: &'s M,
+    watch: &'s W,
     writer: u8,
     task: &mut Task,
-) -> Result<Writer<'s, M>, GateError>
+) -> Result<Writer<'s, W>, GateError>
     requires from { IsFrom task.old gates.now }
     requires gives { Gives task.old (writer + 2) plan.tasks }
     requires writer { writer + 2 < plan.tasks }
     ensures from { IsFrom task.new gates.now }
     ensures same { OnOk result (own_view task.new.items ≡ own_view task.old.items) }
     ensures gives { OnOk result (Gives task.new (writer + 1 + 2) plan.tasks) }
-    ensures home { IfOk result (λ w. (w.promise.gates.now ≡ gates.now) × (w.promise.plan ≡ plan) × (w.promise.meeting.now ≡ meeting.now)
+    ensures home { IfOk result (λ w. (w.promise.gates.now ≡ gates.now) × (w.promise.plan ≡ plan) × (w.promise.watch.now ≡ watch.now)
         × (w.promise.writer ≡ writer) × HasBegun (writer + 2) w.promise.start.value) }
     ensures refused { IfErr result (λ e. e ≡ NoMemory) }
 {
@@ -174,7 +166,7 @@ fn start_writer<'s, E, R: Wait + Sync, M: Meeting + Sync>(
     let home = WriterHome {
         gates,
         plan,
-        meeting,
+        watch,
         writer,
         start: Snapshot::of(&other),
     };
@@ -182,10 +174,10 @@ fn start_writer<'s, E, R: Wait + Sync, M: Meeting + Sync>(
         requires from { IsFrom other gates.now }
         requires writer { writer + 2 < plan.tasks }
         ensures from { IsFrom result.task gates.entry.now }
-        ensures rounds { IfOk result.done (λ writes. Repeats (WriterRound (was_held M.held) meeting.entry.now plan.processors writer) plan.rounds
+        ensures rounds { IfOk result.done (λ writes. Repeats (WriterRound (was_held (W.held watch.entry.now)) plan.processors writer) plan.rounds
             (other, tt, no_writes) (result.task, tt, writes)) }
         ensures refused { IfErr result.done (MetBy gates.entry.now.words.config plan.tasks plan.processors) }
-    { run_writer(rt, gates, plan, meeting, writer, other) };
+    { run_writer(rt, gates, plan, watch, writer, other) };
     match scope.spawn_with(home, work) {
         Ok(worker) => Ok(worker),
         Err(_) => Err(GateError::NoMemory),
@@ -193,15 +185,15 @@ fn start_writer<'s, E, R: Wait + Sync, M: Meeting + Sync>(
 }
 
 /// The same of all writers, in their order.
-fn start_writers<'s, E, R: Wait + Sync, M: Meeting + Sync>(
+fn start_writers<'s, E, R: Wait + Sync, W: Watch + Sync>(
     scope: &Scope<'s, E>,
     rt: &'s R,
     alloc: Global,
     gates: &'s Gates,
     plan: Plan,
-    meeting: &'s M,
+    watch: &'s W,
     task: &mut Task,
-) -> Result<Vec<Writer<'s, M>>, GateError>
+) -> Result<Vec<Writer<'s, W>>, GateError>
     requires from { IsFrom task.old gates.now }
     requires gives { Gives task.old 2 plan.tasks }
     ensures from { IsFrom task.new gates.now }
@@ -209,13 +201,13 @@ fn start_writers<'s, E, R: Wait + Sync, M: Meeting + Sync>(
     ensures gives { OnOk result (Gives task.new plan.tasks plan.tasks) }
     ensures all { IfOk result (λ workers. vec_len workers ≡ plan.tasks - 2) }
     ensures homes { IfOk result (λ workers. EachFrom
-        (λ writer w. (w.promise.gates.now ≡ gates.now) × (w.promise.plan ≡ plan) × (w.promise.meeting.now ≡ meeting.now)
+        (λ writer w. (w.promise.gates.now ≡ gates.now) × (w.promise.plan ≡ plan) × (w.promise.watch.now ≡ watch.now)
         × (w.promise.writer ≡ writer) × HasBegun (writer + 2) w.promise.start.value) 0 workers.items) }
     ensures refused { IfErr result (λ e. e ≡ NoMemory) }
 {
     let mut workers = Vec::new(alloc);
     for writer in 0..plan.writers() {
-        let worker = start_writer(scope, rt, alloc, gates, plan, meeting, writer, task)?;
+        let worker = start_writer(scope, rt, alloc, gates, plan, watch, writer, task)?;
         let Ok(()) = workers.push(worker) else {
             return Err(GateError::NoMemory);
         };
@@ -259,17 +251,17 @@ fn join_remounter<R: Threads>(
 }
 
 /// The same of a writer's.
-fn join_writer<R: Threads, M: Meeting>(
+fn join_writer<R: Threads, W: Watch>(
     rt: &R,
     gates: &Gates,
     task: &mut Task,
-    worker: Writer<'_, M>,
+    worker: Writer<'_, W>,
 ) -> Result<Writes, GateError>
     requires from { IsFrom task.old gates.now }
     requires home { (worker.promise.gates.now ≡ gates.now) × HasBegun (worker.promise.writer + 2) worker.promise.start.value }
     ensures from { IsFrom task.new gates.now }
     ensures others { OnOk result ((s : TaskState) → Among task.old.items s → Among task.new.items s) }
-    ensures part { IfOk result (WrotePart (Among task.new.items) (was_held M.held) worker.entry.promise.meeting.now
+    ensures part { IfOk result (WrotePart (Among task.new.items) (was_held (W.held worker.entry.promise.watch.now))
         worker.entry.promise.plan.processors worker.entry.promise.plan.rounds worker.entry.promise.writer tt tt) }
     ensures refused { IfErr result (RunRefused gates.now.words.config worker.entry.promise.plan.tasks worker.entry.promise.plan.processors) }
 {
@@ -279,22 +271,22 @@ fn join_writer<R: Threads, M: Meeting>(
     Ok(writes)
 }
 
-/// The same of all writers', of this plan and meeting, and what they met together. The first refusal that is met ends it.
-fn join_writers<R: Threads, M: Meeting>(
+/// The same of all writers', of this plan and watch, and what they met together. The first refusal that is met ends it.
+fn join_writers<R: Threads, W: Watch>(
     rt: &R,
     gates: &Gates,
     _plan: Plan,
-    _meeting: &M,
+    _watch: &W,
     task: &mut Task,
-    mut workers: Vec<Writer<'_, M>>,
+    mut workers: Vec<Writer<'_, W>>,
 ) -> Result<Writes, GateError>
     requires from { IsFrom task.old gates.now }
     requires homes { EachFrom
-        (λ writer w. (w.promise.gates.now ≡ gates.now) × (w.promise.plan ≡ _plan) × (w.promise.meeting.now ≡ _meeting.now)
+        (λ writer w. (w.promise.gates.now ≡ gates.now) × (w.promise.plan ≡ _plan) × (w.promise.watch.now ≡ _watch.now)
         × (w.promise.writer ≡ writer) × HasBegun (writer + 2) w.promise.start.value) 0 workers.items }
     ensures from { IsFrom task.new gates.now }
     ensures others { OnOk result ((s : TaskState) → Among task.old.items s → Among task.new.items s) }
-    ensures parts { IfOk result (AllWrote (Among task.new.items) (was_held M.held) _meeting.now _plan.processors _plan.rounds
+    ensures parts { IfOk result (AllWrote (Among task.new.items) (was_held (W.held _watch.now)) _plan.processors _plan.rounds
         0 (vec_len workers.entry) tt tt) }
     ensures refused { IfErr result (RunRefused gates.now.words.config _plan.tasks _plan.processors) }
 {
@@ -306,29 +298,31 @@ fn join_writers<R: Threads, M: Meeting>(
     Ok(writes)
 }
 
-/// Starts the threads of all other tasks, backs up beside them, and joins them.
-fn run_threads<'s, E, R: Threads + Wait + Sync, M: Meeting + Sync>(
+/// Creates the files, starts the threads of all other tasks, backs up beside them, and joins them.
+fn run_threads<'s, E, R: Threads + Wait + Sync, W: Watch + Sync>(
     scope: &Scope<'s, E>,
     rt: &'s R,
     alloc: Global,
     gates: &'s Gates,
     plan: Plan,
-    meeting: &'s M,
+    watch: &'s W,
     task: &mut Task,
 ) -> Result<Details, GateError>
     requires from { IsFrom task.old gates.now }
+    requires begins { HasBegun 0 task.old }
     requires gives { Gives task.old 1 plan.tasks }
     ensures from { IsFrom task.new gates.now }
     ensures copies { IfOk result (λ d. (d.copies.frozen ≡ plan.freezes) × (d.copies.snapshots ≡ plan.freezes)) }
-    ensures all { IfOk result (AllDid (Among task.new.items) M.held meeting.now plan.tasks plan.processors plan.rounds plan.freezes
-        (own_view task.old.items)) }
+    ensures all { IfOk result (AllDid (Among task.new.items) (W.held watch.now) (W.seen watch.now) plan.tasks plan.processors plan.rounds
+        plan.freezes) }
     ensures refused { IfErr result (RunRefused gates.now.words.config plan.tasks plan.processors) }
 {
+    create_files(rt, gates, plan, task)?;
     let remounter = start_remounter(scope, rt, alloc, gates, plan, task)?;
-    let writers = start_writers(scope, rt, alloc, gates, plan, meeting, task)?;
-    let copies = back_up(rt, gates, plan, &Unnoted { meeting }, task, &mut ())?;
+    let writers = start_writers(scope, rt, alloc, gates, plan, watch, task)?;
+    let copies = back_up(rt, gates, plan, watch, task, &mut ())?;
     let Remounts { busy, waits } = join_remounter(rt, gates, plan, task, remounter)?;
-    let writes = join_writers(rt, gates, plan, meeting, task, writers)?;
+    let writes = join_writers(rt, gates, plan, watch, task, writers)?;
     Ok(Details {
         writes,
         busy,
@@ -338,20 +332,21 @@ fn run_threads<'s, E, R: Threads + Wait + Sync, M: Meeting + Sync>(
 }
 
 /// The same in a scope: all threads have ended when it returns, whatever it answers.
-pub(crate) fn in_threads<R: Threads + Wait + Sync, M: Meeting + Sync>(
+pub(crate) fn in_threads<R: Threads + Wait + Sync, W: Watch + Sync>(
     rt: &R,
     alloc: Global,
     gates: &Gates,
     plan: Plan,
-    meeting: &M,
+    watch: &W,
     task: Task,
 ) -> Result<(Task, Details), GateError>
     requires from { IsFrom task gates.now }
+    requires begins { HasBegun 0 task }
     requires gives { Gives task 1 plan.tasks }
     ensures from { IfOk result (λ r. IsFrom r.0 gates.now) }
     ensures copies { IfOk result (λ r. (r.1.copies.frozen ≡ plan.freezes) × (r.1.copies.snapshots ≡ plan.freezes)) }
-    ensures all { IfOk result (λ r. AllDid (Among r.0.items) M.held meeting.now plan.tasks plan.processors plan.rounds plan.freezes
-        (own_view task.items) r.1) }
+    ensures all { IfOk result (λ r. AllDid (Among r.0.items) (W.held watch.now) (W.seen watch.now) plan.tasks plan.processors plan.rounds
+        plan.freezes r.1) }
     ensures refused { IfErr result (RunRefused gates.now.words.config plan.tasks plan.processors) }
 {
     thread::scope(
@@ -359,15 +354,16 @@ pub(crate) fn in_threads<R: Threads + Wait + Sync, M: Meeting + Sync>(
         rt,
         move |scope| -> Result<(Task, Details), GateError>
             requires from { IsFrom task gates.now }
+            requires begins { HasBegun 0 task }
             requires gives { Gives task 1 plan.tasks }
             ensures from { IfOk result (λ r. IsFrom r.0 gates.entry.now) }
             ensures copies { IfOk result (λ r. (r.1.copies.frozen ≡ plan.freezes) × (r.1.copies.snapshots ≡ plan.freezes)) }
-            ensures all { IfOk result (λ r. AllDid (Among r.0.items) M.held meeting.entry.now plan.tasks plan.processors plan.rounds plan.freezes
-                (own_view task.items) r.1) }
+            ensures all { IfOk result (λ r. AllDid (Among r.0.items) (W.held watch.entry.now) (W.seen watch.entry.now) plan.tasks plan.processors
+                plan.rounds plan.freezes r.1) }
             ensures refused { IfErr result (RunRefused gates.entry.now.words.config plan.tasks plan.processors) }
         {
             let mut task = task;
-            let details = run_threads(scope, rt, alloc, gates, plan, meeting, &mut task)?;
+            let details = run_threads(scope, rt, alloc, gates, plan, watch, &mut task)?;
             Ok((task, details))
         },
     )

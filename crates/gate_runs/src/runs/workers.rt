@@ -3,7 +3,7 @@
 ghost use Rattle.std.specs.Prelude.{◌≡◌, ◌+◌, ◌-◌, ◌<◌, ◌≤◌, ℕ, IfErr, IfOk, OnOk, Some, length, true};
 ghost use Rattle.access_model.specs.declared.errors.GateError.TheVariants.{Again, ReadOnly};
 ghost use Rattle.gated_tree.specs.Trees.{LoadedClean, LoadedSound};
-ghost use Rattle.gate_runs.specs.Counts.{blocks_of, counted, no_copies, no_remounts, no_writes};
+ghost use Rattle.gate_runs.specs.Counts.{blocks_of, counted, no_copies, no_remounts, no_writes, with_waits};
 ghost use Rattle.gate_runs.specs.Refusals.{MetBy, WasRefused};
 ghost use Rattle.gate_runs.specs.Rounds.{BackupRound, CallsBack, Closes, CreatesFiles, Does, RemountRound, Repeats, Retries, Takes, WriterRound};
 ghost use Rattle.gate_world.specs.declared.operations.Op.TheVariants.{ChangeMount, WantWrite, Grow, Snapshot as SnapshotOp};
@@ -12,7 +12,7 @@ ghost use Rattle.vfs_gates.specs.TaskStates.{IsFrom, own_number, own_view};
 
 use super::Plan;
 use crate::counts::{Copies, Remounts, Writes};
-use crate::meetings::NotedMeeting;
+use crate::meetings::NotedWatch;
 use access_model::{GateError, Holder, Kind};
 use crossbeam_utils::Backoff;
 use std::sync::Wait;
@@ -46,6 +46,13 @@ pub(crate) fn create_files<R: Wait>(
     task.drop_write(gates, MOUNT, 0)
 }
 
+/// The waits so far, with those of the task's last call.
+fn with_waits(so_far: u64, task: &Task) -> u64
+    ensures { result ≡ with_waits so_far task.now }
+{
+    so_far.saturating_add(task.waited())
+}
+
 /// Takes write access on a processor, again while the mount is read-only, and tells how often it was, and the waits so far with those of each
 /// of these calls.
 fn want_write<R: Wait>(
@@ -65,12 +72,12 @@ fn want_write<R: Wait>(
     let mut waits = so_far;
     for _ in rt.forever() {
         let answer = task.want_write(rt, gates, MOUNT, cpu);
-        waits = waits.saturating_add(task.waited());
-        if answer != Err(GateError::ReadOnly) {
-            answer?;
-            return Ok((denied, waits));
+        waits = with_waits(waits, task);
+        match answer {
+            Ok(()) => return Ok((denied, waits)),
+            Err(GateError::ReadOnly) => denied = denied.saturating_add(1),
+            Err(refusal) => return Err(refusal),
         }
-        denied = denied.saturating_add(1);
         backoff.snooze();
     }
     unreachable!()
@@ -85,30 +92,29 @@ fn grow<R: Wait>(rt: &R, gates: &Gates, task: &mut Task, file: u8) -> Result<u64
 {
     let mut raced = 0u64;
     for _ in rt.forever() {
-        let answer = task.grow(gates, file, 1);
-        if answer != Err(GateError::Again) {
-            answer?;
-            return Ok(raced);
+        match task.grow(gates, file, 1) {
+            Ok(()) => return Ok(raced),
+            Err(GateError::Again) => raced = raced.saturating_add(1),
+            Err(refusal) => return Err(refusal),
         }
-        raced = raced.saturating_add(1);
     }
     unreachable!()
 }
 
 /// Writes in each round, with the access given back on the processor after the one on which it was taken. Tells what it met.
-pub(crate) fn write<R: Wait, M: NotedMeeting>(
+pub(crate) fn write<R: Wait, W: NotedWatch>(
     rt: &R,
     gates: &Gates,
     plan: Plan,
-    meeting: &M,
+    watch: &W,
     task: &mut Task,
     writer: u8,
-    notes: &mut M::Notes,
+    notes: &mut W::Notes,
 ) -> Result<Writes, GateError>
     requires from { IsFrom task.old gates.now }
     requires writer { writer + 2 < plan.tasks }
     ensures from { IsFrom task.new gates.now }
-    ensures rounds { IfOk result (λ writes. Repeats (WriterRound M.meets meeting.now plan.processors writer) plan.rounds
+    ensures rounds { IfOk result (λ writes. Repeats (WriterRound (W.meets watch.now) plan.processors writer) plan.rounds
         (task.old, notes.old, no_writes) (task.new, notes.new, writes)) }
     ensures refused { IfErr result (MetBy gates.now.words.config plan.tasks plan.processors) }
 {
@@ -117,7 +123,7 @@ pub(crate) fn write<R: Wait, M: NotedMeeting>(
         let cpu = plan.processor(writer, round);
         let (denied, waits) = want_write(rt, gates, task, cpu, writes.waits)?;
         let grown = grow(rt, gates, task, writer + 1);
-        meeting.holding(task, round, notes);
+        watch.holding(task, round, notes);
         task.drop_write(gates, MOUNT, plan.processor(writer, round + 1))?;
         writes = writes.with_round(denied, grown?, waits);
     }
@@ -153,10 +159,12 @@ pub(crate) fn remount<R: Wait>(
     let mut met = Remounts::none();
     for _round in 0..plan.rounds {
         let busy = met.busy + close_mount(rt, gates, task)?;
-        let waits = met.waits.saturating_add(task.waited());
+        let waits = with_waits(met.waits, task);
         task.change_mount(rt, gates, MOUNT, false)?;
-        let waits = waits.saturating_add(task.waited());
-        met = Remounts { busy, waits };
+        met = Remounts {
+            busy,
+            waits: with_waits(waits, task),
+        };
     }
     Ok(met)
 }
@@ -204,37 +212,37 @@ fn call_back<R: Wait>(
     let mut waits = so_far;
     for level in 1..4 {
         ran += u32::from(task.callback(rt, gates, level)?);
-        waits = waits.saturating_add(task.waited());
+        waits = with_waits(waits, task);
     }
     Ok((ran, waits))
 }
 
 /// Freezes, takes a snapshot, meets, thaws, and calls back what the levels have queued, so often. Counts the freezes, the snapshots that
 /// were sound and clean, their blocks, the callbacks that ran, and the waits of all these calls.
-pub(crate) fn back_up<R: Wait, M: NotedMeeting>(
+pub(crate) fn back_up<R: Wait, W: NotedWatch>(
     rt: &R,
     gates: &Gates,
     plan: Plan,
-    meeting: &M,
+    watch: &W,
     task: &mut Task,
-    notes: &mut M::Notes,
+    notes: &mut W::Notes,
 ) -> Result<Copies, GateError>
     requires { IsFrom task.old gates.now }
     ensures from { IsFrom task.new gates.now }
     ensures all { IfOk result (λ copies. (copies.frozen ≡ plan.freezes) × (copies.snapshots ≡ plan.freezes)) }
-    ensures rounds { IfOk result (λ copies. Repeats (BackupRound M.sees meeting.now) plan.freezes
+    ensures rounds { IfOk result (λ copies. Repeats (BackupRound (W.sees watch.now)) plan.freezes
         (task.old, notes.old, no_copies) (task.new, notes.new, copies)) }
     ensures refused { IfErr result (MetBy gates.now.words.config plan.tasks plan.processors) }
 {
     let mut copies = Copies::none();
     for freeze in 0..plan.freezes {
         task.freeze(rt, gates, Holder::User, &mut ())?;
-        let waits = copies.waits.saturating_add(task.waited());
+        let waits = with_waits(copies.waits, task);
         let taken = take_snapshot(rt, gates, task);
-        let waits = waits.saturating_add(task.waited());
-        meeting.frozen(task, freeze, notes);
+        let waits = with_waits(waits, task);
+        watch.frozen(task, freeze, notes);
         task.thaw(rt, gates, Holder::User, &mut ())?;
-        let waits = waits.saturating_add(task.waited());
+        let waits = with_waits(waits, task);
         let blocks = taken?;
         let (ran, waits) = call_back(rt, gates, task, waits)?;
         copies = copies.with_copy(ran, waits, blocks);

@@ -5,64 +5,49 @@ use Rattle.cpu_words.specs.Names.{place, stride}
 use Rattle.cpu_words.specs.declared.names.WordName.TheVariants.{Used}
 use Rattle.gate_world.specs.declared.config.Config.{Config}
 use Rattle.vfs_gates.specs.TaskStates.{TaskState}
-use Rattle.gate_runs.specs.Meetings.{was_held}
 use Rattle.std.proofs.lemmas.Nat.{mul-le}
 use Rattle.std.proofs.lemmas.Result.{err_from_is_err_and}
 use Rattle.gate_world.specs.Configs.{IsWithin}
-use Rattle.gate_runs.specs.Counts.{remounts_of}
 use Rattle.gate_runs.specs.Parts.{Among, EndsAs}
 use Rattle.gate_runs.specs.Plans.{MayRun, run_config}
-use Rattle.gate_runs.specs.Refusals.{MetBy, RunRefused}
-use Rattle.vfs_gates.specs.Splitting.{Gives}
+use Rattle.gate_runs.specs.Refusals.{RunRefused}
+use Rattle.vfs_gates.specs.Splitting.{Gives, HasBegun}
 use Rattle.vfs_gates.proofs.Splitting.{first_begins, gives_all}
-use Rattle.gate_runs.proofs.Staying.{all_wrote_on, creates_stay, ends_as, gives_stay, remounted_on}
+use Rattle.gate_runs.proofs.Staying.{all_did_on, ends_as}
 use Rattle.gate_runs.proofs.runs.run_plan.Goals as goal
+
+pub in_threads-requires-clause-begins : goal.in_threads-requires-clause-begins
+in_threads-requires-clause-begins g c =
+    let made = c.in_ok-gates.ensures.made in
+    let tasks : c.config.result.tasks ≡ c.args.plan.tasks = ap (λ (d : Config). d.tasks) c.config.ensures in
+    let some : 1 ≤ c.config.result.tasks = omega (arith, tasks, c.args.plan.within.tasks_from) in
+    let begun : HasBegun 0 c.in_ok-gates.task = first_begins c.in_ok-gates.task c.config.result some (ap (λ (t : TaskState). t.items) made.1) in
+    search (rules, begun)
 
 pub in_threads-requires-clause-gives : goal.in_threads-requires-clause-gives
 in_threads-requires-clause-gives g c =
     let made = c.in_ok-gates.ensures.made in
     let tasks : c.config.result.tasks ≡ c.args.plan.tasks = ap (λ (d : Config). d.tasks) c.config.ensures in
     let some : 1 ≤ c.config.result.tasks = omega (arith, tasks, c.args.plan.within.tasks_from) in
-    let first : Gives c.in_ok-gates.task 1 c.args.plan.tasks = subst (λ n. Gives c.in_ok-gates.task 1 n) tasks
+    let gives : Gives c.in_ok-gates.task 1 c.args.plan.tasks = subst (λ n. Gives c.in_ok-gates.task 1 n) tasks
     (gives_all c.in_ok-gates.task c.config.result some (ap (λ (t : TaskState). t.phase) made.1) (ap (λ (t : TaskState). t.items) made.1)) in
-    let gives : Gives c.create_files.new.task 1 c.args.plan.tasks =
-    gives_stay c.in_ok-gates.task c.create_files.new.task 1 c.args.plan.tasks (creates_stay _ _ _ c.in_ok-create_files.ensures.created) first in
     search (rules, gives)
 
 pub returns-clause-tells : goal.returns-clause-tells
 returns-clause-tells g c =
-    let made = c.in_ok-gates.ensures.made in
-    let tasks : c.config.result.tasks ≡ c.args.plan.tasks = ap (λ (d : Config). d.tasks) c.config.ensures in
-    let some : 1 ≤ c.config.result.tasks = omega (arith, tasks, c.args.plan.within.tasks_from) in
     let closed = c.in_ok-closed.ensures.closed in
     let items = c.in_ok-task.task.items in
-    let did = c.in_ok-task.ensures.all in
     let views = closed.1.ended.world.views in
-    let on : (s : TaskState) → Among items s → EndsAs views s = λ s h. ends_as views items s closed.1.mine h in
     let grown : c.unwrap_or.result ≡ slice_index c.in_ok-closed.closed.words (stride * place Used) = search rules in
     record {
-      config = closed.0 ∙ (made.0 ∙ c.config.ensures);
+      config = closed.0 ∙ (c.in_ok-gates.ensures.made.0 ∙ c.config.ensures);
       grown = grown;
       none_held = c.held_in.ensures;
       frozen = c.from.ensures ∙ c.in_ok-task.ensures.copies.0;
       snapshots = c.from-2.ensures ∙ c.in_ok-task.ensures.copies.1;
       remounts = c.from-3.ensures;
       ended = closed.1.ended;
-      backup = record {
-        begins = c.in_ok-gates.task;
-        made = c.create_files.new.task;
-        first = did.first;
-        last = did.last;
-        begun = first_begins c.in_ok-gates.task c.config.result some (ap (λ (t : TaskState). t.items) made.1);
-        creates = c.in_ok-create_files.ensures.created;
-        same = did.same;
-        did = did.backup;
-        own = did.own;
-        ends = on did.last did.ends;
-      };
-      remounter = remounted_on (Among items) (EndsAs views) on c.args.plan.rounds (remounts_of c.in_ok-task.details) did.remounter;
-      writers = all_wrote_on (Among items) (EndsAs views) on (was_held g.M.Meeting.held) c.args.meeting.now c.args.plan.processors
-          c.args.plan.rounds tt tt 0 (c.args.plan.tasks - 2) c.in_ok-task.details.writes did.writers;
+      all = all_did_on (Among items) (EndsAs views) (λ s h. ends_as views items s closed.1.mine h) _ _ _ _ _ _ _ c.in_ok-task.ensures.all;
     }
 
 -- a run's gates are within their limits
@@ -86,12 +71,6 @@ returns-in_err-gates-clause-refused g c =
     (run_within c.args.plan.tasks c.args.plan.processors c.args.plan.rounds c.args.plan.freezes c.args.plan.within) in
     let p = err_from_is_err_and c.from_residual.result c.from_residual.ensures.1 in
     rw (p.1, p.2) (inl (c.in_err-gates.ensures.memory within))
-
-pub returns-in_err-create_files-clause-refused : goal.returns-in_err-create_files-clause-refused
-returns-in_err-create_files-clause-refused g c =
-    let p = err_from_is_err_and c.from_residual-in_err-create_files.result c.from_residual-in_err-create_files.ensures.1 in
-    rw (p.1, p.2) (inr (inr (subst (λ (d : Config). MetBy d c.args.plan.tasks c.args.plan.processors c.in_err-create_files.field-0.0)
-    (c.in_ok-gates.ensures.made.0 ∙ c.config.ensures) c.in_err-create_files.ensures.refused)))
 
 pub returns-in_err-task-clause-refused : goal.returns-in_err-task-clause-refused
 returns-in_err-task-clause-refused g c =

@@ -2,6 +2,7 @@
 use Rattle.std.proofs.Common.{◌≡◌, ℕ, subst}
 use Rattle.std.proofs.lemmas.Result.{err_from_is_err_and}
 use Rattle.gate_runs.specs.declared.runs.Plan.{Plan}
+use Rattle.gate_runs.specs.Meetings.{unseen}
 use Rattle.gate_runs.specs.Plans.{TellsRun, run_config}
 use Rattle.gate_runs.specs.Refusals.{RunRefused}
 use Rattle.gate_runs.proofs.runs.run_with.Goals as goal
@@ -21,7 +22,7 @@ returns-clause-tells g c =
     let answer = c.in_ok-totals in (
       answer._details,
       as_asked (λ tasks processors rounds freezes.
-          TellsRun g.M.Meeting.held c.args.meeting.now tasks processors rounds freezes answer.totals answer._details answer.closed)
+          TellsRun (g.M.Meeting.held c.args.meeting.now) unseen tasks processors rounds freezes answer.totals answer._details answer.closed)
           c.in_ok-plan.plan c.args.tasks c.args.processors c.args.rounds c.args.freezes c.in_ok-plan.ensures.asked answer.ensures.tells,
     )
 

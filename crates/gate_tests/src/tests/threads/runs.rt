@@ -2,7 +2,7 @@
 
 use super::file_at;
 use cpu_words::WordName;
-use gate_runs::{Meeting, Totals, run_with};
+use gate_runs::{Meeting, Plan, Totals, Watch, run_plan, run_with};
 use std::sync::atomic::{AtomicBool, AtomicU32, Ordering};
 use std::test::Fail;
 use std::thread;
@@ -14,7 +14,7 @@ struct Counting {
     frozen: AtomicU32,
 }
 
-impl Meeting for Counting {
+impl Watch for Counting {
     fn holding(&self, _task: u8, _round: u32) {
         self.held.fetch_add(1, Ordering::SeqCst);
     }
@@ -30,7 +30,8 @@ fn a_run_counts_what_it_does(rt: HostRuntime) -> Result<(), Fail> {
         held: AtomicU32::new(0),
         frozen: AtomicU32::new(0),
     };
-    let (totals, closed) = run_with(&rt, rt.alloc(), 4, 2, 100, 3, &counting)?;
+    let plan = Plan::new(4, 2, 100, 3)?;
+    let (totals, _, closed) = run_plan(&rt, rt.alloc(), plan, &counting)?;
     let wanted = Totals {
         grown: 200,
         frozen: 3,

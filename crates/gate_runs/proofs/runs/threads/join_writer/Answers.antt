@@ -15,9 +15,9 @@ pub returns-clause-part : goal.returns-clause-part
 returns-clause-part g c =
     let home = c.args.worker.promise in
     let last = c.join-other.result.task in
-    let did = subst (λ r. IfOk r (λ (w : Writes). Repeats (WriterRound (was_held g.M.Meeting.held) home.meeting.now home.plan.processors home.writer)
+    let did = subst (λ r. IfOk r (λ (w : Writes). Repeats (WriterRound (was_held (g.W.Watch.held home.watch.now)) home.plan.processors home.writer)
     home.plan.rounds (home.start.value, tt, no_writes) (last, tt, w))) c.in_ok-writes.was c.join-other.ensures.1 in
-    writer_part (was_held g.M.Meeting.held) home.meeting.now home.plan.processors home.plan.rounds home.writer tt tt c.in_ok-writes.writes
+    writer_part (was_held (g.W.Watch.held home.watch.now)) home.plan.processors home.plan.rounds home.writer tt tt c.in_ok-writes.writes
     home.start.value last c.args.task.now c.take_back.new.task c.requires.home.1 did c.in_ok-take_back.ensures.took
 
 pub returns-clause-others : goal.returns-clause-others

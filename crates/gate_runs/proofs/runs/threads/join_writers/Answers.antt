@@ -29,24 +29,23 @@ loop-worker-preserved g c =
     let rest = c.pop.new.self.items in
     let popped = each_popped _ _ rest c.in-Some.worker c.in-Some.ensures.items before.homes in
     let promise = c.in-Some.worker.promise in
-    let meeting = c.args._meeting.now in
     let plan = c.args._plan in
     let its = c.in_ok-its.its in
     let ends = Among c.join_writer.new.task.items in
-    let held = was_held g.M.Meeting.held in
+    let held = was_held (g.W.Watch.held c.args._watch.now) in
     let place : promise.writer ≡ vec_len c.pop.new.self = popped.1.3 ∙ omega (arith, c.pop.new.self.ok.0) in
-    let part : Wrote ends held meeting plan.processors plan.rounds (vec_len c.pop.new.self) tt tt its =
-    subst (λ k. Wrote ends held meeting plan.processors plan.rounds k tt tt its) place
-    (subst (λ (p : Plan). Wrote ends held meeting p.processors p.rounds promise.writer tt tt its) popped.1.1
-    (subst (λ m. Wrote ends held m promise.plan.processors promise.plan.rounds promise.writer tt tt its) popped.1.2 joined.part)) in
+    let part : Wrote ends held plan.processors plan.rounds (vec_len c.pop.new.self) tt tt its =
+    subst (λ k. Wrote ends held plan.processors plan.rounds k tt tt its) place
+    (subst (λ (p : Plan). Wrote ends held p.processors p.rounds promise.writer tt tt its) popped.1.1
+    (subst (λ v. Wrote ends (was_held (g.W.Watch.held v)) promise.plan.processors promise.plan.rounds promise.writer tt tt its) popped.1.2 joined.part)) in
     let next : vec_len c.loop-worker.workers ≡ suc (vec_len c.pop.new.self) = omega (arith, c.in-Some.ensures.len) in
     record {
       from = joined.from;
       homes = popped.0;
       others = λ s h. joined.others s (before.others s h);
-      parts = all_wrote_before ends held meeting plan.processors plan.rounds tt tt (vec_len c.pop.new.self) (vec_len c.loop-worker.workers)
+      parts = all_wrote_before ends held plan.processors plan.rounds tt tt (vec_len c.pop.new.self) (vec_len c.loop-worker.workers)
           (vec_len c.args.workers) its c.loop-worker.writes c.and-writes.result next part
-          (all_wrote_on (Among c.loop-worker.task.items) ends joined.others held meeting plan.processors plan.rounds tt tt
+          (all_wrote_on (Among c.loop-worker.task.items) ends joined.others held plan.processors plan.rounds tt tt
           (vec_len c.loop-worker.workers) (vec_len c.args.workers) c.loop-worker.writes before.parts) c.and-writes.ensures;
     }
 
@@ -60,5 +59,5 @@ returns-in_err-its-clause-refused g c =
 pub returns-clause-parts : goal.returns-clause-parts
 returns-clause-parts g c =
     let none : vec_len c.loop-worker.workers ≡ 0 = c.in_default.ensures.cases.0 in
-    subst (λ n. AllWrote (Among c.loop-worker.task.items) (was_held g.M.Meeting.held) c.args._meeting.now c.args._plan.processors c.args._plan.rounds
+    subst (λ n. AllWrote (Among c.loop-worker.task.items) (was_held (g.W.Watch.held c.args._watch.now)) c.args._plan.processors c.args._plan.rounds
     n (vec_len c.args.workers) tt tt c.loop-worker.writes) none c.loop-worker.invariant.parts

@@ -10,10 +10,10 @@ abbrev pub invariant-loop-worker : goal.invariant-loop-worker
 invariant-loop-worker g l = record {
   from : IsFrom l.task l.fn.gates;
   homes : EachFrom
-      (λ writer w. (w.promise.gates.now ≡ l.fn.gates) × (w.promise.plan ≡ l.fn._plan) × (w.promise.meeting.now ≡ l.fn._meeting)
+      (λ writer w. (w.promise.gates.now ≡ l.fn.gates) × (w.promise.plan ≡ l.fn._plan) × (w.promise.watch.now ≡ l.fn._watch)
       × (w.promise.writer ≡ writer) × HasBegun (writer + 2) w.promise.start.value) 0 l.workers.items;
   others : (s : TaskState) → Among l.fn.task.items s → Among l.task.items s;
-  parts : AllWrote (Among l.task.items) (was_held g.M.Meeting.held) l.fn._meeting l.fn._plan.processors l.fn._plan.rounds
+  parts : AllWrote (Among l.task.items) (was_held (g.W.Watch.held l.fn._watch)) l.fn._plan.processors l.fn._plan.rounds
       (vec_len l.workers) (vec_len l.fn.workers) tt tt l.writes;
 }
 

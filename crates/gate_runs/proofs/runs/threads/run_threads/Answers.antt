@@ -1,11 +1,17 @@
 -- each task has done its part, and stands among the numbers that were taken back
-use Rattle.std.proofs.Common.{arith, ◌∙◌}
+use Rattle.std.proofs.Common.{rules, arith, ◌∙◌}
+use Rattle.vfs_gates.specs.Splitting.{Gives}
 use Rattle.gate_runs.specs.Counts.{no_copies}
 use Rattle.gate_runs.specs.Meetings.{was_frozen}
 use Rattle.gate_runs.specs.Parts.{Among}
-use Rattle.gate_runs.proofs.Staying.{backs_stay, is_among, remounted_on}
-use Rattle.gate_runs.proofs.Repeating.{backs_on}
+use Rattle.gate_runs.proofs.Staying.{backs_stay, creates_stay, gives_stay, is_among, remounted_on}
 use Rattle.gate_runs.proofs.runs.threads.run_threads.Goals as goal
+
+pub start_remounter-requires-clause-gives : goal.start_remounter-requires-clause-gives
+start_remounter-requires-clause-gives g c =
+    let gives : Gives c.create_files.new.task 1 c.args.plan.tasks =
+    gives_stay _ _ 1 _ (creates_stay _ _ _ c.in_ok-create_files.ensures.created) c.requires.gives in
+    search (rules, gives)
 
 pub returns-clause-all : goal.returns-clause-all
 returns-clause-all g c =
@@ -14,17 +20,22 @@ returns-clause-all g c =
     let gives = c.in_ok-writers.ensures.gives in
     let remounter = c.in_ok-busy.ensures in
     let joined = c.in_ok-writes.ensures in
-    let meeting = c.args.meeting.now in
-    let did = backs_on _ _ was_frozen meeting (λ task k old new was. tt) c.args.plan.freezes
-    (first, tt, no_copies) (last, tt, c.in_ok-copies.copies) c.in_ok-copies.ensures.rounds in
-    let stayed = backs_stay was_frozen meeting c.args.plan.freezes (first, tt, no_copies) (last, tt, c.in_ok-copies.copies) did in
+    let did = c.in_ok-copies.ensures.rounds in
+    let stayed = backs_stay (was_frozen (g.W.Watch.seen c.args.watch.now)) c.args.plan.freezes (first, tt, no_copies)
+    (last, tt, c.in_ok-copies.copies) did in
     record {
-      first = first;
-      last = last;
-      same = c.in_ok-writers.ensures.same ∙ c.in_ok-remounter.ensures.same;
-      backup = did;
-      own = stayed.own ∙ gives.own;
-      ends = joined.others last (remounter.others last (is_among last (stayed.there gives.there)));
+      backup = record {
+        begins = c.args.task.now;
+        made = c.create_files.new.task;
+        first = first;
+        last = last;
+        begun = c.requires.begins;
+        creates = c.in_ok-create_files.ensures.created;
+        same = c.in_ok-writers.ensures.same ∙ c.in_ok-remounter.ensures.same;
+        did = did;
+        own = stayed.own ∙ gives.own;
+        ends = joined.others last (remounter.others last (is_among last (stayed.there gives.there)));
+      };
       remounter = remounted_on (Among c.join_remounter.new.task.items) (Among c.join_writers.new.task.items) joined.others
           c.args.plan.rounds c.in_ok-busy.field-0 remounter.part;
       writers = record {

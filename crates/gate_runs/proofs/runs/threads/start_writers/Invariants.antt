@@ -12,6 +12,6 @@ invariant-loop-writer g l = record {
   gives : Gives l.task (l.writer + 2) l.fn.plan.tasks;
   all : vec_len l.workers ≡ l.writer;
   homes : EachFrom
-      (λ writer w. (w.promise.gates.now ≡ l.fn.gates) × (w.promise.plan ≡ l.fn.plan) × (w.promise.meeting.now ≡ l.fn.meeting)
+      (λ writer w. (w.promise.gates.now ≡ l.fn.gates) × (w.promise.plan ≡ l.fn.plan) × (w.promise.watch.now ≡ l.fn.watch)
       × (w.promise.writer ≡ writer) × HasBegun (writer + 2) w.promise.start.value) 0 l.workers.items;
 }

@@ -2,7 +2,7 @@
 use Rattle.std.proofs.Common.{◌≡◌, ◌+◌, ap, arith, subst, ◌∙◌}
 use Rattle.gate_runs.specs.declared.counts.Copies.{Copies}
 use Rattle.gate_runs.proofs.Repeating.{one_more}
-use Rattle.gate_runs.specs.Counts.{blocks_of, counted, no_copies, with_copy}
+use Rattle.gate_runs.specs.Counts.{blocks_of, no_copies, with_copy, with_waits}
 use Rattle.gate_runs.specs.Rounds.{BackupRound, CallsBack, Repeats}
 use Rattle.gate_runs.proofs.runs.workers.back_up.Goals as goal
 
@@ -14,15 +14,14 @@ loop-freeze-preserved g c =
     let counts : c.with_copy-copies.result ≡ with_copy ran c.in_ok-ran.waits (blocks_of copied) c.loop-freeze.copies =
     c.with_copy-copies.ensures (blocks_of copied) c.in_ok-blocks.ensures.whole in
     let callbacks : c.with_copy-copies.result.callbacks ≡ c.loop-freeze.copies.callbacks + ran = ap (λ (x : Copies). x.callbacks) counts in
-    let frozen = c.saturating_add-waits.ensures ∙ ap (λ n. counted (c.loop-freeze.copies.waits + n)) c.waited.ensures in
-    let taken = c.saturating_add-waits-in-loop-freeze.ensures ∙ (λ i. counted (frozen i + c.waited-in-loop-freeze.ensures i)) in
-    let thawed = c.saturating_add-waits-in-loop-freeze-2.ensures ∙ (λ i. counted (taken i + c.waited-in-loop-freeze-2.ensures i)) in
+    let taken = c.with_waits-waits-in-loop-freeze.ensures ∙ ap (λ n. with_waits n copied) c.with_waits-waits.ensures in
+    let thawed = c.with_waits-waits-in-loop-freeze-2.ensures ∙ ap (λ n. with_waits n c.thaw.new.self) taken in
     record {
       from = c.in_ok-ran.ensures.from;
       frozen = ap (λ (x : Copies). x.frozen) counts ∙ ap (λ n. n + 1) before.frozen;
       snapshots = ap (λ (x : Copies). x.snapshots) counts ∙ ap (λ n. n + 1) before.snapshots;
       callbacks = omega (arith, before.callbacks, callbacks, c.in_ok-ran.ensures.few);
-      did = one_more (BackupRound g.M.NotedMeeting.sees c.args.meeting.now) c.loop-freeze.freeze
+      did = one_more (BackupRound (g.W.NotedWatch.sees c.args.watch.now)) c.loop-freeze.freeze
           (c.args.task.now, c.args.notes.now, no_copies) (c.loop-freeze.task, c.loop-freeze.notes, c.loop-freeze.copies)
           (c.call_back.new.task, c.frozen.new.notes, c.with_copy-copies.result) before.did
           (record {

@@ -1,8 +1,8 @@
 -- one level more
-use Rattle.std.proofs.Common.{rules, ◌≡◌, ℕ, ◌+◌, ◌-◌, ◌≤◌, Bool, true, false, ap, arith, subst, ◌∙◌}
+use Rattle.std.proofs.Common.{rules, ◌≡◌, ℕ, ◌+◌, ◌-◌, ◌≤◌, Bool, true, false, arith, subst, ◌∙◌}
 use Rattle.gate_world.specs.declared.operations.Op.TheVariants.{Callback}
 use Rattle.vfs_gates.specs.TaskStates.{TaskState}
-use Rattle.gate_runs.specs.Counts.{counted, with_ran}
+use Rattle.gate_runs.specs.Counts.{with_ran}
 use Rattle.gate_runs.proofs.Repeating.{meets, one_more, refused_so}
 use Rattle.gate_runs.specs.Refusals.{MetBy}
 use Rattle.gate_runs.specs.Rounds.{CallsBack, Repeats}
@@ -20,11 +20,10 @@ loop-level-preserved g c =
     let next : k + 1 ≡ c.loop-level.level + 1 - 1 = omega (arith, c.loop-level.auto.level) in
     let counts : c.loop-level.ran + c.from.result ≡ with_ran c.in_ok-callback.field-0 c.loop-level.ran = search rules in
     let once = ran_once c.in_ok-callback.field-0 c.loop-level.ran in
-    let waits = c.saturating_add-waits.ensures ∙ ap (λ n. counted (c.loop-level.waits + n)) c.waited.ensures in
-    let then : TaskState × ℕ × ℕ = (c.callback.new.self, c.loop-level.ran + c.from.result, c.saturating_add-waits.result) in
+    let then : TaskState × ℕ × ℕ = (c.callback.new.self, c.loop-level.ran + c.from.result, c.with_waits-waits.result) in
     let ran : CallsBack (k + 1) (c.loop-level.task, c.loop-level.ran, c.loop-level.waits) then =
     subst (λ n. CallsBack n (c.loop-level.task, c.loop-level.ran, c.loop-level.waits) then) level
-    (c.in_ok-callback.field-0, c.in_ok-callback.ensures, counts, waits) in
+    (c.in_ok-callback.field-0, c.in_ok-callback.ensures, counts, c.with_waits-waits.ensures) in
     record {
       from = (c.callback.ensures.table ∙ before.from.0, c.callback.ensures.config ∙ before.from.1);
       few = omega (arith, before.few, counts, once);

@@ -1,7 +1,7 @@
 -- one round more
 use Rattle.std.proofs.Common.{◌≤◌, ◌+◌, ap, arith, ◌∙◌}
 use Rattle.gate_runs.proofs.Repeating.{busy_once, one_more}
-use Rattle.gate_runs.specs.Counts.{counted}
+use Rattle.gate_runs.specs.Counts.{with_waits}
 use Rattle.gate_runs.specs.Rounds.{RemountRound}
 use Rattle.gate_runs.proofs.runs.workers.remount.Goals as goal
 
@@ -11,8 +11,7 @@ loop-round-preserved g c =
     let found = c.in_ok-busy.field-0 in
     let closed = c.in_ok-busy.ensures in
     let once : found ≤ 1 = busy_once found _ _ closed.closed in
-    let shut = c.saturating_add-waits.ensures ∙ ap (λ n. counted (c.loop-round.met.waits + n)) c.waited.ensures in
-    let open_again = c.saturating_add-waits-in-loop-round.ensures ∙ (λ i. counted (shut i + c.waited-in-loop-round.ensures i)) in
+    let waits = c.with_waits.ensures ∙ ap (λ n. with_waits n c.change_mount.new.self) c.with_waits-waits.ensures in
     record {
       from = (c.change_mount.ensures.table ∙ closed.from.0, c.change_mount.ensures.config ∙ closed.from.1);
       few = omega (arith, before.few, once);
@@ -21,6 +20,6 @@ loop-round-preserved g c =
         busy = found;
         closed = closed.closed;
         opened = c.in_ok-change_mount.ensures;
-        counts = λ i. record { busy = c.loop-round.met.busy + found; waits = open_again i };
+        counts = λ i. record { busy = c.loop-round.met.busy + found; waits = waits i };
       });
     }

@@ -13,7 +13,7 @@ loop-round-preserved g c =
     let took = subst (λ cpu. (did : Takes cpu (c.loop-round.task, c.loop-round.writes.waits) (c.want_write.new.task, c.in_ok-denied.waits))
     × (c.in_ok-denied.denied ≡ counted did.0)) c.processor-cpu.ensures c.in_ok-denied.ensures.took in (
       (c.drop_write.ensures.table ∙ grew.from.0, c.drop_write.ensures.config ∙ grew.from.1),
-      one_more (WriterRound g.M.NotedMeeting.meets c.args.meeting.now c.args.plan.processors c.args.writer) c.loop-round.round
+      one_more (WriterRound (g.W.NotedWatch.meets c.args.watch.now) c.args.plan.processors c.args.writer) c.loop-round.round
           (c.args.task.now, c.args.notes.now, _) (c.loop-round.task, c.loop-round.notes, c.loop-round.writes)
           (last, c.holding.new.notes, c.with_round-writes.result) c.loop-round.invariant.1
           (record {
