@@ -1,45 +1,63 @@
 //! Tasks at small gates.
 
-ghost use Rattle.gate_tests.specs.Origins.{IsFrom};
-
 mod calls;
+mod cases;
 mod decisions;
 mod hooks;
 mod lost;
 mod pairs;
-mod steps;
+mod rounds;
 mod tasks;
 mod threads;
 mod two;
 
-use access_model::Holder;
-use gate_world::Config;
-use std::sync::Wait;
-use tasks::{Gates, Task};
+use schedule_text::{Line, Request, TaskCommand, parse};
+use std::test::Fail;
+use vfs_gates::{Closed, Config, Gate, Op, WordName};
 
-/// So many tasks at one mount, with two processors and one node beside the root.
-fn small(tasks: u8) -> Config {
-    Config {
-        tasks,
-        processors: 2,
-        mounts: 1,
-        nodes: 2,
-        capacity: 8,
+/// Two tasks at one mount, with two processors and one node beside the root.
+const SMALL: Config = Config {
+    tasks: 2,
+    processors: 2,
+    mounts: 1,
+    nodes: 2,
+    capacity: 8,
+};
+
+/// How many are counted at gates, and what words hold, when all is over; None where there is no such gate or word.
+struct Left {
+    gates: &'static [(Gate, Option<u64>)],
+    words: &'static [(WordName, Option<u64>)],
+}
+
+impl Left {
+    /// That closed gates have left that.
+    fn expect(&self, closed: &Closed) -> Result<(), Fail> {
+        for (gate, count) in self.gates {
+            if closed.gate_sum(*gate) != *count {
+                return Err(Fail::new(format_args!("{gate:?}")));
+            }
+        }
+        for (word, value) in self.words {
+            if closed.word(*word) != *value {
+                return Err(Fail::new(format_args!("{word:?}")));
+            }
+        }
+        Ok(())
     }
 }
 
-/// Whether a task freezes a file system that agrees.
-fn freezes<R: Wait>(task: &mut Task, rt: &R, gates: &Gates) -> bool
-    requires { IsFrom task.old gates.now }
-    ensures { IsFrom task.new gates.now }
-{
-    task.freeze(rt, gates, Holder::User, &mut ()).is_ok()
-}
-
-/// Whether a task thaws a file system that agrees.
-fn thaws<R: Wait>(task: &mut Task, rt: &R, gates: &Gates) -> bool
-    requires { IsFrom task.old gates.now }
-    ensures { IsFrom task.new gates.now }
-{
-    task.thaw(rt, gates, Holder::User, &mut ()).is_ok()
+/// The call of a line of a schedule of four tasks, and whose it is.
+fn call_of(line: &str) -> Option<(u8, Op)> {
+    match parse(line.as_bytes(), Some(4)) {
+        Ok(
+            Line::Request(
+                Request::Task {
+                    task,
+                    command: TaskCommand::Begin(op),
+                },
+            ),
+        ) => Some((task, op)),
+        _ => None,
+    }
 }

@@ -1,18 +1,14 @@
 //! What docs/REFUSALS.md advises: a remount script that is busy, a backup whose freeze is refused, a snapshot that finds nothing frozen.
 
-ghost use Rattle.gate_tests.specs.Origins.{IsFrom};
+ghost use Rattle.vfs_gates.specs.TaskStates.{IsFrom};
 
-use super::hooks::{FailsAt, Hooks};
-use super::tasks::{Gates, Task, open};
-use super::{freezes, small, thaws};
-use access_model::{GateError, Holder};
-use cpu_words::{Event, WordName};
+use super::SMALL;
+use super::cases::Deed::{Calls, Decides, Tree};
+use super::cases::{Case, Deed, all_hold};
 use crossbeam_utils::Backoff;
-use freeze_levels::{FsHooks, HookCall};
-use gate_core::Progress;
-use gate_world::Op;
 use std::sync::Wait;
 use std::test::Fail;
+use vfs_gates::{Event, FsHooks, GateError, Gates, Holder, HookCall, Op, Progress, Task, WordName};
 
 /// Remounts read-only, so often while it is busy.
 fn shut<R: Wait, H: FsHooks>(
@@ -136,78 +132,116 @@ fn take<R: Wait, H: FsHooks>(
     Err(GateError::Invalid)
 }
 
-/// Whether a remount is busy for the access that another task takes with the second processor, each time.
-fn meets_an_access<R: Wait>(task: &mut Task, other: &mut Task, rt: &R, gates: &Gates) -> bool
-    requires { IsFrom task.old gates.now × IsFrom other.old gates.now }
-    ensures { IsFrom task.new gates.now × IsFrom other.new gates.now }
-{
-    other.want(rt, gates, 0, 1).is_ok()
-        && shut(rt, gates, task, &mut (), 3) == Err(GateError::Busy)
-        && shut_and_see(rt, gates, task, &mut ()) == Ok(Some(WordName::MountCount(0, 1)))
-        && other.drop_mount(gates, 0, 0).is_ok()
+/// What a task does that is refused.
+#[derive(Clone, Copy)]
+pub enum Decision {
+    /// Remounts read-only, up to three times.
+    Shut,
+    /// Does so once, and sees what was in the way.
+    ShutAndSee,
+    BackUp,
+    /// Takes a snapshot, with two tries.
+    Take,
 }
 
-/// Whether a remount is busy for what is frozen, and is done when that is thawed by the other task.
-fn meets_a_freeze<R: Wait>(task: &mut Task, other: &mut Task, rt: &R, gates: &Gates) -> bool
-    requires { IsFrom task.old gates.now × IsFrom other.old gates.now }
-    ensures { IsFrom task.new gates.now × IsFrom other.new gates.now }
-{
-    freezes(other, rt, gates)
-        && shut_and_see(rt, gates, task, &mut ()) == Ok(Some(WordName::Stage))
-        && thaws(other, rt, gates)
-        && shut(rt, gates, task, &mut (), 1).is_ok()
-}
-
-#[test]
-fn a_busy_remount_tells_what_was_in_the_way(rt: HostRuntime) -> Result<(), Fail> {
-    let (gates, mut task) = open(rt.alloc(), small(2))?;
-    let mut other = task.split(rt.alloc(), &gates)?;
-    let has_told = meets_an_access(&mut task, &mut other, &rt, &gates)
-        && meets_a_freeze(&mut other, &mut task, &rt, &gates);
-    assert!(rt; has_told);
-    Ok(())
-}
-
-/// Whether a backup takes its snapshot of what another task has frozen.
-fn backs_up_anothers<R: Wait>(task: &mut Task, other: &mut Task, rt: &R, gates: &Gates) -> bool
-    requires { IsFrom task.old gates.now × IsFrom other.old gates.now }
-    ensures { IsFrom task.new gates.now × IsFrom other.new gates.now }
-{
-    freezes(other, rt, gates)
-        && back_up(rt, gates, task, &mut ()).is_ok()
-        && task.tree().is_some()
-        && thaws(other, rt, gates)
-}
-
-/// Whether a backup that the file system refuses takes none, and has run the callbacks: two freezes have closed the first level since one
-/// ran there, and one has run by now.
-fn is_refused<R: Wait>(task: &mut Task, rt: &R, gates: &Gates) -> bool
+/// What is seen, and how it ends.
+pub fn decide<R: Wait, H: FsHooks>(
+    task: &mut Task,
+    rt: &R,
+    gates: &Gates,
+    decision: Decision,
+    hooks: &mut H,
+) -> Result<Option<WordName>, GateError>
     requires { IsFrom task.old gates.now }
     ensures { IsFrom task.new gates.now }
 {
-    let file_system = &FailsAt::new(HookCall::FreezeFs, 16);
-    back_up(rt, gates, task, &mut Hooks { file_system }) == Err(GateError::Hook(16))
-        && task.tree().is_none()
-        && task.callback(rt, gates, 1) == Ok(true)
-        && task.callback(rt, gates, 1) == Ok(false)
+    let ended = match decision {
+        Decision::Shut => shut(rt, gates, task, hooks, 3),
+        Decision::ShutAndSee => return shut_and_see(rt, gates, task, hooks),
+        Decision::BackUp => back_up(rt, gates, task, hooks),
+        Decision::Take => take(rt, gates, task, hooks, 2),
+    };
+    match ended {
+        Ok(()) => Ok(None),
+        Err(refusal) => Err(refusal),
+    }
 }
 
-#[test]
-fn a_backup_takes_what_another_froze(rt: HostRuntime) -> Result<(), Fail> {
-    let (gates, mut task) = open(rt.alloc(), small(2))?;
-    let mut other = task.split(rt.alloc(), &gates)?;
-    let is_well = backs_up_anothers(&mut other, &mut task, &rt, &gates)
-        && is_refused(&mut task, &rt, &gates);
-    assert!(rt; is_well);
-    Ok(())
-}
+/// A remount is busy for the access that another task takes with the second processor, and for what it has frozen, each time, and is done once
+/// that is thawed.
+const REMOUNTS: &[Deed] = &[
+    Calls("1 want 0 1\n", "1 ok\n"),
+    Decides(Decision::Shut, None, Err(GateError::Busy)),
+    Decides(
+        Decision::ShutAndSee,
+        None,
+        Ok(Some(WordName::MountCount(0, 1))),
+    ),
+    Calls("1 drop 0 0\n1 freeze\n", "1 ok\n1 ok\n"),
+    Decides(Decision::ShutAndSee, None, Ok(Some(WordName::Stage))),
+    Calls("1 thaw\n", "1 ok\n"),
+    Decides(Decision::Shut, None, Ok(None)),
+    Calls("1 trywant 0 0\n", "1 refused 30 ReadOnly\n"),
+];
+
+/// A backup that the file system refuses takes no snapshot, and has run the callbacks: two freezes have closed the first level since one ran
+/// there, and one has run by then. What another task has frozen is taken as it is, and left frozen.
+const BACKUPS: &[Deed] = &[
+    Calls("1 freeze\n1 thaw\n", "1 ok\n1 ok\n"),
+    Decides(
+        Decision::BackUp,
+        Some((HookCall::FreezeFs, 16)),
+        Err(GateError::Hook(16)),
+    ),
+    Tree(0, None),
+    Calls(
+        "0 callback 1\n0 callback 1\n1 freeze\n",
+        "0 ok ran\n0 ok none\n1 ok\n",
+    ),
+    Decides(Decision::BackUp, None, Ok(None)),
+    Tree(0, Some("")),
+    Calls("0 trystart 1 0\n1 thaw\n", "0 refused 11 Again\n1 ok\n"),
+];
+
+/// A backup by its own freeze leaves nothing frozen.
+const OWN: &[Deed] = &[
+    Decides(Decision::BackUp, None, Ok(None)),
+    Tree(0, Some("")),
+    Calls("0 thaw\n1 trystart 1 0\n", "0 refused 22 Invalid\n1 ok\n"),
+];
+
+/// A snapshot that finds nothing frozen is taken of a freeze of its own.
+const SNAPSHOTS: &[Deed] = &[
+    Calls("0 snapshot\n", "0 refused 22 Invalid\n"),
+    Tree(0, None),
+    Decides(Decision::Take, None, Ok(None)),
+    Tree(0, Some("")),
+];
+
+const CASES: &[Case] = &[
+    Case {
+        config: SMALL,
+        deeds: REMOUNTS,
+        left: None,
+    },
+    Case {
+        config: SMALL,
+        deeds: BACKUPS,
+        left: None,
+    },
+    Case {
+        config: SMALL,
+        deeds: OWN,
+        left: None,
+    },
+    Case {
+        config: SMALL,
+        deeds: SNAPSHOTS,
+        left: None,
+    },
+];
 
 #[test]
-fn a_snapshot_freezes_where_nothing_is_frozen(rt: HostRuntime) -> Result<(), Fail> {
-    let (gates, mut task) = open(rt.alloc(), small(1))?;
-    let early = task.snapshot(&rt, &gates);
-    let taken = take(&rt, &gates, &mut task, &mut (), 2);
-    let seen = (early, taken, task.tree().is_some());
-    assert_eq!(rt; seen, (Err(GateError::Invalid), Ok(()), true));
-    Ok(())
+fn a_refusal_is_met_as_advised(rt: HostRuntime) -> Result<(), Fail> {
+    all_hold(&rt, CASES)
 }

@@ -2,7 +2,7 @@
 
 ghost use Rattle.vfs_gates.specs.TaskStates.{IsFrom, IsIdle};
 
-use super::small;
+use super::SMALL;
 use std::alloc::Global;
 use std::fmt::Debug;
 use std::sync::Wait;
@@ -54,7 +54,7 @@ fn shows_its_tree<R: Wait>(task: &mut Task, rt: &R, gates: &Gates) -> bool
 
 #[test]
 fn what_is_taken_for_a_closure_is_given_back(rt: HostRuntime) -> Result<(), Fail> {
-    let (gates, mut task) = Gates::new(rt.alloc(), small(1))?;
+    let (gates, mut task) = Gates::new(rt.alloc(), SMALL)?;
     let is_well = writes_inside(&mut task, &rt, &gates)
         && copies_inside(&mut task, &rt, &gates)
         && shows_its_tree(&mut task, &rt, &gates);
@@ -74,15 +74,15 @@ fn shows<D: Debug>(alloc: Global, shown: &D, beginning: &str) -> Result<(), Fail
 
 #[test]
 fn gates_and_tasks_show_themselves(rt: HostRuntime) -> Result<(), Fail> {
-    let (gates, task) = Gates::new(rt.alloc(), small(1))?;
+    let (gates, task) = Gates::new(rt.alloc(), SMALL)?;
     shows(
         rt.alloc(),
         &task,
         "Task { number: 0, under_way: false, accesses: Accesses { ",
     )?;
-    shows(rt.alloc(), &gates, "Gates { config: Config { tasks: 1")?;
+    shows(rt.alloc(), &gates, "Gates { config: Config { tasks: 2")?;
     match gates.close(task) {
-        Ok(closed) => shows(rt.alloc(), &closed, "Closed { config: Config { tasks: 1"),
+        Ok(closed) => shows(rt.alloc(), &closed, "Closed { config: Config { tasks: 2"),
         Err(_) => Err(Fail::new("not closed")),
     }
 }

@@ -1,9 +1,8 @@
-//! Tasks in threads: a crew meets at gates, each task in a thread of its own, and goes through its rounds.
+//! Tasks in threads: a crew meets at gates, each of its four tasks in a thread of its own, and goes through its rounds.
 
 ghost use Rattle.std.specs.Prelude.{IfOk};
-ghost use Rattle.std.specs.Option.{ForSome};
 ghost use Rattle.std.specs.Thread.{IsSync};
-ghost use Rattle.gate_tests.specs.Origins.{IsFrom};
+ghost use Rattle.vfs_gates.specs.TaskStates.{IsFrom};
 
 mod freezes;
 mod holders;
@@ -13,234 +12,166 @@ mod remounts;
 mod runs;
 mod trees;
 
-use super::tasks::{Gates, Task, close, open};
-use access_model::{Gate, GateError};
-use cpu_words::WordName;
-use gate_world::Config;
+use super::hooks::FileSystem;
+use super::rounds::{Part, Row, Worked, work};
+use super::{Left, SMALL};
 use gated_tree::NodeWord;
 use std::alloc::Global;
 use std::sync::Wait;
 use std::test::Fail;
 use std::thread;
 use std::thread::Threads;
-use vfs_gates::Closed;
+use vfs_gates::{Closed, Config, GateError, Gates, Task, WordName};
 
-/// How a round ended.
-#[derive(Drop)]
-enum Ending {
-    Done,
-    /// By a refusal that it may have beside the others.
-    Refused,
-    /// By an answer that it can't have, or with something that isn't as the answer says.
-    Wrong,
+/// Four tasks at gates that are otherwise small.
+const FOUR: Config = Config { tasks: 4, ..SMALL };
+
+/// What tasks do beside one another.
+struct Crew {
+    config: Config,
+    /// What the first task does before all rounds.
+    opening: &'static [Row],
+    /// What each task does in a round, and how many of its rounds are to be as wanted.
+    rounds: [(&'static [Row], u16); 4],
+    /// What all of it leaves.
+    left: Left,
 }
 
-impl Ending {
-    /// That of a round that no other task is in the way of.
-    fn of(is_well: bool) -> Ending {
-        if is_well { Ending::Done } else { Ending::Wrong }
-    }
-}
-
-/// What tasks do beside one another, each by its number.
-trait Crew {
-    /// One round of a task.
-    fn round<R: Wait>(&self, task: &mut Task, rt: &R, gates: &Gates, round: u32) -> Ending
-        requires { IsFrom task.old gates.now }
-        ensures { IsFrom task.new gates.now };
-
-    /// What the first task does before all rounds. Says whether all was well.
-    fn before<R: Wait>(&self, _task: &mut Task, _rt: &R, _gates: &Gates) -> bool
-        requires { IsFrom _task.old _gates.now }
-        ensures { IsFrom _task.new _gates.now }
-    {
-        true
-    }
-
-    /// The same after them.
-    fn after<R: Wait>(&self, _task: &mut Task, _rt: &R, _gates: &Gates) -> bool
-        requires { IsFrom _task.old _gates.now }
-        ensures { IsFrom _task.new _gates.now }
-    {
-        true
-    }
-}
-
-/// A task after its rounds: how many were done, and how many ended wrong.
-#[derive(Drop)]
-struct Worked {
-    task: Task,
-    done: u16,
-    wrong: u16,
-}
-
-/// Goes through rounds, up to a million, until so many are done.
-fn work<R: Wait, C: Crew>(mut task: Task, rt: &R, gates: &Gates, crew: &C, wanted: u16) -> Worked
-    requires { IsFrom task gates.now }
-    ensures { IsFrom result.task gates.now }
-{
-    let mut done = 0u16;
-    let mut wrong = 0u16;
-    for round in 0..1_000_000u32 {
-        if done == wanted {
-            break;
-        }
-        match crew.round(&mut task, rt, gates, round) {
-            Ending::Done => done = done.saturating_add(1),
-            Ending::Refused => thread::yield_now(),
-            Ending::Wrong => wrong = wrong.saturating_add(1),
+impl Crew {
+    /// What a task is to do.
+    fn part(&self, (rows, wanted): (&'static [Row], u16)) -> Part {
+        Part {
+            rows,
+            wanted,
+            files: self.config.nodes.saturating_sub(1),
         }
     }
-    Worked { task, done, wrong }
 }
 
-/// A task goes through its rounds, and beside it another one, where there is one.
-fn work_beside<R: Wait + Threads + Sync, C: Crew + Sync>(
-    one: Task,
-    other: Option<Task>,
-    rt: &R,
-    gates: &Gates,
-    crew: &C,
-    wanted: (u16, u16),
-) -> (Worked, Option<Worked>)
-    requires { IsFrom one gates.now × ForSome other (λ task. IsFrom task gates.now) }
-    ensures { IsFrom result.0.task gates.now × ForSome result.1 (λ worked. IsFrom worked.task gates.now) }
-{
-    let (first, second) = wanted;
-    match other {
-        Some(other) => {
-            let (one, other) = thread::join(
-                rt,
-                || work(one, rt, gates, crew, first),
-                || work(other, rt, gates, crew, second),
-            );
-            (one, Some(other))
-        }
-        None => (work(one, rt, gates, crew, first), None),
-    }
-}
-
-/// Takes a task's numbers back, and says how many of its rounds were done, and how many ended wrong; none, where there is no task.
-fn take_back(task: &mut Task, gates: &Gates, other: Option<Worked>) -> Result<(u16, u16), Fail>
-    requires { IsFrom task.old gates.now × ForSome other (λ worked. IsFrom worked.task gates.now) }
-    ensures { IsFrom task.new gates.now }
-{
-    let Some(
-        Worked {
-            task: other,
-            done,
-            wrong,
-        },
-    ) = other
-    else {
-        return Ok((0, 0));
-    };
-    match task.join(gates, other) {
-        Ok(()) => Ok((done, wrong)),
-        Err(_) => Err(Fail::new("not joined")),
-    }
-}
-
-/// A task with one of this task's numbers, where there is to be one.
-fn split_if(
-    task: &mut Task,
-    alloc: Global,
-    gates: &Gates,
-    is_there: bool,
-) -> Result<Option<Task>, GateError>
+/// Three other tasks.
+fn split(task: &mut Task, alloc: Global, gates: &Gates) -> Result<(Task, Task, Task), GateError>
     requires { IsFrom task.old gates.now }
     ensures new { IsFrom task.new gates.now }
-    ensures made { IfOk result (λ other. ForSome other (λ task. IsFrom task gates.now)) }
+    ensures made { IfOk result (λ others. IsFrom others.0 gates.now × IsFrom others.1 gates.now × IsFrom others.2 gates.now) }
 {
-    if !is_there {
-        return Ok(None);
-    }
-    Ok(Some(task.split(alloc, gates)?))
+    let two = task.split(alloc, gates)?;
+    let three = task.split(alloc, gates)?;
+    let four = task.split(alloc, gates)?;
+    Ok((two, three, four))
 }
 
-/// What became of a meeting: how many rounds each task has done, how many of each ended wrong, and the gates, closed.
-#[derive(Drop)]
-struct Met {
-    done: [u16; 4],
-    wrong: [u16; 4],
-    closed: Closed,
-}
-
-/// The rounds of three tasks, or of four, each in a thread, until each has done so many. The first has all others' numbers again then.
-fn work_all<R: Wait + Threads + Sync + Alloc<A = Global>, C: Crew + Sync>(
-    mut task: Task,
+/// Two tasks go through their rounds, one beside the other.
+fn work_beside<R: Wait + Threads + Sync, F: FileSystem + Sync>(
+    one: Task,
+    other: Task,
     rt: &R,
     gates: &Gates,
-    crew: &C,
-    wanted: [u16; 4],
-    is_four: bool,
-) -> Result<(Task, [u16; 4], [u16; 4]), Fail>
-    requires { IsFrom task gates.now }
-    ensures { IfOk result (λ r. IsFrom r.0 gates.now) }
+    file_system: &F,
+    parts: (Part, Part),
+) -> (Worked, Worked)
+    requires { IsFrom one gates.now × IsFrom other gates.now }
+    ensures { IsFrom result.0.task gates.now × IsFrom result.1.task gates.now }
 {
-    let two = task.split(rt.alloc(), gates)?;
-    let three = task.split(rt.alloc(), gates)?;
-    let four = split_if(&mut task, rt.alloc(), gates, is_four)?;
-    let [first, second, third, fourth] = wanted;
-    let three = Some(three);
+    let (first, second) = parts;
+    thread::join(
+        rt,
+        || work(one, rt, gates, file_system, first),
+        || work(other, rt, gates, file_system, second),
+    )
+}
+
+/// Takes a task's numbers back, and says how many of its rounds were done, and what was wrong.
+fn take_back(task: &mut Task, gates: &Gates, other: Worked) -> (u16, Option<&'static str>)
+    requires { IsFrom task.old gates.now × IsFrom other.task gates.now }
+    ensures { IsFrom task.new gates.now }
+{
+    let Worked {
+        task: other,
+        done,
+        wrong,
+    } = other;
+    match task.join(gates, other) {
+        Ok(()) => (done, wrong),
+        Err(_) => (done, Some("not joined")),
+    }
+}
+
+/// The rounds of four tasks, each in a thread, until each has done as many as are wanted. The first has all others' numbers again then, and
+/// with it come how many each has done, and what was wrong.
+fn work_all<R: Wait + Threads + Sync, F: FileSystem + Sync>(
+    tasks: (Task, Task, Task, Task),
+    rt: &R,
+    gates: &Gates,
+    file_system: &F,
+    parts: [Part; 4],
+) -> (Task, [(u16, Option<&'static str>); 4])
+    requires { IsFrom tasks.0 gates.now × IsFrom tasks.1 gates.now × IsFrom tasks.2 gates.now × IsFrom tasks.3 gates.now }
+    ensures { IsFrom result.0 gates.now }
+{
+    let (one, two, three, four) = tasks;
+    let [first, second, third, fourth] = parts;
     let ((one, four), (two, three)) = thread::join(
         rt,
         ||
-            requires { IsSync R.row × IsSync C.row × IsFrom task gates.now × ForSome four (λ other. IsFrom other gates.now) }
-        { work_beside(task, four, rt, gates, crew, (first, fourth)) },
+            requires { IsSync R.row × IsSync F.row × IsFrom one gates.now × IsFrom four gates.now }
+        { work_beside(one, four, rt, gates, file_system, (first, fourth)) },
         ||
-            requires { IsSync R.row × IsSync C.row × IsFrom two gates.now × ForSome three (λ other. IsFrom other gates.now) }
-        { work_beside(two, three, rt, gates, crew, (second, third)) },
+            requires { IsSync R.row × IsSync F.row × IsFrom two gates.now × IsFrom three gates.now }
+        { work_beside(two, three, rt, gates, file_system, (second, third)) },
     );
     let Worked {
         mut task,
         done,
         wrong,
     } = one;
-    let second = take_back(&mut task, gates, Some(two))?;
-    let third = take_back(&mut task, gates, three)?;
-    let fourth = take_back(&mut task, gates, four)?;
-    Ok((
-        task,
-        [done, second.0, third.0, fourth.0],
-        [wrong, second.1, third.1, fourth.1],
-    ))
+    let second = take_back(&mut task, gates, two);
+    let third = take_back(&mut task, gates, three);
+    let fourth = take_back(&mut task, gates, four);
+    (task, [(done, wrong), second, third, fourth])
 }
 
-/// A crew of three tasks, or of four, meets at gates of its own, until each has done so many rounds.
-fn meet<R: Wait + Threads + Sync + Alloc<A = Global>, C: Crew + Sync>(
-    rt: &R,
-    config: Config,
-    crew: &C,
-    wanted: [u16; 4],
-) -> Result<Met, Fail> {
-    let is_four = config.tasks > 3;
-    let (gates, mut task) = open(rt.alloc(), config)?;
-    if !crew.before(&mut task, rt, &gates) {
-        return Err(Fail::new("not begun"));
-    }
-    let (mut task, done, wrong) = work_all(task, rt, &gates, crew, wanted, is_four)?;
-    if !crew.after(&mut task, rt, &gates) {
-        return Err(Fail::new("not ended"));
-    }
-    match close(gates, task) {
-        Ok(closed) => Ok(Met {
-            done,
-            wrong,
-            closed,
-        }),
-        Err(_) => Err(Fail::new("not closed")),
-    }
-}
-
-/// Whether nobody is counted at these gates.
-fn count_nobody(closed: &Closed, gates: &[Gate]) -> bool {
-    for gate in gates {
-        if closed.gate_sum(*gate) != Some(0) {
-            return false;
+/// That a task has done as many rounds as are wanted, and nothing was wrong.
+fn expect_done(worked: (u16, Option<&'static str>), wanted: u16) -> Result<(), Fail> {
+    match worked {
+        (_, Some(line)) => Err(Fail::new(format_args!("wrong at {line:?}"))),
+        (done, None) if done != wanted => {
+            Err(Fail::new(format_args!("{done} rounds in the place of {wanted}")))
         }
+        _ => Ok(()),
     }
-    true
+}
+
+/// A crew meets at gates of its own, and does all its rounds. The gates, closed, hold what the crew is to leave.
+fn meet<R: Wait + Threads + Sync + Alloc<A = Global>, F: FileSystem + Sync>(
+    rt: &R,
+    crew: &Crew,
+    file_system: &F,
+) -> Result<Closed, Fail> {
+    let (gates, task) = Gates::new(rt.alloc(), crew.config)?;
+    let opening = crew.part((crew.opening, 1));
+    let Worked {
+        mut task,
+        done,
+        wrong,
+    } = work(task, rt, &gates, &(), opening);
+    let (two, three, four) = split(&mut task, rt.alloc(), &gates)?;
+    let [first, second, third, fourth] = crew.rounds;
+    let parts = [
+        crew.part(first),
+        crew.part(second),
+        crew.part(third),
+        crew.part(fourth),
+    ];
+    let (task, worked) = work_all((task, two, three, four), rt, &gates, file_system, parts);
+    let Ok(closed) = gates.close(task) else {
+        return Err(Fail::new("not closed"));
+    };
+    expect_done((done, wrong), 1)?;
+    for (worked, part) in worked.iter().zip(parts.iter()) {
+        expect_done(*worked, part.wanted)?;
+    }
+    crew.left.expect(&closed)?;
+    Ok(closed)
 }
 
 /// The file or directory at a node.
@@ -249,17 +180,4 @@ fn file_at(closed: &Closed, node: u8) -> Option<NodeWord> {
         Some(word) => NodeWord::unpack(word),
         None => None,
     }
-}
-
-/// Whether a call on a file was done, or refused as it may be beside another writer.
-fn is_fair(outcome: Result<(), GateError>) -> bool {
-    matches!(outcome, Ok(()) | Err(GateError::Again | GateError::NoEntry))
-}
-
-/// The same of one that takes blocks.
-fn has_grown_fairly(outcome: Result<(), GateError>) -> bool {
-    matches!(
-        outcome,
-        Ok(()) | Err(GateError::Again | GateError::NoEntry | GateError::NoSpace)
-    )
 }

@@ -1,78 +1,58 @@
-//! Gates with two tasks of one thread, whose calls are lines of a schedule: each line is a whole call.
+//! Gates with two tasks of one thread.
 
 ghost use Rattle.std.specs.Option.{ForSome};
-ghost use Rattle.gate_tests.specs.Origins.{IsFrom};
+ghost use Rattle.vfs_gates.specs.TaskStates.{IsFrom};
 
-use super::tasks::{Gates, Task, close, open};
-use access_model::{GateError, Reply};
-use fakes::expect_text;
-use freeze_levels::FsHooks;
-use gate_core::Progress;
-use gate_world::{Config, Op};
-use gated_tree::Tree;
-use schedule_text::{Line, Output, Request, TaskCommand, parse};
+use super::decisions::{Decision, decide};
+use super::tasks::call;
 use std::alloc::Global;
 use std::sync::Wait;
 use std::test::Fail;
-use vfs_gates::Closed;
+use vfs_gates::{
+    Closed, Config, FsHooks, GateError, Gates, HookKind, Op, Reply, Step, Task, Tree, WordName,
+};
 
 /// Gates with the first task, and with the second one, unless it was lost or joined.
 #[derive(Drop)]
 pub struct Two {
-    pub gates: Gates,
-    pub one: Task,
-    pub other: Option<Task>,
+    gates: Gates,
+    one: Task,
+    other: Option<Task>,
     ghost one_is: { IsFrom one gates },
     ghost other_is: { ForSome other (λ task. IsFrom task gates) },
 }
 
-/// The call of a line.
-fn call_of(line: &str) -> Result<(u8, Op), Fail> {
-    match parse(line.as_bytes(), Some(2)) {
-        Ok(
-            Line::Request(
-                Request::Task {
-                    task,
-                    command: TaskCommand::Begin(op),
-                },
-            ),
-        ) => Ok((task, op)),
-        _ => Err(Fail::new(line)),
-    }
+/// How a task stands between two calls or steps.
+#[derive(Clone, Copy, PartialEq, Eq)]
+pub struct Stand {
+    pub number: u8,
+    pub is_idle: bool,
+    /// The hook that its next step asks.
+    pub hook: Option<HookKind>,
+    /// How often its last operation came to a wait.
+    pub waited: u64,
+    /// Whether it has the first file open.
+    pub has_open: bool,
 }
 
-/// Begins an operation, and does so many of its events. Says whether it goes on.
-fn goes(task: &mut Task, gates: &Gates, op: Op, events: u8) -> bool
-    requires { IsFrom task.old gates.now }
-    ensures { IsFrom task.new gates.now }
-{
-    let mut goes_on = task.begin(op).is_ok();
-    for _done in 0..events {
-        goes_on = goes_on && task.step(gates, Ok(())).progress == Progress::Going;
-    }
-    goes_on
-}
+/// The first task at rest, with no file open, before it ever waited.
+pub const AT_REST: Stand = Stand {
+    number: 0,
+    is_idle: true,
+    hook: None,
+    waited: 0,
+    has_open: false,
+};
 
 impl Two {
     pub fn open(alloc: Global, config: Config) -> Result<Two, GateError> {
-        let (gates, mut one) = open(alloc, config)?;
+        let (gates, mut one) = Gates::new(alloc, config)?;
         let other = Some(one.split(alloc, &gates)?);
         Ok(Two { gates, one, other })
     }
 
-    /// Gates whose tasks have made these calls, which answered so.
-    pub fn after<R: Wait + Alloc<A = Global>>(
-        rt: &R,
-        config: Config,
-        calls: (&str, &str),
-    ) -> Result<Two, Fail> {
-        let mut two = Two::open(rt.alloc(), config)?;
-        two.answer(rt, calls.0, calls.1, &mut ())?;
-        Ok(two)
-    }
-
     /// What a task's call answers; Invalid, where the task was lost.
-    fn call<R: Wait, H: FsHooks>(
+    pub fn call<R: Wait, H: FsHooks>(
         &mut self,
         rt: &R,
         task: u8,
@@ -80,77 +60,82 @@ impl Two {
         hooks: &mut H,
     ) -> Result<Reply, GateError> {
         if task == 0 {
-            return self.one.call(rt, &self.gates, op, hooks);
+            return call(&mut self.one, rt, &self.gates, op, hooks);
         }
         match &mut self.other {
-            Some(other) => other.call(rt, &self.gates, op, hooks),
+            Some(other) => call(other, rt, &self.gates, op, hooks),
             None => Err(GateError::Invalid),
         }
     }
 
-    /// The last snapshot of a task.
-    fn tree(&self, task: u8) -> Option<&Tree> {
+    /// Begins an operation of a task.
+    pub fn begin(&mut self, task: u8, op: Op) -> Result<(), GateError> {
         if task == 0 {
-            return self.one.tree();
+            return self.one.begin(op);
         }
-        match &self.other {
-            Some(other) => other.tree(),
-            None => None,
+        match &mut self.other {
+            Some(other) => other.begin(op),
+            None => Err(GateError::Invalid),
         }
     }
 
-    /// How many blocks the last snapshot of a task has.
-    fn used(&self, task: u8) -> u64 {
+    /// Does the next event of a task; that of an idle task, where it was lost.
+    pub fn step(&mut self, task: u8, hook: Result<(), u16>) -> Step {
+        if task == 0 {
+            return self.one.step(&self.gates, hook);
+        }
+        match &mut self.other {
+            Some(other) => other.step(&self.gates, hook),
+            None => Step::idle(),
+        }
+    }
+
+    /// The task with this number; the first one, where the second was lost.
+    fn task(&self, task: u8) -> &Task {
+        match &self.other {
+            Some(other) if task == 1 => other,
+            _ => &self.one,
+        }
+    }
+
+    /// The last snapshot of a task.
+    pub fn tree(&self, task: u8) -> Option<&Tree> {
+        self.task(task).tree()
+    }
+
+    /// How many blocks it has.
+    pub fn used(&self, task: u8) -> u64 {
         match self.tree(task) {
             Some(tree) => tree.used(),
             None => 0,
         }
     }
 
-    /// Makes each call, with these hooks, and prints what it answers, as a replay does.
-    fn print<R: Wait + Alloc<A = Global>, H: FsHooks>(
-        &mut self,
-        rt: &R,
-        calls: &str,
-        hooks: &mut H,
-    ) -> Result<Output, Fail> {
-        let mut output = Output::with_room(rt.alloc(), 0)?;
-        for line in calls.lines() {
-            let (task, op) = call_of(line)?;
-            let answer = self.call(rt, task, op, hooks);
-            output.answer_line(task, answer, self.used(task))?;
+    pub fn stand(&self, task: u8) -> Stand {
+        let task = self.task(task);
+        Stand {
+            number: task.number(),
+            is_idle: task.is_idle(),
+            hook: task.wants_hook(),
+            waited: task.waited(),
+            has_open: task.has_open(1),
         }
-        Ok(output)
     }
 
-    /// That the calls, with these hooks, answer so.
-    pub fn answer<R: Wait + Alloc<A = Global>, H: FsHooks>(
+    /// What the first task finds that decides so.
+    pub fn decide<R: Wait, H: FsHooks>(
         &mut self,
         rt: &R,
-        calls: &str,
-        answers: &str,
+        decision: Decision,
         hooks: &mut H,
-    ) -> Result<(), Fail> {
-        let output = self.print(rt, calls, hooks)?;
-        expect_text(output.bytes.as_slice(), answers)
+    ) -> Result<Option<WordName>, GateError> {
+        decide(&mut self.one, rt, &self.gates, decision, hooks)
     }
 
-    /// The second task begins an operation and does so many of its events. Says whether it goes on.
-    pub fn goes(&mut self, op: Op, events: u8) -> bool {
-        let Some(other) = &mut self.other else {
-            return false;
-        };
-        goes(other, &self.gates, op, events)
-    }
-
-    /// Splits a task off the first one, and says why not.
-    pub fn refuses_split(&mut self, alloc: Global) -> Option<GateError> {
-        self.one.split(alloc, &self.gates).err()
-    }
-
-    /// Drops the second task.
-    pub fn lose(&mut self) {
+    /// Drops the second task. The first one has no number to split off then: why not.
+    pub fn lose(&mut self, alloc: Global) -> Option<GateError> {
         self.other = None;
+        self.one.split(alloc, &self.gates).err()
     }
 
     /// Joins both tasks and closes the gates, or gives all back.
@@ -166,7 +151,7 @@ impl Two {
                 return Err((refusal, Two { gates, one, other }));
             }
         }
-        match close(gates, one) {
+        match gates.close(one) {
             Ok(closed) => Ok(closed),
             Err((refusal, gates, one)) => {
                 let other = None;
@@ -190,13 +175,4 @@ pub fn not_closed(two: Two) -> Result<Two, Fail> {
         Err((GateError::Order, two)) => Ok(two),
         _ => Err(Fail::new("closed, or refused otherwise")),
     }
-}
-
-/// The gates, closed, after these calls, which answered so.
-pub fn closed_after<R: Wait + Alloc<A = Global>>(
-    rt: &R,
-    config: Config,
-    calls: (&str, &str),
-) -> Result<Closed, Fail> {
-    closed(Two::after(rt, config, calls)?)
 }

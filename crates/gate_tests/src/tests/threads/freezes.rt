@@ -1,18 +1,14 @@
 //! Freezes and thaws beside readers and callbacks, of a file system that fails now and then.
 
-ghost use Rattle.gate_tests.specs.Origins.{IsFrom};
-
-use super::super::hooks::{FileSystem, Hooks};
-use super::super::small;
-use super::super::tasks::{Gates, Task};
-use super::{Crew, Ending, count_nobody, meet};
-use access_model::{Gate, GateError, Holder};
-use cpu_words::WordName;
-use freeze_levels::HookCall;
-use std::sync::Wait;
+use super::super::Left;
+use super::super::hooks::FileSystem;
+use super::super::rounds::Row::{Done, Either, Refused};
+use super::super::rounds::{ENDS, FAILS, NEXT, Row};
+use super::{Crew, FOUR, meet};
 use std::sync::atomic::{AtomicU64, Ordering};
 use std::test::Fail;
-use std::thread;
+use vfs_gates::GateError::{Again, Hook};
+use vfs_gates::{Gate, GateError, HookCall, Op, Reply, Tree, WordName};
 
 /// How many readers are inside the levels, by their own account: each counts itself once it is inside, and no more before it leaves.
 #[derive(Drop)]
@@ -23,14 +19,6 @@ struct Readers {
 }
 
 impl Readers {
-    fn none() -> Readers {
-        Readers {
-            one: AtomicU64::new(0),
-            two: AtomicU64::new(0),
-            three: AtomicU64::new(0),
-        }
-    }
-
     /// Those of one level; of level 3 for any other number.
     fn of(&self, level: u8) -> &AtomicU64 {
         match level {
@@ -75,100 +63,94 @@ impl FileSystem for InTurn {
         }
         Ok(())
     }
-}
 
-/// Goes inside a level on one processor, counted among its readers, and leaves it on the other.
-fn visit<R: Wait>(
-    task: &mut Task,
-    rt: &R,
-    gates: &Gates,
-    readers: &Readers,
-    level: u8,
-    cpu: u8,
-) -> bool
-    requires { IsFrom task.old gates.now }
-    ensures { IsFrom task.new gates.now }
-{
-    let is_inside = task.start(rt, gates, level, cpu).is_ok();
-    readers.of(level).fetch_add(1, Ordering::SeqCst);
-    readers.of(level).fetch_sub(1, Ordering::SeqCst);
-    is_inside && task.end(gates, level, cpu ^ 1).is_ok()
-}
-
-/// Visits all levels.
-fn visit_all<R: Wait>(task: &mut Task, rt: &R, gates: &Gates, readers: &Readers, cpu: u8) -> Ending
-    requires { IsFrom task.old gates.now }
-    ensures { IsFrom task.new gates.now }
-{
-    let first = visit(task, rt, gates, readers, 1, cpu);
-    let second = visit(task, rt, gates, readers, 2, cpu ^ 1);
-    let third = visit(task, rt, gates, readers, 3, cpu);
-    Ending::of(first && second && third)
-}
-
-/// Runs the callbacks of all levels.
-fn run_callbacks<R: Wait>(task: &mut Task, rt: &R, gates: &Gates) -> Ending
-    requires { IsFrom task.old gates.now }
-    ensures { IsFrom task.new gates.now }
-{
-    let have_run = task.callback(rt, gates, 1).is_ok()
-        && task.callback(rt, gates, 2).is_ok()
-        && task.callback(rt, gates, 3).is_ok();
-    thread::yield_now();
-    Ending::of(have_run)
-}
-
-/// Freezes once, looks whether each level is shut, and thaws, however often the file system fails meanwhile. Refused, where the freeze itself
-/// was refused by the file system.
-fn freeze_and_thaw<R: Wait>(task: &mut Task, rt: &R, gates: &Gates, file_system: &InTurn) -> Ending
-    requires { IsFrom task.old gates.now }
-    ensures { IsFrom task.new gates.now }
-{
-    let mut hooks = Hooks { file_system };
-    match task.freeze(rt, gates, Holder::User, &mut hooks) {
-        Ok(()) => {}
-        Err(GateError::Hook(7)) => return Ending::Refused,
-        Err(_) => return Ending::Wrong,
-    }
-    let again = Err(GateError::Again);
-    let is_shut = task.try_start(gates, 1, 0) == again
-        && task.try_start(gates, 2, 1) == again
-        && task.try_start(gates, 3, 0) == again;
-    let is_empty = file_system.readers.is_none();
-    let is_thawed = task.thaw(rt, gates, Holder::User, &mut hooks).is_ok()
-        || task.thaw(rt, gates, Holder::User, &mut hooks).is_ok();
-    Ending::of(is_shut && is_empty && is_thawed)
-}
-
-/// One who freezes and thaws, two readers, and one who runs callbacks.
-impl Crew for InTurn {
-    fn round<R: Wait>(&self, task: &mut Task, rt: &R, gates: &Gates, _round: u32) -> Ending {
-        match task.number() {
-            0 => freeze_and_thaw(task, rt, gates, self),
-            1 => visit_all(task, rt, gates, &self.readers, 0),
-            2 => visit_all(task, rt, gates, &self.readers, 1),
-            _ => run_callbacks(task, rt, gates),
+    /// Counts who has started in, and out again before it leaves; and nobody is counted where a try found a level closed.
+    fn looks(
+        &self,
+        _task: u8,
+        op: Op,
+        answer: Result<Reply, GateError>,
+        _tree: Option<&Tree>,
+    ) -> bool {
+        match (op, answer) {
+            (Op::Start { level, .. }, Ok(_)) => {
+                self.readers.of(level).fetch_add(1, Ordering::SeqCst);
+                self.readers.of(level).fetch_sub(1, Ordering::SeqCst);
+                true
+            }
+            (Op::Start { .. }, Err(_)) => self.readers.is_none(),
+            _ => true,
         }
     }
 }
 
+/// One freezes, finds each level shut, and thaws, however often the file system fails meanwhile: not twice in a row.
+const FREEZES: &[Row] = &[
+    Either("0 freeze", NEXT, &[Hook(7)], FAILS),
+    Refused("0 trystart 1 0", Again),
+    Refused("0 trystart 2 1", Again),
+    Refused("0 trystart 3 0", Again),
+    Either("0 thaw", ENDS, &[Hook(7)], NEXT),
+    Done("0 thaw"),
+];
+
+/// Two go inside each level on one processor, and leave it on the other.
+const READS: &[Row] = &[
+    Done("1 start 1 0"),
+    Done("1 end 1 1"),
+    Done("1 start 2 1"),
+    Done("1 end 2 0"),
+    Done("1 start 3 0"),
+    Done("1 end 3 1"),
+];
+
+const OTHER_READS: &[Row] = &[
+    Done("2 start 1 1"),
+    Done("2 end 1 0"),
+    Done("2 start 2 0"),
+    Done("2 end 2 1"),
+    Done("2 start 3 1"),
+    Done("2 end 3 0"),
+];
+
+/// One runs the callbacks of all levels.
+const CALLBACKS: &[Row] = &[
+    Done("3 callback 1"),
+    Done("3 callback 2"),
+    Done("3 callback 3"),
+];
+
+const CREW: Crew = Crew {
+    config: FOUR,
+    opening: &[],
+    rounds: [
+        (FREEZES, 200),
+        (READS, 5000),
+        (OTHER_READS, 5000),
+        (CALLBACKS, 1000),
+    ],
+    left: Left {
+        gates: &[
+            (Gate::Level(1), Some(0)),
+            (Gate::Level(2), Some(0)),
+            (Gate::Level(3), Some(0)),
+        ],
+        words: &[(WordName::Stage, Some(0))],
+    },
+};
+
 #[test]
 fn nobody_is_inside_while_it_is_frozen(rt: HostRuntime) -> Result<(), Fail> {
     let file_system = InTurn {
-        readers: Readers::none(),
+        readers: Readers {
+            one: AtomicU64::new(0),
+            two: AtomicU64::new(0),
+            three: AtomicU64::new(0),
+        },
         asked: AtomicU64::new(0),
         met: AtomicU64::new(0),
     };
-    let wanted = [200, 5000, 5000, 1000];
-    let met = meet(&rt, small(4), &file_system, wanted)?;
-    assert_eq!(rt; (met.done, met.wrong), (wanted, [0; 4]));
+    meet(&rt, &CREW, &file_system)?;
     assert_eq!(rt; file_system.met.load(Ordering::SeqCst), 0);
-    assert!(rt;
-        count_nobody(
-            &met.closed,
-            &[Gate::Level(1), Gate::Level(2), Gate::Level(3)]
-        )
-    );
-    assert_eq!(rt; met.closed.word(WordName::Stage), Some(0));
     Ok(())
 }

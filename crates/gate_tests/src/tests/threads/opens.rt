@@ -1,133 +1,16 @@
 //! Files that are removed while open, beside a remount and a freeze.
 
-ghost use Rattle.gate_tests.specs.Origins.{IsFrom};
-
-use super::super::tasks::{Gates, Task};
-use super::super::{freezes, small, thaws};
-use super::{Crew, Ending, count_nobody, file_at, is_fair, meet};
-use access_model::{Gate, GateError, Kind};
-use cpu_words::WordName;
-use gate_world::Config;
-use gated_tree::Tree;
-use std::sync::Wait;
+use super::super::Left;
+use super::super::hooks::FileSystem;
+use super::super::rounds::Row::{AtLast, Done, Either};
+use super::super::rounds::{FAILS, NEXT, Row, Then};
+use super::{Crew, FOUR, file_at, meet};
 use std::test::Fail;
-use std::thread;
-use vfs_gates::Closed;
+use vfs_gates::GateError::{Again, Busy, NoEntry, NoSpace, Order, ReadOnly};
+use vfs_gates::{Closed, Config, Gate, GateError, Op, Reply, Tree, WordName};
 
 /// How many nodes there are where threads meet.
 const NODES: u8 = 6;
-
-/// Makes a file, opens it, and removes it.
-fn make_and_remove(task: &mut Task, gates: &Gates) -> Result<(), GateError>
-    requires { IsFrom task.old gates.now }
-    ensures { IsFrom task.new gates.now }
-{
-    let file = task.create(gates, 0, Kind::File)?;
-    task.grow(gates, file, 1)?;
-    task.open_file(gates, file)?;
-    task.remove(gates, file)
-}
-
-/// The same, with some node opened before, whoever made its file; where no node is free, the one is removed. Done, where a file was removed
-/// that the task had open; refused, where that failed as it may beside another writer.
-fn change_tree(task: &mut Task, gates: &Gates, node: u8) -> Ending
-    requires { IsFrom task.old gates.now }
-    ensures { IsFrom task.new gates.now }
-{
-    if !is_fair(task.open_file(gates, node)) {
-        return Ending::Wrong;
-    }
-    match make_and_remove(task, gates) {
-        Ok(()) => Ending::Done,
-        Err(GateError::NoSpace) => {
-            if is_fair(task.remove(gates, node)) {
-                Ending::Refused
-            } else {
-                Ending::Wrong
-            }
-        }
-        Err(GateError::Again | GateError::NoEntry) => Ending::Refused,
-        Err(_) => Ending::Wrong,
-    }
-}
-
-/// Closes a file, up to a million times, until that was done: once without waiting, and then with.
-fn closes<R: Wait>(task: &mut Task, rt: &R, gates: &Gates, file: u8, cpu: u8) -> bool
-    requires { IsFrom task.old gates.now }
-    ensures { IsFrom task.new gates.now }
-{
-    let mut is_closed = task.try_close_file(gates, file, cpu).is_ok();
-    for _round in 0..1_000_000 {
-        if is_closed {
-            break;
-        }
-        is_closed = task.close_file(rt, gates, file, cpu).is_ok();
-    }
-    is_closed
-}
-
-/// Closes all files that the task has open.
-fn closes_all<R: Wait>(task: &mut Task, rt: &R, gates: &Gates, cpu: u8) -> bool
-    requires { IsFrom task.old gates.now }
-    ensures { IsFrom task.new gates.now }
-{
-    let mut is_well = true;
-    for node in 1..NODES {
-        if task.has_open(node) {
-            is_well = closes(task, rt, gates, node, cpu) && is_well;
-        }
-    }
-    is_well
-}
-
-/// Takes write access, where the superblock is writable, changes the tree, gives it back, and closes all.
-fn write<R: Wait>(task: &mut Task, rt: &R, gates: &Gates, cpu: u8, round: u32) -> Ending
-    requires { IsFrom task.old gates.now }
-    ensures { IsFrom task.new gates.now }
-{
-    match task.want_write(rt, gates, 0, cpu) {
-        Ok(()) => {}
-        Err(GateError::ReadOnly) => return Ending::Refused,
-        Err(_) => return Ending::Wrong,
-    }
-    let node = 1 + (round % u32::from(NODES - 1)) as u8;
-    let changed = change_tree(task, gates, node);
-    let has_left = task.drop_write(gates, 0, cpu ^ 1).is_ok();
-    let is_closed = closes_all(task, rt, gates, cpu);
-    if has_left && is_closed {
-        changed
-    } else {
-        Ending::Wrong
-    }
-}
-
-/// Makes the superblock writable again, up to a million times, until no freeze is in the way.
-fn comes_back<R: Wait>(task: &mut Task, rt: &R, gates: &Gates) -> bool
-    requires { IsFrom task.old gates.now }
-    ensures { IsFrom task.new gates.now }
-{
-    let mut answer = Err(GateError::Busy);
-    for _round in 0..1_000_000 {
-        if answer != Err(GateError::Busy) {
-            break;
-        }
-        thread::yield_now();
-        answer = task.remount_sb(rt, gates, false, &mut ());
-    }
-    answer.is_ok()
-}
-
-/// Makes the superblock read-only and writable again.
-fn remount<R: Wait>(task: &mut Task, rt: &R, gates: &Gates) -> Ending
-    requires { IsFrom task.old gates.now }
-    ensures { IsFrom task.new gates.now }
-{
-    match task.remount_sb(rt, gates, true, &mut ()) {
-        Ok(()) => Ending::of(comes_back(task, rt, gates)),
-        Err(GateError::Busy) => Ending::Refused,
-        Err(_) => Ending::Wrong,
-    }
-}
 
 /// The removed files that a snapshot has; None where it isn't whole, by its own tests and by a sum of its sizes and children that uses
 /// neither.
@@ -150,44 +33,28 @@ fn removed_files(tree: &Tree) -> Option<u64> {
     }
 }
 
-/// Whether the superblock is read-only; an access that it gets is given back.
-fn is_shut(task: &mut Task, gates: &Gates) -> Option<bool>
-    requires { IsFrom task.old gates.now }
-    ensures { IsFrom task.new gates.now }
-{
-    match task.try_want(gates, 0, 0) {
-        Ok(()) => {
-            if task.drop_mount(gates, 0, 1).is_ok() {
-                Some(false)
-            } else {
-                None
-            }
-        }
-        Err(GateError::ReadOnly) => Some(true),
-        Err(_) => None,
-    }
-}
+/// Looks whether each snapshot is whole, and had no removed file where a try afterwards finds the superblock read-only.
+#[derive(Drop)]
+struct Removing;
 
-/// Freezes, looks at what is frozen, and thaws. Says whether the snapshot was whole, and had no removed file where the superblock was
-/// read-only.
-fn looks<R: Wait>(task: &mut Task, rt: &R, gates: &Gates) -> bool
-    requires { IsFrom task.old gates.now }
-    ensures { IsFrom task.new gates.now }
-{
-    let is_taken = freezes(task, rt, gates) && task.snapshot(rt, gates).is_ok();
-    let shut = is_shut(task, gates);
-    let removed = match task.tree() {
-        Some(tree) => removed_files(tree),
-        None => None,
-    };
-    let is_good = match (shut, removed) {
-        (Some(true), Some(removed)) => removed == 0,
-        (Some(false), Some(_)) => true,
-        _ => false,
-    };
-    let is_thawed = thaws(task, rt, gates);
-    thread::yield_now();
-    is_thawed && is_taken && is_good
+impl FileSystem for Removing {
+    fn looks(
+        &self,
+        _task: u8,
+        op: Op,
+        answer: Result<Reply, GateError>,
+        tree: Option<&Tree>,
+    ) -> bool {
+        let removed = match tree {
+            Some(tree) => removed_files(tree),
+            None => None,
+        };
+        match (op, answer) {
+            (Op::Snapshot { .. }, _) => removed.is_some(),
+            (Op::Want { .. }, Err(_)) => removed == Some(0),
+            _ => true,
+        }
+    }
 }
 
 /// Whether no file is open or removed, and the blocks charged are those of the files.
@@ -206,39 +73,89 @@ fn has_no_open_file(closed: &Closed) -> bool {
     is_shut && closed.word(WordName::Used) == Some(blocks)
 }
 
-/// One who freezes, two who write, each on a processor of its own, and one who remounts.
-struct Removing;
-
-impl Crew for Removing {
-    fn round<R: Wait>(&self, task: &mut Task, rt: &R, gates: &Gates, round: u32) -> Ending {
-        match task.number() {
-            0 => Ending::of(looks(task, rt, gates)),
-            1 => write(task, rt, gates, 0, round),
-            2 => write(task, rt, gates, 1, round),
-            _ => remount(task, rt, gates),
-        }
-    }
-}
-
-/// Each gate of the file system.
-const GATES: [Gate; 4] = [
-    Gate::Mount(0),
-    Gate::Level(1),
-    Gate::Level(2),
-    Gate::Level(3),
+/// One freezes, takes a snapshot, and looks whether the superblock is read-only.
+const BACKUPS: &[Row] = &[
+    Done("0 freeze"),
+    Done("0 snapshot"),
+    Either("0 trywant 0 0", NEXT, &[ReadOnly], Then::Skips(1)),
+    Done("0 drop 0 1"),
+    Done("0 thaw"),
 ];
+
+/// Two write, each on a processor of its own, where the superblock is writable: each opens some file, makes one, opens it and removes it, and
+/// removes the other; and it closes both, once without waiting, and then with. A round is wanted where the file was removed that it had made.
+const WRITES: &[Row] = &[
+    Either("1 wantwrite 0 0", NEXT, &[ReadOnly], FAILS),
+    Either("1 open 200", NEXT, &[Again, NoEntry], NEXT),
+    Either("1 create 0 file", NEXT, &[Again, NoSpace], Then::Misses(3)),
+    Either(
+        "1 grow 100 1",
+        NEXT,
+        &[Again, NoEntry, NoSpace],
+        Then::Misses(2),
+    ),
+    Either("1 open 100", NEXT, &[Again, NoEntry], Then::Misses(1)),
+    Either("1 remove 100", NEXT, &[Again, NoEntry], Then::Misses(0)),
+    Either("1 remove 200", NEXT, &[Again, NoEntry], NEXT),
+    Done("1 dropwrite 0 1"),
+    Either("1 tryclose 100 0", NEXT, &[Again, Order], NEXT),
+    AtLast("1 close 100 0", Again, &[Order]),
+    Either("1 tryclose 200 0", NEXT, &[Again, Order], NEXT),
+    AtLast("1 close 200 0", Again, &[Order]),
+];
+
+const OTHER_WRITES: &[Row] = &[
+    Either("2 wantwrite 0 1", NEXT, &[ReadOnly], FAILS),
+    Either("2 open 200", NEXT, &[Again, NoEntry], NEXT),
+    Either("2 create 0 file", NEXT, &[Again, NoSpace], Then::Misses(3)),
+    Either(
+        "2 grow 100 1",
+        NEXT,
+        &[Again, NoEntry, NoSpace],
+        Then::Misses(2),
+    ),
+    Either("2 open 100", NEXT, &[Again, NoEntry], Then::Misses(1)),
+    Either("2 remove 100", NEXT, &[Again, NoEntry], Then::Misses(0)),
+    Either("2 remove 200", NEXT, &[Again, NoEntry], NEXT),
+    Done("2 dropwrite 0 0"),
+    Either("2 tryclose 100 1", NEXT, &[Again, Order], NEXT),
+    AtLast("2 close 100 1", Again, &[Order]),
+    Either("2 tryclose 200 1", NEXT, &[Again, Order], NEXT),
+    AtLast("2 close 200 1", Again, &[Order]),
+];
+
+/// One makes the superblock read-only, where nobody is in the way, and writable again, once no freeze is.
+const REMOUNTS: &[Row] = &[
+    Either("3 remount ro", NEXT, &[Busy], FAILS),
+    AtLast("3 remount rw", Busy, &[]),
+];
+
+const CREW: Crew = Crew {
+    config: Config {
+        nodes: NODES,
+        ..FOUR
+    },
+    opening: &[],
+    rounds: [
+        (BACKUPS, 50),
+        (WRITES, 500),
+        (OTHER_WRITES, 500),
+        (REMOUNTS, 30),
+    ],
+    left: Left {
+        gates: &[
+            (Gate::Mount(0), Some(0)),
+            (Gate::Level(1), Some(0)),
+            (Gate::Level(2), Some(0)),
+            (Gate::Level(3), Some(0)),
+        ],
+        words: &[(WordName::Removed, Some(0))],
+    },
+};
 
 #[test]
 fn no_removed_file_is_left_open(rt: HostRuntime) -> Result<(), Fail> {
-    let config = Config {
-        nodes: NODES,
-        ..small(4)
-    };
-    let wanted = [50, 500, 500, 30];
-    let met = meet(&rt, config, &Removing, wanted)?;
-    assert_eq!(rt; (met.done, met.wrong), (wanted, [0; 4]));
-    assert!(rt; has_no_open_file(&met.closed));
-    assert_eq!(rt; met.closed.word(WordName::Removed), Some(0));
-    assert!(rt; count_nobody(&met.closed, &GATES));
+    let closed = meet(&rt, &CREW, &Removing)?;
+    assert!(rt; has_no_open_file(&closed));
     Ok(())
 }

@@ -1,22 +1,14 @@
 //! Remounts of a file system that refuses now and then, beside writers.
 
-ghost use Rattle.gate_tests.specs.Origins.{IsFrom};
-
-use super::super::hooks::{FileSystem, Hooks};
-use super::super::small;
-use super::super::tasks::{Gates, Task};
-use super::mounts::want_each;
-use super::{Crew, Ending, count_nobody, meet};
-use access_model::{Gate, GateError};
-use cpu_words::WordName;
-use freeze_levels::HookCall;
-use gate_world::Config;
-use std::sync::Wait;
+use super::super::Left;
+use super::super::hooks::FileSystem;
+use super::super::rounds::Row::{Done, Either, Refused};
+use super::super::rounds::{NEXT, Row, Then};
+use super::{Crew, FOUR, meet};
 use std::sync::atomic::{AtomicBool, AtomicU64, Ordering};
 use std::test::Fail;
-
-/// How many mounts there are where threads meet.
-const MOUNTS: u8 = 3;
+use vfs_gates::GateError::{Busy, Hook, ReadOnly};
+use vfs_gates::{Config, Gate, HookCall, WordName};
 
 /// A file system that refuses every third remount that it is asked for, one to what it is, and whatever else it is asked for. It counts
 /// the remounts.
@@ -43,92 +35,65 @@ impl FileSystem for EveryThird {
     }
 }
 
-/// Asks every mount for an access, which it gives back, and says how many are read-only.
-fn read_only_mounts(task: &mut Task, gates: &Gates) -> u8
-    requires { IsFrom task.old gates.now }
-    ensures { IsFrom task.new gates.now }
-{
-    let mut shut = 0u8;
-    for mount in 0..MOUNTS {
-        let wanted = task.try_want(gates, mount, 0);
-        if wanted == Err(GateError::ReadOnly) {
-            shut = shut.saturating_add(1);
-        }
-        if wanted.is_ok() && task.drop_mount(gates, mount, 1).is_err() {
-            shut = u8::MAX;
-        }
-    }
-    shut
-}
+/// One remounts to read-only and back, and asks every mount afterwards. A remount that is refused leaves the superblock as it was; the one
+/// after it isn't refused by the file system.
+const REMOUNTS: &[Row] = &[
+    Either("0 remount ro", NEXT, &[Busy, Hook(5)], Then::Misses(3)),
+    Refused("0 trywant 0 0", ReadOnly),
+    Refused("0 trywant 1 0", ReadOnly),
+    Refused("0 trywant 2 0", ReadOnly),
+    Either("0 remount rw", Then::Skips(4), &[Hook(5)], NEXT),
+    Refused("0 trywant 0 0", ReadOnly),
+    Refused("0 trywant 1 0", ReadOnly),
+    Refused("0 trywant 2 0", ReadOnly),
+    Done("0 remount rw"),
+    Done("0 trywant 0 0"),
+    Done("0 drop 0 1"),
+    Done("0 trywant 1 0"),
+    Done("0 drop 1 1"),
+    Done("0 trywant 2 0"),
+    Done("0 drop 2 1"),
+];
 
-/// Remounts, and asks every mount afterwards. A remount that is refused leaves the superblock as it was, so as it wasn't asked for.
-fn remount<R: Wait>(
-    task: &mut Task,
-    rt: &R,
-    gates: &Gates,
-    read_only: bool,
-    file_system: &EveryThird,
-) -> Ending
-    requires { IsFrom task.old gates.now }
-    ensures { IsFrom task.new gates.now }
-{
-    let answer = task.remount_sb(rt, gates, read_only, &mut Hooks { file_system });
-    let shut = if answer.is_ok() == read_only {
-        MOUNTS
-    } else {
-        0
-    };
-    if read_only_mounts(task, gates) != shut {
-        return Ending::Wrong;
-    }
-    match answer {
-        Ok(()) => Ending::Done,
-        Err(GateError::Busy | GateError::Hook(5)) => Ending::Refused,
-        Err(_) => Ending::Wrong,
-    }
-}
+/// Two take an access at each mount, each on a processor of its own, and give it back on the other.
+const WANTS: &[Row] = &[
+    Either("1 want 0 0", NEXT, &[ReadOnly], Then::Skips(1)),
+    Done("1 drop 0 1"),
+    Either("1 want 1 0", NEXT, &[ReadOnly], Then::Skips(1)),
+    Done("1 drop 1 1"),
+    Either("1 want 2 0", NEXT, &[ReadOnly], Then::Skips(1)),
+    Done("1 drop 2 1"),
+];
 
-/// One who remounts to read-only and back, and two who want at all mounts.
-impl Crew for EveryThird {
-    fn round<R: Wait>(&self, task: &mut Task, rt: &R, gates: &Gates, _round: u32) -> Ending {
-        match task.number() {
-            0 => {
-                let there = remount(task, rt, gates, true, self);
-                match remount(task, rt, gates, false, self) {
-                    Ending::Wrong => Ending::Wrong,
-                    _ => there,
-                }
-            }
-            1 => want_each(task, rt, gates, 0, MOUNTS),
-            _ => want_each(task, rt, gates, 1, MOUNTS),
-        }
-    }
+const OTHER_WANTS: &[Row] = &[
+    Either("2 want 0 1", NEXT, &[ReadOnly], Then::Skips(1)),
+    Done("2 drop 0 0"),
+    Either("2 want 1 1", NEXT, &[ReadOnly], Then::Skips(1)),
+    Done("2 drop 1 0"),
+    Either("2 want 2 1", NEXT, &[ReadOnly], Then::Skips(1)),
+    Done("2 drop 2 0"),
+];
 
-    fn after<R: Wait>(&self, task: &mut Task, rt: &R, gates: &Gates) -> bool {
-        task.remount_sb(rt, gates, false, &mut ()).is_ok()
-    }
-}
+const CREW: Crew = Crew {
+    config: Config { mounts: 3, ..FOUR },
+    opening: &[],
+    rounds: [(REMOUNTS, 50), (WANTS, 300), (OTHER_WANTS, 300), (&[], 1)],
+    left: Left {
+        gates: &[
+            (Gate::Mount(0), Some(0)),
+            (Gate::Mount(1), Some(0)),
+            (Gate::Mount(2), Some(0)),
+        ],
+        words: &[(WordName::SbFlags, Some(0)), (WordName::Remount, Some(0))],
+    },
+};
 
 #[test]
 fn a_remount_keeps_its_own_thread_out(rt: HostRuntime) -> Result<(), Fail> {
-    let config = Config {
-        mounts: MOUNTS,
-        ..small(3)
-    };
     let file_system = EveryThird {
         asked: AtomicU64::new(0),
         is_read_only: AtomicBool::new(false),
     };
-    let wanted = [50, 300, 300, 0];
-    let met = meet(&rt, config, &file_system, wanted)?;
-    assert_eq!(rt; (met.done, met.wrong), (wanted, [0; 4]));
-    assert!(rt;
-        count_nobody(
-            &met.closed,
-            &[Gate::Mount(0), Gate::Mount(1), Gate::Mount(2)]
-        )
-    );
-    assert_eq!(rt; met.closed.word(WordName::SbFlags), Some(0));
-    assert_eq!(rt; met.closed.word(WordName::Remount), Some(0));
+    meet(&rt, &CREW, &file_system)?;
     Ok(())
 }

@@ -1,18 +1,13 @@
 //! Snapshots of the tree beside writers.
 
-ghost use Rattle.gate_tests.specs.Origins.{IsFrom};
-
-use super::super::tasks::{Gates, Task};
-use super::super::{freezes, small, thaws};
-use super::{Crew, Ending, file_at, has_grown_fairly, is_fair, meet};
-use access_model::{GateError, Kind};
-use cpu_words::WordName;
-use gate_world::Config;
-use gated_tree::Tree;
-use std::sync::Wait;
+use super::super::Left;
+use super::super::hooks::FileSystem;
+use super::super::rounds::Row::{Done, Either};
+use super::super::rounds::{NEXT, Row};
+use super::{Crew, FOUR, file_at, meet};
 use std::test::Fail;
-use std::thread;
-use vfs_gates::Closed;
+use vfs_gates::GateError::{Again, IsDir, NoEntry, NoSpace};
+use vfs_gates::{Closed, Config, Gate, GateError, Op, Reply, Tree, WordName};
 
 /// How many nodes there are where threads meet.
 const NODES: u8 = 12;
@@ -36,6 +31,26 @@ fn is_whole(tree: &Tree) -> bool {
     tree.is_sound() && tree.is_clean() && is_clean && is_counted && blocks == tree.used()
 }
 
+/// Looks whether each snapshot is whole.
+#[derive(Drop)]
+struct Copying;
+
+impl FileSystem for Copying {
+    fn looks(
+        &self,
+        _task: u8,
+        op: Op,
+        _answer: Result<Reply, GateError>,
+        tree: Option<&Tree>,
+    ) -> bool {
+        match (op, tree) {
+            (Op::Snapshot { .. }, Some(tree)) => is_whole(tree),
+            (Op::Snapshot { .. }, None) => false,
+            _ => true,
+        }
+    }
+}
+
 /// The blocks of the files that stand in the end.
 fn blocks_left(closed: &Closed) -> u64 {
     let mut blocks = 0u64;
@@ -47,84 +62,65 @@ fn blocks_left(closed: &Closed) -> u64 {
     blocks
 }
 
-/// Creates a file, makes it larger, moves it, and removes it, but every third; where no node is free, removes some file. Says whether
-/// each call was answered as it may be.
-fn change_tree(task: &mut Task, gates: &Gates, round: u32) -> bool
-    requires { IsFrom task.old gates.now }
-    ensures { IsFrom task.new gates.now }
-{
-    match task.create(gates, 0, Kind::File) {
-        Ok(node) => {
-            let is_grown = has_grown_fairly(task.grow(gates, node, 1 + round % 3));
-            let is_moved = is_fair(task.move_to(gates, node, 1));
-            let is_gone = round % 3 == 0 || is_fair(task.remove(gates, node));
-            is_grown && is_moved && is_gone
-        }
-        Err(GateError::Again) => true,
-        Err(GateError::NoSpace) => is_fair(task.remove(gates, 2 + (round % 10) as u8)),
-        Err(_) => false,
-    }
-}
+/// The first task makes a directory, which is node 1.
+const OPENING: &[Row] = &[
+    Done("0 wantwrite 0 0"),
+    Done("0 create 0 dir"),
+    Done("0 dropwrite 0 0"),
+];
 
-/// Takes write access on one processor, changes the tree, and gives it back on the other.
-fn write<R: Wait>(task: &mut Task, rt: &R, gates: &Gates, cpu: u8, round: u32) -> bool
-    requires { IsFrom task.old gates.now }
-    ensures { IsFrom task.new gates.now }
-{
-    let is_inside = task.want_write(rt, gates, 0, cpu).is_ok();
-    let is_well = change_tree(task, gates, round);
-    is_inside && is_well && task.drop_write(gates, 0, cpu ^ 1).is_ok()
-}
+/// Then it takes snapshots.
+const BACKUPS: &[Row] = &[Done("0 freeze"), Done("0 snapshot"), Done("0 thaw")];
 
-/// Freezes, takes a snapshot and thaws. Says whether all was done, and the snapshot was whole.
-fn back_up<R: Wait>(task: &mut Task, rt: &R, gates: &Gates) -> bool
-    requires { IsFrom task.old gates.now }
-    ensures { IsFrom task.new gates.now }
-{
-    let is_frozen = freezes(task, rt, gates);
-    let is_taken = task.snapshot(rt, gates).is_ok();
-    let is_good = match task.tree() {
-        Some(tree) => is_whole(tree),
-        None => false,
-    };
-    let is_thawed = thaws(task, rt, gates);
-    thread::yield_now();
-    is_frozen && is_taken && is_good && is_thawed
-}
+/// Two write, each on a processor of its own. Each makes two files, makes them larger, moves them into the directory, and removes the one;
+/// and it removes some file, whoever made it.
+const WRITES: &[Row] = &[
+    Done("1 wantwrite 0 0"),
+    Either("1 create 0 file", NEXT, &[Again, NoSpace], NEXT),
+    Either("1 grow 100 1", NEXT, &[Again, NoEntry, NoSpace], NEXT),
+    Either("1 move 100 1", NEXT, &[Again, NoEntry], NEXT),
+    Done("1 dropwrite 0 1"),
+    Done("1 wantwrite 0 0"),
+    Either("1 create 0 file", NEXT, &[Again, NoSpace], NEXT),
+    Either("1 grow 100 2", NEXT, &[Again, NoEntry, NoSpace], NEXT),
+    Either("1 move 100 1", NEXT, &[Again, NoEntry], NEXT),
+    Either("1 remove 100", NEXT, &[Again, NoEntry], NEXT),
+    Either("1 remove 200", NEXT, &[Again, NoEntry, IsDir], NEXT),
+    Done("1 dropwrite 0 1"),
+];
 
-/// One who takes snapshots, and two who write, each on a processor of its own.
-struct Copying;
+const OTHER_WRITES: &[Row] = &[
+    Done("2 wantwrite 0 1"),
+    Either("2 create 0 file", NEXT, &[Again, NoSpace], NEXT),
+    Either("2 grow 100 3", NEXT, &[Again, NoEntry, NoSpace], NEXT),
+    Either("2 move 100 1", NEXT, &[Again, NoEntry], NEXT),
+    Done("2 dropwrite 0 0"),
+    Done("2 wantwrite 0 1"),
+    Either("2 create 0 file", NEXT, &[Again, NoSpace], NEXT),
+    Either("2 grow 100 1", NEXT, &[Again, NoEntry, NoSpace], NEXT),
+    Either("2 move 100 1", NEXT, &[Again, NoEntry], NEXT),
+    Either("2 remove 100", NEXT, &[Again, NoEntry], NEXT),
+    Either("2 remove 200", NEXT, &[Again, NoEntry, IsDir], NEXT),
+    Done("2 dropwrite 0 0"),
+];
 
-impl Crew for Copying {
-    fn round<R: Wait>(&self, task: &mut Task, rt: &R, gates: &Gates, round: u32) -> Ending {
-        Ending::of(match task.number() {
-            0 => back_up(task, rt, gates),
-            1 => write(task, rt, gates, 0, round),
-            _ => write(task, rt, gates, 1, round),
-        })
-    }
-
-    /// Makes a directory, which is node 1.
-    fn before<R: Wait>(&self, task: &mut Task, rt: &R, gates: &Gates) -> bool {
-        task.want_write(rt, gates, 0, 0).is_ok()
-            && task.create(gates, 0, Kind::Dir) == Ok(1)
-            && task.drop_write(gates, 0, 0).is_ok()
-    }
-}
+const CREW: Crew = Crew {
+    config: Config {
+        nodes: NODES,
+        capacity: 20,
+        ..FOUR
+    },
+    opening: OPENING,
+    rounds: [(BACKUPS, 50), (WRITES, 500), (OTHER_WRITES, 500), (&[], 1)],
+    left: Left {
+        gates: &[(Gate::Mount(0), Some(0)), (Gate::Level(1), Some(0))],
+        words: &[],
+    },
+};
 
 #[test]
 fn snapshots_beside_writers_are_whole(rt: HostRuntime) -> Result<(), Fail> {
-    let config = Config {
-        nodes: NODES,
-        capacity: 20,
-        ..small(3)
-    };
-    let wanted = [50, 1000, 1000, 0];
-    let met = meet(&rt, config, &Copying, wanted)?;
-    assert_eq!(rt; (met.done, met.wrong), (wanted, [0; 4]));
-    assert_eq!(rt;
-        met.closed.word(WordName::Used),
-        Some(blocks_left(&met.closed))
-    );
+    let closed = meet(&rt, &CREW, &Copying)?;
+    assert_eq!(rt; closed.word(WordName::Used), Some(blocks_left(&closed)));
     Ok(())
 }

@@ -1,5 +1,5 @@
 -- The task comes from the gates.
-use Rattle.gate_tests.specs.Origins.{IsFrom}
+use Rattle.vfs_gates.specs.TaskStates.{IsFrom}
 use Rattle.gate_tests.proofs.tests.decisions.back_up.Given as goal
 
 abbrev pub invariant-loop-level : goal.invariant-loop-level

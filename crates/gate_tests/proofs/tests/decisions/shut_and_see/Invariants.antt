@@ -1,5 +1,5 @@
 -- The task comes from the gates.
-use Rattle.gate_tests.specs.Origins.{IsFrom}
+use Rattle.vfs_gates.specs.TaskStates.{IsFrom}
 use Rattle.gate_tests.proofs.tests.decisions.shut_and_see.Given as goal
 
 abbrev pub invariant-loop : goal.invariant-loop

@@ -1,5 +1,0 @@
-use Rattle.gate_tests.specs.Origins.{IsFrom}
-use Rattle.gate_tests.proofs.tests.threads.opens.comes_back.Given as goal
-
-abbrev pub invariant-loop-round : goal.invariant-loop-round
-invariant-loop-round g l = IsFrom l.task l.gates
