@@ -1,6 +1,6 @@
 //! Each public call as its user makes it, by tasks of one thread.
 
-use super::cases::Deed::{Calls, Stands, StaysOpen, Steps, Tree};
+use super::cases::Deed::{Calls, Stands, Steps, Tree};
 use super::cases::{Case, Deed, all_hold};
 use super::two::{AT_REST, Stand};
 use super::{Left, SMALL};
@@ -48,7 +48,7 @@ const FILES: &[Deed] = &[
         "0 snapshot\n0 freeze\n0 snapshot\n0 thaw\n",
         "0 refused 22 Invalid\n0 ok\n0 ok used 5\n0 ok\n",
     ),
-    Tree(0, Some("node 1 dir 0 0 clean\nnode 2 file 0 5 clean\n")),
+    Tree(0, "node 1 dir 0 0 clean\nnode 2 file 0 5 clean\n"),
 ];
 
 /// Each try at a mount and each at a level is granted by either processor, to either task, also after a freeze, and each return on the other
@@ -109,7 +109,7 @@ const OPENS: &[Deed] = &[
         "0 freeze\n1 tryclose 1 0\n0 snapshot\n0 thaw\n1 start 3 0\n1 close 1 0\n1 tryclose 1 0\n1 end 3 0\n1 close 1 1\n",
         "0 ok\n1 refused 11 Again\n0 ok used 5\n0 ok\n1 ok\n1 refused 35 Order\n1 refused 35 Order\n1 ok\n1 ok\n",
     ),
-    Tree(0, Some("node 1 file 0 5 clean removed\n")),
+    Tree(0, "node 1 file 0 5 clean removed\n"),
     Calls(
         "1 remount ro\n1 remount rw\n1 wantwrite 0 0\n1 create 0 file\n1 open 1\n1 tryclose 1 0\n1 dropwrite 0 0\n",
         "1 ok\n1 ok\n1 ok\n1 ok node 1\n1 ok\n1 ok\n1 ok\n",
@@ -129,9 +129,9 @@ const KEPT_OPEN: &[Deed] = &[
             ..AT_REST
         },
     ),
-    StaysOpen,
-    Calls("0 tryclose 1 0\n", "0 ok\n"),
 ];
+
+const CLOSED_ONCE: &[Deed] = &[Calls("0 tryclose 1 0\n", "0 ok\n")];
 
 /// A task with a file open is not joined.
 const OPENED_TOO: &[Deed] = &[
@@ -147,9 +147,9 @@ const OPENED_TOO: &[Deed] = &[
             ..AT_REST
         },
     ),
-    StaysOpen,
-    Calls("1 close 1 0\n", "1 ok\n"),
 ];
+
+const CLOSED_TOO: &[Deed] = &[Calls("1 close 1 0\n", "1 ok\n")];
 
 /// Each call goes by steps: a remount, which is to be what is so already, takes `umount` and finds nothing frozen; meanwhile its task isn't
 /// joined, and a snapshot waits twice for `umount`, and tells so after each event. The remount finds its state, asks no hook, and ends. The
@@ -167,7 +167,9 @@ const BY_STEPS: &[Deed] = &[
             ..AT_REST
         },
     ),
-    StaysOpen,
+];
+
+const TO_THE_END: &[Deed] = &[
     Steps("0 snapshot\n", ""),
     Stands(
         0,
@@ -217,6 +219,7 @@ const CASES: &[Case] = &[
     Case {
         config: SMALL,
         deeds: ACCESSES,
+        stays_open: None,
         left: Some(Left {
             gates: &[
                 (Gate::Mount(0), Some(0)),
@@ -233,6 +236,7 @@ const CASES: &[Case] = &[
     Case {
         config: Config { nodes: 4, ..SMALL },
         deeds: FILES,
+        stays_open: None,
         left: Some(Left {
             gates: &[],
             words: &[(WordName::Used, Some(5))],
@@ -241,6 +245,7 @@ const CASES: &[Case] = &[
     Case {
         config: Config { mounts: 2, ..SMALL },
         deeds: TRIES,
+        stays_open: None,
         left: Some(Left {
             gates: &[],
             words: &[],
@@ -249,6 +254,7 @@ const CASES: &[Case] = &[
     Case {
         config: SMALL,
         deeds: HOLDERS,
+        stays_open: None,
         left: Some(Left {
             gates: &[],
             words: &[(WordName::Holders, Some(0))],
@@ -257,6 +263,7 @@ const CASES: &[Case] = &[
     Case {
         config: SMALL,
         deeds: OPENS,
+        stays_open: None,
         left: Some(Left {
             gates: &[],
             words: &[(WordName::Removed, Some(0)), (WordName::Used, Some(0))],
@@ -265,6 +272,7 @@ const CASES: &[Case] = &[
     Case {
         config: SMALL,
         deeds: KEPT_OPEN,
+        stays_open: Some(CLOSED_ONCE),
         left: Some(Left {
             gates: &[],
             words: &[(WordName::Used, Some(5))],
@@ -273,6 +281,7 @@ const CASES: &[Case] = &[
     Case {
         config: SMALL,
         deeds: OPENED_TOO,
+        stays_open: Some(CLOSED_TOO),
         left: Some(Left {
             gates: &[],
             words: &[(WordName::Used, Some(0))],
@@ -281,6 +290,7 @@ const CASES: &[Case] = &[
     Case {
         config: SMALL,
         deeds: BY_STEPS,
+        stays_open: Some(TO_THE_END),
         left: Some(Left {
             gates: &[],
             words: &[],

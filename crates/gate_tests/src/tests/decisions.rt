@@ -3,7 +3,7 @@
 ghost use Rattle.vfs_gates.specs.TaskStates.{IsFrom};
 
 use super::SMALL;
-use super::cases::Deed::{Calls, Decides, Tree};
+use super::cases::Deed::{Calls, Decides, Fails, NoTree, Tree};
 use super::cases::{Case, Deed, all_hold};
 use crossbeam_utils::Backoff;
 use std::sync::Wait;
@@ -171,16 +171,12 @@ pub fn decide<R: Wait, H: FsHooks>(
 /// that is thawed.
 const REMOUNTS: &[Deed] = &[
     Calls("1 want 0 1\n", "1 ok\n"),
-    Decides(Decision::Shut, None, Err(GateError::Busy)),
-    Decides(
-        Decision::ShutAndSee,
-        None,
-        Ok(Some(WordName::MountCount(0, 1))),
-    ),
+    Decides(Decision::Shut, Err(GateError::Busy)),
+    Decides(Decision::ShutAndSee, Ok(Some(WordName::MountCount(0, 1)))),
     Calls("1 drop 0 0\n1 freeze\n", "1 ok\n1 ok\n"),
-    Decides(Decision::ShutAndSee, None, Ok(Some(WordName::Stage))),
+    Decides(Decision::ShutAndSee, Ok(Some(WordName::Stage))),
     Calls("1 thaw\n", "1 ok\n"),
-    Decides(Decision::Shut, None, Ok(None)),
+    Decides(Decision::Shut, Ok(None)),
     Calls("1 trywant 0 0\n", "1 refused 30 ReadOnly\n"),
 ];
 
@@ -188,55 +184,60 @@ const REMOUNTS: &[Deed] = &[
 /// there, and one has run by then. What another task has frozen is taken as it is, and left frozen.
 const BACKUPS: &[Deed] = &[
     Calls("1 freeze\n1 thaw\n", "1 ok\n1 ok\n"),
-    Decides(
+    Fails(
         Decision::BackUp,
-        Some((HookCall::FreezeFs, 16)),
-        Err(GateError::Hook(16)),
+        HookCall::FreezeFs,
+        16,
+        GateError::Hook(16),
     ),
-    Tree(0, None),
+    NoTree(0),
     Calls(
         "0 callback 1\n0 callback 1\n1 freeze\n",
         "0 ok ran\n0 ok none\n1 ok\n",
     ),
-    Decides(Decision::BackUp, None, Ok(None)),
-    Tree(0, Some("")),
+    Decides(Decision::BackUp, Ok(None)),
+    Tree(0, ""),
     Calls("0 trystart 1 0\n1 thaw\n", "0 refused 11 Again\n1 ok\n"),
 ];
 
 /// A backup by its own freeze leaves nothing frozen.
 const OWN: &[Deed] = &[
-    Decides(Decision::BackUp, None, Ok(None)),
-    Tree(0, Some("")),
+    Decides(Decision::BackUp, Ok(None)),
+    Tree(0, ""),
     Calls("0 thaw\n1 trystart 1 0\n", "0 refused 22 Invalid\n1 ok\n"),
 ];
 
 /// A snapshot that finds nothing frozen is taken of a freeze of its own.
 const SNAPSHOTS: &[Deed] = &[
     Calls("0 snapshot\n", "0 refused 22 Invalid\n"),
-    Tree(0, None),
-    Decides(Decision::Take, None, Ok(None)),
-    Tree(0, Some("")),
+    NoTree(0),
+    Decides(Decision::Take, Ok(None)),
+    Tree(0, ""),
 ];
 
 const CASES: &[Case] = &[
     Case {
         config: SMALL,
         deeds: REMOUNTS,
+        stays_open: None,
         left: None,
     },
     Case {
         config: SMALL,
         deeds: BACKUPS,
+        stays_open: None,
         left: None,
     },
     Case {
         config: SMALL,
         deeds: OWN,
+        stays_open: None,
         left: None,
     },
     Case {
         config: SMALL,
         deeds: SNAPSHOTS,
+        stays_open: None,
         left: None,
     },
 ];

@@ -6,7 +6,7 @@ use super::cases::Deed::{Calls, Failing};
 use super::cases::{Case, Deed, all_hold};
 use std::sync::atomic::{AtomicU64, Ordering};
 use std::test::Fail;
-use vfs_gates::{FsHooks, GateError, HookCall, Op, Reply, Tree};
+use vfs_gates::{Closed, FsHooks, GateError, HookCall, Op, Reply, Tree};
 
 /// A file system, which threads may share.
 pub(super) trait FileSystem: Drop {
@@ -23,6 +23,11 @@ pub(super) trait FileSystem: Drop {
         _answer: Result<Reply, GateError>,
         _tree: Option<&Tree>,
     ) -> bool {
+        true
+    }
+
+    /// The same of all that is left in the end.
+    fn is_left(&self, _closed: &Closed) -> bool {
         true
     }
 }
@@ -59,20 +64,34 @@ impl<F: FileSystem> FsHooks for Hooks<'_, F> {
 #[derive(Drop)]
 pub(super) struct FailsAt {
     question: Option<(HookCall, u16)>,
+    /// How often it is to be asked, where that matters.
+    wanted: Option<u64>,
     asked: AtomicU64,
 }
 
 impl FailsAt {
-    pub(super) fn at(question: Option<(HookCall, u16)>) -> FailsAt {
+    pub(super) fn never() -> FailsAt {
         FailsAt {
-            question,
+            question: None,
+            wanted: None,
             asked: AtomicU64::new(0),
         }
     }
 
-    /// Whether it was asked so often.
-    pub(super) fn is_asked(&self, times: u64) -> bool {
-        self.asked.load(Ordering::SeqCst) == times
+    pub(super) fn at(question: HookCall, code: u16, wanted: Option<u64>) -> FailsAt {
+        FailsAt {
+            question: Some((question, code)),
+            wanted,
+            asked: AtomicU64::new(0),
+        }
+    }
+
+    /// Whether it was asked as often as it is to be.
+    pub(super) fn is_content(&self) -> bool {
+        match self.wanted {
+            Some(wanted) => self.asked.load(Ordering::SeqCst) == wanted,
+            None => true,
+        }
     }
 }
 
@@ -197,11 +216,13 @@ const CASES: &[Case] = &[
     Case {
         config: SMALL,
         deeds: FAILURES,
+        stays_open: None,
         left: None,
     },
     Case {
         config: SMALL,
         deeds: UNASKED,
+        stays_open: None,
         left: None,
     },
 ];

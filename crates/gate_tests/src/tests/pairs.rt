@@ -2,8 +2,10 @@
 
 ghost use Rattle.vfs_gates.specs.TaskStates.{IsFrom, IsIdle};
 
-use super::SMALL;
-use std::alloc::Global;
+use super::cases::Deed::{Pairs, Shows};
+use super::cases::{Case, Deed, all_hold};
+use super::{Left, SMALL};
+use std::alloc::{AllocError, Global};
 use std::fmt::Debug;
 use std::sync::Wait;
 use std::test::Fail;
@@ -52,37 +54,42 @@ fn shows_its_tree<R: Wait>(task: &mut Task, rt: &R, gates: &Gates) -> bool
     frozen && shown && thawed && task.snapshot_tree(rt, gates).is_err()
 }
 
+/// Whether all of it is so.
+pub fn gives_back<R: Wait>(task: &mut Task, rt: &R, gates: &Gates) -> bool
+    requires { IsFrom task.old gates.now }
+    ensures { IsFrom task.new gates.now }
+{
+    writes_inside(task, rt, gates)
+        && copies_inside(task, rt, gates)
+        && shows_its_tree(task, rt, gates)
+}
+
+/// Whether a value shows itself so, to begin with.
+pub fn shows<D: Debug>(alloc: Global, shown: &D, beginning: &str) -> Result<bool, AllocError> {
+    let text = format!(in alloc; "{shown:?}")?;
+    Ok(text.starts_with(beginning))
+}
+
+/// Two tasks at rest, before and after the first one's pairs of calls.
+const PAIRS: &[Deed] = &[
+    Shows(
+        "Task { number: 0, under_way: false, accesses: Accesses { ",
+        "Gates { config: Config { tasks: 2",
+    ),
+    Pairs,
+];
+
+const CASES: &[Case] = &[Case {
+    config: SMALL,
+    deeds: PAIRS,
+    stays_open: None,
+    left: Some(Left {
+        gates: &[],
+        words: &[],
+    }),
+}];
+
 #[test]
 fn what_is_taken_for_a_closure_is_given_back(rt: HostRuntime) -> Result<(), Fail> {
-    let (gates, mut task) = Gates::new(rt.alloc(), SMALL)?;
-    let is_well = writes_inside(&mut task, &rt, &gates)
-        && copies_inside(&mut task, &rt, &gates)
-        && shows_its_tree(&mut task, &rt, &gates);
-    assert!(rt; is_well && gates.close(task).is_ok());
-    Ok(())
-}
-
-/// That a value shows itself so, to begin with.
-fn shows<D: Debug>(alloc: Global, shown: &D, beginning: &str) -> Result<(), Fail> {
-    let text = format!(in alloc; "{shown:?}")?;
-    if text.starts_with(beginning) {
-        Ok(())
-    } else {
-        Err(Fail::new(beginning))
-    }
-}
-
-#[test]
-fn gates_and_tasks_show_themselves(rt: HostRuntime) -> Result<(), Fail> {
-    let (gates, task) = Gates::new(rt.alloc(), SMALL)?;
-    shows(
-        rt.alloc(),
-        &task,
-        "Task { number: 0, under_way: false, accesses: Accesses { ",
-    )?;
-    shows(rt.alloc(), &gates, "Gates { config: Config { tasks: 2")?;
-    match gates.close(task) {
-        Ok(closed) => shows(rt.alloc(), &closed, "Closed { config: Config { tasks: 2"),
-        Err(_) => Err(Fail::new("not closed")),
-    }
+    all_hold(&rt, CASES)
 }

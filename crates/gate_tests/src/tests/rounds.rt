@@ -9,12 +9,15 @@ use std::sync::Wait;
 use std::thread;
 use vfs_gates::{GateError, Gates, Op, Reply, Task};
 
-/// What comes after an answer: the rest of the round but for so many lines, and whether the round is then one of those that are wanted.
+/// What comes after an answer.
 #[derive(Clone, Copy)]
 pub enum Then {
+    /// The rest of the round but for so many lines.
     Skips(u8),
-    /// The round isn't.
+    /// The same, and the round isn't one of those that are wanted.
     Misses(u8),
+    /// The same line again.
+    Repeats,
 }
 
 /// The next line.
@@ -25,6 +28,12 @@ pub const ENDS: Then = Then::Skips(u8::MAX);
 
 /// The same of a round that isn't wanted.
 pub const FAILS: Then = Then::Misses(u8::MAX);
+
+impl Then {
+    fn only_if(self, is_so: bool) -> Option<Then> {
+        if is_so { Some(self) } else { None }
+    }
+}
 
 /// A line of a round: a call, as a schedule has it, and how it ends. In it node 100 stands for the file that the task made last, and node 200
 /// for another one in each round.
@@ -49,25 +58,25 @@ impl Row {
         }
     }
 
-    /// What comes after an answer that the call may have.
-    fn then(&self, answer: Result<Reply, GateError>) -> Option<Then> {
-        let refusal = answer.err();
-        match (self, refusal) {
-            (Row::Done(_) | Row::AtLast(_, _, _), None) => Some(NEXT),
-            (Row::Refused(_, wanted), Some(refusal)) if *wanted == refusal => Some(NEXT),
-            (Row::Either(_, then, _, _), None) => Some(*then),
-            (Row::Either(_, _, all, then), Some(refusal)) if all.contains(&refusal) => Some(*then),
-            (Row::AtLast(_, _, all), Some(refusal)) if all.contains(&refusal) => Some(NEXT),
-            _ => None,
+    /// What comes after the call was done; None where it can't be.
+    fn done(&self) -> Option<Then> {
+        match self {
+            Row::Done(_) | Row::AtLast(_, _, _) => Some(NEXT),
+            Row::Either(_, then, _, _) => Some(*then),
+            Row::Refused(_, _) => None,
         }
     }
 
-    /// Whether the call is made again after this answer.
-    fn repeats(&self, answer: Result<Reply, GateError>) -> bool {
-        match self {
-            Row::AtLast(_, again, _) => answer.err() == Some(*again),
-            _ => false,
-        }
+    /// What comes after it was refused; None where it can't be refused so.
+    fn refused(&self, refusal: GateError) -> Option<Then> {
+        let (all, then) = match self {
+            Row::Done(_) => return None,
+            Row::Refused(_, wanted) => return NEXT.only_if(*wanted == refusal),
+            Row::AtLast(_, again, _) if *again == refusal => return Some(Then::Repeats),
+            Row::AtLast(_, _, all) => (*all, NEXT),
+            Row::Either(_, _, all, then) => (*all, *then),
+        };
+        then.only_if(all.contains(&refusal))
     }
 }
 
@@ -127,7 +136,8 @@ impl Round {
     }
 }
 
-/// Makes the call of a line, if it is this task's, and lets the file system look. Says whether all was as it should be beside the answer.
+/// Makes the call of a line, and lets the file system look. Says whether the line was this task's, and all was as it should be, whatever the
+/// answer.
 fn make<R: Wait, F: FileSystem>(
     task: &mut Task,
     rt: &R,
@@ -169,11 +179,12 @@ fn do_row<R: Wait, F: FileSystem>(
         if !is_well {
             round.note_wrong(line);
         }
-        if row.repeats(answer) {
-            thread::yield_now();
-            continue;
-        }
-        match row.then(answer) {
+        let then = match answer {
+            Ok(_) => row.done(),
+            Err(refusal) => row.refused(refusal),
+        };
+        match then {
+            Some(Then::Repeats) => thread::yield_now(),
             Some(Then::Skips(count)) => return count,
             Some(Then::Misses(count)) => {
                 round.is_wanted = false;
@@ -216,11 +227,10 @@ pub struct Part {
     pub files: u8,
 }
 
-/// A task after its rounds: how many were as wanted, and the first line at which something was wrong.
+/// A task after its rounds, and what was wrong: the first line at which something was, or that too few rounds were as wanted.
 #[derive(Drop)]
 pub struct Worked {
     pub task: Task,
-    pub done: u16,
     pub wrong: Option<&'static str>,
 }
 
@@ -256,6 +266,9 @@ pub fn work<R: Wait, F: FileSystem>(
         done = done.saturating_add(u16::from(round.is_wanted));
         thread::yield_now();
     }
-    let wrong = round.wrong;
-    Worked { task, done, wrong }
+    let wrong = match round.wrong {
+        None if done != part.wanted => Some("too few rounds"),
+        wrong => wrong,
+    };
+    Worked { task, wrong }
 }

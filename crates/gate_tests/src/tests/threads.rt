@@ -26,20 +26,23 @@ use vfs_gates::{Closed, Config, GateError, Gates, Task, WordName};
 /// Four tasks at gates that are otherwise small.
 const FOUR: Config = Config { tasks: 4, ..SMALL };
 
+/// The lines of a round, and how many rounds are to be as wanted.
+type Turns = (&'static [Row], u16);
+
 /// What tasks do beside one another.
 struct Crew {
     config: Config,
     /// What the first task does before all rounds.
     opening: &'static [Row],
     /// What each task does in a round, and how many of its rounds are to be as wanted.
-    rounds: [(&'static [Row], u16); 4],
+    rounds: (Turns, Turns, Turns, Turns),
     /// What all of it leaves.
     left: Left,
 }
 
 impl Crew {
     /// What a task is to do.
-    fn part(&self, (rows, wanted): (&'static [Row], u16)) -> Part {
+    fn part(&self, (rows, wanted): Turns) -> Part {
         Part {
             rows,
             wanted,
@@ -80,33 +83,28 @@ fn work_beside<R: Wait + Threads + Sync, F: FileSystem + Sync>(
     )
 }
 
-/// Takes a task's numbers back, and says how many of its rounds were done, and what was wrong.
-fn take_back(task: &mut Task, gates: &Gates, other: Worked) -> (u16, Option<&'static str>)
+/// Takes a task's numbers back, and says what was wrong.
+fn take_back(task: &mut Task, gates: &Gates, other: Worked) -> Option<&'static str>
     requires { IsFrom task.old gates.now × IsFrom other.task gates.now }
     ensures { IsFrom task.new gates.now }
 {
-    let Worked {
-        task: other,
-        done,
-        wrong,
-    } = other;
-    match task.join(gates, other) {
-        Ok(()) => (done, wrong),
-        Err(_) => (done, Some("not joined")),
+    match task.join(gates, other.task) {
+        Ok(()) => other.wrong,
+        Err(_) => Some("not joined"),
     }
 }
 
 /// The rounds of four tasks, each in a thread, until each has done as many as are wanted. The first has all others' numbers again then, and
-/// with it come how many each has done, and what was wrong.
+/// with it comes what was wrong.
 fn work_all<R: Wait + Threads + Sync, F: FileSystem + Sync>(
     tasks: (Task, Task, Task, Task),
     rt: &R,
     gates: &Gates,
     file_system: &F,
     parts: [Part; 4],
-) -> (Task, [(u16, Option<&'static str>); 4])
+) -> Worked
     requires { IsFrom tasks.0 gates.now × IsFrom tasks.1 gates.now × IsFrom tasks.2 gates.now × IsFrom tasks.3 gates.now }
-    ensures { IsFrom result.0 gates.now }
+    ensures { IsFrom result.task gates.now }
 {
     let (one, two, three, four) = tasks;
     let [first, second, third, fourth] = parts;
@@ -119,59 +117,63 @@ fn work_all<R: Wait + Threads + Sync, F: FileSystem + Sync>(
             requires { IsSync R.row × IsSync F.row × IsFrom two gates.now × IsFrom three gates.now }
         { work_beside(two, three, rt, gates, file_system, (second, third)) },
     );
-    let Worked {
-        mut task,
-        done,
-        wrong,
-    } = one;
+    let Worked { mut task, wrong } = one;
     let second = take_back(&mut task, gates, two);
     let third = take_back(&mut task, gates, three);
     let fourth = take_back(&mut task, gates, four);
-    (task, [(done, wrong), second, third, fourth])
+    let wrong = wrong.or(second).or(third).or(fourth);
+    Worked { task, wrong }
 }
 
-/// That a task has done as many rounds as are wanted, and nothing was wrong.
-fn expect_done(worked: (u16, Option<&'static str>), wanted: u16) -> Result<(), Fail> {
-    match worked {
-        (_, Some(line)) => Err(Fail::new(format_args!("wrong at {line:?}"))),
-        (done, None) if done != wanted => {
-            Err(Fail::new(format_args!("{done} rounds in the place of {wanted}")))
-        }
-        _ => Ok(()),
-    }
-}
-
-/// A crew meets at gates of its own, and does all its rounds. The gates, closed, hold what the crew is to leave.
-fn meet<R: Wait + Threads + Sync + Alloc<A = Global>, F: FileSystem + Sync>(
+/// The opening, and then the rounds of all tasks.
+fn play<R: Wait + Threads + Sync + Alloc<A = Global>, F: FileSystem + Sync>(
+    task: Task,
     rt: &R,
+    gates: &Gates,
     crew: &Crew,
     file_system: &F,
-) -> Result<Closed, Fail> {
-    let (gates, task) = Gates::new(rt.alloc(), crew.config)?;
+) -> Worked
+    requires { IsFrom task gates.now }
+    ensures { IsFrom result.task gates.now }
+{
     let opening = crew.part((crew.opening, 1));
-    let Worked {
-        mut task,
-        done,
-        wrong,
-    } = work(task, rt, &gates, &(), opening);
-    let (two, three, four) = split(&mut task, rt.alloc(), &gates)?;
-    let [first, second, third, fourth] = crew.rounds;
+    let Worked { mut task, wrong } = work(task, rt, gates, &(), opening);
+    let (two, three, four) = match split(&mut task, rt.alloc(), gates) {
+        Ok(others) if wrong.is_none() => others,
+        _ => {
+            let wrong = wrong.or(Some("not split"));
+            return Worked { task, wrong };
+        }
+    };
+    let (first, second, third, fourth) = crew.rounds;
     let parts = [
         crew.part(first),
         crew.part(second),
         crew.part(third),
         crew.part(fourth),
     ];
-    let (task, worked) = work_all((task, two, three, four), rt, &gates, file_system, parts);
+    work_all((task, two, three, four), rt, gates, file_system, parts)
+}
+
+/// A crew meets at gates of its own, and does all its rounds. That it goes well, and leaves what it is to leave.
+fn meet<R: Wait + Threads + Sync + Alloc<A = Global>, F: FileSystem + Sync>(
+    rt: &R,
+    crew: &Crew,
+    file_system: &F,
+) -> Result<(), Fail> {
+    let (gates, task) = Gates::new(rt.alloc(), crew.config)?;
+    let Worked { task, wrong } = play(task, rt, &gates, crew, file_system);
     let Ok(closed) = gates.close(task) else {
         return Err(Fail::new("not closed"));
     };
-    expect_done((done, wrong), 1)?;
-    for (worked, part) in worked.iter().zip(parts.iter()) {
-        expect_done(*worked, part.wanted)?;
+    if let Some(line) = wrong {
+        return Err(Fail::new(line));
     }
-    crew.left.expect(&closed)?;
-    Ok(closed)
+    if crew.left.is_of(&closed) && file_system.is_left(&closed) {
+        Ok(())
+    } else {
+        Err(Fail::new("left otherwise"))
+    }
 }
 
 /// The file or directory at a node.

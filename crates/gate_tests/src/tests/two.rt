@@ -4,10 +4,10 @@ ghost use Rattle.std.specs.Option.{ForSome};
 ghost use Rattle.vfs_gates.specs.TaskStates.{IsFrom};
 
 use super::decisions::{Decision, decide};
+use super::pairs::{gives_back, shows};
 use super::tasks::call;
-use std::alloc::Global;
+use std::alloc::{AllocError, Global};
 use std::sync::Wait;
-use std::test::Fail;
 use vfs_gates::{
     Closed, Config, FsHooks, GateError, Gates, HookKind, Op, Reply, Step, Task, Tree, WordName,
 };
@@ -132,6 +132,16 @@ impl Two {
         decide(&mut self.one, rt, &self.gates, decision, hooks)
     }
 
+    /// Whether the first task has given back what it took for closures.
+    pub fn gives_back<R: Wait>(&mut self, rt: &R) -> bool {
+        gives_back(&mut self.one, rt, &self.gates)
+    }
+
+    /// Whether the first task and the gates show themselves so, to begin with.
+    pub fn shows(&self, alloc: Global, task: &str, gates: &str) -> Result<bool, AllocError> {
+        Ok(shows(alloc, &self.one, task)? && shows(alloc, &self.gates, gates)?)
+    }
+
     /// Drops the second task. The first one has no number to split off then: why not.
     pub fn lose(&mut self, alloc: Global) -> Option<GateError> {
         self.other = None;
@@ -158,21 +168,5 @@ impl Two {
                 Err((refusal, Two { gates, one, other }))
             }
         }
-    }
-}
-
-/// The gates, closed.
-pub fn closed(two: Two) -> Result<Closed, Fail> {
-    match two.close() {
-        Ok(closed) => Ok(closed),
-        Err(_) => Err(Fail::new("not closed")),
-    }
-}
-
-/// Both tasks and the gates, where these can't be closed, as that would be out of order.
-pub fn not_closed(two: Two) -> Result<Two, Fail> {
-    match two.close() {
-        Err((GateError::Order, two)) => Ok(two),
-        _ => Err(Fail::new("closed, or refused otherwise")),
     }
 }

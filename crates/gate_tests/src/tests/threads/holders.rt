@@ -108,10 +108,10 @@ const REMOUNTS: &[Row] = &[
     Done("3 dropwrite 0 0"),
 ];
 
-const CREW: Crew = Crew {
+static CREW: Crew = Crew {
     config: Config { nodes: 6, ..FOUR },
     opening: &[],
-    rounds: [(KERNEL, 100), (USER, 100), (WRITES, 1000), (REMOUNTS, 500)],
+    rounds: ((KERNEL, 100), (USER, 100), (WRITES, 1000), (REMOUNTS, 500)),
     left: Left {
         gates: &[],
         words: &[(WordName::Holders, Some(0)), (WordName::Stage, Some(0))],
@@ -125,6 +125,5 @@ fn no_snapshot_is_of_an_open_file_system(rt: HostRuntime) -> Result<(), Fail> {
         kernel: AtomicU64::new(0),
         user: AtomicU64::new(0),
     };
-    meet(&rt, &CREW, &holders)?;
-    Ok(())
+    meet(&rt, &CREW, &holders)
 }

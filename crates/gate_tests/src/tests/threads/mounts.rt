@@ -26,10 +26,10 @@ const OTHER_WANTS: &[Row] = &[
     Done("2 drop 0 0"),
 ];
 
-const CREW: Crew = Crew {
+static CREW: Crew = Crew {
     config: FOUR,
     opening: &[],
-    rounds: [(CHANGES, 50), (WANTS, 300), (OTHER_WANTS, 300), (&[], 1)],
+    rounds: ((CHANGES, 50), (WANTS, 300), (OTHER_WANTS, 300), (&[], 1)),
     left: Left {
         gates: &[(Gate::Mount(0), Some(0))],
         words: &[(WordName::MountFlags(0), Some(0))],
@@ -38,6 +38,5 @@ const CREW: Crew = Crew {
 
 #[test]
 fn a_change_keeps_its_own_thread_out(rt: HostRuntime) -> Result<(), Fail> {
-    meet(&rt, &CREW, &())?;
-    Ok(())
+    meet(&rt, &CREW, &())
 }

@@ -33,6 +33,22 @@ fn removed_files(tree: &Tree) -> Option<u64> {
     }
 }
 
+/// Whether no file is open or removed, and the blocks charged are those of the files.
+fn has_no_open_file(closed: &Closed) -> bool {
+    let mut blocks = 0u64;
+    let mut is_shut = true;
+    for node in 1..NODES {
+        match file_at(closed, node) {
+            Some(file) => {
+                blocks = blocks.wrapping_add(u64::from(file.size));
+                is_shut = is_shut && file.opens == 0 && !file.removed;
+            }
+            None => is_shut = false,
+        }
+    }
+    is_shut && closed.word(WordName::Used) == Some(blocks)
+}
+
 /// Looks whether each snapshot is whole, and had no removed file where a try afterwards finds the superblock read-only.
 #[derive(Drop)]
 struct Removing;
@@ -55,22 +71,10 @@ impl FileSystem for Removing {
             _ => true,
         }
     }
-}
 
-/// Whether no file is open or removed, and the blocks charged are those of the files.
-fn has_no_open_file(closed: &Closed) -> bool {
-    let mut blocks = 0u64;
-    let mut is_shut = true;
-    for node in 1..NODES {
-        match file_at(closed, node) {
-            Some(file) => {
-                blocks = blocks.wrapping_add(u64::from(file.size));
-                is_shut = is_shut && file.opens == 0 && !file.removed;
-            }
-            None => is_shut = false,
-        }
+    fn is_left(&self, closed: &Closed) -> bool {
+        has_no_open_file(closed)
     }
-    is_shut && closed.word(WordName::Used) == Some(blocks)
 }
 
 /// One freezes, takes a snapshot, and looks whether the superblock is read-only.
@@ -130,18 +134,18 @@ const REMOUNTS: &[Row] = &[
     AtLast("3 remount rw", Busy, &[]),
 ];
 
-const CREW: Crew = Crew {
+static CREW: Crew = Crew {
     config: Config {
         nodes: NODES,
         ..FOUR
     },
     opening: &[],
-    rounds: [
+    rounds: (
         (BACKUPS, 50),
         (WRITES, 500),
         (OTHER_WRITES, 500),
         (REMOUNTS, 30),
-    ],
+    ),
     left: Left {
         gates: &[
             (Gate::Mount(0), Some(0)),
@@ -155,7 +159,5 @@ const CREW: Crew = Crew {
 
 #[test]
 fn no_removed_file_is_left_open(rt: HostRuntime) -> Result<(), Fail> {
-    let closed = meet(&rt, &CREW, &Removing)?;
-    assert!(rt; has_no_open_file(&closed));
-    Ok(())
+    meet(&rt, &CREW, &Removing)
 }

@@ -74,10 +74,10 @@ const OTHER_WANTS: &[Row] = &[
     Done("2 drop 2 0"),
 ];
 
-const CREW: Crew = Crew {
+static CREW: Crew = Crew {
     config: Config { mounts: 3, ..FOUR },
     opening: &[],
-    rounds: [(REMOUNTS, 50), (WANTS, 300), (OTHER_WANTS, 300), (&[], 1)],
+    rounds: ((REMOUNTS, 50), (WANTS, 300), (OTHER_WANTS, 300), (&[], 1)),
     left: Left {
         gates: &[
             (Gate::Mount(0), Some(0)),
@@ -94,6 +94,5 @@ fn a_remount_keeps_its_own_thread_out(rt: HostRuntime) -> Result<(), Fail> {
         asked: AtomicU64::new(0),
         is_read_only: AtomicBool::new(false),
     };
-    meet(&rt, &CREW, &file_system)?;
-    Ok(())
+    meet(&rt, &CREW, &file_system)
 }

@@ -1,5 +1,5 @@
 -- A create and a grow take nothing, so they leave the task as it was.
-use Rattle.std.proofs.Common.{rules, of_calls, true, refl, sym, subst}
+use Rattle.std.proofs.Common.{rules, of_calls, refl, sym, subst}
 use Rattle.access_model.specs.declared.actions.Kind.TheVariants.{File}
 use Rattle.vfs_gates.specs.Op.TheVariants.{Create, Grow}
 use Rattle.vfs_gates.specs.Runs.{Replies, node_of, unit_of}
