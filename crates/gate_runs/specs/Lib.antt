@@ -1,6 +1,1 @@
-pub mod Meetings
-pub mod Counts
-pub mod Rounds
-pub mod Refusals
-pub mod Parts
-pub mod Plans
+pub mod Told

@@ -2,10 +2,7 @@
 //! closed. It needs public calls alone, and stands in a crate of its own so that what needs no runs does not wait for their proof.
 #![tactic(auto)]
 
-mod counts;
-mod meetings;
 mod runs;
 
-pub use counts::{Copies, Details, Sizes, Writes};
-pub use meetings::{Meeting, Watch};
-pub use runs::{Plan, Totals, run_plan, run_with};
+pub use run_parts::{Copies, Details, Meeting, Plan, Sizes, Watch, Writes};
+pub use runs::{Totals, run_plan, run_with};

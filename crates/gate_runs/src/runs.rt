@@ -1,29 +1,23 @@
 //! A run: writers, a remounter and a backup, each in a thread of its own.
 
-ghost use Rattle.std.specs.Prelude.{◌≡◌, ◌≤◌, ◌-◌, ◌*◌, IfErr, IfOk, OnOk};
+ghost use Rattle.std.specs.Prelude.{◌≡◌, IfErr, IfOk, OnOk};
 ghost use Rattle.access_model.specs.declared.errors.GateError.TheVariants.{Invalid, Order};
 ghost use Rattle.vfs_gates.specs.Ended.{EndedWith};
 ghost use Rattle.vfs_gates.specs.TaskStates.{IsFrom};
-ghost use Rattle.gate_runs.specs.declared.counts.Details.{Details as DetailsType};
-ghost use Rattle.gate_runs.specs.Meetings.{unseen};
-ghost use Rattle.gate_runs.specs.Plans.{MayRun, TellsRun, run_config};
-ghost use Rattle.gate_runs.specs.Refusals.{RunRefused};
-ghost use Rattle.gate_runs.specs.Rounds.{processor_of};
+ghost use Rattle.run_parts.specs.declared.counts.Details.{Details as DetailsType};
+ghost use Rattle.run_parts.specs.Meetings.{unseen};
+ghost use Rattle.gate_runs.specs.Told.{TellsRun};
+ghost use Rattle.run_parts.specs.Plans.{MayRun, run_config};
+ghost use Rattle.run_parts.specs.Refusals.{RunRefused};
 
-mod threads;
-mod workers;
-
-use crate::counts::Details;
-use crate::meetings::{Meeting, Watch};
 use access_model::{Gate, GateError};
 use cpu_words::WordName;
-use gate_world::Config;
+use run_parts::{Details, MOUNT, Meeting, Plan, Watch};
+use run_threads::in_threads;
 use std::alloc::Global;
 use std::sync::Wait;
 use std::thread::Threads;
-use threads::in_threads;
 use vfs_gates::{Closed, Gates, Task};
-use workers::{FIRST_WRITER, MOUNT};
 
 /// What a run has done.
 #[derive(Clone, Copy, PartialEq, Eq, Debug)]
@@ -38,69 +32,6 @@ pub struct Totals {
     pub remounts: u64,
     /// The wrapping sum of all count words in the end: the accesses that were never given back.
     pub held: u64,
-}
-
-/// What a run is asked for, within its limits: 3 to 64 tasks, 1 to 64 processors, 1 to 10,000 rounds, and at most 1,000 freezes.
-#[derive(Clone, Copy)]
-pub struct Plan {
-    tasks: u8,
-    processors: u8,
-    rounds: u32,
-    freezes: u32,
-    ghost within: { MayRun tasks processors rounds freezes },
-}
-
-impl Plan {
-    /// Invalid just where a number is out of its limits, and never refused else.
-    pub fn new(tasks: u8, processors: u8, rounds: u32, freezes: u32) -> Result<Plan, GateError>
-        ensures asked { IfOk result
-            (λ p. (p.tasks ≡ tasks) × (p.processors ≡ processors) × (p.rounds ≡ rounds) × (p.freezes ≡ freezes)) }
-        ensures within { OnOk result (MayRun tasks processors rounds freezes) }
-        ensures refused { IfErr result (λ e. (e ≡ Invalid) × ¬ MayRun tasks processors rounds freezes) }
-    {
-        if (3..=64).contains(&tasks)
-            && (1..=64).contains(&processors)
-            && (1..=10_000).contains(&rounds)
-            && freezes <= 1_000
-        {
-            Ok(Plan {
-                tasks,
-                processors,
-                rounds,
-                freezes,
-            })
-        } else {
-            Err(GateError::Invalid)
-        }
-    }
-
-    /// How many of its tasks write.
-    fn writers(self) -> u8
-        ensures { result ≡ self.tasks - 2 }
-    {
-        self.tasks - FIRST_WRITER
-    }
-
-    /// One mount, a file for each writer beside the root, and room for a block of each writer in each round.
-    fn config(self) -> Config
-        ensures { result ≡ run_config self.tasks self.processors self.rounds }
-    {
-        Config {
-            tasks: self.tasks,
-            processors: self.processors,
-            mounts: 1,
-            nodes: self.tasks - 1,
-            capacity: u32::from(self.writers()) * self.rounds,
-        }
-    }
-
-    /// The processor on which a writer, the first being 0, begins a round. It goes on to the next in each.
-    fn processor(self, writer: u8, round: u32) -> u8
-        requires { round ≤ 10000 }
-        ensures { result ≡ processor_of self.processors writer round }
-    {
-        ((u32::from(writer) + round) % u32::from(self.processors)) as u8
-    }
 }
 
 /// The wrapping sum of all count words: what is held.
@@ -150,7 +81,7 @@ pub fn run_plan<R: Threads + Wait + Sync, W: Watch + Sync>(
         grown: closed.word(WordName::Used).unwrap_or(0),
         frozen: u64::from(details.copies.frozen),
         snapshots: u64::from(details.copies.snapshots),
-        remounts: u64::from(plan.rounds),
+        remounts: u64::from(plan.rounds()),
         held: held_in(&closed),
     };
     Ok((totals, details, closed))

@@ -2,7 +2,7 @@
 
 ghost use Rattle.std.specs.Prelude.{◌≡◌, ◌⊎◌};
 ghost use Rattle.endings.specs.declared.ends.Ending.TheVariants.{Ran, Refused};
-ghost use Rattle.gate_runs.specs.Plans.{MayRun};
+ghost use Rattle.run_parts.specs.Plans.{MayRun};
 
 use access_model::GateError;
 use command_line::{Numbers, Tells};

@@ -8,12 +8,12 @@ use Rattle.vfs_gates.specs.TaskStates.{TaskState}
 use Rattle.std.proofs.lemmas.Nat.{mul-le}
 use Rattle.std.proofs.lemmas.Result.{err_from_is_err_and}
 use Rattle.gate_world.specs.Configs.{IsWithin}
-use Rattle.gate_runs.specs.Parts.{Among, EndsAs}
-use Rattle.gate_runs.specs.Plans.{MayRun, run_config}
-use Rattle.gate_runs.specs.Refusals.{RunRefused}
+use Rattle.run_threads.specs.Parts.{Among, EndsAs}
+use Rattle.run_parts.specs.Plans.{MayRun, run_config}
+use Rattle.run_parts.specs.Refusals.{RunRefused}
 use Rattle.vfs_gates.specs.Splitting.{Gives, HasBegun}
 use Rattle.vfs_gates.proofs.Splitting.{first_begins, gives_all}
-use Rattle.gate_runs.proofs.Staying.{all_did_on, ends_as}
+use Rattle.run_threads.proofs.Staying.{all_did_on, ends_as}
 use Rattle.gate_runs.proofs.runs.run_plan.Goals as goal
 
 pub in_threads-requires-clause-begins : goal.in_threads-requires-clause-begins
@@ -45,7 +45,7 @@ returns-clause-tells g c =
       none_held = c.held_in.ensures;
       frozen = c.from.ensures ∙ c.in_ok-task.ensures.copies.0;
       snapshots = c.from-2.ensures ∙ c.in_ok-task.ensures.copies.1;
-      remounts = c.from-3.ensures;
+      remounts = c.from-3.ensures ∙ c.rounds.ensures;
       ended = closed.1.ended;
       all = all_did_on (Among items) (EndsAs views) (λ s h. ends_as views items s closed.1.mine h) _ _ _ _ _ _ _ c.in_ok-task.ensures.all;
     }

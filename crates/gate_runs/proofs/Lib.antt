@@ -1,2 +1,0 @@
-pub mod Repeating
-pub mod Staying

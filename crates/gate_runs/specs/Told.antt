@@ -1,0 +1,24 @@
+-- What a run tells of its gates once they are closed.
+use Rattle.std.specs.Prelude.{◌≡◌, ℕ, ◌*◌, slice_index}
+use Rattle.cpu_words.specs.Names.{place, stride}
+use Rattle.cpu_words.specs.declared.names.WordName.TheVariants.{Used}
+use Rattle.gate_runs.specs.declared.runs.Totals.{Totals}
+use Rattle.run_parts.specs.Plans.{run_config}
+use Rattle.run_parts.specs.declared.counts.Details.{Details}
+use Rattle.run_threads.specs.Parts.{AllDid, EndsAs}
+use Rattle.vfs_gates.specs.Ended.{Ended, Ending}
+
+-- What a run tells of gates that are closed: the blocks that their files have in the end, and that nothing is held. In the world that they
+-- leave, each task has done its part from where it began, and nothing else: the backup all freezes, each with a snapshot, a call of the watch,
+-- a thaw and three callbacks; the remounter all rounds of changes; each writer all its rounds, with a call of the watch between each grant and its
+-- return. As many are told, and just what these calls met.
+pub record TellsRun (held : ℕ → ℕ → Type 0) (seen : ℕ → Type 0) (tasks processors rounds freezes : ℕ) (totals : Totals) (details : Details)
+    (closed : Ending) : Type 0 where
+  pub config : closed.config ≡ run_config tasks processors rounds
+  pub grown : totals.grown ≡ slice_index closed.words (stride * place Used)
+  pub none_held : totals.held ≡ 0
+  pub frozen : totals.frozen ≡ freezes
+  pub snapshots : totals.snapshots ≡ freezes
+  pub remounts : totals.remounts ≡ rounds
+  pub ended : Ended closed.config closed.words
+  pub all : AllDid (EndsAs ended.world.views) held seen tasks processors rounds freezes details
