@@ -1,6 +1,5 @@
 //! Each case of `replay_cases` over the core and over the gates that threads use, and random schedules, which print the same over both.
 
-mod growths;
 mod random;
 
 use driven_gates::GatesDriver;

@@ -6,9 +6,12 @@
 mod ending;
 mod gates;
 mod models;
+mod schedules;
 mod threads;
 
 use anyhow::Result;
+use driven_gates::GatesDriver;
+use replays::Core;
 use std::alloc::Global;
 use std::io::Read;
 
@@ -43,5 +46,7 @@ fn main(rt: HostRuntime) -> Result<()> {
     println!(rt; "gates {made}")?;
     println!(rt; "split {split}")?;
     println!(rt; "run {}", threads::run(&rt, alloc))?;
+    println!(rt; "replay {}", schedules::replay::<Core>(alloc))?;
+    println!(rt; "over-gates {}", schedules::replay::<GatesDriver>(alloc))?;
     Ok(())
 }
