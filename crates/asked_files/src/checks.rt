@@ -4,82 +4,61 @@ ghost use Rattle.std.specs.Prelude.{◌≡◌, ◌⊎◌, ◌<◌, ◌≤◌, �
 ghost use Rattle.asked_files.specs.Checks.{TellsPassed, count_checked, counts_text};
 ghost use Rattle.endings.specs.declared.ends.Ending.TheVariants.{Passed, Refused};
 
-use endings::{Ending, unopened};
+use crate::reading::read_bytes;
+use endings::{Ending, why_told};
 use race_texts::check;
 use schedule_bytes::write_out;
 use schedule_text::Output;
 use std::alloc::{AllocError, Global};
-use std::fs;
 use std::io::{Read, Write};
 use std::rt::Files;
 
 /// How many schedules passed and failed, and what is told of those that failed.
 #[derive(Drop)]
 struct Checks {
+    alloc: Global,
     passed: u64,
     failed: u64,
     told: Output,
 }
 
 impl Checks {
-    /// Checks one schedule more.
-    fn add(&mut self, alloc: Global, name: &str, schedule: &[u8]) -> Result<(), AllocError>
-        requires { self.old.passed + self.old.failed + 1 < 2 ^ 64 }
-        ensures { OnOk result (self.new.passed + self.new.failed ≡ self.old.passed + self.old.failed + 1) }
-    {
-        let checked = check(alloc, name, schedule)?;
-        self.told.text(checked.told.bytes.as_slice())?;
-        if checked.passed {
-            self.passed += 1;
-        } else {
-            self.failed += 1;
-        }
-        Ok(())
-    }
-
-    /// Checks that of a file.
-    fn add_file<R: Files + Alloc<A = Global>, E: Write>(
+    /// Reads and checks the schedule of a file, or of the reader, where none is named.
+    fn add_read<R: Files + Alloc<A = Global>, I: Read, E: Write>(
         &mut self,
         rt: &R,
-        alloc: Global,
-        file: &str,
-        errors: &mut E,
-    ) -> Result<(), AllocError>
-        requires { self.old.passed + self.old.failed + 1 < 2 ^ 64 }
-        ensures { OnOk result (self.new.passed + self.new.failed ≡ self.old.passed + self.old.failed + 1) }
-    {
-        match fs::read(rt, file) {
-            Ok(schedule) => {
-                let name = format!(in alloc; "{file}: ")?;
-                self.add(alloc, name.as_str(), schedule.as_slice())
-            }
-            Err(error) => {
-                let _ = unopened(file, &error, errors);
-                self.failed += 1;
-                Ok(())
-            }
-        }
-    }
-
-    /// Checks that of the reader.
-    fn add_read<I: Read, E: Write>(
-        &mut self,
-        alloc: Global,
+        file: Option<&str>,
         reader: &mut I,
         errors: &mut E,
     ) -> Result<(), AllocError>
         requires { self.old.passed + self.old.failed + 1 < 2 ^ 64 }
         ensures { OnOk result (self.new.passed + self.new.failed ≡ self.old.passed + self.old.failed + 1) }
     {
-        let mut schedule = Vec::new(alloc);
-        match reader.read_to_end(&mut schedule) {
-            Ok(_) => self.add(alloc, "", schedule.as_slice()),
-            Err(error) => {
-                let _ = unopened("standard input", &error, errors);
+        match read_bytes(rt, self.alloc, file, reader, errors) {
+            Ok(schedule) => self.add(file, schedule.as_slice()),
+            Err(_) => {
                 self.failed += 1;
                 Ok(())
             }
         }
+    }
+
+    /// Checks a schedule; what differs is told behind its file, if it has one.
+    fn add(&mut self, file: Option<&str>, schedule: &[u8]) -> Result<(), AllocError>
+        requires { self.old.passed + self.old.failed + 1 < 2 ^ 64 }
+        ensures { OnOk result (self.new.passed + self.new.failed ≡ self.old.passed + self.old.failed + 1) }
+    {
+        let mut name = String::new(self.alloc);
+        if let Some(file) = file {
+            write!(name, "{file}: ")?;
+        }
+        let checked = check(self.alloc, name.as_str(), schedule)?;
+        if checked.passed {
+            self.passed += 1;
+        } else {
+            self.failed += 1;
+        }
+        self.told.text(checked.told.bytes.as_slice())
     }
 
     /// Writes what was told, and last how many passed and failed.
@@ -96,10 +75,7 @@ impl Checks {
         match write_out(writer, self.told.bytes.as_slice()) {
             Ok(()) if self.failed == 0 => Ok(Ending::Passed),
             Ok(()) => Ok(Ending::Refused),
-            Err(fault) => {
-                let _ = writeln!(errors, "{}", fault.text());
-                Ok(Ending::Refused)
-            }
+            Err(fault) => Ok(why_told(fault.text(), errors)),
         }
     }
 }
@@ -129,15 +105,14 @@ pub fn run_checks<R: Files + Alloc<A = Global>, I: Read, W: Write, E: Write>(
         TellsPassed (count_checked (length files.now)) (W.contents writer.old) (W.contents writer.new)) }
 {
     let mut checks = Checks {
+        alloc,
         passed: 0,
         failed: 0,
-        told: Output::with_room(alloc, 0)?,
+        told: Output::new(alloc),
     };
-    for file in files {
-        checks.add_file(rt, alloc, *file, errors)?;
-    }
-    if files.is_empty() {
-        checks.add_read(alloc, reader, errors)?;
+    // Where no file is named the one at 0 is none.
+    for number in 0..files.len().max(1) {
+        checks.add_read(rt, files.get(number).copied(), reader, errors)?;
     }
     checks.write(writer, errors)
 }

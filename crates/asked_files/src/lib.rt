@@ -4,6 +4,7 @@
 
 pub mod checks;
 pub mod outcomes;
+mod reading;
 pub mod replay;
 
 pub use checks::run_checks;

@@ -1,20 +1,20 @@
 //! All outcomes of a race, from the command line.
 
-ghost use Rattle.std.specs.Prelude.{◌≡◌, ◌⊎◌, None, IfOk, IfErr, IfSome, OnErr};
+ghost use Rattle.std.specs.Prelude.{◌≡◌, ◌⊎◌, Some, IfOk, OnErr};
 ghost use Rattle.std.specs.Io.KnownBytes.{Appends, Keeps};
 ghost use Rattle.endings.specs.declared.ends.Ending.TheVariants.{Listed, Refused};
 ghost use Rattle.asked_files.specs.Outcomes.{EndsTold, TellsRace, schedules_as};
 ghost use Rattle.schedule_bytes.specs.Writing.{AppendsPart};
 
+use crate::reading::read_bytes;
 use access_model::GateError;
 use command_line::Outcomes;
-use endings::{Ending, fault_told, refused, unopened};
+use endings::{Ending, fault_told, refused, why_told, why_told_of};
 use exploration::Stop;
 use race_texts::{Details, Schedules, read_race, tell};
 use schedule_bytes::write_out;
 use schedule_text::Output;
 use std::alloc::{AllocError, Global};
-use std::fs;
 use std::io::{Read, Write};
 use std::rt::Files;
 
@@ -32,40 +32,27 @@ pub fn run_outcomes<R: Files + Alloc<A = Global>, I: Read, W: Write, E: Write>(
     ensures told { IfOk result (EndsTold asked.entry (I.remaining reader.old) (W.contents writer.old) (W.contents writer.new)) }
     ensures memory { OnErr result (Keeps (W.contents writer.old) (W.contents writer.new)) }
 {
-    let mut told = Output::with_room(alloc, 0)?;
-    let bytes = match read_bytes(rt, alloc, asked.file, reader, errors) {
-        Ok(bytes) => bytes,
-        Err(ending) => return Ok(ending),
-    };
-    match tell_race(alloc, asked, bytes.as_slice(), &mut told, errors) {
-        Ending::Listed => Ok(write_told(&told, writer, errors)),
-        ending => Ok(ending),
+    match read_bytes(rt, alloc, asked.file, reader, errors) {
+        Ok(bytes) => Ok(tell_outcomes(alloc, asked, bytes.as_slice(), writer, errors)),
+        Err(ending) => Ok(ending),
     }
 }
 
-/// All bytes of a file, or of the reader, where none is named; or how the program ends, where they can't be read.
-fn read_bytes<R: Files + Alloc<A = Global>, I: Read, E: Write>(
-    rt: &R,
+/// Writes all outcomes of the race that these bytes have.
+fn tell_outcomes<W: Write, E: Write>(
     alloc: Global,
-    file: Option<&str>,
-    reader: &mut I,
+    asked: Outcomes<'_>,
+    bytes: &[u8],
+    writer: &mut W,
     errors: &mut E,
-) -> Result<Vec<u8>, Ending>
-    ensures read { IfOk result (λ bytes. file.entry ≡ None → IfSome (I.remaining reader.old) (λ all. bytes.items ≡ all)) }
-    ensures refused { IfErr result (λ ending. ending ≡ Refused) }
+) -> Ending
+    ensures ends { (result ≡ Listed) ⊎ (result ≡ Refused) }
+    ensures told { EndsTold asked.entry (Some bytes.now) (W.contents writer.old) (W.contents writer.new) result }
 {
-    match file {
-        Some(file) => match fs::read(rt, file) {
-            Ok(bytes) => Ok(bytes),
-            Err(error) => Err(unopened(file, &error, errors)),
-        },
-        None => {
-            let mut bytes = Vec::new(alloc);
-            match reader.read_to_end(&mut bytes) {
-                Ok(_) => Ok(bytes),
-                Err(error) => Err(unopened("standard input", &error, errors)),
-            }
-        }
+    let mut told = Output::new(alloc);
+    match tell_race(alloc, asked, bytes, &mut told, errors) {
+        Ending::Listed => write_told(&told, writer, errors),
+        ending => ending,
     }
 }
 
@@ -77,10 +64,7 @@ fn write_told<W: Write, E: Write>(told: &Output, writer: &mut W, errors: &mut E)
 {
     match write_out(writer, told.bytes.as_slice()) {
         Ok(()) => Ending::Listed,
-        Err(fault) => {
-            let _ = writeln!(errors, "{}", fault.text());
-            Ending::Refused
-        }
+        Err(fault) => why_told(fault.text(), errors),
     }
 }
 
@@ -107,11 +91,8 @@ fn tell_race<E: Write>(
         Ok(()) => Ending::Listed,
         Err(Stop::NoMemory) => refused(GateError::NoMemory, errors),
         Err(Stop::TooMany) => {
-            let _ = match asked.file {
-                None => writeln!(errors, "more than {} states", asked.limit),
-                Some(file) => writeln!(errors, "{file}: more than {} states", asked.limit),
-            };
-            Ending::Refused
+            let limit = asked.limit;
+            why_told_of(format_args!("more than {limit} states"), asked.file, errors)
         }
     }
 }

@@ -4,7 +4,7 @@ ghost use Rattle.std.specs.Prelude.{◌≡◌, true, IfErr};
 ghost use Rattle.transcripts.specs.Limits.{IsLineNumber};
 ghost use Rattle.transcripts.specs.Replayed.{Replayed};
 
-use endings::fault_told;
+use endings::{fault_told, why_told};
 use explained_faults::explanation;
 use replays::Driver;
 use replays::replay::replay_to_end;
@@ -38,10 +38,14 @@ pub fn replay_told<D: Driver, R: Read, W: Write, E: Write>(
     let ended = replay_to_end::<D, R, W>(alloc, reader, writer);
     if let Err(fault) = ended.result {
         let _ = fault_told(fault, telling.file, errors);
-        if telling.explains
-            && let Some(replay) = &ended.replay
-        {
-            explain(alloc, fault, replay.rest(), replay.tasks(), errors);
+        if let Some(replay) = &ended.replay {
+            explain(
+                alloc,
+                telling,
+                fault,
+                (replay.rest(), replay.tasks()),
+                errors,
+            );
         }
     }
     ended.result
@@ -67,22 +71,23 @@ pub fn show_told<D: Driver, R: Read, W: Write, E: Write>(
     let ended = show.do_lines(reader, writer);
     if let Err(fault) = ended {
         let _ = fault_told(fault, telling.file, errors);
-        if telling.explains {
-            explain(alloc, fault, show.rest(), show.tasks(), errors);
-        }
+        explain(alloc, telling, fault, (show.rest(), show.tasks()), errors);
     }
     ended
 }
 
-/// Tells what helps after a fault, if there is something to tell, and memory and a writer for it.
+/// Tells what helps after a fault, where that is asked for, if there is something to tell, and memory and a writer for it; of what was read
+/// from the faulty line on, and how many tasks there are.
 fn explain<E: Write>(
     alloc: Global,
+    telling: Telling<'_>,
     fault: ReplayFault,
-    rest: &[u8],
-    tasks: Option<u8>,
+    (rest, tasks): (&[u8], Option<u8>),
     errors: &mut E,
 ) {
-    if let Ok(Some(text)) = explanation(alloc, fault, rest, tasks) {
-        let _ = writeln!(errors, "{text}");
+    if telling.explains
+        && let Ok(Some(text)) = explanation(alloc, fault, rest, tasks)
+    {
+        let _ = why_told(text.as_str(), errors);
     }
 }

@@ -5,6 +5,7 @@ ghost use Rattle.endings.specs.declared.ends.Ending.TheVariants.{Done, DoneOfFil
 
 use access_model::GateError;
 use schedule_bytes::{ReplayFault, write_out};
+use std::fmt::Display;
 use std::io;
 use std::io::Write;
 
@@ -68,23 +69,40 @@ impl Ending {
     }
 }
 
+/// Says why the program ends; where that can't be said it ends the same.
+pub fn why_told<D: Display + Drop, E: Write>(why: D, errors: &mut E) -> Ending
+    ensures { result ≡ Refused }
+{
+    let _ = writeln!(errors, "{why}");
+    Ending::Refused
+}
+
+/// The same, and of which file, if it is of one.
+pub fn why_told_of<D: Display + Drop, E: Write>(
+    why: D,
+    file: Option<&str>,
+    errors: &mut E,
+) -> Ending
+    ensures { result ≡ Refused }
+{
+    match file {
+        None => why_told(why, errors),
+        Some(file) => why_told(format_args!("{file}: {why}"), errors),
+    }
+}
+
 /// Says at which line a schedule ended, of which file, if it has one, and why.
 pub fn fault_told<E: Write>(fault: ReplayFault, file: Option<&str>, errors: &mut E) -> Ending
     ensures { result ≡ Refused }
 {
-    let _ = match file {
-        None => writeln!(errors, "{fault}"),
-        Some(file) => writeln!(errors, "{file}: {fault}"),
-    };
-    Ending::Refused
+    why_told_of(fault, file, errors)
 }
 
 /// Says why a file can't be opened or read.
 pub fn unopened<E: Write>(file: &str, error: &io::Error, errors: &mut E) -> Ending
     ensures { result ≡ Refused }
 {
-    let _ = writeln!(errors, "{file}: {error}");
-    Ending::Refused
+    why_told_of(error, Some(file), errors)
 }
 
 /// Writes the text that was asked for of the program itself.
@@ -93,10 +111,7 @@ pub fn text_told<W: Write, E: Write>(text: &str, writer: &mut W, errors: &mut E)
 {
     match write_out(writer, text.as_bytes()) {
         Ok(()) => Ending::Told,
-        Err(fault) => {
-            let _ = writeln!(errors, "{}", fault.text());
-            Ending::Refused
-        }
+        Err(fault) => why_told(fault.text(), errors),
     }
 }
 
@@ -104,25 +119,20 @@ pub fn text_told<W: Write, E: Write>(text: &str, writer: &mut W, errors: &mut E)
 pub fn refused<E: Write>(refusal: GateError, errors: &mut E) -> Ending
     ensures { result ≡ Refused }
 {
-    let _ = writeln!(errors, "refused {} {}", refusal.number(), refusal.name());
-    Ending::Refused
+    let (number, name) = (refusal.number(), refusal.name());
+    why_told(format_args!("refused {number} {name}"), errors)
 }
 
 /// Says that there are no words: an argument is no text, or there was no memory for them.
 pub fn unreadable<E: Write>(error: &io::Error, errors: &mut E) -> Ending
     ensures { (result ≡ Refused) ⊎ (result ≡ Misused) }
 {
-    match error.kind() {
-        io::ErrorKind::InvalidData => {
-            let _ = writeln!(
-                errors,
-                "error: invalid UTF-8 was detected in one or more arguments"
-            );
-            Ending::Misused
-        }
-        _ => {
-            let _ = writeln!(errors, "error: {error}");
-            Ending::Refused
-        }
+    if error.kind() != io::ErrorKind::InvalidData {
+        return why_told(format_args!("error: {error}"), errors);
     }
+    why_told(
+        "error: invalid UTF-8 was detected in one or more arguments",
+        errors,
+    );
+    Ending::Misused
 }

@@ -3,4 +3,6 @@
 
 pub mod ends;
 
-pub use ends::{Ending, fault_told, refused, text_told, unopened, unreadable};
+pub use ends::{
+    Ending, fault_told, refused, text_told, unopened, unreadable, why_told, why_told_of,
+};

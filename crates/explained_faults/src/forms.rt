@@ -1,59 +1,73 @@
 //! The forms of commands, as they are told to a person.
 
+/// A word, and what is told of it.
+pub(crate) type Row = (&'static str, &'static str);
+
 /// The form of a configuration.
 pub(crate) const CONFIG: &str = "config TASKS CPUS MOUNTS NODES CAPACITY";
 
-/// The numbers of a configuration that have limits, each with its least and its most.
-pub static LIMITS: [(&str, u32, u32); 4] = [
-    ("TASKS", 1, 64),
-    ("CPUS", 1, 64),
-    ("MOUNTS", 1, 8),
-    ("NODES", 2, 64),
+/// The least and the most that numbers of a configuration may be, in their order, with how they are told.
+pub static LIMITS: [(u32, u32, &str); 4] = [
+    (1, 64, "TASKS is 1 to 64"),
+    (1, 64, "CPUS is 1 to 64"),
+    (1, 8, "MOUNTS is 1 to 8"),
+    (2, 64, "NODES is 2 to 64"),
 ];
 
-/// The command that configures.
-pub(crate) static CONFIGS: [(&str, &str); 1] = [("config", "TASKS CPUS MOUNTS NODES CAPACITY")];
+/// The command that configures, with its form.
+pub(crate) static CONFIGS: [Row; 1] = [("config", CONFIG)];
 
-/// The commands that stand alone on their line.
-pub(crate) static ALONE: [(&str, &str); 3] = [("words", ""), ("tree", ""), ("model", "")];
+/// The commands that stand alone on their line, which is their form.
+pub(crate) static ALONE: [Row; 3] = [("words", "words"), ("tree", "tree"), ("model", "model")];
 
-/// Each command on a task, with its arguments: in brackets those that may be left out, and with a bar between them the words of which one
+/// Each command on a task, with its form: in brackets the arguments that may be left out, and with a bar between them the words of which one
 /// stands there. All others are numbers.
 pub static VERBS: [(&str, &str); 27] = [
-    ("want", "M C"),
-    ("trywant", "M C"),
-    ("drop", "M C"),
-    ("start", "L C"),
-    ("trystart", "L C"),
-    ("end", "L C"),
-    ("wantwrite", "M C"),
-    ("dropwrite", "M C"),
-    ("change", "M ro|rw"),
-    ("trychange", "M ro|rw"),
-    ("remount", "ro|rw"),
-    ("callback", "L"),
-    ("freeze", "[kernel|user]"),
-    ("thaw", "[kernel|user]"),
-    ("create", "D file|dir"),
-    ("remove", "N"),
-    ("grow", "N B"),
-    ("move", "N D"),
-    ("fault", "N"),
-    ("flush", "N"),
-    ("open", "N"),
-    ("close", "N C"),
-    ("tryclose", "N C"),
-    ("snapshot", ""),
-    ("trysnapshot", ""),
-    ("step", "[CODE]"),
-    ("run", "[sync|freeze|unfreeze|reconfigure CODE]"),
+    ("want", "T want M C"),
+    ("trywant", "T trywant M C"),
+    ("drop", "T drop M C"),
+    ("start", "T start L C"),
+    ("trystart", "T trystart L C"),
+    ("end", "T end L C"),
+    ("wantwrite", "T wantwrite M C"),
+    ("dropwrite", "T dropwrite M C"),
+    ("change", "T change M ro|rw"),
+    ("trychange", "T trychange M ro|rw"),
+    ("remount", "T remount ro|rw"),
+    ("callback", "T callback L"),
+    ("freeze", "T freeze [kernel|user]"),
+    ("thaw", "T thaw [kernel|user]"),
+    ("create", "T create D file|dir"),
+    ("remove", "T remove N"),
+    ("grow", "T grow N B"),
+    ("move", "T move N D"),
+    ("fault", "T fault N"),
+    ("flush", "T flush N"),
+    ("open", "T open N"),
+    ("close", "T close N C"),
+    ("tryclose", "T tryclose N C"),
+    ("snapshot", "T snapshot"),
+    ("trysnapshot", "T trysnapshot"),
+    ("step", "T step [CODE]"),
+    ("run", "T run [sync|freeze|unfreeze|reconfigure CODE]"),
 ];
 
-/// The arguments of a command on a task; none of a word that is no such command.
-pub(crate) fn arguments_of(verb: &[u8]) -> Option<&'static str> {
-    for (name, arguments) in VERBS.iter() {
-        if name.as_bytes() == verb {
-            return Some(*arguments);
+/// What is told of the arguments of forms of which one of some words stands there.
+pub(crate) static CHOICES: [Row; 4] = [
+    ("ro|rw", "ro|rw is expected"),
+    ("[kernel|user]", "kernel|user is expected"),
+    ("file|dir", "file|dir is expected"),
+    (
+        "[sync|freeze|unfreeze|reconfigure",
+        "sync|freeze|unfreeze|reconfigure is expected",
+    ),
+];
+
+/// What is told of a word in some rows.
+pub(crate) fn told_of(rows: &[Row], word: &[u8]) -> Option<&'static str> {
+    for (name, text) in rows {
+        if name.as_bytes() == word {
+            return Some(*text);
         }
     }
     None

@@ -5,5 +5,6 @@
 pub mod explanations;
 pub mod forms;
 mod places;
+mod told;
 
 pub use explanations::explanation;

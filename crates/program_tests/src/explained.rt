@@ -158,26 +158,16 @@ fn faults_of_configurations_are_told(rt: HostRuntime) -> Result<(), Fail> {
     Ok(())
 }
 
-/// How many words a line with these arguments has, those before them counted.
-fn count_of(arguments: &str) -> usize {
-    if arguments.is_empty() {
-        2
-    } else {
-        arguments.split(' ').count().saturating_add(2)
-    }
-}
-
 #[test]
 fn the_forms_are_those_of_the_language(rt: HostRuntime) -> Result<(), Fail> {
-    for (name, arguments) in VERBS.iter() {
+    for (name, form) in VERBS.iter() {
         let Some(verb) = Verb::of(name.as_bytes()) else {
             return Err(Fail::new("no such verb"));
         };
-        assert!(rt; verb.takes(count_of(arguments)));
-        assert_eq!(rt;
-            verb.takes(2),
-            arguments.is_empty() || arguments.starts_with('[')
-        );
+        assert_eq!(rt; form.split(' ').nth(1), Some(*name));
+        let words = form.split(' ').count();
+        assert!(rt; verb.takes(words));
+        assert_eq!(rt; verb.takes(2), words == 2 || form.contains('['));
     }
     Ok(())
 }
@@ -186,7 +176,7 @@ fn the_forms_are_those_of_the_language(rt: HostRuntime) -> Result<(), Fail> {
 fn the_limits_are_those_of_a_configuration(rt: HostRuntime) -> Result<(), Fail> {
     for beyond in 0..5 {
         let (mut low, mut high) = ([1u8, 1, 1, 2], [64u8, 64, 8, 64]);
-        for (number, (_, least, most)) in LIMITS.iter().enumerate() {
+        for (number, (least, most, _)) in LIMITS.iter().enumerate() {
             let by = u32::from(number == beyond);
             low[number] = least.saturating_sub(by) as u8;
             high[number] = most.saturating_add(by) as u8;
