@@ -1,8 +1,9 @@
 -- What all lines call, by the first of them; and lines that are left.
 use Rattle.std.proofs.Common.{◌≡◌, ◌∙◌, sym, ap, refl, ℕ, zero, suc, List, ◌∷◌, Option, Result, Ok, Err, inl, inr}
+use Rattle.std.specs.Result.{OnOk, result_and}
 use Rattle.race_texts.specs.Calls.{Row, calls_after, calls_of, ended}
 use Rattle.race_texts.specs.Faults.{IsToldOrMemory}
-use Rattle.race_texts.specs.Left.{AreLeftOf, Left, after_lines, behind, none_left}
+use Rattle.race_texts.specs.Left.{AreLeftOf, BeginRace, Left, after_lines, behind, none_left}
 use Rattle.race_texts.specs.declared.faults.RaceFault.{RaceFault}
 use Rattle.schedule_text.specs.declared.faults.Fault.{Fault}
 
@@ -50,3 +51,18 @@ pub some_less : (all left now : Left) (n : ℕ) → AreLeftOf all left → now �
 unfolding after_lines
 some_less all left now zero h e = (h.0, e ∙ h.1)
 some_less all left now (suc n) h e = one_less all (after_lines n left) now (some_less all left (after_lines n left) n h refl) e
+
+-- what begins behind some lines
+pub begins_behind : (all left now : Left) → AreLeftOf all left → BeginRace left now → BeginRace all now
+begins_behind all left now h begin = record {
+  after = some_less all left now begin.after.0 h begin.after.1;
+  line = begin.line;
+  first = begin.first;
+  race = begin.race;
+}
+
+-- what is known of an answer, of another that is given in its place
+pub and_told : {T U E : Type 0} (r : Result T E) (s : Result U E) (P Q : Type 0) → (P → Q) → OnOk r P → OnOk (result_and r s) Q
+and_told (Ok x) (Ok y) P Q f h = f h
+and_told (Ok x) (Err e) P Q f h = tt
+and_told (Err e) s P Q f h = tt

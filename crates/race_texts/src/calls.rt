@@ -1,6 +1,6 @@
 //! What the tasks of a race call.
 
-ghost use Rattle.std.specs.Prelude.{◌≡◌, ◌≤◌, is_none, length, Some, Ok, IfOk, IfErr, OnOk};
+ghost use Rattle.std.specs.Prelude.{◌≡◌, ◌≤◌, [], is_none, length, Some, Ok, IfOk, IfErr, OnOk};
 ghost use Rattle.std.specs.List.{position};
 ghost use Rattle.race_texts.specs.Calls.{no_calls, count_of, with_call, with_failure, added, failing, as_run, hook_line, calls_after};
 ghost use Rattle.race_texts.specs.Faults.{IsToldOrMemory};
@@ -9,11 +9,10 @@ ghost use Rattle.schedule_text.specs.Parsing.{parsed};
 
 use crate::faults::RaceFault;
 use crate::lines::{Lines, is_race};
-use access_model::GateError;
 use gate_world::Op;
 use races::{CALLS, Call, Race};
 use schedule_text::words::{after_word, first_word};
-use schedule_text::{Fault, HookFailure, Line, Request, TaskCommand, parse};
+use schedule_text::{Fault, HookFailure, Line, Output, Request, TaskCommand, parse};
 use std::alloc::{AllocError, Global};
 use transcripts::no_memory;
 
@@ -62,8 +61,10 @@ impl Calls {
 
     /// A call of a task; None where it has no such call.
     pub fn call(&self, task: u8, turn: u8) -> Option<Call> {
-        let calls = self.race.calls.get(usize::from(task))?;
-        *calls.get(usize::from(turn))?
+        match self.race.calls.get(usize::from(task)) {
+            Some(calls) if usize::from(turn) < CALLS => calls[usize::from(turn)],
+            _ => None,
+        }
     }
 
     /// The line by which a task begins a call; empty where it has no such call.
@@ -109,8 +110,9 @@ impl Calls {
         ensures fault { IfErr result (IsToldOrMemory
             (hook_line self.old.race.calls.items (parsed (as_run line.now) (Some self.old.race.tasks)))) }
     {
-        let run = as_run(alloc, line).map_err(no_memory)?;
-        match parse(run.as_slice(), Some(self.race.tasks))? {
+        let mut run = Output::new(alloc);
+        print_run(line, &mut run).map_err(no_memory)?;
+        match parse(run.bytes.as_slice(), Some(self.race.tasks))? {
             Line::Skipped => Ok(()),
             Line::Request(
                 Request::Task {
@@ -133,16 +135,23 @@ impl Calls {
         ensures read { OnOk result (added self.old.race.calls.items task op ≡ Ok self.new.race.calls.items) }
         ensures fault { IfErr result (IsToldOrMemory (added self.old.race.calls.items task op)) }
     {
-        let text = Vec::from_slice(alloc, line).map_err(no_memory)?;
         let Some(calls) = self.race.calls.get(usize::from(task)).copied() else {
             return Err(RaceFault::Schedule(Fault::NoSuchTask));
         };
-        let turn = count_of(&calls) as u8;
         self.race.calls[usize::from(task)] = with_call(calls, op)?;
-        match self.lines.push(CallLine { task, turn, text }) {
+        match self.keep(alloc, task, count_of(&calls) as u8, line) {
             Ok(()) => Ok(()),
-            Err(_) => Err(RaceFault::Schedule(Fault::Refused(GateError::NoMemory))),
+            Err(refused) => Err(RaceFault::Schedule(no_memory(refused))),
         }
+    }
+
+    /// Keeps the line by which a task begins a call.
+    fn keep(&mut self, alloc: Global, task: u8, turn: u8, line: &[u8]) -> Result<(), AllocError>
+        ensures { self.new.race ≡ self.old.race }
+    {
+        let text = Vec::from_slice(alloc, line)?;
+        self.lines.push(CallLine { task, turn, text })?;
+        Ok(())
     }
 
     /// A hook fails in a task's last call.
@@ -222,14 +231,14 @@ fn with_failure(
     }
 }
 
-/// The same line with `run` in the place of its second word.
+/// The same line with `run` in the place of its second word, behind nothing.
 #[tactic(auto, using(crate::proofs::Words::word_within), unfolding(crate::specs::Calls::as_run))]
-fn as_run(alloc: Global, line: &[u8]) -> Result<Vec<u8>, AllocError>
-    ensures { IfOk result (λ run. run.items ≡ as_run line.now) }
+fn print_run(line: &[u8], run: &mut Output) -> Result<(), AllocError>
+    requires { run.old.bytes.items ≡ [] }
+    ensures { OnOk result (run.new.bytes.items ≡ as_run line.now) }
 {
     let rest = after_word(line);
-    let mut run = Vec::from_slice(alloc, first_word(line))?;
-    run.extend_from_slice(b" run")?;
-    run.extend_from_slice(&rest[first_word(rest).len()..])?;
-    Ok(run)
+    run.text(first_word(line))?;
+    run.text(b" run")?;
+    run.text(&rest[first_word(rest).len()..])
 }

@@ -1,14 +1,12 @@
 //! What a schedule prints, compared with what it says of it.
 
-use crate::{Lines, RaceFault, RaceFile, is_race, tell_briefly};
+use crate::setting_up::{Watch, do_setting};
+use crate::{Lines, RaceFault, RaceFile, tell_briefly};
 use exploration::Stop;
 use schedule_bytes::ReplayFault;
-use schedule_text::{Fault, Front, LINES, Line, Output, Request, front_of, parse};
+use schedule_text::{LINES, Output};
 use std::alloc::{AllocError, Global};
 use transcripts::{Core, Session};
-
-/// Where a comment begins that says what is printed.
-const EXPECTED: &[u8] = b"#>";
 
 /// How many states a race may have here.
 const STATES: usize = 100_000;
@@ -26,214 +24,175 @@ pub struct Checked {
 /// all outcomes of a race, where it ends with one, with those behind the line `race`.
 /// `name` is what each line that is told begins with: that of a file, a colon and a space; or nothing.
 pub fn check(alloc: Global, name: &str, schedule: &[u8]) -> Result<Checked, AllocError> {
+    let mut lines = Lines::new(schedule);
     let mut comparison = Comparison {
-        alloc,
         name,
-        session: None,
-        command: 0,
-        printed: Output::with_room(alloc, 0)?,
-        compared: 0,
-        checked: Checked {
-            passed: true,
-            told: Output::with_room(alloc, 0)?,
-        },
+        said: Lines::new(schedule),
+        passed: true,
+        told: Output::new(alloc),
+        is_cut: false,
     };
-    comparison.do_lines(schedule)?;
-    Ok(comparison.checked)
+    let done = comparison.do_lines(alloc, &mut lines, &mut Output::new(alloc));
+    if let Err(fault) = done {
+        comparison.fault(alloc, lines.fault(fault));
+    }
+    comparison.checked()
 }
 
 /// A check on its way.
 #[derive(Drop)]
 struct Comparison<'a> {
-    alloc: Global,
     name: &'a str,
-    session: Option<Session<Core>>,
-    /// The line of the last command.
-    command: u32,
-    /// What it printed.
-    printed: Output,
-    /// How many bytes of that were compared.
-    compared: usize,
-    checked: Checked,
+    /// The lines from the last command on, which say what it prints.
+    said: Lines<'a>,
+    passed: bool,
+    told: Output,
+    /// Whether memory was refused for what is told, which is asked for once, at the end.
+    is_cut: bool,
+}
+
+impl Watch for Comparison<'_> {
+    /// Compares what the last command printed with the lines between it and the next one.
+    fn take(&mut self, lines: &Lines<'_>, printed: &mut Output) {
+        let command = self.said.number();
+        let mut shown = Lines::new(printed.bytes.as_slice());
+        for number in command..lines.number() {
+            if let Some(text) = expected_in(self.said.next()) {
+                self.compare(number, text, shown.next());
+            }
+        }
+        self.tell_others(command, &mut shown);
+        printed.clear();
+    }
 }
 
 impl Comparison<'_> {
     /// Does all lines, or those up to a fault.
-    fn do_lines(&mut self, schedule: &[u8]) -> Result<(), AllocError> {
-        let mut lines = Lines::new(schedule);
-        for _ in 0..=LINES {
-            let line = match lines.line() {
-                Ok(Some(line)) => line,
-                Ok(None) if self.session.is_none() => {
-                    return self.end(Some(lines.fault(Fault::ConfigExpected.into())));
-                }
-                Ok(None) => break,
-                Err(fault) => return self.end(Some(lines.fault(fault.into()))),
-            };
-            match self.begins_race(line) {
-                Ok(true) => return self.do_race(&mut lines),
-                Ok(false) => {}
-                Err(fault) => return self.end(Some(lines.fault(fault.into()))),
-            }
-            if let Err(fault) = self.do_line(lines.number(), line)? {
-                return self.end(Some(lines.fault(fault.into())));
-            }
-            lines.take();
-        }
-        self.end(None)
-    }
-
-    /// Whether a line begins a race, once there is a configuration.
-    fn begins_race(&self, line: &[u8]) -> Result<bool, Fault> {
-        match self.session {
-            None => Ok(false),
-            Some(_) => is_race(line),
-        }
-    }
-
-    /// Reads a race from its line `race` on, and compares its outcomes with the lines that say them.
-    fn do_race(&mut self, lines: &mut Lines<'_>) -> Result<(), AllocError> {
-        self.tell_unexpected()?;
-        self.printed.clear();
-        self.compared = 0;
-        self.command = lines.number();
-        let (before, rest) = (self.command, lines.rest());
-        if let Err(fault) = self.list_outcomes(lines)? {
-            return self.end(Some(lines.fault(fault)));
-        }
-        let mut number = before;
-        for line in rest.split(|byte| *byte == b'\n') {
-            if let Some(text) = line.strip_prefix(EXPECTED) {
-                self.compare(number, text.strip_prefix(b" ").unwrap_or(text))?;
-            }
-            number = number.saturating_add(1);
-        }
-        self.end(None)
-    }
-
-    /// Prints all outcomes of a race.
-    fn list_outcomes(
+    fn do_lines(
         &mut self,
+        alloc: Global,
         lines: &mut Lines<'_>,
-    ) -> Result<Result<(), RaceFault>, AllocError> {
-        let Some(session) = &self.session else {
-            return Ok(Err(Fault::ConfigExpected.into()));
-        };
-        let RaceFile { core, calls } = match RaceFile::read(self.alloc, session, lines) {
-            Ok(file) => file,
-            Err(fault) => return Ok(Err(fault)),
-        };
-        match tell_briefly(self.alloc, &calls.race, core, STATES, &mut self.printed) {
-            Ok(()) => Ok(Ok(())),
-            Err(Stop::NoMemory) => Err(AllocError),
+        printed: &mut Output,
+    ) -> Result<(), RaceFault> {
+        let set_up = do_setting(alloc, lines, printed, self);
+        self.take(lines, printed);
+        match set_up {
+            Ok(session) => {
+                let done = self.do_race(alloc, &session, lines, printed);
+                // By a call: to drop all its parts in line costs the proof more.
+                drop(session);
+                done
+            }
+            Err(RaceFault::RaceExpected) => Ok(()),
+            Err(fault) => Err(fault),
+        }
+    }
+
+    /// Reads a race, and compares its outcomes with the lines from `race` on.
+    fn do_race(
+        &mut self,
+        alloc: Global,
+        session: &Session<Core>,
+        lines: &mut Lines<'_>,
+        printed: &mut Output,
+    ) -> Result<(), RaceFault> {
+        let file = RaceFile::read(alloc, session, lines)?;
+        match tell_briefly(alloc, file, STATES, printed) {
+            Ok(()) => {}
+            Err(Stop::NoMemory) => self.is_cut = true,
             Err(Stop::TooMany) => {
-                self.checked.passed = false;
-                let name = self.name;
-                let text = format!(in self.alloc; "{name}more than {STATES} states\n")?;
-                self.checked.told.text(text.as_bytes())?;
-                Ok(Ok(()))
+                self.begin();
+                self.numbered(b"more than ", STATES as u64);
+                self.text(b" states\n");
             }
         }
+        self.take(lines, printed);
+        Ok(())
     }
 
-    /// Does a line, or compares what it says.
-    fn do_line(&mut self, number: u32, line: &[u8]) -> Result<Result<(), Fault>, AllocError> {
-        if let Some(text) = line.strip_prefix(EXPECTED) {
-            self.compare(number, text.strip_prefix(b" ").unwrap_or(text))?;
-            return Ok(Ok(()));
+    /// Compares what is expected with the line that was printed.
+    fn compare(&mut self, number: u32, text: &[u8], line: Option<&[u8]>) {
+        if let Some(line) = line
+            && line == text
+        {
+            return;
         }
-        let tasks = self.session.as_ref().map(|session| session.tasks());
-        match parse(line, tasks) {
-            Ok(Line::Skipped) => Ok(Ok(())),
-            Ok(Line::Config(config)) => match Session::new(self.alloc, config) {
-                Ok(session) => {
-                    self.session = Some(session);
-                    Ok(Ok(()))
-                }
-                Err(fault) => Ok(Err(fault)),
-            },
-            Ok(Line::Request(request)) => {
-                self.tell_unexpected()?;
-                self.command = number;
-                Ok(self.do_request(request))
-            }
-            Err(fault) => Ok(Err(fault)),
-        }
-    }
-
-    fn do_request(&mut self, request: Request) -> Result<(), Fault> {
-        self.printed.clear();
-        self.compared = 0;
-        match &mut self.session {
-            Some(session) => session.do_request(request, &mut self.printed),
-            None => Err(Fault::ConfigExpected),
-        }
-    }
-
-    /// The next line of what the last command printed, copied, and None after the last one.
-    fn next_printed(&mut self) -> Result<Option<Vec<u8>>, AllocError> {
-        let Some(rest) = self.printed.bytes.as_slice().get(self.compared..) else {
-            return Ok(None);
-        };
-        let Front::Line(length) = front_of(rest) else {
-            return Ok(None);
-        };
-        let line = Vec::from_slice(self.alloc, &rest[..length])?;
-        self.compared = self.compared.saturating_add(length).saturating_add(1);
-        Ok(Some(line))
-    }
-
-    /// Compares what is expected with the next line that was printed.
-    fn compare(&mut self, number: u32, text: &[u8]) -> Result<(), AllocError> {
-        match self.next_printed()? {
-            Some(printed) if printed.as_slice() == text => Ok(()),
-            Some(printed) => {
-                self.tell(number, b"expected '", text)?;
-                self.checked.told.text(b"', and '")?;
-                self.checked.told.text(printed.as_slice())?;
-                self.checked.told.text(b"' was printed\n")
-            }
-            None => {
-                self.tell(number, b"expected '", text)?;
-                self.checked.told.text(b"', and nothing more was printed\n")
-            }
+        self.differs(number, b"expected '", text, b"', and ");
+        match line {
+            Some(line) => self.quote(b"'", line, b"' was printed\n"),
+            None => self.text(b"nothing more was printed\n"),
         }
     }
 
     /// Tells what the last command printed beside what was expected.
-    fn tell_unexpected(&mut self) -> Result<(), AllocError> {
-        // Each turn that goes on takes a byte or more.
-        for _ in 0..self.printed.bytes.len() {
-            let Some(printed) = self.next_printed()? else {
+    fn tell_others(&mut self, command: u32, shown: &mut Lines<'_>) {
+        for _ in 0..=LINES {
+            let Some(line) = shown.next() else {
                 break;
             };
-            self.tell(self.command, b"'", printed.as_slice())?;
-            self.checked
-                .told
-                .text(b"' was printed, which no line says\n")?;
+            self.differs(command, b"'", line, b"' was printed, which no line says\n");
         }
-        Ok(())
     }
 
-    /// Begins to tell what differs at a line.
-    fn tell(&mut self, number: u32, what: &[u8], text: &[u8]) -> Result<(), AllocError> {
-        self.checked.passed = false;
-        let told = &mut self.checked.told;
-        told.text(self.name.as_bytes())?;
-        told.numbered(b"line ", u64::from(number))?;
-        told.text(b": ")?;
-        told.text(what)?;
-        told.text(text)
+    /// Tells what differs at a line: a text, and what stands before and after it.
+    fn differs(&mut self, number: u32, before: &[u8], text: &[u8], after: &[u8]) {
+        self.begin();
+        self.numbered(b"line ", u64::from(number));
+        self.text(b": ");
+        self.quote(before, text, after);
     }
 
-    /// Tells what was printed and not expected, and the fault.
-    fn end(&mut self, fault: Option<ReplayFault>) -> Result<(), AllocError> {
-        self.tell_unexpected()?;
-        if let Some(fault) = fault {
-            self.checked.passed = false;
-            let text = format!(in self.alloc; "{}{fault}\n", self.name)?;
-            self.checked.told.text(text.as_bytes())?;
+    /// Tells a text, and what stands before and after it.
+    fn quote(&mut self, before: &[u8], text: &[u8], after: &[u8]) {
+        self.text(before);
+        self.text(text);
+        self.text(after);
+    }
+
+    /// Tells the fault.
+    fn fault(&mut self, alloc: Global, fault: ReplayFault) {
+        self.begin();
+        match format!(in alloc; "{fault}\n") {
+            Ok(text) => self.text(text.as_bytes()),
+            Err(_) => self.is_cut = true,
         }
-        Ok(())
+    }
+
+    /// Begins to tell that it has not passed.
+    fn begin(&mut self) {
+        self.passed = false;
+        self.text(self.name.as_bytes());
+    }
+
+    fn text(&mut self, text: &[u8]) {
+        if self.told.text(text).is_err() {
+            self.is_cut = true;
+        }
+    }
+
+    fn numbered(&mut self, text: &[u8], number: u64) {
+        if self.told.numbered(text, number).is_err() {
+            self.is_cut = true;
+        }
+    }
+
+    /// All that was told, if there was memory for it.
+    fn checked(self) -> Result<Checked, AllocError> {
+        if self.is_cut {
+            return Err(AllocError);
+        }
+        Ok(Checked {
+            passed: self.passed,
+            told: self.told,
+        })
+    }
+}
+
+/// What a line `#> TEXT` says that is printed.
+fn expected_in(line: Option<&[u8]>) -> Option<&[u8]> {
+    match line {
+        Some([b'#', b'>', b' ', text @ ..]) => Some(text),
+        Some([b'#', b'>', text @ ..]) => Some(text),
+        _ => None,
     }
 }

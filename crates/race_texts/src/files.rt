@@ -28,11 +28,17 @@ impl RaceFile {
     ) -> Result<RaceFile, RaceFault>
         ensures { IfOk result (λ file. calls_left file.core.config.tasks (behind (left_in lines.old)) ≡ Ok file.calls.race.calls.items) }
     {
+        expect_idle(session.gates())?;
         let core = session.gates().twin().map_err(no_memory)?;
-        expect_idle(&core)?;
         lines.take();
-        let calls = Calls::read(alloc, core.config().tasks, lines)?;
-        Ok(RaceFile { core, calls })
+        match Calls::read(alloc, core.config().tasks, lines) {
+            Ok(calls) => Ok(RaceFile { core, calls }),
+            Err(fault) => {
+                // By a call: to drop all its parts in line costs the proof more.
+                drop(core);
+                Err(fault)
+            }
+        }
     }
 }
 
@@ -61,5 +67,8 @@ fn read_lines(alloc: Global, lines: &mut Lines<'_>) -> Result<RaceFile, RaceFaul
     ensures { IfOk result (λ file. IsRaceIn (left_in lines.old) file.core.config.tasks file.calls.race.calls.items) }
 {
     let session = set_up(alloc, lines)?;
-    RaceFile::read(alloc, &session, lines)
+    let file = RaceFile::read(alloc, &session, lines);
+    // By a call: to drop all its parts in line costs the proof more.
+    drop(session);
+    file
 }

@@ -86,6 +86,13 @@ impl<'a> Lines<'a> {
         }
     }
 
+    /// The next line, which is taken; None where there is none that is whole.
+    pub(crate) fn next(&mut self) -> Option<&'a [u8]> {
+        let line = self.line().unwrap_or(None);
+        self.take();
+        line
+    }
+
     /// A fault at the next line.
     pub fn fault(&self, fault: RaceFault) -> ReplayFault
         ensures { IsFaultAfter self.now.done fault result }

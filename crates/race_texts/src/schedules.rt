@@ -1,11 +1,12 @@
 //! The schedule of an outcome.
 
 use crate::Calls;
-use gate_core::Progress;
-use races::Call;
-use schedule_text::{Fault, Output};
-use std::alloc::Global;
-use transcripts::{Core, Session, no_memory};
+use schedule_text::{Output, TaskCommand};
+use std::alloc::{AllocError, Global};
+use transcripts::{Core, Session};
+
+/// How many tasks a configuration has at most.
+const TASKS: usize = 64;
 
 /// Moves gates that were set up as these movers do, and prints a line for each move, which a replay takes: a beginning as it stands in the
 /// file, `T step`, or `T step CODE` where the hook fails that the event asks.
@@ -15,45 +16,54 @@ pub fn print_schedule(
     session: &mut Session<Core>,
     movers: &[u8],
     out: &mut Output,
-) -> Result<(), Fault> {
-    let mut turns = vec![in alloc; 0; usize::from(session.tasks())].map_err(no_memory)?;
-    let mut refusals = Output::with_room(alloc, 0).map_err(no_memory)?;
+) -> Result<(), AllocError> {
+    let mut turns = [0u8; TASKS];
     for task in movers {
-        let turn: u8 = turns.get(usize::from(*task)).copied().unwrap_or(0);
-        let Some(call) = calls.call(*task, turn) else {
+        let task = *task;
+        let Some(turn) = turns.get_mut(usize::from(task)) else {
             continue;
         };
-        let has_answered = if session.gates().is_under_way(*task) {
-            print_step(session, *task, call, out)?
-        } else {
-            out.text(calls.line(*task, turn)).map_err(no_memory)?;
-            out.text(b"\n").map_err(no_memory)?;
-            session.begin(*task, call.op, &mut refusals)?;
-            !session.gates().is_under_way(*task)
-        };
-        if has_answered && let Some(turn) = turns.get_mut(usize::from(*task)) {
+        print_move(alloc, calls, session, task, *turn, out)?;
+        if !session.gates().is_under_way(task) {
             *turn = turn.saturating_add(1);
         }
     }
     Ok(())
 }
 
-/// Does the next event of a task in a call, and prints its line; says whether the call has answered.
-fn print_step(
+/// Makes the next move of a task, which is in this call of its, or begins it.
+fn print_move(
+    alloc: Global,
+    calls: &Calls,
     session: &mut Session<Core>,
     task: u8,
-    call: Call,
+    turn: u8,
     out: &mut Output,
-) -> Result<bool, Fault> {
-    let hook = session.hook_answer(task, call.failure);
-    out.number(u64::from(task)).map_err(no_memory)?;
-    out.text(b" step").map_err(no_memory)?;
-    if let Err(code) = hook {
-        out.numbered(b" ", u64::from(code)).map_err(no_memory)?;
-    }
-    out.text(b"\n").map_err(no_memory)?;
-    match session.step(task, hook)?.progress {
-        Progress::Done(_) => Ok(true),
-        Progress::Idle | Progress::Going | Progress::Waiting => Ok(false),
+) -> Result<(), AllocError> {
+    let Some(call) = calls.call(task, turn) else {
+        return Ok(());
+    };
+    let command = if session.gates().is_under_way(task) {
+        let hook = session.hook_answer(task, call.failure);
+        print_step(task, hook, out)?;
+        TaskCommand::Step { hook }
+    } else {
+        out.line(calls.line(task, turn))?;
+        TaskCommand::Begin(call.op)
+    };
+    session
+        .do_command(task, command, &mut Output::new(alloc))
+        .or(Err(AllocError))
+}
+
+/// Prints the next event of a task.
+fn print_step(task: u8, hook: Result<(), u16>, out: &mut Output) -> Result<(), AllocError> {
+    out.number(u64::from(task))?;
+    match hook {
+        Ok(()) => out.text(b" step\n"),
+        Err(code) => {
+            out.numbered(b" step ", u64::from(code))?;
+            out.text(b"\n")
+        }
     }
 }

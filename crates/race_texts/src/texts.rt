@@ -1,7 +1,7 @@
 //! The text of an outcome.
 
-ghost use Rattle.std.specs.Prelude.{◌≡◌, ◌++◌, Ok, IfOk, OnOk, slice_get};
-ghost use Rattle.race_texts.specs.Texts.{told_answer, course_text, task_part, outcome_text};
+ghost use Rattle.std.specs.Prelude.{◌≡◌, ◌++◌, IfOk, OnOk, slice_get};
+ghost use Rattle.race_texts.specs.Texts.{told_answer, course_text, outcome_text};
 
 use access_model::{GateError, Reply};
 use races::{Course, Race};
@@ -14,22 +14,14 @@ use std::alloc::{AllocError, Global};
 pub fn outcome_text(alloc: Global, race: &Race, courses: &[Course]) -> Result<Vec<u8>, AllocError>
     ensures { IfOk result (λ text. text.items ≡ outcome_text race.now.tasks race.now.calls.items courses.now) }
 {
-    let mut out = Output::with_room(alloc, 0)?;
+    let mut out = Output::new(alloc);
     for task in 0..race.tasks {
-        print_task(&mut out, race, courses, task)?;
+        if let Some(course) = course_of(courses, task) {
+            print_course(&mut out, race, task, course)?;
+        }
     }
     let text = out.bytes.as_slice();
     Vec::from_slice(alloc, &text[2.min(text.len())..])
-}
-
-/// Prints what is told of a task.
-fn print_task(out: &mut Output, race: &Race, courses: &[Course], task: u8) -> Result<(), AllocError>
-    ensures { OnOk result (out.new.bytes.items ≡ out.old.bytes.items ++ task_part race.now.calls.items courses.now task) }
-{
-    match course_of(courses, task) {
-        None => Ok(()),
-        Some(course) => print_course(out, race, task, course),
-    }
 }
 
 /// The course of a task, where there is one.
