@@ -1,7 +1,7 @@
 //! The words of a command line.
 
 ghost use Rattle.std.specs.Prelude.{◌≡◌, ◌⊎◌, ◌++◌, true, false, Some, IfOk, map, codes, string_bytes};
-ghost use Rattle.clap.specs.Words.{Shape, app_of, found_of, kind_of, one_of, rows_of, rule_of, subcommand_rows_of, with_subcommand};
+ghost use Rattle.clap.specs.Words.{Shape, app_of, found_of, kind_of, one_of, rows_of, rule_of, subcommand_rows_of};
 ghost use Rattle.clap.specs.declared.error.kind.ErrorKind.TheVariants.{OutOfMemory};
 ghost use Rattle.command_line.specs.CommandLine.{AreBare, IsBareReplay, IsPlainOfInput, MayAskPlainly, alone, are_plain, argument_rule, ask_plainly, flag_rule, is_off, is_plain_replay, mntgate_app, number_rule, subcommand_shape};
 ghost use Rattle.command_line.specs.declared.words.Asked.TheVariants.{Misused, Unread};
@@ -401,21 +401,10 @@ fn command<'a>(alloc: Global) -> Result<Command<'a>, AllocError>
         .version(VERSION)
         .subcommand_required(true);
     for subcommand in SUBCOMMANDS.iter() {
-        program = add_subcommand(alloc, program, subcommand)?;
+        let sub = subcommand_of(alloc, subcommand)?;
+        program = program.subcommand(sub)?;
     }
     Ok(program)
-}
-
-/// A command with this one, too.
-fn add_subcommand<'a>(
-    alloc: Global,
-    command: Command<'a>,
-    subcommand: &Subcommand,
-) -> Result<Command<'a>, AllocError>
-    ensures { IfOk result (λ new. app_of new ≡ with_subcommand (app_of command.entry) (subcommand_shape subcommand.now)) }
-{
-    let sub = subcommand_of(alloc, subcommand)?;
-    command.subcommand(sub)
 }
 
 /// A command of the program.

@@ -1,7 +1,7 @@
-use Rattle.std.proofs.Common.{ap, ◌∙◌, true}
+use Rattle.std.proofs.Common.{ap, ◌∙◌, refl, true}
 use Rattle.clap.specs.Words.{App}
 use Rattle.clap.specs.Simple.{app_of_fields, on_top}
-use Rattle.command_line.proofs.Parsing.{commands_all, commands_more}
+use Rattle.command_line.proofs.Parsing.{commands_all, commands_more, joined}
 use Rattle.command_line.proofs.words.command.Goals as goal
 
 -- with a version
@@ -20,7 +20,8 @@ loop-subcommand-init c =
 
 pub loop-subcommand-preserved : goal.loop-subcommand-preserved
 loop-subcommand-preserved c =
-    commands_more _ _ _ _ _ c.loop-subcommand-test.true c.loop-subcommand.invariant c.in_ok-program.ensures
+    commands_more _ _ _ _ _ c.loop-subcommand-test.true c.loop-subcommand.invariant
+    (joined _ _ _ _ _ c.in_ok-program.ensures refl c.in_ok-sub.ensures refl)
 
 pub returns : goal.returns
 returns c = let all = commands_all _ _ _ c.loop-subcommand-test.false c.loop-subcommand.invariant in all
