@@ -2,10 +2,12 @@
 
 use crate::columns::Columns;
 use crate::json;
+use crate::page::{Page, text_of};
 use crate::waits::Wait;
 use access_model::Action;
 use cpu_words::Event;
 use schedule_text::Output;
+use schedule_text::words::after_word;
 use std::alloc::{AllocError, Global};
 
 /// How events are shown.
@@ -22,11 +24,24 @@ pub enum Form {
 /// An event of a task.
 #[derive(Clone, Copy)]
 pub(crate) struct Happening {
-    pub(crate) line: u32,
     pub(crate) task: u8,
     pub(crate) event: Event,
     pub(crate) action: Option<Action>,
     pub(crate) wait: Option<Wait>,
+}
+
+impl Happening {
+    /// Prints its line, as `step` prints it, and for whom it waits.
+    fn print(self, out: &mut Output) -> Result<(), AllocError> {
+        out.event_line(self.task, self.event, self.action, false)?;
+        let Some(wait) = self.wait else {
+            return Ok(());
+        };
+        let _ = out.bytes.pop();
+        out.text(b" waiting for ")?;
+        wait.print(out)?;
+        out.text(b"\n")
+    }
 }
 
 /// Prints in one form.
@@ -48,82 +63,43 @@ impl Printer {
     }
 
     /// That there are so many tasks.
-    pub(crate) fn begin(&mut self, tasks: u8, out: &mut Output) -> Result<(), AllocError> {
-        match self {
-            Printer::Columns(columns) => columns.begin(tasks, out),
-            Printer::Events | Printer::Json => Ok(()),
+    pub(crate) fn begin(&mut self, tasks: u8, page: &mut Page) {
+        if let Printer::Columns(columns) = self {
+            columns.begin(tasks, page);
         }
     }
 
-    /// Prints an event.
-    pub(crate) fn event(
-        &mut self,
-        alloc: Global,
-        happening: Happening,
-        out: &mut Output,
-    ) -> Result<(), AllocError> {
-        match self {
-            Printer::Json => json::print_event(alloc, happening, out),
-            Printer::Events => out.text(event_text(alloc, happening)?.bytes.as_slice()),
-            Printer::Columns(columns) => {
-                let text = event_text(alloc, happening)?;
-                columns.cell(alloc, happening.task, text.bytes.as_slice(), out)
-            }
+    /// Prints an event. Its line, where there is one, is printed apart.
+    pub(crate) fn event(&self, happening: Happening, line: &mut Output, page: &mut Page) {
+        if let Printer::Json = self {
+            return json::print_event(happening, page);
         }
+        line.clear();
+        page.note(happening.print(line));
+        self.answer(happening.task, line.bytes.as_slice(), page);
     }
 
     /// Prints an answer: a line that begins with the number of its task.
-    pub(crate) fn answer(
-        &mut self,
-        alloc: Global,
-        line: u32,
-        task: u8,
-        text: &[u8],
-        out: &mut Output,
-    ) -> Result<(), AllocError> {
-        if text.is_empty() {
-            return Ok(());
-        }
+    pub(crate) fn answer(&self, task: u8, text: &[u8], page: &mut Page) {
         match self {
-            Printer::Events => out.text(text),
-            Printer::Columns(columns) => columns.cell(alloc, task, text, out),
-            Printer::Json => json::print_answer(alloc, line, task, text, out),
+            Printer::Events => page.text(text),
+            Printer::Columns(columns) => columns.cell(task, said(text), page),
+            Printer::Json => json::print_answer(task, said(text), page),
         }
     }
 
     /// Prints a listing, `words`, `tree` or `model`.
-    pub(crate) fn listing(
-        &mut self,
-        alloc: Global,
-        line: u32,
-        name: &str,
-        text: &[u8],
-        out: &mut Output,
-    ) -> Result<(), AllocError> {
+    pub(crate) fn listing(&mut self, name: &'static str, text: &str, page: &mut Page) {
         match self {
-            Printer::Columns(columns) if name == "words" => columns.changes(alloc, text, out),
-            Printer::Events | Printer::Columns(_) => out.text(text),
-            Printer::Json => json::print_listing(alloc, line, name, text, out),
+            Printer::Columns(columns) if name == "words" => columns.changes(text, page),
+            Printer::Events | Printer::Columns(_) => page.text(text.as_bytes()),
+            Printer::Json => json::print_listing(name, text, page),
         }
     }
 }
 
-/// The line of an event, as `step` prints it, and for whom it waits.
-fn event_text(alloc: Global, happening: Happening) -> Result<Output, AllocError> {
-    let mut out = Output::new(alloc);
-    print_event(happening, &mut out)?;
-    Ok(out)
-}
-
-/// Prints the line of an event, as `step` prints it, and for whom it waits.
-fn print_event(happening: Happening, out: &mut Output) -> Result<(), AllocError> {
-    out.event_line(happening.task, happening.event, happening.action, false)?;
-    match happening.wait {
-        Some(wait) => {
-            let _ = out.bytes.pop();
-            wait.print(out)?;
-            out.text(b"\n")
-        }
-        None => Ok(()),
-    }
+/// What a line says of its task, without the task's number.
+fn said(line: &[u8]) -> &str {
+    let line = line.strip_suffix(b"\n").unwrap_or(line);
+    text_of(after_word(line))
 }

@@ -1,41 +1,68 @@
 //! Events, answers and listings as JSON, an object on each line.
 
+use crate::columns::pair;
 use crate::forms::Happening;
+use crate::page::{Page, text_of};
 use crate::waits::Wait;
 use access_model::Action;
 use cpu_words::{Event, Touch, WordName};
 use schedule_text::Output;
-use schedule_text::words::{after_word, first_word};
-use serde_json::{Map, ToValue, Value};
+use serde_json::{Map, Value, json};
 use std::alloc::{AllocError, Global};
 
-/// Puts a member into an object: by a call, since what `json!` writes out for an object of several is long to prove.
-fn put<V: ToValue>(
-    object: &mut Map<String, Value>,
-    alloc: Global,
-    name: &str,
-    value: V,
-) -> Result<(), AllocError> {
-    serde_json::put(object, alloc, name, value.to_value(alloc)?)
+/// What a member of an object is.
+#[derive(Clone, Copy)]
+enum Member<'a> {
+    Number(u64),
+    Text(&'a str),
+    Word(WordName),
+    /// Null where there is none.
+    Action(Option<Action>),
+    /// Null where the task doesn't wait.
+    Wait(Option<Wait>),
+    /// What an event found; null for a store, which looks at nothing.
+    Found(Event),
+    /// The items of a listing: words with their values, or the lines of the model.
+    Items(Listing<'a>),
 }
 
-/// Prints an object on a line of its own.
-fn print(alloc: Global, object: Map<String, Value>, out: &mut Output) -> Result<(), AllocError> {
-    let text = Value::Object(object).to_string(alloc)?;
-    out.line(text.as_bytes())
+impl Member<'_> {
+    fn value(self, alloc: Global) -> Result<Value, AllocError> {
+        match self {
+            Member::Number(number) => Ok(number.into()),
+            Member::Text(text) => Value::try_from_str(alloc, text),
+            Member::Found(event) => Ok(found(event)),
+            Member::Items(listing) => listing.items(alloc),
+            Member::Word(_) | Member::Action(_) | Member::Wait(_) => self.printed(alloc),
+        }
+    }
+
+    /// What is printed of it, as a text; null where nothing is.
+    fn printed(self, alloc: Global) -> Result<Value, AllocError> {
+        let mut out = Output::new(alloc);
+        self.print(&mut out)?;
+        if out.bytes.is_empty() {
+            Ok(Value::Null)
+        } else {
+            Value::try_from_str(alloc, text_of(out.bytes.as_slice()))
+        }
+    }
+
+    fn print(self, out: &mut Output) -> Result<(), AllocError> {
+        match self {
+            Member::Word(word) => out.word_name(word),
+            Member::Action(Some(action)) => out.action(action),
+            Member::Wait(Some(wait)) => wait.print(out),
+            _ => Ok(()),
+        }
+    }
 }
 
-/// Bytes that were printed, as text.
-fn text_of(bytes: &[u8]) -> &str {
-    std::str::from_utf8(bytes).unwrap_or("")
-}
-
-/// What is printed, as a text; null where nothing is.
-fn printed(alloc: Global, out: &Output) -> Result<Value, AllocError> {
-    if out.bytes.is_empty() {
-        Ok(Value::Null)
-    } else {
-        Value::try_from_str(alloc, text_of(out.bytes.as_slice()))
+/// What an event found; null for a store, which looks at nothing.
+fn found(event: Event) -> Value {
+    match event.touch {
+        Touch::Store(_) => Value::Null,
+        _ => event.found.into(),
     }
 }
 
@@ -53,178 +80,85 @@ fn kind_of(touch: Touch) -> &'static str {
     }
 }
 
-/// The name of a word.
-fn word_told(alloc: Global, word: WordName) -> Result<Value, AllocError> {
-    let mut out = Output::new(alloc);
-    out.word_name(word)?;
-    printed(alloc, &out)
+/// A listing: `words`, `tree` or `model`.
+#[derive(Clone, Copy)]
+struct Listing<'a> {
+    name: &'static str,
+    text: &'a str,
 }
 
-/// An action; null where there is none.
-fn action_told(alloc: Global, action: Option<Action>) -> Result<Value, AllocError> {
-    let mut out = Output::new(alloc);
-    if let Some(action) = action {
-        out.action(action)?;
+impl Listing<'_> {
+    fn items(self, alloc: Global) -> Result<Value, AllocError> {
+        let mut items = Vec::new(alloc);
+        for line in self.text.lines() {
+            serde_json::push(&mut items, self.item(alloc, line)?)?;
+        }
+        Ok(Value::Array(items))
     }
-    printed(alloc, &out)
-}
 
-/// What a task waits for; null where it doesn't wait.
-fn wait_told(alloc: Global, wait: Option<Wait>) -> Result<Value, AllocError> {
-    let mut out = Output::new(alloc);
-    if let Some(wait) = wait {
-        wait.print_word(&mut out)?;
-    }
-    printed(alloc, &out)
-}
-
-/// What an event found; null for a store, which looks at nothing.
-fn found_told(event: Event) -> Value {
-    match event.touch {
-        Touch::Store(_) => Value::Null,
-        _ => event.found.into(),
+    /// One item: a line of the model, or a word with its value.
+    fn item(self, alloc: Global, line: &str) -> Result<Value, AllocError> {
+        if self.name == "model" {
+            return Value::try_from_str(alloc, line);
+        }
+        let (word, value) = pair(line);
+        let value: u64 = value.parse().unwrap_or(0);
+        json!(in alloc; {"word": word, "value": value})
     }
 }
 
-/// An event: its line and its task, what it did to which word, the action that it added and for whom it waits.
-fn put_event(
-    object: &mut Map<String, Value>,
-    alloc: Global,
-    happening: Happening,
-) -> Result<(), AllocError> {
-    put(object, alloc, "line", happening.line)?;
-    put(object, alloc, "task", happening.task)?;
-    put_touch(object, alloc, happening.event)?;
-    put_told(
-        object,
-        alloc,
-        "action",
-        action_told(alloc, happening.action),
-    )?;
-    put_told(object, alloc, "waits_for", wait_told(alloc, happening.wait))
+/// Prints an object on a line of its own.
+fn print(members: &[(&str, Member<'_>)], page: &mut Page) {
+    match object(page.alloc, members) {
+        Ok(text) => {
+            page.text(text.as_bytes());
+            page.text(b"\n");
+        }
+        Err(refused) => page.note(Err(refused)),
+    }
 }
 
-/// What an event did to which word.
-fn put_touch(
-    object: &mut Map<String, Value>,
-    alloc: Global,
-    event: Event,
-) -> Result<(), AllocError> {
-    put(object, alloc, "event", kind_of(event.touch))?;
-    put_told(object, alloc, "word", word_told(alloc, event.word))?;
-    put(object, alloc, "found", found_told(event))?;
-    put(object, alloc, "left", event.left)
-}
-
-/// What was told, where there was memory for it.
-fn put_told(
-    object: &mut Map<String, Value>,
-    alloc: Global,
-    name: &str,
-    told: Result<Value, AllocError>,
-) -> Result<(), AllocError> {
-    serde_json::put(object, alloc, name, told?)
-}
-
-/// Prints an event.
-pub(crate) fn print_event(
-    alloc: Global,
-    happening: Happening,
-    out: &mut Output,
-) -> Result<(), AllocError> {
+/// The text of an object.
+fn object(alloc: Global, members: &[(&str, Member<'_>)]) -> Result<String, AllocError> {
     let mut object = Map::new(alloc);
-    put_event(&mut object, alloc, happening)?;
-    print(alloc, object, out)
+    for (name, member) in members {
+        serde_json::put(&mut object, alloc, *name, member.value(alloc)?)?;
+    }
+    Value::Object(object).to_string(alloc)
 }
 
-/// An answer, without the number of its task.
-fn put_answer(
-    object: &mut Map<String, Value>,
-    alloc: Global,
-    line: u32,
-    task: u8,
-    text: &[u8],
-) -> Result<(), AllocError> {
-    let text = after_word(text.strip_suffix(b"\n").unwrap_or(text));
-    put(object, alloc, "line", line)?;
-    put(object, alloc, "task", task)?;
-    put(object, alloc, "answer", text_of(text))
+/// Prints an event: its line and its task, what it did to which word, the action that it added and for whom it waits.
+pub(crate) fn print_event(happening: Happening, page: &mut Page) {
+    let event = happening.event;
+    let members = [
+        ("line", Member::Number(u64::from(page.line))),
+        ("task", Member::Number(u64::from(happening.task))),
+        ("event", Member::Text(kind_of(event.touch))),
+        ("word", Member::Word(event.word)),
+        ("found", Member::Found(event)),
+        ("left", Member::Number(event.left)),
+        ("action", Member::Action(happening.action)),
+        ("waits_for", Member::Wait(happening.wait)),
+    ];
+    print(members.as_slice(), page);
 }
 
-/// Prints an answer.
-pub(crate) fn print_answer(
-    alloc: Global,
-    line: u32,
-    task: u8,
-    text: &[u8],
-    out: &mut Output,
-) -> Result<(), AllocError> {
-    let mut object = Map::new(alloc);
-    put_answer(&mut object, alloc, line, task, text)?;
-    print(alloc, object, out)
-}
-
-/// A listing: its words with their values, or the lines of the model.
-fn put_listing(
-    object: &mut Map<String, Value>,
-    alloc: Global,
-    line: u32,
-    name: &str,
-    text: &[u8],
-) -> Result<(), AllocError> {
-    put(object, alloc, "line", line)?;
-    put(object, alloc, "listing", name)?;
-    put(object, alloc, "items", items_told(alloc, name, text)?)
+/// Prints an answer, without the number of its task.
+pub(crate) fn print_answer(task: u8, text: &str, page: &mut Page) {
+    let members = [
+        ("line", Member::Number(u64::from(page.line))),
+        ("task", Member::Number(u64::from(task))),
+        ("answer", Member::Text(text)),
+    ];
+    print(members.as_slice(), page);
 }
 
 /// Prints a listing.
-pub(crate) fn print_listing(
-    alloc: Global,
-    line: u32,
-    name: &str,
-    text: &[u8],
-    out: &mut Output,
-) -> Result<(), AllocError> {
-    let mut object = Map::new(alloc);
-    put_listing(&mut object, alloc, line, name, text)?;
-    print(alloc, object, out)
-}
-
-/// The items of a listing.
-fn items_told(alloc: Global, name: &str, text: &[u8]) -> Result<Value, AllocError> {
-    let mut items = Vec::new(alloc);
-    for item in text.split(|byte| *byte == b'\n') {
-        if !item.is_empty() {
-            list(&mut items, alloc, name, item)?;
-        }
-    }
-    Ok(Value::Array(items))
-}
-
-/// One item more.
-fn list(items: &mut Vec<Value>, alloc: Global, name: &str, item: &[u8]) -> Result<(), AllocError> {
-    items.push(listed(alloc, name, item)?)?;
-    Ok(())
-}
-
-/// One item of a listing.
-fn listed(alloc: Global, name: &str, item: &[u8]) -> Result<Value, AllocError> {
-    if name == "model" {
-        Value::try_from_str(alloc, text_of(item))
-    } else {
-        word_listed(alloc, item)
-    }
-}
-
-/// A word with its value.
-fn word_listed(alloc: Global, item: &[u8]) -> Result<Value, AllocError> {
-    let mut object = Map::new(alloc);
-    put_word(&mut object, alloc, item)?;
-    Ok(Value::Object(object))
-}
-
-fn put_word(object: &mut Map<String, Value>, alloc: Global, item: &[u8]) -> Result<(), AllocError> {
-    let value: u64 = text_of(after_word(item)).parse().unwrap_or(0);
-    put(object, alloc, "word", text_of(first_word(item)))?;
-    put(object, alloc, "value", value)
+pub(crate) fn print_listing(name: &'static str, text: &str, page: &mut Page) {
+    let members = [
+        ("line", Member::Number(u64::from(page.line))),
+        ("listing", Member::Text(name)),
+        ("items", Member::Items(Listing { name, text })),
+    ];
+    print(members.as_slice(), page);
 }

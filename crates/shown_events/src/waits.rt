@@ -46,14 +46,8 @@ impl Wait {
         }
     }
 
-    /// Prints it: ` waiting for mount0.flags, task 1`.
+    /// Prints the word and who stands in the way: `mount0.flags, task 1`.
     pub(crate) fn print(self, out: &mut Output) -> Result<(), AllocError> {
-        out.text(b" waiting for ")?;
-        self.print_word(out)
-    }
-
-    /// The word and who stands in the way.
-    pub(crate) fn print_word(self, out: &mut Output) -> Result<(), AllocError> {
         out.word_name(self.word)?;
         match self.culprit {
             Culprit::Task(task) => out.numbered(b", task ", u64::from(task)),
