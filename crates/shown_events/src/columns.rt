@@ -1,5 +1,6 @@
 //! Events in a column for each task.
 
+use crate::forms::Kind;
 use crate::page::{Page, text_of};
 use schedule_text::Output;
 use std::alloc::{AllocError, Global};
@@ -50,15 +51,15 @@ impl Columns {
         self.width = (PAGE / usize::from(tasks.max(1))).max(LEAST);
         self.is_narrow = tasks > FEW;
         if self.is_narrow {
-            page.text(NARROWER.as_bytes());
+            page.text(NARROWER);
         }
-        let start = page.bytes().len();
+        let start = page.len();
         for task in 0..tasks {
-            let used = page.bytes().len().saturating_sub(start);
+            let used = page.len().saturating_sub(start);
             page.spaces(self.indent(task).saturating_sub(used));
             page.numbered(b"task ", u64::from(task));
         }
-        page.text(b"\n");
+        page.text("\n");
     }
 
     /// How many bytes are before a task's column.
@@ -66,38 +67,47 @@ impl Columns {
         self.width.saturating_mul(usize::from(task))
     }
 
-    /// Prints a text of a task in its column: what has no room there goes on in the next row.
-    pub(crate) fn cell(&self, task: u8, text: &str, page: &mut Page) {
-        if !self.is_narrow {
-            return self.words(task, text, page);
+    /// Prints what a session printed: the line of a task in its column, and of `words` what has changed.
+    pub(crate) fn print(&mut self, kind: Kind, text: &str, page: &mut Page) {
+        match kind {
+            Kind::Line { task, .. } => self.cell(task, text, page),
+            Kind::Listing("words") => self.changes(text, page),
+            Kind::Listing(_) => page.text(text),
         }
-        match shortened(page.alloc, text) {
+    }
+
+    /// Prints the line of a task, with shorter words where it has to be narrow.
+    fn cell(&self, task: u8, line: &str, page: &mut Page) {
+        if !self.is_narrow {
+            return self.words(task, line, page);
+        }
+        match shortened(page.alloc, line) {
             Ok(short) => self.words(task, short.as_str(), page),
             Err(refused) => page.note(Err(refused)),
         }
     }
 
-    /// Prints the words of a text in a task's column, in as many rows as they need.
-    fn words(&self, task: u8, text: &str, page: &mut Page) {
+    /// Prints the words of a line, but for its task's number, in the task's column: what has no room there goes on in the next row.
+    fn words(&self, task: u8, line: &str, page: &mut Page) {
         let indent = self.indent(task);
         page.spaces(indent);
         let mut used = 0;
-        for word in text.split(' ') {
-            used = self.word(indent, used, word.as_bytes(), page);
+        for word in line.trim_end().split(' ').skip(1) {
+            used = self.word(indent, used, word, page);
         }
-        page.text(b"\n");
+        page.text("\n");
     }
 
     /// Prints a word behind so many bytes of its row, or in the next row; says how many bytes of its row are used then.
-    fn word(&self, indent: usize, used: usize, word: &[u8], page: &mut Page) -> usize {
+    fn word(&self, indent: usize, used: usize, word: &str, page: &mut Page) -> usize {
         let needed = used.saturating_add(word.len()).saturating_add(1);
         let used = if used == 0 {
             word.len()
         } else if needed < self.width {
-            page.text(b" ");
+            page.text(" ");
             needed
         } else {
-            page.text(b"\n");
+            page.text("\n");
             page.spaces(indent.saturating_add(1));
             word.len().saturating_add(1)
         };
@@ -106,39 +116,38 @@ impl Columns {
     }
 
     /// Prints the words that have changed since they were listed last, as `WORD BEFORE -> NOW`.
-    pub(crate) fn changes(&mut self, listed: &str, page: &mut Page) {
+    fn changes(&mut self, listed: &str, page: &mut Page) {
         let before = text_of(self.listed.bytes.as_slice());
-        let start = page.bytes().len();
-        changed(before, listed, page);
-        gone(before, listed, page);
-        if page.bytes().len() == start {
-            page.text(b"no word has changed\n");
+        let start = page.len();
+        compare(listed, before, listed, false, page);
+        compare(before, before, listed, true, page);
+        if page.len() == start {
+            page.text("no word has changed\n");
         }
         self.listed.clear();
         page.note(self.listed.text(listed.as_bytes()));
     }
 }
 
-/// Prints the listed words that were others before.
-fn changed(before: &str, listed: &str, page: &mut Page) {
-    for line in listed.lines() {
-        let (word, value) = pair(line);
-        change(word, value_of(before, word), value, page);
-    }
-}
-
-/// Prints the words that were listed before and are 0 now.
-fn gone(before: &str, listed: &str, page: &mut Page) {
-    for line in before.lines() {
-        let (word, value) = pair(line);
-        if value_of(listed, word) == ZERO {
-            change(word, value, ZERO, page);
+/// Prints the change of each of these words that has changed: of those that are 0 now, or of the others.
+fn compare(words: &str, before: &str, now: &str, are_gone: bool, page: &mut Page) {
+    for line in words.lines() {
+        let (word, _) = pair(line);
+        let (was, is) = (value_of(before, word), value_of(now, word));
+        if was != is && (is == ZERO) == are_gone {
+            change(word, was, is, page);
         }
     }
 }
 
+fn change(word: &str, was: &str, is: &str, page: &mut Page) {
+    for part in [word, " ", was, " -> ", is, "\n"] {
+        page.text(part);
+    }
+}
+
 /// A word and its value, of a line that lists it.
-pub(crate) fn pair(line: &str) -> (&str, &str) {
+fn pair(line: &str) -> (&str, &str) {
     line.split_once(' ').unwrap_or((line, ZERO))
 }
 
@@ -151,19 +160,6 @@ fn value_of<'a>(listed: &'a str, word: &str) -> &'a str {
         }
     }
     ZERO
-}
-
-/// Prints a word's change, if it has one.
-fn change(word: &str, was: &str, is: &str, page: &mut Page) {
-    if was == is {
-        return;
-    }
-    page.text(word.as_bytes());
-    page.text(b" ");
-    page.text(was.as_bytes());
-    page.text(b" -> ");
-    page.text(is.as_bytes());
-    page.text(b"\n");
 }
 
 /// A text with its words shortened.

@@ -1,19 +1,21 @@
 //! What is printed.
 
-use schedule_text::Output;
+use schedule_text::{Fault, Output};
 use std::alloc::{AllocError, Global};
+use transcripts::no_memory;
 
-/// What was printed and not yet written out. Printing has no way out of its own: where memory for a part of a line was refused, this is
-/// noted, and at the line's end all of it is taken back.
+/// What was printed and not yet written out. What prints has no way out of its own: the fault of a line, as memory that was refused for a part
+/// of it, is noted, and at the line's end all of it is taken back.
 #[derive(Drop)]
 pub(crate) struct Page {
     pub(crate) alloc: Global,
-    /// The number of the schedule's line whose print it is.
-    pub(crate) line: u32,
+    /// How many lines of the schedule are done.
+    pub(crate) lines: u32,
+    /// By what it ended.
+    pub(crate) fault: Option<Fault>,
     output: Output,
     /// So many bytes are of lines that are done.
     done: usize,
-    lacks_memory: bool,
 }
 
 impl Page {
@@ -21,15 +23,24 @@ impl Page {
     pub(crate) fn new(alloc: Global) -> Page {
         Page {
             alloc,
-            line: 1,
+            lines: 0,
+            fault: None,
             output: Output::new(alloc),
             done: 0,
-            lacks_memory: false,
         }
+    }
+
+    /// The number of the line that is shown.
+    pub(crate) fn line(&self) -> u32 {
+        self.lines.saturating_add(1)
     }
 
     pub(crate) fn bytes(&self) -> &[u8] {
         self.output.bytes.as_slice()
+    }
+
+    pub(crate) fn len(&self) -> usize {
+        self.output.bytes.len()
     }
 
     /// Forgets what was printed, once it has been written out.
@@ -40,25 +51,29 @@ impl Page {
 
     /// Notes whether there was memory for something.
     pub(crate) fn note(&mut self, printed: Result<(), AllocError>) {
-        if printed.is_err() {
-            self.lacks_memory = true;
+        if let Err(refused) = printed {
+            self.fault = Some(no_memory(refused));
         }
     }
 
-    /// Ends what a line prints, and goes on to the next one. Where there was no memory for all of it, nothing of it stays.
-    pub(crate) fn end_line(&mut self) -> Result<(), AllocError> {
-        if self.lacks_memory {
+    /// Ends by a fault.
+    pub(crate) fn fail(&mut self, fault: Fault) {
+        self.fault = Some(fault);
+    }
+
+    /// Ends what a line shows; says whether it is done. Where it has a fault nothing of it stays.
+    pub(crate) fn end_line(&mut self) -> bool {
+        if self.fault.is_some() {
             self.output.bytes.truncate(self.done);
-            self.lacks_memory = false;
-            return Err(AllocError);
+            return false;
         }
         self.done = self.output.bytes.len();
-        self.line = self.line.saturating_add(1);
-        Ok(())
+        self.lines = self.lines.saturating_add(1);
+        true
     }
 
-    pub(crate) fn text(&mut self, text: &[u8]) {
-        let printed = self.output.text(text);
+    pub(crate) fn text(&mut self, text: &str) {
+        let printed = self.output.text(text.as_bytes());
         self.note(printed);
     }
 
@@ -69,7 +84,7 @@ impl Page {
 
     pub(crate) fn spaces(&mut self, count: usize) {
         for _ in 0..count {
-            self.text(b" ");
+            self.text(" ");
         }
     }
 }

@@ -1,11 +1,12 @@
 //! What is seen of a session.
 
-use crate::forms::{Form, Happening, Printer};
+use crate::forms::{Form, Kind, Printer};
 use crate::page::{Page, text_of};
 use crate::waits::Wait;
-use cpu_words::{Event, WordName};
+use cpu_words::{Event, Touch, WordName};
 use gate_core::{Progress, Step};
-use schedule_text::{Fault, HookFailure, Output, Request, TaskCommand};
+use gate_world::Op;
+use schedule_text::{Fault, HookFailure, Line, Output, Request, TaskCommand, parse};
 use std::alloc::Global;
 use transcripts::printing::print_ended;
 use transcripts::session::EVENTS;
@@ -14,10 +15,37 @@ use transcripts::{Driver, Session};
 /// How many tasks a number can tell.
 const TASKS: usize = 256;
 
+/// The names of the words of an event's line, and of for whom it waits.
+static EVENT: [&str; 7] = [
+    "task",
+    "event",
+    "word",
+    "found",
+    "left",
+    "action",
+    "waits_for",
+];
+
+/// The same of a store, which finds nothing.
+static STORE: [&str; 7] = [
+    "task",
+    "event",
+    "word",
+    "left",
+    "action",
+    "waits_for",
+    "found",
+];
+
+/// The names of a task's number and of what is answered.
+static ANSWER: [&str; 2] = ["task", "answer"];
+
 /// A form, and what was printed in it.
 #[derive(Drop)]
 pub(crate) struct Screen {
     pub(crate) page: Page,
+    /// How many tasks there are, once there is a configuration.
+    pub(crate) tasks: Option<u8>,
     printer: Printer,
     /// What a session prints of an event or at the end, before it has its form.
     text: Output,
@@ -30,6 +58,7 @@ impl Screen {
     pub(crate) fn new(alloc: Global, form: Form) -> Screen {
         Screen {
             page: Page::new(alloc),
+            tasks: None,
             printer: Printer::new(alloc, form),
             text: Output::new(alloc),
             blocks: [0; TASKS],
@@ -38,126 +67,158 @@ impl Screen {
 
     /// That there are so many tasks.
     pub(crate) fn begin(&mut self, tasks: u8) {
+        self.tasks = Some(tasks);
         self.printer.begin(tasks, &mut self.page);
     }
 
-    /// Does what a line asks of a session, and shows it.
-    pub(crate) fn do_request<D: Driver>(
+    /// Does a line and shows it; says whether it is done.
+    pub(crate) fn do_line<D: Driver>(
         &mut self,
-        session: &mut Session<D>,
-        request: Request,
-    ) -> Result<(), Fault> {
+        session: &mut Option<Session<D>>,
+        line: &[u8],
+    ) -> bool {
+        match parse(line, self.tasks) {
+            Ok(line) => self.do_parsed(session, line),
+            Err(fault) => self.page.fail(fault),
+        }
+        self.page.end_line()
+    }
+
+    fn do_parsed<D: Driver>(&mut self, session: &mut Option<Session<D>>, line: Line) {
+        match line {
+            Line::Skipped => {}
+            Line::Config(config) => match Session::new(self.page.alloc, config) {
+                Ok(opened) => {
+                    *session = Some(opened);
+                    self.begin(config.tasks);
+                }
+                Err(fault) => self.page.fail(fault),
+            },
+            Line::Request(request) => match session {
+                Some(session) => self.do_request(session, request),
+                None => self.page.fail(Fault::ConfigExpected),
+            },
+        }
+    }
+
+    fn do_request<D: Driver>(&mut self, session: &mut Session<D>, request: Request) {
         match request {
-            Request::Task {
-                task,
-                command: TaskCommand::Step { hook },
-            } => {
-                self.step(session, task, hook)?;
-                Ok(())
-            }
-            Request::Task {
-                task,
-                command: TaskCommand::Run { failure },
-            } => self.run(session, task, failure),
-            Request::Task {
-                task,
-                command: TaskCommand::Begin(_),
-            } => {
-                self.ask(session, request)?;
-                self.answer(task);
-                Ok(())
-            }
-            Request::Words => self.list(session, "words", request),
-            Request::Tree => self.list(session, "tree", request),
-            Request::Model => self.list(session, "model", request),
+            Request::Words => self.list(session, request, "words"),
+            Request::Tree => self.list(session, request, "tree"),
+            Request::Model => self.list(session, request, "model"),
+            Request::Task { task, command } => match command {
+                TaskCommand::Begin(op) => self.begin_operation(session, task, op),
+                TaskCommand::Step { hook } => {
+                    self.step(session, task, hook);
+                }
+                TaskCommand::Run { failure } => self.run(session, task, failure),
+            },
         }
     }
 
-    /// Does what has no event.
-    fn ask<D: Driver>(&mut self, session: &mut Session<D>, request: Request) -> Result<(), Fault> {
+    /// Begins an operation, and shows its refusal, if it is refused.
+    fn begin_operation<D: Driver>(&mut self, session: &mut Session<D>, task: u8, op: Op) {
         self.text.clear();
-        session.do_request(request, &mut self.text)
-    }
-
-    fn list<D: Driver>(
-        &mut self,
-        session: &mut Session<D>,
-        name: &'static str,
-        request: Request,
-    ) -> Result<(), Fault> {
-        self.ask(session, request)?;
-        let text = self.text.bytes.as_slice();
-        self.printer.listing(name, text_of(text), &mut self.page);
-        Ok(())
-    }
-
-    /// Shows what was printed of a task, if there is something.
-    fn answer(&mut self, task: u8) {
-        let text = self.text.bytes.as_slice();
-        if !text.is_empty() {
-            self.printer.answer(task, text, &mut self.page);
+        match session.begin(task, op, &mut self.text) {
+            Ok(()) if self.text.bytes.is_empty() => {}
+            Ok(()) => self.print(answer(task)),
+            Err(fault) => self.page.fail(fault),
         }
     }
 
-    /// Does one event and shows it, and then its reply, if the operation has ended.
+    fn list<D: Driver>(&mut self, session: &mut Session<D>, request: Request, name: &'static str) {
+        self.text.clear();
+        match session.do_request(request, &mut self.text) {
+            Ok(()) => self.print(Kind::Listing(name)),
+            Err(fault) => self.page.fail(fault),
+        }
+    }
+
+    /// Prints the text in its form.
+    fn print(&mut self, kind: Kind) {
+        let text = text_of(self.text.bytes.as_slice());
+        self.printer.print(kind, text, &mut self.page);
+    }
+
+    /// Goes on to the reply, to the first event that has to wait, or to the last event that one line may do.
+    fn run<D: Driver>(&mut self, session: &mut Session<D>, task: u8, failure: Option<HookFailure>) {
+        for _ in 0..EVENTS {
+            let hook = session.hook_answer(task, failure);
+            let Progress::Going = self.step(session, task, hook) else {
+                return;
+            };
+        }
+        self.reply(session, task, Progress::Going);
+    }
+
+    /// Does one event and shows it, and the reply, if the operation has ended; says how it stands.
     fn step<D: Driver>(
         &mut self,
         session: &mut Session<D>,
         task: u8,
         hook: Result<(), u16>,
-    ) -> Result<Progress, Fault> {
-        let step = session.step(task, hook)?;
-        if let Some(event) = step.event {
-            self.event(session, task, event, step);
-        }
-        if let Progress::Idle | Progress::Done(_) = step.progress {
-            self.reply(session, task, step.progress);
-        }
-        Ok(step.progress)
-    }
-
-    /// Goes on to the reply, to the first event that has to wait, or to the last event that one line may do.
-    fn run<D: Driver>(
-        &mut self,
-        session: &mut Session<D>,
-        task: u8,
-        failure: Option<HookFailure>,
-    ) -> Result<(), Fault> {
-        for _ in 0..EVENTS {
-            let hook = session.hook_answer(task, failure);
-            match self.step(session, task, hook)? {
-                Progress::Going => {}
-                Progress::Idle | Progress::Waiting | Progress::Done(_) => return Ok(()),
+    ) -> Progress {
+        match session.step(task, hook) {
+            Ok(step) => {
+                if let Some(event) = step.event {
+                    self.event(session, task, event, step);
+                }
+                if let Progress::Idle | Progress::Done(_) = step.progress {
+                    self.reply(session, task, step.progress);
+                }
+                step.progress
+            }
+            Err(fault) => {
+                self.page.fail(fault);
+                Progress::Idle
             }
         }
-        self.reply(session, task, Progress::Going);
-        Ok(())
     }
 
     /// Shows how an operation stands.
     fn reply<D: Driver>(&mut self, session: &Session<D>, task: u8, progress: Progress) {
         self.text.clear();
         self.page.note(print_ended(&mut self.text, task, progress, session.used()));
-        self.answer(task);
+        self.print(answer(task));
     }
 
-    /// Shows the event of a step.
+    /// Shows the event of a step, and for whom it waits.
     fn event<D: Driver>(&mut self, session: &Session<D>, task: u8, event: Event, step: Step) {
-        let block = &mut self.blocks[usize::from(task)];
+        self.text.clear();
+        self.page
+            .note(self.text.event_line(task, event, step.action, false));
         if let WordName::Block(level) = event.word {
-            *block = level;
+            self.blocks[usize::from(task)] = level;
         }
-        let wait = match step.progress {
-            Progress::Waiting => Some(Wait::of(session, task, event, *block)),
-            Progress::Idle | Progress::Going | Progress::Done(_) => None,
-        };
-        let happening = Happening {
+        if let Progress::Waiting = step.progress {
+            let wait = Wait::of(session, task, event, self.blocks[usize::from(task)]);
+            wait.print(&mut self.text, &mut self.page);
+        }
+        self.print(kind_of(event, task));
+    }
+}
+
+/// The line of a task's event.
+fn kind_of(event: Event, task: u8) -> Kind {
+    match event.touch {
+        Touch::Store(_) => Kind::Line {
             task,
-            event,
-            action: step.action,
-            wait,
-        };
-        self.printer
-            .event(happening, &mut self.text, &mut self.page);
+            words: 5,
+            names: STORE.as_slice(),
+        },
+        _ => Kind::Line {
+            task,
+            words: 6,
+            names: EVENT.as_slice(),
+        },
+    }
+}
+
+/// A line of a task that is no event.
+fn answer(task: u8) -> Kind {
+    Kind::Line {
+        task,
+        words: 2,
+        names: ANSWER.as_slice(),
     }
 }

@@ -1,20 +1,22 @@
 //! A schedule, shown line by line.
 
-ghost use Rattle.std.specs.Prelude.{◌≡◌, ◌<◌, IfOk, IfSome};
+ghost use Rattle.std.specs.Prelude.{◌<◌};
 ghost use Rattle.schedule_bytes.specs.Pending.{pending_count};
 
 use crate::forms::Form;
 use crate::screen::Screen;
 use schedule_bytes::{Input, ReplayFault, fault_after, write_out};
-use schedule_text::{Fault, Front, LINE_BYTES, LINES, Line, parse};
+use schedule_text::{Fault, Front, LINE_BYTES, LINES};
 use std::alloc::{AllocError, Global};
 use std::io::{Read, Write};
-use transcripts::{Driver, Session, no_memory};
+use transcripts::{Driver, Session};
+
+/// How many turns all lines and what follows them take at most: of each line one for itself, and one for each byte of it that was read alone.
+const TURNS: usize = (LINES as usize + 1) * (LINE_BYTES + 2);
 
 /// A schedule that is shown, over whatever gates.
 #[derive(Drop)]
 pub struct Show<D> {
-    alloc: Global,
     input: Input,
     session: Option<Session<D>>,
     screen: Screen,
@@ -24,7 +26,6 @@ impl<D: Driver> Show<D> {
     /// Nothing read and nothing printed yet.
     pub fn new(alloc: Global, form: Form) -> Result<Show<D>, AllocError> {
         Ok(Show {
-            alloc,
             input: Input::new(alloc)?,
             session: None,
             screen: Screen::new(alloc, form),
@@ -34,16 +35,9 @@ impl<D: Driver> Show<D> {
     /// Gates that were set up before, with no configuration to be read.
     pub fn over(alloc: Global, form: Form, session: Session<D>) -> Result<Show<D>, AllocError> {
         let mut show = Show::new(alloc, form)?;
-        show.begin(session);
+        show.screen.begin(session.tasks());
+        show.session = Some(session);
         Ok(show)
-    }
-
-    /// Begins to show these gates.
-    fn begin(&mut self, session: Session<D>)
-        ensures input { self.new.input ≡ self.old.input }
-    {
-        self.screen.begin(session.tasks());
-        self.session = Some(session);
     }
 
     /// What was read from the line on that is to be done next; after a fault, from the faulty line on.
@@ -53,7 +47,7 @@ impl<D: Driver> Show<D> {
 
     /// How many tasks there are, once there is a configuration.
     pub fn tasks(&self) -> Option<u8> {
-        Some(self.session.as_ref()?.tasks())
+        self.screen.tasks
     }
 
     /// Does and shows all lines, or those up to the first fault, which is the one that a replay ends by. What is typed is answered at once.
@@ -62,124 +56,87 @@ impl<D: Driver> Show<D> {
         reader: &mut R,
         writer: &mut W,
     ) -> Result<(), ReplayFault> {
-        for done in 0..LINES {
-            match self.do_line(reader, writer) {
-                Ok(true) => {}
-                Ok(false) => return Ok(()),
-                Err(fault) => return Err(self.ended(done, fault, writer)),
+        // Each turn that goes on does a line or reads a byte or more.
+        for _ in 0..TURNS {
+            if !self.turn(reader, writer) {
+                break;
             }
         }
-        match self.expect_end(reader, writer) {
-            Ok(()) => Ok(()),
-            Err(fault) => Err(self.ended(LINES, fault, writer)),
+        // What was shown before a fault is still to be written. Where that fails, this is the fault.
+        self.write_out(writer);
+        match self.screen.page.fault {
+            Some(fault) => Err(fault_after(self.screen.page.lines.min(LINES), fault)),
+            None => Ok(()),
         }
     }
 
-    /// Writes out what was shown before a fault. Where that fails, this is the fault.
-    fn ended<W: Write>(&mut self, done: u32, fault: Fault, writer: &mut W) -> ReplayFault {
-        match self.write_out(writer) {
-            Ok(()) => fault_after(done.min(LINES), fault),
-            Err(failed) => fault_after(done.min(LINES), failed),
+    /// Does a line, or reads more where there is none that is whole; says whether it goes on.
+    fn turn<R: Read, W: Write>(&mut self, reader: &mut R, writer: &mut W) -> bool {
+        match self.input.front() {
+            Front::Line(length) => self.do_line(length),
+            Front::TooLong => self.end_by(self.no_line(Fault::LineTooLong)),
+            Front::Part => self.write_out(writer) && self.read(reader),
         }
     }
 
-    fn write_out<W: Write>(&mut self, writer: &mut W) -> Result<(), Fault> {
+    /// Writes out what was shown.
+    fn write_out<W: Write>(&mut self, writer: &mut W) -> bool {
         let written = write_out(writer, self.screen.page.bytes());
         self.screen.page.clear();
-        written
-    }
-
-    /// Reads the next line and shows it; says whether there was one.
-    fn do_line<R: Read, W: Write>(
-        &mut self,
-        reader: &mut R,
-        writer: &mut W,
-    ) -> Result<bool, Fault> {
-        match self.read_line(reader, writer)? {
-            Some(length) => self.do_front(length),
-            None => Ok(false),
+        match written {
+            Ok(()) => true,
+            Err(fault) => self.end_by(fault),
         }
     }
 
-    /// Reads until the next line is whole, and says how many bytes it has; None at the end of the input.
-    fn read_line<R: Read, W: Write>(
-        &mut self,
-        reader: &mut R,
-        writer: &mut W,
-    ) -> Result<Option<usize>, Fault>
-        ensures inside { IfOk result (λ found. IfSome found (λ length. length < pending_count self.new.input)) }
-    {
-        // Each turn that goes on reads a byte or more.
-        for _ in 0..LINE_BYTES + 2 {
-            match self.input.front() {
-                Front::Line(length) => return Ok(Some(length)),
-                Front::TooLong => return Err(Fault::LineTooLong),
-                Front::Part => {}
-            }
-            if self.read_more(reader, writer)? == 0 {
-                self.at_end()?;
-                return Ok(None);
-            }
+    /// Reads more, if there is more.
+    fn read<R: Read>(&mut self, reader: &mut R) -> bool {
+        match self.input.read(reader) {
+            Ok(0) => self.end_input(),
+            Ok(_) => true,
+            Err(fault) => self.end_by(fault),
         }
-        Err(Fault::LineTooLong)
     }
 
-    /// Writes out what was shown, and only then reads more.
-    fn read_more<R: Read, W: Write>(
-        &mut self,
-        reader: &mut R,
-        writer: &mut W,
-    ) -> Result<usize, Fault> {
-        self.write_out(writer)?;
-        self.input.read(reader)
+    /// Ends by a fault.
+    fn end_by(&mut self, fault: Fault) -> bool {
+        self.screen.page.fail(fault);
+        false
     }
 
-    /// Sees to it that there is no line more than a schedule may have.
-    fn expect_end<R: Read, W: Write>(
-        &mut self,
-        reader: &mut R,
-        writer: &mut W,
-    ) -> Result<(), Fault> {
-        if self.input.is_empty() && self.read_more(reader, writer)? == 0 {
-            self.at_end()
+    /// The fault of what is no line: this one, but where there may be no line more.
+    fn no_line(&self, fault: Fault) -> Fault {
+        if self.screen.page.lines < LINES {
+            fault
         } else {
-            Err(Fault::TooManyLines)
+            Fault::TooManyLines
         }
     }
 
-    /// Whether the input may end where it does.
-    fn at_end(&self) -> Result<(), Fault> {
+    /// Ends where the input does.
+    fn end_input(&mut self) -> bool {
         if !self.input.is_empty() {
-            Err(Fault::CutOff)
+            self.end_by(self.no_line(Fault::CutOff))
         } else if self.session.is_none() {
-            Err(Fault::ConfigExpected)
+            self.end_by(Fault::ConfigExpected)
         } else {
-            Ok(())
+            false
         }
     }
 
     /// Does and shows the line that the pending bytes begin with, and takes it, with its newline.
-    fn do_front(&mut self, length: usize) -> Result<bool, Fault>
+    fn do_line(&mut self, length: usize) -> bool
         requires inside { length < pending_count self.old.input }
     {
-        let line = parse(self.input.first(length), self.tasks())?;
-        self.do_parsed(line)?;
-        self.screen.page.end_line().map_err(no_memory)?;
-        self.input.take(length + 1);
-        Ok(true)
-    }
-
-    fn do_parsed(&mut self, line: Line) -> Result<(), Fault>
-        ensures input { self.new.input ≡ self.old.input }
-    {
-        match (line, &mut self.session) {
-            (Line::Skipped, _) => Ok(()),
-            (Line::Config(config), _) => {
-                self.begin(Session::new(self.alloc, config)?);
-                Ok(())
-            }
-            (Line::Request(request), Some(session)) => self.screen.do_request(session, request),
-            (Line::Request(_), None) => Err(Fault::ConfigExpected),
+        if self.screen.page.lines >= LINES {
+            return self.end_by(Fault::TooManyLines);
         }
+        let is_done = self
+            .screen
+            .do_line(&mut self.session, self.input.first(length));
+        if is_done {
+            self.input.take(length + 1);
+        }
+        is_done
     }
 }
