@@ -19,7 +19,7 @@ pub enum Form {
 /// What a text is that a session printed.
 #[derive(Clone, Copy)]
 pub(crate) enum Kind {
-    /// A line about a task, if there is one: so many words, each with its name in JSON, of which the last one has all that follows; behind
+    /// A line about a task: so many words, each with its name in JSON, of which the last one has all that follows; behind
     /// these names are those of what isn't there.
     Line {
         task: u8,

@@ -10,9 +10,20 @@ static WORD: [&str; 2] = ["word", "value"];
 /// Prints what a session printed.
 pub(crate) fn print(kind: Kind, text: &str, page: &mut Page) {
     let mut object = Map::new(page.alloc);
-    put(&mut object, "line", page.line().into(), page);
+    put(
+        &mut object,
+        "line",
+        page.lines.saturating_add(1).into(),
+        page,
+    );
     match kind {
-        Kind::Line { words, names, .. } => put_words(&mut object, names, words, text, page),
+        Kind::Line { words, names, .. } => put_words(
+            &mut object,
+            names,
+            words,
+            text.trim_end(),
+            page,
+        ),
         Kind::Listing(name) => put_listing(&mut object, name, text, page),
     }
     match Value::Object(object).to_string(page.alloc) {
@@ -37,10 +48,7 @@ fn put_words(
     line: &str,
     page: &mut Page,
 ) {
-    let (line, wait) = line
-        .trim_end()
-        .split_once(" waiting for ")
-        .unwrap_or((line.trim_end(), ""));
+    let (line, wait) = line.split_once(" waiting for ").unwrap_or((line, ""));
     let mut words = line.splitn(count, ' ');
     for name in names {
         let word = words.next().unwrap_or("");

@@ -11,11 +11,11 @@ pub(crate) struct Page {
     pub(crate) alloc: Global,
     /// How many lines of the schedule are done.
     pub(crate) lines: u32,
-    /// By what it ended.
-    pub(crate) fault: Option<Fault>,
     output: Output,
     /// So many bytes are of lines that are done.
     done: usize,
+    /// The fault of the line that is shown.
+    fault: Option<Fault>,
 }
 
 impl Page {
@@ -24,15 +24,10 @@ impl Page {
         Page {
             alloc,
             lines: 0,
-            fault: None,
             output: Output::new(alloc),
             done: 0,
+            fault: None,
         }
-    }
-
-    /// The number of the line that is shown.
-    pub(crate) fn line(&self) -> u32 {
-        self.lines.saturating_add(1)
     }
 
     pub(crate) fn bytes(&self) -> &[u8] {
@@ -56,20 +51,20 @@ impl Page {
         }
     }
 
-    /// Ends by a fault.
+    /// Notes the fault of a line.
     pub(crate) fn fail(&mut self, fault: Fault) {
         self.fault = Some(fault);
     }
 
-    /// Ends what a line shows; says whether it is done. Where it has a fault nothing of it stays.
-    pub(crate) fn end_line(&mut self) -> bool {
-        if self.fault.is_some() {
+    /// Ends what a line shows, and goes on to the next one. Where it has a fault nothing of it stays.
+    pub(crate) fn end_line(&mut self) -> Result<(), Fault> {
+        if let Some(fault) = self.fault {
             self.output.bytes.truncate(self.done);
-            return false;
+            return Err(fault);
         }
         self.done = self.output.bytes.len();
         self.lines = self.lines.saturating_add(1);
-        true
+        Ok(())
     }
 
     pub(crate) fn text(&mut self, text: &str) {

@@ -5,8 +5,7 @@ use crate::page::{Page, text_of};
 use crate::waits::Wait;
 use cpu_words::{Event, Touch, WordName};
 use gate_core::{Progress, Step};
-use gate_world::Op;
-use schedule_text::{Fault, HookFailure, Line, Output, Request, TaskCommand, parse};
+use schedule_text::{Fault, HookFailure, Line, Output, Request, TaskCommand};
 use std::alloc::Global;
 use transcripts::printing::print_ended;
 use transcripts::session::EVENTS;
@@ -71,20 +70,8 @@ impl Screen {
         self.printer.begin(tasks, &mut self.page);
     }
 
-    /// Does a line and shows it; says whether it is done.
-    pub(crate) fn do_line<D: Driver>(
-        &mut self,
-        session: &mut Option<Session<D>>,
-        line: &[u8],
-    ) -> bool {
-        match parse(line, self.tasks) {
-            Ok(line) => self.do_parsed(session, line),
-            Err(fault) => self.page.fail(fault),
-        }
-        self.page.end_line()
-    }
-
-    fn do_parsed<D: Driver>(&mut self, session: &mut Option<Session<D>>, line: Line) {
+    /// Does what a line asks for and shows it, or sets a session up. A fault is noted on the page.
+    pub(crate) fn do_line<D: Driver>(&mut self, session: &mut Option<Session<D>>, line: Line) {
         match line {
             Line::Skipped => {}
             Line::Config(config) => match Session::new(self.page.alloc, config) {
@@ -103,11 +90,11 @@ impl Screen {
 
     fn do_request<D: Driver>(&mut self, session: &mut Session<D>, request: Request) {
         match request {
-            Request::Words => self.list(session, request, "words"),
-            Request::Tree => self.list(session, request, "tree"),
-            Request::Model => self.list(session, request, "model"),
+            Request::Words => self.do_plainly(session, request, Kind::Listing("words")),
+            Request::Tree => self.do_plainly(session, request, Kind::Listing("tree")),
+            Request::Model => self.do_plainly(session, request, Kind::Listing("model")),
             Request::Task { task, command } => match command {
-                TaskCommand::Begin(op) => self.begin_operation(session, task, op),
+                TaskCommand::Begin(_) => self.do_plainly(session, request, answer(task)),
                 TaskCommand::Step { hook } => {
                     self.step(session, task, hook);
                 }
@@ -116,27 +103,23 @@ impl Screen {
         }
     }
 
-    /// Begins an operation, and shows its refusal, if it is refused.
-    fn begin_operation<D: Driver>(&mut self, session: &mut Session<D>, task: u8, op: Op) {
-        self.text.clear();
-        match session.begin(task, op, &mut self.text) {
-            Ok(()) if self.text.bytes.is_empty() => {}
-            Ok(()) => self.print(answer(task)),
-            Err(fault) => self.page.fail(fault),
-        }
-    }
-
-    fn list<D: Driver>(&mut self, session: &mut Session<D>, request: Request, name: &'static str) {
+    /// Does what has no event: a beginning, which prints its refusal, if it is refused, or a listing.
+    fn do_plainly<D: Driver>(&mut self, session: &mut Session<D>, request: Request, kind: Kind) {
         self.text.clear();
         match session.do_request(request, &mut self.text) {
-            Ok(()) => self.print(Kind::Listing(name)),
+            Ok(()) => self.print(kind),
             Err(fault) => self.page.fail(fault),
         }
     }
 
-    /// Prints the text in its form.
+    /// Prints the text in its form. There is no line about a task where there is no text.
     fn print(&mut self, kind: Kind) {
         let text = text_of(self.text.bytes.as_slice());
+        if let Kind::Line { .. } = kind
+            && text.is_empty()
+        {
+            return;
+        }
         self.printer.print(kind, text, &mut self.page);
     }
 

@@ -6,7 +6,7 @@ ghost use Rattle.schedule_bytes.specs.Pending.{pending_count};
 use crate::forms::Form;
 use crate::screen::Screen;
 use schedule_bytes::{Input, ReplayFault, fault_after, write_out};
-use schedule_text::{Fault, Front, LINE_BYTES, LINES};
+use schedule_text::{Fault, Front, LINE_BYTES, LINES, parse};
 use std::alloc::{AllocError, Global};
 use std::io::{Read, Write};
 use transcripts::{Driver, Session};
@@ -25,19 +25,25 @@ pub struct Show<D> {
 impl<D: Driver> Show<D> {
     /// Nothing read and nothing printed yet.
     pub fn new(alloc: Global, form: Form) -> Result<Show<D>, AllocError> {
-        Ok(Show {
-            input: Input::new(alloc)?,
-            session: None,
-            screen: Screen::new(alloc, form),
-        })
+        Show::with(alloc, form, None)
     }
 
     /// Gates that were set up before, with no configuration to be read.
     pub fn over(alloc: Global, form: Form, session: Session<D>) -> Result<Show<D>, AllocError> {
-        let mut show = Show::new(alloc, form)?;
-        show.screen.begin(session.tasks());
-        show.session = Some(session);
-        Ok(show)
+        Show::with(alloc, form, Some(session))
+    }
+
+    fn with(alloc: Global, form: Form, session: Option<Session<D>>) -> Result<Show<D>, AllocError> {
+        let input = Input::new(alloc)?;
+        let mut screen = Screen::new(alloc, form);
+        if let Some(session) = &session {
+            screen.begin(session.tasks());
+        }
+        Ok(Show {
+            input,
+            session,
+            screen,
+        })
     }
 
     /// What was read from the line on that is to be done next; after a fault, from the faulty line on.
@@ -58,85 +64,64 @@ impl<D: Driver> Show<D> {
     ) -> Result<(), ReplayFault> {
         // Each turn that goes on does a line or reads a byte or more.
         for _ in 0..TURNS {
-            if !self.turn(reader, writer) {
-                break;
+            match self.turn(reader, writer) {
+                Ok(true) => {}
+                Ok(false) => break,
+                Err(fault) => return Err(self.ended(fault, writer)),
             }
         }
-        // What was shown before a fault is still to be written. Where that fails, this is the fault.
-        self.write_out(writer);
-        match self.screen.page.fault {
-            Some(fault) => Err(fault_after(self.screen.page.lines.min(LINES), fault)),
-            None => Ok(()),
-        }
+        Ok(())
+    }
+
+    /// Writes out what was shown before a fault. Where that fails, this is the fault.
+    fn ended<W: Write>(&mut self, fault: Fault, writer: &mut W) -> ReplayFault {
+        let fault = match self.write_out(writer) {
+            Ok(()) => fault,
+            Err(failed) => failed,
+        };
+        fault_after(self.screen.page.lines.min(LINES), fault)
+    }
+
+    fn write_out<W: Write>(&mut self, writer: &mut W) -> Result<(), Fault> {
+        let written = write_out(writer, self.screen.page.bytes());
+        self.screen.page.clear();
+        written
     }
 
     /// Does a line, or reads more where there is none that is whole; says whether it goes on.
-    fn turn<R: Read, W: Write>(&mut self, reader: &mut R, writer: &mut W) -> bool {
+    fn turn<R: Read, W: Write>(&mut self, reader: &mut R, writer: &mut W) -> Result<bool, Fault> {
+        if self.screen.page.lines == LINES && !self.input.is_empty() {
+            return Err(Fault::TooManyLines);
+        }
         match self.input.front() {
             Front::Line(length) => self.do_line(length),
-            Front::TooLong => self.end_by(self.no_line(Fault::LineTooLong)),
-            Front::Part => self.write_out(writer) && self.read(reader),
+            Front::TooLong => Err(Fault::LineTooLong),
+            Front::Part => self.read_more(reader, writer),
         }
     }
 
-    /// Writes out what was shown.
-    fn write_out<W: Write>(&mut self, writer: &mut W) -> bool {
-        let written = write_out(writer, self.screen.page.bytes());
-        self.screen.page.clear();
-        match written {
-            Ok(()) => true,
-            Err(fault) => self.end_by(fault),
-        }
-    }
-
-    /// Reads more, if there is more.
-    fn read<R: Read>(&mut self, reader: &mut R) -> bool {
-        match self.input.read(reader) {
-            Ok(0) => self.end_input(),
-            Ok(_) => true,
-            Err(fault) => self.end_by(fault),
-        }
-    }
-
-    /// Ends by a fault.
-    fn end_by(&mut self, fault: Fault) -> bool {
-        self.screen.page.fail(fault);
-        false
-    }
-
-    /// The fault of what is no line: this one, but where there may be no line more.
-    fn no_line(&self, fault: Fault) -> Fault {
-        if self.screen.page.lines < LINES {
-            fault
-        } else {
-            Fault::TooManyLines
-        }
-    }
-
-    /// Ends where the input does.
-    fn end_input(&mut self) -> bool {
-        if !self.input.is_empty() {
-            self.end_by(self.no_line(Fault::CutOff))
-        } else if self.session.is_none() {
-            self.end_by(Fault::ConfigExpected)
-        } else {
-            false
+    /// Writes out what was shown, and only then reads more, if there is more.
+    fn read_more<R: Read, W: Write>(
+        &mut self,
+        reader: &mut R,
+        writer: &mut W,
+    ) -> Result<bool, Fault> {
+        self.write_out(writer)?;
+        match self.input.read(reader)? {
+            0 if !self.input.is_empty() => Err(Fault::CutOff),
+            0 if self.session.is_none() => Err(Fault::ConfigExpected),
+            count => Ok(count > 0),
         }
     }
 
     /// Does and shows the line that the pending bytes begin with, and takes it, with its newline.
-    fn do_line(&mut self, length: usize) -> bool
+    fn do_line(&mut self, length: usize) -> Result<bool, Fault>
         requires inside { length < pending_count self.old.input }
     {
-        if self.screen.page.lines >= LINES {
-            return self.end_by(Fault::TooManyLines);
-        }
-        let is_done = self
-            .screen
-            .do_line(&mut self.session, self.input.first(length));
-        if is_done {
-            self.input.take(length + 1);
-        }
-        is_done
+        let line = parse(self.input.first(length), self.screen.tasks)?;
+        self.screen.do_line(&mut self.session, line);
+        self.screen.page.end_line()?;
+        self.input.take(length + 1);
+        Ok(true)
     }
 }
