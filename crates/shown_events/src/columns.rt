@@ -70,7 +70,7 @@ impl Columns {
     /// Prints what a session printed: the line of a task in its column, and of `words` what has changed.
     pub(crate) fn print(&mut self, kind: Kind, text: &str, page: &mut Page) {
         match kind {
-            Kind::Line { task, .. } => self.cell(task, text, page),
+            Kind::Line(task, _) => self.cell(task, text, page),
             Kind::Listing("words") => self.changes(text, page),
             Kind::Listing(_) => page.text(text),
         }

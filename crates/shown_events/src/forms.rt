@@ -1,7 +1,7 @@
 //! The forms in which a schedule is shown.
 
 use crate::columns::Columns;
-use crate::json;
+use crate::json::{self, Names};
 use crate::page::Page;
 use std::alloc::Global;
 
@@ -19,13 +19,8 @@ pub enum Form {
 /// What a text is that a session printed.
 #[derive(Clone, Copy)]
 pub(crate) enum Kind {
-    /// A line about a task: so many words, each with its name in JSON, of which the last one has all that follows; behind
-    /// these names are those of what isn't there.
-    Line {
-        task: u8,
-        words: usize,
-        names: &'static [&'static str],
-    },
+    /// A line about a task, whose words have these names.
+    Line(u8, &'static Names),
     /// A listing: `words`, `tree` or `model`.
     Listing(&'static str),
 }
@@ -55,9 +50,10 @@ impl Printer {
         }
     }
 
-    /// Prints what a session printed.
+    /// Prints what a session printed. There is no line about a task where there is no text.
     pub(crate) fn print(&mut self, kind: Kind, text: &str, page: &mut Page) {
         match self {
+            _ if text.is_empty() && matches!(kind, Kind::Line(..)) => {}
             Printer::Events => page.text(text),
             Printer::Columns(columns) => columns.print(kind, text, page),
             Printer::Json => json::print(kind, text, page),

@@ -1,6 +1,7 @@
 //! What is seen of a session.
 
 use crate::forms::{Form, Kind, Printer};
+use crate::json::{ANSWER, EVENT, STORE};
 use crate::page::{Page, text_of};
 use crate::waits::Wait;
 use cpu_words::{Event, Touch, WordName};
@@ -13,31 +14,6 @@ use transcripts::{Driver, Session};
 
 /// How many tasks a number can tell.
 const TASKS: usize = 256;
-
-/// The names of the words of an event's line, and of for whom it waits.
-static EVENT: [&str; 7] = [
-    "task",
-    "event",
-    "word",
-    "found",
-    "left",
-    "action",
-    "waits_for",
-];
-
-/// The same of a store, which finds nothing.
-static STORE: [&str; 7] = [
-    "task",
-    "event",
-    "word",
-    "left",
-    "action",
-    "waits_for",
-    "found",
-];
-
-/// The names of a task's number and of what is answered.
-static ANSWER: [&str; 2] = ["task", "answer"];
 
 /// A form, and what was printed in it.
 #[derive(Drop)]
@@ -94,7 +70,11 @@ impl Screen {
             Request::Tree => self.do_plainly(session, request, Kind::Listing("tree")),
             Request::Model => self.do_plainly(session, request, Kind::Listing("model")),
             Request::Task { task, command } => match command {
-                TaskCommand::Begin(_) => self.do_plainly(session, request, answer(task)),
+                TaskCommand::Begin(_) => self.do_plainly(
+                    session,
+                    request,
+                    Kind::Line(task, &ANSWER),
+                ),
                 TaskCommand::Step { hook } => {
                     self.step(session, task, hook);
                 }
@@ -112,14 +92,9 @@ impl Screen {
         }
     }
 
-    /// Prints the text in its form. There is no line about a task where there is no text.
+    /// Prints the text in its form.
     fn print(&mut self, kind: Kind) {
         let text = text_of(self.text.bytes.as_slice());
-        if let Kind::Line { .. } = kind
-            && text.is_empty()
-        {
-            return;
-        }
         self.printer.print(kind, text, &mut self.page);
     }
 
@@ -162,7 +137,7 @@ impl Screen {
     fn reply<D: Driver>(&mut self, session: &Session<D>, task: u8, progress: Progress) {
         self.text.clear();
         self.page.note(print_ended(&mut self.text, task, progress, session.used()));
-        self.print(answer(task));
+        self.print(Kind::Line(task, &ANSWER));
     }
 
     /// Shows the event of a step, and for whom it waits.
@@ -177,31 +152,10 @@ impl Screen {
             let wait = Wait::of(session, task, event, self.blocks[usize::from(task)]);
             wait.print(&mut self.text, &mut self.page);
         }
-        self.print(kind_of(event, task));
-    }
-}
-
-/// The line of a task's event.
-fn kind_of(event: Event, task: u8) -> Kind {
-    match event.touch {
-        Touch::Store(_) => Kind::Line {
-            task,
-            words: 5,
-            names: STORE.as_slice(),
-        },
-        _ => Kind::Line {
-            task,
-            words: 6,
-            names: EVENT.as_slice(),
-        },
-    }
-}
-
-/// A line of a task that is no event.
-fn answer(task: u8) -> Kind {
-    Kind::Line {
-        task,
-        words: 2,
-        names: ANSWER.as_slice(),
+        let names = match event.touch {
+            Touch::Store(_) => &STORE,
+            _ => &EVENT,
+        };
+        self.print(Kind::Line(task, names));
     }
 }
