@@ -1,9 +1,6 @@
 //! The forms in which a schedule is shown.
 
-use crate::columns::Columns;
-use crate::json::{self, Names};
-use crate::page::Page;
-use std::alloc::Global;
+use crate::json::Names;
 
 /// How events are shown.
 #[derive(Clone, Copy)]
@@ -23,40 +20,4 @@ pub(crate) enum Kind {
     Line(u8, &'static Names),
     /// A listing: `words`, `tree` or `model`.
     Listing(&'static str),
-}
-
-/// Prints in one form.
-#[derive(Drop)]
-pub(crate) enum Printer {
-    Events,
-    Columns(Columns),
-    Json,
-}
-
-impl Printer {
-    /// Nothing printed yet.
-    pub(crate) fn new(alloc: Global, form: Form) -> Printer {
-        match form {
-            Form::Events => Printer::Events,
-            Form::Columns => Printer::Columns(Columns::new(alloc)),
-            Form::Json => Printer::Json,
-        }
-    }
-
-    /// That there are so many tasks.
-    pub(crate) fn begin(&mut self, tasks: u8, page: &mut Page) {
-        if let Printer::Columns(columns) = self {
-            columns.begin(tasks, page);
-        }
-    }
-
-    /// Prints what a session printed. There is no line about a task where there is no text.
-    pub(crate) fn print(&mut self, kind: Kind, text: &str, page: &mut Page) {
-        match self {
-            _ if text.is_empty() && matches!(kind, Kind::Line(..)) => {}
-            Printer::Events => page.text(text),
-            Printer::Columns(columns) => columns.print(kind, text, page),
-            Printer::Json => json::print(kind, text, page),
-        }
-    }
 }

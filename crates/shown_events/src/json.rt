@@ -3,7 +3,6 @@
 use crate::forms::Kind;
 use crate::page::Page;
 use serde_json::{Map, Value};
-use std::alloc::{AllocError, Global};
 
 /// The words of a line: how many they are, where the last one has all that follows, and their names, with those of what isn't there behind.
 pub(crate) struct Names {
@@ -53,9 +52,9 @@ static LISTED: Names = Names {
 
 /// Prints what a session printed.
 pub(crate) fn print(kind: Kind, text: &str, page: &mut Page) {
-    let line: Value = page.lines.saturating_add(1).into();
+    let line = page.lines.saturating_add(1);
     let mut object = Map::new(page.alloc);
-    put(&mut object, "line", Ok(line), page);
+    put(&mut object, "line", line.into(), page);
     match kind {
         Kind::Line(_, names) => put_words(&mut object, names, text.trim_end(), page),
         Kind::Listing(name) => put_listing(&mut object, name, text, page),
@@ -69,17 +68,9 @@ pub(crate) fn print(kind: Kind, text: &str, page: &mut Page) {
     }
 }
 
-/// Puts a member into an object, where there is memory for it.
-fn put(
-    object: &mut Map<String, Value>,
-    name: &str,
-    value: Result<Value, AllocError>,
-    page: &mut Page,
-) {
-    page.note(match value {
-        Ok(value) => serde_json::put(object, page.alloc, name, value),
-        Err(refused) => Err(refused),
-    });
+/// Puts a member into an object.
+fn put(object: &mut Map<String, Value>, name: &str, value: Value, page: &mut Page) {
+    page.note(serde_json::put(object, page.alloc, name, value));
 }
 
 /// Puts the words of a line, and for whom it waits, if it does.
@@ -88,26 +79,31 @@ fn put_words(object: &mut Map<String, Value>, names: &Names, line: &str, page: &
     let mut words = line.splitn(names.words, ' ');
     for name in names.names {
         let word = words.next().unwrap_or("");
-        put(object, *name, value_of(page.alloc, word), page);
+        put(object, *name, value_of(word, page), page);
     }
     if !wait.is_empty() {
-        put(
-            object,
-            "waits_for",
-            Value::try_from_str(page.alloc, wait),
-            page,
-        );
+        put(object, "waits_for", text_of(wait, page), page);
     }
 }
 
 /// A word's value: a number, a text, or null where there is no such word.
-fn value_of(alloc: Global, word: &str) -> Result<Value, AllocError> {
+fn value_of(word: &str, page: &mut Page) -> Value {
     if word.is_empty() {
-        return Ok(Value::Null);
+        return Value::Null;
     }
     match word.parse::<u64>() {
-        Ok(number) => Ok(number.into()),
-        Err(_) => Value::try_from_str(alloc, word),
+        Ok(number) => number.into(),
+        Err(_) => text_of(word, page),
+    }
+}
+
+fn text_of(text: &str, page: &mut Page) -> Value {
+    match Value::try_from_str(page.alloc, text) {
+        Ok(value) => value,
+        Err(refused) => {
+            page.note(Err(refused));
+            Value::Null
+        }
     }
 }
 
@@ -115,30 +111,18 @@ fn value_of(alloc: Global, word: &str) -> Result<Value, AllocError> {
 fn put_listing(object: &mut Map<String, Value>, name: &str, text: &str, page: &mut Page) {
     let mut items = Vec::new(page.alloc);
     for line in text.lines() {
-        list(&mut items, name, line, page);
+        let item = item(name, line, page);
+        page.note(serde_json::push(&mut items, item));
     }
-    put(object, "items", Ok(Value::Array(items)), page);
-    put(
-        object,
-        "listing",
-        Value::try_from_str(page.alloc, name),
-        page,
-    );
+    put(object, "items", Value::Array(items), page);
+    put(object, "listing", text_of(name, page), page);
 }
 
-fn list(items: &mut Vec<Value>, name: &str, line: &str, page: &mut Page) {
-    let listed = match item(name, line, page) {
-        Ok(item) => serde_json::push(items, item),
-        Err(refused) => Err(refused),
-    };
-    page.note(listed);
-}
-
-fn item(name: &str, line: &str, page: &mut Page) -> Result<Value, AllocError> {
+fn item(name: &str, line: &str, page: &mut Page) -> Value {
     if name == "model" {
-        return Value::try_from_str(page.alloc, line);
+        return text_of(line, page);
     }
     let mut object = Map::new(page.alloc);
     put_words(&mut object, &LISTED, line, page);
-    Ok(Value::Object(object))
+    Value::Object(object)
 }

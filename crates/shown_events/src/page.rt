@@ -1,7 +1,9 @@
 //! What is printed.
 
+use schedule_bytes::write_out;
 use schedule_text::{Fault, Output};
 use std::alloc::{AllocError, Global};
+use std::io::Write;
 use transcripts::no_memory;
 
 /// What was printed and not yet written out. What prints has no way out of its own: the fault of a line, as memory that was refused for a part
@@ -30,18 +32,16 @@ impl Page {
         }
     }
 
-    pub(crate) fn bytes(&self) -> &[u8] {
-        self.output.bytes.as_slice()
-    }
-
     pub(crate) fn len(&self) -> usize {
         self.output.bytes.len()
     }
 
-    /// Forgets what was printed, once it has been written out.
-    pub(crate) fn clear(&mut self) {
+    /// Writes out what was printed, and forgets it.
+    pub(crate) fn write_out<W: Write>(&mut self, writer: &mut W) -> Result<(), Fault> {
+        let written = write_out(writer, self.output.bytes.as_slice());
         self.output.clear();
         self.done = 0;
+        written
     }
 
     /// Notes whether there was memory for something.

@@ -1,7 +1,8 @@
 //! What is seen of a session.
 
-use crate::forms::{Form, Kind, Printer};
-use crate::json::{ANSWER, EVENT, STORE};
+use crate::columns::Columns;
+use crate::forms::{Form, Kind};
+use crate::json::{self, ANSWER, EVENT, STORE};
 use crate::page::{Page, text_of};
 use crate::waits::Wait;
 use cpu_words::{Event, Touch, WordName};
@@ -21,7 +22,8 @@ pub(crate) struct Screen {
     pub(crate) page: Page,
     /// How many tasks there are, once there is a configuration.
     pub(crate) tasks: Option<u8>,
-    printer: Printer,
+    form: Form,
+    columns: Columns,
     /// What a session prints of an event or at the end, before it has its form.
     text: Output,
     /// Of each task the level whose block it loaded last.
@@ -34,7 +36,8 @@ impl Screen {
         Screen {
             page: Page::new(alloc),
             tasks: None,
-            printer: Printer::new(alloc, form),
+            form,
+            columns: Columns::new(alloc),
             text: Output::new(alloc),
             blocks: [0; TASKS],
         }
@@ -43,7 +46,9 @@ impl Screen {
     /// That there are so many tasks.
     pub(crate) fn begin(&mut self, tasks: u8) {
         self.tasks = Some(tasks);
-        self.printer.begin(tasks, &mut self.page);
+        if let Form::Columns = self.form {
+            self.columns.begin(tasks, &mut self.page);
+        }
     }
 
     /// Does what a line asks for and shows it, or sets a session up. A fault is noted on the page.
@@ -66,36 +71,44 @@ impl Screen {
 
     fn do_request<D: Driver>(&mut self, session: &mut Session<D>, request: Request) {
         match request {
-            Request::Words => self.do_plainly(session, request, Kind::Listing("words")),
-            Request::Tree => self.do_plainly(session, request, Kind::Listing("tree")),
-            Request::Model => self.do_plainly(session, request, Kind::Listing("model")),
-            Request::Task { task, command } => match command {
-                TaskCommand::Begin(_) => self.do_plainly(
-                    session,
-                    request,
-                    Kind::Line(task, &ANSWER),
-                ),
-                TaskCommand::Step { hook } => {
-                    self.step(session, task, hook);
-                }
-                TaskCommand::Run { failure } => self.run(session, task, failure),
-            },
+            Request::Task {
+                task,
+                command: TaskCommand::Step { hook },
+            } => {
+                self.step(session, task, hook);
+            }
+            Request::Task {
+                task,
+                command: TaskCommand::Run { failure },
+            } => self.run(session, task, failure),
+            _ => self.do_plainly(session, request),
         }
     }
 
     /// Does what has no event: a beginning, which prints its refusal, if it is refused, or a listing.
-    fn do_plainly<D: Driver>(&mut self, session: &mut Session<D>, request: Request, kind: Kind) {
+    fn do_plainly<D: Driver>(&mut self, session: &mut Session<D>, request: Request) {
         self.text.clear();
-        match session.do_request(request, &mut self.text) {
-            Ok(()) => self.print(kind),
-            Err(fault) => self.page.fail(fault),
+        if let Err(fault) = session.do_request(request, &mut self.text) {
+            return self.page.fail(fault);
         }
+        let kind = match request {
+            Request::Words => Kind::Listing("words"),
+            Request::Tree => Kind::Listing("tree"),
+            Request::Model => Kind::Listing("model"),
+            Request::Task { .. } if self.text.bytes.is_empty() => return,
+            Request::Task { task, .. } => Kind::Line(task, &ANSWER),
+        };
+        self.print(kind);
     }
 
     /// Prints the text in its form.
     fn print(&mut self, kind: Kind) {
         let text = text_of(self.text.bytes.as_slice());
-        self.printer.print(kind, text, &mut self.page);
+        match self.form {
+            Form::Events => self.page.text(text),
+            Form::Columns => self.columns.print(kind, text, &mut self.page),
+            Form::Json => json::print(kind, text, &mut self.page),
+        }
     }
 
     /// Goes on to the reply, to the first event that has to wait, or to the last event that one line may do.

@@ -5,7 +5,7 @@ ghost use Rattle.schedule_bytes.specs.Pending.{pending_count};
 
 use crate::forms::Form;
 use crate::screen::Screen;
-use schedule_bytes::{Input, ReplayFault, fault_after, write_out};
+use schedule_bytes::{Input, ReplayFault, fault_after};
 use schedule_text::{Fault, Front, LINE_BYTES, LINES, parse};
 use std::alloc::{AllocError, Global};
 use std::io::{Read, Write};
@@ -75,17 +75,11 @@ impl<D: Driver> Show<D> {
 
     /// Writes out what was shown before a fault. Where that fails, this is the fault.
     fn ended<W: Write>(&mut self, fault: Fault, writer: &mut W) -> ReplayFault {
-        let fault = match self.write_out(writer) {
+        let fault = match self.screen.page.write_out(writer) {
             Ok(()) => fault,
             Err(failed) => failed,
         };
         fault_after(self.screen.page.lines.min(LINES), fault)
-    }
-
-    fn write_out<W: Write>(&mut self, writer: &mut W) -> Result<(), Fault> {
-        let written = write_out(writer, self.screen.page.bytes());
-        self.screen.page.clear();
-        written
     }
 
     /// Does a line, or reads more where there is none that is whole; says whether it goes on.
@@ -106,7 +100,7 @@ impl<D: Driver> Show<D> {
         reader: &mut R,
         writer: &mut W,
     ) -> Result<bool, Fault> {
-        self.write_out(writer)?;
+        self.screen.page.write_out(writer)?;
         match self.input.read(reader)? {
             0 if !self.input.is_empty() => Err(Fault::CutOff),
             0 if self.session.is_none() => Err(Fault::ConfigExpected),
