@@ -5,6 +5,8 @@
 mod columns;
 pub mod forms;
 mod json;
+mod page;
+mod screen;
 pub mod show;
 mod waits;
 

@@ -1,8 +1,8 @@
 //! For whom a task waits.
 
+use crate::page::Page;
 use cpu_words::{Event, WordName};
 use schedule_text::Output;
-use std::alloc::AllocError;
 use transcripts::{Driver, Session};
 
 /// Who stands in the way.
@@ -46,20 +46,17 @@ impl Wait {
         }
     }
 
-    /// Prints it: ` waiting for mount0.flags, task 1`.
-    pub(crate) fn print(self, out: &mut Output) -> Result<(), AllocError> {
-        out.text(b" waiting for ")?;
-        self.print_word(out)
-    }
-
-    /// The word and who stands in the way.
-    pub(crate) fn print_word(self, out: &mut Output) -> Result<(), AllocError> {
-        out.word_name(self.word)?;
-        match self.culprit {
-            Culprit::Task(task) => out.numbered(b", task ", u64::from(task)),
-            Culprit::Freeze => out.text(b", the freeze"),
+    /// Prints it behind the line of an event: ` waiting for mount0.flags, task 1`.
+    pub(crate) fn print(self, line: &mut Output, page: &mut Page) {
+        let _ = line.bytes.pop();
+        page.note(line.text(b" waiting for "));
+        page.note(line.word_name(self.word));
+        page.note(match self.culprit {
+            Culprit::Task(task) => line.numbered(b", task ", u64::from(task)),
+            Culprit::Freeze => line.text(b", the freeze"),
             Culprit::Gone => Ok(()),
-        }
+        });
+        page.note(line.text(b"\n"));
     }
 }
 
