@@ -6,8 +6,8 @@ use std::alloc::{AllocError, Global};
 use std::io::Write;
 use transcripts::no_memory;
 
-/// What was printed and not yet written out. What prints has no way out of its own: the fault of a line, as memory that was refused for a part
-/// of it, is noted, and at the line's end all of it is taken back.
+/// What was printed and not yet written out. What prints has no way out of its own: a fault, as memory that was refused for a part of a line,
+/// is noted, and where the line ends all of it is taken back.
 #[derive(Drop)]
 pub(crate) struct Page {
     pub(crate) alloc: Global,
@@ -16,7 +16,7 @@ pub(crate) struct Page {
     output: Output,
     /// So many bytes are of lines that are done.
     done: usize,
-    /// The fault of the line that is shown.
+    /// The fault of what was printed since.
     fault: Option<Fault>,
 }
 
@@ -32,12 +32,14 @@ impl Page {
         }
     }
 
+    /// How many bytes there are.
     pub(crate) fn len(&self) -> usize {
         self.output.bytes.len()
     }
 
     /// Writes out what was printed, and forgets it.
     pub(crate) fn write_out<W: Write>(&mut self, writer: &mut W) -> Result<(), Fault> {
+        self.settle()?;
         let written = write_out(writer, self.output.bytes.as_slice());
         self.output.clear();
         self.done = 0;
@@ -51,32 +53,34 @@ impl Page {
         }
     }
 
-    /// Notes the fault of a line.
+    /// Notes a fault.
     pub(crate) fn fail(&mut self, fault: Fault) {
         self.fault = Some(fault);
     }
 
-    /// Ends what a line shows, and goes on to the next one. Where it has a fault nothing of it stays.
-    pub(crate) fn end_line(&mut self) -> Result<(), Fault> {
-        if let Some(fault) = self.fault {
+    /// Ends what a line prints. Where it has a fault nothing of it stays.
+    pub(crate) fn settle(&mut self) -> Result<(), Fault> {
+        if let Some(fault) = self.fault.take() {
             self.output.bytes.truncate(self.done);
             return Err(fault);
         }
         self.done = self.output.bytes.len();
-        self.lines = self.lines.saturating_add(1);
         Ok(())
     }
 
+    /// Prints a text.
     pub(crate) fn text(&mut self, text: &str) {
         let printed = self.output.text(text.as_bytes());
         self.note(printed);
     }
 
+    /// Prints a text and a number right after it.
     pub(crate) fn numbered(&mut self, text: &[u8], number: u64) {
         let printed = self.output.numbered(text, number);
         self.note(printed);
     }
 
+    /// Prints so many spaces.
     pub(crate) fn spaces(&mut self, count: usize) {
         for _ in 0..count {
             self.text(" ");

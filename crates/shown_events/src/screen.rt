@@ -24,7 +24,7 @@ pub(crate) struct Screen {
     pub(crate) tasks: Option<u8>,
     form: Form,
     columns: Columns,
-    /// What a session prints of an event or at the end, before it has its form.
+    /// What a session printed, before it has its form.
     text: Output,
     /// Of each task the level whose block it loaded last.
     blocks: [u8; TASKS],

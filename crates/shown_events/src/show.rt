@@ -114,7 +114,8 @@ impl<D: Driver> Show<D> {
     {
         let line = parse(self.input.first(length), self.screen.tasks)?;
         self.screen.do_line(&mut self.session, line);
-        self.screen.page.end_line()?;
+        self.screen.page.settle()?;
+        self.screen.page.lines = self.screen.page.lines.saturating_add(1);
         self.input.take(length + 1);
         Ok(true)
     }
