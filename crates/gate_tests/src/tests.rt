@@ -1,18 +1,21 @@
-//! Tasks at small gates.
+//! Tests of tasks, which are tables of rows (`rows`, `teams`), and of runs.
 
 mod calls;
-mod cases;
 mod decisions;
-mod hooks;
+mod failures;
 mod lost;
 mod pairs;
-mod rounds;
+mod rows;
+mod runs;
+mod scene;
 mod tasks;
+mod teams;
 mod threads;
-mod two;
+mod turns;
 
-use schedule_text::{Line, Request, TaskCommand, parse};
-use vfs_gates::{Closed, Config, Gate, Op, WordName};
+use std::test::Fail;
+use teams::{Case, expect_none, last_wrong};
+use vfs_gates::Config;
 
 /// Two tasks at one mount, with two processors and one node beside the root.
 const SMALL: Config = Config {
@@ -23,40 +26,42 @@ const SMALL: Config = Config {
     capacity: 8,
 };
 
-/// How many are counted at gates, and what words hold, when all is over; None where there is no such gate or word.
-struct Left {
-    gates: &'static [(Gate, Option<u64>)],
-    words: &'static [(WordName, Option<u64>)],
+const CALLS: &[Case] = &[
+    calls::ACCESSES,
+    calls::FILES,
+    calls::TRIES,
+    calls::HOLDERS,
+    calls::OPENS,
+    calls::KEPT_OPEN,
+    calls::OPENED_TOO,
+    calls::BY_STEPS,
+    calls::CLOSURES,
+];
+
+const REFUSALS: &[Case] = &[
+    failures::FAILURES,
+    decisions::REMOUNTS,
+    decisions::BACKUPS,
+    decisions::OWN,
+    decisions::SNAPSHOTS,
+    lost::ACCESS,
+    lost::OWNER,
+    lost::HOLDER,
+    lost::INSIDE,
+    lost::RESTING,
+];
+
+#[test]
+fn calls_are_made_as_their_user_makes_them(rt: HostRuntime) -> Result<(), Fail> {
+    expect_none(last_wrong(&rt, CALLS))
 }
 
-impl Left {
-    /// Whether closed gates have left that.
-    fn is_of(&self, closed: &Closed) -> bool {
-        for (gate, count) in self.gates {
-            if closed.gate_sum(*gate) != *count {
-                return false;
-            }
-        }
-        for (word, value) in self.words {
-            if closed.word(*word) != *value {
-                return false;
-            }
-        }
-        true
-    }
+#[test]
+fn refusals_are_as_they_should_be_and_met_as_advised(rt: HostRuntime) -> Result<(), Fail> {
+    expect_none(last_wrong(&rt, REFUSALS))
 }
 
-/// The call of a line of a schedule of four tasks, and whose it is.
-fn call_of(line: &str) -> Option<(u8, Op)> {
-    match parse(line.as_bytes(), Some(4)) {
-        Ok(
-            Line::Request(
-                Request::Task {
-                    task,
-                    command: TaskCommand::Begin(op),
-                },
-            ),
-        ) => Some((task, op)),
-        _ => None,
-    }
+#[test]
+fn tasks_in_threads_meet(rt: HostRuntime) -> Result<(), Fail> {
+    expect_none(last_wrong(&rt, threads::CASES))
 }

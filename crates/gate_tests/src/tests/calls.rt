@@ -1,304 +1,482 @@
 //! Each public call as its user makes it, by tasks of one thread.
 
-use super::cases::Deed::{Calls, Stands, Steps, Tree};
-use super::cases::{Case, Deed, all_hold};
-use super::two::{AT_REST, Stand};
-use super::{Left, SMALL};
-use std::test::Fail;
-use vfs_gates::{Config, Gate, WordName};
+use super::SMALL;
+use super::rows::Deed::{Calls, CopiesInside, Stands, Steps, Took, WritesInside};
+use super::rows::{AT_REST, EMPTY_TREE, ROOT, Row, Stand};
+use super::scene::Manner;
+use super::teams::{Act, Case, JOINS, SPLITS};
+use vfs_gates::GateError::{Invalid, Order};
+use vfs_gates::{Config, Kind, NodeInfo, Progress, Reply, WordName};
 
 /// Accesses at a mount are taken with one processor and given back with the other, and keep it writable meanwhile. Changes and remounts keep
 /// wants out, and let them in again. Levels are gone into upwards, and left in any order. What is frozen keeps everybody out, shows its tree, and
 /// is opened by another task.
-const ACCESSES: &[Deed] = &[
-    Calls(
-        "0 want 0 0\n0 trywant 0 0\n0 trychange 0 ro\n0 drop 0 1\n0 drop 0 1\n0 drop 0 1\n0 drop 9 200\n",
-        "0 ok\n0 ok\n0 refused 16 Busy\n0 ok\n0 ok\n0 refused 35 Order\n0 refused 22 Invalid\n",
-    ),
-    Calls(
-        "1 change 0 ro\n1 want 0 0\n1 trychange 0 rw\n1 remount ro\n1 trywant 0 0\n1 wantwrite 0 0\n1 trystart 1 0\n1 end 1 0\n1 remount rw\n",
-        "1 ok\n1 refused 30 ReadOnly\n1 ok\n1 ok\n1 refused 30 ReadOnly\n1 refused 30 ReadOnly\n1 ok\n1 ok\n1 ok\n",
-    ),
-    Calls(
-        "0 start 1 0\n0 trystart 2 0\n0 trystart 2 0\n0 end 1 1\n0 end 2 1\n0 end 2 1\n",
-        "0 ok\n0 ok\n0 refused 35 Order\n0 ok\n0 ok\n0 refused 35 Order\n",
-    ),
-    Calls(
-        "1 freeze\n0 trystart 1 0\n0 snapshot\n0 trysnapshot\n0 thaw\n0 callback 1\n0 callback 1\n",
-        "1 ok\n0 refused 11 Again\n0 ok used 0\n0 ok used 0\n0 ok\n0 ok ran\n0 ok none\n",
-    ),
-];
+pub const ACCESSES: Case = Case {
+    name: "accesses",
+    config: SMALL,
+    manner: Manner::Agrees,
+    acts: &[
+        SPLITS,
+        Act::First(&[
+            ("no snapshot yet", Took(&[])),
+            (
+                "0 want 0 0: done\n\
+          0 trywant 0 0: done\n\
+          0 trychange 0 ro: Busy\n\
+          0 drop 0 1: done\n\
+          0 drop 0 1: done\n\
+          0 drop 0 1: Order\n\
+          0 drop 9 200: Invalid\n",
+                Calls,
+            ),
+        ]),
+        Act::Second(&[(
+            "1 change 0 ro: done\n\
+          1 want 0 0: ReadOnly\n\
+          1 trychange 0 rw: done\n\
+          1 remount ro: done\n\
+          1 trywant 0 0: ReadOnly\n\
+          1 wantwrite 0 0: ReadOnly\n\
+          1 trystart 1 0: done\n\
+          1 end 1 0: done\n\
+          1 remount rw: done\n",
+            Calls,
+        )]),
+        Act::First(&[(
+            "0 start 1 0: done\n\
+          0 trystart 2 0: done\n\
+          0 trystart 2 0: Order\n\
+          0 end 1 1: done\n\
+          0 end 2 1: done\n\
+          0 end 2 1: Order\n",
+            Calls,
+        )]),
+        Act::Second(&[("1 freeze: done\n", Calls)]),
+        Act::First(&[
+            (
+                "0 trystart 1 0: Again\n\
+          0 snapshot: done\n",
+                Calls,
+            ),
+            ("its tree", Took(EMPTY_TREE)),
+            (
+                "0 trysnapshot: done\n\
+          0 thaw: done\n\
+          0 callback 1: done=1\n\
+          0 callback 1: done=0\n",
+                Calls,
+            ),
+        ]),
+        JOINS,
+    ],
+    stays_open: &[],
+    left: Some(&[
+        (WordName::Umount, 0),
+        (WordName::MountCount(0, 1), u64::MAX - 1),
+    ]),
+};
+
+/// A clean file under the root that has no blocks.
+const EMPTY: NodeInfo = NodeInfo {
+    kind: Kind::File,
+    ..ROOT
+};
 
 /// A writer makes a directory and a file in it, which grows and goes to the root. A page of the file is made dirty inside the second level, and
 /// written back inside the third. The last free node is taken once and given back. A snapshot of what is frozen has the file's blocks.
-const FILES: &[Deed] = &[
-    Calls(
-        "0 create 0 file\n0 wantwrite 0 0\n0 create 0 dir\n0 create 1 file\n0 grow 2 9\n0 grow 2 5\n0 move 2 0\n",
-        "0 refused 35 Order\n0 ok\n0 ok node 1\n0 ok node 2\n0 refused 28 NoSpace\n0 ok\n0 ok\n",
-    ),
-    Calls(
-        "0 start 2 0\n0 fault 2\n0 start 3 0\n0 flush 2\n0 flush 1\n0 end 3 0\n0 end 2 0\n",
-        "0 ok\n0 ok\n0 ok\n0 ok\n0 refused 21 IsDir\n0 ok\n0 ok\n",
-    ),
-    Calls(
-        "0 create 0 file\n0 create 0 file\n0 remove 3\n0 remove 255\n0 dropwrite 0 0\n0 dropwrite 0 0\n",
-        "0 ok node 3\n0 refused 28 NoSpace\n0 ok\n0 refused 22 Invalid\n0 ok\n0 refused 35 Order\n",
-    ),
-    Calls(
-        "0 snapshot\n0 freeze\n0 snapshot\n0 thaw\n",
-        "0 refused 22 Invalid\n0 ok\n0 ok used 5\n0 ok\n",
-    ),
-    Tree(0, "node 1 dir 0 0 clean\nnode 2 file 0 5 clean\n"),
-];
+pub const FILES: Case = Case {
+    name: "files",
+    config: Config { nodes: 4, ..SMALL },
+    manner: Manner::Agrees,
+    acts: &[
+        SPLITS,
+        Act::First(&[
+            (
+                "0 create 0 file: Order\n\
+          0 wantwrite 0 0: done\n\
+          0 create 0 dir: done=1\n\
+          0 create 1 file: done=2\n\
+          0 grow 2 9: NoSpace\n\
+          0 grow 2 5: done\n\
+          0 move 2 0: done\n\
+          0 start 2 0: done\n\
+          0 fault 2: done\n\
+          0 start 3 0: done\n\
+          0 flush 2: done\n\
+          0 flush 1: IsDir\n\
+          0 end 3 0: done\n\
+          0 end 2 0: done\n\
+          0 create 0 file: done=3\n\
+          0 create 0 file: NoSpace\n\
+          0 remove 3: done\n\
+          0 remove 255: Invalid\n\
+          0 dropwrite 0 0: done\n\
+          0 dropwrite 0 0: Order\n\
+          0 snapshot: Invalid\n\
+          0 freeze: done\n\
+          0 snapshot: done\n\
+          0 thaw: done\n",
+                Calls,
+            ),
+            (
+                "a directory and a file",
+                Took(&[
+                    Some(ROOT),
+                    Some(ROOT),
+                    Some(NodeInfo { size: 5, ..EMPTY }),
+                    None,
+                ]),
+            ),
+        ]),
+        JOINS,
+    ],
+    stays_open: &[],
+    left: Some(&[(WordName::Used, 5)]),
+};
 
 /// Each try at a mount and each at a level is granted by either processor, to either task, also after a freeze, and each return on the other
 /// processor is done; a snapshot of what is frozen is taken by whoever tries.
-const TRIES: &[Deed] = &[
-    Calls(
-        "0 trywant 0 0\n0 trystart 1 0\n0 trystart 2 0\n0 trystart 3 0\n0 end 3 1\n0 end 2 1\n0 end 1 1\n0 drop 0 1\n0 trychange 0 ro\n0 trychange 0 rw\n",
-        "0 ok\n0 ok\n0 ok\n0 ok\n0 ok\n0 ok\n0 ok\n0 ok\n0 ok\n0 ok\n",
-    ),
-    Calls(
-        "1 trywant 0 1\n1 trystart 1 1\n1 trystart 2 1\n1 trystart 3 1\n1 end 3 0\n1 end 2 0\n1 end 1 0\n1 drop 0 0\n1 trychange 0 ro\n1 trychange 0 rw\n",
-        "1 ok\n1 ok\n1 ok\n1 ok\n1 ok\n1 ok\n1 ok\n1 ok\n1 ok\n1 ok\n",
-    ),
-    Calls(
-        "1 trywant 1 0\n1 trystart 1 0\n1 trystart 2 0\n1 trystart 3 0\n1 end 3 1\n1 end 2 1\n1 end 1 1\n1 drop 1 1\n1 trychange 1 ro\n1 trychange 1 rw\n",
-        "1 ok\n1 ok\n1 ok\n1 ok\n1 ok\n1 ok\n1 ok\n1 ok\n1 ok\n1 ok\n",
-    ),
-    Calls(
-        "0 trywant 1 1\n0 trystart 1 1\n0 trystart 2 1\n0 trystart 3 1\n0 end 3 0\n0 end 2 0\n0 end 1 0\n0 drop 1 0\n0 trychange 1 ro\n0 trychange 1 rw\n",
-        "0 ok\n0 ok\n0 ok\n0 ok\n0 ok\n0 ok\n0 ok\n0 ok\n0 ok\n0 ok\n",
-    ),
-    Calls(
-        "0 freeze\n1 trysnapshot\n0 trysnapshot\n0 thaw\n",
-        "0 ok\n1 ok used 0\n0 ok used 0\n0 ok\n",
-    ),
-    Calls(
-        "1 trywant 0 0\n1 trystart 1 0\n1 trystart 2 0\n1 trystart 3 0\n1 end 3 1\n1 end 2 1\n1 end 1 1\n1 drop 0 1\n1 trychange 0 ro\n1 trychange 0 rw\n",
-        "1 ok\n1 ok\n1 ok\n1 ok\n1 ok\n1 ok\n1 ok\n1 ok\n1 ok\n1 ok\n",
-    ),
-];
+pub const TRIES: Case = Case {
+    name: "tries",
+    config: Config { mounts: 2, ..SMALL },
+    manner: Manner::Agrees,
+    acts: &[
+        SPLITS,
+        Act::First(&[(
+            "0 trywant 0 0: done\n\
+          0 trystart 1 0: done\n\
+          0 trystart 2 0: done\n\
+          0 trystart 3 0: done\n\
+          0 end 3 1: done\n\
+          0 end 2 1: done\n\
+          0 end 1 1: done\n\
+          0 drop 0 1: done\n\
+          0 trychange 0 ro: done\n\
+          0 trychange 0 rw: done\n",
+            Calls,
+        )]),
+        Act::Second(&[(
+            "1 trywant 0 1: done\n\
+          1 trystart 1 1: done\n\
+          1 trystart 2 1: done\n\
+          1 trystart 3 1: done\n\
+          1 end 3 0: done\n\
+          1 end 2 0: done\n\
+          1 end 1 0: done\n\
+          1 drop 0 0: done\n\
+          1 trychange 0 ro: done\n\
+          1 trychange 0 rw: done\n",
+            Calls,
+        )]),
+        Act::Second(AT_SECOND_MOUNT),
+        Act::First(&[("0 freeze: done\n", Calls)]),
+        Act::Second(&[
+            ("1 trysnapshot: done\n", Calls),
+            ("its tree", Took(EMPTY_TREE)),
+        ]),
+        Act::First(&[
+            ("0 trysnapshot: done\n", Calls),
+            ("its tree", Took(EMPTY_TREE)),
+            ("0 thaw: done\n", Calls),
+        ]),
+        Act::Second(AT_SECOND_MOUNT),
+        JOINS,
+    ],
+    stays_open: &[],
+    left: Some(&[]),
+};
+
+const AT_SECOND_MOUNT: &[Row] = &[(
+    "1 trywant 1 0: done\n\
+          1 trystart 1 0: done\n\
+          1 trystart 2 0: done\n\
+          1 trystart 3 0: done\n\
+          1 end 3 1: done\n\
+          1 end 2 1: done\n\
+          1 end 1 1: done\n\
+          1 drop 1 1: done\n\
+          1 trychange 1 ro: done\n\
+          1 trychange 1 rw: done\n",
+    Calls,
+)];
 
 /// A second holder joins what the first has frozen, and a second freeze of one holder is refused. The first of two thaws leaves all frozen, and
 /// the second lets tasks in.
-const HOLDERS: &[Deed] = &[
-    Calls(
-        "0 freeze kernel\n1 thaw user\n1 freeze user\n0 freeze user\n",
-        "0 ok\n1 refused 22 Invalid\n1 ok\n0 refused 16 Busy\n",
-    ),
-    Calls(
-        "1 thaw kernel\n0 trystart 1 0\n0 thaw kernel\n0 thaw user\n1 trystart 1 0\n1 end 1 0\n",
-        "1 ok\n0 refused 11 Again\n0 refused 22 Invalid\n0 ok\n1 ok\n1 ok\n",
-    ),
-];
+pub const HOLDERS: Case = Case {
+    name: "holders",
+    config: SMALL,
+    manner: Manner::Agrees,
+    acts: &[
+        SPLITS,
+        Act::First(&[("0 freeze kernel: done\n", Calls)]),
+        Act::Second(&[(
+            "1 thaw user: Invalid\n\
+          1 freeze user: done\n",
+            Calls,
+        )]),
+        Act::First(&[("0 freeze user: Busy\n", Calls)]),
+        Act::Second(&[("1 thaw kernel: done\n", Calls)]),
+        Act::First(&[(
+            "0 trystart 1 0: Again\n\
+          0 thaw kernel: Invalid\n\
+          0 thaw user: done\n",
+            Calls,
+        )]),
+        Act::Second(&[(
+            "1 trystart 1 0: done\n\
+          1 end 1 0: done\n",
+            Calls,
+        )]),
+        JOINS,
+    ],
+    stays_open: &[],
+    left: Some(&[(WordName::Holders, 0)]),
+};
 
 /// A file is opened once by each task, removed and closed by one of both, and is no entry from then on. Its last close isn't done while all is
 /// frozen, nor inside level 3. A snapshot has the removed file, of which the blocks are charged. Then the superblock is made read-only, and the
 /// node taken again.
-const OPENS: &[Deed] = &[
-    Calls(
-        "0 open 1\n0 wantwrite 0 0\n0 create 0 file\n0 grow 1 5\n0 open 2\n0 open 0\n0 open 1\n0 open 1\n1 tryclose 1 0\n1 open 1\n",
-        "0 refused 2 NoEntry\n0 ok\n0 ok node 1\n0 ok\n0 refused 22 Invalid\n0 refused 21 IsDir\n0 ok\n0 refused 24 TooMany\n1 refused 35 Order\n1 ok\n",
-    ),
-    Calls(
-        "0 remove 1\n0 close 1 2\n0 close 1 1\n0 close 1 1\n0 open 1\n0 grow 1 1\n0 create 0 file\n0 dropwrite 0 0\n0 remount ro\n",
-        "0 ok\n0 refused 22 Invalid\n0 ok\n0 refused 35 Order\n0 refused 2 NoEntry\n0 refused 2 NoEntry\n0 refused 28 NoSpace\n0 ok\n0 refused 16 Busy\n",
-    ),
-    Calls(
-        "0 freeze\n1 tryclose 1 0\n0 snapshot\n0 thaw\n1 start 3 0\n1 close 1 0\n1 tryclose 1 0\n1 end 3 0\n1 close 1 1\n",
-        "0 ok\n1 refused 11 Again\n0 ok used 5\n0 ok\n1 ok\n1 refused 35 Order\n1 refused 35 Order\n1 ok\n1 ok\n",
-    ),
-    Tree(0, "node 1 file 0 5 clean removed\n"),
-    Calls(
-        "1 remount ro\n1 remount rw\n1 wantwrite 0 0\n1 create 0 file\n1 open 1\n1 tryclose 1 0\n1 dropwrite 0 0\n",
-        "1 ok\n1 ok\n1 ok\n1 ok node 1\n1 ok\n1 ok\n1 ok\n",
-    ),
-];
+pub const OPENS: Case = Case {
+    name: "opens",
+    config: SMALL,
+    manner: Manner::Agrees,
+    acts: &[
+        SPLITS,
+        Act::First(&[(
+            "0 open 1: NoEntry\n\
+          0 wantwrite 0 0: done\n\
+          0 create 0 file: done=1\n\
+          0 grow 1 5: done\n\
+          0 open 2: Invalid\n\
+          0 open 0: IsDir\n\
+          0 open 1: done\n\
+          0 open 1: TooMany\n",
+            Calls,
+        )]),
+        Act::Second(&[(
+            "1 tryclose 1 0: Order\n\
+          1 open 1: done\n",
+            Calls,
+        )]),
+        Act::First(&[(
+            "0 remove 1: done\n\
+          0 close 1 2: Invalid\n\
+          0 close 1 1: done\n\
+          0 close 1 1: Order\n\
+          0 open 1: NoEntry\n\
+          0 grow 1 1: NoEntry\n\
+          0 create 0 file: NoSpace\n\
+          0 dropwrite 0 0: done\n\
+          0 remount ro: Busy\n\
+          0 freeze: done\n",
+            Calls,
+        )]),
+        Act::Second(&[("1 tryclose 1 0: Again\n", Calls)]),
+        Act::First(&[
+            (
+                "0 snapshot: done\n\
+          0 thaw: done\n",
+                Calls,
+            ),
+            (
+                "a removed file",
+                Took(&[
+                    Some(ROOT),
+                    Some(NodeInfo {
+                        size: 5,
+                        removed: true,
+                        ..EMPTY
+                    }),
+                ]),
+            ),
+        ]),
+        Act::Second(&[(
+            "1 start 3 0: done\n\
+          1 close 1 0: Order\n\
+          1 tryclose 1 0: Order\n\
+          1 end 3 0: done\n\
+          1 close 1 1: done\n\
+          1 remount ro: done\n\
+          1 remount rw: done\n\
+          1 wantwrite 0 0: done\n\
+          1 create 0 file: done=1\n\
+          1 open 1: done\n\
+          1 tryclose 1 0: done\n\
+          1 dropwrite 0 0: done\n",
+            Calls,
+        )]),
+        JOINS,
+    ],
+    stays_open: &[],
+    left: Some(&[(WordName::Removed, 0), (WordName::Used, 0)]),
+};
 
 /// Gates with a file open are not closed.
-const KEPT_OPEN: &[Deed] = &[
-    Calls(
-        "0 wantwrite 0 0\n0 create 0 file\n0 grow 1 5\n0 open 1\n0 dropwrite 0 0\n",
-        "0 ok\n0 ok node 1\n0 ok\n0 ok\n0 ok\n",
-    ),
-    Stands(
-        0,
-        Stand {
-            has_open: true,
-            ..AT_REST
-        },
-    ),
-];
+pub const KEPT_OPEN: Case = Case {
+    name: "a file kept open",
+    config: SMALL,
+    manner: Manner::Agrees,
+    acts: &[
+        SPLITS,
+        Act::First(&[(
+            "0 wantwrite 0 0: done\n\
+          0 create 0 file: done=1\n\
+          0 grow 1 5: done\n\
+          0 open 1: done\n\
+          0 dropwrite 0 0: done\n",
+            Calls,
+        )]),
+        Act::Joins(Err(Order)),
+    ],
+    stays_open: CLOSED_ONCE,
+    left: Some(&[(WordName::Used, 5)]),
+};
 
-const CLOSED_ONCE: &[Deed] = &[Calls("0 tryclose 1 0\n", "0 ok\n")];
+const CLOSED_ONCE: &[Act] = &[
+    Act::First(&[
+        (
+            "has it open still",
+            Stands(Stand {
+                has_open: true,
+                ..AT_REST
+            }),
+        ),
+        ("0 tryclose 1 0: done\n", Calls),
+    ]),
+    JOINS,
+];
 
 /// A task with a file open is not joined.
-const OPENED_TOO: &[Deed] = &[
-    Calls(
-        "1 wantwrite 0 0\n1 create 0 file\n1 open 1\n1 dropwrite 0 0\n",
-        "1 ok\n1 ok node 1\n1 ok\n1 ok\n",
-    ),
-    Stands(
-        1,
-        Stand {
-            number: 1,
-            has_open: true,
-            ..AT_REST
-        },
-    ),
-];
+pub const OPENED_TOO: Case = Case {
+    name: "a file kept open by the second task",
+    config: SMALL,
+    manner: Manner::Agrees,
+    acts: &[
+        SPLITS,
+        Act::Second(&[(
+            "1 wantwrite 0 0: done\n\
+          1 create 0 file: done=1\n\
+          1 open 1: done\n\
+          1 dropwrite 0 0: done\n",
+            Calls,
+        )]),
+        Act::Joins(Err(Order)),
+    ],
+    stays_open: CLOSED_TOO,
+    left: Some(&[(WordName::Used, 0)]),
+};
 
-const CLOSED_TOO: &[Deed] = &[Calls("1 close 1 0\n", "1 ok\n")];
+const CLOSED_TOO: &[Act] = &[
+    Act::Second(&[
+        (
+            "has it open still",
+            Stands(Stand {
+                number: 1,
+                has_open: true,
+                ..AT_REST
+            }),
+        ),
+        ("1 close 1 0: done\n", Calls),
+    ]),
+    JOINS,
+];
 
 /// Each call goes by steps: a remount, which is to be what is so already, takes `umount` and finds nothing frozen; meanwhile its task isn't
 /// joined, and a snapshot waits twice for `umount`, and tells so after each event. The remount finds its state, asks no hook, and ends. The
 /// snapshot finds nothing frozen once it has `umount`, and still tells these two waits, and the next call none.
-const BY_STEPS: &[Deed] = &[
-    Steps(
-        "1 remount rw\n1 step 4\n1 step 4\n",
-        "1 cas umount 0 2\n1 load stage 0 0\n",
-    ),
-    Stands(
-        1,
-        Stand {
+pub const BY_STEPS: Case = Case {
+    name: "calls by steps",
+    config: SMALL,
+    manner: Manner::Agrees,
+    acts: &[
+        SPLITS,
+        Act::Second(&[
+            ("1 remount rw", Steps(WordName::Umount, 0, Progress::Going)),
+            (
+                "finds nothing frozen",
+                Steps(WordName::Stage, 0, Progress::Going),
+            ),
+        ]),
+        Act::Joins(Err(Order)),
+    ],
+    stays_open: TO_THE_END,
+    left: Some(&[]),
+};
+
+const TO_THE_END: &[Act] = &[
+    Act::Second(&[(
+        "is at it still",
+        Stands(Stand {
             number: 1,
             is_idle: false,
             ..AT_REST
-        },
-    ),
+        }),
+    )]),
+    Act::First(&[
+        ("0 snapshot", Steps(WordName::Umount, 2, Progress::Waiting)),
+        (
+            "has waited",
+            Stands(Stand {
+                is_idle: false,
+                waited: 1,
+                ..AT_REST
+            }),
+        ),
+        ("waits again", Steps(WordName::Umount, 2, Progress::Waiting)),
+        (
+            "has waited twice",
+            Stands(Stand {
+                is_idle: false,
+                waited: 2,
+                ..AT_REST
+            }),
+        ),
+    ]),
+    Act::Second(&[
+        ("finds it so", Steps(WordName::SbFlags, 0, Progress::Going)),
+        (
+            "gives umount back",
+            Steps(WordName::Umount, 0, Progress::Done(Ok(Reply::Unit))),
+        ),
+    ]),
+    Act::First(&[
+        ("takes umount", Steps(WordName::Umount, 0, Progress::Going)),
+        (
+            "finds nothing frozen",
+            Steps(WordName::Stage, 0, Progress::Going),
+        ),
+        (
+            "gives umount back",
+            Steps(WordName::Umount, 0, Progress::Done(Err(Invalid))),
+        ),
+        (
+            "tells its waits",
+            Stands(Stand {
+                waited: 2,
+                ..AT_REST
+            }),
+        ),
+        ("0 trysnapshot: Invalid\n", Calls),
+        ("tells none", Stands(AT_REST)),
+    ]),
+    JOINS,
 ];
 
-const TO_THE_END: &[Deed] = &[
-    Steps("0 snapshot\n", ""),
-    Stands(
-        0,
-        Stand {
-            is_idle: false,
-            ..AT_REST
-        },
-    ),
-    Steps("0 step\n", "0 cas umount 2 2 waiting\n"),
-    Stands(
-        0,
-        Stand {
-            is_idle: false,
-            waited: 1,
-            ..AT_REST
-        },
-    ),
-    Steps("0 step\n", "0 cas umount 2 2 waiting\n"),
-    Stands(
-        0,
-        Stand {
-            is_idle: false,
-            waited: 2,
-            ..AT_REST
-        },
-    ),
-    Steps(
-        "1 step 4\n1 step 4\n1 step\n",
-        "1 load sb 0 0\n1 store umount 0\n1 ok\n1 idle\n",
-    ),
-    Steps(
-        "0 step\n0 step\n0 step\n",
-        "0 cas umount 0 1\n0 load stage 0 0\n0 store umount 0\n0 refused 22 Invalid\n",
-    ),
-    Stands(
-        0,
-        Stand {
-            waited: 2,
-            ..AT_REST
-        },
-    ),
-    Calls("0 trysnapshot\n", "0 refused 22 Invalid\n"),
-    Stands(0, AT_REST),
-];
-
-const CASES: &[Case] = &[
-    Case {
-        config: SMALL,
-        deeds: ACCESSES,
-        stays_open: None,
-        left: Some(Left {
-            gates: &[
-                (Gate::Mount(0), Some(0)),
-                (Gate::Level(3), Some(0)),
-                (Gate::Mount(1), None),
-            ],
-            words: &[
-                (WordName::Umount, Some(0)),
-                (WordName::MountCount(0, 1), Some(u64::MAX - 1)),
-                (WordName::MountCount(0, 2), None),
-            ],
-        }),
-    },
-    Case {
-        config: Config { nodes: 4, ..SMALL },
-        deeds: FILES,
-        stays_open: None,
-        left: Some(Left {
-            gates: &[],
-            words: &[(WordName::Used, Some(5))],
-        }),
-    },
-    Case {
-        config: Config { mounts: 2, ..SMALL },
-        deeds: TRIES,
-        stays_open: None,
-        left: Some(Left {
-            gates: &[],
-            words: &[],
-        }),
-    },
-    Case {
-        config: SMALL,
-        deeds: HOLDERS,
-        stays_open: None,
-        left: Some(Left {
-            gates: &[],
-            words: &[(WordName::Holders, Some(0))],
-        }),
-    },
-    Case {
-        config: SMALL,
-        deeds: OPENS,
-        stays_open: None,
-        left: Some(Left {
-            gates: &[],
-            words: &[(WordName::Removed, Some(0)), (WordName::Used, Some(0))],
-        }),
-    },
-    Case {
-        config: SMALL,
-        deeds: KEPT_OPEN,
-        stays_open: Some(CLOSED_ONCE),
-        left: Some(Left {
-            gates: &[],
-            words: &[(WordName::Used, Some(5))],
-        }),
-    },
-    Case {
-        config: SMALL,
-        deeds: OPENED_TOO,
-        stays_open: Some(CLOSED_TOO),
-        left: Some(Left {
-            gates: &[],
-            words: &[(WordName::Used, Some(0))],
-        }),
-    },
-    Case {
-        config: SMALL,
-        deeds: BY_STEPS,
-        stays_open: Some(TO_THE_END),
-        left: Some(Left {
-            gates: &[],
-            words: &[],
-        }),
-    },
-];
-
-#[test]
-fn each_call_is_made_as_its_user_makes_it(rt: HostRuntime) -> Result<(), Fail> {
-    all_hold(&rt, CASES)
-}
+/// Two tasks at rest, before and after the first one's calls with a closure.
+pub const CLOSURES: Case = Case {
+    name: "closures",
+    config: SMALL,
+    manner: Manner::Agrees,
+    acts: &[
+        SPLITS,
+        Act::First(&[
+            ("makes a file", WritesInside),
+            ("is at rest", Stands(AT_REST)),
+            ("takes a snapshot", CopiesInside),
+            ("0 callback 3: done=0\n", Calls),
+        ]),
+        JOINS,
+    ],
+    stays_open: &[],
+    left: Some(&[]),
+};

@@ -3,19 +3,21 @@
 ghost use Rattle.vfs_gates.specs.TaskStates.{IsFrom};
 
 use super::SMALL;
-use super::cases::Deed::{Calls, Decides, Fails, NoTree, Tree};
-use super::cases::{Case, Deed, all_hold};
+use super::rows::Deed::{BacksUp, Calls, FailsAt, Shuts, ShutsAndSees, Takes, Took};
+use super::rows::EMPTY_TREE;
+use super::scene::Manner;
+use super::teams::{Act, Case, JOINS, SPLITS};
+use super::turns::Turn;
 use crossbeam_utils::Backoff;
 use std::sync::Wait;
-use std::test::Fail;
 use vfs_gates::{Event, FsHooks, GateError, Gates, Holder, HookCall, Op, Progress, Task, WordName};
 
 /// Remounts read-only, so often while it is busy.
-fn shut<R: Wait, H: FsHooks>(
+pub fn shut<R: Wait>(
     rt: &R,
     gates: &Gates,
     task: &mut Task,
-    hooks: &mut H,
+    hooks: &mut Turn<'_>,
     tries: u32,
 ) -> Result<(), GateError>
     requires { IsFrom task.old gates.now }
@@ -33,11 +35,11 @@ fn shut<R: Wait, H: FsHooks>(
 
 /// Remounts read-only by steps. Where it is busy, the word that it looked at last: the stage, the count of removed files, or the last count of
 /// a mount.
-fn shut_and_see<R: Wait, H: FsHooks>(
+pub fn shut_and_see<R: Wait>(
     rt: &R,
     gates: &Gates,
     task: &mut Task,
-    hooks: &mut H,
+    hooks: &mut Turn<'_>,
 ) -> Result<Option<WordName>, GateError>
     requires { IsFrom task.old gates.now }
     ensures { IsFrom task.new gates.now }
@@ -72,11 +74,11 @@ fn shut_and_see<R: Wait, H: FsHooks>(
 }
 
 /// Takes a snapshot of a freeze of its own, or of another's.
-fn back_up<R: Wait, H: FsHooks>(
+pub fn back_up<R: Wait>(
     rt: &R,
     gates: &Gates,
     task: &mut Task,
-    hooks: &mut H,
+    hooks: &mut Turn<'_>,
 ) -> Result<(), GateError>
     requires { IsFrom task.old gates.now }
     ensures { IsFrom task.new gates.now }
@@ -100,12 +102,12 @@ fn back_up<R: Wait, H: FsHooks>(
     }
 }
 
-/// Takes a snapshot, so often while another task thaws in between.
-fn take<R: Wait, H: FsHooks>(
+/// Takes a snapshot, so often while another task thaws in between, or keeps it from a look.
+pub fn take<R: Wait>(
     rt: &R,
     gates: &Gates,
     task: &mut Task,
-    hooks: &mut H,
+    hooks: &mut Turn<'_>,
     tries: u32,
 ) -> Result<(), GateError>
     requires { IsFrom task.old gates.now }
@@ -113,136 +115,119 @@ fn take<R: Wait, H: FsHooks>(
 {
     let backoff = Backoff::new();
     for _try in 0..tries {
-        let frozen = task.freeze(rt, gates, Holder::User, hooks);
-        if let Err(GateError::Hook(_) | GateError::Order) = frozen {
-            return frozen;
-        }
-        let taken = task.snapshot(rt, gates);
-        if frozen.is_ok() {
-            match task.thaw(rt, gates, Holder::User, hooks) {
-                Ok(()) | Err(GateError::Invalid) => {}
-                refused => return refused,
-            }
-        }
-        match taken {
-            Err(GateError::Invalid) => backoff.snooze(),
+        match back_up(rt, gates, task, hooks) {
+            Err(GateError::Invalid | GateError::Again) => backoff.snooze(),
             answer => return answer,
         }
     }
     Err(GateError::Invalid)
 }
 
-/// What a task does that is refused.
-#[derive(Clone, Copy)]
-pub enum Decision {
-    /// Remounts read-only, up to three times.
-    Shut,
-    /// Does so once, and sees what was in the way.
-    ShutAndSee,
-    BackUp,
-    /// Takes a snapshot, with two tries.
-    Take,
-}
-
-/// What is seen, and how it ends.
-pub fn decide<R: Wait, H: FsHooks>(
-    task: &mut Task,
-    rt: &R,
-    gates: &Gates,
-    decision: Decision,
-    hooks: &mut H,
-) -> Result<Option<WordName>, GateError>
-    requires { IsFrom task.old gates.now }
-    ensures { IsFrom task.new gates.now }
-{
-    let ended = match decision {
-        Decision::Shut => shut(rt, gates, task, hooks, 3),
-        Decision::ShutAndSee => return shut_and_see(rt, gates, task, hooks),
-        Decision::BackUp => back_up(rt, gates, task, hooks),
-        Decision::Take => take(rt, gates, task, hooks, 2),
-    };
-    match ended {
-        Ok(()) => Ok(None),
-        Err(refusal) => Err(refusal),
-    }
-}
-
 /// A remount is busy for the access that another task takes with the second processor, and for what it has frozen, each time, and is done once
 /// that is thawed.
-const REMOUNTS: &[Deed] = &[
-    Calls("1 want 0 1\n", "1 ok\n"),
-    Decides(Decision::Shut, Err(GateError::Busy)),
-    Decides(Decision::ShutAndSee, Ok(Some(WordName::MountCount(0, 1)))),
-    Calls("1 drop 0 0\n1 freeze\n", "1 ok\n1 ok\n"),
-    Decides(Decision::ShutAndSee, Ok(Some(WordName::Stage))),
-    Calls("1 thaw\n", "1 ok\n"),
-    Decides(Decision::Shut, Ok(None)),
-    Calls("1 trywant 0 0\n", "1 refused 30 ReadOnly\n"),
-];
+pub const REMOUNTS: Case = Case {
+    name: "a remount that is busy",
+    config: SMALL,
+    manner: Manner::Agrees,
+    acts: &[
+        SPLITS,
+        Act::Second(&[("1 want 0 1: done\n", Calls)]),
+        Act::First(&[
+            ("remounts beside an access", Shuts(Err(GateError::Busy))),
+            (
+                "sees the access",
+                ShutsAndSees(Ok(Some(WordName::MountCount(0, 1)))),
+            ),
+        ]),
+        Act::Second(&[(
+            "1 drop 0 0: done\n\
+          1 freeze: done\n",
+            Calls,
+        )]),
+        Act::First(&[("sees the freeze", ShutsAndSees(Ok(Some(WordName::Stage))))]),
+        Act::Second(&[("1 thaw: done\n", Calls)]),
+        Act::First(&[("remounts", Shuts(Ok(())))]),
+        Act::Second(&[("1 trywant 0 0: ReadOnly\n", Calls)]),
+        JOINS,
+    ],
+    stays_open: &[],
+    left: Some(&[]),
+};
 
 /// A backup that the file system refuses takes no snapshot, and has run the callbacks: two freezes have closed the first level since one ran
 /// there, and one has run by then. What another task has frozen is taken as it is, and left frozen.
-const BACKUPS: &[Deed] = &[
-    Calls("1 freeze\n1 thaw\n", "1 ok\n1 ok\n"),
-    Fails(
-        Decision::BackUp,
-        HookCall::FreezeFs,
-        16,
-        GateError::Hook(16),
-    ),
-    NoTree(0),
-    Calls(
-        "0 callback 1\n0 callback 1\n1 freeze\n",
-        "0 ok ran\n0 ok none\n1 ok\n",
-    ),
-    Decides(Decision::BackUp, Ok(None)),
-    Tree(0, ""),
-    Calls("0 trystart 1 0\n1 thaw\n", "0 refused 11 Again\n1 ok\n"),
-];
+pub const BACKUPS: Case = Case {
+    name: "a backup beside another",
+    config: SMALL,
+    manner: Manner::Agrees,
+    acts: &[
+        SPLITS,
+        Act::Second(&[(
+            "1 freeze: done\n\
+          1 thaw: done\n",
+            Calls,
+        )]),
+        Act::First(&[
+            ("a file system that fails", FailsAt(HookCall::FreezeFs, 16)),
+            ("backs up in vain", BacksUp(Err(GateError::Hook(16)))),
+            ("no snapshot", Took(&[])),
+            (
+                "0 callback 1: done=1\n\
+          0 callback 1: done=0\n",
+                Calls,
+            ),
+        ]),
+        Act::Second(&[("1 freeze: done\n", Calls)]),
+        Act::First(&[
+            ("backs up what is frozen", BacksUp(Ok(()))),
+            ("its tree", Took(EMPTY_TREE)),
+            ("0 trystart 1 0: Again\n", Calls),
+        ]),
+        Act::Second(&[("1 thaw: done\n", Calls)]),
+        JOINS,
+    ],
+    stays_open: &[],
+    left: Some(&[]),
+};
 
 /// A backup by its own freeze leaves nothing frozen.
-const OWN: &[Deed] = &[
-    Decides(Decision::BackUp, Ok(None)),
-    Tree(0, ""),
-    Calls("0 thaw\n1 trystart 1 0\n", "0 refused 22 Invalid\n1 ok\n"),
-];
+pub const OWN: Case = Case {
+    name: "a backup",
+    config: SMALL,
+    manner: Manner::Agrees,
+    acts: &[
+        SPLITS,
+        Act::First(&[
+            ("backs up", BacksUp(Ok(()))),
+            ("its tree", Took(EMPTY_TREE)),
+            ("0 thaw: Invalid\n", Calls),
+        ]),
+        Act::Second(&[(
+            "1 trystart 1 0: done\n\
+          1 end 1 0: done\n",
+            Calls,
+        )]),
+        JOINS,
+    ],
+    stays_open: &[],
+    left: Some(&[]),
+};
 
 /// A snapshot that finds nothing frozen is taken of a freeze of its own.
-const SNAPSHOTS: &[Deed] = &[
-    Calls("0 snapshot\n", "0 refused 22 Invalid\n"),
-    NoTree(0),
-    Decides(Decision::Take, Ok(None)),
-    Tree(0, ""),
-];
-
-const CASES: &[Case] = &[
-    Case {
-        config: SMALL,
-        deeds: REMOUNTS,
-        stays_open: None,
-        left: None,
-    },
-    Case {
-        config: SMALL,
-        deeds: BACKUPS,
-        stays_open: None,
-        left: None,
-    },
-    Case {
-        config: SMALL,
-        deeds: OWN,
-        stays_open: None,
-        left: None,
-    },
-    Case {
-        config: SMALL,
-        deeds: SNAPSHOTS,
-        stays_open: None,
-        left: None,
-    },
-];
-
-#[test]
-fn a_refusal_is_met_as_advised(rt: HostRuntime) -> Result<(), Fail> {
-    all_hold(&rt, CASES)
-}
+pub const SNAPSHOTS: Case = Case {
+    name: "a snapshot of nothing frozen",
+    config: SMALL,
+    manner: Manner::Agrees,
+    acts: &[
+        SPLITS,
+        Act::First(&[
+            ("0 snapshot: Invalid\n", Calls),
+            ("no snapshot", Took(&[])),
+            ("takes one", Takes(Ok(()))),
+            ("its tree", Took(EMPTY_TREE)),
+        ]),
+        JOINS,
+    ],
+    stays_open: &[],
+    left: Some(&[]),
+};

@@ -2,99 +2,144 @@
 //! number is left to split off, and the gates can't be closed, but both come back as they were.
 
 use super::SMALL;
-use super::cases::Deed::{Calls, Loses, Stands, Steps};
-use super::cases::{Case, Deed, all_hold};
-use super::two::AT_REST;
-use std::test::Fail;
-use vfs_gates::Config;
+use super::rows::Deed::{Calls, Stands, Steps};
+use super::rows::{AT_REST, Deed};
+use super::scene::Manner;
+use super::teams::{Act, Case, SPLITS};
+use vfs_gates::GateError::TooMany;
+use vfs_gates::{Config, Progress, WordName};
 
 /// A change of the first mount is busy, each time, while others may want there, and the second mount can be shut.
-const ACCESS: &[Deed] = &[
-    Calls("1 trywant 0 1\n", "1 ok\n"),
-    Loses,
-    Calls(
-        "0 trychange 0 ro\n0 trychange 0 ro\n0 trywant 0 0\n0 drop 0 0\n0 trychange 0 ro\n0 trychange 1 ro\n0 trywant 1 0\n",
-        "0 refused 16 Busy\n0 refused 16 Busy\n0 ok\n0 ok\n0 refused 16 Busy\n0 ok\n0 refused 30 ReadOnly\n",
-    ),
-];
+pub const ACCESS: Case = Case {
+    name: "an access is lost",
+    config: TWO_MOUNTS,
+    manner: Manner::Agrees,
+    acts: &[
+        SPLITS,
+        Act::Second(&[("1 trywant 0 1: done\n", Calls)]),
+        Act::Loses,
+        NONE_LEFT,
+        Act::First(&[(
+            "0 trychange 0 ro: Busy\n\
+          0 trychange 0 ro: Busy\n\
+          0 trywant 0 0: done\n\
+          0 drop 0 0: done\n\
+          0 trychange 0 ro: Busy\n\
+          0 trychange 1 ro: done\n\
+          0 trywant 1 0: ReadOnly\n",
+            Calls,
+        )]),
+    ],
+    stays_open: BUSY,
+    left: None,
+};
+
+const TAKES_UMOUNT: Deed = Steps(WordName::Umount, 0, Progress::Going);
 
 /// It owns `umount` after one event. Changes of each mount and snapshots would wait, while others may want.
-const OWNER: &[Deed] = &[
-    Steps("1 change 0 ro\n1 step\n", "1 cas umount 0 2\n"),
-    Loses,
-    Calls(
-        "0 trychange 0 ro\n0 trychange 0 rw\n0 trychange 1 ro\n0 trysnapshot\n0 trywant 0 0\n0 drop 0 1\n0 trysnapshot\n",
-        "0 refused 11 Again\n0 refused 11 Again\n0 refused 11 Again\n0 refused 11 Again\n0 ok\n0 ok\n0 refused 11 Again\n",
-    ),
-];
+pub const OWNER: Case = Case {
+    name: "the owner of umount is lost",
+    config: TWO_MOUNTS,
+    manner: Manner::Agrees,
+    acts: &[
+        SPLITS,
+        Act::Second(&[("1 change 0 ro", TAKES_UMOUNT)]),
+        Act::Loses,
+        NONE_LEFT,
+        Act::First(&[(
+            "0 trychange 0 ro: Again\n\
+          0 trychange 0 rw: Again\n\
+          0 trychange 1 ro: Again\n\
+          0 trysnapshot: Again\n\
+          0 trywant 0 0: done\n\
+          0 drop 0 1: done\n\
+          0 trysnapshot: Again\n",
+            Calls,
+        )]),
+    ],
+    stays_open: TAKEN,
+    left: None,
+};
 
 /// Its fourth event is the one that sets HOLD. Wants of the first mount would wait, and those of the second don't, nor starts.
-const HOLDER: &[Deed] = &[
-    Steps(
-        "1 change 0 ro\n1 step\n1 step\n1 step\n1 step\n",
-        "1 cas umount 0 2\n1 load mount0.flags 0 0\n1 load sb 0 0\n1 or mount0.flags 0 2\n",
-    ),
-    Loses,
-    Calls(
-        "0 trywant 0 0\n0 drop 0 0\n0 trywant 1 0\n0 drop 1 1\n0 trystart 1 0\n0 end 1 1\n",
-        "0 refused 11 Again\n0 refused 35 Order\n0 ok\n0 ok\n0 ok\n0 ok\n",
-    ),
-];
+pub const HOLDER: Case = Case {
+    name: "a change is lost that holds writers off",
+    config: TWO_MOUNTS,
+    manner: Manner::Agrees,
+    acts: &[
+        SPLITS,
+        Act::Second(&[
+            ("1 change 0 ro", TAKES_UMOUNT),
+            (
+                "finds it writable",
+                Steps(WordName::MountFlags(0), 0, Progress::Going),
+            ),
+            (
+                "finds all writable",
+                Steps(WordName::SbFlags, 0, Progress::Going),
+            ),
+            (
+                "sets HOLD",
+                Steps(WordName::MountFlags(0), 0, Progress::Going),
+            ),
+        ]),
+        Act::Loses,
+        NONE_LEFT,
+        Act::First(&[(
+            "0 trywant 0 0: Again\n\
+          0 drop 0 0: Order\n\
+          0 trywant 1 0: done\n\
+          0 drop 1 1: done\n\
+          0 trystart 1 0: done\n\
+          0 end 1 1: done\n",
+            Calls,
+        )]),
+    ],
+    stays_open: TAKEN,
+    left: None,
+};
 
 /// A freeze would wait for it for ever, so none is asked for here.
-const INSIDE: &[Deed] = &[Calls("1 trystart 1 0\n", "1 ok\n"), Loses];
+pub const INSIDE: Case = Case {
+    name: "a level is lost",
+    config: TWO_MOUNTS,
+    manner: Manner::Agrees,
+    acts: &[
+        SPLITS,
+        Act::Second(&[("1 trystart 1 0: done\n", Calls)]),
+        Act::Loses,
+        NONE_LEFT,
+    ],
+    stays_open: DONE,
+    left: None,
+};
 
-const RESTING: &[Deed] = &[Loses];
+pub const RESTING: Case = Case {
+    name: "a task at rest is lost",
+    config: TWO_MOUNTS,
+    manner: Manner::Agrees,
+    acts: &[SPLITS, Act::Loses, NONE_LEFT],
+    stays_open: DONE,
+    left: None,
+};
 
 /// The first task is as it was, and so are the gates: a change of the first mount is refused as before, or done.
-const BUSY: &[Deed] = &[
-    Stands(0, AT_REST),
-    Calls("0 trychange 0 ro\n", "0 refused 16 Busy\n"),
-];
+const BUSY: &[Act] = &[Act::First(&[
+    ("is as it was", Stands(AT_REST)),
+    ("0 trychange 0 ro: Busy\n", Calls),
+])];
 
-const TAKEN: &[Deed] = &[
-    Stands(0, AT_REST),
-    Calls("0 trychange 0 ro\n", "0 refused 11 Again\n"),
-];
+const TAKEN: &[Act] = &[Act::First(&[
+    ("is as it was", Stands(AT_REST)),
+    ("0 trychange 0 ro: Again\n", Calls),
+])];
 
-const DONE: &[Deed] = &[Stands(0, AT_REST), Calls("0 trychange 0 ro\n", "0 ok\n")];
+const DONE: &[Act] = &[Act::First(&[
+    ("is as it was", Stands(AT_REST)),
+    ("0 trychange 0 ro: done\n", Calls),
+])];
+
+/// No number is left to split off.
+const NONE_LEFT: Act = Act::Splits(Err(TooMany));
 
 const TWO_MOUNTS: Config = Config { mounts: 2, ..SMALL };
-
-const CASES: &[Case] = &[
-    Case {
-        config: TWO_MOUNTS,
-        deeds: ACCESS,
-        stays_open: Some(BUSY),
-        left: None,
-    },
-    Case {
-        config: TWO_MOUNTS,
-        deeds: OWNER,
-        stays_open: Some(TAKEN),
-        left: None,
-    },
-    Case {
-        config: TWO_MOUNTS,
-        deeds: HOLDER,
-        stays_open: Some(TAKEN),
-        left: None,
-    },
-    Case {
-        config: TWO_MOUNTS,
-        deeds: INSIDE,
-        stays_open: Some(DONE),
-        left: None,
-    },
-    Case {
-        config: TWO_MOUNTS,
-        deeds: RESTING,
-        stays_open: Some(DONE),
-        left: None,
-    },
-];
-
-#[test]
-fn whoever_is_left_is_refused_where_he_has_to_be(rt: HostRuntime) -> Result<(), Fail> {
-    all_hold(&rt, CASES)
-}

@@ -3,118 +3,90 @@
 
 ghost use Rattle.vfs_gates.specs.TaskStates.{IsFrom};
 
+use super::turns::Turn;
 use std::sync::Wait;
-use vfs_gates::{FsHooks, GateError, Gates, Op, Reply, Task};
+use vfs_gates::{GateError, Gates, Op, Task};
 
-/// That a call was done that tells no more.
-fn unit(answer: Result<(), GateError>) -> Result<Reply, GateError> {
-    match answer {
-        Ok(()) => Ok(Reply::Unit),
-        Err(refusal) => Err(refusal),
-    }
-}
-
-/// The same of a snapshot.
-fn tree(answer: Result<(), GateError>) -> Result<Reply, GateError> {
-    match answer {
-        Ok(()) => Ok(Reply::Tree),
-        Err(refusal) => Err(refusal),
-    }
-}
-
-/// The call of a task that makes an operation.
-pub fn call<R: Wait, H: FsHooks>(
+/// The call of a task that makes an operation. The turn has its file system and names its files, and is told the node that was made or whether
+/// a callback ran.
+pub fn call<R: Wait>(
     task: &mut Task,
     rt: &R,
     gates: &Gates,
     op: Op,
-    hooks: &mut H,
-) -> Result<Reply, GateError>
+    turn: &mut Turn<'_>,
+) -> Result<(), GateError>
     requires { IsFrom task.old gates.now }
     ensures { IsFrom task.new gates.now }
 {
     match op {
-        Op::RemountSb { read_only } => unit(task.remount_sb(rt, gates, read_only, hooks)),
-        Op::Freeze { holder } => unit(task.freeze(rt, gates, holder, hooks)),
-        Op::Thaw { holder } => unit(task.thaw(rt, gates, holder, hooks)),
-        _ => call_unasked(task, rt, gates, op),
-    }
-}
-
-/// One that asks no hook.
-fn call_unasked<R: Wait>(task: &mut Task, rt: &R, gates: &Gates, op: Op) -> Result<Reply, GateError>
-    requires { IsFrom task.old gates.now }
-    ensures { IsFrom task.new gates.now }
-{
-    match op {
+        Op::RemountSb { read_only } => task.remount_sb(rt, gates, read_only, turn),
+        Op::Freeze { holder } => task.freeze(rt, gates, holder, turn),
+        Op::Thaw { holder } => task.thaw(rt, gates, holder, turn),
         Op::Want {
             mount,
             cpu,
             wait: true,
-        } => unit(task.want(rt, gates, mount, cpu)),
-        Op::WantWrite { mount, cpu } => unit(task.want_write(rt, gates, mount, cpu)),
+        } => task.want(rt, gates, mount, cpu),
+        Op::WantWrite { mount, cpu } => task.want_write(rt, gates, mount, cpu),
         Op::Start {
             level,
             cpu,
             wait: true,
-        } => unit(task.start(rt, gates, level, cpu)),
+        } => task.start(rt, gates, level, cpu),
         Op::ChangeMount {
             mount,
             read_only,
             wait: true,
-        } => { unit(task.change_mount(rt, gates, mount, read_only)) }
+        } => task.change_mount(rt, gates, mount, read_only),
         Op::Close {
             file,
             cpu,
             wait: true,
-        } => unit(task.close_file(rt, gates, file, cpu)),
-        Op::Snapshot { wait: true } => tree(task.snapshot(rt, gates)),
+        } => task.close_file(rt, gates, turn.file(file), cpu),
+        Op::Snapshot { wait: true } => task.snapshot(rt, gates),
         Op::Callback { level } => match task.callback(rt, gates, level) {
-            Ok(has_run) => Ok(Reply::Ran(has_run)),
+            Ok(has_run) => {
+                turn.told = u8::from(has_run);
+                Ok(())
+            }
             Err(refusal) => Err(refusal),
         },
-        _ => try_call(task, gates, op),
+        _ => try_call(task, gates, op, turn),
     }
 }
 
 /// One that waits for nobody.
-fn try_call(task: &mut Task, gates: &Gates, op: Op) -> Result<Reply, GateError>
+fn try_call(task: &mut Task, gates: &Gates, op: Op, turn: &mut Turn<'_>) -> Result<(), GateError>
     requires { IsFrom task.old gates.now }
     ensures { IsFrom task.new gates.now }
 {
     match op {
-        Op::Want { mount, cpu, .. } => unit(task.try_want(gates, mount, cpu)),
-        Op::DropMount { mount, cpu } => unit(task.drop_mount(gates, mount, cpu)),
-        Op::Start { level, cpu, .. } => unit(task.try_start(gates, level, cpu)),
-        Op::End { level, cpu } => unit(task.end(gates, level, cpu)),
-        Op::DropWrite { mount, cpu } => unit(task.drop_write(gates, mount, cpu)),
+        Op::Want { mount, cpu, .. } => task.try_want(gates, mount, cpu),
+        Op::DropMount { mount, cpu } => task.drop_mount(gates, mount, cpu),
+        Op::Start { level, cpu, .. } => task.try_start(gates, level, cpu),
+        Op::End { level, cpu } => task.end(gates, level, cpu),
+        Op::DropWrite { mount, cpu } => task.drop_write(gates, mount, cpu),
         Op::ChangeMount {
             mount,
             read_only,
             ..
-        } => { unit(task.try_change_mount(gates, mount, read_only)) }
-        Op::Snapshot { .. } => tree(task.try_snapshot(gates)),
-        _ => call_at_tree(task, gates, op),
-    }
-}
-
-/// One at the tree.
-fn call_at_tree(task: &mut Task, gates: &Gates, op: Op) -> Result<Reply, GateError>
-    requires { IsFrom task.old gates.now }
-    ensures { IsFrom task.new gates.now }
-{
-    match op {
+        } => task.try_change_mount(gates, mount, read_only),
+        Op::Snapshot { .. } => task.try_snapshot(gates),
         Op::Create { dir, kind } => match task.create(gates, dir, kind) {
-            Ok(node) => Ok(Reply::Node(node)),
+            Ok(node) => {
+                turn.told = node;
+                Ok(())
+            }
             Err(refusal) => Err(refusal),
         },
-        Op::Remove { file } => unit(task.remove(gates, file)),
-        Op::Grow { file, blocks } => unit(task.grow(gates, file, blocks)),
-        Op::MoveTo { file, dir } => unit(task.move_to(gates, file, dir)),
-        Op::Fault { file } => unit(task.fault(gates, file)),
-        Op::Flush { file } => unit(task.flush(gates, file)),
-        Op::Open { file } => unit(task.open_file(gates, file)),
-        Op::Close { file, cpu, .. } => unit(task.try_close_file(gates, file, cpu)),
+        Op::Remove { file } => task.remove(gates, turn.file(file)),
+        Op::Grow { file, blocks } => task.grow(gates, turn.file(file), blocks),
+        Op::MoveTo { file, dir } => task.move_to(gates, turn.file(file), dir),
+        Op::Fault { file } => task.fault(gates, file),
+        Op::Flush { file } => task.flush(gates, file),
+        Op::Open { file } => task.open_file(gates, turn.file(file)),
+        Op::Close { file, cpu, .. } => task.try_close_file(gates, turn.file(file), cpu),
         _ => Err(GateError::Invalid),
     }
 }

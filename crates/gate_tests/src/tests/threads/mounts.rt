@@ -1,42 +1,59 @@
 //! Wants and drops of two tasks, and beside them a change that comes and goes.
 
-use super::super::Left;
-use super::super::rounds::Row::{Done, Either, Refused};
-use super::super::rounds::{ENDS, FAILS, NEXT, Row};
-use super::{Crew, FOUR, meet};
-use std::test::Fail;
-use vfs_gates::GateError::{Busy, ReadOnly};
-use vfs_gates::{Gate, WordName};
+use super::super::rows::Part;
+use super::super::scene::Manner;
+use super::super::teams::{Act, Case, JOINS, SPLITS};
+use super::FIVE;
+use vfs_gates::WordName;
 
 /// One makes the mount read-only, where nobody is in the way, finds no want granted then, and makes it writable again.
-const CHANGES: &[Row] = &[
-    Either("0 trychange 0 ro", NEXT, &[Busy], FAILS),
-    Refused("0 trywant 0 0", ReadOnly),
-    Done("0 trychange 0 rw"),
-];
+const CHANGES: &str = "4 trychange 0 ro: done Busy*\n\
+     4 trywant 0 0: ReadOnly\n\
+     4 trychange 0 rw: done\n";
 
 /// Two take an access there, each on a processor of its own, and give it back on the other.
-const WANTS: &[Row] = &[
-    Either("1 want 0 0", NEXT, &[ReadOnly], ENDS),
-    Done("1 drop 0 1"),
-];
+const WANTS: &str = "1 want 0 0: done ReadOnly>9\n\
+     1 drop 0 1: done\n";
 
-const OTHER_WANTS: &[Row] = &[
-    Either("2 want 0 1", NEXT, &[ReadOnly], ENDS),
-    Done("2 drop 0 0"),
-];
+const OTHER_WANTS: &str = "2 want 0 1: done ReadOnly>9\n\
+     2 drop 0 0: done\n";
 
-static CREW: Crew = Crew {
-    config: FOUR,
-    opening: &[],
-    rounds: ((CHANGES, 50), (WANTS, 300), (OTHER_WANTS, 300), (&[], 1)),
-    left: Left {
-        gates: &[(Gate::Mount(0), Some(0))],
-        words: &[(WordName::MountFlags(0), Some(0))],
-    },
+pub const CASE: Case = Case {
+    name: "a change keeps its own thread out",
+    config: FIVE,
+    manner: Manner::Agrees,
+    acts: &[
+        SPLITS,
+        SPLITS,
+        SPLITS,
+        SPLITS,
+        Act::Beside(&[
+            Part {
+                lines: WANTS,
+                rounds: 300,
+                files: 1,
+            },
+            Part {
+                lines: OTHER_WANTS,
+                rounds: 300,
+                files: 1,
+            },
+            Part {
+                lines: "",
+                rounds: 1,
+                files: 1,
+            },
+            Part {
+                lines: CHANGES,
+                rounds: 50,
+                files: 1,
+            },
+        ]),
+        JOINS,
+        JOINS,
+        JOINS,
+        JOINS,
+    ],
+    stays_open: &[],
+    left: Some(&[(WordName::MountFlags(0), 0)]),
 };
-
-#[test]
-fn a_change_keeps_its_own_thread_out(rt: HostRuntime) -> Result<(), Fail> {
-    meet(&rt, &CREW, &())
-}

@@ -1,7 +1,6 @@
--- A snapshot and a freeze take nothing, so they leave the task as it was.
+-- A snapshot takes nothing, so it leaves the task as it was.
 use Rattle.std.proofs.Common.{rules, of_calls, true, refl, sym, subst}
-use Rattle.access_model.specs.declared.actions.Holder.TheVariants.{User}
-use Rattle.vfs_gates.specs.Op.TheVariants.{Freeze, Snapshot}
+use Rattle.vfs_gates.specs.Op.TheVariants.{Snapshot}
 use Rattle.vfs_gates.specs.Runs.{Replies, unit_of}
 use Rattle.vfs_gates.specs.TaskStates.{IsIdle}
 use Rattle.vfs_gates.specs.Held.{IsAsBefore}
@@ -14,12 +13,4 @@ with_freeze-copied-requires-clause-keeps g c = λ there mid answer idle took ret
     first_of (assumption returns.met, search (rules, returns.met), search (rules, of_calls, returns.met)) in
     let same : IsAsBefore returns.shown.now returns.left.now =
     keeps unit_of (Snapshot true) returns.shown.now returns.left.now answer (subst IsIdle (sym returns.shows) idle) call refl in
-    subst (λ s. IsAsBefore s mid) returns.shows (subst (IsAsBefore returns.shown.now) returns.leaves same)
-
-pub with_freeze-refused-requires-clause-keeps : goal.with_freeze-refused-requires-clause-keeps
-with_freeze-refused-requires-clause-keeps g c = λ there mid answer idle took returns.
-    let call : Replies unit_of (Freeze User) returns.shown.now returns.left.now answer =
-    first_of (assumption returns.met, search (rules, returns.met), search (rules, of_calls, returns.met)) in
-    let same : IsAsBefore returns.shown.now returns.left.now =
-    keeps unit_of (Freeze User) returns.shown.now returns.left.now answer (subst IsIdle (sym returns.shows) idle) call refl in
     subst (λ s. IsAsBefore s mid) returns.shows (subst (IsAsBefore returns.shown.now) returns.leaves same)

@@ -1,8 +1,8 @@
--- A create and a grow take nothing, so they leave the task as it was.
+-- A create takes nothing, so it leaves the task as it was.
 use Rattle.std.proofs.Common.{rules, of_calls, refl, sym, subst}
 use Rattle.access_model.specs.declared.actions.Kind.TheVariants.{File}
-use Rattle.vfs_gates.specs.Op.TheVariants.{Create, Grow}
-use Rattle.vfs_gates.specs.Runs.{Replies, node_of, unit_of}
+use Rattle.vfs_gates.specs.Op.TheVariants.{Create}
+use Rattle.vfs_gates.specs.Runs.{Replies, node_of}
 use Rattle.vfs_gates.specs.TaskStates.{IsIdle}
 use Rattle.vfs_gates.specs.Held.{IsAsBefore}
 use Rattle.vfs_gates.proofs.Holding.{keeps}
@@ -14,12 +14,4 @@ with_write-made-requires-clause-keeps g c = λ there mid answer idle took return
     first_of (assumption returns.met, search (rules, returns.met), search (rules, of_calls, returns.met)) in
     let same : IsAsBefore returns.shown.now returns.left.now =
     keeps node_of (Create 0 File) returns.shown.now returns.left.now answer (subst IsIdle (sym returns.shows) idle) call refl in
-    subst (λ s. IsAsBefore s mid) returns.shows (subst (IsAsBefore returns.shown.now) returns.leaves same)
-
-pub with_write-grown-requires-clause-keeps : goal.with_write-grown-requires-clause-keeps
-with_write-grown-requires-clause-keeps g c = λ there mid answer idle took returns.
-    let call : Replies unit_of (Grow 1 9) returns.shown.now returns.left.now answer =
-    first_of (assumption returns.met, search (rules, returns.met), search (rules, of_calls, returns.met)) in
-    let same : IsAsBefore returns.shown.now returns.left.now =
-    keeps unit_of (Grow 1 9) returns.shown.now returns.left.now answer (subst IsIdle (sym returns.shows) idle) call refl in
     subst (λ s. IsAsBefore s mid) returns.shows (subst (IsAsBefore returns.shown.now) returns.leaves same)

@@ -1,0 +1,254 @@
+//! Cases: what tasks do at gates of their own, in turn and in threads, and what they leave.
+
+ghost use Rattle.std.specs.Prelude.{◌≡◌, All, IfErr};
+ghost use Rattle.vfs_gates.specs.TaskStates.{IsFrom};
+
+use super::rows::{Part, Row, go_through, work};
+use super::scene::{Manner, Scene};
+use super::turns::Turn;
+use std::alloc::Global;
+use std::fmt::Debug;
+use std::sync::Wait;
+use std::test::Fail;
+use std::thread;
+use std::thread::Threads;
+use vfs_gates::{Closed, Config, Gate, GateError, Gates, Task, WordName};
+
+/// What tasks do.
+pub enum Act {
+    /// The first task does this.
+    First(&'static [Row]),
+    /// The second one does.
+    Second(&'static [Row]),
+    /// All but the first do, each in a thread of its own.
+    Beside(&'static [Part]),
+    /// The first one splits another one off, or is refused so.
+    Splits(Result<(), GateError>),
+    /// The first one joins the last one, or is refused so.
+    Joins(Result<(), GateError>),
+    /// The last one is dropped.
+    Loses,
+}
+
+pub const SPLITS: Act = Act::Splits(Ok(()));
+
+pub const JOINS: Act = Act::Joins(Ok(()));
+
+/// Acts in a row at gates of their own.
+pub struct Case {
+    pub name: &'static str,
+    pub config: Config,
+    pub manner: Manner,
+    pub acts: &'static [Act],
+    /// Where the gates can't be closed then, and come back as they were: further acts.
+    pub stays_open: &'static [Act],
+    /// What words hold in the end, where the gates are closed then.
+    pub left: Option<&'static [(WordName, u64)]>,
+}
+
+/// Whether a value shows itself so, to begin with.
+fn shows<D: Debug>(alloc: Global, shown: &D, beginning: &str) -> bool {
+    match format!(in alloc; "{shown:?}") {
+        Ok(text) => text.starts_with(beginning),
+        Err(_) => false,
+    }
+}
+
+/// Splits one more task off.
+fn split(
+    first: &mut Task,
+    others: &mut Vec<Task>,
+    alloc: Global,
+    gates: &Gates,
+) -> Result<(), GateError>
+    requires first { IsFrom first.old gates.now }
+    requires others { All (λ task. IsFrom task gates.now) others.old.items }
+    ensures first { IsFrom first.new gates.now }
+    ensures others { All (λ task. IsFrom task gates.now) others.new.items }
+{
+    let other = first.split(alloc, gates)?;
+    match others.push(other) {
+        Ok(()) => Ok(()),
+        Err(_) => Err(GateError::NoMemory),
+    }
+}
+
+/// Joins the last task, which stays where that is refused.
+fn join(first: &mut Task, others: &mut Vec<Task>, gates: &Gates) -> Result<(), GateError>
+    requires first { IsFrom first.old gates.now }
+    requires others { All (λ task. IsFrom task gates.now) others.old.items }
+    ensures first { IsFrom first.new gates.now }
+    ensures others { All (λ task. IsFrom task gates.now) others.new.items }
+{
+    let Some(other) = others.pop() else {
+        return Err(GateError::Invalid);
+    };
+    match first.join(gates, other) {
+        Ok(()) => Ok(()),
+        Err((refusal, other)) => {
+            let _ = others.push(other);
+            Err(refusal)
+        }
+    }
+}
+
+/// Tasks do their parts, each in a thread of its own.
+fn go_beside<R: Wait + Threads + Sync>(
+    others: &mut Vec<Task>,
+    rt: &R,
+    gates: &Gates,
+    scene: &Scene,
+    parts: &[Part],
+)
+    requires others { All (λ task. IsFrom task gates.now) others.old.items }
+    ensures others { All (λ task. IsFrom task gates.now) others.new.items }
+{
+    thread::for_each_mut(
+        rt,
+        others.as_mut_slice(),
+        4,
+        &|place: usize, task: &mut Task|
+            requires { IsFrom task.now gates.now }
+            ensures { IsFrom task.exit.now gates.entry.now }
+        {
+            if let Some(part) = parts.get(place) {
+                work(task, rt, gates, scene, part);
+            }
+        },
+    );
+}
+
+/// What acts say, in a row.
+fn go<R: Wait + Threads + Sync + Alloc<A = Global>>(
+    first: &mut Task,
+    others: &mut Vec<Task>,
+    rt: &R,
+    gates: &Gates,
+    scene: &Scene,
+    acts: &[Act],
+)
+    requires first { IsFrom first.old gates.now }
+    requires others { All (λ task. IsFrom task gates.now) others.old.items }
+    ensures first { IsFrom first.new gates.now }
+    ensures others { All (λ task. IsFrom task gates.now) others.new.items }
+{
+    let mut turn = Turn::new(scene, 1);
+    for act in acts {
+        let is_so = match act {
+            Act::First(rows) => {
+                go_through(first, rt, gates, &mut turn, rows);
+                true
+            }
+            Act::Second(rows) => match others.get_mut(0) {
+                Some(second) => {
+                    go_through(second, rt, gates, &mut turn, rows);
+                    true
+                }
+                None => false,
+            },
+            Act::Beside(parts) => {
+                go_beside(others, rt, gates, scene, parts);
+                true
+            }
+            Act::Splits(wanted) => split(first, others, rt.alloc(), gates) == *wanted,
+            Act::Joins(wanted) => join(first, others, gates) == *wanted,
+            Act::Loses => others.pop().is_some(),
+        };
+        scene.expect(is_so, "split, joined or lost otherwise");
+    }
+}
+
+/// Whether closed gates have left this, and show themselves.
+fn has_left(alloc: Global, closed: &Closed, words: &[(WordName, u64)]) -> bool {
+    let mut is_so = shows(alloc, closed, "Closed { config: Config { tasks: ")
+        && closed.gate_sum(Gate::Mount(0)) == Some(0);
+    for (word, value) in words {
+        is_so = is_so && closed.word(*word) == Some(*value);
+    }
+    is_so
+}
+
+impl Case {
+    /// Closes the gates, and looks at what they have left; where that is refused, all come back as they were.
+    fn closes(
+        &self,
+        alloc: Global,
+        scene: &Scene,
+        gates: Gates,
+        first: Task,
+    ) -> Result<(), (Gates, Task)>
+        requires { IsFrom first gates }
+        ensures { IfErr result (λ kept. (kept.0 ≡ gates) × IsFrom kept.1 gates) }
+    {
+        match gates.close(first) {
+            Ok(closed) => {
+                let is_left = match self.left {
+                    Some(words) => has_left(alloc, &closed, words),
+                    None => false,
+                };
+                scene.expect(is_left, self.name);
+                Ok(())
+            }
+            Err((_refusal, gates, first)) => Err((gates, first)),
+        }
+    }
+
+    /// Plays the acts, and closes the gates. Where that is refused, the further acts are played before it is tried again.
+    fn play_at<R: Wait + Threads + Sync + Alloc<A = Global>>(
+        &self,
+        rt: &R,
+        scene: &Scene,
+        gates: Gates,
+        mut first: Task,
+    )
+        requires { IsFrom first gates }
+    {
+        let mut others = Vec::new(rt.alloc());
+        go(&mut first, &mut others, rt, &gates, scene, self.acts);
+        let is_closed = match self.closes(rt.alloc(), scene, gates, first) {
+            Ok(()) => self.stays_open.is_empty(),
+            Err((gates, mut first)) => {
+                go(&mut first, &mut others, rt, &gates, scene, self.stays_open);
+                self.closes(rt.alloc(), scene, gates, first).is_ok() != self.left.is_none()
+            }
+        };
+        scene.expect(is_closed, self.name);
+    }
+
+    /// The same at gates of its own, which show themselves, as their first task does.
+    fn play<R: Wait + Threads + Sync + Alloc<A = Global>>(&self, rt: &R, scene: &Scene) {
+        match Gates::new(rt.alloc(), self.config) {
+            Ok((gates, first)) => {
+                let does_show = shows(rt.alloc(), &first, "Task { number: 0, under_way: false, ")
+                    && shows(rt.alloc(), &gates, "Gates { config: Config { tasks: ");
+                scene.expect(does_show, "what tasks and gates show");
+                self.play_at(rt, scene, gates, first);
+            }
+            Err(_) => scene.note_wrong(self.name),
+        }
+    }
+}
+
+/// What is wrong in the last of these cases in which anything is: a line, or the case.
+pub fn last_wrong<R: Wait + Threads + Sync + Alloc<A = Global>>(
+    rt: &R,
+    cases: &[Case],
+) -> Option<&'static str> {
+    let mut wrong = None;
+    for case in cases {
+        let scene = Scene::of(case.manner);
+        case.play(rt, &scene);
+        if let Some(line) = scene.wrong.get() {
+            wrong = Some(*line);
+        }
+    }
+    wrong
+}
+
+/// That nothing is.
+pub fn expect_none(wrong: Option<&'static str>) -> Result<(), Fail> {
+    match wrong {
+        None => Ok(()),
+        Some(line) => Err(Fail::new(line)),
+    }
+}
