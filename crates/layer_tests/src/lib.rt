@@ -1,6 +1,6 @@
-//! Tests of the layers below the gates: the model, the words, and the order of events of an operation, each as its user calls it, and on words
-//! that no schedule reaches. They are a crate of their own, so that no layer is proved a second time with its tests. What a phase does next and
-//! what comes after it stands in its contract for all values; the rows that `mntgate` prints have each operation event by event.
+//! Tests of the layers below the gates: the model, the words, the tree, and a phase of an operation of each layer, each as its user calls it.
+//! They are a crate of their own, so that no layer is proved a second time with its tests. What a call does stands in its contract for all
+//! values, so that a few are tried here; the rows that `mntgate` prints have each operation event by event.
 #![tactic(auto)]
 
 #[cfg(test)]

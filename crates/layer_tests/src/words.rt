@@ -2,99 +2,94 @@
 
 use access_model::Kind;
 use bitflags::Flags;
-use cpu_words::{Event, Sum, Taken, Touch, WORDS, WordName};
+use cpu_words::{Sum, Taken, Touch, WORDS, WordName};
 use gated_tree::NodeWord;
 use mount_counts::MountFlags;
-use percpu_rwsem::SyncWord;
+use percpu_rwsem::{GpState, SyncWord};
 
 /// 2^64 less 1.
 const LAST: u64 = 18446744073709551615;
 
 #[test]
-fn a_sum_of_three_wraps(rt: HostRuntime) {
+fn a_sum_of_two_wraps(rt: HostRuntime) {
     let one = Sum { words: 1, total: 5 };
-    let two = Sum { words: 2, total: 4 };
-    assert!(rt; matches!(Sum::start().take(5, 3), Taken::More(sum) if sum == one));
-    assert!(rt; matches!(one.take(LAST, 3), Taken::More(sum) if sum == two));
-    assert!(rt; matches!(two.take(7, 3), Taken::Total(11)));
+    let is_begun = matches!(Sum::start().take(5, 2), Taken::More(sum) if sum == one);
+    assert!(rt; is_begun && matches!(one.take(LAST, 2), Taken::Total(4)));
 }
+
+/// Touches of a word that is 12, and what each leaves.
+static TOUCHES: [(Touch, u64); 11] = [
+    (Touch::Load, 12),
+    (Touch::Store(7), 7),
+    (Touch::Add(3), 15),
+    (Touch::Add(LAST), 11),
+    (Touch::Sub(3), 9),
+    (Touch::Sub(13), LAST),
+    (Touch::Or(10), 14),
+    (Touch::And(10), 8),
+    (Touch::Swap(9), 9),
+    (Touch::Cas { expect: 12, put: 5 }, 5),
+    (Touch::Cas { expect: 11, put: 5 }, 12),
+];
 
 #[test]
 fn touches_leave_what_arithmetic_says(rt: HostRuntime) {
-    let touches = [
-        (Touch::Load, 12),
-        (Touch::Store(7), 7),
-        (Touch::Add(3), 15),
-        (Touch::Add(LAST), 11),
-        (Touch::Sub(3), 9),
-        (Touch::Sub(13), LAST),
-        (Touch::Or(10), 14),
-        (Touch::And(10), 8),
-        (Touch::Swap(9), 9),
-        (Touch::Cas { expect: 12, put: 5 }, 5),
-        (Touch::Cas { expect: 11, put: 5 }, 12),
-    ];
-    for (touch, left) in touches {
-        assert_eq!(rt; touch.left(12), left, "{touch:?} of 12");
+    for (touch, left) in TOUCHES.iter() {
+        assert!(rt; touch.left(12) == *left, "{left}");
     }
 }
 
 #[test]
 fn a_store_finds_what_it_wrote(rt: HostRuntime) {
-    let word = WordName::Used;
-    let touch = Touch::Store(7);
-    let stored = Event {
-        word,
-        touch,
-        found: 7,
-        left: 7,
-    };
-    assert_eq!(rt; touch.event(word, 12), stored);
+    let stored = Touch::Store(7).event(WordName::Used, 12);
+    assert!(rt; (stored.found, stored.left) == (7, 7));
 }
 
 #[test]
 fn words_and_flags_have_their_places(rt: HostRuntime) {
-    assert_eq!(rt; WordName::LevelCount(3, 63).place(), WORDS - 1);
-    let bits = (MountFlags::READONLY.bits(), MountFlags::HOLD.bits());
-    assert_eq!(rt; bits, (1, 2));
+    let bits = [MountFlags::READONLY.bits(), MountFlags::HOLD.bits()];
+    assert!(rt; bits == [1, 2]);
+    assert!(rt; WordName::LevelCount(3, 63).place() == WORDS - 1);
+}
+
+/// A writer has passed.
+const PASSED: SyncWord = SyncWord {
+    state: GpState::Passed,
+    taken: false,
+    count: 1,
+};
+
+/// It has left, and its callback is taken, and another one has entered.
+const LEFT: SyncWord = SyncWord {
+    state: GpState::Exit,
+    taken: false,
+    count: 0,
+};
+
+const CLAIMED: SyncWord = SyncWord {
+    taken: true,
+    ..LEFT
+};
+
+const ENTERED: SyncWord = SyncWord {
+    count: 1,
+    ..CLAIMED
+};
+
+/// 5 is no word: there is no such state.
+#[test]
+fn sync_words_have_their_fields_in_place(rt: HostRuntime) {
+    let found = [SyncWord::unpack(267), SyncWord::unpack(5)];
+    assert!(rt; found == [Some(ENTERED), None]);
+    assert!(rt; [PASSED.pack(), ENTERED.pack()] == [258, 267]);
 }
 
 #[test]
-fn transitions_of_packed_words(rt: HostRuntime) {
-    let exit = |word| SyncWord::unpack(word)
-        .and_then(SyncWord::on_exit)
-        .map(SyncWord::pack);
-    let claim = |word| SyncWord::unpack(word)
-        .and_then(SyncWord::on_claim)
-        .map(SyncWord::pack);
-    let enter = |word| SyncWord::unpack(word)
-        .and_then(SyncWord::on_enter)
-        .map(SyncWord::pack);
-    let callback = |word| SyncWord::unpack(word)
-        .and_then(SyncWord::on_callback)
-        .map(SyncWord::pack);
-    let exits = [258, 267, 0].map(exit);
-    let claims = [3, 0, 258].map(claim);
-    let callbacks = [12, 11, 267, 0, 3].map(callback);
-    assert!(rt; exits == [Some(3), Some(12), None]);
-    assert!(rt; claims == [Some(11), None, None] && enter(11) == Some(267));
-    assert!(rt; callbacks == [Some(3), Some(0), Some(258), None, None]);
-}
-
-#[test]
-fn numbers_that_are_no_word(rt: HostRuntime) {
-    for number in [5, 16, 8, 256, 1, 2, 10, 16777216, LAST] {
-        assert!(rt; SyncWord::unpack(number).is_none(), "{number}");
-    }
-    // A kind 3, stray bits and a free node that says something; then a mark on a free node, on a file that nobody has open, on a directory and
-    // on a dirty file; then 65 and 127 tasks that have a file open, and one that has a directory or a free node open.
-    for number in [
-        3, 4, 17, 33, 65, 129, 256, 16385, 32769, 8388609, 2147483649, 4294967296, //
-        8, 9, 10, 65546, 65549, //
-        4259841, 8323073, 4259849, 65538, 65536, 65544,
-    ] {
-        assert!(rt; NodeWord::unpack(number).is_none(), "{number}");
-    }
+fn sync_words_follow_one_another(rt: HostRuntime) {
+    let writer = [PASSED.on_exit(), CLAIMED.on_enter()];
+    let callback = [LEFT.on_claim(), ENTERED.on_callback(), PASSED.on_callback()];
+    assert!(rt; writer == [Some(LEFT), Some(ENTERED)]);
+    assert!(rt; callback == [Some(CLAIMED), Some(PASSED), None]);
 }
 
 /// A file in the last node that may be a directory, of ten blocks, and dirty.
@@ -107,36 +102,18 @@ const FILE: NodeWord = NodeWord {
     size: 10,
 };
 
+/// The same, removed while as many tasks have it open as there may be.
+const REMOVED: NodeWord = NodeWord {
+    dirty: false,
+    removed: true,
+    opens: 64,
+    ..FILE
+};
+
+/// 4259841 is no word: a file that 65 tasks have open.
 #[test]
 fn node_words_have_their_fields_in_place(rt: HostRuntime) {
-    let free = NodeWord {
-        kind: None,
-        dirty: false,
-        removed: false,
-        parent: 0,
-        opens: 0,
-        size: 0,
-    };
-    let open = NodeWord { opens: 64, ..FILE };
-    let removed = NodeWord {
-        dirty: false,
-        removed: true,
-        ..open
-    };
-    let last = NodeWord {
-        opens: 1,
-        ..removed
-    };
-    for (node, word) in [
-        (FILE, 42949689093),
-        (free, 0),
-        (open, 42953883397),
-        (removed, 42953883401),
-        (last, 42949754633),
-    ] {
-        assert!(rt;
-            node.pack() == word && NodeWord::unpack(word) == Some(node),
-            "{word}"
-        );
-    }
+    let found = [NodeWord::unpack(42953883401), NodeWord::unpack(4259841)];
+    assert!(rt; found == [Some(REMOVED), None]);
+    assert!(rt; [FILE.pack(), REMOVED.pack()] == [42949689093, 42953883401]);
 }
