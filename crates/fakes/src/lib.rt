@@ -7,6 +7,7 @@ use std::alloc::Global;
 use std::cell::Cell;
 use std::io;
 use std::io::{ErrorKind, Read, Write};
+use std::slice::Iter;
 use std::test::Fail;
 
 /// Fails with both where what was printed isn't this text.
@@ -39,7 +40,7 @@ pub struct Slow<'a> {
 }
 
 impl<'a> Slow<'a> {
-    pub fn new(bytes: &'a [u8], most: usize, good: u32, kind: ErrorKind) -> Slow<'a> {
+    pub fn new(bytes: &'a [u8], (most, good): (usize, u32), kind: ErrorKind) -> Slow<'a> {
         Slow {
             bytes,
             most,
@@ -60,31 +61,6 @@ impl Read for Slow<'_> {
     }
 }
 
-/// A reader of some bytes, then of so many newlines, and then of some more bytes.
-#[derive(Drop)]
-pub struct Newlines<'a> {
-    pub head: &'a [u8],
-    pub empty: usize,
-    pub tail: &'a [u8],
-}
-
-impl Read for Newlines<'_> {
-    fn read(&mut self, buf: &mut [u8]) -> io::Result<usize> {
-        if !self.head.is_empty() {
-            return Ok(give(&mut self.head, usize::MAX, buf));
-        }
-        if self.empty == 0 {
-            return Ok(give(&mut self.tail, usize::MAX, buf));
-        }
-        let count = self.empty.min(buf.len());
-        for byte in &mut buf[..count] {
-            *byte = b'\n';
-        }
-        self.empty -= count;
-        Ok(count)
-    }
-}
-
 /// How a writer refuses: by an error, or by taking no byte.
 #[derive(Clone, Copy)]
 pub enum Refusal {
@@ -92,27 +68,22 @@ pub enum Refusal {
     Nothing,
 }
 
-/// A writer that takes a few bytes at a time, and refuses after so many good writes.
+/// A writer that takes a few bytes at a time, and refuses one write, after so many good ones: those after it are good again.
 #[derive(Drop)]
 pub struct Frail {
     pub taken: Vec<u8>,
     most: usize,
     good: u32,
     refusal: Refusal,
-    has_refused: bool,
-    /// Whether it was called after it had refused.
-    pub was_called_again: bool,
 }
 
 impl Frail {
-    pub fn new(alloc: Global, most: usize, good: u32, refusal: Refusal) -> Frail {
+    pub fn new(alloc: Global, (most, good): (usize, u32), refusal: Refusal) -> Frail {
         Frail {
             taken: Vec::new(alloc),
             most,
             good,
             refusal,
-            has_refused: false,
-            was_called_again: false,
         }
     }
 }
@@ -120,8 +91,7 @@ impl Frail {
 impl Write for Frail {
     fn write(&mut self, buf: &[u8]) -> io::Result<usize> {
         if self.good == 0 {
-            self.was_called_again = self.has_refused;
-            self.has_refused = true;
+            self.good = u32::MAX;
             return match self.refusal {
                 Refusal::Error(kind) => Err(io::Error::from(kind)),
                 Refusal::Nothing => Ok(0),
@@ -156,42 +126,21 @@ impl Write for Counter<'_> {
     }
 }
 
-/// A reader of a line at a time. At each read it looks whether as many bytes were written as the lines so far print.
+/// A reader of a line at a time, each with how many bytes have to be written before it is read: it fails where they aren't.
 #[derive(Drop)]
 pub struct Watcher<'a> {
-    bytes: &'a [u8],
-    prints: &'a [usize],
-    written: &'a Cell<usize>,
-    /// How many reads came before all that had to be written was.
-    late: &'a Cell<usize>,
-}
-
-impl<'a> Watcher<'a> {
-    pub fn new(
-        bytes: &'a [u8],
-        prints: &'a [usize],
-        written: &'a Cell<usize>,
-        late: &'a Cell<usize>,
-    ) -> Watcher<'a> {
-        Watcher {
-            bytes,
-            prints,
-            written,
-            late,
-        }
-    }
+    pub lines: Iter<'a, (&'a str, usize)>,
+    pub written: &'a Cell<usize>,
 }
 
 impl Read for Watcher<'_> {
     fn read(&mut self, buf: &mut [u8]) -> io::Result<usize> {
-        if let Some((printed, later)) = self.prints.split_first() {
-            if self.written.get() != *printed {
-                self.late.set(self.late.get().saturating_add(1));
-            }
-            self.prints = later;
+        let Some((line, written)) = self.lines.next() else {
+            return Ok(0);
+        };
+        if self.written.get() != *written {
+            return Err(io::Error::from(ErrorKind::Other));
         }
-        let line = self.bytes.iter().position(|byte| *byte == b'\n');
-        let most = line.map_or(0, |end| end.saturating_add(1));
-        Ok(give(&mut self.bytes, most, buf))
+        Ok(give(&mut line.as_bytes(), usize::MAX, buf))
     }
 }

@@ -1,7 +1,7 @@
 //! Freezes and thaws: their waits, their refusals, and what they leave.
 
 /// Schedules of freezes and thaws among readers, remounts and each other.
-pub(crate) static FREEZES: [(&str, &str); 18] = [
+pub static FREEZES: [(&str, &str); 18] = [
     // A reader on the fast path goes on beside a freeze, which waits for its section and then for its count.
     (
         "config 2 1 1 2 8\n1 start 1 0\n1 step\n1 step\n0 freeze\n0 step\n0 step\n0 step\n0 step\n0 step\n0 step\n0 step\n\

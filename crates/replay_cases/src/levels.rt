@@ -1,7 +1,7 @@
 //! Freeze levels, while nothing is frozen, and write access, which takes level 1 and a mount.
 
 /// Schedules of levels and callbacks.
-pub(crate) static LEVELS: [(&str, &str); 5] = [
+pub static LEVELS: [(&str, &str); 5] = [
     // A level is entered on one processor and left on another.
     (
         "config 2 2 1 2 8\n1 start 1 1\n1 step\n1 step\n1 step\n1 step\nmodel\n1 end 1 0\n1 step\nwords\nmodel\n",
@@ -41,7 +41,7 @@ pub(crate) static LEVELS: [(&str, &str); 5] = [
 ];
 
 /// Schedules of write access.
-pub(crate) static WRITES: [(&str, &str); 4] = [
+pub static WRITES: [(&str, &str); 4] = [
     // Write access, event by event, and given back on another processor: level 1 first, then the mount; and the mount first.
     (
         "config 1 2 1 2 8\n0 wantwrite 0 1\n0 step\n0 step\n0 step\n0 step\n0 step\n0 step\n0 step\n0 step\n0 step\nmodel\n\

@@ -1,11 +1,12 @@
-//! What a replay does with schedules whose printed text and faults are known, and with readers and writers that fail: functions over
-//! whatever gates, each of which a test of `driven_tests` calls over the core and over the gates that threads use.
+//! Schedules, and what a replay of each tells: what it prints, and behind a `! ` its fault, if it has one. `driven_tests` replays each over the
+//! core and over the gates that threads use.
 #![tactic(auto)]
 
-mod freezes;
-mod levels;
-mod opens;
-pub mod reads_and_writes;
-mod remounts;
-pub mod rows;
-mod trees;
+pub mod accesses;
+pub mod calls;
+pub mod faults;
+pub mod freezes;
+pub mod levels;
+pub mod opens;
+pub mod remounts;
+pub mod trees;

@@ -1,7 +1,7 @@
 //! Files that are open, and files that are removed while they are: opens and closes, their refusals, and what remounts and freezes find of them.
 
 /// Schedules of opens, closes and removes of files that are open.
-pub(crate) static OPENS: [(&str, &str); 6] = [
+pub static OPENS: [(&str, &str); 6] = [
     // A file that is open is removed: it keeps its node and its blocks, which a remount to read-only and a last close while all is frozen
     // find, up to its last close.
     (
@@ -99,7 +99,7 @@ pub(crate) static OPENS: [(&str, &str); 6] = [
 ];
 
 /// Opens and closes that are refused, and calls that are refused beside them.
-pub(crate) static REFUSED: [(&str, &str); 4] = [
+pub static REFUSED: [(&str, &str); 4] = [
     // What can't begin: a number out of range first, then an open of what the task has open, and a close of what it hasn't, or inside
     // level 3. A node that is free or a directory is refused by its word.
     (
@@ -170,7 +170,7 @@ pub(crate) static REFUSED: [(&str, &str); 4] = [
 ];
 
 /// Files that are open beside a remount.
-pub(crate) static BESIDE_REMOUNTS: [(&str, &str); 4] = [
+pub static BESIDE_REMOUNTS: [(&str, &str); 4] = [
     // A remount to read-only is refused before its first mount while a removed file is open, also while a remove or a last close has it
     // counted; one to writable doesn't ask.
     (
@@ -228,7 +228,7 @@ pub(crate) static BESIDE_REMOUNTS: [(&str, &str); 4] = [
 ];
 
 /// Files that are open beside a freeze.
-pub(crate) static BESIDE_FREEZES: [(&str, &str); 3] = [
+pub static BESIDE_FREEZES: [(&str, &str); 3] = [
     // While all is frozen a file is opened, and closed where that is no last close of a removed one; such a one is refused, or waits for
     // the thaw. A snapshot has the removed file's blocks, and it is no child.
     (

@@ -1,7 +1,7 @@
 //! Remounts of the superblock, and hooks that fail.
 
 /// Remounts whose hook answers Ok.
-pub(crate) static ANSWERED: [(&str, &str); 2] = [
+pub static ANSWERED: [(&str, &str); 2] = [
     // A want that comes between `remount` and the superblock's flag is refused by the first of them.
     (
         "config 2 1 1 2 8\n0 remount ro\n0 step\n0 step\n0 step\n0 step\n0 step\n0 step\n0 step\n0 step\n0 step\n0 step\n\
@@ -20,7 +20,7 @@ pub(crate) static ANSWERED: [(&str, &str); 2] = [
 ];
 
 /// Remounts of which a hook fails.
-pub(crate) static REFUSED: [(&str, &str); 5] = [
+pub static REFUSED: [(&str, &str); 5] = [
     // A want that comes while it is under way is refused, though the superblock stays writable.
     (
         "config 2 1 1 2 8\n0 remount ro\n0 step\n0 step\n0 step\n0 step\n0 step\n0 step\n0 step\n0 step\n0 step\n0 step\n\

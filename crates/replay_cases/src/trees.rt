@@ -1,7 +1,7 @@
 //! The tree behind the gates: its calls and their refusals, its marks, and snapshots of it.
 
 /// Schedules of calls at the tree.
-pub(crate) static TREES: [(&str, &str); 13] = [
+pub static TREES: [(&str, &str); 13] = [
     // A snapshot is refused where not all is frozen. A freeze of a read-only superblock closes no level; a snapshot of it is of
     // the root alone.
     (

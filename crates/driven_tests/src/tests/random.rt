@@ -1,12 +1,9 @@
 //! Random schedules: a replay over the gates that threads use prints what one over the core prints.
 
-use driven_gates::GatesDriver;
-use replay_cases::rows::{expect_end, played};
-use replays::{Core, ReplayFault};
+use super::{Over, expect_text, told};
 use std::alloc::Global;
 use std::io;
 use std::io::Write;
-use std::process::Abort;
 use std::test::Fail;
 
 /// What a task does, line by line, until it takes up something else. A capital letter stands for a number: T for the task's own, X for
@@ -45,11 +42,8 @@ static STORIES: [&str; 31] = [
     "T trywant X N\nT start N M\nT create B file\nT grow E B\nT run\nT move C E\nT wantwrite E M\nT callback C\nT step\n",
 ];
 
-/// How many parts the text of all schedules has to have.
-const PARTS: usize = 35;
-
-/// What the text of all schedules has to have, so that they are worth replaying.
-static REACHED: [&str; PARTS] = [
+/// What the texts of all schedules have to have, so that they are worth replaying.
+static REACHED: [&str; 35] = [
     " grant mount ",
     " grant level ",
     " return mount ",
@@ -92,9 +86,6 @@ const SCHEDULES: u64 = 200;
 
 const LINES: u32 = 120;
 
-/// In how many of their texts each part has to stand.
-const ENOUGH: u32 = 3;
-
 /// Numbers that are the same for the same seed: a linear congruential generator, of which the upper half is used.
 #[derive(Clone, Copy)]
 struct Dice {
@@ -113,24 +104,17 @@ impl Dice {
         first.saturating_add(rolled)
     }
 
-    /// A number below this one; now and then one that is out of range, which may be more than a byte.
-    fn number_below(&mut self, end: u64) -> u64 {
+    /// The same; now and then one that is out of range, which may be more than a byte.
+    fn about(&mut self, first: u64, last: u64) -> u64 {
         match self.between(0, 59) {
-            0 => end,
+            0 => last.saturating_add(1),
             1 => 300,
-            _ => self.between(0, end.saturating_sub(1)),
+            _ => self.between(first, last),
         }
-    }
-
-    /// What a task does next.
-    fn story(&mut self) -> &'static str {
-        let last = STORIES.len() as u64 - 1;
-        let index = self.between(0, last) as usize;
-        STORIES.get(index).copied().unwrap_or("")
     }
 }
 
-/// The numbers of a configuration.
+/// How many there are of what a configuration counts.
 #[derive(Clone, Copy)]
 struct Sizes {
     tasks: u64,
@@ -152,21 +136,22 @@ impl Sizes {
 
     /// The number for which a letter stands; None where the letter stands for itself.
     fn number_for(self, letter: u8, task: u64, dice: &mut Dice) -> Option<u64> {
-        match letter {
-            b'T' => Some(task),
-            b'X' => Some(dice.between(0, self.tasks.saturating_sub(1))),
-            b'M' => Some(dice.number_below(self.mounts)),
-            b'C' => Some(dice.number_below(self.processors)),
-            b'L' => Some(dice.number_below(3).saturating_add(1)),
-            b'N' => Some(dice.number_below(self.nodes)),
-            b'B' => Some(dice.between(0, 5)),
-            b'E' => Some(dice.between(1, 65_535)),
-            _ => None,
-        }
+        let last = match letter {
+            b'T' => return Some(task),
+            b'X' => return Some(dice.between(0, self.tasks.saturating_sub(1))),
+            b'B' => return Some(dice.between(0, 5)),
+            b'E' => return Some(dice.between(1, 65_535)),
+            b'M' => self.mounts.saturating_sub(1),
+            b'C' => self.processors.saturating_sub(1),
+            b'N' => self.nodes.saturating_sub(1),
+            b'L' => 3,
+            _ => return None,
+        };
+        Some(dice.about(u64::from(letter == b'L'), last))
     }
 }
 
-/// Writes a line of a story, with numbers for its letters.
+/// Writes a line of a story behind what was written, with numbers for its letters.
 fn write_line(
     schedule: &mut Vec<u8>,
     line: &str,
@@ -174,30 +159,39 @@ fn write_line(
     sizes: Sizes,
     dice: &mut Dice,
 ) -> io::Result<()> {
+    schedule.write_all(b"\n")?;
     for letter in line.as_bytes() {
-        match sizes.number_for(*letter, task, dice) {
-            Some(number) => write!(schedule, "{number}")?,
-            None => schedule.push(*letter)?,
-        }
+        let written = match sizes.number_for(*letter, task, dice) {
+            Some(number) => write!(schedule, "{number}"),
+            None => schedule.write_all(&[*letter]),
+        };
+        written?;
     }
-    schedule.push(b'\n')?;
     Ok(())
 }
 
-/// Writes the next line of a task, and takes it from what is left of its story.
-fn write_next(
-    schedule: &mut Vec<u8>,
-    left: &mut &'static str,
-    task: u64,
-    sizes: Sizes,
-    dice: &mut Dice,
-) -> io::Result<()> {
+/// Takes the next line from what is left of a task's story, or from the next one.
+fn next_line(left: &mut &'static str, dice: &mut Dice) -> &'static str {
     if left.is_empty() {
-        *left = dice.story();
+        let story = dice.between(0, STORIES.len() as u64 - 1);
+        *left = STORIES.get(story as usize).copied().unwrap_or("");
     }
-    if let Some((line, rest)) = left.split_once('\n') {
-        *left = rest;
-        write_line(schedule, line, task, sizes, dice)?;
+    let (line, rest) = left.split_once('\n').unwrap_or((*left, ""));
+    *left = rest;
+    line
+}
+
+/// Writes a configuration of these sizes, without its newline.
+fn write_configuration(schedule: &mut Vec<u8>, sizes: Sizes, capacity: u64) -> io::Result<()> {
+    schedule.write_all(b"config")?;
+    for number in [
+        sizes.tasks,
+        sizes.processors,
+        sizes.mounts,
+        sizes.nodes,
+        capacity,
+    ] {
+        write!(schedule, " {number}")?;
     }
     Ok(())
 }
@@ -205,67 +199,55 @@ fn write_next(
 /// Writes a schedule in which each task goes through one story after the other, and which task comes next is left to the dice.
 fn write_schedule(schedule: &mut Vec<u8>, dice: &mut Dice) -> io::Result<()> {
     let sizes = Sizes::roll(dice);
-    let (tasks, processors) = (sizes.tasks, sizes.processors);
-    let (mounts, nodes) = (sizes.mounts, sizes.nodes);
-    let capacity = dice.between(0, 12);
-    writeln!(
-        schedule,
-        "config {tasks} {processors} {mounts} {nodes} {capacity}"
-    )?;
+    write_configuration(schedule, sizes, dice.between(0, 12))?;
     let mut stories = [""; 4];
     for _line in 0..LINES {
-        let task = dice.between(0, tasks.saturating_sub(1));
+        let task = dice.between(0, sizes.tasks.saturating_sub(1));
         if let Some(left) = stories.get_mut(task as usize) {
-            write_next(schedule, left, task, sizes, dice)?;
+            let line = next_line(left, dice);
+            write_line(schedule, line, task, sizes, dice)?;
         }
     }
+    schedule.write_all(b"\n")
+}
+
+/// Adds what is told of the schedule of this seed, over the core and over the gates alike.
+fn add_told(alloc: Global, seed: u64, texts: &mut Vec<u8>) -> Result<(), Fail> {
+    let mut schedule = Vec::new(alloc);
+    write_schedule(&mut schedule, &mut Dice { state: seed })?;
+    let printed = told(alloc, Over::TheCore, schedule.as_slice());
+    let text = std::str::from_utf8(printed.as_slice()).unwrap_or("");
+    expect_text(
+        told(alloc, Over::TheGates, schedule.as_slice()).as_slice(),
+        text,
+    )?;
+    texts.extend_from_slice(printed.as_slice())?;
     Ok(())
 }
 
-/// Whether a text has these bytes somewhere.
-fn has(text: &[u8], part: &str) -> bool {
-    text.windows(part.len().max(1))
-        .any(|bytes| bytes == part.as_bytes())
-}
-
-/// Notes which parts a text has that stood in too few so far.
-fn note_parts(reached: &mut [u32; PARTS], text: &[u8]) {
-    for (texts, part) in reached.iter_mut().zip(REACHED.iter()) {
-        if *texts < ENOUGH && has(text, part) {
-            *texts = texts.saturating_add(1);
+/// What a text hasn't, and should have; None where it has all, and no fault.
+fn missing(texts: &[u8]) -> Option<&'static str> {
+    let text = std::str::from_utf8(texts).unwrap_or("");
+    if text.contains('!') {
+        return Some("a schedule without a fault");
+    }
+    for part in REACHED.iter() {
+        if !text.contains(*part) {
+            return Some(part);
         }
     }
-}
-
-/// That each part stands in enough texts.
-fn all_reached<R: Abort>(rt: &R, reached: &[u32; PARTS]) {
-    for (texts, part) in reached.iter().zip(REACHED.iter()) {
-        assert!(rt; *texts == ENOUGH, "{part}");
-    }
-}
-
-/// What a schedule prints, and its fault, if there is one: over the core, and over the gates that threads use, which have to be the same.
-fn played_over_either<R: Abort + Alloc<A = Global>>(
-    rt: &R,
-    schedule: &[u8],
-) -> Result<(Vec<u8>, Result<(), ReplayFault>), Fail> {
-    let (printed, ended) = played::<Core, R>(rt, schedule)?;
-    let (same, same_end) = played::<GatesDriver, R>(rt, schedule)?;
-    assert_eq!(rt; same.as_slice(), printed.as_slice());
-    assert!(rt; same_end == ended);
-    Ok((printed, ended))
+    None
 }
 
 #[test]
 fn random_schedules_print_the_same_over_either(rt: HostRuntime) -> Result<(), Fail> {
-    let mut reached = [0; PARTS];
+    let alloc = rt.alloc();
+    let mut texts = Vec::new(alloc);
     for seed in 0..SCHEDULES {
-        let mut schedule = Vec::new(rt.alloc());
-        write_schedule(&mut schedule, &mut Dice { state: seed })?;
-        let (printed, ended) = played_over_either(&rt, schedule.as_slice())?;
-        expect_end(&rt, ended, "")?;
-        note_parts(&mut reached, printed.as_slice());
+        add_told(alloc, seed, &mut texts)?;
     }
-    all_reached(&rt, &reached);
-    Ok(())
+    match missing(texts.as_slice()) {
+        None => Ok(()),
+        Some(part) => Err(Fail::new(part)),
+    }
 }
