@@ -21,49 +21,49 @@ pub const ACCESSES: Case = Case {
             ("no snapshot yet", Took(&[])),
             (
                 "0 want 0 0: done\n\
-          0 trywant 0 0: done\n\
-          0 trychange 0 ro: Busy\n\
-          0 drop 0 1: done\n\
-          0 drop 0 1: done\n\
-          0 drop 0 1: Order\n\
-          0 drop 9 200: Invalid\n",
+                 0 trywant 0 0: done\n\
+                 0 trychange 0 ro: Busy\n\
+                 0 drop 0 1: done\n\
+                 0 drop 0 1: done\n\
+                 0 drop 0 1: Order\n\
+                 0 drop 9 200: Invalid\n",
                 Calls,
             ),
         ]),
         Act::Second(&[(
             "1 change 0 ro: done\n\
-          1 want 0 0: ReadOnly\n\
-          1 trychange 0 rw: done\n\
-          1 remount ro: done\n\
-          1 trywant 0 0: ReadOnly\n\
-          1 wantwrite 0 0: ReadOnly\n\
-          1 trystart 1 0: done\n\
-          1 end 1 0: done\n\
-          1 remount rw: done\n",
+             1 want 0 0: ReadOnly\n\
+             1 trychange 0 rw: done\n\
+             1 remount ro: done\n\
+             1 trywant 0 0: ReadOnly\n\
+             1 wantwrite 0 0: ReadOnly\n\
+             1 trystart 1 0: done\n\
+             1 end 1 0: done\n\
+             1 remount rw: done\n",
             Calls,
         )]),
         Act::First(&[(
             "0 start 1 0: done\n\
-          0 trystart 2 0: done\n\
-          0 trystart 2 0: Order\n\
-          0 end 1 1: done\n\
-          0 end 2 1: done\n\
-          0 end 2 1: Order\n",
+             0 trystart 2 0: done\n\
+             0 trystart 2 0: Order\n\
+             0 end 1 1: done\n\
+             0 end 2 1: done\n\
+             0 end 2 1: Order\n",
             Calls,
         )]),
         Act::Second(&[("1 freeze: done\n", Calls)]),
         Act::First(&[
             (
                 "0 trystart 1 0: Again\n\
-          0 snapshot: done\n",
+                 0 snapshot: done\n",
                 Calls,
             ),
             ("its tree", Took(EMPTY_TREE)),
             (
                 "0 trysnapshot: done\n\
-          0 thaw: done\n\
-          0 callback 1: done=1\n\
-          0 callback 1: done=0\n",
+                 0 thaw: done\n\
+                 0 callback 1: done=1\n\
+                 0 callback 1: done=0\n",
                 Calls,
             ),
         ]),
@@ -93,29 +93,29 @@ pub const FILES: Case = Case {
         Act::First(&[
             (
                 "0 create 0 file: Order\n\
-          0 wantwrite 0 0: done\n\
-          0 create 0 dir: done=1\n\
-          0 create 1 file: done=2\n\
-          0 grow 2 9: NoSpace\n\
-          0 grow 2 5: done\n\
-          0 move 2 0: done\n\
-          0 start 2 0: done\n\
-          0 fault 2: done\n\
-          0 start 3 0: done\n\
-          0 flush 2: done\n\
-          0 flush 1: IsDir\n\
-          0 end 3 0: done\n\
-          0 end 2 0: done\n\
-          0 create 0 file: done=3\n\
-          0 create 0 file: NoSpace\n\
-          0 remove 3: done\n\
-          0 remove 255: Invalid\n\
-          0 dropwrite 0 0: done\n\
-          0 dropwrite 0 0: Order\n\
-          0 snapshot: Invalid\n\
-          0 freeze: done\n\
-          0 snapshot: done\n\
-          0 thaw: done\n",
+                 0 wantwrite 0 0: done\n\
+                 0 create 0 dir: done=1\n\
+                 0 create 1 file: done=2\n\
+                 0 grow 2 9: NoSpace\n\
+                 0 grow 2 5: done\n\
+                 0 move 2 0: done\n\
+                 0 start 2 0: done\n\
+                 0 fault 2: done\n\
+                 0 start 3 0: done\n\
+                 0 flush 2: done\n\
+                 0 flush 1: IsDir\n\
+                 0 end 3 0: done\n\
+                 0 end 2 0: done\n\
+                 0 create 0 file: done=3\n\
+                 0 create 0 file: NoSpace\n\
+                 0 remove 3: done\n\
+                 0 remove 255: Invalid\n\
+                 0 dropwrite 0 0: done\n\
+                 0 dropwrite 0 0: Order\n\
+                 0 snapshot: Invalid\n\
+                 0 freeze: done\n\
+                 0 snapshot: done\n\
+                 0 thaw: done\n",
                 Calls,
             ),
             (
@@ -144,28 +144,28 @@ pub const TRIES: Case = Case {
         SPLITS,
         Act::First(&[(
             "0 trywant 0 0: done\n\
-          0 trystart 1 0: done\n\
-          0 trystart 2 0: done\n\
-          0 trystart 3 0: done\n\
-          0 end 3 1: done\n\
-          0 end 2 1: done\n\
-          0 end 1 1: done\n\
-          0 drop 0 1: done\n\
-          0 trychange 0 ro: done\n\
-          0 trychange 0 rw: done\n",
+             0 trystart 1 0: done\n\
+             0 trystart 2 0: done\n\
+             0 trystart 3 0: done\n\
+             0 end 3 1: done\n\
+             0 end 2 1: done\n\
+             0 end 1 1: done\n\
+             0 drop 0 1: done\n\
+             0 trychange 0 ro: done\n\
+             0 trychange 0 rw: done\n",
             Calls,
         )]),
         Act::Second(&[(
             "1 trywant 0 1: done\n\
-          1 trystart 1 1: done\n\
-          1 trystart 2 1: done\n\
-          1 trystart 3 1: done\n\
-          1 end 3 0: done\n\
-          1 end 2 0: done\n\
-          1 end 1 0: done\n\
-          1 drop 0 0: done\n\
-          1 trychange 0 ro: done\n\
-          1 trychange 0 rw: done\n",
+             1 trystart 1 1: done\n\
+             1 trystart 2 1: done\n\
+             1 trystart 3 1: done\n\
+             1 end 3 0: done\n\
+             1 end 2 0: done\n\
+             1 end 1 0: done\n\
+             1 drop 0 0: done\n\
+             1 trychange 0 ro: done\n\
+             1 trychange 0 rw: done\n",
             Calls,
         )]),
         Act::Second(AT_SECOND_MOUNT),
@@ -188,15 +188,15 @@ pub const TRIES: Case = Case {
 
 const AT_SECOND_MOUNT: &[Row] = &[(
     "1 trywant 1 0: done\n\
-          1 trystart 1 0: done\n\
-          1 trystart 2 0: done\n\
-          1 trystart 3 0: done\n\
-          1 end 3 1: done\n\
-          1 end 2 1: done\n\
-          1 end 1 1: done\n\
-          1 drop 1 1: done\n\
-          1 trychange 1 ro: done\n\
-          1 trychange 1 rw: done\n",
+     1 trystart 1 0: done\n\
+     1 trystart 2 0: done\n\
+     1 trystart 3 0: done\n\
+     1 end 3 1: done\n\
+     1 end 2 1: done\n\
+     1 end 1 1: done\n\
+     1 drop 1 1: done\n\
+     1 trychange 1 ro: done\n\
+     1 trychange 1 rw: done\n",
     Calls,
 )];
 
@@ -211,20 +211,20 @@ pub const HOLDERS: Case = Case {
         Act::First(&[("0 freeze kernel: done\n", Calls)]),
         Act::Second(&[(
             "1 thaw user: Invalid\n\
-          1 freeze user: done\n",
+             1 freeze user: done\n",
             Calls,
         )]),
         Act::First(&[("0 freeze user: Busy\n", Calls)]),
         Act::Second(&[("1 thaw kernel: done\n", Calls)]),
         Act::First(&[(
             "0 trystart 1 0: Again\n\
-          0 thaw kernel: Invalid\n\
-          0 thaw user: done\n",
+             0 thaw kernel: Invalid\n\
+             0 thaw user: done\n",
             Calls,
         )]),
         Act::Second(&[(
             "1 trystart 1 0: done\n\
-          1 end 1 0: done\n",
+             1 end 1 0: done\n",
             Calls,
         )]),
         JOINS,
@@ -244,38 +244,38 @@ pub const OPENS: Case = Case {
         SPLITS,
         Act::First(&[(
             "0 open 1: NoEntry\n\
-          0 wantwrite 0 0: done\n\
-          0 create 0 file: done=1\n\
-          0 grow 1 5: done\n\
-          0 open 2: Invalid\n\
-          0 open 0: IsDir\n\
-          0 open 1: done\n\
-          0 open 1: TooMany\n",
+             0 wantwrite 0 0: done\n\
+             0 create 0 file: done=1\n\
+             0 grow 1 5: done\n\
+             0 open 2: Invalid\n\
+             0 open 0: IsDir\n\
+             0 open 1: done\n\
+             0 open 1: TooMany\n",
             Calls,
         )]),
         Act::Second(&[(
             "1 tryclose 1 0: Order\n\
-          1 open 1: done\n",
+             1 open 1: done\n",
             Calls,
         )]),
         Act::First(&[(
             "0 remove 1: done\n\
-          0 close 1 2: Invalid\n\
-          0 close 1 1: done\n\
-          0 close 1 1: Order\n\
-          0 open 1: NoEntry\n\
-          0 grow 1 1: NoEntry\n\
-          0 create 0 file: NoSpace\n\
-          0 dropwrite 0 0: done\n\
-          0 remount ro: Busy\n\
-          0 freeze: done\n",
+             0 close 1 2: Invalid\n\
+             0 close 1 1: done\n\
+             0 close 1 1: Order\n\
+             0 open 1: NoEntry\n\
+             0 grow 1 1: NoEntry\n\
+             0 create 0 file: NoSpace\n\
+             0 dropwrite 0 0: done\n\
+             0 remount ro: Busy\n\
+             0 freeze: done\n",
             Calls,
         )]),
         Act::Second(&[("1 tryclose 1 0: Again\n", Calls)]),
         Act::First(&[
             (
                 "0 snapshot: done\n\
-          0 thaw: done\n",
+                 0 thaw: done\n",
                 Calls,
             ),
             (
@@ -292,17 +292,17 @@ pub const OPENS: Case = Case {
         ]),
         Act::Second(&[(
             "1 start 3 0: done\n\
-          1 close 1 0: Order\n\
-          1 tryclose 1 0: Order\n\
-          1 end 3 0: done\n\
-          1 close 1 1: done\n\
-          1 remount ro: done\n\
-          1 remount rw: done\n\
-          1 wantwrite 0 0: done\n\
-          1 create 0 file: done=1\n\
-          1 open 1: done\n\
-          1 tryclose 1 0: done\n\
-          1 dropwrite 0 0: done\n",
+             1 close 1 0: Order\n\
+             1 tryclose 1 0: Order\n\
+             1 end 3 0: done\n\
+             1 close 1 1: done\n\
+             1 remount ro: done\n\
+             1 remount rw: done\n\
+             1 wantwrite 0 0: done\n\
+             1 create 0 file: done=1\n\
+             1 open 1: done\n\
+             1 tryclose 1 0: done\n\
+             1 dropwrite 0 0: done\n",
             Calls,
         )]),
         JOINS,
@@ -320,10 +320,10 @@ pub const KEPT_OPEN: Case = Case {
         SPLITS,
         Act::First(&[(
             "0 wantwrite 0 0: done\n\
-          0 create 0 file: done=1\n\
-          0 grow 1 5: done\n\
-          0 open 1: done\n\
-          0 dropwrite 0 0: done\n",
+             0 create 0 file: done=1\n\
+             0 grow 1 5: done\n\
+             0 open 1: done\n\
+             0 dropwrite 0 0: done\n",
             Calls,
         )]),
         Act::Joins(Err(Order)),
@@ -355,9 +355,9 @@ pub const OPENED_TOO: Case = Case {
         SPLITS,
         Act::Second(&[(
             "1 wantwrite 0 0: done\n\
-          1 create 0 file: done=1\n\
-          1 open 1: done\n\
-          1 dropwrite 0 0: done\n",
+             1 create 0 file: done=1\n\
+             1 open 1: done\n\
+             1 dropwrite 0 0: done\n",
             Calls,
         )]),
         Act::Joins(Err(Order)),

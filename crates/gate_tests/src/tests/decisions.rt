@@ -141,7 +141,7 @@ pub const REMOUNTS: Case = Case {
         ]),
         Act::Second(&[(
             "1 drop 0 0: done\n\
-          1 freeze: done\n",
+             1 freeze: done\n",
             Calls,
         )]),
         Act::First(&[("sees the freeze", ShutsAndSees(Ok(Some(WordName::Stage))))]),
@@ -164,7 +164,7 @@ pub const BACKUPS: Case = Case {
         SPLITS,
         Act::Second(&[(
             "1 freeze: done\n\
-          1 thaw: done\n",
+             1 thaw: done\n",
             Calls,
         )]),
         Act::First(&[
@@ -173,7 +173,7 @@ pub const BACKUPS: Case = Case {
             ("no snapshot", Took(&[])),
             (
                 "0 callback 1: done=1\n\
-          0 callback 1: done=0\n",
+                 0 callback 1: done=0\n",
                 Calls,
             ),
         ]),
@@ -204,7 +204,7 @@ pub const OWN: Case = Case {
         ]),
         Act::Second(&[(
             "1 trystart 1 0: done\n\
-          1 end 1 0: done\n",
+             1 end 1 0: done\n",
             Calls,
         )]),
         JOINS,

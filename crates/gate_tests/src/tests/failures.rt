@@ -1,5 +1,5 @@
-//! Each hook of the file system fails: the call is refused with just that code, all stands as it stood, and the same call is done
-//! once the file system agrees.
+//! Each hook of the file system fails: the call is refused with just that code, all stands as it stood, and the same call is done once the file
+//! system agrees.
 
 use super::SMALL;
 use super::rows::Deed::{Calls, FailsAt};
@@ -8,96 +8,78 @@ use super::teams::{Act, Case, JOINS, SPLITS};
 use vfs_gates::HookCall;
 
 /// A try at the mount and one at each level, each with its return, where each level lets readers in, and the mount lets writers in.
-const OPEN: Act = Act::First(&[(
-    "0 trywant 0 0: done\n\
-          0 drop 0 1: done\n\
-          0 trystart 1 0: done\n\
-          0 end 1 1: done\n\
-          0 trystart 2 0: done\n\
-          0 end 2 1: done\n\
-          0 trystart 3 0: done\n\
-          0 end 3 1: done\n",
-    Calls,
-)]);
+const OPEN: &str = "0 trywant 0 0: done\n\
+                    0 drop 0 1: done\n\
+                    0 trystart 1 0: done\n\
+                    0 end 1 1: done\n\
+                    0 trystart 2 0: done\n\
+                    0 end 2 1: done\n\
+                    0 trystart 3 0: done\n\
+                    0 end 3 1: done\n";
 
 /// The same where no level lets anybody in. The mount does, since a freeze leaves it.
-const FROZEN: Act = Act::First(&[(
-    "0 trywant 0 0: done\n\
-          0 drop 0 1: done\n\
-          0 trystart 1 0: Again\n\
-          0 trystart 2 0: Again\n\
-          0 trystart 3 0: Again\n\
-          0 end 3 1: Order\n",
-    Calls,
-)]);
+const FROZEN: &str = "0 trywant 0 0: done\n\
+                      0 drop 0 1: done\n\
+                      0 trystart 1 0: Again\n\
+                      0 trystart 2 0: Again\n\
+                      0 trystart 3 0: Again\n\
+                      0 end 3 1: Order\n";
 
 /// The same where each level lets readers in, and the mount is read-only.
-const READ_ONLY: Act = Act::First(&[(
-    "0 trywant 0 0: ReadOnly\n\
-          0 drop 0 1: Order\n\
-          0 trystart 1 0: done\n\
-          0 end 1 1: done\n\
-          0 trystart 2 0: done\n\
-          0 end 2 1: done\n\
-          0 trystart 3 0: done\n\
-          0 end 3 1: done\n",
-    Calls,
-)]);
+const READ_ONLY: &str = "0 trywant 0 0: ReadOnly\n\
+                         0 drop 0 1: Order\n\
+                         0 trystart 1 0: done\n\
+                         0 end 1 1: done\n\
+                         0 trystart 2 0: done\n\
+                         0 end 2 1: done\n\
+                         0 trystart 3 0: done\n\
+                         0 end 3 1: done\n";
 
 const TO_READ_ONLY: HookCall = HookCall::Reconfigure { read_only: true };
 
 const TO_WRITABLE: HookCall = HookCall::Reconfigure { read_only: false };
 
-/// Calls that fail, in a row: each is refused with the code that it was answered, leaves all as it stood, and is done when it is made again and the file system agrees. 16 is EBUSY's number.
+/// Calls that fail, in a row: each is refused with the code that it was answered, leaves all as it stood, and is done when it is made again and
+/// the file system agrees. 16 is EBUSY's number.
 pub const FAILURES: Case = Case {
     name: "hooks that fail",
     config: SMALL,
     manner: Manner::Agrees,
     acts: &[
         SPLITS,
-        OPEN,
         Act::First(&[
+            (OPEN, Calls),
             ("its sync fails", FailsAt(HookCall::Sync, 16)),
             ("0 freeze: Hook\n", Calls),
-        ]),
-        OPEN,
-        Act::First(&[("0 freeze: done\n", Calls)]),
-        FROZEN,
-        Act::First(&[
+            (OPEN, Calls),
+            ("0 freeze: done\n", Calls),
+            (FROZEN, Calls),
             ("its thaw fails", FailsAt(HookCall::UnfreezeFs, 0)),
             ("0 thaw: Hook\n", Calls),
-        ]),
-        FROZEN,
-        Act::First(&[("0 thaw: done\n", Calls)]),
-        OPEN,
-        Act::First(&[
+            (FROZEN, Calls),
+            ("0 thaw: done\n", Calls),
+            (OPEN, Calls),
             ("its freeze fails", FailsAt(HookCall::FreezeFs, u16::MAX)),
             ("0 freeze: Hook\n", Calls),
-        ]),
-        OPEN,
-        Act::First(&[("0 freeze: done\n", Calls)]),
-        FROZEN,
-        Act::First(&[
+            (OPEN, Calls),
+            ("0 freeze: done\n", Calls),
+            (FROZEN, Calls),
             ("its thaw fails again", FailsAt(HookCall::UnfreezeFs, 1)),
             ("0 thaw: Hook\n", Calls),
-        ]),
-        FROZEN,
-        Act::First(&[("0 thaw: done\n", Calls)]),
-        OPEN,
-        Act::First(&[
+            (FROZEN, Calls),
+            ("0 thaw: done\n", Calls),
+            (OPEN, Calls),
             ("its remount fails", FailsAt(TO_READ_ONLY, 5)),
             ("0 remount ro: Hook\n", Calls),
-        ]),
-        OPEN,
-        Act::First(&[("0 remount ro: done\n", Calls)]),
-        READ_ONLY,
-        Act::First(&[
+            (OPEN, Calls),
+            ("0 remount ro: done\n", Calls),
+            (READ_ONLY, Calls),
             ("its remount fails again", FailsAt(TO_WRITABLE, 30)),
             ("0 remount rw: Hook\n", Calls),
+            (READ_ONLY, Calls),
+            ("0 remount rw: done\n", Calls),
+            (OPEN, Calls),
         ]),
-        READ_ONLY,
-        Act::First(&[("0 remount rw: done\n", Calls)]),
-        OPEN,
         JOINS,
     ],
     stays_open: &[],

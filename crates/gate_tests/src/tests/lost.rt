@@ -21,12 +21,12 @@ pub const ACCESS: Case = Case {
         NONE_LEFT,
         Act::First(&[(
             "0 trychange 0 ro: Busy\n\
-          0 trychange 0 ro: Busy\n\
-          0 trywant 0 0: done\n\
-          0 drop 0 0: done\n\
-          0 trychange 0 ro: Busy\n\
-          0 trychange 1 ro: done\n\
-          0 trywant 1 0: ReadOnly\n",
+             0 trychange 0 ro: Busy\n\
+             0 trywant 0 0: done\n\
+             0 drop 0 0: done\n\
+             0 trychange 0 ro: Busy\n\
+             0 trychange 1 ro: done\n\
+             0 trywant 1 0: ReadOnly\n",
             Calls,
         )]),
     ],
@@ -48,12 +48,12 @@ pub const OWNER: Case = Case {
         NONE_LEFT,
         Act::First(&[(
             "0 trychange 0 ro: Again\n\
-          0 trychange 0 rw: Again\n\
-          0 trychange 1 ro: Again\n\
-          0 trysnapshot: Again\n\
-          0 trywant 0 0: done\n\
-          0 drop 0 1: done\n\
-          0 trysnapshot: Again\n",
+             0 trychange 0 rw: Again\n\
+             0 trychange 1 ro: Again\n\
+             0 trysnapshot: Again\n\
+             0 trywant 0 0: done\n\
+             0 drop 0 1: done\n\
+             0 trysnapshot: Again\n",
             Calls,
         )]),
     ],
@@ -87,11 +87,11 @@ pub const HOLDER: Case = Case {
         NONE_LEFT,
         Act::First(&[(
             "0 trywant 0 0: Again\n\
-          0 drop 0 0: Order\n\
-          0 trywant 1 0: done\n\
-          0 drop 1 1: done\n\
-          0 trystart 1 0: done\n\
-          0 end 1 1: done\n",
+             0 drop 0 0: Order\n\
+             0 trywant 1 0: done\n\
+             0 drop 1 1: done\n\
+             0 trystart 1 0: done\n\
+             0 end 1 1: done\n",
             Calls,
         )]),
     ],

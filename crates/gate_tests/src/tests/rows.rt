@@ -52,7 +52,8 @@ pub enum Deed {
     /// Calls, of which the row has the lines: each as a schedule has it, and behind a colon and a blank how it may end (`Turn::may_end`). In it
     /// node 100 stands for the file that the task made last, and node 200 for another one in each round.
     Calls,
-    /// The operation of the line begins, if there is one. Then a step, in which a hook that nobody asks fails: it finds this in a word, and so the operation stands.
+    /// The operation of the line begins, if there is one. Then a step, in which a hook that nobody asks fails: it finds this in a word, and so
+    /// the operation stands.
     Steps(WordName, u64, Progress),
     /// The next time that it is asked this, the file system fails with this code.
     FailsAt(HookCall, u16),
@@ -215,11 +216,10 @@ pub fn work<R: Wait>(task: &mut Task, rt: &R, gates: &Gates, scene: &Scene, part
 {
     let mut turn = Turn::new(scene, part.files);
     for _round in 0..part.rounds {
-        turn.begin_round();
-        make_calls(task, rt, gates, &mut turn, part.lines);
-        if scene.wrong.get().is_some() {
-            break;
+        if scene.wrong.get().is_none() {
+            turn.begin_round();
+            make_calls(task, rt, gates, &mut turn, part.lines);
+            thread::yield_now();
         }
-        thread::yield_now();
     }
 }

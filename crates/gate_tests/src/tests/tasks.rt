@@ -7,6 +7,23 @@ use super::turns::Turn;
 use std::sync::Wait;
 use vfs_gates::{GateError, Gates, Op, Task};
 
+/// Whether the call of an operation waits for nobody.
+fn is_try(op: Op) -> bool {
+    match op {
+        Op::Want { wait, .. }
+        | Op::Start { wait, .. }
+        | Op::ChangeMount { wait, .. }
+        | Op::Close { wait, .. }
+        | Op::Snapshot { wait } => !wait,
+        Op::RemountSb { .. }
+        | Op::Freeze { .. }
+        | Op::Thaw { .. }
+        | Op::WantWrite { .. }
+        | Op::Callback { .. } => false,
+        _ => true,
+    }
+}
+
 /// The call of a task that makes an operation. The turn has its file system and names its files, and is told the node that was made or whether
 /// a callback ran.
 pub fn call<R: Wait>(
@@ -19,32 +36,23 @@ pub fn call<R: Wait>(
     requires { IsFrom task.old gates.now }
     ensures { IsFrom task.new gates.now }
 {
+    if is_try(op) {
+        return try_call(task, gates, op, turn);
+    }
     match op {
         Op::RemountSb { read_only } => task.remount_sb(rt, gates, read_only, turn),
         Op::Freeze { holder } => task.freeze(rt, gates, holder, turn),
         Op::Thaw { holder } => task.thaw(rt, gates, holder, turn),
-        Op::Want {
-            mount,
-            cpu,
-            wait: true,
-        } => task.want(rt, gates, mount, cpu),
+        Op::Want { mount, cpu, .. } => task.want(rt, gates, mount, cpu),
         Op::WantWrite { mount, cpu } => task.want_write(rt, gates, mount, cpu),
-        Op::Start {
-            level,
-            cpu,
-            wait: true,
-        } => task.start(rt, gates, level, cpu),
+        Op::Start { level, cpu, .. } => task.start(rt, gates, level, cpu),
         Op::ChangeMount {
             mount,
             read_only,
-            wait: true,
+            ..
         } => task.change_mount(rt, gates, mount, read_only),
-        Op::Close {
-            file,
-            cpu,
-            wait: true,
-        } => task.close_file(rt, gates, turn.file(file), cpu),
-        Op::Snapshot { wait: true } => task.snapshot(rt, gates),
+        Op::Close { file, cpu, .. } => task.close_file(rt, gates, turn.file(file), cpu),
+        Op::Snapshot { .. } => task.snapshot(rt, gates),
         Op::Callback { level } => match task.callback(rt, gates, level) {
             Ok(has_run) => {
                 turn.told = u8::from(has_run);
@@ -52,7 +60,7 @@ pub fn call<R: Wait>(
             }
             Err(refusal) => Err(refusal),
         },
-        _ => try_call(task, gates, op, turn),
+        _ => Err(GateError::Invalid),
     }
 }
 

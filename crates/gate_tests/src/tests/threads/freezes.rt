@@ -35,31 +35,31 @@ impl Scene {
 
 /// One freezes, finds each level shut, and thaws, however often the file system fails meanwhile: not twice in a row.
 const FREEZES: &str = "4 freeze: done Hook*\n\
-     4 trystart 1 0: Again\n\
-     4 trystart 2 1: Again\n\
-     4 trystart 3 0: Again\n\
-     4 thaw: done>9 Hook\n\
-     4 thaw: done\n";
+                       4 trystart 1 0: Again\n\
+                       4 trystart 2 1: Again\n\
+                       4 trystart 3 0: Again\n\
+                       4 thaw: done>9 Hook\n\
+                       4 thaw: done\n";
 
 /// Two go inside each level on one processor, and leave it on the other.
 const READS: &str = "1 start 1 0: done\n\
-     1 end 1 1: done\n\
-     1 start 2 1: done\n\
-     1 end 2 0: done\n\
-     1 start 3 0: done\n\
-     1 end 3 1: done\n";
+                     1 end 1 1: done\n\
+                     1 start 2 1: done\n\
+                     1 end 2 0: done\n\
+                     1 start 3 0: done\n\
+                     1 end 3 1: done\n";
 
 const OTHER_READS: &str = "2 start 1 1: done\n\
-     2 end 1 0: done\n\
-     2 start 2 0: done\n\
-     2 end 2 1: done\n\
-     2 start 3 1: done\n\
-     2 end 3 0: done\n";
+                           2 end 1 0: done\n\
+                           2 start 2 0: done\n\
+                           2 end 2 1: done\n\
+                           2 start 3 1: done\n\
+                           2 end 3 0: done\n";
 
 /// One runs the callbacks of all levels.
 const CALLBACKS: &str = "3 callback 1: done\n\
-     3 callback 2: done\n\
-     3 callback 3: done\n";
+                         3 callback 2: done\n\
+                         3 callback 3: done\n";
 
 pub const CASE: Case = Case {
     name: "nobody is inside while it is frozen",

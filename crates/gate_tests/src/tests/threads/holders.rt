@@ -24,17 +24,19 @@ impl Scene {
         }
     }
 
-    /// Whether a holder sees nobody inside, and the same as before in its round. It yields then, so that the other may thaw in between.
+    /// Whether a snapshot is whole, and a holder sees nobody inside, and the same as before in its round. It yields then, so that the other may
+    /// thaw in between.
     fn sees(&self, task: u8, tree: &Tree) -> bool {
-        let now = tree
-            .used()
-            .wrapping_mul(1000)
-            .wrapping_add(tree.kids(0))
-            .wrapping_add(1);
+        let is_whole = tree.is_sound() && tree.is_clean();
+        if task != OF_KERNEL && task != OF_USER {
+            return is_whole;
+        }
+        let blocks = tree.used().wrapping_mul(1000);
+        let now = blocks.wrapping_add(tree.kids(0)).wrapping_add(1);
         let before = self.seen_by(task).swap(now, Ordering::SeqCst);
         let is_nobody_inside = self.inside.load(Ordering::SeqCst) == 0;
         thread::yield_now();
-        is_nobody_inside && (before == 0 || before == now)
+        is_whole && is_nobody_inside && (before == 0 || before == now)
     }
 
     /// A writer is inside from its want to its last call at the tree. Each snapshot is sound and clean.
@@ -54,57 +56,51 @@ impl Scene {
                 self.inside.fetch_sub(1, Ordering::SeqCst);
             }
             Op::Freeze { .. } => self.seen_by(task).store(0, Ordering::SeqCst),
-            Op::Snapshot { .. } => return !is_done || self.sees_whole(task, tree),
+            Op::Snapshot { .. } if is_done => {
+                return match tree {
+                    Some(tree) => self.sees(task, tree),
+                    None => false,
+                };
+            }
             _ => {}
         }
         true
     }
-
-    /// Whether a snapshot is whole, and a holder sees in it what it saw before.
-    fn sees_whole(&self, task: u8, tree: Option<&Tree>) -> bool {
-        match tree {
-            Some(tree) => {
-                let is_holder = task == OF_KERNEL || task == OF_USER;
-                tree.is_sound() && tree.is_clean() && (!is_holder || self.sees(task, tree))
-            }
-            None => false,
-        }
-    }
 }
 
-/// Two freeze, as the kernel and as user space, unless the other's freeze is under way; they look twice, and thaw.
+/// Two freeze, as the kernel and as user space, once no other's freeze is under way; they look twice, and thaw.
 const KERNEL: &str = "4 freeze kernel: done Busy*\n\
-     4 snapshot: done\n\
-     4 snapshot: done\n\
-     4 thaw kernel: done\n";
+                      4 snapshot: done\n\
+                      4 snapshot: done\n\
+                      4 thaw kernel: done\n";
 
 const USER: &str = "1 freeze user: done Busy*\n\
-     1 snapshot: done\n\
-     1 snapshot: done\n\
-     1 thaw user: done\n";
+                    1 snapshot: done\n\
+                    1 snapshot: done\n\
+                    1 thaw user: done\n";
 
 /// One writes, where the superblock is writable: it makes a file, makes it larger, and removes some file.
 const WRITES: &str = "2 wantwrite 0 0: done ReadOnly>9\n\
-     2 create 0 file: done Again NoSpace\n\
-     2 grow 100 1: done Again NoEntry NoSpace\n\
-     2 remove 200: done Again NoEntry\n\
-     2 dropwrite 0 1: done\n";
+                      2 create 0 file: done Again NoSpace\n\
+                      2 grow 100 1: done Again NoEntry NoSpace\n\
+                      2 remove 200: done Again NoEntry\n\
+                      2 dropwrite 0 1: done\n";
 
 /// One remounts, takes a snapshot, whoever has frozen, and writes.
 const REMOUNTS: &str = "3 remount ro: done Busy\n\
-     3 snapshot: done Invalid\n\
-     3 wantwrite 0 1: done ReadOnly>4\n\
-     3 create 0 file: done Again NoSpace\n\
-     3 grow 100 1: done Again NoEntry NoSpace\n\
-     3 remove 200: done Again NoEntry\n\
-     3 dropwrite 0 0: done\n\
-     3 remount rw: done Busy\n\
-     3 snapshot: done Invalid\n\
-     3 wantwrite 0 1: done ReadOnly>9\n\
-     3 create 0 file: done Again NoSpace\n\
-     3 grow 100 1: done Again NoEntry NoSpace\n\
-     3 remove 200: done Again NoEntry\n\
-     3 dropwrite 0 0: done\n";
+                        3 snapshot: done Invalid\n\
+                        3 wantwrite 0 1: done ReadOnly>4\n\
+                        3 create 0 file: done Again NoSpace\n\
+                        3 grow 100 1: done Again NoEntry NoSpace\n\
+                        3 remove 200: done Again NoEntry\n\
+                        3 dropwrite 0 0: done\n\
+                        3 remount rw: done Busy\n\
+                        3 snapshot: done Invalid\n\
+                        3 wantwrite 0 1: done ReadOnly>9\n\
+                        3 create 0 file: done Again NoSpace\n\
+                        3 grow 100 1: done Again NoEntry NoSpace\n\
+                        3 remove 200: done Again NoEntry\n\
+                        3 dropwrite 0 0: done\n";
 
 pub const CASE: Case = Case {
     name: "no snapshot is of an open file system",

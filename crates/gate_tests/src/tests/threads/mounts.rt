@@ -6,17 +6,17 @@ use super::super::teams::{Act, Case, JOINS, SPLITS};
 use super::FIVE;
 use vfs_gates::WordName;
 
-/// One makes the mount read-only, where nobody is in the way, finds no want granted then, and makes it writable again.
+/// One makes the mount read-only, once nobody is in the way, finds no want granted then, and makes it writable again.
 const CHANGES: &str = "4 trychange 0 ro: done Busy*\n\
-     4 trywant 0 0: ReadOnly\n\
-     4 trychange 0 rw: done\n";
+                       4 trywant 0 0: ReadOnly\n\
+                       4 trychange 0 rw: done\n";
 
 /// Two take an access there, each on a processor of its own, and give it back on the other.
 const WANTS: &str = "1 want 0 0: done ReadOnly>9\n\
-     1 drop 0 1: done\n";
+                     1 drop 0 1: done\n";
 
 const OTHER_WANTS: &str = "2 want 0 1: done ReadOnly>9\n\
-     2 drop 0 0: done\n";
+                           2 drop 0 0: done\n";
 
 pub const CASE: Case = Case {
     name: "a change keeps its own thread out",
