@@ -1,6 +1,6 @@
 //! Command lines: the status with which each ends, what it tells of a fault, and what it prints.
 
-use crate::races::RACE;
+use crate::raced::RACE;
 
 /// Command lines, what is on standard input, the status with which each ends, what it tells of a fault, and what it prints. A `#` stands for a
 /// number there, a `*` for the rest of a line, and a line `...` for all lines that follow.

@@ -1,7 +1,7 @@
 //! Tests of command lines: how each ends, what it prints, and what it tells of a fault.
 
 use crate::cases::{self, FILES, Row};
-use crate::races;
+use crate::raced;
 use endings::unreadable;
 use fakes::{Frail, Refusal};
 use program::{Person, run};
@@ -119,7 +119,7 @@ fn command_lines_end_as_they_should(rt: HostRuntime) -> Result<(), Fail> {
         fs::write(&rt, *name, *text)?;
     }
     expect_ends(&rt, &cases::CASES)?;
-    expect_ends(&rt, &races::CASES)
+    expect_ends(&rt, &raced::CASES)
 }
 
 /// A replay of a schedule that prints one line.

@@ -9,4 +9,4 @@ mod exits;
 #[cfg(test)]
 mod explained;
 #[cfg(test)]
-mod races;
+mod raced;
