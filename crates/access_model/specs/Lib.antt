@@ -4,6 +4,4 @@ pub mod Holders
 pub mod States
 pub mod Actions
 pub mod Histories
-pub mod Shown
-pub mod Limits
 pub mod Laws

@@ -6,10 +6,8 @@
 pub mod actions;
 pub mod errors;
 pub mod laws;
-pub mod model;
 pub mod replies;
 
 pub use actions::{Action, Gate, Holder, Holders, Kind, NodeInfo};
 pub use errors::GateError;
-pub use model::Model;
 pub use replies::{Next, Reply, map_after};

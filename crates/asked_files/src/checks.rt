@@ -1,6 +1,7 @@
 //! Checks of schedules, from the command line.
 
-ghost use Rattle.std.specs.Prelude.{◌≡◌, ◌⊎◌, ◌<◌, ◌≤◌, ◌+◌, ◌++◌, ◌^◌, IfOk, OnOk, length};
+ghost use Rattle.std.specs.Prelude.{◌≡◌, ◌⊎◌, ◌<◌, ◌≤◌, ◌+◌, ◌^◌, IfOk, OnOk, length};
+ghost use Rattle.schedule_text.specs.Printed.{Prints};
 ghost use Rattle.asked_files.specs.Checks.{TellsPassed, count_checked, counts_text};
 ghost use Rattle.endings.specs.declared.ends.Ending.TheVariants.{Passed, Refused};
 
@@ -58,7 +59,8 @@ impl Checks {
         } else {
             self.failed += 1;
         }
-        self.told.text(checked.told.bytes.as_slice())
+        self.told.text(checked.told.bytes.as_slice());
+        self.told.settled()
     }
 
     /// Writes what was told, and last how many passed and failed.
@@ -71,7 +73,8 @@ impl Checks {
         ensures passed { IfOk result (λ ending. ending ≡ Passed →
             (self.old.failed ≡ 0) × TellsPassed (self.old.passed) (W.contents writer.old) (W.contents writer.new)) }
     {
-        tell_counts(self.passed, self.failed, &mut self.told)?;
+        tell_counts(self.passed, self.failed, &mut self.told);
+        self.told.settled()?;
         match write_out(writer, self.told.bytes.as_slice()) {
             Ok(()) if self.failed == 0 => Ok(Ending::Passed),
             Ok(()) => Ok(Ending::Refused),
@@ -82,12 +85,12 @@ impl Checks {
 
 /// Tells how many passed and failed.
 #[tactic(auto, unfolding(crate::specs::Checks::counts_text))]
-fn tell_counts(passed: u64, failed: u64, told: &mut Output) -> Result<(), AllocError>
-    ensures { OnOk result (told.new.bytes.items ≡ told.old.bytes.items ++ counts_text passed failed) }
+fn tell_counts(passed: u64, failed: u64, told: &mut Output)
+    ensures { Prints told.old told.new (counts_text passed failed) }
 {
-    told.number(passed)?;
-    told.numbered(b" passed, ", failed)?;
-    told.text(b" failed\n")
+    told.number(passed);
+    told.numbered(b" passed, ", failed);
+    told.text(b" failed\n");
 }
 
 /// Checks the schedules of some files, or that of the reader, where none is named. Writes what differs, and last how many passed and

@@ -15,7 +15,8 @@ const MOUNT: u8 = 0;
 
 fn main(rt: HostRuntime) -> Result<()> {
     let (told, closed) = run::run(&rt, rt.alloc())?;
-    println!(rt; "{told}")?;
-    println!(rt; "accesses left: {:?}", closed.gate_sum(Gate::Mount(MOUNT)))?;
+    let left = closed.gate_sum(Gate::Mount(MOUNT));
+    drop(closed);
+    println!(rt; "{told}\naccesses left: {left:?}")?;
     Ok(())
 }

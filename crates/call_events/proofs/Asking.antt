@@ -3,7 +3,7 @@ use Rattle.std.proofs.Common.{◌≡◌, ℕ, List, refl, ap, sym, subst, ◌∙
 use Rattle.std.specs.Prelude.{Option, Some, None, Result, Ok, Err}
 use Rattle.access_model.specs.declared.errors.GateError.{GateError}
 use Rattle.access_model.specs.declared.replies.Reply.{Reply}
-use Rattle.gate_core.specs.Answers.{unless_refused}
+use Rattle.gate_schedules.specs.Answers.{unless_refused}
 use Rattle.gate_world.specs.declared.operations.Op.{Op}
 use Rattle.call_events.specs.Runs.{told_as, the_reply}
 use Rattle.call_events.specs.TaskStates.{TaskState, refusal_at}

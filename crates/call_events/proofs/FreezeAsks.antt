@@ -12,9 +12,9 @@ use Rattle.cpu_words.specs.Hooks.{HookAnswer}
 use Rattle.cpu_words.specs.declared.sums.Taken.{Taken}
 use Rattle.cpu_words.specs.declared.sums.Taken.TheVariants.{More as MoreWords, Total}
 use Rattle.cpu_words.specs.Sums.{sum_taking}
-use Rattle.gated_tree.specs.declared.marks.ClearMarks.{ClearMarks}
-use Rattle.gated_tree.specs.Nodes.{dirty_in, node_after}
-use Rattle.gated_tree.specs.Phases.{clears_at, clear_after}
+use Rattle.node_words.specs.declared.marks.ClearMarks.{ClearMarks}
+use Rattle.node_words.specs.Nodes.{dirty_in, node_after}
+use Rattle.node_words.specs.Phases.{clears_at, clear_after}
 use Rattle.percpu_rwsem.specs.declared.grace.GraceNext.{GraceNext}
 use Rattle.percpu_rwsem.specs.declared.grace.GraceNext.TheVariants.{More as MoreSections, Wait as WaitsFor, Ended}
 use Rattle.percpu_rwsem.specs.declared.sync_word.SyncWord.{SyncWord}

@@ -7,8 +7,12 @@ use Rattle.cpu_words.specs.declared.{events.{Touch.TheVariants.Cas, Event.Event}
 use Rattle.gate_world.specs.{Accesses.accesses_after, Fits.{PhaseFits, Fits, ActionFits}, Holdings.{Agree, holdings_of, held_after}, Views.held_of}
 use Rattle.gate_world.specs.{Views.{phase_after, view_after_beside}, Work.{next_of, after_of}, Worlds.{World, value_at, found_at}}
 use Rattle.gate_world.specs.declared.{accesses.Accesses.Accesses, config.Config.Config, operations.Op.Op, views.View.View, work.Phase.Phase}
-use Rattle.gate_core.specs.{Answers.{progress_of, phase_step}, Seats.seat_held, declared.{seats.Seat.Seat, steps.{Progress.Progress, Step.Step}}}
-use Rattle.gate_core.proofs.Phases.{action_fits, fits_after, fits_agree}
+use Rattle.gate_schedules.specs.Answers.{progress_of, phase_step}
+use Rattle.gate_schedules.specs.Seats.{seat_held}
+use Rattle.gate_schedules.specs.declared.seats.Seat.{Seat}
+use Rattle.gate_schedules.specs.declared.steps.Progress.{Progress}
+use Rattle.gate_schedules.specs.declared.steps.Step.{Step}
+use Rattle.gate_schedules.proofs.Phases.{action_fits, fits_after, fits_agree}
 use Rattle.gate_frames.proofs.{Accesses.{holdings_of_after, long_after, wide_after, deep_after, agree_after}, Agreeing.agree_sym}
 use Rattle.gate_steps.specs.{Seating.{SeatItems, numbered, entered, done_by, items_after, IsMove}, declared.seating.Numbered.Numbered}
 use Rattle.atomic_table.specs.Seated.{TableId}

@@ -1,7 +1,7 @@
-pub use Rattle.gate_core.proofs.Beginnings
-pub use Rattle.gate_core.proofs.Rests
-pub use Rattle.gate_core.proofs.Schedule
-pub use Rattle.gate_core.proofs.Snapshots
+pub use Rattle.gate_schedules.proofs.Beginnings
+pub use Rattle.gate_schedules.proofs.Rests
+pub use Rattle.gate_schedules.proofs.Schedule
+pub use Rattle.gate_schedules.proofs.Snapshots
 pub use Rattle.gate_frames.proofs.Keeps
 pub use Rattle.gate_steps.proofs.Dealing
 pub use Rattle.gate_steps.proofs.Giving

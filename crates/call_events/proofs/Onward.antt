@@ -10,8 +10,8 @@ use Rattle.access_model.specs.Replies.{map_next}
 use Rattle.atomic_table.specs.Seated.{TableId}
 use Rattle.cpu_words.specs.Hooks.{HookAnswer}
 use Rattle.cpu_words.specs.declared.events.Event.{Event}
-use Rattle.gate_core.specs.Answers.{progress_of}
-use Rattle.gate_core.specs.declared.steps.Progress.TheVariants.{Done as Ended}
+use Rattle.gate_schedules.specs.Answers.{progress_of}
+use Rattle.gate_schedules.specs.declared.steps.Progress.TheVariants.{Done as Ended}
 use Rattle.gate_steps.specs.Seating.{SeatItems}
 use Rattle.gate_world.specs.Configs.{IsWithin}
 use Rattle.gate_world.specs.Views.{phase_after}

@@ -24,10 +24,10 @@ use Rattle.gate_world.specs.Courses.{Course, course_with, course_after, course_o
 use Rattle.gate_world.specs.Traces.{actions_of, Tells, IsHonestAnswer, IsTold, most_events, IsShort, MayWait}
 use Rattle.gate_frames.proofs.Keeps.{most_events_of_all, IsSmall}
 use Rattle.operation_laws.proofs.Layers.{op_keeps}
-use Rattle.gate_core.specs.declared.steps.Progress.{Progress}
-use Rattle.gate_core.specs.declared.steps.Progress.TheVariants.{Done as Ended, Waiting}
-use Rattle.gate_core.specs.declared.steps.Step.{Step}
-use Rattle.gate_core.specs.Answers.{progress_of, unless_refused}
+use Rattle.gate_schedules.specs.declared.steps.Progress.{Progress}
+use Rattle.gate_schedules.specs.declared.steps.Progress.TheVariants.{Done as Ended, Waiting}
+use Rattle.gate_schedules.specs.declared.steps.Step.{Step}
+use Rattle.gate_schedules.specs.Answers.{progress_of, unless_refused}
 use Rattle.gate_steps.specs.Seating.{SeatItems, numbered, HaveHistory, entered, done_by, items_after, world_left, IsMove}
 use Rattle.call_events.specs.TaskStates.{TaskState, own_number, own_view, refusal_at}
 use Rattle.call_events.specs.Stepped.{Stepped}
@@ -35,7 +35,7 @@ use Rattle.call_events.specs.Asking.{Ask, asks_of, asks_with, call_at, next_call
 use Rattle.call_events.specs.Waited.{is_wait, waits_in}
 use Rattle.call_events.specs.Refused.{IsUnchanged, IsUnchangedBy, IsHonestWait}
 use Rattle.call_events.proofs.Refused.{is_unchanged, waits_honestly}
-use Rattle.gate_core.proofs.Beginnings.{may_begin}
+use Rattle.gate_schedules.proofs.Beginnings.{may_begin}
 use Rattle.call_events.specs.Runs.{events_onto, completed_by, ran_snapshot, ran_view, ran_items, begins_at, items_at, IsMoveOf, IsNextMove, AreMoves, IsBounded, IsRanReply, told_as, the_reply, Goes, Went, Told, Called, Replies}
 
 -- the numbers of a task whose own number has begun the operation

@@ -5,8 +5,10 @@ use Rattle.access_model.specs.declared.{actions.Action.Action, replies.Next.{Nex
 use Rattle.cpu_words.specs.{Hooks.HookAnswer, Names.{place, words_in_all}, Touches.event_of, declared.events.{Event.Event}}
 use Rattle.gate_world.specs.{Accesses.{accesses_after, held_in}, Configs.IsWithin, Fits.ActionFits, Views.{phase_after, held_of}, Work.{next_of, after_of}}
 use Rattle.gate_world.specs.declared.{accesses.Accesses.Accesses, config.Config.Config, operations.Op.Op, work.Phase.Phase}
-use Rattle.gate_core.specs.{Answers.progress_of, declared.{seats.Seat.Seat, steps.Step.Step}}
-use Rattle.gate_core.proofs.Phases.{word_placed}
+use Rattle.gate_schedules.specs.Answers.{progress_of}
+use Rattle.gate_schedules.specs.declared.seats.Seat.{Seat}
+use Rattle.gate_schedules.specs.declared.steps.Step.{Step}
+use Rattle.gate_schedules.proofs.Phases.{word_placed}
 use Rattle.gate_steps.specs.Seating.{SeatItems, Acts, items_after, IsMove}
 use Rattle.atomic_table.specs.Seated.{TableId}
 use Rattle.call_events.specs.{Asking.{Ask, asks_with, call_at, GoesWith, WentWith}, Runs.{Goes, Went}, Stepped.Stepped, Waited.{GoesWaiting, WentWaiting}, TaskStates.{TaskState, task_state}}

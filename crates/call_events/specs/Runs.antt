@@ -20,8 +20,8 @@ use Rattle.gate_world.specs.Work.{next_of}
 use Rattle.gate_world.specs.Courses.{course_of, IsTrace}
 use Rattle.gate_world.specs.Traces.{actions_of, IsHonestAnswer, most_events, IsShort, MayWait}
 use Rattle.gate_steps.specs.Seating.{SeatItems, numbered, HaveHistory, done_by, IsMove}
-use Rattle.gate_core.specs.declared.steps.Progress.{Progress}
-use Rattle.gate_core.specs.declared.steps.Progress.TheVariants.{Idle, Going, Waiting, Done as Ended}
+use Rattle.gate_schedules.specs.declared.steps.Progress.{Progress}
+use Rattle.gate_schedules.specs.declared.steps.Progress.TheVariants.{Idle, Going, Waiting, Done as Ended}
 use Rattle.call_events.specs.Refused.{IsUnchangedBy, WaitsHonestly}
 use Rattle.call_events.specs.TaskStates.{TaskState, own_number, own_view, refusal_at}
 

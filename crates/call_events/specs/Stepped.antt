@@ -7,8 +7,8 @@ use Rattle.gate_world.specs.declared.operations.Op.{Op}
 use Rattle.gate_world.specs.declared.work.Phase.{Phase}
 use Rattle.gate_world.specs.Views.{phase_after}
 use Rattle.gate_world.specs.Work.{next_of, after_of}
-use Rattle.gate_core.specs.declared.steps.Step.{Step}
-use Rattle.gate_core.specs.Answers.{progress_of, phase_step}
+use Rattle.gate_schedules.specs.declared.steps.Step.{Step}
+use Rattle.gate_schedules.specs.Answers.{progress_of, phase_step}
 use Rattle.gate_steps.specs.Seating.{SeatItems, items_after, IsMove}
 use Rattle.call_events.specs.TaskStates.{TaskState}
 

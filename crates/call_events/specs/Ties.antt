@@ -2,7 +2,8 @@
 use Rattle.std.specs.Prelude.{◌≡◌, ℕ, ◌<◌, ◌≤◌, Bool, true, false, Option, Some, None, List, [], ◌∷◌, length, slice_index_or}
 use Rattle.gate_world.specs.{Configs.IsWithin, Fits.Fits, Holdings.Agree, Views.held_of, declared.{config.Config.Config, operations.Op.Op, views.View.View}}
 use Rattle.gate_world.specs.declared.work.Phase.{Phase}
-use Rattle.gate_core.specs.{Seats.seat_held, declared.seats.Seat.Seat}
+use Rattle.gate_schedules.specs.Seats.{seat_held}
+use Rattle.gate_schedules.specs.declared.seats.Seat.{Seat}
 use Rattle.gate_steps.specs.{Seating.{SeatItems, MayStep, times}, declared.seating.Numbered.Numbered}
 use Rattle.call_events.specs.TaskStates.{Empty}
 

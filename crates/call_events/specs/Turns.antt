@@ -12,10 +12,10 @@ use Rattle.gated_tree.specs.declared.phases.TreePhase.TheVariants.{Grow as Grows
 use Rattle.mount_counts.specs.declared.phases.Change.{Change}
 use Rattle.mount_counts.specs.declared.phases.MountPhase.TheVariants.{Change as Changes}
 use Rattle.access_model.specs.Replies.{map_next}
-use Rattle.gate_core.specs.declared.seats.Seat.{Seat}
+use Rattle.gate_schedules.specs.declared.seats.Seat.{Seat}
 use Rattle.gate_world.specs.declared.accesses.Accesses.{Accesses}
-use Rattle.gate_core.specs.declared.steps.Step.{Step}
-use Rattle.gate_core.specs.Answers.{progress_of}
+use Rattle.gate_schedules.specs.declared.steps.Step.{Step}
+use Rattle.gate_schedules.specs.Answers.{progress_of}
 use Rattle.gate_steps.specs.Seating.{SeatItems}
 use Rattle.call_events.specs.Ties.{Ties}
 use Rattle.percpu_rwsem.specs.declared.readers.DownReadStep.{DownReadStep}

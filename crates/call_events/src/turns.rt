@@ -60,7 +60,7 @@ pub fn do_event<P: UnderWay>(
 
 /// The same for a call that does one event after the other: what comes after it.
 #[inline(always)]
-pub(crate) fn go_on<P: UnderWay>(
+pub fn go_on<P: UnderWay>(
     gates: &GateWords,
     seat: &mut Seat,
     accesses: &mut Accesses,

@@ -245,9 +245,18 @@ pub fn read_words<'a, E: Write>(
     ensures only { IfOk result (λ asked. IsPlainOfInput asked → MayAskPlainly (map string_bytes words.entry.now)) }
 {
     let command = command(alloc)?;
+    // What is dropped is dropped by calls: to drop all its parts in line costs the proof more.
     match command.try_get_matches_from(words) {
-        Ok(matches) => request_of(alloc, &matches, errors),
-        Err(error) => answer_of(alloc, &error, errors),
+        Ok(matches) => {
+            let asked = request_of(alloc, &matches, errors);
+            drop(matches);
+            asked
+        }
+        Err(error) => {
+            let asked = answer_of(alloc, &error, errors);
+            drop(error);
+            asked
+        }
     }
 }
 
@@ -299,9 +308,22 @@ fn run_of<'a>(run: &ArgMatches<'_>) -> Asked<'a>
     } else {
         Tells::Totals
     };
-    match run_numbers(run) {
-        Some(numbers) => Asked::Run(numbers, tells),
-        None => Asked::Misused,
+    match (
+        run.get_one("tasks"),
+        run.get_one("cpus"),
+        run.get_one("rounds"),
+        run.get_one("freezes"),
+    ) {
+        (Some(tasks), Some(processors), Some(rounds), Some(freezes)) => {
+            let numbers = Numbers {
+                tasks,
+                processors,
+                rounds,
+                freezes,
+            };
+            Asked::Run(numbers, tells)
+        }
+        _ => Asked::Misused,
     }
 }
 
@@ -336,21 +358,11 @@ fn form_of(replay: &ArgMatches<'_>) -> Option<Form>
     ensures columns { result ≡ Some Plain → ¬ (one_of (codes "columns") (rows_of (found_of replay.now)) ≡ Some (codes "true")) }
     ensures json { result ≡ Some Plain → ¬ (one_of (codes "json") (rows_of (found_of replay.now)) ≡ Some (codes "true")) }
 {
-    form_for(
+    match (
         is_on(replay, EVENTS),
         is_on(replay, COLUMNS),
         is_on(replay, JSON),
-    )
-}
-
-/// The form for these flags; None where there is more than one.
-fn form_for(events: bool, columns: bool, json: bool) -> Option<Form>
-    ensures plain { events ≡ false → columns ≡ false → json ≡ false → result ≡ Some Plain }
-    ensures events { result ≡ Some Plain → events ≡ false }
-    ensures columns { result ≡ Some Plain → columns ≡ false }
-    ensures json { result ≡ Some Plain → json ≡ false }
-{
-    match (events, columns, json) {
+    ) {
         (false, false, false) => Some(Form::Plain),
         (true, false, false) => Some(Form::Events),
         (false, true, false) => Some(Form::Columns),
@@ -401,7 +413,11 @@ fn command<'a>(alloc: Global) -> Result<Command<'a>, AllocError>
         .version(VERSION)
         .subcommand_required(true);
     for subcommand in SUBCOMMANDS.iter() {
-        let sub = subcommand_of(alloc, subcommand)?;
+        let Ok(sub) = subcommand_of(alloc, subcommand) else {
+            // By a call: to drop all its parts in line costs the proof more.
+            drop(program);
+            return Err(AllocError);
+        };
         program = program.subcommand(sub)?;
     }
     Ok(program)
@@ -476,16 +492,6 @@ fn number<'a>(
         .value_name(value)
         .value_parser(ValueParser::unsigned(bounds.0, bounds.1))
         .help(help)
-}
-
-/// The numbers of a run, which a command line that was understood has.
-fn run_numbers(run: &ArgMatches<'_>) -> Option<Numbers> {
-    Some(Numbers {
-        tasks: run.get_one("tasks")?,
-        processors: run.get_one("cpus")?,
-        rounds: run.get_one("rounds")?,
-        freezes: run.get_one("freezes")?,
-    })
 }
 
 /// Says what is wrong with the command line. That there was no memory to read it is no fault of it.

@@ -1,17 +1,17 @@
 //! The gates that threads use, driven by one thread.
 
-ghost use Rattle.std.specs.Prelude.{◌≡◌, ◌≢◌, ◌<◌, ◌≤◌, ℕ, All, IfErr, IfOk, OnOk, vec_len, slice_index_or};
+ghost use Rattle.std.specs.Prelude.{◌≡◌, ◌≢◌, ◌<◌, ◌≤◌, ◌+◌, ℕ, [], All, IfErr, IfOk, OnOk, vec_len, slice_index_or};
 ghost use Rattle.access_model.specs.declared.errors.GateError.TheVariants.{Invalid, NoMemory};
 ghost use Rattle.cpu_words.specs.Lists.{AreOpening};
 ghost use Rattle.cpu_words.specs.Names.{words_in_all};
-ghost use Rattle.gate_core.specs.Answers.{asked_by, idle_step, unless_refused};
+ghost use Rattle.gate_schedules.specs.Answers.{asked_by, idle_step, unless_refused};
 ghost use Rattle.gate_world.specs.Configs.{IsWithin};
 ghost use Rattle.gate_world.specs.declared.work.Phase.{Phase};
 ghost use Rattle.driven_gates.specs.Noted.{words_after};
 ghost use Rattle.vfs_gates.specs.Splitting.{AreNumbered, Gives};
 ghost use Rattle.transcripts.specs.Drivers.{listed_word};
 ghost use Rattle.vfs_gates.specs.Stepped.{Stepped};
-ghost use Rattle.vfs_gates.specs.TaskStates.{IsFrom, IsIdle, TaskState, refusal_at};
+ghost use Rattle.vfs_gates.specs.TaskStates.{IsFrom, IsIdle, TaskState, own_number, refusal_at};
 
 use access_model::GateError;
 use cpu_words::{Event, WordName};
@@ -49,8 +49,17 @@ impl GatesDriver {
         ensures memory { IsWithin config → IfErr result (λ e. e ≡ NoMemory) }
     {
         let (gates, first) = Gates::new(alloc, config)?;
-        let tasks = all_tasks(alloc, &gates, first, config.tasks)?;
+        // What is dropped is dropped by calls: to drop all its parts in line costs the proof more.
+        let tasks = match all_tasks(alloc, &gates, first, config.tasks) {
+            Ok(tasks) => tasks,
+            Err(refusal) => {
+                drop(gates);
+                return Err(refusal);
+            }
+        };
         let Ok(words) = words_at_start(alloc) else {
+            drop(tasks);
+            drop(gates);
             return Err(GateError::NoMemory);
         };
         Ok(GatesDriver {
@@ -120,7 +129,10 @@ impl GatesDriver {
             result ≡ asked_by (slice_index_or self.now.tasks.items task t).phase }
         ensures not_there { vec_len self.now.tasks ≤ task → result ≡ None }
     {
-        self.tasks.get(task as usize)?.wants_hook()
+        match self.tasks.get(task as usize) {
+            Some(task) => task.wants_hook(),
+            None => None,
+        }
     }
 
     /// The value of a word, as the events so far have left it; None where the configuration has no such word.
@@ -185,14 +197,40 @@ fn all_tasks(
     ensures memory { IfErr result (λ e. e ≡ NoMemory) }
 {
     let mut tasks = Vec::new(alloc);
-    for _number in 1..count {
-        let other = first.split(alloc, gates)?;
-        let Ok(()) = tasks.push(other) else {
-            return Err(GateError::NoMemory);
-        };
+    if let Err(refusal) = split_all(alloc, gates, &mut first, count, &mut tasks) {
+        drop(tasks);
+        drop(first);
+        return Err(refusal);
     }
     let Ok(()) = tasks.insert(0, first) else {
         return Err(GateError::NoMemory);
     };
     Ok(tasks)
+}
+
+/// Puts the tasks to which the first one gives its numbers, from 1 on, behind none.
+fn split_all(
+    alloc: Global,
+    gates: &Gates,
+    first: &mut Task,
+    count: u8,
+    others: &mut Vec<Task>,
+) -> Result<(), GateError>
+    requires from { IsFrom first.old gates.now }
+    requires gives { Gives first.old 1 count }
+    requires none { others.old.items ≡ [] }
+    ensures first { OnOk result (IsFrom first.new gates.now) }
+    ensures own { OnOk result (own_number first.new.items ≡ 0) }
+    ensures others { OnOk result (All (λ task. IsFrom task gates.now) others.new.items) }
+    ensures count { OnOk result (1 ≤ count → vec_len others.new + 1 ≡ count) }
+    ensures numbers { OnOk result (AreNumbered 1 others.new.items) }
+    ensures memory { IfErr result (λ e. e ≡ NoMemory) }
+{
+    for _number in 1..count {
+        let other = first.split(alloc, gates)?;
+        let Ok(()) = others.push(other) else {
+            return Err(GateError::NoMemory);
+        };
+    }
+    Ok(())
 }

@@ -1,12 +1,12 @@
 //! The order of events of a close.
 
 ghost use Rattle.std.specs.Prelude.{◌≡◌};
-ghost use Rattle.gated_tree.specs.Nodes.{closed_node};
+ghost use Rattle.node_words.specs.Nodes.{closed_node};
 ghost use Rattle.file_closes.specs.Phases.{next, after, closed_from, enters, then_frees};
 
 use access_model::{Action, Gate, GateError, Next, Reply};
 use cpu_words::{Touch, WordName};
-use gated_tree::NodeWord;
+use node_words::NodeWord;
 use percpu_rwsem::{DownRead, DownReadStep, UpRead};
 
 /// A close of a file by a task, on a processor. One that doesn't wait is refused where it would have to.

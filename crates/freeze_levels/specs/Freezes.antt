@@ -14,8 +14,8 @@ use Rattle.cpu_words.specs.declared.names.WordName.TheVariants.{Umount, Stage, H
 use Rattle.cpu_words.specs.declared.events.Touch.{Touch}
 use Rattle.cpu_words.specs.declared.events.Touch.TheVariants.{Load, Store, Cas}
 use Rattle.cpu_words.specs.Hooks.{HookAnswer}
-use Rattle.gated_tree.specs.declared.marks.ClearMarks.{ClearMarks}
-use Rattle.gated_tree.specs.Phases.{clear_next, clear_after}
+use Rattle.node_words.specs.declared.marks.ClearMarks.{ClearMarks}
+use Rattle.node_words.specs.Phases.{clear_next, clear_after}
 use Rattle.percpu_rwsem.specs.declared.writers.DownWrite.{DownWrite}
 use Rattle.percpu_rwsem.specs.declared.writers.UpWrite.{UpWrite}
 use Rattle.percpu_rwsem.specs.Writers.{down_write_next, down_write_after, up_write_next, up_write_after}

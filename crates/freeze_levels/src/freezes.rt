@@ -27,7 +27,7 @@ use crate::hooks::HookKind;
 use crate::levels::{closing, reopening};
 use access_model::{Action, GateError, Holder, Holders, Next, Reply};
 use cpu_words::{Touch, WordName};
-use gated_tree::ClearMarks;
+use node_words::ClearMarks;
 use percpu_rwsem::{DownWrite, UpWrite};
 
 /// What the next event of a freeze is (`freeze_super`).

@@ -1,6 +1,6 @@
-//! Pairs at the gates.
+//! Rounds at the gates.
 
-ghost use Rattle.std.specs.Prelude.{◌≡◌, ◌≤◌, All, IfOk};
+ghost use Rattle.std.specs.Prelude.{◌≡◌, ◌≤◌, All, OnOk};
 ghost use Rattle.vfs_gates.specs.TaskStates.{IsFrom};
 
 use anyhow::{Result, bail};
@@ -10,26 +10,30 @@ use std::sync::Wait;
 use std::thread;
 use std::thread::Threads;
 use std::time::{Duration, Instant};
-use vfs_gates::{Config, Gates, Task};
+use vfs_gates::{Config, GateError, Gates, Holder, Task};
 
-/// What is taken and given back in a pair.
-#[derive(Clone, Copy, PartialEq, Eq, Debug)]
-pub(crate) enum Pair {
-    /// An access at mount 0.
+/// What a round is.
+#[derive(Clone, Copy)]
+pub(crate) enum Round {
+    /// An access at mount 0, taken and given back.
     Mount,
-    /// A place inside level 1.
+    /// A place inside level 1, likewise.
     Level,
     /// Write access: both.
     WriteAccess,
+    /// A freeze and its thaw, by one task. The levels stay on their slow path.
+    Freeze,
+    /// The same, and the callbacks of the levels. Each freeze and each callback waits for a grace period at each level.
+    FreezeAndCallbacks,
 }
 
 /// Takes an access at mount 0 and gives it back, so often, on the processor with the task's own number, and says whether each call
 /// was done.
-fn want_and_drop(mut task: Task, gates: &Gates, pairs: u32) -> bool
-    requires { IsFrom task gates.now }
+fn want_and_drop(task: &mut Task, gates: &Gates, count: u32) -> bool
+    requires { IsFrom task.old gates.now }
 {
     let cpu = task.number();
-    for _round in 0..pairs {
+    for _round in 0..count {
         if task.try_want(gates, 0, cpu).is_err() || task.drop_mount(gates, 0, cpu).is_err() {
             return false;
         }
@@ -38,11 +42,11 @@ fn want_and_drop(mut task: Task, gates: &Gates, pairs: u32) -> bool
 }
 
 /// Goes inside level 1 and leaves it, likewise.
-fn start_and_end(mut task: Task, gates: &Gates, pairs: u32) -> bool
-    requires { IsFrom task gates.now }
+fn start_and_end(task: &mut Task, gates: &Gates, count: u32) -> bool
+    requires { IsFrom task.old gates.now }
 {
     let cpu = task.number();
-    for _round in 0..pairs {
+    for _round in 0..count {
         if task.try_start(gates, 1, cpu).is_err() || task.end(gates, 1, cpu).is_err() {
             return false;
         }
@@ -51,11 +55,11 @@ fn start_and_end(mut task: Task, gates: &Gates, pairs: u32) -> bool
 }
 
 /// Takes write access at mount 0 and gives it back, likewise.
-fn want_and_drop_write<R: Wait>(mut task: Task, rt: &R, gates: &Gates, pairs: u32) -> bool
-    requires { IsFrom task gates.now }
+fn want_and_drop_write<R: Wait>(task: &mut Task, rt: &R, gates: &Gates, count: u32) -> bool
+    requires { IsFrom task.old gates.now }
 {
     let cpu = task.number();
-    for _round in 0..pairs {
+    for _round in 0..count {
         let wanted = task.want_write(rt, gates, 0, cpu);
         if wanted.is_err() || task.drop_write(gates, 0, cpu).is_err() {
             return false;
@@ -64,60 +68,142 @@ fn want_and_drop_write<R: Wait>(mut task: Task, rt: &R, gates: &Gates, pairs: u3
     true
 }
 
-/// Does so many pairs of one kind.
-fn do_pairs<R: Wait>(task: Task, rt: &R, gates: &Gates, pair: Pair, pairs: u32) -> bool
-    requires { IsFrom task gates.now }
+/// Freezes and thaws once, and says whether each call was done.
+fn freeze_and_thaw<R: Wait>(task: &mut Task, rt: &R, gates: &Gates) -> bool
+    requires { IsFrom task.old gates.now }
+    ensures { IsFrom task.new gates.now }
 {
-    match pair {
-        Pair::Mount => want_and_drop(task, gates, pairs),
-        Pair::Level => start_and_end(task, gates, pairs),
-        Pair::WriteAccess => want_and_drop_write(task, rt, gates, pairs),
+    let frozen = task.freeze(rt, gates, Holder::User, &mut ());
+    frozen.is_ok() && task.thaw(rt, gates, Holder::User, &mut ()).is_ok()
+}
+
+/// Runs the callbacks of the three levels, likewise.
+fn call_back<R: Wait>(task: &mut Task, rt: &R, gates: &Gates) -> bool
+    requires { IsFrom task.old gates.now }
+    ensures { IsFrom task.new gates.now }
+{
+    for level in 1..4 {
+        if task.callback(rt, gates, level).is_err() {
+            return false;
+        }
+    }
+    true
+}
+
+/// Freezes and thaws so often, with the callbacks after each thaw where they are asked for.
+fn freezes<R: Wait>(task: &mut Task, rt: &R, gates: &Gates, callbacks: bool, count: u32) -> bool
+    requires { IsFrom task.old gates.now }
+{
+    for _round in 0..count {
+        if !freeze_and_thaw(task, rt, gates) || callbacks && !call_back(task, rt, gates) {
+            return false;
+        }
+    }
+    true
+}
+
+/// Does so many rounds of one kind.
+fn do_rounds<R: Wait>(task: &mut Task, rt: &R, gates: &Gates, round: Round, count: u32) -> bool
+    requires { IsFrom task.old gates.now }
+{
+    match round {
+        Round::Mount => want_and_drop(task, gates, count),
+        Round::Level => start_and_end(task, gates, count),
+        Round::WriteAccess => want_and_drop_write(task, rt, gates, count),
+        Round::Freeze => freezes(task, rt, gates, false, count),
+        Round::FreezeAndCallbacks => freezes(task, rt, gates, true, count),
     }
 }
 
-/// The first task and those that it gives its numbers to, so many in all, or the first alone.
-fn tasks_of(alloc: Global, gates: &Gates, mut first: Task, threads: u8) -> Result<Vec<Task>>
-    requires { IsFrom first gates.now }
-    ensures { IfOk result (λ tasks. All (λ task. IsFrom task gates.now) tasks.items) }
+/// Splits tasks off until there are so many, the first among them. They are put behind those that are there.
+fn split_off(
+    alloc: Global,
+    gates: &Gates,
+    first: &mut Task,
+    threads: u8,
+    tasks: &mut Vec<Task>,
+) -> Result<(), GateError>
+    requires first { IsFrom first.old gates.now }
+    requires tasks { All (λ task. IsFrom task gates.now) tasks.old.items }
+    ensures first { OnOk result (IsFrom first.new gates.now) }
+    ensures tasks { OnOk result (All (λ task. IsFrom task gates.now) tasks.new.items) }
 {
-    let mut tasks = Vec::new(alloc);
     for _number in 1..threads {
         let other = first.split(alloc, gates)?;
-        tasks.push(other)?;
+        let Ok(()) = tasks.push(other) else {
+            return Err(GateError::NoMemory);
+        };
     }
-    tasks.push(first)?;
-    Ok(tasks)
+    Ok(())
 }
 
-/// How long so many threads take for so many pairs each, every thread with a task and a processor of its own.
-pub(crate) fn measure<R: Threads + Wait + Clock + Sync>(
+/// How long these tasks take for so many rounds each, every one in a thread of its own.
+fn time_tasks<R: Threads + Wait + Clock + Sync>(
     rt: &R,
-    alloc: Global,
-    pair: Pair,
-    threads: u8,
-    pairs: u32,
-) -> Result<Duration> {
-    let config = Config {
-        tasks: threads,
-        processors: threads,
-        mounts: 1,
-        nodes: 2,
-        capacity: 0,
-    };
-    let (gates, first) = Gates::new(alloc, config)?;
-    let tasks = tasks_of(alloc, &gates, first, threads)?;
-    let shared = &gates;
+    gates: &Gates,
+    tasks: Vec<Task>,
+    round: Round,
+    count: u32,
+) -> Result<Duration>
+    requires { All (λ task. IsFrom task gates.now) tasks.items }
+{
     let start = Instant::now(rt)?;
     let done = thread::map_vec(
         rt,
         tasks,
         &|task| -> bool
-            requires { IsFrom task shared.now }
-        { do_pairs(task, rt, shared, pair, pairs) },
+            requires { IsFrom task gates.now }
+        {
+            let mut task = task;
+            do_rounds(&mut task, rt, gates, round, count)
+        },
     )?;
-    let took = start.elapsed(rt)?;
-    if !done.iter().all(|each| *each) {
+    let took = start.elapsed(rt);
+    let is_refused = done.contains(&false);
+    drop(done);
+    if is_refused {
         bail!("a call at the gates was refused");
     }
-    Ok(took)
+    Ok(took?)
+}
+
+/// The same of the first task and of those that are split off from it, so many in all.
+fn time_first<R: Threads + Wait + Clock + Sync>(
+    rt: &R,
+    alloc: Global,
+    gates: &Gates,
+    mut first: Task,
+    threads: u8,
+    round: Round,
+    count: u32,
+) -> Result<Duration>
+    requires { IsFrom first gates.now }
+{
+    let mut tasks = Vec::new(alloc);
+    split_off(alloc, gates, &mut first, threads, &mut tasks)?;
+    tasks.push(first)?;
+    time_tasks(rt, gates, tasks, round, count)
+}
+
+/// How long so many rounds take each of so many tasks, with as many processors. Where they are freezes, one task does them.
+pub(crate) fn measure<R: Threads + Wait + Clock + Sync>(
+    rt: &R,
+    alloc: Global,
+    round: Round,
+    size: u8,
+    count: u32,
+) -> Result<Duration> {
+    let config = Config {
+        tasks: size,
+        processors: size,
+        mounts: 1,
+        nodes: 2,
+        capacity: 0,
+    };
+    let threads = match round {
+        Round::Mount | Round::Level | Round::WriteAccess => size,
+        Round::Freeze | Round::FreezeAndCallbacks => 1,
+    };
+    let (gates, first) = Gates::new(alloc, config)?;
+    time_first(rt, alloc, &gates, first, threads, round, count)
 }

@@ -6,9 +6,14 @@ use Rattle.finite_sums.{proofs.Totals.{update_at, update_off}, specs.Sums.update
 use Rattle.access_model.specs.declared.errors.GateError.{GateError}
 use Rattle.gate_world.specs.{Beginnings.{first_phase, refusal, beginning}, Fits.Fits, Holdings.Agree, Views.{held_of, begun_view}}
 use Rattle.gate_world.specs.{Worlds.{World, Begins, begin_refusal, happens, run, opening}, declared.{operations.Op.Op, views.View.View, work.Phase.Phase}}
-use Rattle.gate_core.proofs.{Beginnings.{refusal_agree, may_begin, first_fits, ok_means, err_means}, Each.seat_cases, Runs.run_more}
-use Rattle.gate_core.specs.{Answers.{unless_refused, begin_answer}, Memory.{Memory, Shows, IsSound, no_seat, seat_of}, Moves.{refusal_in, begun_of, begun}}
-use Rattle.gate_core.specs.{Seats.seat_held, declared.seats.Seat.Seat}
+use Rattle.gate_schedules.proofs.Beginnings.{refusal_agree, may_begin, first_fits, ok_means, err_means}
+use Rattle.gate_schedules.proofs.Runs.{run_more}
+use Rattle.gate_core.proofs.Each.{seat_cases}
+use Rattle.gate_schedules.specs.Answers.{unless_refused, begin_answer}
+use Rattle.gate_core.specs.Memory.{Memory, Shows, IsSound, no_seat, seat_of}
+use Rattle.gate_core.specs.Moves.{refusal_in, begun_of, begun}
+use Rattle.gate_schedules.specs.Seats.{seat_held}
+use Rattle.gate_schedules.specs.declared.seats.Seat.{Seat}
 
 module _ (memory : Memory) (sound : IsSound memory) (t : ℕ) (lt : t < memory.config.tasks)
     (seat : Seat) (seat_is : seat ≡ get_or memory.seats t seat)

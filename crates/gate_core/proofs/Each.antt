@@ -1,7 +1,8 @@
 -- One seat among all.
 use Rattle.std.proofs.{Common.{◌≡◌, ℕ, ◌<◌, List, length, sym, subst, inl, inr, get_or-set_same, get_or-set_other}, lemmas.Bool.Decides.eqb_tells}
 use Rattle.std.specs.Prelude.{slice_index_or, slice_set}
-use Rattle.gate_core.specs.{Memory.no_seat, declared.seats.Seat.Seat}
+use Rattle.gate_schedules.specs.declared.seats.Seat.{Seat}
+use Rattle.gate_core.specs.Memory.{no_seat}
 
 -- what holds of one seat that is written and of each other one holds of each
 pub seat_cases : (seats : List Seat) (t : ℕ) (seat : Seat) → t < length seats → (P : ℕ → Seat → Type 0) (x : ℕ) → P t seat →

@@ -4,7 +4,9 @@ use Rattle.std.specs.Prelude.{None, slice_index_or, replicate}
 use Rattle.cpu_words.{proofs.Places.opening_listed, specs.{Lists.AreOpening, Names.words_in_all}}
 use Rattle.gate_world.specs.{Configs.{IsWithin, extents_kept}, Fits.Fits, Holdings.{Agree, holdings_of}, Worlds.opening, declared.config.Config.Config}
 use Rattle.gate_frames.proofs.Places.{are_few}
-use Rattle.gate_core.specs.{Memory.{Memory, Shows, IsSound, no_seat}, Seats.{idle_seat, seat_held}, declared.seats.Seat.Seat}
+use Rattle.gate_schedules.specs.Seats.{idle_seat, seat_held}
+use Rattle.gate_schedules.specs.declared.seats.Seat.{Seat}
+use Rattle.gate_core.specs.Memory.{Memory, Shows, IsSound, no_seat}
 
 -- a list of one value has it at each place, and past its end where it is the default
 one_value : {A : Type 0} (n i : ℕ) (x : A) → slice_index_or (replicate n x) i x ≡ x

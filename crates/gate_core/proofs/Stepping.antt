@@ -13,10 +13,17 @@ use Rattle.gate_world.specs.Worlds.{World, Steps, after_step, happens, run, open
 use Rattle.gate_world.specs.declared.{accesses.Accesses.Accesses, config.Config.Config, views.View.View, work.Phase.Phase}
 use Rattle.gate_frames.proofs.{Accesses.{holdings_of_after, long_after, wide_after, deep_after, agree_after}, Agreeing.{agree_self, agree_sym}}
 use Rattle.gate_frames.proofs.Places.{are_few}
-use Rattle.gate_core.proofs.{Each.seat_cases, Phases.{word_there, word_placed, action_fits, fits_after, fits_agree}, Runs.run_more}
-use Rattle.gate_core.specs.{Answers.{progress_of, step_answer}, Memory.{Memory, Shows, IsSound, no_seat, seat_of}}
-use Rattle.gate_core.specs.{Moves.{phase_in, stepped_of, stepped, progress_by, progress_in}, Seats.seat_held, Stepped.IsStep}
-use Rattle.gate_core.specs.declared.{seats.Seat.Seat, steps.{Progress.Progress, Step.Step}}
+use Rattle.gate_schedules.proofs.Phases.{word_there, word_placed, action_fits, fits_after, fits_agree}
+use Rattle.gate_schedules.proofs.Runs.{run_more}
+use Rattle.gate_core.proofs.Each.{seat_cases}
+use Rattle.gate_schedules.specs.Answers.{progress_of, step_answer}
+use Rattle.gate_core.specs.Memory.{Memory, Shows, IsSound, no_seat, seat_of}
+use Rattle.gate_schedules.specs.Seats.{seat_held}
+use Rattle.gate_core.specs.Moves.{phase_in, stepped_of, stepped, progress_by, progress_in}
+use Rattle.gate_core.specs.Stepped.{IsStep}
+use Rattle.gate_schedules.specs.declared.seats.Seat.{Seat}
+use Rattle.gate_schedules.specs.declared.steps.Progress.{Progress}
+use Rattle.gate_schedules.specs.declared.steps.Step.{Step}
 
 module _ (memory : Memory) (sound : IsSound memory) (t : ℕ) (lt : t < memory.config.tasks) (phase : Phase)
     (is : (seat_of memory t).phase ≡ Some phase) (hook : HookAnswer) where

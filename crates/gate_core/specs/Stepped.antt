@@ -2,10 +2,10 @@
 use Rattle.std.specs.Prelude.{◌≡◌, ℕ}
 use Rattle.cpu_words.specs.Hooks.{HookAnswer}
 use Rattle.gate_world.specs.Worlds.{World, Steps, happens}
-use Rattle.gate_core.specs.Answers.{step_answer}
+use Rattle.gate_schedules.specs.Answers.{step_answer}
 use Rattle.gate_core.specs.Memory.{Memory, Shows}
 use Rattle.gate_core.specs.Moves.{stepped, progress_in}
-use Rattle.gate_core.specs.declared.steps.Step.{Step}
+use Rattle.gate_schedules.specs.declared.steps.Step.{Step}
 
 -- A task's next event makes the second memory of the first: it is that of the task's phase, shows what the entry makes of each world that
 -- the first one shows, and is told as it is of that world.

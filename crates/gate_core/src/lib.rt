@@ -2,14 +2,8 @@
 //! and `step`.
 #![tactic(auto)]
 
-pub mod laws;
 pub mod machine;
-pub mod schedules;
-pub mod seats;
-pub mod steps;
 
+pub use gate_schedules::{Progress, Seat, Step};
 pub use gate_world::{Accesses, Config, Op};
 pub use machine::{Core, words_at_start};
-pub use schedules::{every_schedule, every_schedule_keeps_the_rule};
-pub use seats::Seat;
-pub use steps::{Progress, Step};

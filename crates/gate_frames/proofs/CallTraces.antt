@@ -3,7 +3,8 @@ use Rattle.std.proofs.Common.{◌≡◌, ℕ, ◌<◌, ◌≤◌, Bool, true, fa
 use Rattle.std.specs.Prelude.{◌||◌, Option, Some, None, Result, Ok, Err, List, ◌∷◌, length, is_some, option_map}
 use Rattle.access_model.specs.{Replies.map_next, declared.{actions.Action.Action, errors.GateError.GateError, replies.{Next.Next, Reply.Reply}}}
 use Rattle.cpu_words.specs.declared.events.Event.{Event}
-use Rattle.gated_tree.specs.{Phases.after_look, declared.phases.TreePhase.TreePhase}
+use Rattle.node_words.specs.Phases.{after_look}
+use Rattle.gated_tree.specs.declared.phases.TreePhase.{TreePhase}
 use Rattle.tree_laws.specs.Ends.{with_action, EndsWell, SeesMore}
 use Rattle.gate_world.specs.{Found.SeenIn, Traces.{actions_of, IsHonest, IsTold, most_events, IsShort, MayWait}, Views.actions_after}
 use Rattle.gate_world.specs.declared.{config.Config.Config, operations.Op.Op, views.Traced.Traced, work.Phase.Phase}

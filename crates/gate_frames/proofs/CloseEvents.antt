@@ -3,13 +3,17 @@ use Rattle.std.proofs.Common.{◌≡◌, ℕ, ◌<◌, ◌≤◌, Bool, true, fa
 use Rattle.std.proofs.lemmas.Bool.{cases_Bool, true≢false, Decides.eqb_tells}
 use Rattle.std.specs.Prelude.{◌==◌, ◌&&◌, Option, Some, None, Result, Ok, Err, if◌then◌else◌, List}
 use Rattle.finite_sums.{proofs.Totals.{total_at, total_updated, update_off}, specs.Sums.{update, total}}
-use Rattle.access_model.{proofs.Openers.most_tasks_is, specs.{States.{one_if, is_removed, most_tasks, openers}, declared.errors.GateError.GateError}}
+use Rattle.access_model.specs.{States.{one_if, is_removed, most_tasks, openers}, declared.errors.GateError.GateError}
+use Rattle.gate_frames.proofs.Openers.{most_tasks_is}
 use Rattle.cpu_words.specs.{Words.Words, declared.names.WordName.WordName}
-use Rattle.gated_tree.proofs.Words.{word_opens, word_shows}
-use Rattle.gated_tree.specs.{Calls.{role_after, phase_role}, Nodes.{word_of, any_file_in, opens_in, node_shown, info_of}, Phases.after_look}
+use Rattle.node_words.proofs.Words.{word_opens, word_shows}
+use Rattle.node_words.specs.Nodes.{word_of, any_file_in, opens_in, node_shown, info_of}
+use Rattle.node_words.specs.Phases.{after_look}
+use Rattle.gated_tree.specs.Calls.{role_after, phase_role}
 use Rattle.gated_tree.specs.Roles.{Role, Out, Freeing, Dropped, Uncounting, frees, removal, Bounds, TreeState, AreWithin, TreeHolds, RoleHolds, NobodyReads}
 use Rattle.gated_tree.specs.Roles.{NobodyElseFrees, IsLastOpen}
-use Rattle.gated_tree.specs.declared.{nodes.NodeWord.NodeWord, phases.TreePhase.TreePhase}
+use Rattle.node_words.specs.declared.nodes.NodeWord.{NodeWord}
+use Rattle.gated_tree.specs.declared.phases.TreePhase.{TreePhase}
 use Rattle.tree_laws.proofs.{Counts.{finds_last, same_le}, Each.each_event, Laws.{role_says, same_off}, Steps.{leaves_word, as_event, stays_at}}
 use Rattle.tree_laws.specs.{Events.{turned, ClosesFile, FreesFile, DropsBlocks, Uncounts}, Steps.{tree_in, EventKeeps}}
 use Rattle.file_closes.specs.{Phases.{next, after, enters, closed_from}, declared.phases.{ClosePhase.ClosePhase, Closing.Closing}}

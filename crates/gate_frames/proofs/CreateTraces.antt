@@ -3,8 +3,13 @@ use Rattle.std.proofs.{Common.{◌≡◌, ℕ, ◌+◌, ◌<◌, ◌≤◌, Bool
 use Rattle.std.specs.Prelude.{◌==◌, Option, Some, None, Result, Ok, List, [], ◌∷◌, length, is_some}
 use Rattle.access_model.specs.declared.{actions.{Action.Action, Kind.Kind}, errors.GateError.GateError, replies.{Next.Next, Reply.Reply}}
 use Rattle.cpu_words.specs.{Touches.found_by, declared.events.Event.Event}
-use Rattle.gated_tree.specs.{Nodes.{as_directory, unpacked, directory_in}, Phases.{at_create, create_after, create_looked, create_next}, Refusals.CreateHonest}
-use Rattle.gated_tree.specs.declared.{changes.{Create.Create, CreateStep.CreateStep}, nodes.NodeWord.NodeWord, phases.TreePhase.TreePhase}
+use Rattle.node_words.specs.Nodes.{as_directory, unpacked, directory_in}
+use Rattle.gated_tree.specs.Phases.{at_create, create_after, create_looked, create_next}
+use Rattle.gated_tree.specs.Refusals.{CreateHonest}
+use Rattle.node_words.specs.declared.nodes.NodeWord.{NodeWord}
+use Rattle.gated_tree.specs.declared.changes.Create.{Create}
+use Rattle.gated_tree.specs.declared.changes.CreateStep.{CreateStep}
+use Rattle.gated_tree.specs.declared.phases.TreePhase.{TreePhase}
 use Rattle.tree_laws.{proofs.Ends.create_ends, specs.Ends.{CreateKnows, IsNodeReply, create_adds}}
 use Rattle.gate_world.specs.{Configs.IsWithin, Courses.{IsTrace, MayHold, MayFind, course_of}, Found.SeenIn, Operations.first_create}
 use Rattle.gate_world.specs.{Traces.{actions_of, IsHonest, IsShort, IsTold, Tells, most_events}, Views.with_hook, Work.next_of}

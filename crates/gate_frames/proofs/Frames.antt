@@ -13,7 +13,8 @@ use Rattle.gate_world.specs.Rules.{SameWords, Sections, Stages, SyncAt, Tree, Vi
 use Rattle.gate_world.specs.{Rules.stage_roles, Shown.{closing, is_passed, shown}, Trees.{tree_bounds, tree_role_of, tree_roles}, Views.added_after}
 use Rattle.gate_world.specs.{Views.{has_open, held_at, held_of, holds_level, taken_after}, Worlds.World, declared.{config.Config.Config, views.View.View}}
 use Rattle.gate_world.specs.declared.work.Phase.{Phase}
-use Rattle.gated_tree.specs.{Nodes.{node_shown, opens_in}, Roles.{Role as TreeRole, TreeHolds, TreeState}}
+use Rattle.node_words.specs.Nodes.{node_shown, opens_in}
+use Rattle.gated_tree.specs.Roles.{Role as TreeRole, TreeHolds, TreeState}
 use Rattle.holder_laws.specs.Roles.{HolderRole, HoldersHold}
 use Rattle.level_laws.specs.Roles.{Out as IsApart, SyncNumberHolds, SyncRole}
 use Rattle.mount_counts.specs.Roles.{MountHolds, MountView, Out, Role, ro_bit}

@@ -3,7 +3,9 @@ use Rattle.std.proofs.{Common.{◌≡◌, ℕ, ◌≤◌, Bool, false, refl, sym
 use Rattle.std.specs.Prelude.{◌+◌, nat_lt, ◌==◌, Result, Ok, Err, List, [], ◌∷◌, length}
 use Rattle.access_model.specs.declared.{actions.Action.Action, errors.GateError.GateError, replies.{Next.Next, Reply.Reply}}
 use Rattle.cpu_words.specs.{Touches.found_by, declared.events.Event.Event}
-use Rattle.gated_tree.specs.{Nodes.{word_of, as_file, unpacked, file_in}, Phases.{at_grow, grow_after, grow_next}, Refusals.GrowHonest}
+use Rattle.node_words.specs.Nodes.{word_of, as_file, unpacked, file_in}
+use Rattle.gated_tree.specs.Phases.{at_grow, grow_after, grow_next}
+use Rattle.gated_tree.specs.Refusals.{GrowHonest}
 use Rattle.gated_tree.specs.declared.{growth.{Grow.Grow, GrowStep.GrowStep}, phases.TreePhase.TreePhase}
 use Rattle.tree_laws.{proofs.Ends.grow_ends, specs.Ends.{GrowKnows, IsReply, where_done}}
 use Rattle.gate_world.specs.{Configs.IsWithin, Courses.{IsTrace, MayHold, MayFind, course_of}, Found.SeenIn, Operations.first_grow}

@@ -1,3 +1,4 @@
+pub mod Openers
 pub mod Words
 pub mod Known
 pub mod Frames

@@ -3,7 +3,9 @@ use Rattle.std.proofs.{Common.{◌≡◌, ℕ, ◌≤◌, Bool, true, false, ref
 use Rattle.std.specs.Prelude.{◌==◌, Result, Ok, Err, List, [], ◌∷◌, length}
 use Rattle.access_model.specs.declared.{actions.Action.Action, errors.GateError.GateError, replies.{Next.Next, Reply.Reply}}
 use Rattle.cpu_words.specs.{Touches.found_by, declared.events.Event.Event}
-use Rattle.gated_tree.specs.{Nodes.{word_of, as_file, unpacked, file_in}, Phases.{at_mark, mark_after, mark_done, mark_next}, Refusals.FileHonest}
+use Rattle.node_words.specs.Nodes.{word_of, as_file, unpacked, file_in}
+use Rattle.gated_tree.specs.Phases.{at_mark, mark_after, mark_done, mark_next}
+use Rattle.gated_tree.specs.Refusals.{FileHonest}
 use Rattle.gated_tree.specs.declared.{marks.{Mark.Mark, MarkStep.MarkStep}, phases.TreePhase.TreePhase}
 use Rattle.tree_laws.{proofs.Ends.mark_ends, specs.Ends.{IsReply, where_done}}
 use Rattle.gate_world.specs.{Beginnings.first_phase, Configs.IsWithin, Courses.{IsTrace, MayHold, MayFind, course_of}, Found.SeenIn, Operations.first_mark}

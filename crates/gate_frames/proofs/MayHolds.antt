@@ -18,7 +18,9 @@ use Rattle.write_access.specs.{Phases.next as write_next, declared.phases.WriteP
 use Rattle.freeze_levels.specs.{Freezes.freeze_next, Thaws.thaw_next, declared.freezes.FreezeStep.TheVariants.{Closes, Cleans, SetsFs, SetsComplete}}
 use Rattle.freeze_levels.specs.declared.freezes.{FreezeStep.{TheVariants.Reopens as FReopens, FreezeStep}, Freeze.Freeze}
 use Rattle.freeze_levels.specs.declared.thaws.{ThawStep.{TheVariants.{LeavesLast, Reopens as TReopens}, ThawStep}, Thaw.Thaw}
-use Rattle.gated_tree.specs.{Calls.{CreateStepFits, SnapshotStepFits, TreePhaseFits}, Nodes.{unpacked, opens_in}, Phases.{next as tree_next, remove_next}}
+use Rattle.node_words.specs.Nodes.{unpacked, opens_in}
+use Rattle.gated_tree.specs.Calls.{CreateStepFits, SnapshotStepFits, TreePhaseFits}
+use Rattle.gated_tree.specs.Phases.{next as tree_next, remove_next}
 use Rattle.gated_tree.specs.{Phases.{grow_next, move_next, mark_next, create_next, snapshot_next, open_next}, Roles.RoleHolds}
 use Rattle.gated_tree.specs.declared.changes.CreateStep.TheVariants.{LoadsDirectory, LoadsNode, ChargesChild, TakesNode, RefundsChild}
 use Rattle.gated_tree.specs.declared.changes.RemoveStep.TheVariants.{LoadsFile as LoadsFileToRemove, FreesNode, MarksRemoved}
@@ -36,14 +38,14 @@ use Rattle.gate_world.specs.{Fits.{PhaseFits, CloseFits, HasFile, file_of, Fits}
 use Rattle.gate_world.specs.{Rules.{Fitting, SyncAt, SyncHoldsIn}, Trees.{tree_bounds, tree_role_of}, Views.{held_of, has_open}, Work.next_of, Worlds.World}
 use Rattle.gate_world.specs.declared.{config.Config.Config, work.Phase.TheVariants.{Mounts, Remounts, DownReads, Callbacks, Writes, Freezes, Thaws}}
 use Rattle.gate_world.specs.declared.work.Phase.{TheVariants.{Trees, Closes}, Phase}
-use Rattle.gated_tree.proofs.Packing.{packed_unpacks}
+use Rattle.node_words.proofs.Packing.{packed_unpacks}
 use Rattle.cpu_words.specs.{Hooks.HookAnswer, Words.read, declared.names.WordName.{TheVariants.{Node, Sync}, WordName}}
 use Rattle.file_closes.specs.{Phases.next as close_next, declared.phases.ClosePhase.{ClosePhase, TheVariants.{LoadsFile as CloseLoadsFile, LowersCount}}}
 use Rattle.file_closes.specs.declared.phases.ClosePhase.TheVariants.{Enters as EntersLevel, FreesNode as ClosesNode}
 use Rattle.finite_sums.specs.Sums.{update, total}
 use Rattle.finite_sums.proofs.Totals.{total_at, total_updated, total_bound, each_updated}
 use Rattle.access_model.specs.States.{one_if, most_tasks}
-use Rattle.access_model.proofs.Openers.{most_tasks_is, one_le}
+use Rattle.gate_frames.proofs.Openers.{most_tasks_is, one_le}
 
 -- the word of a node is that of one of the tree's, and a sync word that of one of the levels
 abbrev IsThere : Config → WordName → Type 0

@@ -13,7 +13,9 @@ use Rattle.gate_world.specs.{Roles.{freeze_tree_role, nodes_noted, remount_tree_
 use Rattle.gate_world.specs.{Rules.{role_of, stage_role_of}, Shown.shown, Snapshots.values_noted, Trees.{is_bare_at, tree_bounds, tree_of, tree_role_of}}
 use Rattle.gate_world.specs.{Trees.tree_roles, Views.{has_open, held_at, held_of, holds_level}, Worlds.World, declared.config.Config.Config}
 use Rattle.gate_world.specs.declared.{views.Traced.Traced, work.Phase.Phase}
-use Rattle.gated_tree.specs.{Calls.phase_role, Nodes.word_of, Phases.{after, create_after, grow_after, mark_after, mark_done, move_after, open_after}}
+use Rattle.node_words.specs.Nodes.{word_of}
+use Rattle.gated_tree.specs.Calls.{phase_role}
+use Rattle.gated_tree.specs.Phases.{after, create_after, grow_after, mark_after, mark_done, move_after, open_after}
 use Rattle.gated_tree.specs.{Phases.{remove_after, snapshot_after}, Roles.{MayDirty, MayRemove, NobodyReads, bare_by, cleared, is_bare, sealed_by}}
 use Rattle.gated_tree.specs.declared.changes.{Create.Create, CreateStep.CreateStep, MoveStep.MoveStep, MoveTo.MoveTo, Remove.Remove, RemoveStep.RemoveStep}
 use Rattle.gated_tree.specs.declared.{growth.{Grow.Grow, GrowStep.GrowStep}, marks.{Mark.Mark, MarkStep.MarkStep}, opens.OpenFile.OpenFile}

@@ -3,7 +3,8 @@ use Rattle.std.proofs.{Common.{◌≡◌, ℕ, ◌≤◌, Bool, false, refl, sym
 use Rattle.std.specs.Prelude.{◌==◌, Result, Ok, Err, List, ◌∷◌, length}
 use Rattle.access_model.specs.declared.{actions.Action.Action, errors.GateError.GateError, replies.{Next.Next, Reply.Reply}}
 use Rattle.cpu_words.specs.{Touches.found_by, declared.events.Event.Event}
-use Rattle.gated_tree.specs.{Nodes.{word_of, as_file, as_directory, unpacked, file_in, directory_in}, Phases.{at_move, move_after, move_next}}
+use Rattle.node_words.specs.Nodes.{word_of, as_file, as_directory, unpacked, file_in, directory_in}
+use Rattle.gated_tree.specs.Phases.{at_move, move_after, move_next}
 use Rattle.gated_tree.specs.{Refusals.MoveHonest, declared.{changes.{MoveStep.MoveStep, MoveTo.MoveTo}, phases.TreePhase.TreePhase}}
 use Rattle.tree_laws.{proofs.Ends.move_ends, specs.Ends.{IsReply, MoveKnows, move_added, where_done}}
 use Rattle.gate_world.specs.{Configs.IsWithin, Courses.{IsTrace, MayHold, MayFind, course_of}, Found.SeenIn, Operations.first_move}

@@ -1,6 +1,6 @@
 -- An event of a call at the tree: it leaves the mounts, the levels and the sections alone, and all of the shown model but the tree. A
 -- snapshot is such a call, too.
-use Rattle.access_model.proofs.Openers.{most_tasks_is}
+use Rattle.gate_frames.proofs.Openers.{most_tasks_is}
 use Rattle.access_model.specs.{Replies.map_next, States.openers, declared.{actions.Action.Action, errors.GateError.GateError, replies.Next.Next}}
 use Rattle.access_model.specs.declared.replies.Reply.{Reply}
 use Rattle.cpu_words.specs.{Hooks.HookAnswer, Touches.left, Words.{Words, put, read}, declared.{events.Touch.Touch, names.WordName.WordName}}
@@ -17,11 +17,18 @@ use Rattle.gate_world.specs.{Rules.{IsGood, Moves as ModelMoves, Part, SameView,
 use Rattle.gate_world.specs.{Snapshots.values_noted, Trees.{is_bare_at, is_sealed, tree_bounds, tree_role_of, tree_roles}, Views.{added_after, added_by}}
 use Rattle.gate_world.specs.{Views.{has_open, held_at, held_of, holds_level, phase_after, taken_after, taken_by, view_after}, Work.{after_of, next_of}}
 use Rattle.gate_world.specs.{Worlds.{World, after_step, found_at, value_at, words_after}, declared.{config.Config.Config, views.View.View, work.Phase.Phase}}
-use Rattle.gated_tree.specs.{Calls.{NextFits, TreePhaseFits, phase_role, role_after}, Nodes.{dirty_in, file_in, node_shown, word_of}, Phases.after}
-use Rattle.gated_tree.specs.Phases.{after_look, at_mark, clear_after, create_after, create_next, grow_after, grow_next, mark_after, mark_done, mark_next}
+use Rattle.node_words.specs.Nodes.{dirty_in, file_in, node_shown, word_of}
+use Rattle.gated_tree.specs.Calls.{NextFits, TreePhaseFits, phase_role, role_after}
+use Rattle.gated_tree.specs.Phases.{after}
+use Rattle.node_words.specs.Phases.{after_look, clear_after}
+use Rattle.gated_tree.specs.Phases.{at_mark, create_after, create_next, grow_after, grow_next, mark_after, mark_done, mark_next}
 use Rattle.gated_tree.specs.Phases.{move_after, move_next, next, open_after, open_next, remove_after, remove_next, snapshot_after, snapshot_next}
 use Rattle.gated_tree.specs.{Roles.{Role, TreeHolds}, declared.changes.{Create.Create, CreateStep.CreateStep, MoveStep.MoveStep, MoveTo.MoveTo}}
-use Rattle.gated_tree.specs.declared.{changes.{Remove.Remove, RemoveStep.RemoveStep}, growth.{Grow.Grow, GrowStep.GrowStep}, marks.ClearMarks.ClearMarks}
+use Rattle.node_words.specs.declared.marks.ClearMarks.{ClearMarks}
+use Rattle.gated_tree.specs.declared.changes.Remove.{Remove}
+use Rattle.gated_tree.specs.declared.changes.RemoveStep.{RemoveStep}
+use Rattle.gated_tree.specs.declared.growth.Grow.{Grow}
+use Rattle.gated_tree.specs.declared.growth.GrowStep.{GrowStep}
 use Rattle.gated_tree.specs.declared.{marks.{Mark.Mark, MarkStep.MarkStep}, opens.{OpenFile.OpenFile, OpenStep.OpenStep}, phases.TreePhase.TreePhase}
 use Rattle.gated_tree.specs.declared.snapshots.{Snapshot.Snapshot, SnapshotStep.SnapshotStep}
 use Rattle.mount_counts.specs.Roles.{ro_bit}

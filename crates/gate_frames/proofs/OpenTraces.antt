@@ -3,9 +3,15 @@ use Rattle.std.proofs.{Common.{◌≡◌, ℕ, ◌<◌, ◌≤◌, Bool, true, f
 use Rattle.std.specs.Prelude.{◌==◌, Option, Some, None, Result, Ok, Err, List, [], ◌∷◌, length, nat_lt, is_some}
 use Rattle.access_model.specs.declared.{actions.Action.Action, errors.GateError.GateError, replies.{Next.Next, Reply.Reply}}
 use Rattle.cpu_words.specs.{Touches.found_by, declared.events.Event.Event}
-use Rattle.gated_tree.proofs.Refused.{size_loaded}
-use Rattle.gated_tree.specs.{Nodes.{word_of, opens_in, as_file, unpacked, file_in}, Phases.{after_look, at_open, opens_from, open_after, open_next}}
-use Rattle.gated_tree.specs.{Refusals.FileHonest, declared.{nodes.NodeWord.NodeWord, opens.{OpenFile.OpenFile, OpenStep.OpenStep}, phases.TreePhase.TreePhase}}
+use Rattle.node_words.proofs.Refused.{size_loaded}
+use Rattle.node_words.specs.Nodes.{word_of, opens_in, as_file, unpacked, file_in}
+use Rattle.node_words.specs.Phases.{after_look}
+use Rattle.gated_tree.specs.Phases.{at_open, opens_from, open_after, open_next}
+use Rattle.node_words.specs.declared.nodes.NodeWord.{NodeWord}
+use Rattle.gated_tree.specs.Refusals.{FileHonest}
+use Rattle.gated_tree.specs.declared.opens.OpenFile.{OpenFile}
+use Rattle.gated_tree.specs.declared.opens.OpenStep.{OpenStep}
+use Rattle.gated_tree.specs.declared.phases.TreePhase.{TreePhase}
 use Rattle.tree_laws.{proofs.Ends.open_ends, specs.Ends.{IsReply, where_done}}
 use Rattle.gate_world.specs.{Configs.IsWithin, Courses.{IsTrace, MayFind, OpenMayFind, course_of}, Found.SeenIn, Operations.first_open}
 use Rattle.gate_world.specs.{Traces.{actions_of, IsShort, Tells, most_events}, Views.with_hook, Work.next_of}

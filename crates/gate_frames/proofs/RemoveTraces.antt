@@ -3,8 +3,13 @@ use Rattle.std.proofs.{Common.{◌≡◌, ℕ, ◌<◌, ◌≤◌, Bool, false, 
 use Rattle.std.specs.Prelude.{◌==◌, Result, Ok, Err, List, ◌∷◌, length}
 use Rattle.access_model.specs.declared.{actions.Action.Action, errors.GateError.GateError, replies.{Next.Next, Reply.Reply}}
 use Rattle.cpu_words.specs.{Touches.found_by, declared.events.Event.Event}
-use Rattle.gated_tree.specs.{Nodes.{word_of, as_file, unpacked, file_in}, Phases.{at_remove, removes_file, remove_after, remove_next}, Refusals.FileHonest}
-use Rattle.gated_tree.specs.declared.{changes.{Remove.Remove, RemoveStep.RemoveStep}, nodes.NodeWord.NodeWord, phases.TreePhase.TreePhase}
+use Rattle.node_words.specs.Nodes.{word_of, as_file, unpacked, file_in}
+use Rattle.gated_tree.specs.Phases.{at_remove, removes_file, remove_after, remove_next}
+use Rattle.gated_tree.specs.Refusals.{FileHonest}
+use Rattle.node_words.specs.declared.nodes.NodeWord.{NodeWord}
+use Rattle.gated_tree.specs.declared.changes.Remove.{Remove}
+use Rattle.gated_tree.specs.declared.changes.RemoveStep.{RemoveStep}
+use Rattle.gated_tree.specs.declared.phases.TreePhase.{TreePhase}
 use Rattle.tree_laws.{proofs.Ends.remove_ends, specs.Ends.{IsReply, RemoveKnows, remove_added, where_done}}
 use Rattle.gate_world.specs.{Configs.IsWithin, Courses.{IsTrace, MayHold, MayFind, course_of}, Found.SeenIn, Operations.first_remove}
 use Rattle.gate_world.specs.{Traces.{actions_of, IsShort, Tells, most_events}, Views.with_hook, Work.next_of}

@@ -4,7 +4,8 @@ use Rattle.std.proofs.lemmas.Bool.{cases_Bool, cases_lt, lt-ltb, le-ltb}
 use Rattle.std.specs.Prelude.{◌==◌, Ok, Err, List, [], ◌∷◌, length}
 use Rattle.access_model.specs.declared.{actions.Action.Action, errors.GateError.GateError, replies.{Next.Next, Reply.Reply}}
 use Rattle.cpu_words.specs.{Hooks.HookAnswer, Touches.found_by, declared.events.Event.Event}
-use Rattle.gated_tree.specs.{Nodes.node_after, Phases.{at_snapshot, kids_step, node_step, snapshot_after, snapshot_locked_out, snapshot_next}}
+use Rattle.node_words.specs.Nodes.{node_after}
+use Rattle.gated_tree.specs.Phases.{at_snapshot, kids_step, node_step, snapshot_after, snapshot_locked_out, snapshot_next}
 use Rattle.gated_tree.specs.{Refusals.SnapshotHonest, declared.{phases.TreePhase.TreePhase, snapshots.{Snapshot.Snapshot, SnapshotStep.SnapshotStep}}}
 use Rattle.tree_laws.{proofs.Ends.snapshot_ends, specs.Ends.{IsReply, SnapshotKnows}}
 use Rattle.gate_world.specs.{Configs.IsWithin, Courses.{IsTrace, MayHold, MayFind, course_of}, Found.{SeenIn, each_event, finds_taken}}

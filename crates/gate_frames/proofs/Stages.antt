@@ -9,7 +9,8 @@ use Rattle.gate_frames.proofs.{ByPhase.{freeze_owner, shown_passed, snapshot_own
 use Rattle.gate_world.specs.{Configs.model_limits, Holdings.Holdings, Remounts.remount_owns, Roles.remount_stage_role, Rules.{Holds, IsGood, Owner, Stages}}
 use Rattle.gate_world.specs.{Rules.{marks_of, owns, stage_role_of, stage_roles}, Shown.shown, Views.{has_open, held_at, held_of, holds_level}, Worlds.World}
 use Rattle.gate_world.specs.declared.{config.Config.Config, views.View.View, work.Phase.Phase}
-use Rattle.gated_tree.specs.{Nodes.{dirty_in, node_shown}, declared.phases.TreePhase.TreePhase}
+use Rattle.node_words.specs.Nodes.{dirty_in, node_shown}
+use Rattle.gated_tree.specs.declared.phases.TreePhase.{TreePhase}
 use Rattle.mount_counts.specs.{Roles.ro_bit, declared.remounts.RemountStep.RemountStep}
 use Rattle.stage_laws.proofs.Whole.{actions_are_allowed, actions_have_their_effect, events_keep}
 use Rattle.stage_laws.specs.{Events.{Happens, Holds as StageHolds, IsAlike, Shows, StageEvent, Stages as StageMoment, action_of}, Roles.{Owning, StageRole}}

@@ -10,7 +10,9 @@ use Rattle.gate_world.specs.Roles.{nodes_noted, place_of, remount_stage_role, re
 use Rattle.gate_world.specs.{Roles.tree_stage_role, Rules.{Fitting, Holds, IsGood, Stages, Tree, marks_of, stage_role_of, stage_roles}}
 use Rattle.gate_world.specs.{Snapshots.values_noted, Trees.{is_bare_at, is_sealed, tree_bounds, tree_of, tree_role_of, tree_roles}, Views.held_of}
 use Rattle.gate_world.specs.{Worlds.World, declared.{config.Config.Config, views.{Traced.Traced, View.View}, work.Phase.{Phase, TheVariants.Closes}}}
-use Rattle.gated_tree.specs.{Calls.{phase_role, snapshot_role}, Nodes.{dirty_in, kind_in, node_shown}, Roles.{AreWithin, Clearing, NobodyReads, RoleHolds}}
+use Rattle.node_words.specs.Nodes.{dirty_in, kind_in, node_shown}
+use Rattle.gated_tree.specs.Calls.{phase_role, snapshot_role}
+use Rattle.gated_tree.specs.Roles.{AreWithin, Clearing, NobodyReads, RoleHolds}
 use Rattle.gated_tree.specs.{Roles.{TreeHolds, TreeState, sealed_by, words_read}, declared.{phases.TreePhase.TreePhase, snapshots.Snapshot.Snapshot}}
 use Rattle.gated_tree.specs.declared.snapshots.SnapshotStep.{SnapshotStep}
 use Rattle.mount_counts.specs.declared.remounts.RemountStep.{RemountStep}

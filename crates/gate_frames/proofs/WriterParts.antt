@@ -14,7 +14,7 @@ use Rattle.gate_world.specs.{Alike.{Roles, no_roles, roles_of}, Roles.{freeze_ow
 use Rattle.gate_world.specs.Rules.{Fitting, Holding, Holds, IsGood, Known, Moves, Owner, OwnerHolds, Part, Sections, Stages, StepKeeps, SyncAt, Tree, ViewFits}
 use Rattle.gate_world.specs.{Rules.{owns, stage_role_of, stage_roles}, Shown.shown, Views.{added_by, has_open, held_of, phase_after, taken_by}, Worlds.World}
 use Rattle.gate_world.specs.{Worlds.{after_step, phase_action, value_at}, declared.{config.Config.Config, views.View.View, work.Phase.Phase}}
-use Rattle.gated_tree.specs.Nodes.{node_shown, opens_in}
+use Rattle.node_words.specs.Nodes.{node_shown, opens_in}
 use Rattle.percpu_rwsem.specs.{Graces.looked, SyncWords.{is_passed, on_callback, on_enter, unpack}, Transitions.transition_after, Writers.at_down_write}
 use Rattle.percpu_rwsem.specs.Writers.{callback_step, down_write_after, down_write_next, down_write_summed, enter_step, passed_awaited, sections_awaited}
 use Rattle.percpu_rwsem.specs.{Writers.sum_begun, declared.{grace.GraceNext.GraceNext, sync_word.SyncWord.SyncWord, transitions.Transition.Transition}}

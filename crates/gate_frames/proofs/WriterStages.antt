@@ -3,7 +3,8 @@ use Rattle.std.{proofs.{Common.{◌≡◌, ℕ, ◌<◌, refl, sym, ap, ◌∙�
 use Rattle.finite_sums.{proofs.Totals.update_same, specs.Sums.update}
 use Rattle.access_model.specs.{Actions.after_action, declared.actions.Action.Action}
 use Rattle.cpu_words.specs.Words.{Words}
-use Rattle.gated_tree.specs.{Nodes.dirty_in, Roles.{TreeState, sealed_by}}
+use Rattle.node_words.specs.Nodes.{dirty_in}
+use Rattle.gated_tree.specs.Roles.{TreeState, sealed_by}
 use Rattle.tree_laws.specs.Events.{Event, Opens}
 use Rattle.freeze_levels.specs.Holders.{holders_in}
 use Rattle.stage_laws.specs.{Events.{playing, StageEvent, Stays, action_of as stage_action_of}, Roles.StageRole}

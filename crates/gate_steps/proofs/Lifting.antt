@@ -15,8 +15,12 @@ use Rattle.gate_world.specs.declared.{views.{View.View, Snapshot.Snapshot}, work
 use Rattle.moment_laws.specs.Moments.{HaveDone}
 use Rattle.gate_frames.proofs.{MayHolds.events_may_be, Snapshots.others_apart}
 use Rattle.operation_laws.proofs.{Frozen.frozen_whole, Layers.phase_keeps}
-use Rattle.gate_core.proofs.{Beginnings.may_begin, Lists.{beside_lists, begin_lists}, Phases.word_there, Schedule.begun_keeps}
-use Rattle.gate_core.proofs.{Schedule.legal_more, Snapshots.{beside_moments, begin_moments}}
+use Rattle.gate_schedules.proofs.Beginnings.{may_begin}
+use Rattle.gate_schedules.proofs.Lists.{beside_lists, begin_lists}
+use Rattle.gate_schedules.proofs.Phases.{word_there}
+use Rattle.gate_schedules.proofs.Schedule.{begun_keeps}
+use Rattle.gate_schedules.proofs.Schedule.{legal_more}
+use Rattle.gate_schedules.proofs.Snapshots.{beside_moments, begin_moments}
 use Rattle.gate_steps.proofs.{Dealing.{times-at, known_here, inside, redealt}, Reaching.{begun_reached, stepped_reached}, Stores.there_found}
 use Rattle.gate_steps.proofs.TableWords.{table_written}
 use Rattle.gate_steps.specs.{Histories.HasHistory, Rules.{table_index, table_length, TableShows, IsReached, Held}, Seating.{SeatItems, HaveViews, MayStep}}

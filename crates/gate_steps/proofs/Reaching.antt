@@ -8,7 +8,7 @@ use Rattle.gate_world.specs.{Beginnings.{first_phase, refusal, view_refusal}, Ho
 use Rattle.gate_world.specs.{Views.{view_after, view_after_beside}, Work.{next_of, after_of}, Worlds.{World, Begins, Steps, after_begin, value_at, found_at}}
 use Rattle.gate_world.specs.{Worlds.{words_after, after_step, after_step_beside, run, opening}, declared.{config.Config.Config, operations.Op.Op}}
 use Rattle.gate_world.specs.declared.{views.View.View, work.Phase.Phase}
-use Rattle.gate_core.proofs.Runs.{run_more}
+use Rattle.gate_schedules.proofs.Runs.{run_more}
 use Rattle.gate_steps.specs.{Rules.{IsLike, IsReached}, Seating.renewed}
 
 -- views that agree agree after one of each is replaced by views that agree

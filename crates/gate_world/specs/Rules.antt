@@ -9,7 +9,8 @@ use Rattle.gate_world.specs.Roles.{freeze_holder_role, freeze_owns, freeze_stage
 use Rattle.gate_world.specs.Roles.{thaw_stage_role, tree_owns, tree_stage_role, write_role}
 use Rattle.gate_world.specs.{Trees.{is_bare_at, is_sealed, tree_bounds, tree_of, tree_role_of}, Views.{added_by, has_open, held_at, held_of, taken_by}}
 use Rattle.gate_world.specs.{Worlds.{World, after_step, phase_action}, declared.{config.Config.Config, views.View.View, work.Phase.Phase}}
-use Rattle.gated_tree.specs.{Nodes.{dirty_in, opens_in}, Roles.TreeHolds}
+use Rattle.node_words.specs.Nodes.{dirty_in, opens_in}
+use Rattle.gated_tree.specs.Roles.{TreeHolds}
 use Rattle.holder_laws.specs.Roles.{Apart, HolderRole, HoldersHold}
 use Rattle.level_laws.specs.Roles.{SyncNumberHolds}
 use Rattle.mount_counts.specs.Roles.{MountHolds, MountView, Out, Role}

@@ -1,7 +1,7 @@
 -- The shown model: what words and views show of the access model.
 use Rattle.std.specs.Prelude.{ℕ, ◌+◌, ◌&&◌, ◌||◌, ◌==◌, if◌then◌else◌, Option, Some}
 use Rattle.access_model.specs.States.{State}
-use Rattle.gated_tree.specs.Nodes.{node_shown}
+use Rattle.node_words.specs.Nodes.{node_shown}
 use Rattle.mount_counts.specs.Roles.{ro_bit}
 use Rattle.freeze_levels.specs.Holders.{holders_in}
 use Rattle.finite_sums.specs.Sums.{total}

@@ -28,24 +28,17 @@ use Rattle.gated_tree.specs.declared.growth.GrowStep.TheVariants.{LoadsFile as L
 use Rattle.gated_tree.specs.declared.marks.Mark.{Mark}
 use Rattle.gated_tree.specs.declared.marks.MarkStep.{MarkStep}
 use Rattle.gated_tree.specs.declared.marks.MarkStep.TheVariants.{LoadsFile as LoadsFileToMark, MarksFile}
-use Rattle.gated_tree.specs.declared.marks.ClearMarks.{ClearMarks}
 use Rattle.gated_tree.specs.declared.opens.OpenFile.{OpenFile}
 use Rattle.gated_tree.specs.declared.opens.OpenStep.{OpenStep}
 use Rattle.gated_tree.specs.declared.opens.OpenStep.TheVariants.{LoadsFile as LoadsFileToOpen, OpensFile}
 use Rattle.gated_tree.specs.declared.snapshots.Snapshot.{Snapshot}
 use Rattle.gated_tree.specs.declared.snapshots.SnapshotStep.{SnapshotStep}
 use Rattle.gated_tree.specs.declared.snapshots.SnapshotStep.TheVariants.{Locks, LoadsStage, LoadsUsed as LoadsUsedWord, LoadsNode as LoadsNodeWord, LoadsKids, Releases}
-use Rattle.gated_tree.specs.declared.nodes.NodeWord.{NodeWord}
+use Rattle.node_words.specs.declared.nodes.NodeWord.{NodeWord}
 use Rattle.gated_tree.specs.declared.phases.TreePhase.{TreePhase}
 use Rattle.gated_tree.specs.declared.phases.TreePhase.TheVariants.{Create as Creates, Remove as Removes, Grow as Grows, MoveTo as Moves, Mark as Marks, OpenFile as OpensOne, Snapshot as Snapshots, ClearMarks as Clears}
-use Rattle.gated_tree.specs.Nodes.{word_of, unpacked, dirty_in, new_node, grown_node, moved_node, marked_node, opened_node, unlinked_node, file_in, directory_in, node_after}
-
--- What comes after a load of a node that a call needs to be of a kind: the call goes on with the node, or it is refused. A word that is
--- no node's is loaded again, which never happens behind the gates.
-abbrev pub after_look : {A P : Type 0} → P → (A → P) → Option (Result A GateError) → Next P
-after_look again to None = Go again
-after_look again to (Some (Ok a)) = Go (to a)
-after_look again to (Some (Err refusal)) = Done (Err refusal)
+use Rattle.node_words.specs.Phases.{after_look, clear_next, clear_after}
+use Rattle.node_words.specs.Nodes.{word_of, unpacked, dirty_in, new_node, grown_node, moved_node, marked_node, opened_node, unlinked_node, file_in, directory_in, node_after}
 
 -- Create: find the directory, and a free node; charge a child to the directory, and take the node. Where it was taken meanwhile, the
 -- child is subtracted again.
@@ -274,22 +267,6 @@ snapshot_after s (LoadsNodeWord node) found = (
 )
 snapshot_after s (LoadsKids node) found = (Go (at_snapshot s (kids_step (node_after node s.nodes))), None)
 snapshot_after s (Releases answer) found = (Done answer, None)
-
--- Clear marks: an `and` with not 4 of each node but the root.
-abbrev pub clear_next : ClearMarks → WordName × Touch
-clear_next x = (Node x.node, And 18446744073709551611)
-
--- the clearing at this node, or at none: it has ended
-abbrev pub clears_at : ClearMarks → Option ℕ → Next ClearMarks
-clears_at x (Some node) = Go (record x { node = node })
-clears_at x None = Done (Ok UnitReply)
-
--- what comes after an event of a clearing: a node whose mark was set is clean now
-abbrev pub clear_after : ClearMarks → ℕ → Next ClearMarks × Option Action
-clear_after x found = (
-  clears_at x (node_after x.node x.nodes),
-  if dirty_in found == 1 then Some (Clean x.node) else None,
-)
 
 -- the word and the touch of the next event
 abbrev pub next : TreePhase → HookAnswer → WordName × Touch

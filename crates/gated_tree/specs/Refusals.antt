@@ -12,7 +12,7 @@ use Rattle.gated_tree.specs.declared.changes.Create.{Create}
 use Rattle.gated_tree.specs.declared.changes.MoveTo.{MoveTo}
 use Rattle.gated_tree.specs.declared.growth.Grow.{Grow}
 use Rattle.gated_tree.specs.declared.snapshots.Snapshot.{Snapshot}
-use Rattle.gated_tree.specs.Nodes.{kind_in, removed_in, size_in}
+use Rattle.node_words.specs.Nodes.{kind_in, removed_in, size_in}
 
 -- the event loads this node
 abbrev pub loads_node : ℕ → WordName → Touch → Bool

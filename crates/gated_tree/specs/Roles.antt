@@ -4,8 +4,8 @@ use Rattle.finite_sums.specs.Sums.{total}
 use Rattle.access_model.specs.declared.actions.Kind.TheVariants.{File}
 use Rattle.access_model.specs.declared.actions.NodeInfo.{NodeInfo}
 use Rattle.access_model.specs.States.{size_of, is_dirty, is_removed, one_if, IsDirectory}
-use Rattle.gated_tree.specs.declared.nodes.NodeWord.{NodeWord}
-use Rattle.gated_tree.specs.Nodes.{IsNode, word_of, node_shown}
+use Rattle.node_words.specs.declared.nodes.NodeWord.{NodeWord}
+use Rattle.node_words.specs.Nodes.{IsNode, word_of, node_shown}
 use Rattle.gated_tree.specs.Trees.{is_same, is_child}
 
 -- What a task is doing at the tree. `file` is its file's node as it was loaded, `dir` a directory's number, `blocks` a charge.

@@ -9,7 +9,7 @@ use Rattle.gated_tree.specs.declared.trees.Tree.{Tree}
 use Rattle.gated_tree.specs.declared.trees.TreeWords.{TreeWords}
 use Rattle.gated_tree.specs.declared.snapshots.SnapshotStep.{SnapshotStep}
 use Rattle.gated_tree.specs.declared.snapshots.SnapshotStep.TheVariants.{LoadsKids}
-use Rattle.gated_tree.specs.Nodes.{node_shown, node_after}
+use Rattle.node_words.specs.Nodes.{node_shown, node_after}
 
 -- the words of a snapshot
 unfoldable pub words_of : Tree → TreeWords

@@ -2,12 +2,12 @@
 
 ghost use Rattle.std.specs.Prelude.{◌≡◌};
 ghost use Rattle.access_model.specs.declared.replies.Next.TheVariants.{Go};
-ghost use Rattle.gated_tree.specs.Nodes.{new_node, unpacked};
+ghost use Rattle.node_words.specs.Nodes.{new_node, unpacked};
 ghost use Rattle.gated_tree.specs.Phases.{create_next, at_create, create_past, create_looked, create_after, remove_next, at_remove, remove_after, move_next, at_move, move_after};
 
-use crate::nodes::{NodeWord, following};
 use access_model::{Action, GateError, Kind, Next, Reply};
 use cpu_words::{Touch, WordName};
+use node_words::{NodeWord, following};
 
 /// What the next event of a create is.
 #[derive(Clone, Copy, PartialEq, Eq)]

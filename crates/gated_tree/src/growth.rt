@@ -2,12 +2,12 @@
 
 ghost use Rattle.std.specs.Prelude.{◌≡◌};
 ghost use Rattle.access_model.specs.declared.replies.Next.TheVariants.{Go};
-ghost use Rattle.gated_tree.specs.Nodes.{grown_node};
+ghost use Rattle.node_words.specs.Nodes.{grown_node};
 ghost use Rattle.gated_tree.specs.Phases.{grow_next, at_grow, grow_from, grow_after};
 
-use crate::nodes::NodeWord;
 use access_model::{Action, GateError, Next, Reply};
 use cpu_words::{Touch, WordName};
+use node_words::NodeWord;
 
 /// What the next event of a grow is. `file` is the file's node as it was loaded.
 #[derive(Clone, Copy, PartialEq, Eq)]

@@ -1,11 +1,10 @@
-//! The tree behind the gates: its node words, the orders of events of the calls that change it or take a snapshot of it, and what a
-//! snapshot loads. A phase says which event comes next, and what comes after it.
+//! The tree behind the gates: the orders of events of the calls that change it or take a snapshot of it, and what a snapshot loads. A phase
+//! says which event comes next, and what comes after it.
 #![tactic(auto)]
 
 pub mod changes;
 pub mod growth;
 pub mod marks;
-pub mod nodes;
 pub mod opens;
 pub mod phases;
 pub mod snapshots;
@@ -13,8 +12,8 @@ pub mod trees;
 
 pub use changes::{Create, CreateStep, MoveStep, MoveTo, Remove, RemoveStep};
 pub use growth::{Grow, GrowStep};
-pub use marks::{ClearMarks, Mark, MarkStep};
-pub use nodes::NodeWord;
+pub use marks::{Mark, MarkStep};
+pub use node_words::{ClearMarks, NodeWord};
 pub use opens::{OpenFile, OpenStep};
 pub use phases::TreePhase;
 pub use snapshots::{Snapshot, SnapshotStep};

@@ -1,11 +1,11 @@
-//! Dirty marks: of one file, set by a page fault or cleared by a write-back, and of all files, cleared one after the other.
+//! The dirty mark of one file, set by a page fault or cleared by a write-back.
 
 ghost use Rattle.std.specs.Prelude.{◌≡◌};
-ghost use Rattle.gated_tree.specs.Phases.{mark_next, mark_done, mark_after, clear_next, clear_after};
+ghost use Rattle.gated_tree.specs.Phases.{mark_next, mark_done, mark_after};
 
-use crate::nodes::{NodeWord, following};
 use access_model::{Action, GateError, Next, Reply};
 use cpu_words::{Touch, WordName};
+use node_words::NodeWord;
 
 /// What the next event of a mark is.
 #[derive(Clone, Copy, PartialEq, Eq)]
@@ -23,13 +23,6 @@ pub struct Mark {
     pub file: u8,
     pub dirty: bool,
     pub step: MarkStep,
-}
-
-/// A clearing of all dirty marks under way, at this node of so many (`sync_filesystem`). The root has no mark.
-#[derive(Clone, Copy, PartialEq, Eq)]
-pub struct ClearMarks {
-    pub node: u8,
-    pub nodes: u8,
 }
 
 impl Mark {
@@ -77,38 +70,5 @@ impl Mark {
             MarkStep::MarksFile(_) => Next::Done(Err(GateError::Again)),
         };
         (next, None)
-    }
-}
-
-impl ClearMarks {
-    /// A clearing that begins, of so many nodes.
-    pub fn start(nodes: u8) -> ClearMarks
-        ensures { result ≡ record { node = 1; nodes = nodes } }
-    {
-        ClearMarks { node: 1, nodes }
-    }
-
-    /// The word and the touch of the next event.
-    pub fn next(self) -> (WordName, Touch)
-        ensures { result ≡ clear_next self }
-    {
-        (WordName::Node(self.node), Touch::And(!NodeWord::DIRTY))
-    }
-
-    /// What comes after the event, which found this, and the action that the event adds: Clean, where the mark was set. The last
-    /// node's event ends it.
-    pub fn after(self, found: u64) -> (Next<ClearMarks>, Option<Action>)
-        ensures { result ≡ clear_after self found }
-    {
-        let next = match following(self.node, self.nodes) {
-            Some(node) => Next::Go(ClearMarks { node, ..self }),
-            None => Next::Done(Ok(Reply::Unit)),
-        };
-        let cleaned = if NodeWord::fields(found).dirty {
-            Some(Action::Clean(self.node))
-        } else {
-            None
-        };
-        (next, cleaned)
     }
 }

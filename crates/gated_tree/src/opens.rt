@@ -1,12 +1,12 @@
 //! The call that opens a file.
 
 ghost use Rattle.std.specs.Prelude.{◌≡◌};
-ghost use Rattle.gated_tree.specs.Nodes.{opened_node};
+ghost use Rattle.node_words.specs.Nodes.{opened_node};
 ghost use Rattle.gated_tree.specs.Phases.{open_next, open_after};
 
-use crate::nodes::NodeWord;
 use access_model::{Action, GateError, Next, Reply};
 use cpu_words::{Touch, WordName};
+use node_words::NodeWord;
 
 /// The most tasks that may have one file open.
 const MOST_OPENS: u8 = 64;

@@ -5,11 +5,12 @@ ghost use Rattle.gated_tree.specs.Phases.{next, after};
 
 use crate::changes::{Create, MoveTo, Remove};
 use crate::growth::Grow;
-use crate::marks::{ClearMarks, Mark};
+use crate::marks::Mark;
 use crate::opens::OpenFile;
 use crate::snapshots::Snapshot;
 use access_model::{Action, Next, map_after};
 use cpu_words::{Touch, WordName};
+use node_words::ClearMarks;
 
 /// Where a call at the tree stands between two of its events.
 #[derive(Clone, Copy, PartialEq, Eq)]

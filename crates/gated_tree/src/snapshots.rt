@@ -3,13 +3,13 @@
 
 ghost use Rattle.std.specs.Prelude.{◌≡◌};
 ghost use Rattle.access_model.specs.declared.replies.Next.TheVariants.{Go};
-ghost use Rattle.gated_tree.specs.Nodes.{node_after};
+ghost use Rattle.node_words.specs.Nodes.{node_after};
 ghost use Rattle.gated_tree.specs.Trees.{loads_last};
 ghost use Rattle.gated_tree.specs.Phases.{snapshot_next, at_snapshot, node_step, kids_step, snapshot_after};
 
-use crate::nodes::{NodeWord, following};
 use access_model::{Action, GateError, Next, Reply};
 use cpu_words::{Touch, WordName};
+use node_words::{NodeWord, following};
 
 /// The stage at which all is frozen (`SB_FREEZE_COMPLETE`).
 const FROZEN: u64 = 4;

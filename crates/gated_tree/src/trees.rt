@@ -4,9 +4,9 @@
 ghost use Rattle.std.specs.Prelude.{◌≡◌, ◌<◌, ◌^◌, ◌↔◌, IsTrue, IfOk, OnSome, length, slice_index, vec_len};
 ghost use Rattle.access_model.specs.States.{is_dirty};
 
-use crate::nodes::NodeWord;
 use access_model::{Kind, NodeInfo};
 use cpu_words::WordName;
+use node_words::NodeWord;
 use std::alloc::{AllocError, Global};
 use std::collections::LinkedList;
 

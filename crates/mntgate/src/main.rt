@@ -10,18 +10,18 @@ use std::process::ExitCode;
 fn main(rt: HostRuntime) -> Result<ExitCode> {
     let alloc = rt.alloc();
     let (mut reader, mut writer, mut errors) = (rt.stdin(), rt.stdout(), rt.stderr());
-    let person = Person {
-        watches: if errors.is_terminal() {
-            Some(rt.stderr())
-        } else {
-            None
-        },
-        types: reader.is_terminal(),
-    };
     let ending = match std::env::args(&rt) {
         Ok(words) => {
             let words: Vec<String> = words.collect(alloc)?;
-            run(
+            let person = Person {
+                watches: if errors.is_terminal() {
+                    Some(rt.stderr())
+                } else {
+                    None
+                },
+                types: reader.is_terminal(),
+            };
+            let ended = run(
                 &rt,
                 alloc,
                 words.as_slice(),
@@ -29,7 +29,10 @@ fn main(rt: HostRuntime) -> Result<ExitCode> {
                 &mut writer,
                 &mut errors,
                 person,
-            )?
+            );
+            // Before any way out, so that it is dropped in one place.
+            drop(words);
+            ended?
         }
         Err(error) => unreadable(&error, &mut errors),
     };

@@ -1,7 +1,8 @@
 -- The causes and the waits of a close: those of a down-read of level 3, where it is a last one.
 use Rattle.std.{proofs.{Common.{◌≡◌, ℕ, ap, inl, inr}, lemmas.Bool.cases_Bool}, specs.Prelude.{◌==◌, ◌&&◌, Option, Some, None, Result, Ok, Err, List, ◌∷◌}}
 use Rattle.access_model.specs.{Replies.map_next, declared.{errors.GateError.GateError, replies.Next.Next}}
-use Rattle.gated_tree.specs.{Phases.after_look, declared.nodes.NodeWord.NodeWord}
+use Rattle.node_words.specs.Phases.{after_look}
+use Rattle.node_words.specs.declared.nodes.NodeWord.{NodeWord}
 use Rattle.percpu_rwsem.specs.declared.readers.DownRead.{DownRead}
 use Rattle.file_closes.specs.{Phases.{then_frees, closed_from}, declared.phases.{ClosePhase.ClosePhase, Closing.Closing}}
 use Rattle.gate_world.specs.{Causes.{asks_level, last_asked, WasClosed}, KeptCauses.CauseOf, Views.phase_after, Waits.HasReason, Worlds.World}

@@ -4,8 +4,9 @@ use Rattle.std.proofs.lemmas.Bool.{cases_Bool, Decides.{eqb_tells, nat_tests}}
 use Rattle.std.specs.Prelude.{◌==◌, ◌&&◌, Option, Some, None, Result, Ok, Err, if◌then◌else◌}
 use Rattle.access_model.specs.{Replies.map_next, declared.{actions.{Action.Action, Kind.Kind}, errors.GateError.GateError, replies.Next.Next}}
 use Rattle.cpu_words.specs.{Hooks.HookAnswer, Names.IsWord}
-use Rattle.gated_tree.specs.Nodes.{any_file_in, as_any_file, is_stray, node_of, kind_in, kind_of, dirty_in, removed_in, opens_in, IsLawful, word_of}
-use Rattle.gated_tree.specs.{Phases.after_look, declared.nodes.NodeWord.NodeWord}
+use Rattle.node_words.specs.Nodes.{any_file_in, as_any_file, is_stray, node_of, kind_in, kind_of, dirty_in, removed_in, opens_in, IsLawful, word_of}
+use Rattle.node_words.specs.Phases.{after_look}
+use Rattle.node_words.specs.declared.nodes.NodeWord.{NodeWord}
 use Rattle.percpu_rwsem.specs.{Readers.down_read_after, declared.readers.DownRead.DownRead}
 use Rattle.file_closes.specs.{Phases.{next, after, closed_from, then_frees, leaves_on}, declared.phases.{ClosePhase.ClosePhase, Closing.Closing}}
 use Rattle.gate_world.specs.{Holdings.{Holdings, held_after, Agree}, Configs.IsWithin, Fits.{Fits, CloseFits, ClosingFits, ActionFits}, Views.phase_after}

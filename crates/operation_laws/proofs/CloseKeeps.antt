@@ -2,7 +2,7 @@
 use Rattle.std.{proofs.{Common.{◌≡◌, ℕ, ◌<◌, ◌≤◌, ◌∙◌, refl, ap, inl, inr}, lemmas.Bool.cases_Bool}, specs.Prelude.{◌==◌, Some, Ok, List, ◌∷◌}}
 use Rattle.access_model.specs.{Replies.map_next, declared.replies.{Next.Next, Reply.Reply}}
 use Rattle.cpu_words.specs.Hooks.{HookAnswer}
-use Rattle.gated_tree.specs.Nodes.{any_file_in, word_of}
+use Rattle.node_words.specs.Nodes.{any_file_in, word_of}
 use Rattle.percpu_rwsem.specs.{Readers.down_read_after, declared.readers.DownRead.DownRead}
 use Rattle.level_laws.specs.{Events.SyncStep, Roles.closed}
 use Rattle.file_closes.specs.{Phases.{after, then_frees, leaves_on}, declared.phases.ClosePhase.ClosePhase}

@@ -12,9 +12,12 @@ use Rattle.gate_world.specs.{Alike.no_roles, LevelRuns.level_in, Roles.close_tre
 use Rattle.gate_world.specs.{Trees.{is_bare_at, is_sealed, tree_bounds, tree_role_of, tree_roles}, Views.{has_open, held_of, phase_after, view_after}}
 use Rattle.gate_world.specs.{Worlds.{World, after_step, found_at, value_at}, declared.{config.Config.Config, views.{Traced.Traced, View.View}}}
 use Rattle.gate_world.specs.declared.work.Phase.{Phase}
-use Rattle.gated_tree.proofs.Words.{word_opens, word_shows}
-use Rattle.gated_tree.specs.{Calls.role_after, Nodes.{any_file_in, info_of, node_shown, opens_in, word_of}, Phases.after_look, Roles.{Dropped, Freeing}}
-use Rattle.gated_tree.specs.declared.nodes.NodeWord.{NodeWord}
+use Rattle.node_words.proofs.Words.{word_opens, word_shows}
+use Rattle.node_words.specs.Nodes.{any_file_in, info_of, node_shown, opens_in, word_of}
+use Rattle.node_words.specs.Phases.{after_look}
+use Rattle.gated_tree.specs.Calls.{role_after}
+use Rattle.gated_tree.specs.Roles.{Dropped, Freeing}
+use Rattle.node_words.specs.declared.nodes.NodeWord.{NodeWord}
 use Rattle.level_laws.specs.Events.{SyncStep}
 use Rattle.operation_laws.proofs.CloseFits.{close_goes}
 use Rattle.std.proofs.{Common.{Bool, ap, arith, false, inl, inr, refl, subst, sym, true, true≢false, ℕ, ◌<◌, ◌∙◌, ◌≡◌}, lemmas.Bool.cases_Bool}

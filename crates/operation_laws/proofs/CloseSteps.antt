@@ -12,7 +12,9 @@ use Rattle.gate_world.specs.{Holdings.held_after, LevelRuns.level_in, Rules.{Fil
 use Rattle.gate_world.specs.{Trees.{tree_bounds, tree_of, tree_role_of, tree_roles}, Views.{has_open, held_of, phase_after, view_with}, Work.after_of}
 use Rattle.gate_world.specs.{Work.next_of, Worlds.{World, found_at, words_after}, declared.{config.Config.Config, views.{Traced.Traced, View.View}}}
 use Rattle.gate_world.specs.declared.work.Phase.{Phase}
-use Rattle.gated_tree.specs.{Nodes.opens_in, Roles.{Freeing, Out as OffTree, TreeHolds, charge, child_charge, removal}, declared.nodes.NodeWord.NodeWord}
+use Rattle.node_words.specs.Nodes.{opens_in}
+use Rattle.node_words.specs.declared.nodes.NodeWord.{NodeWord}
+use Rattle.gated_tree.specs.Roles.{Freeing, Out as OffTree, TreeHolds, charge, child_charge, removal}
 use Rattle.level_laws.specs.Events.{SyncStep}
 use Rattle.operation_laws.proofs.{CloseFits.enters_fits, ReadKeeps.{end_phase, read_phase}}
 use Rattle.percpu_rwsem.specs.{Readers.{at_down_read, down_read_after}, declared.readers.{DownRead.DownRead, DownReadStep.DownReadStep}}

@@ -3,8 +3,10 @@ use Rattle.std.proofs.{Common.{◌≡◌, ℕ, ◌≤◌, Bool, true, false, ref
 use Rattle.std.specs.Prelude.{◌==◌, ◌&&◌, Option, Some, None, Result, Ok, Err, List, [], ◌∷◌, length, is_some}
 use Rattle.access_model.specs.{Replies.map_next, declared.{actions.{Action.Action, Gate.Gate}, errors.GateError.GateError, replies.Next.Next}}
 use Rattle.cpu_words.specs.{Hooks.HookAnswer, Touches.{event_of, found_by}}
-use Rattle.gated_tree.proofs.Refused.{any_file_refused}
-use Rattle.gated_tree.specs.{Nodes.{any_file_in, as_any_file, kind_in, opens_in, unpacked, word_of}, Phases.after_look, declared.nodes.NodeWord.NodeWord}
+use Rattle.node_words.proofs.Refused.{any_file_refused}
+use Rattle.node_words.specs.Nodes.{any_file_in, as_any_file, kind_in, opens_in, unpacked, word_of}
+use Rattle.node_words.specs.Phases.{after_look}
+use Rattle.node_words.specs.declared.nodes.NodeWord.{NodeWord}
 use Rattle.percpu_rwsem.specs.{Readers.{down_read_next, down_read_after}, declared.readers.{DownRead.DownRead, DownReadStep.DownReadStep}}
 use Rattle.file_closes.specs.{Phases.{closed_from, then_frees}, declared.phases.ClosePhase.ClosePhase}
 use Rattle.gate_world.specs.{Courses.{CloseMayFind, MayFind, MayHold}, Found.found_dropped, Operations.first_close, Traces.{IsHonest, IsShort, most_events}}

@@ -15,8 +15,9 @@ use Rattle.gate_world.specs.{Roles.{closed_to, freeze_holder_role, freeze_stage_
 use Rattle.gate_world.specs.{Rules.{holder_role_of, marks_of, owns, stage_role_of}, Shown.shown, Trees.{tree_role_of, tree_roles}, Views.actions_after}
 use Rattle.gate_world.specs.{Views.{added_by, held_of, holds_level, phase_after, taken_by, view_with}, Worlds.World, declared.config.Config.Config}
 use Rattle.gate_world.specs.declared.{views.View.View, work.Phase.Phase}
-use Rattle.gated_tree.proofs.ClearedMarks.{directory_clean}
-use Rattle.gated_tree.specs.{Nodes.IsNode, Roles.{Clearing, Out as OffTree}}
+use Rattle.node_words.proofs.ClearedMarks.{directory_clean}
+use Rattle.node_words.specs.Nodes.{IsNode}
+use Rattle.gated_tree.specs.Roles.{Clearing, Out as OffTree}
 use Rattle.holder_laws.specs.Roles.{Apart}
 use Rattle.operation_laws.proofs.FreezeFits.{freeze_goes}
 use Rattle.operation_laws.proofs.FreezeStages.{FitsHere, IsHere, Keeps, freeze_stands, here_fits, here_stands, here_tree, here_writes}

@@ -8,7 +8,8 @@ use Rattle.freeze_levels.specs.declared.freezes.{Freeze.Freeze, FreezeStep.Freez
 use Rattle.gate_frames.proofs.Words.{load_same}
 use Rattle.gate_world.specs.{Fits.{Fits, FreezeFits, PhaseFits}, Levels.sync_role_of, Roles.{freeze_stand, stand_sync, sync_beside}, Rules.{Fitting, IsGood}}
 use Rattle.gate_world.specs.{Views.held_of, Worlds.{World, found_at, words_after}, declared.{config.Config.Config, work.Phase.Phase}}
-use Rattle.gated_tree.specs.{Phases.{clear_after, clear_next}, declared.marks.ClearMarks.ClearMarks}
+use Rattle.node_words.specs.Phases.{clear_after, clear_next}
+use Rattle.node_words.specs.declared.marks.ClearMarks.{ClearMarks}
 use Rattle.level_laws.specs.Operations.{down_write_role, up_write_role}
 use Rattle.percpu_rwsem.specs.{Writers.{down_write_after, down_write_next, up_write_after, up_write_next}, declared.transitions.Transition.Transition}
 use Rattle.percpu_rwsem.specs.declared.writers.{DownWrite.DownWrite, DownWriteStep.DownWriteStep, UpWrite.UpWrite, UpWriteStep.UpWriteStep}

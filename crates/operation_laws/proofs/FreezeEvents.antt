@@ -15,8 +15,10 @@ use Rattle.gate_world.specs.{Alike.{IsAlike, rephased}, Configs.{IsWithin, model
 use Rattle.gate_world.specs.{Roles.{freeze_holder_role, freeze_stage_role, freeze_stand, freeze_tree_role}, Rules.{Holds, IsGood, StepKeeps, Tree, ViewFits}}
 use Rattle.gate_world.specs.{Rules.{holder_role_of, marks_of, owns, stage_role_of, stage_roles}, Shown.shown, Trees.{tree_bounds, tree_of}, Views.held_of}
 use Rattle.gate_world.specs.{Views.phase_after, Worlds.World, declared.{config.Config.Config, views.View.View, work.Phase.Phase}}
-use Rattle.gated_tree.proofs.ClearedMarks.{clean_stays, cleared_shown, clears_mark, without_mark}
-use Rattle.gated_tree.specs.{Nodes.{IsNode, dirty_in, node_shown, opens_in}, Roles.{Clearing, TreeState}, declared.marks.ClearMarks.ClearMarks}
+use Rattle.node_words.proofs.ClearedMarks.{clean_stays, cleared_shown, clears_mark, without_mark}
+use Rattle.node_words.specs.Nodes.{IsNode, dirty_in, node_shown, opens_in}
+use Rattle.node_words.specs.declared.marks.ClearMarks.{ClearMarks}
+use Rattle.gated_tree.specs.Roles.{Clearing, TreeState}
 use Rattle.holder_laws.specs.Roles.{Apart}
 use Rattle.operation_laws.proofs.{FreezeCloses.closes, FreezeFits.freeze_goes, FreezeStages.{FitsHere, IsHere, Keeps, completes_read_only, freeze_stands}}
 use Rattle.operation_laws.proofs.FreezeStages.{goes_to, here_fits, here_knows, here_stands, here_tree, here_writes, holds, loads_holders, loads_stage}

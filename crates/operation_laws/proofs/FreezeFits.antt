@@ -5,7 +5,9 @@ use Rattle.std.specs.Prelude.{◌==◌, ◌&&◌, nat_lt, if◌then◌else◌, O
 use Rattle.access_model.specs.{Holders.{nobody, held_by}, Replies.map_next}
 use Rattle.access_model.specs.declared.{actions.{Action.Action, Holder.Holder, Holders.Holders}, errors.GateError.GateError, replies.{Next.Next, Reply.Reply}}
 use Rattle.cpu_words.specs.{Hooks.HookAnswer, Names.IsWord, Sums.sum_taking, Touches.wrap_add, declared.sums.Sum.Sum}
-use Rattle.gated_tree.specs.{Nodes.dirty_in, Phases.clear_after, declared.marks.ClearMarks.ClearMarks}
+use Rattle.node_words.specs.Nodes.{dirty_in}
+use Rattle.node_words.specs.Phases.{clear_after}
+use Rattle.node_words.specs.declared.marks.ClearMarks.{ClearMarks}
 use Rattle.percpu_rwsem.specs.{Graces.{is_first, passed_on, looked}, SyncWords.{unpack, is_passed, on_enter, on_exit, on_callback}}
 use Rattle.percpu_rwsem.specs.Transitions.{transition_after}
 use Rattle.percpu_rwsem.specs.Writers.{down_write_next, down_write_after, at_down_write, enter_step, callback_step, sections_awaited, passed_awaited, sum_begun}

@@ -16,8 +16,10 @@ use Rattle.gate_world.specs.{Rules.{Owner, Stages, SyncAt, SyncHoldsIn, Tree, ow
 use Rattle.gate_world.specs.{Views.{holds_level, phase_after, view_after}, Work.after_of, Worlds.{World, after_step, found_at, phase_action, value_at}}
 use Rattle.gate_world.specs.{Worlds.words_after, declared.{config.Config.Config, views.View.View, work.Phase.{Phase, TheVariants.Closes as FileCloses}}}
 use Rattle.gate_world.specs.declared.work.Phase.TheVariants.{DownReads, Freezes, Mounts, Remounts, Thaws, Trees, Writes}
-use Rattle.gated_tree.proofs.{ClearedMarks.{IsCleared, clears_mark, without_mark}, Packing.packed_unpacks}
-use Rattle.gated_tree.specs.{Nodes.{IsPacked, kind_in, node_of, opens_in, removed_in}, declared.marks.ClearMarks.ClearMarks}
+use Rattle.node_words.proofs.ClearedMarks.{IsCleared, clears_mark, without_mark}
+use Rattle.node_words.proofs.Packing.{packed_unpacks}
+use Rattle.node_words.specs.Nodes.{IsPacked, kind_in, node_of, opens_in, removed_in}
+use Rattle.node_words.specs.declared.marks.ClearMarks.{ClearMarks}
 use Rattle.gated_tree.specs.declared.{phases.TreePhase.TheVariants.Snapshot as Snapshots, snapshots.{Snapshot.Snapshot, SnapshotStep.SnapshotStep}}
 use Rattle.gated_tree.specs.declared.snapshots.SnapshotStep.TheVariants.{Locks as SnapshotLocks}
 use Rattle.mount_counts.specs.{Remounts.at_remount, declared.phases.{Change.Change, ChangeStep.{ChangeStep, TheVariants.Locks as ChangeLocks}}}

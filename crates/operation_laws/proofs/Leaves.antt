@@ -12,7 +12,7 @@ use Rattle.percpu_rwsem.specs.declared.sync_word.{GpState.{GpState, TheVariants.
 use Rattle.level_laws.specs.Operations.{down_read_inside}
 use Rattle.write_access.specs.{Phases.then_wants, declared.phases.WritePhase.TheVariants.Takes}
 use Rattle.file_closes.specs.{Phases.then_frees, declared.phases.ClosePhase.TheVariants.Enters as EntersLevel}
-use Rattle.gated_tree.specs.declared.nodes.NodeWord.{NodeWord}
+use Rattle.node_words.specs.declared.nodes.NodeWord.{NodeWord}
 use Rattle.gate_world.specs.{Configs.IsWithin, Courses.{MayHold, MayFind}, Levels.inside, Rules.IsGood, Views.{phase_after, view_after}, Work.next_of}
 use Rattle.gate_world.specs.{Work.after_of, Worlds.{World, after_step, words_after, value_at, found_at}, declared.{config.Config.Config, views.View.View}}
 use Rattle.gate_world.specs.declared.work.Phase.{Phase, TheVariants.{DownReads, Writes, Closes as FileCloses}}

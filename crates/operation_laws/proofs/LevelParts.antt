@@ -4,7 +4,7 @@ use Rattle.std.{proofs.Common.{◌≡◌, ℕ, ◌<◌, sym, ap, ◌∙◌, arit
 use Rattle.finite_sums.{proofs.Totals.{update_same, each_updated}, specs.Sums.update}
 use Rattle.access_model.specs.{Replies.map_next, declared.replies.Next.Next}
 use Rattle.cpu_words.specs.Words.{Words}
-use Rattle.gated_tree.specs.{Nodes.node_shown}
+use Rattle.node_words.specs.Nodes.{node_shown}
 use Rattle.mount_counts.specs.Roles.{ro_bit}
 use Rattle.percpu_rwsem.specs.declared.readers.{DownRead.DownRead, UpRead.UpRead}
 use Rattle.freeze_levels.specs.Holders.{holders_in}

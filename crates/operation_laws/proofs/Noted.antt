@@ -4,7 +4,11 @@ use Rattle.std.proofs.Common.{get_or-set_other}
 use Rattle.std.proofs.{Math.ListN.length-set, lemmas.{Bool.{cases_Bool, lt-ltb, le-ltb, cases_lt, Decides.eqb_tells}, List.length-replicate}}
 use Rattle.std.specs.Prelude.{slice_index}
 use Rattle.cpu_words.specs.{Hooks.HookAnswer, Touches.{event_of, found_by}, declared.names.WordName.WordName}
-use Rattle.gated_tree.specs.{Calls.SnapshotStepFits, Nodes.node_shown, Phases.snapshot_next, Roles.{Bounds, tree_word, seen_as}, Trees.{loaded, node_at}}
+use Rattle.node_words.specs.Nodes.{node_shown}
+use Rattle.gated_tree.specs.Calls.{SnapshotStepFits}
+use Rattle.gated_tree.specs.Phases.{snapshot_next}
+use Rattle.gated_tree.specs.Roles.{Bounds, tree_word, seen_as}
+use Rattle.gated_tree.specs.Trees.{loaded, node_at}
 use Rattle.gated_tree.specs.declared.{snapshots.{Snapshot.Snapshot, SnapshotStep.SnapshotStep}, trees.TreeWords.TreeWords}
 use Rattle.tree_laws.specs.Steps.{NotesOne, NotesLoad}
 use Rattle.gate_world.specs.{Found.is_load, Snapshots.{loads_noted, values_noted}, Views.with_hook, declared.views.Traced.Traced}

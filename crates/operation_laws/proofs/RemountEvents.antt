@@ -12,8 +12,9 @@ use Rattle.gate_world.specs.{Remounts.{held_role, loop_role, remount_owns, remou
 use Rattle.gate_world.specs.Rules.{AtMount, Holds, IsGood, MountHoldsIn, Owner, Part, Stages, StepKeeps, Tree, at_mount, marks_of, owns, remounts, role_of}
 use Rattle.gate_world.specs.{Rules.stage_role_of, Shown.shown, Trees.{is_bare_at, tree_bounds, tree_of, tree_roles}, Views.{actions_after, held_at, held_of}}
 use Rattle.gate_world.specs.{Views.view_with, Worlds.World, declared.{config.Config.Config, views.View.View, work.Phase.Phase}}
-use Rattle.gated_tree.proofs.ClearedMarks.{clean_stays, cleared_shown, clears_mark, directory_clean, without_mark}
-use Rattle.gated_tree.specs.{Nodes.{IsNode, dirty_in, node_shown}, Roles.{Bare, Bounds, Clearing, HasNoCharge, Out as OffTree, Role as TreeRole, RoleHolds}}
+use Rattle.node_words.proofs.ClearedMarks.{clean_stays, cleared_shown, clears_mark, directory_clean, without_mark}
+use Rattle.node_words.specs.Nodes.{IsNode, dirty_in, node_shown}
+use Rattle.gated_tree.specs.Roles.{Bare, Bounds, Clearing, HasNoCharge, Out as OffTree, Role as TreeRole, RoleHolds}
 use Rattle.gated_tree.specs.Roles.{TreeState, charge, child_charge, removal, sealed_by}
 use Rattle.mount_counts.specs.{Phases.has_flag, Remounts.{at_remount, give_up, leave_holds, let_go, past_node, remount_from}, Roles.{Empty, Out, Skipped}}
 use Rattle.mount_counts.specs.{Roles.{admitted, has_hold, past_flags, processor_of, questions_of, ro_bit, skips}, Sets.{has_mount, lowest, no_mounts}}

@@ -16,7 +16,8 @@ use Rattle.gate_world.specs.Rules.{IsGood, IsSteady, Known, Moves, Owner, OwnerH
 use Rattle.gate_world.specs.{Rules.{holder_role_of, marks_of, owns, remounts, role_of, stage_role_of}, Shown.{closing, shown}, Trees.{is_bare_at, is_sealed}}
 use Rattle.gate_world.specs.{Trees.{tree_bounds, tree_of, tree_role_of, tree_roles}, Views.{added_by, has_open, held_of, phase_after, taken_by, view_with}}
 use Rattle.gate_world.specs.{Worlds.{World, after_step, phase_action, value_at}, declared.{config.Config.Config, views.View.View, work.Phase.Phase}}
-use Rattle.gated_tree.specs.{Nodes.{node_shown, opens_in}, Roles.{Role as TreeRole, TreeState}}
+use Rattle.node_words.specs.Nodes.{node_shown, opens_in}
+use Rattle.gated_tree.specs.Roles.{Role as TreeRole, TreeState}
 use Rattle.holder_laws.specs.Roles.{Apart}
 use Rattle.mount_counts.specs.{Remounts.{at_remount, remount_after, remount_next}, Roles.{MountHolds, Role, ro_bit}, declared.remounts.Remount.Remount}
 use Rattle.mount_counts.specs.declared.remounts.RemountStep.{RemountStep}

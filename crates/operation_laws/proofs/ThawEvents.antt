@@ -22,7 +22,8 @@ use Rattle.gate_world.specs.{Rules.{holder_role_of, holder_roles, marks_of, owns
 use Rattle.gate_world.specs.Views.{actions_after}
 use Rattle.gate_world.specs.{Views.{added_after, added_by, held_of, phase_after, taken_after, taken_by, view_with}, Worlds.World}
 use Rattle.gate_world.specs.declared.{config.Config.Config, views.{Traced.Traced, View.View}, work.Phase.Phase}
-use Rattle.gated_tree.specs.{Nodes.dirty_in, Roles.Out as OffTree}
+use Rattle.node_words.specs.Nodes.{dirty_in}
+use Rattle.gated_tree.specs.Roles.{Out as OffTree}
 use Rattle.holder_laws.proofs.{HolderLaws.roles_tell, Words.{holds_alone, holds_own, leaves_none, unpack_pack}}
 use Rattle.holder_laws.specs.Events.{Finds, Leaves as LeavesOthers, LeavesLast as LeavesNobody, LetsGo as LetsHoldersGo, Thaws as ThawsHolders}
 use Rattle.holder_laws.specs.Roles.{Apart, Empties, Found, between, minds}

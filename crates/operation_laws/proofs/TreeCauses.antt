@@ -3,8 +3,9 @@ use Rattle.std.proofs.{Common.{◌≡◌, ℕ, ap, ◌∙◌, inl, inr}, lemmas.
 use Rattle.std.specs.Prelude.{Option, Some, None, Err, List, ◌∷◌, not, Bool, true, false, if◌then◌else◌, is_some, ◌==◌}
 use Rattle.access_model.specs.{Replies.map_next, declared.{errors.GateError.GateError, replies.Next.Next}}
 use Rattle.cpu_words.specs.Hooks.{HookAnswer}
-use Rattle.gated_tree.specs.Nodes.{unpacked, node_after}
-use Rattle.gated_tree.specs.Phases.{create_after, remove_after, grow_after, move_after, mark_after, open_after, snapshot_locked_out, clear_after, at_snapshot}
+use Rattle.node_words.specs.Nodes.{unpacked, node_after}
+use Rattle.node_words.specs.Phases.{clear_after}
+use Rattle.gated_tree.specs.Phases.{create_after, remove_after, grow_after, move_after, mark_after, open_after, snapshot_locked_out, at_snapshot}
 use Rattle.gated_tree.specs.Phases.{kids_step, node_step}
 use Rattle.gated_tree.specs.declared.{phases.TreePhase.TreePhase, snapshots.{Snapshot.Snapshot, SnapshotStep.SnapshotStep}}
 use Rattle.gate_world.specs.{Causes.{looks_at_stage, was_incomplete}, KeptCauses.{SnapshotCause, TreeCause, CauseOf}, Views.phase_after, Work.after_of}

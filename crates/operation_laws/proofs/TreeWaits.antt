@@ -3,12 +3,20 @@ use Rattle.std.proofs.{Common.{◌≡◌, ℕ, ◌<◌, ap, inl, inr, refl}, lem
 use Rattle.std.specs.Prelude.{Some, None, Ok, Err, List, Option, Result, ◌==◌, if◌then◌else◌, Bool, true, false, is_some, nat_lt, ◌+◌, ◌∷◌}
 use Rattle.access_model.specs.{Replies.map_next, declared.{errors.GateError.GateError, replies.Next.Next}}
 use Rattle.cpu_words.specs.Hooks.{HookAnswer}
-use Rattle.gated_tree.specs.Nodes.{word_of, unpacked, file_in, directory_in, node_after}
+use Rattle.node_words.specs.Nodes.{word_of, unpacked, file_in, directory_in, node_after}
 use Rattle.gated_tree.specs.Phases.{create_after, create_past, create_looks_at, create_looked, remove_after, grow_after, move_after, mark_after, open_after}
-use Rattle.gated_tree.specs.Phases.{snapshot_locked_out, clear_after, after_look, at_create, at_snapshot, clears_at, node_step}
+use Rattle.node_words.specs.Phases.{clear_after, after_look, clears_at}
+use Rattle.gated_tree.specs.Phases.{snapshot_locked_out, at_create, at_snapshot, node_step}
 use Rattle.gated_tree.specs.declared.changes.{Create.Create, CreateStep.CreateStep, MoveStep.MoveStep, MoveTo.MoveTo, Remove.Remove, RemoveStep.RemoveStep}
-use Rattle.gated_tree.specs.declared.{growth.{Grow.Grow, GrowStep.GrowStep}, marks.{ClearMarks.ClearMarks, Mark.Mark, MarkStep.MarkStep}}
-use Rattle.gated_tree.specs.declared.{nodes.NodeWord.NodeWord, opens.{OpenFile.OpenFile, OpenStep.OpenStep}, phases.TreePhase.TreePhase}
+use Rattle.node_words.specs.declared.marks.ClearMarks.{ClearMarks}
+use Rattle.gated_tree.specs.declared.growth.Grow.{Grow}
+use Rattle.gated_tree.specs.declared.growth.GrowStep.{GrowStep}
+use Rattle.gated_tree.specs.declared.marks.Mark.{Mark}
+use Rattle.gated_tree.specs.declared.marks.MarkStep.{MarkStep}
+use Rattle.node_words.specs.declared.nodes.NodeWord.{NodeWord}
+use Rattle.gated_tree.specs.declared.opens.OpenFile.{OpenFile}
+use Rattle.gated_tree.specs.declared.opens.OpenStep.{OpenStep}
+use Rattle.gated_tree.specs.declared.phases.TreePhase.{TreePhase}
 use Rattle.gated_tree.specs.declared.snapshots.{Snapshot.Snapshot, SnapshotStep.SnapshotStep}
 use Rattle.gate_world.specs.{Causes.{CallRefused, TreeRefused, IsTaken, TellsOf, tree_sees}, Fits.PhaseFits, KeptCauses.{SnapshotCause, TreeCause}}
 use Rattle.gate_world.specs.{Rules.{owns, IsGood}, Shown.shown, Views.held_of, Waits.{HasReason, HasCulprit}, Work.after_of}

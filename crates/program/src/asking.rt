@@ -63,7 +63,10 @@ pub fn run<
     ensures passed { IfOk result (λ ending. ending ≡ Passed → TellsSomePassed (W.contents writer.old) (W.contents writer.new)) }
 {
     let asked = read_words(alloc, words, errors)?;
-    do_asked(rt, alloc, asked, reader, writer, errors, person)
+    let ended = do_asked(rt, alloc, &asked, reader, writer, errors, person);
+    // By a call: to drop all its parts in line costs the proof more.
+    drop(asked);
+    ended
 }
 
 /// Does what is asked for.
@@ -75,32 +78,35 @@ fn do_asked<
 >(
     rt: &R,
     alloc: Global,
-    asked: Asked<'_>,
+    asked: &Asked<'_>,
     reader: &mut I,
     writer: &mut W,
     errors: &mut E,
     person: Person,
 ) -> Result<Ending, AllocError>
-    ensures ends { IfOk result (MayEnd asked.entry) }
-    ensures unread { asked.entry ≡ Unread → IfOk result (IsRefusedUnread
+    ensures ends { IfOk result (MayEnd asked.now) }
+    ensures unread { asked.now ≡ Unread → IfOk result (IsRefusedUnread
         (I.remaining reader.old) (I.remaining reader.new) (W.contents writer.old) (W.contents writer.new)) }
-    ensures plain { (r : ReplayAsked) → asked.entry ≡ AsksReplay r → IsPlain r → r.file ≡ None → IfOk result (EndsReplayed
+    ensures plain { (r : ReplayAsked) → asked.now ≡ AsksReplay r → IsPlain r → r.file ≡ None → IfOk result (EndsReplayed
         (I.remaining reader.old) (I.remaining reader.new) (W.contents writer.old) (W.contents writer.new)) }
-    ensures of_file { (r : ReplayAsked) (file : Bor (List ℕ)) → asked.entry ≡ AsksReplay r → IsPlain r → r.file ≡ Some file →
+    ensures of_file { (r : ReplayAsked) (file : Bor (List ℕ)) → asked.now ≡ AsksReplay r → IsPlain r → r.file ≡ Some file →
         IfOk result (λ ending. EndsReplayedFile (W.contents writer.old) (W.contents writer.new) ending
         ⊎ IsRefusedUnread (I.remaining reader.old) (I.remaining reader.new) (W.contents writer.old) (W.contents writer.new) ending) }
-    ensures listed { (r : OutcomesAsked) → asked.entry ≡ AsksOutcomes r → IfOk result (EndsTold r (I.remaining reader.old)
+    ensures listed { (r : OutcomesAsked) → asked.now ≡ AsksOutcomes r → IfOk result (EndsTold r (I.remaining reader.old)
         (W.contents writer.old) (W.contents writer.new)) }
-    ensures checked { IfOk result (EndsChecked asked.entry (W.contents writer.old) (W.contents writer.new)) }
+    ensures checked { IfOk result (EndsChecked asked.now (W.contents writer.old) (W.contents writer.new)) }
 {
     match asked {
         Asked::Replay(replay) => {
-            Ok(run_replay(rt, alloc, replay, reader, writer, errors, &person))
+            Ok(run_replay(rt, alloc, *replay, reader, writer, errors, &person))
         }
         Asked::Check(files) => run_checks(rt, alloc, files.as_slice(), reader, writer, errors),
-        Asked::Outcomes(asked) => run_outcomes(rt, alloc, asked, reader, writer, errors),
+        Asked::Outcomes(asked) => run_outcomes(rt, alloc, *asked, reader, writer, errors),
         Asked::Run(numbers, tells) => {
-            let asked = AskedRun { numbers, tells };
+            let asked = AskedRun {
+                numbers: *numbers,
+                tells: *tells,
+            };
             Ok(run_threads(rt, alloc, asked, writer, errors, person.watches))
         }
         Asked::Told(text) => Ok(text_told(text.as_str(), writer, errors)),
@@ -120,7 +126,11 @@ fn run_threads<R: Threads + Wait + Clock + Sync, W: Write, E: Write>(
 ) -> Ending
     ensures { (result ≡ Ran) ⊎ (result ≡ Refused) }
 {
-    match watched.and_then(|stderr| Progress::new(rt, asked.numbers, stderr).ok()) {
+    let progress = match watched {
+        Some(stderr) => Progress::new(rt, asked.numbers, stderr).ok(),
+        None => None,
+    };
+    match progress {
         Some(progress) => runs::run(rt, alloc, asked, &progress, writer, errors),
         None => runs::run(rt, alloc, asked, &(), writer, errors),
     }

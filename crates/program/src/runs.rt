@@ -1,12 +1,12 @@
 //! Runs of writers, a remounter and a backup in threads, from the command line.
 
-ghost use Rattle.std.specs.Prelude.{◌≡◌, ◌⊎◌};
+ghost use Rattle.std.specs.Prelude.{◌≡◌, ◌≤◌, ◌⊎◌};
 ghost use Rattle.endings.specs.declared.ends.Ending.TheVariants.{Ran, Refused};
 ghost use Rattle.run_parts.specs.Plans.{MayRun};
 
 use access_model::GateError;
 use command_line::{Numbers, Tells};
-use endings::{Ending, refused};
+use endings::{Ending, refused, why_told};
 use gate_runs::{Details, Plan, Sizes, Totals, Watch, run_plan};
 use schedule_bytes::write_out;
 use std::alloc::{AllocError, Global};
@@ -100,63 +100,63 @@ fn each_second(count: u64, took: Duration) -> u64 {
     count.saturating_mul(1_000_000) / micros
 }
 
-/// One line more: a name and a number.
-fn add(lines: &mut String, alloc: Global, name: &str, number: u64) -> Result<(), AllocError> {
-    let line = format!(in alloc; "{name} {number}\n")?;
-    lines.push_str(line.as_str())
-}
+/// A line that is told: a name and its number, and none where there is no number.
+type Row = (&'static str, Option<u64>);
 
-/// The five lines of what all tasks did.
-fn add_totals(lines: &mut String, alloc: Global, totals: Totals) -> Result<(), AllocError> {
-    add(lines, alloc, "grown", totals.grown)?;
-    add(lines, alloc, "frozen", totals.frozen)?;
-    add(lines, alloc, "snapshots", totals.snapshots)?;
-    add(lines, alloc, "remounts", totals.remounts)?;
-    add(lines, alloc, "held", totals.held)
-}
+/// How many rows there are.
+const ROWS: usize = 15;
 
-/// The lines of what they met. The sizes of snapshots are told where there was one, and the time where the clock could be read.
-fn add_details(
-    lines: &mut String,
-    alloc: Global,
-    details: Details,
-    took: Option<Duration>,
-) -> Result<(), AllocError> {
-    let (writes, copies) = (details.writes, details.copies);
-    add(lines, alloc, "granted", writes.granted)?;
-    add(lines, alloc, "read_only", writes.read_only)?;
-    add(lines, alloc, "busy", u64::from(details.busy))?;
-    add(lines, alloc, "again", writes.again)?;
-    add(lines, alloc, "callbacks", u64::from(copies.callbacks))?;
-    add(lines, alloc, "waits", details.waits())?;
-    if let Some(Sizes { least, most }) = copies.sizes {
-        add(lines, alloc, "least_blocks", least)?;
-        add(lines, alloc, "most_blocks", most)?;
+/// How many of the rows are told: the first of them tell what all tasks did, the others what they met.
+fn count_of(tells: Tells) -> usize
+    ensures { result ≤ ROWS }
+{
+    match tells {
+        Tells::Totals => 5,
+        Tells::Details => ROWS,
     }
-    if let Some(took) = took {
-        let milliseconds = u64::try_from(took.as_millis()).unwrap_or(u64::MAX);
-        add(lines, alloc, "milliseconds", milliseconds)?;
-        let rounds = each_second(writes.granted, took);
-        add(lines, alloc, "rounds_a_second", rounds)?;
+}
+
+/// What can be told of a run. The sizes of snapshots are told where there was one, and the time where the clock could be read.
+fn rows_of(totals: Totals, details: Details, took: Option<Duration>) -> [Row; ROWS] {
+    let (writes, copies) = (details.writes, details.copies);
+    let (least, most) = match copies.sizes {
+        Some(Sizes { least, most }) => (Some(least), Some(most)),
+        None => (None, None),
+    };
+    let (milliseconds, speed) = match took {
+        Some(took) => (
+            Some(u64::try_from(took.as_millis()).unwrap_or(u64::MAX)),
+            Some(each_second(writes.granted, took)),
+        ),
+        None => (None, None),
+    };
+    [
+        ("grown", Some(totals.grown)),
+        ("frozen", Some(totals.frozen)),
+        ("snapshots", Some(totals.snapshots)),
+        ("remounts", Some(totals.remounts)),
+        ("held", Some(totals.held)),
+        ("granted", Some(writes.granted)),
+        ("read_only", Some(writes.read_only)),
+        ("busy", Some(u64::from(details.busy))),
+        ("again", Some(writes.again)),
+        ("callbacks", Some(u64::from(copies.callbacks))),
+        ("waits", Some(details.waits())),
+        ("least_blocks", least),
+        ("most_blocks", most),
+        ("milliseconds", milliseconds),
+        ("rounds_a_second", speed),
+    ]
+}
+
+/// Adds the lines of these rows.
+fn add_rows(lines: &mut String, rows: &[Row]) -> Result<(), AllocError> {
+    for (name, number) in rows {
+        if let Some(number) = number {
+            writeln!(lines, "{name} {number}")?;
+        }
     }
     Ok(())
-}
-
-/// The lines that are asked for.
-fn lines_of(
-    alloc: Global,
-    tells: Tells,
-    totals: Totals,
-    details: Details,
-    took: Option<Duration>,
-) -> Result<String, AllocError> {
-    let mut lines = String::new(alloc);
-    add_totals(&mut lines, alloc, totals)?;
-    match tells {
-        Tells::Totals => {}
-        Tells::Details => add_details(&mut lines, alloc, details, took)?,
-    }
-    Ok(lines)
 }
 
 /// What is asked of a run.
@@ -195,15 +195,17 @@ pub fn run<R: Threads + Wait + Clock + Sync, P: Watch + Sync, W: Write, E: Write
         Ok((totals, details, _)) => (totals, details),
         Err(refusal) => return refused(refusal, errors),
     };
-    let took = start.and_then(|start| start.elapsed(rt).ok());
-    let Ok(lines) = lines_of(alloc, asked.tells, totals, details, took) else {
-        return refused(GateError::NoMemory, errors);
+    let took = match start {
+        Some(start) => start.elapsed(rt).ok(),
+        None => None,
     };
+    let rows = rows_of(totals, details, took);
+    let mut lines = String::new(alloc);
+    if add_rows(&mut lines, &rows[..count_of(asked.tells)]).is_err() {
+        return refused(GateError::NoMemory, errors);
+    }
     match write_out(writer, lines.as_bytes()) {
         Ok(()) => Ending::Ran,
-        Err(fault) => {
-            let _ = writeln!(errors, "{}", fault.text());
-            Ending::Refused
-        }
+        Err(fault) => why_told(fault.text(), errors),
     }
 }

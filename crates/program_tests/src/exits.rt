@@ -1,9 +1,9 @@
 //! Tests of command lines: how each ends, what it prints, and what it tells of a fault.
 
 use crate::cases::{self, FILES, Row};
+use crate::fakes::{Frail, Refusal};
 use crate::raced;
 use endings::unreadable;
-use fakes::{Frail, Refusal};
 use program::{Person, run};
 use std::alloc::{AllocError, Global};
 use std::io::{ErrorKind, Write};

@@ -1,9 +1,9 @@
 //! What is told of faulty lines.
 
+use crate::fakes::expect_text;
 use access_model::GateError;
 use explained_faults::explanation;
 use explained_faults::forms::{LIMITS, VERBS};
-use fakes::expect_text;
 use gate_world::Config;
 use schedule_bytes::fault_after;
 use schedule_text::{Fault, Verb, parse};

@@ -1,11 +1,14 @@
 //! What the tasks of a race call.
 
-ghost use Rattle.std.specs.Prelude.{◌≡◌, ◌≤◌, [], is_none, length, Some, Ok, IfOk, IfErr, OnOk};
+ghost use Rattle.std.specs.Prelude.{◌≡◌, ◌≤◌, ◌⊎◌, is_none, length, Some, Ok, Err, IfOk, IfErr, OnOk};
 ghost use Rattle.std.specs.List.{position};
 ghost use Rattle.race_texts.specs.Calls.{no_calls, count_of, with_call, with_failure, added, failing, as_run, hook_line, calls_after};
 ghost use Rattle.race_texts.specs.Faults.{IsToldOrMemory};
 ghost use Rattle.race_texts.specs.Left.{calls_left, left_in};
 ghost use Rattle.schedule_text.specs.Parsing.{parsed};
+ghost use Rattle.schedule_text.specs.Printed.{Prints};
+ghost use Rattle.schedule_text.specs.declared.faults.Fault.TheVariants.{Refused};
+ghost use Rattle.access_model.specs.declared.errors.GateError.TheVariants.{NoMemory};
 
 use crate::faults::RaceFault;
 use crate::lines::{Lines, is_race};
@@ -14,7 +17,7 @@ use races::{CALLS, Call, Race};
 use schedule_text::words::{after_word, first_word};
 use schedule_text::{Fault, HookFailure, Line, Output, Request, TaskCommand, parse};
 use std::alloc::{AllocError, Global};
-use transcripts::no_memory;
+use transcripts::{no_memory, settled};
 
 /// The line by which a task begins a call, as it stands in the file.
 #[derive(Drop)]
@@ -110,9 +113,7 @@ impl Calls {
         ensures fault { IfErr result (IsToldOrMemory
             (hook_line self.old.race.calls.items (parsed (as_run line.now) (Some self.old.race.tasks)))) }
     {
-        let mut run = Output::new(alloc);
-        print_run(line, &mut run).map_err(no_memory)?;
-        match parse(run.bytes.as_slice(), Some(self.race.tasks))? {
+        match parse_run(alloc, line, self.race.tasks)? {
             Line::Skipped => Ok(()),
             Line::Request(
                 Request::Task {
@@ -231,14 +232,26 @@ fn with_failure(
     }
 }
 
-/// The same line with `run` in the place of its second word, behind nothing.
+/// What a line asks for with `run` in the place of its second word.
+fn parse_run(alloc: Global, line: &[u8], tasks: u8) -> Result<Line, Fault>
+    ensures asked { IfOk result (λ asked. parsed (as_run line.now) (Some tasks) ≡ Ok asked) }
+    ensures fault { IfErr result (λ fault. (fault ≡ Refused NoMemory) ⊎ (parsed (as_run line.now) (Some tasks) ≡ Err fault)) }
+{
+    let mut run = Output::new(alloc);
+    print_run(line, &mut run);
+    match settled(&run) {
+        Ok(()) => parse(run.bytes.as_slice(), Some(tasks)),
+        Err(refused) => Err(refused),
+    }
+}
+
+/// Prints a line with `run` in the place of its second word.
 #[tactic(auto, using(crate::proofs::Words::word_within), unfolding(crate::specs::Calls::as_run))]
-fn print_run(line: &[u8], run: &mut Output) -> Result<(), AllocError>
-    requires { run.old.bytes.items ≡ [] }
-    ensures { OnOk result (run.new.bytes.items ≡ as_run line.now) }
+fn print_run(line: &[u8], run: &mut Output)
+    ensures { Prints run.old run.new (as_run line.now) }
 {
     let rest = after_word(line);
-    run.text(first_word(line))?;
-    run.text(b" run")?;
-    run.text(&rest[first_word(rest).len()..])
+    run.text(first_word(line));
+    run.text(b" run");
+    run.text(&rest[first_word(rest).len()..]);
 }

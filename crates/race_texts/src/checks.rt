@@ -30,7 +30,6 @@ pub fn check(alloc: Global, name: &str, schedule: &[u8]) -> Result<Checked, Allo
         said: Lines::new(schedule),
         passed: true,
         told: Output::new(alloc),
-        is_cut: false,
     };
     let done = comparison.do_lines(alloc, &mut lines, &mut Output::new(alloc));
     if let Err(fault) = done {
@@ -47,8 +46,6 @@ struct Comparison<'a> {
     said: Lines<'a>,
     passed: bool,
     told: Output,
-    /// Whether memory was refused for what is told, which is asked for once, at the end.
-    is_cut: bool,
 }
 
 impl Watch for Comparison<'_> {
@@ -99,11 +96,11 @@ impl Comparison<'_> {
         let file = RaceFile::read(alloc, session, lines)?;
         match tell_briefly(alloc, file, STATES, printed) {
             Ok(()) => {}
-            Err(Stop::NoMemory) => self.is_cut = true,
+            Err(Stop::NoMemory) => self.told.is_whole = false,
             Err(Stop::TooMany) => {
                 self.begin();
-                self.numbered(b"more than ", STATES as u64);
-                self.text(b" states\n");
+                self.told.numbered(b"more than ", STATES as u64);
+                self.told.text(b" states\n");
             }
         }
         self.take(lines, printed);
@@ -120,7 +117,7 @@ impl Comparison<'_> {
         self.differs(number, b"expected '", text, b"', and ");
         match line {
             Some(line) => self.quote(b"'", line, b"' was printed\n"),
-            None => self.text(b"nothing more was printed\n"),
+            None => self.told.text(b"nothing more was printed\n"),
         }
     }
 
@@ -137,48 +134,36 @@ impl Comparison<'_> {
     /// Tells what differs at a line: a text, and what stands before and after it.
     fn differs(&mut self, number: u32, before: &[u8], text: &[u8], after: &[u8]) {
         self.begin();
-        self.numbered(b"line ", u64::from(number));
-        self.text(b": ");
+        self.told.numbered(b"line ", u64::from(number));
+        self.told.text(b": ");
         self.quote(before, text, after);
     }
 
     /// Tells a text, and what stands before and after it.
     fn quote(&mut self, before: &[u8], text: &[u8], after: &[u8]) {
-        self.text(before);
-        self.text(text);
-        self.text(after);
+        self.told.text(before);
+        self.told.text(text);
+        self.told.text(after);
     }
 
     /// Tells the fault.
     fn fault(&mut self, alloc: Global, fault: ReplayFault) {
         self.begin();
         match format!(in alloc; "{fault}\n") {
-            Ok(text) => self.text(text.as_bytes()),
-            Err(_) => self.is_cut = true,
+            Ok(text) => self.told.text(text.as_bytes()),
+            Err(_) => self.told.is_whole = false,
         }
     }
 
     /// Begins to tell that it has not passed.
     fn begin(&mut self) {
         self.passed = false;
-        self.text(self.name.as_bytes());
-    }
-
-    fn text(&mut self, text: &[u8]) {
-        if self.told.text(text).is_err() {
-            self.is_cut = true;
-        }
-    }
-
-    fn numbered(&mut self, text: &[u8], number: u64) {
-        if self.told.numbered(text, number).is_err() {
-            self.is_cut = true;
-        }
+        self.told.text(self.name.as_bytes());
     }
 
     /// All that was told, if there was memory for it.
     fn checked(self) -> Result<Checked, AllocError> {
-        if self.is_cut {
+        if !self.told.is_whole {
             return Err(AllocError);
         }
         Ok(Checked {

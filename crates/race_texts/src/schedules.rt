@@ -28,7 +28,7 @@ pub fn print_schedule(
             *turn = turn.saturating_add(1);
         }
     }
-    Ok(())
+    out.settled()
 }
 
 /// Makes the next move of a task, which is in this call of its, or begins it.
@@ -45,10 +45,10 @@ fn print_move(
     };
     let command = if session.gates().is_under_way(task) {
         let hook = session.hook_answer(task, call.failure);
-        print_step(task, hook, out)?;
+        print_step(task, hook, out);
         TaskCommand::Step { hook }
     } else {
-        out.line(calls.line(task, turn))?;
+        out.line(calls.line(task, turn));
         TaskCommand::Begin(call.op)
     };
     session
@@ -57,13 +57,11 @@ fn print_move(
 }
 
 /// Prints the next event of a task.
-fn print_step(task: u8, hook: Result<(), u16>, out: &mut Output) -> Result<(), AllocError> {
-    out.number(u64::from(task))?;
-    match hook {
-        Ok(()) => out.text(b" step\n"),
-        Err(code) => {
-            out.numbered(b" step ", u64::from(code))?;
-            out.text(b"\n")
-        }
+fn print_step(task: u8, hook: Result<(), u16>, out: &mut Output) {
+    out.number(u64::from(task));
+    out.text(b" step");
+    if let Err(code) = hook {
+        out.numbered(b" ", u64::from(code));
     }
+    out.text(b"\n");
 }

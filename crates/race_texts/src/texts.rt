@@ -1,6 +1,7 @@
 //! The text of an outcome.
 
-ghost use Rattle.std.specs.Prelude.{◌≡◌, ◌++◌, IfOk, OnOk, slice_get};
+ghost use Rattle.std.specs.Prelude.{◌≡◌, IfOk, slice_get};
+ghost use Rattle.schedule_text.specs.Printed.{Prints};
 ghost use Rattle.race_texts.specs.Texts.{told_answer, course_text, outcome_text};
 
 use access_model::{GateError, Reply};
@@ -17,9 +18,10 @@ pub fn outcome_text(alloc: Global, race: &Race, courses: &[Course]) -> Result<Ve
     let mut out = Output::new(alloc);
     for task in 0..race.tasks {
         if let Some(course) = course_of(courses, task) {
-            print_course(&mut out, race, task, course)?;
+            print_course(&mut out, race, task, course);
         }
     }
+    out.settled()?;
     let text = out.bytes.as_slice();
     Vec::from_slice(alloc, &text[2.min(text.len())..])
 }
@@ -33,21 +35,18 @@ fn course_of(courses: &[Course], task: u8) -> Option<Course>
 
 /// Prints the answers of a task, each behind `; `, and that it waits, where it has calls left.
 #[tactic(auto, unfolding(crate::specs::Texts::course_text))]
-fn print_course(out: &mut Output, race: &Race, task: u8, course: Course) -> Result<(), AllocError>
-    ensures { OnOk result (out.new.bytes.items ≡ out.old.bytes.items ++ course_text race.now.calls.items task course) }
+fn print_course(out: &mut Output, race: &Race, task: u8, course: Course)
+    ensures { Prints out.old out.new (course_text race.now.calls.items task course) }
 {
     for turn in 0..8 {
         if let Some(answer) = course.answers[turn] {
-            out.text(b"; ")?;
-            out.answer(task, without_blocks(answer), 0)?;
+            out.text(b"; ");
+            out.answer(task, without_blocks(answer), 0);
         }
     }
-    match race.call_after(task, course) {
-        None => Ok(()),
-        Some(_) => {
-            out.numbered(b"; ", u64::from(task))?;
-            out.text(b" waits")
-        }
+    if let Some(_) = race.call_after(task, course) {
+        out.numbered(b"; ", u64::from(task));
+        out.text(b" waits");
     }
 }
 

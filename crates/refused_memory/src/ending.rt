@@ -5,7 +5,7 @@ ghost use Rattle.std.specs.Prelude.{◌≡◌, ◌≢◌};
 use std::fmt;
 
 /// How a call ended that takes memory.
-#[derive(Clone, Copy, PartialEq, Eq, Debug)]
+#[derive(Clone, Copy)]
 pub(crate) enum Ending {
     /// No growth was refused, and it was done.
     Done,
@@ -33,10 +33,10 @@ impl Ending {
 
 impl fmt::Display for Ending {
     fn fmt<W: fmt::Write>(&self, f: &mut fmt::Formatter<W>) -> fmt::Result {
-        match self {
-            Ending::Done => f.write_str("done"),
-            Ending::DoneAgain => f.write_str("done again"),
-            Ending::Wrong => f.write_str("WRONG"),
-        }
+        f.write_str(match self {
+            Ending::Done => "done",
+            Ending::DoneAgain => "done again",
+            Ending::Wrong => "WRONG",
+        })
     }
 }

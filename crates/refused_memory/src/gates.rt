@@ -9,20 +9,6 @@ use crate::models::SMALL;
 use std::alloc::Global;
 use vfs_gates::{GateError, Gates, Task};
 
-/// Gates whose making is tried again where there is no memory, and how that ended.
-fn make(alloc: Global) -> Result<(Gates, Task, Ending), GateError>
-    ensures { IfOk result (λ made. IsFrom made.1 made.0) }
-{
-    match Gates::new(alloc, SMALL) {
-        Ok((gates, task)) => Ok((gates, task, Ending::Done)),
-        Err(GateError::NoMemory) => {
-            let (gates, task) = Gates::new(alloc, SMALL)?;
-            Ok((gates, task, Ending::DoneAgain))
-        }
-        Err(refusal) => Err(refusal),
-    }
-}
-
 /// A task that is split off, tried again where there is no memory, and how that ended. It has to have this number, whichever try was done:
 /// a refused one takes none.
 fn split(
@@ -50,25 +36,39 @@ fn split(
     }
 }
 
-/// Splits off all tasks that there are, and joins them. The gates can be closed then, since no number is lost. Tells how the splits ended.
-fn split_all(alloc: Global, gates: Gates, mut task: Task) -> Result<Ending, GateError>
-    requires { IsFrom task gates }
+/// Splits off all tasks that there are, and joins them. Tells how the splits ended.
+fn split_and_join(alloc: Global, gates: &Gates, task: &mut Task) -> Result<Ending, GateError>
+    requires { IsFrom task.old gates.now }
+    ensures { IsFrom task.new gates.now }
 {
-    let (one, first) = split(&mut task, alloc, &gates, 1)?;
-    let (two, second) = split(&mut task, alloc, &gates, 2)?;
-    if task.join(&gates, one).is_err() || task.join(&gates, two).is_err() {
-        return Ok(Ending::Wrong);
-    }
-    if gates.close(task).is_err() {
+    let (one, first) = split(task, alloc, gates, 1)?;
+    let (two, second) = split(task, alloc, gates, 2)?;
+    if task.join(gates, one).is_err() || task.join(gates, two).is_err() {
         return Ok(Ending::Wrong);
     }
     Ok(first.and(second))
 }
 
+/// The same, and closes the gates, which can be closed then, since no number is lost.
+fn split_all(alloc: Global, gates: Gates, mut task: Task) -> Ending
+    requires { IsFrom task gates }
+{
+    let split = split_and_join(alloc, &gates, &mut task);
+    if gates.close(task).is_ok() {
+        split.unwrap_or(Ending::Wrong)
+    } else {
+        Ending::Wrong
+    }
+}
+
 /// How the making of gates and the splits ended.
 pub(crate) fn make_and_split(alloc: Global) -> (Ending, Ending) {
-    let Ok((gates, task, made)) = make(alloc) else {
-        return (Ending::Wrong, Ending::Wrong);
-    };
-    (made, split_all(alloc, gates, task).unwrap_or(Ending::Wrong))
+    match Gates::new(alloc, SMALL) {
+        Ok((gates, task)) => (Ending::Done, split_all(alloc, gates, task)),
+        Err(GateError::NoMemory) => match Gates::new(alloc, SMALL) {
+            Ok((gates, task)) => (Ending::DoneAgain, split_all(alloc, gates, task)),
+            Err(_) => (Ending::Wrong, Ending::Wrong),
+        },
+        Err(_) => (Ending::Wrong, Ending::Wrong),
+    }
 }

@@ -41,12 +41,17 @@ fn main(rt: HostRuntime) -> Result<()> {
     let alloc = rt.alloc();
     ask_for_growths(alloc, count);
     let (made, split) = gates::make_and_split(alloc);
-    println!(rt; "model {}", models::make_model(alloc))?;
-    println!(rt; "core {}", models::make_core(alloc))?;
-    println!(rt; "gates {made}")?;
-    println!(rt; "split {split}")?;
-    println!(rt; "run {}", threads::run(&rt, alloc))?;
-    println!(rt; "replay {}", schedules::replay::<Core>(alloc))?;
-    println!(rt; "over-gates {}", schedules::replay::<GatesDriver>(alloc))?;
+    let endings = [
+        ("model", models::make_model(alloc)),
+        ("core", models::make_core(alloc)),
+        ("gates", made),
+        ("split", split),
+        ("run", threads::run(&rt, alloc)),
+        ("replay", schedules::replay::<Core>(alloc)),
+        ("over-gates", schedules::replay::<GatesDriver>(alloc)),
+    ];
+    for (call, ending) in endings {
+        println!(rt; "{call} {ending}")?;
+    }
     Ok(())
 }

@@ -1,8 +1,9 @@
 //! The model, and the core.
 
 use crate::ending::Ending;
-use access_model::{GateError, Model};
+use access_model::GateError;
 use gate_core::Core;
+use model_state::Model;
 use std::alloc::Global;
 use vfs_gates::Config;
 
@@ -15,18 +16,30 @@ pub(crate) const SMALL: Config = Config {
     capacity: 8,
 };
 
+/// Makes a model, and lets it go.
+fn try_model(alloc: Global) -> Result<(), GateError> {
+    Model::new(alloc, 3, 1, 2, 8)?;
+    Ok(())
+}
+
+/// Makes a core, likewise.
+fn try_core(alloc: Global) -> Result<(), GateError> {
+    Core::new(alloc, SMALL)?;
+    Ok(())
+}
+
 pub(crate) fn make_model(alloc: Global) -> Ending {
-    match Model::new(alloc, 3, 1, 2, 8) {
-        Ok(_) => Ending::Done,
-        Err(GateError::NoMemory) if Model::new(alloc, 3, 1, 2, 8).is_ok() => Ending::DoneAgain,
+    match try_model(alloc) {
+        Ok(()) => Ending::Done,
+        Err(GateError::NoMemory) if try_model(alloc).is_ok() => Ending::DoneAgain,
         Err(_) => Ending::Wrong,
     }
 }
 
 pub(crate) fn make_core(alloc: Global) -> Ending {
-    match Core::new(alloc, SMALL) {
-        Ok(_) => Ending::Done,
-        Err(GateError::NoMemory) if Core::new(alloc, SMALL).is_ok() => Ending::DoneAgain,
+    match try_core(alloc) {
+        Ok(()) => Ending::Done,
+        Err(GateError::NoMemory) if try_core(alloc).is_ok() => Ending::DoneAgain,
         Err(_) => Ending::Wrong,
     }
 }

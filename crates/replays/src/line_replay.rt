@@ -20,7 +20,7 @@ use schedule_bytes::{Input, ReplayFault, fault_after, write_out};
 use schedule_text::{Fault, Front, LINES, Line, Output, Request, parse};
 use std::alloc::{AllocError, Global};
 use std::io::{Read, Write};
-use transcripts::{Driver, Session, no_memory};
+use transcripts::{Driver, Session, settled};
 
 /// From so many printed bytes on they are written out.
 const FULL: usize = 65_536;
@@ -260,7 +260,8 @@ impl<D: Driver> LineReplay<D> {
                 self.line.clear();
                 session.do_request(request, &mut self.line)?;
                 let printed = self.line.bytes.as_slice();
-                self.output.text(printed).map_err(no_memory)
+                self.output.text(printed);
+                settled(&self.output)
             }
         }
     }

@@ -1,3 +1,4 @@
 pub mod Digits
 pub mod Positions
 pub mod Verbs
+pub mod Printed

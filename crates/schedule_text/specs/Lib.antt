@@ -5,3 +5,4 @@ pub mod Faults
 pub mod Commands
 pub mod Parsing
 pub mod Printing
+pub mod Printed

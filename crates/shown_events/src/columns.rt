@@ -125,7 +125,8 @@ impl Columns {
             page.text("no word has changed\n");
         }
         self.listed.clear();
-        page.note(self.listed.text(listed.as_bytes()));
+        self.listed.text(listed.as_bytes());
+        page.note(self.listed.settled());
     }
 }
 

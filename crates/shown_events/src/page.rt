@@ -4,10 +4,10 @@ use schedule_bytes::write_out;
 use schedule_text::{Fault, Output};
 use std::alloc::{AllocError, Global};
 use std::io::Write;
-use transcripts::no_memory;
+use transcripts::settled;
 
-/// What was printed and not yet written out. What prints has no way out of its own: a fault, as memory that was refused for a part of a line,
-/// is noted, and where the line ends all of it is taken back.
+/// What was printed and not yet written out. What prints has no way out of its own: a fault is noted, as is memory that was refused, and where
+/// the line ends all of it is taken back.
 #[derive(Drop)]
 pub(crate) struct Page {
     pub(crate) alloc: Global,
@@ -48,9 +48,7 @@ impl Page {
 
     /// Notes whether there was memory for something.
     pub(crate) fn note(&mut self, printed: Result<(), AllocError>) {
-        if let Err(refused) = printed {
-            self.fault = Some(no_memory(refused));
-        }
+        self.output.is_whole &= printed.is_ok();
     }
 
     /// Notes a fault.
@@ -60,24 +58,26 @@ impl Page {
 
     /// Ends what a line prints. Where it has a fault nothing of it stays.
     pub(crate) fn settle(&mut self) -> Result<(), Fault> {
-        if let Some(fault) = self.fault.take() {
+        let ended = match self.fault.take() {
+            Some(fault) => Err(fault),
+            None => settled(&self.output),
+        };
+        if ended.is_err() {
             self.output.bytes.truncate(self.done);
-            return Err(fault);
+            self.output.is_whole = true;
         }
         self.done = self.output.bytes.len();
-        Ok(())
+        ended
     }
 
     /// Prints a text.
     pub(crate) fn text(&mut self, text: &str) {
-        let printed = self.output.text(text.as_bytes());
-        self.note(printed);
+        self.output.text(text.as_bytes());
     }
 
     /// Prints a text and a number right after it.
     pub(crate) fn numbered(&mut self, text: &[u8], number: u64) {
-        let printed = self.output.numbered(text, number);
-        self.note(printed);
+        self.output.numbered(text, number);
     }
 
     /// Prints so many spaces.

@@ -103,6 +103,7 @@ impl Screen {
 
     /// Prints the text in its form.
     fn print(&mut self, kind: Kind) {
+        self.page.note(self.text.settled());
         let text = text_of(self.text.bytes.as_slice());
         match self.form {
             Form::Events => self.page.text(text),
@@ -149,21 +150,20 @@ impl Screen {
     /// Shows how an operation stands.
     fn reply<D: Driver>(&mut self, session: &Session<D>, task: u8, progress: Progress) {
         self.text.clear();
-        self.page.note(print_ended(&mut self.text, task, progress, session.used()));
+        print_ended(&mut self.text, task, progress, session.used());
         self.print(Kind::Line(task, &ANSWER));
     }
 
     /// Shows the event of a step, and for whom it waits.
     fn event<D: Driver>(&mut self, session: &Session<D>, task: u8, event: Event, step: Step) {
         self.text.clear();
-        self.page
-            .note(self.text.event_line(task, event, step.action, false));
+        self.text.event_line(task, event, step.action, false);
         if let WordName::Block(level) = event.word {
             self.blocks[usize::from(task)] = level;
         }
         if let Progress::Waiting = step.progress {
             let wait = Wait::of(session, task, event, self.blocks[usize::from(task)]);
-            wait.print(&mut self.text, &mut self.page);
+            wait.print(&mut self.text);
         }
         let names = match event.touch {
             Touch::Store(_) => &STORE,

@@ -1,6 +1,5 @@
 //! For whom a task waits.
 
-use crate::page::Page;
 use cpu_words::{Event, WordName};
 use schedule_text::Output;
 use transcripts::{Driver, Session};
@@ -47,16 +46,16 @@ impl Wait {
     }
 
     /// Prints it behind the line of an event: ` waiting for mount0.flags, task 1`.
-    pub(crate) fn print(self, line: &mut Output, page: &mut Page) {
+    pub(crate) fn print(self, line: &mut Output) {
         let _ = line.bytes.pop();
-        page.note(line.text(b" waiting for "));
-        page.note(line.word_name(self.word));
-        page.note(match self.culprit {
+        line.text(b" waiting for ");
+        line.word_name(self.word);
+        match self.culprit {
             Culprit::Task(task) => line.numbered(b", task ", u64::from(task)),
             Culprit::Freeze => line.text(b", the freeze"),
-            Culprit::Gone => Ok(()),
-        });
-        page.note(line.text(b"\n"));
+            Culprit::Gone => {}
+        }
+        line.text(b"\n");
     }
 }
 

@@ -12,9 +12,9 @@ use Rattle.gate_world.specs.Configs.{model_limits}
 use Rattle.gate_world.specs.Rules.{Moves}
 use Rattle.gate_world.specs.Worlds.{World, Entry, Steps, happens, run, history, opening, action_of, phase_action, task_of, with_action}
 use Rattle.gate_world.specs.Shown.{shown}
-use Rattle.gate_core.specs.Answers.{step_answer, phase_step, idle_step}
-use Rattle.gate_core.specs.declared.steps.Step.{Step}
-use Rattle.gate_core.proofs.Whole.{whole_run, whole_moves}
+use Rattle.gate_schedules.specs.Answers.{step_answer, phase_step, idle_step}
+use Rattle.gate_schedules.specs.declared.steps.Step.{Step}
+use Rattle.gate_schedules.proofs.Whole.{whole_run, whole_moves}
 use Rattle.transcripts.specs.Transcript.{Play, played}
 use Rattle.transcripts.specs.Reached.{IsReached}
 

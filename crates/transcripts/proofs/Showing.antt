@@ -4,7 +4,7 @@ use Rattle.std.specs.Prelude.{Option, Some, None, Result, Ok, Err, OnOk, IsOk, I
 use Rattle.access_model.specs.States.{Standing}
 use Rattle.access_model.specs.Actions.{IsAllowed}
 use Rattle.access_model.specs.Histories.{Done, end_of}
-use Rattle.access_model.specs.Shown.{standing_of, standing_after, limits_of as limits_in, state_of}
+use Rattle.model_state.specs.Shown.{standing_of, standing_after, limits_of as limits_in, state_of}
 use Rattle.access_model.specs.declared.actions.Action.{Action}
 use Rattle.access_model.specs.declared.errors.GateError.{GateError}
 use Rattle.cpu_words.specs.Hooks.{HookAnswer}
@@ -12,8 +12,8 @@ use Rattle.gate_world.specs.Configs.{model_limits}
 use Rattle.gate_world.specs.declared.config.Config.{Config}
 use Rattle.gate_world.specs.declared.operations.Op.{Op}
 use Rattle.gate_world.specs.Worlds.{World, Entry, Begins, Steps, happens, action_of, with_action, task_of}
-use Rattle.gate_core.specs.Answers.{step_answer}
-use Rattle.gate_core.specs.declared.steps.Step.{Step}
+use Rattle.gate_schedules.specs.Answers.{step_answer}
+use Rattle.gate_schedules.specs.declared.steps.Step.{Step}
 use Rattle.schedule_text.specs.declared.faults.Fault.{Fault}
 use Rattle.transcripts.specs.Transcript.{Play, played, after_event}
 use Rattle.transcripts.specs.Sessions.{ShowsPlay, ShowsPlayIfAny}

@@ -11,60 +11,33 @@ use Rattle.cpu_words.specs.declared.names.WordName.TheVariants.{MountFlags, Moun
 use Rattle.cpu_words.specs.Names.{IsWord}
 use Rattle.gate_world.specs.Configs.{extents_of}
 use Rattle.gate_world.specs.declared.config.Config.{Config}
+use Rattle.schedule_text.specs.declared.output.Output.{Output}
+use Rattle.schedule_text.specs.Printed.{Prints}
+use Rattle.schedule_text.proofs.Printed.{prints_both, prints_same}
 use Rattle.transcripts.specs.Transcript.{Play, count_up, word_text, texts_of, words_of_all, mount_words, level_words, printed_words, printed_tree_words, word_in, words_text, tree_words_text}
 
 -- the texts of one number more
-pub one_more : (f : ℕ → List ℕ) (old now new : List ℕ) (i : ℕ) → now ≡ old ++ flat_map f (count_up i) → new ≡ now ++ f i →
-    new ≡ old ++ flat_map f (count_up (i + 1))
-one_more f old now new i so_far more =
-    more ∙ ap (λ (l : List ℕ). l ++ f i) so_far ∙ flat_map_more f old (count_up i) i
-    ∙ ap (λ (n : ℕ). old ++ flat_map f (count_up n)) (sym (add-one i))
-
--- the same where nothing is printed of the next
-pub none_more : (f : ℕ → List ℕ) (old now : List ℕ) (i : ℕ) → now ≡ old ++ flat_map f (count_up i) → f i ≡ [] →
-    now ≡ old ++ flat_map f (count_up (i + 1))
-none_more f old now i so_far none = one_more f old now now i so_far (sym (ap (λ (l : List ℕ). now ++ l) none ∙ append-nil now))
-
--- all of them
-pub all_of : (f : ℕ → List ℕ) (old new : List ℕ) (i n : ℕ) → new ≡ old ++ flat_map f (count_up i) → i ≡ n →
-    new ≡ old ++ flat_map f (count_up n)
-all_of f old new i n h e = h ∙ ap (λ (k : ℕ). old ++ flat_map f (count_up k)) e
-
--- three texts, one behind the other
-assoc : (a b c : List ℕ) → (a ++ b) ++ c ≡ a ++ (b ++ c)
-assoc a b c = rw append_assoc
+pub one_more : (f : ℕ → List ℕ) {old now new : Output} (i : ℕ) → Prints old now (flat_map f (count_up i)) → Prints now new (f i) →
+    Prints old new (flat_map f (count_up (i + 1)))
+one_more f i so_far more =
+    prints_same (prints_both so_far more)
+    (flat_map_more f [] (count_up i) i ∙ ap (λ (n : ℕ). flat_map f (count_up n)) (sym (add-one i)))
 
 -- the counts of all processors
-counts : (f : WordName → List ℕ) (g : ℕ → WordName) (mid new : List ℕ) (i n : ℕ) →
-    new ≡ mid ++ flat_map (λ k. f (g k)) (count_up i) → i ≡ n → new ≡ mid ++ flat_map f (map g (count_up n))
-counts f g mid new i n h e =
-    all_of (λ k. f (g k)) mid new i n h e ∙ ap (λ (l : List ℕ). mid ++ l) (sym (flat_map-map f g (count_up n)))
+counts : (f : WordName → List ℕ) (g : ℕ → WordName) {old new : Output} (i n : ℕ) →
+    Prints old new (flat_map (λ k. f (g k)) (count_up i)) → i ≡ n → Prints old new (flat_map f (map g (count_up n)))
+counts f g i n a e =
+    prints_same a (ap (λ (j : ℕ). flat_map (λ k. f (g k)) (count_up j)) e ∙ sym (flat_map-map f g (count_up n)))
 
 -- one word, and then the counts of all processors
-pub one_and_counts : (f : WordName → List ℕ) (g : ℕ → WordName) (first : WordName) (old mid new : List ℕ) (i n : ℕ) →
-    mid ≡ old ++ f first → new ≡ mid ++ flat_map (λ k. f (g k)) (count_up i) → i ≡ n →
-    new ≡ old ++ (f first ++ flat_map f (map g (count_up n)))
-one_and_counts f g first old mid new i n a h e =
-    let all = flat_map f (map g (count_up n)) in
-    counts f g mid new i n h e ∙ ap (λ (l : List ℕ). l ++ all) a ∙ assoc old (f first) all
-
--- two words, and then the counts of all processors
-pub two_and_counts : (f : WordName → List ℕ) (g : ℕ → WordName) (first second : WordName) (old mid more new : List ℕ) (i n : ℕ) →
-    mid ≡ old ++ f first → more ≡ mid ++ f second → new ≡ more ++ flat_map (λ k. f (g k)) (count_up i) → i ≡ n →
-    new ≡ old ++ (f first ++ (f second ++ flat_map f (map g (count_up n))))
-two_and_counts f g first second old mid more new i n a b h e =
-    let rest = f second ++ flat_map f (map g (count_up n)) in
-    one_and_counts f g second mid more new i n b h e ∙ ap (λ (l : List ℕ). l ++ rest) a ∙ assoc old (f first) rest
+pub one_and_counts : (f : WordName → List ℕ) (g : ℕ → WordName) {old now new : Output} {first : List ℕ} (i n : ℕ) →
+    Prints old now first → Prints now new (flat_map (λ k. f (g k)) (count_up i)) → i ≡ n →
+    Prints old new (first ++ flat_map f (map g (count_up n)))
+one_and_counts f g i n a b e = prints_both a (counts f g i n b e)
 
 -- six texts, one behind the other, as `words` prints them
-six : (o a b c d e f : List ℕ) →
-    (((((o ++ a) ++ b) ++ c) ++ d) ++ e) ++ f ≡ o ++ (((a ++ b) ++ (c ++ (d ++ (e ++ [])))) ++ f)
-six o a b c d e f = simp (append_assoc, append-nil)
-
--- six texts that are printed in turn
-joined : (f e d c b a o : List ℕ) (tf te td tc tb ta : List ℕ) → f ≡ e ++ tf → e ≡ d ++ te → d ≡ c ++ td → c ≡ b ++ tc → b ≡ a ++ tb →
-    a ≡ o ++ ta → f ≡ (((((o ++ ta) ++ tb) ++ tc) ++ td) ++ te) ++ tf
-joined f e d c b a o tf te td tc tb ta ef ee ed ec eb ea = cc
+six : (a b c d e f : List ℕ) → ((((a ++ b) ++ c) ++ d) ++ e) ++ f ≡ ((a ++ b) ++ (c ++ (d ++ (e ++ [])))) ++ f
+six a b c d e f = simp (append_assoc, append-nil)
 
 -- the texts of lists of words, one behind the other
 texts_flat : (value : WordName → Option ℕ) (names : ℕ → List WordName) (xs : List ℕ) →
@@ -117,25 +90,25 @@ module _ (value : WordName → Option ℕ) (c : Config) where
       (flat_map-map line Section (count_up c.tasks))
 
   -- what `words` prints: the words of the whole, the mounts, three levels and the sections
-  pub all_words : (o g h i j k n : List ℕ) → g ≡ o ++ texts_of value words_of_all → h ≡ g ++ mounts → i ≡ h ++ level 1 → j ≡ i ++ level 2 →
-      k ≡ j ++ level 3 → n ≡ k ++ sections → n ≡ o ++ texts_of value (printed_words c)
-  all_words o g h i j k n eg eh ei ej ek en =
-      joined n k j i h g o _ _ _ _ _ _ en ek ej ei eh eg
-      ∙ six o (texts_of value words_of_all) mounts (level 1) (level 2) (level 3) sections ∙ ap (λ (l : List ℕ). o ++ l) (sym parts)
+  pub all_words : {o g h i j k n : Output} → Prints o g (texts_of value words_of_all) → Prints g h mounts → Prints h i (level 1) →
+      Prints i j (level 2) → Prints j k (level 3) → Prints k n sections → Prints o n (texts_of value (printed_words c))
+  all_words pg ph pi pj pk pn =
+      prints_same (prints_both (prints_both (prints_both (prints_both (prints_both pg ph) pi) pj) pk) pn)
+      (six (texts_of value words_of_all) mounts (level 1) (level 2) (level 3) sections ∙ sym parts)
 
   -- what `tree` prints: the blocks charged, the nodes and the children
-  pub all_tree_words : (o a b d : List ℕ) → a ≡ o ++ line Used → b ≡ a ++ nodes → d ≡ b ++ kids →
-      d ≡ o ++ texts_of value (printed_tree_words c)
-  all_tree_words o a b d ea eb ed =
+  pub all_tree_words : {o a b d : Output} → Prints o a (line Used) → Prints a b nodes → Prints b d kids →
+      Prints o d (texts_of value (printed_tree_words c))
+  all_tree_words pa pb pd =
       let of_nodes = map Node (count_up c.nodes) in
       let of_kids = map Kids (count_up c.nodes) in
-      let whole : ((o ++ line Used) ++ nodes) ++ kids ≡ o ++ (((line Used ++ []) ++ nodes) ++ kids) = simp (append_assoc, append-nil) in
+      let whole : (line Used ++ nodes) ++ kids ≡ ((line Used ++ []) ++ nodes) ++ kids = simp append-nil in
       let split : texts_of value (printed_tree_words c) ≡ ((line Used ++ []) ++ nodes) ++ kids =
       texts_both value ((Used ∷ []) ++ of_nodes) of_kids
       ∙ ap₂ (λ (l m : List ℕ). l ++ m)
       (texts_both value (Used ∷ []) of_nodes ∙ ap (λ l. (line Used ++ []) ++ l) (flat_map-map line Node (count_up c.nodes)))
       (flat_map-map line Kids (count_up c.nodes)) in
-      ed ∙ ap (λ l. l ++ kids) (eb ∙ ap (λ l. l ++ nodes) ea) ∙ whole ∙ ap (λ (l : List ℕ). o ++ l) (sym split)
+      prints_same (prints_both (prints_both pa pb) pd) (whole ∙ sym split)
 
 -- ---- the words that are printed are words of the configuration
 

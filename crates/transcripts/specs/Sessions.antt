@@ -1,6 +1,6 @@
 -- What a session is of a schedule on its way.
 use Rattle.std.specs.Prelude.{◌≡◌, Option, Some, None}
-use Rattle.access_model.specs.Shown.{standing_of}
+use Rattle.model_state.specs.Shown.{standing_of}
 use Rattle.access_model.specs.Histories.{end_of}
 use Rattle.gate_world.specs.Configs.{model_limits}
 use Rattle.gate_world.specs.Worlds.{World}

@@ -16,9 +16,9 @@ use Rattle.cpu_words.specs.declared.names.WordName.TheVariants.{Umount, Stage, H
 use Rattle.cpu_words.specs.Words.{read}
 use Rattle.gate_world.specs.declared.config.Config.{Config}
 use Rattle.gate_world.specs.Worlds.{World, Entry, Begins, Steps, happens, action_of, task_of, with_action, opening}
-use Rattle.gate_core.specs.declared.steps.Progress.{Progress}
-use Rattle.gate_core.specs.declared.steps.Progress.TheVariants.{Idle, Going, Waiting, Done as Ended}
-use Rattle.gate_core.specs.Answers.{begin_answer, step_answer, wanted_hook}
+use Rattle.gate_schedules.specs.declared.steps.Progress.{Progress}
+use Rattle.gate_schedules.specs.declared.steps.Progress.TheVariants.{Idle, Going, Waiting, Done as Ended}
+use Rattle.gate_schedules.specs.Answers.{begin_answer, step_answer, wanted_hook}
 use Rattle.schedule_text.specs.declared.commands.HookFailure.{HookFailure}
 use Rattle.schedule_text.specs.declared.commands.Line.{Line}
 use Rattle.schedule_text.specs.declared.commands.Line.TheVariants.{Skipped, Config as ConfigLine, Request as RequestLine}

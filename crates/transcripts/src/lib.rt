@@ -9,4 +9,4 @@ pub mod session;
 
 pub use drivers::Driver;
 pub use gate_core::Core;
-pub use session::{Session, no_memory};
+pub use session::{Session, no_memory, settled};

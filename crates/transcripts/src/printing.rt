@@ -1,22 +1,22 @@
 //! What is printed of a step, and of a run.
 
-ghost use Rattle.std.specs.Prelude.{◌≡◌, ◌++◌, OnOk};
+ghost use Rattle.std.specs.Prelude.{◌≡◌};
+ghost use Rattle.schedule_text.specs.Printed.{Prints};
 ghost use Rattle.transcripts.specs.Printing.{step_text, reply_after, ended_text, is_waiting};
 
 use gate_core::{Progress, Step};
 use schedule_text::Output;
-use std::alloc::AllocError;
 
 /// The event, and then the reply where there is one; or that the task is idle. `used` is the blocks charged now.
 #[tactic(auto, unfolding(crate::specs::Printing::step_text))]
-pub fn print_step(out: &mut Output, task: u8, step: Step, used: u64) -> Result<(), AllocError>
-    ensures { OnOk result (out.new.bytes.items ≡ out.old.bytes.items ++ step_text task step used) }
+pub fn print_step(out: &mut Output, task: u8, step: Step, used: u64)
+    ensures { Prints out.old out.new (step_text task step used) }
 {
     match step.event {
         None => out.idle_line(task),
         Some(event) => {
-            out.event_line(task, event, step.action, is_waiting(step.progress))?;
-            print_reply_after(out, task, step.progress, used)
+            out.event_line(task, event, step.action, is_waiting(step.progress));
+            print_reply_after(out, task, step.progress, used);
         }
     }
 }
@@ -32,29 +32,19 @@ fn is_waiting(progress: Progress) -> bool
 }
 
 /// The reply where the operation has ended.
-fn print_reply_after(
-    out: &mut Output,
-    task: u8,
-    progress: Progress,
-    used: u64,
-) -> Result<(), AllocError>
-    ensures { OnOk result (out.new.bytes.items ≡ out.old.bytes.items ++ reply_after task progress used) }
+fn print_reply_after(out: &mut Output, task: u8, progress: Progress, used: u64)
+    ensures { Prints out.old out.new (reply_after task progress used) }
 {
     match progress {
         Progress::Done(answer) => out.answer_line(task, answer, used),
-        Progress::Idle | Progress::Going | Progress::Waiting => Ok(()),
+        Progress::Idle | Progress::Going | Progress::Waiting => {}
     }
 }
 
 /// How a run ended: by a reply, by having to wait or to go on, or at once, as the task was idle.
 #[tactic(auto, unfolding(crate::specs::Printing::ended_text))]
-pub fn print_ended(
-    out: &mut Output,
-    task: u8,
-    progress: Progress,
-    used: u64,
-) -> Result<(), AllocError>
-    ensures { OnOk result (out.new.bytes.items ≡ out.old.bytes.items ++ ended_text task progress used) }
+pub fn print_ended(out: &mut Output, task: u8, progress: Progress, used: u64)
+    ensures { Prints out.old out.new (ended_text task progress used) }
 {
     match progress {
         Progress::Idle => out.idle_line(task),

@@ -1,15 +1,17 @@
 //! What a schedule drives: the gates, and the model beside them.
 
-ghost use Rattle.std.specs.Prelude.{◌≡◌, ◌≤◌, ◌<◌, ◌++◌, true, false, IsOk, IfOk, IfErr, OnOk, Some};
+ghost use Rattle.std.specs.Prelude.{◌≡◌, ◌≤◌, ◌<◌, ◌++◌, true, false, IsOk, IfOk, IfErr, OnOk, OnErr, Some};
+ghost use Rattle.schedule_text.specs.Printed.{Prints};
 ghost use Rattle.schedule_text.specs.declared.faults.Fault.TheVariants.{Refused};
 ghost use Rattle.access_model.specs.declared.errors.GateError.TheVariants.{Invalid, NoMemory};
 
 use crate::drivers::Driver;
 use crate::printing::{print_ended, print_step};
-use access_model::{GateError, Holder, Model};
+use access_model::{GateError, Holder};
 use cpu_words::WordName;
 use gate_core::{Progress, Step};
 use gate_world::{Config, Op};
+use model_state::Model;
 use schedule_text::{Fault, HookFailure, Output, Request, TaskCommand};
 use std::alloc::{AllocError, Global};
 
@@ -38,8 +40,17 @@ pub fn no_memory(_error: AllocError) -> Fault
     Fault::Refused(GateError::NoMemory)
 }
 
+/// Whether there was memory for all that was printed.
+pub fn settled(out: &Output) -> Result<(), Fault>
+    ensures whole { OnOk result (out.now.is_whole ≡ true) }
+    ensures refused { OnErr result (out.now.is_whole ≡ false) }
+    ensures memory { IfErr result (λ fault. fault ≡ Refused NoMemory) }
+{
+    out.settled().map_err(no_memory)
+}
+
 impl<D: Driver> Session<D> {
-    ghost use Rattle.gate_core.specs.Answers.{begin_answer, step_answer};
+    ghost use Rattle.gate_schedules.specs.Answers.{begin_answer, step_answer};
     ghost use Rattle.gate_world.specs.Worlds.{Begins, Steps};
     ghost use Rattle.transcripts.specs.Limits.{is_config};
     ghost use Rattle.transcripts.specs.Sessions.{ShowsPlay};
@@ -97,9 +108,18 @@ impl<D: Driver> Session<D> {
         ensures memory { (p : Play) → ShowsPlay D.shows self.old p → IfErr result (λ fault. fault ≡ Refused NoMemory) }
     {
         match request {
-            Request::Words => self.print_words(out).map_err(no_memory),
-            Request::Tree => self.print_tree_words(out).map_err(no_memory),
-            Request::Model => self.print_model(out).map_err(no_memory),
+            Request::Words => {
+                self.print_words(out);
+                settled(out)
+            }
+            Request::Tree => {
+                self.print_tree_words(out);
+                settled(out)
+            }
+            Request::Model => {
+                self.print_model(out);
+                settled(out)
+            }
             Request::Task { task, command } => self.do_command(task, command, out),
         }
     }
@@ -120,11 +140,13 @@ impl<D: Driver> Session<D> {
             TaskCommand::Begin(op) => self.begin(task, op, out),
             TaskCommand::Step { hook } => {
                 let step = self.step(task, hook)?;
-                print_step(out, task, step, self.used()).map_err(no_memory)
+                print_step(out, task, step, self.used());
+                settled(out)
             }
             TaskCommand::Run { failure } => {
                 let ran = self.run(task, failure)?;
-                print_ended(out, task, ran.progress, self.used()).map_err(no_memory)
+                print_ended(out, task, ran.progress, self.used());
+                settled(out)
             }
         }
     }
@@ -138,7 +160,10 @@ impl<D: Driver> Session<D> {
     {
         match self.driver.begin(task, op) {
             Ok(()) => Ok(()),
-            Err(refusal) => out.refused_line(task, refusal).map_err(no_memory),
+            Err(refusal) => {
+                out.refused_line(task, refusal);
+                settled(out)
+            }
         }
     }
 
@@ -215,232 +240,208 @@ impl<D: Driver> Session<D> {
     }
 
     /// Prints the words that aren't 0, up to the last section: each with what the gates tell of it.
-    pub fn print_words(&self, out: &mut Output) -> Result<(), AllocError>
-        ensures own { OnOk result (out.new.bytes.items ≡ out.old.bytes.items ++
-            texts_of (D.word_of self.now.driver) (printed_words self.now.config)) }
-        ensures shown { (p : Play) → ShowsPlay D.shows self.now p → OnOk result (out.new.bytes.items ≡ out.old.bytes.items ++ words_text p) }
+    pub fn print_words(&self, out: &mut Output)
+        ensures own { Prints out.old out.new (texts_of (D.word_of self.now.driver) (printed_words self.now.config)) }
+        ensures shown { (p : Play) → ShowsPlay D.shows self.now p → Prints out.old out.new (words_text p) }
     {
-        self.print_words_of_all(out)?;
-        self.print_words_of_mounts(out)?;
-        self.print_level_words(1, out)?;
-        self.print_level_words(2, out)?;
-        self.print_level_words(3, out)?;
-        self.print_sections(out)
+        self.print_words_of_all(out);
+        self.print_words_of_mounts(out);
+        self.print_level_words(1, out);
+        self.print_level_words(2, out);
+        self.print_level_words(3, out);
+        self.print_sections(out);
     }
 
-    fn print_words_of_all(&self, out: &mut Output) -> Result<(), AllocError>
-        ensures { OnOk result (out.new.bytes.items ≡ out.old.bytes.items ++ texts_of (D.word_of self.now.driver) words_of_all) }
+    fn print_words_of_all(&self, out: &mut Output)
+        ensures { Prints out.old out.new (texts_of (D.word_of self.now.driver) words_of_all) }
     {
-        self.print_word(WordName::Umount, out)?;
-        self.print_word(WordName::Stage, out)?;
-        self.print_word(WordName::Holders, out)?;
-        self.print_word(WordName::SbFlags, out)?;
-        self.print_word(WordName::Remount, out)?;
-        self.print_word(WordName::Removed, out)
+        self.print_word(WordName::Umount, out);
+        self.print_word(WordName::Stage, out);
+        self.print_word(WordName::Holders, out);
+        self.print_word(WordName::SbFlags, out);
+        self.print_word(WordName::Remount, out);
+        self.print_word(WordName::Removed, out);
     }
 
-    fn print_words_of_mounts(&self, out: &mut Output) -> Result<(), AllocError>
-        ensures { OnOk result (out.new.bytes.items ≡ out.old.bytes.items ++
+    fn print_words_of_mounts(&self, out: &mut Output)
+        ensures { Prints out.old out.new (
             flat_map (λ m. texts_of (D.word_of self.now.driver) (mount_words self.now.config m)) (count_up self.now.config.mounts)) }
     {
         for mount in 0..self.config.mounts {
-            self.print_mount_words(mount, out)?;
+            self.print_mount_words(mount, out);
         }
-        Ok(())
     }
 
-    fn print_mount_words(&self, mount: u8, out: &mut Output) -> Result<(), AllocError>
-        ensures { OnOk result (out.new.bytes.items ≡ out.old.bytes.items ++
-            texts_of (D.word_of self.now.driver) (mount_words self.now.config mount)) }
+    fn print_mount_words(&self, mount: u8, out: &mut Output)
+        ensures { Prints out.old out.new (texts_of (D.word_of self.now.driver) (mount_words self.now.config mount)) }
     {
-        self.print_word(WordName::MountFlags(mount), out)?;
+        self.print_word(WordName::MountFlags(mount), out);
         for cpu in 0..self.config.processors {
-            self.print_word(WordName::MountCount(mount, cpu), out)?;
+            self.print_word(WordName::MountCount(mount, cpu), out);
         }
-        Ok(())
     }
 
-    fn print_level_words(&self, level: u8, out: &mut Output) -> Result<(), AllocError>
-        ensures { OnOk result (out.new.bytes.items ≡ out.old.bytes.items ++
-            texts_of (D.word_of self.now.driver) (level_words self.now.config level)) }
+    fn print_level_words(&self, level: u8, out: &mut Output)
+        ensures { Prints out.old out.new (texts_of (D.word_of self.now.driver) (level_words self.now.config level)) }
     {
-        self.print_word(WordName::Block(level), out)?;
-        self.print_word(WordName::Sync(level), out)?;
+        self.print_word(WordName::Block(level), out);
+        self.print_word(WordName::Sync(level), out);
         for cpu in 0..self.config.processors {
-            self.print_word(WordName::LevelCount(level, cpu), out)?;
+            self.print_word(WordName::LevelCount(level, cpu), out);
         }
-        Ok(())
     }
 
-    fn print_sections(&self, out: &mut Output) -> Result<(), AllocError>
-        ensures { OnOk result (out.new.bytes.items ≡ out.old.bytes.items ++
+    fn print_sections(&self, out: &mut Output)
+        ensures { Prints out.old out.new (
             flat_map (λ t. word_text (SectionWord t) (D.word_of self.now.driver (SectionWord t))) (count_up self.now.config.tasks)) }
     {
         for task in 0..self.config.tasks {
-            self.print_word(WordName::Section(task), out)?;
+            self.print_word(WordName::Section(task), out);
         }
-        Ok(())
     }
 
     /// Prints the words of the tree that aren't 0: each with what the gates tell of it.
-    pub fn print_tree_words(&self, out: &mut Output) -> Result<(), AllocError>
-        ensures own { OnOk result (out.new.bytes.items ≡ out.old.bytes.items ++
-            texts_of (D.word_of self.now.driver) (printed_tree_words self.now.config)) }
-        ensures shown { (p : Play) → ShowsPlay D.shows self.now p → OnOk result (out.new.bytes.items ≡ out.old.bytes.items ++ tree_words_text p) }
+    pub fn print_tree_words(&self, out: &mut Output)
+        ensures own { Prints out.old out.new (texts_of (D.word_of self.now.driver) (printed_tree_words self.now.config)) }
+        ensures shown { (p : Play) → ShowsPlay D.shows self.now p → Prints out.old out.new (tree_words_text p) }
     {
-        self.print_word(WordName::Used, out)?;
-        self.print_node_words(out)?;
-        self.print_kids(out)
+        self.print_word(WordName::Used, out);
+        self.print_node_words(out);
+        self.print_kids(out);
     }
 
-    fn print_node_words(&self, out: &mut Output) -> Result<(), AllocError>
-        ensures { OnOk result (out.new.bytes.items ≡ out.old.bytes.items ++
+    fn print_node_words(&self, out: &mut Output)
+        ensures { Prints out.old out.new (
             flat_map (λ n. word_text (NodeWord n) (D.word_of self.now.driver (NodeWord n))) (count_up self.now.config.nodes)) }
     {
         for node in 0..self.config.nodes {
-            self.print_word(WordName::Node(node), out)?;
+            self.print_word(WordName::Node(node), out);
         }
-        Ok(())
     }
 
-    fn print_kids(&self, out: &mut Output) -> Result<(), AllocError>
-        ensures { OnOk result (out.new.bytes.items ≡ out.old.bytes.items ++
+    fn print_kids(&self, out: &mut Output)
+        ensures { Prints out.old out.new (
             flat_map (λ n. word_text (KidsWord n) (D.word_of self.now.driver (KidsWord n))) (count_up self.now.config.nodes)) }
     {
         for node in 0..self.config.nodes {
-            self.print_word(WordName::Kids(node), out)?;
+            self.print_word(WordName::Kids(node), out);
         }
-        Ok(())
     }
 
     /// Prints a word where it isn't 0.
-    fn print_word(&self, name: WordName, out: &mut Output) -> Result<(), AllocError>
-        ensures { OnOk result (out.new.bytes.items ≡ out.old.bytes.items ++ word_text name (D.word_of self.now.driver name)) }
+    fn print_word(&self, name: WordName, out: &mut Output)
+        ensures { Prints out.old out.new (word_text name (D.word_of self.now.driver name)) }
     {
         match self.driver.word(name) {
-            None | Some(0) => Ok(()),
+            None | Some(0) => {}
             Some(value) => out.word_line(name, value),
         }
     }
 
     /// Prints the model.
     #[tactic(auto, unfolding(crate::specs::Transcript::model_text))]
-    pub fn print_model(&self, out: &mut Output) -> Result<(), AllocError>
-        ensures { (p : Play) → ShowsPlay D.shows self.now p → OnOk result (out.new.bytes.items ≡ out.old.bytes.items ++ model_text p) }
+    pub fn print_model(&self, out: &mut Output)
+        ensures { (p : Play) → ShowsPlay D.shows self.now p → Prints out.old out.new (model_text p) }
     {
         let (stage, passed) = (self.model.stage(), self.model.passed());
-        out.model_line(stage, passed, self.model.sb_ro())?;
-        self.print_freezes(out)?;
-        self.print_closed_mounts(out)?;
-        self.print_holders(out)?;
-        self.print_tree(out)
+        out.model_line(stage, passed, self.model.sb_ro());
+        self.print_freezes(out);
+        self.print_closed_mounts(out);
+        self.print_holders(out);
+        self.print_tree(out);
     }
 
     /// Prints who holds a freeze.
-    fn print_freezes(&self, out: &mut Output) -> Result<(), AllocError>
-        ensures { (p : Play) → ShowsPlay D.shows self.now p →
-            OnOk result (out.new.bytes.items ≡ out.old.bytes.items ++ freezes_text (end_of p.done)) }
+    fn print_freezes(&self, out: &mut Output)
+        ensures { (p : Play) → ShowsPlay D.shows self.now p → Prints out.old out.new (freezes_text (end_of p.done)) }
     {
-        self.print_freeze(Holder::Kernel, out)?;
-        self.print_freeze(Holder::User, out)
+        self.print_freeze(Holder::Kernel, out);
+        self.print_freeze(Holder::User, out);
     }
 
-    fn print_freeze(&self, holder: Holder, out: &mut Output) -> Result<(), AllocError>
-        ensures { (p : Play) → ShowsPlay D.shows self.now p →
-            OnOk result (out.new.bytes.items ≡ out.old.bytes.items ++ freeze_line (end_of p.done) holder) }
+    fn print_freeze(&self, holder: Holder, out: &mut Output)
+        ensures { (p : Play) → ShowsPlay D.shows self.now p → Prints out.old out.new (freeze_line (end_of p.done) holder) }
     {
         if self.model.holds(holder) {
-            out.holder_line(holder)
-        } else {
-            Ok(())
+            out.holder_line(holder);
         }
     }
 
     /// Prints the mounts that are read-only.
-    fn print_closed_mounts(&self, out: &mut Output) -> Result<(), AllocError>
+    fn print_closed_mounts(&self, out: &mut Output)
         ensures { (p : Play) → ShowsPlay D.shows self.now p →
-            OnOk result (out.new.bytes.items ≡ out.old.bytes.items ++ flat_map (closed_line (end_of p.done)) (count_up p.config.mounts)) }
+            Prints out.old out.new (flat_map (closed_line (end_of p.done)) (count_up p.config.mounts)) }
     {
         for mount in 0..self.config.mounts {
             if self.model.mount_ro(mount) {
-                out.read_only_mount_line(mount)?;
+                out.read_only_mount_line(mount);
             }
         }
-        Ok(())
     }
 
     /// Prints what the tasks hold.
-    fn print_holders(&self, out: &mut Output) -> Result<(), AllocError>
+    fn print_holders(&self, out: &mut Output)
         ensures { (p : Play) → ShowsPlay D.shows self.now p →
-            OnOk result (out.new.bytes.items
-            ≡ out.old.bytes.items ++ flat_map (task_text p.config (end_of p.done)) (count_up p.config.tasks)) }
+            Prints out.old out.new (flat_map (task_text p.config (end_of p.done)) (count_up p.config.tasks)) }
     {
         for task in 0..self.config.tasks {
-            self.print_held(task, out)?;
+            self.print_held(task, out);
         }
-        Ok(())
     }
 
     /// Prints the nodes that are not free.
-    fn print_tree(&self, out: &mut Output) -> Result<(), AllocError>
+    fn print_tree(&self, out: &mut Output)
         ensures { (p : Play) → ShowsPlay D.shows self.now p →
-            OnOk result (out.new.bytes.items ≡ out.old.bytes.items ++ flat_map (tree_line (end_of p.done)) (count_up p.config.nodes)) }
+            Prints out.old out.new (flat_map (tree_line (end_of p.done)) (count_up p.config.nodes)) }
     {
         for node in 0..self.config.nodes {
             if let Some(info) = self.model.tree(node) {
-                out.node_line(node, info)?;
+                out.node_line(node, info);
             }
         }
-        Ok(())
     }
 
     /// Prints what a task holds.
-    fn print_held(&self, task: u8, out: &mut Output) -> Result<(), AllocError>
+    fn print_held(&self, task: u8, out: &mut Output)
         ensures { (p : Play) → ShowsPlay D.shows self.now p → task < p.config.tasks →
-            OnOk result (out.new.bytes.items ≡ out.old.bytes.items ++ task_text p.config (end_of p.done) task) }
+            Prints out.old out.new (task_text p.config (end_of p.done) task) }
     {
-        self.print_held_mounts(task, out)?;
-        self.print_held_level(task, 1, out)?;
-        self.print_held_level(task, 2, out)?;
-        self.print_held_level(task, 3, out)?;
-        self.print_open_files(task, out)
+        self.print_held_mounts(task, out);
+        self.print_held_level(task, 1, out);
+        self.print_held_level(task, 2, out);
+        self.print_held_level(task, 3, out);
+        self.print_open_files(task, out);
     }
 
-    fn print_held_mounts(&self, task: u8, out: &mut Output) -> Result<(), AllocError>
+    fn print_held_mounts(&self, task: u8, out: &mut Output)
         ensures { (p : Play) → ShowsPlay D.shows self.now p → task < p.config.tasks →
-            OnOk result (out.new.bytes.items
-            ≡ out.old.bytes.items ++ flat_map (held_line (end_of p.done) task) (count_up p.config.mounts)) }
+            Prints out.old out.new (flat_map (held_line (end_of p.done) task) (count_up p.config.mounts)) }
     {
         for mount in 0..self.config.mounts {
             let count = self.model.held_mount(task, mount);
             if count > 0 {
-                out.held_mount_line(task, mount, count)?;
+                out.held_mount_line(task, mount, count);
             }
         }
-        Ok(())
     }
 
-    fn print_open_files(&self, task: u8, out: &mut Output) -> Result<(), AllocError>
+    fn print_open_files(&self, task: u8, out: &mut Output)
         ensures { (p : Play) → ShowsPlay D.shows self.now p → task < p.config.tasks →
-            OnOk result (out.new.bytes.items
-            ≡ out.old.bytes.items ++ flat_map (open_line (end_of p.done) task) (count_up p.config.nodes)) }
+            Prints out.old out.new (flat_map (open_line (end_of p.done) task) (count_up p.config.nodes)) }
     {
         for node in 0..self.config.nodes {
             if self.model.has_open(task, node) {
-                out.open_file_line(task, node)?;
+                out.open_file_line(task, node);
             }
         }
-        Ok(())
     }
 
-    fn print_held_level(&self, task: u8, level: u8, out: &mut Output) -> Result<(), AllocError>
+    fn print_held_level(&self, task: u8, level: u8, out: &mut Output)
         ensures { (p : Play) → ShowsPlay D.shows self.now p → task < p.config.tasks → 1 ≤ level → level ≤ 3 →
-            OnOk result (out.new.bytes.items ≡ out.old.bytes.items ++ level_line (end_of p.done) task level) }
+            Prints out.old out.new (level_line (end_of p.done) task level) }
     {
         if self.model.held_level(task, level) {
-            out.held_level_line(task, level)
-        } else {
-            Ok(())
+            out.held_level_line(task, level);
         }
     }
 }

@@ -5,13 +5,14 @@ use Rattle.finite_sums.{proofs.Totals.{update_map, update_same, total_at}, specs
 use Rattle.access_model.specs.Actions.{grown, moved, marked, unlinked, after_remove}
 use Rattle.access_model.specs.States.{size_of, is_dirty, is_removed, one_if, IsFile, IsLinkedFile, IsDirectory}
 use Rattle.access_model.specs.declared.actions.{Action.Action, Kind.Kind, NodeInfo.NodeInfo}
-use Rattle.gated_tree.proofs.Words.{word_shows, word_opens, file_is_node, lawful_file, new_is_node, free_is_node}
-use Rattle.gated_tree.specs.Nodes.{IsLawful, opens_in, word_of, info_of, node_shown, new_node, grown_node, moved_node, marked_node, opened_node, closed_node}
-use Rattle.gated_tree.specs.Nodes.{unlinked_node}
+use Rattle.node_words.proofs.Words.{word_shows, word_opens, file_is_node, lawful_file, new_is_node, free_is_node}
+use Rattle.node_words.specs.Nodes.{IsLawful, opens_in, word_of, info_of, node_shown, new_node, grown_node, moved_node, marked_node, opened_node, closed_node}
+use Rattle.node_words.specs.Nodes.{unlinked_node}
 use Rattle.gated_tree.specs.Roles.{Role, Out, Loaded, Placing, Moving, Charged, Freed, Returning, Removing, Freeing, Dropped, Bounds, TreeState, AreWithin}
 use Rattle.gated_tree.specs.Roles.{charge, child_charge, removal, frees, IsFileNode, IsLastOpen, MayGrow, IsDirectoryAt, HasParent, RoleHolds, TreeHolds}
 use Rattle.gated_tree.specs.Roles.{NobodyReads, MayDirty, NobodyElseFrees}
-use Rattle.gated_tree.specs.{Trees.{is_same, has_parent}, declared.nodes.NodeWord.NodeWord}
+use Rattle.node_words.specs.declared.nodes.NodeWord.{NodeWord}
+use Rattle.gated_tree.specs.Trees.{is_same, has_parent}
 use Rattle.tree_laws.{proofs.Laws.{role_says, not_freed, node_changes}, specs.Events.{with_node, tree_shown, opens_shown, TreeDoes, MayClean}}
 
 -- a file, as the model has it

@@ -4,11 +4,14 @@ use Rattle.std.proofs.lemmas.Bool.{ne_eqb, lt-ltb, le-ltb, Decides.eqb_tells}
 use Rattle.std.specs.Prelude.{Option, Some, None}
 use Rattle.finite_sums.{proofs.Totals.{update_same, each_updated, total_none, total_same}, specs.Sums.update}
 use Rattle.access_model.specs.{States.{size_of, is_dirty, IsDirectory}, declared.actions.{Action.Action, NodeInfo.NodeInfo}}
-use Rattle.gated_tree.proofs.{ClearedMarks.{clean_stays, cleared_is, marked_file, file_shown, directory_clean}, Packing.word_returns, Words.dirty_shown}
-use Rattle.gated_tree.specs.Nodes.{dirty_in, removed_in, kind_in, kind_of, word_of, node_of, node_shown, marked_node}
+use Rattle.node_words.proofs.ClearedMarks.{clean_stays, cleared_is, marked_file, file_shown, directory_clean}
+use Rattle.node_words.proofs.Packing.{word_returns}
+use Rattle.node_words.proofs.Words.{dirty_shown}
+use Rattle.node_words.specs.Nodes.{dirty_in, removed_in, kind_in, kind_of, word_of, node_of, node_shown, marked_node}
 use Rattle.gated_tree.specs.Roles.{Out, Clearing, Reading, Bounds, TreeState, AreWithin, charge, child_charge, removal, tree_word, seen_as, IsFileNode}
 use Rattle.gated_tree.specs.Roles.{HasParent, TreeHolds}
-use Rattle.gated_tree.specs.{Trees.{is_child, HasDirectory, IsSound, IsClean}, declared.nodes.NodeWord.NodeWord}
+use Rattle.node_words.specs.declared.nodes.NodeWord.{NodeWord}
+use Rattle.gated_tree.specs.Trees.{is_child, HasDirectory, IsSound, IsClean}
 use Rattle.tree_laws.proofs.{Changes.{file_shows, unmarks}, Laws.{role_says, moves}}
 use Rattle.tree_laws.specs.Events.{turned, with_node, cleared_word, tree_shown, opens_shown, TreeDoes, MovesBy, MayClean, IsQuiet}
 

@@ -4,12 +4,13 @@ use Rattle.std.specs.Prelude.{Option, Some, None, Ok, true, false, if◌then◌e
 use Rattle.finite_sums.{proofs.Totals.{each_updated, total_bound, total_at}, specs.Sums.{update, total}}
 use Rattle.access_model.specs.{States.{is_removed, one_if}, declared.actions.{Kind.Kind, NodeInfo.NodeInfo}}
 use Rattle.cpu_words.specs.Touches.{wrap_add, wrap_sub}
-use Rattle.gated_tree.proofs.Words.{file_loaded, any_file_loaded, directory_loaded, word_shows}
-use Rattle.gated_tree.specs.Nodes.{node_shown, info_of, file_in, any_file_in, directory_in}
+use Rattle.node_words.proofs.Words.{file_loaded, any_file_loaded, directory_loaded, word_shows}
+use Rattle.node_words.specs.Nodes.{node_shown, info_of, file_in, any_file_in, directory_in}
 use Rattle.gated_tree.specs.Roles.{Role, Out, Loaded, Found, Placing, Targets, Moving, Growing, Charged, Refunding, Freed, Returning, Removing, Freeing}
 use Rattle.gated_tree.specs.Roles.{Dropped, Uncounting, Bare, Bounds, TreeState, AreWithin, charge, child_charge, removal, IsFileNode, MayGrow, IsDirectoryAt}
 use Rattle.gated_tree.specs.Roles.{HasParent, RoleHolds, TreeHolds, NobodyReads, MayRemove, HasNoCharge}
-use Rattle.gated_tree.specs.{Trees.{is_same, has_parent, is_child}, declared.nodes.NodeWord.NodeWord}
+use Rattle.node_words.specs.declared.nodes.NodeWord.{NodeWord}
+use Rattle.gated_tree.specs.Trees.{is_same, has_parent, is_child}
 use Rattle.tree_laws.{proofs.Laws.{same_here, same_off, role_says, all_change, counts_change, moves}, specs.Events.{turned, with_used, with_kids, with_removed}}
 
 pub same_le : (d e : ℕ) → is_same d e ≤ 1

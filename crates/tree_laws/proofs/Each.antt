@@ -2,8 +2,8 @@
 use Rattle.std.{proofs.Common.{◌≡◌, ℕ, zero, suc, ◌<◌, ◌≤◌, refl, ap, arith}, specs.Prelude.Option}
 use Rattle.finite_sums.{proofs.Totals.{each_updated, update_off, total_none, total_zero}, specs.Sums.update}
 use Rattle.access_model.specs.{States.{size_of, is_removed, one_if}, declared.actions.Action.Action}
-use Rattle.gated_tree.proofs.Words.{free_is_node, root_is_node}
-use Rattle.gated_tree.specs.Nodes.{IsNode, node_shown}
+use Rattle.node_words.proofs.Words.{free_is_node, root_is_node}
+use Rattle.node_words.specs.Nodes.{IsNode, node_shown}
 use Rattle.gated_tree.specs.Roles.{Out, Bare, Clearing, Bounds, TreeState, AreWithin, charge, child_charge, removal, seen_as, HasParent, TreeHolds}
 use Rattle.gated_tree.specs.Trees.{is_child}
 use Rattle.tree_laws.proofs.Changes.{creates, removes, marks_removed, grows, moves_to, dirties, flushes, opens_file, closes_file, frees_file}

@@ -3,16 +3,25 @@ use Rattle.std.proofs.{Common.{◌≡◌, ℕ, Bool, true, false, ◌+◌, ◌<�
 use Rattle.std.specs.Prelude.{◌==◌, Option, Some, None, Result, Ok, Err, is_some, nat_lt, if◌then◌else◌}
 use Rattle.access_model.specs.{Replies.map_next, declared.{errors.GateError.GateError, replies.Next.Next}}
 use Rattle.cpu_words.specs.Hooks.{HookAnswer}
-use Rattle.gated_tree.proofs.Words.{file_narrow}
+use Rattle.node_words.proofs.Words.{file_narrow}
 use Rattle.gated_tree.specs.Calls.{CreateStepFits, RemoveStepFits, MoveStepFits, OpenStepFits, SnapshotStepFits, TreePhaseFits, NextFits}
-use Rattle.gated_tree.specs.Nodes.{word_of, unpacked, file_in, directory_in, node_after}
-use Rattle.gated_tree.specs.Phases.{after_look, after, create_looked, create_past, create_after, at_create, remove_after, removes_file, at_remove, grow_after}
+use Rattle.node_words.specs.Nodes.{word_of, unpacked, file_in, directory_in, node_after}
+use Rattle.node_words.specs.Phases.{after_look}
+use Rattle.gated_tree.specs.Phases.{after, create_looked, create_past, create_after, at_create, remove_after, removes_file, at_remove, grow_after}
 use Rattle.gated_tree.specs.Phases.{at_grow, move_after, at_move, mark_after, at_mark, open_after, at_open, opens_from, snapshot_after, snapshot_locked_out}
-use Rattle.gated_tree.specs.Phases.{node_step, kids_step, clear_after}
+use Rattle.node_words.specs.Phases.{clear_after}
+use Rattle.gated_tree.specs.Phases.{node_step, kids_step}
 use Rattle.gated_tree.specs.Roles.{Bounds, AreWithin}
 use Rattle.gated_tree.specs.declared.changes.{Create.Create, CreateStep.CreateStep, MoveStep.MoveStep, MoveTo.MoveTo, Remove.Remove, RemoveStep.RemoveStep}
-use Rattle.gated_tree.specs.declared.{growth.{Grow.Grow, GrowStep.GrowStep}, marks.{ClearMarks.ClearMarks, Mark.Mark, MarkStep.MarkStep}}
-use Rattle.gated_tree.specs.declared.{nodes.NodeWord.NodeWord, opens.{OpenFile.OpenFile, OpenStep.OpenStep}, phases.TreePhase.TreePhase}
+use Rattle.node_words.specs.declared.marks.ClearMarks.{ClearMarks}
+use Rattle.gated_tree.specs.declared.growth.Grow.{Grow}
+use Rattle.gated_tree.specs.declared.growth.GrowStep.{GrowStep}
+use Rattle.gated_tree.specs.declared.marks.Mark.{Mark}
+use Rattle.gated_tree.specs.declared.marks.MarkStep.{MarkStep}
+use Rattle.node_words.specs.declared.nodes.NodeWord.{NodeWord}
+use Rattle.gated_tree.specs.declared.opens.OpenFile.{OpenFile}
+use Rattle.gated_tree.specs.declared.opens.OpenStep.{OpenStep}
+use Rattle.gated_tree.specs.declared.phases.TreePhase.{TreePhase}
 use Rattle.gated_tree.specs.declared.snapshots.{Snapshot.Snapshot, SnapshotStep.SnapshotStep}
 
 module _ (c : Bounds) (within : AreWithin c) (t : ℕ) where

@@ -1,7 +1,9 @@
 -- The premises of events can be met: one task creates a file and grows it by 3 blocks.
 use Rattle.std.{proofs.Common.{◌≡◌, false, refl, arith}, specs.Prelude.{Some, None}}
 use Rattle.access_model.specs.declared.actions.Kind.{Kind}
-use Rattle.gated_tree.specs.{Nodes.{word_of, new_node, grown_node}, Roles.{Bounds, TreeState}, declared.nodes.NodeWord.NodeWord}
+use Rattle.node_words.specs.Nodes.{word_of, new_node, grown_node}
+use Rattle.node_words.specs.declared.nodes.NodeWord.{NodeWord}
+use Rattle.gated_tree.specs.Roles.{Bounds, TreeState}
 use Rattle.tree_laws.specs.Events.{Comes, Opening, After, FindsDirectory, FindsFile, FindsRoom, ChargesBlocks, CreateAdds, Creates, Grows}
 
 -- one task, a root and a node more, and 3 blocks

@@ -7,14 +7,19 @@ use Rattle.access_model.specs.declared.{actions.{Action.Action, Kind.Kind}, erro
 use Rattle.cpu_words.specs.{Words.{Words, read, put}, declared.{events.Touch.Touch, names.WordName.WordName}}
 use Rattle.gated_tree.specs.Calls.{create_role, remove_role, grow_role, move_role, mark_role, open_role, role_after, CreateStepFits, RemoveStepFits}
 use Rattle.gated_tree.specs.Calls.{OpenStepFits}
-use Rattle.gated_tree.specs.Nodes.{word_of, unpacked, file_in, directory_in, node_after, marked_node}
-use Rattle.gated_tree.specs.Phases.{after_look, create_next, create_looked, create_looks_at, create_past, create_after, at_create, remove_next, remove_after}
+use Rattle.node_words.specs.Nodes.{word_of, unpacked, file_in, directory_in, node_after, marked_node}
+use Rattle.node_words.specs.Phases.{after_look}
+use Rattle.gated_tree.specs.Phases.{create_next, create_looked, create_looks_at, create_past, create_after, at_create, remove_next, remove_after}
 use Rattle.gated_tree.specs.Phases.{removes_file, at_remove, grow_next, grow_from, grow_after, at_grow, move_next, move_after, at_move, mark_next, mark_done}
 use Rattle.gated_tree.specs.Phases.{mark_after, at_mark, open_next, open_after, at_open, opens_from}
 use Rattle.gated_tree.specs.Roles.{Role, Out, Loaded, Found, Growing, Charged, Refunding, Returning, Uncounting, Bounds, TreeState, AreWithin, TreeHolds}
 use Rattle.gated_tree.specs.Roles.{NobodyReads, MayDirty, MayRemove, HasNoCharge}
 use Rattle.gated_tree.specs.declared.changes.{Create.Create, CreateStep.CreateStep, MoveStep.MoveStep, MoveTo.MoveTo, Remove.Remove, RemoveStep.RemoveStep}
-use Rattle.gated_tree.specs.declared.{growth.{Grow.Grow, GrowStep.GrowStep}, marks.{Mark.Mark, MarkStep.MarkStep}, nodes.NodeWord.NodeWord}
+use Rattle.node_words.specs.declared.nodes.NodeWord.{NodeWord}
+use Rattle.gated_tree.specs.declared.growth.Grow.{Grow}
+use Rattle.gated_tree.specs.declared.growth.GrowStep.{GrowStep}
+use Rattle.gated_tree.specs.declared.marks.Mark.{Mark}
+use Rattle.gated_tree.specs.declared.marks.MarkStep.{MarkStep}
 use Rattle.gated_tree.specs.declared.opens.{OpenFile.OpenFile, OpenStep.OpenStep}
 use Rattle.tree_laws.proofs.Counts.{looks, leaves, finds_directory, finds_file, finds_target, finds_room, create_fails, remove_fails, move_fails, grow_fails}
 use Rattle.tree_laws.proofs.Counts.{charges_blocks}

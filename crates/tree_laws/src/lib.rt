@@ -25,7 +25,7 @@ ghost use Rattle.gated_tree.specs.declared.opens.OpenStep.{OpenStep};
 ghost use Rattle.gated_tree.specs.declared.snapshots.Snapshot.{Snapshot};
 ghost use Rattle.gated_tree.specs.declared.snapshots.SnapshotStep.{SnapshotStep};
 ghost use Rattle.gated_tree.specs.declared.phases.TreePhase.{TreePhase};
-ghost use Rattle.gated_tree.specs.Nodes.{IsNode};
+ghost use Rattle.node_words.specs.Nodes.{IsNode};
 ghost use Rattle.gated_tree.specs.Phases.{after, create_next, grow_next, mark_next, move_next, next, open_next, remove_next, snapshot_next};
 ghost use Rattle.gated_tree.specs.Calls.{NextFits, TreePhaseFits, phase_role};
 ghost use Rattle.gated_tree.specs.Roles.{AreWithin, Bounds, Reading, Role, TreeHolds, TreeState};

@@ -10,8 +10,8 @@ use Rattle.gate_world.specs.declared.config.Config.{Config}
 use Rattle.access_model.specs.declared.actions.Action.{Action}
 use Rattle.access_model.specs.Histories.{Done, IsLegal, own_part, opens_of}
 use Rattle.access_model.specs.States.{Limits, is_removed, one_if, openers, most_tasks}
-use Rattle.gated_tree.specs.Nodes.{IsPacked, node_shown, opens_in, removed_in}
-use Rattle.gated_tree.proofs.Words.{removed_shown}
+use Rattle.node_words.specs.Nodes.{IsPacked, node_shown, opens_in, removed_in}
+use Rattle.node_words.proofs.Words.{removed_shown}
 use Rattle.gate_world.specs.Configs.{model_limits}
 use Rattle.gate_world.specs.Views.{has_open}
 use Rattle.gate_world.specs.Rules.{Tree, Files}

@@ -14,7 +14,7 @@ use Rattle.gated_tree.specs.declared.snapshots.SnapshotStep.{SnapshotStep}
 use Rattle.gated_tree.specs.declared.snapshots.SnapshotStep.TheVariants.{Locks, LoadsStage, LoadsUsed, LoadsNode, LoadsKids, Releases}
 use Rattle.gated_tree.specs.declared.trees.TreeWords.{TreeWords}
 use Rattle.gated_tree.specs.Trees.{LoadedClean, LoadedSound}
-use Rattle.gated_tree.specs.Nodes.{node_after, unpacked}
+use Rattle.node_words.specs.Nodes.{node_after, unpacked}
 use Rattle.gated_tree.specs.Phases.{snapshot_after, snapshot_locked_out, node_step, kids_step, at_snapshot}
 use Rattle.gate_world.specs.declared.config.Config.{Config}
 use Rattle.gate_world.specs.declared.operations.Op.{Op}

@@ -2,7 +2,7 @@
 use Rattle.std.specs.Prelude.{ℕ, ◌*◌, ◌<◌, ◌≤◌, List, slice_index}
 use Rattle.cpu_words.specs.Names.{place, stride}
 use Rattle.cpu_words.specs.declared.names.WordName.TheVariants.{Used, Node, Kids}
-use Rattle.gated_tree.specs.Nodes.{node_shown}
+use Rattle.node_words.specs.Nodes.{node_shown}
 use Rattle.gated_tree.specs.Trees.{IsSound}
 use Rattle.cpu_words.specs.Words.{opening_words}
 use Rattle.gate_world.specs.declared.config.Config.{Config}

@@ -10,7 +10,7 @@ use crate::calls::outcome;
 use crate::gates::Gates;
 use crate::task::Task;
 use access_model::{GateError, Kind, Reply};
-use call_events::go_to_end;
+use call_ends::go_to_end;
 use gate_world::Op;
 use gated_tree::{
     Create, CreateStep, Grow, GrowStep, Mark, MarkStep, MoveStep, MoveTo, OpenFile, OpenStep,

@@ -7,5 +7,5 @@ loop-line-init c = no_details _ _
 pub loop-line-preserved : goal.loop-line-preserved
 loop-line-preserved c = c.loop-line.invariant
 
-pub loop-line-preserved-in-Continue-1 : goal.loop-line-preserved-in-Continue-1
-loop-line-preserved-in-Continue-1 c = one_line _ _ _ _ c.loop-line.invariant c.in_ok-indent_line.ensures
+pub loop-line-preserved-then-not-is_empty : goal.loop-line-preserved-then-not-is_empty
+loop-line-preserved-then-not-is_empty c = one_line _ _ _ _ c.loop-line.invariant c.indent_line.ensures

@@ -3,4 +3,4 @@ use Rattle.race_texts.proofs.telling.indent.Given as goal
 
 -- the lines so far
 abbrev pub invariant-loop-line : goal.invariant-loop-line
-invariant-loop-line l = TellsDetails ⊥ l.initial.out.bytes.items l.out.bytes.items
+invariant-loop-line l = TellsDetails ⊥ l.initial.out l.out

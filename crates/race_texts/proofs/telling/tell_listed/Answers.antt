@@ -1,4 +1,5 @@
-use Rattle.std.proofs.Common.{◌<◌, ◌++◌, ◌∙◌, ap, arith, length, List, ℕ}
+use Rattle.std.proofs.Common.{◌<◌, ap, arith, length}
+use Rattle.schedule_text.proofs.Printed.{prints_same}
 use Rattle.race_texts.specs.Told.{AsksNone, line_of}
 use Rattle.race_texts.proofs.Parts.{none_told, one_told}
 use Rattle.race_texts.proofs.telling.tell_listed.Goals as goal
@@ -9,6 +10,6 @@ loop-outcome-init c = none_told _ _ _
 pub loop-outcome-preserved : goal.loop-outcome-preserved
 loop-outcome-preserved c =
     let within : c.loop-outcome.outcome-index < length c.deref-outcome-items.result.now = omega arith in
-    one_told (AsksNone c.args.details) c.deref-outcome-items.result.now c.loop-outcome.outcome-index c.outcome-item.result c.tell_counts.new.out.bytes.items
-    c.loop-outcome.out.bytes.items c.line.new.self.bytes.items c.tell_under.new.out.bytes.items within c.outcome-item.is
-    c.loop-outcome.invariant (c.in_ok-line.ensures ∙ ap (λ (t : List ℕ). c.loop-outcome.out.bytes.items ++ line_of t) c.as_slice.ensures.value) c.in_ok-tell_under.ensures
+    one_told (AsksNone c.args.details) c.deref-outcome-items.result.now c.loop-outcome.outcome-index c.outcome-item.result c.tell_counts.new.out
+    c.loop-outcome.out c.line.new.self c.tell_under.new.out within c.outcome-item.is
+    c.loop-outcome.invariant (prints_same c.line.ensures (ap line_of c.as_slice.ensures.value)) c.in_ok-tell_under.ensures

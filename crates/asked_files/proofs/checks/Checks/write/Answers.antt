@@ -10,7 +10,7 @@ returns-in-Ok-clause-passed g c = λ _.
       record {
         told = c.args.self.now.told.bytes.items;
         written = subst (Appends (g.W.Write.contents c.args.writer.now) (g.W.Write.contents c.write_out.new.writer))
-            (c.as_slice.ensures.value ∙ c.in_ok-tell_counts.ensures
+            (c.as_slice.ensures.value ∙ c.tell_counts.ensures.printed c.in_ok-settled.ensures.whole
             ∙ ap (λ (n : ℕ). c.args.self.now.told.bytes.items ++ counts_text c.args.self.now.passed n) none) c.in-Ok.ensures.all;
       },
     )

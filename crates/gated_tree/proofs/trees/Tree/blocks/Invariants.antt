@@ -3,7 +3,7 @@ use Rattle.std.proofs.Common.{◌≡◌, ◌≤◌, ◌*◌}
 use Rattle.std.specs.Prelude.{slice_index}
 use Rattle.finite_sums.specs.Sums.{total}
 use Rattle.access_model.specs.States.{size_of}
-use Rattle.gated_tree.specs.Nodes.{node_shown}
+use Rattle.node_words.specs.Nodes.{node_shown}
 use Rattle.gated_tree.proofs.trees.Tree.blocks.Given as goal
 
 abbrev pub invariant-loop-node : goal.invariant-loop-node

@@ -2,7 +2,7 @@
 use Rattle.std.proofs.Common.{◌≡◌, ◌≤◌}
 use Rattle.std.specs.Prelude.{slice_index}
 use Rattle.finite_sums.specs.Sums.{total}
-use Rattle.gated_tree.specs.Nodes.{node_shown}
+use Rattle.node_words.specs.Nodes.{node_shown}
 use Rattle.gated_tree.specs.Trees.{is_child}
 use Rattle.gated_tree.proofs.trees.Tree.children.Given as goal
 

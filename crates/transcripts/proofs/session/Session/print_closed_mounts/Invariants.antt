@@ -1,6 +1,6 @@
-use Rattle.std.proofs.Common.{◌≡◌, ◌++◌}
 use Rattle.std.specs.List.{flat_map}
 use Rattle.access_model.specs.Histories.{end_of}
+use Rattle.schedule_text.specs.Printed.{Prints}
 use Rattle.transcripts.specs.Sessions.{ShowsPlay}
 use Rattle.transcripts.specs.Transcript.{Play, count_up, closed_line}
 use Rattle.transcripts.proofs.session.Session.print_closed_mounts.Given as goal
@@ -8,4 +8,4 @@ use Rattle.transcripts.proofs.session.Session.print_closed_mounts.Given as goal
 -- what the mounts so far print
 abbrev pub invariant-loop-mount : goal.invariant-loop-mount
 invariant-loop-mount g l = (p : Play) → ShowsPlay g.D.Driver.shows l.self p →
-    l.out.bytes.items ≡ l.initial.out.bytes.items ++ flat_map (closed_line (end_of p.done)) (count_up l.mount)
+    Prints l.initial.out l.out (flat_map (closed_line (end_of p.done)) (count_up l.mount))

@@ -5,5 +5,5 @@ use Rattle.transcripts.proofs.session.Session.print_kids.Goals as goal
 
 pub loop-node-preserved : goal.loop-node-preserved
 loop-node-preserved g c =
-    one_more (λ i. word_text (Kids i) (g.D.Driver.word_of c.args.self.now.driver (Kids i))) _ _ _ c.loop-node.node c.loop-node.invariant
-    c.in_ok-print_word.ensures
+    one_more (λ i. word_text (Kids i) (g.D.Driver.word_of c.args.self.now.driver (Kids i))) c.loop-node.node c.loop-node.invariant
+    c.print_word.ensures

@@ -5,5 +5,5 @@ use Rattle.transcripts.proofs.session.Session.print_sections.Goals as goal
 
 pub loop-task-preserved : goal.loop-task-preserved
 loop-task-preserved g c =
-    one_more (λ i. word_text (Section i) (g.D.Driver.word_of c.args.self.now.driver (Section i))) _ _ _ c.loop-task.task c.loop-task.invariant
-    c.in_ok-print_word.ensures
+    one_more (λ i. word_text (Section i) (g.D.Driver.word_of c.args.self.now.driver (Section i))) c.loop-task.task c.loop-task.invariant
+    c.print_word.ensures

@@ -1,5 +1,0 @@
-use Rattle.gate_core.proofs.Whole.{whole_rule}
-use Rattle.gate_core.proofs.schedules.every_schedule_keeps_the_rule.Goals as goal
-
-pub returns : goal.returns
-returns c = record { rule = whole_rule }

@@ -1,0 +1,22 @@
+-- Of every schedule: a reply is near, or each operation under way is kept.
+use Rattle.std.specs.Prelude.{List}
+use Rattle.gate_world.specs.{Configs.IsWithin, Headline.world_after, Worlds.Entry, declared.config.Config.Config}
+use Rattle.operation_laws.proofs.{KeptStays.kept_stays, Layers.{phase_ends, phase_keeps}, Plain.world_replies, Whole.world_goes}
+use Rattle.operation_laws.specs.{Progress.{EventsKeepRule, EventsMoveModel, KeptStaysKept, NobodyIsDeadlocked, RepliesOrIsFrozen}, Ranks.most_events_to_reply}
+use Rattle.gate_schedules.proofs.Whole.{whole_rule}
+
+module _ (c : Config) (lim : IsWithin c) where
+  events_keep_rule : EventsKeepRule c
+  events_keep_rule w good t lt hook phase at = ((phase_keeps c phase).step lim w good t lt hook at).0
+
+  pub whole_progress : (es : List Entry) → NobodyIsDeadlocked c (most_events_to_reply c) es
+  whole_progress es = world_goes c lim events_keep_rule (phase_ends c) (world_after c es) (whole_rule c lim es)
+
+  pub whole_replies : (es : List Entry) → RepliesOrIsFrozen c (most_events_to_reply c) es
+  whole_replies es = world_replies c lim events_keep_rule (world_after c es) (whole_rule c lim es)
+
+  events_move_model : EventsMoveModel c
+  events_move_model w good t lt hook phase at = ((phase_keeps c phase).step lim w good t lt hook at).1
+
+  pub whole_kept : (es : List Entry) → KeptStaysKept c es
+  whole_kept es = kept_stays c events_move_model (world_after c es) (whole_rule c lim es)

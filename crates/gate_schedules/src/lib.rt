@@ -1,0 +1,12 @@
+//! Whole schedules, and what holds of each of them: the headline. What a step tells, and what is kept of a task between its steps, by
+//! whatever program does them.
+#![tactic(auto)]
+
+pub mod laws;
+pub mod schedules;
+pub mod seats;
+pub mod steps;
+
+pub use schedules::{every_schedule, every_schedule_keeps_the_rule};
+pub use seats::Seat;
+pub use steps::{Progress, Step};

@@ -1,8 +1,0 @@
--- a lawful node comes back from its word
-use Rattle.std.proofs.Common.{ap, ◌∙◌}
-use Rattle.gated_tree.specs.Nodes.{unpacked}
-use Rattle.gated_tree.proofs.Packing.{node_returns}
-use Rattle.gated_tree.proofs.nodes.NodeWord.pack.Goals as goal
-
-pub returns-clause-back : goal.returns-clause-back
-returns-clause-back c = λ h. ap unpacked c.bits.ensures ∙ node_returns c.args.self h

@@ -1,0 +1,3 @@
+pub mod Opening
+pub mod Changes
+pub mod Openers

@@ -1,0 +1,136 @@
+-- The dirty mark of a node's word, cleared. This file alone sees its bit.
+use Rattle.std.proofs.Common.{◌≡◌, ℕ, ◌+◌, ◌*◌, ◌/◌, ◌%◌, ◌<◌, false, refl, sym, ap, ◌∙◌, subst, arith}
+use Rattle.std.specs.Prelude.{◌==◌, bit_and, option_map, Some}
+use Rattle.std.proofs.lemmas.Bool.{eq-eqb, ne_eqb}
+use Rattle.std.proofs.lemmas.Nat.{and_comm, and-not}
+use Rattle.std.proofs.lemmas.Nat.Bits.{and_pow}
+use Rattle.access_model.specs.declared.actions.Kind.TheVariants.{File, Dir}
+use Rattle.access_model.specs.Actions.{marked}
+use Rattle.access_model.specs.States.{is_dirty, IsFile, IsDirectory}
+use Rattle.node_words.specs.Nodes.{kind_in, dirty_in, removed_in, opens_in, parent_in, size_in, IsPacked, IsNode, mark_bit, word_of, node_of, node_shown, marked_node}
+use Rattle.node_words.proofs.Packing.{bit_back, word_returns}
+use Rattle.node_words.proofs.Words.{dirty_shown}
+
+-- a word after an `and` with not 4
+abbrev pub without_mark : ℕ → ℕ
+without_mark word = bit_and word 18446744073709551611
+
+-- the second word says what the first says, but for the mark, which it has not
+pub record IsCleared (word cleared : ℕ) : Type 0 where
+  pub kind : kind_in cleared ≡ kind_in word
+  pub dirty : dirty_in cleared ≡ 0
+  pub removed : removed_in cleared ≡ removed_in word
+  pub opens : opens_in cleared ≡ opens_in word
+  pub parent : parent_in cleared ≡ parent_in word
+  pub size : size_in cleared ≡ size_in word
+
+-- an `and` with not 4 takes the mark away, and nothing else
+pub mark_taken : (word : ℕ) → word < 18446744073709551616 → without_mark word + 4 * dirty_in word ≡ word
+mark_taken word lt =
+    let mark : bit_and word 4 ≡ word / 4 % 2 * 4 = and_pow word 2 in
+    let rest : bit_and 18446744073709551611 word + bit_and 4 word ≡ word = and-not 64 4 word (omega arith) lt in
+    omega (arith, mark, rest, and_comm word 4, and_comm word 18446744073709551611)
+
+-- the word of some node is one of 64 bits
+pub packed_below : (word : ℕ) → IsPacked word → word < 18446744073709551616
+packed_below word h = omega (arith, h.size)
+
+-- a word that is less by its mark is cleared
+lesser_cleared : (word cleared : ℕ) → cleared + 4 * (word / 4 % 2) ≡ word → IsCleared word cleared
+lesser_cleared word cleared e = record {
+  kind = omega arith;
+  dirty = omega arith;
+  removed = omega arith;
+  opens = omega arith;
+  parent = omega arith;
+  size = omega arith;
+}
+
+-- and has no more bits outside the fields
+lesser_packed : (word cleared : ℕ) → cleared + 4 * (word / 4 % 2) ≡ word → IsPacked word → IsPacked cleared
+lesser_packed word cleared e h = record {
+  kind = omega (arith, e, h.kind);
+  low = omega (arith, e, h.low);
+  gap = omega (arith, e, h.gap);
+  high = omega (arith, e, h.high);
+  size = omega (arith, e, h.size);
+  free = λ z.
+      let none : word ≡ 0 = h.free (omega (arith, e, z)) in
+      omega (arith, e, none);
+  few = omega (arith, (lesser_cleared word cleared e).opens, h.few);
+  closed = λ dir. (lesser_cleared word cleared e).opens ∙ h.closed (sym (lesser_cleared word cleared e).kind ∙ dir);
+  marked = λ mark.
+      let c = lesser_cleared word cleared e in
+      let m = h.marked (sym c.removed ∙ mark) in
+      (c.kind ∙ m.0, c.dirty, omega (arith, c.opens, m.2));
+}
+
+-- the cleared word of a node is cleared
+pub clears_mark : (word : ℕ) → IsPacked word → IsCleared word (without_mark word)
+clears_mark word h = lesser_cleared word (without_mark word) (mark_taken word (packed_below word h))
+
+-- the cleared word of a node is a node's
+pub cleared_node : (word : ℕ) → IsNode word → IsNode (without_mark word)
+cleared_node word h =
+    let below : word < 18446744073709551616 = packed_below word h.packed in
+    let c : IsCleared word (without_mark word) = clears_mark word h.packed in
+    record {
+      packed = lesser_packed word (without_mark word) (mark_taken word below) h.packed;
+      plain = λ dir.
+          let none : dirty_in word + size_in word ≡ 0 = h.plain (sym c.kind ∙ dir) in
+          omega (arith, none, c.dirty, c.size);
+    }
+
+-- where the mark is clear, the word stays
+pub clean_stays : (word : ℕ) → IsNode word → dirty_in word ≡ 0 → without_mark word ≡ word
+clean_stays word h clean = omega (arith, mark_taken word (packed_below word h.packed), clean)
+
+-- the cleared word is that of the same node, clean
+pub cleared_is : (word : ℕ) → IsPacked word → without_mark word ≡ word_of (marked_node false (node_of word))
+cleared_is word h =
+    let back = word_returns word h in
+    let bit : mark_bit (dirty_in word == 1) ≡ dirty_in word = bit_back (dirty_in word) (omega arith) in
+    omega (arith, mark_taken word (packed_below word h), back.1, bit)
+
+-- only a file's word has the mark
+pub marked_file : (word : ℕ) → IsNode word → dirty_in word ≡ 1 → kind_in word ≡ 1
+marked_file word h marked =
+    let dir : kind_in word ≡ 2 → ⊥ = λ e. absurd (omega (arith, h.plain e, marked)) in
+    let free : kind_in word ≡ 0 → ⊥ =
+    λ e.
+    let none : word ≡ 0 = h.packed.free e in
+    absurd (omega (arith, none, marked)) in
+    omega (arith, h.packed.kind, dir, free)
+
+-- what a file's word shows
+pub file_shown : (word : ℕ) → kind_in word ≡ 1 →
+    node_shown word ≡ Some record {
+      kind = File;
+      parent = parent_in word;
+      size = size_in word;
+      dirty = dirty_in word == 1;
+      removed = removed_in word == 1;
+    }
+file_shown word file = rw (ne_eqb (kind_in word) 0 (λ e. absurd (omega (arith, e, file))), eq-eqb (kind_in word) 1 file) refl
+
+-- no directory is dirty
+pub directory_clean : (word : ℕ) → IsNode word → IsDirectory (node_shown word) → is_dirty (node_shown word) ≡ false
+directory_clean word h dir =
+    dirty_shown word h.packed ∙ ne_eqb (dirty_in word) 1 (λ marked.
+    let wrong : File ≡ Dir = subst IsDirectory (file_shown word (marked_file word h marked)) dir in
+    absurd cc)
+
+-- where the mark is set, the word shows a file, and the cleared word the same file, clean
+pub cleared_shown : (word : ℕ) → IsNode word → dirty_in word ≡ 1 →
+    IsFile (node_shown word) × (node_shown (without_mark word) ≡ option_map (marked false) (node_shown word))
+cleared_shown word h dirty =
+    let file : kind_in word ≡ 1 = marked_file word h dirty in
+    let c : IsCleared word (without_mark word) = clears_mark word h.packed in
+    let before = file_shown word file in
+    let after = file_shown (without_mark word) (c.kind ∙ file) in
+    let clean : (dirty_in (without_mark word) == 1) ≡ false =
+    ne_eqb (dirty_in (without_mark word)) 1 (λ e. absurd (omega (arith, e, c.dirty))) in (
+      rw before refl,
+      after ∙ (λ j. Some (record { kind = File; parent = c.parent j; size = c.size j; dirty = clean j; removed = c.removed j == 1 })) ∙
+          sym (ap (option_map (marked false)) before),
+    )
