@@ -1,5 +1,5 @@
-//! What `gate_bench` is compared with: the same by hand, over padded atomics with sequentially consistent steps, and with no proof. It
-//! takes the words that `gate_bench` takes, and prints nanoseconds as it does; `bench/by-turns.py` builds it and measures both by turns.
+//! What `gate_workbench measure` is compared with: the same by hand, over padded atomics with sequentially consistent steps, and with no
+//! proof. It takes the same three words, and prints nanoseconds likewise; `bench/by-turns.py` builds it and measures both by turns.
 //! A pair is a want and a drop of a mount, a start and an end of level 1, or a taking and a return of write access, which is
 //! both. Each thread is a task of its own, at a processor of its own. Freezes and thaws are one task's, among so many tasks and processors. A
 //! round is what a writer does in a run (`mntgate run`): it takes write access, makes its file larger by one block, and gives the access

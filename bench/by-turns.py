@@ -1,5 +1,5 @@
 #!/usr/bin/env python3
-"""Measures gate_bench and bench/by-hand.rs by turns, in the same minutes, and prints medians and ratios.
+"""Measures `gate_workbench measure` and bench/by-hand.rs by turns, in the same minutes, and prints medians and ratios.
 
     bench/by-turns.py [--turns N] [--only WORD] [--program FILE]
 
@@ -7,7 +7,7 @@ Each row is measured by itself, N times (5, if left out) each program, one right
 one. A row's figures are medians. 'speed' is the program's speed beside that by hand: 1.00 is as fast, 0.50 half as fast; and in brackets the
 least and the most of the N turns. --only takes the rows that have the word in their name.
 
-gate_bench has to be built: cd crates/gate_bench && rt run -- --help. rustc has to be there. No proof covers these figures, and they say
+gate_workbench has to be built: cd crates/gate_workbench && rt run -- --help. rustc has to be there. No proof covers these figures, and they say
 little while the machine does other work: the last line has its load. The exit status is 0, 1 where a program failed, and 2 for a misuse.
 """
 
@@ -19,7 +19,7 @@ import sys
 import tempfile
 
 ROOT = os.path.dirname(os.path.dirname(os.path.realpath(__file__)))
-PROGRAM = f"{ROOT}/crates/gate_bench/out/gate_bench"
+PROGRAM = f"{ROOT}/crates/gate_workbench/out/gate_workbench"
 
 # Rounds of each writer in one run, in both programs.
 ROUNDS_OF_A_RUN = 10_000
@@ -52,10 +52,11 @@ KINDS = [
 
 
 def nanoseconds(program, *words):
-    """Runs a program, which prints how long it took."""
-    ran = subprocess.run([program, *map(str, words)], capture_output=True, text=True)
+    """Runs a program, given with its first words, which prints how long it took."""
+    command = [*program, *map(str, words)]
+    ran = subprocess.run(command, capture_output=True, text=True)
     if ran.returncode:
-        sys.exit(f"by-turns: {program} {' '.join(map(str, words))} ended with status {ran.returncode}: {ran.stderr.strip()}")
+        sys.exit(f"by-turns: {' '.join(command)} ended with status {ran.returncode}: {ran.stderr.strip()}")
     return int(ran.stdout)
 
 
@@ -89,17 +90,18 @@ def main():
     if asked.turns < 1:
         parser.error("there is at least one turn")
     if not os.access(asked.program, os.X_OK):
-        parser.error(f"{asked.program} is not built: cd crates/gate_bench && rt run -- --help")
+        parser.error(f"{asked.program} is not built: cd crates/gate_workbench && rt run -- --help")
     with tempfile.TemporaryDirectory() as folder:
         by_hand = f"{folder}/by-hand"
         if subprocess.run(["rustc", "-O", "-o", by_hand, f"{ROOT}/bench/by-hand.rs"]).returncode:
             sys.exit("by-turns: bench/by-hand.rs is not built")
-        print("| What | Size | gate_bench | By hand | Speed | Unit |")
+        programs = ([asked.program, "measure"], [by_hand])
+        print("| What | Size | gate_workbench | By hand | Speed | Unit |")
         print("|---|---|---|---|---|---|")
         for kind in KINDS:
             for size in kind[1]:
                 if asked.only in kind[0]:
-                    print(row((asked.program, by_hand), asked.turns, kind, size), flush=True)
+                    print(row(programs, asked.turns, kind, size), flush=True)
     load = ", ".join(f"{it:.1f}" for it in os.getloadavg())
     print(f"\n{os.cpu_count()} processors, load of the last 1, 5 and 15 minutes: {load}")
 

@@ -1,22 +1,28 @@
 #!/usr/bin/env bash
 # Refuses each growth of memory in turn, and fails unless each call is then refused as NoMemory, changes nothing, and is done when it is
-# made again. The program crates/refused_memory makes the model, the core and the gates, splits tasks off, runs them in threads, and replays
-# a schedule over the core and over the gates. It is built once, and the growth number LAST is refused; it asks for LAST - N growths of its
-# own first, so that the growth number N of the calls is the one that is refused.
+# made again. `gate_workbench growths` makes the model, the core and the gates, splits tasks off, runs them in threads, and replays a schedule
+# over the core and over the gates. It is built once, and the growth number WORDS + LAST is refused: WORDS growths are those of its command
+# line, and it asks for LAST - N growths of its own next, so that the growth number N of the calls is the one that is refused. Number 0 stands
+# before the first of these, and LAST behind the last: were a call's growth refused there, others would be left untried.
 # Prints a line for each growth. The last line says whether all is well, and so does the status.
 set -u
-LAST=66
-TOP=$(cd "$(dirname "$0")/.." && pwd)
+WORDS=5
+LAST=65
+root=$(cd "$(dirname "$0")/.." && pwd)
+source "$root/bin/unproved.bash"
 ROOM=$(mktemp -d)
 trap 'rm -rf "$ROOM"' EXIT
 
 mkdir "$ROOM/cases"
-for ((growth = 1; growth <= LAST; growth++)); do
+for ((growth = 0; growth <= LAST; growth++)); do
   echo $((LAST - growth)) > "$ROOM/cases/$(printf %03d "$growth")"
 done
 # The interpreter runs no threads, so it isn't given any steps to speak of.
-cd "$TOP/crates/refused_memory" || exit 1
-if ! rt try --steps 1 --fail-alloc "$LAST" --cases "$ROOM/cases" > "$ROOM/told" 2> "$ROOM/said"; then
+cd "$root/crates/gate_workbench" || exit 1
+read_uses
+reach gate_workbench
+make_command gate_workbench --steps 1 --fail-alloc $((WORDS + LAST)) --cases "$ROOM/cases" -- growths
+if ! TMPDIR=$ROOM "${command[@]}" > "$ROOM/told" 2> "$ROOM/said"; then
   tail -n 5 "$ROOM/said"
   echo "FAILED"
   exit 1
@@ -26,6 +32,7 @@ awk -v last="$LAST" '
     if (growth == "") return
     if (lines != 7) { print "growth " growth ": " lines " lines and not 7"; bad = 1 }
     else print "growth " growth ": " (told == "" ? "no growth was refused" : told)
+    if (growth == 0 && told != "") { print "there are growths before number 1: the command line takes others than it did"; bad = 1 }
     if (growth == last && told != "") { print "there are more growths than " last; bad = 1 }
   }
   /^== / { tell(); growth = $2 + 0; lines = 0; told = ""; next }

@@ -108,7 +108,7 @@ impl Holders {
 }
 
 /// A step of the model, done by one task.
-#[derive(Clone, Copy, PartialEq, Eq, Debug)]
+#[derive(Clone, Copy)]
 pub enum Action {
     /// The task gets an access at the gate, as by `mnt_get_write_access` or `sb_start_write`.
     Grant(Gate),

@@ -4,11 +4,11 @@ use Rattle.std.specs.Io.KnownBytes.{Appends, Keeps}
 use Rattle.command_line.specs.declared.words.Outcomes.{Outcomes}
 use Rattle.command_line.specs.declared.words.Schedules as words
 use Rattle.command_line.specs.declared.words.Schedules.TheVariants as words_as
-use Rattle.endings.specs.declared.ends.Ending.{Ending}
-use Rattle.endings.specs.declared.ends.Ending.TheVariants.{Listed, Refused}
+use Rattle.asked_files.specs.declared.endings.ends.Ending.{Ending}
+use Rattle.asked_files.specs.declared.endings.ends.Ending.TheVariants.{Listed, Refused}
 use Rattle.gate_core.specs.Memory.{Memory}
 use Rattle.races.specs.declared.calls.Call.{Call}
-use Rattle.schedule_bytes.specs.Writing.{AppendsPart}
+use Rattle.schedule_text.specs.bytes.Writing.{AppendsPart}
 use Rattle.race_texts.specs.declared.telling.Details.{Details}
 use Rattle.race_texts.specs.declared.telling.Schedules.{Schedules}
 use Rattle.race_texts.specs.declared.telling.Schedules.TheVariants.{Untold, Lines, Columns}

@@ -3,13 +3,13 @@
 ghost use Rattle.std.specs.Prelude.{◌≡◌, ◌⊎◌, ◌<◌, ◌≤◌, ◌+◌, ◌^◌, IfOk, OnOk, length};
 ghost use Rattle.schedule_text.specs.Printed.{Prints};
 ghost use Rattle.asked_files.specs.Checks.{TellsPassed, count_checked, counts_text};
-ghost use Rattle.endings.specs.declared.ends.Ending.TheVariants.{Passed, Refused};
+ghost use Rattle.asked_files.specs.declared.endings.ends.Ending.TheVariants.{Passed, Refused};
 
+use crate::endings::{Ending, why_told};
 use crate::reading::read_bytes;
-use endings::{Ending, why_told};
 use race_texts::check;
-use schedule_bytes::write_out;
 use schedule_text::Output;
+use schedule_text::bytes::write_out;
 use std::alloc::{AllocError, Global};
 use std::io::{Read, Write};
 use std::rt::Files;

@@ -1,8 +1,11 @@
 //! What the program does with the schedules and races of files, or of standard input: replays and shows them over whatever gates, checks them,
-//! and lists all outcomes of a race. It needs no thread, and is proved beside the gates that threads use.
+//! and lists all outcomes of a race; how the program ends, and what a person is told of a fault. It needs no thread, and is proved beside
+//! the gates that threads use.
 #![tactic(auto)]
 
 pub mod checks;
+pub mod endings;
+mod explained;
 pub mod outcomes;
 mod reading;
 pub mod replay;

@@ -1,9 +1,9 @@
 //! The bytes that a command line asks for.
 
 ghost use Rattle.std.specs.Prelude.{◌≡◌, None, IfOk, IfErr, IfSome};
-ghost use Rattle.endings.specs.declared.ends.Ending.TheVariants.{Refused};
+ghost use Rattle.asked_files.specs.declared.endings.ends.Ending.TheVariants.{Refused};
 
-use endings::{Ending, unopened};
+use crate::endings::{Ending, unopened};
 use std::alloc::Global;
 use std::io::{Read, Write};
 use std::rt::Files;

@@ -4,11 +4,11 @@ ghost use Rattle.std.specs.Prelude.{◌≡◌, true, IfErr};
 ghost use Rattle.transcripts.specs.Limits.{IsLineNumber};
 ghost use Rattle.transcripts.specs.Replayed.{Replayed};
 
-use endings::{fault_told, why_told};
-use explained_faults::explanation;
+use crate::endings::{fault_told, why_told};
+use crate::explained::explanation;
 use replays::Driver;
 use replays::replay::replay_to_end;
-use schedule_bytes::{ReplayFault, fault_after};
+use schedule_text::bytes::{ReplayFault, fault_after};
 use shown_events::{Form, Show};
 use std::alloc::Global;
 use std::io::{Read, Write};

@@ -6,13 +6,12 @@ ghost use Rattle.backup_beside_writer.specs.Told.{IsTold};
 
 use crate::told::Told;
 use crate::{backup, writer};
-use anyhow::{Result, bail};
 use std::alloc::Global;
 use std::sync::Wait;
 use std::sync::atomic::AtomicU64;
 use std::thread;
 use std::thread::Threads;
-use vfs_gates::{Closed, Config, Gates, Task};
+use vfs_gates::{Closed, Config, GateError, Gates, Task};
 
 /// How often the writer writes.
 const WRITES: u32 = 10_000;
@@ -34,7 +33,11 @@ fn join(gates: &Gates, mut first: Task, second: Task) -> Task
 }
 
 /// Lets the writer and the backup work at one mount, each in a thread, and closes the gates. Tells what both tasks' lists have in the end.
-pub(crate) fn run<R: Threads + Wait + Sync>(rt: &R, alloc: Global) -> Result<(Told, Closed)>
+///
+/// # Errors
+///
+/// NoMemory where there is none for the gates or the second task. Order, where a task is left: none is, but no clause says so.
+pub fn run<R: Threads + Wait + Sync>(rt: &R, alloc: Global) -> Result<(Told, Closed), GateError>
     ensures { IfOk result (λ done. IsTold done.0 done.1) }
 {
     let config = Config {
@@ -61,7 +64,7 @@ pub(crate) fn run<R: Threads + Wait + Sync>(rt: &R, alloc: Global) -> Result<(To
     };
     let task = join(&gates, first, second);
     let Ok(closed) = gates.close(task) else {
-        bail!("a task is left");
+        return Err(GateError::Order);
     };
     Ok((told, closed))
 }

@@ -4,17 +4,17 @@ use std::fmt;
 
 /// What the two tasks have done, each with its number.
 #[derive(Clone, Copy)]
-pub(crate) struct Told {
+pub struct Told {
     /// The number of the writer's task.
-    pub(crate) writer: u8,
+    pub writer: u8,
     /// How often it wrote.
-    pub(crate) writes: u32,
+    pub writes: u32,
     /// The number of the backup's task.
-    pub(crate) backup: u8,
+    pub backup: u8,
     /// How many copies it made.
-    pub(crate) copies: u32,
+    pub copies: u32,
     /// How many of these were torn.
-    pub(crate) torn: u32,
+    pub torn: u32,
 }
 
 impl fmt::Display for Told {

@@ -6,7 +6,7 @@ ghost use Rattle.cpu_words.specs.Touches.{left, event_of};
 use crate::names::WordName;
 
 /// What an event does to its word.
-#[derive(Clone, Copy, PartialEq, Eq, Debug)]
+#[derive(Clone, Copy)]
 pub enum Touch {
     Load,
     Store(u64),
@@ -21,7 +21,7 @@ pub enum Touch {
 
 /// An event that has happened: one atomic step on one word. `found` is the value before it, but for a store, which finds
 /// nothing, the value that it wrote; `left` is the value after it.
-#[derive(Clone, Copy, PartialEq, Eq, Debug)]
+#[derive(Clone, Copy)]
 pub struct Event {
     pub word: WordName,
     pub touch: Touch,

@@ -49,7 +49,7 @@ pub const WORDS: usize = LEVEL_COUNT + LINE * 3 * COUNTS_OF_LEVEL + LINE;
 pub const STRIDE: usize = 16;
 
 /// A word of the gates. All begin at 0, except `Node(0)`, the root, which begins at 2.
-#[derive(Clone, Copy, PartialEq, Eq, Debug)]
+#[derive(Clone, Copy, PartialEq, Eq)]
 pub enum WordName {
     /// `s_umount` and the mount lock: 0 where it is free, else the owner's task number and 1.
     Umount,

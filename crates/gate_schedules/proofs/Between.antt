@@ -5,7 +5,7 @@ use Rattle.finite_sums.proofs.Totals.{each_updated, total_updated}
 use Rattle.freeze_levels.specs.{Freezes.{freeze_after, freeze_next}, Holders.word_of, Thaws.{thaw_after, thaw_next}, declared.freezes.Freeze.Freeze}
 use Rattle.freeze_levels.specs.declared.{freezes.FreezeStep.{FreezeStep, TheVariants.Closes}, thaws.{Thaw.Thaw, ThawStep.ThawStep}}
 use Rattle.operation_laws.proofs.Layers.{op_keeps}
-use Rattle.gate_frames.proofs.Holders.{holders_at}
+use Rattle.operation_laws.proofs.frames.Holders.{holders_at}
 use Rattle.gate_world.specs.{Beginnings.first_phase, Fits.Fits, Found.stores_stage, Headline.{HoldersAreTold, is_between, stores_nobody}, Rules.Fitting}
 use Rattle.gate_world.specs.{Rules.{Holding, IsGood, Known, holder_role_of}, Views.{begun_view, held_of, phase_after, view_after, with_hook}}
 use Rattle.gate_world.specs.{Work.{after_of, next_of}, Worlds.{Begins, Entry, Steps, World, after_step, begin_of, begin_refusal, found_at, happens, opening}}

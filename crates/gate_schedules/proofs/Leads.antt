@@ -5,7 +5,7 @@ use Rattle.gate_counts.specs.{Gates.{bars, admitted, unread, BarringHolds}, Leve
 use Rattle.level_laws.specs.Roles.{SyncRole, Fast, fast}
 use Rattle.gate_world.specs.{Headline.{admitted_at, LevelsLead}, Levels.{at_level, sync_role_of}, Rules.{IsGood, AtLevel, LevelHoldsIn}, Worlds.World}
 use Rattle.gate_world.specs.declared.config.Config.{Config}
-use Rattle.gate_frames.proofs.LevelWorlds.{fast_finds_open}
+use Rattle.operation_laws.proofs.frames.LevelWorlds.{fast_finds_open}
 
 not_fast : (r : SyncRole) → (r ≡ Fast → ⊥) → fast r ≡ 0
 not_fast Fast h = absurd (h refl)

@@ -9,7 +9,7 @@ use Rattle.gate_world.specs.{Beginnings.{first_phase, view_refusal}, Configs.IsW
 use Rattle.gate_world.specs.{LevelRuns.{level_in, level_after, IsLevelRun, GracesAreKept, LevelsAreRuns}, Levels.{inside, sync_role_of}, Rules.IsGood}
 use Rattle.gate_world.specs.{Views.{begun_view, held_of}, Worlds.{World, Entry, Begins, Steps, begin_of, step_of, happens, run, opening}}
 use Rattle.gate_world.specs.declared.{config.Config.Config, operations.Op.Op, work.Phase.Phase}
-use Rattle.gate_frames.proofs.{LevelSteps.{level_stays, level_kept}, LevelWorlds.level_right}
+use Rattle.operation_laws.proofs.frames.{LevelSteps.{level_stays, level_kept}, LevelWorlds.level_right}
 use Rattle.operation_laws.proofs.Layers.{phase_keeps, op_keeps}
 use Rattle.gate_schedules.proofs.Beginnings.{may_begin}
 use Rattle.gate_schedules.proofs.Schedule.{idle_is, happens_keeps}

@@ -15,7 +15,7 @@ use Rattle.gate_world.specs.Headline.{IsAtRest, IsUntaken, HeldWhereFrozen, Free
 use Rattle.gate_world.specs.Levels.{is_frozen_whole, sync_role_of, inside}
 use Rattle.gate_world.specs.Rules.{AtMount, Holding, IsGood, Owner, Sections, Stages, SyncAt, SyncHoldsIn, Tree, holder_role_of, owns, remounts, role_of}
 use Rattle.gate_world.specs.{Rules.{stage_role_of, stage_roles}, Shown.shown, Trees.tree_role_of, Worlds.World, declared.config.Config.Config}
-use Rattle.gate_frames.proofs.{ByPhase.{apart_stage, freezing_is, stage_of}, Holders.holders_at, Stages.{stages_in, stages_right}}
+use Rattle.operation_laws.proofs.frames.{ByPhase.{apart_stage, freezing_is, stage_of}, Holders.holders_at, Stages.{stages_in, stages_right}}
 use Rattle.operation_laws.proofs.Frozen.{idle_sound}
 
 module _ (c : Config) (w : World) (good : IsGood c w) (idle : (t : ℕ) → t < c.tasks → (w.views t).phase ≡ None) where

@@ -8,7 +8,7 @@ use Rattle.operation_laws.proofs.Layers.{op_keeps, phase_keeps}
 use Rattle.gate_schedules.proofs.Beginnings.{MayBegin, first_fits, may_begin}
 use Rattle.gate_counts.proofs.{Events.words_sum, Flags.gate_begins, Numbers.below_le}
 use Rattle.gate_counts.specs.{Gates.{below, counted as counted_of}, Levels.{level_as_gate, processor_of as level_processor}}
-use Rattle.gate_frames.proofs.{Beside.{SameCounts, beside_good, beside_of, beside_shown}, Frames.{left_alone, opens_left, same_words}, Trees.tree_within}
+use Rattle.operation_laws.proofs.frames.{Beside.{SameCounts, beside_good, beside_of, beside_shown}, Frames.{left_alone, opens_left, same_words}, Trees.tree_within}
 use Rattle.gate_world.specs.{Alike.{IsBeside, off_tree}, Beginnings.{first_phase, view_refusal}, Configs.{IsWithin, model_limits}, Fits.{HasFile, file_of}}
 use Rattle.gate_world.specs.{Headline.{IdleSumsHold, SumsHold}, Levels.{at_level, level_role_of}, Owners.KnowsWords, Rules.{AtLevel, AtMount, Files, Fitting}}
 use Rattle.gate_world.specs.Rules.{Holding, Holds, IsGood, Known, LevelHoldsIn, MountHoldsIn, Moves, Owner, Part, Sections, Stages, SyncAt, Tree}

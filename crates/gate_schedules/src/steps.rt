@@ -21,7 +21,7 @@ pub enum Progress {
 }
 
 /// One step: the event, which is None only for an idle task, the action that the event added, and how the operation stands.
-#[derive(Clone, Copy, PartialEq, Eq, Debug)]
+#[derive(Clone, Copy)]
 pub struct Step {
     pub event: Option<Event>,
     pub action: Option<Action>,

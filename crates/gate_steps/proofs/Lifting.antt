@@ -13,7 +13,7 @@ use Rattle.gate_world.specs.{Views.{begun_view, view_with, view_after_beside, he
 use Rattle.gate_world.specs.{Worlds.{found_at, after_step, after_step_beside, phase_action, with_action}, declared.{config.Config.Config, operations.Op.Op}}
 use Rattle.gate_world.specs.declared.{views.{View.View, Snapshot.Snapshot}, work.Phase.Phase}
 use Rattle.moment_laws.specs.Moments.{HaveDone}
-use Rattle.gate_frames.proofs.{MayHolds.events_may_be, Snapshots.others_apart}
+use Rattle.operation_laws.proofs.frames.{MayHolds.events_may_be, Snapshots.others_apart}
 use Rattle.operation_laws.proofs.{Frozen.frozen_whole, Layers.phase_keeps}
 use Rattle.gate_schedules.proofs.Beginnings.{may_begin}
 use Rattle.gate_schedules.proofs.Lists.{beside_lists, begin_lists}

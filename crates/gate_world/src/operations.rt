@@ -21,7 +21,7 @@ use percpu_rwsem::{Callback, CallbackStep, DownRead, DownReadStep, Transition, U
 use write_access::WritePhase;
 
 /// An operation. `wait` chooses the form that looks again and again; the try form answers Again in its place.
-#[derive(Clone, Copy, PartialEq, Eq, Debug)]
+#[derive(Clone, Copy)]
 pub enum Op {
     /// `__mnt_want_write`: an access at a mount, taken on a processor.
     Want {

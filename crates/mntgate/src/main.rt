@@ -2,7 +2,7 @@
 #![tactic(auto)]
 
 use anyhow::Result;
-use endings::unreadable;
+use asked_files::endings::unreadable;
 use program::{Person, run};
 use std::io::IsTerminal;
 use std::process::ExitCode;

@@ -1,7 +1,7 @@
 -- Each phase of a write access is alike to the phase of its gate, before an event and after it; and what fits then, and what is said of
 -- causes and of waits.
 use Rattle.access_model.specs.{Replies.map_next, declared.replies.Next.Next}
-use Rattle.gate_frames.proofs.Frames.{role_none}
+use Rattle.operation_laws.proofs.frames.Frames.{role_none}
 use Rattle.gate_world.specs.{Alike.{IsAlike, no_roles}, Fits.Fits, Holdings.Holdings, Views.phase_after, Work.plain, declared.config.Config.Config}
 use Rattle.gate_world.specs.declared.work.Phase.{Phase}
 use Rattle.mount_counts.specs.declared.phases.{MountPhase.MountPhase, Want.Want}

@@ -1,9 +1,9 @@
 -- All that is proved of the beginnings and the traces of the operations at the tree.
 use Rattle.access_model.specs.declared.actions.Kind.{Kind}
-use Rattle.gate_frames.proofs.{Agreeing.{faulter_agrees, none_agree, writer_agrees}, CreateTraces.{create_short, create_tells}, GrowTraces.grow_short}
-use Rattle.gate_frames.proofs.{GrowTraces.grow_tells, Keeps.{IsSmall, OpKeeps, by_bool}, MarkTraces.{fault_short, fault_tells, flush_short, flush_tells}}
-use Rattle.gate_frames.proofs.{MoveTraces.{move_short, move_tells}, OpenTraces.{open_short, open_tells}, RemoveTraces.{remove_short, remove_tells}}
-use Rattle.gate_frames.proofs.{SnapshotTraces.{snapshot_short, snapshot_tells}, TreeHolders.both_true}
+use Rattle.operation_laws.proofs.frames.{Agreeing.{faulter_agrees, none_agree, writer_agrees}, CreateTraces.{create_short, create_tells}, GrowTraces.grow_short}
+use Rattle.operation_laws.proofs.frames.{GrowTraces.grow_tells, Keeps.{IsSmall, OpKeeps, by_bool}, MarkTraces.{fault_short, fault_tells, flush_short, flush_tells}}
+use Rattle.operation_laws.proofs.frames.{MoveTraces.{move_short, move_tells}, OpenTraces.{open_short, open_tells}, RemoveTraces.{remove_short, remove_tells}}
+use Rattle.operation_laws.proofs.frames.{SnapshotTraces.{snapshot_short, snapshot_tells}, TreeHolders.both_true}
 use Rattle.gate_world.specs.{Traces.most_events, declared.{config.Config.Config, operations.Op.Op}}
 use Rattle.std.proofs.{Common.{Bool, ap, arith, not, refl, sym, true, ℕ, ◌≡◌}, lemmas.Bool.ltb-true}
 use Rattle.std.specs.Prelude.{false, nat_lt}

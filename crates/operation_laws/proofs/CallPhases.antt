@@ -2,7 +2,7 @@
 use Rattle.std.proofs.Common.{subst}
 use Rattle.gated_tree.specs.declared.phases.TreePhase.{TreePhase}
 use Rattle.gate_world.specs.{Fits.Fits, Rules.Fitting, Views.held_of, Worlds.after_step, declared.{config.Config.Config, work.Phase.Phase}}
-use Rattle.gate_frames.proofs.{Agreeing.access_agrees, Keeps.PhaseKeeps, NodeEvents.tree_run, NodeParts.{call_goes, call_at}}
+use Rattle.operation_laws.proofs.frames.{Agreeing.access_agrees, Keeps.PhaseKeeps, NodeEvents.tree_run, NodeParts.{call_goes, call_at}}
 use Rattle.operation_laws.proofs.{CallSteps.{call_step, call_completes}, TreeCauses.{tree_stays, tree_own}, TreeFits.tree_acts, TreeWaits.tree_waits}
 use Rattle.operation_laws.proofs.TreeWords.{tree_there}
 

@@ -3,7 +3,7 @@ use Rattle.std.{proofs.Common.{◌≡◌, ℕ, ◌<◌, refl}, specs.Prelude.Som
 use Rattle.cpu_words.specs.Hooks.{HookAnswer}
 use Rattle.gated_tree.specs.declared.phases.TreePhase.{TreePhase}
 use Rattle.gate_world.specs.{Configs.IsWithin, Moments.CompletesNow, Rules.{IsGood, StepKeeps}, Worlds.World, declared.{config.Config.Config, work.Phase.Phase}}
-use Rattle.gate_frames.proofs.{NodeEvents.tree_step, Snapshots.completes_none}
+use Rattle.operation_laws.proofs.frames.{NodeEvents.tree_step, Snapshots.completes_none}
 use Rattle.operation_laws.proofs.{Completes.snapshot_completes_now, SnapshotEvents.snapshot_step}
 
 module _ (c : Config) (within : IsWithin c) (w : World) (good : IsGood c w) (t : ℕ) (lt : t < c.tasks) (hook : HookAnswer) where

@@ -1,7 +1,7 @@
 -- A callback runs out where nobody is inside a section.
 use Rattle.cpu_words.specs.{Touches.{found_by, left}, Words.{Words, read}, declared.names.WordName.WordName}
 use Rattle.finite_sums.proofs.Totals.{update_at}
-use Rattle.gate_frames.proofs.Words.{load_same}
+use Rattle.operation_laws.proofs.frames.Words.{load_same}
 use Rattle.gate_world.specs.{Fits.{Fits, GraceFits, PhaseFits}, Levels.{is_frozen_whole, sync_role_of}, Roles.sync_role_if, Rules.{Fitting, IsGood, SyncAt}}
 use Rattle.gate_world.specs.{Rules.SyncHoldsIn, Views.held_of, Worlds.{World, found_at, words_after}, declared.{config.Config.Config, work.Phase.Phase}}
 use Rattle.level_laws.specs.{Operations.callback_role, Roles.{Ready, claimed as has_claimed}}

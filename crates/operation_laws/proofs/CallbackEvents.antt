@@ -10,8 +10,8 @@ use Rattle.cpu_words.specs.declared.names.WordName.{WordName}
 use Rattle.finite_sums.proofs.Totals.{update_same}
 use Rattle.finite_sums.specs.Sums.{update}
 use Rattle.gate_counts.specs.Levels.{Out as CountsNot}
-use Rattle.gate_frames.proofs.Frames.{left_alone, level_view_as}
-use Rattle.gate_frames.proofs.LevelWorlds.{IsEventAt, IsOfLevel, found_level, level_there, sync_elsewhere, sync_off, sync_on}
+use Rattle.operation_laws.proofs.frames.Frames.{left_alone, level_view_as}
+use Rattle.operation_laws.proofs.frames.LevelWorlds.{IsEventAt, IsOfLevel, found_level, level_there, sync_elsewhere, sync_off, sync_on}
 use Rattle.gate_world.specs.Configs.{IsWithin}
 use Rattle.gate_world.specs.Fits.{Fits, GraceFits, PhaseFits}
 use Rattle.gate_world.specs.Holdings.{Holdings}

@@ -1,6 +1,6 @@
 -- All that is proved of a callback.
 use Rattle.access_model.specs.{Replies.map_next, declared.{actions.Action.Action, replies.Next.Next}}
-use Rattle.gate_frames.proofs.{Frames.sync_none, Keeps.{OpKeeps, PhaseKeeps, word_among}, Says.{is_short, tells}, Snapshots.completes_none}
+use Rattle.operation_laws.proofs.frames.{Frames.sync_none, Keeps.{OpKeeps, PhaseKeeps, word_among}, Says.{is_short, tells}, Snapshots.completes_none}
 use Rattle.gate_world.specs.{Alike.no_roles, Fits.{ActionFits, Fits}, Holdings.held_after, KeptCauses.CauseOf, Rules.Fitting, Views.{held_of, phase_after}}
 use Rattle.gate_world.specs.{Worlds.{World, after_step, found_at}, declared.{config.Config.Config, operations.Op.Op, work.Phase.Phase}}
 use Rattle.operation_laws.proofs.{CallbackEvents.callback_keeps, CallbackTraces.{CallbackAt, callback_kept}, ReadFits.{callback_acts_none, callback_goes}}

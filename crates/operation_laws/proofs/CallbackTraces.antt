@@ -8,7 +8,7 @@ use Rattle.percpu_rwsem.specs.{SyncWords.{pack, unpack, on_claim, on_callback}, 
 use Rattle.percpu_rwsem.specs.declared.{callbacks.{Callback.Callback, CallbackStep.CallbackStep}, grace.Grace.Grace, sync_word.SyncWord.SyncWord}
 use Rattle.percpu_rwsem.specs.declared.transitions.Transition.{Transition}
 use Rattle.gate_world.specs.{Found.transitions_made, Views.with_hook, declared.{config.Config.Config, operations.Op.Op, views.Traced.Traced, work.Phase.Phase}}
-use Rattle.gate_frames.proofs.Says.{Says, SaysAfter, Kept, event_at}
+use Rattle.operation_laws.proofs.frames.Says.{Says, SaysAfter, Kept, event_at}
 
 -- a callback of this level over so many tasks, at a step
 abbrev pub callback_on : ℕ → ℕ → CallbackStep → Callback

@@ -7,7 +7,7 @@ use Rattle.mount_counts.specs.{Phases.{has_flag, step_between}, declared.phases.
 use Rattle.gate_world.specs.{Causes.{all_counted, words_read}, Fits.SumFits, KeptCauses.{ChangeCause, CauseOf, AnswerCause}, Operations.holds_none}
 use Rattle.gate_world.specs.{Rules.IsGood, Views.{holds_level, phase_after}, Work.after_of, Worlds.{words_after, World, found_at}}
 use Rattle.gate_world.specs.declared.{config.Config.Config, work.Phase.Phase}
-use Rattle.gate_frames.proofs.{Loads.fits_now, SumCauses.{counted_stays, sum_starts, sum_stays, sum_takes, sum_ends}, Words.load_same}
+use Rattle.operation_laws.proofs.frames.{Loads.fits_now, SumCauses.{counted_stays, sum_starts, sum_stays, sum_takes, sum_ends}, Words.load_same}
 use Rattle.operation_laws.proofs.ChangeLoads.{change}
 
 -- a task whose view another entry leaves alone

@@ -7,7 +7,7 @@ use Rattle.mount_counts.specs.Phases.{has_flag, at_change, lock_failed, step_bet
 use Rattle.mount_counts.specs.declared.phases.{Change.Change, ChangeStep.ChangeStep, MountPhase.MountPhase}
 use Rattle.gate_world.specs.{Configs.{IsWithin, extents_of}, Fits.{SumFits, MountFits, Fits, ActionFits}, Holdings.{Holdings, held_after}, Views.phase_after}
 use Rattle.gate_world.specs.declared.{config.Config.Config, work.Phase.Phase}
-use Rattle.gate_frames.proofs.Keeps.{by_bool}
+use Rattle.operation_laws.proofs.frames.Keeps.{by_bool}
 
 pub change_there : (c : Config) (x : Change) (step : ChangeStep) → x.mount < c.mounts → SumFits c step → IsWord (extents_of c) (change_next x step).0
 change_there c x ChangeStep.Locks m f = tt

@@ -1,6 +1,6 @@
 -- All that is proved of a change.
-use Rattle.gate_frames.proofs.{Agreeing.none_agree, Frames.role_none, Keeps.{IsSmall, OpKeeps, PhaseKeeps, by_bool, word_among}, MountRuns.mounts_run}
-use Rattle.gate_frames.proofs.{Says.{is_short, tells}, Snapshots.completes_none}
+use Rattle.operation_laws.proofs.frames.{Agreeing.none_agree, Frames.role_none, Keeps.{IsSmall, OpKeeps, PhaseKeeps, by_bool, word_among}, MountRuns.mounts_run}
+use Rattle.operation_laws.proofs.frames.{Says.{is_short, tells}, Snapshots.completes_none}
 use Rattle.gate_world.specs.{Alike.no_roles, Fits.Fits, Rules.Fitting, Traces.most_events, Views.held_of, Worlds.after_step, declared.config.Config.Config}
 use Rattle.gate_world.specs.declared.{operations.Op.Op, work.Phase.Phase}
 use Rattle.mount_counts.specs.declared.phases.{Change.Change, MountPhase.MountPhase}

@@ -5,7 +5,7 @@ use Rattle.cpu_words.specs.{Hooks.HookAnswer, declared.names.WordName.WordName}
 use Rattle.mount_counts.specs.{Phases.{has_flag, step_between}, Roles.Out, declared.phases.{ChangeStep.ChangeStep, MountPhase.MountPhase}}
 use Rattle.gate_world.specs.{Fits.SumFits, Operations.holds_none, Roles.{change_role, role_if, change_owns}, Rules.{role_of, IsGood, GateStepKeeps}}
 use Rattle.gate_world.specs.{Rules.GatesHold, Shown.shown, Views.holds_level, Worlds.World, declared.{config.Config.Config, work.Phase.Phase}}
-use Rattle.gate_frames.proofs.{Frames.{role_on, role_off, role_none}, Loads.{as_owner, after_load, still_load, fits_now}}
+use Rattle.operation_laws.proofs.frames.{Frames.{role_on, role_off, role_none}, Loads.{as_owner, after_load, still_load, fits_now}}
 
 abbrev pub change : ℕ → Bool → Bool → ℕ → ℕ → ChangeStep → MountPhase
 change m ro wait task processors step =

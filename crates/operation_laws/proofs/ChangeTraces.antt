@@ -8,7 +8,7 @@ use Rattle.mount_counts.specs.{Phases.{has_flag, step_between}, declared.phases.
 use Rattle.gate_world.specs.{Configs.IsWithin, Found.{found_read_only, counts_loaded, sum_loaded, IsEachCount, each_event, finds_taken}}
 use Rattle.gate_world.specs.{Traces.{actions_of, IsHonestAnswer, most_events, IsShort}, Views.with_hook}
 use Rattle.gate_world.specs.declared.{config.Config.Config, operations.Op.Op, views.Traced.Traced, work.Phase.Phase}
-use Rattle.gate_frames.proofs.Says.{SaysAfter, Kept, event_at}
+use Rattle.operation_laws.proofs.frames.Says.{SaysAfter, Kept, event_at}
 use Rattle.operation_laws.proofs.RemountTraces.{or_false, sum_more}
 
 abbrev pub change : Config → ℕ → ℕ → Bool → Bool → ChangeStep → Phase

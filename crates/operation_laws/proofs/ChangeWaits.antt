@@ -5,7 +5,7 @@ use Rattle.cpu_words.specs.Hooks.{HookAnswer}
 use Rattle.mount_counts.specs.{Phases.has_flag, declared.phases.ChangeStep.ChangeStep}
 use Rattle.gate_world.specs.{Causes.IsTaken, KeptCauses.ChangeCause, Rules.{owns, IsGood}, Waits.HasReason, Work.after_of, Worlds.{World, found_at}}
 use Rattle.gate_world.specs.declared.{config.Config.Config, work.Phase.Phase}
-use Rattle.gate_frames.proofs.Owners.{umount_taken}
+use Rattle.operation_laws.proofs.frames.Owners.{umount_taken}
 use Rattle.operation_laws.proofs.ChangeLoads.{change, IsAt}
 
 module _ (c : Config) (w : World) (earlier : List World) (good : IsGood c w) (t : ℕ) (lt : t < c.tasks)

@@ -3,9 +3,9 @@ use Rattle.access_model.specs.declared.{actions.Action.Action, errors.GateError.
 use Rattle.cpu_words.specs.{Hooks.HookAnswer, Touches.wrap_add, declared.{events.{Event.Event, Touch.Touch}, names.WordName.WordName, sums.Sum.Sum}}
 use Rattle.finite_sums.proofs.Totals.{total_at}
 use Rattle.finite_sums.specs.Sums.{total, update}
-use Rattle.gate_frames.proofs.{Frames.{MountHoldsAfter, holds_as, owner_same, role_none, role_off, role_on, view_as}, Loads.{after_load, as_owner, load_law}}
-use Rattle.gate_frames.proofs.Owners.{flag_law, flags_after, flags_show_same, flags_shown, locks_umount, no_hold, no_remount, no_skip, releases_umount}
-use Rattle.gate_frames.proofs.Owners.{umount_law}
+use Rattle.operation_laws.proofs.frames.{Frames.{MountHoldsAfter, holds_as, owner_same, role_none, role_off, role_on, view_as}, Loads.{after_load, as_owner, load_law}}
+use Rattle.operation_laws.proofs.frames.Owners.{flag_law, flags_after, flags_show_same, flags_shown, locks_umount, no_hold, no_remount, no_skip, releases_umount}
+use Rattle.operation_laws.proofs.frames.Owners.{umount_law}
 use Rattle.gate_world.specs.{Configs.IsWithin, Fits.SumFits, Roles.{change_owns, change_role}, Rules.{AtMount, GateStepKeeps, GatesHold, IsGood, IsSteady}}
 use Rattle.gate_world.specs.{Rules.{MountHoldsIn, ViewFits, at_mount, owns, remounts, role_of}, Shown.{closing, shown}, Views.{added_by, held_of, taken_by}}
 use Rattle.gate_world.specs.{Views.view_with, Worlds.World, declared.{config.Config.Config, views.View.View, work.Phase.Phase}}

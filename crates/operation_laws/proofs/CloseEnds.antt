@@ -10,7 +10,7 @@ use Rattle.percpu_rwsem.specs.{Readers.down_read_after, declared.readers.DownRea
 use Rattle.file_closes.specs.Phases.{closed_from, then_frees, next as close_next, after as close_after}
 use Rattle.file_closes.specs.declared.phases.{ClosePhase.ClosePhase, Closing.Closing}
 use Rattle.gate_world.specs.{Courses.CloseMayFind, Worlds.{words_after, found_at}, declared.{config.Config.Config, work.Phase.Phase}}
-use Rattle.gate_frames.proofs.MayHolds.{events_may_be}
+use Rattle.operation_laws.proofs.frames.MayHolds.{events_may_be}
 use Rattle.operation_laws.proofs.{Falls.falls_as, ReadEnds.{read_block, read_falls}}
 use Rattle.operation_laws.specs.{Ranks.{rank, read_rank, close_rank}, Ways.{IsFree, ReadIsFree, CloseIsFree, Falls, PhaseEnds}}
 

@@ -11,7 +11,7 @@ use Rattle.percpu_rwsem.specs.{Readers.down_read_after, declared.readers.DownRea
 use Rattle.file_closes.specs.{Phases.{next, after, closed_from, then_frees, leaves_on}, declared.phases.{ClosePhase.ClosePhase, Closing.Closing}}
 use Rattle.gate_world.specs.{Holdings.{Holdings, held_after, Agree}, Configs.IsWithin, Fits.{Fits, CloseFits, ClosingFits, ActionFits}, Views.phase_after}
 use Rattle.gate_world.specs.declared.{config.Config.Config, work.Phase.Phase}
-use Rattle.gate_frames.proofs.Keeps.{by_bool, extents_touched}
+use Rattle.operation_laws.proofs.frames.Keeps.{by_bool, extents_touched}
 use Rattle.operation_laws.proofs.{ReadFits.{ReadGoes, read_goes, none_from_agree, read_acts}, ReadKeeps.{read_phase, end_phase}}
 
 some_is : {A : Type 0} (a b : A) → Some a ≡ Some b → a ≡ b

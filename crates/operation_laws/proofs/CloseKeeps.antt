@@ -9,7 +9,7 @@ use Rattle.file_closes.specs.{Phases.{after, then_frees, leaves_on}, declared.ph
 use Rattle.gate_world.specs.{Alike.{rephased, IsBeside}, Causes.asks_level, Configs.IsWithin, Fits.CloseFits, KeptCauses.CauseOf, LevelRuns.level_in}
 use Rattle.gate_world.specs.{Levels.sync_role_of, Rules.{IsGood, StepKeeps}, Views.{phase_after, held_of}, Waits.HasReason}
 use Rattle.gate_world.specs.{Worlds.{World, after_step, found_at}, declared.{config.Config.Config, work.Phase.Phase}}
-use Rattle.gate_frames.proofs.{Keeps.PhaseKeeps, Snapshots.completes_none}
+use Rattle.operation_laws.proofs.frames.{Keeps.PhaseKeeps, Snapshots.completes_none}
 use Rattle.operation_laws.proofs.{ReadCauses.{read_stays, read_own, read_not_closed}, ReadKeeps.{read_phase, end_phase}, ReadWaits.read_waits}
 use Rattle.operation_laws.proofs.CloseCauses.{enters_asks, enters_cause, enters_waits, looked_cause, looked_waits}
 use Rattle.operation_laws.proofs.CloseFits.{close_goes, close_there, close_acts, close_agrees}

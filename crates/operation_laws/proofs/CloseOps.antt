@@ -1,5 +1,5 @@
 -- What is proved of the beginning of a close, given what its trace says.
-use Rattle.gate_frames.proofs.Keeps.{IsSmall, OpKeeps, by_bool}
+use Rattle.operation_laws.proofs.frames.Keeps.{IsSmall, OpKeeps, by_bool}
 use Rattle.gate_world.specs.{Configs.IsWithin, Courses.{IsTrace, course_of}, Operations.holds_none_from, Traces.{IsShort, Tells, most_events}}
 use Rattle.gate_world.specs.declared.{config.Config.Config, operations.Op.Op, views.Traced.Traced}
 use Rattle.std.proofs.{Common.{Bool, arith, refl, true, ℕ, ◌≡◌}, lemmas.Bool.ltb-true}

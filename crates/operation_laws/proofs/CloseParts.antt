@@ -3,10 +3,10 @@
 use Rattle.access_model.specs.{Replies.map_next, States.is_removed, declared.{actions.Action.Action, errors.GateError.GateError, replies.Next.Next}}
 use Rattle.cpu_words.specs.Hooks.{HookAnswer}
 use Rattle.file_closes.specs.{Phases.{after, closed_from, enters, next}, declared.phases.{ClosePhase.ClosePhase, Closing.Closing}}
-use Rattle.gate_frames.proofs.CloseEvents.{close_drops, close_frees, close_loads, close_lowers, close_uncounts, closer_unread, dropped_removed}
-use Rattle.gate_frames.proofs.{CloseEvents.{freeing_removed, frees_alone}, Frames.{count_none, sync_none}, MayTree.LeaveFor, NodeEvents.IsPlain}
-use Rattle.gate_frames.proofs.{NodeEvents.{plain_parts, tree_run}, NodeParts.{IsAtTree, IsOffGates, LeavesAccesses, files_then, fitting_then, idle_off}}
-use Rattle.gate_frames.proofs.{NodeParts.{is_node_word, leaves_if, leaves_none, node_call, shown_moves, tree_then}, Trees.tree_within}
+use Rattle.operation_laws.proofs.frames.CloseEvents.{close_drops, close_frees, close_loads, close_lowers, close_uncounts, closer_unread, dropped_removed}
+use Rattle.operation_laws.proofs.frames.{CloseEvents.{freeing_removed, frees_alone}, Frames.{count_none, sync_none}, MayTree.LeaveFor, NodeEvents.IsPlain}
+use Rattle.operation_laws.proofs.frames.{NodeEvents.{plain_parts, tree_run}, NodeParts.{IsAtTree, IsOffGates, LeavesAccesses, files_then, fitting_then, idle_off}}
+use Rattle.operation_laws.proofs.frames.{NodeParts.{is_node_word, leaves_if, leaves_none, node_call, shown_moves, tree_then}, Trees.tree_within}
 use Rattle.gate_world.specs.{Configs.{IsWithin, model_limits}, Fits.{CloseFits, Fits, HasFile, MayLower, file_of}, Holdings.{Holdings, held_after}}
 use Rattle.gate_world.specs.{Alike.no_roles, LevelRuns.level_in, Roles.close_tree_role, Rules.{Files, Fitting, IsGood, StepKeeps, Tree}, Shown.shown}
 use Rattle.gate_world.specs.{Trees.{is_bare_at, is_sealed, tree_bounds, tree_role_of, tree_roles}, Views.{has_open, held_of, phase_after, view_after}}

@@ -5,8 +5,8 @@ use Rattle.cpu_words.specs.{Hooks.HookAnswer, Words.{Words, read}}
 use Rattle.file_closes.specs.{Phases.{leaves_on, then_frees}, declared.phases.ClosePhase.ClosePhase}
 use Rattle.finite_sums.proofs.Totals.{each_updated, update_at}
 use Rattle.finite_sums.specs.Sums.{update}
-use Rattle.gate_frames.proofs.{Accesses.holdings_of_after, Beside.{beside_of, made, made_keeps_beside, made_runs_beside, rephased_beside}, Frames.left_alone}
-use Rattle.gate_frames.proofs.{Frames.opens_left, Trees.tree_holds}
+use Rattle.operation_laws.proofs.frames.{Accesses.holdings_of_after, Beside.{beside_of, made, made_keeps_beside, made_runs_beside, rephased_beside}, Frames.left_alone}
+use Rattle.operation_laws.proofs.frames.{Frames.opens_left, Trees.tree_holds}
 use Rattle.gate_world.specs.{Alike.{IsBeside, at_phase, rephased}, Configs.IsWithin, Fits.{CloseFits, Fits, HasFile, file_of}, Holdings.Holdings}
 use Rattle.gate_world.specs.{Holdings.held_after, LevelRuns.level_in, Rules.{Files, Fitting, Holds, IsGood, Moves, SameWords, StepKeeps, Tree}, Shown.shown}
 use Rattle.gate_world.specs.{Trees.{tree_bounds, tree_of, tree_role_of, tree_roles}, Views.{has_open, held_of, phase_after, view_with}, Work.after_of}

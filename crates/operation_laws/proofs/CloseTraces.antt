@@ -12,7 +12,7 @@ use Rattle.file_closes.specs.{Phases.{closed_from, then_frees}, declared.phases.
 use Rattle.gate_world.specs.{Courses.{CloseMayFind, MayFind, MayHold}, Found.found_dropped, Operations.first_close, Traces.{IsHonest, IsShort, most_events}}
 use Rattle.gate_world.specs.{Views.{with_hook, actions_after}, Work.next_of}
 use Rattle.gate_world.specs.declared.{config.Config.Config, operations.Op.Op, views.Traced.Traced, work.Phase.Phase}
-use Rattle.gate_frames.proofs.{CallTraces.made_some, Keeps.OpKeeps, Says.{KeptWell, Says, SaysAfter, event_at, tells_well, is_short_well}}
+use Rattle.operation_laws.proofs.frames.{CallTraces.made_some, Keeps.OpKeeps, Says.{KeptWell, Says, SaysAfter, event_at, tells_well, is_short_well}}
 use Rattle.operation_laws.proofs.ReadTraces.{read_at, events_before, ReadSays, ReadNext, read_event}
 use Rattle.operation_laws.proofs.{CloseFits.found_node, CloseOps.close_op_from}
 

@@ -3,7 +3,7 @@ use Rattle.std.{proofs.Common.{◌≡◌, ℕ, ◌<◌, Bool}, specs.Prelude.Som
 use Rattle.cpu_words.specs.Hooks.{HookAnswer}
 use Rattle.mount_counts.specs.declared.phases.ChangeStep.{ChangeStep}
 use Rattle.gate_world.specs.{Configs.IsWithin, Rules.{IsGood, GateStepKeeps, StepKeeps}, Worlds.World, declared.{config.Config.Config, work.Phase.Phase}}
-use Rattle.gate_frames.proofs.MountEvents.{whole_step}
+use Rattle.operation_laws.proofs.frames.MountEvents.{whole_step}
 use Rattle.operation_laws.proofs.ChangeLoads.{change, loads_flags, loads_superblock}
 use Rattle.operation_laws.proofs.Changes.{clears_read_only, sets_hold, sets_read_only, clears_hold, sums, releases, locks}
 

@@ -17,7 +17,7 @@ use Rattle.freeze_levels.specs.declared.freezes.{Freeze.Freeze, FreezeStep.Freez
 use Rattle.gate_world.specs.{Causes.{all_inside, was_inside, words_read, moments_of_sum, looks_at_stage, was_busy}, Fits.{DownWriteStepFits, FreezeFits}}
 use Rattle.gate_world.specs.{KeptCauses.{DownWriteCause, FreezeCause, CauseOf}, Rules.{IsGood, AtLevel, LevelHoldsIn}, Views.phase_after, Work.after_of}
 use Rattle.gate_world.specs.{Worlds.{words_after, World, found_at}, declared.{config.Config.Config, work.Phase.Phase}}
-use Rattle.gate_frames.proofs.{Keeps.IsQuiet, Moments.{look_skips, look_stands, sum_begins, sum_goes}, Words.load_same}
+use Rattle.operation_laws.proofs.frames.{Keeps.IsQuiet, Moments.{look_skips, look_stands, sum_begins, sum_goes}, Words.load_same}
 use Rattle.operation_laws.proofs.FreezeFits.{found_cases}
 
 -- where nothing is counted at a level, a sum that begins leads by 0

@@ -1,15 +1,15 @@
 -- The events of a freeze on the words of a level that it closes.
-use Rattle.gate_frames.proofs.ByPhase.{freeze_owner}
+use Rattle.operation_laws.proofs.frames.ByPhase.{freeze_owner}
 use Rattle.access_model.specs.{Replies.map_next, declared.{actions.Action.Action, replies.{Next.Next, Reply.Reply}}}
 use Rattle.cpu_words.specs.{Hooks.HookAnswer, Sums.sum_taking, Touches.{found_by, left}, Words.{Words, put, read}, declared.sums.{Sum.Sum, Taken.Taken}}
 use Rattle.finite_sums.proofs.Totals.{total_at}
 use Rattle.finite_sums.specs.Sums.{total, update}
 use Rattle.freeze_levels.specs.{Freezes.{after_closing, at_freeze, level_closed}, declared.freezes.{Freeze.Freeze, FreezeStep.FreezeStep}}
-use Rattle.gate_frames.proofs.{Accesses.holdings_of_after, DownLevels.{down_write_levels, entered_by_nobody, passes_finds_nobody, swap_finds_clear}}
-use Rattle.gate_frames.proofs.{Keeps.by_bool, Stages.{IsStageEvent, stages_in}, Standing.{LevelsHold, Stands, left_world, stand_after_closing}}
-use Rattle.gate_frames.proofs.{Trees.shown_clean, WriterParts.{AsksWhere, LeavesRest, WriterLaw, down_write_comes, freeze_comes}, WriterStages.none_leaves}
-use Rattle.gate_frames.proofs.{WriterStages.{stays_there, still_plays}, WriterWords.{down_write_adds, down_write_counts_none, down_write_words, pass_leaves}}
-use Rattle.gate_frames.proofs.WriterWords.{tree_begins, tree_beside, writer_at_level}
+use Rattle.operation_laws.proofs.frames.{Accesses.holdings_of_after, DownLevels.{down_write_levels, entered_by_nobody, passes_finds_nobody, swap_finds_clear}}
+use Rattle.operation_laws.proofs.frames.{Keeps.by_bool, Stages.{IsStageEvent, stages_in}, Standing.{LevelsHold, Stands, left_world, stand_after_closing}}
+use Rattle.operation_laws.proofs.frames.{Trees.shown_clean, WriterParts.{AsksWhere, LeavesRest, WriterLaw, down_write_comes, freeze_comes}, WriterStages.none_leaves}
+use Rattle.operation_laws.proofs.frames.{WriterStages.{stays_there, still_plays}, WriterWords.{down_write_adds, down_write_counts_none, down_write_words, pass_leaves}}
+use Rattle.operation_laws.proofs.frames.WriterWords.{tree_begins, tree_beside, writer_at_level}
 use Rattle.gate_world.specs.{Configs.{IsWithin, model_limits}, Fits.Fits, Holdings.{Holdings, holdings_of}, Levels.{level_added_by, level_taken_by}}
 use Rattle.gate_world.specs.{Roles.{closed_to, freeze_holder_role, freeze_stage_role, freeze_tree_role, place_of}, Rules.{Holds, IsGood, Tree, ViewFits}}
 use Rattle.gate_world.specs.{Rules.{holder_role_of, marks_of, owns, stage_role_of}, Shown.shown, Trees.{tree_role_of, tree_roles}, Views.actions_after}

@@ -5,7 +5,7 @@ use Rattle.finite_sums.proofs.Totals.{update_same}
 use Rattle.finite_sums.specs.Sums.{total}
 use Rattle.freeze_levels.specs.{Freezes.{after_clearing, after_closing, after_reopening, freeze_after, freeze_next}, Holders.holders_in}
 use Rattle.freeze_levels.specs.declared.freezes.{Freeze.Freeze, FreezeStep.FreezeStep}
-use Rattle.gate_frames.proofs.Words.{load_same}
+use Rattle.operation_laws.proofs.frames.Words.{load_same}
 use Rattle.gate_world.specs.{Fits.{Fits, FreezeFits, PhaseFits}, Levels.sync_role_of, Roles.{freeze_stand, stand_sync, sync_beside}, Rules.{Fitting, IsGood}}
 use Rattle.gate_world.specs.{Views.held_of, Worlds.{World, found_at, words_after}, declared.{config.Config.Config, work.Phase.Phase}}
 use Rattle.node_words.specs.Phases.{clear_after, clear_next}

@@ -1,5 +1,5 @@
 -- The events of a freeze on nodes and on the words of a level that it reopens, and all of its events as one law.
-use Rattle.gate_frames.proofs.ByPhase.{freeze_owner}
+use Rattle.operation_laws.proofs.frames.ByPhase.{freeze_owner}
 use Rattle.access_model.specs.{Actions.marked, Replies.map_next, States.IsFile, declared.{actions.Action.Action, errors.GateError.GateError}}
 use Rattle.access_model.specs.declared.replies.Next.{Next}
 use Rattle.cpu_words.specs.{Hooks.HookAnswer, Touches.found_by, Words.{Words, read}, declared.{events.Touch.Touch, names.WordName.WordName}}
@@ -7,10 +7,10 @@ use Rattle.finite_sums.proofs.Totals.{each_updated, update_map, update_same}
 use Rattle.finite_sums.specs.Sums.{update}
 use Rattle.freeze_levels.specs.{Freezes.{after_reopening, at_freeze, freeze_fails}, Levels.reopening, Thaws.{after_opening, thaw_opens}}
 use Rattle.freeze_levels.specs.declared.{freezes.{Freeze.Freeze, FreezeStep.FreezeStep}, thaws.{Thaw.Thaw, ThawStep.ThawStep}}
-use Rattle.gate_frames.proofs.{Holders.holders_stay, Rephased.{alike_of, made_keeps}, Stages.{IsStageEvent, stages_in}, StandRoles.levels_stay}
-use Rattle.gate_frames.proofs.{Standing.{Stands, left_world, stand_after_opening, still_closed}, Trees.{nobody_reads, tree_after}, WriterOwner.owner_stays}
-use Rattle.gate_frames.proofs.WriterParts.{AsksWhere, IsWriter, LeavesRest, SameAtMounts, WriterLaw, freeze_work, freezes_write, whole_writer, writer_law}
-use Rattle.gate_frames.proofs.WriterWords.{up_write_comes}
+use Rattle.operation_laws.proofs.frames.{Holders.holders_stay, Rephased.{alike_of, made_keeps}, Stages.{IsStageEvent, stages_in}, StandRoles.levels_stay}
+use Rattle.operation_laws.proofs.frames.{Standing.{Stands, left_world, stand_after_opening, still_closed}, Trees.{nobody_reads, tree_after}, WriterOwner.owner_stays}
+use Rattle.operation_laws.proofs.frames.WriterParts.{AsksWhere, IsWriter, LeavesRest, SameAtMounts, WriterLaw, freeze_work, freezes_write, whole_writer, writer_law}
+use Rattle.operation_laws.proofs.frames.WriterWords.{up_write_comes}
 use Rattle.gate_world.specs.{Alike.{IsAlike, rephased}, Configs.{IsWithin, model_limits}, Fits.FreezeFits, Holdings.Holdings, Roles.closed_to}
 use Rattle.gate_world.specs.{Roles.{freeze_holder_role, freeze_stage_role, freeze_stand, freeze_tree_role}, Rules.{Holds, IsGood, StepKeeps, Tree, ViewFits}}
 use Rattle.gate_world.specs.{Rules.{holder_role_of, marks_of, owns, stage_role_of, stage_roles}, Shown.shown, Trees.{tree_bounds, tree_of}, Views.held_of}

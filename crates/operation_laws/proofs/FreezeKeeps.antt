@@ -1,7 +1,7 @@
 -- All that is proved of a freeze, from the law of its events and from what its trace tells.
 use Rattle.access_model.specs.declared.actions.Holder.{Holder}
 use Rattle.freeze_levels.specs.declared.freezes.{Freeze.Freeze, FreezeStep.FreezeStep}
-use Rattle.gate_frames.proofs.{Agreeing.none_agree, Keeps.{OpKeeps, PhaseKeeps, word_among}, Snapshots.completes_none}
+use Rattle.operation_laws.proofs.frames.{Agreeing.none_agree, Keeps.{OpKeeps, PhaseKeeps, word_among}, Snapshots.completes_none}
 use Rattle.gate_world.specs.{Fits.{Fits, PhaseFits}, Roles.freeze_stage_role, Rules.{Fitting, IsGood, Stages, stage_role_of}, Views.held_of}
 use Rattle.gate_world.specs.{Worlds.{World, after_step}, declared.{config.Config.Config, operations.Op.Op, work.Phase.Phase}}
 use Rattle.operation_laws.proofs.{FreezeCauses.{freeze_own, freeze_stays}, FreezeEvents.freeze_keeps, FreezeFits.{freeze_acts, freeze_goes, freeze_word}}

@@ -10,8 +10,8 @@ use Rattle.freeze_levels.specs.declared.freezes.{Freeze.Freeze, FreezeStep.Freez
 use Rattle.stage_laws.specs.Roles.{has_position}
 use Rattle.gate_world.specs.{Configs.IsWithin, Roles.{Stand, closed_to}, Rules.{IsGood, Stages, stage_role_of}, Views.{phase_after, view_after}}
 use Rattle.gate_world.specs.{Worlds.{World, after_step, words_after, found_at, value_at}, declared.{config.Config.Config, work.Phase.Phase}}
-use Rattle.gate_frames.proofs.{DownLevels.entered_by_nobody, Frames.SameLevelWords, Keeps.by_bool, LevelRuns.{levels_stay_runs, down_write_runs, up_write_runs}}
-use Rattle.gate_frames.proofs.{StandRoles.{closing_first, closing_next}, Standing.{Stands, LevelsRun}, WholeLevels.freezes_runs}
+use Rattle.operation_laws.proofs.frames.{DownLevels.entered_by_nobody, Frames.SameLevelWords, Keeps.by_bool, LevelRuns.{levels_stay_runs, down_write_runs, up_write_runs}}
+use Rattle.operation_laws.proofs.frames.{StandRoles.{closing_first, closing_next}, Standing.{Stands, LevelsRun}, WholeLevels.freezes_runs}
 use Rattle.operation_laws.proofs.{FreezeCloses.stands_then as stands_closing, FreezeEvents.stands_then as stands_reopening, FreezeFits.found_cases}
 use Rattle.operation_laws.proofs.FreezeStages.{freeze_stands, idle_stands, IsHere, here_fits, here_knows, here_stands}
 

@@ -6,12 +6,12 @@ use Rattle.cpu_words.specs.{Hooks.HookAnswer, Words.Words, declared.{events.{Eve
 use Rattle.finite_sums.specs.Sums.{total, update}
 use Rattle.freeze_levels.specs.{Freezes.{at_freeze, freeze_closes, freeze_fails}, Holders.{holders_in, word_of}, declared.freezes.Freeze.Freeze}
 use Rattle.freeze_levels.specs.declared.freezes.FreezeStep.{FreezeStep}
-use Rattle.gate_frames.proofs.{Cases.both, Frames.SameLevelCounts, Holders.{holders_after, holders_at, holders_move, holders_stay, nobody_minds}}
-use Rattle.gate_frames.proofs.{Stages.{IsStageEvent, nobody_owns, owners_alike, stages_in}, StandRoles.{closing_first, closing_next}, Standing.LevelsHold}
-use Rattle.gate_frames.proofs.{Standing.{Stands, left_world}, Trees.{sealed_frozen, tree_after, tree_then}, WholeLevels.freezes_all, WriterOwner.lock_given}
-use Rattle.gate_frames.proofs.{WriterOwner.{lock_taken, owner_stays}, WriterParts.{AsksWhere, IsWriter, SameAtMounts, WriterKeeps, WriterLaw, freezes_write}}
-use Rattle.gate_frames.proofs.{WriterParts.idle_writes, WriterStages.{opened_tree, stays_there, stored_levels, stored_tree, writer_beside, writer_holds}}
-use Rattle.gate_frames.proofs.WriterStages.{writer_stores}
+use Rattle.operation_laws.proofs.frames.{Cases.both, Frames.SameLevelCounts, Holders.{holders_after, holders_at, holders_move, holders_stay, nobody_minds}}
+use Rattle.operation_laws.proofs.frames.{Stages.{IsStageEvent, nobody_owns, owners_alike, stages_in}, StandRoles.{closing_first, closing_next}, Standing.LevelsHold}
+use Rattle.operation_laws.proofs.frames.{Standing.{Stands, left_world}, Trees.{sealed_frozen, tree_after, tree_then}, WholeLevels.freezes_all, WriterOwner.lock_given}
+use Rattle.operation_laws.proofs.frames.{WriterOwner.{lock_taken, owner_stays}, WriterParts.{AsksWhere, IsWriter, SameAtMounts, WriterKeeps, WriterLaw, freezes_write}}
+use Rattle.operation_laws.proofs.frames.{WriterParts.idle_writes, WriterStages.{opened_tree, stays_there, stored_levels, stored_tree, writer_beside, writer_holds}}
+use Rattle.operation_laws.proofs.frames.WriterStages.{writer_stores}
 use Rattle.gate_world.specs.{Configs.{IsWithin, model_limits}, Fits.{Fits, FreezeFits, PhaseFits}, Roles.{Stand, closed_to, freeze_holder_role}}
 use Rattle.gate_world.specs.{Roles.{freeze_stage_role, freeze_stand, freeze_tree_role}, Rules.{Fitting, Holding, Holds, IsGood, OwnerHolds, Stages, Tree}}
 use Rattle.gate_world.specs.{Rules.{holder_role_of, holder_roles, owns, stage_role_of}, Shown.shown, Trees.{tree_bounds, tree_of, tree_role_of, tree_roles}}

@@ -18,7 +18,7 @@ use Rattle.gate_world.specs.{Operations.{two_levels_closed, all_levels_closed}, 
 use Rattle.gate_world.specs.Found.{found_sealed, found_complete, found_held, stored_stage, cleans, ReadAnswer}
 use Rattle.gate_world.specs.{Traces.{actions_of, IsHonestAnswer, Tells, IsShort, most_events}, Views.{actions_after, with_hook}}
 use Rattle.gate_world.specs.declared.{config.Config.Config, operations.Op.Op, views.Traced.Traced, work.Phase.Phase}
-use Rattle.gate_frames.proofs.{Cleans.{LeaveAccesses, cleans_leave}, Says.{Says, SaysAfter, Kept, event_at, tells, is_short}}
+use Rattle.operation_laws.proofs.frames.{Cleans.{LeaveAccesses, cleans_leave}, Says.{Says, SaysAfter, Kept, event_at, tells, is_short}}
 use Rattle.operation_laws.proofs.FreezeFits.{found_cases}
 use Rattle.operation_laws.proofs.FreezeSums.{ClosingSays, ClosingNext, Leaves, closing_at, closing_trace, closing_found, closing_leaves, closing_event}
 

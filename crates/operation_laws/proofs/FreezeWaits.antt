@@ -18,7 +18,7 @@ use Rattle.level_laws.specs.Roles.{Entered, entered, entering, closed}
 use Rattle.gate_world.specs.{Fits.{DownWriteStepFits, FreezeFits}, KeptCauses.{DownWriteCause, FreezeCause}, LevelRuns.level_in, Levels.{inside, sync_role_of}}
 use Rattle.gate_world.specs.{Rules.{owns, IsGood, Sections}, Waits.{HasCulprit, HasReason}, Work.after_of, Worlds.{World, found_at}}
 use Rattle.gate_world.specs.declared.{config.Config.Config, work.Phase.Phase}
-use Rattle.gate_frames.proofs.{DownLevels.queued_passed, LevelWorlds.level_right, Owners.umount_taken}
+use Rattle.operation_laws.proofs.frames.{DownLevels.queued_passed, LevelWorlds.level_right, Owners.umount_taken}
 use Rattle.operation_laws.proofs.FreezeCauses.{level_ends}
 
 state_passed : (s : GpState) → Some s ≡ Some GpState.Passed → is_passed s ≡ true

@@ -1,6 +1,6 @@
 -- A freeze that no idle task keeps, and a callback, have a reply near, whoever is inside a section.
 use Rattle.gate_world.specs.Roles.{freeze_owns}
-use Rattle.gate_frames.proofs.ByPhase.{freeze_owner}
+use Rattle.operation_laws.proofs.frames.ByPhase.{freeze_owner}
 use Rattle.access_model.specs.declared.actions.Holder.{Holder}
 use Rattle.cpu_words.specs.{Hooks.HookAnswer, Words.Words}
 use Rattle.file_closes.specs.declared.phases.ClosePhase.{ClosePhase}

@@ -1,7 +1,7 @@
 -- Where the file system is frozen nobody has charged anything, so the tree is sound and clean. It is sound, too, where nobody is at work.
 use Rattle.file_closes.specs.declared.phases.ClosePhase.{ClosePhase}
 use Rattle.freeze_levels.specs.declared.freezes.FreezeStep.{FreezeStep}
-use Rattle.gate_frames.proofs.{CloseEvents.{closer_thawed, removal_counted}, TreeHolders.writer_not_frozen, Trees.sealed_frozen}
+use Rattle.operation_laws.proofs.frames.{CloseEvents.{closer_thawed, removal_counted}, TreeHolders.writer_not_frozen, Trees.sealed_frozen}
 use Rattle.gate_world.specs.{Configs.IsWithin, Fits.{CloseFits, Fits}, Headline.{FrozenTreeIsWhole, TreeIsSound}, Holdings.Holdings, Operations.is_writer}
 use Rattle.gate_world.specs.{Roles.{close_tree_role, freeze_tree_role, remount_tree_role}, Rules.{Fitting, IsGood, Tree}, Snapshots.values_noted}
 use Rattle.gate_world.specs.{Trees.{tree_bounds, tree_of, tree_role_of, tree_roles}, Views.held_of, Worlds.World, declared.config.Config.Config}

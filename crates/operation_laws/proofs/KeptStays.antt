@@ -10,7 +10,7 @@ use Rattle.freeze_levels.specs.{Freezes.{after_closing, at_freeze, freeze_closes
 use Rattle.freeze_levels.specs.declared.freezes.FreezeStep.{FreezeStep, TheVariants.{Cleans, Closes, LoadsStage, LoadsSuperblock, Locks as FreezeLocks}}
 use Rattle.freeze_levels.specs.declared.{freezes.FreezeStep.TheVariants.{LocksAgain, SetsFs, SetsPageFault, SetsWrite, Unlocks}, thaws.Thaw.Thaw}
 use Rattle.freeze_levels.specs.declared.thaws.ThawStep.{ThawStep, TheVariants.Locks as ThawLocks}
-use Rattle.gate_frames.proofs.{Owners.owns_le, Words.load_same}
+use Rattle.operation_laws.proofs.frames.{Owners.owns_le, Words.load_same}
 use Rattle.gate_world.specs.{Fits.{FreezeFits, PhaseFits}, Levels.{is_frozen_whole, sync_role_of}, Roles.freeze_stage_role, Rules.{IsGood, Moves as MovesModel}}
 use Rattle.gate_world.specs.{Rules.{Owner, Stages, SyncAt, SyncHoldsIn, Tree, owns, stage_role_of}, Shown.shown, Views.held_of}
 use Rattle.gate_world.specs.{Views.{holds_level, phase_after, view_after}, Work.after_of, Worlds.{World, after_step, found_at, phase_action, value_at}}

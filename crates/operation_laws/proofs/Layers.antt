@@ -1,7 +1,7 @@
 -- What is proved of each operation, by the file named after it: the one place that knows them all.
 use Rattle.mount_counts.specs.declared.phases.MountPhase.{MountPhase}
 use Rattle.gate_world.specs.declared.{config.Config.Config, operations.Op.Op, work.Phase.Phase}
-use Rattle.gate_frames.proofs.Keeps.{PhaseKeeps, OpKeeps}
+use Rattle.operation_laws.proofs.frames.Keeps.{PhaseKeeps, OpKeeps}
 use Rattle.operation_laws.proofs.{CallbackKeeps.{callback_phase, callback_op}, ReadKeeps.{read_phase, end_phase, start_op, end_op}}
 use Rattle.operation_laws.proofs.{WantKeeps.{want_phase, drop_phase, want_op, drop_op}, WriteKeeps.{write_phase, want_write_op, drop_write_op}}
 use Rattle.operation_laws.proofs.{ChangeKeeps.{change_phase, change_op}, FreezeKeeps.{freeze_phase, freeze_op}, RemountKeeps.{remount_phase, remount_op}}

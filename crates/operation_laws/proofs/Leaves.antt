@@ -16,7 +16,7 @@ use Rattle.node_words.specs.declared.nodes.NodeWord.{NodeWord}
 use Rattle.gate_world.specs.{Configs.IsWithin, Courses.{MayHold, MayFind}, Levels.inside, Rules.IsGood, Views.{phase_after, view_after}, Work.next_of}
 use Rattle.gate_world.specs.{Work.after_of, Worlds.{World, after_step, words_after, value_at, found_at}, declared.{config.Config.Config, views.View.View}}
 use Rattle.gate_world.specs.declared.work.Phase.{Phase, TheVariants.{DownReads, Writes, Closes as FileCloses}}
-use Rattle.gate_frames.proofs.MayHolds.{events_may_be}
+use Rattle.operation_laws.proofs.frames.MayHolds.{events_may_be}
 use Rattle.operation_laws.specs.{Progress.{EventsKeepRule, HasReply, ReplyWithin}, Ranks.read_rank}
 use Rattle.operation_laws.proofs.{Falls.{after_event, stands_after, no_further, near_after}, ReadEnds.found_rank}
 

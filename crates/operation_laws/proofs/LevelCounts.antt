@@ -10,7 +10,7 @@ use Rattle.gate_counts.specs.Levels.{Out as CountsNot, Seeking, BackingOff, Leve
 use Rattle.gate_world.specs.{Configs.IsWithin, Levels.{is_frozen_whole, at_level, level_role_of, level_added_by, level_taken_by}, Roles.count_role_if}
 use Rattle.gate_world.specs.{Rules.{IsGood, Holds, AtLevel}, Views.{holds_level, view_with}, Worlds.World, declared.{config.Config.Config, views.View.View}}
 use Rattle.gate_world.specs.declared.work.Phase.{Phase}
-use Rattle.gate_frames.proofs.Frames.{left_alone, level_as, level_view_as}
+use Rattle.operation_laws.proofs.frames.Frames.{left_alone, level_as, level_view_as}
 use Rattle.operation_laws.proofs.LevelParts.{IsBeside, whole_same}
 
 pub count_on : (i : ℕ) (r : LevelRole) → count_role_if (i == i) r ≡ r

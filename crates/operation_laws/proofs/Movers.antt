@@ -8,7 +8,7 @@ use Rattle.finite_sums.specs.Sums.{total}
 use Rattle.freeze_levels.specs.declared.{freezes.{Freeze.Freeze, FreezeStep.FreezeStep}, thaws.ThawStep.ThawStep}
 use Rattle.gate_counts.proofs.Events.{words_sum}
 use Rattle.gate_counts.specs.{Gates.{BarringHolds, admitted, below, counted, unread}, Levels.{LevelRole, Passed, barring_of, level_as_gate, processor_of}}
-use Rattle.gate_frames.proofs.{LevelWorlds.{callback_opens, read_opens}, Owners.{hold_owns, owns_le, who_holds}}
+use Rattle.operation_laws.proofs.frames.{LevelWorlds.{callback_opens, read_opens}, Owners.{hold_owns, owns_le, who_holds}}
 use Rattle.gate_world.specs.{Configs.IsWithin, Fits.{Fits, PhaseFits}, Levels.{at_level, inside, is_frozen_whole, level_role_of, sync_role_of}}
 use Rattle.gate_world.specs.{Operations.{holds_none, holds_none_from}, Remounts.remount_owns, Roles.{Stand, change_owns, count_beside, count_role_if}}
 use Rattle.gate_world.specs.Roles.{down_count_role, freeze_stand, read_count_role, stand_count, stand_sync, thaw_stand}

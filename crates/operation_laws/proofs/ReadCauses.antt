@@ -12,7 +12,7 @@ use Rattle.level_laws.specs.{Operations.down_read_role, Roles.{SyncRole, Out, cl
 use Rattle.gate_world.specs.{Causes.{last_asked, asks_level, read_asks, WasClosed}, KeptCauses.{ReadCause, CauseOf}, Levels.{sync_role_of, is_frozen_whole}}
 use Rattle.gate_world.specs.{Roles.sync_role_if, Rules.{IsGood, SyncAt, SyncHoldsIn}, Views.phase_after, Worlds.{World, found_at}}
 use Rattle.gate_world.specs.declared.{config.Config.Config, work.Phase.TheVariants.DownReads}
-use Rattle.gate_frames.proofs.Keeps.{by_bool}
+use Rattle.operation_laws.proofs.frames.Keeps.{by_bool}
 use Rattle.operation_laws.proofs.ReadTraces.{by_word}
 
 -- a task has closed a level once at most

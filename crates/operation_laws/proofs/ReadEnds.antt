@@ -13,7 +13,7 @@ use Rattle.write_access.specs.{Phases.{then_wants, then_gives_back, next as writ
 use Rattle.write_access.specs.declared.phases.WritePhase.TheVariants.{Takes, Wants as WriteWants, GivesBack, Drops, Ends}
 use Rattle.gate_world.specs.{Courses.MayHold, Worlds.{words_after, found_at}, declared.{config.Config.Config, work.Phase.TheVariants.{DownReads, UpReads}}}
 use Rattle.gate_world.specs.declared.work.Phase.TheVariants.{Writes}
-use Rattle.gate_frames.proofs.MayHolds.{events_may_be}
+use Rattle.operation_laws.proofs.frames.MayHolds.{events_may_be}
 use Rattle.operation_laws.specs.{Progress.is_admitted, Ranks.{rank, want_rank, blocked_rank, read_rank, write_rank}, Ways.{IsFree, HoldIsClear, ReadIsFree}}
 use Rattle.operation_laws.specs.Ways.{WriteIsFree, Falls, PhaseEnds}
 use Rattle.operation_laws.proofs.{Falls.falls_as, MountEnds.{want_flags, want_falls}}

@@ -7,7 +7,7 @@ use Rattle.finite_sums.proofs.Totals.{update_at, update_off, update_same}
 use Rattle.finite_sums.specs.Sums.{update}
 use Rattle.gate_counts.proofs.LevelLaws.{is_granted, is_refused}
 use Rattle.gate_counts.specs.Levels.{Out as CountsNot}
-use Rattle.gate_frames.proofs.{Frames.{count_none, level_view_as}, LevelWorlds.{fast_finds_open, not_passed, sync_on}}
+use Rattle.operation_laws.proofs.frames.{Frames.{count_none, level_view_as}, LevelWorlds.{fast_finds_open, not_passed, sync_on}}
 use Rattle.gate_world.specs.{Configs.{IsWithin, model_limits}, Fits.{Fits, ReadFits, ReadStepFits}, Holdings.Holdings, Levels.{at_level, level_role_of}}
 use Rattle.gate_world.specs.{Levels.sync_role_of, Operations.holds_none_from, Roles.{count_role_if, read_count_role}, Rules.{AtLevel, Fitting, IsGood, Moves}}
 use Rattle.gate_world.specs.{Rules.StepKeeps, Shown.shown, Views.{has_open, held_at, held_of, holds_level, phase_after, view_with}, Worlds.World}

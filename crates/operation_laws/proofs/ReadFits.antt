@@ -36,7 +36,7 @@ use Rattle.gate_world.specs.Configs.{IsWithin, extents_of}
 use Rattle.gate_world.specs.Views.{phase_after}
 use Rattle.gate_world.specs.Operations.{holds_none_from, is_level_number}
 use Rattle.gate_world.specs.{Fits.{ReadStepFits, ReadFits, GraceFits, PhaseFits, Fits, ActionFits}, Holdings.{Holdings, held_after}}
-use Rattle.gate_frames.proofs.Keeps.{by_bool}
+use Rattle.operation_laws.proofs.frames.Keeps.{by_bool}
 use Rattle.operation_laws.proofs.ReadTraces.{by_word}
 
 -- each is true where both are

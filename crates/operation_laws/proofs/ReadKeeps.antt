@@ -1,6 +1,6 @@
 -- All that is proved of a start and of an end.
-use Rattle.gate_frames.proofs.{Frames.{count_none, sync_none}, Keeps.{IsSmall, OpKeeps, PhaseKeeps, by_bool}, Says.{is_short, is_short_well, tells}}
-use Rattle.gate_frames.proofs.{Says.tells_well, Snapshots.completes_none}
+use Rattle.operation_laws.proofs.frames.{Frames.{count_none, sync_none}, Keeps.{IsSmall, OpKeeps, PhaseKeeps, by_bool}, Says.{is_short, is_short_well, tells}}
+use Rattle.operation_laws.proofs.frames.{Says.tells_well, Snapshots.completes_none}
 use Rattle.gate_world.specs.{Alike.no_roles, Causes.asks_level, Fits.Fits, Holdings.held_after, Levels.sync_role_of, Operations.is_level_number}
 use Rattle.gate_world.specs.{Rules.Fitting, Traces.most_events, Views.held_of, Worlds.{World, after_step, found_at}, declared.config.Config.Config}
 use Rattle.gate_world.specs.declared.{operations.Op.TheVariants.{End, Start}, work.Phase.TheVariants.{DownReads, UpReads}}

@@ -13,8 +13,8 @@ use Rattle.level_laws.proofs.ReadOperations.{down_reads_are_there}
 use Rattle.gate_world.specs.{LevelRuns.level_in, Levels.{sync_role_of, inside}, Roles.sync_role_if, Rules.{IsGood, SyncAt, Sections, Holds}, Views.view_after}
 use Rattle.gate_world.specs.{Views.phase_after, Worlds.{World, after_step}, declared.{config.Config.Config, views.View.View}}
 use Rattle.gate_world.specs.declared.work.Phase.TheVariants.{DownReads}
-use Rattle.gate_frames.proofs.LevelWorlds.{sync_on, sync_off, IsOfLevel, IsEventAt, found_level, level_there, turned_words, sync_turned, sections_turned}
-use Rattle.gate_frames.proofs.LevelWorlds.{sync_elsewhere}
+use Rattle.operation_laws.proofs.frames.LevelWorlds.{sync_on, sync_off, IsOfLevel, IsEventAt, found_level, level_there, turned_words, sync_turned, sections_turned}
+use Rattle.operation_laws.proofs.frames.LevelWorlds.{sync_elsewhere}
 
 -- what the rule says of the rcu_sync of each level, and of the sections
 abbrev pub LevelsHold : Config → World → Type 0

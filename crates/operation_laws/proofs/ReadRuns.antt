@@ -4,7 +4,7 @@ use Rattle.cpu_words.specs.{Hooks.HookAnswer, Touches.{found_by, left, wrap_add}
 use Rattle.cpu_words.specs.declared.names.WordName.{WordName, TheVariants.{Block, LevelCount, Section, Sync}}
 use Rattle.finite_sums.proofs.Totals.{update_at, update_off, update_same}
 use Rattle.finite_sums.specs.Sums.{update}
-use Rattle.gate_frames.proofs.{LevelSteps.{level_kept, level_moved, level_stays}, LevelWorlds.{IsEventAt, IsOfLevel, sync_off}}
+use Rattle.operation_laws.proofs.frames.{LevelSteps.{level_kept, level_moved, level_stays}, LevelWorlds.{IsEventAt, IsOfLevel, sync_off}}
 use Rattle.gate_world.specs.{Fits.Fits, LevelRuns.level_in, Levels.{inside, is_frozen_whole, sync_role_of}, Roles.sync_role_if, Rules.{Fitting, IsGood}}
 use Rattle.gate_world.specs.{Views.{held_of, phase_after, view_after}, Worlds.{World, after_step}, declared.{config.Config.Config, views.View.View}}
 use Rattle.gate_world.specs.declared.work.Phase.TheVariants.{Callbacks, DownReads, UpReads}

@@ -12,7 +12,7 @@ use Rattle.percpu_rwsem.specs.declared.sync_word.{GpState.TheVariants.{Idle, Ent
 use Rattle.gate_world.specs.{Courses.{MayHold, MayFind}, Found.{newest, finds_closed, backed_off, left_closed, found_closed}, Traces.{most_events, IsShort}}
 use Rattle.gate_world.specs.{Views.{with_hook, actions_after}, Work.next_of, declared.{config.Config.Config, operations.Op.TheVariants.{Start, End}}}
 use Rattle.gate_world.specs.declared.{views.Traced.Traced, work.Phase.{Phase, TheVariants.{DownReads, UpReads}}}
-use Rattle.gate_frames.proofs.Says.{Says, SaysAfter, Kept, KeptWell}
+use Rattle.operation_laws.proofs.frames.Says.{Says, SaysAfter, Kept, KeptWell}
 
 -- a down-read of this level, processor, task and wait, at a step
 abbrev pub read_at : ℕ → ℕ → ℕ → Bool → DownReadStep → DownRead

@@ -13,7 +13,7 @@ use Rattle.percpu_rwsem.specs.declared.transitions.TransitionNext.{TransitionNex
 use Rattle.gate_world.specs.{Causes.{last_asked, WasClosed, ReadRefused}, Fits.GraceFits, KeptCauses.ReadCause, Levels.inside, Rules.{IsGood, Sections}}
 use Rattle.gate_world.specs.{Waits.{HasCulprit, HasReason}, Work.after_of, Worlds.{World, found_at}, declared.config.Config.Config}
 use Rattle.gate_world.specs.declared.work.Phase.TheVariants.{DownReads, Callbacks}
-use Rattle.gate_frames.proofs.Keeps.{by_bool}
+use Rattle.operation_laws.proofs.frames.Keeps.{by_bool}
 use Rattle.operation_laws.proofs.ReadTraces.{by_word}
 
 -- this, where a wait or a refusal comes next

@@ -10,8 +10,8 @@ use Rattle.gate_world.specs.Causes.{all_counted, words_read, mount_summed, momen
 use Rattle.gate_world.specs.Causes.{last_removed, looks_at_removed}
 use Rattle.gate_world.specs.{KeptCauses.{RemountAnswerCause, RemountCause, CauseOf}, Remounts.RemountFits, Rules.IsGood, Views.phase_after, Work.after_of}
 use Rattle.gate_world.specs.{Worlds.{words_after, World, found_at}, declared.{config.Config.Config, work.Phase.Phase}}
-use Rattle.gate_frames.proofs.{Keeps.by_bool, Moments.{look_skips, look_stands, sum_skips, sum_begins, sum_goes}}
-use Rattle.gate_frames.proofs.{SumCauses.{counted_stays, sum_starts, sum_stays, sum_takes, sum_ends}, Words.load_same}
+use Rattle.operation_laws.proofs.frames.{Keeps.by_bool, Moments.{look_skips, look_stands, sum_skips, sum_begins, sum_goes}}
+use Rattle.operation_laws.proofs.frames.{SumCauses.{counted_stays, sum_starts, sum_stays, sum_takes, sum_ends}, Words.load_same}
 
 -- a task whose next event is a load of `removed` looks at it, any other doesn't
 removed_skips : (t : ℕ) (w : World) (earlier : List World) → looks_at_removed (w.views t).phase ≡ false →

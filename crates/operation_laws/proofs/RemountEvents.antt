@@ -4,9 +4,9 @@ use Rattle.access_model.specs.declared.replies.{Next.Next, Reply.Reply}
 use Rattle.cpu_words.specs.{Hooks.HookAnswer, Words.Words, declared.{events.{Event.Event, Touch.Touch}, names.WordName.WordName}}
 use Rattle.finite_sums.proofs.Totals.{total_at, update_at, update_map, update_same}
 use Rattle.finite_sums.specs.Sums.{total, update}
-use Rattle.gate_frames.proofs.{Beside.update_twice, Frames.{left_alone, owner_same}, Loads.{after_load, steady}, MountEvents.is_known_part}
-use Rattle.gate_frames.proofs.{Owners.{locks_umount, no_remount, releases_umount, remount_stands}, Stages.{nobody_owns, stages_in}, Trees.nobody_reads}
-use Rattle.gate_frames.proofs.Trees.{shown_clean}
+use Rattle.operation_laws.proofs.frames.{Beside.update_twice, Frames.{left_alone, owner_same}, Loads.{after_load, steady}, MountEvents.is_known_part}
+use Rattle.operation_laws.proofs.frames.{Owners.{locks_umount, no_remount, releases_umount, remount_stands}, Stages.{nobody_owns, stages_in}, Trees.nobody_reads}
+use Rattle.operation_laws.proofs.frames.Trees.{shown_clean}
 use Rattle.gate_world.specs.{Configs.IsWithin, Fits.PhaseFits, Holdings.holdings_of, Levels.is_frozen_whole, Remounts.{AllBelow, RemountFits, giving_role}}
 use Rattle.gate_world.specs.{Remounts.{held_role, loop_role, remount_owns, remount_role, remount_sets}, Roles.{remount_stage_role, remount_tree_role}}
 use Rattle.gate_world.specs.Rules.{AtMount, Holds, IsGood, MountHoldsIn, Owner, Part, Stages, StepKeeps, Tree, at_mount, marks_of, owns, remounts, role_of}

@@ -1,5 +1,5 @@
 -- All that is proved of a remount.
-use Rattle.gate_frames.proofs.{Agreeing.none_agree, Keeps.{OpKeeps, PhaseKeeps, word_among}, Says.{is_short, tells}, Snapshots.completes_none}
+use Rattle.operation_laws.proofs.frames.{Agreeing.none_agree, Keeps.{OpKeeps, PhaseKeeps, word_among}, Says.{is_short, tells}, Snapshots.completes_none}
 use Rattle.gate_world.specs.{Fits.Fits, Rules.Fitting, Views.held_of, Worlds.after_step, declared.{config.Config.Config, operations.Op.Op, work.Phase.Phase}}
 use Rattle.mount_counts.specs.declared.remounts.Remount.{Remount}
 use Rattle.operation_laws.proofs.{RemountCauses.{remount_own, remount_stays}, RemountEvents.remount_keeps, RemountFits.{remount_acts, remount_goes}}

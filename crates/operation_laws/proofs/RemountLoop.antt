@@ -1,7 +1,7 @@
 -- Events of a remount's loop over the mounts.
 use Rattle.access_model.specs.declared.{errors.GateError.GateError, replies.Next.Next}
 use Rattle.cpu_words.specs.{Hooks.HookAnswer, Touches.wrap_add, declared.{events.Touch.Touch, names.WordName.WordName, sums.Sum.Sum}}
-use Rattle.gate_frames.proofs.{Keeps.by_bool, Owners.no_hold}
+use Rattle.operation_laws.proofs.frames.{Keeps.by_bool, Owners.no_hold}
 use Rattle.gate_world.specs.{Configs.IsWithin, Fits.PhaseFits, Remounts.{AllBelow, giving_role, loop_role, remount_role}, Roles.remount_stage_role}
 use Rattle.gate_world.specs.{Rules.{AtMount, IsGood, MountHoldsIn, marks_of, owns, role_of}, Views.{held_of, view_with}, Worlds.World}
 use Rattle.gate_world.specs.declared.{config.Config.Config, views.View.View, work.Phase.Phase}

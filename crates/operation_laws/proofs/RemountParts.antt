@@ -4,11 +4,11 @@ use Rattle.cpu_words.specs.{Hooks.HookAnswer, Touches.{event_of, found_by}, Word
 use Rattle.finite_sums.proofs.Totals.{each_updated, update_at, update_map, update_off, update_same}
 use Rattle.finite_sums.specs.Sums.{update}
 use Rattle.freeze_levels.specs.Holders.{holders_in}
-use Rattle.gate_frames.proofs.Frames.{IsOffLevels, SameLevelCounts, SameLevelWords, added_load, holds_as, left_alone, level_left, opens_left, owner_same}
-use Rattle.gate_frames.proofs.{Frames.{sections_left, shown_held, shown_still, sync_left, taken_load, view_as}, Holders.holders_stay, Known.IsOwnersWork}
-use Rattle.gate_frames.proofs.{Known.known_after, Loads.{after_load, steady}, MountEvents.{is_known_part, known_is, level_added_load, level_taken_load}}
-use Rattle.gate_frames.proofs.{Owners.remount_stored, Stages.{IsStageEvent, stages_after, stages_in}, Trees.{marks_right, tree_after, tree_holds, tree_then}}
-use Rattle.gate_frames.proofs.{Trees.tree_within, Words.load_same}
+use Rattle.operation_laws.proofs.frames.Frames.{IsOffLevels, SameLevelCounts, SameLevelWords, added_load, holds_as, left_alone, level_left, opens_left, owner_same}
+use Rattle.operation_laws.proofs.frames.{Frames.{sections_left, shown_held, shown_still, sync_left, taken_load, view_as}, Holders.holders_stay, Known.IsOwnersWork}
+use Rattle.operation_laws.proofs.frames.{Known.known_after, Loads.{after_load, steady}, MountEvents.{is_known_part, known_is, level_added_load, level_taken_load}}
+use Rattle.operation_laws.proofs.frames.{Owners.remount_stored, Stages.{IsStageEvent, stages_after, stages_in}, Trees.{marks_right, tree_after, tree_holds, tree_then}}
+use Rattle.operation_laws.proofs.frames.{Trees.tree_within, Words.load_same}
 use Rattle.gate_world.specs.{Configs.IsWithin, Fits.{Fits, HasFile, PhaseFits, file_of}, Found.is_load, Holdings.Holdings, Levels.is_frozen_whole}
 use Rattle.gate_world.specs.{Levels.{level_added_by, level_taken_by}, Owners.{is_owned, takes_lock}, Remounts.{RemountFits, remount_owns, remount_role}}
 use Rattle.gate_world.specs.{Remounts.remount_sets, Roles.{remount_stage_role, remount_tree_role}, Rules.{AtLevel, AtMount, Files, Fitting, Holding, Holds}}

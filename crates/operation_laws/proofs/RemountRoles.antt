@@ -7,7 +7,7 @@ use Rattle.mount_counts.specs.{Remounts.{let_go, leave_holds, give_up, past_node
 use Rattle.mount_counts.specs.declared.{remounts.RemountStep.RemountStep, sets.MountSet.MountSet}
 use Rattle.mount_laws.proofs.{MountLaws.SeeksNone, Sets.none_held}
 use Rattle.gate_world.specs.Remounts.{giving_role, remount_role, loop_role, held_role, summing_role}
-use Rattle.gate_frames.proofs.Keeps.{by_bool}
+use Rattle.operation_laws.proofs.frames.Keeps.{by_bool}
 use mathlib.Core.Bool.{true}
 
 loop_seeks : (a b : Bool) → SeeksNone (loop_role a b)

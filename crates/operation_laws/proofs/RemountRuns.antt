@@ -7,7 +7,7 @@ use Rattle.level_laws.specs.{Events.SyncStep, Roles.Out as IsApart}
 use Rattle.stage_laws.specs.Roles.{KnowsStage}
 use Rattle.gate_world.specs.{LevelRuns.level_in, Levels.{inside, sync_role_of}, Roles.remount_stage_role, Rules.{IsGood, SameWords, SyncAt}}
 use Rattle.gate_world.specs.{Views.phase_after, Worlds.{World, after_step, found_at, words_after}, declared.{config.Config.Config, work.Phase.Phase}}
-use Rattle.gate_frames.proofs.MountRuns.{apart_run}
+use Rattle.operation_laws.proofs.frames.MountRuns.{apart_run}
 use Rattle.operation_laws.proofs.{RemountEvents.not_frozen, RemountParts.here_knows}
 
 -- no event of a remount changes what a level reads of the words: the superblock's flags are stored at stage 0, where nothing is frozen

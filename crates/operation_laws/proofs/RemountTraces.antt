@@ -9,7 +9,7 @@ use Rattle.mount_counts.specs.{Sets.{no_mounts, with_mount, without_lowest}, dec
 use Rattle.gate_world.specs.{Configs.IsWithin, Found.{found_sealed, counts_loaded, sum_loaded, IsEachCount, each_event, finds_taken, cleans}}
 use Rattle.gate_world.specs.{Traces.{actions_of, IsHonestAnswer}, Views.with_hook}
 use Rattle.gate_world.specs.declared.{config.Config.Config, operations.Op.Op, views.Traced.Traced, work.Phase.Phase}
-use Rattle.gate_frames.proofs.{Cleans.{cleans_leave, LeaveAccesses}, Keeps.by_bool, Says.{SaysAfter, Kept, event_at}}
+use Rattle.operation_laws.proofs.frames.{Cleans.{cleans_leave, LeaveAccesses}, Keeps.by_bool, Says.{SaysAfter, Kept, event_at}}
 
 -- a remount of the superblock by a task, at this step
 abbrev remount : Config → ℕ → Bool → RemountStep → Phase

@@ -5,7 +5,7 @@ use Rattle.cpu_words.specs.Hooks.{HookAnswer}
 use Rattle.mount_counts.specs.{Phases.has_flag, Remounts.at_remount, declared.remounts.{Remount.Remount, RemountStep.RemountStep}}
 use Rattle.gate_world.specs.{KeptCauses.RemountCause, Rules.{owns, IsGood}, Waits.HasReason, Work.after_of, Worlds.{World, found_at}}
 use Rattle.gate_world.specs.declared.{config.Config.Config, work.Phase.Phase}
-use Rattle.gate_frames.proofs.Owners.{umount_taken}
+use Rattle.operation_laws.proofs.frames.Owners.{umount_taken}
 
 module _ (c : Config) (w : World) (earlier : List World) (good : IsGood c w) (t : ℕ) (lt : t < c.tasks) (x : Remount) where
   pub remount_waits : (hook : HookAnswer) (s : RemountStep) → (w.views t).phase ≡ Some (Phase.Remounts (at_remount x s)) →

@@ -1,12 +1,12 @@
 -- The law of each event of a snapshot.
 use Rattle.gate_world.specs.Roles.{snapshot_owns}
-use Rattle.gate_frames.proofs.ByPhase.{snapshot_owner}
+use Rattle.operation_laws.proofs.frames.ByPhase.{snapshot_owner}
 use Rattle.access_model.specs.{Replies.map_next, declared.{errors.GateError.GateError, replies.{Next.Next, Reply.Reply}}}
 use Rattle.cpu_words.specs.{Hooks.HookAnswer, Touches.{event_of, found_by}, Words.{Words, put, read}, declared.names.WordName.WordName}
 use Rattle.finite_sums.specs.Sums.{update}
-use Rattle.gate_frames.proofs.{Frames.left_alone, Keeps.by_bool, Known.{IsOwnersWork, known_after}, NodeParts.{TreeKeeps, call_files, call_fitting}}
-use Rattle.gate_frames.proofs.{NodeParts.{call_keeps, call_moves, call_parts, call_view}, Owners.{locks_umount, releases_umount}, Snapshots.noted_part}
-use Rattle.gate_frames.proofs.{Stages.{alike_same, nobody_owns, owners_alike, stages_after, stages_in}, Words.load_same}
+use Rattle.operation_laws.proofs.frames.{Frames.left_alone, Keeps.by_bool, Known.{IsOwnersWork, known_after}, NodeParts.{TreeKeeps, call_files, call_fitting}}
+use Rattle.operation_laws.proofs.frames.{NodeParts.{call_keeps, call_moves, call_parts, call_view}, Owners.{locks_umount, releases_umount}, Snapshots.noted_part}
+use Rattle.operation_laws.proofs.frames.{Stages.{alike_same, nobody_owns, owners_alike, stages_after, stages_in}, Words.load_same}
 use Rattle.gate_world.specs.{Configs.IsWithin, Fits.{Fits, PhaseFits}, Found.is_load, Owners.{is_owned, takes_lock}, Roles.snapshot_stage_role}
 use Rattle.gate_world.specs.{Roles.stage_at_end, Rules.{AtLevel, AtMount, Files, Fitting, Holding, Holds, IsGood, Known, Owner, Part, Sections, Stages}}
 use Rattle.gate_world.specs.{Rules.{StepKeeps, SyncAt, Tree, marks_of, owns, remounts, stage_role_of, stage_roles}, Snapshots.values_noted}

@@ -8,7 +8,7 @@ use Rattle.percpu_rwsem.specs.declared.{transitions.TransitionNext.TransitionNex
 use Rattle.freeze_levels.specs.{Holders.holders_in, Thaws.{at_thaw, thaw_opens, after_opening}, declared.thaws.{Thaw.Thaw, ThawStep.ThawStep}}
 use Rattle.gate_world.specs.{Causes.{looks_at_stage, was_unheld}, KeptCauses.{ThawCause, CauseOf}, Views.phase_after, Work.after_of, Worlds.{World, found_at}}
 use Rattle.gate_world.specs.declared.{config.Config.Config, work.Phase.Phase}
-use Rattle.gate_frames.proofs.Moments.{look_skips, look_stands}
+use Rattle.operation_laws.proofs.frames.Moments.{look_skips, look_stands}
 use Rattle.operation_laws.proofs.ThawFits.{finds_cases}
 
 -- a task whose view another entry leaves alone: the cause of each step stays

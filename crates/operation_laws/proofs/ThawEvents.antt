@@ -1,6 +1,6 @@
 -- The law of each event of a thaw.
 use Rattle.gate_world.specs.Roles.{thaw_owns}
-use Rattle.gate_frames.proofs.ByPhase.{thaw_owner}
+use Rattle.operation_laws.proofs.frames.ByPhase.{thaw_owner}
 use Rattle.access_model.specs.{Holders.{held_by, is_unheld, nobody, with_holder}, Replies.map_next, declared.actions.{Action.Action, Holders.Holders}}
 use Rattle.access_model.specs.declared.{errors.GateError.GateError, replies.{Next.Next, Reply.Reply}}
 use Rattle.cpu_words.specs.{Hooks.HookAnswer, Touches.{found_by, left}, Words.{Words, put, read}, declared.events.{Event.Event, Touch.Touch}}
@@ -8,13 +8,13 @@ use Rattle.cpu_words.specs.declared.names.WordName.{WordName}
 use Rattle.finite_sums.specs.Sums.{total, update}
 use Rattle.freeze_levels.specs.{Holders.{holders_in, word_of}, Levels.reopening, Thaws.{after_opening, at_thaw, thaw_opens}, declared.thaws.Thaw.Thaw}
 use Rattle.freeze_levels.specs.declared.thaws.ThawStep.{ThawStep}
-use Rattle.gate_frames.proofs.{Accesses.holdings_of_after, Frames.{added_load, taken_load}, Holders.{holders_after, holders_at, holders_stay, nobody_minds}}
-use Rattle.gate_frames.proofs.{Keeps.by_bool, MountEvents.{level_added_load, level_taken_load}, Stages.{IsStageEvent, alike_same, nobody_owns, owners_alike}}
-use Rattle.gate_frames.proofs.{Stages.stages_in, Standing.{LevelsHold, Stands, left_world, stand_after_opening, still_closed}, UpLevels.up_write_levels}
-use Rattle.gate_frames.proofs.{WholeLevels.thaws_all, WriterOwner.{lock_given, lock_taken, owner_stays}, WriterParts.{AsksWhere, IsWriter, LeavesRest}}
-use Rattle.gate_frames.proofs.WriterParts.{WriterKeeps, WriterLaw, idle_writes, thaw_comes, thaw_work, thaws_write, whole_writer}
-use Rattle.gate_frames.proofs.WriterStages.{SameStageWords, none_leaves, opened_tree, stays_there, stored_levels, writer_beside, writer_holds, writer_stores}
-use Rattle.gate_frames.proofs.WriterWords.{reopen_leaves, tree_beside, up_write_adds, up_write_counts_none, up_write_words, writer_at_level}
+use Rattle.operation_laws.proofs.frames.{Accesses.holdings_of_after, Frames.{added_load, taken_load}, Holders.{holders_after, holders_at, holders_stay, nobody_minds}}
+use Rattle.operation_laws.proofs.frames.{Keeps.by_bool, MountEvents.{level_added_load, level_taken_load}, Stages.{IsStageEvent, alike_same, nobody_owns, owners_alike}}
+use Rattle.operation_laws.proofs.frames.{Stages.stages_in, Standing.{LevelsHold, Stands, left_world, stand_after_opening, still_closed}, UpLevels.up_write_levels}
+use Rattle.operation_laws.proofs.frames.{WholeLevels.thaws_all, WriterOwner.{lock_given, lock_taken, owner_stays}, WriterParts.{AsksWhere, IsWriter, LeavesRest}}
+use Rattle.operation_laws.proofs.frames.WriterParts.{WriterKeeps, WriterLaw, idle_writes, thaw_comes, thaw_work, thaws_write, whole_writer}
+use Rattle.operation_laws.proofs.frames.WriterStages.{SameStageWords, none_leaves, opened_tree, stays_there, stored_levels, writer_beside, writer_holds, writer_stores}
+use Rattle.operation_laws.proofs.frames.WriterWords.{reopen_leaves, tree_beside, up_write_adds, up_write_counts_none, up_write_words, writer_at_level}
 use Rattle.gate_world.specs.{Configs.{IsWithin, model_limits}, Fits.{Fits, PhaseFits, ThawFits}, Holdings.{Holdings, holdings_of}, Levels.is_frozen_whole}
 use Rattle.gate_world.specs.{Levels.{level_added_after, level_added_by, level_taken_after, level_taken_by}, Roles.{closed_to, thaw_holder_role}}
 use Rattle.gate_world.specs.{Roles.{thaw_stage_role, thaw_stand}, Rules.{Fitting, Holding, Holds, IsGood, OwnerHolds, Stages, StepKeeps, ViewFits}}

@@ -12,7 +12,7 @@ use Rattle.level_laws.{proofs.Exchanges.exchanges_make_transitions, specs.Exchan
 use Rattle.gate_world.specs.{Configs.extents_of, Fits.{UpWriteFits, ThawFits, PhaseFits, Fits, ActionFits}}
 use Rattle.gate_world.specs.{Holdings.{Holdings, held_after}, Operations.holds_none}
 use Rattle.gate_world.specs.{Views.phase_after, declared.{config.Config.Config, work.Phase.Phase}}
-use Rattle.gate_frames.proofs.{Cases.both, Keeps.by_bool}
+use Rattle.operation_laws.proofs.frames.{Cases.both, Keeps.by_bool}
 use Rattle.operation_laws.proofs.FreezeFits.{up_write_word}
 
 -- What comes after a look at who holds a freeze: a refusal, where its own holder doesn't; the superblock's flag, where it alone does; or

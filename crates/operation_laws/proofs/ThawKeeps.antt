@@ -1,7 +1,7 @@
 -- All that is proved of a thaw.
 use Rattle.access_model.specs.declared.actions.Holder.{Holder}
 use Rattle.freeze_levels.specs.declared.thaws.Thaw.{Thaw}
-use Rattle.gate_frames.proofs.{Agreeing.none_agree, Keeps.{OpKeeps, PhaseKeeps, word_among}, Says.{is_short, tells}, Snapshots.completes_none}
+use Rattle.operation_laws.proofs.frames.{Agreeing.none_agree, Keeps.{OpKeeps, PhaseKeeps, word_among}, Says.{is_short, tells}, Snapshots.completes_none}
 use Rattle.gate_world.specs.{Worlds.after_step, declared.{config.Config.Config, operations.Op.Op, work.Phase.Phase}}
 use Rattle.operation_laws.proofs.{ThawCauses.{thaw_own, thaw_stays}, ThawEvents.thaw_keeps, ThawFits.{thaw_acts, thaw_goes, thaw_there}, ThawRuns.thaw_runs}
 use Rattle.operation_laws.proofs.{ThawTraces.{ThawAt, thaw_kept}, ThawWaits.thaw_waits}

@@ -6,8 +6,8 @@ use Rattle.percpu_rwsem.specs.Writers.{up_write_next, up_write_after}
 use Rattle.freeze_levels.specs.{Holders.holders_in, Levels.reopening, Thaws.{at_thaw, thaw_after}, declared.thaws.{Thaw.Thaw, ThawStep.ThawStep}}
 use Rattle.gate_world.specs.{Configs.IsWithin, Levels.is_frozen_whole, Rules.IsGood, Views.{phase_after, view_after}}
 use Rattle.gate_world.specs.{Worlds.{World, after_step, words_after, found_at, value_at}, declared.{config.Config.Config, work.Phase.Phase}}
-use Rattle.gate_frames.proofs.{Frames.SameLevelWords, Keeps.by_bool, LevelRuns.{levels_stay_runs, up_write_runs}, Standing.{Stands, LevelsRun}}
-use Rattle.gate_frames.proofs.WholeLevels.{thaws_runs}
+use Rattle.operation_laws.proofs.frames.{Frames.SameLevelWords, Keeps.by_bool, LevelRuns.{levels_stay_runs, up_write_runs}, Standing.{Stands, LevelsRun}}
+use Rattle.operation_laws.proofs.frames.WholeLevels.{thaws_runs}
 use Rattle.operation_laws.proofs.{ThawEvents.{thaw_stands, idle_stands, opening_stands, IsHere, here_fits, here_knows, here_stands}, ThawFits.finds_cases}
 
 module _ (c : Config) (lim : IsWithin c) (w : World) (good : IsGood c w) (t : ℕ) (lt : t < c.tasks) (x : Thaw) where

@@ -9,7 +9,7 @@ use Rattle.percpu_rwsem.specs.declared.{transitions.{Transition.Transition, Tran
 use Rattle.freeze_levels.specs.{Holders.holders_in, Levels.reopening, Thaws.{thaw_opens, after_opening}, declared.thaws.{Thaw.Thaw, ThawStep.ThawStep}}
 use Rattle.gate_world.specs.{Found.{found_sealed, found_shared, found_unheld, each_event, finds_taken}, Traces.{actions_of, IsHonestAnswer}, Views.with_hook}
 use Rattle.gate_world.specs.declared.{config.Config.Config, operations.Op.Op, views.Traced.Traced, work.Phase.Phase}
-use Rattle.gate_frames.proofs.Says.{Says, SaysAfter, Kept, event_at}
+use Rattle.operation_laws.proofs.frames.Says.{Says, SaysAfter, Kept, event_at}
 use Rattle.operation_laws.proofs.ThawFits.{finds_cases}
 
 -- a thaw by a task, at this step

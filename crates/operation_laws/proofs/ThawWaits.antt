@@ -7,7 +7,7 @@ use Rattle.percpu_rwsem.specs.declared.{transitions.TransitionNext.TransitionNex
 use Rattle.freeze_levels.specs.{Thaws.{at_thaw, after_opening}, declared.thaws.{Thaw.Thaw, ThawStep.ThawStep}}
 use Rattle.gate_world.specs.{KeptCauses.ThawCause, Rules.{owns, IsGood}, Waits.HasReason, Work.after_of, Worlds.{World, found_at}}
 use Rattle.gate_world.specs.declared.{config.Config.Config, work.Phase.Phase}
-use Rattle.gate_frames.proofs.Owners.{umount_taken}
+use Rattle.operation_laws.proofs.frames.Owners.{umount_taken}
 
 module _ (c : Config) (w : World) (earlier : List World) (t : ℕ) where
   -- an up-write of a thaw goes on after an event of its transition, or the next level is reopened

@@ -10,7 +10,7 @@ use Rattle.gated_tree.specs.Phases.{kids_step, node_step}
 use Rattle.gated_tree.specs.declared.{phases.TreePhase.TreePhase, snapshots.{Snapshot.Snapshot, SnapshotStep.SnapshotStep}}
 use Rattle.gate_world.specs.{Causes.{looks_at_stage, was_incomplete}, KeptCauses.{SnapshotCause, TreeCause, CauseOf}, Views.phase_after, Work.after_of}
 use Rattle.gate_world.specs.{Worlds.{World, found_at}, declared.{config.Config.Config, work.Phase.Phase}}
-use Rattle.gate_frames.proofs.Moments.{look_skips, look_stands}
+use Rattle.operation_laws.proofs.frames.Moments.{look_skips, look_stands}
 
 -- a snapshot whose view another entry leaves alone: the cause of each step stays
 snapshot_stays : (c : Config) (t : ℕ) (w next : World) (earlier : List World) (x : Snapshot) (s : SnapshotStep) →

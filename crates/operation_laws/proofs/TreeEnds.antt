@@ -22,7 +22,7 @@ use Rattle.gated_tree.specs.declared.opens.OpenStep.{OpenStep}
 use Rattle.gated_tree.specs.declared.phases.TreePhase.{TreePhase}
 use Rattle.gated_tree.specs.declared.snapshots.{Snapshot.Snapshot, SnapshotStep.SnapshotStep}
 use Rattle.gate_world.specs.{Courses.{MayHold, MayFind, OpenMayFind}, Worlds.{words_after, found_at}, declared.{config.Config.Config, work.Phase.Phase}}
-use Rattle.gate_frames.proofs.MayHolds.{events_may_be}
+use Rattle.operation_laws.proofs.frames.MayHolds.{events_may_be}
 use Rattle.operation_laws.proofs.Falls.{falls_as}
 use Rattle.operation_laws.specs.Ranks.{rank, create_rank, remove_rank, grow_rank, move_rank, mark_rank, open_rank, snapshot_rank, tree_rank}
 use Rattle.operation_laws.specs.Ways.{IsFree, SnapshotIsFree, TreeIsFree, Falls, PhaseEnds}

@@ -21,7 +21,7 @@ use Rattle.gated_tree.specs.declared.snapshots.{Snapshot.Snapshot, SnapshotStep.
 use Rattle.gate_world.specs.{Causes.{CallRefused, TreeRefused, IsTaken, TellsOf, tree_sees}, Fits.PhaseFits, KeptCauses.{SnapshotCause, TreeCause}}
 use Rattle.gate_world.specs.{Rules.{owns, IsGood}, Shown.shown, Views.held_of, Waits.{HasReason, HasCulprit}, Work.after_of}
 use Rattle.gate_world.specs.{Worlds.{World, found_at}, declared.{config.Config.Config, work.Phase.Phase}}
-use Rattle.gate_frames.proofs.Owners.{umount_taken}
+use Rattle.operation_laws.proofs.frames.Owners.{umount_taken}
 use Rattle.operation_laws.proofs.NodeCauses.{is_of_node, call_refused, create_node, remove_node, grow_node, move_node, mark_node, open_node, clear_node}
 
 -- what comes is no wait

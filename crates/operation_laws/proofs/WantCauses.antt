@@ -8,7 +8,7 @@ use Rattle.mount_counts.specs.declared.phases.{MountPhase.MountPhase, Want.Want,
 use Rattle.mount_laws.proofs.Bits.{read_only_set, hold_set}
 use Rattle.gate_world.specs.{Causes.{asks, want_asks, WantRefused, WasHeld}, KeptCauses.{WantCause, CauseOf}, Roles.want_role, Rules.{IsGood, Owner, Stages}}
 use Rattle.gate_world.specs.{Rules.{AtMount, role_of}, Views.phase_after, Worlds.World, declared.{config.Config.Config, work.Phase.Phase}}
-use Rattle.gate_frames.proofs.{Moments.{or_true, question_skips, question_stands}, Owners.who_holds}
+use Rattle.operation_laws.proofs.frames.{Moments.{or_true, question_skips, question_stands}, Owners.who_holds}
 
 -- a task whose next event is that of a want's step, in its own operation or in a longer one, and which another entry leaves alone
 module _ (c : Config) (t : ℕ) (w next : World) (earlier : List World) where

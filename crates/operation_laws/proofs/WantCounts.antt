@@ -9,8 +9,8 @@ use Rattle.mount_laws.proofs.MountLaws.{adds, backs_off, returns}
 use Rattle.gate_world.specs.{Configs.IsWithin, Rules.{role_of, at_mount, IsSteady, IsGood, GateStepKeeps, AtMount, GatesHold}, Shown.shown}
 use Rattle.gate_world.specs.{Views.{held_at, added_by, taken_by, view_with, has_open}, Worlds.World}
 use Rattle.gate_world.specs.declared.{config.Config.Config, views.View.View, work.Phase.Phase}
-use Rattle.gate_frames.proofs.Frames.{role_on, role_off, view_as, holds_as, MountHoldsAfter, owner_same, gates_after, shown_as, shown_still}
-use Rattle.gate_frames.proofs.Loads.{as_owner, fits_now}
+use Rattle.operation_laws.proofs.frames.Frames.{role_on, role_off, view_as, holds_as, MountHoldsAfter, owner_same, gates_after, shown_as, shown_still}
+use Rattle.operation_laws.proofs.frames.Loads.{as_owner, fits_now}
 use Rattle.operation_laws.proofs.WantLoads.{want, want_here, want_off}
 
 module _ (c : Config) (lim : IsWithin c) (w : World) (good : IsGood c w) (t : ℕ) (lt : t < c.tasks) where

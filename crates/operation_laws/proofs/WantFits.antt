@@ -6,7 +6,7 @@ use Rattle.mount_counts.specs.Phases.{has_flag, at_want, hold_found, want_next, 
 use Rattle.mount_counts.specs.declared.phases.{MountPhase.MountPhase, Want.Want, WantStep.WantStep}
 use Rattle.gate_world.specs.{Configs.{IsWithin, extents_of}, Fits.{MountFits, Fits, ActionFits}, Holdings.{Holdings, held_after}, Views.phase_after}
 use Rattle.gate_world.specs.declared.{config.Config.Config, work.Phase.Phase}
-use Rattle.gate_frames.proofs.Keeps.{by_bool}
+use Rattle.operation_laws.proofs.frames.Keeps.{by_bool}
 
 -- the word of each event of a want is there
 pub want_there : (c : Config) (w : Want) (step : WantStep) → w.mount < c.mounts → w.cpu < c.processors → IsWord (extents_of c) (want_next w step).0

@@ -1,7 +1,7 @@
 -- All that is proved of a want and of a drop.
 use Rattle.access_model.specs.declared.replies.Next.{Next}
-use Rattle.gate_frames.proofs.{Frames.role_none, Keeps.{IsSmall, OpKeeps, PhaseKeeps, by_bool, word_among}, MountRuns.mounts_run, Says.{is_short, tells}}
-use Rattle.gate_frames.proofs.{Snapshots.completes_none, TreeHolders.both_true}
+use Rattle.operation_laws.proofs.frames.{Frames.role_none, Keeps.{IsSmall, OpKeeps, PhaseKeeps, by_bool, word_among}, MountRuns.mounts_run, Says.{is_short, tells}}
+use Rattle.operation_laws.proofs.frames.{Snapshots.completes_none, TreeHolders.both_true}
 use Rattle.gate_world.specs.{Alike.no_roles, Causes.asks, Fits.Fits, Rules.Fitting, Traces.most_events, Views.held_of, Worlds.{World, after_step, found_at}}
 use Rattle.gate_world.specs.declared.{config.Config.Config, operations.Op.Op, work.Phase.Phase}
 use Rattle.mount_counts.specs.{Phases.want_after, declared.phases.{MountPhase.MountPhase, Want.Want}}

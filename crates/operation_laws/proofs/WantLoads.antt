@@ -4,8 +4,8 @@ use Rattle.access_model.specs.declared.replies.Reply.{Reply}
 use Rattle.cpu_words.specs.{Hooks.HookAnswer, declared.{events.Touch.Touch, names.WordName.WordName}}
 use Rattle.finite_sums.proofs.Totals.{total_at, update_at, update_off, update_same}
 use Rattle.finite_sums.specs.Sums.{update}
-use Rattle.gate_frames.proofs.Frames.{MountHoldsAfter, gates_after, holds_as, owner_same, role_off, role_on, shown_as, view_as}
-use Rattle.gate_frames.proofs.Loads.{after_load, as_owner, fits_now, load_law}
+use Rattle.operation_laws.proofs.frames.Frames.{MountHoldsAfter, gates_after, holds_as, owner_same, role_off, role_on, shown_as, view_as}
+use Rattle.operation_laws.proofs.frames.Loads.{after_load, as_owner, fits_now, load_law}
 use Rattle.gate_world.specs.{Fits.Fits, Roles.want_role, Rules.{AtMount, GateStepKeeps, GatesHold, IsGood, IsSteady, MountHoldsIn, at_mount, owns, remounts}}
 use Rattle.gate_world.specs.{Rules.role_of, Shown.{closing, shown}, Views.{has_open, held_at, held_of, phase_after, view_with}, Worlds.World}
 use Rattle.gate_world.specs.declared.{config.Config.Config, views.View.View, work.Phase.Phase}

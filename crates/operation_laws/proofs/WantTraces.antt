@@ -6,7 +6,7 @@ use Rattle.cpu_words.specs.{Hooks.HookAnswer, Touches.{event_of, found_by}, decl
 use Rattle.mount_counts.specs.{Phases.{has_flag, want_next, want_after}, declared.phases.{MountPhase.MountPhase, Want.Want, WantStep.WantStep}}
 use Rattle.gate_world.specs.{Found.{each_but_first, finds_hold, looks_again, holds_since, adds_to, newest}, Traces.{IsHonest, most_events, IsShort}}
 use Rattle.gate_world.specs.{Views.{with_hook, actions_after}, declared.{config.Config.Config, operations.Op.Op, views.Traced.Traced, work.Phase.Phase}}
-use Rattle.gate_frames.proofs.{CallTraces.or_other, Says.{Says, SaysAfter, Kept, event_at}}
+use Rattle.operation_laws.proofs.frames.{CallTraces.or_other, Says.{Says, SaysAfter, Kept, event_at}}
 
 -- a want of this mount, processor and way to wait, at this step
 abbrev pub want_at : ℕ → ℕ → Bool → WantStep → Want

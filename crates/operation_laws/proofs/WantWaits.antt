@@ -8,7 +8,7 @@ use Rattle.mount_counts.specs.declared.phases.{MountPhase.MountPhase, Want.Want,
 use Rattle.mount_laws.proofs.Bits.{hold_set}
 use Rattle.gate_world.specs.{Causes.{WantRefused, last_question}, KeptCauses.WantCause, Roles.want_role, Rules.{role_of, IsGood, AtMount}, Waits.HasCulprit}
 use Rattle.gate_world.specs.{Waits.HasReason, Worlds.World, declared.{config.Config.Config, work.Phase.Phase}}
-use Rattle.gate_frames.proofs.Owners.{who_holds}
+use Rattle.operation_laws.proofs.frames.Owners.{who_holds}
 
 module _ (c : Config) (w : World) (earlier : List World) (good : IsGood c w) (t : ℕ) (lt : t < c.tasks) (x : Want) where
   -- where this comes after an event of the want, it is no wait, or another task has HOLD set; a refusal has its cause

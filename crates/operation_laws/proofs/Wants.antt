@@ -3,7 +3,7 @@ use Rattle.std.{proofs.Common.{◌≡◌, ℕ, ◌<◌, Bool}, specs.Prelude.Som
 use Rattle.cpu_words.specs.Hooks.{HookAnswer}
 use Rattle.mount_counts.specs.declared.phases.{MountPhase.MountPhase, WantStep.WantStep}
 use Rattle.gate_world.specs.{Configs.IsWithin, Rules.{IsGood, GateStepKeeps, StepKeeps}, Worlds.World, declared.{config.Config.Config, work.Phase.Phase}}
-use Rattle.gate_frames.proofs.MountEvents.{whole_step}
+use Rattle.operation_laws.proofs.frames.MountEvents.{whole_step}
 use Rattle.operation_laws.proofs.{WantCounts.{counts_up, counts_down, drops}, WantLoads.{want, loads_hold, loads_remount, loads_read_only, loads_superblock}}
 
 want_gates : (c : Config) → IsWithin c → (w : World) → IsGood c w → (t : ℕ) → t < c.tasks → (hook : HookAnswer) →

@@ -3,8 +3,8 @@ use Rattle.access_model.specs.{Histories.levels_of, Replies.map_next, declared.{
 use Rattle.cpu_words.specs.Hooks.{HookAnswer}
 use Rattle.finite_sums.proofs.Totals.{update_same}
 use Rattle.finite_sums.specs.Sums.{update}
-use Rattle.gate_frames.proofs.{Agreeing.none_agree, Beside.update_twice, Frames.{count_none, role_on, sync_none}, Keeps.{OpKeeps, PhaseKeeps}, Says.is_short}
-use Rattle.gate_frames.proofs.{Says.{is_short_well, tells, tells_well}, Snapshots.completes_none, TreeHolders.both_true}
+use Rattle.operation_laws.proofs.frames.{Agreeing.none_agree, Beside.update_twice, Frames.{count_none, role_on, sync_none}, Keeps.{OpKeeps, PhaseKeeps}, Says.is_short}
+use Rattle.operation_laws.proofs.frames.{Says.{is_short_well, tells, tells_well}, Snapshots.completes_none, TreeHolders.both_true}
 use Rattle.gate_world.specs.{Causes.{asks, asks_level}, Configs.IsWithin, Fits.{Fits, WriteFits}, Holdings.{Holdings, held_after, holdings_of}}
 use Rattle.gate_world.specs.{Alike.no_roles, LevelRuns.level_in, Levels.sync_role_of, Rules.{IsGood, StepKeeps, role_of}, Views.{held_of, phase_after}}
 use Rattle.gate_world.specs.{Worlds.{World, after_step, found_at}, declared.{config.Config.Config, operations.Op.Op, work.Phase.Phase}}

@@ -2,7 +2,7 @@
 use Rattle.access_model.specs.declared.{actions.Action.Action, replies.Next.Next}
 use Rattle.cpu_words.specs.Hooks.{HookAnswer}
 use Rattle.finite_sums.proofs.Totals.{update_at}
-use Rattle.gate_frames.proofs.{Beside.{made, made_runs_beside}, Rephased.{alike_of, made_keeps, rephased_good}}
+use Rattle.operation_laws.proofs.frames.{Beside.{made, made_runs_beside}, Rephased.{alike_of, made_keeps, rephased_good}}
 use Rattle.gate_world.specs.{Alike.{IsAlike, at_phase, off_tree, rephased}, Fits.{Fits, PhaseFits, WriteFits}, Holdings.{Holdings, held_after}}
 use Rattle.gate_world.specs.{LevelRuns.level_in, Rules.{Fitting, IsGood, Moves}, Shown.shown, Views.{held_of, phase_after}, Work.{after_of, next_of, plain}}
 use Rattle.gate_world.specs.{Worlds.{World, found_at}, declared.{config.Config.Config, views.View.View, work.Phase.Phase}}

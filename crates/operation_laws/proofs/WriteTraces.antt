@@ -7,7 +7,7 @@ use Rattle.percpu_rwsem.specs.{Readers.{down_read_next, down_read_after}, declar
 use Rattle.write_access.specs.{Phases.{then_wants, then_gives_back, next as write_next}, declared.phases.WritePhase.WritePhase}
 use Rattle.gate_world.specs.{Courses.{MayHold, MayFind}, Traces.IsHonest, Views.{with_hook, actions_after}, Work.next_of}
 use Rattle.gate_world.specs.declared.{config.Config.Config, operations.Op.Op, views.Traced.Traced, work.Phase.Phase}
-use Rattle.gate_frames.proofs.Says.{Says, SaysAfter, Kept, event_at, KeptWell}
+use Rattle.operation_laws.proofs.frames.Says.{Says, SaysAfter, Kept, event_at, KeptWell}
 use Rattle.operation_laws.proofs.{ReadTraces.{read_at, ReadSays, ReadNext, read_event}, WantTraces.{want_at, WantSays, WantNext, want_event}}
 
 -- what stands of the actions while the mount is wanted

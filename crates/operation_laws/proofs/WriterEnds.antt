@@ -15,7 +15,7 @@ use Rattle.percpu_rwsem.specs.declared.writers.{DownWrite.DownWrite, DownWriteSt
 use Rattle.level_laws.specs.{Operations.{down_write_role, up_write_role}, Roles.{SyncRole, Past, Entered, entering, entered, closed}}
 use Rattle.gate_world.specs.{Fits.DownWriteStepFits, Levels.{is_frozen_whole, sync_role_of}, Rules.{IsGood, SyncAt, SyncHoldsIn}, Worlds.World}
 use Rattle.gate_world.specs.declared.config.Config.{Config}
-use Rattle.gate_frames.proofs.Words.{load_same}
+use Rattle.operation_laws.proofs.frames.Words.{load_same}
 use Rattle.operation_laws.proofs.{CallbackEnds.{GraceFalls, look_falls}, Falls.after_event}
 use Rattle.operation_laws.proofs.LevelFacts.{ExchangeFalls, exchange_falls, defined_falls, enter_defined, writer_passed, exit_defined, block_clear}
 use Rattle.operation_laws.proofs.LevelFacts.{writer_called}

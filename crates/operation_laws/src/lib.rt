@@ -6,6 +6,7 @@ pub mod call_events;
 pub mod change_events;
 pub mod close_events;
 pub mod deadlocks;
+pub mod frames;
 pub mod freeze_events;
 pub mod read_events;
 pub mod remount_events;

@@ -7,10 +7,10 @@ use Rattle.command_line.specs.declared.words.Asked.{Asked}
 use Rattle.command_line.specs.declared.words.Asked.TheVariants as ask
 use Rattle.command_line.specs.declared.words.Form.{Form}
 use Rattle.command_line.specs.declared.words.Form.TheVariants.{Plain}
-use Rattle.endings.specs.Endings.{of_file}
-use Rattle.endings.specs.declared.ends.Ending.{Ending}
-use Rattle.endings.specs.declared.ends.Ending.TheVariants.{Done, DoneOverGates, Shown, Passed, Listed, Ran, Told, Refused, Misused}
-use Rattle.schedule_bytes.specs.declared.replay_faults.ReplayFault.{ReplayFault}
+use Rattle.asked_files.specs.endings.Endings.{of_file}
+use Rattle.asked_files.specs.declared.endings.ends.Ending.{Ending}
+use Rattle.asked_files.specs.declared.endings.ends.Ending.TheVariants.{Done, DoneOverGates, Shown, Passed, Listed, Ran, Told, Refused, Misused}
+use Rattle.schedule_text.specs.declared.bytes.replay_faults.ReplayFault.{ReplayFault}
 use Rattle.transcripts.specs.Replayed.{Replayed}
 
 -- how a replay ends that was done, in this form and over these gates, of standard input

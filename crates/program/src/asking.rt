@@ -6,17 +6,17 @@ ghost use Rattle.command_line.specs.CommandLine.{IsPlain, MayAskPlainly, ask_pla
 ghost use Rattle.command_line.specs.declared.words.Asked.TheVariants.{Outcomes as AsksOutcomes, Replay as AsksReplay, Unread};
 ghost use Rattle.command_line.specs.declared.words.Outcomes.{Outcomes as OutcomesAsked};
 ghost use Rattle.command_line.specs.declared.words.Replay.{Replay as ReplayAsked};
-ghost use Rattle.endings.specs.declared.ends.Ending.TheVariants.{Done, Passed, Ran, Refused};
+ghost use Rattle.asked_files.specs.declared.endings.ends.Ending.TheVariants.{Done, Passed, Ran, Refused};
 ghost use Rattle.program.specs.Asking.{MayEnd, EndsChecked, EndsReplayed, EndsReplayedFile, IsRefusedUnread, TellsSomePassed, done_in, done_of};
 ghost use Rattle.asked_files.specs.Outcomes.{EndsTold};
 ghost use Rattle.transcripts.specs.Replayed.{Replayed};
 
 use crate::runs;
 use crate::runs::{AskedRun, Progress};
+use asked_files::endings::{Ending, text_told, unopened};
 use asked_files::{Telling, replay_told, run_checks, run_outcomes, show_told};
 use command_line::{Asked, Form, Replay, read_words};
 use driven_gates::GatesDriver;
-use endings::{Ending, text_told, unopened};
 use replays::Core;
 use std::alloc::{AllocError, Global};
 use std::fs;

@@ -1,14 +1,14 @@
 //! Runs of writers, a remounter and a backup in threads, from the command line.
 
 ghost use Rattle.std.specs.Prelude.{◌≡◌, ◌≤◌, ◌⊎◌};
-ghost use Rattle.endings.specs.declared.ends.Ending.TheVariants.{Ran, Refused};
+ghost use Rattle.asked_files.specs.declared.endings.ends.Ending.TheVariants.{Ran, Refused};
 ghost use Rattle.run_parts.specs.Plans.{MayRun};
 
 use access_model::GateError;
+use asked_files::endings::{Ending, refused, why_told};
 use command_line::{Numbers, Tells};
-use endings::{Ending, refused, why_told};
 use gate_runs::{Details, Plan, Sizes, Totals, Watch, run_plan};
-use schedule_bytes::write_out;
+use schedule_text::bytes::write_out;
 use std::alloc::{AllocError, Global};
 use std::io;
 use std::io::{Stderr, Write};

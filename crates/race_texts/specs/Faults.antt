@@ -4,7 +4,7 @@ use Rattle.access_model.specs.declared.errors.GateError.{GateError}
 use Rattle.access_model.specs.declared.errors.GateError.TheVariants.{NoMemory}
 use Rattle.race_texts.specs.declared.faults.RaceFault.{RaceFault}
 use Rattle.race_texts.specs.declared.faults.RaceFault.TheVariants.{Schedule, RaceExpected, RaceTwice, UnderWay, CallExpected, TooManyCalls, HookTwice}
-use Rattle.schedule_bytes.specs.declared.replay_faults.ReplayFault.{ReplayFault}
+use Rattle.schedule_text.specs.declared.bytes.replay_faults.ReplayFault.{ReplayFault}
 use Rattle.schedule_text.specs.Faults.{text_of, cause_of}
 use Rattle.schedule_text.specs.declared.faults.Fault.TheVariants.{Refused}
 

@@ -3,7 +3,7 @@
 use crate::setting_up::{Watch, do_setting};
 use crate::{Lines, RaceFault, RaceFile, tell_briefly};
 use exploration::Stop;
-use schedule_bytes::ReplayFault;
+use schedule_text::bytes::ReplayFault;
 use schedule_text::{LINES, Output};
 use std::alloc::{AllocError, Global};
 use transcripts::{Core, Session};

@@ -7,7 +7,7 @@ use crate::calls::Calls;
 use crate::faults::RaceFault;
 use crate::lines::Lines;
 use crate::setting_up::set_up;
-use schedule_bytes::ReplayFault;
+use schedule_text::bytes::ReplayFault;
 use std::alloc::Global;
 use transcripts::{Core, Session, no_memory};
 

@@ -4,7 +4,7 @@ ghost use Rattle.std.specs.Prelude.{◌≡◌, ◌<◌, ◌≤◌, ◌+◌, leng
 ghost use Rattle.race_texts.specs.Calls.{is_race};
 
 use crate::faults::RaceFault;
-use schedule_bytes::ReplayFault;
+use schedule_text::bytes::ReplayFault;
 use schedule_text::words::{first_word, word_count};
 use schedule_text::{Fault, Front, LINES, front_of};
 

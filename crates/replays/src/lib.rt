@@ -4,5 +4,5 @@
 pub mod line_replay;
 pub mod replay;
 
-pub use schedule_bytes::ReplayFault;
+pub use schedule_text::bytes::ReplayFault;
 pub use transcripts::{Core, Driver};

@@ -10,13 +10,13 @@ ghost use Rattle.schedule_text.specs.declared.lines.Front.TheVariants.{Line as W
 ghost use Rattle.replays.specs.LineReplays.{ReplayGoesOn, ReplayShows, IsNewReplay, IsDoneReplay};
 ghost use Rattle.transcripts.specs.Sessions.{ShowsPlayIfAny};
 ghost use Rattle.transcripts.specs.Limits.{IsLineNumber};
-ghost use Rattle.schedule_bytes.specs.Pending.{pending, pending_count};
+ghost use Rattle.schedule_text.specs.bytes.Pending.{pending, pending_count};
 ghost use Rattle.transcripts.specs.Replayed.{Replayed};
 ghost use Rattle.transcripts.specs.Replaying.{Stops};
 ghost use Rattle.transcripts.specs.Transcript.{Play, line_effect, tasks_of};
-ghost use Rattle.schedule_bytes.specs.Writing.{AppendsPart};
+ghost use Rattle.schedule_text.specs.bytes.Writing.{AppendsPart};
 
-use schedule_bytes::{Input, ReplayFault, fault_after, write_out};
+use schedule_text::bytes::{Input, ReplayFault, fault_after, write_out};
 use schedule_text::{Fault, Front, LINES, Line, Output, Request, parse};
 use std::alloc::{AllocError, Global};
 use std::io::{Read, Write};

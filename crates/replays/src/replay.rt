@@ -5,7 +5,7 @@ ghost use Rattle.transcripts.specs.Limits.{IsLineNumber};
 ghost use Rattle.transcripts.specs.Replayed.{Replayed};
 
 use crate::line_replay::LineReplay;
-use schedule_bytes::{ReplayFault, fault_after};
+use schedule_text::bytes::{ReplayFault, fault_after};
 use std::alloc::Global;
 use std::io::{Read, Write};
 use transcripts::{Core, Driver, no_memory};

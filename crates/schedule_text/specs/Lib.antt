@@ -6,3 +6,4 @@ pub mod Commands
 pub mod Parsing
 pub mod Printing
 pub mod Printed
+pub mod bytes

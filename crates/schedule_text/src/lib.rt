@@ -1,7 +1,8 @@
-//! The language of schedules: what a line of text asks for, and how an answer is printed. Everything here is a function of
-//! bytes and values; whoever drives the gates does what the lines say.
+//! The language of schedules: what a line of text asks for, and how an answer is printed; and the bytes of a schedule, read and written in
+//! blocks. Whoever drives the gates does what the lines say.
 #![tactic(auto)]
 
+pub mod bytes;
 pub mod commands;
 pub mod faults;
 pub mod lines;

@@ -1,6 +1,6 @@
 //! What is printed.
 
-use schedule_bytes::write_out;
+use schedule_text::bytes::write_out;
 use schedule_text::{Fault, Output};
 use std::alloc::{AllocError, Global};
 use std::io::Write;

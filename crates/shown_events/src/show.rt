@@ -1,11 +1,11 @@
 //! A schedule, shown line by line.
 
 ghost use Rattle.std.specs.Prelude.{◌<◌};
-ghost use Rattle.schedule_bytes.specs.Pending.{pending_count};
+ghost use Rattle.schedule_text.specs.bytes.Pending.{pending_count};
 
 use crate::forms::Form;
 use crate::screen::Screen;
-use schedule_bytes::{Input, ReplayFault, fault_after};
+use schedule_text::bytes::{Input, ReplayFault, fault_after};
 use schedule_text::{Fault, Front, LINE_BYTES, LINES, parse};
 use std::alloc::{AllocError, Global};
 use std::io::{Read, Write};

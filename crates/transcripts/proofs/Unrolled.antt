@@ -10,7 +10,7 @@ use Rattle.schedule_text.specs.Parsing.{parsed}
 use Rattle.transcripts.specs.Replayed.{MayGoOn}
 use Rattle.transcripts.specs.Transcript.{Play, Transcript, stops, ends, ends_or, then_prints, tasks_of, line_effect, transcript_from}
 use Rattle.transcripts.proofs.Faults.{fault_of_effect}
-use Rattle.schedule_bytes.proofs.Fronts.{none_part}
+use Rattle.schedule_text.proofs.bytes.Fronts.{none_part}
 
 -- after a line that is understood, by its fault
 abbrev by_effect : ℕ → ℕ → Option Play → List ℕ → ℕ → Line → Option Fault → Transcript

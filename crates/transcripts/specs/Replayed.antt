@@ -7,7 +7,7 @@ use Rattle.schedule_text.specs.Lines.{is_newline}
 use Rattle.schedule_text.specs.declared.faults.Fault.{Fault}
 use Rattle.schedule_text.specs.declared.faults.Fault.TheVariants.{CutOff, ConfigExpected, ReadFailed, WriteFailed, Refused}
 use Rattle.transcripts.specs.Transcript.{transcript}
-use Rattle.schedule_bytes.specs.declared.replay_faults.ReplayFault.{ReplayFault}
+use Rattle.schedule_text.specs.declared.bytes.replay_faults.ReplayFault.{ReplayFault}
 
 -- some bytes from the first on
 abbrev pub IsFront : List ℕ → List ℕ → Type 0

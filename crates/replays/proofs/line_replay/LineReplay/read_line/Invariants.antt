@@ -1,5 +1,5 @@
 use Rattle.std.proofs.Common.{ℕ, ◌-◌, List, Option, length}
-use Rattle.schedule_bytes.specs.Pending.{pending}
+use Rattle.schedule_text.specs.bytes.Pending.{pending}
 use Rattle.replays.specs.LineReplays.{ReplayGoesOn}
 use Rattle.replays.proofs.line_replay.LineReplay.read_line.Given as goal
 

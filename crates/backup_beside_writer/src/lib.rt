@@ -1,0 +1,13 @@
+//! Two threads at one mount: a writer that changes a file, and a backup that makes the mount read-only, reads the file twice and makes
+//! the mount writable again. docs/CALLING.md explains it line by line; `gate_workbench backup` runs it, and prints the same whatever the schedule.
+#![tactic(auto)]
+
+mod backup;
+pub mod run;
+mod told;
+mod writer;
+
+pub use told::Told;
+
+/// The mount at which both work.
+pub const MOUNT: u8 = 0;

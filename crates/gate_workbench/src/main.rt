@@ -1,0 +1,125 @@
+//! The workbench of the gates, for the scripts of this repository: by the words of its command line it measures the gates (bench/by-turns.py),
+//! makes each call that takes memory (bench/refuse-memory.sh), or runs a backup beside a writer. The words are few, so a `match` reads them.
+#![tactic(auto)]
+
+mod at_gates;
+mod at_runs;
+mod ending;
+mod gates;
+mod growths;
+mod measurements;
+mod models;
+mod schedules;
+mod threads;
+
+use anyhow::Result;
+use backup_beside_writer::MOUNT;
+use backup_beside_writer::run::run;
+use measurements::Measurement;
+use std::alloc::Global;
+use std::io::Read;
+use std::process::ExitCode;
+use std::rt::Clock;
+use std::sync::Wait;
+use std::thread::Threads;
+use vfs_gates::Gate;
+
+/// What the program can be asked for.
+const USAGE: &str = "\
+Usage: gate_workbench measure <WHAT> <SIZE> <COUNT>
+       gate_workbench growths | backup | both | --help
+
+measure  Measures the gates, and prints nanoseconds
+         WHAT   mount, level or write-access: pairs of a taken and a returned access; freeze or freeze-and-callbacks: freezes, each
+                with its thaw; run: runs
+         SIZE   Threads of the pairs, or tasks and processors: 1 to 64, and at least 3 for runs
+         COUNT  How many pairs each thread does, or freezes, or runs
+growths  Makes each call that takes memory, and prints how it ended; asks for as many growths first as standard input says
+backup   Runs a backup beside a writer, and prints what both have done
+both     A backup, and then the growths";
+
+/// What the words of a command line ask for.
+enum Asked {
+    Measure(Measurement),
+    Growths,
+    Backup,
+    Both,
+    Help,
+}
+
+fn main(rt: HostRuntime) -> Result<ExitCode> {
+    let alloc = rt.alloc();
+    let mut input = rt.stdin();
+    let words: Vec<String> = std::env::args(&rt)?.collect(alloc)?;
+    let asked = read_words(words.as_slice());
+    // Before any way out, so that it is dropped in one place.
+    drop(words);
+    let Some(asked) = asked else {
+        return refuse(&rt);
+    };
+    answer(&rt, alloc, asked, &mut input)?;
+    Ok(ExitCode::SUCCESS)
+}
+
+/// What these words ask for, the first of which is the program's name.
+fn read_words(words: &[String]) -> Option<Asked> {
+    let [_program, command, others @ ..] = words else {
+        return None;
+    };
+    match (command.as_str(), others) {
+        ("measure", [what, size, count]) => {
+            let measurement = Measurement::of(what.as_str(), size.as_str(), count.as_str())?;
+            Some(Asked::Measure(measurement))
+        }
+        ("growths", []) => Some(Asked::Growths),
+        ("backup", []) => Some(Asked::Backup),
+        ("both", []) => Some(Asked::Both),
+        ("--help", []) => Some(Asked::Help),
+        _ => None,
+    }
+}
+
+/// Does what was asked for.
+fn answer<R: Threads + Wait + Clock + Print + Sync, I: Read>(
+    rt: &R,
+    alloc: Global,
+    asked: Asked,
+    input: &mut I,
+) -> Result<()> {
+    match asked {
+        Asked::Measure(measurement) => print_time(rt, alloc, measurement),
+        Asked::Growths => growths::print_endings(rt, alloc, input),
+        Asked::Backup => back_up(rt, alloc),
+        Asked::Both => {
+            back_up(rt, alloc)?;
+            growths::print_endings(rt, alloc, input)
+        }
+        Asked::Help => Ok(rt.println(USAGE)?),
+    }
+}
+
+/// Says what can be asked for, where the words ask for nothing of that.
+fn refuse<R: Eprint>(rt: &R) -> Result<ExitCode> {
+    rt.eprintln(USAGE)?;
+    Ok(ExitCode::from(2))
+}
+
+/// Measures, and prints how long it took.
+fn print_time<R: Threads + Wait + Clock + Print + Sync>(
+    rt: &R,
+    alloc: Global,
+    measurement: Measurement,
+) -> Result<()> {
+    let took = measurement.measure(rt, alloc)?;
+    println!(rt; "{}", took.as_nanos())?;
+    Ok(())
+}
+
+/// Lets the writer and the backup work, and prints what they tell and what is left at their mount: the same whatever the schedule.
+fn back_up<R: Threads + Wait + Print + Sync>(rt: &R, alloc: Global) -> Result<()> {
+    let (told, closed) = run(rt, alloc)?;
+    let left = closed.gate_sum(Gate::Mount(MOUNT));
+    drop(closed);
+    println!(rt; "{told}\naccesses left: {left:?}")?;
+    Ok(())
+}
