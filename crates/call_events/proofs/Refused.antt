@@ -11,7 +11,7 @@ use Rattle.gate_world.specs.{Beginnings.is_in_order, Operations.{two_levels_clos
 use Rattle.gate_world.specs.{Found.{clean_found, cleans, stored_stage}, Holdings.holdings_of, Traces.{actions_of, Tells}, Views.held_of}
 use Rattle.gate_world.specs.declared.{config.Config.Config, operations.Op.{Op, TheVariants.{RemountSb, WantWrite, Freeze as FreezeOp}}, views.Traced.Traced}
 use Rattle.gate_world.specs.declared.work.Phase.{Phase}
-use Rattle.operation_laws.proofs.Layers.{op_keeps}
+use Rattle.gate_schedules.proofs.operations.Layers.{op_keeps}
 use Rattle.gate_steps.specs.Seating.{SeatItems}
 use Rattle.call_events.specs.{Refused.{LeavesTree, IsUnchanged, IsHonestWait, WaitsHonestly}, Runs.ran_items, TaskStates.{own_number, own_view}}
 use Rattle.call_events.proofs.Asked.{either_way}

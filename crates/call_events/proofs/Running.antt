@@ -22,8 +22,8 @@ use Rattle.gate_world.specs.Work.{next_of, after_of}
 use Rattle.gate_world.specs.Beginnings.{first_phase}
 use Rattle.gate_world.specs.Courses.{Course, course_with, course_after, course_of, IsEventOf, IsNext, IsTrace, MayFind}
 use Rattle.gate_world.specs.Traces.{actions_of, Tells, IsHonestAnswer, IsTold, most_events, IsShort, MayWait}
-use Rattle.operation_laws.proofs.frames.Keeps.{most_events_of_all, IsSmall}
-use Rattle.operation_laws.proofs.Layers.{op_keeps}
+use Rattle.gate_schedules.proofs.operations.frames.Keeps.{most_events_of_all, IsSmall}
+use Rattle.gate_schedules.proofs.operations.Layers.{op_keeps}
 use Rattle.gate_schedules.specs.declared.steps.Progress.{Progress}
 use Rattle.gate_schedules.specs.declared.steps.Progress.TheVariants.{Done as Ended, Waiting}
 use Rattle.gate_schedules.specs.declared.steps.Step.{Step}

@@ -19,8 +19,8 @@ use Rattle.gate_schedules.specs.Answers.{progress_of}
 use Rattle.gate_steps.specs.Seating.{SeatItems}
 use Rattle.call_events.specs.Ties.{Ties}
 use Rattle.percpu_rwsem.specs.declared.readers.DownReadStep.{DownReadStep}
-use Rattle.write_access.specs.declared.phases.WritePhase.{WritePhase}
-use Rattle.write_access.specs.declared.phases.WritePhase.TheVariants.{Takes}
+use Rattle.compounds.specs.declared.write_access.phases.WritePhase.{WritePhase}
+use Rattle.compounds.specs.declared.write_access.phases.WritePhase.TheVariants.{Takes}
 
 -- what is kept of a task whose operation stands there
 abbrev pub kept_at : Option Phase → Accesses → Seat

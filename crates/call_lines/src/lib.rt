@@ -8,7 +8,7 @@ ghost use Rattle.gate_world.specs.declared.operations.Op.{Op as OpType};
 ghost use Rattle.gate_world.specs.declared.work.Phase.TheVariants.{Writes};
 ghost use Rattle.call_events.specs.TaskStates.{TaskState, task_state};
 ghost use Rattle.call_events.specs.Turns.{IsTied, StayTied, of_write, taking};
-ghost use Rattle.write_access.specs.declared.phases.WritePhase.TheVariants.{Drops};
+ghost use Rattle.compounds.specs.declared.write_access.phases.WritePhase.TheVariants.{Drops};
 ghost use Rattle.call_events.specs.Waited.{GoesWaiting, WentWaiting};
 
 mod changes;
@@ -16,10 +16,10 @@ mod grows;
 
 use access_model::Next;
 use call_events::{GateWords, Seat, go_on};
+use compounds::WritePhase;
 use gate_world::{Accesses, Op, UnderWay};
 use mount_counts::{MountPhase, Want, WantStep};
 use percpu_rwsem::{DownRead, DownReadStep, UpRead};
-use write_access::WritePhase;
 
 /// An operation under way, in a form of its own, whose usual events stand in a line.
 pub trait InLine: UnderWay {

@@ -3,3 +3,4 @@ pub mod Levels
 pub mod Freezes
 pub mod Thaws
 pub mod Answers
+pub mod holder_laws

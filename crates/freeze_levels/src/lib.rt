@@ -7,6 +7,7 @@ ghost use Rattle.freeze_levels.specs.declared.thaws.Thaw.{Thaw as ThawType};
 ghost use Rattle.freeze_levels.specs.Answers.{FreezeIgnoresAnswer, ThawIgnoresAnswer};
 
 pub mod freezes;
+pub mod holder_laws;
 pub mod holders;
 pub mod hooks;
 pub mod levels;

@@ -11,8 +11,8 @@ use Rattle.gate_world.specs.{Accesses.{held_in, accesses_after}, Configs.extents
 use Rattle.gate_world.specs.{Holdings.{Holdings, Agree, held_after}, Views.{held_of, phase_after, view_after}, Work.{next_of, after_of}}
 use Rattle.gate_world.specs.Worlds.{World, Steps, after_step, happens, run, opening}
 use Rattle.gate_world.specs.declared.{accesses.Accesses.Accesses, config.Config.Config, views.View.View, work.Phase.Phase}
-use Rattle.operation_laws.proofs.frames.{Accesses.{holdings_of_after, long_after, wide_after, deep_after, agree_after}, Agreeing.{agree_self, agree_sym}}
-use Rattle.operation_laws.proofs.frames.Places.{are_few}
+use Rattle.gate_schedules.proofs.operations.frames.{Accesses.{holdings_of_after, long_after, wide_after, deep_after, agree_after}, Agreeing.{agree_self, agree_sym}}
+use Rattle.gate_schedules.proofs.operations.frames.Places.{are_few}
 use Rattle.gate_schedules.proofs.Phases.{word_there, word_placed, action_fits, fits_after, fits_agree}
 use Rattle.gate_schedules.proofs.Runs.{run_more}
 use Rattle.gate_core.proofs.Each.{seat_cases}

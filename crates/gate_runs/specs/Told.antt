@@ -6,7 +6,7 @@ use Rattle.gate_runs.specs.declared.runs.Totals.{Totals}
 use Rattle.run_parts.specs.Plans.{run_config}
 use Rattle.run_parts.specs.declared.counts.Details.{Details}
 use Rattle.run_threads.specs.Parts.{AllDid, EndsAs}
-use Rattle.vfs_gates.specs.Ended.{Ended, Ending}
+use Rattle.run_parts.specs.Ended.{Ended, Ending}
 
 -- What a run tells of gates that are closed: the blocks that their files have in the end, and that nothing is held. In the world that they
 -- leave, each task has done its part from where it began, and nothing else: the backup all freezes, each with a snapshot, a call of the watch,

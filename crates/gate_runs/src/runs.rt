@@ -2,8 +2,8 @@
 
 ghost use Rattle.std.specs.Prelude.{◌≡◌, IfErr, IfOk, OnOk};
 ghost use Rattle.access_model.specs.declared.errors.GateError.TheVariants.{Invalid, Order};
-ghost use Rattle.vfs_gates.specs.Ended.{EndedWith};
-ghost use Rattle.vfs_gates.specs.TaskStates.{IsFrom};
+ghost use Rattle.run_parts.specs.Ended.{EndedWith};
+ghost use Rattle.run_parts.specs.TaskStates.{IsFrom};
 ghost use Rattle.run_parts.specs.declared.counts.Details.{Details as DetailsType};
 ghost use Rattle.run_parts.specs.Meetings.{unseen};
 ghost use Rattle.gate_runs.specs.Told.{TellsRun};
@@ -12,12 +12,11 @@ ghost use Rattle.run_parts.specs.Refusals.{RunRefused};
 
 use access_model::{Gate, GateError};
 use cpu_words::WordName;
-use run_parts::{Details, MOUNT, Meeting, Plan, Watch};
+use run_parts::{Closed, Details, Gates, MOUNT, Meeting, Plan, Task, Watch};
 use run_threads::in_threads;
 use std::alloc::Global;
 use std::sync::Wait;
 use std::thread::Threads;
-use vfs_gates::{Closed, Gates, Task};
 
 /// What a run has done.
 #[derive(Clone, Copy, PartialEq, Eq, Debug)]

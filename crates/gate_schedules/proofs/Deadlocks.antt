@@ -1,8 +1,8 @@
 -- Of every schedule: a reply is near, or each operation under way is kept.
 use Rattle.std.specs.Prelude.{List}
 use Rattle.gate_world.specs.{Configs.IsWithin, Headline.world_after, Worlds.Entry, declared.config.Config.Config}
-use Rattle.operation_laws.proofs.{KeptStays.kept_stays, Layers.{phase_ends, phase_keeps}, Plain.world_replies, Whole.world_goes}
-use Rattle.operation_laws.specs.{Progress.{EventsKeepRule, EventsMoveModel, KeptStaysKept, NobodyIsDeadlocked, RepliesOrIsFrozen}, Ranks.most_events_to_reply}
+use Rattle.gate_schedules.proofs.operations.{KeptStays.kept_stays, Layers.{phase_ends, phase_keeps}, Plain.world_replies, Whole.world_goes}
+use Rattle.gate_schedules.specs.operations.{Progress.{EventsKeepRule, EventsMoveModel, KeptStaysKept, NobodyIsDeadlocked, RepliesOrIsFrozen}, Ranks.most_events_to_reply}
 use Rattle.gate_schedules.proofs.Whole.{whole_rule}
 
 module _ (c : Config) (lim : IsWithin c) where

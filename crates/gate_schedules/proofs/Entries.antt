@@ -8,8 +8,8 @@ use Rattle.gate_world.specs.{Beginnings.{first_phase, view_refusal}, Causes.{tra
 use Rattle.gate_world.specs.{Rules.{IsGood, Fitting}, Views.{begun_view, view_after, held_of}, Work.next_of}
 use Rattle.gate_world.specs.Worlds.{World, Entry, Begins, Steps, after_begin, begin_of, after_step, step_of, value_at, happens, run}
 use Rattle.gate_world.specs.declared.{config.Config.Config, operations.Op.Op, views.View.View, work.Phase.Phase}
-use Rattle.operation_laws.proofs.frames.{Keeps.{IsQuiet, extents_touched}, Quiet.write_quiet}
-use Rattle.operation_laws.proofs.Layers.{phase_keeps, op_keeps}
+use Rattle.gate_schedules.proofs.operations.frames.{Keeps.{IsQuiet, extents_touched}, Quiet.write_quiet}
+use Rattle.gate_schedules.proofs.operations.Layers.{phase_keeps, op_keeps}
 
 -- a task that is at an operation had begun it, so its worlds go on
 pub begun_on : (t : ℕ) (w : World) (earlier : List World) (phase : Phase) → (w.views t).phase ≡ Some phase →

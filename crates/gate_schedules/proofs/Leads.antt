@@ -2,10 +2,10 @@
 use Rattle.std.proofs.Common.{◌≡◌, ◌+◌, refl, ap, ◌∙◌, subst, arith}
 use Rattle.finite_sums.{proofs.Totals.{total_add, total_at, total_none, total_same}, specs.Sums.total}
 use Rattle.gate_counts.specs.{Gates.{bars, admitted, unread, BarringHolds}, Levels.{Summing, barring_of, level_as_gate}}
-use Rattle.level_laws.specs.Roles.{SyncRole, Fast, fast}
+use Rattle.freeze_laws.specs.levels.Roles.{SyncRole, Fast, fast}
 use Rattle.gate_world.specs.{Headline.{admitted_at, LevelsLead}, Levels.{at_level, sync_role_of}, Rules.{IsGood, AtLevel, LevelHoldsIn}, Worlds.World}
 use Rattle.gate_world.specs.declared.config.Config.{Config}
-use Rattle.operation_laws.proofs.frames.LevelWorlds.{fast_finds_open}
+use Rattle.gate_schedules.proofs.operations.frames.LevelWorlds.{fast_finds_open}
 
 not_fast : (r : SyncRole) → (r ≡ Fast → ⊥) → fast r ≡ 0
 not_fast Fast h = absurd (h refl)

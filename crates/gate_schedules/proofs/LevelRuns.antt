@@ -3,14 +3,14 @@ use Rattle.std.proofs.{Common.{◌≡◌, ℕ, zero, suc, ◌<◌, ◌≤◌, re
 use Rattle.std.specs.Prelude.{Option, Some, None, List, [], ◌∷◌, length, take, nat_lt, is_some}
 use Rattle.access_model.specs.declared.errors.GateError.{GateError}
 use Rattle.cpu_words.specs.Hooks.{HookAnswer}
-use Rattle.level_laws.proofs.{GraceLaws.graces_are_whole, IdleLaws.only_callbacks_idle, SlowLaws.stays_slow, Whole.idle_is_earned}
-use Rattle.level_laws.specs.Events.{SyncLevelHolds, SyncStep, SyncRun}
+use Rattle.freeze_laws.proofs.levels.{GraceLaws.graces_are_whole, IdleLaws.only_callbacks_idle, SlowLaws.stays_slow, Whole.idle_is_earned}
+use Rattle.freeze_laws.specs.levels.Events.{SyncLevelHolds, SyncStep, SyncRun}
 use Rattle.gate_world.specs.{Beginnings.{first_phase, view_refusal}, Configs.IsWithin}
 use Rattle.gate_world.specs.{LevelRuns.{level_in, level_after, IsLevelRun, GracesAreKept, LevelsAreRuns}, Levels.{inside, sync_role_of}, Rules.IsGood}
 use Rattle.gate_world.specs.{Views.{begun_view, held_of}, Worlds.{World, Entry, Begins, Steps, begin_of, step_of, happens, run, opening}}
 use Rattle.gate_world.specs.declared.{config.Config.Config, operations.Op.Op, work.Phase.Phase}
-use Rattle.operation_laws.proofs.frames.{LevelSteps.{level_stays, level_kept}, LevelWorlds.level_right}
-use Rattle.operation_laws.proofs.Layers.{phase_keeps, op_keeps}
+use Rattle.gate_schedules.proofs.operations.frames.{LevelSteps.{level_stays, level_kept}, LevelWorlds.level_right}
+use Rattle.gate_schedules.proofs.operations.Layers.{phase_keeps, op_keeps}
 use Rattle.gate_schedules.proofs.Beginnings.{may_begin}
 use Rattle.gate_schedules.proofs.Schedule.{idle_is, happens_keeps}
 use Rattle.gate_schedules.proofs.Whole.{whole_rule}

@@ -6,17 +6,17 @@ use Rattle.finite_sums.{proofs.Totals.total_none, specs.Sums.total}
 use Rattle.access_model.specs.States.{is_removed, one_if}
 use Rattle.gated_tree.specs.Roles.{removal}
 use Rattle.mount_counts.specs.Roles.{has_hold, hold_bit}
-use Rattle.mount_laws.proofs.Bits.{hold_unset}
+use Rattle.mount_counts.proofs.laws.Bits.{hold_unset}
 use Rattle.percpu_rwsem.specs.SyncWords.{bit, unpack}
-use Rattle.level_laws.specs.Roles.{closed, claimed}
-use Rattle.stage_laws.{proofs.{Facts.{way_is, other_zero}, Whole.freeze_is_under_way}, specs.Roles.{freezes, under_way, Place, Freezing}}
-use Rattle.holder_laws.{proofs.HolderLaws.held_exactly, specs.Roles.between}
+use Rattle.freeze_laws.specs.levels.Roles.{closed, claimed}
+use Rattle.freeze_laws.{proofs.stages.{Facts.{way_is, other_zero}, Whole.freeze_is_under_way}, specs.stages.Roles.{freezes, under_way, Place, Freezing}}
+use Rattle.freeze_levels.{proofs.holder_laws.HolderLaws.held_exactly, specs.holder_laws.Roles.between}
 use Rattle.gate_world.specs.Headline.{IsAtRest, IsUntaken, HeldWhereFrozen, FreezeIsUnderWay}
 use Rattle.gate_world.specs.Levels.{is_frozen_whole, sync_role_of, inside}
 use Rattle.gate_world.specs.Rules.{AtMount, Holding, IsGood, Owner, Sections, Stages, SyncAt, SyncHoldsIn, Tree, holder_role_of, owns, remounts, role_of}
 use Rattle.gate_world.specs.{Rules.{stage_role_of, stage_roles}, Shown.shown, Trees.tree_role_of, Worlds.World, declared.config.Config.Config}
-use Rattle.operation_laws.proofs.frames.{ByPhase.{apart_stage, freezing_is, stage_of}, Holders.holders_at, Stages.{stages_in, stages_right}}
-use Rattle.operation_laws.proofs.Frozen.{idle_sound}
+use Rattle.gate_schedules.proofs.operations.frames.{ByPhase.{apart_stage, freezing_is, stage_of}, Holders.holders_at, Stages.{stages_in, stages_right}}
+use Rattle.gate_schedules.proofs.operations.Frozen.{idle_sound}
 
 module _ (c : Config) (w : World) (good : IsGood c w) (idle : (t : ℕ) → t < c.tasks → (w.views t).phase ≡ None) where
   free : (u : ℕ) → u ≤ c.tasks → ((t : ℕ) → t < c.tasks → u ≡ suc t → owns (w.views t).phase ≡ 1) → u ≡ 0

@@ -4,11 +4,11 @@ use Rattle.access_model.specs.{States.opening_state, declared.{actions.Action.Ac
 use Rattle.cpu_words.specs.Hooks.{HookAnswer}
 use Rattle.finite_sums.proofs.Totals.{each_updated, total_bound, total_none, total_same}
 use Rattle.finite_sums.specs.Sums.{total, update}
-use Rattle.operation_laws.proofs.Layers.{op_keeps, phase_keeps}
+use Rattle.gate_schedules.proofs.operations.Layers.{op_keeps, phase_keeps}
 use Rattle.gate_schedules.proofs.Beginnings.{MayBegin, first_fits, may_begin}
 use Rattle.gate_counts.proofs.{Events.words_sum, Flags.gate_begins, Numbers.below_le}
 use Rattle.gate_counts.specs.{Gates.{below, counted as counted_of}, Levels.{level_as_gate, processor_of as level_processor}}
-use Rattle.operation_laws.proofs.frames.{Beside.{SameCounts, beside_good, beside_of, beside_shown}, Frames.{left_alone, opens_left, same_words}, Trees.tree_within}
+use Rattle.gate_schedules.proofs.operations.frames.{Beside.{SameCounts, beside_good, beside_of, beside_shown}, Frames.{left_alone, opens_left, same_words}, Trees.tree_within}
 use Rattle.gate_world.specs.{Alike.{IsBeside, off_tree}, Beginnings.{first_phase, view_refusal}, Configs.{IsWithin, model_limits}, Fits.{HasFile, file_of}}
 use Rattle.gate_world.specs.{Headline.{IdleSumsHold, SumsHold}, Levels.{at_level, level_role_of}, Owners.KnowsWords, Rules.{AtLevel, AtMount, Files, Fitting}}
 use Rattle.gate_world.specs.Rules.{Holding, Holds, IsGood, Known, LevelHoldsIn, MountHoldsIn, Moves, Owner, Part, Sections, Stages, SyncAt, Tree}
@@ -16,10 +16,10 @@ use Rattle.gate_world.specs.{Rules.{at_mount, owns, role_of}, Shown.shown, Trees
 use Rattle.gate_world.specs.Worlds.{Begins, Entry, Steps, World, action_of, after_begin, begin_of, happens, history, opening, phase_action, run, step_of}
 use Rattle.gate_world.specs.{Worlds.{task_of, with_action}, declared.{config.Config.Config, operations.Op.Op, views.View.View, work.Phase.Phase}}
 use Rattle.node_words.specs.Nodes.{opens_in}
-use Rattle.holder_laws.proofs.HolderLaws.{opens as holders_open}
-use Rattle.level_laws.proofs.Whole.{opening_is_right}
+use Rattle.freeze_levels.proofs.holder_laws.HolderLaws.{opens as holders_open}
+use Rattle.freeze_laws.proofs.levels.Whole.{opening_is_right}
 use Rattle.mount_counts.specs.Roles.{counted, mount_shut, processor_of, sought}
-use Rattle.stage_laws.proofs.Whole.{opening_is_right as stages_open}
+use Rattle.freeze_laws.proofs.stages.Whole.{opening_is_right as stages_open}
 use Rattle.std.proofs.{Common.{ap, arith, false, inl, inr, refl, subst, sym, true≢false, ℕ, ◌%◌, ◌*◌, ◌<◌, ◌∙◌, ◌≡◌, ◌≤◌}, Math.Path.fun_ext}
 use Rattle.std.proofs.lemmas.Bool.{cases_Bool, ltb-true, Decides.eqb_tells}
 use Rattle.std.specs.Prelude.{List, None, Option, Some, [], is_some, nat_lt, ◌∷◌}

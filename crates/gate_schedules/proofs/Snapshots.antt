@@ -4,7 +4,7 @@ use Rattle.std.specs.Prelude.{nat_lt, false, Option, Some, None, List, [], â—Œâˆ
 use Rattle.finite_sums.proofs.Totals.{each_updated, total_same}
 use Rattle.access_model.specs.{Histories.{Done, end_of, IsLegal, own_part, IsMerge}, States.{State, size_of, is_dirty, IsDirectory}}
 use Rattle.access_model.specs.declared.{actions.{Action.Action, NodeInfo.NodeInfo}, errors.GateError.GateError}
-use Rattle.moment_laws.{proofs.Moments.{is_now, stays}, specs.Moments.HaveDone}
+use Rattle.freeze_laws.{proofs.moments.Moments.{is_now, stays}, specs.moments.Moments.HaveDone}
 use Rattle.cpu_words.specs.Hooks.{HookAnswer}
 use Rattle.gated_tree.specs.{Trees.{node_at, is_child, HasDirectory, IsSound, IsClean, LoadedSound, LoadedClean}, declared.trees.TreeWords.TreeWords}
 use Rattle.gate_world.specs.{Beginnings.{first_phase, view_refusal}, Configs.{IsWithin, model_limits}, Headline.FrozenTreeIsWhole}
@@ -13,7 +13,7 @@ use Rattle.gate_world.specs.{Snapshots.{completes, last_snapshot}, Views.{view_a
 use Rattle.gate_world.specs.Worlds.{World, Entry, Begins, Steps, begin_of, after_step_beside, step_of, happens, phase_action, action_of, task_of, with_action}
 use Rattle.gate_world.specs.Worlds.{found_at, value_at, run, history}
 use Rattle.gate_world.specs.declared.{config.Config.Config, operations.Op.Op, views.{Snapshot.Snapshot, View.View}, work.Phase.Phase}
-use Rattle.operation_laws.proofs.{Frozen.frozen_whole, Layers.phase_keeps}
+use Rattle.gate_schedules.proofs.operations.{Frozen.frozen_whole, Layers.phase_keeps}
 use Rattle.gate_schedules.proofs.Lists.{lists, happens_lists}
 use Rattle.gate_schedules.proofs.Schedule.{happens_keeps, legal_more}
 

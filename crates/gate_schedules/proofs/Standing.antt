@@ -1,7 +1,7 @@
 -- A snapshot under way stands in a frozen tree, from its load of stage 4 to its release.
 use Rattle.std.{proofs.Common.{◌≡◌, ℕ, ap, subst, sym, true≢false}, specs.Prelude.{Some, Ok, Err, is_some}}
 use Rattle.gated_tree.specs.{Calls.{words_loaded, reading}, Roles.RoleHolds, declared.snapshots.SnapshotStep.SnapshotStep}
-use Rattle.stage_laws.specs.Roles.{KnowsStage}
+use Rattle.freeze_laws.specs.stages.Roles.{KnowsStage}
 use Rattle.gate_world.specs.{Headline.SnapshotsStand, Rules.{IsGood, Stages, Tree, stage_role_of}, Snapshots.values_noted}
 use Rattle.gate_world.specs.Roles.{snapshot_stage_role}
 use Rattle.gate_world.specs.{Trees.{tree_bounds, tree_role_of}, Worlds.World, declared.config.Config.Config}

@@ -11,8 +11,8 @@ use Rattle.gate_world.specs.Headline.{FreezeIsUnderWay, HoldersAreTold, FrozenTr
 use Rattle.gate_world.specs.{Holdings.holdings_of, KeptCauses.CauseOf, Rules.IsGood, Traces.{Tells, actions_of}, Views.HoldsAsBefore}
 use Rattle.gate_world.specs.{Waits.{HasReason, EachWaitHasCulprit, HasCulpritAmong}, Work.after_of, Worlds.{World, Entry, opening, happens, run, found_at}}
 use Rattle.gate_world.specs.declared.{config.Config.Config, operations.Op.Op, views.{Traced.Traced, View.View}, work.Phase.Phase}
-use Rattle.operation_laws.proofs.frames.{MayHolds.events_may_be, Traced.{opening_traced, entry_keeps}}
-use Rattle.operation_laws.proofs.{Frozen.frozen_whole, Layers.{phase_keeps, op_keeps}}
+use Rattle.gate_schedules.proofs.operations.frames.{MayHolds.events_may_be, Traced.{opening_traced, entry_keeps}}
+use Rattle.gate_schedules.proofs.operations.{Frozen.frozen_whole, Layers.{phase_keeps, op_keeps}}
 use Rattle.gate_schedules.proofs.Beginnings.{may_begin}
 use Rattle.gate_schedules.proofs.Between.{AllTold, entry_told, opening_told, holders_told}
 use Rattle.gate_schedules.proofs.Entries.{TrailHolds, trail_holds, begun_on}

@@ -3,6 +3,7 @@
 #![tactic(auto)]
 
 pub mod laws;
+pub mod operations;
 pub mod schedules;
 pub mod seats;
 pub mod steps;

@@ -9,8 +9,8 @@ ghost use Rattle.gate_world.specs.Headline.{world_after, MovesTheModel, IsOneRun
 ghost use Rattle.gate_world.specs.Causes.{RefusalsHaveCauses};
 ghost use Rattle.gate_world.specs.LevelRuns.{LevelsAreRuns};
 ghost use Rattle.gate_world.specs.Waits.{EachWaitHasCulprit};
-ghost use Rattle.operation_laws.specs.Progress.{KeptStaysKept, NobodyIsDeadlocked, RepliesOrIsFrozen};
-ghost use Rattle.operation_laws.specs.Ranks.{most_events_to_reply};
+ghost use Rattle.gate_schedules.specs.operations.Progress.{KeptStaysKept, NobodyIsDeadlocked, RepliesOrIsFrozen};
+ghost use Rattle.gate_schedules.specs.operations.Ranks.{most_events_to_reply};
 
 /// The headline. For every configuration within the limits, and every schedule: any list of beginnings, refused ones included, and of
 /// steps with any hook answers, of any tasks, with any numbers in their types' ranges.

@@ -12,9 +12,9 @@ use Rattle.gate_world.specs.{Moments.AllHaveMoments, Rules.{IsGood, Moves, StepK
 use Rattle.gate_world.specs.{Views.{begun_view, view_with, view_after_beside, held_of}, Work.{next_of, after_of}, Worlds.{World, words_after, value_at}}
 use Rattle.gate_world.specs.{Worlds.{found_at, after_step, after_step_beside, phase_action, with_action}, declared.{config.Config.Config, operations.Op.Op}}
 use Rattle.gate_world.specs.declared.{views.{View.View, Snapshot.Snapshot}, work.Phase.Phase}
-use Rattle.moment_laws.specs.Moments.{HaveDone}
-use Rattle.operation_laws.proofs.frames.{MayHolds.events_may_be, Snapshots.others_apart}
-use Rattle.operation_laws.proofs.{Frozen.frozen_whole, Layers.phase_keeps}
+use Rattle.freeze_laws.specs.moments.Moments.{HaveDone}
+use Rattle.gate_schedules.proofs.operations.frames.{MayHolds.events_may_be, Snapshots.others_apart}
+use Rattle.gate_schedules.proofs.operations.{Frozen.frozen_whole, Layers.phase_keeps}
 use Rattle.gate_schedules.proofs.Beginnings.{may_begin}
 use Rattle.gate_schedules.proofs.Lists.{beside_lists, begin_lists}
 use Rattle.gate_schedules.proofs.Phases.{word_there}

@@ -10,7 +10,7 @@ use Rattle.percpu_rwsem.specs.declared.readers.DownReadStep.TheVariants.{EntersS
 use Rattle.percpu_rwsem.specs.declared.callbacks.CallbackStep.TheVariants.{Claims, AwaitsSections as CAwaitsSections, CallsBack as CCallsBack}
 use Rattle.percpu_rwsem.specs.declared.writers.DownWriteStep.TheVariants.{Enters, CallsBack as WCallsBack}
 use Rattle.percpu_rwsem.specs.declared.writers.UpWriteStep.TheVariants.{ClearsBlock, Exits}
-use Rattle.write_access.specs.declared.phases.WritePhase.TheVariants.{Takes, Wants as WWants}
+use Rattle.compounds.specs.declared.write_access.phases.WritePhase.TheVariants.{Takes, Wants as WWants}
 use Rattle.freeze_levels.specs.declared.freezes.FreezeStep.TheVariants.{Closes, SetsFs, SetsComplete, Reopens as FReopens}
 use Rattle.freeze_levels.specs.declared.thaws.ThawStep.TheVariants.{LeavesLast, Reopens as TReopens}
 use Rattle.gated_tree.specs.declared.changes.CreateStep.TheVariants.{LoadsDirectory}
@@ -22,15 +22,15 @@ use Rattle.gated_tree.specs.declared.snapshots.SnapshotStep.TheVariants.{Locks a
 use Rattle.gated_tree.specs.declared.phases.TreePhase.TheVariants.{Create as Creates, Remove as Removes, Grow as Grows, MoveTo as Moves, Mark as TreeMarks, OpenFile as OpensOne, Snapshot as Snapshots, ClearMarks as TreeClears}
 use Rattle.gate_world.specs.declared.work.Phase.TheVariants.{Mounts, Remounts, DownReads, Callbacks, Writes, Freezes, Thaws, Trees, Closes}
 use Rattle.gated_tree.specs.Phases.{next as tree_next, remove_next, grow_next, move_next, mark_next, create_next, snapshot_next, open_next}
-use Rattle.file_closes.specs.Phases.{next as close_next}
-use Rattle.write_access.specs.Phases.{next as write_next}
+use Rattle.compounds.specs.file_closes.Phases.{next as close_next}
+use Rattle.compounds.specs.write_access.Phases.{next as write_next}
 use Rattle.cpu_words.specs.declared.names.WordName.TheVariants.{Node, Sync}
 use Rattle.cpu_words.specs.declared.events.Touch.{Touch}
 use Rattle.cpu_words.specs.declared.events.Touch.TheVariants.{Load, Store, Add, Sub, Or, And, Swap, Cas}
 use Rattle.cpu_words.specs.Touches.{found_by}
 use Rattle.gate_world.specs.Courses.{MayHold, MayFind, OpenMayFind}
-use Rattle.file_closes.specs.declared.phases.ClosePhase.{ClosePhase}
-use Rattle.file_closes.specs.declared.phases.ClosePhase.TheVariants.{LoadsFile as LoadsFileToClose, LowersCount, Enters as EntersLevel, FreesNode as FreesFile, RefundsBlocks as RefundsFile, Uncounts, Leaves as LeavesLevel}
+use Rattle.compounds.specs.declared.file_closes.phases.ClosePhase.{ClosePhase}
+use Rattle.compounds.specs.declared.file_closes.phases.ClosePhase.TheVariants.{LoadsFile as LoadsFileToClose, LowersCount, Enters as EntersLevel, FreesNode as FreesFile, RefundsBlocks as RefundsFile, Uncounts, Leaves as LeavesLevel}
 use Rattle.gated_tree.specs.declared.opens.OpenFile.{OpenFile}
 use Rattle.gated_tree.specs.declared.opens.OpenStep.{OpenStep}
 use Rattle.gated_tree.specs.declared.opens.OpenStep.TheVariants.{LoadsFile as LoadsFileToOpen, OpensFile}
@@ -43,7 +43,7 @@ use Rattle.percpu_rwsem.specs.declared.readers.DownRead.{DownRead}
 use Rattle.percpu_rwsem.specs.declared.callbacks.Callback.{Callback}
 use Rattle.percpu_rwsem.specs.declared.writers.DownWrite.{DownWrite}
 use Rattle.percpu_rwsem.specs.declared.writers.UpWrite.{UpWrite}
-use Rattle.write_access.specs.declared.phases.WritePhase.{WritePhase}
+use Rattle.compounds.specs.declared.write_access.phases.WritePhase.{WritePhase}
 use Rattle.freeze_levels.specs.declared.freezes.Freeze.{Freeze}
 use Rattle.freeze_levels.specs.declared.thaws.Thaw.{Thaw}
 use Rattle.gated_tree.specs.declared.changes.Create.{Create}

@@ -28,9 +28,9 @@ use Rattle.percpu_rwsem.specs.declared.writers.DownWriteStep.{DownWriteStep, The
 use Rattle.freeze_levels.specs.declared.freezes.FreezeStep.{FreezeStep}
 use Rattle.freeze_levels.specs.declared.freezes.FreezeStep.TheVariants.{LoadsStage as FreezeLoadsStage, LoadsHolders as FreezeLoadsHolders, Closes}
 use Rattle.freeze_levels.specs.declared.thaws.ThawStep.{ThawStep, TheVariants.{LoadsStage as ThawLoadsStage, LoadsHolders as ThawLoadsHolders}}
-use Rattle.level_laws.specs.Roles.{closed}
-use Rattle.write_access.specs.declared.phases.WritePhase.{WritePhase, TheVariants.{Takes, Wants as WriteWants, GivesBack}}
-use Rattle.file_closes.specs.declared.phases.ClosePhase.{ClosePhase, TheVariants.Enters}
+use Rattle.freeze_laws.specs.levels.Roles.{closed}
+use Rattle.compounds.specs.declared.write_access.phases.WritePhase.{WritePhase, TheVariants.{Takes, Wants as WriteWants, GivesBack}}
+use Rattle.compounds.specs.declared.file_closes.phases.ClosePhase.{ClosePhase, TheVariants.Enters}
 use Rattle.gate_world.specs.{Levels.{sync_role_of, is_frozen_whole, at_level}, Rules.{at_mount, role_of, owns}, Shown.shown, Work.after_of}
 use Rattle.gate_world.specs.Worlds.{World, Entry, happens, run, opening, found_at}
 use Rattle.gate_world.specs.declared.config.Config.{Config}

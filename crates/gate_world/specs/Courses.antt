@@ -5,7 +5,7 @@ use Rattle.cpu_words.specs.{Hooks.HookAnswer, Touches.event_of, declared.names.W
 use Rattle.gate_world.specs.{Beginnings.{first_phase, refusal}, Holdings.holdings_of, Views.{phase_after, actions_after}, Work.{next_of, after_of}}
 use Rattle.gate_world.specs.{Worlds.{World, value_at}, declared.{config.Config.Config, operations.Op.Op, views.{View.View, Traced.Traced}}}
 use Rattle.gate_world.specs.declared.work.Phase.{TheVariants.{Trees, Closes}, Phase}
-use Rattle.file_closes.specs.declared.phases.ClosePhase.{ClosePhase, TheVariants.{LoadsFile as CloseLoadsFile, LowersCount, Enters as EntersLevel, FreesNode}}
+use Rattle.compounds.specs.declared.file_closes.phases.ClosePhase.{ClosePhase, TheVariants.{LoadsFile as CloseLoadsFile, LowersCount, Enters as EntersLevel, FreesNode}}
 use Rattle.node_words.specs.Nodes.{unpacked, opens_in, word_of}
 use Rattle.gated_tree.specs.declared.opens.OpenStep.{OpenStep}
 use Rattle.gated_tree.specs.declared.opens.OpenStep.TheVariants.{LoadsFile as LoadsFileToOpen, OpensFile}

@@ -10,7 +10,7 @@ use Rattle.gated_tree.specs.declared.{phases.TreePhase.TheVariants.Snapshot as S
 use Rattle.mount_counts.specs.{Phases.has_flag, Roles.counted}
 use Rattle.percpu_rwsem.specs.{SyncWords.unpack, declared.sync_word.SyncWord.SyncWord}
 use Rattle.freeze_levels.specs.Holders.{word_of}
-use Rattle.level_laws.specs.Roles.{fast}
+use Rattle.freeze_laws.specs.levels.Roles.{fast}
 use Rattle.freeze_levels.specs.declared.freezes.FreezeStep.{FreezeStep}
 use Rattle.gate_world.specs.{Configs.model_limits, Courses.{course_of, IsTraced}, Found.{stores_stage, newest}}
 use Rattle.gate_world.specs.{Levels.{at_level, level_role_of, sync_role_of, is_frozen_whole}, Moments.AllHaveMoments, Owners.last_left}

@@ -11,8 +11,8 @@ use Rattle.percpu_rwsem.specs.declared.readers.DownReadStep.{DownReadStep, TheVa
 use Rattle.percpu_rwsem.specs.declared.writers.DownWriteStep.{DownWriteStep, TheVariants.Sums as SumsLevel}
 use Rattle.freeze_levels.specs.declared.freezes.FreezeStep.{FreezeStep, TheVariants.{Closes, Releases as FreezeReleases}}
 use Rattle.freeze_levels.specs.declared.thaws.ThawStep.{ThawStep, TheVariants.Releases as ThawReleases}
-use Rattle.write_access.specs.declared.phases.WritePhase.{WritePhase, TheVariants.{Takes, Wants as WriteWants, GivesBack}}
-use Rattle.file_closes.specs.declared.phases.ClosePhase.{ClosePhase, TheVariants.Enters}
+use Rattle.compounds.specs.declared.write_access.phases.WritePhase.{WritePhase, TheVariants.{Takes, Wants as WriteWants, GivesBack}}
+use Rattle.compounds.specs.declared.file_closes.phases.ClosePhase.{ClosePhase, TheVariants.Enters}
 use Rattle.gate_world.specs.Causes.{since_begun, AreOfMount, WantRefused, ChangeRefused, SnapshotRefused, last_question, last_look, was_frozen, was_busy}
 use Rattle.gate_world.specs.Causes.{was_unheld, moments_of_sum, was_inside, was_counted, SomeWasCounted, last_asked, WasClosed, was_removed, last_removed}
 use Rattle.gate_world.specs.Worlds.{World}

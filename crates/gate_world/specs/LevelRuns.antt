@@ -1,8 +1,8 @@
 -- A freeze level of a world as the laws of a level have it, and what a schedule makes of it, moment by moment.
 use Rattle.std.specs.Prelude.{◌≡◌, ℕ, suc, ◌<◌, ◌≤◌, Some, List, length, take}
 use Rattle.percpu_rwsem.specs.{Graces.started, declared.sync_word.GpState.TheVariants.{Idle, Exit}}
-use Rattle.level_laws.specs.{Changes.state_found, Events.{SyncLevel, SyncRun}, Laws.{NoneFast, WholeGrace}}
-use Rattle.level_laws.specs.Roles.{Out, Waiting, Past, Claimed, Ready, entering, claimed}
+use Rattle.freeze_laws.specs.levels.{Changes.state_found, Events.{SyncLevel, SyncRun}, Laws.{NoneFast, WholeGrace}}
+use Rattle.freeze_laws.specs.levels.Roles.{Out, Waiting, Past, Claimed, Ready, entering, claimed}
 use Rattle.gate_world.specs.{Levels.{sync_role_of, inside, is_frozen_whole}, Worlds.{World, Entry, run, opening}, declared.config.Config.Config}
 
 -- one level of a world

@@ -4,10 +4,10 @@ use Rattle.finite_sums.specs.Sums.{update}
 use Rattle.cpu_words.specs.Words.{Words}
 use Rattle.cpu_words.specs.declared.{events.{Event.Event, Touch.{Touch, TheVariants.{Add, Sub}}}, names.WordName.{WordName, TheVariants.LevelCount}}
 use Rattle.gate_counts.specs.Levels.{LevelRole, LevelView, Out as CountsNot}
-use Rattle.level_laws.specs.{Operations.{callback_role, down_read_inside}, Roles.{SyncRole, Out as IsApart}}
-use Rattle.stage_laws.specs.Roles.{is_full}
-use Rattle.write_access.specs.declared.phases.WritePhase.{WritePhase}
-use Rattle.file_closes.specs.declared.phases.ClosePhase.{ClosePhase}
+use Rattle.freeze_laws.specs.levels.{Operations.{callback_role, down_read_inside}, Roles.{SyncRole, Out as IsApart}}
+use Rattle.freeze_laws.specs.stages.Roles.{is_full}
+use Rattle.compounds.specs.declared.write_access.phases.WritePhase.{WritePhase}
+use Rattle.compounds.specs.declared.file_closes.phases.ClosePhase.{ClosePhase}
 use Rattle.gate_world.specs.Roles.{freeze_stand, read_level_role, read_sync_role, stand_count, stand_sync, sync_role_if, thaw_stand}
 use Rattle.gate_world.specs.{Views.holds_level, declared.{views.View.View, work.Phase.Phase}}
 

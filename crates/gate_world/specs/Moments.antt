@@ -1,7 +1,7 @@
 -- The moments of snapshots in a history.
 use Rattle.std.specs.Prelude.{◌≡◌, ℕ, ◌<◌, Option, Some, None, List, ◌∷◌, length, slice_index}
 use Rattle.access_model.specs.Histories.{Done}
-use Rattle.moment_laws.specs.Moments.{WasFrozenWith}
+use Rattle.freeze_laws.specs.moments.Moments.{WasFrozenWith}
 use Rattle.cpu_words.specs.{Hooks.HookAnswer, Words.Words}
 use Rattle.node_words.specs.Nodes.{node_shown}
 use Rattle.gated_tree.specs.Trees.{LoadedSound, LoadedClean, node_at}

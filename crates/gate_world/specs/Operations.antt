@@ -15,8 +15,8 @@ use Rattle.mount_counts.specs.declared.{phases.WantStep.TheVariants.CountsUp, re
 use Rattle.percpu_rwsem.specs.declared.{callbacks.CallbackStep.TheVariants.Claims, readers.DownReadStep.TheVariants.EntersSection}
 use Rattle.percpu_rwsem.specs.declared.transitions.Transition.TheVariants.{Loads}
 use Rattle.freeze_levels.specs.declared.{freezes.FreezeStep.TheVariants.Locks as FreezeLocks, thaws.ThawStep.TheVariants.Locks as ThawLocks}
-use Rattle.write_access.specs.declared.phases.WritePhase.TheVariants.{Takes, Drops as WriteDrops}
-use Rattle.file_closes.specs.declared.phases.{ClosePhase.TheVariants.LoadsFile as CloseLoadsFile, Closing.Closing}
+use Rattle.compounds.specs.declared.write_access.phases.WritePhase.TheVariants.{Takes, Drops as WriteDrops}
+use Rattle.compounds.specs.declared.file_closes.phases.{ClosePhase.TheVariants.LoadsFile as CloseLoadsFile, Closing.Closing}
 use Rattle.gate_world.specs.{Holdings.Holdings, declared.{config.Config.Config, operations.Op.{Op, TheVariants.{Want, DropMount, ChangeMount, RemountSb}}}}
 use Rattle.gate_world.specs.declared.operations.Op.TheVariants.{Start, End, WantWrite, DropWrite, Callback, Freeze as FreezeOp, Thaw as ThawOp}
 use Rattle.gate_world.specs.declared.operations.Op.TheVariants.{Create as CreateOp, Remove as RemoveOp, Grow as GrowOp, MoveTo as MoveToOp, Fault as FaultOp}

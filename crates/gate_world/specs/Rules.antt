@@ -11,10 +11,10 @@ use Rattle.gate_world.specs.{Trees.{is_bare_at, is_sealed, tree_bounds, tree_of,
 use Rattle.gate_world.specs.{Worlds.{World, after_step, phase_action}, declared.{config.Config.Config, views.View.View, work.Phase.Phase}}
 use Rattle.node_words.specs.Nodes.{dirty_in, opens_in}
 use Rattle.gated_tree.specs.Roles.{TreeHolds}
-use Rattle.holder_laws.specs.Roles.{Apart, HolderRole, HoldersHold}
-use Rattle.level_laws.specs.Roles.{SyncNumberHolds}
+use Rattle.freeze_levels.specs.holder_laws.Roles.{Apart, HolderRole, HoldersHold}
+use Rattle.freeze_laws.specs.levels.Roles.{SyncNumberHolds}
 use Rattle.mount_counts.specs.Roles.{MountHolds, MountView, Out, Role}
-use Rattle.stage_laws.specs.Roles.{Aside, StageRole, StagesHold}
+use Rattle.freeze_laws.specs.stages.Roles.{Aside, StageRole, StagesHold}
 use Rattle.std.specs.Prelude.{Bool, None, Option, Some, false, suc, true, ℕ, ◌<◌, ◌≡◌, ◌≤◌}
 
 -- what a task is doing at a mount

@@ -6,8 +6,8 @@ use Rattle.gated_tree.specs.declared.phases.TreePhase.{TreePhase, TheVariants.Sn
 use Rattle.mount_counts.specs.{Roles.has_hold, declared.phases.MountPhase.{MountPhase, TheVariants.{Want as Wants, Change as Changes}}}
 use Rattle.percpu_rwsem.specs.declared.writers.DownWriteStep.{DownWriteStep, TheVariants.{AwaitsSections, Sums as SumsLevel}}
 use Rattle.freeze_levels.specs.declared.freezes.{Freeze.Freeze, FreezeStep.{FreezeStep, TheVariants.{Locks, LocksAgain, Closes}}}
-use Rattle.write_access.specs.declared.phases.WritePhase.{WritePhase, TheVariants.{Takes, Wants as WriteWants}}
-use Rattle.file_closes.specs.declared.phases.ClosePhase.{ClosePhase, TheVariants.Enters}
+use Rattle.compounds.specs.declared.write_access.phases.WritePhase.{WritePhase, TheVariants.{Takes, Wants as WriteWants}}
+use Rattle.compounds.specs.declared.file_closes.phases.ClosePhase.{ClosePhase, TheVariants.Enters}
 use Rattle.gate_world.specs.{Causes.{trail_of, since_begun, HasCause, last_asked, WasClosed, moments_of_sum, was_inside}, Headline.world_after, Levels.inside}
 use Rattle.gate_world.specs.{Rules.{role_of, owns}, Work.after_of, Worlds.{World, Entry, found_at}}
 use Rattle.gate_world.specs.declared.config.Config.{Config}

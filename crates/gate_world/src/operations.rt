@@ -10,7 +10,7 @@ use crate::accesses::Accesses;
 use crate::config::Config;
 use crate::work::Phase;
 use access_model::{GateError, Holder, Kind};
-use file_closes::{ClosePhase, Closing};
+use compounds::{ClosePhase, Closing, WritePhase};
 use freeze_levels::{Freeze, FreezeStep, Thaw, ThawStep};
 use gated_tree::{
     Create, CreateStep, Grow, GrowStep, Mark, MarkStep, MoveStep, MoveTo, OpenFile, OpenStep,
@@ -18,7 +18,6 @@ use gated_tree::{
 };
 use mount_counts::{Change, ChangeStep, MountPhase, Remount, RemountStep, Want, WantStep};
 use percpu_rwsem::{Callback, CallbackStep, DownRead, DownReadStep, Transition, UpRead};
-use write_access::WritePhase;
 
 /// An operation. `wait` chooses the form that looks again and again; the try form answers Again in its place.
 #[derive(Clone, Copy)]

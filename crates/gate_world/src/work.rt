@@ -4,13 +4,12 @@ ghost use Rattle.std.specs.Prelude.{◌≡◌};
 ghost use Rattle.gate_world.specs.Work.{next_of, after_of, hook_of};
 
 use access_model::{Action, Next, map_after};
+use compounds::{ClosePhase, WritePhase};
 use cpu_words::{Touch, WordName};
-use file_closes::ClosePhase;
 use freeze_levels::{Freeze, HookKind, Thaw};
 use gated_tree::{Grow, TreePhase};
 use mount_counts::{Change, MountPhase, Remount, RemountStep, Want};
 use percpu_rwsem::{Callback, DownRead, UpRead};
-use write_access::WritePhase;
 
 /// Where an operation under way stands, between two of its events.
 #[derive(Clone, Copy, PartialEq, Eq)]

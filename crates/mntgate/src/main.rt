@@ -1,9 +1,12 @@
 //! The program: write gates of a mounted file system, driven from the command line.
 #![tactic(auto)]
 
+pub mod asking;
+pub mod runs;
+
+use crate::asking::{Person, run};
 use anyhow::Result;
 use asked_files::endings::unreadable;
-use program::{Person, run};
 use std::io::IsTerminal;
 use std::process::ExitCode;
 

@@ -3,6 +3,7 @@
 #![tactic(auto)]
 
 pub mod flags;
+pub mod laws;
 pub mod phases;
 pub mod remounts;
 pub mod sets;

@@ -1,1 +1,2 @@
+pub use Rattle.vfs_gates.proofs.Splitting
 pub mod Repeating

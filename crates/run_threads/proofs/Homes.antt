@@ -16,9 +16,9 @@ use Rattle.run_threads.specs.declared.threads.Met.TheVariants.{Remounter, Writer
 use Rattle.run_threads.specs.Homes.{ComesHome, DoesRounds, Part}
 use Rattle.run_threads.specs.Parts.{Among, Remounted, Wrote, AllWrote}
 use Rattle.run_threads.proofs.Staying.{TookBack, all_wrote_before, all_wrote_on, remounted_on, remounter_part, writer_part}
-use Rattle.vfs_gates.specs.declared.gates.Gates.{Gates}
-use Rattle.vfs_gates.specs.Splitting.{HasBegun}
-use Rattle.vfs_gates.specs.TaskStates.{TaskState}
+use Rattle.run_parts.specs.declared.gates.Gates.{Gates}
+use Rattle.run_parts.specs.Splitting.{HasBegun}
+use Rattle.run_parts.specs.TaskStates.{TaskState}
 
 -- its part, once its number was taken back
 part_of : (held : ℕ → ℕ → Type 0) (processors rounds number : ℕ) (first last old new : TaskState) (met : Met) → HasBegun number first →

@@ -9,9 +9,9 @@ use Rattle.gate_world.specs.declared.operations.Op.{Op}
 use Rattle.gate_world.specs.declared.operations.Op.TheVariants.{WantWrite}
 use Rattle.gate_world.specs.declared.views.Traced.{Traced}
 use Rattle.gate_world.specs.declared.views.View.{View}
-use Rattle.vfs_gates.specs.Seating.{SeatItems, HaveViews, numbered, times}
-use Rattle.vfs_gates.specs.TaskStates.{TaskState, own_number, own_view, spare_of, refusal_at}
-use Rattle.vfs_gates.specs.Runs.{Replies, ran_items}
+use Rattle.run_parts.specs.Seating.{SeatItems, HaveViews, numbered, times}
+use Rattle.run_parts.specs.TaskStates.{TaskState, own_number, own_view, spare_of, refusal_at}
+use Rattle.run_parts.specs.Runs.{Replies, ran_items}
 use Rattle.run_parts.specs.declared.counts.Copies.{Copies}
 use Rattle.run_parts.specs.declared.counts.Details.{Details}
 use Rattle.run_parts.specs.declared.counts.Remounts.{Remounts}
@@ -19,7 +19,7 @@ use Rattle.run_parts.specs.declared.counts.Writes.{Writes}
 use Rattle.run_parts.specs.Counts.{both, no_remounts, no_writes, remounts_of, with_waits}
 use Rattle.run_parts.specs.Meetings.{was_held}
 use Rattle.run_parts.specs.Rounds.{Repeats, CallsBack, CreatesFile, CreatesFiles, IsRefused, Retries, Takes, Waits, RemountRound, WriterRound, BackupRound}
-use Rattle.vfs_gates.specs.Splitting.{Gives, HasBegun, HaveDoneNothing}
+use Rattle.run_parts.specs.Splitting.{Gives, HasBegun, HaveDoneNothing}
 use Rattle.run_threads.specs.Parts.{EachFrom, Among, EndsAs, Stays, Remounted, Wrote, AllWrote, AllDid}
 
 pub stays_so : (s : TaskState) → Stays s s

@@ -9,9 +9,9 @@ use Rattle.run_parts.specs.Rounds.{RemountRound, Repeats, WriterRound}
 use Rattle.run_threads.specs.declared.threads.Met.{Met}
 use Rattle.run_threads.specs.declared.threads.Met.TheVariants.{Remounter, Writer}
 use Rattle.run_threads.specs.Parts.{Remounted, Wrote}
-use Rattle.vfs_gates.specs.declared.gates.Gates.{Gates}
-use Rattle.vfs_gates.specs.Splitting.{HasBegun}
-use Rattle.vfs_gates.specs.TaskStates.{IsFrom, TaskState}
+use Rattle.run_parts.specs.declared.gates.Gates.{Gates}
+use Rattle.run_parts.specs.Splitting.{HasBegun}
+use Rattle.run_parts.specs.TaskStates.{IsFrom, TaskState}
 
 -- all rounds of the task with this number, and nothing else, which met this
 abbrev pub DoesRounds : (ℕ → ℕ → Type 0) → ℕ → ℕ → ℕ → TaskState → TaskState → Met → Type 0

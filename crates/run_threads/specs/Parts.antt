@@ -1,8 +1,8 @@
 -- What each task of a run has done, from where it began, and how it stands at the end.
 use Rattle.std.specs.Prelude.{◌≡◌, ℕ, suc, ◌+◌, ◌-◌, ◌≤◌, ◌⊎◌, List, [], ◌∷◌, length}
 use Rattle.gate_world.specs.declared.views.View.{View}
-use Rattle.vfs_gates.specs.Seating.{SeatItems, numbered}
-use Rattle.vfs_gates.specs.TaskStates.{TaskState, IsIdle, own_number, own_view, spare_of}
+use Rattle.run_parts.specs.Seating.{SeatItems, numbered}
+use Rattle.run_parts.specs.TaskStates.{TaskState, IsIdle, own_number, own_view, spare_of}
 use Rattle.run_parts.specs.declared.counts.Copies.{Copies}
 use Rattle.run_parts.specs.declared.counts.Details.{Details}
 use Rattle.run_parts.specs.declared.counts.Remounts.{Remounts}
@@ -10,7 +10,7 @@ use Rattle.run_parts.specs.declared.counts.Writes.{Writes}
 use Rattle.run_parts.specs.Counts.{all_writes, no_copies, no_remounts, no_writes, remounts_of}
 use Rattle.run_parts.specs.Meetings.{was_frozen, was_held}
 use Rattle.run_parts.specs.Rounds.{Repeats, CreatesFiles, RemountRound, WriterRound, BackupRound}
-use Rattle.vfs_gates.specs.Splitting.{HasBegun}
+use Rattle.run_parts.specs.Splitting.{HasBegun}
 
 -- each of a list, by its number from this one on
 abbrev pub EachFrom : {A : Type 0} → (ℕ → A → Type 0) → ℕ → List A → Type 0

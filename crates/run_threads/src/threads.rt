@@ -6,18 +6,18 @@ ghost use Rattle.run_threads.specs.Homes.{ComesHome, DoesRounds, Part};
 ghost use Rattle.run_threads.specs.Parts.{AllDid, AllWrote, Among, EachFrom, Remounted};
 ghost use Rattle.run_parts.specs.Meetings.{was_held};
 ghost use Rattle.run_parts.specs.Refusals.{MetBy, RunRefused};
-ghost use Rattle.vfs_gates.specs.Splitting.{Gives, HasBegun};
-ghost use Rattle.vfs_gates.specs.TaskStates.{IsFrom, TaskState, own_view};
+ghost use Rattle.run_parts.specs.Splitting.{Gives, HasBegun};
+ghost use Rattle.run_parts.specs.TaskStates.{IsFrom, TaskState, own_view};
 
 use access_model::GateError;
 use run_parts::{
-    Details, FIRST_WRITER, Plan, Remounts, Watch, Writes, back_up, create_files, remount, write,
+    Details, FIRST_WRITER, Gates, Plan, Remounts, Task, Watch, Writes, back_up, create_files,
+    remount, write,
 };
 use std::alloc::Global;
 use std::sync::Wait;
 use std::thread;
 use std::thread::{Promise, PromisedHandle, Scope, Threads};
-use vfs_gates::{Gates, Task};
 
 /// The number of the task that remounts. Those from it on have threads of their own.
 const REMOUNTER: u8 = 1;

@@ -4,7 +4,7 @@ use Rattle.std.specs.Prelude.{Option, Some, None, Result}
 use Rattle.access_model.specs.declared.actions.Action.{Action}
 use Rattle.access_model.specs.declared.errors.GateError.{GateError}
 use Rattle.access_model.specs.declared.replies.Reply.{Reply}
-use Rattle.moment_laws.proofs.Frozen.{tells}
+use Rattle.freeze_laws.proofs.moments.Frozen.{tells}
 use Rattle.gate_world.specs.declared.config.Config.{Config}
 use Rattle.gate_world.specs.declared.operations.Op.{Op}
 use Rattle.gate_world.specs.declared.views.View.{View}

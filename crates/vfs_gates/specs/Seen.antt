@@ -1,6 +1,6 @@
 -- What a task's last snapshot is of.
 use Rattle.std.specs.Prelude.{◌≡◌, ℕ, Some, length, ◌∷◌}
-use Rattle.moment_laws.specs.Moments.{MomentTells}
+use Rattle.freeze_laws.specs.moments.Moments.{MomentTells}
 use Rattle.gate_world.specs.declared.config.Config.{Config}
 use Rattle.gate_world.specs.declared.views.Snapshot.{Snapshot}
 use Rattle.gate_world.specs.Configs.{model_limits}

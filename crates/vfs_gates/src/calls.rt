@@ -12,10 +12,10 @@ use crate::task::Task;
 use access_model::{GateError, Next, Reply};
 use call_events::Progress;
 use call_lines::InLine;
+use compounds::WritePhase;
 use gate_world::{Op, Phase, UnderWay};
 use mount_counts::{Change, ChangeStep, MountPhase, Want, WantStep};
 use percpu_rwsem::{DownRead, DownReadStep, UpRead};
-use write_access::WritePhase;
 
 /// Why the operation was refused, or that it was done.
 pub(crate) fn outcome(answer: Result<Reply, GateError>) -> Result<(), GateError>

@@ -12,13 +12,13 @@ use access_model::{GateError, Holder, Next, Reply};
 use call_ends::{Waiting, wait_to_end};
 use call_events::{Progress, TimedHooks};
 use call_lines::InLine;
+use compounds::WritePhase;
 use crossbeam_utils::Backoff;
 use freeze_levels::{Freeze, FreezeStep, Thaw, ThawStep};
 use gate_world::Op;
 use mount_counts::{Remount, RemountStep, Want, WantStep};
 use percpu_rwsem::{Callback, CallbackStep, DownRead, DownReadStep, Transition};
 use std::sync::Wait;
-use write_access::WritePhase;
 
 /// Waits a little after an event that found what the operation waits for, and the longer the more often it did: soon the processor is
 /// left to others each time, since who is waited for may need it. A wait may take several events before it looks again, so none of

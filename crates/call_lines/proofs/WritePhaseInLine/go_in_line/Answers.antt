@@ -2,7 +2,7 @@
 use Rattle.std.proofs.Common.{subst}
 use Rattle.std.specs.Prelude.{Some}
 use Rattle.gate_world.specs.declared.work.Phase.TheVariants.{Writes}
-use Rattle.write_access.specs.declared.phases.WritePhase.{WritePhase}
+use Rattle.compounds.specs.declared.write_access.phases.WritePhase.{WritePhase}
 use Rattle.call_events.specs.TaskStates.{task_state}
 use Rattle.call_events.specs.Ties.{Ties}
 use Rattle.call_events.specs.Turns.{kept_at}

@@ -1,4 +1,4 @@
-use Rattle.operation_laws.proofs.Layers.{op_keeps}
+use Rattle.gate_schedules.proofs.operations.Layers.{op_keeps}
 use Rattle.gate_schedules.proofs.laws.what_a_trace_tells.Goals as goal
 
 pub returns : goal.returns

@@ -1,6 +1,6 @@
 -- All threads that were joined are those of the last tasks, and each of these has done its part, with what they met together.
 use Rattle.std.proofs.Common.{◌≡◌, ◌+◌, ◌-◌, vec_len}
-use Rattle.vfs_gates.specs.TaskStates.{IsFrom, TaskState}
+use Rattle.run_parts.specs.TaskStates.{IsFrom, TaskState}
 use Rattle.run_threads.specs.Parts.{Among, EachFrom}
 use Rattle.run_threads.proofs.Homes.{Joined}
 use Rattle.run_threads.proofs.threads.join_workers.Given as goal

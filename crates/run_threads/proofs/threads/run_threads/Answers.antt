@@ -1,6 +1,6 @@
 -- each task has done its part, and stands among the numbers that were taken back
 use Rattle.std.proofs.Common.{rules, arith, ◌∙◌, subst, ◌≡◌, ◌-◌}
-use Rattle.vfs_gates.specs.Splitting.{Gives}
+use Rattle.run_parts.specs.Splitting.{Gives}
 use Rattle.run_parts.specs.Counts.{no_copies}
 use Rattle.run_parts.specs.Meetings.{was_frozen}
 use Rattle.run_threads.specs.Parts.{Among}

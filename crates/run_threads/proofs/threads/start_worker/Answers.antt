@@ -1,7 +1,7 @@
 -- the next number goes to a task that begins
 use Rattle.std.proofs.Common.{refl, rules}
-use Rattle.vfs_gates.proofs.Splitting.{gives_on, has_begun}
-use Rattle.vfs_gates.specs.Splitting.{HasBegun}
+use Rattle.run_parts.proofs.Splitting.{gives_on, has_begun}
+use Rattle.run_parts.specs.Splitting.{HasBegun}
 use Rattle.run_threads.proofs.threads.start_worker.Goals as goal
 
 pub spawn_with-requires-clause-runs : goal.spawn_with-requires-clause-runs

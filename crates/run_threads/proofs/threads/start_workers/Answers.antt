@@ -1,6 +1,6 @@
 -- one thread more
 use Rattle.std.proofs.Common.{◌≡◌, ◌+◌, arith, refl, subst, sym, ◌∙◌, length}
-use Rattle.vfs_gates.specs.Splitting.{Gives}
+use Rattle.run_parts.specs.Splitting.{Gives}
 use Rattle.run_threads.proofs.Staying.{each_next}
 use Rattle.run_threads.proofs.threads.start_workers.Goals as goal
 

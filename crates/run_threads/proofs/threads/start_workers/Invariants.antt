@@ -1,8 +1,8 @@
 -- All threads so far were started, each for the next task, and the first task has the numbers behind theirs to give.
 use Rattle.std.proofs.Common.{◌≡◌, ◌+◌, vec_len}
-use Rattle.vfs_gates.specs.TaskStates.{IsFrom, own_view}
+use Rattle.run_parts.specs.TaskStates.{IsFrom, own_view}
 use Rattle.run_threads.specs.Parts.{EachFrom}
-use Rattle.vfs_gates.specs.Splitting.{Gives}
+use Rattle.run_parts.specs.Splitting.{Gives}
 use Rattle.run_threads.proofs.threads.start_workers.Given as goal
 
 abbrev pub invariant-loop-number : goal.invariant-loop-number

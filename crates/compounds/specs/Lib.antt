@@ -1,0 +1,2 @@
+pub mod write_access
+pub mod file_closes

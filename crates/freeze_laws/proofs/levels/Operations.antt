@@ -1,0 +1,271 @@
+-- each event of an operation at a level is one of the level
+use Rattle.std.proofs.{Common.{◌≡◌, ℕ, true, false, ◌+◌, ◌<◌, refl, sym, ap, subst, ◌∙◌}, lemmas.Bool.eq-eqb}
+use Rattle.std.specs.Prelude.{Option, Some, None, Ok, ◌==◌, if◌then◌else◌}
+use Rattle.finite_sums.{proofs.Totals.update_same, specs.Sums.{update, total}}
+use Rattle.access_model.specs.declared.replies.{Next.Next, Reply.Reply}
+use Rattle.cpu_words.specs.{Sums.sum_taking, Touches.left, declared.sums.Taken.Taken}
+use Rattle.percpu_rwsem.specs.{Callbacks.{claimed as claim_made, callback_looked, called_back}, Graces.looked}
+use Rattle.percpu_rwsem.specs.{SyncWords.{unpack, is_passed, on_enter, on_exit, on_claim, on_callback}, Transitions.{transition_next, transition_after}}
+use Rattle.percpu_rwsem.specs.Writers.{at_down_write, sum_begun, entered_from, enter_step, callback_step, sections_awaited, passed_awaited, down_write_summed}
+use Rattle.percpu_rwsem.specs.Writers.{exit_made}
+use Rattle.percpu_rwsem.specs.declared.{callbacks.{Callback.Callback, CallbackStep.CallbackStep}, grace.GraceNext.GraceNext}
+use Rattle.percpu_rwsem.specs.declared.{sync_word.{GpState.GpState, SyncWord.SyncWord}, transitions.{Transition.Transition, TransitionNext.TransitionNext}}
+use Rattle.percpu_rwsem.specs.declared.writers.{DownWrite.DownWrite, DownWriteStep.DownWriteStep, UpWrite.UpWrite, UpWriteStep.UpWriteStep}
+use Rattle.freeze_laws.proofs.levels.{EventLaws.swap_keeps, Exchanges.exchanges_make_transitions}
+use Rattle.freeze_laws.specs.levels.Changes.{transition, state_found, role_entered, role_found, waits, claims}
+use Rattle.freeze_laws.specs.levels.Events.{SyncLevel, SyncLevelHolds, SyncEvent, Enters, Looks, Passes, Swaps, Opens, Exits, Claims, LooksClaimed, Calls, Stays}
+use Rattle.freeze_laws.specs.levels.Events.{Happens, SyncStep}
+use Rattle.freeze_laws.specs.levels.Exchanges.{KnowsWords, Shows}
+use Rattle.freeze_laws.specs.levels.Operations.{down_write_role, up_write_role, callback_role, KnowsDownWrite, KnowsUpWrite, KnowsCallback, by_next, HoldsOfNext}
+use Rattle.freeze_laws.specs.levels.Operations.{DownWriteIsThere, UpWriteIsThere, CallbackIsThere, DownWritesAreThere, UpWritesAreThere, CallbacksAreThere}
+use Rattle.freeze_laws.specs.levels.Roles.{SyncRole, Out, Past, Entered, Closed, Ready, entered}
+
+role_from : (tasks : ℕ) (s : GpState) → down_write_role (entered_from tasks s) ≡ role_entered tasks s
+role_from tasks GpState.Idle = refl
+role_from tasks other = refl
+
+knows_from : (tasks : ℕ) (s : GpState) → KnowsDownWrite (entered_from tasks s)
+knows_from tasks GpState.Idle = tt
+knows_from tasks other = tt
+
+module _ (tasks t : ℕ) (lt : t < tasks) (l : SyncLevel) where
+  -- an event of this task
+  step_by : (l' : SyncLevel) (k : SyncEvent) → Happens tasks t l l' k → SyncStep tasks l l'
+  step_by l' k h = record { task = t; there = lt; kind = k; happens = h }
+
+  -- one that leaves the sync word and the role
+  unmoved : (v : ℕ) (r : SyncRole) → v ≡ l.sync → l.at t ≡ r → SyncStep tasks l (record l { sync = v; at = update l.at t r })
+  unmoved v r e here =
+      let p : update l.at t r ≡ l.at = ap (update l.at t) (sym here) ∙ update_same l.at t in
+      step_by _ Stays (λ q. record { sync = e q; block = l.block; full = l.full; section = l.section; inside = l.inside; at = p q })
+
+  -- one of a transition: either nothing has changed, or it is made
+  exchanged_by : (makes : SyncWord → Option SyncWord) (role : TransitionNext → SyncRole) (r : SyncRole) → l.at t ≡ r →
+      ((x : Transition) → role (TransitionNext.More x) ≡ r) → role TransitionNext.Undefined ≡ r →
+      ((s : GpState) (v : ℕ) → state_found l.sync ≡ Some s → transition makes l.sync ≡ Some v →
+      SyncStep tasks l (record l { sync = v; at = update l.at t (role (TransitionNext.Made s)) })) →
+      (v : ℕ) (n : TransitionNext) → Shows makes l.sync v n → SyncStep tasks l (record l { sync = v; at = update l.at t (role n) })
+  exchanged_by makes role r here more none made v (TransitionNext.More x) h = unmoved v (role (TransitionNext.More x)) h.0 (here ∙ sym (more x))
+  exchanged_by makes role r here more none made v TransitionNext.Undefined h = unmoved v (role TransitionNext.Undefined) h.0 (here ∙ sym none)
+  exchanged_by makes role r here more none made v (TransitionNext.Made s) h = made s v h.0 h.1
+
+  enter_made : l.at t ≡ Out → total tasks (λ x. entered (l.at x)) + l.full ≡ 0 → (s : GpState) (v : ℕ) → state_found l.sync ≡ Some s →
+      transition on_enter l.sync ≡ Some v →
+      SyncStep tasks l (record l { sync = v; at = update l.at t (down_write_role (entered_from tasks s)) })
+  enter_made out none s v f e =
+      let p : down_write_role (entered_from tasks s) ≡ role_found tasks (state_found l.sync) =
+      role_from tasks s ∙ sym (ap (role_found tasks) f) in
+      step_by _ Enters (out, none, e, λ q. record l { sync = v; at = update l.at t (p q) })
+
+  -- a load of a section word
+  looked_by : (g : ℕ) (r r' : SyncRole) (k : SyncEvent) → r' ≡ r → Happens tasks t l (record l { at = update l.at t r }) k →
+      SyncStep tasks l (record l { section = update l.section g (l.section g); at = update l.at t r' })
+  looked_by g r r' k e h =
+      let p : record l { at = update l.at t r } ≡ record l { section = update l.section g (l.section g); at = update l.at t r' } =
+      λ q. record l { section = sym (update_same l.section g) q; at = update l.at t (sym e q) } in
+      subst (SyncStep tasks l) p (step_by _ k h)
+
+pub enter_knows : (tasks found v : ℕ) (n : TransitionNext) → Shows on_enter found v n → KnowsDownWrite (enter_step tasks n)
+enter_knows tasks found v (TransitionNext.More x) h = h.1
+enter_knows tasks found v TransitionNext.Undefined h = tt
+enter_knows tasks found v (TransitionNext.Made s) h = knows_from tasks s
+
+pub callback_knows : (found v : ℕ) (n : TransitionNext) → Shows on_callback found v n → KnowsDownWrite (callback_step n)
+callback_knows found v (TransitionNext.More x) h = h.1
+callback_knows found v TransitionNext.Undefined h = tt
+callback_knows found v (TransitionNext.Made s) h = tt
+
+-- a down-write goes on with its grace period, or to its transition
+looked_role : (d : DownWrite) (n : GraceNext) → by_next (λ (x : DownWrite). down_write_role x.step) Closed (sections_awaited d n) ≡ waits n
+looked_role d (GraceNext.More g) = refl
+looked_role d (GraceNext.Wait g) = refl
+looked_role d GraceNext.Ended = refl
+
+-- and no exchange is to come yet
+looked_knows : (d : DownWrite) (n : GraceNext) →
+    HoldsOfNext (λ (x : DownWrite). (x.tasks ≡ d.tasks) × KnowsDownWrite x.step) (sections_awaited d n)
+looked_knows d (GraceNext.More g) = (refl, tt)
+looked_knows d (GraceNext.Wait g) = (refl, tt)
+looked_knows d GraceNext.Ended = (refl, tt)
+
+-- a load for GP_PASSED leaves it entered
+passed_role : (d : DownWrite) (o : Option SyncWord) →
+    by_next (λ (x : DownWrite). down_write_role x.step) Closed (passed_awaited d o) ≡ Entered
+passed_role d None = refl
+passed_role d (Some w) = elim (is_passed w.state) as (λ b. by_next (λ (x : DownWrite). down_write_role x.step) Closed
+    (if b then Next.Go (at_down_write d DownWriteStep.SetsBlock)
+    else Next.Wait (at_down_write d DownWriteStep.AwaitsPassed)) ≡ Entered) [ true ↦ refl | false ↦ refl ]
+
+-- and no exchange is to come
+passed_knows : (d : DownWrite) (o : Option SyncWord) →
+    HoldsOfNext (λ (x : DownWrite). (x.tasks ≡ d.tasks) × KnowsDownWrite x.step) (passed_awaited d o)
+passed_knows d None = (refl, tt)
+passed_knows d (Some w) = elim (is_passed w.state) as (λ b. HoldsOfNext (λ (x : DownWrite). (x.tasks ≡ d.tasks) × KnowsDownWrite x.step)
+    (if b then Next.Go (at_down_write d DownWriteStep.SetsBlock) else Next.Wait (at_down_write d DownWriteStep.AwaitsPassed))) [
+      | true ↦ (refl, tt)
+      | false ↦
+          (refl, tt)
+    ]
+
+-- a word more of the sum leaves the level closed
+summed_role : (d : DownWrite) (taken : Taken) →
+    by_next (λ (x : DownWrite). down_write_role x.step) Closed (down_write_summed d taken).0 ≡ Closed
+summed_role d (Taken.More sum) = refl
+summed_role d (Taken.Total total) = elim (total == 0) as (λ b. by_next (λ (x : DownWrite). down_write_role x.step) Closed
+    (if b then Next.Done (Ok Reply.Unit) else Next.Wait (at_down_write d sum_begun)) ≡ Closed) [ true ↦ refl | false ↦ refl ]
+
+-- and no exchange is to come
+summed_knows : (d : DownWrite) (taken : Taken) →
+    HoldsOfNext (λ (x : DownWrite). (x.tasks ≡ d.tasks) × KnowsDownWrite x.step) (down_write_summed d taken).0
+summed_knows d (Taken.More sum) = (refl, tt)
+summed_knows d (Taken.Total total) = elim (total == 0) as (λ b. HoldsOfNext (λ (x : DownWrite). (x.tasks ≡ d.tasks) × KnowsDownWrite x.step)
+    (if b then Next.Done (Ok Reply.Unit) else Next.Wait (at_down_write d sum_begun))) [ true ↦ tt | false ↦ (refl, tt) ]
+
+module _ (t other : ℕ) (l : SyncLevel) (d : DownWrite) (lt : t < d.tasks) where
+  -- an event of the enter
+  enters_by : (x : Transition) → KnowsWords on_enter x → l.at t ≡ Out → total d.tasks (λ x. entered (l.at x)) + l.full ≡ 0 →
+      SyncStep d.tasks l (record l {
+        sync = left (transition_next d.level x).1 l.sync;
+        at = update l.at t (down_write_role (enter_step d.tasks (transition_after on_enter x l.sync)));
+      }) × KnowsDownWrite (enter_step d.tasks (transition_after on_enter x l.sync))
+  enters_by x k here none =
+      let shown = exchanges_make_transitions on_enter d.level l.sync x k in (
+        exchanged_by d.tasks t lt l on_enter (λ n. down_write_role (enter_step d.tasks n)) Out here (λ y. refl) refl
+            (enter_made d.tasks t lt l here none) _ _ shown,
+        enter_knows d.tasks l.sync _ _ shown,
+      )
+
+  -- one of the transition that ends its grace period
+  passes_by : (x : Transition) → KnowsWords on_callback x → l.at t ≡ Past →
+      SyncStep d.tasks l (record l {
+        sync = left (transition_next d.level x).1 l.sync;
+        at = update l.at t (down_write_role (callback_step (transition_after on_callback x l.sync)));
+      }) × KnowsDownWrite (callback_step (transition_after on_callback x l.sync))
+  passes_by x k here =
+      let shown = exchanges_make_transitions on_callback d.level l.sync x k in (
+        exchanged_by d.tasks t lt l on_callback (λ n. down_write_role (callback_step n)) Past here (λ y. refl) refl
+            (λ s v f e. step_by d.tasks t lt l _ Passes (here, e, refl)) _ _ shown,
+        callback_knows l.sync _ _ shown,
+      )
+
+  down_write_there : (s : DownWriteStep) → SyncLevelHolds d.tasks l → l.at t ≡ down_write_role s → KnowsDownWrite s →
+      (l.at t ≡ Out → total d.tasks (λ x. entered (l.at x)) + l.full ≡ 0) → DownWriteIsThere t other l d s
+  down_write_there (DownWriteStep.Enters Transition.Loads) right here k none =
+      let e = enters_by Transition.Loads tt here (none here) in (e.0, (refl, e.1))
+  down_write_there (DownWriteStep.Enters (Transition.Exchanges from to)) right here k none =
+      let e = enters_by (Transition.Exchanges from to) k here (none here) in (e.0, (refl, e.1))
+  down_write_there (DownWriteStep.AwaitsSections g) right here k none =
+      let n : GraceNext = looked g (l.section g.task) in
+      (looked_by d.tasks t lt l g.task (waits n) _ Looks (looked_role d n) (g, here, refl), looked_knows d n)
+  down_write_there (DownWriteStep.CallsBack Transition.Loads) right here k none =
+      let e = passes_by Transition.Loads tt here in (e.0, (refl, e.1))
+  down_write_there (DownWriteStep.CallsBack (Transition.Exchanges from to)) right here k none =
+      let e = passes_by (Transition.Exchanges from to) k here in (e.0, (refl, e.1))
+  down_write_there DownWriteStep.AwaitsPassed right here k none =
+      (unmoved d.tasks t lt l l.sync _ refl (here ∙ sym (passed_role d (unpack l.sync))), passed_knows d (unpack l.sync))
+  down_write_there DownWriteStep.SetsBlock right here k none =
+      let b = swap_keeps d.tasks right.level.word l.block l.full l.section l.at right.level.holds t lt here in
+      let e : (l.block == 0) ≡ true = eq-eqb l.block 0 b.0 in
+      rw e (step_by d.tasks t lt l _ Swaps (here, refl), (refl, tt))
+  down_write_there (DownWriteStep.Sums sum) right here k none =
+      let taken : Taken = sum_taking sum other d.processors in
+      (unmoved d.tasks t lt l l.sync _ refl (here ∙ sym (summed_role d taken)), summed_knows d taken)
+
+pub down_writes_are_there : DownWritesAreThere
+down_writes_are_there t other l d lt right here k none = down_write_there t other l d lt d.step right here k none
+
+-- an up-write that goes on knows what is to come
+exit_knows : (u : UpWrite) (found v : ℕ) (n : TransitionNext) → Shows on_exit found v n →
+    HoldsOfNext (λ (x : UpWrite). KnowsUpWrite x.step) (exit_made u n)
+exit_knows u found v (TransitionNext.More x) h = h.1
+exit_knows u found v TransitionNext.Undefined h = tt
+exit_knows u found v (TransitionNext.Made s) h = tt
+
+module _ (tasks t other : ℕ) (l : SyncLevel) (u : UpWrite) (lt : t < tasks) where
+  -- an event of the exit
+  exits_by : (x : Transition) → KnowsWords on_exit x → l.at t ≡ Entered →
+      SyncStep tasks l (record l {
+        sync = left (transition_next u.level x).1 l.sync;
+        at = update l.at t (by_next (λ (y : UpWrite). up_write_role y.step) Out (exit_made u (transition_after on_exit x l.sync)));
+      }) × HoldsOfNext (λ (y : UpWrite). KnowsUpWrite y.step) (exit_made u (transition_after on_exit x l.sync))
+  exits_by x k here =
+      let shown = exchanges_make_transitions on_exit u.level l.sync x k in (
+        exchanged_by tasks t lt l on_exit (λ n. by_next (λ (y : UpWrite). up_write_role y.step) Out (exit_made u n)) Entered here
+            (λ y. refl) refl (λ s v f e. step_by tasks t lt l _ Exits (here, e, refl)) _ _ shown,
+        exit_knows u l.sync _ _ shown,
+      )
+
+  up_write_there : (s : UpWriteStep) → l.at t ≡ up_write_role s → KnowsUpWrite s → UpWriteIsThere tasks t other l u s
+  up_write_there UpWriteStep.ClearsBlock here k = (step_by tasks t lt l _ Opens (here, refl), tt)
+  up_write_there (UpWriteStep.Exits Transition.Loads) here k = exits_by Transition.Loads tt here
+  up_write_there (UpWriteStep.Exits (Transition.Exchanges from to)) here k = exits_by (Transition.Exchanges from to) k here
+
+pub up_writes_are_there : UpWritesAreThere
+up_writes_are_there tasks t other l u lt here k = up_write_there tasks t other l u lt u.step here k
+
+-- a callback that has claimed waits for its grace period, and one that claims knows what is to come
+claim_knows : (b : Callback) (found v : ℕ) (n : TransitionNext) → Shows on_claim found v n →
+    HoldsOfNext (λ (x : Callback). (x.tasks ≡ b.tasks) × KnowsCallback x.step) (claim_made b n)
+claim_knows b found v (TransitionNext.More x) h = (refl, h.1)
+claim_knows b found v TransitionNext.Undefined h = tt
+claim_knows b found v (TransitionNext.Made s) h = (refl, tt)
+
+-- one past its grace period knows it too
+call_knows : (b : Callback) (found v : ℕ) (n : TransitionNext) → Shows on_callback found v n →
+    HoldsOfNext (λ (x : Callback). (x.tasks ≡ b.tasks) × KnowsCallback x.step) (called_back b n)
+call_knows b found v (TransitionNext.More x) h = (refl, h.1)
+call_knows b found v TransitionNext.Undefined h = (refl, tt)
+call_knows b found v (TransitionNext.Made s) h = tt
+
+-- a callback goes on with its grace period, or to its transition
+grace_role : (b : Callback) (n : GraceNext) → by_next (λ (x : Callback). callback_role x.step) Out (callback_looked b n) ≡ claims n
+grace_role b (GraceNext.More g) = refl
+grace_role b (GraceNext.Wait g) = refl
+grace_role b GraceNext.Ended = refl
+
+-- and no exchange is to come yet
+grace_knows : (b : Callback) (n : GraceNext) →
+    HoldsOfNext (λ (x : Callback). (x.tasks ≡ b.tasks) × KnowsCallback x.step) (callback_looked b n)
+grace_knows b (GraceNext.More g) = (refl, tt)
+grace_knows b (GraceNext.Wait g) = (refl, tt)
+grace_knows b GraceNext.Ended = (refl, tt)
+
+module _ (t other : ℕ) (l : SyncLevel) (b : Callback) (lt : t < b.tasks) where
+  -- an event of the claim
+  claims_by : (x : Transition) → KnowsWords on_claim x → l.at t ≡ Out →
+      SyncStep b.tasks l (record l {
+        sync = left (transition_next b.level x).1 l.sync;
+        at = update l.at t (by_next (λ (y : Callback). callback_role y.step) Out (claim_made b (transition_after on_claim x l.sync)));
+      }) × HoldsOfNext (λ (y : Callback). (y.tasks ≡ b.tasks) × KnowsCallback y.step) (claim_made b (transition_after on_claim x l.sync))
+  claims_by x k here =
+      let shown = exchanges_make_transitions on_claim b.level l.sync x k in (
+        exchanged_by b.tasks t lt l on_claim (λ n. by_next (λ (y : Callback). callback_role y.step) Out (claim_made b n)) Out here
+            (λ y. refl) refl (λ s v f e. step_by b.tasks t lt l _ Claims (here, e, refl)) _ _ shown,
+        claim_knows b l.sync _ _ shown,
+      )
+
+  -- one of its own transition
+  calls_by : (x : Transition) → KnowsWords on_callback x → l.at t ≡ Ready →
+      SyncStep b.tasks l (record l {
+        sync = left (transition_next b.level x).1 l.sync;
+        at = update l.at t (by_next (λ (y : Callback). callback_role y.step) Out (called_back b (transition_after on_callback x l.sync)));
+      }) × HoldsOfNext (λ (y : Callback). (y.tasks ≡ b.tasks) × KnowsCallback y.step)
+      (called_back b (transition_after on_callback x l.sync))
+  calls_by x k here =
+      let shown = exchanges_make_transitions on_callback b.level l.sync x k in (
+        exchanged_by b.tasks t lt l on_callback (λ n. by_next (λ (y : Callback). callback_role y.step) Out (called_back b n)) Ready here
+            (λ y. refl) refl (λ s v f e. step_by b.tasks t lt l _ Calls (here, e, refl)) _ _ shown,
+        call_knows b l.sync _ _ shown,
+      )
+
+  callback_there : (s : CallbackStep) → l.at t ≡ callback_role s → KnowsCallback s → CallbackIsThere t other l b s
+  callback_there (CallbackStep.Claims Transition.Loads) here k = claims_by Transition.Loads tt here
+  callback_there (CallbackStep.Claims (Transition.Exchanges from to)) here k = claims_by (Transition.Exchanges from to) k here
+  callback_there (CallbackStep.AwaitsSections g) here k =
+      let n : GraceNext = looked g (l.section g.task) in
+      (looked_by b.tasks t lt l g.task (claims n) _ LooksClaimed (grace_role b n) (g, here, refl), grace_knows b n)
+  callback_there (CallbackStep.CallsBack Transition.Loads) here k = calls_by Transition.Loads tt here
+  callback_there (CallbackStep.CallsBack (Transition.Exchanges from to)) here k = calls_by (Transition.Exchanges from to) k here
+
+pub callbacks_are_there : CallbacksAreThere
+callbacks_are_there t other l b lt here k = callback_there t other l b lt b.step here k

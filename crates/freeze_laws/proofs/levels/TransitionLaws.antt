@@ -1,0 +1,105 @@
+-- what each transition leaves, of the words that it is met at
+use Rattle.std.proofs.{Common.{◌≡◌, ℕ, zero, suc, true, false, ◌+◌, ◌≤◌, refl, arith}, lemmas.Bool.Decides.nat_tests}
+use Rattle.std.specs.Prelude.{Bool, Some, nat_lt, if◌then◌else◌}
+use Rattle.percpu_rwsem.specs.SyncWords.{bit, is_lawful, entered_state, left_state, is_queued, emptied_state, on_enter, on_exit, on_claim, on_callback}
+use Rattle.percpu_rwsem.specs.declared.sync_word.{GpState.GpState, SyncWord.SyncWord}
+use Rattle.freeze_laws.specs.levels.{Changes.role_entered, Roles.{fast, entering, entered, closed, claimed, enter_bit, idle_bit}}
+
+-- an enter where nobody has entered: GP_ENTER and GP_PASSED are not found
+pub record Enters (tasks : ℕ) (s : GpState) (t : Bool) (c : ℕ) : Type 0 where
+  pub puts : on_enter record { state = s; taken = t; count = c } ≡ Some record { state = entered_state s; taken = t; count = 1 }
+  pub lawful : is_lawful (entered_state s) t 1 ≡ true
+  pub fast_none : fast (role_entered tasks s) ≡ 0
+  pub entered_one : entered (role_entered tasks s) ≡ 1
+  pub closed_none : closed (role_entered tasks s) ≡ 0
+  pub claimed_none : claimed (role_entered tasks s) ≡ 0
+  pub before : enter_bit s ≡ 0
+  pub after : entering (role_entered tasks s) ≡ enter_bit (entered_state s)
+  pub slow : idle_bit (entered_state s) + enter_bit (entered_state s) ≡ idle_bit s
+
+pub enters : (tasks : ℕ) (s : GpState) (t : Bool) (c : ℕ) → c ≡ 0 → is_lawful s t c ≡ true → Enters tasks s t c
+enters tasks s t (suc c) e l = absurd (omega arith)
+enters tasks GpState.Idle false zero e l = assumption
+enters tasks GpState.Enter false zero e l = cc
+enters tasks GpState.Passed false zero e l = cc
+enters tasks GpState.Exit t zero e l = assumption
+enters tasks GpState.Replay t zero e l = assumption
+enters tasks other true zero e l = cc
+
+-- an exit of the only writer that has entered, in GP_PASSED, GP_EXIT or GP_REPLAY
+pub record Exits (s : GpState) (t : Bool) (c : ℕ) : Type 0 where
+  pub puts : on_exit record { state = s; taken = t; count = c } ≡ Some record { state = left_state s; taken = t; count = 0 }
+  pub lawful : is_lawful (left_state s) t 0 ≡ true
+  pub queued : is_queued (left_state s) ≡ true
+  pub slow : idle_bit (left_state s) + enter_bit (left_state s) ≡ 0
+
+pub exits : (s : GpState) (t : Bool) (c : ℕ) → c ≡ 1 → idle_bit s + enter_bit s ≡ 0 → Exits s t c
+exits s t zero e h = absurd (omega arith)
+exits s t (suc (suc c)) e h = absurd (omega arith)
+exits GpState.Idle t (suc zero) e h = absurd (omega arith)
+exits GpState.Enter t (suc zero) e h = absurd (omega arith)
+exits other t (suc zero) e h = record { puts = refl; lawful = refl; queued = refl; slow = refl }
+
+-- the transition of a writer after its grace period
+pub passes : (s : GpState) (t : Bool) (c : ℕ) → enter_bit s ≡ 1 → 1 ≤ c →
+    on_callback record { state = s; taken = t; count = c } ≡ Some record { state = GpState.Passed; taken = false; count = c }
+passes GpState.Enter t zero e h = absurd (omega arith)
+passes GpState.Enter t (suc c) e h = grind (arith, nat_tests)
+passes other t c e h = absurd (omega arith)
+
+-- the transition of a callback after its grace period
+pub record Calls (s : GpState) (t : Bool) (c : ℕ) : Type 0 where
+  pub puts : on_callback record { state = s; taken = t; count = c } ≡ Some record
+      { state = if nat_lt 0 c then GpState.Passed else emptied_state s; taken = false; count = c }
+  pub lawful : is_lawful (if nat_lt 0 c then GpState.Passed else emptied_state s) false c ≡ true
+  pub taken : t ≡ true
+  pub queued : is_queued s ≡ true
+  pub before : idle_bit s + enter_bit s ≡ 0
+  pub after : enter_bit (if nat_lt 0 c then GpState.Passed else emptied_state s) ≡ 0
+
+-- the transition of a callback that is taken, of a lawful word
+pub calls : (s : GpState) (t : Bool) (c : ℕ) → c ≤ 1 → bit t ≡ 1 → idle_bit s + enter_bit s + bit t ≤ 1 → is_lawful s t c ≡ true →
+    Calls s t c
+calls s false c m b f l = absurd (omega arith)
+calls s true (suc (suc c)) m b f l = absurd (omega arith)
+calls GpState.Idle true zero m b f l = absurd (omega arith)
+calls GpState.Idle true (suc zero) m b f l = absurd (omega arith)
+calls GpState.Enter true zero m b f l = absurd (omega arith)
+calls GpState.Enter true (suc zero) m b f l = absurd (omega arith)
+calls GpState.Passed true zero m b f l = cc
+calls GpState.Passed true (suc zero) m b f l = cc
+calls GpState.Exit true zero m b f l = record { puts = refl; lawful = refl; taken = refl; queued = refl; before = refl; after = refl }
+calls GpState.Exit true (suc zero) m b f l = record { puts = refl; lawful = refl; taken = refl; queued = refl; before = refl; after = refl }
+calls GpState.Replay true zero m b f l = record { puts = refl; lawful = refl; taken = refl; queued = refl; before = refl; after = refl }
+calls GpState.Replay true (suc zero) m b f l = record { puts = refl; lawful = refl; taken = refl; queued = refl; before = refl; after = refl }
+
+-- only GP_EXIT becomes GP_IDLE by it
+pub calls_idle : (s : GpState) (c : ℕ) → is_queued s ≡ true → c ≤ 1 → (if nat_lt 0 c then GpState.Passed else emptied_state s) ≡ GpState.Idle → s ≡ GpState.Exit
+calls_idle GpState.Exit c q m e = refl
+calls_idle GpState.Replay zero q m e = cc
+calls_idle GpState.Replay (suc zero) q m e = cc
+calls_idle GpState.Replay (suc (suc c)) q m e = absurd (omega arith)
+calls_idle other c q m e = cc
+
+pub entered_not_idle : (s : GpState) → entered_state s ≡ GpState.Idle → ⊥
+entered_not_idle GpState.Idle e = cc
+entered_not_idle other e = cc
+
+-- a claim of a callback that is queued and not taken
+pub record Claims (s : GpState) (t : Bool) (c : ℕ) : Type 0 where
+  pub puts : on_claim record { state = s; taken = t; count = c } ≡ Some record { state = s; taken = true; count = c }
+  pub lawful : is_lawful s true c ≡ true
+
+pub claims_queued : (s : GpState) (t : Bool) (c : ℕ) → is_queued s ≡ true → t ≡ false → Claims s t c
+claims_queued s true c q h = cc
+claims_queued GpState.Exit false c q h = record { puts = refl; lawful = refl }
+claims_queued GpState.Replay false c q h = record { puts = refl; lawful = refl }
+claims_queued other false c q h = cc
+
+pub claims_defined : (s : GpState) (t : Bool) (c : ℕ) (w : SyncWord) → on_claim record { state = s; taken = t; count = c } ≡ Some w →
+    (is_queued s ≡ true) × (t ≡ false)
+claims_defined GpState.Exit true c w h = cc
+claims_defined GpState.Exit false c w h = (refl, refl)
+claims_defined GpState.Replay true c w h = cc
+claims_defined GpState.Replay false c w h = (refl, refl)
+claims_defined other t c w h = cc

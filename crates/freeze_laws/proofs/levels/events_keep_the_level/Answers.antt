@@ -1,0 +1,5 @@
+use Rattle.freeze_laws.proofs.levels.Whole.{opening_is_right, events_keep, enters_alone, writers_find}
+use Rattle.freeze_laws.proofs.levels.events_keep_the_level.Goals as goal
+
+pub returns : goal.returns
+returns c = record { opens = opening_is_right; keeps = events_keep; alone = enters_alone; finds = writers_find }

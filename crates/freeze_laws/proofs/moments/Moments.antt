@@ -1,0 +1,46 @@
+-- A moment of a history stays one, is the end of a legal history, and cuts each own list.
+use Rattle.std.{proofs.Common.{◌≡◌, ℕ, List, [], ◌∷◌, ◌++◌, length, refl, sym, ap, ◌∙◌}, specs.Prelude.{if◌then◌else◌, ◌==◌, Option, true, false}}
+use Rattle.access_model.specs.{Histories.{Done, IsLegal, own_part, IsMerge}, States.Limits, declared.actions.{Action.Action, NodeInfo.NodeInfo}}
+use Rattle.freeze_laws.specs.moments.Moments.{HaveDone, IsFrozenWith, WasFrozenWith, CutsList, CutsLists}
+
+module _ (nodes : ℕ) (tree : ℕ → Option NodeInfo) (done : List (ℕ × ℕ)) where
+  -- what is so now was so at some moment
+  pub is_now : (log : List Done) → IsFrozenWith nodes tree done log → WasFrozenWith nodes tree done log
+  is_now log h = record { later = []; earlier = log; parts = refl; was = h }
+
+  -- and that stays, whatever is done later
+  pub stays : (log : List Done) → WasFrozenWith nodes tree done log → (a : Done) → WasFrozenWith nodes tree done (a ∷ log)
+  stays log h a = record { later = a ∷ h.later; earlier = h.earlier; parts = ap (λ l. a ∷ l) h.parts; was = h.was }
+
+pub first_legal : (l : Limits) (later earlier : List Done) → IsLegal l (later ++ earlier) → IsLegal l earlier
+first_legal l [] earlier legal = legal
+first_legal l (a ∷ later) earlier legal = first_legal l later earlier legal.1
+
+-- an own part is that of the later actions, and before it that of the first ones
+part_append : (t : ℕ) (later earlier : List Done) → own_part t (later ++ earlier) ≡ own_part t later ++ own_part t earlier
+part_append t [] earlier = refl
+part_append t (a ∷ later) earlier =
+    let more : own_part t (later ++ earlier) ≡ own_part t later ++ own_part t earlier = part_append t later earlier in
+    let whole : List Action = own_part t (later ++ earlier) in
+    let own : List Action = own_part t later in
+    elim (a.0 == t) as (λ b. (if b then a.1 ∷ whole else whole) ≡ (if b then a.1 ∷ own else own) ++ own_part t earlier) [
+      | true ↦ ap (λ l. a.1 ∷ l) more
+      | false ↦ more
+    ]
+
+cut : (t count : ℕ) (later earlier : List Done) (actions : List Action) → own_part t (later ++ earlier) ≡ actions →
+    length (own_part t earlier) ≡ count → CutsList t count earlier actions
+cut t count later earlier actions merge counted = record {
+  newer = own_part t later;
+  older = own_part t earlier;
+  parts = sym merge ∙ part_append t later earlier;
+  counted = counted;
+  same_part = refl;
+}
+
+-- each number's is
+pub cuts : (done : List (ℕ × ℕ)) (later earlier : List Done) (lists : ℕ → List Action) → IsMerge lists (later ++ earlier) →
+    HaveDone done earlier → CutsLists done earlier lists
+cuts [] later earlier lists merge h = tt
+cuts (k ∷ ks) later earlier lists merge h =
+    (cut k.0 k.1 later earlier (lists k.0) (merge k.0) h.0, cuts ks later earlier lists merge h.1)

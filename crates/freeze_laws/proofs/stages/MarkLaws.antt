@@ -1,0 +1,85 @@
+-- Each event keeps what holds of the marks of nodes.
+use Rattle.std.proofs.{Common.{◌≡◌, ℕ, suc, ◌+◌, ◌<◌, ◌≤◌, refl, inl, inr, arith, ◌%◌, ◌/◌, zero, ◌-◌}, lemmas.Bool.Decides.eqb_tells}
+use Rattle.finite_sums.{proofs.Totals.{each_updated, total_at}, specs.Sums.update}
+use Rattle.freeze_laws.proofs.stages.{Facts.owner_only, Positions.{way, who_freezes, passed_own, passed_is}}
+use Rattle.freeze_laws.specs.stages.Events.{Stages, Holds}
+use Rattle.freeze_laws.specs.stages.Roles.{StageRole, StagesHold, CleanBelow, MarksHold, Place, clean_by, KnowsStage, under_way, clean_at, remounts, freezes, passed_at}
+use Rattle.freeze_laws.specs.stages.Roles.{passed_by, HasPassed, has_position, Freezing, is_full, Remounting, Before, Closing}
+use Rattle.freeze_laws.specs.stages.Shown.{passed_shown}
+
+still_clean : (n node : ℕ) (dirty : ℕ → ℕ) → CleanBelow n dirty → CleanBelow n (update dirty node 0)
+still_clean n node dirty h m lt = each_updated (λ y v. v ≡ 0) dirty node 0 m refl (λ ne. h m lt)
+
+pub one_more : (node : ℕ) (dirty : ℕ → ℕ) → CleanBelow node dirty → CleanBelow (suc node) (update dirty node 0)
+one_more node dirty h m lt = each_updated (λ y v. v ≡ 0) dirty node 0 m refl (λ ne. h m (omega (arith, lt, ne)))
+
+cleared_two : (stage : ℕ) (p : Place) → 0 < clean_at stage p → 2 ≤ passed_at stage p
+cleared_two zero p h = absurd (omega (arith, h))
+cleared_two (suc zero) p h = absurd (omega (arith, h))
+cleared_two (suc (suc s)) (HasPassed clean) h = omega arith
+cleared_two (suc (suc s)) Before h = absurd (omega (arith, h))
+cleared_two (suc (suc s)) Closing h = absurd (omega (arith, h))
+
+cleared_by : (r : StageRole) → 0 < clean_by r → remounts r ≡ 0 → (2 ≤ passed_by r) × (has_position r ≡ 1)
+cleared_by (Freezing stage place owner) h n = (cleared_two stage place h, refl)
+cleared_by (Remounting sb clean) h n = absurd (omega (arith, n))
+cleared_by r h n = absurd (omega (arith, h))
+
+passed_third : (r : StageRole) (stage sb : ℕ) → KnowsStage stage sb r → freezes r ≡ 1 → stage ≡ 3 → 2 ≤ passed_by r
+passed_third (Freezing known Before owner) stage sb k f e = omega (arith, k, e)
+passed_third (Freezing known Closing owner) stage sb k f e = omega (arith, k, e)
+passed_third (Freezing known (HasPassed clean) owner) stage sb k f e = omega (arith, k, e)
+passed_third r stage sb k f e = absurd (omega (arith, f))
+
+-- where the marks hold, another role that has cleared as many changes nothing
+pub cleared_anew : (tasks nodes stage sb stage' sb' : ℕ) (dirty : ℕ → ℕ) (at : ℕ → StageRole) (t : ℕ) (new : StageRole) →
+    MarksHold tasks nodes stage sb dirty at →
+    (3 ≤ stage' → CleanBelow nodes dirty) → (sb' ≡ 1 → CleanBelow nodes dirty) → CleanBelow (clean_by new) dirty →
+    MarksHold tasks nodes stage' sb' dirty (update at t new)
+cleared_anew tasks nodes stage sb stage' sb' dirty at t new h f r c = record {
+  frozen = f;
+  read_only = r;
+  cleared = λ u lu. each_updated (λ y q. CleanBelow (clean_by q) dirty) at t new u c (λ ne. h.cleared u lu);
+}
+
+-- a clean node leaves the others as they were
+pub washed : (tasks nodes stage sb : ℕ) (dirty : ℕ → ℕ) (at : ℕ → StageRole) (node : ℕ) → MarksHold tasks nodes stage sb dirty at →
+    MarksHold tasks nodes stage sb (update dirty node 0) at
+washed tasks nodes stage sb dirty at node h = record {
+  frozen = λ s. still_clean nodes node dirty (h.frozen s);
+  read_only = λ r. still_clean nodes node dirty (h.read_only r);
+  cleared = λ u lu. still_clean (clean_by (at u)) node dirty (h.cleared u lu);
+}
+
+-- marks are made only where none is to stay clear: before level 2 is passed, at a writable superblock
+pub marked : (tasks nodes : ℕ) (x : Stages) (node mark : ℕ) → Holds tasks nodes x → passed_shown tasks x.block x.at < 2 → x.remount ≡ 0 →
+    x.sb ≡ 0 →
+    MarksHold tasks nodes x.stage x.sb (update x.dirty node mark) x.at
+marked tasks nodes x node mark h passed remount sb =
+    let good : StagesHold tasks x.stage x.sb x.remount x.block x.at = h.stages in
+    let ways : (under_way x.stage ≡ (x.stage % 4 + 3) / 4) × (is_full x.stage x.sb ≡ x.stage / 4 - x.sb) =
+    way tasks x.stage x.sb x.remount x.block x.at good in
+    let none : x.stage ≡ 3 → ⊥ = λ e.
+    let w : (t : ℕ) × (t < tasks) × (freezes (x.at t) ≡ 1) =
+    who_freezes tasks x.stage x.sb x.remount x.block x.at good (omega (arith, e, ways)) in
+    omega (
+      arith,
+      passed,
+      passed_third (x.at w.0) x.stage x.sb (good.knows w.0 w.1) w.2 e,
+      passed_own tasks x.stage x.sb x.remount x.block x.at good w.0 w.1 (omega (arith, w.2, owner_only (x.at w.0))),
+    ) in
+    let low : x.stage < 3 = elim (eqb_tells x.stage 3) [
+      | inl e ↦ absurd (none e.1)
+      | inr e ↦ omega (arith, e.1, sb, ways, passed, good.stages, passed_is tasks x.stage x.sb x.remount x.block x.at good)
+    ] in
+    record {
+      frozen = λ s. absurd (omega (arith, s, low));
+      read_only = λ r. absurd (omega (arith, r, sb));
+      cleared = λ u lu. elim (eqb_tells (clean_by (x.at u)) 0) [
+        | inl e ↦ λ m lt. absurd (omega (arith, lt, e.1))
+        | inr e ↦
+            let r : remounts (x.at u) ≡ 0 = omega (arith, remount, good.remounting, total_at tasks u (λ y. remounts (x.at y)) lu) in
+            let c : (2 ≤ passed_by (x.at u)) × (has_position (x.at u) ≡ 1) = cleared_by (x.at u) (omega (arith, e.1)) r in
+            absurd (omega (arith, passed, c.0, passed_own tasks x.stage x.sb x.remount x.block x.at good u lu c.1))
+      ];
+    }

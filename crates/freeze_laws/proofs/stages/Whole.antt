@@ -1,0 +1,171 @@
+-- What the stage says at one moment, and who moves it.
+use Rattle.std.proofs.{Common.{◌≡◌, ℕ, ◌<◌, ◌≤◌, refl, sym, ap, ◌∙◌, inl, inr, arith}, lemmas.Bool.Decides.eqb_tells}
+use Rattle.std.specs.Prelude.{◌⊎◌, Bool, true, Option, Some}
+use Rattle.finite_sums.proofs.Totals.{total_none, total_zero, total_at, HasPlace, total_place}
+use Rattle.freeze_laws.proofs.stages.{Allowed.may, EachEvent.after_kind, Effects.effect, Facts.{up_to_off, freeze_role}}
+use Rattle.freeze_laws.proofs.stages.Positions.{block_at, block_idle, not_full, one_position, other_position, passed_idle, passed_own, who_freezes, way, nobody_at_four}
+use Rattle.freeze_laws.proofs.stages.Positions.{passed_in_order}
+use Rattle.freeze_laws.proofs.stages.StageLaws.{freeze_bound, relied_on}
+use Rattle.freeze_laws.specs.stages.Events.{Stages, Holds, StageEvent, Happens, Advances, Begins, CancelsRemount, ClearsBlock, ClearsMark, ClearsMarkReadOnly}
+use Rattle.freeze_laws.specs.stages.Events.{ClearsRemount, Completes, Fails, FreezesAtOnce, HoldsOne, LeavesOne, LetsGo, LoadsSb, LoadsStage, Locks, LocksAgain}
+use Rattle.freeze_laws.specs.stages.Events.{MarksNode, Passes, Recalls, Releases, ReleasesOpen, SetsBlock, SetsReadOnly, SetsRemount, SetsWritable, Stays, Syncs, Thaws}
+use Rattle.freeze_laws.specs.stages.Events.{ThawsAtOnce, WashesNode}
+use Rattle.freeze_laws.specs.stages.Laws.{opening, EventsKeep, ActionsAreAllowed, ActionsHaveTheirEffect, FreezeIsUnderWay, FreezeKeepsOthersOut, FrozenAsAWhole}
+use Rattle.freeze_laws.specs.stages.Laws.{OnlyTheFreezeMovesTheStage, OpenElsewhere, PositionsAreAlone, PositionsTellTheLevels, LevelsPassInOrder, NobodyAtStageFour}
+use Rattle.freeze_laws.specs.stages.Roles.{StageRole, Aside, Owning, Remounting, Freezing, HasPassed, KnowsStage, Place, closes, freezes, has_position, is_full}
+use Rattle.freeze_laws.specs.stages.Roles.{remounts}
+
+pub opening_is_right : (tasks nodes : ℕ) → Holds tasks nodes opening
+opening_is_right tasks nodes = record {
+  stages = record {
+    stages = omega arith;
+    superblock = omega arith;
+    alone = omega (arith, total_zero tasks);
+    freezing = total_zero tasks;
+    writable = λ e. refl;
+    remounting = sym (total_zero tasks);
+    blocks = λ i low high. omega (arith, total_none tasks (λ t. closes i Aside) (λ t lt. up_to_off i 0 (omega (arith, low))));
+    knows = λ t lt. tt;
+  };
+  marks = record { frozen = λ e m lt. refl; read_only = λ e m lt. refl; cleared = λ t lt m l. refl };
+}
+
+pub events_keep : EventsKeep
+events_keep tasks nodes x x' t kind step = after_kind tasks nodes x step.right t step.there kind x' step.happens
+
+pub actions_are_allowed : ActionsAreAllowed
+actions_are_allowed l x x' t kind step s shows action a asks =
+    (step.there, may l x step.right t step.there s shows kind x' step.happens action a asks)
+
+pub actions_have_their_effect : ActionsHaveTheirEffect
+actions_have_their_effect tasks nodes x x' t kind step s shows = effect tasks nodes x step.right t step.there s shows kind x' step.happens
+
+pub freeze_is_under_way : FreezeIsUnderWay
+freeze_is_under_way tasks nodes x h low high =
+    let w : (t : ℕ) × (t < tasks) × (freezes (x.at t) ≡ 1) =
+    who_freezes tasks x.stage x.sb x.remount x.block x.at h.stages
+    (omega (arith, low, high, way tasks x.stage x.sb x.remount x.block x.at h.stages)) in
+    let r : (place : Place) × (owner : Bool) × (x.at w.0 ≡ Freezing x.stage place owner) =
+    freeze_role x.stage x.sb (x.at w.0) (h.stages.knows w.0 w.1) w.2 in
+    (w.0, w.1, r.0, r.1, r.2)
+
+remounts_at : (stage sb : ℕ) (r : StageRole) → KnowsStage stage sb r → (remounts r ≡ 0 → ⊥) → stage ≡ 0
+remounts_at stage sb (Remounting known clean) k h = k.0
+remounts_at stage sb r k h = absurd (h refl)
+
+-- a freeze keeps out who relies on stage 0
+pub freeze_keeps_others_out : FreezeKeepsOthersOut
+freeze_keeps_others_out tasks nodes x h t lt f =
+    let b : _ = freeze_bound tasks x h.stages t lt (x.at t) refl f in (
+      b.1,
+      b.2,
+      b.3,
+      elim (eqb_tells x.remount 0) [
+        | inl e ↦ e.1
+        | inr e ↦
+            let p : HasPlace tasks (λ u. remounts (x.at u)) =
+            total_place tasks (λ u. remounts (x.at u)) (λ z. e.1 (h.stages.remounting ∙ z)) in
+            absurd (omega (arith, b, remounts_at x.stage x.sb (x.at p.0) (h.stages.knows p.0 p.1) p.2))
+      ],
+      λ u sb lu q. absurd (omega (arith, b, (relied_on tasks x h.stages u lu (Owning (Some 0) sb) q).0)),
+    )
+
+pub positions_are_alone : PositionsAreAlone
+positions_are_alone tasks nodes x h t lt p = (
+  not_full tasks x.stage x.sb x.remount x.block x.at h.stages t lt p,
+  other_position tasks x.stage x.sb x.remount x.block x.at h.stages
+      t lt p,
+)
+
+pub positions_tell_the_levels : PositionsTellTheLevels
+positions_tell_the_levels tasks nodes x h t lt p = (
+  passed_own tasks x.stage x.sb x.remount x.block x.at h.stages t lt p,
+  block_at tasks x.stage x.sb x.remount x.block x.at h.stages t
+      lt p,
+)
+
+-- where a block is set and no task's own the file system is frozen as a whole, and then nobody has a position
+pub frozen_as_a_whole : FrozenAsAWhole
+frozen_as_a_whole tasks nodes x h =
+    let w : _ = way tasks x.stage x.sb x.remount x.block x.at h.stages in (
+      (λ e.
+          let full : is_full x.stage x.sb ≡ 1 = omega (arith, e, w) in
+          let none : (t : ℕ) → t < tasks → has_position (x.at t) ≡ 0 = λ t lt.
+          omega (
+            arith,
+            full,
+            one_position tasks x.stage x.sb x.remount x.block x.at h.stages,
+            total_at tasks t
+                (λ u. has_position (x.at u)) lt,
+          ) in (
+            (λ i low high. block_idle tasks x.stage x.sb x.remount x.block x.at h.stages none i low high ∙ full),
+            omega (arith, full, passed_idle tasks x.stage x.sb x.remount x.block x.at h.stages none),
+            none,
+          )),
+      λ i low high set free.
+          let full : is_full x.stage x.sb ≡ 1 =
+          omega (arith, set, h.stages.blocks i low high, total_none tasks (λ u. closes i (x.at u)) free) in
+          omega (arith, full, w, h.stages.stages, h.stages.superblock),
+    )
+
+pub nobody_at_stage_four : NobodyAtStageFour
+nobody_at_stage_four tasks nodes x h = nobody_at_four tasks x.stage x.sb x.remount x.block x.at h.stages
+
+pub levels_pass_in_order : LevelsPassInOrder
+levels_pass_in_order tasks nodes x h = passed_in_order tasks x.stage x.sb x.remount x.block x.at h.stages
+
+pub open_elsewhere : OpenElsewhere
+open_elsewhere tasks nodes x h none full = (
+  omega (arith, full, passed_idle tasks x.stage x.sb x.remount x.block x.at h.stages none),
+  λ i low high. block_idle tasks x.stage x.sb x.remount x.block x.at h.stages none i low high ∙ full,
+)
+
+-- a store of a stage asks for what is said of it: at stages 1 to 3 nobody but the freeze can be there
+module _ (tasks nodes : ℕ) (x : Stages) (h : Holds tasks nodes x) (t : ℕ) (lt : t < tasks) (low : 1 ≤ x.stage) (high : x.stage ≤ 3)
+    (out : freezes (x.at t) ≡ 0) where
+  -- an owner relies on no other stage
+  not_at : (k : ℕ) (b : Option ℕ) (C : Type 0) → x.at t ≡ Owning (Some k) b → (k ≡ 0) ⊎ (k ≡ 4) → C
+  not_at k b C e o =
+      let z : x.stage ≡ k = (relied_on tasks x h.stages t lt (Owning (Some k) b) e).0 in
+      elim o [ inl q ↦ absurd (omega (arith, z, q, low)) | inr q ↦ absurd (omega (arith, z, q, high)) ]
+
+  not_in : (C : Type 0) (s : ℕ) (p : Place) (o : Bool) → x.at t ≡ Freezing s p o → C
+  not_in C s p o e = absurd (omega (arith, out, ap freezes e))
+
+  pub stage_stays : (kind : StageEvent) (x' : Stages) → Happens tasks nodes t x x' kind → x'.stage ≡ x.stage
+  stage_stays Begins x' (e, p) = not_at 0 (Some 0) (x'.stage ≡ x.stage) e (inl refl)
+  stage_stays (Advances clean) x' (e, p) = not_in (x'.stage ≡ x.stage) 1 (HasPassed clean) true e
+  stage_stays (Syncs clean) x' (e, all, p) = not_in (x'.stage ≡ x.stage) 2 (HasPassed clean) true e
+  stage_stays (Completes clean) x' (e, p) = not_in (x'.stage ≡ x.stage) 3 (HasPassed clean) true e
+  stage_stays (Fails stage clean) x' (e, l, p) = not_in (x'.stage ≡ x.stage) stage (HasPassed clean) true e
+  stage_stays FreezesAtOnce x' (e, p) = not_at 0 (Some 1) (x'.stage ≡ x.stage) e (inl refl)
+  stage_stays Thaws x' (e, p) = not_at 4 (Some 0) (x'.stage ≡ x.stage) e (inr refl)
+  stage_stays ThawsAtOnce x' (e, p) = not_at 4 (Some 1) (x'.stage ≡ x.stage) e (inr refl)
+  stage_stays Locks x' (e, o, p) = ap (λ y. y.stage) p
+  stage_stays (LocksAgain stage place) x' (e, o, p) = ap (λ y. y.stage) p
+  stage_stays (Releases stage sb) x' (e, p) = ap (λ y. y.stage) p
+  stage_stays (LetsGo stage place) x' (e, p) = ap (λ y. y.stage) p
+  stage_stays ReleasesOpen x' (e, p) = ap (λ y. y.stage) p
+  stage_stays (LoadsStage stage sb) x' (e, p) = ap (λ y. y.stage) p
+  stage_stays (LoadsSb stage sb) x' (e, p) = ap (λ y. y.stage) p
+  stage_stays (SetsBlock level owner) x' (e, p) = ap (λ y. y.stage) p
+  stage_stays (Passes level clean owner) x' (e, c, p) = ap (λ y. y.stage) p
+  stage_stays (ClearsBlock below) x' (e, p) = ap (λ y. y.stage) p
+  stage_stays (SetsRemount clean) x' (e, c, p) = ap (λ y. y.stage) p
+  stage_stays (SetsReadOnly clean) x' (e, all, p) = ap (λ y. y.stage) p
+  stage_stays (ClearsRemount clean) x' (e, p) = ap (λ y. y.stage) p
+  stage_stays (CancelsRemount clean) x' (e, p) = ap (λ y. y.stage) p
+  stage_stays (SetsWritable sb) x' (e, p) = ap (λ y. y.stage) p
+  stage_stays (ClearsMark node) x' (e, p) = ap (λ y. y.stage) p
+  stage_stays (ClearsMarkReadOnly sb node) x' (e, p) = ap (λ y. y.stage) p
+  stage_stays (MarksNode node mark) x' (l, r, b, p) = ap (λ y. y.stage) p
+  stage_stays (WashesNode node) x' p = ap (λ y. y.stage) p
+  stage_stays (Recalls old new) x' (e, a, k, c, p) = ap (λ y. y.stage) p
+  stage_stays (HoldsOne holder sb new) x' (e, a, k, c, p) = ap (λ y. y.stage) p
+  stage_stays (LeavesOne holder sb new) x' (e, a, k, c, p) = ap (λ y. y.stage) p
+  stage_stays Stays x' p = ap (λ y. y.stage) p
+
+-- only the freeze under way moves the stage
+pub only_the_freeze_moves_the_stage : OnlyTheFreezeMovesTheStage
+only_the_freeze_moves_the_stage tasks nodes x x' t kind step low high out =
+    stage_stays tasks nodes x step.right t step.there low high out kind x' step.happens

@@ -1,0 +1,10 @@
+use Rattle.freeze_laws.proofs.stages.Whole.{freeze_is_under_way, freeze_keeps_others_out, positions_are_alone, only_the_freeze_moves_the_stage}
+use Rattle.freeze_laws.proofs.stages.one_freeze_is_under_way.Goals as goal
+
+pub returns : goal.returns
+returns c = record {
+  freezes = freeze_is_under_way;
+  keeps_out = freeze_keeps_others_out;
+  alone = positions_are_alone;
+  moves = only_the_freeze_moves_the_stage;
+}

@@ -1,0 +1,3 @@
+pub mod levels
+pub mod stages
+pub mod moments

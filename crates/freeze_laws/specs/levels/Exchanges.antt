@@ -1,0 +1,25 @@
+-- The transitions that phases make, by a load and a compare-exchange, as transitions of the number that is in memory.
+use Rattle.std.specs.Prelude.{◌≡◌, ℕ, Option, Some, None}
+use Rattle.cpu_words.specs.Touches.{left}
+use Rattle.percpu_rwsem.specs.{SyncWords.IsLawful, Transitions.{transition_next, transition_after}}
+use Rattle.percpu_rwsem.specs.declared.sync_word.SyncWord.{SyncWord}
+use Rattle.percpu_rwsem.specs.declared.transitions.Transition.{Transition, TheVariants.{Loads, Exchanges}}
+use Rattle.percpu_rwsem.specs.declared.transitions.TransitionNext.{TransitionNext, TheVariants.{More, Undefined, Made}}
+use Rattle.freeze_laws.specs.levels.Changes.{transition, state_found}
+
+-- what is known where an exchange is to come: the word that was loaded is lawful, and the transition makes the other one of it
+abbrev pub KnowsWords : (SyncWord → Option SyncWord) → Transition → Type 0
+KnowsWords makes Loads = Unit {0}
+KnowsWords makes (Exchanges from to) = IsLawful from × (makes from ≡ Some to)
+
+-- What an event of a transition shows that found one number and left the other: either nothing has changed, and what is to come is
+-- known or the transition is not defined; or what was found was in this state, and its transition was put in its place.
+abbrev pub Shows : (SyncWord → Option SyncWord) → ℕ → ℕ → TransitionNext → Type 0
+Shows makes found leaves (More next) = (leaves ≡ found) × KnowsWords makes next
+Shows makes found leaves Undefined = (leaves ≡ found) × (transition makes found ≡ None)
+Shows makes found leaves (Made state) = (state_found found ≡ Some state) × (transition makes found ≡ Some leaves)
+
+-- each event of each transition shows it, at whatever level
+abbrev pub ExchangesMakeTransitions : Type 0
+ExchangesMakeTransitions = (makes : SyncWord → Option SyncWord) (level found : ℕ) (next : Transition) → KnowsWords makes next →
+    Shows makes found (left (transition_next level next).1 found) (transition_after makes next found)

@@ -1,0 +1,65 @@
+-- What is proved of each operation, by the file named after it: the one place that knows them all.
+use Rattle.mount_counts.specs.declared.phases.MountPhase.{MountPhase}
+use Rattle.gate_world.specs.declared.{config.Config.Config, operations.Op.Op, work.Phase.Phase}
+use Rattle.gate_schedules.proofs.operations.frames.Keeps.{PhaseKeeps, OpKeeps}
+use Rattle.gate_schedules.proofs.operations.{CallbackKeeps.{callback_phase, callback_op}, ReadKeeps.{read_phase, end_phase, start_op, end_op}}
+use Rattle.gate_schedules.proofs.operations.{WantKeeps.{want_phase, drop_phase, want_op, drop_op}, WriteKeeps.{write_phase, want_write_op, drop_write_op}}
+use Rattle.gate_schedules.proofs.operations.{ChangeKeeps.{change_phase, change_op}, FreezeKeeps.{freeze_phase, freeze_op}, RemountKeeps.{remount_phase, remount_op}}
+use Rattle.gate_schedules.proofs.operations.ThawKeeps.{thaw_phase, thaw_op}
+use Rattle.gate_schedules.proofs.operations.CallOps.{create_keeps, remove_keeps, grow_keeps, move_keeps, fault_keeps, flush_keeps, snapshot_keeps, open_keeps}
+use Rattle.gate_schedules.proofs.operations.CallPhases.{tree_phase_keeps}
+use Rattle.gate_schedules.proofs.operations.{CloseKeeps.close_phase, CloseTraces.close_op}
+use Rattle.gate_schedules.proofs.operations.{CallbackEnds.callback_ends, CloseEnds.close_ends, FreezeEnds.freeze_ends, MountEnds.{want_ends, drop_ends, change_ends}}
+use Rattle.gate_schedules.proofs.operations.{ReadEnds.{read_ends, end_ends, write_ends}, RemountEnds.remount_ends, ThawEnds.thaw_ends, TreeEnds.tree_ends}
+use Rattle.gate_schedules.specs.operations.Ways.{PhaseEnds}
+
+pub phase_keeps : (c : Config) (phase : Phase) → PhaseKeeps c phase
+phase_keeps c (Phase.Mounts (MountPhase.Want x)) = want_phase c x
+phase_keeps c (Phase.Mounts (MountPhase.Drop m p)) = drop_phase c m p
+phase_keeps c (Phase.Mounts (MountPhase.Change x)) = change_phase c x
+phase_keeps c (Phase.Remounts x) = remount_phase c x
+phase_keeps c (Phase.DownReads r) = read_phase c r
+phase_keeps c (Phase.UpReads u) = end_phase c u
+phase_keeps c (Phase.Callbacks b) = callback_phase c b
+phase_keeps c (Phase.Writes x) = write_phase c x
+phase_keeps c (Phase.Freezes x) = freeze_phase c x
+phase_keeps c (Phase.Thaws x) = thaw_phase c x
+phase_keeps c (Phase.Trees x) = tree_phase_keeps c x
+phase_keeps c (Phase.Closes x) = close_phase c x
+
+pub op_keeps : (c : Config) (op : Op) → OpKeeps c op
+op_keeps c (Op.Want m p wait) = want_op c m p wait
+op_keeps c (Op.DropMount m p) = drop_op c m p
+op_keeps c (Op.ChangeMount m read_only wait) = change_op c m read_only wait
+op_keeps c (Op.RemountSb read_only) = remount_op c read_only
+op_keeps c (Op.Start i p wait) = start_op c i p wait
+op_keeps c (Op.End i p) = end_op c i p
+op_keeps c (Op.WantWrite m p) = want_write_op c m p
+op_keeps c (Op.DropWrite m p) = drop_write_op c m p
+op_keeps c (Op.Callback i) = callback_op c i
+op_keeps c (Op.Freeze holder) = freeze_op c holder
+op_keeps c (Op.Thaw holder) = thaw_op c holder
+op_keeps c (Op.Create d kind) = create_keeps c d kind
+op_keeps c (Op.Remove file) = remove_keeps c file
+op_keeps c (Op.Grow file blocks) = grow_keeps c file blocks
+op_keeps c (Op.MoveTo file d) = move_keeps c file d
+op_keeps c (Op.Fault file) = fault_keeps c file
+op_keeps c (Op.Flush file) = flush_keeps c file
+op_keeps c (Op.Snapshot wait) = snapshot_keeps c wait
+op_keeps c (Op.Open file) = open_keeps c file
+op_keeps c (Op.Close file cpu wait) = close_op c file cpu wait
+
+-- and of each phase, where its way is free
+pub phase_ends : (c : Config) (phase : Phase) → PhaseEnds c phase
+phase_ends c (Phase.Mounts (MountPhase.Want x)) = want_ends c x
+phase_ends c (Phase.Mounts (MountPhase.Drop m p)) = drop_ends c m p
+phase_ends c (Phase.Mounts (MountPhase.Change x)) = change_ends c x
+phase_ends c (Phase.Remounts x) = remount_ends c x
+phase_ends c (Phase.DownReads r) = read_ends c r
+phase_ends c (Phase.UpReads u) = end_ends c u
+phase_ends c (Phase.Callbacks b) = callback_ends c b
+phase_ends c (Phase.Writes x) = write_ends c x
+phase_ends c (Phase.Freezes x) = freeze_ends c x
+phase_ends c (Phase.Thaws x) = thaw_ends c x
+phase_ends c (Phase.Trees x) = tree_ends c x
+phase_ends c (Phase.Closes x) = close_ends c x

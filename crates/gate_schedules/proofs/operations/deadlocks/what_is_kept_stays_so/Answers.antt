@@ -1,0 +1,5 @@
+use Rattle.gate_schedules.proofs.operations.KeptStays.{kept_stays}
+use Rattle.gate_schedules.proofs.operations.deadlocks.what_is_kept_stays_so.Goals as goal
+
+pub returns : goal.returns
+returns start = kept_stays

@@ -1,0 +1,101 @@
+-- What the theorem says of a phase by its steps is what its role with the stage says: whether it closes a level, which stage it stored last in
+-- a freeze, and whether it owns `umount`.
+use Rattle.std.proofs.Common.{◌≡◌, ℕ, refl, sym, ap, ◌∙◌, Bool, nat_lt, arith}
+use Rattle.std.specs.Prelude.{Option, Some, None, ◌==◌, ◌&&◌, ◌+◌, if◌then◌else◌}
+use Rattle.finite_sums.specs.Sums.{total}
+use Rattle.gated_tree.specs.declared.{phases.TreePhase.TreePhase, snapshots.SnapshotStep.SnapshotStep}
+use Rattle.mount_counts.specs.declared.remounts.RemountStep.{RemountStep}
+use Rattle.percpu_rwsem.specs.declared.writers.{DownWriteStep.DownWriteStep, UpWriteStep.UpWriteStep}
+use Rattle.freeze_levels.specs.declared.{freezes.FreezeStep.FreezeStep, thaws.ThawStep.ThawStep}
+use Rattle.freeze_laws.specs.stages.{Roles.{Freezing, StageRole, freezes, sums, owns as stage_owns}, Shown.{is_passed as passed_at_level, passed_shown}}
+use Rattle.gate_world.specs.Roles.{freeze_owns, freeze_stage_role, place_of, remount_stage_role, reopening_role, snapshot_owns, snapshot_stage_role}
+use Rattle.gate_world.specs.{Roles.{thaw_owns, thaw_stage_role}, Rules.{stage_role_of, stage_roles}, Shown.{closing, freeze_closing, is_passed, is_summing, shown}}
+use Rattle.gate_world.specs.{Headline.{freezing_at, stage_stored}, Worlds.World, declared.{config.Config.Config, work.Phase.Phase}}
+
+reopening_owner : (level : ℕ) (s : UpWriteStep) → stage_owns (reopening_role level s) ≡ 1
+reopening_owner level UpWriteStep.ClearsBlock = refl
+reopening_owner level (UpWriteStep.Exits transition) = refl
+
+-- a freeze, a thaw and a snapshot own `umount` exactly where their roles with the stage say so
+pub freeze_owner : (nodes : ℕ) (s : FreezeStep) → stage_owns (freeze_stage_role nodes s) ≡ freeze_owns s
+freeze_owner nodes (FreezeStep.Reopens u code) = reopening_owner u.level u.step
+freeze_owner nodes s = refl
+
+pub thaw_owner : (s : ThawStep) → stage_owns (thaw_stage_role s) ≡ thaw_owns s
+thaw_owner (ThawStep.Reopens u) = reopening_owner u.level u.step
+thaw_owner s = refl
+
+pub snapshot_owner : (s : SnapshotStep) → stage_owns (snapshot_stage_role s) ≡ snapshot_owns s
+snapshot_owner SnapshotStep.Locks = refl
+snapshot_owner s = refl
+
+-- none of these is in a freeze
+reopening_apart : (level : ℕ) (s : UpWriteStep) → freezes (reopening_role level s) ≡ 0
+reopening_apart level UpWriteStep.ClearsBlock = refl
+reopening_apart level (UpWriteStep.Exits transition) = refl
+
+remount_apart : (nodes : ℕ) (s : RemountStep) → freezes (remount_stage_role nodes s) ≡ 0
+remount_apart nodes RemountStep.Locks = refl
+remount_apart nodes s = refl
+
+thaw_apart : (s : ThawStep) → freezes (thaw_stage_role s) ≡ 0
+thaw_apart (ThawStep.Reopens u) = reopening_apart u.level u.step
+thaw_apart s = refl
+
+snapshot_apart : (s : SnapshotStep) → freezes (snapshot_stage_role s) ≡ 0
+snapshot_apart SnapshotStep.Locks = refl
+snapshot_apart s = refl
+
+-- so none closes a level
+apart_sums : (i : ℕ) (r : StageRole) → freezes r ≡ 0 → 0 ≡ sums i r
+apart_sums i (Freezing stage place owner) none = absurd (omega (arith, none))
+apart_sums i r none = refl
+
+-- and who closes one does so by its role with the stage
+summing_is : (i level : ℕ) (s : DownWriteStep) (owner : Bool) → is_summing i level s ≡ sums i (Freezing level (place_of s) owner)
+summing_is i level (DownWriteStep.Sums sum) owner = refl
+summing_is i level s owner = refl
+
+freeze_closing_is : (i nodes : ℕ) (s : FreezeStep) → freeze_closing i s ≡ sums i (freeze_stage_role nodes s)
+freeze_closing_is i nodes (FreezeStep.Closes d) = summing_is i d.level d.step (nat_lt 1 d.level)
+freeze_closing_is i nodes (FreezeStep.Reopens u code) = apart_sums i (reopening_role u.level u.step) (reopening_apart u.level u.step)
+freeze_closing_is i nodes s = refl
+
+pub closing_is : (i : ℕ) (p : Option Phase) → closing i p ≡ sums i (stage_role_of p)
+closing_is i (Some (Phase.Remounts x)) = apart_sums i (remount_stage_role x.nodes x.step) (remount_apart x.nodes x.step)
+closing_is i (Some (Phase.Freezes x)) = freeze_closing_is i x.nodes x.step
+closing_is i (Some (Phase.Thaws x)) = apart_sums i (thaw_stage_role x.step) (thaw_apart x.step)
+closing_is i (Some (Phase.Trees (TreePhase.Snapshot x))) = apart_sums i (snapshot_stage_role x.step) (snapshot_apart x.step)
+closing_is i p = refl
+
+-- so who has the same role closes the same
+pub closing_as : (p q : Option Phase) → stage_role_of q ≡ stage_role_of p → (i : ℕ) → closing i q ≡ closing i p
+closing_as p q same i = closing_is i q ∙ ap (sums i) same ∙ sym (closing_is i p)
+
+-- and the shown number of levels passed is that of the roles
+pub shown_passed : (c : Config) (w : World) → (shown c w).passed ≡ passed_shown c.tasks w.words.block (stage_roles w)
+shown_passed c w =
+    let each : (i : ℕ) → is_passed c w i ≡ passed_at_level c.tasks w.words.block (stage_roles w) i =
+    λ i j. if w.words.block i == 1 && total c.tasks (λ t. closing_is i (w.views t).phase j) == 0 then 1 else 0 in
+    λ j. each 1 j + (each 2 j + each 3 j)
+
+-- the stage that a freeze of this role stored last
+abbrev pub stage_of : StageRole → Option ℕ
+stage_of (Freezing stage place owner) = Some stage
+stage_of r = None
+
+pub apart_stage : (r : StageRole) → freezes r ≡ 0 → stage_of r ≡ None
+apart_stage (Freezing stage place owner) none = absurd (omega (arith, none))
+apart_stage r none = refl
+
+freeze_stored : (nodes : ℕ) (s : FreezeStep) → stage_stored s ≡ stage_of (freeze_stage_role nodes s)
+freeze_stored nodes (FreezeStep.Reopens u code) = sym (apart_stage (reopening_role u.level u.step) (reopening_apart u.level u.step))
+freeze_stored nodes s = refl
+
+-- is the one that it stored last by its phase
+pub freezing_is : (p : Option Phase) → freezing_at p ≡ stage_of (stage_role_of p)
+freezing_is (Some (Phase.Remounts x)) = sym (apart_stage (remount_stage_role x.nodes x.step) (remount_apart x.nodes x.step))
+freezing_is (Some (Phase.Freezes x)) = freeze_stored x.nodes x.step
+freezing_is (Some (Phase.Thaws x)) = sym (apart_stage (thaw_stage_role x.step) (thaw_apart x.step))
+freezing_is (Some (Phase.Trees (TreePhase.Snapshot x))) = sym (apart_stage (snapshot_stage_role x.step) (snapshot_apart x.step))
+freezing_is p = refl

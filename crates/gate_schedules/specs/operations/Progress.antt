@@ -1,0 +1,205 @@
+-- Progress: from each world in which an operation is under way a reply is near, or each task under way stands before a level that is kept
+-- closed, or kept from being passed, by what no task under way can change.
+use Rattle.std.specs.Prelude.{◌≡◌, ℕ, zero, suc, ◌<◌, ◌≤◌, ◌⊎◌, ◌==◌, ◌&&◌, if◌then◌else◌, Bool, true, false, Option, Some, None, Ok, List}
+use Rattle.cpu_words.specs.{Hooks.HookAnswer, Words.Words}
+use Rattle.node_words.specs.Nodes.{removed_in, opens_in}
+use Rattle.gated_tree.specs.declared.phases.TreePhase.{TreePhase}
+use Rattle.gated_tree.specs.declared.phases.TreePhase.TheVariants.{Snapshot as Snapshots}
+use Rattle.gated_tree.specs.declared.snapshots.SnapshotStep.{SnapshotStep, TheVariants.Locks as SnapshotLocks}
+use Rattle.mount_counts.specs.declared.phases.ChangeStep.{ChangeStep, TheVariants.Locks as ChangeLocks}
+use Rattle.mount_counts.specs.declared.phases.MountPhase.{MountPhase, TheVariants.{Change as Changes}}
+use Rattle.mount_counts.specs.declared.remounts.RemountStep.{RemountStep, TheVariants.Locks as RemountLocks}
+use Rattle.percpu_rwsem.specs.declared.readers.{DownRead.DownRead, DownReadStep.{DownReadStep, TheVariants.{CountsUpFast, LeavesAdmitted}}}
+use Rattle.freeze_levels.specs.declared.freezes.{Freeze.Freeze, FreezeStep.{FreezeStep, TheVariants.{Locks as FreezeLocks, LoadsStage, LoadsHolders, Holds}}}
+use Rattle.freeze_levels.specs.declared.freezes.FreezeStep.TheVariants.{LoadsSuperblock, CompletesReadOnly, SetsWrite, Unlocks, Closes, LocksAgain}
+use Rattle.freeze_levels.specs.declared.freezes.FreezeStep.TheVariants.{SetsPageFault, Cleans, SetsFs, SetsComplete, Reopens, Releases}
+use Rattle.freeze_levels.specs.declared.thaws.ThawStep.{ThawStep, TheVariants.Locks as ThawLocks}
+use Rattle.compounds.specs.declared.write_access.phases.WritePhase.{WritePhase, TheVariants.Takes}
+use Rattle.compounds.specs.declared.file_closes.phases.ClosePhase.{ClosePhase, TheVariants.{LoadsFile, Enters as EntersLevel}}
+use Rattle.gate_world.specs.{Headline.world_after, Levels.is_frozen_whole, Rules.{IsGood, Moves, owns}, Shown.shown, Views.holds_level, Work.hook_of}
+use Rattle.gate_world.specs.{Worlds.{World, Entry, Steps, happens, after_step, phase_action}, declared.{config.Config.Config, work.Phase.Phase}}
+use Rattle.gate_world.specs.declared.work.Phase.TheVariants.{Mounts, Remounts, DownReads, Writes, Freezes, Thaws, Trees}
+use Rattle.gate_world.specs.declared.work.Phase.TheVariants.{Closes as FileCloses}
+
+-- a task has an operation under way
+abbrev pub IsUnderWay : World → ℕ → Type 0
+IsUnderWay w t = (phase : Phase) × ((w.views t).phase ≡ Some phase)
+
+-- the operation of a task has its reply
+abbrev pub HasReply : World → ℕ → Type 0
+HasReply w t = (w.views t).phase ≡ None
+
+-- A reply is at most so many events away. Which of the tasks under way does the next event is chosen; what a hook answers to it is not.
+abbrev pub ReplyWithin : Config → ℕ → World → Type 0
+ReplyWithin c zero w = ⊥
+ReplyWithin c (suc n) w =
+    (t : ℕ) × (t < c.tasks) × IsUnderWay w t ×
+    ((hook : HookAnswer) → HasReply (happens c w (Steps t hook)) t ⊎ ReplyWithin c n (happens c w (Steps t hook)))
+
+-- an idle task holds this level
+abbrev pub IsHeldIdle : Config → World → ℕ → Type 0
+IsHeldIdle c w i = (z : ℕ) × (z < c.tasks) × ((w.views z).phase ≡ None) × (holds_level (w.views z) i ≡ true)
+
+-- the lowest level that a freeze has to pass yet: 4 where there is none, as where it will find the stage other than 0, or the superblock
+-- read-only
+abbrev pub next_level : Words → FreezeStep → ℕ
+next_level w FreezeLocks = if w.stage == 0 && w.sb == 0 then 1 else 4
+next_level w LoadsStage = if w.stage == 0 && w.sb == 0 then 1 else 4
+next_level w LoadsHolders = 4
+next_level w (Holds beside) = 4
+next_level w LoadsSuperblock = if w.sb == 0 then 1 else 4
+next_level w CompletesReadOnly = 4
+next_level w SetsWrite = 1
+next_level w Unlocks = 1
+next_level w (Closes d) = d.level
+next_level w LocksAgain = 2
+next_level w SetsPageFault = 2
+next_level w (Cleans marks) = 3
+next_level w SetsFs = 3
+next_level w SetsComplete = 4
+next_level w (Reopens u code) = 4
+next_level w (Releases answer) = 4
+
+-- an idle task holds a level that this freeze has to pass yet
+abbrev pub IsKept : Config → World → FreezeStep → Type 0
+IsKept c w step = (i : ℕ) × (next_level w.words step ≤ i) × (i ≤ 3) × IsHeldIdle c w i
+
+-- what a task is at is a freeze that is so kept, and has level 1 behind it, from where on it owns `umount` to its end
+abbrev pub KeptIfFreeze : Config → World → Option Phase → Type 0
+KeptIfFreeze c w (Some (Freezes x)) = (2 ≤ next_level w.words x.step) × IsKept c w x.step
+KeptIfFreeze c w phase = ⊥
+
+-- such a freeze owns `umount`
+abbrev pub LockIsKept : Config → World → Type 0
+LockIsKept c w = (y : ℕ) × (y < c.tasks) × (owns (w.views y).phase ≡ 1) × KeptIfFreeze c w (w.views y).phase
+
+-- a start has found its level's readers fast, or is granted, so that it waits no more
+abbrev pub is_admitted : DownReadStep → Bool
+is_admitted CountsUpFast = true
+is_admitted LeavesAdmitted = true
+is_admitted step = false
+
+-- a start that waits stands before a closed level
+abbrev pub StartIsKept : World → DownRead → Type 0
+StartIsKept w r = (r.wait ≡ true) × (is_admitted r.step ≡ false) × (w.words.block r.level ≡ 1)
+
+-- a change that waits stands before its lock
+abbrev pub ChangeIsKept : Config → World → ChangeStep → Bool → Type 0
+ChangeIsKept c w ChangeLocks wait = (wait ≡ true) × LockIsKept c w
+ChangeIsKept c w step wait = ⊥
+
+abbrev pub MountIsKept : Config → World → MountPhase → Type 0
+MountIsKept c w (Changes x) = ChangeIsKept c w x.step x.wait
+MountIsKept c w phase = ⊥
+
+abbrev pub RemountIsKept : Config → World → RemountStep → Type 0
+RemountIsKept c w RemountLocks = LockIsKept c w
+RemountIsKept c w step = ⊥
+
+abbrev pub ThawIsKept : Config → World → ThawStep → Type 0
+ThawIsKept c w ThawLocks = LockIsKept c w
+ThawIsKept c w step = ⊥
+
+abbrev pub SnapshotIsKept : Config → World → SnapshotStep → Bool → Type 0
+SnapshotIsKept c w SnapshotLocks wait = (wait ≡ true) × LockIsKept c w
+SnapshotIsKept c w step wait = ⊥
+
+abbrev pub TreeIsKept : Config → World → TreePhase → Type 0
+TreeIsKept c w (Snapshots x) = SnapshotIsKept c w x.step x.wait
+TreeIsKept c w phase = ⊥
+
+abbrev pub WriteIsKept : World → WritePhase → Type 0
+WriteIsKept w (Takes m r) = StartIsKept w r
+WriteIsKept w x = ⊥
+
+-- a close of a file with this word is the last one of a removed file
+abbrev pub is_last_close : ℕ → Bool
+is_last_close word = removed_in word == 1 && opens_in word == 1
+
+-- a last close goes inside level 3 as a start does; one that waits, and is to find that it is the last, stands before it
+abbrev pub CloseIsKept : World → ClosePhase → Type 0
+CloseIsKept w (LoadsFile x) = (x.wait ≡ true) × (is_last_close (w.words.node x.file) ≡ true) × (w.words.block 3 ≡ 1)
+CloseIsKept w (EntersLevel f node r) = StartIsKept w r
+CloseIsKept w x = ⊥
+
+-- a freeze is at its first lock
+abbrev pub is_first_lock : FreezeStep → Bool
+is_first_lock FreezeLocks = true
+is_first_lock step = false
+
+-- what a task is at is one
+abbrev pub begins_freeze : Option Phase → Bool
+begins_freeze (Some (Freezes x)) = is_first_lock x.step
+begins_freeze phase = false
+
+-- there are no two
+abbrev pub OneFreezeBegins : Config → World → Type 0
+OneFreezeBegins c w = (y z : ℕ) → y < c.tasks → z < c.tasks → begins_freeze (w.views y).phase ≡ true →
+    begins_freeze (w.views z).phase ≡ true → y ≡ z
+
+-- A freeze at its first lock waits for one that is kept and has it; or it is free, and the freeze, which would be kept itself, is the only one
+-- there: of two the second finds that the stage isn't 0, and is busy.
+abbrev pub FreezeIsKept : Config → World → FreezeStep → Type 0
+FreezeIsKept c w FreezeLocks = LockIsKept c w ⊎ ((w.words.umount ≡ 0) × OneFreezeBegins c w × IsKept c w FreezeLocks)
+FreezeIsKept c w step = IsKept c w step
+
+-- An operation is kept: a start or a last close that waits, by its closed level; a freeze, by an idle task that holds a level which it has to pass yet;
+-- and whoever waits for `umount`, by a freeze that owns it and is kept so. No other operation is.
+abbrev pub IsKeptAt : Config → World → Phase → Type 0
+IsKeptAt c w (Mounts phase) = MountIsKept c w phase
+IsKeptAt c w (Remounts x) = RemountIsKept c w x.step
+IsKeptAt c w (DownReads r) = StartIsKept w r
+IsKeptAt c w (Writes x) = WriteIsKept w x
+IsKeptAt c w (Freezes x) = FreezeIsKept c w x.step
+IsKeptAt c w (Thaws x) = ThawIsKept c w x.step
+IsKeptAt c w (Trees phase) = TreeIsKept c w phase
+IsKeptAt c w (FileCloses phase) = CloseIsKept w phase
+IsKeptAt c w phase = ⊥
+
+-- each operation under way is kept
+abbrev pub AllAreKept : Config → World → Type 0
+AllAreKept c w = (t : ℕ) → t < c.tasks → (phase : Phase) → (w.views t).phase ≡ Some phase → IsKeptAt c w phase
+
+-- A reply is near, or each operation under way is kept.
+abbrev pub Progresses : Config → ℕ → World → Type 0
+Progresses c n w = ReplyWithin c n w ⊎ AllAreKept c w
+
+-- the hook that the next event of a phase asks, if it asks one, agrees
+abbrev pub IsAgreed : Phase → HookAnswer → Type 0
+IsAgreed phase hook = (hook_of phase ≡ None) ⊎ (hook ≡ Ok tt)
+
+-- The converse: where each operation under way is kept, no event of one of them is a reply, and all stay kept. So they are until an idle
+-- task gives its level back, another operation begins, or a hook fails.
+abbrev pub KeptStays : Config → World → Type 0
+KeptStays c w = AllAreKept c w → (t : ℕ) → t < c.tasks → (phase : Phase) → (w.views t).phase ≡ Some phase → (hook : HookAnswer) →
+    IsAgreed phase hook → (HasReply (happens c w (Steps t hook)) t → ⊥) × AllAreKept c (happens c w (Steps t hook))
+
+-- a freeze is under way, and an idle task holds a level that it has to pass yet
+abbrev pub AFreezeIsKept : Config → World → Type 0
+AFreezeIsKept c w = (y : ℕ) × (y < c.tasks) × (x : Freeze) × ((w.views y).phase ≡ Some (Freezes x)) × IsKept c w x.step
+
+-- The same in fewer words: with an operation under way, a reply is near, or the file system is frozen as a whole, or a freeze is kept by an
+-- idle task.
+abbrev pub ReplyOrFrozen : Config → ℕ → World → Type 0
+ReplyOrFrozen c n w = (t : ℕ) → t < c.tasks → IsUnderWay w t →
+    ReplyWithin c n w ⊎ ((is_frozen_whole w.words ≡ 1) ⊎ AFreezeIsKept c w)
+
+-- the premise of the theorem, which holds of each schedule: an event of a task under way keeps the rule
+abbrev pub EventsKeepRule : Config → Type 0
+EventsKeepRule c = (w : World) → IsGood c w → (t : ℕ) → t < c.tasks → (hook : HookAnswer) → (phase : Phase) →
+    (w.views t).phase ≡ Some phase → IsGood c (after_step w t phase hook)
+
+-- that of its converse: it moves the shown model by its action
+abbrev pub EventsMoveModel : Config → Type 0
+EventsMoveModel c = (w : World) → IsGood c w → (t : ℕ) → t < c.tasks → (hook : HookAnswer) → (phase : Phase) →
+    (w.views t).phase ≡ Some phase → Moves c (shown c w) t (phase_action w hook (Some phase)) (shown c (after_step w t phase hook))
+
+-- the three of a schedule
+abbrev pub NobodyIsDeadlocked : Config → ℕ → List Entry → Type 0
+NobodyIsDeadlocked c n entries = Progresses c n (world_after c entries)
+
+abbrev pub RepliesOrIsFrozen : Config → ℕ → List Entry → Type 0
+RepliesOrIsFrozen c n entries = ReplyOrFrozen c n (world_after c entries)
+
+abbrev pub KeptStaysKept : Config → List Entry → Type 0
+KeptStaysKept c entries = KeptStays c (world_after c entries)

@@ -1,5 +1,0 @@
-use Rattle.level_laws.proofs.Whole.{opening_is_right, events_keep, enters_alone, writers_find}
-use Rattle.level_laws.proofs.events_keep_the_level.Goals as goal
-
-pub returns : goal.returns
-returns c = record { opens = opening_is_right; keeps = events_keep; alone = enters_alone; finds = writers_find }

@@ -1,5 +1,0 @@
-use Rattle.level_laws.proofs.{GraceLaws.graces_are_whole, SlowLaws.stays_slow, Whole.fast_finds_open}
-use Rattle.level_laws.proofs.nobody_is_fast_after_a_grace_period.Goals as goal
-
-pub returns : goal.returns
-returns c = record { finds_open = fast_finds_open; slow = stays_slow; whole = graces_are_whole }

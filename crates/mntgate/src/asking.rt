@@ -1,0 +1,217 @@
+//! From the words of a command line to how the program ends.
+
+ghost use Rattle.std.specs.Prelude.{◌≡◌, ◌⊎◌, ℕ, List, true, None, Some, IfOk, Ok, map, string_bytes};
+ghost use Rattle.std.specs.Borrow.{Bor};
+ghost use Rattle.command_line.specs.CommandLine.{IsPlain, MayAskPlainly, ask_plainly};
+ghost use Rattle.command_line.specs.declared.words.Asked.TheVariants.{Outcomes as AsksOutcomes, Replay as AsksReplay, Unread};
+ghost use Rattle.command_line.specs.declared.words.Outcomes.{Outcomes as OutcomesAsked};
+ghost use Rattle.command_line.specs.declared.words.Replay.{Replay as ReplayAsked};
+ghost use Rattle.asked_files.specs.declared.endings.ends.Ending.TheVariants.{Done, Passed, Ran, Refused};
+ghost use Rattle.mntgate.specs.Asking.{MayEnd, EndsChecked, EndsReplayed, EndsReplayedFile, IsRefusedUnread, TellsSomePassed, done_in, done_of};
+ghost use Rattle.asked_files.specs.Outcomes.{EndsTold};
+ghost use Rattle.transcripts.specs.Replayed.{Replayed};
+
+use crate::runs;
+use crate::runs::{AskedRun, Progress};
+use asked_files::endings::{Ending, text_told, unopened};
+use asked_files::{Telling, replay_told, run_checks, run_outcomes, show_told};
+use command_line::{Asked, Form, Replay, read_words};
+use driven_gates::GatesDriver;
+use replays::Core;
+use std::alloc::{AllocError, Global};
+use std::fs;
+use std::io::{Read, Stderr, Write};
+use std::rt::{Clock, Files};
+use std::sync::Wait;
+use std::thread::Threads;
+
+/// What a person is told who is to type a schedule.
+const AWAITED: &str =
+    "mntgate: type a schedule, from 'config TASKS CPUS MOUNTS NODES CAPACITY' on; Ctrl-D ends it";
+
+/// Where a person is.
+#[derive(Drop)]
+pub struct Person {
+    /// Standard error, where it is a terminal.
+    pub watches: Option<Stderr>,
+    /// Whether standard input is one.
+    pub types: bool,
+}
+
+/// Does what the words of a command line ask for; faults are told on a writer of their own, and where they can't be, the
+/// program ends the same. Where a person watches, a run tells there how far it is, and a fault of a schedule is explained.
+pub fn run<
+    R: Threads + Wait + Clock + Sync + Files + Alloc<A = Global>,
+    I: Read,
+    W: Write,
+    E: Write,
+>(
+    rt: &R,
+    alloc: Global,
+    words: &[String],
+    reader: &mut I,
+    writer: &mut W,
+    errors: &mut E,
+    person: Person,
+) -> Result<Ending, AllocError>
+    ensures plain { ask_plainly (map string_bytes words.now) ≡ true → IfOk result (λ ending. EndsReplayed
+        (I.remaining reader.old) (I.remaining reader.new) (W.contents writer.old) (W.contents writer.new) ending
+        ⊎ IsRefusedUnread (I.remaining reader.old) (I.remaining reader.new) (W.contents writer.old) (W.contents writer.new) ending) }
+    ensures only { IfOk result (λ ending. ending ≡ Done → MayAskPlainly (map string_bytes words.now)) }
+    ensures done { IfOk result (λ ending. ending ≡ Done →
+        Replayed (I.remaining reader.old) (I.remaining reader.new) (W.contents writer.old) (W.contents writer.new) (Ok tt)) }
+    ensures passed { IfOk result (λ ending. ending ≡ Passed → TellsSomePassed (W.contents writer.old) (W.contents writer.new)) }
+{
+    let asked = read_words(alloc, words, errors)?;
+    let ended = do_asked(rt, alloc, &asked, reader, writer, errors, person);
+    // By a call: to drop all its parts in line costs the proof more.
+    drop(asked);
+    ended
+}
+
+/// Does what is asked for.
+fn do_asked<
+    R: Threads + Wait + Clock + Sync + Files + Alloc<A = Global>,
+    I: Read,
+    W: Write,
+    E: Write,
+>(
+    rt: &R,
+    alloc: Global,
+    asked: &Asked<'_>,
+    reader: &mut I,
+    writer: &mut W,
+    errors: &mut E,
+    person: Person,
+) -> Result<Ending, AllocError>
+    ensures ends { IfOk result (MayEnd asked.now) }
+    ensures unread { asked.now ≡ Unread → IfOk result (IsRefusedUnread
+        (I.remaining reader.old) (I.remaining reader.new) (W.contents writer.old) (W.contents writer.new)) }
+    ensures plain { (r : ReplayAsked) → asked.now ≡ AsksReplay r → IsPlain r → r.file ≡ None → IfOk result (EndsReplayed
+        (I.remaining reader.old) (I.remaining reader.new) (W.contents writer.old) (W.contents writer.new)) }
+    ensures of_file { (r : ReplayAsked) (file : Bor (List ℕ)) → asked.now ≡ AsksReplay r → IsPlain r → r.file ≡ Some file →
+        IfOk result (λ ending. EndsReplayedFile (W.contents writer.old) (W.contents writer.new) ending
+        ⊎ IsRefusedUnread (I.remaining reader.old) (I.remaining reader.new) (W.contents writer.old) (W.contents writer.new) ending) }
+    ensures listed { (r : OutcomesAsked) → asked.now ≡ AsksOutcomes r → IfOk result (EndsTold r (I.remaining reader.old)
+        (W.contents writer.old) (W.contents writer.new)) }
+    ensures checked { IfOk result (EndsChecked asked.now (W.contents writer.old) (W.contents writer.new)) }
+{
+    match asked {
+        Asked::Replay(replay) => {
+            Ok(run_replay(rt, alloc, *replay, reader, writer, errors, &person))
+        }
+        Asked::Check(files) => run_checks(rt, alloc, files.as_slice(), reader, writer, errors),
+        Asked::Outcomes(asked) => run_outcomes(rt, alloc, *asked, reader, writer, errors),
+        Asked::Run(numbers, tells) => {
+            let asked = AskedRun {
+                numbers: *numbers,
+                tells: *tells,
+            };
+            Ok(run_threads(rt, alloc, asked, writer, errors, person.watches))
+        }
+        Asked::Told(text) => Ok(text_told(text.as_str(), writer, errors)),
+        Asked::Unread => Ok(Ending::Refused),
+        Asked::Misused => Ok(Ending::Misused),
+    }
+}
+
+/// Runs the threads. Where the clock can't be read, nobody is told how far they are.
+fn run_threads<R: Threads + Wait + Clock + Sync, W: Write, E: Write>(
+    rt: &R,
+    alloc: Global,
+    asked: AskedRun,
+    writer: &mut W,
+    errors: &mut E,
+    watched: Option<Stderr>,
+) -> Ending
+    ensures { (result ≡ Ran) ⊎ (result ≡ Refused) }
+{
+    let progress = match watched {
+        Some(stderr) => Progress::new(rt, asked.numbers, stderr).ok(),
+        None => None,
+    };
+    match progress {
+        Some(progress) => runs::run(rt, alloc, asked, &progress, writer, errors),
+        None => runs::run(rt, alloc, asked, &(), writer, errors),
+    }
+}
+
+/// Replays a schedule: that of a file, or that of the reader.
+fn run_replay<R: Files, I: Read, W: Write, E: Write>(
+    rt: &R,
+    alloc: Global,
+    asked: Replay<'_>,
+    reader: &mut I,
+    writer: &mut W,
+    errors: &mut E,
+    person: &Person,
+) -> Ending
+    ensures ends { (result ≡ done_of asked.entry.file (done_in asked.entry.form asked.entry.over_gates)) ⊎ (result ≡ Refused) }
+    ensures plain { IsPlain asked.entry → asked.entry.file ≡ None → EndsReplayed
+        (I.remaining reader.old) (I.remaining reader.new) (W.contents writer.old) (W.contents writer.new) result }
+    ensures of_file { (file : Bor (List ℕ)) → IsPlain asked.entry → asked.entry.file ≡ Some file →
+        EndsReplayedFile (W.contents writer.old) (W.contents writer.new) result
+        ⊎ IsRefusedUnread (I.remaining reader.old) (I.remaining reader.new) (W.contents writer.old) (W.contents writer.new) result }
+{
+    let telling = Telling {
+        file: asked.file,
+        explains: asked.explain || person.watches.is_some(),
+    };
+    match asked.file {
+        Some(file) => match fs::open(rt, file) {
+            Ok(mut opened) => {
+                replay_as(alloc, asked, telling, &mut opened, writer, errors).of_file()
+            }
+            Err(error) => unopened(file, &error, errors),
+        },
+        None => {
+            if person.types {
+                let _ = writeln!(errors, "{AWAITED}");
+            }
+            replay_as(alloc, asked, telling, reader, writer, errors)
+        }
+    }
+}
+
+/// Replays the schedule of a reader in the form that is asked for.
+fn replay_as<I: Read, W: Write, E: Write>(
+    alloc: Global,
+    asked: Replay<'_>,
+    telling: Telling<'_>,
+    reader: &mut I,
+    writer: &mut W,
+    errors: &mut E,
+) -> Ending
+    ensures ends { (result ≡ done_in asked.entry.form asked.entry.over_gates) ⊎ (result ≡ Refused) }
+    ensures plain { IsPlain asked.entry → EndsReplayed
+        (I.remaining reader.old) (I.remaining reader.new) (W.contents writer.old) (W.contents writer.new) result }
+{
+    let form = match asked.form {
+        Form::Plain if asked.over_gates => {
+            return match replay_told::<GatesDriver, I, W, E>(
+                alloc, telling, reader, writer, errors,
+            ) {
+                Ok(()) => Ending::DoneOverGates,
+                Err(_) => Ending::Refused,
+            };
+        }
+        Form::Plain => {
+            return match replay_told::<Core, I, W, E>(alloc, telling, reader, writer, errors) {
+                Ok(()) => Ending::Done,
+                Err(_) => Ending::Refused,
+            };
+        }
+        Form::Events => shown_events::Form::Events,
+        Form::Columns => shown_events::Form::Columns,
+        Form::Json => shown_events::Form::Json,
+    };
+    let ended = if asked.over_gates {
+        show_told::<GatesDriver, I, W, E>(alloc, form, telling, reader, writer, errors)
+    } else {
+        show_told::<Core, I, W, E>(alloc, form, telling, reader, writer, errors)
+    };
+    match ended {
+        Ok(()) => Ending::Shown,
+        Err(_) => Ending::Refused,
+    }
+}

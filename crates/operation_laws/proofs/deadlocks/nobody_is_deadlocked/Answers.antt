@@ -1,8 +1,0 @@
-use Rattle.operation_laws.proofs.{Layers.phase_ends, Plain.world_replies, Whole.world_goes}
-use Rattle.operation_laws.proofs.deadlocks.nobody_is_deadlocked.Goals as goal
-
-pub returns-clause-progress : goal.returns-clause-progress
-returns-clause-progress start c lim keeps = world_goes c lim keeps (phase_ends c)
-
-pub returns-clause-replies : goal.returns-clause-replies
-returns-clause-replies start = world_replies

@@ -1,5 +1,0 @@
-use Rattle.operation_laws.proofs.Wants.{want_keeps}
-use Rattle.operation_laws.proofs.want_events.each_event_of_a_want_keeps_the_rule.Goals as goal
-
-pub returns : goal.returns
-returns c = λ config lim w good t lt hook x e. want_keeps config lim w good t lt hook x.mount x.cpu x.wait x.step e

@@ -1,5 +1,0 @@
-use Rattle.stage_laws.proofs.Whole.{actions_are_allowed, actions_have_their_effect}
-use Rattle.stage_laws.proofs.each_action_is_allowed.Goals as goal
-
-pub returns : goal.returns
-returns c = record { allowed = actions_are_allowed; effects = actions_have_their_effect }

@@ -1,7 +1,0 @@
-//! Write access: freeze level 1 and a mount, one inside the other, as `mnt_want_write` takes them and `mnt_drop_write` gives them
-//! back. Each is an order of events that goes through the orders of events of its two gates.
-#![tactic(auto)]
-
-pub mod phases;
-
-pub use phases::WritePhase;
