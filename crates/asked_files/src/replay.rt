@@ -6,10 +6,10 @@ ghost use Rattle.transcripts.specs.Replayed.{Replayed};
 
 use crate::endings::{fault_told, why_told};
 use crate::explained::explanation;
+use race_texts::shown_events::{Form, Show};
 use replays::Driver;
 use replays::replay::replay_to_end;
 use schedule_text::bytes::{ReplayFault, fault_after};
-use shown_events::{Form, Show};
 use std::alloc::Global;
 use std::io::{Read, Write};
 use transcripts::no_memory;

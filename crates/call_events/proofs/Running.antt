@@ -563,10 +563,6 @@ reply_at P op old left outcome says replies None at =
     subst (λ x. IfOk x P) (sym done.1)
     (reply_told P old.config op done.2.trace (λ reply told. says reply done.2.trace told) done.0 done.2.honest)
 
-pub reply_is : (P : Reply → Type 0) (op : Op) (old left : TaskState) (outcome : Result Reply GateError) →
-    ((reply : Reply) (events : List Traced) → IsTold op reply events → P reply) → Replies the_reply op old left outcome → IfOk outcome P
-reply_is P op old left outcome says replies = reply_at P op old left outcome says replies (refusal_at op old) refl
-
 -- a callback's
 pub ran_told : (level : ℕ) (reply : Reply) (events : List Traced) → IsTold (Callback level) reply events → IsRanReply reply
 ran_told level (Ran true) events told = tt

@@ -5,4 +5,3 @@ pub mod Events
 pub mod Laws
 pub mod Numbers
 pub mod Operations
-pub mod Levels

@@ -23,7 +23,7 @@ use Rattle.freeze_laws.proofs.stages.Whole.{opening_is_right as stages_open}
 use Rattle.std.proofs.{Common.{ap, arith, false, inl, inr, refl, subst, sym, true≢false, ℕ, ◌%◌, ◌*◌, ◌<◌, ◌∙◌, ◌≡◌, ◌≤◌}, Math.Path.fun_ext}
 use Rattle.std.proofs.lemmas.Bool.{cases_Bool, ltb-true, Decides.eqb_tells}
 use Rattle.std.specs.Prelude.{List, None, Option, Some, [], is_some, nat_lt, ◌∷◌}
-use Rattle.tree_laws.proofs.Each.{opening_holds}
+use Rattle.gate_schedules.proofs.trees.Each.{opening_holds}
 
 pub idle_is : (p : Option Phase) → is_some p ≡ false → p ≡ None
 idle_is None h = refl

@@ -1,3 +1,4 @@
 pub mod Seats
 pub mod Answers
 pub mod operations
+pub mod trees

@@ -4,9 +4,11 @@
 
 pub mod laws;
 pub mod operations;
+pub mod same_phases;
 pub mod schedules;
 pub mod seats;
 pub mod steps;
+pub mod trees;
 
 pub use schedules::{every_schedule, every_schedule_keeps_the_rule};
 pub use seats::Seat;

@@ -201,9 +201,9 @@ fn replay_as<I: Read, W: Write, E: Write>(
                 Err(_) => Ending::Refused,
             };
         }
-        Form::Events => shown_events::Form::Events,
-        Form::Columns => shown_events::Form::Columns,
-        Form::Json => shown_events::Form::Json,
+        Form::Events => race_texts::shown_events::Form::Events,
+        Form::Columns => race_texts::shown_events::Form::Columns,
+        Form::Json => race_texts::shown_events::Form::Json,
     };
     let ended = if asked.over_gates {
         show_told::<GatesDriver, I, W, E>(alloc, form, telling, reader, writer, errors)

@@ -46,40 +46,9 @@ lesser_cleared word cleared e = record {
   size = omega arith;
 }
 
--- and has no more bits outside the fields
-lesser_packed : (word cleared : ℕ) → cleared + 4 * (word / 4 % 2) ≡ word → IsPacked word → IsPacked cleared
-lesser_packed word cleared e h = record {
-  kind = omega (arith, e, h.kind);
-  low = omega (arith, e, h.low);
-  gap = omega (arith, e, h.gap);
-  high = omega (arith, e, h.high);
-  size = omega (arith, e, h.size);
-  free = λ z.
-      let none : word ≡ 0 = h.free (omega (arith, e, z)) in
-      omega (arith, e, none);
-  few = omega (arith, (lesser_cleared word cleared e).opens, h.few);
-  closed = λ dir. (lesser_cleared word cleared e).opens ∙ h.closed (sym (lesser_cleared word cleared e).kind ∙ dir);
-  marked = λ mark.
-      let c = lesser_cleared word cleared e in
-      let m = h.marked (sym c.removed ∙ mark) in
-      (c.kind ∙ m.0, c.dirty, omega (arith, c.opens, m.2));
-}
-
 -- the cleared word of a node is cleared
 pub clears_mark : (word : ℕ) → IsPacked word → IsCleared word (without_mark word)
 clears_mark word h = lesser_cleared word (without_mark word) (mark_taken word (packed_below word h))
-
--- the cleared word of a node is a node's
-pub cleared_node : (word : ℕ) → IsNode word → IsNode (without_mark word)
-cleared_node word h =
-    let below : word < 18446744073709551616 = packed_below word h.packed in
-    let c : IsCleared word (without_mark word) = clears_mark word h.packed in
-    record {
-      packed = lesser_packed word (without_mark word) (mark_taken word below) h.packed;
-      plain = λ dir.
-          let none : dirty_in word + size_in word ≡ 0 = h.plain (sym c.kind ∙ dir) in
-          omega (arith, none, c.dirty, c.size);
-    }
 
 -- where the mark is clear, the word stays
 pub clean_stays : (word : ℕ) → IsNode word → dirty_in word ≡ 0 → without_mark word ≡ word

@@ -207,6 +207,3 @@ any_narrow_unless false word file e = (as_any_file_is (node_of word) file (kind_
 
 pub file_narrow : (word : ℕ) (file : NodeWord) → file_in word ≡ Some (Ok file) → file.parent < 64
 file_narrow word file e = subst (λ node. node.parent < 64) (narrow_unless (is_stray word) word file e) (omega arith)
-
-pub any_file_narrow : (word : ℕ) (file : NodeWord) → any_file_in word ≡ Some (Ok file) → file.parent < 64
-any_file_narrow word file e = subst (λ node. node.parent < 64) (any_narrow_unless (is_stray word) word file e) (omega arith)

@@ -3,7 +3,6 @@ pub use Rattle.vfs_gates.specs.Runs
 pub use Rattle.vfs_gates.specs.Seating
 pub use Rattle.vfs_gates.specs.Splitting
 pub use Rattle.vfs_gates.specs.TaskStates
-pub use Rattle.vfs_gates.specs.declared.gates.Gates
 pub mod Meetings
 pub mod Counts
 pub mod Rounds

@@ -16,7 +16,7 @@ use Rattle.run_threads.specs.declared.threads.Met.TheVariants.{Remounter, Writer
 use Rattle.run_threads.specs.Homes.{ComesHome, DoesRounds, Part}
 use Rattle.run_threads.specs.Parts.{Among, Remounted, Wrote, AllWrote}
 use Rattle.run_threads.proofs.Staying.{TookBack, all_wrote_before, all_wrote_on, remounted_on, remounter_part, writer_part}
-use Rattle.run_parts.specs.declared.gates.Gates.{Gates}
+use Rattle.run_parts.specs.declared.Gates.{Gates}
 use Rattle.run_parts.specs.Splitting.{HasBegun}
 use Rattle.run_parts.specs.TaskStates.{TaskState}
 

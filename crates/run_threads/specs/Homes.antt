@@ -9,7 +9,7 @@ use Rattle.run_parts.specs.Rounds.{RemountRound, Repeats, WriterRound}
 use Rattle.run_threads.specs.declared.threads.Met.{Met}
 use Rattle.run_threads.specs.declared.threads.Met.TheVariants.{Remounter, Writer}
 use Rattle.run_threads.specs.Parts.{Remounted, Wrote}
-use Rattle.run_parts.specs.declared.gates.Gates.{Gates}
+use Rattle.run_parts.specs.declared.Gates.{Gates}
 use Rattle.run_parts.specs.Splitting.{HasBegun}
 use Rattle.run_parts.specs.TaskStates.{IsFrom, TaskState}
 

@@ -4,7 +4,7 @@ ghost use Rattle.std.specs.Prelude.{◌≡◌, ◌++◌, IfOk, IfErr, Some, None
 ghost use Rattle.access_model.specs.declared.errors.GateError.TheVariants.{Order};
 
 use crate::gates::Gates;
-use crate::numbers::{add_all, lowest, none};
+use crate::numbers::{lowest, none};
 use crate::rooms::Rooms;
 use crate::task::Task;
 use access_model::GateError;
@@ -72,19 +72,7 @@ impl Task {
         if !self.rests() || !other.rests() {
             return Err((GateError::Order, other));
         }
-        let Task {
-            number,
-            config: _,
-            begins: _,
-            kept: _,
-            spare,
-            rooms: _,
-            waited: _,
-            seat,
-        } = other;
-        gates.words.take_back(&mut self.seat, seat);
-        add_all(&mut self.spare, &spare);
-        self.spare[number as usize] = true;
+        other.leave_to(self, gates);
         Ok(())
     }
 }

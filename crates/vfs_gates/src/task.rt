@@ -1,6 +1,6 @@
 //! A task: the right to do the events of one number.
 
-ghost use Rattle.std.specs.Prelude.{◌≡◌, ◌≤◌, ◌<◌, ◌↔◌, ℕ, slice_index_or, IsTrue, Some, None, OnOk, OnErr, option_map, [], false, length};
+ghost use Rattle.std.specs.Prelude.{◌≡◌, ◌≤◌, ◌<◌, ◌↔◌, ◌++◌, ℕ, slice_index_or, IsTrue, Some, None, OnOk, OnErr, option_map, [], false, length};
 ghost use Rattle.gate_world.specs.Configs.{IsWithin};
 ghost use Rattle.gate_world.specs.declared.operations.Op.{Op as OpType};
 ghost use Rattle.gate_world.specs.declared.work.Phase.{Phase as PhaseType};
@@ -9,7 +9,7 @@ ghost use Rattle.call_events.specs.Rules.{first_items};
 
 use crate::calls::waits;
 use crate::gates::Gates;
-use crate::numbers::{Numbers, are_all, others_of};
+use crate::numbers::{Numbers, add_all, are_all, others_of};
 use crate::rooms::Rooms;
 use access_model::GateError;
 use call_events::{Kept, Progress, Seat, Step, Turn, do_event};
@@ -43,7 +43,6 @@ use std::marker::Model;
 /// file.fetch_add(1, Ordering::SeqCst);
 /// task.drop_mount(gates, MOUNT, CPU)
 /// ```
-#[derive(Drop)]
 pub struct Task {
     pub(crate) number: u8,
     pub(crate) config: Config,
@@ -72,6 +71,22 @@ impl Model for Task {
     ghost invariant = { λ t. Ties t.number t.config t.begins t.kept t.spare t.seat.me.0 × (t.seat.me.1 ≡ [])
         × RoomTells t.config.nodes t.rooms t.begins t.kept.phase t.seat.me.0
         × WaitsTell t.config (own_number t.seat.me.0) (own_view t.seat.me.0) t.waited };
+}
+
+/// Written out, so that a crate which lets a task go proves one call of this, and not anew what becomes of each part.
+impl Drop for Task {
+    fn drop(self) {
+        let Task {
+            number: _,
+            config: _,
+            begins: _,
+            kept: _,
+            spare: _,
+            rooms: _,
+            waited: _,
+            seat: _,
+        } = self;
+    }
 }
 
 impl Task {
@@ -245,6 +260,28 @@ impl Task {
         ensures { IsTrue result ↔ HasAll self.now }
     {
         self.rests() && are_all(&self.spare, self.number, self.config.tasks)
+    }
+
+    /// Gives its numbers to another task, which may give them again. Both rest.
+    pub(crate) fn leave_to(self, task: &mut Task, gates: &Gates)
+        requires this { IsFrom self gates.now }
+        requires that { IsFrom task.old gates.now }
+        requires rest { IsIdle self × HoldsNothing self }
+        ensures { task.new ≡ record task.old { items = task.old.items ++ self.items } }
+    {
+        let Task {
+            number,
+            config: _,
+            begins: _,
+            kept: _,
+            spare,
+            rooms: _,
+            waited: _,
+            seat,
+        } = self;
+        gates.words.take_back(&mut task.seat, seat);
+        add_all(&mut task.spare, &spare);
+        task.spare[number as usize] = true;
     }
 
     pub(crate) fn into_seat(self) -> Seat

@@ -23,7 +23,7 @@ use Rattle.gate_schedules.proofs.operations.CloseFits.{close_goes}
 use Rattle.std.proofs.{Common.{Bool, ap, arith, false, inl, inr, refl, subst, sym, true, true≢false, ℕ, ◌<◌, ◌∙◌, ◌≡◌}, lemmas.Bool.cases_Bool}
 use Rattle.std.proofs.lemmas.Bool.Decides.{eqb_tells}
 use Rattle.std.specs.Prelude.{Err, List, None, Ok, Option, Result, Some, ◌&&◌, ◌==◌}
-use Rattle.tree_laws.specs.{Events.HasLeave, Steps.EventKeeps}
+use Rattle.gate_schedules.specs.trees.{Events.HasLeave, Steps.EventKeeps}
 
 -- the events at the tree
 abbrev pub is_at_tree : ClosePhase → Bool

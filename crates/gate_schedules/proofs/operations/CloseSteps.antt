@@ -20,7 +20,7 @@ use Rattle.gate_schedules.proofs.operations.{CloseFits.enters_fits, ReadKeeps.{e
 use Rattle.percpu_rwsem.specs.{Readers.{at_down_read, down_read_after}, declared.readers.{DownRead.DownRead, DownReadStep.DownReadStep}}
 use Rattle.std.proofs.{Common.{Bool, ap, arith, inl, inr, refl, subst, sym, true, ℕ, ◌<◌, ◌∙◌, ◌≡◌, ◌⊎◌}, lemmas.Bool.cases_Bool}
 use Rattle.std.specs.Prelude.{Err, List, Ok, Option, Some, ◌==◌}
-use Rattle.tree_laws.proofs.Counts.{leaves}
+use Rattle.gate_schedules.proofs.trees.Counts.{leaves}
 
 -- what comes after an event at level 3 is beside what comes in its own operation
 pub beside_enters : (file p : ℕ) (node : NodeWord) (n : Next DownRead) →

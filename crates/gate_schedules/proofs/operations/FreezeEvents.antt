@@ -29,7 +29,7 @@ use Rattle.freeze_laws.specs.stages.{Events.{ClearsMark as ClearsMarkStage, clea
 use Rattle.std.proofs.{Common.{ap, arith, false, inl, inr, nat_lt, refl, subst, suc, sym, true, ℕ, ◌+◌, ◌-◌, ◌<◌, ◌∙◌, ◌≡◌}, lemmas.Bool.cases_Bool}
 use Rattle.std.proofs.lemmas.Bool.{ltb-false, ltb-true, Decides.eqb_tells}
 use Rattle.std.specs.Prelude.{Err, None, Option, Some, option_map, ◌==◌}
-use Rattle.tree_laws.specs.Events.{Clears, Event, Passes, with_node}
+use Rattle.gate_schedules.specs.trees.Events.{Clears, Event, Passes, with_node}
 
 -- how a freeze that failed stands with the levels that are still to be reopened
 fails_stands : (x : Freeze) (level code : ℕ) → Stands (Some (Phase.Freezes (at_freeze x (freeze_fails level code)))) (still_closed level)

@@ -25,7 +25,7 @@ use Rattle.freeze_laws.specs.stages.Events.{Locks as LocksStage, LocksAgain as L
 use Rattle.freeze_laws.specs.stages.{Events.{action_of as stage_action_of, playing}, Roles.{Before, HasPassed, KnowsStage, Owning, StageRole, is_full}}
 use Rattle.std.proofs.{Common.{ap, arith, inl, inr, refl, subst, sym, ℕ, ◌+◌, ◌<◌, ◌∙◌, ◌≡◌}, lemmas.Bool.Decides.eqb_tells}
 use Rattle.std.specs.Prelude.{Err, None, Ok, Option, Result, Some, false, if◌then◌else◌, true, ◌∷◌}
-use Rattle.tree_laws.specs.Events.{Event as TreeEvent, Leaves, Seals, turned}
+use Rattle.gate_schedules.specs.trees.Events.{Event as TreeEvent, Leaves, Seals, turned}
 
 pub freeze_stands : (x : Freeze) → Stands (Some (Phase.Freezes x)) (freeze_stand x.step)
 freeze_stands x = record { counts = λ i one three. refl; syncs = λ i one three. refl; outside = refl }

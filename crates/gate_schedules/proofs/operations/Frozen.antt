@@ -11,7 +11,7 @@ use Rattle.gated_tree.specs.declared.{opens.{OpenFile.OpenFile, OpenStep.OpenSte
 use Rattle.mount_counts.specs.declared.remounts.RemountStep.{RemountStep}
 use Rattle.std.proofs.Common.{arith, refl, subst, sym, ℕ, ◌<◌, ◌≡◌}
 use Rattle.std.specs.Prelude.{Err, List, None, Ok, Option, Some, true}
-use Rattle.tree_laws.proofs.Clearings.{exact}
+use Rattle.gate_schedules.proofs.trees.Clearings.{exact}
 
 pub snapshot_charges_none : (nodes : ℕ) (values : ℕ → ℕ) (s : SnapshotStep) → HasNoCharge (snapshot_role nodes values s)
 snapshot_charges_none nodes values (SnapshotStep.Releases (Ok reply)) = record { blocks = refl; removed = refl; children = λ d. refl }

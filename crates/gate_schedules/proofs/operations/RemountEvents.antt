@@ -35,7 +35,7 @@ use Rattle.freeze_laws.specs.stages.{Events.playing, Roles.{CleanBelow, IsKnown,
 use Rattle.std.proofs.Common.{Bool, Err, None, Ok, Option, Result, Some, ap, arith, bit_and, eq-eqb, false, inl, inr, le-ltb, nat_lt, ne_eqb, not, option_map}
 use Rattle.std.proofs.{Common.{refl, subst, suc, sym, true, true≢false, ℕ, ◌+◌, ◌<◌, ◌==◌, ◌||◌, ◌∙◌, ◌∷◌, ◌≡◌}, lemmas.Bool.{cases_Bool, Decides.eqb_tells}}
 use Rattle.std.proofs.lemmas.Nat.Bits.{and_pow}
-use Rattle.tree_laws.specs.Events.{BeginsClearing, Clears, Event as TreeEvent, FindsNone, GoesBare, Leaves, Opens, Passes, Seals, StopsBare, turned}
+use Rattle.gate_schedules.specs.trees.Events.{BeginsClearing, Clears, Event as TreeEvent, FindsNone, GoesBare, Leaves, Opens, Passes, Seals, StopsBare, turned}
 
 -- at stage 0 the file system isn't frozen, whatever the superblock's flags are
 pub not_frozen : (w : Words) (set sealing : ℕ) → w.stage ≡ 0 →

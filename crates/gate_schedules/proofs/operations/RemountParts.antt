@@ -25,8 +25,8 @@ use Rattle.freeze_laws.specs.stages.Events.{IsAlike, Recalls, StageEvent, playin
 use Rattle.freeze_laws.specs.stages.Roles.{CleanBelow, IsKnown, KnowsStage, Owning, StageRole, clean_by}
 use Rattle.std.proofs.Common.{Bool, None, Option, Some, ap, arith, false, inl, inr, refl, subst, sym, true, true≢false, ℕ, ◌<◌, ◌==◌, ◌||◌, ◌∙◌, ◌≡◌, ◌⊎◌}
 use Rattle.std.proofs.lemmas.Bool.{cases_Bool, Decides.eqb_tells}
-use Rattle.tree_laws.proofs.Each.{each_event}
-use Rattle.tree_laws.specs.Events.{Event as TreeEvent}
+use Rattle.gate_schedules.proofs.trees.Each.{each_event}
+use Rattle.gate_schedules.specs.trees.Events.{Event as TreeEvent}
 
 -- who changes an owned word is the owner, and a remount comes to own `umount` by taking it
 remount_changes : (x : Remount) (s : RemountStep) (hook : HookAnswer) → is_owned (remount_next x s hook).0 ≡ true →

@@ -23,7 +23,7 @@ use Rattle.freeze_laws.specs.stages.Roles.{Aside, KnowsStage, Owning, StageRole,
 use Rattle.std.proofs.Common.{Bool, List, ap, arith, false, inl, inr, refl, subst, suc, sym, true, true≢false, ℕ, ◌<◌, ◌∙◌, ◌≡◌, ◌⊎◌}
 use Rattle.std.proofs.lemmas.Bool.{cases_Bool, Decides.eqb_tells}
 use Rattle.std.specs.Prelude.{Err, None, Option, Result, Some, if◌then◌else◌, is_some, ◌==◌}
-use Rattle.tree_laws.specs.Steps.{words_left}
+use Rattle.gate_schedules.specs.trees.Steps.{words_left}
 
 -- the words but `umount`
 abbrev off_umount : Words → Words

@@ -1,5 +1,5 @@
 -- Bytes that are read behind the first ones of a block.
-use Rattle.std.proofs.Common.{◌≡◌, ℕ, ◌+◌, ◌-◌, ◌≤◌, List, ◌++◌, length, take, drop, Option, arith, sym, ap, subst, ◌∙◌, length-take, length-drop}
+use Rattle.std.proofs.Common.{◌≡◌, ℕ, ◌+◌, ◌-◌, ◌≤◌, List, ◌++◌, length, take, drop, Option, arith, sym, ap, subst, ◌∙◌, length-take}
 use Rattle.std.proofs.Math.Seq.{take-append-add, take-append_seam, drop-drop}
 use Rattle.std.proofs.lemmas.List.{drop-take}
 use Rattle.std.specs.Io.KnownBytes.{Consumes}
@@ -45,9 +45,3 @@ first_taken bytes start end count within =
     sym (ap (λ n. drop count (take n (drop start bytes))) all
     ∙ drop-take count (end - (start + count)) (drop start bytes)
     ∙ ap (take (end - (start + count))) (drop-drop count start bytes))
-
--- how many bytes are pending
-pub length_pending : (bytes : List ℕ) (start end : ℕ) → start ≤ end → end ≤ length bytes →
-    length (slice_range bytes start end) ≡ end - start
-length_pending bytes start end ordered within =
-    omega (arith, length-take (end - start) (drop start bytes), length-drop start bytes)

@@ -5,7 +5,7 @@ use Rattle.access_model.specs.{Replies.map_next, declared.{actions.Action.Action
 use Rattle.cpu_words.specs.declared.events.Event.{Event}
 use Rattle.node_words.specs.Phases.{after_look}
 use Rattle.gated_tree.specs.declared.phases.TreePhase.{TreePhase}
-use Rattle.tree_laws.specs.Ends.{with_action, EndsWell, SeesMore}
+use Rattle.gate_schedules.specs.trees.Ends.{with_action, EndsWell, SeesMore}
 use Rattle.gate_world.specs.{Found.SeenIn, Traces.{actions_of, IsHonest, IsTold, most_events, IsShort, MayWait}, Views.actions_after}
 use Rattle.gate_world.specs.declared.{config.Config.Config, operations.Op.Op, views.Traced.Traced, work.Phase.Phase}
 use Rattle.gate_schedules.proofs.operations.frames.Says.{Says}

@@ -10,7 +10,7 @@ use Rattle.node_words.specs.declared.nodes.NodeWord.{NodeWord}
 use Rattle.gated_tree.specs.declared.changes.Create.{Create}
 use Rattle.gated_tree.specs.declared.changes.CreateStep.{CreateStep}
 use Rattle.gated_tree.specs.declared.phases.TreePhase.{TreePhase}
-use Rattle.tree_laws.{proofs.Ends.create_ends, specs.Ends.{CreateKnows, IsNodeReply, create_adds}}
+use Rattle.gate_schedules.{proofs.trees.Ends.create_ends, specs.trees.Ends.{CreateKnows, IsNodeReply, create_adds}}
 use Rattle.gate_world.specs.{Configs.IsWithin, Courses.{IsTrace, MayHold, MayFind, course_of}, Found.SeenIn, Operations.first_create}
 use Rattle.gate_world.specs.{Traces.{actions_of, IsHonest, IsShort, IsTold, Tells, most_events}, Views.with_hook, Work.next_of}
 use Rattle.gate_world.specs.declared.{config.Config.Config, operations.Op.Op, views.Traced.Traced, work.Phase.Phase}

@@ -7,7 +7,7 @@ use Rattle.node_words.specs.Nodes.{word_of, as_file, unpacked, file_in}
 use Rattle.gated_tree.specs.Phases.{at_grow, grow_after, grow_next}
 use Rattle.gated_tree.specs.Refusals.{GrowHonest}
 use Rattle.gated_tree.specs.declared.{growth.{Grow.Grow, GrowStep.GrowStep}, phases.TreePhase.TreePhase}
-use Rattle.tree_laws.{proofs.Ends.grow_ends, specs.Ends.{GrowKnows, IsReply, where_done}}
+use Rattle.gate_schedules.{proofs.trees.Ends.grow_ends, specs.trees.Ends.{GrowKnows, IsReply, where_done}}
 use Rattle.gate_world.specs.{Configs.IsWithin, Courses.{IsTrace, MayHold, MayFind, course_of}, Found.SeenIn, Operations.first_grow}
 use Rattle.gate_world.specs.{Traces.{actions_of, IsHonest, IsShort, Tells, most_events}, Views.with_hook, Work.next_of}
 use Rattle.gate_world.specs.declared.{config.Config.Config, operations.Op.Op, views.Traced.Traced, work.Phase.Phase}

@@ -24,7 +24,7 @@ use Rattle.mount_counts.specs.{Roles.{barring_of, mount_as_gate, skips}, Sets.ha
 use Rattle.freeze_laws.specs.stages.Roles.{passed_by}
 use Rattle.std.proofs.{Common.{Bool, ap, arith, false, inl, inr, leb-true, refl, subst, true, ℕ, ◌<◌, ◌≡◌, ◌≤◌}, lemmas.Bool.{cases_Bool, Decides.eqb_tells}}
 use Rattle.std.specs.Prelude.{List, None, Option, Some, if◌then◌else◌, nat_le, ◌==◌}
-use Rattle.tree_laws.specs.{Events.{HasLeave, MayClean}, Steps.{MayMark, MayStep}}
+use Rattle.gate_schedules.specs.trees.{Events.{HasLeave, MayClean}, Steps.{MayMark, MayStep}}
 
 pub open_unsealed : (sb stage : ℕ) → sb ≡ 0 → stage < 3 → sealed_by sb stage ≡ 0
 open_unsealed sb stage writable low =

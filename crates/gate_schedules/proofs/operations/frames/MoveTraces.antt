@@ -6,7 +6,7 @@ use Rattle.cpu_words.specs.{Touches.found_by, declared.events.Event.Event}
 use Rattle.node_words.specs.Nodes.{word_of, as_file, as_directory, unpacked, file_in, directory_in}
 use Rattle.gated_tree.specs.Phases.{at_move, move_after, move_next}
 use Rattle.gated_tree.specs.{Refusals.MoveHonest, declared.{changes.{MoveStep.MoveStep, MoveTo.MoveTo}, phases.TreePhase.TreePhase}}
-use Rattle.tree_laws.{proofs.Ends.move_ends, specs.Ends.{IsReply, MoveKnows, move_added, where_done}}
+use Rattle.gate_schedules.{proofs.trees.Ends.move_ends, specs.trees.Ends.{IsReply, MoveKnows, move_added, where_done}}
 use Rattle.gate_world.specs.{Configs.IsWithin, Courses.{IsTrace, MayHold, MayFind, course_of}, Found.SeenIn, Operations.first_move}
 use Rattle.gate_world.specs.{Traces.{actions_of, IsHonest, IsShort, Tells, most_events}, Views.with_hook, Work.next_of}
 use Rattle.gate_world.specs.declared.{config.Config.Config, operations.Op.Op, views.Traced.Traced, work.Phase.Phase}

@@ -6,7 +6,7 @@ use Rattle.gated_tree.specs.Calls.{phase_role, role_after}
 use Rattle.node_words.specs.Phases.{clear_after}
 use Rattle.gated_tree.specs.Phases.{after, create_after, remove_after, grow_after, move_after, mark_after, open_after}
 use Rattle.gated_tree.specs.declared.phases.TreePhase.{TreePhase}
-use Rattle.tree_laws.specs.Steps.{Notes}
+use Rattle.gate_schedules.specs.trees.Steps.{Notes}
 use Rattle.freeze_laws.specs.levels.Events.{SyncStep}
 use Rattle.freeze_laws.specs.stages.Roles.{Aside}
 use Rattle.gate_world.specs.{Configs.IsWithin, LevelRuns.level_in, Owners.is_owned, Roles.nodes_noted, Rules.{Files, Fitting, Holds, IsGood, Known, Owner}}

@@ -11,7 +11,7 @@ use Rattle.gate_schedules.proofs.operations.frames.{Accesses.holdings_of_after, 
 use Rattle.gate_schedules.proofs.operations.frames.{Frames.{unwritten, view_as}, Keeps.by_bool, MayTree.{LeaveFor, call_fits, leave, may_step}, MountEvents.level_added_load}
 use Rattle.gate_schedules.proofs.operations.frames.{MountEvents.{level_taken_load, load_left}, OpenFiles.{file_then, files_counted, same_counts}, Trees.{tree_holds, tree_within}}
 use Rattle.gate_world.specs.{Configs.{IsWithin, model_limits}, Fits.{Fits, HasFile, TreeAccess, file_of}, Found.is_load, Holdings.{Holdings, held_after}}
-use Rattle.gate_world.specs.{Alike.{Roles, no_roles, roles_of}, Levels.{is_frozen_whole, level_added_after, level_added_by, level_taken_after, level_taken_by}}
+use Rattle.gate_world.specs.{Alike.{Roles, no_roles, roles_of}, Levels.{level_added_after, level_added_by, level_taken_after, level_taken_by}}
 use Rattle.gate_world.specs.{Roles.{nodes_noted}, Rules.{AtLevel, AtMount, Files, Fitting, Holding, Holds}}
 use Rattle.gate_world.specs.{Rules.{IsGood, Moves as ModelMoves, Part, SameView, SameWords, Sections, SyncAt, Tree, ViewFits}, Shown.{closing, shown}}
 use Rattle.gate_world.specs.{Snapshots.values_noted, Trees.{is_bare_at, is_sealed, tree_bounds, tree_role_of, tree_roles}, Views.{added_after, added_by}}
@@ -35,8 +35,8 @@ use Rattle.mount_counts.specs.Roles.{ro_bit}
 use Rattle.freeze_laws.specs.stages.Roles.{Aside}
 use Rattle.std.proofs.Common.{Bool, ap, arith, false, inl, inr, refl, subst, sym, true, true≢false, ℕ, ◌<◌, ◌∙◌, ◌≡◌, ◌⊎◌}
 use Rattle.std.specs.Prelude.{Err, None, Ok, Option, Result, Some, if◌then◌else◌, ◌==◌, ◌||◌}
-use Rattle.tree_laws.proofs.{Allowed.{may_do, tree_alone}, Fitting.fits_after, Phases.each_phase}
-use Rattle.tree_laws.specs.{Events.{MovesBy, opens_shown}, Steps.{Notes, StepKeeps, tree_in}}
+use Rattle.gate_schedules.proofs.trees.{Allowed.{may_do, tree_alone}, Fitting.fits_after, Phases.each_phase}
+use Rattle.gate_schedules.specs.trees.{Events.{MovesBy, opens_shown}, Steps.{Notes, StepKeeps, tree_in}}
 
 -- the words of the tree
 abbrev pub is_node_word : WordName → Bool
@@ -135,10 +135,6 @@ touch_beside w x touches =
       | inl h ↦ ap beside_calls (load_left w x.0 x.1 h)
       | inr h ↦ write_beside w x.0 (left x.1 (read w x.0)) h
     ]
-
--- and the file system is frozen as a whole, and the tree sealed, as before
-pub whole_beside : (old new : Words) → IsBesideTree old new → is_frozen_whole new ≡ is_frozen_whole old
-whole_beside old new same = λ j. is_frozen_whole (same j)
 
 pub sealed_beside : (old new : Words) → IsBesideTree old new → is_sealed new ≡ is_sealed old
 sealed_beside old new same = λ j. is_sealed (same j)

@@ -15,7 +15,7 @@ use Rattle.gated_tree.specs.Roles.{Bounds}
 use Rattle.gated_tree.specs.declared.opens.OpenFile.{OpenFile}
 use Rattle.gated_tree.specs.declared.opens.OpenStep.{OpenStep}
 use Rattle.gated_tree.specs.declared.phases.TreePhase.{TreePhase}
-use Rattle.tree_laws.specs.Events.{TreeAllows, MovesBy, HasLeave, opens_shown, bounds_of}
+use Rattle.gate_schedules.specs.trees.Events.{TreeAllows, MovesBy, HasLeave, opens_shown, bounds_of}
 use Rattle.gate_world.specs.{Fits.{HasFile, file_of}, Holdings.{Holdings, held_after}, Views.phase_after, declared.work.Phase.Phase}
 
 -- an action's effect on the tree asks only how many tasks have its own node open

@@ -10,7 +10,7 @@ use Rattle.node_words.specs.declared.nodes.NodeWord.{NodeWord}
 use Rattle.gated_tree.specs.declared.changes.Remove.{Remove}
 use Rattle.gated_tree.specs.declared.changes.RemoveStep.{RemoveStep}
 use Rattle.gated_tree.specs.declared.phases.TreePhase.{TreePhase}
-use Rattle.tree_laws.{proofs.Ends.remove_ends, specs.Ends.{IsReply, RemoveKnows, remove_added, where_done}}
+use Rattle.gate_schedules.{proofs.trees.Ends.remove_ends, specs.trees.Ends.{IsReply, RemoveKnows, remove_added, where_done}}
 use Rattle.gate_world.specs.{Configs.IsWithin, Courses.{IsTrace, MayHold, MayFind, course_of}, Found.SeenIn, Operations.first_remove}
 use Rattle.gate_world.specs.{Traces.{actions_of, IsShort, Tells, most_events}, Views.with_hook, Work.next_of}
 use Rattle.gate_world.specs.declared.{config.Config.Config, operations.Op.Op, views.Traced.Traced, work.Phase.Phase}

@@ -7,7 +7,7 @@ use Rattle.cpu_words.specs.{Hooks.HookAnswer, Touches.found_by, declared.events.
 use Rattle.node_words.specs.Nodes.{node_after}
 use Rattle.gated_tree.specs.Phases.{at_snapshot, kids_step, node_step, snapshot_after, snapshot_locked_out, snapshot_next}
 use Rattle.gated_tree.specs.{Refusals.SnapshotHonest, declared.{phases.TreePhase.TreePhase, snapshots.{Snapshot.Snapshot, SnapshotStep.SnapshotStep}}}
-use Rattle.tree_laws.{proofs.Ends.snapshot_ends, specs.Ends.{IsReply, SnapshotKnows}}
+use Rattle.gate_schedules.{proofs.trees.Ends.snapshot_ends, specs.trees.Ends.{IsReply, SnapshotKnows}}
 use Rattle.gate_world.specs.{Configs.IsWithin, Courses.{IsTrace, MayHold, MayFind, course_of}, Found.{SeenIn, each_event, finds_taken}}
 use Rattle.gate_world.specs.{Operations.first_snapshot, Traces.{IsHonest, IsShort, Tells, most_events}, Views.with_hook, Work.next_of}
 use Rattle.gate_world.specs.declared.{config.Config.Config, operations.Op.Op, views.Traced.Traced, work.Phase.Phase}

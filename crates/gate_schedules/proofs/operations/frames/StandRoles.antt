@@ -136,10 +136,6 @@ pub still_closed_is : (level : ℕ) → 1 ≤ level → still_closed level ≡ S
 still_closed_is zero one = absurd (omega (arith, one))
 still_closed_is (suc n) one = still_up n
 
--- and says the same
-pub opening_says : (level : ℕ) → 1 ≤ level → SaySame (still_closed level) (Some (opening_stand (reopening level)))
-opening_says level one = subst (SaySame (still_closed level)) (still_closed_is level one) (says_same (still_closed level))
-
 -- before a level that isn't the first, the one below it is the last that is closed
 pub still_before : (n : ℕ) → still_closed (suc (suc n) - 1) ≡ Some (closed_to (suc n))
 still_before n =

@@ -21,8 +21,8 @@ use Rattle.freeze_laws.specs.stages.Roles.{CleanBelow, Freezing, KnowsStage, Mar
 use Rattle.std.proofs.{Common.{Bool, ap, arith, inl, inr, refl, subst, suc, sym, true≢false, zero, ℕ, ◌<◌, ◌∙◌, ◌≡◌, ◌≤◌}, lemmas.Bool.le-leb}
 use Rattle.std.proofs.lemmas.Bool.Decides.{eqb_tells}
 use Rattle.std.specs.Prelude.{Err, List, None, Ok, Option, Some, false, nat_lt}
-use Rattle.tree_laws.proofs.Each.{each_event}
-use Rattle.tree_laws.specs.Events.{Event}
+use Rattle.gate_schedules.proofs.trees.Each.{each_event}
+use Rattle.gate_schedules.specs.trees.Events.{Event}
 
 pub tree_within : (c : Config) → IsWithin c → AreWithin (tree_bounds c)
 tree_within c within = record { tasks = within.tasks; some_node = within.some_node; nodes = within.nodes; capacity = within.capacity }

@@ -5,7 +5,7 @@ use Rattle.access_model.specs.{Actions.after_action, declared.actions.Action.Act
 use Rattle.cpu_words.specs.Words.{Words}
 use Rattle.node_words.specs.Nodes.{dirty_in}
 use Rattle.gated_tree.specs.Roles.{TreeState, sealed_by}
-use Rattle.tree_laws.specs.Events.{Event, Opens}
+use Rattle.gate_schedules.specs.trees.Events.{Event, Opens}
 use Rattle.freeze_levels.specs.Holders.{holders_in}
 use Rattle.freeze_laws.specs.stages.{Events.{playing, StageEvent, Stays, action_of as stage_action_of}, Roles.StageRole}
 use Rattle.gate_world.specs.{Configs.{IsWithin, model_limits}, Levels.is_frozen_whole, Roles.Stand, Rules.{Holding, Holds, IsGood, OwnerHolds, Stages, Tree}}

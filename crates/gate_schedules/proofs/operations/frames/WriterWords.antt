@@ -5,7 +5,7 @@ use Rattle.access_model.specs.{Actions.after_action, States.State, declared.{act
 use Rattle.cpu_words.specs.{Sums.sum_taking, Touches.left, Words.{Words, read, put}, declared.sums.Taken.Taken}
 use Rattle.node_words.specs.Nodes.{node_shown, opens_in}
 use Rattle.gated_tree.specs.Roles.{Out, Clearing}
-use Rattle.tree_laws.specs.Events.{Event, turned, BeginsClearing}
+use Rattle.gate_schedules.specs.trees.Events.{Event, turned, BeginsClearing}
 use Rattle.percpu_rwsem.specs.{SyncWords.on_exit, Transitions.transition_after}
 use Rattle.percpu_rwsem.specs.Writers.{exit_made, down_write_next, down_write_after, down_write_summed, up_write_next, up_write_after}
 use Rattle.percpu_rwsem.specs.declared.transitions.{Transition.Transition, TransitionNext.TransitionNext}

@@ -1,7 +1,7 @@
 -- the task that comes back has done its part
 use Rattle.std.proofs.Common.{◌≡◌, ◌∙◌, subst}
 use Rattle.std.specs.Prelude.{IfErr}
-use Rattle.run_parts.specs.declared.gates.Gates.{Gates}
+use Rattle.run_parts.specs.declared.Gates.{Gates}
 use Rattle.run_parts.specs.Refusals.{RunRefused}
 use Rattle.run_threads.proofs.Homes.{came_home, home_refused, is_not_done, knows, not_taken_back, was_not_done}
 use Rattle.run_threads.proofs.Staying.{stays_among}

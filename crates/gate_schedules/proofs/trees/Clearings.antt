@@ -1,0 +1,175 @@
+-- A clearing of the dirty marks; the tree is sealed and opened again; a snapshot; what holds where nothing is charged.
+use Rattle.std.proofs.Common.{◌≡◌, ℕ, suc, ◌+◌, ◌-◌, ◌<◌, ◌≤◌, false, sym, ap, ◌∙◌, subst, inl, inr, arith}
+use Rattle.std.proofs.lemmas.Bool.{ne_eqb, lt-ltb, le-ltb, Decides.eqb_tells}
+use Rattle.std.specs.Prelude.{Option, Some, None}
+use Rattle.finite_sums.{proofs.Totals.{update_same, each_updated, total_none, total_same}, specs.Sums.update}
+use Rattle.access_model.specs.{States.{size_of, is_dirty, IsDirectory}, declared.actions.{Action.Action, NodeInfo.NodeInfo}}
+use Rattle.node_words.proofs.ClearedMarks.{clean_stays, cleared_is, marked_file, file_shown, directory_clean}
+use Rattle.node_words.proofs.Packing.{word_returns}
+use Rattle.node_words.proofs.Words.{dirty_shown}
+use Rattle.node_words.specs.Nodes.{dirty_in, removed_in, kind_in, kind_of, word_of, node_of, node_shown, marked_node}
+use Rattle.gated_tree.specs.Roles.{Out, Clearing, Reading, Bounds, TreeState, AreWithin, charge, child_charge, removal, tree_word, seen_as, IsFileNode}
+use Rattle.gated_tree.specs.Roles.{HasParent, TreeHolds}
+use Rattle.node_words.specs.declared.nodes.NodeWord.{NodeWord}
+use Rattle.gated_tree.specs.Trees.{is_child, HasDirectory, IsSound, IsClean}
+use Rattle.gate_schedules.proofs.trees.{Changes.{file_shows, unmarks}, Laws.{role_says, moves}}
+use Rattle.gate_schedules.specs.trees.Events.{turned, with_node, cleared_word, tree_shown, opens_shown, TreeDoes, MovesBy, MayClean, IsQuiet}
+
+parent_there : (nodes : ℕ) (node : ℕ → ℕ) (entry : Option NodeInfo) → HasParent nodes node entry →
+    HasDirectory nodes (tree_shown node) entry
+parent_there nodes node None h = tt
+parent_there nodes node (Some info) h = h
+
+parent_loaded : (nodes : ℕ) (tree loaded : ℕ → Option NodeInfo) → ((n : ℕ) → n < nodes → loaded n ≡ tree n) → (entry : Option NodeInfo) →
+    HasDirectory nodes tree entry → HasDirectory nodes loaded entry
+parent_loaded nodes tree loaded shows None h = tt
+parent_loaded nodes tree loaded shows (Some info) h = (h.0, subst IsDirectory (sym (shows info.parent h.0)) h.1)
+
+module _ (c : Bounds) (s : TreeState) (good : TreeHolds c s) where
+  -- with other flags, where these have what they ask for
+  with_flags : (sealed bare : ℕ) → (sealed ≡ 1 → IsClean c.nodes (tree_shown s.node)) → (bare ≡ 1 → s.removed ≡ 0) →
+      TreeHolds c (record s { sealed = sealed; bare = bare })
+  with_flags sealed bare clean none = record {
+    words = good.words;
+    root = good.root;
+    parents = good.parents;
+    blocks = good.blocks;
+    room = good.room;
+    children = good.children;
+    removals = good.removals;
+    none = none;
+    roles = good.roles;
+    clean = clean;
+  }
+
+  -- the tree is sealed where every node is clean, and may be opened at any time
+  pub seals : IsClean c.nodes (tree_shown s.node) → TreeHolds c (record s { sealed = 1 })
+  seals clean = with_flags 1 s.bare (λ e. clean) good.none
+
+  pub opens : TreeHolds c (record s { sealed = 0 })
+  opens = with_flags 0 s.bare (λ e. absurd (omega (arith, e))) good.none
+
+  -- the superblock is read-only where no file is removed, and may be writable again at any time
+  pub goes_bare : s.removed ≡ 0 → TreeHolds c (record s { bare = 1 })
+  goes_bare none = with_flags s.sealed 1 good.clean (λ e. none)
+
+  pub stops_bare : TreeHolds c (record s { bare = 0 })
+  stops_bare = with_flags s.sealed 0 good.clean (λ e. absurd (omega (arith, e)))
+
+  module _ (t : ℕ) (lt : t < c.tasks) where
+    -- a clearing begins at node 1, since the root is clean
+    pub clearing_begins : AreWithin c → s.at t ≡ Out → TreeHolds c (turned s t (Clearing 1))
+    clearing_begins within is =
+        let root : is_dirty (node_shown (s.node 0)) ≡ false =
+        directory_clean (s.node 0) (good.words 0 (omega (arith, within.some_node))) good.root in
+        moves c s good t lt (Clearing 1) (sym (ap charge is)) (sym (ap removal is)) (λ d. sym (ap (child_charge d) is))
+        (λ n l.
+        let first : 0 ≡ n = omega (arith, l) in
+        subst (λ x. is_dirty (node_shown (s.node x)) ≡ false) first root)
+
+    -- a clearing comes to a node that is marked, which is a file and becomes clean
+    pub clears : (n : ℕ) → AreWithin c → MayClean c s → s.at t ≡ Clearing n → n < c.nodes → dirty_in (s.node n) ≡ 1 →
+        TreeHolds c (with_node s n (cleared_word (s.node n)) t (Clearing (suc n))) ×
+        TreeDoes c s.node (update s.node n (cleared_word (s.node n))) (Action.Clean n)
+    clears n within may is ln marked =
+        let before : (x : ℕ) → x < n → is_dirty (node_shown (s.node x)) ≡ false = role_says c s good t lt (Clearing n) is in
+        let file : NodeWord = node_of (s.node n) in
+        let one : kind_in (s.node n) ≡ 1 = marked_file (s.node n) (good.words n ln) marked in
+        let back = word_returns (s.node n) (good.words n ln).packed in
+        let parent = subst (HasParent c.nodes s.node) (file_shown (s.node n) one) (good.parents n ln) in
+        let linked : file.removed ≡ false = ne_eqb (removed_in (s.node n)) 1 (λ e.
+        let m = (good.words n ln).packed.marked e in
+        absurd (omega (arith, marked, m.1))) in
+        let h : IsFileNode c.nodes file = record { kind = ap kind_of one; parent = parent.0; opens = back.0.few; linked = linked } in
+        let clean : is_dirty (node_shown (word_of (marked_node false file))) ≡ false =
+        ap is_dirty (file_shows (marked_node false file) h.kind (omega (arith, h.parent, within.nodes)) h.opens) in
+        let now : (x : ℕ) → x < suc n → is_dirty (node_shown (update s.node n (word_of (marked_node false file)) x)) ≡ false =
+        λ x. each_updated (λ y w. y < suc n → is_dirty (node_shown w) ≡ false) s.node n (word_of (marked_node false file)) x
+        (λ l. clean) (λ ne l. before x (omega (arith, l, ne))) in
+        subst (λ w. TreeHolds c (with_node s n w t (Clearing (suc n))) × TreeDoes c s.node (update s.node n w) (Action.Clean n))
+        (sym (cleared_is (s.node n) (good.words n ln).packed))
+        (unmarks c s good t lt file n (Clearing (suc n)) within h may (sym (ap charge is)) (sym (ap removal is)) (λ d. sym (ap (child_charge d) is)) ln
+        (sym back.1) now)
+
+    -- a clearing comes to a node that isn't marked, whose word stays
+    pub passes : (n : ℕ) → s.at t ≡ Clearing n → n < c.nodes → dirty_in (s.node n) ≡ 0 →
+        TreeHolds c (with_node s n (cleared_word (s.node n)) t (Clearing (suc n))) ×
+        MovesBy c s.node (update s.node n (cleared_word (s.node n))) None
+    passes n is ln none =
+        let before : (x : ℕ) → x < n → is_dirty (node_shown (s.node x)) ≡ false = role_says c s good t lt (Clearing n) is in
+        let here : is_dirty (node_shown (s.node n)) ≡ false =
+        dirty_shown (s.node n) (good.words n ln).packed ∙ ne_eqb (dirty_in (s.node n)) 1 (λ e. absurd (omega (arith, e, none))) in
+        let now : (x : ℕ) → x < suc n → is_dirty (node_shown (s.node x)) ≡ false =
+        λ x l. elim (eqb_tells x n) [
+          | inl e ↦ subst (λ y. is_dirty (node_shown (s.node y)) ≡ false) (sym e.1) here
+          | inr e ↦ before x (omega (arith, l, e.1))
+        ] in
+        let still : update s.node n (cleared_word (s.node n)) ≡ s.node =
+        ap (update s.node n) (clean_stays (s.node n) (good.words n ln) none) ∙ update_same s.node n in (
+          subst (λ f. TreeHolds c (record (turned s t (Clearing (suc n))) { node = f })) (sym still)
+              (moves c s good t lt (Clearing (suc n)) (sym (ap charge is)) (sym (ap removal is)) (λ d. sym (ap (child_charge d) is)) now),
+          (ap tree_shown still, ap opens_shown still),
+        )
+
+    pub clearing_ends : (n : ℕ) → c.nodes ≤ n → s.at t ≡ Clearing n → IsClean c.nodes (tree_shown s.node)
+    clearing_ends n past is = λ x lx. role_says c s good t lt (Clearing n) is x (omega (arith, lx, past))
+
+    pub snapshot_begins : (values : ℕ → ℕ) → s.at t ≡ Out → TreeHolds c (turned s t (Reading 0 values))
+    snapshot_begins values is =
+        moves c s good t lt (Reading 0 values) (sym (ap charge is)) (sym (ap removal is)) (λ d. sym (ap (child_charge d) is)) (λ i l. absurd (omega (arith, l)))
+
+    pub snapshot_loads : (k : ℕ) (values next : ℕ → ℕ) → s.at t ≡ Reading k values →
+        seen_as c.nodes k (next k) ≡ seen_as c.nodes k (tree_word c.nodes s.used s.node s.kids k) →
+        ((i : ℕ) → i < k → next i ≡ values i) → TreeHolds c (turned s t (Reading (suc k) next))
+    snapshot_loads k values next is word earlier =
+        let before : (i : ℕ) → i < k → seen_as c.nodes i (values i) ≡ seen_as c.nodes i (tree_word c.nodes s.used s.node s.kids i) =
+        role_says c s good t lt (Reading k values) is in
+        moves c s good t lt (Reading (suc k) next) (sym (ap charge is)) (sym (ap removal is)) (λ d. sym (ap (child_charge d) is))
+        (λ i l. elim (eqb_tells i k) [
+          | inl e ↦ subst (λ x. seen_as c.nodes x (next x) ≡ seen_as c.nodes x (tree_word c.nodes s.used s.node s.kids x)) (sym e.1) word
+          | inr e ↦ ap (seen_as c.nodes i) (earlier i (omega (arith, l, e.1))) ∙ before i (omega (arith, l, e.1))
+        ])
+
+    -- what a whole snapshot has loaded are the words of the tree, but for who has files open
+    pub snapshot_is : (k : ℕ) (values : ℕ → ℕ) → s.at t ≡ Reading k values → c.nodes + c.nodes < k →
+        (values 0 ≡ s.used) × ((n : ℕ) → n < c.nodes → node_shown (values (suc n)) ≡ node_shown (s.node n)) ×
+        ((d : ℕ) → d < c.nodes → values (suc (c.nodes + d)) ≡ s.kids d)
+    snapshot_is k values is whole =
+        let says : (i : ℕ) → i < k → seen_as c.nodes i (values i) ≡ seen_as c.nodes i (tree_word c.nodes s.used s.node s.kids i) =
+        role_says c s good t lt (Reading k values) is in (
+          ap (λ x. x.1) (says 0 (omega (arith, whole))),
+          λ n ln. ap (λ x. x.0) (rw (lt-ltb n c.nodes ln) at (says (suc n) (omega (arith, whole, ln)))),
+          λ d ld.
+              let back : c.nodes + d - c.nodes ≡ d = omega arith in
+              ap (λ x. x.1) (rw (le-ltb (c.nodes + d) c.nodes (omega arith)) at (says (suc (c.nodes + d)) (omega (arith, whole, ld)))) ∙
+              ap s.kids back,
+        )
+
+  -- where nobody has charged anything, the counts are exact
+  pub exact : IsQuiet c s → IsSound c.nodes s.used (tree_shown s.node) s.kids
+  exact none = record {
+    blocks = omega (arith, good.blocks, total_none c.tasks (λ t. charge (s.at t)) (λ t l. (none t l).blocks));
+    children = λ d ld. omega (arith, good.children d ld, total_none c.tasks (λ t. child_charge d (s.at t)) (λ t l. (none t l).children d));
+    parents = λ n ln. parent_there c.nodes s.node (node_shown (s.node n)) (good.parents n ln);
+  }
+
+  -- and a whole snapshot of a sealed tree has loaded the words of a sound and clean one
+  pub snapshot_exact : (t : ℕ) → t < c.tasks → (k : ℕ) (values : ℕ → ℕ) → s.at t ≡ Reading k values → c.nodes + c.nodes < k → s.sealed ≡ 1 →
+      IsQuiet c s →
+      IsSound c.nodes (values 0) (tree_shown (λ n. values (suc n))) (λ d. values (suc (c.nodes + d))) ×
+      IsClean c.nodes (tree_shown (λ n. values (suc n)))
+  snapshot_exact t lt k values is whole sealed none =
+      let w = snapshot_is t lt k values is whole in
+      let shows : (n : ℕ) → n < c.nodes → node_shown (values (suc n)) ≡ node_shown (s.node n) = w.1 in
+      let exactly : IsSound c.nodes s.used (tree_shown s.node) s.kids = exact none in
+      let parents : (entry : Option NodeInfo) → HasDirectory c.nodes (tree_shown s.node) entry →
+      HasDirectory c.nodes (tree_shown (λ n. values (suc n))) entry =
+      λ entry. parent_loaded c.nodes (tree_shown s.node) (tree_shown (λ n. values (suc n))) shows entry in (
+        record {
+          blocks = w.0 ∙ exactly.blocks ∙ sym (total_same c.nodes _ _ (λ n ln. ap size_of (shows n ln)));
+          children = λ d ld. w.2 d ld ∙ exactly.children d ld ∙ sym (total_same c.nodes _ _ (λ n ln. ap (is_child d n) (shows n ln)));
+          parents = λ n ln. subst (HasDirectory c.nodes (tree_shown (λ x. values (suc x)))) (sym (shows n ln))
+              (parents (node_shown (s.node n)) (exactly.parents n ln));
+        },
+        λ n ln. ap is_dirty (shows n ln) ∙ good.clean sealed n ln,
+      )

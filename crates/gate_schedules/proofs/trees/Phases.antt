@@ -1,0 +1,111 @@
+-- The events of all calls at the tree, by their phases.
+use Rattle.std.{proofs.Common.{◌≡◌, ℕ, ◌<◌, refl, subst, arith}, specs.Prelude.Option}
+use Rattle.access_model.specs.{Replies.map_next, declared.{actions.Action.Action, replies.Next.Next}}
+use Rattle.cpu_words.specs.{Hooks.HookAnswer, Names.{Extents, IsWord}, Words.Words, declared.{events.Touch.Touch, names.WordName.WordName}}
+use Rattle.gated_tree.specs.Calls.{phase_role, remove_role, move_role, role_after, CreateStepFits, SnapshotStepFits, TreePhaseFits}
+use Rattle.gated_tree.specs.Phases.{next, create_next, remove_next, grow_next, move_next, mark_next, open_next, snapshot_next}
+use Rattle.gated_tree.specs.Roles.{Role, Returning, Bounds, AreWithin, TreeHolds}
+use Rattle.gated_tree.specs.declared.changes.{Create.Create, CreateStep.CreateStep, MoveStep.MoveStep, MoveTo.MoveTo, Remove.Remove, RemoveStep.RemoveStep}
+use Rattle.gated_tree.specs.declared.{growth.{Grow.Grow, GrowStep.GrowStep}, marks.{Mark.Mark, MarkStep.MarkStep}, opens.{OpenFile.OpenFile, OpenStep.OpenStep}}
+use Rattle.gated_tree.specs.declared.{phases.TreePhase.TreePhase, snapshots.{Snapshot.Snapshot, SnapshotStep.SnapshotStep}}
+use Rattle.gate_schedules.proofs.trees.{Laws.role_says, Steps.{create_step, remove_step, grow_step, move_step, mark_step, open_step}, Sweeps.{clear_step, snapshot_step}}
+use Rattle.gate_schedules.specs.trees.Steps.{tree_in, found_at, EventKeeps, MayStep, Notes, StepKeeps}
+
+-- what comes after an event has the same role as a phase of one call and of all
+role_mapped : {P : Type 0} (to : P → TreePhase) (role : TreePhase → Role) (n : Next P) →
+    role_after (λ x. role (to x)) n ≡ role_after role (map_next to n)
+role_mapped to role (Next.Go phase) = refl
+role_mapped to role (Next.Wait phase) = refl
+role_mapped to role (Next.Done answer) = refl
+
+module _ (c : Bounds) (within : AreWithin c) (sealed bare : ℕ) (w : Words) (at : ℕ → Role) (good : TreeHolds c (tree_in sealed bare w at))
+    (t : ℕ) (lt : t < c.tasks) where
+  -- an event that is kept with a role is kept with the same role
+  with_role : (event : WordName × Touch) (action : Option Action) (role other : Role) → role ≡ other →
+      EventKeeps c sealed bare w at t event role action → EventKeeps c sealed bare w at t event other action
+  with_role event action role other same h = subst (λ r. EventKeeps c sealed bare w at t event r action) same h
+
+  -- each event of each call
+  pub each_phase : (phase : TreePhase) (values noted : ℕ → ℕ) (hook : HookAnswer) → at t ≡ phase_role values phase →
+      TreePhaseFits c t phase →
+      MayStep c (tree_in sealed bare w at) phase → Notes phase values noted (found_at w (next phase hook)) →
+      StepKeeps c sealed bare w at t phase noted hook
+  each_phase (TreePhase.Create x) values noted hook is fits may notes =
+      with_role (create_next x x.step) _ _ _ (role_mapped TreePhase.Create (phase_role noted) _)
+      (create_step c within sealed bare w at good t lt x x.step fits.0 fits.2 may is)
+  each_phase (TreePhase.Remove x) values noted hook is fits may notes =
+      with_role (remove_next x x.step) _ _ _ (role_mapped TreePhase.Remove (phase_role noted) _)
+      (remove_step c within sealed bare w at good t lt x x.step fits.0 fits.1 may.0 may.1 is)
+  each_phase (TreePhase.Grow x) values noted hook is fits may notes =
+      with_role (grow_next x x.step) _ _ _ (role_mapped TreePhase.Grow (phase_role noted) _)
+      (grow_step c within sealed bare w at good t lt x x.step fits.0 fits.1 fits.2 may.0 may.1 is)
+  each_phase (TreePhase.MoveTo x) values noted hook is fits may notes =
+      with_role (move_next x x.step) _ _ _ (role_mapped TreePhase.MoveTo (phase_role noted) _)
+      (move_step c within sealed bare w at good t lt x x.step fits.0 fits.1 may is)
+  each_phase (TreePhase.Mark x) values noted hook is fits may notes =
+      with_role (mark_next x x.step) _ _ _ (role_mapped TreePhase.Mark (phase_role noted) _)
+      (mark_step c within sealed bare w at good t lt x x.step fits may is)
+  each_phase (TreePhase.OpenFile x) values noted hook is fits may notes =
+      with_role (open_next x x.step) _ _ _ (role_mapped TreePhase.OpenFile (phase_role noted) _)
+      (open_step c within sealed bare w at good t lt x x.step fits.0 fits.1 is)
+  each_phase (TreePhase.Snapshot x) values noted hook is fits may notes =
+      let kept = snapshot_step c within sealed bare w at good t lt x x.step values noted fits.1 fits.2 is notes in
+      with_role (snapshot_next x x.step) _ _ _ (role_mapped TreePhase.Snapshot (phase_role noted) _) kept
+  each_phase (TreePhase.ClearMarks x) values noted hook is fits may notes =
+      with_role (next (TreePhase.ClearMarks x) hook) _ _ _ (role_mapped TreePhase.ClearMarks (phase_role noted) _)
+      (clear_step c within sealed bare w at good t lt x fits.0 may is)
+
+  module _ (e : Extents) (nodes : e.nodes ≡ c.nodes) where
+    create_there : (x : Create) (step : CreateStep) → x.dir < c.nodes → CreateStepFits c step → IsWord e (create_next x step).0
+    create_there x (CreateStep.LoadsNode node) d fits = omega (arith, fits, nodes)
+    create_there x (CreateStep.TakesNode node) d fits = omega (arith, fits, nodes)
+    create_there x other d fits = omega (arith, d, nodes)
+
+    remove_there : (x : Remove) (step : RemoveStep) → x.file < c.nodes → at t ≡ remove_role x step → IsWord e (remove_next x step).0
+    remove_there x (RemoveStep.CountsRemoved file) n is = tt
+    remove_there x RemoveStep.RefundsRemoved n is = tt
+    remove_there x (RemoveStep.RefundsBlocks file) n is = tt
+    remove_there x (RemoveStep.RefundsChild file) n is =
+        let d : file.parent < c.nodes = role_says c (tree_in sealed bare w at) good t lt (Returning file.parent) is in
+        omega (arith, d, nodes)
+    remove_there x other n is = omega (arith, n, nodes)
+
+    grow_there : (x : Grow) (step : GrowStep) → x.file < c.nodes → IsWord e (grow_next x step).0
+    grow_there x GrowStep.LoadsFile n = omega (arith, n, nodes)
+    grow_there x (GrowStep.GrowsFile file) n = omega (arith, n, nodes)
+    grow_there x other n = tt
+
+    move_there : (x : MoveTo) (step : MoveStep) → x.file < c.nodes → x.dir < c.nodes → at t ≡ move_role x step →
+        IsWord e (move_next x step).0
+    move_there x MoveStep.LoadsFile n d is = omega (arith, n, nodes)
+    move_there x (MoveStep.LoadsDirectory file) n d is = omega (arith, d, nodes)
+    move_there x (MoveStep.ChargesChild file) n d is = omega (arith, d, nodes)
+    move_there x (MoveStep.MovesFile file) n d is = omega (arith, n, nodes)
+    move_there x (MoveStep.RefundsChild dir answer) n d is =
+        let one : dir < c.nodes = role_says c (tree_in sealed bare w at) good t lt (Returning dir) is in
+        omega (arith, one, nodes)
+
+    mark_there : (x : Mark) (step : MarkStep) → x.file < c.nodes → IsWord e (mark_next x step).0
+    mark_there x MarkStep.LoadsFile n = omega (arith, n, nodes)
+    mark_there x (MarkStep.MarksFile file) n = omega (arith, n, nodes)
+
+    open_there : (x : OpenFile) (step : OpenStep) → x.file < c.nodes → IsWord e (open_next x step).0
+    open_there x OpenStep.LoadsFile n = omega (arith, n, nodes)
+    open_there x (OpenStep.OpensFile file) n = omega (arith, n, nodes)
+
+    snapshot_there : (x : Snapshot) (step : SnapshotStep) → SnapshotStepFits c step → IsWord e (snapshot_next x step).0
+    snapshot_there x (SnapshotStep.LoadsNode node) fits = omega (arith, fits, nodes)
+    snapshot_there x (SnapshotStep.LoadsKids node) fits = omega (arith, fits, nodes)
+    snapshot_there x other fits = tt
+
+    -- the word of each event is there
+    pub word_there : (phase : TreePhase) (values : ℕ → ℕ) (hook : HookAnswer) → at t ≡ phase_role values phase → TreePhaseFits c t phase →
+        IsWord e (next phase hook).0
+    word_there (TreePhase.Create x) values hook is fits = create_there x x.step fits.0 fits.2
+    word_there (TreePhase.Remove x) values hook is fits = remove_there x x.step fits.0 is
+    word_there (TreePhase.Grow x) values hook is fits = grow_there x x.step fits.0
+    word_there (TreePhase.MoveTo x) values hook is fits = move_there x x.step fits.0 fits.1 is
+    word_there (TreePhase.Mark x) values hook is fits = mark_there x x.step fits
+    word_there (TreePhase.OpenFile x) values hook is fits = open_there x x.step fits.0
+    word_there (TreePhase.Snapshot x) values hook is fits = snapshot_there x x.step fits.2
+    word_there (TreePhase.ClearMarks x) values hook is fits = omega (arith, fits.0, nodes)

@@ -1,0 +1,114 @@
+//! The laws of the tree behind the gates, over its words and the roles of tasks: what each event there keeps, and what action it is.
+//! It has no code: its functions state laws.
+
+ghost use Rattle.std.specs.Prelude.{◌≡◌, ℕ, suc, ◌+◌, ◌<◌, ◌≤◌, Bool, Option};
+ghost use Rattle.access_model.specs.declared.actions.Action.{Action};
+ghost use Rattle.access_model.specs.States.{Limits, State};
+ghost use Rattle.cpu_words.specs.Hooks.{HookAnswer};
+ghost use Rattle.cpu_words.specs.Names.{Extents, IsWord};
+ghost use Rattle.cpu_words.specs.Words.{Words};
+ghost use Rattle.cpu_words.specs.declared.events.Event.{Event as WordEvent};
+ghost use Rattle.cpu_words.specs.Touches.{event_of, found_by};
+ghost use Rattle.gated_tree.specs.declared.changes.Create.{Create};
+ghost use Rattle.gated_tree.specs.declared.changes.CreateStep.{CreateStep};
+ghost use Rattle.gated_tree.specs.declared.changes.Remove.{Remove};
+ghost use Rattle.gated_tree.specs.declared.changes.RemoveStep.{RemoveStep};
+ghost use Rattle.gated_tree.specs.declared.changes.MoveTo.{MoveTo};
+ghost use Rattle.gated_tree.specs.declared.changes.MoveStep.{MoveStep};
+ghost use Rattle.gated_tree.specs.declared.growth.Grow.{Grow};
+ghost use Rattle.gated_tree.specs.declared.growth.GrowStep.{GrowStep};
+ghost use Rattle.gated_tree.specs.declared.marks.Mark.{Mark};
+ghost use Rattle.gated_tree.specs.declared.marks.MarkStep.{MarkStep};
+ghost use Rattle.gated_tree.specs.declared.opens.OpenFile.{OpenFile};
+ghost use Rattle.gated_tree.specs.declared.opens.OpenStep.{OpenStep};
+ghost use Rattle.gated_tree.specs.declared.snapshots.Snapshot.{Snapshot};
+ghost use Rattle.gated_tree.specs.declared.snapshots.SnapshotStep.{SnapshotStep};
+ghost use Rattle.gated_tree.specs.declared.phases.TreePhase.{TreePhase};
+ghost use Rattle.node_words.specs.Nodes.{IsNode};
+ghost use Rattle.gated_tree.specs.Phases.{after, create_next, grow_next, mark_next, move_next, next, open_next, remove_next, snapshot_next};
+ghost use Rattle.gated_tree.specs.Calls.{NextFits, TreePhaseFits, phase_role};
+ghost use Rattle.gated_tree.specs.Roles.{AreWithin, Bounds, Reading, Role, TreeHolds, TreeState};
+ghost use Rattle.gated_tree.specs.Trees.{IsClean, IsSound};
+ghost use Rattle.gate_schedules.specs.trees.Events.{Comes, Event, HasLeave, IsQuiet, ModelDoes, MovesBy, TreeAllows, bounds_of, tree_shown};
+ghost use Rattle.gate_schedules.specs.trees.Ends.{CreateEnds, CreateKnows, GrowEnds, GrowKnows, MarkEnds, MoveEnds, MoveKnows, OpenEnds, Passed, RemoveEnds, RemoveKnows, SeesMore, SnapshotEnds, SnapshotKnows};
+ghost use Rattle.gate_schedules.specs.trees.Steps.{MayStep, Notes, StepKeeps, found_at, tree_in};
+
+/// Each event keeps what holds of the tree. Where it adds an action, the shown tree allows that and moves by just its effect; else the
+/// shown tree stays. Does nothing: its contract is the law.
+pub fn each_event_keeps_the_tree()
+    ensures { (c : Bounds) → AreWithin c → (s : TreeState) → TreeHolds c s → (t : ℕ) → t < c.tasks → (next : TreeState)
+        (action : Option Action) → Event c s t next action → TreeHolds c next × MovesBy c s.node next.node action }
+{}
+
+/// At any moment each node word is one that a node may have, and the blocks charged are within the capacity. Does nothing: its
+/// contract is the law.
+pub fn each_node_word_unpacks()
+    ensures nodes { (c : Bounds) → AreWithin c → (s : TreeState) → Comes c s → (n : ℕ) → n < c.nodes → IsNode (s.node n) }
+    ensures room { (c : Bounds) → AreWithin c → (s : TreeState) → Comes c s → s.used ≤ c.capacity }
+{}
+
+/// Where nobody has charged anything, the tree is sound. A whole snapshot of a sealed tree has then loaded the words of a tree that is
+/// sound and clean. Does nothing: its contract is the law.
+pub fn counts_are_exact_where_nobody_charges()
+    ensures words { (c : Bounds) → AreWithin c → (s : TreeState) → Comes c s → IsQuiet c s →
+        IsSound c.nodes s.used (tree_shown s.node) s.kids }
+    ensures snapshot { (c : Bounds) → AreWithin c → (s : TreeState) → Comes c s → IsQuiet c s → s.sealed ≡ 1 →
+        (t : ℕ) → t < c.tasks → (k : ℕ) (values : ℕ → ℕ) → s.at t ≡ Reading k values → c.nodes + c.nodes < k →
+        IsSound c.nodes (values 0) (tree_shown (λ n. values (suc n))) (λ d. values (suc (c.nodes + d))) ×
+        IsClean c.nodes (tree_shown (λ n. values (suc n))) }
+{}
+
+/// An action that the tree allows, of a task with the accesses that the model asks for, is one that the model allows, and it changes
+/// the tree alone. Does nothing: its contract is the law.
+pub fn the_model_allows_what_the_tree_allows()
+    ensures { (l : Limits) (s : State) (t : ℕ) (action : Action) → HasLeave l s t action → TreeAllows (bounds_of l) s.tree action →
+        ModelDoes l s t action }
+{}
+
+/// Each event of each call at the tree, among all words, keeps what holds of the tree. Where it adds an action, the shown tree allows that
+/// and moves by just its effect; else the shown tree stays. The word of the event is there. Does nothing: its contract is the law.
+pub fn each_call_keeps_the_tree()
+    ensures events { (c : Bounds) → AreWithin c → (sealed bare : ℕ) (w : Words) (at : ℕ → Role) → TreeHolds c (tree_in sealed bare w at) →
+        (t : ℕ) → t < c.tasks → (phase : TreePhase) (values noted : ℕ → ℕ) (hook : HookAnswer) → at t ≡ phase_role values phase →
+        TreePhaseFits c t phase → MayStep c (tree_in sealed bare w at) phase → Notes phase values noted (found_at w (next phase hook)) →
+        StepKeeps c sealed bare w at t phase noted hook }
+    ensures words { (c : Bounds) → AreWithin c → (sealed bare : ℕ) (w : Words) (at : ℕ → Role) → TreeHolds c (tree_in sealed bare w at) →
+        (t : ℕ) → t < c.tasks → (e : Extents) → e.nodes ≡ c.nodes → (phase : TreePhase) (values : ℕ → ℕ) (hook : HookAnswer) →
+        at t ≡ phase_role values phase → TreePhaseFits c t phase → IsWord e (next phase hook).0 }
+{}
+
+/// Whatever an event of a phase finds, the numbers of the phase that comes after it are in range. Does nothing: its contract is the law.
+pub fn what_comes_after_fits()
+    ensures { (c : Bounds) → AreWithin c → (t : ℕ) (phase : TreePhase) (found : ℕ) (hook : HookAnswer) → TreePhaseFits c t phase →
+        NextFits c t (after phase found hook).0 }
+{}
+
+/// What the events of a call have found is known from each event to the next, by any account of which tests they passed. So a call that is
+/// done has added its action and no other, one that is refused has added none, and the refusal has its cause among the events. Does
+/// nothing: its contract is the law.
+pub fn each_call_ends_honestly()
+    ensures create { (seen more : (WordEvent → Bool) → Bool) (x : Create) (step : CreateStep) (value : ℕ) →
+        CreateKnows (Passed seen) x step →
+        SeesMore (Passed seen) (Passed more) (event_of (create_next x step).0 (create_next x step).1 value) →
+        CreateEnds (Passed more) x step (found_by (create_next x step).1 value) }
+    ensures remove { (seen more : (WordEvent → Bool) → Bool) (x : Remove) (step : RemoveStep) (value : ℕ) →
+        RemoveKnows (Passed seen) x step →
+        SeesMore (Passed seen) (Passed more) (event_of (remove_next x step).0 (remove_next x step).1 value) →
+        RemoveEnds (Passed more) x step (found_by (remove_next x step).1 value) }
+    ensures grow { (seen more : (WordEvent → Bool) → Bool) (x : Grow) (step : GrowStep) (value : ℕ) → GrowKnows (Passed seen) x step →
+        SeesMore (Passed seen) (Passed more) (event_of (grow_next x step).0 (grow_next x step).1 value) →
+        GrowEnds (Passed more) x step (found_by (grow_next x step).1 value) }
+    ensures move_to { (seen more : (WordEvent → Bool) → Bool) (x : MoveTo) (step : MoveStep) (value : ℕ) → MoveKnows (Passed seen) x step →
+        SeesMore (Passed seen) (Passed more) (event_of (move_next x step).0 (move_next x step).1 value) →
+        MoveEnds (Passed more) x step (found_by (move_next x step).1 value) }
+    ensures mark { (seen more : (WordEvent → Bool) → Bool) (x : Mark) (step : MarkStep) (value : ℕ) →
+        SeesMore (Passed seen) (Passed more) (event_of (mark_next x step).0 (mark_next x step).1 value) →
+        MarkEnds (Passed more) x step (found_by (mark_next x step).1 value) }
+    ensures open_file { (seen more : (WordEvent → Bool) → Bool) (x : OpenFile) (step : OpenStep) (value : ℕ) →
+        SeesMore (Passed seen) (Passed more) (event_of (open_next x step).0 (open_next x step).1 value) →
+        OpenEnds (Passed more) x step (found_by (open_next x step).1 value) }
+    ensures snapshot { (seen more : (WordEvent → Bool) → Bool) (x : Snapshot) (step : SnapshotStep) (value : ℕ) →
+        SnapshotKnows (Passed seen) x step →
+        SeesMore (Passed seen) (Passed more) (event_of (snapshot_next x step).0 (snapshot_next x step).1 value) →
+        SnapshotEnds (Passed more) x step (found_by (snapshot_next x step).1 value) }
+{}
