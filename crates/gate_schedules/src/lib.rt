@@ -1,5 +1,6 @@
-//! Whole schedules, and what holds of each of them: the headline. What a step tells, and what is kept of a task between its steps, by
-//! whatever program does them.
+//! Whole schedules, and what holds of each of them: the headline; below it the laws of all operations (`operations`), those of the tree
+//! (`trees`), and that phases which compare equal are the same (`same_phases`). What a step tells, and what is kept of a task between its
+//! steps, by whatever program does them.
 #![tactic(auto)]
 
 pub mod laws;
