@@ -262,7 +262,7 @@ impl Task {
         self.rests() && are_all(&self.spare, self.number, self.config.tasks)
     }
 
-    /// Gives its numbers to another task, which may give them again. Both rest.
+    /// Gives its numbers to another task, which may give them again. It rests itself.
     pub(crate) fn leave_to(self, task: &mut Task, gates: &Gates)
         requires this { IsFrom self gates.now }
         requires that { IsFrom task.old gates.now }
