@@ -1,0 +1,95 @@
+#!/usr/bin/env python3
+"""Runs the kit's `rt ci` in the folder where it is called, with the processors given first to what most others wait for.
+
+`rt ci` gives a proof one processor, or the few that are idle when it begins, so along a chain of crates, each of which waits for the one before,
+most of them stand idle. Here each proof may use several, and those on the longest chain go before the others. What is proved, how, and what is kept
+of it, is the kit's own: only the order and the number of processes of each proof are told here. Where the kit's scheduler isn't the function that
+this file knows, `rt ci` runs with it as it is.
+"""
+import importlib.machinery
+import importlib.util
+import os
+import shutil
+import sys
+import threading
+from concurrent.futures import FIRST_COMPLETED, Future, wait
+
+# How many proofs run at once, and how many processes the one on the longest chain has, and each other one.
+AT_ONCE, FIRST, OTHERS = 6, 4, 2
+# By how much the others stand back.
+NICE = 5
+# What a proof takes for each process beyond its first, as a part of what it takes with one, and how much of the free memory may be taken.
+EACH, ROOM = 0.6, 0.85
+
+
+def kit():
+    """Returns the kit's `rt` as a module."""
+    place = os.path.realpath(shutil.which("rt"))
+    loader = importlib.machinery.SourceFileLoader("rt", place)
+    rt = importlib.util.module_from_spec(importlib.util.spec_from_loader("rt", loader))
+    sys.dont_write_bytecode = True
+    loader.exec_module(rt)
+    return rt
+
+
+def behind(tasks):
+    """Returns of each task how long the longest chain of tasks is that begins with it. (Each comes after those that it waits for.)"""
+    found = {key: 0 for key in tasks}
+    for key in reversed([*tasks]):
+        waits, lines, *_ = tasks[key]
+        found[key] += lines
+        for it in waits:
+            found[it] = max(found[it], found[key])
+    return found
+
+
+def begin(call, given, jobs, nice):
+    """Begins a task in a thread of its own, which stands back by so much, as all do that it starts."""
+    future = Future()
+
+    def run():
+        if nice:
+            os.setpriority(os.PRIO_PROCESS, threading.get_native_id(), nice)
+        try:
+            future.set_result(call(given, jobs))
+        except BaseException as error:
+            future.set_exception(error)
+
+    threading.Thread(target=run, daemon=True).start()
+    return future
+
+
+def longest_first(rt):
+    """Returns what runs tasks side by side, each once those that it waits for have ended, and returns what each gave. A task is what it waits for, its
+    work in lines, its memory, and a call that takes what was given and how many processes it may use."""
+
+    def run(tasks):
+        chain, memory = behind(tasks), ROOM * rt.free()
+        left, running, given = sorted(tasks, key=lambda it: -chain[it]), {}, {}
+        most = min(AT_ONCE, rt.processors() + 2)
+        with rt.ending():
+            while left or running:
+                for key in [it for it in left if all(below in given for below in tasks[it][0])]:
+                    is_first = chain[key] >= max(chain[it] for it in [*left, *(of for of, _ in running.values())])
+                    jobs = min(FIRST if is_first else OTHERS, rt.processors())
+                    needs = tasks[key][2] * (1 + EACH * (jobs - 1))
+                    if running and (len(running) >= most or needs > memory - sum(it for _, it in running.values())):
+                        continue
+                    left.remove(key)
+                    running[begin(tasks[key][3], given, jobs, 0 if is_first else NICE)] = key, needs
+                for it in wait(running, return_when=FIRST_COMPLETED).done:
+                    given[running.pop(it)[0]] = it.result()
+        return given
+
+    return run
+
+
+def main():
+    rt = kit()
+    if all(callable(getattr(rt, it, None)) for it in ("in_lanes", "ending", "free", "processors")):
+        rt.in_lanes = longest_first(rt)
+    return rt.main(["ci"])
+
+
+if __name__ == "__main__":
+    sys.exit(main())
