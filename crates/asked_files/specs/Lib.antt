@@ -1,3 +1,4 @@
+pub mod race_texts
 pub mod Checks
 pub mod Outcomes
 pub mod endings

@@ -9,11 +9,11 @@ use Rattle.asked_files.specs.declared.endings.ends.Ending.TheVariants.{Listed, R
 use Rattle.gate_core.specs.Memory.{Memory}
 use Rattle.races.specs.declared.calls.Call.{Call}
 use Rattle.schedule_text.specs.bytes.Writing.{AppendsPart}
-use Rattle.race_texts.specs.declared.telling.Details.{Details}
-use Rattle.race_texts.specs.declared.telling.Schedules.{Schedules}
-use Rattle.race_texts.specs.declared.telling.Schedules.TheVariants.{Untold, Lines, Columns}
-use Rattle.race_texts.specs.Left.{IsRaceIn, lines_in}
-use Rattle.race_texts.specs.Told.{Tells}
+use Rattle.asked_files.specs.declared.race_texts.telling.Details.{Details}
+use Rattle.asked_files.specs.declared.race_texts.telling.Schedules.{Schedules}
+use Rattle.asked_files.specs.declared.race_texts.telling.Schedules.TheVariants.{Untold, Lines, Columns}
+use Rattle.asked_files.specs.race_texts.Left.{IsRaceIn, lines_in}
+use Rattle.asked_files.specs.race_texts.Told.{Tells}
 
 -- in which form schedules are told
 abbrev pub schedules_as : words.Schedules → Schedules

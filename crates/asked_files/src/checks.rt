@@ -6,8 +6,8 @@ ghost use Rattle.asked_files.specs.Checks.{TellsPassed, count_checked, counts_te
 ghost use Rattle.asked_files.specs.declared.endings.ends.Ending.TheVariants.{Passed, Refused};
 
 use crate::endings::{Ending, why_told};
+use crate::race_texts::check;
 use crate::reading::read_bytes;
-use race_texts::check;
 use schedule_text::Output;
 use schedule_text::bytes::write_out;
 use std::alloc::{AllocError, Global};

@@ -7,6 +7,7 @@ pub mod checks;
 pub mod endings;
 mod explained;
 pub mod outcomes;
+pub mod race_texts;
 mod reading;
 pub mod replay;
 

@@ -7,11 +7,11 @@ ghost use Rattle.asked_files.specs.Outcomes.{EndsTold, TellsRace, schedules_as};
 ghost use Rattle.schedule_text.specs.bytes.Writing.{AppendsPart};
 
 use crate::endings::{Ending, fault_told, refused, why_told, why_told_of};
+use crate::race_texts::{Details, Schedules, read_race, tell};
 use crate::reading::read_bytes;
 use access_model::GateError;
 use command_line::Outcomes;
 use exploration::Stop;
-use race_texts::{Details, Schedules, read_race, tell};
 use schedule_text::Output;
 use schedule_text::bytes::write_out;
 use std::alloc::{AllocError, Global};

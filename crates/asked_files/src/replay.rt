@@ -6,13 +6,13 @@ ghost use Rattle.transcripts.specs.Replayed.{Replayed};
 
 use crate::endings::{fault_told, why_told};
 use crate::explained::explanation;
-use race_texts::shown_events::{Form, Show};
-use replays::Driver;
-use replays::replay::replay_to_end;
+use crate::race_texts::shown_events::{Form, Show};
 use schedule_text::bytes::{ReplayFault, fault_after};
 use std::alloc::Global;
 use std::io::{Read, Write};
 use transcripts::no_memory;
+use transcripts::replays::Driver;
+use transcripts::replays::replay::replay_to_end;
 
 /// What is told of a fault.
 #[derive(Clone, Copy)]

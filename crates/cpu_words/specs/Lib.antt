@@ -1,3 +1,4 @@
+pub mod gate_counts
 pub mod Names
 pub mod Touches
 pub mod Words

@@ -3,6 +3,7 @@
 #![tactic(auto)]
 
 pub mod events;
+pub mod gate_counts;
 pub mod names;
 pub mod sums;
 

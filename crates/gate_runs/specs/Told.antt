@@ -3,10 +3,10 @@ use Rattle.std.specs.Prelude.{◌≡◌, ℕ, ◌*◌, slice_index}
 use Rattle.cpu_words.specs.Names.{place, stride}
 use Rattle.cpu_words.specs.declared.names.WordName.TheVariants.{Used}
 use Rattle.gate_runs.specs.declared.runs.Totals.{Totals}
-use Rattle.run_parts.specs.Plans.{run_config}
-use Rattle.run_parts.specs.declared.counts.Details.{Details}
-use Rattle.run_threads.specs.Parts.{AllDid, EndsAs}
-use Rattle.run_parts.specs.Ended.{Ended, Ending}
+use Rattle.gate_runs.specs.run_parts.Plans.{run_config}
+use Rattle.gate_runs.specs.declared.run_parts.counts.Details.{Details}
+use Rattle.gate_runs.specs.run_threads.Parts.{AllDid, EndsAs}
+use Rattle.gate_runs.specs.run_parts.Ended.{Ended, Ending}
 
 -- What a run tells of gates that are closed: the blocks that their files have in the end, and that nothing is held. In the world that they
 -- leave, each task has done its part from where it began, and nothing else: the backup all freezes, each with a snapshot, a call of the watch,

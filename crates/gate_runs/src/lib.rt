@@ -2,7 +2,9 @@
 //! closed. It needs public calls alone, and stands in a crate of its own so that what needs no runs does not wait for their proof.
 #![tactic(auto)]
 
+pub mod run_parts;
+pub mod run_threads;
 mod runs;
 
-pub use run_parts::{Copies, Details, Meeting, Plan, Sizes, Watch, Writes};
+pub use crate::run_parts::{Copies, Details, Meeting, Plan, Sizes, Watch, Writes};
 pub use runs::{Totals, run_plan, run_with};

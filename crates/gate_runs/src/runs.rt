@@ -2,18 +2,18 @@
 
 ghost use Rattle.std.specs.Prelude.{◌≡◌, IfErr, IfOk, OnOk};
 ghost use Rattle.access_model.specs.declared.errors.GateError.TheVariants.{Invalid, Order};
-ghost use Rattle.run_parts.specs.Ended.{EndedWith};
-ghost use Rattle.run_parts.specs.TaskStates.{IsFrom};
-ghost use Rattle.run_parts.specs.declared.counts.Details.{Details as DetailsType};
-ghost use Rattle.run_parts.specs.Meetings.{unseen};
+ghost use Rattle.gate_runs.specs.run_parts.Ended.{EndedWith};
+ghost use Rattle.gate_runs.specs.run_parts.TaskStates.{IsFrom};
+ghost use Rattle.gate_runs.specs.declared.run_parts.counts.Details.{Details as DetailsType};
+ghost use Rattle.gate_runs.specs.run_parts.Meetings.{unseen};
 ghost use Rattle.gate_runs.specs.Told.{TellsRun};
-ghost use Rattle.run_parts.specs.Plans.{MayRun, run_config};
-ghost use Rattle.run_parts.specs.Refusals.{RunRefused};
+ghost use Rattle.gate_runs.specs.run_parts.Plans.{MayRun, run_config};
+ghost use Rattle.gate_runs.specs.run_parts.Refusals.{RunRefused};
 
+use crate::run_parts::{Closed, Details, Gates, MOUNT, Meeting, Plan, Task, Watch};
+use crate::run_threads::in_threads;
 use access_model::{Gate, GateError};
 use cpu_words::WordName;
-use run_parts::{Closed, Details, Gates, MOUNT, Meeting, Plan, Task, Watch};
-use run_threads::in_threads;
 use std::alloc::Global;
 use std::sync::Wait;
 use std::thread::Threads;

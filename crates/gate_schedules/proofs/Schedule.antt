@@ -6,8 +6,8 @@ use Rattle.finite_sums.proofs.Totals.{each_updated, total_bound, total_none, tot
 use Rattle.finite_sums.specs.Sums.{total, update}
 use Rattle.gate_schedules.proofs.operations.Layers.{op_keeps, phase_keeps}
 use Rattle.gate_schedules.proofs.Beginnings.{MayBegin, first_fits, may_begin}
-use Rattle.gate_counts.proofs.{Events.words_sum, Flags.gate_begins, Numbers.below_le}
-use Rattle.gate_counts.specs.{Gates.{below, counted as counted_of}, Levels.{level_as_gate, processor_of as level_processor}}
+use Rattle.cpu_words.proofs.gate_counts.{Events.words_sum, Flags.gate_begins, Numbers.below_le}
+use Rattle.cpu_words.specs.gate_counts.{Gates.{below, counted as counted_of}, Levels.{level_as_gate, processor_of as level_processor}}
 use Rattle.gate_schedules.proofs.operations.frames.{Beside.{SameCounts, beside_good, beside_of, beside_shown}, Frames.{left_alone, opens_left, same_words}, Trees.tree_within}
 use Rattle.gate_world.specs.{Alike.{IsBeside, off_tree}, Beginnings.{first_phase, view_refusal}, Configs.{IsWithin, model_limits}, Fits.{HasFile, file_of}}
 use Rattle.gate_world.specs.{Headline.{IdleSumsHold, SumsHold}, Levels.{at_level, level_role_of}, Owners.KnowsWords, Rules.{AtLevel, AtMount, Files, Fitting}}

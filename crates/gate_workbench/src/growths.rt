@@ -5,7 +5,7 @@
 use crate::{gates, models, schedules, threads};
 use anyhow::Result;
 use driven_gates::GatesDriver;
-use replays::Core;
+use transcripts::replays::Core;
 use std::alloc::Global;
 use std::io::Read;
 use std::sync::Wait;

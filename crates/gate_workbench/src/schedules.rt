@@ -2,8 +2,8 @@
 
 use crate::ending::Ending;
 use access_model::GateError;
-use replays::replay::replay_over;
-use replays::{Driver, ReplayFault};
+use transcripts::replays::replay::replay_over;
+use transcripts::replays::{Driver, ReplayFault};
 use std::alloc::Global;
 
 /// A schedule that needs memory at its first line and at its third.

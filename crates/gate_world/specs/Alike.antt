@@ -2,7 +2,7 @@
 -- phases of another, as a part of its own, needs no second proof of its events.
 use Rattle.std.specs.Prelude.{◌≡◌, ℕ, Bool, Option, None, List}
 use Rattle.finite_sums.specs.Sums.{update}
-use Rattle.gate_counts.specs.Levels.{LevelRole}
+use Rattle.cpu_words.specs.gate_counts.Levels.{LevelRole}
 use Rattle.gated_tree.specs.Roles.{Role as TreeRole}
 use Rattle.mount_counts.specs.Roles.{Role}
 use Rattle.freeze_laws.specs.levels.Roles.{SyncRole}

@@ -7,7 +7,7 @@ use Rattle.access_model.specs.declared.actions.{Holder.Holder, NodeInfo.NodeInfo
 use Rattle.access_model.specs.declared.errors.GateError.{GateError, TheVariants.{Again, Busy, ReadOnly, Invalid, NoEntry, NotDir, IsDir}}
 use Rattle.access_model.specs.declared.replies.Next.TheVariants.{Done}
 use Rattle.cpu_words.specs.Hooks.{HookAnswer}
-use Rattle.gate_counts.specs.{Gates.counted as counted_of, Levels.level_as_gate}
+use Rattle.cpu_words.specs.gate_counts.{Gates.counted as counted_of, Levels.level_as_gate}
 use Rattle.gated_tree.specs.declared.changes.{Create.Create, CreateStep.{CreateStep, TheVariants.LoadsDirectory}}
 use Rattle.gated_tree.specs.declared.changes.{MoveStep.{MoveStep, TheVariants.{LoadsFile as LoadsFileToMove, LoadsDirectory as LoadsTarget}}, MoveTo.MoveTo}
 use Rattle.gated_tree.specs.declared.changes.{Remove.Remove, RemoveStep.{RemoveStep, TheVariants.LoadsFile as LoadsFileToRemove}}

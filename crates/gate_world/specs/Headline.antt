@@ -4,7 +4,7 @@ use Rattle.finite_sums.specs.Sums.{total}
 use Rattle.access_model.specs.{Histories.{Done, end_of, IsLegal, IsMerge}, Laws.NobodyHoldsClosed, States.{is_removed, one_if}}
 use Rattle.access_model.specs.declared.{errors.GateError.GateError, replies.Next.TheVariants.Done as Ended}
 use Rattle.cpu_words.specs.{Sums.lead, declared.{events.Touch.{Touch, TheVariants.Store}, names.WordName.{WordName, TheVariants.Holders}}}
-use Rattle.gate_counts.specs.{Gates.{counted as counted_of, unread}, Levels.{Summing, level_as_gate}}
+use Rattle.cpu_words.specs.gate_counts.{Gates.{counted as counted_of, unread}, Levels.{Summing, level_as_gate}}
 use Rattle.gated_tree.specs.{Calls.words_loaded, Roles.{seen_as, tree_word}, Trees.{IsSound, IsClean}}
 use Rattle.gated_tree.specs.declared.{phases.TreePhase.TheVariants.Snapshot as Snapshots, snapshots.Snapshot.Snapshot}
 use Rattle.mount_counts.specs.{Phases.has_flag, Roles.counted}

@@ -3,7 +3,7 @@ use Rattle.std.specs.Prelude.{◌≡◌, ℕ, ◌+◌, ◌%◌, ◌<◌, ◌==�
 use Rattle.finite_sums.specs.Sums.{update}
 use Rattle.cpu_words.specs.Words.{Words}
 use Rattle.cpu_words.specs.declared.{events.{Event.Event, Touch.{Touch, TheVariants.{Add, Sub}}}, names.WordName.{WordName, TheVariants.LevelCount}}
-use Rattle.gate_counts.specs.Levels.{LevelRole, LevelView, Out as CountsNot}
+use Rattle.cpu_words.specs.gate_counts.Levels.{LevelRole, LevelView, Out as CountsNot}
 use Rattle.freeze_laws.specs.levels.{Operations.{callback_role, down_read_inside}, Roles.{SyncRole, Out as IsApart}}
 use Rattle.freeze_laws.specs.stages.Roles.{is_full}
 use Rattle.compounds.specs.declared.write_access.phases.WritePhase.{WritePhase}

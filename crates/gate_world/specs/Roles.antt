@@ -1,7 +1,7 @@
 -- Roles: what each step of a phase is doing at a mount, at a level, with the stage and the holders, and at the tree.
 use Rattle.std.specs.Prelude.{ℕ, ◌-◌, ◌==◌, nat_lt, Bool, true, false, if◌then◌else◌, Option, Some, None, Result, Ok, Err}
 use Rattle.access_model.specs.{Holders.{nobody, with_holder, is_unheld}, declared.{actions.Holder.Holder, errors.GateError.GateError, replies.Reply.Reply}}
-use Rattle.gate_counts.specs.Levels.{LevelRole, Out as CountsNot, Seeking, BackingOff as BacksOff, Summing as SumsLevel, Passed}
+use Rattle.cpu_words.specs.gate_counts.Levels.{LevelRole, Out as CountsNot, Seeking, BackingOff as BacksOff, Summing as SumsLevel, Passed}
 use Rattle.gated_tree.specs.Roles.{Role as TreeRole, Out as OffTree, Freeing, Dropped, Uncounting, Bare, Clearing}
 use Rattle.gated_tree.specs.declared.{phases.TreePhase.TreePhase, snapshots.SnapshotStep.SnapshotStep}
 use Rattle.mount_counts.specs.Roles.{Role, Out, Asking, Cleared, PastRemount, PastFlags, BackingOff, Summing, Empty, Leaving}

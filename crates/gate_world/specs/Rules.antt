@@ -2,7 +2,7 @@
 use Rattle.access_model.specs.{Actions.{IsAllowed, after_action}, States.{State, openers}, declared.actions.Action.Action}
 use Rattle.cpu_words.specs.{Hooks.HookAnswer, Words.Words}
 use Rattle.finite_sums.specs.Sums.{total}
-use Rattle.gate_counts.specs.Levels.{LevelHolds}
+use Rattle.cpu_words.specs.gate_counts.Levels.{LevelHolds}
 use Rattle.gate_world.specs.{Configs.model_limits, Fits.{Fits, HasFile, file_of}, Levels.{SectionsAreOdd, at_level, inside, is_frozen_whole, sync_role_of}}
 use Rattle.gate_world.specs.{Owners.KnowsWords, Remounts.{remount_owns, remount_role, remount_sets}, Shown.{closing, shown}}
 use Rattle.gate_world.specs.Roles.{freeze_holder_role, freeze_owns, freeze_stage_role, mount_owns, mount_role, remount_stage_role, thaw_holder_role, thaw_owns}

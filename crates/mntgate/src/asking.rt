@@ -17,7 +17,7 @@ use asked_files::endings::{Ending, text_told, unopened};
 use asked_files::{Telling, replay_told, run_checks, run_outcomes, show_told};
 use command_line::{Asked, Form, Replay, read_words};
 use driven_gates::GatesDriver;
-use replays::Core;
+use transcripts::replays::Core;
 use std::alloc::{AllocError, Global};
 use std::fs;
 use std::io::{Read, Stderr, Write};
@@ -201,9 +201,9 @@ fn replay_as<I: Read, W: Write, E: Write>(
                 Err(_) => Ending::Refused,
             };
         }
-        Form::Events => race_texts::shown_events::Form::Events,
-        Form::Columns => race_texts::shown_events::Form::Columns,
-        Form::Json => race_texts::shown_events::Form::Json,
+        Form::Events => asked_files::race_texts::shown_events::Form::Events,
+        Form::Columns => asked_files::race_texts::shown_events::Form::Columns,
+        Form::Json => asked_files::race_texts::shown_events::Form::Json,
     };
     let ended = if asked.over_gates {
         show_told::<GatesDriver, I, W, E>(alloc, form, telling, reader, writer, errors)

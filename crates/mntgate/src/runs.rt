@@ -2,7 +2,7 @@
 
 ghost use Rattle.std.specs.Prelude.{◌≡◌, ◌≤◌, ◌⊎◌};
 ghost use Rattle.asked_files.specs.declared.endings.ends.Ending.TheVariants.{Ran, Refused};
-ghost use Rattle.run_parts.specs.Plans.{MayRun};
+ghost use Rattle.gate_runs.specs.run_parts.Plans.{MayRun};
 
 use access_model::GateError;
 use asked_files::endings::{Ending, refused, why_told};

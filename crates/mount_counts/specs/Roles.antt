@@ -1,6 +1,6 @@
 -- One mount: what its predicate reads of the words and of each task's view, as one gate.
 use Rattle.std.specs.Prelude.{◌≡◌, ℕ, zero, suc, ◌+◌, ◌%◌, ◌/◌, ◌<◌}
-use Rattle.gate_counts.specs.Gates.{Barring, Apart, Reading, ReadZero, Silent, bars, below, GateView, admitted as is_admitted, counted as is_counted, GateHolds}
+use Rattle.cpu_words.specs.gate_counts.Gates.{Barring, Apart, Reading, ReadZero, Silent, bars, below, GateView, admitted as is_admitted, counted as is_counted, GateHolds}
 
 -- What a task is doing at one mount. Of the tasks that count there: `Out` is none of them, the next five seek an access, the
 -- last four own `umount`.

@@ -3,7 +3,7 @@
 
 ghost use Rattle.std.specs.Prelude.{◌≡◌, ℕ, ◌%◌, ◌<◌};
 ghost use Rattle.finite_sums.specs.Sums.{total};
-ghost use Rattle.gate_counts.specs.Gates.{CountsHold};
+ghost use Rattle.cpu_words.specs.gate_counts.Gates.{CountsHold};
 ghost use Rattle.mount_counts.specs.Roles.{Empty, MountView, mount_as_gate, counted, admitted, MountHolds};
 
 /// Where each count word of a mount is the wrapping sum of the net additions to it, the words of all processors sum to what is

@@ -1,3 +1,4 @@
+pub mod replays
 pub mod Limits
 pub mod Printing
 pub mod Transcript

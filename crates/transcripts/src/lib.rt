@@ -5,6 +5,7 @@
 
 pub mod drivers;
 pub mod printing;
+pub mod replays;
 pub mod session;
 
 pub use drivers::Driver;

@@ -7,11 +7,11 @@ ghost use Rattle.vfs_gates.specs.TaskStates.{TaskState};
 ghost use Rattle.vfs_gates.specs.Waits.{is_wait};
 ghost use Rattle.call_events.specs.Runs.{told_as, unit_of, Goes};
 
+use crate::call_lines::InLine;
 use crate::gates::Gates;
 use crate::task::Task;
 use access_model::{GateError, Next, Reply};
 use call_events::Progress;
-use call_lines::InLine;
 use compounds::WritePhase;
 use gate_world::{Op, Phase, UnderWay};
 use mount_counts::{Change, ChangeStep, MountPhase, Want, WantStep};

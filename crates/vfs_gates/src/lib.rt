@@ -2,6 +2,7 @@
 //! right to do that number's events, and the numbers that it may still give to others. What a caller names of the crates below it finds here, too.
 #![tactic(auto)]
 
+mod call_lines;
 mod calls;
 mod closed;
 mod gates;

@@ -5,13 +5,13 @@ ghost use Rattle.gate_world.specs.declared.operations.Op.{Op as OpType};
 ghost use Rattle.vfs_gates.specs.TaskStates.{TaskState};
 ghost use Rattle.call_events.specs.Runs.{told_as, ran_of, IsRanReply, Goes};
 
+use crate::call_lines::InLine;
 use crate::calls::{outcome, waits};
 use crate::gates::Gates;
 use crate::task::Task;
 use access_model::{GateError, Holder, Next, Reply};
 use call_ends::{Waiting, wait_to_end};
 use call_events::{Progress, TimedHooks};
-use call_lines::InLine;
 use compounds::WritePhase;
 use crossbeam_utils::Backoff;
 use freeze_levels::{Freeze, FreezeStep, Thaw, ThawStep};

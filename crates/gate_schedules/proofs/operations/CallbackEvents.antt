@@ -9,7 +9,7 @@ use Rattle.cpu_words.specs.declared.events.Touch.{Touch}
 use Rattle.cpu_words.specs.declared.names.WordName.{WordName}
 use Rattle.finite_sums.proofs.Totals.{update_same}
 use Rattle.finite_sums.specs.Sums.{update}
-use Rattle.gate_counts.specs.Levels.{Out as CountsNot}
+use Rattle.cpu_words.specs.gate_counts.Levels.{Out as CountsNot}
 use Rattle.gate_schedules.proofs.operations.frames.Frames.{left_alone, level_view_as}
 use Rattle.gate_schedules.proofs.operations.frames.LevelWorlds.{IsEventAt, IsOfLevel, found_level, level_there, sync_elsewhere, sync_off, sync_on}
 use Rattle.gate_world.specs.Configs.{IsWithin}

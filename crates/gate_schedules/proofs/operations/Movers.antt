@@ -6,8 +6,8 @@ use Rattle.compounds.specs.declared.file_closes.phases.ClosePhase.{ClosePhase}
 use Rattle.finite_sums.proofs.Totals.{total_at, total_none}
 use Rattle.finite_sums.specs.Sums.{total}
 use Rattle.freeze_levels.specs.declared.{freezes.{Freeze.Freeze, FreezeStep.FreezeStep}, thaws.ThawStep.ThawStep}
-use Rattle.gate_counts.proofs.Events.{words_sum}
-use Rattle.gate_counts.specs.{Gates.{BarringHolds, admitted, below, counted, unread}, Levels.{LevelRole, Passed, barring_of, level_as_gate, processor_of}}
+use Rattle.cpu_words.proofs.gate_counts.Events.{words_sum}
+use Rattle.cpu_words.specs.gate_counts.{Gates.{BarringHolds, admitted, below, counted, unread}, Levels.{LevelRole, Passed, barring_of, level_as_gate, processor_of}}
 use Rattle.gate_schedules.proofs.operations.frames.{LevelWorlds.{callback_opens, read_opens}, Owners.{hold_owns, owns_le, who_holds}}
 use Rattle.gate_world.specs.{Configs.IsWithin, Fits.{Fits, PhaseFits}, Levels.{at_level, inside, is_frozen_whole, level_role_of, sync_role_of}}
 use Rattle.gate_world.specs.{Operations.{holds_none, holds_none_from}, Remounts.remount_owns, Roles.{Stand, change_owns, count_beside, count_role_if}}

@@ -5,8 +5,8 @@ use Rattle.cpu_words.specs.{Hooks.HookAnswer, Touches.wrap_add, Words.{Words, pu
 use Rattle.cpu_words.specs.declared.names.WordName.{WordName, TheVariants.{Block, LevelCount, Section, Sync}}
 use Rattle.finite_sums.proofs.Totals.{update_at, update_off, update_same}
 use Rattle.finite_sums.specs.Sums.{update}
-use Rattle.gate_counts.proofs.LevelLaws.{is_granted, is_refused}
-use Rattle.gate_counts.specs.Levels.{Out as CountsNot}
+use Rattle.cpu_words.proofs.gate_counts.LevelLaws.{is_granted, is_refused}
+use Rattle.cpu_words.specs.gate_counts.Levels.{Out as CountsNot}
 use Rattle.gate_schedules.proofs.operations.frames.{Frames.{count_none, level_view_as}, LevelWorlds.{fast_finds_open, not_passed, sync_on}}
 use Rattle.gate_world.specs.{Configs.{IsWithin, model_limits}, Fits.{Fits, ReadFits, ReadStepFits}, Holdings.Holdings, Levels.{at_level, level_role_of}}
 use Rattle.gate_world.specs.{Levels.sync_role_of, Operations.holds_none_from, Roles.{count_role_if, read_count_role}, Rules.{AtLevel, Fitting, IsGood, Moves}}

@@ -5,7 +5,7 @@ use Rattle.std.specs.Prelude.{◌-◌, ◌*◌, ◌%◌, ◌==◌, nat_lt, Some,
 use Rattle.finite_sums.{proofs.Totals.update_at, specs.Sums.total}
 use Rattle.access_model.specs.declared.replies.Next.{Next}
 use Rattle.cpu_words.specs.{Sums.{ahead, lead}, Touches.{left, found_by, wrap_add}, Words.{Words, read}, declared.{names.WordName.WordName, sums.Sum.Sum}}
-use Rattle.gate_counts.proofs.Numbers.{ahead_none, ahead_past, ahead_step}
+use Rattle.cpu_words.proofs.gate_counts.Numbers.{ahead_none, ahead_past, ahead_step}
 use Rattle.percpu_rwsem.specs.{Graces.looked, SyncWords.{unpack, is_passed, on_enter, on_exit, on_callback}, Transitions.{transition_next, transition_after}}
 use Rattle.percpu_rwsem.specs.Writers.{down_write_next, down_write_after, at_down_write, entered_from, enter_step, callback_step, sections_awaited}
 use Rattle.percpu_rwsem.specs.Writers.{up_write_next, up_write_after, exit_made}

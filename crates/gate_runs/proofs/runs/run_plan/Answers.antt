@@ -4,16 +4,16 @@ use Rattle.std.specs.Prelude.{slice_index}
 use Rattle.cpu_words.specs.Names.{place, stride}
 use Rattle.cpu_words.specs.declared.names.WordName.TheVariants.{Used}
 use Rattle.gate_world.specs.declared.config.Config.{Config}
-use Rattle.run_parts.specs.TaskStates.{TaskState}
+use Rattle.gate_runs.specs.run_parts.TaskStates.{TaskState}
 use Rattle.std.proofs.lemmas.Nat.{mul-le}
 use Rattle.std.proofs.lemmas.Result.{err_from_is_err_and}
 use Rattle.gate_world.specs.Configs.{IsWithin}
-use Rattle.run_threads.specs.Parts.{Among, EndsAs}
-use Rattle.run_parts.specs.Plans.{MayRun, run_config}
-use Rattle.run_parts.specs.Refusals.{RunRefused}
-use Rattle.run_parts.specs.Splitting.{Gives, HasBegun}
-use Rattle.run_parts.proofs.Splitting.{first_begins, gives_all}
-use Rattle.run_threads.proofs.Staying.{all_did_on, ends_as}
+use Rattle.gate_runs.specs.run_threads.Parts.{Among, EndsAs}
+use Rattle.gate_runs.specs.run_parts.Plans.{MayRun, run_config}
+use Rattle.gate_runs.specs.run_parts.Refusals.{RunRefused}
+use Rattle.gate_runs.specs.run_parts.Splitting.{Gives, HasBegun}
+use Rattle.gate_runs.proofs.run_parts.Splitting.{first_begins, gives_all}
+use Rattle.gate_runs.proofs.run_threads.Staying.{all_did_on, ends_as}
 use Rattle.gate_runs.proofs.runs.run_plan.Goals as goal
 
 pub in_threads-requires-clause-begins : goal.in_threads-requires-clause-begins

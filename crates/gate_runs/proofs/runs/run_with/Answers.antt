@@ -1,11 +1,11 @@
 -- the plan is what was asked for
 use Rattle.std.proofs.Common.{◌≡◌, ℕ, subst}
 use Rattle.std.proofs.lemmas.Result.{err_from_is_err_and}
-use Rattle.run_parts.specs.declared.plans.Plan.{Plan}
-use Rattle.run_parts.specs.Meetings.{unseen}
+use Rattle.gate_runs.specs.declared.run_parts.plans.Plan.{Plan}
+use Rattle.gate_runs.specs.run_parts.Meetings.{unseen}
 use Rattle.gate_runs.specs.Told.{TellsRun}
-use Rattle.run_parts.specs.Plans.{run_config}
-use Rattle.run_parts.specs.Refusals.{RunRefused}
+use Rattle.gate_runs.specs.run_parts.Plans.{run_config}
+use Rattle.gate_runs.specs.run_parts.Refusals.{RunRefused}
 use Rattle.gate_runs.proofs.runs.run_with.Goals as goal
 
 -- what is said of a plan's numbers is said of those that were asked for

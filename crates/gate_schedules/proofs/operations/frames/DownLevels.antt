@@ -7,8 +7,8 @@ use Rattle.finite_sums.{proofs.Totals.{update_at, update_map, update_same}, spec
 use Rattle.access_model.specs.declared.{actions.Action.Action, replies.{Next.Next, Reply.Reply}}
 use Rattle.cpu_words.specs.{Sums.sum_taking, Touches.{found_by, left, wrap_add}, Words.{Words, read, put}}
 use Rattle.cpu_words.specs.declared.{events.Touch.Touch, names.WordName.WordName, sums.{Sum.Sum, Taken.Taken}}
-use Rattle.gate_counts.proofs.LevelLaws.{swaps, sums_on, passes, sums_anew, none_passed}
-use Rattle.gate_counts.specs.Levels.{LevelRole, LevelView, LevelHolds, Out as CountsNot, Summing, Passed as CountsPassed}
+use Rattle.cpu_words.proofs.gate_counts.LevelLaws.{swaps, sums_on, passes, sums_anew, none_passed}
+use Rattle.cpu_words.specs.gate_counts.Levels.{LevelRole, LevelView, LevelHolds, Out as CountsNot, Summing, Passed as CountsPassed}
 use Rattle.percpu_rwsem.specs.{Graces.looked, SyncWords.{unpack, is_passed, is_queued, on_enter, on_callback}, Transitions.transition_after}
 use Rattle.percpu_rwsem.specs.Writers.{down_write_next, down_write_after, at_down_write, entered_from, enter_step, callback_step, sections_awaited}
 use Rattle.percpu_rwsem.specs.Writers.{passed_awaited, sum_begun, down_write_summed}

@@ -4,7 +4,7 @@ use Rattle.cpu_words.specs.{Words.Words, declared.{events.Touch.Touch, names.Wor
 use Rattle.finite_sums.proofs.Totals.{each_updated, total_updated, update_map, update_same}
 use Rattle.finite_sums.specs.Sums.{total, update}
 use Rattle.freeze_levels.specs.Holders.{holders_in}
-use Rattle.gate_counts.specs.Levels.{LevelHolds, LevelRole, LevelView, Out as CountsNot}
+use Rattle.cpu_words.specs.gate_counts.Levels.{LevelHolds, LevelRole, LevelView, Out as CountsNot}
 use Rattle.gate_schedules.proofs.operations.frames.Known.{known_same}
 use Rattle.gate_world.specs.{Fits.{Fits, HasFile, file_of}, Holdings.Holdings, Levels.{at_level, inside, is_frozen_whole, level_added_by, level_taken_by}}
 use Rattle.gate_world.specs.{Alike.{Roles, no_roles, roles_of}, Levels.sync_role_of, Owners.KnowsWords, Roles.{count_role_if, role_if, sync_role_if}}

@@ -4,7 +4,7 @@ use Rattle.cpu_words.specs.Hooks.{HookAnswer}
 use Rattle.finite_sums.proofs.Totals.{total_at, total_none}
 use Rattle.finite_sums.specs.Sums.{total}
 use Rattle.freeze_levels.specs.declared.freezes.FreezeStep.{FreezeStep}
-use Rattle.gate_counts.specs.Gates.{BarringHolds, admitted, unread}
+use Rattle.cpu_words.specs.gate_counts.Gates.{BarringHolds, admitted, unread}
 use Rattle.gate_schedules.proofs.operations.frames.{TreeHolders.{IsOpen, both_true, mount_there, none_past, writer_apart}, TreeRoles.{call_plain, close_apart, freeze_apart}}
 use Rattle.gate_schedules.proofs.operations.frames.{TreeRoles.snapshot_apart, Trees.{nobody_reads, sealed_frozen}}
 use Rattle.gate_world.specs.{Configs.model_limits, Fits.{Fits, HasFile, PhaseFits, TreeAccess, file_of}, Holdings.Holdings, Operations.is_faulter}

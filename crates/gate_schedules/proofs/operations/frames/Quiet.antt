@@ -3,7 +3,7 @@
 use Rattle.std.proofs.{Common.{◌≡◌, ℕ, ◌∙◌, refl, sym, subst, inl, inr}, lemmas.Bool.Decides.eqb_tells}
 use Rattle.finite_sums.{proofs.Totals.{update_at, update_off}, specs.Sums.update}
 use Rattle.cpu_words.specs.{Names.IsWord, Words.put, declared.names.WordName.WordName}
-use Rattle.gate_counts.{proofs.Quiet.write_is_quiet, specs.{Gates.CountsHold, Levels.level_as_gate}}
+use Rattle.cpu_words.{proofs.gate_counts.Quiet.write_is_quiet, specs.gate_counts.{Gates.CountsHold, Levels.level_as_gate}}
 use Rattle.mount_counts.specs.Roles.{mount_as_gate}
 use Rattle.gate_world.specs.{Causes.{all_counted, all_inside}, Levels.at_level, Rules.{IsGood, AtMount, AtLevel, at_mount}, Worlds.World}
 use Rattle.gate_world.specs.declared.{config.Config.Config, views.View.View}

@@ -4,7 +4,7 @@ use Rattle.std.proofs.lemmas.Bool.{eq-eqb, ne_eqb, lt-ltb, le-ltb, cases_lt, Dec
 use Rattle.std.specs.Prelude.{Option, Some, None, Bool, if◌then◌else◌}
 use Rattle.finite_sums.{proofs.Totals.{update_map, update_off, update_same}, specs.Sums.update}
 use Rattle.cpu_words.specs.{Touches.left, Words.{Words, put, read}, declared.{events.Touch.Touch, names.WordName.WordName}}
-use Rattle.gate_counts.specs.Levels.{LevelRole, LevelHolds, Out as CountsNot, Passed as CountsPassed}
+use Rattle.cpu_words.specs.gate_counts.Levels.{LevelRole, LevelHolds, Out as CountsNot, Passed as CountsPassed}
 use Rattle.freeze_levels.specs.Levels.{closing, reopening}
 use Rattle.freeze_laws.specs.levels.{Events.{SyncLevel, SyncStep}, Operations.{put_at, left_by}, Roles.{Closed, Out as IsApart}}
 use Rattle.gate_world.specs.{LevelRuns.level_in, Levels.{at_level, level_role_of, inside, is_frozen_whole}}

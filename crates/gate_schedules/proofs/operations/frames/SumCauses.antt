@@ -2,7 +2,7 @@
 use Rattle.std.proofs.{Common.{◌≡◌, ℕ, suc, ◌+◌, ◌<◌, true, false, refl, sym, ap, ◌∙◌, inl, inr, arith, add-one}, lemmas.Bool.{cases_Bool, Decides.eqb_tells}}
 use Rattle.std.specs.Prelude.{Some, None, List, [], ◌∷◌}
 use Rattle.cpu_words.specs.{Sums.{lead, ahead}, Touches.wrap_add, declared.sums.Sum.Sum}
-use Rattle.gate_counts.proofs.Numbers.{ahead_step, ahead_past}
+use Rattle.cpu_words.proofs.gate_counts.Numbers.{ahead_step, ahead_past}
 use Rattle.mount_counts.specs.declared.phases.ChangeStep.{ChangeStep}
 use Rattle.gate_world.specs.{Causes.{all_counted, was_counted, words_read, moments_of_sum}, KeptCauses.ChangeCause, Rules.IsGood, Worlds.World}
 use Rattle.gate_world.specs.declared.config.Config.{Config}

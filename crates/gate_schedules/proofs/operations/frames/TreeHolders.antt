@@ -2,8 +2,8 @@
 use Rattle.finite_sums.proofs.Totals.{total_at}
 use Rattle.finite_sums.specs.Sums.{total}
 use Rattle.freeze_levels.specs.declared.{freezes.FreezeStep.FreezeStep, thaws.ThawStep.ThawStep}
-use Rattle.gate_counts.proofs.LevelLaws.{none_frozen, none_passed}
-use Rattle.gate_counts.specs.{Gates.past, Levels.{LevelRole, Passed}}
+use Rattle.cpu_words.proofs.gate_counts.LevelLaws.{none_frozen, none_passed}
+use Rattle.cpu_words.specs.gate_counts.{Gates.past, Levels.{LevelRole, Passed}}
 use Rattle.gate_schedules.proofs.operations.frames.{Stages.{stages_in, stages_right}, Stands.below}
 use Rattle.gate_world.specs.{Levels.{at_level, is_frozen_whole, level_role_of}, Operations.{is_writer, some_mount}, Roles.{count_beside, down_count_role}}
 use Rattle.gate_world.specs.Roles.{freeze_stage_role, freeze_stand, place_of, remount_stage_role, reopening_role, snapshot_stage_role, stand_count}

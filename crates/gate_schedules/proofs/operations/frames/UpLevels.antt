@@ -3,7 +3,7 @@ use Rattle.std.{proofs.Common.{◌≡◌, ℕ, ◌<◌, ◌≤◌, refl, sym, �
 use Rattle.finite_sums.proofs.Totals.{update_at}
 use Rattle.access_model.specs.declared.replies.Next.{Next}
 use Rattle.cpu_words.specs.{Touches.{found_by, left}, Words.{Words, read, put}, declared.{events.Touch.Touch, names.WordName.WordName}}
-use Rattle.gate_counts.{proofs.LevelLaws.reopens, specs.Levels.Out as CountsNot}
+use Rattle.cpu_words.{proofs.gate_counts.LevelLaws.reopens, specs.gate_counts.Levels.Out as CountsNot}
 use Rattle.percpu_rwsem.specs.{SyncWords.on_exit, Transitions.transition_after, Writers.{up_write_next, up_write_after, at_up_write, exit_made}}
 use Rattle.percpu_rwsem.specs.declared.{transitions.{Transition.Transition, TransitionNext.TransitionNext}, writers.{UpWrite.UpWrite, UpWriteStep.UpWriteStep}}
 use Rattle.freeze_laws.proofs.levels.Operations.{up_writes_are_there}

@@ -2,7 +2,7 @@
 use Rattle.std.{proofs.Common.{◌≡◌, ℕ, ◌<◌, refl, sym, ap, ◌∙◌, subst}, specs.Prelude.{Some, None}}
 use Rattle.finite_sums.{proofs.Totals.update_same, specs.Sums.update}
 use Rattle.cpu_words.specs.Words.{Words}
-use Rattle.gate_counts.{proofs.LevelLaws.{is_left_frozen, thaws}, specs.Levels.{Out as CountsNot, Passed as CountsPassed}}
+use Rattle.cpu_words.{proofs.gate_counts.LevelLaws.{is_left_frozen, thaws}, specs.gate_counts.Levels.{Out as CountsNot, Passed as CountsPassed}}
 use Rattle.freeze_laws.specs.levels.{Events.{Freezes, Thaws, SyncStep}, Roles.{SyncRole, Out as IsApart, Closed}}
 use Rattle.gate_world.specs.{Configs.IsWithin, LevelRuns.level_in, Levels.{inside, is_frozen_whole, sync_role_of}, Roles.closed_to, Rules.{IsGood, AtLevel}}
 use Rattle.gate_world.specs.{Worlds.World, declared.{config.Config.Config, views.View.View}}

@@ -1,4 +1,4 @@
-use Rattle.gate_counts.proofs.Events.{words_sum}
+use Rattle.cpu_words.proofs.gate_counts.Events.{words_sum}
 use Rattle.mount_counts.proofs.laws.words_sum_to_what_is_counted.Goals as goal
 
 pub returns : goal.returns

@@ -1,0 +1,61 @@
+//! The text of an outcome.
+
+ghost use Rattle.std.specs.Prelude.{◌≡◌, IfOk, slice_get};
+ghost use Rattle.schedule_text.specs.Printed.{Prints};
+ghost use Rattle.asked_files.specs.race_texts.Texts.{told_answer, course_text, outcome_text};
+
+use access_model::{GateError, Reply};
+use races::{Course, Race};
+use schedule_text::Output;
+use std::alloc::{AllocError, Global};
+
+/// The text of an outcome: what the calls of each task have answered, task by task, and `T waits` for each task that has calls left; all
+/// joined by `; `.
+#[tactic(auto, unfolding(crate::specs::race_texts::Texts::outcome_text))]
+pub fn outcome_text(alloc: Global, race: &Race, courses: &[Course]) -> Result<Vec<u8>, AllocError>
+    ensures { IfOk result (λ text. text.items ≡ outcome_text race.now.tasks race.now.calls.items courses.now) }
+{
+    let mut out = Output::new(alloc);
+    for task in 0..race.tasks {
+        if let Some(course) = course_of(courses, task) {
+            print_course(&mut out, race, task, course);
+        }
+    }
+    out.settled()?;
+    let text = out.bytes.as_slice();
+    Vec::from_slice(alloc, &text[2.min(text.len())..])
+}
+
+/// The course of a task, where there is one.
+fn course_of(courses: &[Course], task: u8) -> Option<Course>
+    ensures { result ≡ slice_get courses.now task }
+{
+    courses.get(task as usize).copied()
+}
+
+/// Prints the answers of a task, each behind `; `, and that it waits, where it has calls left.
+#[tactic(auto, unfolding(crate::specs::race_texts::Texts::course_text))]
+fn print_course(out: &mut Output, race: &Race, task: u8, course: Course)
+    ensures { Prints out.old out.new (course_text race.now.calls.items task course) }
+{
+    for turn in 0..8 {
+        if let Some(answer) = course.answers[turn] {
+            out.text(b"; ");
+            out.answer(task, without_blocks(answer), 0);
+        }
+    }
+    if let Some(_) = race.call_after(task, course) {
+        out.numbered(b"; ", u64::from(task));
+        out.text(b" waits");
+    }
+}
+
+/// The same answer, but of a snapshot only that it was taken: how many blocks it found is no part of the outcome.
+fn without_blocks(answer: Result<Reply, GateError>) -> Result<Reply, GateError>
+    ensures { result ≡ told_answer answer }
+{
+    match answer {
+        Ok(Reply::Tree) => Ok(Reply::Unit),
+        _ => answer,
+    }
+}

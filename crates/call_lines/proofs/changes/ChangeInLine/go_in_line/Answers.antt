@@ -1,8 +1,0 @@
--- each part of the line goes on from what the one before it left
-use Rattle.call_lines.proofs.changes.ChangeInLine.go_in_line.Goals as goal
-
-pub returns-clause-tied : goal.returns-clause-tied
-returns-clause-tied c number flags ties =
-    c.end_change.ensures.tied number flags
-    (c.add_counts-next.ensures.tied number flags
-    (c.begin_change-next.ensures.tied number flags ties))

@@ -1,0 +1,5 @@
+use Rattle.cpu_words.proofs.gate_counts.Events.{words_sum}
+use Rattle.cpu_words.proofs.gate_counts.words_sum_to_what_is_counted.Goals as goal
+
+pub returns : goal.returns
+returns c = λ tasks processors count at. words_sum

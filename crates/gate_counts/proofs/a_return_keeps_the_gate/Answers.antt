@@ -1,7 +1,0 @@
-use Rattle.std.proofs.Common.{refl}
-use Rattle.gate_counts.proofs.Readers.{returns as gives_back}
-use Rattle.gate_counts.proofs.a_return_keeps_the_gate.Goals as goal
-
-pub returns : goal.returns
-returns c = λ tasks processors bit unowned shut count at good t p held lt lp few narrow e none.
-    gives_back good t lt few narrow p lp held (at t).barring refl e none

@@ -1,5 +1,0 @@
-use Rattle.gate_counts.proofs.Events.{words_sum}
-use Rattle.gate_counts.proofs.words_sum_to_what_is_counted.Goals as goal
-
-pub returns : goal.returns
-returns c = λ tasks processors count at. words_sum

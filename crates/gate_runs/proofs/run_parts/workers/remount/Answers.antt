@@ -1,0 +1,25 @@
+-- one round more
+use Rattle.std.proofs.Common.{◌≤◌, ◌+◌, ap, arith, ◌∙◌}
+use Rattle.gate_runs.proofs.run_parts.Repeating.{busy_once, one_more}
+use Rattle.gate_runs.specs.run_parts.Counts.{with_waits}
+use Rattle.gate_runs.specs.run_parts.Rounds.{RemountRound}
+use Rattle.gate_runs.proofs.run_parts.workers.remount.Goals as goal
+
+pub loop-round-preserved : goal.loop-round-preserved
+loop-round-preserved g c =
+    let before = c.loop-round.invariant in
+    let found = c.in_ok-busy.field-0 in
+    let closed = c.in_ok-busy.ensures in
+    let once : found ≤ 1 = busy_once found _ _ closed.closed in
+    let waits = c.with_waits.ensures ∙ ap (λ n. with_waits n c.change_mount.new.self) c.with_waits-waits.ensures in
+    record {
+      from = (c.change_mount.ensures.table ∙ closed.from.0, c.change_mount.ensures.config ∙ closed.from.1);
+      few = omega (arith, before.few, once);
+      did = one_more RemountRound c.loop-round._round _ _ _ before.did (record {
+        mid = c.close_mount.new.task;
+        busy = found;
+        closed = closed.closed;
+        opened = c.in_ok-change_mount.ensures;
+        counts = λ i. record { busy = c.loop-round.met.busy + found; waits = waits i };
+      });
+    }

@@ -1,0 +1,34 @@
+-- the task that comes back has done its part
+use Rattle.std.proofs.Common.{◌≡◌, ◌∙◌, subst}
+use Rattle.std.specs.Prelude.{IfErr}
+use Rattle.gate_runs.specs.declared.run_parts.Gates.{Gates}
+use Rattle.gate_runs.specs.run_parts.Refusals.{RunRefused}
+use Rattle.gate_runs.proofs.run_threads.Homes.{came_home, home_refused, is_not_done, knows, not_taken_back, was_not_done}
+use Rattle.gate_runs.proofs.run_threads.Staying.{stays_among}
+use Rattle.gate_runs.proofs.run_threads.threads.join_worker.Goals as goal
+use Rattle.gate_runs.proofs.run_threads.threads.join_worker.Goals.{in-Ok, in-Err}
+
+pub returns-clause-others : goal.returns-clause-others
+returns-clause-others g c = elim c.match-join.branch [
+  | in-Ok w ↦ rw w.result-is (knows _ (stays_among c.args.task.now c.join-other.result.task c.join.new.self w.in-Ok.ensures.joined.4))
+  | in-Err w ↦ rw (w.result-is, w.and.ensures) (is_not_done _ c.join-other.result.met _)
+]
+
+pub returns-clause-part : goal.returns-clause-part
+returns-clause-part g c = let home = c.args.worker.promise in elim c.match-join.branch [
+  | in-Ok w ↦ rw w.result-is (came_home (g.W.Watch.held home.watch.now) home.gates.now home.plan home.number c.join-other.result.task
+      c.args.task.now c.join.new.self c.join-other.result.met c.join-other.ensures w.in-Ok.ensures.joined.4)
+  | in-Err w ↦ rw (w.result-is, w.and.ensures) (was_not_done c.join-other.result.met _ _)
+]
+
+pub returns-clause-refused : goal.returns-clause-refused
+returns-clause-refused g c =
+    let home = c.args.worker.promise in
+    let met = c.join-other.result.met in
+    let refused : IfErr met (RunRefused c.args.gates.now.words.config home.plan.tasks home.plan.processors) =
+    subst (λ (d : Gates). IfErr met (RunRefused d.words.config home.plan.tasks home.plan.processors)) c.requires.home
+    (home_refused (g.W.Watch.held home.watch.now) home.gates.now home.plan home.number c.join-other.result.task met c.join-other.ensures) in
+    elim c.match-join.branch [
+      | in-Ok w ↦ rw w.result-is refused
+      | in-Err w ↦ rw (w.result-is, w.and.ensures) (not_taken_back _ _ _ _ met w.in-Err.ensures.refused.0 refused)
+    ]

@@ -1,0 +1,84 @@
+-- What each task of a run has done, from where it began, and how it stands at the end.
+use Rattle.std.specs.Prelude.{◌≡◌, ℕ, suc, ◌+◌, ◌-◌, ◌≤◌, ◌⊎◌, List, [], ◌∷◌, length}
+use Rattle.gate_world.specs.declared.views.View.{View}
+use Rattle.gate_runs.specs.run_parts.Seating.{SeatItems, numbered}
+use Rattle.gate_runs.specs.run_parts.TaskStates.{TaskState, IsIdle, own_number, own_view, spare_of}
+use Rattle.gate_runs.specs.declared.run_parts.counts.Copies.{Copies}
+use Rattle.gate_runs.specs.declared.run_parts.counts.Details.{Details}
+use Rattle.gate_runs.specs.declared.run_parts.counts.Remounts.{Remounts}
+use Rattle.gate_runs.specs.declared.run_parts.counts.Writes.{Writes}
+use Rattle.gate_runs.specs.run_parts.Counts.{all_writes, no_copies, no_remounts, no_writes, remounts_of}
+use Rattle.gate_runs.specs.run_parts.Meetings.{was_frozen, was_held}
+use Rattle.gate_runs.specs.run_parts.Rounds.{Repeats, CreatesFiles, RemountRound, WriterRound, BackupRound}
+use Rattle.gate_runs.specs.run_parts.Splitting.{HasBegun}
+
+-- each of a list, by its number from this one on
+abbrev pub EachFrom : {A : Type 0} → (ℕ → A → Type 0) → ℕ → List A → Type 0
+EachFrom Is n [] = Unit {0}
+EachFrom Is n (x ∷ xs) = Is n x × EachFrom Is (suc n) xs
+
+-- the task's own number stands among these, with its view
+abbrev pub Among : SeatItems → TaskState → Type 0
+Among [] s = ⊥
+Among (x ∷ xs) s = (x ≡ numbered (own_number s.items) (own_view s.items)) ⊎ Among xs s
+
+-- its own number has in the end the view that it knew
+abbrev pub EndsAs : (ℕ → View) → TaskState → Type 0
+EndsAs views s = views (own_number s.items) ≡ own_view s.items
+
+-- calls of its own leave a task its number, and the others that it has to give
+pub record Stays (first last : TaskState) : Type 0 where
+  pub config : last.config ≡ first.config
+  pub own : own_number last.items ≡ own_number first.items
+  pub spare : spare_of last.items ≡ spare_of first.items
+  pub idle : IsIdle first → IsIdle last
+  pub there : 1 ≤ length first.items → 1 ≤ length last.items
+
+-- What each task has done. `Ends` says of the last state of each how it stands at the end.
+module _ (Ends : TaskState → Type 0) where
+  -- the remounter: from its beginning on so many rounds, which met this, and nothing else
+  pub record Remounted (rounds : ℕ) (remounts : Remounts) : Type 0 where
+    pub first : TaskState
+    pub last : TaskState
+    pub begun : HasBegun 1 first
+    pub did : Repeats RemountRound rounds (first, no_remounts) (last, remounts)
+    pub own : own_number last.items ≡ 1
+    pub ends : Ends last
+
+  module _ {N : Type 0} (link : TaskState → ℕ → N → N → Type 0) where
+    -- a writer, the first being 0: from its beginning and these notes on so many rounds, which met this, and nothing else
+    pub record Wrote (processors rounds writer : ℕ) (before after : N) (writes : Writes) : Type 0 where
+      pub first : TaskState
+      pub last : TaskState
+      pub begun : HasBegun (writer + 2) first
+      pub did : Repeats (WriterRound link processors writer) rounds (first, before, no_writes) (last, after, writes)
+      pub own : own_number last.items ≡ writer + 2
+      pub ends : Ends last
+
+    -- all writers from this one on, of so many: each its part, and what they met together
+    pub record AllWrote (processors rounds from count : ℕ) (before after : N) (writes : Writes) : Type 0 where
+      pub each : List Writes
+      pub all : count ≡ from + length each
+      pub parts : EachFrom (λ writer. Wrote processors rounds writer before after) from each
+      pub sum : writes ≡ all_writes each
+
+    -- The backup: it has created a file for each writer, then given all other numbers away, which adds nothing to its list, and then frozen
+    -- so often, which met this, and nothing else.
+    pub record BackedUp (writers freezes : ℕ) (before after : N) (copies : Copies) : Type 0 where
+      pub begins : TaskState
+      pub made : TaskState
+      pub first : TaskState
+      pub last : TaskState
+      pub begun : HasBegun 0 begins
+      pub creates : CreatesFiles writers begins made
+      pub same : own_view first.items ≡ own_view made.items
+      pub did : Repeats (BackupRound link) freezes (first, before, no_copies) (last, after, copies)
+      pub own : own_number last.items ≡ 0
+      pub ends : Ends last
+
+-- what all tasks of a run have done and met
+pub record AllDid (Ends : TaskState → Type 0) (held : ℕ → ℕ → Type 0) (seen : ℕ → Type 0) (tasks processors rounds freezes : ℕ)
+    (details : Details) : Type 0 where
+  pub backup : BackedUp Ends (was_frozen seen) (tasks - 2) freezes tt tt details.copies
+  pub remounter : Remounted Ends rounds (remounts_of details)
+  pub writers : AllWrote Ends (was_held held) processors rounds 0 (tasks - 2) tt tt details.writes

@@ -1,0 +1,300 @@
+//! The threads of a run: started, and joined.
+
+ghost use Rattle.std.specs.Prelude.{◌≡◌, ◌+◌, ◌-◌, ◌<◌, ◌≤◌, [], IfErr, IfOk, OnOk, vec_len};
+ghost use Rattle.access_model.specs.declared.errors.GateError.TheVariants.{NoMemory};
+ghost use Rattle.gate_runs.specs.run_threads.Homes.{ComesHome, DoesRounds, Part};
+ghost use Rattle.gate_runs.specs.run_threads.Parts.{AllDid, AllWrote, Among, EachFrom, Remounted};
+ghost use Rattle.gate_runs.specs.run_parts.Meetings.{was_held};
+ghost use Rattle.gate_runs.specs.run_parts.Refusals.{MetBy, RunRefused};
+ghost use Rattle.gate_runs.specs.run_parts.Splitting.{Gives, HasBegun};
+ghost use Rattle.gate_runs.specs.run_parts.TaskStates.{IsFrom, TaskState, own_view};
+
+use crate::run_parts::{
+    Details, FIRST_WRITER, Gates, Plan, Remounts, Task, Watch, Writes, back_up, create_files,
+    remount, write,
+};
+use access_model::GateError;
+use std::alloc::Global;
+use std::sync::Wait;
+use std::thread;
+use std::thread::{Promise, PromisedHandle, Scope, Threads};
+
+/// The number of the task that remounts. Those from it on have threads of their own.
+const REMOUNTER: u8 = 1;
+
+/// What a task has met in all its rounds.
+#[derive(Clone, Copy)]
+enum Met {
+    Remounter(Remounts),
+    Writer(Writes),
+}
+
+/// A task whose thread has ended, and what it met, or why it was refused.
+#[derive(Drop)]
+struct Worked {
+    task: Task,
+    met: Result<Met, GateError>,
+}
+
+/// The promise of a thread: its task comes back to these gates, and has done all its rounds since it began, in which it met what it tells, unless
+/// a call of it was refused so.
+struct Home<'g, W> {
+    gates: &'g Gates,
+    plan: Plan,
+    watch: &'g W,
+    number: u8,
+}
+
+impl<'g, W> Drop for Home<'g, W> {
+    fn drop(self) {
+        let Home {
+            gates: _,
+            plan: _,
+            watch: _,
+            number: _,
+        } = self;
+    }
+}
+
+impl<'g, W: Watch> Promise<Worked> for Home<'g, W> {
+    ghost kept_by = { λ home ended. ComesHome (W.held home.watch.now) home.gates.now home.plan home.number ended.task ended.met };
+}
+
+/// A thread that is to be joined.
+type Worker<'g, W> = PromisedHandle<Worked, Home<'g, W>>;
+
+/// What a thread does: it remounts, or writes, by its task's number.
+fn work<R: Wait, W: Watch>(
+    rt: &R,
+    gates: &Gates,
+    plan: Plan,
+    watch: &W,
+    number: u8,
+    task: &mut Task,
+) -> Result<Met, GateError>
+    requires from { IsFrom task.old gates.now }
+    requires number { (1 ≤ number) × (number < plan.tasks) }
+    ensures from { IsFrom task.new gates.now }
+    ensures does { IfOk result (DoesRounds (W.held watch.now) plan.processors plan.rounds number task.old task.new) }
+    ensures refused { IfErr result (MetBy gates.now.words.config plan.tasks plan.processors) }
+{
+    if number == REMOUNTER {
+        return Ok(Met::Remounter(remount(rt, gates, plan, task)?));
+    }
+    let writer = number - FIRST_WRITER;
+    let writes = write(rt, gates, plan, watch, task, writer, &mut ())?;
+    Ok(Met::Writer(writes))
+}
+
+/// Splits the next task off, and starts its thread. NoMemory where it can't be started, or a growth was refused.
+fn start_worker<'s, E, R: Wait + Sync, W: Watch + Sync>(
+    scope: &Scope<'s, E>,
+    rt: &'s R,
+    alloc: Global,
+    gates: &'s Gates,
+    plan: Plan,
+    watch: &'s W,
+    number: u8,
+    task: &mut Task,
+) -> Result<Worker<'s, W>, GateError>
+    requires from { IsFrom task.old gates.now }
+    requires gives { Gives task.old number plan.tasks }
+    requires number { (1 ≤ number) × (number < plan.tasks) }
+    ensures from { IsFrom task.new gates.now }
+    ensures same { OnOk result (own_view task.new.items ≡ own_view task.old.items) }
+    ensures gives { OnOk result (Gives task.new (number + 1) plan.tasks) }
+    ensures home { IfOk result (λ w. (w.promise.gates.now ≡ gates.now) × (w.promise.plan ≡ plan) × (w.promise.watch.now ≡ watch.now)
+        × (w.promise.number ≡ number)) }
+    ensures refused { IfErr result (λ e. e ≡ NoMemory) }
+{
+    let other = task.split(alloc, gates)?;
+    let home = Home {
+        gates,
+        plan,
+        watch,
+        number,
+    };
+    let run = move || -> Worked
+        requires from { IsFrom other gates.now }
+        requires begun { HasBegun number other }
+        requires number { (1 ≤ number) × (number < plan.tasks) }
+        ensures { ComesHome (W.held watch.entry.now) gates.entry.now plan number result.task result.met }
+    {
+        let mut task = other;
+        let met = work(rt, gates, plan, watch, number, &mut task);
+        Worked { task, met }
+    };
+    match scope.spawn_with(home, run) {
+        Ok(worker) => Ok(worker),
+        Err(_) => Err(GateError::NoMemory),
+    }
+}
+
+/// The same of all other tasks, in their order.
+fn start_workers<'s, E, R: Wait + Sync, W: Watch + Sync>(
+    scope: &Scope<'s, E>,
+    rt: &'s R,
+    alloc: Global,
+    gates: &'s Gates,
+    plan: Plan,
+    watch: &'s W,
+    task: &mut Task,
+    workers: &mut Vec<Worker<'s, W>>,
+) -> Result<(), GateError>
+    requires from { IsFrom task.old gates.now }
+    requires gives { Gives task.old 1 plan.tasks }
+    requires none { workers.old.items ≡ [] }
+    ensures from { IsFrom task.new gates.now }
+    ensures same { OnOk result (own_view task.new.items ≡ own_view task.old.items) }
+    ensures gives { OnOk result (Gives task.new plan.tasks plan.tasks) }
+    ensures all { OnOk result (vec_len workers.new ≡ plan.tasks - 1) }
+    ensures homes { OnOk result (EachFrom
+        (λ place w. (w.promise.gates.now ≡ gates.now) × (w.promise.plan ≡ plan) × (w.promise.watch.now ≡ watch.now)
+        × (w.promise.number ≡ place + 1)) 0 workers.new.items) }
+    ensures refused { IfErr result (λ e. e ≡ NoMemory) }
+{
+    for number in REMOUNTER..FIRST_WRITER + plan.writers() {
+        let worker = start_worker(scope, rt, alloc, gates, plan, watch, number, task)?;
+        let Ok(()) = workers.push(worker) else {
+            return Err(GateError::NoMemory);
+        };
+    }
+    Ok(())
+}
+
+/// Joins a thread, and takes its task's number back. Tells what it met, or why it was refused.
+fn join_worker<R: Threads, W: Watch>(
+    rt: &R,
+    gates: &Gates,
+    task: &mut Task,
+    worker: Worker<'_, W>,
+) -> Result<Met, GateError>
+    requires from { IsFrom task.old gates.now }
+    requires home { worker.promise.gates.now ≡ gates.now }
+    ensures from { IsFrom task.new gates.now }
+    ensures others { OnOk result ((s : TaskState) → Among task.old.items s → Among task.new.items s) }
+    ensures part { IfOk result (Part (Among task.new.items) (W.held worker.entry.promise.watch.now)
+        worker.entry.promise.plan.processors worker.entry.promise.plan.rounds worker.entry.promise.number) }
+    ensures refused { IfErr result (RunRefused gates.now.words.config worker.entry.promise.plan.tasks worker.entry.promise.plan.processors) }
+{
+    let Worked { task: other, met } = worker.join(rt);
+    match task.join(gates, other) {
+        Ok(()) => met,
+        Err((refusal, _)) => met.and(Err(refusal)),
+    }
+}
+
+/// The same of all threads, of this plan and watch, and what the remounter met, and the writers together. The first refusal that is met ends it.
+fn join_workers<R: Threads, W: Watch>(
+    rt: &R,
+    gates: &Gates,
+    _plan: Plan,
+    _watch: &W,
+    task: &mut Task,
+    workers: &mut Vec<Worker<'_, W>>,
+) -> Result<(Remounts, Writes), GateError>
+    requires from { IsFrom task.old gates.now }
+    requires some { 1 ≤ vec_len workers.old }
+    requires homes { EachFrom
+        (λ place w. (w.promise.gates.now ≡ gates.now) × (w.promise.plan ≡ _plan) × (w.promise.watch.now ≡ _watch.now)
+        × (w.promise.number ≡ place + 1)) 0 workers.old.items }
+    ensures from { IsFrom task.new gates.now }
+    ensures others { OnOk result ((s : TaskState) → Among task.old.items s → Among task.new.items s) }
+    ensures remounted { IfOk result (λ met. Remounted (Among task.new.items) _plan.rounds met.0) }
+    ensures wrote { IfOk result (λ met. AllWrote (Among task.new.items) (was_held (W.held _watch.now)) _plan.processors _plan.rounds
+        0 (vec_len workers.old - 1) tt tt met.1) }
+    ensures refused { IfErr result (RunRefused gates.now.words.config _plan.tasks _plan.processors) }
+{
+    let mut remounts = Remounts::none();
+    let mut writes = Writes::none();
+    while let Some(worker) = workers.pop() {
+        match join_worker(rt, gates, task, worker)? {
+            Met::Remounter(its) => remounts = its,
+            Met::Writer(its) => writes = its.and(writes),
+        }
+    }
+    Ok((remounts, writes))
+}
+
+/// Creates the files, starts the threads of all other tasks, backs up beside them, and joins them.
+fn run_threads<'s, E, R: Threads + Wait + Sync, W: Watch + Sync>(
+    scope: &Scope<'s, E>,
+    rt: &'s R,
+    alloc: Global,
+    gates: &'s Gates,
+    plan: Plan,
+    watch: &'s W,
+    task: &mut Task,
+    workers: &mut Vec<Worker<'s, W>>,
+) -> Result<Details, GateError>
+    requires from { IsFrom task.old gates.now }
+    requires begins { HasBegun 0 task.old }
+    requires gives { Gives task.old 1 plan.tasks }
+    requires none { workers.old.items ≡ [] }
+    ensures from { IsFrom task.new gates.now }
+    ensures copies { IfOk result (λ d. (d.copies.frozen ≡ plan.freezes) × (d.copies.snapshots ≡ plan.freezes)) }
+    ensures all { IfOk result (AllDid (Among task.new.items) (W.held watch.now) (W.seen watch.now) plan.tasks plan.processors plan.rounds
+        plan.freezes) }
+    ensures refused { IfErr result (RunRefused gates.now.words.config plan.tasks plan.processors) }
+{
+    create_files(rt, gates, plan, task)?;
+    start_workers(scope, rt, alloc, gates, plan, watch, task, workers)?;
+    let copies = back_up(rt, gates, plan, watch, task, &mut ())?;
+    let (remounts, writes) = join_workers(rt, gates, plan, watch, task, workers)?;
+    Ok(Details {
+        writes,
+        busy: remounts.busy,
+        remount_waits: remounts.waits,
+        copies,
+    })
+}
+
+/// The same in a scope: all threads have ended when it returns, whatever it answers.
+pub fn in_threads<R: Threads + Wait + Sync, W: Watch + Sync>(
+    rt: &R,
+    alloc: Global,
+    gates: &Gates,
+    plan: Plan,
+    watch: &W,
+    task: Task,
+) -> Result<(Task, Details), GateError>
+    requires from { IsFrom task gates.now }
+    requires begins { HasBegun 0 task }
+    requires gives { Gives task 1 plan.tasks }
+    ensures from { IfOk result (λ r. IsFrom r.0 gates.now) }
+    ensures copies { IfOk result (λ r. (r.1.copies.frozen ≡ plan.freezes) × (r.1.copies.snapshots ≡ plan.freezes)) }
+    ensures all { IfOk result (λ r. AllDid (Among r.0.items) (W.held watch.now) (W.seen watch.now) plan.tasks plan.processors plan.rounds
+        plan.freezes r.1) }
+    ensures refused { IfErr result (RunRefused gates.now.words.config plan.tasks plan.processors) }
+{
+    thread::scope(
+        thread::scope_env(),
+        rt,
+        move |scope| -> Result<(Task, Details), GateError>
+            requires from { IsFrom task gates.now }
+            requires begins { HasBegun 0 task }
+            requires gives { Gives task 1 plan.tasks }
+            ensures from { IfOk result (λ r. IsFrom r.0 gates.entry.now) }
+            ensures copies { IfOk result (λ r. (r.1.copies.frozen ≡ plan.freezes) × (r.1.copies.snapshots ≡ plan.freezes)) }
+            ensures all { IfOk result (λ r. AllDid (Among r.0.items) (W.held watch.entry.now) (W.seen watch.entry.now) plan.tasks plan.processors
+                plan.rounds plan.freezes r.1) }
+            ensures refused { IfErr result (RunRefused gates.entry.now.words.config plan.tasks plan.processors) }
+        {
+            let mut task = task;
+            let mut workers = Vec::new(alloc);
+            let details = run_threads(
+                scope,
+                rt,
+                alloc,
+                gates,
+                plan,
+                watch,
+                &mut task,
+                &mut workers,
+            );
+            drop(workers);
+            let details = details?;
+            Ok((task, details))
+        },
+    )
+}

@@ -1,8 +1,0 @@
-//! A replay: the lines of a schedule read, done by a session and written out, with the transcript as what it prints.
-#![tactic(auto)]
-
-pub mod line_replay;
-pub mod replay;
-
-pub use schedule_text::bytes::ReplayFault;
-pub use transcripts::{Core, Driver};

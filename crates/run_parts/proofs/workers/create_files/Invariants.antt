@@ -1,7 +1,0 @@
--- The task comes from the gates, and has created all files so far.
-use Rattle.vfs_gates.specs.TaskStates.{IsFrom}
-use Rattle.run_parts.specs.Rounds.{CreatesFile, Repeats}
-use Rattle.run_parts.proofs.workers.create_files.Given as goal
-
-abbrev pub invariant-loop-writer : goal.invariant-loop-writer
-invariant-loop-writer g l = IsFrom l.task l.fn.gates × Repeats (λ k. CreatesFile) l._writer l.initial.task l.task

@@ -1,9 +1,0 @@
--- The task comes from the gates, and has done all rounds so far, with what they met.
-use Rattle.vfs_gates.specs.TaskStates.{IsFrom}
-use Rattle.run_parts.specs.Counts.{no_writes}
-use Rattle.run_parts.specs.Rounds.{Repeats, WriterRound}
-use Rattle.run_parts.proofs.workers.write.Given as goal
-
-abbrev pub invariant-loop-round : goal.invariant-loop-round
-invariant-loop-round g l = IsFrom l.task l.fn.gates × Repeats (WriterRound (g.W.NotedWatch.meets l.fn.watch) l.fn.plan.processors l.fn.writer)
-    l.round (l.fn.task, l.fn.notes, no_writes) (l.task, l.notes, l.writes)

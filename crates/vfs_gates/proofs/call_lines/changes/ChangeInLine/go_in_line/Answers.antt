@@ -1,0 +1,8 @@
+-- each part of the line goes on from what the one before it left
+use Rattle.vfs_gates.proofs.call_lines.changes.ChangeInLine.go_in_line.Goals as goal
+
+pub returns-clause-tied : goal.returns-clause-tied
+returns-clause-tied c number flags ties =
+    c.end_change.ensures.tied number flags
+    (c.add_counts-next.ensures.tied number flags
+    (c.begin_change-next.ensures.tied number flags ties))
