@@ -16,7 +16,7 @@ use Rattle.gate_runs.specs.declared.run_threads.threads.Met.TheVariants.{Remount
 use Rattle.gate_runs.specs.run_threads.Homes.{ComesHome, DoesRounds, Part}
 use Rattle.gate_runs.specs.run_threads.Parts.{Among, Remounted, Wrote, AllWrote}
 use Rattle.gate_runs.proofs.run_threads.Staying.{TookBack, all_wrote_before, all_wrote_on, remounted_on, remounter_part, writer_part}
-use Rattle.gate_runs.specs.declared.run_parts.Gates.{Gates}
+use Rattle.vfs_gates.specs.declared.Gates.{Gates}
 use Rattle.gate_runs.specs.run_parts.Splitting.{HasBegun}
 use Rattle.gate_runs.specs.run_parts.TaskStates.{TaskState}
 

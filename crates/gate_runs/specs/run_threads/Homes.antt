@@ -9,7 +9,7 @@ use Rattle.gate_runs.specs.run_parts.Rounds.{RemountRound, Repeats, WriterRound}
 use Rattle.gate_runs.specs.declared.run_threads.threads.Met.{Met}
 use Rattle.gate_runs.specs.declared.run_threads.threads.Met.TheVariants.{Remounter, Writer}
 use Rattle.gate_runs.specs.run_threads.Parts.{Remounted, Wrote}
-use Rattle.gate_runs.specs.declared.run_parts.Gates.{Gates}
+use Rattle.vfs_gates.specs.declared.Gates.{Gates}
 use Rattle.gate_runs.specs.run_parts.Splitting.{HasBegun}
 use Rattle.gate_runs.specs.run_parts.TaskStates.{IsFrom, TaskState}
 

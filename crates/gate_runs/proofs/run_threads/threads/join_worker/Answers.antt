@@ -1,7 +1,7 @@
 -- the task that comes back has done its part
 use Rattle.std.proofs.Common.{◌≡◌, ◌∙◌, subst}
 use Rattle.std.specs.Prelude.{IfErr}
-use Rattle.gate_runs.specs.declared.run_parts.Gates.{Gates}
+use Rattle.vfs_gates.specs.declared.Gates.{Gates}
 use Rattle.gate_runs.specs.run_parts.Refusals.{RunRefused}
 use Rattle.gate_runs.proofs.run_threads.Homes.{came_home, home_refused, is_not_done, knows, not_taken_back, was_not_done}
 use Rattle.gate_runs.proofs.run_threads.Staying.{stays_among}
