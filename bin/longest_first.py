@@ -53,11 +53,13 @@ def chains(tasks):
     return found
 
 
-def longest_first(rt):
+def longest_first(rt, in_lanes):
     """Returns what runs tasks side by side, each once those that it waits for have ended, and returns what each gave. A task is what it waits for, its
-    work in lines, its memory, and a call that takes what was given and how many processes it may use."""
+    work in lines, its memory, and a call that takes what was given and how many processes it may use; others the kit runs as it does."""
 
     def run(tasks):
+        if any(len(it) != 4 for it in tasks.values()):
+            return in_lanes(tasks)
         chain, memory, processors = chains(tasks), ROOM * rt.free(), rt.processors()
         left, running, given = sorted(tasks, key=lambda it: -chain[it]), {}, {}
         with rt.ending(), ThreadPoolExecutor(processors) as pool:
@@ -100,7 +102,7 @@ def side_by_side(compile_by):
 def main():
     rt = kit()
     if all(callable(getattr(rt, it, None)) for it in ("in_lanes", "ending", "free", "processors")):
-        rt.in_lanes = longest_first(rt)
+        rt.in_lanes = longest_first(rt, rt.in_lanes)
     if callable(getattr(getattr(rt, "Crate", None), "compile_by", None)):
         rt.Crate.compile_by = side_by_side(rt.Crate.compile_by)
     return rt.main(["ci"])
