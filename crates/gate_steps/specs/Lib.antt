@@ -1,3 +1,4 @@
+pub mod call_events
 pub mod Histories
 pub mod Seating
 pub mod Rules

@@ -2,6 +2,8 @@
 //! takes it.
 #![tactic(auto)]
 
+pub mod call_ends;
+pub mod call_events;
 mod rule;
 mod seating;
 mod steps;

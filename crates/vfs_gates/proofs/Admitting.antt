@@ -4,8 +4,8 @@ use Rattle.std.specs.Prelude.{Option, is_some, Result, Ok, Err}
 use Rattle.access_model.specs.declared.errors.GateError.{GateError}
 use Rattle.gate_world.specs.{Beginnings.{first_phase, refusal, or_refusal, beginning}, Configs.IsWithin, Views.held_of, declared.config.Config.Config}
 use Rattle.gate_world.specs.declared.{operations.Op.Op, work.Phase.Phase}
-use Rattle.call_events.specs.{Answers.unless_refused, Seat.Seat, Seating.SeatItems, Seats.seat_held, Ties.Ties}
-use Rattle.call_events.proofs.Beginnings.{refusal_agree, ok_means, err_means}
+use Rattle.gate_steps.specs.call_events.{Answers.unless_refused, Seat.Seat, Seating.SeatItems, Seats.seat_held, Ties.Ties}
+use Rattle.gate_steps.proofs.call_events.Beginnings.{refusal_agree, ok_means, err_means}
 use Rattle.vfs_gates.specs.{TaskStates.{TaskState, task_state, own_number, own_view, refusal_at, beginning_at}, declared.task.Task.TheInside.Inside}
 
 module _ (number : ℕ) (c : Config) (begins : Option Op) (kept : Seat) (flags : List Bool) where

@@ -5,7 +5,7 @@ use Rattle.access_model.specs.declared.errors.GateError.{GateError}
 use Rattle.access_model.specs.declared.errors.GateError.TheVariants.{Order}
 use Rattle.access_model.specs.declared.replies.Reply.{Reply}
 use Rattle.gate_world.specs.declared.operations.Op.TheVariants.{Callback}
-use Rattle.call_events.specs.Runs.{told_as, ran_of, Called, Replies}
+use Rattle.gate_steps.specs.call_events.Runs.{told_as, ran_of, Called, Replies}
 use Rattle.vfs_gates.specs.TaskStates.{TaskState, refusal_at, IsIdle}
 use Rattle.vfs_gates.specs.Held.{IsAsBefore}
 use Rattle.vfs_gates.proofs.Holding.{keeps, as_before_twice}

@@ -4,13 +4,13 @@ use Rattle.gate_world.specs.declared.config.Config.{Config}
 use Rattle.gate_world.specs.declared.views.View.{View}
 use Rattle.gate_world.specs.Views.{opening_view}
 use Rattle.gate_world.specs.Worlds.{World}
-use Rattle.call_events.proofs.Keeps.{by_bool}
-use Rattle.call_events.specs.Rules.{TableShows, first_items}
-use Rattle.call_events.specs.Seating.{SeatItems, numbered, times, view_in, deal}
-use Rattle.call_events.proofs.Opening.{times-deal}
-use Rattle.call_events.specs.Tables.{IsClosing}
-use Rattle.call_events.proofs.Giving.{view_in-at, view_in-is}
-use Rattle.call_events.specs.Ties.{IsStill, AllRest}
+use Rattle.gate_steps.proofs.call_events.Keeps.{by_bool}
+use Rattle.gate_steps.specs.Rules.{TableShows, first_items}
+use Rattle.gate_steps.specs.Seating.{SeatItems, numbered, times, view_in, deal}
+use Rattle.gate_steps.proofs.call_events.Opening.{times-deal}
+use Rattle.gate_steps.specs.Tables.{IsClosing}
+use Rattle.gate_steps.proofs.call_events.Giving.{view_in-at, view_in-is}
+use Rattle.gate_steps.specs.call_events.Ties.{IsStill, AllRest}
 use Rattle.vfs_gates.specs.Ended.{EndedWith, HasOpeningWords}
 use Rattle.vfs_gates.proofs.Parting.{rest-at}
 

@@ -18,9 +18,9 @@ use Rattle.gate_world.specs.Rules.{Tree, Files}
 use Rattle.std.proofs.lemmas.Bool.{cases_lt}
 use Rattle.std.proofs.lemmas.Bool.Decides.{eqb_tells}
 use Rattle.gate_world.specs.Shown.{shown}
-use Rattle.call_events.proofs.Snapshots.{sound_as}
-use Rattle.call_events.proofs.Schedule.{idle_sums}
-use Rattle.call_events.proofs.Rests.{at_rest, no_hold as hold_is_clear}
+use Rattle.gate_steps.proofs.call_events.Snapshots.{sound_as}
+use Rattle.gate_steps.proofs.call_events.Schedule.{idle_sums}
+use Rattle.gate_steps.proofs.call_events.Rests.{at_rest, no_hold as hold_is_clear}
 use Rattle.vfs_gates.specs.Ended.{Ended, LeavesSoundTree}
 
 -- a number past the last task's has done nothing

@@ -10,8 +10,8 @@ use Rattle.gate_world.specs.{Operations.all_levels_closed, Courses.course_of, Fo
 use Rattle.gate_world.specs.{Found.found_shared, Holdings.{Holdings, holdings_of, held_after}, Traces.actions_of, declared.config.Config.Config}
 use Rattle.gate_world.specs.declared.operations.Op.{Op, TheVariants.{Want, DropMount, ChangeMount, RemountSb, Start, End, WantWrite, DropWrite}}
 use Rattle.gate_world.specs.declared.{operations.Op.TheVariants.{Freeze, Thaw, Create, Open, Close}, views.Traced.Traced, work.Phase.Phase}
-use Rattle.call_events.proofs.Asked.{either_way}
-use Rattle.call_events.specs.{Runs.{ran_items, IsNextMove, AreMoves, told_as, Called, Replies}, Seating.SeatItems}
+use Rattle.gate_steps.proofs.call_events.Asked.{either_way}
+use Rattle.gate_steps.specs.call_events.{Runs.{ran_items, IsNextMove, AreMoves, told_as, Called, Replies}, Seating.SeatItems}
 use Rattle.vfs_gates.specs.{Held.{Rests, own_actions, IsAsBefore, takes_nothing}, TaskStates.{TaskState, own_number, own_view, refusal_at, IsIdle}}
 
 -- an action that is neither a grant nor a return, and neither opens nor closes a file

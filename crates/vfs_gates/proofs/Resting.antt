@@ -12,12 +12,12 @@ use Rattle.gate_world.specs.declared.views.Traced.{Traced}
 use Rattle.gate_world.specs.Traces.{IsHonestAnswer}
 use Rattle.gate_world.specs.Views.{opening_view}
 use Rattle.atomic_table.specs.Seated.{TableId}
-use Rattle.call_events.specs.Rules.{first_items}
-use Rattle.call_events.specs.Runs.{told_as, unit_of, Called, Performs}
-use Rattle.call_events.specs.Seat.{Seat}
-use Rattle.call_events.specs.Seating.{SeatItems, HaveViews, numbered, times, view_in, kept_of, given_of, deal}
-use Rattle.call_events.specs.Ties.{Ties}
-use Rattle.call_events.proofs.Giving.{view_in-at}
+use Rattle.gate_steps.specs.Rules.{first_items}
+use Rattle.gate_steps.specs.call_events.Runs.{told_as, unit_of, Called, Performs}
+use Rattle.gate_steps.specs.call_events.Seat.{Seat}
+use Rattle.gate_steps.specs.Seating.{SeatItems, HaveViews, numbered, times, view_in, kept_of, given_of, deal}
+use Rattle.gate_steps.specs.call_events.Ties.{Ties}
+use Rattle.gate_steps.proofs.call_events.Giving.{view_in-at}
 use Rattle.vfs_gates.specs.declared.gates.Gates.{Gates}
 use Rattle.vfs_gates.specs.TaskStates.{TaskState, task_state, own_number, own_view, spare_of, refusal_at, Empty, IsFrom}
 use Rattle.vfs_gates.specs.Ended.{EndedWith}

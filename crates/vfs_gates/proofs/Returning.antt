@@ -8,8 +8,8 @@ use Rattle.access_model.specs.{Histories.{mounts_of, levels_of}, declared.action
 use Rattle.access_model.specs.declared.{errors.GateError.GateError, replies.Reply.Reply}
 use Rattle.gate_world.specs.{Holdings.{Holdings, holdings_of, held_after}, Traces.IsHonestAnswer, Views.held_of, declared.config.Config.Config}
 use Rattle.gate_world.specs.declared.{operations.Op.{Op, TheVariants.{Want, DropMount, WantWrite, DropWrite}}, views.Traced.Traced}
-use Rattle.call_events.proofs.Beginnings.{may_begin, MayBegin}
-use Rattle.call_events.specs.Runs.{told_as, unit_of, Called, Performs}
+use Rattle.gate_steps.proofs.call_events.Beginnings.{may_begin, MayBegin}
+use Rattle.gate_steps.specs.call_events.Runs.{told_as, unit_of, Called, Performs}
 use Rattle.vfs_gates.specs.{Held.{own_actions, IsAsBefore, IsGivenBack}, TaskStates.{TaskState, own_view, refusal_at, IsIdle}}
 use Rattle.vfs_gates.proofs.Holding.{adds, stays, unchanged}
 

@@ -20,10 +20,10 @@ use Rattle.gate_world.specs.Beginnings.{first_phase}
 use Rattle.gate_world.specs.Snapshots.{completes, last_snapshot}
 use Rattle.gate_world.specs.Views.{phase_after}
 use Rattle.gate_world.specs.Work.{after_of, next_of}
-use Rattle.call_events.specs.Seating.{SeatItems, deal, done_by, given_of, items_after, kept_of}
-use Rattle.call_events.specs.Rules.{first_items}
-use Rattle.call_events.specs.Seat.{Seat}
-use Rattle.call_events.specs.Step.{Step}
+use Rattle.gate_steps.specs.Seating.{SeatItems, deal, done_by, given_of, items_after, kept_of}
+use Rattle.gate_steps.specs.Rules.{first_items}
+use Rattle.gate_steps.specs.call_events.Seat.{Seat}
+use Rattle.gate_steps.specs.call_events.Step.{Step}
 use Rattle.atomic_table.specs.Seated.{TableId}
 use Rattle.access_model.specs.declared.actions.Action.{Action}
 use Rattle.access_model.specs.declared.errors.GateError.{GateError}
@@ -34,10 +34,10 @@ use Rattle.gate_world.specs.Courses.{course_after, course_of}
 use Rattle.vfs_gates.specs.declared.rooms.Rooms.{Rooms}
 use Rattle.vfs_gates.specs.Room.{HasSnapshotRoom, LastTells, NextTells, RoomTells, is_of_snapshot, last_in, trace_so_far}
 use Rattle.vfs_gates.specs.TaskStates.{TaskState, own_number, own_view, task_state}
-use Rattle.call_events.specs.Runs.{Called, Goes, completed_by, items_at, ran_items, ran_snapshot}
-use Rattle.call_events.specs.Stepped.{Stepped}
-use Rattle.call_events.specs.Ties.{Ties}
-use Rattle.call_events.specs.Turns.{step_was}
+use Rattle.gate_steps.specs.call_events.Runs.{Called, Goes, completed_by, items_at, ran_items, ran_snapshot}
+use Rattle.gate_steps.specs.call_events.Stepped.{Stepped}
+use Rattle.gate_steps.specs.call_events.Ties.{Ties}
+use Rattle.gate_steps.specs.call_events.Turns.{step_was}
 use Rattle.vfs_gates.proofs.Calling.{Call, Left, ended_at, goes_at, idle, own_is}
 
 -- what comes next is none

@@ -6,9 +6,9 @@ use Rattle.std.specs.Prelude.{None, Result, Ok, nat_lt}
 use Rattle.atomic_table.specs.Seated.{TableId}
 use Rattle.access_model.specs.declared.replies.{Reply.Reply}
 use Rattle.gate_world.specs.declared.operations.Op.TheVariants.{Want, DropMount}
-use Rattle.call_events.specs.Rules.{first_items}
-use Rattle.call_events.specs.Runs.{told_as, unit_of}
-use Rattle.call_events.specs.Seating.{SeatItems}
+use Rattle.gate_steps.specs.Rules.{first_items}
+use Rattle.gate_steps.specs.call_events.Runs.{told_as, unit_of}
+use Rattle.gate_steps.specs.Seating.{SeatItems}
 use Rattle.gate_world.specs.declared.config.Config.{Config}
 use Rattle.vfs_gates.specs.Held.{IsGivenBack, takes_nothing}
 use Rattle.vfs_gates.specs.Ended.{EndedWith}

@@ -16,10 +16,10 @@ use Rattle.gate_world.specs.Snapshots.{last_snapshot}
 use Rattle.gated_tree.specs.Trees.{node_at}
 use Rattle.gate_world.specs.Moments.{HasMoment}
 use Rattle.gate_world.specs.Courses.{course_of}
-use Rattle.call_events.specs.Seating.{SeatItems, HaveHistory, done_by}
+use Rattle.gate_steps.specs.Seating.{SeatItems, HaveHistory, done_by}
 use Rattle.vfs_gates.specs.TaskStates.{TaskState, own_number, own_view, spare_of}
 use Rattle.vfs_gates.specs.Seen.{IsOfAMoment}
-use Rattle.call_events.specs.Runs.{completed_by, ran_snapshot, ran_items, Called}
+use Rattle.gate_steps.specs.call_events.Runs.{completed_by, ran_snapshot, ran_items, Called}
 
 -- in any history of a task's numbers
 pub saw_a_moment : (c : Config) (items : SeatItems) (all : HaveHistory c items) (s : Snapshot) → 1 ≤ length items →

@@ -27,9 +27,9 @@ use Rattle.gate_world.specs.declared.views.Snapshot.{Snapshot as Noted}
 use Rattle.gate_world.specs.Views.{actions_after}
 use Rattle.gate_world.specs.Courses.{course_of, course_after, IsNext, IsTrace}
 use Rattle.gate_world.specs.Snapshots.{last_snapshot, noted_last, snapshot_completes}
-use Rattle.call_events.specs.Seating.{SeatItems, done_by}
+use Rattle.gate_steps.specs.Seating.{SeatItems, done_by}
 use Rattle.vfs_gates.specs.TaskStates.{TaskState, own_number, own_view, refusal_at, spare_of}
-use Rattle.call_events.specs.Runs.{Called, Performs, completed_by, ran_items, ran_snapshot, told_as, unit_of}
+use Rattle.gate_steps.specs.call_events.Runs.{Called, Performs, completed_by, ran_items, ran_snapshot, told_as, unit_of}
 use Rattle.vfs_gates.specs.Seen.{HasTaken}
 use Rattle.vfs_gates.proofs.Seeing.{call_saw, same_own}
 

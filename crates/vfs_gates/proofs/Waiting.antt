@@ -19,17 +19,17 @@ use Rattle.gate_world.specs.declared.operations.Op.TheVariants.{Want, ChangeMoun
 use Rattle.gate_world.specs.declared.views.Traced.{Traced}
 use Rattle.gate_world.specs.declared.views.View.{View}
 use Rattle.gate_world.specs.declared.work.Phase.{Phase}
-use Rattle.call_events.proofs.Running.{course_is, same_wait}
-use Rattle.call_events.specs.Refused.{IsHonestWait, WaitsHonestly}
-use Rattle.call_events.specs.Rules.{first_items}
-use Rattle.call_events.specs.Runs.{begins_at, items_at, ran_items, IsBounded}
-use Rattle.call_events.specs.Seat.{Seat}
-use Rattle.call_events.specs.Seating.{SeatItems, deal, done_by, given_of, items_after, kept_of}
-use Rattle.call_events.specs.Step.{Step}
-use Rattle.call_events.specs.Stepped.{Stepped}
-use Rattle.call_events.specs.Ties.{PhaseOk, Ties}
-use Rattle.call_events.specs.Turns.{kept_at, step_was}
-use Rattle.call_events.specs.Waited.{GoesWaiting, WentWaiting, waits_by, waits_in}
+use Rattle.gate_steps.proofs.call_events.Running.{course_is, same_wait}
+use Rattle.gate_steps.specs.call_events.Refused.{IsHonestWait, WaitsHonestly}
+use Rattle.gate_steps.specs.Rules.{first_items}
+use Rattle.gate_steps.specs.call_events.Runs.{begins_at, items_at, ran_items, IsBounded}
+use Rattle.gate_steps.specs.call_events.Seat.{Seat}
+use Rattle.gate_steps.specs.Seating.{SeatItems, deal, done_by, given_of, items_after, kept_of}
+use Rattle.gate_steps.specs.call_events.Step.{Step}
+use Rattle.gate_steps.specs.call_events.Stepped.{Stepped}
+use Rattle.gate_steps.specs.call_events.Ties.{PhaseOk, Ties}
+use Rattle.gate_steps.specs.call_events.Turns.{kept_at, step_was}
+use Rattle.gate_steps.specs.call_events.Waited.{GoesWaiting, WentWaiting, waits_by, waits_in}
 use Rattle.vfs_gates.specs.TaskStates.{TaskState, own_number, own_view, task_state}
 use Rattle.vfs_gates.specs.Waits.{StandsBy, WaitsTell, counted, is_wait}
 use Rattle.vfs_gates.proofs.Calling.{Call, Left, same}

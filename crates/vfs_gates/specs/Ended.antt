@@ -7,11 +7,11 @@ use Rattle.gated_tree.specs.Trees.{IsSound}
 use Rattle.cpu_words.specs.Words.{opening_words}
 use Rattle.gate_world.specs.declared.config.Config.{Config}
 use Rattle.gate_world.specs.Worlds.{World}
-use Rattle.call_events.specs.Histories.{HasHistory}
-use Rattle.call_events.specs.Seating.{SeatItems, HaveViews, times}
-use Rattle.call_events.specs.Rules.{TableShows, Ruled}
+use Rattle.gate_steps.specs.Histories.{HasHistory}
+use Rattle.gate_steps.specs.Seating.{SeatItems, HaveViews, times}
+use Rattle.gate_steps.specs.Rules.{TableShows, Ruled}
 use Rattle.vfs_gates.specs.TaskStates.{TaskState, IsIdle, HoldsNothing}
-use Rattle.call_events.specs.Ties.{IsStill}
+use Rattle.gate_steps.specs.call_events.Ties.{IsStill}
 
 -- the task rests, and each number is its own or its to give
 abbrev pub HasAll : TaskState → Type 0

@@ -1,5 +1,5 @@
-pub use Rattle.call_events.specs.Rules
-pub use Rattle.call_events.specs.Seating
+pub use Rattle.gate_steps.specs.Rules
+pub use Rattle.gate_steps.specs.Seating
 pub use Rattle.access_model.specs.declared.actions.Action
 pub use Rattle.access_model.specs.declared.actions.Gate
 pub use Rattle.access_model.specs.declared.errors.GateError
@@ -8,9 +8,9 @@ pub use Rattle.gate_world.specs.declared.views.View
 pub mod Room
 pub mod Waits
 pub mod TaskStates
-pub use Rattle.call_events.specs.Ties
-pub use Rattle.call_events.specs.Stepped
-pub use Rattle.call_events.specs.Turns
+pub use Rattle.gate_steps.specs.call_events.Ties
+pub use Rattle.gate_steps.specs.call_events.Stepped
+pub use Rattle.gate_steps.specs.call_events.Turns
 pub mod Parts
 pub mod Splitting
 pub mod Sums
@@ -21,5 +21,5 @@ pub mod Pairs
 pub mod Settled
 pub mod Taken
 pub mod Rounds
-pub use Rattle.call_events.specs.Runs
-pub use Rattle.call_events.specs.Asking
+pub use Rattle.gate_steps.specs.call_events.Runs
+pub use Rattle.gate_steps.specs.call_events.Asking

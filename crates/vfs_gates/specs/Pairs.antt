@@ -5,9 +5,9 @@ use Rattle.access_model.specs.declared.errors.GateError.{GateError}
 use Rattle.cpu_words.specs.Hooks.{HookAnswer}
 use Rattle.freeze_levels.specs.declared.hooks.HookCall.{HookCall}
 use Rattle.gate_world.specs.declared.operations.Op.TheVariants.{WantWrite, DropWrite, Freeze, Thaw}
-use Rattle.call_events.specs.Asking.{PerformsAsking}
-use Rattle.call_events.specs.Runs.{Performs}
-use Rattle.call_events.specs.Seating.{SeatItems}
+use Rattle.gate_steps.specs.call_events.Asking.{PerformsAsking}
+use Rattle.gate_steps.specs.call_events.Runs.{Performs}
+use Rattle.gate_steps.specs.Seating.{SeatItems}
 use Rattle.vfs_gates.specs.TaskStates.{TaskState}
 
 module _ {T : Type 0} (between : TaskState → T → TaskState → Type 0) where

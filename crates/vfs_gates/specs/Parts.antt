@@ -2,7 +2,7 @@
 use Rattle.std.specs.Prelude.{◌≡◌, ℕ, ◌<◌, ◌≤◌}
 use Rattle.access_model.specs.declared.errors.GateError.{GateError}
 use Rattle.access_model.specs.declared.errors.GateError.TheVariants.{Order, TooMany, NoMemory}
-use Rattle.call_events.specs.Seating.{times, kept_of, given_of}
+use Rattle.gate_steps.specs.Seating.{times, kept_of, given_of}
 use Rattle.vfs_gates.specs.TaskStates.{TaskState, IsIdle, spare_of}
 
 -- the lowest number that is left goes to a task of its own, with its view renewed

@@ -15,7 +15,7 @@ use Rattle.gate_world.specs.declared.views.Traced.{Traced}
 use Rattle.gate_world.specs.declared.views.Snapshot.{Snapshot}
 use Rattle.gate_world.specs.Found.{is_load}
 use Rattle.gate_world.specs.Snapshots.{loads_noted}
-use Rattle.call_events.specs.Seating.{SeatItems}
+use Rattle.gate_steps.specs.Seating.{SeatItems}
 use Rattle.vfs_gates.specs.declared.rooms.Rooms.{Rooms}
 use Rattle.vfs_gates.specs.TaskStates.{own_view}
 

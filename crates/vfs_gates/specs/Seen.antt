@@ -6,7 +6,7 @@ use Rattle.gate_world.specs.declared.views.Snapshot.{Snapshot}
 use Rattle.gate_world.specs.Configs.{model_limits}
 use Rattle.gate_world.specs.Moments.{IsOfMoment}
 use Rattle.gated_tree.specs.Trees.{node_at}
-use Rattle.call_events.specs.Seating.{SeatItems, HaveHistory, done_by}
+use Rattle.gate_steps.specs.Seating.{SeatItems, HaveHistory, done_by}
 use Rattle.vfs_gates.specs.TaskStates.{own_number, own_view, spare_of}
 
 -- The snapshot of this number is of a moment of the one history in which the numbers of a task have their views. It is of all nodes, sound

@@ -1,6 +1,6 @@
 -- What the first task of some gates has to give while tasks are split off, one after the other.
 use Rattle.std.specs.Prelude.{◌≡◌, ℕ, ◌+◌, ◌<◌, ◌≤◌, List, [], ◌∷◌, length}
-use Rattle.call_events.specs.Seating.{SeatItems, times}
+use Rattle.gate_steps.specs.Seating.{SeatItems, times}
 use Rattle.vfs_gates.specs.TaskStates.{TaskState, IsIdle, own_number, own_view, spare_of}
 
 -- these have the numbers from this one on, each the next

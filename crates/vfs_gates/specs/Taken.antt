@@ -7,7 +7,7 @@ use Rattle.gate_world.specs.declared.operations.Op.TheVariants.{Snapshot as Snap
 use Rattle.gate_world.specs.declared.views.Snapshot.{Snapshot}
 use Rattle.gated_tree.specs.declared.trees.Tree.{Tree}
 use Rattle.gated_tree.specs.Trees.{words_of}
-use Rattle.call_events.specs.Runs.{Performs}
+use Rattle.gate_steps.specs.call_events.Runs.{Performs}
 use Rattle.vfs_gates.specs.contracts.task.Task.{the_row}
 use Rattle.vfs_gates.specs.TaskStates.{TaskState, own_view}
 

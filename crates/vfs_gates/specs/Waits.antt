@@ -5,7 +5,7 @@ use Rattle.gate_world.specs.Views.{phase_after}
 use Rattle.gate_world.specs.declared.config.Config.{Config}
 use Rattle.gate_world.specs.declared.operations.Op.{Op}
 use Rattle.gate_world.specs.declared.views.View.{View}
-pub use Rattle.call_events.specs.Waited.{counted, is_wait, waited_at, waits_of}
+pub use Rattle.gate_steps.specs.call_events.Waited.{counted, is_wait, waited_at, waits_of}
 
 -- a view stands where the events of its operation have led; one with no operation is idle
 abbrev pub StandsBy : Config → ℕ → View → Option Op → Type 0

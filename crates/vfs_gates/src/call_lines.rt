@@ -5,17 +5,17 @@ ghost use Rattle.access_model.specs.Replies.{map_next};
 ghost use Rattle.gate_world.specs.Views.{phase_after};
 ghost use Rattle.gate_world.specs.declared.operations.Op.{Op as OpType};
 ghost use Rattle.gate_world.specs.declared.work.Phase.TheVariants.{Writes};
-ghost use Rattle.call_events.specs.TaskStates.{TaskState, task_state};
-ghost use Rattle.call_events.specs.Turns.{IsTied, StayTied, of_write, taking};
+ghost use Rattle.gate_steps.specs.call_events.TaskStates.{TaskState, task_state};
+ghost use Rattle.gate_steps.specs.call_events.Turns.{IsTied, StayTied, of_write, taking};
 ghost use Rattle.compounds.specs.declared.write_access.phases.WritePhase.TheVariants.{Drops};
-ghost use Rattle.call_events.specs.Waited.{GoesWaiting, WentWaiting};
+ghost use Rattle.gate_steps.specs.call_events.Waited.{GoesWaiting, WentWaiting};
 
 mod changes;
 mod grows;
 
 use access_model::Next;
-use call_events::{GateWords, Seat, go_on};
 use compounds::WritePhase;
+use gate_steps::call_events::{GateWords, Seat, go_on};
 use gate_world::{Accesses, Op, UnderWay};
 use mount_counts::{MountPhase, Want, WantStep};
 use percpu_rwsem::{DownRead, DownReadStep, UpRead};
@@ -26,9 +26,9 @@ pub trait InLine: UnderWay {
     ghost use Rattle.access_model.specs.Replies.{map_next};
     ghost use Rattle.gate_world.specs.Views.{phase_after};
     ghost use Rattle.gate_world.specs.declared.operations.Op.{Op as OpType};
-    ghost use Rattle.call_events.specs.TaskStates.{TaskState, task_state};
-    ghost use Rattle.call_events.specs.Turns.{IsTied, StayTied};
-    ghost use Rattle.call_events.specs.Waited.{GoesWaiting, WentWaiting};
+    ghost use Rattle.gate_steps.specs.call_events.TaskStates.{TaskState, task_state};
+    ghost use Rattle.gate_steps.specs.call_events.Turns.{IsTied, StayTied};
+    ghost use Rattle.gate_steps.specs.call_events.Waited.{GoesWaiting, WentWaiting};
 
     /// The events up to the operation's usual end; where one of them finds something else, the events up to it. What comes after the
     /// last of them.

@@ -5,14 +5,14 @@ ghost use Rattle.access_model.specs.Replies.{map_next};
 ghost use Rattle.gate_world.specs.declared.operations.Op.{Op as OpType};
 ghost use Rattle.vfs_gates.specs.TaskStates.{TaskState};
 ghost use Rattle.vfs_gates.specs.Waits.{is_wait};
-ghost use Rattle.call_events.specs.Runs.{told_as, unit_of, Goes};
+ghost use Rattle.gate_steps.specs.call_events.Runs.{told_as, unit_of, Goes};
 
 use crate::call_lines::InLine;
 use crate::gates::Gates;
 use crate::task::Task;
 use access_model::{GateError, Next, Reply};
-use call_events::Progress;
 use compounds::WritePhase;
+use gate_steps::call_events::Progress;
 use gate_world::{Op, Phase, UnderWay};
 use mount_counts::{Change, ChangeStep, MountPhase, Want, WantStep};
 use percpu_rwsem::{DownRead, DownReadStep, UpRead};
@@ -46,7 +46,7 @@ impl Task {
     ghost use Rattle.mount_counts.specs.declared.phases.MountPhase.TheVariants.{Change as Changes};
     ghost use Rattle.vfs_gates.specs.Room.{is_of_snapshot};
     ghost use Rattle.vfs_gates.specs.TaskStates.{IsFrom, beginning_at, own_number};
-    ghost use Rattle.call_events.specs.Runs.{Called, IsBounded, IsTrying, Performs};
+    ghost use Rattle.gate_steps.specs.call_events.Runs.{Called, IsBounded, IsTrying, Performs};
 
     /// The first phase of the operation, or why it can't begin.
     #[inline(always)]

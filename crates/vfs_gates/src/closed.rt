@@ -7,8 +7,8 @@ ghost use Rattle.gate_world.specs.Configs.{extents_of};
 ghost use Rattle.vfs_gates.specs.Sums.{count_word, IsGate};
 
 use access_model::Gate;
-use call_events::word_of;
 use cpu_words::WordName;
+use gate_steps::call_events::word_of;
 use gate_world::Config;
 use std::marker::Model;
 
@@ -23,14 +23,14 @@ use std::marker::Model;
 /// ```
 pub struct Closed {
     pub(crate) config: Config,
-    pub(crate) closed: call_events::Closed,
+    pub(crate) closed: gate_steps::call_events::Closed,
 }
 
 impl Model for Closed {
     ghost use Rattle.std.specs.Prelude.{◌≡◌};
     ghost use Rattle.std.specs.Slots.{slots_items, slots_len, IsFull};
     ghost use Rattle.gate_world.specs.Configs.{IsWithin};
-    ghost use Rattle.call_events.specs.Rules.{table_length};
+    ghost use Rattle.gate_steps.specs.Rules.{table_length};
     ghost use Rattle.vfs_gates.specs.Ended.{Ending, Ended};
 
     ghost Value = { Ending };

@@ -2,13 +2,13 @@
 
 ghost use Rattle.std.specs.Prelude.{◌≡◌, ◌-◌, IfOk, IfErr, OnOk, None};
 ghost use Rattle.gate_world.specs.Configs.{IsWithin};
-ghost use Rattle.call_events.specs.Rules.{first_items};
+ghost use Rattle.gate_steps.specs.Rules.{first_items};
 
 use crate::closed::Closed;
 use crate::rooms::Rooms;
 use crate::task::Task;
 use access_model::GateError;
-use call_events::GateWords;
+use gate_steps::call_events::GateWords;
 use gate_world::Config;
 use std::alloc::Global;
 

@@ -19,10 +19,10 @@ mod tree_calls;
 mod waits;
 
 pub use access_model::{Action, Gate, GateError, Holder, Kind, NodeInfo, Reply};
-pub use call_events::{Progress, Seat, Step, TimedHooks};
 pub use closed::Closed;
 pub use cpu_words::{Event, Touch, WordName};
 pub use freeze_levels::{FsHooks, HookCall, HookKind};
+pub use gate_steps::call_events::{Progress, Seat, Step, TimedHooks};
 pub use gate_world::{Config, Op};
 pub use gated_tree::Tree;
 pub use gates::Gates;

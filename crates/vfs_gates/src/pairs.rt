@@ -7,12 +7,12 @@ ghost use Rattle.vfs_gates.specs.TaskStates.{TaskState};
 use crate::gates::Gates;
 use crate::task::Task;
 use access_model::{GateError, Holder};
-use call_events::TimedHooks;
+use gate_steps::call_events::TimedHooks;
 use std::sync::Wait;
 
 impl Task {
     ghost use Rattle.gate_world.specs.declared.operations.Op.TheVariants.{Freeze as FreezeOp, WantWrite};
-    ghost use Rattle.call_events.specs.Runs.{Performs};
+    ghost use Rattle.gate_steps.specs.call_events.Runs.{Performs};
     ghost use Rattle.vfs_gates.specs.TaskStates.{IsFrom, IsIdle};
     ghost use Rattle.vfs_gates.specs.Held.{IsAsBefore};
     ghost use Rattle.vfs_gates.specs.Pairs.{WithFreeze, WithWrite};

@@ -8,7 +8,7 @@ use crate::numbers::{lowest, none};
 use crate::rooms::Rooms;
 use crate::task::Task;
 use access_model::GateError;
-use call_events::Kept;
+use gate_steps::call_events::Kept;
 use std::alloc::Global;
 
 impl Task {

@@ -10,7 +10,7 @@ ghost use Rattle.gate_world.specs.declared.work.Phase.{Phase as PhaseType};
 ghost use Rattle.gate_world.specs.Beginnings.{first_phase};
 ghost use Rattle.gate_world.specs.Views.{phase_after};
 ghost use Rattle.gate_world.specs.Work.{after_of, next_of};
-ghost use Rattle.call_events.specs.Seating.{SeatItems, items_after};
+ghost use Rattle.gate_steps.specs.Seating.{SeatItems, items_after};
 ghost use Rattle.vfs_gates.specs.Room.{HasSnapshotRoom, RoomTells, last_in, noted_in};
 
 use cpu_words::{Event, Touch};

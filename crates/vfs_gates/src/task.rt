@@ -5,15 +5,15 @@ ghost use Rattle.gate_world.specs.Configs.{IsWithin};
 ghost use Rattle.gate_world.specs.declared.operations.Op.{Op as OpType};
 ghost use Rattle.gate_world.specs.declared.work.Phase.{Phase as PhaseType};
 ghost use Rattle.vfs_gates.specs.TaskStates.{TaskState, IsNothing};
-ghost use Rattle.call_events.specs.Rules.{first_items};
+ghost use Rattle.gate_steps.specs.Rules.{first_items};
 
 use crate::calls::waits;
 use crate::gates::Gates;
 use crate::numbers::{Numbers, add_all, are_all, others_of};
 use crate::rooms::Rooms;
 use access_model::GateError;
-use call_events::{Kept, Progress, Seat, Step, Turn, do_event};
 use freeze_levels::HookKind;
+use gate_steps::call_events::{Kept, Progress, Seat, Step, Turn, do_event};
 use gate_world::{Accesses, Config, Op};
 use gated_tree::Tree;
 use std::marker::Model;
@@ -62,7 +62,7 @@ impl Model for Task {
     ghost use Rattle.vfs_gates.specs.TaskStates.{TaskState, own_number, own_view, task_state};
     ghost use Rattle.vfs_gates.specs.Room.{RoomTells};
     ghost use Rattle.vfs_gates.specs.Waits.{WaitsTell};
-    ghost use Rattle.call_events.specs.Ties.{Ties};
+    ghost use Rattle.gate_steps.specs.call_events.Ties.{Ties};
 
     ghost Value = { TaskState };
 
@@ -91,15 +91,15 @@ impl Drop for Task {
 
 impl Task {
     ghost use Rattle.vfs_gates.specs.Room.{HasSnapshotRoom};
-    ghost use Rattle.call_events.specs.Answers.{idle_step, unless_refused, asked_by};
+    ghost use Rattle.gate_steps.specs.call_events.Answers.{idle_step, unless_refused, asked_by};
     ghost use Rattle.gate_world.specs.Beginnings.{first_phase as the_first_phase};
     ghost use Rattle.gate_world.specs.Views.{held_at, holds_level as has_level, has_open as opens_file};
     ghost use Rattle.vfs_gates.specs.TaskStates.{task_state, IsFrom, own_number, own_view, refusal_at, IsIdle, HoldsNothing};
-    ghost use Rattle.call_events.specs.Stepped.{Stepped};
-    ghost use Rattle.call_events.specs.Runs.{Goes, Told};
+    ghost use Rattle.gate_steps.specs.call_events.Stepped.{Stepped};
+    ghost use Rattle.gate_steps.specs.call_events.Runs.{Goes, Told};
     ghost use Rattle.vfs_gates.specs.Ended.{HasAll};
     ghost use Rattle.vfs_gates.specs.Waits.{waited_at};
-    ghost use Rattle.call_events.specs.Ties.{AllRest};
+    ghost use Rattle.gate_steps.specs.call_events.Ties.{AllRest};
     ghost use Rattle.gate_world.specs.declared.views.Snapshot.{Snapshot};
     ghost use Rattle.gated_tree.specs.Trees.{words_of};
 

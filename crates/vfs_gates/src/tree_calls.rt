@@ -4,13 +4,13 @@ ghost use Rattle.std.specs.Prelude.{◌≡◌, true, false, IfOk};
 ghost use Rattle.gate_world.specs.Operations.{IsNodeReply};
 ghost use Rattle.gated_tree.specs.declared.marks.MarkStep.TheVariants.{LoadsFile};
 ghost use Rattle.gated_tree.specs.declared.phases.TreePhase.TheVariants.{Mark as Marks};
-ghost use Rattle.call_events.specs.Runs.{told_as, node_of};
+ghost use Rattle.gate_steps.specs.call_events.Runs.{told_as, node_of};
 
 use crate::calls::outcome;
 use crate::gates::Gates;
 use crate::task::Task;
 use access_model::{GateError, Kind, Reply};
-use call_ends::go_to_end;
+use gate_steps::call_ends::go_to_end;
 use gate_world::Op;
 use gated_tree::{
     Create, CreateStep, Grow, GrowStep, Mark, MarkStep, MoveStep, MoveTo, OpenFile, OpenStep,
@@ -48,7 +48,7 @@ impl Task {
     ghost use Rattle.vfs_gates.specs.Room.{is_of_snapshot};
     ghost use Rattle.gate_world.specs.declared.operations.Op.TheVariants.{Create as CreateOp, Remove as RemoveOp, Grow as GrowOp, MoveTo as MoveToOp, Fault as FaultOp, Flush as FlushOp, Snapshot as SnapshotOp, Open as OpenOp, Close as CloseOp};
     ghost use Rattle.vfs_gates.specs.TaskStates.{IsFrom, own_number};
-    ghost use Rattle.call_events.specs.Runs.{IsBounded, Performs, Replies, the_reply};
+    ghost use Rattle.gate_steps.specs.call_events.Runs.{IsBounded, Performs, Replies, the_reply};
 
     /// Begins a call at the tree that has this first phase and a most number of events, and does its events until it replies.
     #[inline(always)]

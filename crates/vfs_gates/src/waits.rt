@@ -3,18 +3,18 @@
 ghost use Rattle.std.specs.Prelude.{◌≡◌, true, false, IfOk};
 ghost use Rattle.gate_world.specs.declared.operations.Op.{Op as OpType};
 ghost use Rattle.vfs_gates.specs.TaskStates.{TaskState};
-ghost use Rattle.call_events.specs.Runs.{told_as, ran_of, IsRanReply, Goes};
+ghost use Rattle.gate_steps.specs.call_events.Runs.{told_as, ran_of, IsRanReply, Goes};
 
 use crate::call_lines::InLine;
 use crate::calls::{outcome, waits};
 use crate::gates::Gates;
 use crate::task::Task;
 use access_model::{GateError, Holder, Next, Reply};
-use call_ends::{Waiting, wait_to_end};
-use call_events::{Progress, TimedHooks};
 use compounds::WritePhase;
 use crossbeam_utils::Backoff;
 use freeze_levels::{Freeze, FreezeStep, Thaw, ThawStep};
+use gate_steps::call_ends::{Waiting, wait_to_end};
+use gate_steps::call_events::{Progress, TimedHooks};
 use gate_world::Op;
 use mount_counts::{Remount, RemountStep, Want, WantStep};
 use percpu_rwsem::{Callback, CallbackStep, DownRead, DownReadStep, Transition};
@@ -47,8 +47,8 @@ impl Task {
     ghost use Rattle.gate_world.specs.declared.operations.Op.TheVariants.{Want as WantOp, ChangeMount, RemountSb, Start, WantWrite, Callback as CallbackOp, Freeze as FreezeOp, Thaw as ThawOp};
     ghost use Rattle.vfs_gates.specs.Room.{is_of_snapshot};
     ghost use Rattle.vfs_gates.specs.TaskStates.{IsFrom, own_number};
-    ghost use Rattle.call_events.specs.Runs.{the_reply, Called, Replies, Performs};
-    ghost use Rattle.call_events.specs.Asking.{PerformsAsking, RepliesAsking};
+    ghost use Rattle.gate_steps.specs.call_events.Runs.{the_reply, Called, Replies, Performs};
+    ghost use Rattle.gate_steps.specs.call_events.Asking.{PerformsAsking, RepliesAsking};
 
     /// Does the events of the operation that has begun and asks no hook until it replies, however long it has to wait.
     #[cold]
@@ -212,7 +212,7 @@ impl Task {
     /// # Errors
     ///
     /// Invalid, and Order where an operation is under way, as `begin`.
-    #[tactic(auto, using(call_events::proofs::Running::was_told))]
+    #[tactic(auto, using(gate_steps::proofs::call_events::Running::was_told))]
     pub fn callback<R: Wait>(&mut self, rt: &R, gates: &Gates, level: u8) -> Result<bool, GateError>
         requires { IsFrom self.old gates.now }
         ensures { Replies ran_of (CallbackOp level) self.old self.new result }

@@ -5,13 +5,13 @@ ghost use Rattle.gate_world.specs.Views.{phase_after};
 ghost use Rattle.gate_world.specs.declared.operations.Op.{Op as OpType};
 ghost use Rattle.gate_world.specs.declared.work.Phase.TheVariants.{Mounts};
 ghost use Rattle.mount_counts.specs.declared.phases.MountPhase.TheVariants.{Change as Changes};
-ghost use Rattle.call_events.specs.TaskStates.{TaskState, task_state};
-ghost use Rattle.call_events.specs.Turns.{IsTied, StayTied, of_change};
-ghost use Rattle.call_events.specs.Waited.{GoesWaiting, WentWaiting};
+ghost use Rattle.gate_steps.specs.call_events.TaskStates.{TaskState, task_state};
+ghost use Rattle.gate_steps.specs.call_events.Turns.{IsTied, StayTied, of_change};
+ghost use Rattle.gate_steps.specs.call_events.Waited.{GoesWaiting, WentWaiting};
 
 use crate::call_lines::{InLine, Placed, go_on_if};
 use access_model::Next;
-use call_events::{GateWords, Seat, go_on};
+use gate_steps::call_events::{GateWords, Seat, go_on};
 use gate_world::{Accesses, Op};
 use mount_counts::{Change, ChangeStep};
 

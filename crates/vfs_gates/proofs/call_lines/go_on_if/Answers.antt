@@ -3,10 +3,10 @@ use Rattle.std.proofs.Common.{subst}
 use Rattle.std.specs.Prelude.{None}
 use Rattle.access_model.specs.Replies.{map_next}
 use Rattle.gate_world.specs.Views.{phase_after}
-use Rattle.call_events.specs.TaskStates.{task_state}
-use Rattle.call_events.specs.Ties.{Ties}
-use Rattle.call_events.specs.Turns.{kept_at}
-use Rattle.call_events.specs.Waited.{WentWaiting}
+use Rattle.gate_steps.specs.call_events.TaskStates.{task_state}
+use Rattle.gate_steps.specs.call_events.Ties.{Ties}
+use Rattle.gate_steps.specs.call_events.Turns.{kept_at}
+use Rattle.gate_steps.specs.call_events.Waited.{WentWaiting}
 use Rattle.vfs_gates.proofs.call_lines.go_on_if.Goals as goal
 
 pub returns-then-goes_on-clause-tied : goal.returns-then-goes_on-clause-tied

@@ -3,10 +3,10 @@ use Rattle.std.proofs.Common.{subst}
 use Rattle.std.specs.Prelude.{Some}
 use Rattle.gate_world.specs.declared.work.Phase.TheVariants.{Writes}
 use Rattle.compounds.specs.declared.write_access.phases.WritePhase.{WritePhase}
-use Rattle.call_events.specs.TaskStates.{task_state}
-use Rattle.call_events.specs.Ties.{Ties}
-use Rattle.call_events.specs.Turns.{kept_at}
-use Rattle.call_events.specs.Waited.{GoesWaiting}
+use Rattle.gate_steps.specs.call_events.TaskStates.{task_state}
+use Rattle.gate_steps.specs.call_events.Ties.{Ties}
+use Rattle.gate_steps.specs.call_events.Turns.{kept_at}
+use Rattle.gate_steps.specs.call_events.Waited.{GoesWaiting}
 use Rattle.vfs_gates.proofs.call_lines.WritePhaseInLine.go_in_line.Goals as goal
 
 pub returns-in-Takes-clause-tied : goal.returns-in-Takes-clause-tied

@@ -3,9 +3,9 @@ use Rattle.std.proofs.Common.{◌≡◌, ℕ}
 use Rattle.std.specs.Prelude.{None}
 use Rattle.gate_world.specs.Views.{phase_after}
 use Rattle.gate_world.specs.declared.operations.Op.{Op}
-use Rattle.call_events.specs.TaskStates.{TaskState, task_state}
-use Rattle.call_events.specs.Turns.{IsTied, StayTied, of_change}
-use Rattle.call_events.specs.Waited.{WentWaiting}
+use Rattle.gate_steps.specs.call_events.TaskStates.{TaskState, task_state}
+use Rattle.gate_steps.specs.call_events.Turns.{IsTied, StayTied, of_change}
+use Rattle.gate_steps.specs.call_events.Waited.{WentWaiting}
 use Rattle.vfs_gates.proofs.call_lines.changes.add_counts.Given as goal
 
 abbrev pub invariant-loop-cpu : goal.invariant-loop-cpu

@@ -2,7 +2,7 @@
 use Rattle.std.proofs.Common.{refl, sym, ap}
 use Rattle.std.proofs.lemmas.Result.{err_from_is_err_and}
 use Rattle.vfs_gates.specs.TaskStates.{TaskState}
-use Rattle.call_events.proofs.Running.{starts}
+use Rattle.gate_steps.proofs.call_events.Running.{starts}
 use Rattle.vfs_gates.proofs.Admitting.{admitted_by, refused_by}
 use Rattle.vfs_gates.proofs.Calling.{Call, admitted_call, begun, begun_state}
 use Rattle.vfs_gates.proofs.task.Task.begin.Goals as goal

@@ -1,8 +1,8 @@
 use Rattle.std.proofs.Common.{◌≡◌}
 use Rattle.gate_world.specs.declared.operations.Op.{Op}
 use Rattle.vfs_gates.specs.TaskStates.{TaskState}
-use Rattle.call_events.specs.Runs.{Goes, IsTrying}
-use Rattle.call_events.proofs.Running.{events_left}
+use Rattle.gate_steps.specs.call_events.Runs.{Goes, IsTrying}
+use Rattle.gate_steps.proofs.call_events.Running.{events_left}
 use Rattle.vfs_gates.proofs.task.Task.finish.Given as goal
 
 abbrev pub invariant-loop-answer : goal.invariant-loop-answer

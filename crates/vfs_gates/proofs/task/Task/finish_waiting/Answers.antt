@@ -1,6 +1,6 @@
 use Rattle.std.proofs.Common.{refl, sym, subst, ◌∙◌}
 use Rattle.gate_world.specs.Configs.{IsWithin}
-use Rattle.call_events.proofs.Running.{goes_further, ends_there}
+use Rattle.gate_steps.proofs.call_events.Running.{goes_further, ends_there}
 use Rattle.vfs_gates.proofs.task.Task.finish_waiting.Goals as goal
 
 pub loop-init : goal.loop-init

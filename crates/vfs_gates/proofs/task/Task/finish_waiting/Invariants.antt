@@ -1,7 +1,7 @@
 use Rattle.std.proofs.Common.{◌≡◌}
 use Rattle.gate_world.specs.declared.operations.Op.{Op}
 use Rattle.vfs_gates.specs.TaskStates.{TaskState}
-use Rattle.call_events.specs.Runs.{Goes}
+use Rattle.gate_steps.specs.call_events.Runs.{Goes}
 use Rattle.vfs_gates.proofs.task.Task.finish_waiting.Given as goal
 
 abbrev pub invariant-loop : goal.invariant-loop

@@ -1,8 +1,8 @@
 use Rattle.std.proofs.Common.{ap, sym, subst, ◌∙◌, None}
-use Rattle.call_events.specs.Seating.{SeatItems}
-use Rattle.call_events.specs.Ties.{Ties}
+use Rattle.gate_steps.specs.Seating.{SeatItems}
+use Rattle.gate_steps.specs.call_events.Ties.{Ties}
 use Rattle.vfs_gates.proofs.Parting.{first_ties}
-use Rattle.call_events.specs.Seat.{Seat}
+use Rattle.gate_steps.specs.call_events.Seat.{Seat}
 use Rattle.vfs_gates.specs.TaskStates.{own_view}
 use Rattle.vfs_gates.proofs.Rooming.{first_unseen, room_new}
 use Rattle.vfs_gates.proofs.Waiting.{first_tells}

@@ -1,5 +1,5 @@
 use Rattle.std.proofs.Common.{ℕ, ◌<◌, ◌≤◌, refl, sym, subst}
-use Rattle.call_events.specs.Seating.{times}
+use Rattle.gate_steps.specs.Seating.{times}
 use Rattle.vfs_gates.specs.TaskStates.{TaskState}
 use Rattle.vfs_gates.proofs.Parting.{all_marked}
 use Rattle.vfs_gates.proofs.task.Task.has_all.Goals as goal

@@ -1,8 +1,8 @@
 use Rattle.std.proofs.Common.{◌≡◌, set, true, length, arith, sym, ap, ◌∙◌, subst, None}
 use Rattle.gate_world.specs.declared.config.Config.{Config}
-use Rattle.call_events.specs.Seating.{SeatItems}
+use Rattle.gate_steps.specs.Seating.{SeatItems}
 use Rattle.vfs_gates.specs.TaskStates.{TaskState, Empty, own_number, own_view}
-use Rattle.call_events.specs.Ties.{Ties}
+use Rattle.gate_steps.specs.call_events.Ties.{Ties}
 use Rattle.vfs_gates.proofs.Parting.{join_self, below}
 use Rattle.vfs_gates.proofs.Rooming.{joined_view, room_same}
 use Rattle.vfs_gates.proofs.Waiting.{joined_number, tell_same}

@@ -4,11 +4,11 @@ use Rattle.std.specs.Prelude.{Some}
 use Rattle.gate_world.specs.declared.work.Phase.{Phase}
 use Rattle.access_model.specs.Replies.{map_next}
 use Rattle.std.proofs.lemmas.Result.{err_from_is_err_and}
-use Rattle.call_events.specs.Runs.{unit_of}
+use Rattle.gate_steps.specs.call_events.Runs.{unit_of}
 use Rattle.vfs_gates.proofs.Admitting.{refused_by}
 use Rattle.vfs_gates.proofs.Calling.{Call, Left, call_with, is_tied, has_not_waited, ties_at, ties_done, goes_at, ended_at}
-use Rattle.call_events.proofs.Onward.{stands_at, done_at}
-use Rattle.call_events.proofs.Running.{was_refused, was_done}
+use Rattle.gate_steps.proofs.call_events.Onward.{stands_at, done_at}
+use Rattle.gate_steps.proofs.call_events.Running.{was_refused, was_done}
 use Rattle.vfs_gates.proofs.task.Task.perform.Goals as goal
 use Rattle.vfs_gates.proofs.task.Task.perform.Goals.{After-go_in_line-next}
 use Rattle.vfs_gates.proofs.Rooming.{room_at, room_done}

@@ -3,14 +3,14 @@ use Rattle.std.proofs.Common.{refl, sym, ap, ◌∙◌, [], add-zero}
 use Rattle.std.specs.Prelude.{None}
 use Rattle.std.proofs.lemmas.Result.{err_from_is_err_and}
 use Rattle.access_model.specs.declared.replies.Next.TheVariants.{Done}
-use Rattle.call_events.specs.Runs.{the_reply}
+use Rattle.gate_steps.specs.call_events.Runs.{the_reply}
 use Rattle.vfs_gates.proofs.Admitting.{refused_by}
 use Rattle.vfs_gates.proofs.Calling.{Call, Left, call_with, is_tied, has_asked_none, ties_done, ended_asking}
 use Rattle.vfs_gates.proofs.Rooming.{room_done}
-use Rattle.call_events.specs.Asking.{CalledAsking}
-use Rattle.call_events.proofs.Asking.{was_refused_asking, was_done_asking}
-use Rattle.call_events.proofs.Running.{told_whole}
-use Rattle.call_events.specs.Waited.{counted, waits_in}
+use Rattle.gate_steps.specs.call_events.Asking.{CalledAsking}
+use Rattle.gate_steps.proofs.call_events.Asking.{was_refused_asking, was_done_asking}
+use Rattle.gate_steps.proofs.call_events.Running.{told_whole}
+use Rattle.gate_steps.specs.call_events.Waited.{counted, waits_in}
 use Rattle.vfs_gates.proofs.Waiting.{left_tells}
 use Rattle.vfs_gates.specs.TaskStates.{own_number, task_state}
 use Rattle.vfs_gates.proofs.task.Task.perform_waiting.Goals as goal

@@ -1,9 +1,9 @@
 use Rattle.std.proofs.Common.{◌≡◌, ℕ, refl, length, set, false, arith, sym, ap, ◌∙◌, subst, None}
 use Rattle.gate_world.specs.declared.views.View.{View}
-use Rattle.call_events.specs.Seating.{SeatItems}
-use Rattle.call_events.specs.Ties.{Ties}
+use Rattle.gate_steps.specs.Seating.{SeatItems}
+use Rattle.gate_steps.specs.call_events.Ties.{Ties}
 use Rattle.vfs_gates.proofs.Parting.{split_self, split_new, lowest_there, none_begun}
-use Rattle.call_events.specs.Seat.{Seat}
+use Rattle.gate_steps.specs.call_events.Seat.{Seat}
 use Rattle.vfs_gates.specs.TaskStates.{TaskState, task_state, own_number, own_view, Empty}
 use Rattle.vfs_gates.specs.Parts.{SplitOf}
 use Rattle.vfs_gates.proofs.Rooming.{given_unseen, kept_view, room_new, room_same}

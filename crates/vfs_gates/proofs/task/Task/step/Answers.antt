@@ -5,11 +5,11 @@ use Rattle.std.specs.Prelude.{Option, Some, None}
 use Rattle.access_model.specs.declared.replies.Next.{Next}
 use Rattle.gate_world.specs.declared.work.Phase.{Phase}
 use Rattle.gate_world.specs.Views.{phase_after}
-use Rattle.call_events.specs.Answers.{progress_of}
+use Rattle.gate_steps.specs.call_events.Answers.{progress_of}
 use Rattle.vfs_gates.specs.TaskStates.{TaskState, task_state}
-use Rattle.call_events.specs.Turns.{kept_at}
-use Rattle.call_events.proofs.Running.{told_then}
-use Rattle.call_events.proofs.Turning.{tied_at, stepped_there}
+use Rattle.gate_steps.specs.call_events.Turns.{kept_at}
+use Rattle.gate_steps.proofs.call_events.Running.{told_then}
+use Rattle.gate_steps.proofs.call_events.Turning.{tied_at, stepped_there}
 use Rattle.gate_world.specs.Configs.{IsWithin}
 use Rattle.access_model.proofs.Mapped.{map_next_same}
 use Rattle.access_model.specs.Replies.{map_next}

@@ -1,7 +1,7 @@
 -- A freeze and a thaw take nothing, and the closure leaves the task as it was.
 use Rattle.std.proofs.Common.{rules, ◌∙◌, refl}
 use Rattle.gate_world.specs.declared.operations.Op.TheVariants.{Freeze, Thaw}
-use Rattle.call_events.specs.Runs.{unit_of}
+use Rattle.gate_steps.specs.call_events.Runs.{unit_of}
 use Rattle.vfs_gates.specs.Held.{IsAsBefore}
 use Rattle.vfs_gates.proofs.Holding.{keeps, as_before_twice}
 use Rattle.vfs_gates.proofs.Returning.{done_idle}

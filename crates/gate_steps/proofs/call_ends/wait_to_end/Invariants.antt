@@ -1,0 +1,27 @@
+-- Each event goes on from what the one before it left.
+use Rattle.std.proofs.Common.{◌≡◌, ℕ, Bool, List}
+use Rattle.std.specs.Prelude.{Some}
+use Rattle.gate_world.specs.declared.operations.Op.{Op}
+use Rattle.gate_steps.specs.call_events.TaskStates.{TaskState, task_state}
+use Rattle.gate_steps.specs.call_events.Ties.{Ties}
+use Rattle.gate_steps.specs.call_events.Turns.{kept_at, IsTied}
+use Rattle.gate_steps.specs.call_events.Asking.{GoesAsking}
+use Rattle.gate_steps.specs.call_events.Waited.{counted}
+use Rattle.gate_steps.proofs.call_ends.wait_to_end.Given as goal
+
+abbrev pub invariant-loop : goal.invariant-loop
+invariant-loop g l = record {
+  next : (goal.iterator-loop g).can_next l.iterator';
+  finite : (goal.iterator-loop g).is_finite l.iterator';
+  table : l.seat.table_id ≡ l.fn.seat.table_id;
+  slots : l.seat.me.1 ≡ l.fn.seat.me.1;
+  tied : IsTied l.fn.gates.config l.begins (Some (g.P.UnderWay.as_phase l.under_way)) l.accesses l.seat.me.0;
+  stay : (number : ℕ) (flags : List Bool) →
+      Ties number l.fn.gates.config (Some l.fn.op) (kept_at (Some (g.P.UnderWay.as_phase l.fn.first)) l.fn.accesses) flags l.fn.seat.me.0 →
+      Ties number l.fn.gates.config l.begins (kept_at (Some (g.P.UnderWay.as_phase l.under_way)) l.accesses) flags l.seat.me.0;
+  goes : (of : Op) (start : TaskState) (before : _) →
+      GoesAsking g.H.TimedHooks.answers 0 of start before
+      (task_state l.fn.seat.table_id l.fn.gates.config (Some l.fn.op) (Some (g.P.UnderWay.as_phase l.fn.first)) l.fn.seat.me.0) l.fn.hooks →
+      (waits : ℕ) × (l.waited ≡ counted waits) × GoesAsking g.H.TimedHooks.answers waits of start before
+      (task_state l.seat.table_id l.fn.gates.config l.begins (Some (g.P.UnderWay.as_phase l.under_way)) l.seat.me.0) l.hooks;
+}

@@ -1,0 +1,236 @@
+-- The hooks that a freeze has asked, by its steps.
+use Rattle.std.proofs.Common.{◌≡◌, ℕ, zero, suc, true, false, List, [], ◌∷◌, refl, sym, ap, subst, ◌∙◌, ◌-◌, inl, inr}
+use Rattle.std.specs.Prelude.{◌==◌, if◌then◌else◌, Option, Some, None, Ok, Err}
+use Rattle.access_model.specs.declared.actions.Action.{Action}
+use Rattle.access_model.specs.declared.actions.Action.TheVariants.{Pass, Clean}
+use Rattle.access_model.specs.declared.replies.Next.{Next}
+use Rattle.access_model.specs.declared.replies.Next.TheVariants.{Go, Wait, Done}
+use Rattle.access_model.specs.declared.replies.Reply.{Reply}
+use Rattle.access_model.specs.Replies.{map_next}
+use Rattle.access_model.specs.Holders.{held_by}
+use Rattle.cpu_words.specs.Hooks.{HookAnswer}
+use Rattle.cpu_words.specs.declared.sums.Taken.{Taken}
+use Rattle.cpu_words.specs.declared.sums.Taken.TheVariants.{More as MoreWords, Total}
+use Rattle.cpu_words.specs.Sums.{sum_taking}
+use Rattle.node_words.specs.declared.marks.ClearMarks.{ClearMarks}
+use Rattle.node_words.specs.Nodes.{dirty_in, node_after}
+use Rattle.node_words.specs.Phases.{clears_at, clear_after}
+use Rattle.percpu_rwsem.specs.declared.grace.GraceNext.{GraceNext}
+use Rattle.percpu_rwsem.specs.declared.grace.GraceNext.TheVariants.{More as MoreSections, Wait as WaitsFor, Ended}
+use Rattle.percpu_rwsem.specs.declared.sync_word.SyncWord.{SyncWord}
+use Rattle.percpu_rwsem.specs.declared.writers.DownWrite.{DownWrite}
+use Rattle.percpu_rwsem.specs.declared.writers.DownWriteStep.{DownWriteStep}
+use Rattle.percpu_rwsem.specs.declared.writers.DownWriteStep.TheVariants.{Enters, AwaitsSections, CallsBack, AwaitsPassed, SetsBlock, Sums}
+use Rattle.percpu_rwsem.specs.declared.writers.UpWrite.{UpWrite}
+use Rattle.percpu_rwsem.specs.Graces.{looked}
+use Rattle.percpu_rwsem.specs.SyncWords.{unpack, is_passed}
+use Rattle.percpu_rwsem.specs.Writers.{down_write_after, sections_awaited, passed_awaited, down_write_summed, at_down_write, sum_begun, up_write_after}
+use Rattle.freeze_levels.specs.declared.freezes.Freeze.{Freeze}
+use Rattle.freeze_levels.specs.declared.freezes.FreezeStep.{FreezeStep}
+use Rattle.freeze_levels.specs.declared.freezes.FreezeStep.TheVariants.{
+  Locks,
+  LoadsStage,
+  LoadsHolders,
+  Holds,
+  LoadsSuperblock,
+  CompletesReadOnly,
+  SetsWrite,
+  Unlocks,
+  Closes,
+  LocksAgain,
+  SetsPageFault,
+  Cleans,
+  SetsFs,
+  SetsComplete,
+  Reopens,
+  Releases,
+}
+use Rattle.freeze_levels.specs.declared.hooks.HookCall.TheVariants.{Sync as SyncCall, FreezeFs as FreezeCall}
+use Rattle.freeze_levels.specs.Freezes.{freeze_after, at_freeze, after_closing, after_clearing, after_reopening, level_closed}
+use Rattle.freeze_levels.specs.Holders.{holders_in}
+use Rattle.gate_world.specs.declared.operations.Op.TheVariants.{Freeze as FreezeOp}
+use Rattle.gate_world.specs.declared.work.Phase.{Phase}
+use Rattle.gate_world.specs.declared.work.Phase.TheVariants.{Freezes}
+use Rattle.gate_world.specs.Traces.{actions_of}
+use Rattle.gate_world.specs.Views.{actions_after}
+use Rattle.gate_world.specs.Work.{after_of}
+use Rattle.gate_steps.specs.Seating.{SeatItems}
+use Rattle.access_model.specs.declared.actions.Holder.{Holder}
+use Rattle.gate_steps.specs.call_events.Asked.{agreed, OnceAsked, stored_third_stage, AskedByFreeze}
+use Rattle.gate_steps.specs.call_events.Asking.{Ask, asks_with, asks_of, call_at}
+use Rattle.gate_steps.specs.call_events.Runs.{Called}
+use Rattle.gate_steps.specs.call_events.TaskStates.{TaskState}
+use Rattle.gate_steps.proofs.call_events.Asked.{either_way, asked_after}
+
+-- nothing was asked
+abbrev NoneAsked : List Action → List Ask → Type 0
+NoneAsked added asks = (stored_third_stage added ≡ false) × (asks ≡ [])
+
+-- `sync` alone was
+abbrev SyncAsked : List Action → List Ask → Type 0
+SyncAsked added asks = (stored_third_stage added ≡ true) × OnceAsked SyncCall asks
+
+-- while a level is closed
+abbrev AtLevel : ℕ → List Action → List Ask → Type 0
+AtLevel (suc zero) added asks = NoneAsked added asks
+AtLevel (suc (suc zero)) added asks = NoneAsked added asks
+AtLevel (suc (suc (suc zero))) added asks = SyncAsked added asks
+AtLevel level added asks = ⊥
+
+abbrev AtStep : FreezeStep → List Action → List Ask → Type 0
+AtStep (Closes d) added asks = AtLevel d.level added asks
+AtStep SetsComplete added asks = SyncAsked added asks
+AtStep (Holds beside) added asks = AskedByFreeze added asks
+AtStep (Reopens u code) added asks = Unit {0}
+AtStep (Releases (Ok reply)) added asks = AskedByFreeze added asks
+AtStep (Releases (Err refusal)) added asks = Unit {0}
+AtStep step added asks = NoneAsked added asks
+
+-- what comes next
+abbrev AtNext : Next Freeze → List Action → List Ask → Type 0
+AtNext (Go x) added asks = AtStep x.step added asks
+AtNext (Wait x) added asks = AtStep x.step added asks
+AtNext (Done (Ok reply)) added asks = AskedByFreeze added asks
+AtNext (Done (Err refusal)) added asks = Unit {0}
+
+-- the same of any operation
+abbrev AtPhase : Phase → List Action → List Ask → Type 0
+AtPhase (Freezes x) added asks = AtStep x.step added asks
+AtPhase phase added asks = ⊥
+
+abbrev At : Next Phase → List Action → List Ask → Type 0
+At (Go phase) added asks = AtPhase phase added asks
+At (Wait phase) added asks = AtPhase phase added asks
+At (Done (Ok reply)) added asks = AskedByFreeze added asks
+At (Done (Err refusal)) added asks = Unit {0}
+
+as_phases : (next : Next Freeze) (added : List Action) (asks : List Ask) → AtNext next added asks → At (map_next Freezes next) added asks
+as_phases (Go x) added asks is = is
+as_phases (Wait x) added asks is = is
+as_phases (Done (Ok reply)) added asks is = is
+as_phases (Done (Err refusal)) added asks is = is
+
+-- a closing goes on at its level
+abbrev KeepsLevel : ℕ → Next DownWrite → Type 0
+KeepsLevel level (Go d) = d.level ≡ level
+KeepsLevel level (Wait d) = d.level ≡ level
+KeepsLevel level (Done answer) = Unit {0}
+
+awaited : (d : DownWrite) (g : GraceNext) → KeepsLevel d.level (sections_awaited d g)
+awaited d (MoreSections grace) = refl
+awaited d (WaitsFor grace) = refl
+awaited d Ended = refl
+
+passed : (d : DownWrite) (word : Option SyncWord) → KeepsLevel d.level (passed_awaited d word)
+passed d None = refl
+passed d (Some word) =
+    either_way (KeepsLevel d.level) (is_passed word.state) (Go (at_down_write d SetsBlock)) (Wait (at_down_write d AwaitsPassed)) refl refl
+
+-- and stores no stage
+summed : (d : DownWrite) (taken : Taken) (added : List Action) → KeepsLevel d.level (down_write_summed d taken).0 ×
+    (stored_third_stage (actions_after (down_write_summed d taken).1 added) ≡ stored_third_stage added)
+summed d (MoreWords sum) added = (refl, refl)
+summed d (Total total) added = (
+  either_way (KeepsLevel d.level) (total == 0) (Done (Ok _)) (Wait (at_down_write d sum_begun)) tt refl,
+  either_way (λ a. stored_third_stage (actions_after a added) ≡ stored_third_stage added) (total == 0) (Some (Pass d.level)) None refl refl,
+)
+
+closes_on : (d : DownWrite) (step : DownWriteStep) (found : ℕ) (added : List Action) → KeepsLevel d.level (down_write_after d step found).0 ×
+    (stored_third_stage (actions_after (down_write_after d step found).1 added) ≡ stored_third_stage added)
+closes_on d (Enters transition) found added = (refl, refl)
+closes_on d (AwaitsSections grace) found added = (awaited d (looked grace found), refl)
+closes_on d (CallsBack transition) found added = (refl, refl)
+closes_on d AwaitsPassed found added = (passed d (unpack found), refl)
+closes_on d SetsBlock found added =
+    (either_way (KeepsLevel d.level) (found == 0) (Go (at_down_write d sum_begun)) (Wait (at_down_write d SetsBlock)) refl refl, refl)
+closes_on d (Sums sum) found added = summed d (sum_taking sum found d.processors) added
+
+-- what was asked at a level is so after actions that store no stage 3
+same_level : (level : ℕ) (added later : List Action) (asks : List Ask) → stored_third_stage later ≡ stored_third_stage added →
+    AtLevel level added asks → AtLevel level later asks
+same_level zero added later asks same is = absurd is
+same_level (suc zero) added later asks same is = (same ∙ is.0, is.1)
+same_level (suc (suc zero)) added later asks same is = (same ∙ is.0, is.1)
+same_level (suc (suc (suc zero))) added later asks same is = (same ∙ is.0, is.1)
+same_level (suc (suc (suc (suc level)))) added later asks same is = absurd is
+
+-- a level is closed
+closed_at : (level nodes : ℕ) (added : List Action) (asks : List Ask) → AtLevel level added asks → AtStep (level_closed level nodes) added asks
+closed_at zero nodes added asks is = absurd is
+closed_at (suc zero) nodes added asks is = is
+closed_at (suc (suc zero)) nodes added asks is = is
+closed_at (suc (suc (suc zero))) nodes added asks is = is
+closed_at (suc (suc (suc (suc level)))) nodes added asks is = absurd is
+
+closing_next : (x : Freeze) (level : ℕ) (next : Next DownWrite) (added : List Action) (asks : List Ask) → KeepsLevel level next →
+    AtLevel level added asks → AtNext (after_closing x level next) added asks
+closing_next x level (Go d) added asks same is = subst (λ l. AtLevel l added asks) (sym same) is
+closing_next x level (Wait d) added asks same is = subst (λ l. AtLevel l added asks) (sym same) is
+closing_next x level (Done answer) added asks same is = closed_at level x.nodes added asks is
+
+-- the marks are cleared
+clearing_next : (x : Freeze) (marks : ClearMarks) (node : Option ℕ) (added : List Action) (asks : List Ask) → NoneAsked added asks →
+    AtNext (after_clearing x (clears_at marks node)) added asks
+clearing_next x marks (Some node) added asks is = is
+clearing_next x marks None added asks is = is
+
+-- the levels are reopened
+reopening_next : (x : Freeze) (level code : ℕ) (next : Next UpWrite) (added : List Action) (asks : List Ask) →
+    AtNext (after_reopening x level code next) added asks
+reopening_next x level code (Go u) added asks = tt
+reopening_next x level code (Wait u) added asks = tt
+reopening_next x level code (Done answer) added asks =
+    either_way (λ step. AtStep step added asks) ((level - 1) == 0) (Releases (Err _)) (Reopens _ code) tt tt
+
+-- one event more
+step_keeps : (x : Freeze) (step : FreezeStep) (found : ℕ) (hook : HookAnswer) (at : SeatItems) (added : List Action) (asks : List Ask) →
+    AtStep step added asks → AtNext (freeze_after x step found hook).0 (actions_after (freeze_after x step found hook).1 added)
+    (asks_with (call_at (Freezes (at_freeze x step))) at hook asks)
+step_keeps x Locks found hook at added asks is =
+    either_way (λ n. AtNext n added asks) (found == 0) (Go (at_freeze x LoadsStage)) (Wait (at_freeze x Locks)) is is
+step_keeps x LoadsStage found hook at added asks is =
+    either_way (λ n. AtNext n added asks) (found == 0) (Go (at_freeze x LoadsSuperblock))
+    (if found == 4 then Go (at_freeze x LoadsHolders) else Go (at_freeze x (Releases (Err _)))) is
+    (either_way (λ n. AtNext n added asks) (found == 4) (Go (at_freeze x LoadsHolders)) (Go (at_freeze x (Releases (Err _)))) is tt)
+step_keeps x LoadsHolders found hook at added asks is =
+    either_way (λ step. AtStep step added asks) (held_by (holders_in found) x.holder) (Releases (Err _)) (Holds (holders_in found)) tt (inr is)
+step_keeps x (Holds beside) found hook at added asks is = is
+step_keeps x LoadsSuperblock found hook at added asks is =
+    either_way (λ n. AtNext n added asks) (found == 0) (Go (at_freeze x SetsWrite)) (Go (at_freeze x CompletesReadOnly)) is is
+step_keeps x CompletesReadOnly found hook at added asks is = inr is
+step_keeps x SetsWrite found hook at added asks is = is
+step_keeps x Unlocks found hook at added asks is = is
+step_keeps x (Closes d) found hook at added asks is =
+    let closes = closes_on d d.step found added in
+    closing_next x d.level (down_write_after d d.step found).0 (actions_after (down_write_after d d.step found).1 added) asks closes.0
+    (same_level d.level added (actions_after (down_write_after d d.step found).1 added) asks closes.1 is)
+step_keeps x LocksAgain found hook at added asks is =
+    either_way (λ n. AtNext n added asks) (found == 0) (Go (at_freeze x SetsPageFault)) (Wait (at_freeze x LocksAgain)) is is
+step_keeps x SetsPageFault found hook at added asks is = is
+step_keeps x (Cleans marks) found hook at added asks is =
+    clearing_next x marks (node_after marks.node marks.nodes) (actions_after (clear_after marks found).1 added) asks
+    (either_way (λ a. NoneAsked (actions_after a added) asks) (dirty_in found == 1) (Some (Clean marks.node)) None is is)
+step_keeps x SetsFs found (Ok agrees) at added asks is = (refl, (at, ap (λ l. agreed SyncCall at ∷ l) is.1))
+step_keeps x SetsFs found (Err code) at added asks is = tt
+step_keeps x SetsComplete found (Ok agrees) at added asks is = inl (is.0, (at, is.1.0, ap (λ l. agreed FreezeCall at ∷ l) is.1.1))
+step_keeps x SetsComplete found (Err code) at added asks is = tt
+step_keeps x (Reopens u code) found hook at added asks is =
+    reopening_next x u.level code (up_write_after u u.step found).0 (actions_after (up_write_after u u.step found).1 added) asks
+step_keeps x (Releases (Ok reply)) found hook at added asks is = is
+step_keeps x (Releases (Err refusal)) found hook at added asks is = is
+
+keeps : (p : Phase) (found : ℕ) (hook : HookAnswer) (at : SeatItems) (added : List Action) (asks : List Ask) → At (Go p) added asks →
+    At (after_of p found hook).0 (actions_after (after_of p found hook).1 added) (asks_with (call_at p) at hook asks)
+keeps (Freezes x) found hook at added asks is =
+    as_phases (freeze_after x x.step found hook).0 (actions_after (freeze_after x x.step found hook).1 added)
+    (asks_with (call_at (Freezes x)) at hook asks) (step_keeps x x.step found hook at added asks is)
+keeps p found hook at added asks is = absurd is
+
+-- of a freeze that was granted
+pub granted_freeze : (holder : Holder) (old left : TaskState) (reply : Reply) (called : Called (FreezeOp holder) old left (Ok reply)) →
+    AskedByFreeze (actions_of (FreezeOp holder) (Ok reply) called.trace) (asks_of old.config (FreezeOp holder) old.items called.trace)
+granted_freeze holder old left reply called =
+    let op = FreezeOp holder in
+    let is = asked_after At (λ p added asks at. at) keeps old.config op old.items (refl, refl) called.trace in
+    let P : Next Phase × List Action → Type 0 = λ z. At z.0 z.1 (asks_of old.config op old.items called.trace) in
+    subst P (λ i. (called.ends i, called.added i)) is

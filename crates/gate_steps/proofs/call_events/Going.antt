@@ -1,0 +1,208 @@
+-- What an event leaves of a task's fields and view.
+use Rattle.std.proofs.Common.{◌≡◌, ℕ, Bool, List, [], ◌∷◌, refl, sym, ap, ◌∙◌, subst}
+use Rattle.std.specs.Prelude.{Option, Some, None}
+use Rattle.access_model.specs.declared.{actions.Action.Action, replies.Next.Next}
+use Rattle.cpu_words.specs.{Hooks.HookAnswer, Touches.{found_by, event_of}, declared.events.Touch.{Touch, TheVariants.{Load, Store, Add, Sub, Or, And, Swap}}}
+use Rattle.cpu_words.specs.declared.{events.{Touch.TheVariants.Cas, Event.Event}, names.WordName.WordName}
+use Rattle.gate_world.specs.{Accesses.accesses_after, Fits.{PhaseFits, Fits, ActionFits}, Holdings.{Agree, holdings_of, held_after}, Views.held_of}
+use Rattle.gate_world.specs.{Views.{phase_after, view_after_beside}, Work.{next_of, after_of}, Worlds.{World, value_at, found_at}}
+use Rattle.gate_world.specs.declared.{accesses.Accesses.Accesses, config.Config.Config, operations.Op.Op, views.View.View, work.Phase.Phase}
+use Rattle.gate_schedules.specs.Answers.{progress_of, phase_step}
+use Rattle.gate_schedules.specs.Seats.{seat_held}
+use Rattle.gate_schedules.specs.declared.seats.Seat.{Seat}
+use Rattle.gate_schedules.specs.declared.steps.Progress.{Progress}
+use Rattle.gate_schedules.specs.declared.steps.Step.{Step}
+use Rattle.gate_schedules.proofs.Phases.{action_fits, fits_after, fits_agree}
+use Rattle.gate_schedules.proofs.operations.frames.{Accesses.{holdings_of_after, long_after, wide_after, deep_after, agree_after}, Agreeing.agree_sym}
+use Rattle.gate_steps.specs.{Seating.{SeatItems, numbered, entered, done_by, items_after, IsMove}, declared.seating.Numbered.Numbered}
+use Rattle.atomic_table.specs.Seated.{TableId}
+use Rattle.gate_steps.specs.call_events.{Stepped.{found_step, state_after, ToldIn, Stepped}, TaskStates.{TaskState, task_state}, Ties.{PhaseOk, OwnTies, Ties}}
+
+-- a view stands where its phase says
+phase_ok : (c : Config) (n : ℕ) (v : View) (o : Option Phase) → v.phase ≡ o → PhaseOk c None o (numbered n v)
+phase_ok c n v None e = (refl, e)
+phase_ok c n v (Some p) e = e
+
+-- a beginning leaves the accesses
+entered_actions : (v : View) (begins : Option Op) (phase : Phase) → (entered v begins phase).actions ≡ v.actions
+entered_actions v None phase = refl
+entered_actions v (Some op) phase = refl
+
+module _ (number : ℕ) (c : Config) (begins : Option Op) (kept : Seat) (flags : List Bool) (phase : Phase) (is : kept.phase ≡ Some phase)
+    (hook : HookAnswer) (found : ℕ) where
+  -- what comes after the event, and its action
+  abbrev done : Next Phase × Option Action
+  done = after_of phase (found_by (next_of phase hook).1 found) hook
+
+  -- what is kept after it
+  abbrev kept_after : Seat
+  kept_after = record { phase = phase_after done.0; accesses = accesses_after kept.accesses done.1 }
+
+  module _ (x : Numbered) (xs : SeatItems) (ties : OwnTies number c begins kept flags x xs) where
+    -- the own view with which the event begins
+    abbrev v : View
+    v = entered x.view begins phase
+
+    -- and after it
+    abbrev seen : View
+    seen = view_after_beside (done_by xs) v phase found hook
+
+    -- the phase fits the view
+    fits_seen : PhaseFits c x.number (held_of x.view) phase
+    fits_seen = subst (Fits c x.number (held_of x.view)) is ties.fits
+
+    -- and what is kept
+    fits_kept : PhaseFits c x.number (seat_held kept) phase
+    fits_kept = fits_agree c x.number (held_of x.view) (seat_held kept) (agree_sym ties.keeps.held) (Some phase) fits_seen
+
+    -- the action can be done on what is kept
+    acts_kept : ActionFits (seat_held kept) done.1
+    acts_kept = action_fits c ties.within x.number (seat_held kept) phase (found_by (next_of phase hook).1 found) hook fits_kept
+
+    -- what the view holds after the action
+    held_seen : held_of seen ≡ held_after done.1 (held_of x.view)
+    held_seen = holdings_of_after done.1 v.actions ∙ ap (λ (l : List Action). held_after done.1 (holdings_of l))
+        (entered_actions x.view begins phase)
+
+    -- the fields and the own view agree after the event
+    ties_after : OwnTies number c None kept_after flags (numbered x.number seen) xs
+    ties_after = record {
+      within = ties.within;
+      same_number = ties.same_number;
+      below = ties.below;
+      may = phase_ok c x.number seen (phase_after done.0) refl;
+      fits =
+          subst (λ h. Fits c x.number h (phase_after done.0)) (sym held_seen)
+          (fits_after c ties.within x.number (held_of x.view) phase (found_by (next_of phase hook).1 found) hook fits_seen);
+      keeps = record {
+        long = long_after kept.accesses done.1 ∙ ties.keeps.long;
+        wide = wide_after kept.accesses done.1 ∙ ties.keeps.wide;
+        deep = deep_after kept.accesses done.1 ∙ ties.keeps.deep;
+        held = subst (Agree c (seat_held kept_after)) (sym held_seen)
+            (agree_after c kept.accesses ties.keeps.long ties.keeps.wide ties.keeps.deep (held_of x.view) done.1 acts_kept ties.keeps.held);
+      };
+      rest = ties.rest;
+      marks = ties.marks;
+    }
+
+  -- the fields that follow an event are what the seat knows after it
+  pub matches_after : (items : SeatItems) → Ties number c begins kept flags items →
+      Ties number c None kept_after flags (items_after begins phase hook found items)
+  matches_after [] t = absurd t
+  matches_after (x ∷ xs) t = ties_after x xs t
+
+  -- and the action can be done
+  pub acts_after : (items : SeatItems) → Ties number c begins kept flags items → ActionFits (seat_held kept) done.1
+  acts_after [] t = absurd t
+  acts_after (x ∷ xs) t = acts_kept x xs t
+
+-- what a touch found serves as the value that it finds
+serves : (name : WordName) (touch : Touch) (value : ℕ) → (event_of name touch (found_by touch value) ≡ event_of name touch value) ×
+    (found_by touch (found_by touch value) ≡ found_by touch value)
+serves name Load value = (refl, refl)
+serves name (Store new) value = (refl, refl)
+serves name (Add by) value = (refl, refl)
+serves name (Sub by) value = (refl, refl)
+serves name (Or bits) value = (refl, refl)
+serves name (And bits) value = (refl, refl)
+serves name (Swap new) value = (refl, refl)
+serves name (Cas expect put) value = (refl, refl)
+
+-- the step is the one that the phase has in a world
+step_in : (w : World) (phase : Phase) (hook : HookAnswer) → found_step phase hook (found_at w.words phase hook) ≡
+    phase_step w hook (Some phase)
+step_in w phase hook =
+    let s = serves (next_of phase hook).0 (next_of phase hook).1 (value_at w.words phase hook) in
+    λ i. record {
+      event = Some (s.0 i);
+      action = (after_of phase (s.1 i) hook).1;
+      progress = progress_of (after_of phase (s.1 i) hook).0;
+    }
+
+-- so it is told in the world of the event
+told_in : (c : Config) (begins : Option Op) (phase : Phase) (hook : HookAnswer) (found : ℕ) (items : SeatItems)
+    (move : IsMove c begins phase hook items found) (step : Step) → step ≡ found_step phase hook found →
+    ToldIn c begins phase hook found items move step
+told_in c begins phase hook found [] move step is = absurd move
+told_in c begins phase hook found (x ∷ xs) move step is = is ∙ (ap (found_step phase hook) move.found ∙ step_in move.world phase hook)
+
+-- the event of a step
+pub was_stepped : (phase : Phase) (hook : HookAnswer) (old : TaskState) (done : Step) (left : TaskState) (found : ℕ) → done ≡
+    found_step phase hook found → left ≡ state_after old phase hook found →
+    IsMove old.config old.begins phase hook old.items found → Stepped phase hook old done left
+was_stepped phase hook old done left found step new moves =
+    record {
+      found = found;
+      step = step;
+      new = new;
+      moves = moves;
+      told =
+          told_in old.config old.begins phase hook found old.items moves done step;
+    }
+
+-- the same of the values that the code has
+module _ (number : ℕ) (c : Config) (begins : Option Op) (kept : Seat) (flags : List Bool) (phase : Phase) (is : kept.phase ≡ Some phase)
+    (hook : HookAnswer) (items : SeatItems) (ties : Ties number c begins kept flags items)
+    (next : WordName × Touch) (next_is : next ≡ next_of phase hook) (found : ℕ) (event : Event)
+    (event_is : event ≡ event_of next.0 next.1 found)
+    (done : Next Phase × Option Action) (done_is : done ≡ after_of phase event.found hook) where
+  -- the event is the one of the phase
+  pub same_event : event ≡ event_of (next_of phase hook).0 (next_of phase hook).1 found
+  same_event = event_is ∙ ap (λ (n : WordName × Touch). event_of n.0 n.1 found) next_is
+
+  -- and so is what comes after it
+  pub same_done : done ≡ after_of phase (found_by (next_of phase hook).1 found) hook
+  same_done = done_is ∙ ap (λ (e : Event). after_of phase e.found hook) same_event
+
+  -- its action can be done
+  pub may_add : ActionFits (seat_held kept) done.1
+  may_add = subst (λ (d : Next Phase × Option Action). ActionFits (seat_held kept) d.1) (sym same_done)
+      (acts_after number c begins kept flags phase is hook found items ties)
+
+  module _ (progress : Progress × Option Phase) (progress_is : progress ≡ (progress_of done.0, phase_after done.0)) (accesses : Accesses)
+      (accesses_is : accesses ≡ accesses_after kept.accesses done.1)
+      (after : SeatItems) (after_is : after ≡ items_after begins phase hook found items) where
+    -- the phase after it
+    same_phase : progress.1 ≡ phase_after (after_of phase (found_by (next_of phase hook).1 found) hook).0
+    same_phase = ap (λ (p : Progress × Option Phase). p.1) progress_is ∙ ap (λ (d : Next Phase × Option Action). phase_after d.0) same_done
+
+    -- the accesses after it
+    same_accesses : accesses ≡ accesses_after kept.accesses (after_of phase (found_by (next_of phase hook).1 found) hook).1
+    same_accesses = accesses_is ∙ ap (λ (d : Next Phase × Option Action). accesses_after kept.accesses d.1) same_done
+
+    -- the fields that are left agree with the seat
+    pub ties_left : Ties number c None (record { phase = progress.1; accesses = accesses }) flags after
+    ties_left =
+        let P : Option Phase × Accesses × SeatItems → Type 0 = λ z. Ties number c None (record { phase = z.0; accesses = z.1 }) flags z.2 in
+        subst P (λ j. (sym same_phase j, sym same_accesses j, sym after_is j))
+        (matches_after number c begins kept flags phase is hook found items ties)
+
+    -- the step is the one that the phase has
+    pub step_is : ◌≡◌ {A = Step} (record { event = Some event; action = done.1; progress = progress.0 }) (found_step phase hook found)
+    step_is =
+        let told : progress.0 ≡ progress_of done.0 = ap (λ (p : Progress × Option Phase). p.0) progress_is in
+        λ i. record {
+          event = Some (same_event i);
+          action = (same_done i).1;
+          progress =
+              (told ∙ ap (λ (d : Next Phase × Option Action). progress_of d.0) same_done) i;
+        }
+
+    -- the state that is left
+    pub left_is : (table before : TableId) → table ≡ before → task_state table c None progress.1 after ≡
+        state_after (task_state before c begins kept.phase items) phase hook found
+    left_is table before same = λ i. record { table = same i; config = c; begins = None; phase = same_phase i; items = after_is i }
+
+    -- the step that the code has done, where the seat's event was such a move
+    pub stepped_here : (table before : TableId) (now : TaskState) → table ≡ before → task_state before c begins kept.phase items ≡ now →
+        IsMove c begins phase hook items found →
+        (p : Phase) → now.phase ≡ Some p → Stepped p hook now (record { event = Some event; action = done.1; progress = progress.0 })
+        (task_state table c None progress.1 after)
+    stepped_here table before now same view moves p at =
+        let other : Some phase ≡ Some p = sym is ∙ (ap (λ (s : TaskState). s.phase) view ∙ at) in
+        let same_p : phase ≡ p = cc in
+        let step : Step = record { event = Some event; action = done.1; progress = progress.0 } in
+        let left : TaskState = task_state table c None progress.1 after in
+        subst (λ (q : Phase). Stepped q hook now step left) same_p
+        (subst (λ (s : TaskState). Stepped phase hook s step left) view
+        (was_stepped phase hook (task_state before c begins kept.phase items) step left found step_is (left_is table before same) moves))

@@ -1,0 +1,99 @@
+-- An operation that goes on after an event, at the phase that comes next.
+use Rattle.std.proofs.Common.{◌≡◌, ◌⊎◌, inl, inr, ap, ℕ, ◌<◌, Bool, List, subst}
+use Rattle.std.specs.Prelude.{Option, Some, None, Result}
+use Rattle.access_model.specs.declared.actions.Action.{Action}
+use Rattle.access_model.specs.declared.errors.GateError.{GateError}
+use Rattle.access_model.specs.declared.replies.Next.{Next}
+use Rattle.access_model.specs.declared.replies.Next.TheVariants.{Go, Wait, Done}
+use Rattle.access_model.specs.declared.replies.Reply.{Reply}
+use Rattle.access_model.specs.Replies.{map_next}
+use Rattle.atomic_table.specs.Seated.{TableId}
+use Rattle.cpu_words.specs.Hooks.{HookAnswer}
+use Rattle.cpu_words.specs.declared.events.Event.{Event}
+use Rattle.gate_schedules.specs.Answers.{progress_of}
+use Rattle.gate_schedules.specs.declared.steps.Progress.TheVariants.{Done as Ended}
+use Rattle.gate_steps.specs.Seating.{SeatItems}
+use Rattle.gate_world.specs.Configs.{IsWithin}
+use Rattle.gate_world.specs.Views.{phase_after}
+use Rattle.gate_world.specs.declared.accesses.Accesses.{Accesses}
+use Rattle.gate_world.specs.declared.config.Config.{Config}
+use Rattle.gate_world.specs.declared.operations.Op.{Op}
+use Rattle.gate_world.specs.declared.work.Phase.{Phase}
+use Rattle.gate_steps.specs.call_events.Runs.{Goes, Went, Called, IsTrying}
+use Rattle.gate_steps.specs.call_events.Stepped.{Stepped}
+use Rattle.gate_steps.specs.call_events.TaskStates.{TaskState, task_state}
+use Rattle.gate_steps.specs.call_events.Ties.{Ties}
+use Rattle.gate_steps.specs.call_events.Turns.{kept_at, step_was}
+use Rattle.gate_steps.proofs.call_events.Running.{events_left, falls}
+use Rattle.gate_steps.proofs.call_events.Turning.{went_so}
+
+-- the phase that the operation stands at, where it goes on
+pub stands_at : {A : Type 0} (as_phase : A → Phase) (next : Next A) (x : A) → (next ≡ Go x) ⊎ (next ≡ Wait x) →
+    phase_after (map_next as_phase next) ≡ Some (as_phase x)
+stands_at as_phase next x (inl is) = ap (λ n. phase_after (map_next as_phase n)) is
+stands_at as_phase next x (inr is) = ap (λ n. phase_after (map_next as_phase n)) is
+
+-- and what comes next, where it replied
+pub done_at : {A : Type 0} (as_phase : A → Phase) (next : Next A) (answer : Result Reply GateError) → next ≡ Done answer →
+    map_next as_phase next ≡ Done answer
+done_at as_phase next answer is = ap (λ n. map_next as_phase n) is
+
+-- where a phase comes next, the operation goes on
+pub goes_where : (op : Op) (start now : TaskState) (next : Next Phase) (phase : Phase) → phase_after next ≡ Some phase →
+    Went op start next now → Goes op start now
+goes_where op start now (Go q) phase is went = went
+goes_where op start now (Wait q) phase is went = went
+goes_where op start now (Done answer) phase is went = absurd (let f : ⊥ = cc in f)
+
+-- and it has not ended
+not_ended : (next : Next Phase) (phase : Phase) → phase_after next ≡ Some phase → (a : Result Reply GateError) →
+    progress_of next ≡ Ended a → ⊥
+not_ended (Go q) phase is a ended = let f : ⊥ = cc in f
+not_ended (Wait q) phase is a ended = let f : ⊥ = cc in f
+not_ended (Done answer) phase is a ended = let f : ⊥ = cc in f
+
+module _ (c : Config) (within : IsWithin c) (event : Event) (action : Option Action) (next : Next Phase) (hook : HookAnswer)
+    {table left_table : TableId} {begins : Option Op} {phase : Phase} {items left : SeatItems}
+    (after_step : Stepped phase hook (task_state table c begins (Some phase) items) (step_was event action next)
+    (task_state left_table c None (phase_after next) left))
+    (further : Phase) (is : phase_after next ≡ Some further) where
+  -- before the event
+  abbrev before : TaskState
+  before = task_state table c begins (Some phase) items
+
+  -- and after it
+  abbrev after : TaskState
+  after = task_state left_table c None (phase_after next) left
+
+  -- the operation goes on
+  pub goes_so : (op : Op) (start : TaskState) → Goes op start before → Goes op start (task_state left_table c None (Some further) left)
+  goes_so op start goes =
+      subst (λ (o : Option Phase). Goes op start (task_state left_table c None o left)) is
+      (goes_where op start after next further is (went_so c within op start event action next hook goes after_step))
+
+  -- it still has a most number of events
+  pub tries_so : IsTrying before → IsTrying (task_state left_table c None (Some further) left)
+  tries_so t = record { op = t.op; start = t.start; goes = goes_so t.op t.start t.goes; tries = t.tries }
+
+  -- of which fewer are left
+  pub falls_so : IsTrying before → events_left (task_state left_table c None (Some further) left) < events_left before
+  falls_so t =
+      subst (λ (o : Option Phase). events_left (task_state left_table c None o left) < events_left before) is
+      (falls t.op t.start before after (step_was event action next) hook t.goes
+      (λ p at. subst (λ (q : Phase). Stepped q hook before (step_was event action next) after) (let same : phase ≡ p = cc in same) after_step)
+      (subst IsWithin t.goes.config within) t.tries (not_ended next further is))
+
+-- the fields of a task whose operation stands there
+pub tied_so : (number : ℕ) (c : Config) (accesses : Accesses) (flags : List Bool) (items : SeatItems) (o p : Option Phase) → o ≡ p →
+    Ties number c None (kept_at o accesses) flags items → Ties number c None (kept_at p accesses) flags items
+tied_so number c accesses flags items o p is ties =
+    subst (λ (q : Option Phase). Ties number c None (kept_at q accesses) flags items) is ties
+
+-- an operation that replied was done whole
+pub called_so : (op : Op) (start : TaskState) (next : Next Phase) (answer : Result Reply GateError) (table : TableId) (c : Config)
+    (items : SeatItems) → next ≡ Done answer → Went op start next (task_state table c None (phase_after next) items) →
+    Called op start (task_state table c None None items) answer
+called_so op start (Go q) answer table c items is went = absurd (let f : ⊥ = cc in f)
+called_so op start (Wait q) answer table c items is went = absurd (let f : ⊥ = cc in f)
+called_so op start (Done a) answer table c items is went =
+    subst (λ r. Called op start (task_state table c None None items) r) (let f : a ≡ answer = cc in f) went

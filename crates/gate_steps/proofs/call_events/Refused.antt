@@ -1,0 +1,103 @@
+-- What a refusal leaves, and when a call says that it waits.
+use Rattle.std.proofs.{Common.{◌≡◌, ℕ, Bool, true, false, List, [], ◌∷◌, ◌++◌, refl, sym, ap, ◌∙◌, inl, inr, subst}, lemmas.Bool.eqb-true}
+use Rattle.std.proofs.lemmas.List.Elements.{All-from_recursion}
+use Rattle.std.specs.{List.{All, AllByRecursion}, Prelude.{◌==◌, ◌⊎◌, if◌then◌else◌, Option, Err, option_map}}
+use Rattle.access_model.specs.{Actions.marked, declared.actions.Action.{Action, TheVariants.{SbRo, Stage as StageAction, Pass, Reopen, Clean}}}
+use Rattle.access_model.specs.declared.{actions.NodeInfo.NodeInfo, errors.GateError.{GateError, TheVariants.Hook}, replies.Next.{Next, TheVariants.Go}}
+use Rattle.access_model.specs.declared.replies.Next.TheVariants.{Wait, Done}
+use Rattle.cpu_words.specs.declared.{events.Touch.{Touch, TheVariants.And}, names.WordName.{WordName, TheVariants.Node}}
+use Rattle.mount_counts.specs.Phases.{has_flag}
+use Rattle.gate_world.specs.{Beginnings.is_in_order, Operations.{two_levels_closed, all_levels_closed}, Configs.IsWithin, Courses.{course_of, IsTrace}}
+use Rattle.gate_world.specs.{Found.{clean_found, cleans, stored_stage}, Holdings.holdings_of, Traces.{actions_of, Tells}, Views.held_of}
+use Rattle.gate_world.specs.declared.{config.Config.Config, operations.Op.{Op, TheVariants.{RemountSb, WantWrite, Freeze as FreezeOp}}, views.Traced.Traced}
+use Rattle.gate_world.specs.declared.work.Phase.{Phase}
+use Rattle.gate_schedules.proofs.operations.Layers.{op_keeps}
+use Rattle.gate_steps.specs.Seating.{SeatItems}
+use Rattle.gate_steps.specs.call_events.{Refused.{LeavesTree, IsUnchanged, IsHonestWait, WaitsHonestly}, Runs.ran_items, TaskStates.{own_number, own_view}}
+use Rattle.gate_steps.proofs.call_events.Asked.{either_way}
+
+-- a node that is cleaned loses its mark, and any other stays
+cleaned_by : (m n : ℕ) (tree : ℕ → Option NodeInfo) (same : Bool) → (n == m) ≡ same →
+    ((elim same [ true ↦ option_map (marked false) (tree m) | false ↦ tree n ]) ≡ tree n) ⊎
+    ((elim same [ true ↦ option_map (marked false) (tree m) | false ↦ tree n ]) ≡ option_map (marked false) (tree n))
+cleaned_by m n tree true is = inr (ap (λ k. option_map (marked false) (tree k)) (sym (eqb-true n m is)))
+cleaned_by m n tree false is = inl refl
+
+cleaned : (m : ℕ) → LeavesTree (Clean m)
+cleaned m counts tree n = cleaned_by m n tree (n == m) refl
+
+-- each of these actions leaves the tree
+abbrev EachLeaves : List Action → Type 0
+EachLeaves l = AllByRecursion LeavesTree l
+
+-- the marks that a trace has cleared, on top of actions that do
+clean_more : (word : WordName) (touch : Touch) (found : ℕ) (l rest : List Action) → EachLeaves (l ++ rest) →
+    EachLeaves (clean_found word touch found l ++ rest)
+clean_more (Node n) (And mask) found l rest h =
+    either_way (λ k. EachLeaves (k ++ rest)) (has_flag found 4) (Clean n ∷ l) l (cleaned n, h) h
+clean_more word touch found l rest h = h
+
+cleans_leave : (trace : List Traced) (rest : List Action) → EachLeaves rest → EachLeaves (cleans trace ++ rest)
+cleans_leave [] rest h = h
+cleans_leave (e ∷ earlier) rest h =
+    clean_more e.event.word e.event.touch e.event.found (cleans earlier) rest (cleans_leave earlier rest h)
+
+-- the levels that a freeze closes
+two_leave : (trace : List Traced) → EachLeaves (two_levels_closed trace)
+two_leave trace =
+    cleans_leave trace (Pass 2 ∷ (StageAction 2 ∷ (Pass 1 ∷ (StageAction 1 ∷ []))))
+    (λ counts tree n. inl refl, (λ counts tree n. inl refl, (λ counts tree n. inl refl, (λ counts tree n. inl refl, tt))))
+
+all_leave : (trace : List Traced) → EachLeaves (all_levels_closed trace)
+all_leave trace = (λ counts tree n. inl refl, (λ counts tree n. inl refl, two_leave trace))
+
+-- a freeze that a hook refused has reopened them
+reopened_leave : (trace : List Traced) → EachLeaves (
+    if stored_stage 3 trace
+    then Reopen 3 ∷ (StageAction 0 ∷ all_levels_closed trace)
+    else StageAction 0 ∷ two_levels_closed trace
+    )
+reopened_leave trace =
+    either_way EachLeaves (stored_stage 3 trace) (Reopen 3 ∷ (StageAction 0 ∷ all_levels_closed trace)) (StageAction 0 ∷ two_levels_closed trace)
+    (λ counts tree n. inl refl, (λ counts tree n. inl refl, all_leave trace)) (λ counts tree n. inl refl, two_leave trace)
+
+-- what a refused operation has added leaves the tree
+each_leaves : (op : Op) (refusal : GateError) (trace : List Traced) → EachLeaves (actions_of op (Err refusal) trace)
+each_leaves (RemountSb true) (Hook code) trace =
+    (λ counts tree n. inl refl, cleans_leave trace (SbRo ∷ []) (λ counts tree n. inl refl, tt))
+each_leaves (WantWrite m p) refusal trace = (λ counts tree n. inl refl, (λ counts tree n. inl refl, tt))
+each_leaves (FreezeOp holder) (Hook code) trace = (λ counts tree n. inl refl, (λ counts tree n. inl refl, reopened_leave trace))
+each_leaves (RemountSb true) refusal trace = tt
+each_leaves (RemountSb false) refusal trace = tt
+each_leaves op refusal trace = tt
+
+leaves : (op : Op) (refusal : GateError) (trace : List Traced) → All LeavesTree (actions_of op (Err refusal) trace)
+leaves op refusal trace = All-from_recursion LeavesTree (actions_of op (Err refusal) trace) (each_leaves op refusal trace)
+
+-- so a refusal leaves all unchanged, where the operation was in order
+pub is_unchanged : (c : Config) (op : Op) (refusal : GateError) (trace : List Traced) (l : SeatItems) →
+    is_in_order c (held_of (own_view l)) op ≡ true →
+    (course_of c (own_number l) op trace).added ≡ actions_of op (Err refusal) trace →
+    IsUnchanged (course_of c (own_number l) op trace).added (own_view l) (own_view (ran_items c op trace l))
+is_unchanged c op refusal trace [] order is =
+    record { held = refl; tree = subst (All LeavesTree) (sym is) (leaves op refusal trace) }
+is_unchanged c op refusal trace (x ∷ xs) order is =
+    record {
+      held = ap (λ l. holdings_of (l ++ x.view.actions)) is ∙ (op_keeps c op).restores refusal trace x.view.actions order;
+      tree = subst (All LeavesTree) (sym is) (leaves op refusal trace);
+    }
+
+-- what a trace tells of a wait
+honest_wait : (c : Config) (op : Op) (e : Traced) (earlier : List Traced) (comes : Next Phase) (added : List Action) →
+    Tells c op (e ∷ earlier) comes added → IsHonestWait c op (e ∷ earlier) comes
+honest_wait c op e earlier (Go phase) added tells = tt
+honest_wait c op e earlier (Wait phase) added tells = tells
+honest_wait c op e earlier (Done answer) added tells = tt
+
+pub waits_honestly : (c : Config) (t : ℕ) (op : Op) → IsWithin c → (trace : List Traced) → IsTrace c t op trace → WaitsHonestly c t op trace
+waits_honestly c t op within [] follows = tt
+waits_honestly c t op within (e ∷ earlier) follows = (
+  honest_wait c op e earlier (course_of c t op (e ∷ earlier)).comes (course_of c t op (e ∷ earlier)).added
+      ((op_keeps c op).tells within t (e ∷ earlier) follows),
+  waits_honestly c t op within earlier follows.1,
+)

@@ -1,0 +1,570 @@
+-- An operation, event after event, from its beginning to its reply.
+use Rattle.std.proofs.Common.{◌≡◌, ℕ, ◌+◌, ◌-◌, ◌<◌, ◌≤◌, List, [], ◌∷◌, ◌++◌, length, refl, sym, ap, ◌∙◌, subst, arith, add-zero}
+use Rattle.std.specs.Prelude.{true, false, Option, Some, None, Result, Ok, Err, IfOk, is_some}
+use Rattle.access_model.specs.declared.actions.Action.{Action}
+use Rattle.access_model.specs.declared.errors.GateError.{GateError}
+use Rattle.access_model.specs.declared.replies.Next.{Next}
+use Rattle.access_model.specs.declared.replies.Next.TheVariants.{Go, Wait, Done}
+use Rattle.access_model.specs.declared.replies.Reply.{Reply}
+use Rattle.access_model.specs.declared.replies.Reply.TheVariants.{Ran}
+use Rattle.gate_world.specs.declared.operations.Op.TheVariants.{Callback}
+use Rattle.cpu_words.specs.Hooks.{HookAnswer}
+use Rattle.cpu_words.specs.Touches.{found_by, event_of}
+use Rattle.gate_world.specs.declared.config.Config.{Config}
+use Rattle.gate_world.specs.declared.operations.Op.{Op}
+use Rattle.gate_world.specs.declared.work.Phase.{Phase}
+use Rattle.gate_world.specs.declared.views.Traced.{Traced}
+use Rattle.gate_world.specs.declared.views.View.{View}
+use Rattle.gate_world.specs.Configs.{IsWithin}
+use Rattle.gate_world.specs.Snapshots.{completes, last_snapshot}
+use Rattle.gate_world.specs.Views.{phase_after, actions_after, view_after_beside, with_hook, held_of}
+use Rattle.gate_world.specs.Work.{next_of, after_of}
+use Rattle.gate_world.specs.Beginnings.{first_phase}
+use Rattle.gate_world.specs.Courses.{Course, course_with, course_after, course_of, IsEventOf, IsNext, IsTrace, MayFind}
+use Rattle.gate_world.specs.Traces.{actions_of, Tells, IsHonestAnswer, IsTold, most_events, IsShort, MayWait}
+use Rattle.gate_schedules.proofs.operations.frames.Keeps.{most_events_of_all, IsSmall}
+use Rattle.gate_schedules.proofs.operations.Layers.{op_keeps}
+use Rattle.gate_schedules.specs.declared.steps.Progress.{Progress}
+use Rattle.gate_schedules.specs.declared.steps.Progress.TheVariants.{Done as Ended, Waiting}
+use Rattle.gate_schedules.specs.declared.steps.Step.{Step}
+use Rattle.gate_schedules.specs.Answers.{progress_of, unless_refused}
+use Rattle.gate_steps.specs.Seating.{SeatItems, numbered, HaveHistory, entered, done_by, items_after, world_left, IsMove}
+use Rattle.gate_steps.specs.call_events.TaskStates.{TaskState, own_number, own_view, refusal_at}
+use Rattle.gate_steps.specs.call_events.Stepped.{Stepped}
+use Rattle.gate_steps.specs.call_events.Asking.{Ask, asks_of, asks_with, call_at, next_call, GoesWith, WentWith}
+use Rattle.gate_steps.specs.call_events.Waited.{is_wait, waits_in}
+use Rattle.gate_steps.specs.call_events.Refused.{IsUnchanged, IsUnchangedBy, IsHonestWait}
+use Rattle.gate_steps.proofs.call_events.Refused.{is_unchanged, waits_honestly}
+use Rattle.gate_schedules.proofs.Beginnings.{may_begin}
+use Rattle.gate_steps.specs.call_events.Runs.{events_onto, completed_by, ran_snapshot, ran_view, ran_items, begins_at, items_at, IsMoveOf, IsNextMove, AreMoves, IsBounded, IsRanReply, told_as, the_reply, Goes, Went, Told, Called, Replies}
+
+-- the numbers of a task whose own number has begun the operation
+abbrev pub entered_items : Option Op → Option Phase → SeatItems → SeatItems
+entered_items begins None l = l
+entered_items begins (Some p) [] = []
+entered_items begins (Some p) (x ∷ xs) = numbered x.number (entered x.view begins p) ∷ xs
+
+-- nothing begins where no operation has just begun
+not_entered : (o : Option Phase) (l : SeatItems) → entered_items None o l ≡ l
+not_entered None l = refl
+not_entered (Some p) [] = refl
+not_entered (Some p) (x ∷ xs) = refl
+
+-- an event that begins an operation is one of the numbers that have begun it
+after_entered : (begins : Option Op) (p : Phase) (h : HookAnswer) (found : ℕ) (l : SeatItems) →
+    items_after None p h found (entered_items begins (Some p) l) ≡ items_after begins p h found l
+after_entered begins p h found [] = refl
+after_entered begins p h found (x ∷ xs) = refl
+
+-- the event of the phase that stands comes next
+next_is : (s : Next Phase) (p : Phase) (e : Traced) → phase_after s ≡ Some p → IsEventOf p e → IsNext s e
+next_is (Go q) p e is h = subst (λ r. IsEventOf r e) (let f : p ≡ q = cc in f) h
+next_is (Wait q) p e is h = subst (λ r. IsEventOf r e) (let f : p ≡ q = cc in f) h
+next_is (Done a) p e is h = absurd (let f : ⊥ = cc in f)
+
+-- and so does its move
+move_is : (c : Config) (op : Op) (items : SeatItems) (earlier : List Traced) (e : Traced) (s : Next Phase) (p : Phase) → phase_after s ≡
+    Some p → IsMoveOf c op items earlier e p → IsNextMove c op items earlier e s
+move_is c op items earlier e (Go q) p is h = subst (IsMoveOf c op items earlier e) (let f : p ≡ q = cc in f) h
+move_is c op items earlier e (Wait q) p is h = subst (IsMoveOf c op items earlier e) (let f : p ≡ q = cc in f) h
+move_is c op items earlier e (Done a) p is h = absurd (let f : ⊥ = cc in f)
+
+-- what an event found is what its word may hold
+move_holds : (c : Config) (begins : Option Op) (p : Phase) (hook : HookAnswer) (items : SeatItems) (found : ℕ) →
+    IsMove c begins p hook items found → MayFind p (next_of p hook).0 found
+move_holds c begins p hook [] found move = absurd move
+move_holds c begins p hook (x ∷ xs) found move = move.holds
+
+-- an event leaves one history
+move_has_history : (c : Config) (begins : Option Op) (p : Phase) (hook : HookAnswer) (items : SeatItems) (found : ℕ) →
+    IsMove c begins p hook items found → HaveHistory c (items_after begins p hook found items)
+move_has_history c begins p hook [] found move = absurd move
+move_has_history c begins p hook (x ∷ xs) found move =
+    record { world = world_left c move.world begins p hook x.number xs; good = move.after; history = move.history; mine = move.left }
+
+-- what the event of this phase completes
+completed_is : (s : Next Phase) (p : Phase) (earlier : List Traced) (e : Traced) → phase_after s ≡ Some p →
+    completed_by s earlier e ≡ completes p earlier e.event.found
+completed_is (Go q) p earlier e is = ap (λ r. completes r earlier e.event.found) (let f : q ≡ p = cc in f)
+completed_is (Wait q) p earlier e is = ap (λ r. completes r earlier e.event.found) (let f : q ≡ p = cc in f)
+completed_is (Done a) p earlier e is = absurd (let f : ⊥ = cc in f)
+
+-- the hook that the event of this phase reads
+call_is : (s : Next Phase) (p : Phase) → phase_after s ≡ Some p → next_call s ≡ call_at p
+call_is (Go q) p is = ap call_at (let f : q ≡ p = cc in f)
+call_is (Wait q) p is = ap call_at (let f : q ≡ p = cc in f)
+call_is (Done a) p is = absurd (let f : ⊥ = cc in f)
+
+-- the course after it
+pub course_is : (s : Next Phase) (p : Phase) (added : List Action) (e : Traced) → phase_after s ≡ Some p → course_after s added e ≡
+    course_with added (after_of p e.event.found e.hook)
+course_is (Go q) p added e is = ap (λ r. course_with added (after_of r e.event.found e.hook)) (let f : q ≡ p = cc in f)
+course_is (Wait q) p added e is = ap (λ r. course_with added (after_of r e.event.found e.hook)) (let f : q ≡ p = cc in f)
+course_is (Done a) p added e is = absurd (let f : ⊥ = cc in f)
+
+-- its action goes before all earlier ones
+actions_append : (a : Option Action) (l m : List Action) → actions_after a (l ++ m) ≡ actions_after a l ++ m
+actions_append None l m = refl
+actions_append (Some a) l m = refl
+
+-- a step that ended has an answer
+done_is : (x : Next Phase) (a : Result Reply GateError) → progress_of x ≡ Ended a → x ≡ Done a
+done_is (Go q) a e = absurd (let f : ⊥ = cc in f)
+done_is (Wait q) a e = absurd (let f : ⊥ = cc in f)
+done_is (Done b) a e = ap (λ r. Done r) (let f : b ≡ a = cc in f)
+
+-- and one that did not has a phase
+goes_on : (x : Next Phase) → ((a : Result Reply GateError) → progress_of x ≡ Ended a → ⊥) → (q : Phase) × (phase_after x ≡ Some q)
+goes_on (Go q) not = (q, refl)
+goes_on (Wait q) not = (q, refl)
+goes_on (Done a) not = absurd (not a refl)
+
+-- and who waits is told so
+abbrev waits_told : Progress → ℕ
+waits_told Waiting = 1
+waits_told progress = 0
+
+wait_told : (x : Next Phase) → is_wait x ≡ waits_told (progress_of x)
+wait_told (Go q) = refl
+wait_told (Wait q) = refl
+wait_told (Done a) = refl
+
+pub same_wait : (x y : Next Phase) → progress_of x ≡ progress_of y → is_wait x ≡ is_wait y
+same_wait x y same = wait_told x ∙ (ap waits_told same ∙ sym (wait_told y))
+
+-- how many events the operation under way has had
+abbrev pub steps_of : TaskState → ℕ
+steps_of now = length (own_view (entered_items now.begins now.phase now.items)).trace
+
+-- the events that may be left to an operation that has a most number of them
+abbrev pub events_left : TaskState → ℕ
+events_left now = most_events_of_all + 1 - steps_of now
+
+-- why an operation can't begin, said of the answer of a beginning
+refused_as : (e : GateError) (o : Option GateError) {A : Type 0} (r : GateError) → Err e ≡ unless_refused o → o ≡ Some r →
+    ◌≡◌ {A = Result A GateError} (Err e) (Err r)
+refused_as e o r is at =
+    let both : ◌≡◌ {A = Result (Unit {0}) GateError} (Err e) (Err r) = is ∙ ap unless_refused at in
+    let same : e ≡ r = cc in
+    ap (λ x. Err x) same
+
+-- a refused beginning has a refusal
+refused_none : (e : GateError) (o : Option GateError) → Err e ≡ unless_refused o → o ≡ None → ⊥
+refused_none e o is at =
+    let both : ◌≡◌ {A = Result (Unit {0}) GateError} (Err e) (Ok tt) = is ∙ ap unless_refused at in
+    let no : ⊥ = cc in
+    no
+
+-- what was not refused has no refusal
+pub not_refused : (o : Option GateError) → Ok tt ≡ unless_refused o → o ≡ None
+not_refused None is = refl
+not_refused (Some refusal) is = absurd (let f : ◌≡◌ {A = Result (Unit {0}) GateError} (Ok tt) (Err refusal) = is in let g : ⊥ = cc in g)
+
+-- an admitted one has none
+pub admitted_some : (o : Option GateError) (r : GateError) → Ok tt ≡ unless_refused o → o ≡ Some r → ⊥
+admitted_some o r is at =
+    let both : ◌≡◌ {A = Result (Unit {0}) GateError} (Ok tt) (Err r) = is ∙ ap unless_refused at in
+    let no : ⊥ = cc in
+    no
+
+-- the numbers of an operation that has just begun
+begun_items : (c : Config) (op : Op) (l : SeatItems) → entered_items (Some op) (Some (first_phase c (own_number l) op)) l ≡
+    ran_items c op [] l
+begun_items c op [] = refl
+begun_items c op (x ∷ xs) = refl
+
+-- the numbers of an operation after these events
+entered_at : (c : Config) (op : Op) (trace : List Traced) (l : SeatItems) →
+    entered_items (begins_at op trace) (phase_after (course_of c (own_number l) op trace).comes) (items_at c op trace l) ≡
+    ran_items c op trace l
+entered_at c op [] l = begun_items c op l
+entered_at c op (e ∷ earlier) l = not_entered (phase_after (course_of c (own_number l) op (e ∷ earlier)).comes)
+    (ran_items c op (e ∷ earlier) l)
+
+-- and of one under way
+ran_so_far : (op : Op) (start now : TaskState) (goes : Goes op start now) → entered_items now.begins now.phase now.items ≡
+    ran_items start.config op goes.trace start.items
+ran_so_far op start now goes =
+    let same : entered_items now.begins now.phase now.items ≡
+    entered_items (begins_at op goes.trace) (phase_after (course_of start.config (own_number start.items) op goes.trace).comes)
+    (items_at start.config op goes.trace start.items) =
+    λ i. entered_items (goes.begins i) (goes.phase i) (goes.items i) in
+    same ∙ entered_at start.config op goes.trace start.items
+
+-- as it begins, with no hook asked and no wait
+pub starts_asking_none : (op : Op) (start now : TaskState) → Ok tt ≡ unless_refused (refusal_at op start) → now ≡ record start {
+  begins = Some op;
+  phase =
+      Some (first_phase start.config (own_number start.items) op);
+} → GoesWith [] 0 op start now
+starts_asking_none op start now admitted is = subst (GoesWith [] 0 op start) (sym is) (
+  record {
+    trace = [];
+    admitted = not_refused (refusal_at op start) admitted;
+    table = refl;
+    config = refl;
+    follows = tt;
+    phase = refl;
+    going = (first_phase start.config (own_number start.items) op, refl);
+    begins = refl;
+    items = refl;
+    moves = tt;
+  },
+  refl,
+  refl,
+)
+
+pub starts : (op : Op) (start now : TaskState) → Ok tt ≡ unless_refused (refusal_at op start) → now ≡ record start {
+  begins = Some op;
+  phase =
+      Some (first_phase start.config (own_number start.items) op);
+} → Goes op start now
+starts op start now admitted is = (starts_asking_none op start now admitted is).0
+
+-- one step of it, where a hook of the file system answers this
+module _ (op : Op) (start now left : TaskState) (step : Step) (h : HookAnswer) (goes : Goes op start now)
+    (after_step : (p : Phase) → now.phase ≡ Some p → Stepped p h now step left) where
+  -- the configuration
+  abbrev c : Config
+  c = start.config
+
+  -- the own number
+  abbrev n : ℕ
+  n = own_number start.items
+
+  -- the phase that stands
+  abbrev p : Phase
+  p = goes.going.0
+
+  -- its event
+  did : Stepped p h now step left
+  did = after_step p goes.going.1
+
+  -- what the event found
+  abbrev found : ℕ
+  found = did.found
+
+  -- what comes after it, and its action
+  abbrev after : Next Phase × Option Action
+  after = after_of p (found_by (next_of p h).1 found) h
+
+  -- the event with the hook
+  abbrev e : Traced
+  e = with_hook (event_of (next_of p h).0 (next_of p h).1 found) h
+
+  -- the trace with it
+  abbrev trace : List Traced
+  trace = e ∷ goes.trace
+
+  -- the phase is the one that comes next
+  stands_there : phase_after (course_of c n op goes.trace).comes ≡ Some p
+  stands_there = sym goes.phase ∙ goes.going.1
+
+  -- the trace is one of the operation
+  follows_after : IsTrace c n op trace
+  follows_after = (next_is (course_of c n op goes.trace).comes p e stands_there (found, refl, move_holds now.config now.begins p h now.items found did.moves), goes.follows)
+
+  -- the course after the event
+  course_here : course_of c n op trace ≡ course_with (course_of c n op goes.trace).added after
+  course_here = course_is (course_of c n op goes.trace).comes p (course_of c n op goes.trace).added e stands_there
+
+  -- the snapshot that it completes, if any
+  completes_here : completed_by (course_of c n op goes.trace).comes goes.trace e ≡ completes p goes.trace (found_by (next_of p h).1 found)
+  completes_here = completed_is (course_of c n op goes.trace).comes p goes.trace e stands_there
+
+  -- a view after it
+  ran_more : (others : List (ℕ × ℕ)) (x : View) →
+      view_after_beside others (ran_view c n op others goes.trace x) p found h ≡ ran_view c n op others trace x
+  ran_more others x = λ i. record {
+    op = Some op;
+    phase = phase_after (sym course_here i).comes;
+    actions = (actions_append after.1 (course_of c n op goes.trace).added x.actions ∙
+        ap (λ (o : Course). o.added ++ x.actions) (sym course_here)) i;
+    before = x.actions;
+    events = events_onto trace x.events;
+    trace = trace;
+    snapshot = last_snapshot (sym completes_here i) ((course_of c n op goes.trace).added ++ x.actions) others
+        (ran_snapshot c n op others goes.trace x);
+  }
+
+  -- all numbers after it
+  ran_all : (l : SeatItems) → own_number l ≡ n → items_after None p h found (ran_items c op goes.trace l) ≡ ran_items c op trace l
+  ran_all [] same = refl
+  ran_all (x ∷ xs) same =
+      let before : ℕ → View = λ k. ran_view c k op (done_by xs) goes.trace x.view in
+      let then : ℕ → View = λ k. ran_view c k op (done_by xs) trace x.view in
+      subst (λ (k : ℕ). items_after None p h found (numbered x.number (before k) ∷ xs) ≡ numbered x.number (then k) ∷ xs) (sym same)
+      (ap (λ (v : View). numbered x.number v ∷ xs) (ran_more (done_by xs) x.view))
+
+  -- the phase that is left
+  phase_then : left.phase ≡ phase_after (course_of c n op trace).comes
+  phase_then = ap (λ (s : TaskState). s.phase) did.new ∙ ap (λ (o : Course). phase_after o.comes) (sym course_here)
+
+  -- the numbers that are left
+  items_then : left.items ≡ ran_items c op trace start.items
+  items_then =
+      ap (λ (s : TaskState). s.items) did.new ∙
+      (sym (after_entered now.begins p h found now.items) ∙
+      (ap (λ (o : Option Phase). items_after None p h found (entered_items now.begins o now.items)) (sym goes.going.1) ∙
+      (ap (items_after None p h found) (ran_so_far op start now goes) ∙ ran_all start.items refl)))
+
+  -- how the operation stands
+  progress_then : step.progress ≡ progress_of after.0
+  progress_then = ap (λ (s : Step). s.progress) did.step
+
+  -- the table is the same
+  table_then : left.table ≡ start.table
+  table_then = ap (λ (s : TaskState). s.table) did.new ∙ goes.table
+
+  -- and so is the configuration
+  config_then : left.config ≡ c
+  config_then = ap (λ (s : TaskState). s.config) did.new ∙ goes.config
+
+  -- nothing has just begun
+  begins_then : left.begins ≡ None
+  begins_then = ap (λ (s : TaskState). s.begins) did.new
+
+  -- each event was a move
+  moves_then : AreMoves c op start.items trace
+  moves_then =
+      let P : Config × Option Op × SeatItems → Type 0 = λ z. IsMove z.0 z.1 p h z.2 found in
+      let moved : IsMove c (begins_at op goes.trace) p h (items_at c op goes.trace start.items) found =
+      subst P (λ j. (goes.config j, goes.begins j, goes.items j)) did.moves in
+      (move_is c op start.items goes.trace e (course_of c n op goes.trace).comes p stands_there (found, refl, moved), goes.moves)
+
+  -- what it leaves has one history
+  history_then : HaveHistory c left.items
+  history_then =
+      let history : HaveHistory now.config (items_after now.begins p h found now.items) =
+      move_has_history now.config now.begins p h now.items found did.moves in
+      subst (λ d. HaveHistory d left.items) goes.config
+      (subst (HaveHistory now.config) (ap (λ (s : TaskState). s.items) (sym did.new)) history)
+
+  -- where it does not reply, it goes on, with this event more
+  goes_with_it : ((a : Result Reply GateError) → step.progress ≡ Ended a → ⊥) → (goes : Goes op start left) × (goes.trace ≡ trace)
+  goes_with_it not = (
+    record {
+      trace = trace;
+      admitted = goes.admitted;
+      table = table_then;
+      config = config_then;
+      follows = follows_after;
+      phase = phase_then;
+      going =
+          let g = goes_on after.0 (λ a is. not a (progress_then ∙ is)) in
+          (g.0, ap (λ (s : TaskState). s.phase) did.new ∙ g.1);
+      begins = begins_then;
+      items = items_then;
+      moves = moves_then;
+    },
+    refl,
+  )
+
+  pub goes_further : ((a : Result Reply GateError) → step.progress ≡ Ended a → ⊥) → Goes op start left
+  goes_further not = (goes_with_it not).0
+
+  -- a refusal leaves all unchanged
+  unchanged_then : (a : Result Reply GateError) → (course_of c n op trace).added ≡ actions_of op a trace →
+      IsUnchangedBy a (course_of c n op trace).added (own_view start.items) (own_view left.items)
+  unchanged_then (Ok reply) is = tt
+  unchanged_then (Err refusal) is =
+      subst (λ l. IsUnchanged (course_of c n op trace).added (own_view start.items) (own_view l)) (sym items_then)
+      (is_unchanged c op refusal trace start.items
+      (may_begin c (is_some start.phase) (held_of (own_view start.items)) op
+      goes.admitted).order is)
+
+  -- where it replies, it was done whole, with this event more
+  ends_with_it : IsWithin c → (a : Result Reply GateError) → step.progress ≡ Ended a →
+      (called : Called op start left a) × (called.trace ≡ trace)
+  ends_with_it within a is =
+      let last : after.0 ≡ Done a = done_is after.0 a (sym progress_then ∙ is) in
+      let ends : (course_of c n op trace).comes ≡ Done a = ap (λ (o : Course). o.comes) course_here ∙ last in
+      let tells : Tells c op trace (Done a) (course_of c n op trace).added =
+      subst (λ s. Tells c op trace s (course_of c n op trace).added) ends ((op_keeps c op).tells within n trace follows_after) in
+      let idle : left.phase ≡ None = phase_then ∙ ap (λ s. phase_after s) ends in (
+        record {
+          trace = trace;
+          follows = follows_after;
+          ends = ends;
+          after = λ i. record { table = table_then i; config = config_then i; begins = begins_then i; phase = idle i; items = items_then i };
+          moves = moves_then;
+          added = tells.0;
+          honest = tells.1;
+          unchanged = unchanged_then a tells.0;
+          waits = waits_honestly c n op within trace follows_after;
+          short = (op_keeps c op).short within n trace follows_after;
+          history = history_then;
+        },
+        refl,
+      )
+
+  pub ends_there : IsWithin c → (a : Result Reply GateError) → step.progress ≡ Ended a → Called op start left a
+  ends_there within a is = (ends_with_it within a is).0
+
+  -- so a step tells how it stands
+  by_next : IsWithin c → (next : Next Phase) → after.0 ≡ next → Told op start (progress_of next) left
+  by_next within (Go q) is = goes_further (λ a ended. absurd (let told = progress_then ∙ ap progress_of is in let f : ⊥ = cc in f))
+  by_next within (Wait q) is =
+      let g = goes_with_it (λ a ended. absurd (let told = progress_then ∙ ap progress_of is in let f : ⊥ = cc in f)) in
+      let comes : (course_of c n op trace).comes ≡ Wait q = ap (λ (o : Course). o.comes) course_here ∙ is in
+      let waits : IsHonestWait c op trace (course_of c n op trace).comes = (waits_honestly c n op within trace follows_after).0 in
+      (g.0, subst (MayWait c op) (sym g.1) (subst (IsHonestWait c op trace) comes waits))
+  by_next within (Done a) is = ends_there within a (progress_then ∙ ap progress_of is)
+
+  pub told_then : IsWithin c → Told op start step.progress left
+  told_then within = subst (λ p. Told op start p left) (sym progress_then) (by_next within after.0 refl)
+
+  -- the hooks that it has asked then
+  asks_then : (asks : List Ask) → asks_of c op start.items goes.trace ≡ asks →
+      asks_of c op start.items trace ≡ asks_with (call_at p) now.items h asks
+  asks_then asks is = λ i.
+      asks_with (call_is (course_of c n op goes.trace).comes p stands_there i) (sym goes.items i) h (is i)
+
+  -- how many of its events have come to a wait then
+  waits_then : (waits : ℕ) → waits_in c n op goes.trace ≡ waits → (next : Next Phase) → step.progress ≡ progress_of next →
+      waits_in c n op trace ≡ waits + is_wait next
+  waits_then waits is next at = λ i.
+      is i + (ap (λ (o : Course). is_wait o.comes) course_here ∙ same_wait after.0 next (sym progress_then ∙ at)) i
+
+  -- so it went, by what comes after the event
+  pub went_asking : (asks : List Ask) (waits : ℕ) → asks_of c op start.items goes.trace ≡ asks → waits_in c n op goes.trace ≡ waits →
+      IsWithin c → (next : Next Phase) → step.progress ≡ progress_of next →
+      WentWith (asks_with (call_at p) now.items h asks) waits op start next left
+  went_asking asks waits is came within (Go q) at =
+      let g = goes_with_it (λ a ended. absurd (let f : ⊥ = cc in f)) in (
+        g.0,
+        ap (asks_of c op start.items) g.1 ∙ asks_then asks is,
+        ap (waits_in c n op) g.1 ∙ (waits_then waits came (Go q) at ∙ add-zero waits),
+      )
+  went_asking asks waits is came within (Wait q) at =
+      let g = goes_with_it (λ a ended. absurd (let f : ⊥ = cc in f)) in
+      (g.0, ap (asks_of c op start.items) g.1 ∙ asks_then asks is, ap (waits_in c n op) g.1 ∙ waits_then waits came (Wait q) at)
+  went_asking asks waits is came within (Done a) at =
+      let g = ends_with_it within a at in (
+        g.0,
+        ap (asks_of c op start.items) g.1 ∙ asks_then asks is,
+        ap (waits_in c n op) g.1 ∙ (waits_then waits came (Done a) at ∙ add-zero waits),
+      )
+
+  -- and its trace has one event more
+  grown : (begins : Option Op) (o : Option Phase) (l : SeatItems) → o ≡ Some p → IsMove now.config begins p h l found →
+      length (own_view (items_after begins p h found l)).trace ≡ length (own_view (entered_items begins o l)).trace + 1
+  grown begins o [] is moves = absurd moves
+  grown begins o (x ∷ xs) is moves = subst (λ q. length (own_view (items_after begins p h found (x ∷ xs))).trace ≡
+      length (own_view (entered_items begins q (x ∷ xs))).trace + 1) (sym is) (omega arith)
+
+  -- so it has had one event more
+  one_more : steps_of left ≡ steps_of now + 1
+  one_more =
+      ap (λ b. length (own_view (entered_items b left.phase left.items)).trace) begins_then ∙
+      (ap (λ l. length (own_view l).trace) (not_entered left.phase left.items ∙ ap (λ (s : TaskState). s.items) did.new) ∙
+      grown now.begins now.phase now.items goes.going.1 did.moves)
+
+-- what is no more than the most is no more than the most of all
+few : (most : Option ℕ) (trace : List Traced) → IsBounded most → IsShort most trace → IsSmall most → length trace ≤ most_events_of_all
+few None trace bounded short small = absurd bounded
+few (Some most) trace bounded short small = omega (arith, short, small)
+
+-- the own view's trace is the operation's
+own_trace : (c : Config) (op : Op) (trace : List Traced) (l : SeatItems) → length (own_view (ran_items c op trace l)).trace ≤ length trace
+own_trace c op trace [] = omega arith
+own_trace c op trace (x ∷ xs) = omega arith
+
+-- an operation that has a most number of events has no more than the most of all
+pub few_steps : (op : Op) (start now : TaskState) → IsWithin start.config → IsBounded (most_events start.config op) → Goes op start now →
+    steps_of now ≤ most_events_of_all
+few_steps op start now within tries goes =
+    let c : Config = start.config in
+    let keeps = op_keeps c op in
+    let short = few (most_events c op) goes.trace tries (keeps.short within (own_number start.items) goes.trace goes.follows)
+    (keeps.most_small within) in
+    let own = own_trace c op goes.trace start.items in
+    let same = ap (λ l. length (own_view l).trace) (ran_so_far op start now goes) in
+    omega (arith, short, own, same)
+
+-- what comes after the event tells whether it goes on
+pub went_on : (op : Op) (start now left : TaskState) (step : Step) (hook : HookAnswer) (goes : Goes op start now)
+    (after_step : (p : Phase) → now.phase ≡ Some p → Stepped p hook now step left) → IsWithin start.config →
+    (next : Next Phase) → step.progress ≡ progress_of next → Went op start next left
+went_on op start now left step hook goes after_step within (Go q) is =
+    goes_further op start now left step hook goes after_step (λ a ended. absurd (let f : ⊥ = cc in f))
+went_on op start now left step hook goes after_step within (Wait q) is =
+    goes_further op start now left step hook goes after_step (λ a ended. absurd (let f : ⊥ = cc in f))
+went_on op start now left step hook goes after_step within (Done a) is = ends_there op start now left step hook goes after_step within a is
+
+-- fewer events are left after each
+pub falls : (op : Op) (start now left : TaskState) (step : Step) (hook : HookAnswer) (goes : Goes op start now)
+    (after_step : (p : Phase) → now.phase ≡ Some p → Stepped p hook now step left) → IsWithin start.config →
+    IsBounded (most_events start.config op) →
+    ((a : Result Reply GateError) → step.progress ≡ Ended a → ⊥) → events_left left < events_left now
+falls op start now left step hook goes after_step within tries not =
+    let few = few_steps op start left within tries (goes_further op start now left step hook goes after_step not) in
+    let more = one_more op start now left step hook goes after_step in
+    omega arith
+
+-- a beginning that is refused
+pub was_refused : {A : Type 0} (read : Reply → A) (op : Op) (old left : TaskState) (e : GateError) → Err e ≡
+    unless_refused (refusal_at op old) → left ≡ old →
+    Replies read op old left (Err e)
+was_refused {A} read op old left e is same = record {
+  table = ap (λ (s : TaskState). s.table) same;
+  config = ap (λ (s : TaskState). s.config) same;
+  refused = λ r at. (refused_as e (refusal_at op old) r is at, same);
+  done = λ at. absurd (refused_none e (refusal_at op old) is at);
+}
+
+-- and one that isn't
+abbrev pub was_done : {A : Type 0} (read : Reply → A) (op : Op) (old left : TaskState) (answer : Result Reply GateError)
+    (outcome : Result A GateError) →
+    outcome ≡ told_as read answer → Ok tt ≡ unless_refused (refusal_at op old) → Called op old left answer →
+    Replies read op old left outcome
+was_done read op old left answer outcome told is called = record {
+  table = ap (λ (s : TaskState). s.table) called.after;
+  config = ap (λ (s : TaskState). s.config) called.after;
+  refused = λ r at. absurd (admitted_some (refusal_at op old) r is at);
+  done = λ at. (answer, told, called);
+}
+
+-- an answer that is told whole
+pub told_whole : (answer : Result Reply GateError) → told_as the_reply answer ≡ answer
+told_whole (Ok reply) = refl
+told_whole (Err refusal) = refl
+
+-- what is told of an answer that was told whole
+pub told_twice : {A : Type 0} (read : Reply → A) (answer : Result Reply GateError) → told_as read (told_as the_reply answer) ≡
+    told_as read answer
+told_twice read (Ok reply) = refl
+told_twice read (Err refusal) = refl
+
+-- a call that tells of another's answer what it reads of replies
+abbrev pub was_told : {A : Type 0} (read : Reply → A) (op : Op) (old left : TaskState) (answer : Result Reply GateError)
+    (outcome : Result A GateError) →
+    Replies the_reply op old left answer → outcome ≡ told_as read answer → Replies read op old left outcome
+was_told read op old left answer outcome replies told = record {
+  table = replies.table;
+  config = replies.config;
+  refused = λ r at. (told ∙ ap (told_as read) (replies.refused r at).0, (replies.refused r at).1);
+  done = λ at. let done = replies.done at in (done.0, told ∙ (ap (told_as read) done.1 ∙ told_twice read done.0), done.2);
+}
+
+-- a whole reply is one that its operation gives
+reply_told : (P : Reply → Type 0) (c : Config) (op : Op) (events : List Traced) →
+    ((reply : Reply) → IsTold op reply events → P reply) → (answer : Result Reply GateError) → IsHonestAnswer c op answer events →
+    IfOk (told_as the_reply answer) P
+reply_told P c op events says (Ok reply) honest = says reply honest
+reply_told P c op events says (Err refusal) honest = tt
+
+reply_at : (P : Reply → Type 0) (op : Op) (old left : TaskState) (outcome : Result Reply GateError) →
+    ((reply : Reply) (events : List Traced) → IsTold op reply events → P reply) → Replies the_reply op old left outcome →
+    (o : Option GateError) → refusal_at op old ≡ o → IfOk outcome P
+reply_at P op old left outcome says replies (Some r) at = subst (λ x. IfOk x P) (sym (replies.refused r at).0) tt
+reply_at P op old left outcome says replies None at =
+    let done = replies.done at in
+    subst (λ x. IfOk x P) (sym done.1)
+    (reply_told P old.config op done.2.trace (λ reply told. says reply done.2.trace told) done.0 done.2.honest)
+
+-- a callback's
+pub ran_told : (level : ℕ) (reply : Reply) (events : List Traced) → IsTold (Callback level) reply events → IsRanReply reply
+ran_told level (Ran true) events told = tt
+ran_told level (Ran false) events told = tt
+ran_told level reply events told = absurd told

@@ -1,0 +1,185 @@
+-- Whole operations of a task, from the beginning to the reply.
+use Rattle.std.specs.Prelude.{◌≡◌, ℕ, Bool, false, Option, Some, None, Result, Ok, Err, List, [], ◌∷◌, ◌++◌}
+use Rattle.access_model.specs.declared.errors.GateError.{GateError}
+use Rattle.access_model.specs.declared.replies.Next.{Next}
+use Rattle.access_model.specs.declared.replies.Next.TheVariants.{Go, Wait, Done}
+use Rattle.access_model.specs.declared.replies.Reply.{Reply}
+use Rattle.access_model.specs.declared.replies.Reply.TheVariants.{Ran, Node as NodeReply}
+use Rattle.cpu_words.specs.declared.events.Event.{Event}
+use Rattle.cpu_words.specs.Touches.{event_of}
+use Rattle.gate_world.specs.declared.config.Config.{Config}
+use Rattle.gate_world.specs.declared.operations.Op.{Op}
+use Rattle.gate_world.specs.declared.work.Phase.{Phase}
+use Rattle.gate_world.specs.declared.views.Traced.{Traced}
+use Rattle.gate_world.specs.declared.views.View.{View}
+use Rattle.gated_tree.specs.declared.trees.TreeWords.{TreeWords}
+use Rattle.gate_world.specs.declared.views.Snapshot.{Snapshot}
+use Rattle.gate_world.specs.Snapshots.{completes, last_snapshot}
+use Rattle.gate_world.specs.Views.{phase_after, with_hook}
+use Rattle.gate_world.specs.Work.{next_of}
+use Rattle.gate_world.specs.Courses.{course_of, IsTrace}
+use Rattle.gate_world.specs.Traces.{actions_of, IsHonestAnswer, most_events, IsShort, MayWait}
+use Rattle.gate_steps.specs.Seating.{SeatItems, numbered, HaveHistory, done_by, IsMove}
+use Rattle.gate_schedules.specs.declared.steps.Progress.{Progress}
+use Rattle.gate_schedules.specs.declared.steps.Progress.TheVariants.{Idle, Going, Waiting, Done as Ended}
+use Rattle.gate_steps.specs.call_events.Refused.{IsUnchangedBy, WaitsHonestly}
+use Rattle.gate_steps.specs.call_events.TaskStates.{TaskState, own_number, own_view, refusal_at}
+
+-- the events of a trace before earlier ones, the newest first
+abbrev pub events_onto : List Traced → List Event → List Event
+events_onto [] earlier = earlier
+events_onto (e ∷ es) earlier = e.event ∷ events_onto es earlier
+
+-- what the snapshot has loaded that an event completes, of an operation that stood there after these events
+abbrev pub completed_by : Next Phase → List Traced → Traced → Option TreeWords
+completed_by (Go phase) earlier e = completes phase earlier e.event.found
+completed_by (Wait phase) earlier e = completes phase earlier e.event.found
+completed_by (Done answer) earlier e = None
+
+-- the last snapshot of a number that began an operation with this view, after these events of it, the newest first, where each other
+-- number of its task has done so many actions
+abbrev pub ran_snapshot : Config → ℕ → Op → List (ℕ × ℕ) → List Traced → View → Option Snapshot
+ran_snapshot c t op others [] v = v.snapshot
+ran_snapshot c t op others (e ∷ earlier) v =
+    last_snapshot (completed_by (course_of c t op earlier).comes earlier e) ((course_of c t op earlier).added ++ v.actions) others
+    (ran_snapshot c t op others earlier v)
+
+-- and its view
+abbrev pub ran_view : Config → ℕ → Op → List (ℕ × ℕ) → List Traced → View → View
+ran_view c t op others trace v = record {
+  op = Some op;
+  phase = phase_after (course_of c t op trace).comes;
+  actions = (course_of c t op trace).added ++ v.actions;
+  events = events_onto trace v.events;
+  trace = trace;
+  before = v.actions;
+  snapshot = ran_snapshot c t op others trace v;
+}
+
+-- the numbers of a task whose own number did so
+abbrev pub ran_items : Config → Op → List Traced → SeatItems → SeatItems
+ran_items c op trace [] = []
+ran_items c op trace (x ∷ xs) = numbered x.number (ran_view c x.number op (done_by xs) trace x.view) ∷ xs
+
+-- the operation that begins with the next event
+abbrev pub begins_at : Op → List Traced → Option Op
+begins_at op [] = Some op
+begins_at op (e ∷ earlier) = None
+
+-- the numbers as they stand before the next event
+abbrev pub items_at : Config → Op → List Traced → SeatItems → SeatItems
+items_at c op [] items = items
+items_at c op (e ∷ earlier) items = ran_items c op (e ∷ earlier) items
+
+-- the event was one of this phase in a world that the rule holds of, in which the numbers have their views, and it moved the shown model
+-- by its action
+abbrev pub IsMoveOf : Config → Op → SeatItems → List Traced → Traced → Phase → Type 0
+IsMoveOf c op items earlier e phase =
+    (found : ℕ) × (e ≡ with_hook (event_of (next_of phase e.hook).0 (next_of phase e.hook).1 found) e.hook)
+    × IsMove c (begins_at op earlier) phase e.hook (items_at c op earlier items) found
+
+-- the event was such a move of the phase that comes next
+abbrev pub IsNextMove : Config → Op → SeatItems → List Traced → Traced → Next Phase → Type 0
+IsNextMove c op items earlier e (Go phase) = IsMoveOf c op items earlier e phase
+IsNextMove c op items earlier e (Wait phase) = IsMoveOf c op items earlier e phase
+IsNextMove c op items earlier e (Done answer) = ⊥
+
+-- each event was such a move of the phase that came next before it
+abbrev pub AreMoves : Config → Op → SeatItems → List Traced → Type 0
+AreMoves c op items [] = Unit {0}
+AreMoves c op items (e ∷ earlier) =
+    IsNextMove c op items earlier e (course_of c (own_number items) op earlier).comes × AreMoves c op items earlier
+
+-- an operation that has a most number of events
+abbrev pub IsBounded : Option ℕ → Type 0
+IsBounded None = ⊥
+IsBounded (Some most) = Unit {0}
+
+-- what a call tells of an answer, where it reads a reply so
+abbrev pub told_as : {A : Type 0} → (Reply → A) → Result Reply GateError → Result A GateError
+told_as read (Ok reply) = Ok (read reply)
+told_as read (Err refusal) = Err refusal
+
+-- a call that tells the whole reply
+abbrev pub the_reply : Reply → Reply
+the_reply reply = reply
+
+-- a call that tells only whether the operation was done
+abbrev pub unit_of : Reply → Unit {0}
+unit_of reply = tt
+
+-- a call that tells the node that it took
+abbrev pub node_of : Reply → ℕ
+node_of (NodeReply node) = node
+node_of reply = 0
+
+-- a call that tells whether a callback ran
+abbrev pub ran_of : Reply → Bool
+ran_of (Ran ran) = ran
+ran_of reply = false
+
+-- what a callback replies: whether one ran
+abbrev pub IsRanReply : Reply → Type 0
+IsRanReply (Ran ran) = Unit {0}
+IsRanReply reply = ⊥
+
+-- One whole operation. Its events are a trace of it that ends in this answer. The own view has done just these events and their
+-- actions, and nothing else of the task changed. Each event was a move in a world that the rule holds of. So it has added exactly the
+-- operation's actions, a refusal has its cause in the trace and leaves all unchanged, it waits only where it may, and where the operation has
+-- a most number of events, they are no more. What it leaves has one history, in which each last snapshot has its moment.
+pub record Called (op : Op) (old left : TaskState) (answer : Result Reply GateError) : Type 0 where
+  pub trace : List Traced
+  pub follows : IsTrace old.config (own_number old.items) op trace
+  pub ends : (course_of old.config (own_number old.items) op trace).comes ≡ Done answer
+  pub after : left ≡ record old { begins = None; phase = None; items = ran_items old.config op trace old.items }
+  pub moves : AreMoves old.config op old.items trace
+  pub added : (course_of old.config (own_number old.items) op trace).added ≡ actions_of op answer trace
+  pub honest : IsHonestAnswer old.config op answer trace
+  pub unchanged : IsUnchangedBy answer (course_of old.config (own_number old.items) op trace).added (own_view old.items) (own_view left.items)
+  pub waits : WaitsHonestly old.config (own_number old.items) op trace
+  pub short : IsShort (most_events old.config op) trace
+  pub history : HaveHistory old.config left.items
+
+-- An operation whose beginning is refused changes nothing, and any other is done whole. The call tells its answer as it reads replies.
+pub record Replies {A : Type 0} (read : Reply → A) (op : Op) (old left : TaskState) (outcome : Result A GateError) : Type 0 where
+  pub table : left.table ≡ old.table
+  pub config : left.config ≡ old.config
+  pub refused : (refusal : GateError) → refusal_at op old ≡ Some refusal → (outcome ≡ Err refusal) × (left ≡ old)
+  pub done : refusal_at op old ≡ None → (answer : Result Reply GateError) × (outcome ≡ told_as read answer) × Called op old left answer
+
+-- the same of a call that tells only whether the operation was done
+abbrev pub Performs : Op → TaskState → TaskState → Result (Unit {0}) GateError → Type 0
+Performs op old left outcome = Replies unit_of op old left outcome
+
+-- an operation under way, after these events
+pub record Goes (op : Op) (start now : TaskState) : Type 0 where
+  pub trace : List Traced
+  pub admitted : refusal_at op start ≡ None
+  pub table : now.table ≡ start.table
+  pub config : now.config ≡ start.config
+  pub follows : IsTrace start.config (own_number start.items) op trace
+  pub phase : now.phase ≡ phase_after (course_of start.config (own_number start.items) op trace).comes
+  pub going : (q : Phase) × (now.phase ≡ Some q)
+  pub begins : now.begins ≡ begins_at op trace
+  pub items : now.items ≡ items_at start.config op trace start.items
+  pub moves : AreMoves start.config op start.items trace
+
+-- what comes after the last event: it goes on, or it was done whole
+abbrev pub Went : Op → TaskState → Next Phase → TaskState → Type 0
+Went op start (Go phase) now = Goes op start now
+Went op start (Wait phase) now = Goes op start now
+Went op start (Done answer) now = Called op start now answer
+
+-- The same as a step tells it: the operation goes on, or waits for others where it may, or was done whole.
+abbrev pub Told : Op → TaskState → Progress → TaskState → Type 0
+Told op start Idle now = ⊥
+Told op start Going now = Goes op start now
+Told op start Waiting now = (goes : Goes op start now) × MayWait start.config op goes.trace
+Told op start (Ended answer) now = Called op start now answer
+
+-- some operation that has a most number of events is under way here
+pub record IsTrying (now : TaskState) : Type 0 where
+  pub op : Op
+  pub start : TaskState
+  pub goes : Goes op start now
+  pub tries : IsBounded (most_events start.config op)

@@ -1,0 +1,44 @@
+-- What one step of a task is.
+use Rattle.std.specs.Prelude.{◌≡◌, ℕ, Option, Some, None, [], ◌∷◌}
+use Rattle.cpu_words.specs.Hooks.{HookAnswer}
+use Rattle.cpu_words.specs.Touches.{found_by, event_of}
+use Rattle.gate_world.specs.declared.config.Config.{Config}
+use Rattle.gate_world.specs.declared.operations.Op.{Op}
+use Rattle.gate_world.specs.declared.work.Phase.{Phase}
+use Rattle.gate_world.specs.Views.{phase_after}
+use Rattle.gate_world.specs.Work.{next_of, after_of}
+use Rattle.gate_schedules.specs.declared.steps.Step.{Step}
+use Rattle.gate_schedules.specs.Answers.{progress_of, phase_step}
+use Rattle.gate_steps.specs.Seating.{SeatItems, items_after, IsMove}
+use Rattle.gate_steps.specs.call_events.TaskStates.{TaskState}
+
+-- the step of the event of a phase that found this
+abbrev pub found_step : Phase → HookAnswer → ℕ → Step
+found_step phase hook found = record {
+  event = Some (event_of (next_of phase hook).0 (next_of phase hook).1 found);
+  action = (after_of phase (found_by (next_of phase hook).1 found) hook).1;
+  progress = progress_of (after_of phase (found_by (next_of phase hook).1 found) hook).0;
+}
+
+-- and the task after it
+abbrev pub state_after : TaskState → Phase → HookAnswer → ℕ → TaskState
+state_after old phase hook found = record old {
+  begins = None;
+  phase = phase_after (after_of phase (found_by (next_of phase hook).1 found) hook).0;
+  items = items_after old.begins phase hook found old.items;
+}
+
+-- the step is the one that the phase has in the world of this event
+abbrev pub ToldIn : (c : Config) (begins : Option Op) (phase : Phase) (hook : HookAnswer) (found : ℕ) (items : SeatItems) →
+    IsMove c begins phase hook items found → Step → Type 0
+ToldIn c begins phase hook found [] move step = ⊥
+ToldIn c begins phase hook found (x ∷ xs) move step = step ≡ phase_step move.world hook (Some phase)
+
+-- One event of the task's own number, which found something in a world that the rule holds of, before it and after it. The step is the
+-- one that the phase has in that world.
+pub record Stepped (phase : Phase) (hook : HookAnswer) (old : TaskState) (done : Step) (left : TaskState) : Type 0 where
+  pub found : ℕ
+  pub step : done ≡ found_step phase hook found
+  pub new : left ≡ state_after old phase hook found
+  pub moves : IsMove old.config old.begins phase hook old.items found
+  pub told : ToldIn old.config old.begins phase hook found old.items moves done

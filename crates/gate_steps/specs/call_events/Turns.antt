@@ -1,0 +1,60 @@
+-- What one event leaves of a task's fields, apart from the task.
+use Rattle.std.specs.Prelude.{ℕ, Bool, Option, Some, None, List}
+use Rattle.access_model.specs.declared.actions.Action.{Action}
+use Rattle.access_model.specs.declared.replies.Next.{Next}
+use Rattle.cpu_words.specs.declared.events.Event.{Event}
+use Rattle.gate_world.specs.declared.config.Config.{Config}
+use Rattle.gate_world.specs.declared.operations.Op.{Op}
+use Rattle.gate_world.specs.declared.work.Phase.{Phase}
+use Rattle.gate_world.specs.declared.work.Phase.TheVariants.{Mounts, Trees, Writes}
+use Rattle.gated_tree.specs.declared.growth.Grow.{Grow}
+use Rattle.gated_tree.specs.declared.phases.TreePhase.TheVariants.{Grow as Grows}
+use Rattle.mount_counts.specs.declared.phases.Change.{Change}
+use Rattle.mount_counts.specs.declared.phases.MountPhase.TheVariants.{Change as Changes}
+use Rattle.access_model.specs.Replies.{map_next}
+use Rattle.gate_schedules.specs.declared.seats.Seat.{Seat}
+use Rattle.gate_world.specs.declared.accesses.Accesses.{Accesses}
+use Rattle.gate_schedules.specs.declared.steps.Step.{Step}
+use Rattle.gate_schedules.specs.Answers.{progress_of}
+use Rattle.gate_steps.specs.Seating.{SeatItems}
+use Rattle.gate_steps.specs.call_events.Ties.{Ties}
+use Rattle.percpu_rwsem.specs.declared.readers.DownReadStep.{DownReadStep}
+use Rattle.compounds.specs.declared.write_access.phases.WritePhase.{WritePhase}
+use Rattle.compounds.specs.declared.write_access.phases.WritePhase.TheVariants.{Takes}
+
+-- what is kept of a task whose operation stands there
+abbrev pub kept_at : Option Phase → Accesses → Seat
+kept_at phase accesses = record { phase = phase; accesses = accesses }
+
+-- some task's fields are what its seat at the table knows, and its operation stands there
+pub record IsTied (c : Config) (begins : Option Op) (phase : Option Phase) (accesses : Accesses) (items : SeatItems) : Type 0 where
+  pub number : ℕ
+  pub flags : List Bool
+  pub ties : Ties number c begins (kept_at phase accesses) flags items
+
+-- the fields of a task that were what its seat knew are so again
+abbrev pub StayTied : Config → Option Op → Option Phase → Accesses → SeatItems → Option Phase → Accesses → SeatItems → Type 0
+StayTied c begins phase accesses items left accesses_left items_left =
+    (number : ℕ) (flags : List Bool) → Ties number c begins (kept_at phase accesses) flags items →
+    Ties number c None (kept_at left accesses_left) flags items_left
+
+-- the step that an event was
+abbrev pub step_was : Event → Option Action → Next Phase → Step
+step_was event action next = record { event = Some event; action = action; progress = progress_of next }
+
+-- what comes next of a taking or a return of write access, as phases
+abbrev pub of_write : Next WritePhase → Next Phase
+of_write next = map_next (λ phase. Writes phase) next
+
+-- what comes next of a change of a mount, as phases
+abbrev pub of_change : Next Change → Next Phase
+of_change next = map_next (λ change. Mounts (Changes change)) next
+
+-- what comes next of a grow of a file, as phases
+abbrev pub of_grow : Next Grow → Next Phase
+of_grow next = map_next (λ grow. Trees (Grows grow)) next
+
+-- a taking of write access at a mount, with a down-read of these parts
+abbrev pub taking : ℕ → ℕ → ℕ → ℕ → Bool → DownReadStep → Option Phase
+taking mount level cpu task wait step =
+    Some (Writes (Takes mount (record { level = level; cpu = cpu; task = task; wait = wait; step = step })))

@@ -1,0 +1,61 @@
+-- How often an operation comes to a wait: how many of its events found what it waits for.
+use Rattle.std.specs.Prelude.{◌≡◌, ℕ, ◌+◌, ◌-◌, ◌^◌, min, Option, Some, None, Result, List, [], ◌∷◌}
+use Rattle.access_model.specs.declared.errors.GateError.{GateError}
+use Rattle.access_model.specs.declared.replies.Next.{Next}
+use Rattle.access_model.specs.declared.replies.Next.TheVariants.{Go, Wait, Done}
+use Rattle.access_model.specs.declared.replies.Reply.{Reply}
+use Rattle.gate_steps.specs.Seating.{SeatItems}
+use Rattle.gate_world.specs.declared.config.Config.{Config}
+use Rattle.gate_world.specs.declared.operations.Op.{Op}
+use Rattle.gate_world.specs.declared.views.Traced.{Traced}
+use Rattle.gate_world.specs.declared.views.View.{View}
+use Rattle.gate_world.specs.declared.work.Phase.{Phase}
+use Rattle.gate_world.specs.Courses.{course_of}
+use Rattle.gate_steps.specs.call_events.Runs.{Called, Goes}
+use Rattle.gate_steps.specs.call_events.TaskStates.{TaskState, own_number, own_view}
+
+-- 1 where an event came to a wait
+abbrev pub is_wait : Next Phase → ℕ
+is_wait (Wait phase) = 1
+is_wait next = 0
+
+-- how many events of a trace did
+abbrev pub waits_in : Config → ℕ → Op → List Traced → ℕ
+waits_in c t op [] = 0
+waits_in c t op (e ∷ earlier) = waits_in c t op earlier + is_wait (course_of c t op (e ∷ earlier)).comes
+
+-- how many of the last operation of a number with this view did
+abbrev pub waits_by : Config → ℕ → Option Op → List Traced → ℕ
+waits_by c t None trace = 0
+waits_by c t (Some op) trace = waits_in c t op trace
+
+abbrev pub waits_of : Config → ℕ → View → ℕ
+waits_of c t v = waits_by c t v.op v.trace
+
+-- so often; a count stands still at 2^64 - 1
+abbrev pub counted : ℕ → ℕ
+counted n = min n (2 ^ 64 - 1)
+
+-- how often the last operation of a task with these numbers came to a wait
+abbrev pub waited_of : Config → SeatItems → ℕ
+waited_of c items = counted (waits_of c (own_number items) (own_view items))
+
+-- the same of a task that stands so
+abbrev pub waited_at : TaskState → ℕ
+waited_at s = waited_of s.config s.items
+
+-- an operation under way, of whose events so many came to a wait
+abbrev pub GoesWaiting : ℕ → Op → TaskState → TaskState → Type 0
+GoesWaiting waits op start now =
+    (goes : Goes op start now) × (waits_in start.config (own_number start.items) op goes.trace ≡ waits)
+
+-- one that was done whole
+abbrev pub CalledWaiting : ℕ → Op → TaskState → TaskState → Result Reply GateError → Type 0
+CalledWaiting waits op start left answer =
+    (called : Called op start left answer) × (waits_in start.config (own_number start.items) op called.trace ≡ waits)
+
+-- the same by what comes after the last event, before which so many came to one
+abbrev pub WentWaiting : ℕ → Op → TaskState → Next Phase → TaskState → Type 0
+WentWaiting waits op start (Go phase) now = GoesWaiting waits op start now
+WentWaiting waits op start (Wait phase) now = GoesWaiting (waits + 1) op start now
+WentWaiting waits op start (Done answer) now = CalledWaiting waits op start now answer

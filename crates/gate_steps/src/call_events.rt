@@ -1,0 +1,14 @@
+//! What a call does on the table of atomic words, apart from the task that calls: one event of it, and what it asks of the file system.
+//! What is said of a task's calls, and of one event of it, is defined here; `call_lines` and `call_ends` do the events of a whole one. Crates
+//! above reach through it what they say of seats and steps, so that their lines in crates.txt name neither `gate_schedules` nor `gate_steps`.
+
+mod hooks;
+pub mod laws;
+mod turns;
+mod words;
+
+pub use crate::{Closed, Happens, index_of, word_of};
+pub use gate_schedules::{Progress, Seat as Kept, Step};
+pub use hooks::TimedHooks;
+pub use turns::{Turn, do_event, go_on};
+pub use words::{GateWords, Seat};

@@ -1,0 +1,93 @@
+//! One event of an operation under way, apart from the task that does it: so nothing is written down between two events of a
+//! call, and what is known of the operation lets its events become a straight line of code.
+
+ghost use Rattle.std.specs.Prelude.{◌≡◌, ℕ, Some, None, List};
+ghost use Rattle.gate_world.specs.Views.{phase_after};
+ghost use Rattle.access_model.specs.Replies.{map_next};
+ghost use Rattle.gate_steps.specs.call_events.TaskStates.{task_state};
+ghost use Rattle.gate_steps.specs.call_events.Stepped.{Stepped};
+ghost use Rattle.gate_steps.specs.call_events.Turns.{IsTied, StayTied, step_was};
+ghost use Rattle.gate_steps.specs.call_events.Waited.{GoesWaiting, WentWaiting};
+ghost use Rattle.gate_steps.specs.call_events.Asking.{Ask, asks_with, call_at, GoesWith, WentWith};
+ghost use Rattle.gate_steps.specs.call_events.TaskStates.{TaskState};
+ghost use Rattle.gate_world.specs.declared.operations.Op.{Op as OpType};
+
+use crate::call_events::words::{GateWords, Seat};
+use access_model::{Action, Next};
+use cpu_words::Event;
+use gate_world::{Accesses, Op, UnderWay};
+
+/// An event, the action that it added, and what comes after it.
+pub struct Turn<P> {
+    /// The event.
+    pub event: Event,
+    /// The action, where it added one.
+    pub action: Option<Action>,
+    /// What comes after it.
+    pub next: Next<P>,
+}
+
+/// Does the next event of an operation under way, in one atomic step by the seat, and to the accesses what its action does.
+#[inline(always)]
+pub fn do_event<P: UnderWay>(
+    gates: &GateWords,
+    seat: &mut Seat,
+    accesses: &mut Accesses,
+    begins: Option<Op>,
+    under_way: P,
+    hook: Result<(), u16>,
+) -> Turn<P>
+    requires table { seat.old.table_id ≡ gates.now.table.shared.table_id }
+    requires tied { IsTied gates.now.config begins (Some (P.as_phase under_way)) accesses.old seat.old.me.0 }
+    ensures table { seat.new.table_id ≡ seat.old.table_id }
+    ensures slots { seat.new.me.1 ≡ seat.old.me.1 }
+    ensures tied { StayTied gates.now.config begins (Some (P.as_phase under_way)) accesses.old seat.old.me.0
+        (phase_after (map_next P.as_phase result.next)) accesses.new seat.new.me.0 }
+    ensures stepped { Stepped (P.as_phase under_way) hook
+        (task_state seat.old.table_id gates.now.config begins (Some (P.as_phase under_way)) seat.old.me.0)
+        (step_was result.event result.action (map_next P.as_phase result.next))
+        (task_state seat.new.table_id gates.now.config None (phase_after (map_next P.as_phase result.next)) seat.new.me.0) }
+{
+    let event = gates.event(seat, begins, under_way, hook);
+    let (next, action) = under_way.after(event.found, hook);
+    accesses.apply(action);
+    Turn {
+        event,
+        action,
+        next,
+    }
+}
+
+/// The same for a call that does one event after the other: what comes after it.
+#[inline(always)]
+pub fn go_on<P: UnderWay>(
+    gates: &GateWords,
+    seat: &mut Seat,
+    accesses: &mut Accesses,
+    begins: Option<Op>,
+    under_way: P,
+    hook: Result<(), u16>,
+) -> Next<P>
+    requires table { seat.old.table_id ≡ gates.now.table.shared.table_id }
+    requires tied { IsTied gates.now.config begins (Some (P.as_phase under_way)) accesses.old seat.old.me.0 }
+    ensures table { seat.new.table_id ≡ seat.old.table_id }
+    ensures slots { seat.new.me.1 ≡ seat.old.me.1 }
+    ensures tied { StayTied gates.now.config begins (Some (P.as_phase under_way)) accesses.old seat.old.me.0
+        (phase_after (map_next P.as_phase result)) accesses.new seat.new.me.0 }
+    ensures still { IsTied gates.now.config None (phase_after (map_next P.as_phase result)) accesses.new seat.new.me.0 }
+    ensures went { (waits : ℕ) (op : OpType) (start : TaskState) →
+        GoesWaiting waits op start (task_state seat.old.table_id gates.now.config begins (Some (P.as_phase under_way)) seat.old.me.0) →
+        WentWaiting waits op start (map_next P.as_phase result)
+        (task_state seat.new.table_id gates.now.config None (phase_after (map_next P.as_phase result)) seat.new.me.0) }
+    ensures asks { (op : OpType) (start : TaskState) (asks : List Ask) (waits : ℕ) →
+        GoesWith asks waits op start (task_state seat.old.table_id gates.now.config begins (Some (P.as_phase under_way)) seat.old.me.0) →
+        WentWith (asks_with (call_at (P.as_phase under_way)) seat.old.me.0 hook asks) waits op start (map_next P.as_phase result)
+        (task_state seat.new.table_id gates.now.config None (phase_after (map_next P.as_phase result)) seat.new.me.0) }
+{
+    let Turn {
+        event: _,
+        action: _,
+        next,
+    } = do_event(gates, seat, accesses, begins, under_way, hook);
+    next
+}

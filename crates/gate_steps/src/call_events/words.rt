@@ -1,0 +1,98 @@
+//! The words that all threads share, and a seat at their table.
+
+ghost use Rattle.std.specs.Prelude.{◌≡◌, ◌<◌, ◌++◌, [], IfOk};
+ghost use Rattle.std.specs.Slots.{slots_items, slots_len, IsFull};
+ghost use Rattle.cpu_words.specs.Names.{place, words_in_all};
+ghost use Rattle.cpu_words.specs.Touches.{event_of};
+ghost use Rattle.gate_world.specs.Configs.{IsWithin};
+ghost use Rattle.gate_world.specs.Work.{next_of};
+ghost use Rattle.gate_steps.specs.Rules.{first_items, table_length};
+ghost use Rattle.gate_steps.specs.Tables.{IsClosing};
+ghost use Rattle.gate_steps.specs.Seating.{Acts, IsMove, items_after, Spares, kept_of, given_of};
+
+use crate::{Closed, GateTable, Items};
+use cpu_words::Event;
+use gate_world::{Config, Op, UnderWay};
+use std::alloc::{AllocError, Global};
+
+/// The seat of a task at the table.
+pub type Seat = atomic_table::Seat<(), Items>;
+
+/// All words of the gates, with the configuration that they have. Nothing outside this file reaches the table: a word is loaded or changed by
+/// `event` alone, in one atomic step that stands in its task's trace.
+#[derive(Drop)]
+pub struct GateWords {
+    table: GateTable,
+    /// How many tasks, processors, mounts, nodes and blocks there are.
+    pub config: Config,
+    ghost key: { table.shared.key ≡ config },
+    ghost words: { table.shared.table_id.words ≡ table_length },
+    ghost no_slots: { table.shared.table_id.slots ≡ 0 },
+    ghost within: { IsWithin config },
+}
+
+impl GateWords {
+    /// All words as they begin, and the seat of number 0, which has all others to give.
+    pub fn open(alloc: Global, config: Config) -> Result<(GateWords, Seat), AllocError>
+        requires { IsWithin config }
+        ensures config { IfOk result (λ t. t.0.config ≡ config) }
+        ensures seat { IfOk result (λ t.
+            (t.1.table_id ≡ t.0.table.shared.table_id) × (t.1.id ≡ 0) × (t.1.me ≡ (first_items config, []))) }
+    {
+        let (table, seat) = crate::open(alloc, &config)?;
+        Ok((GateWords { table, config }, seat))
+    }
+
+    /// The next event of the seat's own number, in one atomic step (`crate::event`).
+    #[inline(always)]
+    pub(crate) fn event<P: UnderWay>(
+        &self,
+        seat: &mut Seat,
+        begins: Option<Op>,
+        under_way: P,
+        hook: Result<(), u16>,
+    ) -> Event
+        requires table { seat.old.table_id ≡ self.now.table.shared.table_id }
+        requires inside { place (next_of (P.as_phase under_way) hook).0 < words_in_all }
+        requires acts { Acts self.now.table.shared.key begins (P.as_phase under_way) seat.old.me.0 }
+        ensures table { seat.new.table_id ≡ seat.old.table_id }
+        ensures is { result ≡ event_of (next_of (P.as_phase under_way) hook).0 (next_of (P.as_phase under_way) hook).1 result.found }
+        ensures event { seat.new.me.0 ≡ items_after begins (P.as_phase under_way) hook result.found seat.old.me.0 }
+        ensures moves { IsMove self.now.table.shared.key begins (P.as_phase under_way) hook seat.old.me.0 result.found }
+        ensures slots { seat.new.me.1 ≡ seat.old.me.1 }
+    {
+        crate::event(&self.table.shared, seat, begins, under_way, hook)
+    }
+
+    /// A new seat with one of the numbers that the seat has to give.
+    pub fn give(&self, seat: &mut Seat, number: u8) -> Seat
+        requires table { seat.old.table_id ≡ self.now.table.shared.table_id }
+        requires spare { Spares number seat.old.me.0 }
+        ensures table { (seat.new.table_id ≡ seat.old.table_id) × (result.table_id ≡ seat.old.table_id) }
+        ensures kept { seat.new.me ≡ (kept_of number seat.old.me.0, seat.old.me.1) }
+        ensures given { result.me ≡ (given_of number seat.old.me.0, []) }
+    {
+        crate::give(&self.table.shared, seat, number)
+    }
+
+    /// All numbers of the other seat come back.
+    pub fn take_back(&self, seat: &mut Seat, other: Seat)
+        requires table { (seat.old.table_id ≡ self.now.table.shared.table_id) × (other.table_id ≡ self.now.table.shared.table_id) }
+        requires slots { other.me.1 ≡ [] }
+        ensures table { seat.new.table_id ≡ seat.old.table_id }
+        ensures joined { seat.new.me ≡ (seat.old.me.0 ++ other.me.0, seat.old.me.1) }
+    {
+        crate::take_back(&self.table.shared, seat, other);
+    }
+
+    /// The words, which no thread shares any more.
+    pub fn close(self, seat: Seat) -> Closed
+        requires { seat.table_id ≡ self.table.shared.table_id }
+        ensures counts { (slots_len result.words ≡ self.table.shared.table_id.words) × (slots_len result.slots ≡ self.table.shared.table_id.slots) }
+        ensures full { IsFull result.words × IsFull result.slots }
+        ensures closing { IsClosing self.table.shared.key (slots_items result.words) seat.me.0 }
+    {
+        let GateWords { table, config: _ } = self;
+        crate::close(table, seat)
+    }
+}
