@@ -1,6 +1,5 @@
 //! What each task of a run does, in whatever thread: a writer, a remounter or a backup, round by round, with who looks on, and what is counted.
-//! It starts no thread, and stands apart from who starts them, so that what a round does is proved without these. These reach through it what
-//! they say of gates and tasks, so that their lines in crates.txt don't name `vfs_gates`.
+//! It starts no thread, and stands apart from who starts them, so that what a round does is proved without these.
 
 mod counts;
 mod meetings;

@@ -6,7 +6,6 @@ pub use Rattle.gate_steps.specs.Histories
 pub use Rattle.gate_steps.specs.Rules
 pub use Rattle.gate_steps.specs.Seating
 pub use Rattle.gate_steps.specs.Tables
-pub use Rattle.gate_steps.specs.declared.seating.Numbered
 pub mod TaskStates
 pub mod Ties
 pub mod Stepped

@@ -1,5 +1,5 @@
 //! The words in one table of atomic words, under the rule of words and views: each event is one atomic step, whichever thread
-//! takes it.
+//! takes it. On it what a call does apart from its task (`call_events`), and loops to its end (`call_ends`).
 #![tactic(auto)]
 
 pub mod call_ends;

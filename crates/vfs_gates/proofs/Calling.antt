@@ -4,7 +4,8 @@ use Rattle.std.specs.Prelude.{Option, Some, None, Result, Ok, is_some}
 use Rattle.access_model.specs.declared.{errors.GateError.GateError, replies.{Next.{Next, TheVariants.{Go, Wait, Done}}, Reply.Reply}}
 use Rattle.gate_world.specs.{Beginnings.{first_phase, refusal}, Fits.Fits, Views.{phase_after, held_of}, declared.accesses.Accesses.Accesses}
 use Rattle.gate_world.specs.declared.{config.Config.Config, operations.Op.Op, work.Phase.Phase}
-use Rattle.gate_steps.specs.call_events.{Answers.unless_refused, Asking.{GoesWith, CalledAsking}, Numbered.Numbered, Runs.{Goes, Called}, Seat.Seat}
+use Rattle.gate_steps.specs.call_events.{Answers.unless_refused, Asking.{GoesWith, CalledAsking}, Runs.{Goes, Called}, Seat.Seat}
+use Rattle.gate_steps.specs.declared.seating.Numbered.{Numbered}
 use Rattle.gate_steps.specs.call_events.{Seating.SeatItems, Ties.{PhaseOk, OwnTies, Ties}, Turns.{kept_at, IsTied, StayTied}, Waited.{GoesWaiting, WentWaiting}}
 use Rattle.gate_steps.proofs.call_events.{Beginnings.{MayBegin, may_begin, first_fits}, Running.{not_refused, starts_asking_none}}
 use Rattle.atomic_table.specs.Seated.{TableId}

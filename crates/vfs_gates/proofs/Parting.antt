@@ -8,7 +8,8 @@ use mathlib.Core.Option.{some, some-injective, some-ne-none}
 use native.Mathlib.Decide.{ℕ_discrete, dec_lt}
 use lib.ListN.{get_elem?}
 use Rattle.gate_world.specs.{Configs.IsWithin, Views.opening_view, declared.{config.Config.Config, operations.Op.Op, views.View.View}}
-use Rattle.gate_steps.specs.call_events.{Numbered.Numbered, Seat.Seat, Seating.{SeatItems, numbered, one_if, times, without, view_in, renewed, kept_of, given_of, deal}}
+use Rattle.gate_steps.specs.call_events.{Seat.Seat, Seating.{SeatItems, numbered, one_if, times, without, view_in, renewed, kept_of, given_of, deal}}
+use Rattle.gate_steps.specs.declared.seating.Numbered.{Numbered}
 use Rattle.gate_steps.specs.call_events.{Seats.idle_seat, Ties.{PhaseOk, IsStill, AllRest, Keeps, OwnTies, Ties}}
 use Rattle.gate_steps.proofs.call_events.{Dealing.{one_if-same, one_if-other, times-append}, Giving.{view_in-at, times-without, times-without_other}}
 use Rattle.gate_steps.proofs.call_events.Opening.{times-deal_below, times-deal_above, times-deal}
