@@ -1,13 +1,18 @@
 -- Callbacks by a task that is idle, or isn't.
 use Rattle.std.proofs.Common.{◌≡◌, ℕ, ◌≤◌, Bool, true, refl, sym, ◌∙◌, subst, arith, lt-ltb}
-use Rattle.std.specs.Prelude.{Option, Some, None, is_some, Result, Ok, Err}
+use Rattle.std.specs.Prelude.{Option, Some, None, is_some, Result, Ok, Err, OnOk, IfOk, List}
 use Rattle.access_model.specs.declared.errors.GateError.{GateError}
 use Rattle.access_model.specs.declared.errors.GateError.TheVariants.{Order}
 use Rattle.access_model.specs.declared.replies.Reply.{Reply}
+use Rattle.gate_world.specs.declared.config.Config.{Config}
 use Rattle.gate_world.specs.declared.operations.Op.TheVariants.{Callback}
-use Rattle.gate_steps.specs.call_events.Runs.{told_as, ran_of, Called, Replies}
+use Rattle.gate_world.specs.declared.views.Traced.{Traced}
+use Rattle.gate_world.specs.Traces.{IsHonestAnswer}
+use Rattle.gate_steps.proofs.call_events.Running.{ran_told}
+use Rattle.gate_steps.specs.call_events.Runs.{told_as, ran_of, the_reply, Called, IsRanReply, Replies}
 use Rattle.vfs_gates.specs.TaskStates.{TaskState, refusal_at, IsIdle}
 use Rattle.vfs_gates.specs.Held.{IsAsBefore}
+use Rattle.vfs_gates.specs.Settled.{Settles, SettlesLevel}
 use Rattle.vfs_gates.proofs.Holding.{keeps, as_before_twice}
 
 module _ (level : ℕ) (old left : TaskState) (low : 1 ≤ level) (high : level ≤ 3) where
@@ -48,3 +53,34 @@ module _ (level : ℕ) (first mid left : TaskState) (same : ¬ IsIdle first → 
 
   pub not_ran : (ran : Bool) → Replies ran_of (Callback level) mid left (Ok ran) → ⊥
   not_ran ran call = let refused = refused_busy (Ok ran) call in let f : ⊥ = cc in f
+
+-- a reply to a callback tells whether one ran
+ran_or_not : (level : ℕ) (c : Config) (trace : List Traced) (answer : Result Reply GateError) → IsHonestAnswer c (Callback level) answer trace →
+    IfOk (told_as the_reply answer) IsRanReply
+ran_or_not level c trace (Ok reply) told = ran_told level reply trace told
+ran_or_not level c trace (Err refusal) honest = tt
+
+ran_by : (level : ℕ) (old left : TaskState) (outcome : Result Reply GateError) → Replies the_reply (Callback level) old left outcome →
+    (o : Option GateError) → refusal_at (Callback level) old ≡ o → IfOk outcome IsRanReply
+ran_by level old left outcome call (Some refusal) at = subst (λ x. IfOk x IsRanReply) (sym (call.refused refusal at).0) tt
+ran_by level old left outcome call None at =
+    let done = call.done at in
+    subst (λ x. IfOk x IsRanReply) (sym done.1) (ran_or_not level old.config done.2.trace done.0 done.2.honest)
+
+pub replied_ran : (level : ℕ) (old left : TaskState) (outcome : Result Reply GateError) → Replies the_reply (Callback level) old left outcome →
+    IfOk outcome IsRanReply
+replied_ran level old left outcome call = ran_by level old left outcome call (refusal_at (Callback level) old) refl
+
+-- what was done is no refusal, and the other way round
+pub none_ok : (x : Unit {0}) (refusal : GateError) → ◌≡◌ {A = Result (Unit {0}) GateError} (Ok x) (Err refusal) → ⊥
+none_ok x refusal is = let f : ⊥ = cc in f
+
+pub none_err : (refusal : GateError) → ◌≡◌ {A = Result (Unit {0}) GateError} (Err refusal) (Ok tt) → ⊥
+none_err refusal is = let f : ⊥ = cc in f
+
+-- the third level, after the other two
+pub settles_then : (first one two last : TaskState) (outcome : Result (Unit {0}) GateError) → SettlesLevel 1 first one → SettlesLevel 2 one two →
+    OnOk outcome (SettlesLevel 3 two last) → OnOk outcome (Settles first last)
+settles_then first one two last (Ok x) lowest middle highest =
+    record { one = one; two = two; lowest = lowest; middle = middle; highest = highest }
+settles_then first one two last (Err refusal) lowest middle highest = tt

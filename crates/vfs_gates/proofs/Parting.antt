@@ -87,6 +87,12 @@ module _ (number : ℕ) (c : Config) (begins : Option Op) (kept : Seat) (flags :
     λ k lt. no_more (times k xs) (λ some. false_true (sym (low k lt) ∙ (t.marks k).1 some)),
   )
 
+  -- where no flag is set, it has none to give
+  pub none_there : (l : SeatItems) → Ties number c begins kept flags l → ((k : ℕ) → get_or flags k false ≡ false) → (n : ℕ) →
+      times n (spare_of l) ≡ 0
+  none_there [] t low n = absurd t
+  none_there (x ∷ xs) t low n = no_more (times n xs) (λ some. false_true (sym (low n) ∙ (t.marks n).1 some))
+
   -- a task that is idle has begun nothing
   pub none_begun : (l : SeatItems) → Ties number c begins kept flags l → kept.phase ≡ None → begins ≡ None
   none_begun [] t idle = absurd t

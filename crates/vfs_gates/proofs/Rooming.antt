@@ -5,10 +5,11 @@ use Rattle.access_model.specs.declared.replies.Next.{Next}
 use Rattle.access_model.specs.declared.replies.Next.TheVariants.{Go, Wait, Done}
 use Rattle.access_model.specs.Replies.{map_next}
 use Rattle.cpu_words.specs.Hooks.{HookAnswer}
-use Rattle.cpu_words.specs.Touches.{event_of}
+use Rattle.cpu_words.specs.Touches.{event_of, found_by}
 use Rattle.cpu_words.specs.declared.events.Event.{Event}
 use Rattle.gated_tree.specs.declared.phases.TreePhase.{TreePhase}
 use Rattle.gated_tree.specs.declared.phases.TreePhase.TheVariants.{Create as Creates, Remove as Removes, Grow as Grows, MoveTo as Moves, Mark as TreeMarks, OpenFile as OpensOne, Snapshot as Snapshots, ClearMarks as TreeClears}
+use Rattle.gated_tree.specs.declared.snapshots.Snapshot.{Snapshot as Taking}
 use Rattle.gated_tree.specs.declared.trees.TreeWords.{TreeWords}
 use Rattle.percpu_rwsem.specs.Readers.{up_read_after}
 use Rattle.gate_world.specs.declared.config.Config.{Config}
@@ -22,6 +23,7 @@ use Rattle.gate_world.specs.Views.{phase_after}
 use Rattle.gate_world.specs.Work.{after_of, next_of}
 use Rattle.gate_steps.specs.Seating.{SeatItems, deal, done_by, given_of, items_after, kept_of}
 use Rattle.gate_steps.specs.Rules.{first_items}
+use Rattle.gate_steps.specs.declared.seating.Numbered.{Numbered}
 use Rattle.gate_steps.specs.call_events.Seat.{Seat}
 use Rattle.gate_steps.specs.call_events.Step.{Step}
 use Rattle.atomic_table.specs.Seated.{TableId}
@@ -237,6 +239,51 @@ stepped_room nodes r left begins phase hook table table_left c (x ∷ xs) items_
     let there : items_left ≡ items_after begins phase hook stepped.found (x ∷ xs) = ap (λ (s : TaskState). s.items) stepped.new in
     let P : Option Phase × SeatItems → Type 0 = λ z. RoomTells nodes left None z.0 z.1 in
     subst P (λ i. (sym stands i, sym there i)) (follows stepped.found (omega arith) is h)
+
+-- a phase that is no call at the tree, and a call that is no snapshot
+pub not_tree : (phase : Phase) → ((x : TreePhase) → phase ≡ Trees x → ⊥) → is_of_snapshot phase ≡ false
+not_tree (Mounts x) not = refl
+not_tree (Remounts x) not = refl
+not_tree (DownReads x) not = refl
+not_tree (UpReads x) not = refl
+not_tree (Callbacks x) not = refl
+not_tree (Writes x) not = refl
+not_tree (Freezes x) not = refl
+not_tree (Thaws x) not = refl
+not_tree (Trees x) not = absurd (not x refl)
+not_tree (Closes x) not = refl
+
+pub not_snapshot : (call : TreePhase) → ((x : Taking) → call ≡ Snapshots x → ⊥) → is_of_snapshot (Trees call) ≡ false
+not_snapshot (Creates x) not = refl
+not_snapshot (Removes x) not = refl
+not_snapshot (Grows x) not = refl
+not_snapshot (Moves x) not = refl
+not_snapshot (TreeMarks x) not = refl
+not_snapshot (OpensOne x) not = refl
+not_snapshot (Snapshots x) not = absurd (not x refl)
+not_snapshot (TreeClears x) not = refl
+
+-- an event of an operation that is no snapshot leaves the last snapshot
+leaves_last : (begins : Option Op) (phase : Phase) (hook : HookAnswer) (found : ℕ) (x : Numbered) (xs : SeatItems) → is_of_snapshot phase ≡ false →
+    (own_view (items_after begins phase hook found (x ∷ xs))).snapshot ≡ x.view.snapshot
+leaves_last None phase hook found x xs other =
+    ap (λ taken. last_snapshot taken x.view.actions (done_by xs) x.view.snapshot)
+    (other_completes phase x.view.trace (found_by (next_of phase hook).1 found) other)
+leaves_last (Some op) phase hook found x xs other =
+    ap (λ taken. last_snapshot taken x.view.actions (done_by xs) x.view.snapshot)
+    (other_completes phase [] (found_by (next_of phase hook).1 found) other)
+
+-- so the room stays as it is
+pub follows_other : (r : Rooms) (phase : Phase) (found_there : ℕ) → is_of_snapshot phase ≡ false → (nodes : ℕ) (begins : Option Op)
+    (hook : HookAnswer) (found : ℕ) (items : SeatItems) → 1 ≤ length items → RoomTells nodes r begins (Some phase) items →
+    RoomTells nodes r None (phase_after (after_of phase found_there hook).0) (items_after begins phase hook found items)
+follows_other r phase found_there other nodes begins hook found [] there h = absurd (omega arith)
+follows_other r phase found_there other nodes begins hook found (x ∷ xs) there h = record {
+  room = h.room;
+  last = subst (LastTells r) (sym (leaves_last begins phase hook found x xs other)) h.last;
+  next = next_tells r (trace_so_far None (own_view (items_after begins phase hook found (x ∷ xs)))) (after_of phase found_there hook).0
+      (goes_on_other phase found_there hook other);
+}
 
 -- a room that has nothing yet, of a task that has none
 pub room_new : (nodes : ℕ) (r : Rooms) (begins : Option Op) (phase : Option Phase) (items : SeatItems) → HasSnapshotRoom nodes r →

@@ -89,7 +89,10 @@ impl Rooms {
             RoomTells nodes self.old begins (Some phase) items →
             RoomTells nodes self.new None (phase_after (after_of phase event.found hook).0) (items_after begins phase hook found items) }
     {
-        if let Phase::Trees(TreePhase::Snapshot(snapshot)) = phase {
+        let Phase::Trees(call) = phase else {
+            return;
+        };
+        if let TreePhase::Snapshot(snapshot) = call {
             self.note(snapshot, event);
         }
     }

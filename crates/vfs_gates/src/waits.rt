@@ -212,7 +212,6 @@ impl Task {
     /// # Errors
     ///
     /// Invalid, and Order where an operation is under way, as `begin`.
-    #[tactic(auto, using(gate_steps::proofs::call_events::Running::was_told))]
     pub fn callback<R: Wait>(&mut self, rt: &R, gates: &Gates, level: u8) -> Result<bool, GateError>
         requires { IsFrom self.old gates.now }
         ensures { Replies ran_of (CallbackOp level) self.old self.new result }

@@ -25,3 +25,11 @@ returns-clause-levels c i is l1 l3 = let w = c.self.inside in let ws = slots_ite
     ap (λ (v : ℕ). Some v)
     (c.loop-cpu.invariant ∙ (ap (λ (n : ℕ). sum n c.args.gate) all ∙
     (ap (λ (g : Gate). sum w.config.processors g) is ∙ level_sums_to_none w.config ws c.self.invariant.4 i l1 l3)))
+
+pub returns-clause-there : goal.returns-clause-there
+returns-clause-there c there = let w = c.self.inside in
+    let all : c.loop-cpu.cpu ≡ w.config.processors = (let x = c.loop-cpu.auto in let y = c.loop-cpu-test.false in omega arith) in
+    subst (λ (e : Ending). Some c.loop-cpu.sum ≡
+    Some (total e.config.processors (λ p. slice_index e.words (stride * place (count_word c.args.gate p))) % 18446744073709551616)) c.self.view_is
+    (ap (λ (v : ℕ). Some v) (c.loop-cpu.invariant ∙
+    ap (λ (n : ℕ). total n (λ p. slice_index (slots_items w.closed.words) (stride * place (count_word c.args.gate p))) % 18446744073709551616) all))

@@ -1,10 +1,10 @@
-use Rattle.std.proofs.Common.{◌≡◌, ℕ, refl, length, set, false, arith, sym, ap, ◌∙◌, subst, None}
+use Rattle.std.proofs.Common.{◌≡◌, ◌≤◌, ℕ, refl, length, set, false, arith, sym, ap, ◌∙◌, subst, None}
 use Rattle.gate_world.specs.declared.views.View.{View}
-use Rattle.gate_steps.specs.Seating.{SeatItems}
+use Rattle.gate_steps.specs.Seating.{SeatItems, times}
 use Rattle.gate_steps.specs.call_events.Ties.{Ties}
-use Rattle.vfs_gates.proofs.Parting.{split_self, split_new, lowest_there, none_begun}
+use Rattle.vfs_gates.proofs.Parting.{split_self, split_new, lowest_there, none_begun, none_there}
 use Rattle.gate_steps.specs.call_events.Seat.{Seat}
-use Rattle.vfs_gates.specs.TaskStates.{TaskState, task_state, own_number, own_view, Empty}
+use Rattle.vfs_gates.specs.TaskStates.{TaskState, task_state, own_number, own_view, spare_of, Empty}
 use Rattle.vfs_gates.specs.Parts.{SplitOf}
 use Rattle.vfs_gates.proofs.Rooming.{given_unseen, kept_view, room_new, room_same}
 use Rattle.vfs_gates.proofs.Resting.{given_empty}
@@ -81,3 +81,37 @@ returns-clause-rests c =
             (subst (λ (s : TaskState). Empty s.config (own_view s.items)) (sym c.self.view_is) rests.1),
       )),
     )
+
+pub returns-in_default : goal.returns-in_default
+returns-in_default c =
+    let old = c.self.inside in record {
+      table = refl;
+      config = refl;
+      from = tt;
+      made = tt;
+      refused = (
+        refl,
+        (
+          c.if-not-is_idle.ensures.0 refl,
+          λ n. subst (λ (s : TaskState). times n (spare_of s.items) ≡ 0) c.self.view_is
+              (none_there old.number old.config old.begins old.kept old.spare old.seat.me.0 c.self.invariant.0 c.in_default.ensures.none n),
+        ),
+      );
+      rests = tt;
+    }
+
+pub returns-in_default-new : goal.returns-in_default-new
+returns-in_default-new c =
+    let old = c.self.inside in
+    let n : ℕ = c.in-Some.number in
+    let low = c.in-Some.ensures.some in
+    let spares = lowest_there old.number old.config old.begins old.kept old.spare old.seat.me.0 n c.self.invariant.0 low.1 low.2 in
+    let there : 1 ≤ times n (spare_of c.args.self.now.items) =
+    subst (λ (s : TaskState). 1 ≤ times n (spare_of s.items)) c.self.view_is spares.0 in record {
+      table = refl;
+      config = refl;
+      from = tt;
+      made = tt;
+      refused = (refl, (c.if-not-is_idle.ensures.0 refl, λ gave. let none : times n (spare_of c.args.self.now.items) ≡ 0 = gave n in absurd (omega arith)));
+      rests = tt;
+    }
