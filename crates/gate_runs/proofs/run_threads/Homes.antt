@@ -1,5 +1,5 @@
 -- What a task that came home has done, once its number was taken back, and what all have done together.
-use Rattle.std.proofs.Common.{◌≡◌, ℕ, suc, ◌+◌, ◌-◌, refl, subst, sym, arith, inl, inr}
+use Rattle.std.proofs.Common.{◌≡◌, ℕ, suc, ◌+◌, ◌-◌, subst, arith, inl, inr}
 use Rattle.std.specs.Prelude.{Result, Ok, Err, IfErr, IfOk, OnOk}
 use Rattle.std.specs.Result.{result_and}
 use Rattle.access_model.specs.declared.errors.GateError.{GateError}
@@ -10,7 +10,7 @@ use Rattle.gate_runs.specs.declared.run_parts.counts.Writes.{Writes}
 use Rattle.gate_runs.specs.declared.run_parts.plans.Plan.{Plan}
 use Rattle.gate_runs.specs.run_parts.Counts.{both}
 use Rattle.gate_runs.specs.run_parts.Meetings.{was_held}
-use Rattle.gate_runs.specs.run_parts.Refusals.{MetBy, RunRefused}
+use Rattle.gate_runs.specs.run_parts.Refusals.{RunRefused}
 use Rattle.gate_runs.specs.declared.run_threads.threads.Met.{Met}
 use Rattle.gate_runs.specs.declared.run_threads.threads.Met.TheVariants.{Remounter, Writer}
 use Rattle.gate_runs.specs.run_threads.Homes.{ComesHome, DoesRounds, Part}

@@ -22,7 +22,7 @@ in_threads-requires-clause-begins g c =
     let tasks : c.config.result.tasks ≡ c.args.plan.tasks = ap (λ (d : Config). d.tasks) c.config.ensures in
     let some : 1 ≤ c.config.result.tasks = omega (arith, tasks, c.args.plan.within.tasks_from) in
     let begun : HasBegun 0 c.in_ok-gates.task = first_begins c.in_ok-gates.task c.config.result some (ap (λ (t : TaskState). t.items) made.1) in
-    search (rules, begun)
+    λ _ _. begun
 
 pub in_threads-requires-clause-gives : goal.in_threads-requires-clause-gives
 in_threads-requires-clause-gives g c =
@@ -31,7 +31,7 @@ in_threads-requires-clause-gives g c =
     let some : 1 ≤ c.config.result.tasks = omega (arith, tasks, c.args.plan.within.tasks_from) in
     let gives : Gives c.in_ok-gates.task 1 c.args.plan.tasks = subst (λ n. Gives c.in_ok-gates.task 1 n) tasks
     (gives_all c.in_ok-gates.task c.config.result some (ap (λ (t : TaskState). t.phase) made.1) (ap (λ (t : TaskState). t.items) made.1)) in
-    search (rules, gives)
+    λ _ _. gives
 
 pub returns-clause-tells : goal.returns-clause-tells
 returns-clause-tells g c =

@@ -1,5 +1,5 @@
 -- the plan is what was asked for
-use Rattle.std.proofs.Common.{◌≡◌, ℕ, subst}
+use Rattle.std.proofs.Common.{◌≡◌, ℕ, refl, subst}
 use Rattle.std.proofs.lemmas.Result.{err_from_is_err_and}
 use Rattle.gate_runs.specs.declared.run_parts.plans.Plan.{Plan}
 use Rattle.gate_runs.specs.run_parts.Meetings.{unseen}
@@ -32,3 +32,33 @@ returns-in_err-totals-clause-refused g c = λ within.
     let p = err_from_is_err_and c.from_residual-in_err-totals.result c.from_residual-in_err-totals.ensures.1 in
     rw (p.1, p.2) (as_asked (λ tasks processors rounds freezes. RunRefused (run_config tasks processors rounds) tasks processors c.in_err-totals.field-0.0)
     c.in_ok-plan.plan c.args.tasks c.args.processors c.args.rounds c.args.freezes c.in_ok-plan.ensures.asked c.in_err-totals.ensures.refused)
+
+pub returns-clause-within : goal.returns-clause-within
+returns-clause-within g c = c.in_ok-plan.ensures.within
+
+pub returns-clause-invalid : goal.returns-clause-invalid
+returns-clause-invalid g c = λ not. absurd (not c.in_ok-plan.ensures.within)
+
+pub returns-in_err-plan-clause-within : goal.returns-in_err-plan-clause-within
+returns-in_err-plan-clause-within g c = let p = err_from_is_err_and c.from_residual.result c.from_residual.ensures.1 in rw p.1 tt
+
+pub returns-in_err-plan-clause-invalid : goal.returns-in_err-plan-clause-invalid
+returns-in_err-plan-clause-invalid g c = λ not.
+    let p = err_from_is_err_and c.from_residual.result c.from_residual.ensures.1 in rw (p.1, p.2, c.in_err-plan.ensures.refused.0) refl
+
+pub returns-in_err-plan-clause-refused : goal.returns-in_err-plan-clause-refused
+returns-in_err-plan-clause-refused g c = λ within. absurd (c.in_err-plan.ensures.refused.1 within)
+
+pub returns-in_err-plan-clause-tells : goal.returns-in_err-plan-clause-tells
+returns-in_err-plan-clause-tells g c = let p = err_from_is_err_and c.from_residual.result c.from_residual.ensures.1 in rw p.1 tt
+
+pub returns-in_err-totals-clause-within : goal.returns-in_err-totals-clause-within
+returns-in_err-totals-clause-within g c =
+    let p = err_from_is_err_and c.from_residual-in_err-totals.result c.from_residual-in_err-totals.ensures.1 in rw p.1 tt
+
+pub returns-in_err-totals-clause-invalid : goal.returns-in_err-totals-clause-invalid
+returns-in_err-totals-clause-invalid g c = λ not. absurd (not c.in_ok-plan.ensures.within)
+
+pub returns-in_err-totals-clause-tells : goal.returns-in_err-totals-clause-tells
+returns-in_err-totals-clause-tells g c =
+    let p = err_from_is_err_and c.from_residual-in_err-totals.result c.from_residual-in_err-totals.ensures.1 in rw p.1 tt

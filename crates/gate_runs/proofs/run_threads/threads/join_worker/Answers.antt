@@ -1,5 +1,5 @@
 -- the task that comes back has done its part
-use Rattle.std.proofs.Common.{◌≡◌, ◌∙◌, subst}
+use Rattle.std.proofs.Common.{subst}
 use Rattle.std.specs.Prelude.{IfErr}
 use Rattle.vfs_gates.specs.declared.Gates.{Gates}
 use Rattle.gate_runs.specs.run_parts.Refusals.{RunRefused}

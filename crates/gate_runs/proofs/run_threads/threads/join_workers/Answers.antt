@@ -1,5 +1,5 @@
 -- the last of those that were left has done its part
-use Rattle.std.proofs.Common.{◌≡◌, ◌+◌, ◌-◌, arith, subst, sym, ◌∙◌, [], vec_len, suc}
+use Rattle.std.proofs.Common.{◌≡◌, ◌+◌, ◌-◌, arith, subst, ◌∙◌, [], vec_len, suc}
 use Rattle.std.proofs.lemmas.Result.{err_from_is_err_and}
 use Rattle.gate_runs.specs.declared.run_parts.plans.Plan.{Plan}
 use Rattle.gate_runs.specs.run_parts.Refusals.{RunRefused}

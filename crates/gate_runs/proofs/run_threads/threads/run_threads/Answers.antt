@@ -1,9 +1,8 @@
 -- each task has done its part, and stands among the numbers that were taken back
-use Rattle.std.proofs.Common.{rules, arith, ◌∙◌, subst, ◌≡◌, ◌-◌}
+use Rattle.std.proofs.Common.{arith, ◌∙◌}
 use Rattle.gate_runs.specs.run_parts.Splitting.{Gives}
 use Rattle.gate_runs.specs.run_parts.Counts.{no_copies}
 use Rattle.gate_runs.specs.run_parts.Meetings.{was_frozen}
-use Rattle.gate_runs.specs.run_threads.Parts.{Among}
 use Rattle.gate_runs.proofs.run_threads.Staying.{backs_stay, creates_stay, gives_stay, is_among}
 use Rattle.gate_runs.proofs.run_threads.threads.run_threads.Goals as goal
 
@@ -11,7 +10,7 @@ pub start_workers-requires-clause-gives : goal.start_workers-requires-clause-giv
 start_workers-requires-clause-gives g c =
     let gives : Gives c.create_files.new.task 1 c.args.plan.tasks =
     gives_stay _ _ 1 _ (creates_stay _ _ _ c.in_ok-create_files.ensures.created) c.requires.gives in
-    search (rules, gives)
+    λ _ _. gives
 
 pub returns-clause-all : goal.returns-clause-all
 returns-clause-all g c =
