@@ -18,7 +18,13 @@ pub(crate) fn is_word(word: &[u8], text: &str) -> bool
 pub fn word_count(line: &[u8]) -> usize
     ensures { result ≡ word_count line.now }
 {
-    1 + line.iter().filter(|byte| **byte == SPACE).count()
+    let mut words = 1;
+    for byte in line {
+        if *byte == SPACE {
+            words += 1;
+        }
+    }
+    words
 }
 
 /// Where the first space is.
