@@ -394,9 +394,12 @@ impl Model {
         requires { mount < (limits_of self.now).mounts }
         ensures { IsTrue result ↔ NobodyHolds (limits_of self.now) (state_of self.now) (Mount mount) }
     {
-        self.accesses
-            .iter()
-            .all(|held| held.mounts[mount as usize] == 0)
+        for held in &self.accesses {
+            if held.mounts[mount as usize] > 0 {
+                return false;
+            }
+        }
+        true
     }
 
     /// Whether nobody is inside a level.
@@ -404,9 +407,12 @@ impl Model {
         requires { IsLevel level }
         ensures { IsTrue result ↔ NobodyHolds (limits_of self.now) (state_of self.now) (Level level) }
     {
-        self.accesses
-            .iter()
-            .all(|held| !held.levels[level as usize])
+        for held in &self.accesses {
+            if held.levels[level as usize] {
+                return false;
+            }
+        }
+        true
     }
 
     /// Whether nobody holds an access at any mount.
@@ -414,25 +420,36 @@ impl Model {
         ensures { IsTrue result ↔
             ((m : ℕ) → m < (limits_of self.now).mounts → NobodyHolds (limits_of self.now) (state_of self.now) (Mount m)) }
     {
-        (0..self.mounts).all(|mount| self.is_mount_free(mount))
+        for mount in 0..self.mounts {
+            if !self.is_mount_free(mount) {
+                return false;
+            }
+        }
+        true
     }
 
     /// Whether no node is dirty.
     fn is_clean(&self) -> bool
         ensures { IsTrue result ↔ IsClean (limits_of self.now) (state_of self.now) }
     {
-        self.nodes
-            .iter()
-            .all(|node| !matches!(node, Some(info) if info.dirty))
+        for node in &self.nodes {
+            if matches!(node, Some(info) if info.dirty) {
+                return false;
+            }
+        }
+        true
     }
 
     /// Whether no file is removed.
     fn is_none_removed(&self) -> bool
         ensures { IsTrue result ↔ NoneRemoved (limits_of self.now) (state_of self.now) }
     {
-        self.nodes
-            .iter()
-            .all(|node| !matches!(node, Some(info) if info.removed))
+        for node in &self.nodes {
+            if matches!(node, Some(info) if info.removed) {
+                return false;
+            }
+        }
+        true
     }
 
     /// Whether a file is removed.
@@ -495,7 +512,12 @@ impl Model {
         ensures { IsTrue result ↔ ((j : ℕ) → level ≤ j → j ≤ 3 → (state_of self.now).levels task j ≡ false) }
     {
         let inside = self.accesses[task as usize].levels;
-        (level..4).all(|later| !inside[later as usize])
+        for later in level..4 {
+            if inside[later as usize] {
+                return false;
+            }
+        }
+        true
     }
 
     /// Whether a task may get an access at a gate now.

@@ -25,10 +25,16 @@ pub enum Front {
 }
 
 /// Where the first newline is.
+#[tactic(auto, using(std::proofs::lemmas::List::Sums::position_or_len_is))]
 fn first_newline(bytes: &[u8]) -> Option<usize>
     ensures { result ≡ position is_newline bytes.now }
 {
-    bytes.iter().position(|byte| *byte == NEWLINE)
+    for (index, byte) in bytes.iter().enumerate() {
+        if *byte == NEWLINE {
+            return Some(index);
+        }
+    }
+    None
 }
 
 /// The bytes among which the newline of a line that isn't too long is.

@@ -23,17 +23,17 @@ impl Output {
             WordName::Remount => self.text(b"remount"),
             WordName::Removed => self.text(b"removed"),
             WordName::MountFlags(mount) => {
-                self.numbered(b"mount", u64::from(mount));
+                self.indexed(b"mount", mount);
                 self.text(b".flags");
             }
             WordName::MountCount(mount, cpu) => self.count_name(b"mount", mount, cpu),
-            WordName::Block(level) => self.numbered(b"block", u64::from(level)),
-            WordName::Sync(level) => self.numbered(b"sync", u64::from(level)),
+            WordName::Block(level) => self.indexed(b"block", level),
+            WordName::Sync(level) => self.indexed(b"sync", level),
             WordName::LevelCount(level, cpu) => self.count_name(b"level", level, cpu),
-            WordName::Section(task) => self.numbered(b"section", u64::from(task)),
+            WordName::Section(task) => self.indexed(b"section", task),
             WordName::Used => self.text(b"used"),
-            WordName::Node(node) => self.numbered(b"node", u64::from(node)),
-            WordName::Kids(node) => self.numbered(b"kids", u64::from(node)),
+            WordName::Node(node) => self.indexed(b"node", node),
+            WordName::Kids(node) => self.indexed(b"kids", node),
         }
     }
 
@@ -41,8 +41,8 @@ impl Output {
     fn count_name(&mut self, gate: &[u8], number: u8, cpu: u8)
         ensures { Prints self.old self.new (count_name gate.now number cpu) }
     {
-        self.numbered(gate, u64::from(number));
-        self.numbered(b".cpu", u64::from(cpu));
+        self.indexed(gate, number);
+        self.indexed(b".cpu", cpu);
     }
 
     /// A word with its value, on a line of its own.
@@ -116,19 +116,19 @@ impl Output {
             Action::MountRw(mount) => self.mount_state(mount, b" rw"),
             Action::SbRo => self.text(b"sb ro"),
             Action::SbRw => self.text(b"sb rw"),
-            Action::Stage(stage) => self.numbered(b"stage ", u64::from(stage)),
+            Action::Stage(stage) => self.indexed(b"stage ", stage),
             Action::Hold(holder) => self.held(b"hold", holder),
             Action::Leave(holder) => self.held(b"leave", holder),
-            Action::Pass(level) => self.numbered(b"pass ", u64::from(level)),
-            Action::Reopen(level) => self.numbered(b"reopen ", u64::from(level)),
+            Action::Pass(level) => self.indexed(b"pass ", level),
+            Action::Reopen(level) => self.indexed(b"reopen ", level),
             Action::Create { node, dir, kind } => self.created(node, dir, kind),
-            Action::Remove(node) => self.numbered(b"remove ", u64::from(node)),
+            Action::Remove(node) => self.indexed(b"remove ", node),
             Action::Grow { node, blocks } => self.pair(b"grow ", node, u64::from(blocks)),
             Action::MoveTo { node, dir } => self.pair(b"move ", node, u64::from(dir)),
-            Action::Dirty(node) => self.numbered(b"dirty ", u64::from(node)),
-            Action::Clean(node) => self.numbered(b"clean ", u64::from(node)),
-            Action::Open(node) => self.numbered(b"open ", u64::from(node)),
-            Action::Close(node) => self.numbered(b"close ", u64::from(node)),
+            Action::Dirty(node) => self.indexed(b"dirty ", node),
+            Action::Clean(node) => self.indexed(b"clean ", node),
+            Action::Open(node) => self.indexed(b"open ", node),
+            Action::Close(node) => self.indexed(b"close ", node),
         }
     }
 
@@ -137,15 +137,15 @@ impl Output {
     {
         self.text(name);
         match gate {
-            Gate::Mount(mount) => self.numbered(b"mount ", u64::from(mount)),
-            Gate::Level(level) => self.numbered(b"level ", u64::from(level)),
+            Gate::Mount(mount) => self.indexed(b"mount ", mount),
+            Gate::Level(level) => self.indexed(b"level ", level),
         }
     }
 
     fn mount_state(&mut self, mount: u8, state: &[u8])
         ensures { Prints self.old self.new (numbered (codes "mount ") mount ++ state.now) }
     {
-        self.numbered(b"mount ", u64::from(mount));
+        self.indexed(b"mount ", mount);
         self.text(state);
     }
 
@@ -160,7 +160,7 @@ impl Output {
     fn pair(&mut self, name: &[u8], node: u8, second: u64)
         ensures { Prints self.old self.new (pair_text name.now node second) }
     {
-        self.numbered(name, u64::from(node));
+        self.indexed(name, node);
         self.numbered(b" ", second);
     }
 
@@ -189,7 +189,7 @@ impl Output {
     {
         match reply {
             Reply::Unit => self.text(b" ok"),
-            Reply::Node(node) => self.numbered(b" ok node ", u64::from(node)),
+            Reply::Node(node) => self.indexed(b" ok node ", node),
             Reply::Ran(true) => self.text(b" ok ran"),
             Reply::Ran(false) => self.text(b" ok none"),
             Reply::Tree => self.numbered(b" ok used ", used),
@@ -243,8 +243,8 @@ impl Output {
     pub fn model_line(&mut self, stage: u8, passed: u8, sb_ro: bool)
         ensures { Prints self.old self.new (model_line stage passed sb_ro) }
     {
-        self.numbered(b"model stage ", u64::from(stage));
-        self.numbered(b" passed ", u64::from(passed));
+        self.indexed(b"model stage ", stage);
+        self.indexed(b" passed ", passed);
         self.text(if sb_ro { b" sb ro\n" } else { b" sb rw\n" });
     }
 
@@ -253,7 +253,7 @@ impl Output {
     pub fn read_only_mount_line(&mut self, mount: u8)
         ensures { Prints self.old self.new (read_only_mount_line mount) }
     {
-        self.numbered(b"mount ", u64::from(mount));
+        self.indexed(b"mount ", mount);
         self.text(b" ro\n");
     }
 
@@ -262,8 +262,8 @@ impl Output {
     pub fn held_mount_line(&mut self, task: u8, mount: u8, count: u16)
         ensures { Prints self.old self.new (held_mount_line task mount count) }
     {
-        self.numbered(b"task ", u64::from(task));
-        self.numbered(b" mount ", u64::from(mount));
+        self.indexed(b"task ", task);
+        self.indexed(b" mount ", mount);
         self.numbered(b" ", u64::from(count));
         self.text(b"\n");
     }
@@ -273,8 +273,8 @@ impl Output {
     pub fn held_level_line(&mut self, task: u8, level: u8)
         ensures { Prints self.old self.new (held_level_line task level) }
     {
-        self.numbered(b"task ", u64::from(task));
-        self.numbered(b" level ", u64::from(level));
+        self.indexed(b"task ", task);
+        self.indexed(b" level ", level);
         self.text(b"\n");
     }
 
@@ -283,8 +283,8 @@ impl Output {
     pub fn open_file_line(&mut self, task: u8, file: u8)
         ensures { Prints self.old self.new (open_file_line task file) }
     {
-        self.numbered(b"task ", u64::from(task));
-        self.numbered(b" open ", u64::from(file));
+        self.indexed(b"task ", task);
+        self.indexed(b" open ", file);
         self.text(b"\n");
     }
 
@@ -293,9 +293,9 @@ impl Output {
     pub fn node_line(&mut self, node: u8, info: NodeInfo)
         ensures { Prints self.old self.new (node_line node info) }
     {
-        self.numbered(b"node ", u64::from(node));
+        self.indexed(b"node ", node);
         self.text(kind_name(info.kind));
-        self.numbered(b" ", u64::from(info.parent));
+        self.indexed(b" ", info.parent);
         self.numbered(b" ", u64::from(info.size));
         self.text(if info.dirty { b" dirty" } else { b" clean" });
         self.text(if info.removed { b" removed\n" } else { b"\n" });

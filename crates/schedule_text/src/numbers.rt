@@ -9,19 +9,17 @@ ghost use Rattle.schedule_text.specs.Numbers.{is_digits, number_of, byte_of, cod
 /// The most digits that a number may have.
 const DIGITS: usize = 10;
 
-/// Whether all bytes are digits.
-fn are_digits(word: &[u8]) -> bool
-    ensures { result ≡ list_all is_ascii_digit word.now }
-{
-    word.iter().all(|byte| byte.is_ascii_digit())
-}
-
 /// Whether a word is of digits alone, and not empty.
 #[tactic(auto, unfolding(crate::specs::Numbers::is_digits))]
 pub fn is_digits(word: &[u8]) -> bool
     ensures { result ≡ is_digits word.now }
 {
-    !word.is_empty() && are_digits(word)
+    for byte in word {
+        if !byte.is_ascii_digit() {
+            return false;
+        }
+    }
+    !word.is_empty()
 }
 
 /// What the digits write.

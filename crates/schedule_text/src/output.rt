@@ -88,6 +88,13 @@ impl Output {
         self.number(number);
     }
 
+    /// Prints a text and the number of a task, a mount, a level, a processor or a node right after it.
+    pub(crate) fn indexed(&mut self, text: &[u8], index: u8)
+        ensures { Prints self.old self.new (text.now ++ decimal index) }
+    {
+        self.numbered(text, u64::from(index));
+    }
+
     /// Whether there was memory for all that was printed. An error stays until what was printed is forgotten.
     pub fn settled(&self) -> Result<(), AllocError>
         ensures whole { OnOk result (self.now.is_whole ≡ true) }

@@ -1,7 +1,7 @@
 //! Words of a line. They are separated by one space, so two spaces have an empty word between them.
 
 ghost use Rattle.std.specs.Prelude.{◌≡◌, ◌≤◌, length, bytes_eq};
-ghost use Rattle.std.specs.List.{position, position_or_len};
+ghost use Rattle.std.specs.List.{position_or_len};
 ghost use Rattle.schedule_text.specs.Words.{is_space, first_word, after_word, word_count};
 
 const SPACE: u8 = b' ';
@@ -18,25 +18,27 @@ pub(crate) fn is_word(word: &[u8], text: &str) -> bool
 pub fn word_count(line: &[u8]) -> usize
     ensures { result ≡ word_count line.now }
 {
-    1 + line.iter().filter(|byte| **byte == SPACE).count()
-}
-
-/// Where the first space is.
-fn first_space(text: &[u8]) -> Option<usize>
-    ensures { result ≡ position is_space text.now }
-{
-    text.iter().position(|byte| *byte == SPACE)
+    let mut words = 1;
+    for byte in line {
+        if *byte == SPACE {
+            words += 1;
+        }
+    }
+    words
 }
 
 /// Where the first word ends.
+#[tactic(auto, using(std::proofs::lemmas::List::Sums::position_or_len_is))]
 fn word_end(text: &[u8]) -> usize
     ensures end { result ≡ position_or_len is_space text.now }
     ensures within { result ≤ length text.now }
 {
-    match first_space(text) {
-        Some(end) => end,
-        None => text.len(),
+    for (index, byte) in text.iter().enumerate() {
+        if *byte == SPACE {
+            return index;
+        }
     }
+    text.len()
 }
 
 /// The first word: all bytes before the first space.

@@ -1,4 +1,5 @@
 pub mod Playing
+pub mod Opening
 pub mod Showing
 pub mod Texts
 pub mod Running
