@@ -1,10 +1,10 @@
 -- What follows from a command line that was parsed.
-use Rattle.std.proofs.Common.{◌≡◌, refl, sym, ap, ap₂, ◌∙◌, ℕ, ◌<◌, ◌≤◌, ◌+◌, Bool, true, false, ◌&&◌, List, [], ◌∷◌, ◌++◌, append_assoc, length, map, take}
-use Rattle.std.proofs.{Common.{get_or, Option, Some, None, codes, option_map}, lemmas.{Bool.false≢true, List.{map-append, take_all, take_more}}}
+use Rattle.std.proofs.Common.{◌≡◌, refl, sym, ap, ap₂, ◌∙◌, ℕ, ◌<◌, ◌≤◌, ◌+◌, Bool, true, false, ◌&&◌, List, [], ◌∷◌, ◌++◌, length, map, take}
+use Rattle.std.proofs.{Common.{Bor, get_or, Option, Some, None, codes, option_map}, lemmas.{Bool.false≢true, List.{map-append, take_all, take_more}}}
 use Rattle.std.proofs.lemmas.Slice.Eq.{bytes_eq-Decides}
 use Rattle.std.specs.{Option.option_map_or, Prelude.{IsSomeAnd, not, is_some}, Str.bytes_eq}
 use Rattle.clap.specs.{Simple.new_shape, Words.{AddsArg, AddsSubcommand, App, Rule, Shape, Text, app_of, is_simple, rule_of, with_rule, with_subcommand}}
-use Rattle.clap.specs.declared.builder.{arg.Arg.Arg, command.Command.Command, range.ValueRange.ValueRange}
+use Rattle.clap.specs.declared.builder.{action.ArgAction.ArgAction, arg.Arg.Arg, command.Command.Command, range.ValueRange.ValueRange, texts.Texts.TheVariants.One, value_parser.ValueParser.ValueParser}
 use Rattle.clap.proofs.OnLiterals.{clap_on_literals}
 use Rattle.command_line.specs.CommandLine.{alone, argument_rule, ask_plainly, mntgate_app, subcommand_shape}
 use Rattle.command_line.specs.declared.words.{Asked.TheVariants.Replay as AsksReplay, Form.Form, Replay.Replay, Argument.Argument, Subcommand.Subcommand}
@@ -58,6 +58,58 @@ range_there (Some v) r h = let some : ValueRange → Option ValueRange = Some in
 third : (a b g d : Bool) → (a && (b && (not g && d))) ≡ true → g ≡ false
 third a b g d h = is_false g (and_left (not g) d (and_right b (not g && d) (and_right a (b && (not g && d)) h)))
 
+-- what the parser knows of an argument, which is of its command alone
+pub record IsMade (a : Arg) (r : Rule) : Type 0 where
+  pub rule : rule_of a ≡ r
+  pub local : a.global ≡ false
+
+-- the steps of its making
+module _ (a b : Arg) (r : Rule) (made : IsMade a r) where
+  is_local : (c : Arg) → b ≡ c → c.global ≡ a.global → b.global ≡ false
+  is_local c is same = ap (λ (x : Arg). x.global) is ∙ same ∙ made.local
+
+  pub helped : (help : Bor (List ℕ)) → b ≡ record a { help = Some help } → IsMade b r
+  helped help is = record { rule = ap rule_of is ∙ made.rule; local = is_local _ is refl }
+
+  pub named : (name : Bor (List ℕ)) → b ≡ record a { long = Some name } → IsMade b (record r { long = Some name.now })
+  named name is = record {
+    rule = ap rule_of is ∙ ap (λ (r : Rule). let x : Rule = record r { long = Some name.now } in x) made.rule;
+    local = is_local _ is refl;
+  }
+
+  pub acted : (action : ArgAction) → b ≡ record a { action = Some action } → IsMade b (record r { action = Some action })
+  acted action is = record {
+    rule = ap rule_of is ∙ ap (λ (r : Rule). let x : Rule = record r { action = Some action } in x) made.rule;
+    local = is_local _ is refl;
+  }
+
+  pub valued : (value : Bor (List ℕ)) → b ≡ record a { val_names = One value } → IsMade b (record r { value_names = 1 })
+  valued value is = record {
+    rule = ap rule_of is ∙ ap (λ (r : Rule). let x : Rule = record r { value_names = 1 } in x) made.rule;
+    local = is_local _ is refl;
+  }
+
+  pub parsed : (parser : Option ValueParser) → b ≡ record a { value_parser = b.value_parser } → b.value_parser ≡ parser →
+      IsMade b (record r { parser = parser })
+  parsed parser is by = record {
+    rule = ap rule_of is ∙ ap (λ (r : Rule). let x : Rule = record r { parser = b.value_parser } in x) made.rule
+        ∙ ap (λ (p : Option ValueParser). let x : Rule = record r { parser = p } in x) by;
+    local = is_local _ is refl;
+  }
+
+  pub ranged : (range : Option ValueRange) → b ≡ record a { num_vals = b.num_vals } → b.num_vals ≡ range → IsMade b (record r { range = range })
+  ranged range is by = record {
+    rule = ap rule_of is ∙ ap (λ (r : Rule). let x : Rule = record r { range = b.num_vals } in x) made.rule
+        ∙ ap (λ (o : Option ValueRange). let x : Rule = record r { range = o } in x) by;
+    local = is_local _ is refl;
+  }
+
+  pub required : (needed : Bool) → b ≡ record a { required = needed } → IsMade b (record r { required = needed })
+  required needed is = record {
+    rule = ap rule_of is ∙ ap (λ (r : Rule). let x : Rule = record r { required = needed } in x) made.rule;
+    local = is_local _ is refl;
+  }
+
 -- a command with one argument more
 pub added : (old : Command) (a : Arg) (new : Command) (s : Shape) (r : Rule) → AddsArg old a new → a.global ≡ false →
     app_of old ≡ alone s → rule_of a ≡ r → app_of new ≡ alone (record s { rules = s.rules ++ r ∷ [] })
@@ -107,11 +159,9 @@ with_one_more a [] x = refl
 with_one_more a (y ∷ ys) x = with_one_more (with_subcommand a (subcommand_shape y)) ys x
 
 -- the rules of one argument more
-pub rules_more : (rules : List Rule) (xs : List Argument) (i : ℕ) (d : Argument) → i < length xs →
-    (rules ++ map argument_rule (take i xs)) ++ argument_rule (get_or xs i d) ∷ [] ≡ rules ++ map argument_rule (take (i + 1) xs)
-rules_more rules xs i d h =
-    append_assoc rules (map argument_rule (take i xs)) _
-    ∙ ap (λ (more : List Rule). rules ++ more) (sym (ap (map argument_rule) (take_more xs i d h) ∙ map-append argument_rule (take i xs) _))
+pub rules_more : (xs : List Argument) (i : ℕ) (d : Argument) → i < length xs →
+    map argument_rule (take i xs) ++ argument_rule (get_or xs i d) ∷ [] ≡ map argument_rule (take (i + 1) xs)
+rules_more xs i d h = sym (ap (map argument_rule) (take_more xs i d h) ∙ map-append argument_rule (take i xs) _)
 
 -- a command that has so many of these, and one more
 pub commands_more : (xs : List Subcommand) (i : ℕ) (d : Subcommand) (a new : App) → i < length xs → a ≡ with_all no_commands (take i xs) →

@@ -3,7 +3,7 @@ use Rattle.std.specs.{Option.option_map_or, Prelude.{◌≡◌, ◌&&◌, ℕ, B
 use Rattle.std.specs.Str.{bytes_eq}
 use Rattle.clap.specs.{Lexer.usize_max, Simple.new_shape, Words.{App, Row, Rule, Shape, Text, first_of, new_rule, one_of, subcommand_of, takes}}
 use Rattle.clap.specs.declared.builder.{action.ArgAction.TheVariants.SetTrue, value_parser.ValueParser.TheVariants.Unsigned}
-use Rattle.command_line.specs.declared.words.{Argument.{Argument, TheVariants.{File, Files, Flag, Number, Needed}}, Asked.Asked}
+use Rattle.command_line.specs.declared.words.{Argument.{Argument, TheVariants.{File, Files, Flag, Number}}, Asked.Asked}
 use Rattle.command_line.specs.declared.words.{Asked.TheVariants.Replay as AsksReplay, Form.TheVariants.Plain, Replay.Replay, Subcommand.Subcommand}
 
 -- a flag, which is left out or given once
@@ -31,8 +31,7 @@ abbrev pub argument_rule : Argument → Rule
 argument_rule (File help) = file_rule
 argument_rule (Files help) = files_rule
 argument_rule (Flag name help) = flag_rule name.now
-argument_rule (Number name value least most help) = number_rule name.now least most
-argument_rule (Needed name least most help) = needed_rule name.now least most
+argument_rule (Number name value least most needed help) = record (number_rule name.now least most) { required = needed }
 
 -- a command with its arguments
 abbrev pub command_of : Text → List Rule → Shape

@@ -1,9 +1,9 @@
 //! The words of a command line.
 
-ghost use Rattle.std.specs.Prelude.{◌≡◌, ◌⊎◌, ◌++◌, true, false, Some, IfOk, map, codes, string_bytes};
-ghost use Rattle.clap.specs.Words.{Shape, app_of, found_of, kind_of, one_of, rows_of, rule_of, subcommand_rows_of};
+ghost use Rattle.std.specs.Prelude.{◌≡◌, ◌⊎◌, true, false, Some, IfOk, map, codes, string_bytes};
+ghost use Rattle.clap.specs.Words.{app_of, found_of, kind_of, one_of, rows_of, rule_of, subcommand_rows_of};
 ghost use Rattle.clap.specs.declared.error.kind.ErrorKind.TheVariants.{OutOfMemory};
-ghost use Rattle.command_line.specs.CommandLine.{AreBare, IsBareReplay, IsPlainOfInput, MayAskPlainly, alone, are_plain, argument_rule, ask_plainly, flag_rule, is_off, is_plain_replay, mntgate_app, number_rule, subcommand_shape};
+ghost use Rattle.command_line.specs.CommandLine.{AreBare, IsBareReplay, IsPlainOfInput, MayAskPlainly, alone, are_plain, argument_rule, ask_plainly, is_off, is_plain_replay, mntgate_app, subcommand_shape};
 ghost use Rattle.command_line.specs.declared.words.Asked.TheVariants.{Misused, Unread};
 ghost use Rattle.command_line.specs.declared.words.Form.TheVariants.{Plain};
 
@@ -62,10 +62,8 @@ enum Argument {
     Files(&'static str),
     /// A flag of this name.
     Flag(&'static str, &'static str),
-    /// An option of this name with a number, which help calls so, from the least to the most.
-    Number(&'static str, &'static str, u64, u64, &'static str),
-    /// The same, which has to be there, and whose number has no name of its own.
-    Needed(&'static str, u64, u64, &'static str),
+    /// An option of this name with a number, which help calls so, from the least to the most; and whether it has to be there.
+    Number(&'static str, &'static str, u64, u64, bool, &'static str),
 }
 
 const SUBCOMMANDS: [Subcommand; 4] = [
@@ -111,6 +109,7 @@ const SUBCOMMANDS: [Subcommand; 4] = [
                 "STATES",
                 1,
                 4_294_967_295,
+                false,
                 "How many states it may have at most: 1000000, if not given",
             ),
         ],
@@ -119,28 +118,36 @@ const SUBCOMMANDS: [Subcommand; 4] = [
         name: "run",
         about: "Runs writers, a remounter and a backup in threads, and prints what they did",
         arguments: &[
-            Argument::Needed(
+            Argument::Number(
                 "tasks",
+                "N",
                 3,
                 64,
+                true,
                 "Tasks, each in a thread of its own: 3 to 64",
             ),
-            Argument::Needed(
+            Argument::Number(
                 "cpus",
+                "N",
                 1,
                 64,
+                true,
                 "Processors, with count words of their own: 1 to 64",
             ),
-            Argument::Needed(
+            Argument::Number(
                 "rounds",
+                "N",
                 1,
                 10_000,
+                true,
                 "Rounds of each writer and of the remounter: 1 to 10000",
             ),
-            Argument::Needed(
+            Argument::Number(
                 "freezes",
+                "N",
                 0,
                 1_000,
+                true,
                 "Freezes, each with a snapshot: 0 to 1000",
             ),
             Argument::Flag(
@@ -423,25 +430,12 @@ fn command<'a>(alloc: Global) -> Result<Command<'a>, AllocError>
     Ok(program)
 }
 
-/// A command of the program.
+/// A command of the program, with its arguments in their order.
 fn subcommand_of<'a>(alloc: Global, subcommand: &Subcommand) -> Result<Command<'a>, AllocError>
     ensures { IfOk result (λ command. app_of command ≡ alone (subcommand_shape subcommand.now)) }
 {
-    let command = Command::new(alloc, subcommand.name).about(subcommand.about);
-    add_arguments(alloc, command, subcommand.arguments)
-}
-
-/// A command with these arguments, too, in their order.
-fn add_arguments<'a>(
-    alloc: Global,
-    command: Command<'a>,
-    arguments: &[Argument],
-) -> Result<Command<'a>, AllocError>
-    ensures { IfOk result (λ new. (s : Shape) → app_of command.entry ≡ alone s →
-        app_of new ≡ alone (record s { rules = s.rules ++ map argument_rule arguments.now })) }
-{
-    let mut command = command;
-    for argument in arguments {
+    let mut command = Command::new(alloc, subcommand.name).about(subcommand.about);
+    for argument in subcommand.arguments {
         command = command.arg(argument_of(alloc, argument))?;
     }
     Ok(command)
@@ -454,44 +448,18 @@ fn argument_of<'a>(alloc: Global, argument: &Argument) -> Arg<'a>
 {
     match *argument {
         Argument::File(help) => Arg::new(alloc, FILE).help(help),
-        Argument::Files(help) => Arg::new(alloc, FILE).num_args(1..).help(help),
-        Argument::Flag(name, help) => flag(alloc, name, help),
-        Argument::Number(name, value, least, most, help) => {
-            number(alloc, name, value, (least, most), help)
-        }
-        Argument::Needed(name, least, most, help) => {
-            number(alloc, name, "N", (least, most), help).required(true)
-        }
+        Argument::Files(help) => Arg::new(alloc, FILE).help(help).num_args(1..),
+        Argument::Flag(name, help) => Arg::new(alloc, name)
+            .help(help)
+            .long(name)
+            .action(ArgAction::SetTrue),
+        Argument::Number(name, value, least, most, is_needed, help) => Arg::new(alloc, name)
+            .help(help)
+            .long(name)
+            .value_name(value)
+            .value_parser(ValueParser::unsigned(least, most))
+            .required(is_needed),
     }
-}
-
-/// A flag, which is left out or given once.
-fn flag<'a>(alloc: Global, name: &'a str, help: &'a str) -> Arg<'a>
-    ensures rule { rule_of result ≡ flag_rule name.entry.now }
-    ensures local { result.global ≡ false }
-{
-    Arg::new(alloc, name)
-        .long(name)
-        .action(ArgAction::SetTrue)
-        .help(help)
-}
-
-/// An argument that may be left out: a number from the least to the most.
-fn number<'a>(
-    alloc: Global,
-    name: &'a str,
-    value: &'a str,
-    bounds: (u64, u64),
-    help: &'a str,
-) -> Arg<'a>
-    ensures rule { rule_of result ≡ number_rule name.entry.now bounds.0 bounds.1 }
-    ensures local { result.global ≡ false }
-{
-    Arg::new(alloc, name)
-        .long(name)
-        .value_name(value)
-        .value_parser(ValueParser::unsigned(bounds.0, bounds.1))
-        .help(help)
 }
 
 /// Says what is wrong with the command line. That there was no memory to read it is no fault of it.

@@ -1,25 +1,43 @@
-use Rattle.std.proofs.Common.{ap, ◌∙◌, sym, true}
-use Rattle.std.specs.Prelude.{Option}
-use Rattle.clap.specs.Words.{Rule, rule_of}
+use Rattle.std.proofs.Common.{ap, ◌∙◌, sym, Option, Some}
 use Rattle.clap.specs.Lexer.{usize_max}
-use Rattle.clap.specs.declared.builder.range.ValueRange.{ValueRange}
-use Rattle.command_line.specs.CommandLine.{argument_rule, file_rule}
-use Rattle.command_line.proofs.Parsing.{range_there}
+use Rattle.clap.specs.declared.builder.action.ArgAction.TheVariants.{SetTrue}
+use Rattle.clap.specs.declared.builder.{range.ValueRange.ValueRange, value_parser.ValueParser.ValueParser}
+use Rattle.command_line.specs.CommandLine.{argument_rule}
+use Rattle.command_line.proofs.Parsing.{acted, helped, named, parsed, range_there, ranged, required, valued}
 use Rattle.command_line.proofs.words.argument_of.Goals as goal
 
-pub returns-in-File-clause-rule : goal.returns-in-File-clause-rule
-returns-in-File-clause-rule c = ap rule_of c.help.ensures ∙ c.new.ensures.rule ∙ ap argument_rule (sym c.in-File.is)
+pub returns-in-File : goal.returns-in-File
+returns-in-File c =
+    let made = helped c.new.result c.help.result _ (record { rule = c.new.ensures.rule; local = c.new.ensures.optional.1 }) _ c.help.ensures in
+    record { rule = made.rule ∙ ap argument_rule (sym c.in-File.is); local = made.local }
 
-pub returns-in-Files-clause-rule : goal.returns-in-Files-clause-rule
-returns-in-Files-clause-rule c =
+pub returns-in-Files : goal.returns-in-Files
+returns-in-Files c =
+    let start = c.new-in-Files in
+    let made = helped start.result c.help-in-Files.result _ (record { rule = start.ensures.rule; local = start.ensures.optional.1 }) _ c.help-in-Files.ensures in
     let of_any : ValueRange = record { start_inclusive = 1; end_inclusive = usize_max } in
     let range = range_there c.num_args.result.num_vals of_any c.num_args.ensures.1 in
-    ap rule_of c.help-in-Files.ensures ∙ ap rule_of c.num_args.ensures.0
-    ∙ ap (λ (r : Rule). let x : Rule = record r { range = c.num_args.result.num_vals } in x) c.new-in-Files.ensures.rule
-    ∙ ap (λ (o : Option ValueRange). let x : Rule = record file_rule { range = o } in x) range
-    ∙ ap argument_rule (sym c.in-Files.is)
+    let made = ranged c.help-in-Files.result c.num_args.result _ made _ c.num_args.ensures.0 range in
+    record { rule = made.rule ∙ ap argument_rule (sym c.in-Files.is); local = made.local }
 
-pub returns-in-Needed-clause-rule : goal.returns-in-Needed-clause-rule
-returns-in-Needed-clause-rule c =
-    ap rule_of c.required.ensures ∙ ap (λ (r : Rule). let x : Rule = record r { required = true } in x) c.number-in-Needed.ensures.rule
-    ∙ ap argument_rule (sym c.in-Needed.is)
+pub returns-in-Flag : goal.returns-in-Flag
+returns-in-Flag c =
+    let start = c.new-in-Flag in
+    let made = helped start.result c.help-in-Flag.result _ (record { rule = start.ensures.rule; local = start.ensures.optional.1 }) _ c.help-in-Flag.ensures in
+    let made = named c.help-in-Flag.result c.long.result _ made _ c.long.ensures in
+    let made = acted c.long.result c.action.result _ made SetTrue c.action.ensures in
+    record { rule = made.rule ∙ ap argument_rule (sym c.in-Flag.is); local = made.local }
+
+pub returns-in-Number : goal.returns-in-Number
+returns-in-Number c =
+    let start = c.new-in-Number in
+    let some : ValueParser → Option ValueParser = Some in
+    let made = helped start.result c.help-in-Number.result _ (record { rule = start.ensures.rule; local = start.ensures.optional.1 }) _
+    c.help-in-Number.ensures in
+    let made = named c.help-in-Number.result c.long-in-Number.result _ made _ c.long-in-Number.ensures in
+    let made = valued c.long-in-Number.result c.value_name.result _ made _ c.value_name.ensures in
+    let parser = c.value_parser.ensures.given in
+    let made = parsed c.value_name.result c.value_parser.result _ made _ c.value_parser.ensures.others
+    (parser.1 ∙ ap some (parser.2 ∙ c.unsigned.ensures)) in
+    let made = required c.value_parser.result c.required.result _ made _ c.required.ensures in
+    record { rule = made.rule ∙ ap argument_rule (sym c.in-Number.is); local = made.local }

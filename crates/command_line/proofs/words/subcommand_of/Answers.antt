@@ -1,12 +1,23 @@
-use Rattle.std.proofs.Common.{◌≡◌, ap, ◌∙◌, []}
-use Rattle.std.proofs.lemmas.Result.{IfOk-weaker}
-use Rattle.clap.specs.Words.{app_of}
+use Rattle.std.proofs.Common.{◌∙◌, List, ap, map, arith}
+use Rattle.std.proofs.lemmas.List.{take_all}
+use Rattle.clap.specs.Words.{Rule}
 use Rattle.clap.specs.Simple.{app_of_fields}
-use Rattle.command_line.specs.CommandLine.{alone, command_of}
+use Rattle.command_line.specs.declared.words.Argument.{Argument}
+use Rattle.command_line.specs.CommandLine.{alone, argument_rule, command_of}
+use Rattle.command_line.proofs.Parsing.{added, rules_more}
 use Rattle.command_line.proofs.words.subcommand_of.Goals as goal
+
+pub loop-argument-init : goal.loop-argument-init
+loop-argument-init c = ap app_of_fields c.about-command.ensures ∙ c.new.ensures.app
+
+pub loop-argument-preserved : goal.loop-argument-preserved
+loop-argument-preserved c =
+    added _ _ _ _ _ c.in_ok-command.ensures c.argument_of.ensures.local c.loop-argument.invariant c.argument_of.ensures.rule
+    ∙ ap (λ (rules : List Rule). alone (command_of c.args.subcommand.now.name.now rules))
+    (rules_more c.args.subcommand.now.arguments.now c.loop-argument.argument-index _ (omega arith))
 
 pub returns : goal.returns
 returns c =
-    let begins : app_of c.about-command.result ≡ alone (command_of c.args.subcommand.now.name.now []) =
-    ap app_of_fields c.about-command.ensures ∙ c.new.ensures.app in
-    IfOk-weaker c.add_arguments.result _ _ (λ new h. h _ begins) c.add_arguments.ensures
+    c.loop-argument.invariant
+    ∙ ap (λ (xs : List Argument). alone (command_of c.args.subcommand.now.name.now (map argument_rule xs)))
+    (take_all c.loop-argument.argument-index c.args.subcommand.now.arguments.now (omega arith))
