@@ -6,7 +6,7 @@ ghost use Rattle.asked_files.specs.Checks.{TellsPassed, count_checked, counts_te
 ghost use Rattle.asked_files.specs.declared.endings.ends.Ending.TheVariants.{Passed, Refused};
 
 use crate::endings::{Ending, why_told};
-use crate::race_texts::check;
+use crate::race_texts::{Checked, check};
 use crate::reading::read_bytes;
 use schedule_text::Output;
 use schedule_text::bytes::write_out;
@@ -44,16 +44,12 @@ impl Checks {
         }
     }
 
-    /// Checks a schedule; what differs is told behind its file, if it has one.
+    /// Checks a schedule, counts it, and tells what differs.
     fn add(&mut self, file: Option<&str>, schedule: &[u8]) -> Result<(), AllocError>
         requires { self.old.passed + self.old.failed + 1 < 2 ^ 64 }
         ensures { OnOk result (self.new.passed + self.new.failed ≡ self.old.passed + self.old.failed + 1) }
     {
-        let mut name = String::new(self.alloc);
-        if let Some(file) = file {
-            write!(name, "{file}: ")?;
-        }
-        let checked = check(self.alloc, name.as_str(), schedule)?;
+        let checked = check_of(self.alloc, file, schedule)?;
         if checked.passed {
             self.passed += 1;
         } else {
@@ -80,6 +76,17 @@ impl Checks {
             Ok(()) => Ok(Ending::Refused),
             Err(fault) => Ok(why_told(fault.text(), errors)),
         }
+    }
+}
+
+/// Checks a schedule; what differs is told behind its file, if it has one.
+fn check_of(alloc: Global, file: Option<&str>, schedule: &[u8]) -> Result<Checked, AllocError> {
+    match file {
+        Some(file) => {
+            let name = format!(in alloc; "{file}: ")?;
+            check(alloc, name.as_str(), schedule)
+        }
+        None => check(alloc, "", schedule),
     }
 }
 

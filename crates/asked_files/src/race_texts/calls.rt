@@ -136,11 +136,12 @@ impl Calls {
         ensures read { OnOk result (added self.old.race.calls.items task op ≡ Ok self.new.race.calls.items) }
         ensures fault { IfErr result (IsToldOrMemory (added self.old.race.calls.items task op)) }
     {
-        let Some(calls) = self.race.calls.get(usize::from(task)).copied() else {
+        let Some(calls) = self.race.calls.get_mut(usize::from(task)) else {
             return Err(RaceFault::Schedule(Fault::NoSuchTask));
         };
-        self.race.calls[usize::from(task)] = with_call(calls, op)?;
-        match self.keep(alloc, task, count_of(&calls) as u8, line) {
+        let turn = count_of(calls) as u8;
+        *calls = with_call(*calls, op)?;
+        match self.keep(alloc, task, turn, line) {
             Ok(()) => Ok(()),
             Err(refused) => Err(RaceFault::Schedule(no_memory(refused))),
         }
@@ -162,10 +163,10 @@ impl Calls {
         ensures read { OnOk result (failing self.old.race.calls.items task failure ≡ Ok self.new.race.calls.items) }
         ensures fault { IfErr result (IsToldOrMemory (failing self.old.race.calls.items task failure)) }
     {
-        let Some(calls) = self.race.calls.get(usize::from(task)).copied() else {
+        let Some(calls) = self.race.calls.get_mut(usize::from(task)) else {
             return Err(RaceFault::Schedule(Fault::NoSuchTask));
         };
-        self.race.calls[usize::from(task)] = with_failure(calls, failure)?;
+        *calls = with_failure(*calls, failure)?;
         Ok(())
     }
 }

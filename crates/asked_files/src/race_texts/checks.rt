@@ -176,8 +176,7 @@ impl Comparison<'_> {
 /// What a line `#> TEXT` says that is printed.
 fn expected_in(line: Option<&[u8]>) -> Option<&[u8]> {
     match line {
-        Some([b'#', b'>', b' ', text @ ..]) => Some(text),
-        Some([b'#', b'>', text @ ..]) => Some(text),
+        Some([b'#', b'>', text @ ..]) => Some(text.strip_prefix(b" ").unwrap_or(text)),
         _ => None,
     }
 }

@@ -25,25 +25,32 @@ pub struct Show<D> {
 impl<D: Driver> Show<D> {
     /// Nothing read and nothing printed yet.
     pub fn new(alloc: Global, form: Form) -> Result<Show<D>, AllocError> {
-        Show::with(alloc, form, None)
+        let input = Input::new(alloc)?;
+        Ok(Show {
+            input,
+            session: None,
+            screen: Screen::new(alloc, form),
+        })
     }
 
     /// Gates that were set up before, with no configuration to be read.
     pub fn over(alloc: Global, form: Form, session: Session<D>) -> Result<Show<D>, AllocError> {
-        Show::with(alloc, form, Some(session))
-    }
-
-    fn with(alloc: Global, form: Form, session: Option<Session<D>>) -> Result<Show<D>, AllocError> {
-        let input = Input::new(alloc)?;
-        let mut screen = Screen::new(alloc, form);
-        if let Some(session) = &session {
-            screen.begin(session.tasks());
+        match Input::new(alloc) {
+            Ok(input) => {
+                let mut screen = Screen::new(alloc, form);
+                screen.begin(session.tasks());
+                Ok(Show {
+                    input,
+                    session: Some(session),
+                    screen,
+                })
+            }
+            Err(refused) => {
+                // By a call: to drop all its parts in line costs the proof more.
+                drop(session);
+                Err(refused)
+            }
         }
-        Ok(Show {
-            input,
-            session,
-            screen,
-        })
     }
 
     /// What was read from the line on that is to be done next; after a fault, from the faulty line on.
