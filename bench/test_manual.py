@@ -28,8 +28,6 @@ def heading(kind, words):
             return f"--{words[0]}"
         case "Number":
             return f"--{words[0]} <{words[1]}>"
-        case "Needed":
-            return f"--{words[0]} <N>"
     sys.exit(f"test_manual: an argument of a kind that no page has: {kind}")
 
 
