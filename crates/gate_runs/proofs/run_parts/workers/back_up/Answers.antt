@@ -1,10 +1,7 @@
 -- one freeze more
-use Rattle.std.proofs.Common.{◌≡◌, ◌+◌, ap, arith, refl, subst, true, ◌∙◌}
-use Rattle.std.proofs.lemmas.Result.{err_from_is_err_and}
-use Rattle.access_model.specs.declared.actions.Holder.TheVariants.{User}
-use Rattle.gate_world.specs.declared.operations.Op.TheVariants.{Freeze, Thaw, Snapshot}
+use Rattle.std.proofs.Common.{◌≡◌, ◌+◌, ap, arith, subst, ◌∙◌}
 use Rattle.gate_runs.specs.declared.run_parts.counts.Copies.{Copies}
-use Rattle.gate_runs.proofs.run_parts.Repeating.{meets, met, one_more, refused_so}
+use Rattle.gate_runs.proofs.run_parts.Repeating.{one_more}
 use Rattle.gate_runs.specs.run_parts.Counts.{blocks_of, no_copies, with_copy, with_waits}
 use Rattle.gate_runs.specs.run_parts.Rounds.{BackupRound, CallsBack, Repeats}
 use Rattle.gate_runs.proofs.run_parts.workers.back_up.Goals as goal
@@ -42,25 +39,3 @@ loop-freeze-preserved g c =
             counts = counts;
           });
     }
-
-pub returns-in_err-freeze-clause-refused : goal.returns-in_err-freeze-clause-refused
-returns-in_err-freeze-clause-refused g c =
-    let p = err_from_is_err_and c.from_residual.result c.from_residual.ensures.1 in
-    rw (p.1, p.2) (meets _ _ _ (Freeze User) _ c.loop-freeze.task c.freeze.new.self refl c.loop-freeze.invariant.from.1
-    (refused_so _ _ _ _ _ c.in_err-freeze.ensures.replies))
-
-pub returns-in_err-thaw-clause-refused : goal.returns-in_err-thaw-clause-refused
-returns-in_err-thaw-clause-refused g c =
-    let p = err_from_is_err_and c.from_residual-in_err-thaw.result c.from_residual-in_err-thaw.ensures.1 in
-    rw (p.1, p.2) (meets _ _ _ (Thaw User) _ c.take_snapshot-taken.new.task c.thaw.new.self refl c.take_snapshot-taken.ensures.from.1
-    (refused_so _ _ _ _ _ c.in_err-thaw.ensures.replies))
-
-pub returns-in_err-blocks-clause-refused : goal.returns-in_err-blocks-clause-refused
-returns-in_err-blocks-clause-refused g c =
-    let p = err_from_is_err_and c.from_residual-in_err-blocks.result c.from_residual-in_err-blocks.ensures.1 in
-    rw (p.1, p.2) (met _ _ _ (Snapshot true) _ refl c.in_err-blocks.ensures.refused)
-
-pub returns-in_err-ran-clause-refused : goal.returns-in_err-ran-clause-refused
-returns-in_err-ran-clause-refused g c =
-    let p = err_from_is_err_and c.from_residual-in_err-ran.result c.from_residual-in_err-ran.ensures.1 in
-    rw (p.1, p.2) (c.in_err-ran.ensures.refused c.args.plan.tasks c.args.plan.processors)
