@@ -2,9 +2,9 @@
 
 use crate::ending::Ending;
 use access_model::GateError;
+use std::alloc::Global;
 use transcripts::replays::replay::replay_over;
 use transcripts::replays::{Driver, ReplayFault};
-use std::alloc::Global;
 
 /// A schedule that needs memory at its first line and at its third.
 static SCHEDULE: &[u8] = b"# a comment\n\nconfig 2 1 1 2 8\n0 want 0 0\n0 run\n";

@@ -17,13 +17,13 @@ use asked_files::endings::{Ending, text_told, unopened};
 use asked_files::{Telling, replay_told, run_checks, run_outcomes, show_told};
 use command_line::{Asked, Form, Replay, read_words};
 use driven_gates::GatesDriver;
-use transcripts::replays::Core;
 use std::alloc::{AllocError, Global};
 use std::fs;
 use std::io::{Read, Stderr, Write};
 use std::rt::{Clock, Files};
 use std::sync::Wait;
 use std::thread::Threads;
+use transcripts::replays::Core;
 
 /// What a person is told who is to type a schedule.
 const AWAITED: &str =
