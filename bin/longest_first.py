@@ -15,6 +15,8 @@ from concurrent.futures import FIRST_COMPLETED, ThreadPoolExecutor, wait
 
 # How many processes a proof on the longest chain has, where they are idle, and from which part of the longest chain on one counts as such.
 LONGEST, IS_LONGEST = 2, 0.95
+# The crates that load so much that a second process takes what it saves.
+ALONE = {"asked_files", "mntgate"}
 # The most that a proof has, what each beyond the first takes, as a part of what one takes, and how much of the free memory may be taken.
 MOST, EACH, ROOM = 4, 0.6, 0.85
 # How many seconds a crate's proof takes with one process: of one that isn't listed, its lines tell it. They change the order alone.
@@ -74,7 +76,9 @@ def longest_first(rt, in_lanes):
                     if not idle or running and needs > room:
                         continue
                     jobs = max(idle // max(others, 1), LONGEST if chain[key] >= IS_LONGEST * longest else 1)
-                    jobs = max(1, min(jobs, idle, MOST, 1 + int((room / needs - 1) / EACH))) if chain[key] else 1
+                    jobs = max(1, min(jobs, idle, MOST, 1 + int((room / needs - 1) / EACH)))
+                    if not chain[key] or key[0] in ALONE:
+                        jobs = 1
                     others -= chain[key] > 0
                     left.remove(key)
                     running[pool.submit(call, given, jobs)] = key, needs * (1 + EACH * (jobs - 1)), jobs
