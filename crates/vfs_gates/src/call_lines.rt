@@ -1,11 +1,13 @@
 //! Operations whose usual events are known ahead: they are done in a straight line of code, and nothing is written down in between.
 
-ghost use Rattle.std.specs.Prelude.{◌≡◌, ℕ, None};
+ghost use Rattle.std.specs.Prelude.{◌≡◌, ℕ, Some, None};
 ghost use Rattle.access_model.specs.Replies.{map_next};
 ghost use Rattle.gate_world.specs.Views.{phase_after};
 ghost use Rattle.gate_world.specs.declared.operations.Op.{Op as OpType};
+ghost use Rattle.gate_world.specs.declared.work.Phase.TheVariants.{Writes};
 ghost use Rattle.gate_steps.specs.call_events.TaskStates.{TaskState, task_state};
 ghost use Rattle.gate_steps.specs.call_events.Turns.{IsTied, StayTied, of_write, taking};
+ghost use Rattle.compounds.specs.declared.write_access.phases.WritePhase.TheVariants.{Drops};
 ghost use Rattle.gate_steps.specs.call_events.Waited.{GoesWaiting, WentWaiting};
 
 mod changes;
@@ -197,6 +199,38 @@ impl InLine for UpRead {
     }
 }
 
+/// The events of a taking of write access at its mount, in a line. What comes after the last of them.
+#[inline(always)]
+fn want_then(
+    gates: &GateWords,
+    seat: &mut Seat,
+    accesses: &mut Accesses,
+    next: Next<WritePhase>,
+) -> Next<WritePhase>
+    requires table { seat.old.table_id ≡ gates.now.table.shared.table_id }
+    requires tied { IsTied gates.now.config None (phase_after (of_write next)) accesses.old seat.old.me.0 }
+    ensures table { seat.new.table_id ≡ seat.old.table_id }
+    ensures slots { seat.new.me.1 ≡ seat.old.me.1 }
+    ensures tied { StayTied gates.now.config None (phase_after (of_write next)) accesses.old seat.old.me.0
+        (phase_after (of_write result)) accesses.new seat.new.me.0 }
+    ensures went { (waits : ℕ) (op : OpType) (start : TaskState) →
+        WentWaiting waits op start (of_write next)
+        (task_state seat.old.table_id gates.now.config None (phase_after (of_write next)) seat.old.me.0) →
+        WentWaiting waits op start (of_write result)
+        (task_state seat.new.table_id gates.now.config None (phase_after (of_write result)) seat.new.me.0) }
+{
+    let place = WritePlace::Wants(WantStep::CountsUp);
+    let next = go_on_if(gates, seat, accesses, next, place);
+    let place = WritePlace::Wants(WantStep::LoadsHold);
+    let next = go_on_if(gates, seat, accesses, next, place);
+    let place = WritePlace::Wants(WantStep::LoadsRemount);
+    let next = go_on_if(gates, seat, accesses, next, place);
+    let place = WritePlace::Wants(WantStep::LoadsReadOnly);
+    let next = go_on_if(gates, seat, accesses, next, place);
+    let place = WritePlace::Wants(WantStep::LoadsSuperblock);
+    go_on_if(gates, seat, accesses, next, place)
+}
+
 /// The events of a taking of write access that begins, in a line; of one that has gone on its next event alone. What comes after the
 /// last of them. It is a function of its own, as it is long. It is told the parts of its phase, and asks whether it begins, so that
 /// the compiler knows each event in it.
@@ -242,16 +276,33 @@ fn take_in_line(
     let next = go_on_if(gates, seat, accesses, next, place);
     let place = WritePlace::Enters(DownReadStep::LeavesAdmitted);
     let next = go_on_if(gates, seat, accesses, next, place);
-    let place = WritePlace::Wants(WantStep::CountsUp);
-    let next = go_on_if(gates, seat, accesses, next, place);
-    let place = WritePlace::Wants(WantStep::LoadsHold);
-    let next = go_on_if(gates, seat, accesses, next, place);
-    let place = WritePlace::Wants(WantStep::LoadsRemount);
-    let next = go_on_if(gates, seat, accesses, next, place);
-    let place = WritePlace::Wants(WantStep::LoadsReadOnly);
-    let next = go_on_if(gates, seat, accesses, next, place);
-    let place = WritePlace::Wants(WantStep::LoadsSuperblock);
-    go_on_if(gates, seat, accesses, next, place)
+    want_then(gates, seat, accesses, next)
+}
+
+/// The two events of a return of write access, likewise.
+#[inline]
+fn give_in_line(
+    gates: &GateWords,
+    seat: &mut Seat,
+    accesses: &mut Accesses,
+    begins: Option<Op>,
+    mount: u8,
+    cpu: u8,
+) -> Next<WritePhase>
+    requires table { seat.old.table_id ≡ gates.now.table.shared.table_id }
+    requires tied { IsTied gates.now.config begins (Some (Writes (Drops mount cpu))) accesses.old seat.old.me.0 }
+    ensures table { seat.new.table_id ≡ seat.old.table_id }
+    ensures slots { seat.new.me.1 ≡ seat.old.me.1 }
+    ensures tied { StayTied gates.now.config begins (Some (Writes (Drops mount cpu))) accesses.old seat.old.me.0
+        (phase_after (of_write result)) accesses.new seat.new.me.0 }
+    ensures went { (waits : ℕ) (op : OpType) (start : TaskState) →
+        GoesWaiting waits op start (task_state seat.old.table_id gates.now.config begins (Some (Writes (Drops mount cpu))) seat.old.me.0) →
+        WentWaiting waits op start (of_write result)
+        (task_state seat.new.table_id gates.now.config None (phase_after (of_write result)) seat.new.me.0) }
+{
+    let phase = WritePhase::Drops { mount, cpu };
+    let next = go_on(gates, seat, accesses, begins, phase, Ok(()));
+    go_on_if(gates, seat, accesses, next, WritePlace::Leaves)
 }
 
 impl InLine for WritePhase {
@@ -277,9 +328,7 @@ impl InLine for WritePhase {
                 )
             }
             WritePhase::Drops { mount, cpu } => {
-                let phase = WritePhase::Drops { mount, cpu };
-                let next = go_on(gates, seat, accesses, begins, phase, Ok(()));
-                go_on_if(gates, seat, accesses, next, WritePlace::Leaves)
+                give_in_line(gates, seat, accesses, begins, mount, cpu)
             }
             phase => go_on(gates, seat, accesses, begins, phase, Ok(())),
         }

@@ -1,11 +1,13 @@
 //! The events of a change of a mount, in a line: its beginning, the sum of the mount's counts, its end.
 
-ghost use Rattle.std.specs.Prelude.{◌≡◌, ℕ, None};
+ghost use Rattle.std.specs.Prelude.{◌≡◌, ℕ, Some, None};
 ghost use Rattle.gate_world.specs.Views.{phase_after};
 ghost use Rattle.gate_world.specs.declared.operations.Op.{Op as OpType};
+ghost use Rattle.gate_world.specs.declared.work.Phase.TheVariants.{Mounts};
+ghost use Rattle.mount_counts.specs.declared.phases.MountPhase.TheVariants.{Change as Changes};
 ghost use Rattle.gate_steps.specs.call_events.TaskStates.{TaskState, task_state};
 ghost use Rattle.gate_steps.specs.call_events.Turns.{IsTied, StayTied, of_change};
-ghost use Rattle.gate_steps.specs.call_events.Waited.{WentWaiting};
+ghost use Rattle.gate_steps.specs.call_events.Waited.{GoesWaiting, WentWaiting};
 
 use crate::call_lines::{InLine, Placed, go_on_if};
 use access_model::Next;
@@ -45,6 +47,33 @@ impl Placed for Change {
     }
 }
 
+/// The events up to the one that holds writers off, or up to what stands in its way. What comes after the last of them.
+#[inline]
+fn begin_change(
+    gates: &GateWords,
+    seat: &mut Seat,
+    accesses: &mut Accesses,
+    begins: Option<Op>,
+    change: Change,
+) -> Next<Change>
+    requires table { seat.old.table_id ≡ gates.now.table.shared.table_id }
+    requires tied { IsTied gates.now.config begins (Some (Mounts (Changes change))) accesses.old seat.old.me.0 }
+    ensures table { seat.new.table_id ≡ seat.old.table_id }
+    ensures slots { seat.new.me.1 ≡ seat.old.me.1 }
+    ensures tied { StayTied gates.now.config begins (Some (Mounts (Changes change))) accesses.old seat.old.me.0
+        (phase_after (of_change result)) accesses.new seat.new.me.0 }
+    ensures still { IsTied gates.now.config None (phase_after (of_change result)) accesses.new seat.new.me.0 }
+    ensures went { (waits : ℕ) (op : OpType) (start : TaskState) →
+        GoesWaiting waits op start (task_state seat.old.table_id gates.now.config begins (Some (Mounts (Changes change))) seat.old.me.0) →
+        WentWaiting waits op start (of_change result)
+        (task_state seat.new.table_id gates.now.config None (phase_after (of_change result)) seat.new.me.0) }
+{
+    let next = go_on(gates, seat, accesses, begins, change, Ok(()));
+    let next = go_on_if(gates, seat, accesses, next, ChangePlace::LoadsFlags);
+    let next = go_on_if(gates, seat, accesses, next, ChangePlace::LoadsSuperblock);
+    go_on_if(gates, seat, accesses, next, ChangePlace::SetsHold)
+}
+
 /// The loads of the mount's counts, one word of so many after the other. What comes after the last of them.
 #[inline]
 fn add_counts(
@@ -73,8 +102,33 @@ fn add_counts(
     next
 }
 
-/// The events up to the one that holds writers off, or up to what stands in its way; the sum; and the events after it: the mount is shut,
-/// where it was 0, and writers are let in again; or the mount is opened. Then `umount` is given back.
+/// The events after the sum: the mount is shut, where it was 0, and writers are let in again; or the mount is opened. Then `umount` is
+/// given back. What comes after the last of them.
+#[inline]
+fn end_change(
+    gates: &GateWords,
+    seat: &mut Seat,
+    accesses: &mut Accesses,
+    next: Next<Change>,
+) -> Next<Change>
+    requires table { seat.old.table_id ≡ gates.now.table.shared.table_id }
+    requires tied { IsTied gates.now.config None (phase_after (of_change next)) accesses.old seat.old.me.0 }
+    ensures table { seat.new.table_id ≡ seat.old.table_id }
+    ensures slots { seat.new.me.1 ≡ seat.old.me.1 }
+    ensures tied { StayTied gates.now.config None (phase_after (of_change next)) accesses.old seat.old.me.0
+        (phase_after (of_change result)) accesses.new seat.new.me.0 }
+    ensures went { (waits : ℕ) (op : OpType) (start : TaskState) →
+        WentWaiting waits op start (of_change next)
+        (task_state seat.old.table_id gates.now.config None (phase_after (of_change next)) seat.old.me.0) →
+        WentWaiting waits op start (of_change result)
+        (task_state seat.new.table_id gates.now.config None (phase_after (of_change result)) seat.new.me.0) }
+{
+    let next = go_on_if(gates, seat, accesses, next, ChangePlace::SetsReadOnly);
+    let next = go_on_if(gates, seat, accesses, next, ChangePlace::ClearsHold);
+    let next = go_on_if(gates, seat, accesses, next, ChangePlace::ClearsReadOnly);
+    go_on_if(gates, seat, accesses, next, ChangePlace::Releases)
+}
+
 impl InLine for Change {
     #[inline(always)]
     fn go_in_line(
@@ -85,14 +139,8 @@ impl InLine for Change {
         begins: Option<Op>,
     ) -> Next<Change> {
         let processors = self.processors;
-        let next = go_on(gates, seat, accesses, begins, self, Ok(()));
-        let next = go_on_if(gates, seat, accesses, next, ChangePlace::LoadsFlags);
-        let next = go_on_if(gates, seat, accesses, next, ChangePlace::LoadsSuperblock);
-        let next = go_on_if(gates, seat, accesses, next, ChangePlace::SetsHold);
+        let next = begin_change(gates, seat, accesses, begins, self);
         let next = add_counts(gates, seat, accesses, next, processors);
-        let next = go_on_if(gates, seat, accesses, next, ChangePlace::SetsReadOnly);
-        let next = go_on_if(gates, seat, accesses, next, ChangePlace::ClearsHold);
-        let next = go_on_if(gates, seat, accesses, next, ChangePlace::ClearsReadOnly);
-        go_on_if(gates, seat, accesses, next, ChangePlace::Releases)
+        end_change(gates, seat, accesses, next)
     }
 }

@@ -1,5 +1,14 @@
 //! The events of a grow of a file, in a line.
 
+ghost use Rattle.std.specs.Prelude.{◌≡◌, ℕ, Some, None};
+ghost use Rattle.gate_world.specs.Views.{phase_after};
+ghost use Rattle.gate_world.specs.declared.operations.Op.{Op as OpType};
+ghost use Rattle.gate_world.specs.declared.work.Phase.TheVariants.{Trees};
+ghost use Rattle.gated_tree.specs.declared.phases.TreePhase.TheVariants.{Grow as Grows};
+ghost use Rattle.gate_steps.specs.call_events.TaskStates.{TaskState, task_state};
+ghost use Rattle.gate_steps.specs.call_events.Turns.{IsTied, StayTied, of_grow};
+ghost use Rattle.gate_steps.specs.call_events.Waited.{GoesWaiting, WentWaiting};
+
 use crate::call_lines::{InLine, Placed, go_on_if};
 use access_model::Next;
 use gate_steps::call_events::{GateWords, Seat, go_on};
@@ -28,7 +37,32 @@ impl Placed for Grow {
     }
 }
 
-/// The four events of a grow that nobody is before.
+/// The four events of a grow that nobody is before. What comes after the last of them.
+#[inline]
+fn grow_in_line(
+    gates: &GateWords,
+    seat: &mut Seat,
+    accesses: &mut Accesses,
+    begins: Option<Op>,
+    grow: Grow,
+) -> Next<Grow>
+    requires table { seat.old.table_id ≡ gates.now.table.shared.table_id }
+    requires tied { IsTied gates.now.config begins (Some (Trees (Grows grow))) accesses.old seat.old.me.0 }
+    ensures table { seat.new.table_id ≡ seat.old.table_id }
+    ensures slots { seat.new.me.1 ≡ seat.old.me.1 }
+    ensures tied { StayTied gates.now.config begins (Some (Trees (Grows grow))) accesses.old seat.old.me.0
+        (phase_after (of_grow result)) accesses.new seat.new.me.0 }
+    ensures went { (waits : ℕ) (op : OpType) (start : TaskState) →
+        GoesWaiting waits op start (task_state seat.old.table_id gates.now.config begins (Some (Trees (Grows grow))) seat.old.me.0) →
+        WentWaiting waits op start (of_grow result)
+        (task_state seat.new.table_id gates.now.config None (phase_after (of_grow result)) seat.new.me.0) }
+{
+    let next = go_on(gates, seat, accesses, begins, grow, Ok(()));
+    let next = go_on_if(gates, seat, accesses, next, GrowPlace::LoadsUsed);
+    let next = go_on_if(gates, seat, accesses, next, GrowPlace::ChargesBlocks);
+    go_on_if(gates, seat, accesses, next, GrowPlace::GrowsFile)
+}
+
 impl InLine for Grow {
     #[inline(always)]
     fn go_in_line(
@@ -38,9 +72,6 @@ impl InLine for Grow {
         accesses: &mut Accesses,
         begins: Option<Op>,
     ) -> Next<Grow> {
-        let next = go_on(gates, seat, accesses, begins, self, Ok(()));
-        let next = go_on_if(gates, seat, accesses, next, GrowPlace::LoadsUsed);
-        let next = go_on_if(gates, seat, accesses, next, GrowPlace::ChargesBlocks);
-        go_on_if(gates, seat, accesses, next, GrowPlace::GrowsFile)
+        grow_in_line(gates, seat, accesses, begins, self)
     }
 }

@@ -3,24 +3,8 @@ use Rattle.vfs_gates.proofs.call_lines.take_in_line.Goals as goal
 
 pub returns-clause-tied : goal.returns-clause-tied
 returns-clause-tied c number flags ties =
-    c.go_on_if.ensures.tied number flags
-    (c.go_on_if-next-7.ensures.tied number flags
-    (c.go_on_if-next-6.ensures.tied number flags
-    (c.go_on_if-next-5.ensures.tied number flags
-    (c.go_on_if-next-4.ensures.tied number flags
+    c.want_then.ensures.tied number flags
     (c.go_on_if-next-3.ensures.tied number flags
     (c.go_on_if-next-2.ensures.tied number flags
     (c.go_on_if-next.ensures.tied number flags
-    (c.go_on-next.ensures.tied number flags ties))))))))
-
-pub returns-clause-went : goal.returns-clause-went
-returns-clause-went c waits op start goes =
-    c.go_on_if.ensures.went waits op start
-    (c.go_on_if-next-7.ensures.went waits op start
-    (c.go_on_if-next-6.ensures.went waits op start
-    (c.go_on_if-next-5.ensures.went waits op start
-    (c.go_on_if-next-4.ensures.went waits op start
-    (c.go_on_if-next-3.ensures.went waits op start
-    (c.go_on_if-next-2.ensures.went waits op start
-    (c.go_on_if-next.ensures.went waits op start
-    (c.go_on-next.ensures.went waits op start goes))))))))
+    (c.go_on-next.ensures.tied number flags ties))))

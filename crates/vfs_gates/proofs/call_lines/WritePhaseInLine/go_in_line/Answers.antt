@@ -17,10 +17,9 @@ returns-in-Takes-clause-tied c number flags ties =
 
 pub returns-in-Drops-clause-tied : goal.returns-in-Drops-clause-tied
 returns-in-Drops-clause-tied c number flags ties =
-    c.go_on_if.ensures.tied number flags
-    (c.go_on-next.ensures.tied number flags
+    c.give_in_line.ensures.tied number flags
     (subst (λ (p : WritePhase). Ties number c.args.gates.now.config c.args.begins (kept_at (Some (Writes p)) c.args.accesses.now) flags
-    c.args.seat.now.me.0) c.in-Drops.is ties))
+    c.args.seat.now.me.0) c.in-Drops.is ties)
 
 pub returns-in-Takes-clause-went : goal.returns-in-Takes-clause-went
 returns-in-Takes-clause-went c waits op start goes =
@@ -30,7 +29,6 @@ returns-in-Takes-clause-went c waits op start goes =
 
 pub returns-in-Drops-clause-went : goal.returns-in-Drops-clause-went
 returns-in-Drops-clause-went c waits op start goes =
-    c.go_on_if.ensures.went waits op start
-    (c.go_on-next.ensures.went waits op start
+    c.give_in_line.ensures.went waits op start
     (subst (λ (p : WritePhase). GoesWaiting waits op start (task_state c.args.seat.now.table_id c.args.gates.now.config c.args.begins
-    (Some (Writes p)) c.args.seat.now.me.0)) c.in-Drops.is goes))
+    (Some (Writes p)) c.args.seat.now.me.0)) c.in-Drops.is goes)

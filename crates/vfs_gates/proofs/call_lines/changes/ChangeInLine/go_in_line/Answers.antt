@@ -1,26 +1,8 @@
--- each event of the line goes on from what the one before it left
+-- each part of the line goes on from what the one before it left
 use Rattle.vfs_gates.proofs.call_lines.changes.ChangeInLine.go_in_line.Goals as goal
 
 pub returns-clause-tied : goal.returns-clause-tied
 returns-clause-tied c number flags ties =
-    c.go_on_if.ensures.tied number flags
-    (c.go_on_if-next-6.ensures.tied number flags
-    (c.go_on_if-next-5.ensures.tied number flags
-    (c.go_on_if-next-4.ensures.tied number flags
+    c.end_change.ensures.tied number flags
     (c.add_counts-next.ensures.tied number flags
-    (c.go_on_if-next-3.ensures.tied number flags
-    (c.go_on_if-next-2.ensures.tied number flags
-    (c.go_on_if-next.ensures.tied number flags
-    (c.go_on-next.ensures.tied number flags ties))))))))
-
-pub returns-clause-went : goal.returns-clause-went
-returns-clause-went c waits op start goes =
-    c.go_on_if.ensures.went waits op start
-    (c.go_on_if-next-6.ensures.went waits op start
-    (c.go_on_if-next-5.ensures.went waits op start
-    (c.go_on_if-next-4.ensures.went waits op start
-    (c.add_counts-next.ensures.went waits op start
-    (c.go_on_if-next-3.ensures.went waits op start
-    (c.go_on_if-next-2.ensures.went waits op start
-    (c.go_on_if-next.ensures.went waits op start
-    (c.go_on-next.ensures.went waits op start goes))))))))
+    (c.begin_change-next.ensures.tied number flags ties))

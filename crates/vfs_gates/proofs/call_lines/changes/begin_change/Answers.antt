@@ -1,0 +1,9 @@
+-- each event of the line goes on from what the one before it left
+use Rattle.vfs_gates.proofs.call_lines.changes.begin_change.Goals as goal
+
+pub returns-clause-tied : goal.returns-clause-tied
+returns-clause-tied c number flags ties =
+    c.go_on_if.ensures.tied number flags
+    (c.go_on_if-next-2.ensures.tied number flags
+    (c.go_on_if-next.ensures.tied number flags
+    (c.go_on-next.ensures.tied number flags ties)))
