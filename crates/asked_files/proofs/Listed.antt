@@ -2,11 +2,11 @@
 use Rattle.std.proofs.Common.{◌≡◌, ◌⊎◌, inl, inr, refl, subst, sym, IfSome, ℕ, List, [], Option, Some, None}
 use Rattle.std.specs.Io.KnownBytes.{Appends, Keeps}
 use Rattle.command_line.specs.declared.words.Outcomes.{Outcomes}
-use Rattle.asked_files.specs.declared.endings.ends.Ending.{Ending}
-use Rattle.asked_files.specs.declared.endings.ends.Ending.TheVariants.{Listed, Refused}
+use Rattle.endings.specs.declared.ends.Ending.{Ending}
+use Rattle.endings.specs.declared.ends.Ending.TheVariants.{Listed, Refused}
 use Rattle.asked_files.specs.Outcomes.{AreRead, EndsTold, TellsRace}
 use Rattle.asked_files.specs.Outcomes.EndsTold.{IsWritten, IsRefused, IsCutOff}
-use Rattle.schedule_text.specs.bytes.Writing.{AppendsPart}
+use Rattle.schedule_lines.specs.bytes.Writing.{AppendsPart}
 
 -- a writer that nobody wrote to
 pub kept : (held : Option (List ℕ)) → Keeps held held

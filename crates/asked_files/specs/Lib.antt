@@ -1,4 +1,3 @@
 pub mod race_texts
 pub mod Checks
 pub mod Outcomes
-pub mod endings

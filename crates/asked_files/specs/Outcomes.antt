@@ -4,11 +4,11 @@ use Rattle.std.specs.Io.KnownBytes.{Appends, Keeps}
 use Rattle.command_line.specs.declared.words.Outcomes.{Outcomes}
 use Rattle.command_line.specs.declared.words.Schedules as words
 use Rattle.command_line.specs.declared.words.Schedules.TheVariants as words_as
-use Rattle.asked_files.specs.declared.endings.ends.Ending.{Ending}
-use Rattle.asked_files.specs.declared.endings.ends.Ending.TheVariants.{Listed, Refused}
+use Rattle.endings.specs.declared.ends.Ending.{Ending}
+use Rattle.endings.specs.declared.ends.Ending.TheVariants.{Listed, Refused}
 use Rattle.gate_core.specs.Memory.{Memory}
 use Rattle.races.specs.declared.calls.Call.{Call}
-use Rattle.schedule_text.specs.bytes.Writing.{AppendsPart}
+use Rattle.schedule_lines.specs.bytes.Writing.{AppendsPart}
 use Rattle.asked_files.specs.declared.race_texts.telling.Details.{Details}
 use Rattle.asked_files.specs.declared.race_texts.telling.Schedules.{Schedules}
 use Rattle.asked_files.specs.declared.race_texts.telling.Schedules.TheVariants.{Untold, Lines, Columns}

@@ -1,15 +1,14 @@
 //! Checks of schedules, from the command line.
 
 ghost use Rattle.std.specs.Prelude.{◌≡◌, ◌⊎◌, ◌<◌, ◌≤◌, ◌+◌, ◌^◌, IfOk, OnOk, length};
-ghost use Rattle.schedule_text.specs.Printed.{Prints};
+ghost use Rattle.schedule_lines.specs.Printed.{Prints};
 ghost use Rattle.asked_files.specs.Checks.{TellsPassed, count_checked, counts_text};
-ghost use Rattle.asked_files.specs.declared.endings.ends.Ending.TheVariants.{Passed, Refused};
+ghost use Rattle.endings.specs.declared.ends.Ending.TheVariants.{Passed, Refused};
 
-use crate::endings::{Ending, why_told};
 use crate::race_texts::{Checked, check};
-use crate::reading::read_bytes;
+use endings::{Ending, read_bytes, why_told};
+use schedule_lines::bytes::write_out;
 use schedule_text::Output;
-use schedule_text::bytes::write_out;
 use std::alloc::{AllocError, Global};
 use std::io::{Read, Write};
 use std::rt::Files;

@@ -2,18 +2,17 @@
 
 ghost use Rattle.std.specs.Prelude.{◌≡◌, ◌⊎◌, Some, IfOk, OnErr};
 ghost use Rattle.std.specs.Io.KnownBytes.{Appends, Keeps};
-ghost use Rattle.asked_files.specs.declared.endings.ends.Ending.TheVariants.{Listed, Refused};
+ghost use Rattle.endings.specs.declared.ends.Ending.TheVariants.{Listed, Refused};
 ghost use Rattle.asked_files.specs.Outcomes.{EndsTold, TellsRace, schedules_as};
-ghost use Rattle.schedule_text.specs.bytes.Writing.{AppendsPart};
+ghost use Rattle.schedule_lines.specs.bytes.Writing.{AppendsPart};
 
-use crate::endings::{Ending, fault_told, refused, why_told, why_told_of};
 use crate::race_texts::{Details, Schedules, read_race, tell};
-use crate::reading::read_bytes;
 use access_model::GateError;
 use command_line::Outcomes;
+use endings::{Ending, fault_told, read_bytes, refused, why_told, why_told_of};
 use exploration::Stop;
+use schedule_lines::bytes::write_out;
 use schedule_text::Output;
-use schedule_text::bytes::write_out;
 use std::alloc::{AllocError, Global};
 use std::io::{Read, Write};
 use std::rt::Files;

@@ -1,7 +1,6 @@
-//! Races, checks, and replays that are shown event by event (`shown_events`), as text. A file of a race is a schedule that sets up, a line
-//! `race`, and then what each task calls; its lines are read as those of schedules are, by `schedule_text`. All its outcomes are a line each,
-//! with a schedule that ends in it and the model at its end. A file of either kind may say what it prints, in lines `#> TEXT`, which a replay
-//! skips as it skips each comment.
+//! Races and checks, as text. A file of a race is a schedule that sets up, a line `race`, and then what each task calls; its lines are read as
+//! those of schedules are, by `schedule_text`. All its outcomes are a line each, with a schedule that ends in it and the model at its end. A
+//! file of either kind may say what it prints, in lines `#> TEXT`, which a replay skips as it skips each comment.
 
 pub mod calls;
 pub mod checks;
@@ -11,7 +10,6 @@ pub mod lines;
 pub mod listing;
 pub mod schedules;
 pub mod setting_up;
-pub mod shown_events;
 pub mod telling;
 pub mod texts;
 

@@ -2,7 +2,7 @@
 
 ghost use Rattle.std.specs.Prelude.{◌≡◌, Ok};
 ghost use Rattle.access_model.specs.declared.replies.Next.TheVariants.{Go};
-ghost use Rattle.freeze_levels.specs.declared.freezes.FreezeStep.TheVariants.{Closes};
+ghost use Rattle.freeze_levels.specs.declared.freezes.FreezeStep.TheVariants.{Closes, Locks};
 ghost use Rattle.freeze_levels.specs.Freezes.{
   freeze_next,
   freeze_after,
@@ -79,6 +79,21 @@ pub struct Freeze {
 }
 
 impl Freeze {
+    /// A freeze before its first event, among so many tasks, processors and nodes.
+    #[inline(always)]
+    pub fn new(holder: Holder, task: u8, tasks: u8, processors: u8, nodes: u8) -> Freeze
+        ensures { result ≡ record { holder = holder; task = task; tasks = tasks; processors = processors; nodes = nodes; step = Locks } }
+    {
+        Freeze {
+            holder,
+            task,
+            tasks,
+            processors,
+            nodes,
+            step: FreezeStep::Locks,
+        }
+    }
+
     /// The hook whose answer the next event reads.
     #[inline(always)]
     pub fn wants_hook(self) -> Option<HookKind>

@@ -12,6 +12,7 @@ ghost use Rattle.freeze_levels.specs.Thaws.{
   thaw_leaves,
   after_opening,
 };
+ghost use Rattle.freeze_levels.specs.declared.thaws.ThawStep.TheVariants.{Locks};
 
 use crate::holders::{pack, unpack};
 use crate::hooks::HookKind;
@@ -56,6 +57,18 @@ pub struct Thaw {
 }
 
 impl Thaw {
+    /// A thaw before its first event.
+    #[inline(always)]
+    pub fn new(holder: Holder, task: u8) -> Thaw
+        ensures { result ≡ record { holder = holder; task = task; step = Locks } }
+    {
+        Thaw {
+            holder,
+            task,
+            step: ThawStep::Locks,
+        }
+    }
+
     /// The hook whose answer the next event reads.
     #[inline(always)]
     pub fn wants_hook(self) -> Option<HookKind>

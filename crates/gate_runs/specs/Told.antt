@@ -2,9 +2,9 @@
 use Rattle.std.specs.Prelude.{◌≡◌, ℕ, ◌*◌, slice_index}
 use Rattle.cpu_words.specs.Names.{place, stride}
 use Rattle.cpu_words.specs.declared.names.WordName.TheVariants.{Used}
-use Rattle.gate_runs.specs.declared.runs.Totals.{Totals}
-use Rattle.gate_runs.specs.run_parts.Plans.{run_config}
-use Rattle.gate_runs.specs.declared.run_parts.counts.Details.{Details}
+use Rattle.run_plans.specs.declared.counts.Totals.{Totals}
+use Rattle.run_plans.specs.Plans.{run_config}
+use Rattle.run_plans.specs.declared.counts.Details.{Details}
 use Rattle.gate_runs.specs.run_threads.Parts.{AllDid, EndsAs}
 use Rattle.gate_runs.specs.run_parts.Ended.{Ended, Ending}
 

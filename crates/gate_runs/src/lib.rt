@@ -6,5 +6,5 @@ pub mod run_parts;
 pub mod run_threads;
 mod runs;
 
-pub use crate::run_parts::{Copies, Details, Meeting, Plan, Sizes, Watch, Writes};
-pub use runs::{Totals, run_plan, run_with};
+pub use run_plans::{Copies, Details, Meeting, Plan, Sizes, Totals, Watch, Writes};
+pub use runs::{run_plan, run_with};

@@ -4,34 +4,20 @@ ghost use Rattle.std.specs.Prelude.{◌≡◌, IfErr, IfOk, OnOk};
 ghost use Rattle.access_model.specs.declared.errors.GateError.TheVariants.{Invalid, Order};
 ghost use Rattle.gate_runs.specs.run_parts.Ended.{EndedWith};
 ghost use Rattle.gate_runs.specs.run_parts.TaskStates.{IsFrom};
-ghost use Rattle.gate_runs.specs.declared.run_parts.counts.Details.{Details as DetailsType};
+ghost use Rattle.run_plans.specs.declared.counts.Details.{Details as DetailsType};
 ghost use Rattle.gate_runs.specs.run_parts.Meetings.{unseen};
 ghost use Rattle.gate_runs.specs.Told.{TellsRun};
-ghost use Rattle.gate_runs.specs.run_parts.Plans.{MayRun, run_config};
+ghost use Rattle.run_plans.specs.Plans.{MayRun, run_config};
 ghost use Rattle.gate_runs.specs.run_parts.Refusals.{RunRefused};
 
-use crate::run_parts::{Closed, Details, Gates, MOUNT, Meeting, Plan, Task, Watch};
+use crate::run_parts::{Closed, Gates, Task};
 use crate::run_threads::in_threads;
 use access_model::{Gate, GateError};
 use cpu_words::WordName;
+use run_plans::{Details, MOUNT, Meeting, Plan, Totals, Watch};
 use std::alloc::Global;
 use std::sync::Wait;
 use std::thread::Threads;
-
-/// What a run has done.
-#[derive(Clone, Copy, PartialEq, Eq, Debug)]
-pub struct Totals {
-    /// The blocks that all files have in the end.
-    pub grown: u64,
-    /// How often the file system was frozen and thawed.
-    pub frozen: u64,
-    /// How many snapshots were sound and clean.
-    pub snapshots: u64,
-    /// How often the mount was made read-only, or was busy, and then writable.
-    pub remounts: u64,
-    /// The wrapping sum of all count words in the end: the accesses that were never given back.
-    pub held: u64,
-}
 
 /// The wrapping sum of all count words: what is held.
 fn held_in(closed: &Closed) -> u64

@@ -25,3 +25,4 @@ pub mod LevelRuns
 pub mod Causes
 pub mod Waits
 pub mod KeptCauses
+pub mod Counted

@@ -1,5 +1,6 @@
 //! The world that every schedule and every table moves: the words, and one view per task number. Here stand the
-//! configuration, the operations and their beginnings, what a task holds and is at, and what one entry of a schedule does.
+//! configuration, the operations and their beginnings, what a task holds and is at, and what one entry of a schedule does. How each move is
+//! done in code stands in `gate_moves`.
 #![tactic(auto)]
 
 pub mod accesses;
@@ -12,4 +13,4 @@ pub use accesses::Accesses;
 pub use config::Config;
 pub use operations::Op;
 pub use views::{Snapshot, Traced, View};
-pub use work::{Phase, UnderWay};
+pub use work::Phase;

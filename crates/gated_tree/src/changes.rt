@@ -4,6 +4,7 @@ ghost use Rattle.std.specs.Prelude.{◌≡◌};
 ghost use Rattle.access_model.specs.declared.replies.Next.TheVariants.{Go};
 ghost use Rattle.node_words.specs.Nodes.{new_node, unpacked};
 ghost use Rattle.gated_tree.specs.Phases.{create_next, at_create, create_past, create_looked, create_after, remove_next, at_remove, remove_after, move_next, at_move, move_after};
+ghost use Rattle.gated_tree.specs.declared.changes.{CreateStep.TheVariants.LoadsDirectory, RemoveStep.TheVariants.LoadsFile as LoadsFileToRemove, MoveStep.TheVariants.LoadsFile as LoadsFileToMove};
 
 use access_model::{Action, GateError, Kind, Next, Reply};
 use cpu_words::{Touch, WordName};
@@ -84,6 +85,19 @@ pub struct MoveTo {
 }
 
 impl Create {
+    /// A create before its first event, among so many nodes.
+    #[inline(always)]
+    pub fn new(dir: u8, kind: Kind, nodes: u8) -> Create
+        ensures { result ≡ record { dir = dir; kind = kind; nodes = nodes; step = LoadsDirectory } }
+    {
+        Create {
+            dir,
+            kind,
+            nodes,
+            step: CreateStep::LoadsDirectory,
+        }
+    }
+
     /// The node that it makes: empty and clean.
     fn made(self) -> NodeWord
         ensures { result ≡ new_node self.kind self.dir }
@@ -167,6 +181,17 @@ impl Create {
 }
 
 impl Remove {
+    /// A remove before its first event.
+    #[inline(always)]
+    pub fn new(file: u8) -> Remove
+        ensures { result ≡ record { file = file; step = LoadsFileToRemove } }
+    {
+        Remove {
+            file,
+            step: RemoveStep::LoadsFile,
+        }
+    }
+
     pub(crate) fn next(self) -> (WordName, Touch)
         ensures { result ≡ remove_next self self.step }
     {
@@ -231,6 +256,18 @@ impl Remove {
 }
 
 impl MoveTo {
+    /// A move before its first event.
+    #[inline(always)]
+    pub fn new(file: u8, dir: u8) -> MoveTo
+        ensures { result ≡ record { file = file; dir = dir; step = LoadsFileToMove } }
+    {
+        MoveTo {
+            file,
+            dir,
+            step: MoveStep::LoadsFile,
+        }
+    }
+
     pub(crate) fn next(self) -> (WordName, Touch)
         ensures { result ≡ move_next self self.step }
     {

@@ -4,6 +4,7 @@ ghost use Rattle.std.specs.Prelude.{◌≡◌};
 ghost use Rattle.access_model.specs.declared.replies.Next.TheVariants.{Go};
 ghost use Rattle.node_words.specs.Nodes.{grown_node};
 ghost use Rattle.gated_tree.specs.Phases.{grow_next, at_grow, grow_from, grow_after};
+ghost use Rattle.gated_tree.specs.declared.growth.GrowStep.TheVariants.{LoadsFile};
 
 use access_model::{Action, GateError, Next, Reply};
 use cpu_words::{Touch, WordName};
@@ -35,6 +36,19 @@ pub struct Grow {
 }
 
 impl Grow {
+    /// A grow before its first event, where all files together may have so many blocks.
+    #[inline(always)]
+    pub fn new(file: u8, blocks: u32, capacity: u32) -> Grow
+        ensures { result ≡ record { file = file; blocks = blocks; capacity = capacity; step = LoadsFile } }
+    {
+        Grow {
+            file,
+            blocks,
+            capacity,
+            step: GrowStep::LoadsFile,
+        }
+    }
+
     /// The file with the blocks more, and dirty. It comes to this only where the sum is within the capacity, so it doesn't wrap.
     #[inline(always)]
     fn grown(self, file: NodeWord) -> NodeWord

@@ -2,6 +2,7 @@
 
 ghost use Rattle.std.specs.Prelude.{◌≡◌};
 ghost use Rattle.gated_tree.specs.Phases.{mark_next, mark_done, mark_after};
+ghost use Rattle.gated_tree.specs.declared.marks.MarkStep.TheVariants.{LoadsFile};
 
 use access_model::{Action, GateError, Next, Reply};
 use cpu_words::{Touch, WordName};
@@ -26,6 +27,18 @@ pub struct Mark {
 }
 
 impl Mark {
+    /// A page fault, which makes the file dirty, or a write-back, before its first event.
+    #[inline(always)]
+    pub fn new(file: u8, dirty: bool) -> Mark
+        ensures { result ≡ record { file = file; dirty = dirty; step = LoadsFile } }
+    {
+        Mark {
+            file,
+            dirty,
+            step: MarkStep::LoadsFile,
+        }
+    }
+
     pub(crate) fn next(self) -> (WordName, Touch)
         ensures { result ≡ mark_next self self.step }
     {

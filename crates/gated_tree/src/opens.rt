@@ -3,6 +3,7 @@
 ghost use Rattle.std.specs.Prelude.{◌≡◌};
 ghost use Rattle.node_words.specs.Nodes.{opened_node};
 ghost use Rattle.gated_tree.specs.Phases.{open_next, open_after};
+ghost use Rattle.gated_tree.specs.declared.opens.OpenStep.TheVariants.{LoadsFile};
 
 use access_model::{Action, GateError, Next, Reply};
 use cpu_words::{Touch, WordName};
@@ -38,6 +39,17 @@ fn opened(file: NodeWord) -> NodeWord
 }
 
 impl OpenFile {
+    /// An open before its first event.
+    #[inline(always)]
+    pub fn new(file: u8) -> OpenFile
+        ensures { result ≡ record { file = file; step = LoadsFile } }
+    {
+        OpenFile {
+            file,
+            step: OpenStep::LoadsFile,
+        }
+    }
+
     pub(crate) fn next(self) -> (WordName, Touch)
         ensures { result ≡ open_next self self.step }
     {

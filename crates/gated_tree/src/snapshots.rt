@@ -6,6 +6,7 @@ ghost use Rattle.access_model.specs.declared.replies.Next.TheVariants.{Go};
 ghost use Rattle.node_words.specs.Nodes.{node_after};
 ghost use Rattle.gated_tree.specs.Trees.{loads_last};
 ghost use Rattle.gated_tree.specs.Phases.{snapshot_next, at_snapshot, node_step, kids_step, snapshot_after};
+ghost use Rattle.gated_tree.specs.declared.snapshots.SnapshotStep.TheVariants.{Locks};
 
 use access_model::{Action, GateError, Next, Reply};
 use cpu_words::{Touch, WordName};
@@ -41,6 +42,19 @@ pub struct Snapshot {
 }
 
 impl Snapshot {
+    /// A snapshot before its first event, of so many nodes.
+    #[inline(always)]
+    pub fn new(wait: bool, task: u8, nodes: u8) -> Snapshot
+        ensures { result ≡ record { wait = wait; task = task; nodes = nodes; step = Locks } }
+    {
+        Snapshot {
+            wait,
+            task,
+            nodes,
+            step: SnapshotStep::Locks,
+        }
+    }
+
     /// Whether the next event is the load of its last word: of the children that are charged to the last node.
     pub fn loads_last(self) -> bool
         ensures { result ≡ loads_last self.nodes self.step }

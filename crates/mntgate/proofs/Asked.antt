@@ -8,12 +8,13 @@ use Rattle.command_line.specs.declared.words.Asked.TheVariants as ask
 use Rattle.command_line.specs.declared.words.Form.{Form}
 use Rattle.command_line.specs.declared.words.Form.TheVariants.{Plain, Events, Columns, Json}
 use Rattle.command_line.specs.declared.words.Replay.{Replay}
-use Rattle.asked_files.specs.endings.Endings.{of_file}
-use Rattle.asked_files.specs.declared.endings.ends.Ending.{Ending}
-use Rattle.asked_files.specs.declared.endings.ends.Ending.TheVariants.{Done, DoneOfFile, DoneOverGates, Shown, Passed, Listed, Ran, Told, Refused, Misused}
+use Rattle.endings.specs.Endings.{of_file}
+use Rattle.endings.specs.declared.ends.Ending.{Ending}
+use Rattle.endings.specs.declared.ends.Ending.TheVariants.{Done, DoneOfFile, DoneOverGates, Shown, Passed, Listed, Ran, Told, Refused, Misused}
 use Rattle.asked_files.specs.Checks.{TellsPassed, count_checked}
-use Rattle.mntgate.specs.Asking.{EndsChecked, EndsReplayed, MayEnd, TellsSomePassed, done_in, done_of, ending_of}
-use Rattle.schedule_text.specs.declared.bytes.replay_faults.ReplayFault.{ReplayFault}
+use Rattle.asked_replays.specs.Replays.{EndsReplayed, done_in, done_of, ending_of}
+use Rattle.mntgate.specs.Asking.{EndsChecked, MayEnd, TellsSomePassed}
+use Rattle.schedule_lines.specs.declared.bytes.replay_faults.ReplayFault.{ReplayFault}
 use Rattle.transcripts.specs.Replayed.{Replayed}
 
 -- a file's replay never ends with `Done`

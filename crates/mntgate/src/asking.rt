@@ -6,37 +6,24 @@ ghost use Rattle.command_line.specs.CommandLine.{IsPlain, MayAskPlainly, ask_pla
 ghost use Rattle.command_line.specs.declared.words.Asked.TheVariants.{Outcomes as AsksOutcomes, Replay as AsksReplay, Unread};
 ghost use Rattle.command_line.specs.declared.words.Outcomes.{Outcomes as OutcomesAsked};
 ghost use Rattle.command_line.specs.declared.words.Replay.{Replay as ReplayAsked};
-ghost use Rattle.asked_files.specs.declared.endings.ends.Ending.TheVariants.{Done, Passed, Ran, Refused};
-ghost use Rattle.mntgate.specs.Asking.{MayEnd, EndsChecked, EndsReplayed, EndsReplayedFile, IsRefusedUnread, TellsSomePassed, done_in, done_of};
+ghost use Rattle.endings.specs.declared.ends.Ending.TheVariants.{Done, Passed, Ran, Refused};
+ghost use Rattle.asked_replays.specs.Replays.{EndsReplayed, EndsReplayedFile, IsRefusedUnread};
+ghost use Rattle.mntgate.specs.Asking.{MayEnd, EndsChecked, TellsSomePassed};
 ghost use Rattle.asked_files.specs.Outcomes.{EndsTold};
 ghost use Rattle.transcripts.specs.Replayed.{Replayed};
 
 use crate::runs;
-use crate::runs::{AskedRun, Progress};
-use asked_files::endings::{Ending, text_told, unopened};
-use asked_files::{Telling, replay_told, run_checks, run_outcomes, show_told};
-use command_line::{Asked, Form, Replay, read_words};
-use driven_gates::GatesDriver;
+use crate::runs::AskedRun;
+use asked_files::{run_checks, run_outcomes};
+use asked_replays::{Person, run_replay};
+use command_line::{Asked, Numbers, read_words};
+use endings::{Ending, text_told};
+use run_plans::Progress;
 use std::alloc::{AllocError, Global};
-use std::fs;
 use std::io::{Read, Stderr, Write};
 use std::rt::{Clock, Files};
 use std::sync::Wait;
 use std::thread::Threads;
-use transcripts::replays::Core;
-
-/// What a person is told who is to type a schedule.
-const AWAITED: &str =
-    "mntgate: type a schedule, from 'config TASKS CPUS MOUNTS NODES CAPACITY' on; Ctrl-D ends it";
-
-/// Where a person is.
-#[derive(Drop)]
-pub struct Person {
-    /// Standard error, where it is a terminal.
-    pub watches: Option<Stderr>,
-    /// Whether standard input is one.
-    pub types: bool,
-}
 
 /// Does what the words of a command line ask for; faults are told on a writer of their own, and where they can't be, the
 /// program ends the same. Where a person watches, a run tells there how far it is, and a fault of a schedule is explained.
@@ -127,91 +114,19 @@ fn run_threads<R: Threads + Wait + Clock + Sync, W: Write, E: Write>(
     ensures { (result ≡ Ran) ⊎ (result ≡ Refused) }
 {
     let progress = match watched {
-        Some(stderr) => Progress::new(rt, asked.numbers, stderr).ok(),
+        Some(stderr) => {
+            let Numbers {
+                tasks,
+                rounds,
+                freezes,
+                ..
+            } = asked.numbers;
+            Progress::new(rt, tasks, rounds, freezes, stderr).ok()
+        }
         None => None,
     };
     match progress {
         Some(progress) => runs::run(rt, alloc, asked, &progress, writer, errors),
         None => runs::run(rt, alloc, asked, &(), writer, errors),
-    }
-}
-
-/// Replays a schedule: that of a file, or that of the reader.
-fn run_replay<R: Files, I: Read, W: Write, E: Write>(
-    rt: &R,
-    alloc: Global,
-    asked: Replay<'_>,
-    reader: &mut I,
-    writer: &mut W,
-    errors: &mut E,
-    person: &Person,
-) -> Ending
-    ensures ends { (result ≡ done_of asked.entry.file (done_in asked.entry.form asked.entry.over_gates)) ⊎ (result ≡ Refused) }
-    ensures plain { IsPlain asked.entry → asked.entry.file ≡ None → EndsReplayed
-        (I.remaining reader.old) (I.remaining reader.new) (W.contents writer.old) (W.contents writer.new) result }
-    ensures of_file { (file : Bor (List ℕ)) → IsPlain asked.entry → asked.entry.file ≡ Some file →
-        EndsReplayedFile (W.contents writer.old) (W.contents writer.new) result
-        ⊎ IsRefusedUnread (I.remaining reader.old) (I.remaining reader.new) (W.contents writer.old) (W.contents writer.new) result }
-{
-    let telling = Telling {
-        file: asked.file,
-        explains: asked.explain || person.watches.is_some(),
-    };
-    match asked.file {
-        Some(file) => match fs::open(rt, file) {
-            Ok(mut opened) => {
-                replay_as(alloc, asked, telling, &mut opened, writer, errors).of_file()
-            }
-            Err(error) => unopened(file, &error, errors),
-        },
-        None => {
-            if person.types {
-                let _ = writeln!(errors, "{AWAITED}");
-            }
-            replay_as(alloc, asked, telling, reader, writer, errors)
-        }
-    }
-}
-
-/// Replays the schedule of a reader in the form that is asked for.
-fn replay_as<I: Read, W: Write, E: Write>(
-    alloc: Global,
-    asked: Replay<'_>,
-    telling: Telling<'_>,
-    reader: &mut I,
-    writer: &mut W,
-    errors: &mut E,
-) -> Ending
-    ensures ends { (result ≡ done_in asked.entry.form asked.entry.over_gates) ⊎ (result ≡ Refused) }
-    ensures plain { IsPlain asked.entry → EndsReplayed
-        (I.remaining reader.old) (I.remaining reader.new) (W.contents writer.old) (W.contents writer.new) result }
-{
-    let form = match asked.form {
-        Form::Plain if asked.over_gates => {
-            return match replay_told::<GatesDriver, I, W, E>(
-                alloc, telling, reader, writer, errors,
-            ) {
-                Ok(()) => Ending::DoneOverGates,
-                Err(_) => Ending::Refused,
-            };
-        }
-        Form::Plain => {
-            return match replay_told::<Core, I, W, E>(alloc, telling, reader, writer, errors) {
-                Ok(()) => Ending::Done,
-                Err(_) => Ending::Refused,
-            };
-        }
-        Form::Events => asked_files::race_texts::shown_events::Form::Events,
-        Form::Columns => asked_files::race_texts::shown_events::Form::Columns,
-        Form::Json => asked_files::race_texts::shown_events::Form::Json,
-    };
-    let ended = if asked.over_gates {
-        show_told::<GatesDriver, I, W, E>(alloc, form, telling, reader, writer, errors)
-    } else {
-        show_told::<Core, I, W, E>(alloc, form, telling, reader, writer, errors)
-    };
-    match ended {
-        Ok(()) => Ending::Shown,
-        Err(_) => Ending::Refused,
     }
 }

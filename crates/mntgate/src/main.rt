@@ -4,9 +4,10 @@
 pub mod asking;
 pub mod runs;
 
-use crate::asking::{Person, run};
+use crate::asking::run;
 use anyhow::Result;
-use asked_files::endings::unreadable;
+use asked_replays::Person;
+use endings::unreadable;
 use std::io::IsTerminal;
 use std::process::ExitCode;
 

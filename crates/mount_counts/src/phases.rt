@@ -3,6 +3,7 @@
 ghost use Rattle.std.specs.Prelude.{◌≡◌};
 ghost use Rattle.mount_counts.specs.Phases.{next, after, want_next, want_after, at_change, change_next, change_from, change_summed, change_after};
 ghost use Rattle.access_model.specs.declared.replies.Next.TheVariants.{Go};
+ghost use Rattle.mount_counts.specs.declared.phases.{WantStep.TheVariants.CountsUp, ChangeStep.TheVariants.Locks};
 
 use crate::flags::MountFlags;
 use access_model::{Action, Gate, GateError, Next, Reply, map_after};
@@ -82,6 +83,19 @@ pub enum MountPhase {
 }
 
 impl Want {
+    /// A want before its first event.
+    #[inline(always)]
+    pub fn new(mount: u8, cpu: u8, wait: bool) -> Want
+        ensures { result ≡ record { mount = mount; cpu = cpu; wait = wait; step = CountsUp } }
+    {
+        Want {
+            mount,
+            cpu,
+            wait,
+            step: WantStep::CountsUp,
+        }
+    }
+
     /// The word and the touch of the next event.
     #[inline(always)]
     pub fn next(self) -> (WordName, Touch)
@@ -144,6 +158,21 @@ impl Want {
 }
 
 impl Change {
+    /// A change before its first event, among so many processors.
+    #[inline(always)]
+    pub fn new(mount: u8, read_only: bool, wait: bool, task: u8, processors: u8) -> Change
+        ensures { result ≡ record { mount = mount; read_only = read_only; wait = wait; task = task; processors = processors; step = Locks } }
+    {
+        Change {
+            mount,
+            read_only,
+            wait,
+            task,
+            processors,
+            step: ChangeStep::Locks,
+        }
+    }
+
     #[inline(always)]
     fn next(self) -> (WordName, Touch)
         ensures { result ≡ change_next self self.step }

@@ -4,6 +4,7 @@ ghost use Rattle.std.specs.Prelude.{◌≡◌};
 ghost use Rattle.access_model.specs.declared.actions.Action.TheVariants.{Clean};
 ghost use Rattle.access_model.specs.declared.replies.Next.TheVariants.{Go};
 ghost use Rattle.mount_counts.specs.Remounts.{remount_next, remount_after, remount_from, past_mount, let_go, leave_holds, give_up, at_remount, remount_summed, past_node, mark_cleared};
+ghost use Rattle.mount_counts.specs.declared.remounts.RemountStep.TheVariants.{Locks};
 
 use crate::flags::MountFlags;
 use crate::sets::MountSet;
@@ -66,6 +67,21 @@ pub struct Remount {
 }
 
 impl Remount {
+    /// A remount before its first event, among so many processors, mounts and nodes.
+    #[inline(always)]
+    pub fn new(read_only: bool, task: u8, processors: u8, mounts: u8, nodes: u8) -> Remount
+        ensures { result ≡ record { read_only = read_only; task = task; processors = processors; mounts = mounts; nodes = nodes; step = Locks } }
+    {
+        Remount {
+            read_only,
+            task,
+            processors,
+            mounts,
+            nodes,
+            step: RemountStep::Locks,
+        }
+    }
+
     /// The word and the touch of the next event, where the file system answers this. An event that the answer doesn't decide
     /// ignores it.
     #[inline(always)]

@@ -2,6 +2,8 @@
 
 ghost use Rattle.std.specs.Prelude.{◌≡◌};
 ghost use Rattle.percpu_rwsem.specs.Callbacks.{at_callback, callback_next, claimed, callback_looked, called_back, callback_after};
+ghost use Rattle.percpu_rwsem.specs.declared.callbacks.CallbackStep.TheVariants.{Claims};
+ghost use Rattle.percpu_rwsem.specs.declared.transitions.Transition.TheVariants.{Loads};
 
 use crate::grace::{Grace, GraceNext};
 use crate::sync_word::SyncWord;
@@ -29,6 +31,18 @@ pub struct Callback {
 }
 
 impl Callback {
+    /// A callback before its first event.
+    #[inline(always)]
+    pub fn new(level: u8, tasks: u8) -> Callback
+        ensures { result ≡ record { level = level; tasks = tasks; step = Claims Loads } }
+    {
+        Callback {
+            level,
+            tasks,
+            step: CallbackStep::Claims(Transition::Loads),
+        }
+    }
+
     /// The word and the touch of the next event.
     #[inline(always)]
     pub fn next(self) -> (WordName, Touch)

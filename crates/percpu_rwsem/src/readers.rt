@@ -3,6 +3,7 @@
 ghost use Rattle.std.specs.Prelude.{◌≡◌};
 ghost use Rattle.percpu_rwsem.specs.SyncWords.{unpack};
 ghost use Rattle.percpu_rwsem.specs.Readers.{down_read_next, down_read_after, step_found, up_read_next, up_read_after};
+ghost use Rattle.percpu_rwsem.specs.declared.readers.DownReadStep.TheVariants.{EntersSection};
 
 use crate::sync_word::{GpState, SyncWord};
 use access_model::{Action, Gate, GateError, Next, Reply};
@@ -68,6 +69,20 @@ impl DownReadStep {
 }
 
 impl DownRead {
+    /// A down-read before its first event.
+    #[inline(always)]
+    pub fn new(level: u8, cpu: u8, task: u8, wait: bool) -> DownRead
+        ensures { result ≡ record { level = level; cpu = cpu; task = task; wait = wait; step = EntersSection } }
+    {
+        DownRead {
+            level,
+            cpu,
+            task,
+            wait,
+            step: DownReadStep::EntersSection,
+        }
+    }
+
     /// The word and the touch of the next event.
     #[inline(always)]
     pub fn next(self) -> (WordName, Touch)

@@ -1,4 +1,1 @@
-pub mod Digits
-pub mod Positions
 pub mod Verbs
-pub mod Printed

@@ -3,10 +3,10 @@
 ghost use Rattle.std.specs.Prelude.{◌≡◌, bytes_eq};
 ghost use Rattle.schedule_text.specs.Commands.{holder_named, hook_named, kind_named};
 
-use crate::words::is_word;
 use access_model::{Holder, Kind};
 use freeze_levels::HookKind;
 use gate_world::{Config, Op};
+use schedule_lines::words::is_word;
 
 /// That a hook answers a code, from 1 to 65,535, in place of Ok.
 #[derive(Clone, Copy)]

@@ -9,19 +9,19 @@ use Rattle.std.proofs.lemmas.List.Sums.{sum_by-append}
 use lib.Seq.{take-take}
 use Rattle.access_model.specs.declared.errors.GateError.TheVariants.{NoMemory}
 use Rattle.schedule_text.specs.declared.commands.Line.{Line}
-use Rattle.schedule_text.specs.declared.faults.Fault.{Fault}
-use Rattle.schedule_text.specs.declared.faults.Fault.TheVariants.{TooManyLines, LineTooLong, CutOff, ConfigExpected, ReadFailed, WriteFailed, Refused}
-use Rattle.schedule_text.specs.declared.lines.Front.TheVariants.{Line as WholeLine, TooLong, Part}
-use Rattle.schedule_text.specs.Lines.{is_newline, front_of}
+use Rattle.schedule_lines.specs.declared.faults.Fault.{Fault}
+use Rattle.schedule_lines.specs.declared.faults.Fault.TheVariants.{TooManyLines, LineTooLong, CutOff, ConfigExpected, ReadFailed, WriteFailed, Refused}
+use Rattle.schedule_lines.specs.declared.lines.Front.TheVariants.{Line as WholeLine, TooLong, Part}
+use Rattle.schedule_lines.specs.Lines.{is_newline, front_of}
 use Rattle.schedule_text.specs.Parsing.{parsed}
-use Rattle.schedule_text.specs.bytes.Reading.{ReadsOn}
+use Rattle.schedule_lines.specs.bytes.Reading.{ReadsOn}
 use Rattle.transcripts.specs.Replayed.{IsFront, MayGoOn, PrintsBefore, EndsWhole, EndsBy, Reports, Replayed}
 use Rattle.transcripts.specs.Transcript.{Play, Transcript, stops, ends, ends_or, then_prints, tasks_of, line_effect, transcript_from, transcript}
 use Rattle.transcripts.specs.Replaying.{GoesOn, Stops}
-use Rattle.schedule_text.specs.bytes.Writing.{AppendsPart}
-use Rattle.schedule_text.specs.declared.bytes.replay_faults.ReplayFault.{ReplayFault}
+use Rattle.schedule_lines.specs.bytes.Writing.{AppendsPart}
+use Rattle.schedule_lines.specs.declared.bytes.replay_faults.ReplayFault.{ReplayFault}
 use Rattle.transcripts.proofs.Faults.{is_own, ends_by_own, ends_whole, fault_of_parsed, fault_of_effect}
-use Rattle.schedule_text.proofs.bytes.Fronts.{line_within, line_stays, line_alone, too_long_stays, part_short, part_lines, one_line, none_part}
+use Rattle.schedule_lines.proofs.bytes.Fronts.{line_within, line_stays, line_alone, too_long_stays, part_short, part_lines, one_line, none_part}
 use Rattle.transcripts.proofs.Unrolled.{after_line, line_fault, effect_fault, long_fault, part_ends, lines_spent, none_left, part_silent, none_sound, part_sound}
 
 -- ---- the first of some bytes

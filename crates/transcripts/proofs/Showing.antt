@@ -14,7 +14,7 @@ use Rattle.gate_world.specs.declared.operations.Op.{Op}
 use Rattle.gate_world.specs.Worlds.{World, Entry, Begins, Steps, happens, action_of, with_action, task_of}
 use Rattle.gate_schedules.specs.Answers.{step_answer}
 use Rattle.gate_schedules.specs.declared.steps.Step.{Step}
-use Rattle.schedule_text.specs.declared.faults.Fault.{Fault}
+use Rattle.schedule_lines.specs.declared.faults.Fault.{Fault}
 use Rattle.transcripts.specs.Transcript.{Play, played, after_event}
 use Rattle.transcripts.specs.Sessions.{ShowsPlay, ShowsPlayIfAny}
 use Rattle.transcripts.specs.declared.session.Session.{Session}

@@ -11,9 +11,9 @@ use Rattle.cpu_words.specs.declared.names.WordName.TheVariants.{MountFlags, Moun
 use Rattle.cpu_words.specs.Names.{IsWord}
 use Rattle.gate_world.specs.Configs.{extents_of}
 use Rattle.gate_world.specs.declared.config.Config.{Config}
-use Rattle.schedule_text.specs.declared.output.Output.{Output}
-use Rattle.schedule_text.specs.Printed.{Prints}
-use Rattle.schedule_text.proofs.Printed.{prints_both, prints_same}
+use Rattle.schedule_lines.specs.declared.output.Output.{Output}
+use Rattle.schedule_lines.specs.Printed.{Prints}
+use Rattle.schedule_lines.proofs.Printed.{prints_both, prints_same}
 use Rattle.transcripts.specs.Transcript.{Play, count_up, word_text, texts_of, words_of_all, mount_words, level_words, printed_words, printed_tree_words, word_in, words_text, tree_words_text}
 
 -- the texts of one number more

@@ -1,16 +1,16 @@
 -- The transcript of bytes by their first line.
 use Rattle.std.proofs.Common.{◌≡◌, ℕ, zero, suc, ◌+◌, refl, ap, subst, ◌∙◌, sym, List, [], ◌∷◌, take, drop, Option, Some, None, Result, Ok, Err, inl, inr}
 use Rattle.schedule_text.specs.declared.commands.Line.{Line}
-use Rattle.schedule_text.specs.declared.faults.Fault.{Fault}
-use Rattle.schedule_text.specs.declared.faults.Fault.TheVariants.{LineTooLong, CutOff, TooManyLines}
-use Rattle.schedule_text.specs.declared.lines.Front.{Front}
-use Rattle.schedule_text.specs.declared.lines.Front.TheVariants.{Line as WholeLine, TooLong, Part}
-use Rattle.schedule_text.specs.Lines.{front_of}
+use Rattle.schedule_lines.specs.declared.faults.Fault.{Fault}
+use Rattle.schedule_lines.specs.declared.faults.Fault.TheVariants.{LineTooLong, CutOff, TooManyLines}
+use Rattle.schedule_lines.specs.declared.lines.Front.{Front}
+use Rattle.schedule_lines.specs.declared.lines.Front.TheVariants.{Line as WholeLine, TooLong, Part}
+use Rattle.schedule_lines.specs.Lines.{front_of}
 use Rattle.schedule_text.specs.Parsing.{parsed}
 use Rattle.transcripts.specs.Replayed.{MayGoOn}
 use Rattle.transcripts.specs.Transcript.{Play, Transcript, stops, ends, ends_or, then_prints, tasks_of, line_effect, transcript_from}
 use Rattle.transcripts.proofs.Faults.{fault_of_effect}
-use Rattle.schedule_text.proofs.bytes.Fronts.{none_part}
+use Rattle.schedule_lines.proofs.bytes.Fronts.{none_part}
 
 -- after a line that is understood, by its fault
 abbrev by_effect : ℕ → ℕ → Option Play → List ℕ → ℕ → Line → Option Fault → Transcript

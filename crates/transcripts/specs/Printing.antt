@@ -5,7 +5,7 @@ use Rattle.cpu_words.specs.declared.events.Event.{Event}
 use Rattle.gate_schedules.specs.declared.steps.Progress.{Progress}
 use Rattle.gate_schedules.specs.declared.steps.Progress.TheVariants.{Idle, Going, Waiting, Done}
 use Rattle.gate_schedules.specs.declared.steps.Step.{Step}
-use Rattle.schedule_text.specs.Printing.{event_line, idle_line, waiting_line, answer_line}
+use Rattle.schedule_lines.specs.Printing.{event_line, idle_line, waiting_line, answer_line}
 
 -- the task has to look or try again
 abbrev pub is_waiting : Progress → Bool

@@ -1,9 +1,9 @@
 -- A replay that is under way, and one that a fault has ended: over whatever gates.
 use Rattle.std.specs.Prelude.{◌≡◌, ℕ, ◌+◌, ◌-◌, List, [], ◌++◌, Option, count_by}
 use Rattle.std.specs.Io.KnownBytes.{Appends, Consumes}
-use Rattle.schedule_text.specs.Lines.{is_newline}
-use Rattle.schedule_text.specs.declared.faults.Fault.{Fault}
-use Rattle.schedule_text.specs.declared.faults.Fault.TheVariants.{WriteFailed}
+use Rattle.schedule_lines.specs.Lines.{is_newline}
+use Rattle.schedule_lines.specs.declared.faults.Fault.{Fault}
+use Rattle.schedule_lines.specs.declared.faults.Fault.TheVariants.{WriteFailed}
 use Rattle.transcripts.specs.Replayed.{IsFront, EndsBy}
 use Rattle.transcripts.specs.Transcript.{Play, transcript, transcript_from, then_prints}
 

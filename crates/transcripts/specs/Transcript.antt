@@ -26,13 +26,13 @@ use Rattle.schedule_text.specs.declared.commands.Request.{Request}
 use Rattle.schedule_text.specs.declared.commands.Request.TheVariants.{Words, Tree, Model, Task}
 use Rattle.schedule_text.specs.declared.commands.TaskCommand.{TaskCommand}
 use Rattle.schedule_text.specs.declared.commands.TaskCommand.TheVariants.{Begin, Step, Run}
-use Rattle.schedule_text.specs.declared.faults.Fault.{Fault}
-use Rattle.schedule_text.specs.declared.faults.Fault.TheVariants.{TooManyLines, LineTooLong, CutOff, ConfigExpected, Refused}
-use Rattle.schedule_text.specs.declared.lines.Front.TheVariants.{Line as WholeLine, TooLong, Part}
+use Rattle.schedule_lines.specs.declared.faults.Fault.{Fault}
+use Rattle.schedule_lines.specs.declared.faults.Fault.TheVariants.{TooManyLines, LineTooLong, CutOff, ConfigExpected, Refused}
+use Rattle.schedule_lines.specs.declared.lines.Front.TheVariants.{Line as WholeLine, TooLong, Part}
 use Rattle.schedule_text.specs.Commands.{failing_answer}
-use Rattle.schedule_text.specs.Lines.{front_of}
+use Rattle.schedule_lines.specs.Lines.{front_of}
 use Rattle.schedule_text.specs.Parsing.{parsed}
-use Rattle.schedule_text.specs.Printing.{word_line, refused_line, model_line, holder_line, read_only_mount_line, held_mount_line, held_level_line, open_file_line, node_line}
+use Rattle.schedule_lines.specs.Printing.{word_line, refused_line, model_line, holder_line, read_only_mount_line, held_mount_line, held_level_line, open_file_line, node_line}
 use Rattle.transcripts.specs.Printing.{step_text, ended_text}
 use Rattle.transcripts.specs.Limits.{is_config}
 

@@ -1,7 +1,7 @@
 //! What is printed of a step, and of a run.
 
 ghost use Rattle.std.specs.Prelude.{◌≡◌};
-ghost use Rattle.schedule_text.specs.Printed.{Prints};
+ghost use Rattle.schedule_lines.specs.Printed.{Prints};
 ghost use Rattle.transcripts.specs.Printing.{step_text, reply_after, ended_text, is_waiting};
 
 use gate_core::{Progress, Step};

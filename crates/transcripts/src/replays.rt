@@ -4,4 +4,4 @@ pub mod line_replay;
 pub mod replay;
 
 pub use crate::{Core, Driver};
-pub use schedule_text::bytes::ReplayFault;
+pub use schedule_lines::bytes::ReplayFault;

@@ -1,8 +1,8 @@
 //! What a schedule drives: the gates, and the model beside them.
 
 ghost use Rattle.std.specs.Prelude.{◌≡◌, ◌≤◌, ◌<◌, ◌++◌, true, false, IsOk, IfOk, IfErr, OnOk, OnErr, Some};
-ghost use Rattle.schedule_text.specs.Printed.{Prints};
-ghost use Rattle.schedule_text.specs.declared.faults.Fault.TheVariants.{Refused};
+ghost use Rattle.schedule_lines.specs.Printed.{Prints};
+ghost use Rattle.schedule_lines.specs.declared.faults.Fault.TheVariants.{Refused};
 ghost use Rattle.access_model.specs.declared.errors.GateError.TheVariants.{Invalid, NoMemory};
 
 use crate::drivers::Driver;

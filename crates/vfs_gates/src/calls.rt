@@ -12,8 +12,9 @@ use crate::gates::Gates;
 use crate::task::Task;
 use access_model::{GateError, Next, Reply};
 use compounds::WritePhase;
+use gate_moves::{UnderWay, begin};
 use gate_steps::call_events::Progress;
-use gate_world::{Op, Phase, UnderWay};
+use gate_world::{Op, Phase};
 use mount_counts::{Change, ChangeStep, MountPhase, Want, WantStep};
 use percpu_rwsem::{DownRead, DownReadStep, UpRead};
 
@@ -54,7 +55,7 @@ impl Task {
         ensures { result ≡ beginning_at op self.now }
     {
         let under_way = self.kept.phase.is_some();
-        op.begin(self.config, self.number, under_way, &self.kept.accesses)
+        begin(op, self.config, self.number, under_way, &self.kept.accesses)
     }
 
     /// Does the events of the operation that has begun, which has a most number of them and asks no hook, until it replies.

@@ -5,7 +5,7 @@ use Rattle.asked_files.specs.race_texts.Calls.{Row, calls_after, calls_of, ended
 use Rattle.asked_files.specs.race_texts.Faults.{IsToldOrMemory}
 use Rattle.asked_files.specs.race_texts.Left.{AreLeftOf, BeginRace, Left, after_lines, behind, none_left}
 use Rattle.asked_files.specs.declared.race_texts.faults.RaceFault.{RaceFault}
-use Rattle.schedule_text.specs.declared.faults.Fault.{Fault}
+use Rattle.schedule_lines.specs.declared.faults.Fault.{Fault}
 
 -- behind a line after which this is called
 abbrev behind_call : ℕ → Option Fault → List (List ℕ) → Result (List Row) RaceFault → Result (List Row) RaceFault

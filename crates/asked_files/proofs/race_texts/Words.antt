@@ -3,7 +3,7 @@ use Rattle.std.proofs.Common.{◌≡◌, ℕ, ◌≤◌, Bool, List, length, Non
 use Rattle.std.proofs.lemmas.Bool.Decides.{nat_tests}
 use Rattle.std.proofs.lemmas.List.Sums.{prefix_len-le-length}
 use Rattle.std.specs.List.{position, position_or_len}
-use Rattle.schedule_text.specs.Words.{is_space, first_word}
+use Rattle.schedule_lines.specs.Words.{is_space, first_word}
 
 -- a word is no longer than the line
 pub word_within : (text : List ℕ) → length (first_word text) ≤ length text

@@ -4,9 +4,9 @@ use Rattle.access_model.specs.declared.errors.GateError.{GateError}
 use Rattle.access_model.specs.declared.errors.GateError.TheVariants.{NoMemory}
 use Rattle.asked_files.specs.declared.race_texts.faults.RaceFault.{RaceFault}
 use Rattle.asked_files.specs.declared.race_texts.faults.RaceFault.TheVariants.{Schedule, RaceExpected, RaceTwice, UnderWay, CallExpected, TooManyCalls, HookTwice}
-use Rattle.schedule_text.specs.declared.bytes.replay_faults.ReplayFault.{ReplayFault}
-use Rattle.schedule_text.specs.Faults.{text_of, cause_of}
-use Rattle.schedule_text.specs.declared.faults.Fault.TheVariants.{Refused}
+use Rattle.schedule_lines.specs.declared.bytes.replay_faults.ReplayFault.{ReplayFault}
+use Rattle.schedule_lines.specs.Faults.{text_of, cause_of}
+use Rattle.schedule_lines.specs.declared.faults.Fault.TheVariants.{Refused}
 
 -- the text that is printed of a fault
 abbrev pub text_told : RaceFault → List ℕ

@@ -4,10 +4,10 @@ use Rattle.asked_files.specs.race_texts.Calls.{calls_of, is_race, no_calls}
 use Rattle.asked_files.specs.declared.race_texts.faults.RaceFault.{RaceFault}
 use Rattle.asked_files.specs.declared.race_texts.lines.Lines.{Lines}
 use Rattle.races.specs.declared.calls.Call.{Call}
-use Rattle.schedule_text.specs.Lines.{front_of}
-use Rattle.schedule_text.specs.declared.faults.Fault.{Fault}
-use Rattle.schedule_text.specs.declared.faults.Fault.TheVariants.{TooManyLines, LineTooLong, CutOff}
-use Rattle.schedule_text.specs.declared.lines.Front.TheVariants.{Line as WholeLine, TooLong, Part}
+use Rattle.schedule_lines.specs.Lines.{front_of}
+use Rattle.schedule_lines.specs.declared.faults.Fault.{Fault}
+use Rattle.schedule_lines.specs.declared.faults.Fault.TheVariants.{TooManyLines, LineTooLong, CutOff}
+use Rattle.schedule_lines.specs.declared.lines.Front.TheVariants.{Line as WholeLine, TooLong, Part}
 
 -- the lines that follow one another, and the fault behind the last of them, if they don't end there
 pub record Left : Type 0 where

@@ -6,15 +6,15 @@ ghost use Rattle.asked_files.specs.race_texts.Calls.{no_calls, count_of, with_ca
 ghost use Rattle.asked_files.specs.race_texts.Faults.{IsToldOrMemory};
 ghost use Rattle.asked_files.specs.race_texts.Left.{calls_left, left_in};
 ghost use Rattle.schedule_text.specs.Parsing.{parsed};
-ghost use Rattle.schedule_text.specs.Printed.{Prints};
-ghost use Rattle.schedule_text.specs.declared.faults.Fault.TheVariants.{Refused};
+ghost use Rattle.schedule_lines.specs.Printed.{Prints};
+ghost use Rattle.schedule_lines.specs.declared.faults.Fault.TheVariants.{Refused};
 ghost use Rattle.access_model.specs.declared.errors.GateError.TheVariants.{NoMemory};
 
 use crate::race_texts::faults::RaceFault;
 use crate::race_texts::lines::{Lines, is_race};
 use gate_world::Op;
 use races::{CALLS, Call, Race};
-use schedule_text::words::{after_word, first_word};
+use schedule_lines::words::{after_word, first_word};
 use schedule_text::{Fault, HookFailure, Line, Output, Request, TaskCommand, parse};
 use std::alloc::{AllocError, Global};
 use transcripts::{no_memory, settled};

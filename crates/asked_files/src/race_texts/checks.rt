@@ -3,7 +3,7 @@
 use crate::race_texts::setting_up::{Watch, do_setting};
 use crate::race_texts::{Lines, RaceFault, RaceFile, tell_briefly};
 use exploration::Stop;
-use schedule_text::bytes::ReplayFault;
+use schedule_lines::bytes::ReplayFault;
 use schedule_text::{LINES, Output};
 use std::alloc::{AllocError, Global};
 use transcripts::{Core, Session};

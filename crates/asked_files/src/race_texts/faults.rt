@@ -3,8 +3,8 @@
 ghost use Rattle.std.specs.Prelude.{◌≡◌, ◌≤◌};
 
 use access_model::GateError;
+use schedule_lines::bytes::ReplayFault;
 use schedule_text::Fault;
-use schedule_text::bytes::ReplayFault;
 
 /// Why a race is refused at a line.
 #[derive(Clone, Copy)]

@@ -7,7 +7,7 @@ use crate::race_texts::calls::Calls;
 use crate::race_texts::faults::RaceFault;
 use crate::race_texts::lines::Lines;
 use crate::race_texts::setting_up::set_up;
-use schedule_text::bytes::ReplayFault;
+use schedule_lines::bytes::ReplayFault;
 use std::alloc::Global;
 use transcripts::{Core, Session, no_memory};
 

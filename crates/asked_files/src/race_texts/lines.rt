@@ -4,8 +4,8 @@ ghost use Rattle.std.specs.Prelude.{◌≡◌, ◌<◌, ◌≤◌, ◌+◌, leng
 ghost use Rattle.asked_files.specs.race_texts.Calls.{is_race};
 
 use crate::race_texts::faults::RaceFault;
-use schedule_text::bytes::ReplayFault;
-use schedule_text::words::{first_word, word_count};
+use schedule_lines::bytes::ReplayFault;
+use schedule_lines::words::{first_word, word_count};
 use schedule_text::{Fault, Front, LINES, front_of};
 
 /// The lines that are left, and how many were taken.

@@ -1,7 +1,7 @@
 //! The text of an outcome.
 
 ghost use Rattle.std.specs.Prelude.{◌≡◌, IfOk, slice_get};
-ghost use Rattle.schedule_text.specs.Printed.{Prints};
+ghost use Rattle.schedule_lines.specs.Printed.{Prints};
 ghost use Rattle.asked_files.specs.race_texts.Texts.{told_answer, course_text, outcome_text};
 
 use access_model::{GateError, Reply};

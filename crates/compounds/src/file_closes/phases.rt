@@ -7,7 +7,7 @@ ghost use Rattle.compounds.specs.file_closes.Phases.{next, after, closed_from, e
 use access_model::{Action, Gate, GateError, Next, Reply};
 use cpu_words::{Touch, WordName};
 use node_words::NodeWord;
-use percpu_rwsem::{DownRead, DownReadStep, UpRead};
+use percpu_rwsem::{DownRead, UpRead};
 
 /// A close of a file by a task, on a processor. One that doesn't wait is refused where it would have to.
 #[derive(Clone, Copy, PartialEq, Eq)]
@@ -73,6 +73,19 @@ fn closed(node: NodeWord) -> NodeWord
 }
 
 impl Closing {
+    /// A close before its first event.
+    #[inline(always)]
+    pub fn new(file: u8, cpu: u8, task: u8, wait: bool) -> Closing
+        ensures { result ≡ record { file = file; cpu = cpu; task = task; wait = wait } }
+    {
+        Closing {
+            file,
+            cpu,
+            task,
+            wait,
+        }
+    }
+
     /// The begin of a down-read of level 3.
     fn enters(self, node: NodeWord) -> ClosePhase
         ensures { result ≡ enters self node }
@@ -80,13 +93,7 @@ impl Closing {
         ClosePhase::Enters {
             file: self.file,
             node,
-            read: DownRead {
-                level: 3,
-                cpu: self.cpu,
-                task: self.task,
-                wait: self.wait,
-                step: DownReadStep::EntersSection,
-            },
+            read: DownRead::new(3, self.cpu, self.task, self.wait),
         }
     }
 

@@ -5,9 +5,9 @@ use Rattle.std.specs.Result.{result_and}
 use Rattle.access_model.specs.declared.errors.GateError.{GateError}
 use Rattle.access_model.specs.declared.errors.GateError.TheVariants.{Order}
 use Rattle.gate_world.specs.declared.config.Config.{Config}
-use Rattle.gate_runs.specs.declared.run_parts.counts.Remounts.{Remounts}
-use Rattle.gate_runs.specs.declared.run_parts.counts.Writes.{Writes}
-use Rattle.gate_runs.specs.declared.run_parts.plans.Plan.{Plan}
+use Rattle.run_plans.specs.declared.counts.Remounts.{Remounts}
+use Rattle.run_plans.specs.declared.counts.Writes.{Writes}
+use Rattle.run_plans.specs.declared.plans.Plan.{Plan}
 use Rattle.gate_runs.specs.run_parts.Counts.{both}
 use Rattle.gate_runs.specs.run_parts.Meetings.{was_held}
 use Rattle.gate_runs.specs.run_parts.Refusals.{RunRefused}

@@ -12,10 +12,10 @@ use Rattle.gate_world.specs.declared.views.View.{View}
 use Rattle.gate_runs.specs.run_parts.Seating.{SeatItems, HaveViews, numbered, times}
 use Rattle.gate_runs.specs.run_parts.TaskStates.{TaskState, own_number, own_view, spare_of, refusal_at}
 use Rattle.gate_runs.specs.run_parts.Runs.{Replies, ran_items}
-use Rattle.gate_runs.specs.declared.run_parts.counts.Copies.{Copies}
-use Rattle.gate_runs.specs.declared.run_parts.counts.Details.{Details}
-use Rattle.gate_runs.specs.declared.run_parts.counts.Remounts.{Remounts}
-use Rattle.gate_runs.specs.declared.run_parts.counts.Writes.{Writes}
+use Rattle.run_plans.specs.declared.counts.Copies.{Copies}
+use Rattle.run_plans.specs.declared.counts.Details.{Details}
+use Rattle.run_plans.specs.declared.counts.Remounts.{Remounts}
+use Rattle.run_plans.specs.declared.counts.Writes.{Writes}
 use Rattle.gate_runs.specs.run_parts.Counts.{both, no_remounts, no_writes, remounts_of, with_waits}
 use Rattle.gate_runs.specs.run_parts.Meetings.{was_held}
 use Rattle.gate_runs.specs.run_parts.Rounds.{Repeats, CallsBack, CreatesFile, CreatesFiles, IsRefused, Retries, Takes, Waits, RemountRound, WriterRound, BackupRound}

@@ -8,9 +8,10 @@ use Rattle.gate_world.specs.declared.operations.Op.{Op}
 use Rattle.gate_world.specs.declared.operations.Op.TheVariants.{ChangeMount, WantWrite, DropWrite, Callback, Freeze, Thaw, Create, Grow, Snapshot}
 use Rattle.vfs_gates.specs.TaskStates.{TaskState}
 use Rattle.vfs_gates.specs.Runs.{Performs, Replies, node_of, ran_of}
-use Rattle.gate_runs.specs.declared.run_parts.counts.Copies.{Copies}
-use Rattle.gate_runs.specs.declared.run_parts.counts.Writes.{Writes}
-use Rattle.gate_runs.specs.declared.run_parts.counts.Remounts.{Remounts}
+use Rattle.run_plans.specs.declared.counts.Copies.{Copies}
+use Rattle.run_plans.specs.declared.counts.Writes.{Writes}
+use Rattle.run_plans.specs.declared.counts.Remounts.{Remounts}
+use Rattle.run_plans.specs.Plans.{processor_of}
 use Rattle.gate_runs.specs.run_parts.Counts.{blocks_of, with_copy, with_ran, with_round, with_waits}
 
 -- so many rounds from one state to another, by their numbers from 0, each going on where the one before it ended
@@ -69,10 +70,6 @@ pub record RemountRound (round : ℕ) (first last : TaskState × Remounts) : Typ
   pub closed : Closes busy first.0 mid
   pub opened : Does (ChangeMount 0 false true) mid last.0
   pub counts : last.1 ≡ record { busy = first.1.busy + busy; waits = with_waits (with_waits first.1.waits mid) last.0 }
-
--- the processor on which a writer, the first being 0, begins a round; it goes on to the next in each
-abbrev pub processor_of : ℕ → ℕ → ℕ → ℕ
-processor_of processors writer round = (writer + round) % processors
 
 -- The rounds that a watch is called in: a task goes on, and so do its notes and its counts. `link` is what the watch says of a call, by the task
 -- as it stands at that moment.

@@ -1,7 +1,7 @@
 -- What the task of a thread comes home with: the remounter, which has number 1, and each writer.
 use Rattle.std.specs.Prelude.{◌≡◌, ℕ, ◌+◌, Result, IfErr, IfOk}
 use Rattle.access_model.specs.declared.errors.GateError.{GateError}
-use Rattle.gate_runs.specs.declared.run_parts.plans.Plan.{Plan}
+use Rattle.run_plans.specs.declared.plans.Plan.{Plan}
 use Rattle.gate_runs.specs.run_parts.Counts.{no_remounts, no_writes}
 use Rattle.gate_runs.specs.run_parts.Meetings.{was_held}
 use Rattle.gate_runs.specs.run_parts.Refusals.{MetBy}

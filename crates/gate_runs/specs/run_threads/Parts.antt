@@ -3,10 +3,10 @@ use Rattle.std.specs.Prelude.{◌≡◌, ℕ, suc, ◌+◌, ◌-◌, ◌≤◌, 
 use Rattle.gate_world.specs.declared.views.View.{View}
 use Rattle.gate_runs.specs.run_parts.Seating.{SeatItems, numbered}
 use Rattle.gate_runs.specs.run_parts.TaskStates.{TaskState, IsIdle, own_number, own_view, spare_of}
-use Rattle.gate_runs.specs.declared.run_parts.counts.Copies.{Copies}
-use Rattle.gate_runs.specs.declared.run_parts.counts.Details.{Details}
-use Rattle.gate_runs.specs.declared.run_parts.counts.Remounts.{Remounts}
-use Rattle.gate_runs.specs.declared.run_parts.counts.Writes.{Writes}
+use Rattle.run_plans.specs.declared.counts.Copies.{Copies}
+use Rattle.run_plans.specs.declared.counts.Details.{Details}
+use Rattle.run_plans.specs.declared.counts.Remounts.{Remounts}
+use Rattle.run_plans.specs.declared.counts.Writes.{Writes}
 use Rattle.gate_runs.specs.run_parts.Counts.{all_writes, no_copies, no_remounts, no_writes, remounts_of}
 use Rattle.gate_runs.specs.run_parts.Meetings.{was_frozen, was_held}
 use Rattle.gate_runs.specs.run_parts.Rounds.{Repeats, CreatesFiles, RemountRound, WriterRound, BackupRound}

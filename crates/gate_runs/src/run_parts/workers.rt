@@ -10,11 +10,10 @@ ghost use Rattle.gate_world.specs.declared.operations.Op.TheVariants.{ChangeMoun
 ghost use Rattle.gate_world.specs.declared.views.Snapshot.{Snapshot};
 ghost use Rattle.vfs_gates.specs.TaskStates.{IsFrom, own_number, own_view};
 
-use crate::run_parts::counts::{Copies, Remounts, Writes};
 use crate::run_parts::meetings::NotedWatch;
-use crate::run_parts::plans::{MOUNT, Plan};
 use access_model::{GateError, Holder, Kind};
 use crossbeam_utils::Backoff;
+use run_plans::{Copies, MOUNT, Plan, Remounts, Writes};
 use std::sync::Wait;
 use vfs_gates::{Gates, Task};
 

@@ -9,11 +9,9 @@ ghost use Rattle.gate_runs.specs.run_parts.Refusals.{MetBy, RunRefused};
 ghost use Rattle.gate_runs.specs.run_parts.Splitting.{Gives, HasBegun};
 ghost use Rattle.gate_runs.specs.run_parts.TaskStates.{IsFrom, TaskState, own_view};
 
-use crate::run_parts::{
-    Details, FIRST_WRITER, Gates, Plan, Remounts, Task, Watch, Writes, back_up, create_files,
-    remount, write,
-};
+use crate::run_parts::{Gates, Task, back_up, create_files, remount, write};
 use access_model::GateError;
+use run_plans::{Details, FIRST_WRITER, Plan, Remounts, Watch, Writes};
 use std::alloc::Global;
 use std::sync::Wait;
 use std::thread;

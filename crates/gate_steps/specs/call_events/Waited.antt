@@ -1,5 +1,5 @@
 -- How often an operation comes to a wait: how many of its events found what it waits for.
-use Rattle.std.specs.Prelude.{◌≡◌, ℕ, ◌+◌, ◌-◌, ◌^◌, min, Option, Some, None, Result, List, [], ◌∷◌}
+use Rattle.std.specs.Prelude.{◌≡◌, ℕ, ◌+◌, Option, Some, None, Result, List, [], ◌∷◌}
 use Rattle.access_model.specs.declared.errors.GateError.{GateError}
 use Rattle.access_model.specs.declared.replies.Next.{Next}
 use Rattle.access_model.specs.declared.replies.Next.TheVariants.{Go, Wait, Done}
@@ -11,6 +11,7 @@ use Rattle.gate_world.specs.declared.views.Traced.{Traced}
 use Rattle.gate_world.specs.declared.views.View.{View}
 use Rattle.gate_world.specs.declared.work.Phase.{Phase}
 use Rattle.gate_world.specs.Courses.{course_of}
+pub use Rattle.gate_world.specs.Counted.{counted}
 use Rattle.gate_steps.specs.call_events.Runs.{Called, Goes}
 use Rattle.gate_steps.specs.call_events.TaskStates.{TaskState, own_number, own_view}
 
@@ -31,10 +32,6 @@ waits_by c t (Some op) trace = waits_in c t op trace
 
 abbrev pub waits_of : Config → ℕ → View → ℕ
 waits_of c t v = waits_by c t v.op v.trace
-
--- so often; a count stands still at 2^64 - 1
-abbrev pub counted : ℕ → ℕ
-counted n = min n (2 ^ 64 - 1)
 
 -- how often the last operation of a task with these numbers came to a wait
 abbrev pub waited_of : Config → SeatItems → ℕ

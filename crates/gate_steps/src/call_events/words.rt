@@ -12,7 +12,8 @@ ghost use Rattle.gate_steps.specs.Seating.{Acts, IsMove, items_after, Spares, ke
 
 use crate::{Closed, GateTable, Items};
 use cpu_words::Event;
-use gate_world::{Config, Op, UnderWay};
+use gate_moves::UnderWay;
+use gate_world::{Config, Op};
 use std::alloc::{AllocError, Global};
 
 /// The seat of a task at the table.

@@ -2,7 +2,7 @@
 use Rattle.std.specs.Prelude.{◌≡◌, ℕ, Bool, true, List, [], Option, None}
 use Rattle.std.specs.Io.KnownBytes.{IsAtEnd}
 use Rattle.transcripts.specs.Sessions.{Showing, ShowsPlayIfAny}
-use Rattle.schedule_text.specs.bytes.Pending.{pending}
+use Rattle.schedule_lines.specs.bytes.Pending.{pending}
 use Rattle.transcripts.specs.Replaying.{GoesOn}
 use Rattle.transcripts.specs.Transcript.{Play}
 use Rattle.transcripts.specs.declared.replays.line_replay.LineReplay.{LineReplay}

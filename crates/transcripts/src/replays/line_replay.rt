@@ -3,21 +3,21 @@
 ghost use Rattle.std.specs.Prelude.{◌≡◌, ◌≤◌, ◌<◌, ◌+◌, ◌-◌, ◌++◌, ◌⊎◌, ℕ, List, [], true, false, Option, IfOk, IfErr, OnOk, OnErr, IfSome, IsSome, length};
 ghost use Rattle.std.specs.Io.KnownBytes.{Appends, IsAtEnd};
 ghost use Rattle.access_model.specs.declared.errors.GateError.TheVariants.{NoMemory};
-ghost use Rattle.schedule_text.specs.Lines.{front_of};
+ghost use Rattle.schedule_lines.specs.Lines.{front_of};
 ghost use Rattle.schedule_text.specs.declared.commands.Line.TheVariants.{Request as RequestLine};
-ghost use Rattle.schedule_text.specs.declared.faults.Fault.TheVariants.{ConfigExpected, WriteFailed, Refused};
-ghost use Rattle.schedule_text.specs.declared.lines.Front.TheVariants.{Line as WholeLine, Part};
+ghost use Rattle.schedule_lines.specs.declared.faults.Fault.TheVariants.{ConfigExpected, WriteFailed, Refused};
+ghost use Rattle.schedule_lines.specs.declared.lines.Front.TheVariants.{Line as WholeLine, Part};
 ghost use Rattle.transcripts.specs.replays.LineReplays.{ReplayGoesOn, ReplayShows, IsNewReplay, IsDoneReplay};
 ghost use Rattle.transcripts.specs.Sessions.{ShowsPlayIfAny};
 ghost use Rattle.transcripts.specs.Limits.{IsLineNumber};
-ghost use Rattle.schedule_text.specs.bytes.Pending.{pending, pending_count};
+ghost use Rattle.schedule_lines.specs.bytes.Pending.{pending, pending_count};
 ghost use Rattle.transcripts.specs.Replayed.{Replayed};
 ghost use Rattle.transcripts.specs.Replaying.{Stops};
 ghost use Rattle.transcripts.specs.Transcript.{Play, line_effect, tasks_of};
-ghost use Rattle.schedule_text.specs.bytes.Writing.{AppendsPart};
+ghost use Rattle.schedule_lines.specs.bytes.Writing.{AppendsPart};
 
 use crate::{Driver, Session, settled};
-use schedule_text::bytes::{Input, ReplayFault, fault_after, write_out};
+use schedule_lines::bytes::{Input, ReplayFault, fault_after, write_out};
 use schedule_text::{Fault, Front, LINES, Line, Output, Request, parse};
 use std::alloc::{AllocError, Global};
 use std::io::{Read, Write};

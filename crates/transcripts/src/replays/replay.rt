@@ -6,7 +6,7 @@ ghost use Rattle.transcripts.specs.Replayed.{Replayed};
 
 use crate::replays::line_replay::LineReplay;
 use crate::{Core, Driver, no_memory};
-use schedule_text::bytes::{ReplayFault, fault_after};
+use schedule_lines::bytes::{ReplayFault, fault_after};
 use std::alloc::Global;
 use std::io::{Read, Write};
 

@@ -9,7 +9,7 @@ use Rattle.std.proofs.lemmas.Nat.{mul-le}
 use Rattle.std.proofs.lemmas.Result.{err_from_is_err_and}
 use Rattle.gate_world.specs.Configs.{IsWithin}
 use Rattle.gate_runs.specs.run_threads.Parts.{Among, EndsAs}
-use Rattle.gate_runs.specs.run_parts.Plans.{MayRun, run_config}
+use Rattle.run_plans.specs.Plans.{MayRun, run_config}
 use Rattle.gate_runs.specs.run_parts.Refusals.{RunRefused}
 use Rattle.gate_runs.specs.run_parts.Splitting.{Gives, HasBegun}
 use Rattle.gate_runs.proofs.run_parts.Splitting.{first_begins, gives_all}

@@ -1,10 +1,10 @@
 -- the plan is what was asked for
 use Rattle.std.proofs.Common.{◌≡◌, ℕ, refl, subst}
 use Rattle.std.proofs.lemmas.Result.{err_from_is_err_and}
-use Rattle.gate_runs.specs.declared.run_parts.plans.Plan.{Plan}
+use Rattle.run_plans.specs.declared.plans.Plan.{Plan}
 use Rattle.gate_runs.specs.run_parts.Meetings.{unseen}
 use Rattle.gate_runs.specs.Told.{TellsRun}
-use Rattle.gate_runs.specs.run_parts.Plans.{run_config}
+use Rattle.run_plans.specs.Plans.{run_config}
 use Rattle.gate_runs.specs.run_parts.Refusals.{RunRefused}
 use Rattle.gate_runs.proofs.runs.run_with.Goals as goal
 

@@ -1,5 +1,5 @@
 use Rattle.std.proofs.Common.{◌<◌, ap, arith, length}
-use Rattle.schedule_text.proofs.Printed.{prints_same}
+use Rattle.schedule_lines.proofs.Printed.{prints_same}
 use Rattle.asked_files.specs.race_texts.Told.{AsksNone, line_of}
 use Rattle.asked_files.proofs.race_texts.Parts.{none_told, one_told}
 use Rattle.asked_files.proofs.race_texts.telling.tell_listed.Goals as goal

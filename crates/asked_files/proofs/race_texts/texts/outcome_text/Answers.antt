@@ -1,7 +1,7 @@
 use Rattle.std.proofs.Common.{◌∙◌, sym, ap, subst}
-use Rattle.schedule_text.specs.declared.output.Output.{Output}
-use Rattle.schedule_text.specs.Printed.{Prints}
-use Rattle.schedule_text.proofs.Printed.{prints_nothing, prints_same}
+use Rattle.schedule_lines.specs.declared.output.Output.{Output}
+use Rattle.schedule_lines.specs.Printed.{Prints}
+use Rattle.schedule_lines.proofs.Printed.{prints_nothing, prints_same}
 use Rattle.asked_files.specs.race_texts.Texts.{course_part, task_part}
 use Rattle.transcripts.proofs.Texts.{one_more}
 use Rattle.asked_files.proofs.race_texts.texts.outcome_text.Goals as goal

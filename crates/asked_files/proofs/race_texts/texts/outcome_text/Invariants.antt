@@ -1,5 +1,5 @@
 use Rattle.std.specs.List.{flat_map}
-use Rattle.schedule_text.specs.Printed.{Prints}
+use Rattle.schedule_lines.specs.Printed.{Prints}
 use Rattle.transcripts.specs.Transcript.{count_up}
 use Rattle.asked_files.specs.race_texts.Texts.{task_part}
 use Rattle.asked_files.proofs.race_texts.texts.outcome_text.Given as goal

@@ -1,6 +1,6 @@
 use Rattle.std.proofs.Common.{take}
 use Rattle.std.specs.List.{flat_map}
-use Rattle.schedule_text.specs.Printed.{Prints}
+use Rattle.schedule_lines.specs.Printed.{Prints}
 use Rattle.asked_files.specs.race_texts.Texts.{answer_part}
 use Rattle.asked_files.proofs.race_texts.texts.print_course.Given as goal
 

@@ -1,6 +1,6 @@
 -- one freeze more
 use Rattle.std.proofs.Common.{◌≡◌, ◌+◌, ap, arith, subst, ◌∙◌}
-use Rattle.gate_runs.specs.declared.run_parts.counts.Copies.{Copies}
+use Rattle.run_plans.specs.declared.counts.Copies.{Copies}
 use Rattle.gate_runs.proofs.run_parts.Repeating.{one_more}
 use Rattle.gate_runs.specs.run_parts.Counts.{blocks_of, no_copies, with_copy, with_waits}
 use Rattle.gate_runs.specs.run_parts.Rounds.{BackupRound, CallsBack, Repeats}

@@ -1,7 +1,7 @@
 use Rattle.std.proofs.Common.{ap, ◌∙◌}
 use Rattle.access_model.specs.declared.errors.GateError.TheVariants.{NoMemory}
-use Rattle.schedule_text.specs.Faults.{text_of, cause_of}
-use Rattle.schedule_text.specs.declared.faults.Fault.TheVariants.{Refused}
+use Rattle.schedule_lines.specs.Faults.{text_of, cause_of}
+use Rattle.schedule_lines.specs.declared.faults.Fault.TheVariants.{Refused}
 use Rattle.transcripts.specs.Replayed.{Reports}
 use Rattle.transcripts.proofs.Replaying.{never_begun}
 use Rattle.transcripts.proofs.replays.replay.replay_to_end.Goals as goal

@@ -1,8 +1,8 @@
 use Rattle.std.proofs.Common.{◌≡◌, ◌++◌, ◌∙◌, refl, sym, subst}
 use Rattle.std.specs.Prelude.{OnOk, Result}
 use Rattle.access_model.specs.declared.errors.GateError.{GateError}
-use Rattle.schedule_text.specs.Printing.{refused_line}
-use Rattle.schedule_text.proofs.Printed.{printed_if_whole}
+use Rattle.schedule_lines.specs.Printing.{refused_line}
+use Rattle.schedule_lines.proofs.Printed.{printed_if_whole}
 use Rattle.transcripts.specs.Transcript.{begin_text}
 use Rattle.transcripts.proofs.Showing.{after_begin}
 use Rattle.transcripts.proofs.session.Session.begin.Goals as goal

@@ -3,7 +3,7 @@ use Rattle.std.specs.Prelude.{OnOk}
 use Rattle.gate_schedules.specs.Answers.{step_answer}
 use Rattle.gate_schedules.specs.declared.steps.Step.{Step}
 use Rattle.schedule_text.specs.declared.commands.TaskCommand.{TaskCommand}
-use Rattle.schedule_text.proofs.Printed.{printed_if_whole}
+use Rattle.schedule_lines.proofs.Printed.{printed_if_whole}
 use Rattle.transcripts.specs.Printing.{step_text}
 use Rattle.transcripts.specs.Transcript.{command_outcome}
 use Rattle.transcripts.proofs.Showing.{same_step}

@@ -1,6 +1,6 @@
 use Rattle.std.specs.List.{flat_map}
 use Rattle.cpu_words.specs.declared.names.WordName.TheVariants.{Section}
-use Rattle.schedule_text.specs.Printed.{Prints}
+use Rattle.schedule_lines.specs.Printed.{Prints}
 use Rattle.transcripts.specs.Transcript.{count_up, word_text}
 use Rattle.transcripts.proofs.session.Session.print_sections.Given as goal
 

@@ -1,6 +1,6 @@
 use Rattle.std.proofs.Common.{◌∙◌, ap}
 use Rattle.gate_world.specs.declared.config.Config.{Config}
-use Rattle.schedule_text.proofs.Printed.{prints_same}
+use Rattle.schedule_lines.proofs.Printed.{prints_same}
 use Rattle.transcripts.specs.Transcript.{texts_of, printed_words}
 use Rattle.transcripts.proofs.Texts.{all_words, shown_words}
 use Rattle.transcripts.proofs.session.Session.print_words.Goals as goal

@@ -1,5 +1,5 @@
 use Rattle.std.specs.List.{flat_map}
-use Rattle.schedule_text.specs.Printed.{Prints}
+use Rattle.schedule_lines.specs.Printed.{Prints}
 use Rattle.transcripts.specs.Transcript.{count_up, mount_words, texts_of}
 use Rattle.transcripts.proofs.session.Session.print_words_of_mounts.Given as goal
 

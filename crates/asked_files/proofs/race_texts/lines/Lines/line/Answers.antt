@@ -3,7 +3,7 @@ use Rattle.std.proofs.lemmas.Bool.{eqb-true}
 use Rattle.asked_files.proofs.race_texts.Left.{of_front, first_of, some_part, some_bytes, too_many, no_bytes}
 use Rattle.asked_files.specs.race_texts.Left.{left_in, behind}
 use Rattle.asked_files.proofs.race_texts.lines.Lines.line.Goals as goal
-use Rattle.schedule_text.specs.declared.faults.Fault.TheVariants.{TooManyLines, CutOff}
+use Rattle.schedule_lines.specs.declared.faults.Fault.TheVariants.{TooManyLines, CutOff}
 
 pub returns-then-is_empty-clause-none : goal.returns-then-is_empty-clause-none
 returns-then-is_empty-clause-none c e =

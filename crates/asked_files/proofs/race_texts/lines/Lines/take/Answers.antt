@@ -2,7 +2,7 @@ use Rattle.std.proofs.Common.{◌∙◌, refl, sym, ap, ◌+◌, ◌-◌}
 use Rattle.asked_files.proofs.race_texts.Left.{of_front, none_behind, front_behind, no_first, part_lines}
 use Rattle.asked_files.specs.race_texts.Left.{behind, lines_in}
 use Rattle.asked_files.proofs.race_texts.lines.Lines.take.Goals as goal
-use Rattle.schedule_text.specs.declared.faults.Fault.TheVariants.{CutOff}
+use Rattle.schedule_lines.specs.declared.faults.Fault.TheVariants.{CutOff}
 
 pub returns-then-self-ge-LINES-clause-left : goal.returns-then-self-ge-LINES-clause-left
 returns-then-self-ge-LINES-clause-left c = none_behind c.args.self.now.done c.args.self.now.rest.now c.if-self-ge-LINES.true

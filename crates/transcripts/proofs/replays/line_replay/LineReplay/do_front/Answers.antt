@@ -1,7 +1,7 @@
 use Rattle.std.proofs.Common.{◌≡◌, ◌∙◌, ◌+◌, sym, ap, Ok, Err, take, drop}
 use Rattle.std.proofs.lemmas.Result.{err_from_is_err_and}
 use Rattle.schedule_text.specs.Parsing.{parsed}
-use Rattle.schedule_text.specs.bytes.Pending.{pending}
+use Rattle.schedule_lines.specs.bytes.Pending.{pending}
 use Rattle.transcripts.specs.Transcript.{tasks_of, line_effect}
 use Rattle.transcripts.proofs.Replaying.{bad_line, failed_line, line_done}
 use Rattle.transcripts.proofs.replays.line_replay.LineReplay.do_front.Goals as goal

@@ -1,8 +1,8 @@
 use Rattle.std.proofs.Common.{◌≡◌, ℕ, refl, ap, arith, Bool, false, Option, None, Result, Ok}
 use Rattle.std.specs.Prelude.{IsSome}
 use Rattle.std.proofs.lemmas.Result.{err_from_is_err_and, IfOk-at_ok, IfErr-weaker}
-use Rattle.schedule_text.specs.declared.faults.Fault.{Fault}
-use Rattle.schedule_text.specs.bytes.Pending.{pending}
+use Rattle.schedule_lines.specs.declared.faults.Fault.{Fault}
+use Rattle.schedule_lines.specs.bytes.Pending.{pending}
 use Rattle.transcripts.proofs.Replaying.{same, writes_out, write_filled, no_config, all_done}
 use Rattle.transcripts.proofs.replays.Sameness.{same_session}
 use Rattle.transcripts.proofs.Showing.{no_play, a_play}

@@ -1,6 +1,6 @@
 use Rattle.std.proofs.Common.{ap, ◌∙◌}
-use Rattle.schedule_text.specs.Faults.{text_of, cause_of}
-use Rattle.schedule_text.specs.declared.faults.Fault.TheVariants.{WriteFailed}
+use Rattle.schedule_lines.specs.Faults.{text_of, cause_of}
+use Rattle.schedule_lines.specs.declared.faults.Fault.TheVariants.{WriteFailed}
 use Rattle.transcripts.specs.Replayed.{Reports}
 use Rattle.transcripts.proofs.Replaying.{ended, ended_early}
 use Rattle.transcripts.proofs.replays.line_replay.LineReplay.ended.Goals as goal

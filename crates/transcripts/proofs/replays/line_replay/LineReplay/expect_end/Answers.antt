@@ -1,7 +1,7 @@
 use Rattle.std.proofs.Common.{◌≡◌, ap, ◌∙◌, refl, arith}
 use Rattle.std.proofs.lemmas.Result.{err_from_is_err_and}
-use Rattle.schedule_text.specs.Lines.{front_of}
-use Rattle.schedule_text.proofs.bytes.Fronts.{none_part}
+use Rattle.schedule_lines.specs.Lines.{front_of}
+use Rattle.schedule_lines.proofs.bytes.Fronts.{none_part}
 use Rattle.transcripts.proofs.Replaying.{too_many, no_config, all_done}
 use Rattle.transcripts.proofs.Showing.{no_play, a_play}
 use Rattle.transcripts.proofs.replays.line_replay.LineReplay.expect_end.Goals as goal

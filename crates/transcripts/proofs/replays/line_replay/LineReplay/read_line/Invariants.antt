@@ -1,5 +1,5 @@
 use Rattle.std.proofs.Common.{ℕ, ◌-◌, List, Option, length}
-use Rattle.schedule_text.specs.bytes.Pending.{pending}
+use Rattle.schedule_lines.specs.bytes.Pending.{pending}
 use Rattle.transcripts.specs.replays.LineReplays.{ReplayGoesOn}
 use Rattle.transcripts.proofs.replays.line_replay.LineReplay.read_line.Given as goal
 

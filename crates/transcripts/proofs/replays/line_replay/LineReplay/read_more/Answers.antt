@@ -1,7 +1,7 @@
 use Rattle.std.proofs.Common.{ℕ, refl, ap}
 use Rattle.std.proofs.lemmas.Result.{err_from_is_err_and, IfOk-weaker}
-use Rattle.schedule_text.specs.declared.faults.Fault.TheVariants.{ReadFailed}
-use Rattle.schedule_text.specs.bytes.Pending.{pending}
+use Rattle.schedule_lines.specs.declared.faults.Fault.TheVariants.{ReadFailed}
+use Rattle.schedule_lines.specs.bytes.Pending.{pending}
 use Rattle.transcripts.proofs.Replaying.{same, reads_on, writes_out, read_failed, write_failed, nothing_read, fails_by}
 use Rattle.transcripts.proofs.replays.Sameness.{same_session}
 use Rattle.transcripts.proofs.replays.line_replay.LineReplay.read_more.Goals as goal

@@ -1,0 +1,110 @@
+//! A replay, as the command line asks for it: of a file or of standard input, in whatever form, over the core or over the gates that threads use.
+
+ghost use Rattle.std.specs.Prelude.{◌≡◌, ◌⊎◌, ℕ, List, None, Some};
+ghost use Rattle.std.specs.Borrow.{Bor};
+ghost use Rattle.command_line.specs.CommandLine.{IsPlain};
+ghost use Rattle.endings.specs.declared.ends.Ending.TheVariants.{Refused};
+ghost use Rattle.asked_replays.specs.Replays.{EndsReplayed, EndsReplayedFile, IsRefusedUnread, done_in, done_of};
+
+use command_line::{Form, Replay};
+use driven_gates::GatesDriver;
+use endings::{Ending, unopened};
+use replays_told::{Telling, replay_told, show_told};
+use std::alloc::Global;
+use std::fs;
+use std::io::{Read, Stderr, Write};
+use std::rt::Files;
+use transcripts::replays::Core;
+
+/// What a person is told who is to type a schedule.
+const AWAITED: &str =
+    "mntgate: type a schedule, from 'config TASKS CPUS MOUNTS NODES CAPACITY' on; Ctrl-D ends it";
+
+/// Where a person is.
+#[derive(Drop)]
+pub struct Person {
+    /// Standard error, where it is a terminal.
+    pub watches: Option<Stderr>,
+    /// Whether standard input is one.
+    pub types: bool,
+}
+
+/// Replays a schedule: that of a file, or that of the reader.
+pub fn run_replay<R: Files, I: Read, W: Write, E: Write>(
+    rt: &R,
+    alloc: Global,
+    asked: Replay<'_>,
+    reader: &mut I,
+    writer: &mut W,
+    errors: &mut E,
+    person: &Person,
+) -> Ending
+    ensures ends { (result ≡ done_of asked.entry.file (done_in asked.entry.form asked.entry.over_gates)) ⊎ (result ≡ Refused) }
+    ensures plain { IsPlain asked.entry → asked.entry.file ≡ None → EndsReplayed
+        (I.remaining reader.old) (I.remaining reader.new) (W.contents writer.old) (W.contents writer.new) result }
+    ensures of_file { (file : Bor (List ℕ)) → IsPlain asked.entry → asked.entry.file ≡ Some file →
+        EndsReplayedFile (W.contents writer.old) (W.contents writer.new) result
+        ⊎ IsRefusedUnread (I.remaining reader.old) (I.remaining reader.new) (W.contents writer.old) (W.contents writer.new) result }
+{
+    let telling = Telling {
+        file: asked.file,
+        explains: asked.explain || person.watches.is_some(),
+    };
+    match asked.file {
+        Some(file) => match fs::open(rt, file) {
+            Ok(mut opened) => {
+                replay_as(alloc, asked, telling, &mut opened, writer, errors).of_file()
+            }
+            Err(error) => unopened(file, &error, errors),
+        },
+        None => {
+            if person.types {
+                let _ = writeln!(errors, "{AWAITED}");
+            }
+            replay_as(alloc, asked, telling, reader, writer, errors)
+        }
+    }
+}
+
+/// Replays the schedule of a reader in the form that is asked for.
+fn replay_as<I: Read, W: Write, E: Write>(
+    alloc: Global,
+    asked: Replay<'_>,
+    telling: Telling<'_>,
+    reader: &mut I,
+    writer: &mut W,
+    errors: &mut E,
+) -> Ending
+    ensures ends { (result ≡ done_in asked.entry.form asked.entry.over_gates) ⊎ (result ≡ Refused) }
+    ensures plain { IsPlain asked.entry → EndsReplayed
+        (I.remaining reader.old) (I.remaining reader.new) (W.contents writer.old) (W.contents writer.new) result }
+{
+    let form = match asked.form {
+        Form::Plain if asked.over_gates => {
+            return match replay_told::<GatesDriver, I, W, E>(
+                alloc, telling, reader, writer, errors,
+            ) {
+                Ok(()) => Ending::DoneOverGates,
+                Err(_) => Ending::Refused,
+            };
+        }
+        Form::Plain => {
+            return match replay_told::<Core, I, W, E>(alloc, telling, reader, writer, errors) {
+                Ok(()) => Ending::Done,
+                Err(_) => Ending::Refused,
+            };
+        }
+        Form::Events => shown_events::Form::Events,
+        Form::Columns => shown_events::Form::Columns,
+        Form::Json => shown_events::Form::Json,
+    };
+    let ended = if asked.over_gates {
+        show_told::<GatesDriver, I, W, E>(alloc, form, telling, reader, writer, errors)
+    } else {
+        show_told::<Core, I, W, E>(alloc, form, telling, reader, writer, errors)
+    };
+    match ended {
+        Ok(()) => Ending::Shown,
+        Err(_) => Ending::Refused,
+    }
+}

@@ -1,0 +1,11 @@
+//! How the program ends: its exit statuses, and what it tells of a fault on the writer of faults; and the bytes that a command line asks for,
+//! or how the program ends where they can't be read.
+#![tactic(auto)]
+
+pub mod ends;
+pub mod reading;
+
+pub use ends::{
+    Ending, fault_told, refused, text_told, unopened, unreadable, why_told, why_told_of,
+};
+pub use reading::read_bytes;

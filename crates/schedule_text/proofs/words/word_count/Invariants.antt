@@ -1,8 +1,0 @@
-use Rattle.std.proofs.Common.{◌≡◌, ◌+◌, take}
-use Rattle.std.specs.Prelude.{count_by}
-use Rattle.schedule_text.specs.Words.{is_space}
-use Rattle.schedule_text.proofs.words.word_count.Given as goal
-
--- one more than there are spaces so far
-abbrev pub invariant-loop-byte : goal.invariant-loop-byte
-invariant-loop-byte l = l.words ≡ 1 + count_by is_space (take l.byte-index l.line)

@@ -1,0 +1,129 @@
+//! A schedule, shown line by line.
+
+ghost use Rattle.std.specs.Prelude.{◌<◌};
+ghost use Rattle.schedule_lines.specs.bytes.Pending.{pending_count};
+
+use crate::forms::Form;
+use crate::screen::Screen;
+use schedule_lines::bytes::{Input, ReplayFault, fault_after};
+use schedule_text::{Fault, Front, LINE_BYTES, LINES, parse};
+use std::alloc::{AllocError, Global};
+use std::io::{Read, Write};
+use transcripts::{Driver, Session};
+
+/// How many turns all lines and what follows them take at most: of each line one for itself, and one for each byte of it that was read alone.
+const TURNS: usize = (LINES as usize + 1) * (LINE_BYTES + 2);
+
+/// A schedule that is shown, over whatever gates.
+#[derive(Drop)]
+pub struct Show<D> {
+    input: Input,
+    session: Option<Session<D>>,
+    screen: Screen,
+}
+
+impl<D: Driver> Show<D> {
+    /// Nothing read and nothing printed yet.
+    pub fn new(alloc: Global, form: Form) -> Result<Show<D>, AllocError> {
+        let input = Input::new(alloc)?;
+        Ok(Show {
+            input,
+            session: None,
+            screen: Screen::new(alloc, form),
+        })
+    }
+
+    /// Gates that were set up before, with no configuration to be read.
+    pub fn over(alloc: Global, form: Form, session: Session<D>) -> Result<Show<D>, AllocError> {
+        match Input::new(alloc) {
+            Ok(input) => {
+                let mut screen = Screen::new(alloc, form);
+                screen.begin(session.tasks());
+                Ok(Show {
+                    input,
+                    session: Some(session),
+                    screen,
+                })
+            }
+            Err(refused) => {
+                // By a call: to drop all its parts in line costs the proof more.
+                drop(session);
+                Err(refused)
+            }
+        }
+    }
+
+    /// What was read from the line on that is to be done next; after a fault, from the faulty line on.
+    pub fn rest(&self) -> &[u8] {
+        self.input.pending()
+    }
+
+    /// How many tasks there are, once there is a configuration.
+    pub fn tasks(&self) -> Option<u8> {
+        self.screen.tasks
+    }
+
+    /// Does and shows all lines, or those up to the first fault, which is the one that a replay ends by. What is typed is answered at once.
+    pub fn do_lines<R: Read, W: Write>(
+        &mut self,
+        reader: &mut R,
+        writer: &mut W,
+    ) -> Result<(), ReplayFault> {
+        // Each turn that goes on does a line or reads a byte or more.
+        for _ in 0..TURNS {
+            match self.turn(reader, writer) {
+                Ok(true) => {}
+                Ok(false) => break,
+                Err(fault) => return Err(self.ended(fault, writer)),
+            }
+        }
+        Ok(())
+    }
+
+    /// Writes out what was shown before a fault. Where that fails, this is the fault.
+    fn ended<W: Write>(&mut self, fault: Fault, writer: &mut W) -> ReplayFault {
+        let fault = match self.screen.page.write_out(writer) {
+            Ok(()) => fault,
+            Err(failed) => failed,
+        };
+        fault_after(self.screen.page.lines.min(LINES), fault)
+    }
+
+    /// Does a line, or reads more where there is none that is whole; says whether it goes on.
+    fn turn<R: Read, W: Write>(&mut self, reader: &mut R, writer: &mut W) -> Result<bool, Fault> {
+        if self.screen.page.lines == LINES && !self.input.is_empty() {
+            return Err(Fault::TooManyLines);
+        }
+        match self.input.front() {
+            Front::Line(length) => self.do_line(length),
+            Front::TooLong => Err(Fault::LineTooLong),
+            Front::Part => self.read_more(reader, writer),
+        }
+    }
+
+    /// Writes out what was shown, and only then reads more, if there is more.
+    fn read_more<R: Read, W: Write>(
+        &mut self,
+        reader: &mut R,
+        writer: &mut W,
+    ) -> Result<bool, Fault> {
+        self.screen.page.write_out(writer)?;
+        match self.input.read(reader)? {
+            0 if !self.input.is_empty() => Err(Fault::CutOff),
+            0 if self.session.is_none() => Err(Fault::ConfigExpected),
+            count => Ok(count > 0),
+        }
+    }
+
+    /// Does and shows the line that the pending bytes begin with, and takes it, with its newline.
+    fn do_line(&mut self, length: usize) -> Result<bool, Fault>
+        requires inside { length < pending_count self.old.input }
+    {
+        let line = parse(self.input.first(length), self.screen.tasks)?;
+        self.screen.do_line(&mut self.session, line);
+        self.screen.page.settle()?;
+        self.screen.page.lines = self.screen.page.lines.saturating_add(1);
+        self.input.take(length + 1);
+        Ok(true)
+    }
+}
