@@ -3,9 +3,11 @@ pub mod Parting
 pub mod Splitting
 pub mod Closing
 pub mod Ending
+pub mod Gating
 pub mod Admitting
 pub mod Calling
 pub mod Waiting
+pub mod Noting
 pub mod Rooming
 pub mod Seeing
 pub mod Taking

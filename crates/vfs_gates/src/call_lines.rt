@@ -9,6 +9,7 @@ ghost use Rattle.gate_steps.specs.call_events.TaskStates.{TaskState, task_state}
 ghost use Rattle.gate_steps.specs.call_events.Turns.{IsTied, StayTied, of_write, taking};
 ghost use Rattle.compounds.specs.declared.write_access.phases.WritePhase.TheVariants.{Drops};
 ghost use Rattle.gate_steps.specs.call_events.Waited.{GoesWaiting, WentWaiting};
+ghost use Rattle.vfs_gates.specs.Lines.{of_read, of_want};
 
 mod changes;
 mod grows;
@@ -141,6 +142,57 @@ impl Placed for WritePhase {
     }
 }
 
+/// The last three events of a want that finds nothing in its way, in a line: whether the mount may be written. What comes after the last
+/// of them. They are a function of their own since the compiler takes no hint for one that five events stand in, and calls it.
+#[inline]
+fn ask_in_line(
+    gates: &GateWords,
+    seat: &mut Seat,
+    accesses: &mut Accesses,
+    next: Next<Want>,
+) -> Next<Want>
+    requires table { seat.old.table_id ≡ gates.now.table.shared.table_id }
+    requires tied { IsTied gates.now.config None (phase_after (of_want next)) accesses.old seat.old.me.0 }
+    ensures table { seat.new.table_id ≡ seat.old.table_id }
+    ensures slots { seat.new.me.1 ≡ seat.old.me.1 }
+    ensures tied { StayTied gates.now.config None (phase_after (of_want next)) accesses.old seat.old.me.0
+        (phase_after (of_want result)) accesses.new seat.new.me.0 }
+    ensures went { (waits : ℕ) (op : OpType) (start : TaskState) →
+        WentWaiting waits op start (of_want next)
+        (task_state seat.old.table_id gates.now.config None (phase_after (of_want next)) seat.old.me.0) →
+        WentWaiting waits op start (of_want result)
+        (task_state seat.new.table_id gates.now.config None (phase_after (of_want result)) seat.new.me.0) }
+{
+    let next = go_on_if(gates, seat, accesses, next, WantStep::LoadsRemount);
+    let next = go_on_if(gates, seat, accesses, next, WantStep::LoadsReadOnly);
+    go_on_if(gates, seat, accesses, next, WantStep::LoadsSuperblock)
+}
+
+/// The same of a start that finds its level idle: the load of its sync word, its count, and the end of its section.
+#[inline]
+fn count_in_line(
+    gates: &GateWords,
+    seat: &mut Seat,
+    accesses: &mut Accesses,
+    next: Next<DownRead>,
+) -> Next<DownRead>
+    requires table { seat.old.table_id ≡ gates.now.table.shared.table_id }
+    requires tied { IsTied gates.now.config None (phase_after (of_read next)) accesses.old seat.old.me.0 }
+    ensures table { seat.new.table_id ≡ seat.old.table_id }
+    ensures slots { seat.new.me.1 ≡ seat.old.me.1 }
+    ensures tied { StayTied gates.now.config None (phase_after (of_read next)) accesses.old seat.old.me.0
+        (phase_after (of_read result)) accesses.new seat.new.me.0 }
+    ensures went { (waits : ℕ) (op : OpType) (start : TaskState) →
+        WentWaiting waits op start (of_read next)
+        (task_state seat.old.table_id gates.now.config None (phase_after (of_read next)) seat.old.me.0) →
+        WentWaiting waits op start (of_read result)
+        (task_state seat.new.table_id gates.now.config None (phase_after (of_read result)) seat.new.me.0) }
+{
+    let next = go_on_if(gates, seat, accesses, next, DownReadStep::LoadsSync);
+    let next = go_on_if(gates, seat, accesses, next, DownReadStep::CountsUpFast);
+    go_on_if(gates, seat, accesses, next, DownReadStep::LeavesAdmitted)
+}
+
 impl InLine for Want {
     #[inline(always)]
     fn go_in_line(
@@ -152,9 +204,7 @@ impl InLine for Want {
     ) -> Next<Want> {
         let next = go_on(gates, seat, accesses, begins, self, Ok(()));
         let next = go_on_if(gates, seat, accesses, next, WantStep::LoadsHold);
-        let next = go_on_if(gates, seat, accesses, next, WantStep::LoadsRemount);
-        let next = go_on_if(gates, seat, accesses, next, WantStep::LoadsReadOnly);
-        go_on_if(gates, seat, accesses, next, WantStep::LoadsSuperblock)
+        ask_in_line(gates, seat, accesses, next)
     }
 }
 
@@ -181,9 +231,7 @@ impl InLine for DownRead {
         begins: Option<Op>,
     ) -> Next<DownRead> {
         let next = go_on(gates, seat, accesses, begins, self, Ok(()));
-        let next = go_on_if(gates, seat, accesses, next, DownReadStep::LoadsSync);
-        let next = go_on_if(gates, seat, accesses, next, DownReadStep::CountsUpFast);
-        go_on_if(gates, seat, accesses, next, DownReadStep::LeavesAdmitted)
+        count_in_line(gates, seat, accesses, next)
     }
 }
 

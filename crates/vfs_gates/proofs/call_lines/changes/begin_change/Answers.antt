@@ -7,3 +7,10 @@ returns-clause-tied c number flags ties =
     (c.go_on_if-next-2.ensures.tied number flags
     (c.go_on_if-next.ensures.tied number flags
     (c.go_on-next.ensures.tied number flags ties)))
+
+pub returns-clause-went : goal.returns-clause-went
+returns-clause-went c waits op start goes =
+    c.go_on_if.ensures.went waits op start
+    (c.go_on_if-next-2.ensures.went waits op start
+    (c.go_on_if-next.ensures.went waits op start
+    (c.go_on-next.ensures.went waits op start goes)))

@@ -1,12 +1,15 @@
-use Rattle.std.proofs.Common.{◌≡◌, ◌*◌, ◌%◌, ◌<◌, ℕ, Some, sym, ap, ◌∙◌, subst, arith}
+use Rattle.std.proofs.Common.{◌≡◌, ◌*◌, ◌%◌, ◌<◌, ℕ, Some, sym, ap, ◌∙◌, subst, arith, refl, true≢false}
 use Rattle.std.specs.Prelude.{slice_index}
 use Rattle.std.specs.Slots.{slots_items}
 use Rattle.finite_sums.specs.Sums.{total}
 use Rattle.access_model.specs.declared.actions.Gate.{Gate}
-use Rattle.cpu_words.specs.Names.{place, stride}
-use Rattle.vfs_gates.specs.Sums.{count_word}
+use Rattle.cpu_words.specs.Names.{IsWord, place, stride}
+use Rattle.cpu_words.specs.declared.names.WordName.{WordName}
+use Rattle.gate_world.specs.Configs.{extents_of}
+use Rattle.vfs_gates.specs.Sums.{IsGate, count_word}
 use Rattle.vfs_gates.specs.Ended.{Ending}
 use Rattle.vfs_gates.proofs.Ending.{sums_to_none, level_sums_to_none}
+use Rattle.vfs_gates.proofs.Gating.{has_count, is_gate}
 use Rattle.vfs_gates.proofs.closed.Closed.gate_sum.Goals as goal
 
 pub returns-clause-mounts : goal.returns-clause-mounts
@@ -33,3 +36,31 @@ returns-clause-there c there = let w = c.self.inside in
     Some (total e.config.processors (λ p. slice_index e.words (stride * place (count_word c.args.gate p))) % 18446744073709551616)) c.self.view_is
     (ap (λ (v : ℕ). Some v) (c.loop-cpu.invariant ∙
     ap (λ (n : ℕ). total n (λ p. slice_index (slots_items w.closed.words) (stride * place (count_word c.args.gate p))) % 18446744073709551616) all))
+
+pub returns-then-not-has_word-clause-there : goal.returns-then-not-has_word-clause-there
+returns-then-not-has_word-clause-there c there = let w = c.self.inside in
+    let gate : IsGate w.config c.args.gate = subst (λ (e : Ending). IsGate e.config c.args.gate) (sym c.self.view_is) there in
+    let word : IsWord (extents_of w.config) c.count_of.result =
+    subst (λ (n : WordName). IsWord (extents_of w.config) n) (sym c.count_of.ensures) (has_count w.config c.self.invariant.0 c.args.gate gate) in
+    absurd (true≢false (sym (c.if-not-has_word.ensures.1 word)))
+
+pub returns-clause-not_there : goal.returns-clause-not_there
+returns-clause-not_there c not_there = let w = c.self.inside in
+    let word : IsWord (extents_of w.config) (count_word c.args.gate 0) =
+    subst (λ (n : WordName). IsWord (extents_of w.config) n) c.count_of.ensures (c.if-not-has_word.ensures.0 refl) in
+    absurd (not_there (subst (λ (e : Ending). IsGate e.config c.args.gate) c.self.view_is (is_gate w.config c.args.gate word)))
+
+pub returns-then-not-has_word-clause-mounts : goal.returns-then-not-has_word-clause-mounts
+returns-then-not-has_word-clause-mounts c m is lt = let w = c.self.inside in
+    let gate : IsGate w.config c.args.gate = subst (λ (g : Gate). IsGate w.config g) (sym is)
+    (subst (λ (e : Ending). m < e.config.mounts) (sym c.self.view_is) lt) in
+    let word : IsWord (extents_of w.config) c.count_of.result =
+    subst (λ (n : WordName). IsWord (extents_of w.config) n) (sym c.count_of.ensures) (has_count w.config c.self.invariant.0 c.args.gate gate) in
+    absurd (true≢false (sym (c.if-not-has_word.ensures.1 word)))
+
+pub returns-then-not-has_word-clause-levels : goal.returns-then-not-has_word-clause-levels
+returns-then-not-has_word-clause-levels c i is l1 l3 = let w = c.self.inside in
+    let gate : IsGate w.config c.args.gate = subst (λ (g : Gate). IsGate w.config g) (sym is) (l1, l3) in
+    let word : IsWord (extents_of w.config) c.count_of.result =
+    subst (λ (n : WordName). IsWord (extents_of w.config) n) (sym c.count_of.ensures) (has_count w.config c.self.invariant.0 c.args.gate gate) in
+    absurd (true≢false (sym (c.if-not-has_word.ensures.1 word)))

@@ -1,6 +1,8 @@
 -- an event of a snapshot is noted, and one of any other operation leaves the room as it is
 use Rattle.std.proofs.Common.{ap, ◌∙◌}
+use Rattle.gate_world.specs.declared.work.Phase.TheVariants.{Trees}
 use Rattle.vfs_gates.specs.Room.{is_of_snapshot}
+use Rattle.vfs_gates.proofs.Noting.{follows_taking}
 use Rattle.vfs_gates.proofs.Rooming.{follows_other, not_tree, not_snapshot}
 use Rattle.vfs_gates.proofs.rooms.Rooms.follow.Goals as goal
 
@@ -12,3 +14,8 @@ pub returns-in_default-call : goal.returns-in_default-call
 returns-in_default-call c nodes begins hook found items there is h =
     follows_other c.args.self.now c.args.phase c.args.event.found
     (ap is_of_snapshot c.in-Trees.is ∙ not_snapshot c.in-Trees.call c.in_default-call.not-Snapshot) nodes begins hook found items there h
+
+pub returns-in-Snapshot : goal.returns-in-Snapshot
+returns-in-Snapshot c nodes begins hook found items there is h =
+    follows_taking c.args.self.now _ c.args.phase c.in-Snapshot.snapshot (c.in-Trees.is ∙ ap Trees c.in-Snapshot.is) c.args.event
+    c.note.ensures.goes_on c.note.ensures.ends nodes begins hook found items there is h
