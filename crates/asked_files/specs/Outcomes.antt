@@ -12,7 +12,7 @@ use Rattle.schedule_lines.specs.bytes.Writing.{AppendsPart}
 use Rattle.asked_files.specs.declared.race_texts.telling.Details.{Details}
 use Rattle.asked_files.specs.declared.race_texts.telling.Schedules.{Schedules}
 use Rattle.asked_files.specs.declared.race_texts.telling.Schedules.TheVariants.{Untold, Lines, Columns}
-use Rattle.asked_files.specs.race_texts.Left.{IsRaceIn, lines_in}
+use Rattle.race_files.specs.Left.{IsRaceIn, lines_in}
 use Rattle.asked_files.specs.race_texts.Told.{Tells}
 
 -- in which form schedules are told

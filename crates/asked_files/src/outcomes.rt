@@ -6,11 +6,12 @@ ghost use Rattle.endings.specs.declared.ends.Ending.TheVariants.{Listed, Refused
 ghost use Rattle.asked_files.specs.Outcomes.{EndsTold, TellsRace, schedules_as};
 ghost use Rattle.schedule_lines.specs.bytes.Writing.{AppendsPart};
 
-use crate::race_texts::{Details, Schedules, read_race, tell};
+use crate::race_texts::{Details, Schedules, tell};
 use access_model::GateError;
 use command_line::Outcomes;
 use endings::{Ending, fault_told, read_bytes, refused, why_told, why_told_of};
 use exploration::Stop;
+use race_files::read_race;
 use schedule_lines::bytes::write_out;
 use schedule_text::Output;
 use std::alloc::{AllocError, Global};

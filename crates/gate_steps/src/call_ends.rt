@@ -14,7 +14,7 @@ use crate::call_events::{GateWords, Seat, TimedHooks, Turn, do_event, go_on};
 use access_model::{GateError, Next, Reply};
 use crossbeam_utils::Backoff;
 use freeze_levels::{Freeze, FreezeStep, HookCall, Thaw, ThawStep};
-use gate_moves::UnderWay;
+use gate_events::UnderWay;
 use gate_world::{Accesses, Op};
 use mount_counts::{Remount, RemountStep};
 use percpu_rwsem::{Callback, CallbackStep, DownWriteStep};

@@ -10,7 +10,7 @@ ghost use Rattle.gate_steps.specs.Seating.{Acts, IsMove, items_after, Spares, ke
 use crate::rule::{Given, Gives, Happens, Items, Moment, Rule, TakesBack};
 use atomic_table::{Seat, Shared};
 use cpu_words::{Event, STRIDE, Touch, WordName};
-use gate_moves::UnderWay;
+use gate_events::UnderWay;
 use gate_world::{Config, Op};
 use std::marker::Brand;
 

@@ -1,6 +1,6 @@
 //! The world that every schedule and every table moves: the words, and one view per task number. Here stand the
-//! configuration, the operations and their beginnings, what a task holds and is at, and what one entry of a schedule does. How each move is
-//! done in code stands in `gate_moves`.
+//! configuration, the operations and their beginnings, what a task holds and is at, and what one entry of a schedule does. The code of
+//! beginnings and events stands in `gate_beginnings` and `gate_events`.
 #![tactic(auto)]
 
 pub mod accesses;

@@ -16,7 +16,7 @@ mod grows;
 
 use access_model::Next;
 use compounds::WritePhase;
-use gate_moves::UnderWay;
+use gate_events::UnderWay;
 use gate_steps::call_events::{GateWords, Seat, go_on};
 use gate_world::{Accesses, Op};
 use mount_counts::{MountPhase, Want, WantStep};

@@ -1,8 +1,9 @@
 //! What a schedule prints, compared with what it says of it.
 
-use crate::race_texts::setting_up::{Watch, do_setting};
-use crate::race_texts::{Lines, RaceFault, RaceFile, tell_briefly};
+use crate::race_texts::tell_briefly;
 use exploration::Stop;
+use race_files::setting_up::{Watch, do_setting};
+use race_files::{Lines, RaceFault, RaceFile};
 use schedule_lines::bytes::ReplayFault;
 use schedule_text::{LINES, Output};
 use std::alloc::{AllocError, Global};

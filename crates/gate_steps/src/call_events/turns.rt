@@ -15,7 +15,7 @@ ghost use Rattle.gate_world.specs.declared.operations.Op.{Op as OpType};
 use crate::call_events::words::{GateWords, Seat};
 use access_model::{Action, Next};
 use cpu_words::Event;
-use gate_moves::UnderWay;
+use gate_events::UnderWay;
 use gate_world::{Accesses, Op};
 
 /// An event, the action that it added, and what comes after it.

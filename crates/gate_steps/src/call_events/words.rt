@@ -12,7 +12,7 @@ ghost use Rattle.gate_steps.specs.Seating.{Acts, IsMove, items_after, Spares, ke
 
 use crate::{Closed, GateTable, Items};
 use cpu_words::Event;
-use gate_moves::UnderWay;
+use gate_events::UnderWay;
 use gate_world::{Config, Op};
 use std::alloc::{AllocError, Global};
 

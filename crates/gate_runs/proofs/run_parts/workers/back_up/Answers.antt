@@ -1,10 +1,95 @@
 -- one freeze more
-use Rattle.std.proofs.Common.{◌≡◌, ◌+◌, ap, arith, subst, ◌∙◌}
+use Rattle.std.proofs.Common.{◌≡◌, ◌+◌, ap, arith, refl, subst, ◌∙◌}
+use Rattle.std.proofs.lemmas.Result.{err_from_is_err_and}
+use Rattle.std.specs.Prelude.{true}
+use Rattle.access_model.specs.declared.actions.Holder.TheVariants.{User}
+use Rattle.gate_world.specs.declared.operations.Op.TheVariants.{Freeze, Snapshot, Thaw}
 use Rattle.run_plans.specs.declared.counts.Copies.{Copies}
-use Rattle.gate_runs.proofs.run_parts.Repeating.{one_more}
+use Rattle.gate_runs.proofs.run_parts.Repeating.{meets, met, one_more}
 use Rattle.gate_runs.specs.run_parts.Counts.{blocks_of, no_copies, with_copy, with_waits}
 use Rattle.gate_runs.specs.run_parts.Rounds.{BackupRound, CallsBack, Repeats}
 use Rattle.gate_runs.proofs.run_parts.workers.back_up.Goals as goal
+
+pub freeze-requires : goal.freeze-requires
+freeze-requires g c = c.loop-freeze.invariant.from
+
+pub take_snapshot-taken-requires : goal.take_snapshot-taken-requires
+take_snapshot-taken-requires g c =
+    (c.freeze.ensures.replies.table ∙ c.loop-freeze.invariant.from.0, c.freeze.ensures.replies.config ∙ c.loop-freeze.invariant.from.1)
+
+pub thaw-requires : goal.thaw-requires
+thaw-requires g c = c.take_snapshot-taken.ensures.from
+
+pub call_back-requires : goal.call_back-requires
+call_back-requires g c =
+    (c.thaw.ensures.replies.table ∙ c.take_snapshot-taken.ensures.from.0, c.thaw.ensures.replies.config ∙ c.take_snapshot-taken.ensures.from.1)
+
+pub returns-in_err-freeze-clause-from : goal.returns-in_err-freeze-clause-from
+returns-in_err-freeze-clause-from g c =
+    (c.freeze.ensures.replies.table ∙ c.loop-freeze.invariant.from.0, c.freeze.ensures.replies.config ∙ c.loop-freeze.invariant.from.1)
+
+pub returns-in_err-freeze-clause-all : goal.returns-in_err-freeze-clause-all
+returns-in_err-freeze-clause-all g c = let p = err_from_is_err_and c.from_residual.result c.from_residual.ensures.1 in rw p.1 tt
+
+pub returns-in_err-freeze-clause-rounds : goal.returns-in_err-freeze-clause-rounds
+returns-in_err-freeze-clause-rounds g c = let p = err_from_is_err_and c.from_residual.result c.from_residual.ensures.1 in rw p.1 tt
+
+pub returns-in_err-freeze-clause-refused : goal.returns-in_err-freeze-clause-refused
+returns-in_err-freeze-clause-refused g c =
+    let p = err_from_is_err_and c.from_residual.result c.from_residual.ensures.1 in
+    rw (p.1, p.2) (meets c.args.gates.now.words.config c.args.plan.tasks c.args.plan.processors (Freeze User) _ c.loop-freeze.task c.freeze.new.self refl
+    c.loop-freeze.invariant.from.1 c.in_err-freeze.ensures.replies)
+
+pub returns-in_err-thaw-clause-from : goal.returns-in_err-thaw-clause-from
+returns-in_err-thaw-clause-from g c =
+    (c.thaw.ensures.replies.table ∙ c.take_snapshot-taken.ensures.from.0, c.thaw.ensures.replies.config ∙ c.take_snapshot-taken.ensures.from.1)
+
+pub returns-in_err-thaw-clause-all : goal.returns-in_err-thaw-clause-all
+returns-in_err-thaw-clause-all g c = let p = err_from_is_err_and c.from_residual-in_err-thaw.result c.from_residual-in_err-thaw.ensures.1 in rw p.1 tt
+
+pub returns-in_err-thaw-clause-rounds : goal.returns-in_err-thaw-clause-rounds
+returns-in_err-thaw-clause-rounds g c =
+    let p = err_from_is_err_and c.from_residual-in_err-thaw.result c.from_residual-in_err-thaw.ensures.1 in rw p.1 tt
+
+pub returns-in_err-thaw-clause-refused : goal.returns-in_err-thaw-clause-refused
+returns-in_err-thaw-clause-refused g c =
+    let p = err_from_is_err_and c.from_residual-in_err-thaw.result c.from_residual-in_err-thaw.ensures.1 in
+    rw (p.1, p.2) (meets c.args.gates.now.words.config c.args.plan.tasks c.args.plan.processors (Thaw User) _ c.take_snapshot-taken.new.task c.thaw.new.self
+    refl c.take_snapshot-taken.ensures.from.1 c.in_err-thaw.ensures.replies)
+
+pub returns-in_err-blocks-clause-from : goal.returns-in_err-blocks-clause-from
+returns-in_err-blocks-clause-from g c =
+    (c.thaw.ensures.replies.table ∙ c.take_snapshot-taken.ensures.from.0, c.thaw.ensures.replies.config ∙ c.take_snapshot-taken.ensures.from.1)
+
+pub returns-in_err-blocks-clause-all : goal.returns-in_err-blocks-clause-all
+returns-in_err-blocks-clause-all g c =
+    let p = err_from_is_err_and c.from_residual-in_err-blocks.result c.from_residual-in_err-blocks.ensures.1 in rw p.1 tt
+
+pub returns-in_err-blocks-clause-rounds : goal.returns-in_err-blocks-clause-rounds
+returns-in_err-blocks-clause-rounds g c =
+    let p = err_from_is_err_and c.from_residual-in_err-blocks.result c.from_residual-in_err-blocks.ensures.1 in rw p.1 tt
+
+pub returns-in_err-blocks-clause-refused : goal.returns-in_err-blocks-clause-refused
+returns-in_err-blocks-clause-refused g c =
+    let p = err_from_is_err_and c.from_residual-in_err-blocks.result c.from_residual-in_err-blocks.ensures.1 in
+    rw (p.1, p.2) (met c.args.gates.now.words.config c.args.plan.tasks c.args.plan.processors (Snapshot true) _ refl c.in_err-blocks.ensures.refused)
+
+pub returns-in_err-ran-clause-from : goal.returns-in_err-ran-clause-from
+returns-in_err-ran-clause-from g c = c.call_back.ensures.from
+
+pub returns-in_err-ran-clause-all : goal.returns-in_err-ran-clause-all
+returns-in_err-ran-clause-all g c = let p = err_from_is_err_and c.from_residual-in_err-ran.result c.from_residual-in_err-ran.ensures.1 in rw p.1 tt
+
+pub returns-in_err-ran-clause-rounds : goal.returns-in_err-ran-clause-rounds
+returns-in_err-ran-clause-rounds g c = let p = err_from_is_err_and c.from_residual-in_err-ran.result c.from_residual-in_err-ran.ensures.1 in rw p.1 tt
+
+pub returns-in_err-ran-clause-refused : goal.returns-in_err-ran-clause-refused
+returns-in_err-ran-clause-refused g c =
+    let p = err_from_is_err_and c.from_residual-in_err-ran.result c.from_residual-in_err-ran.ensures.1 in
+    rw (p.1, p.2) (c.in_err-ran.ensures.refused c.args.plan.tasks c.args.plan.processors)
+
+pub returns-clause-from : goal.returns-clause-from
+returns-clause-from g c = c.loop-freeze.invariant.from
 
 pub loop-freeze-preserved : goal.loop-freeze-preserved
 loop-freeze-preserved g c =

@@ -8,6 +8,13 @@ use Rattle.gate_runs.proofs.run_parts.Repeating.{counted_more, one_more, taken}
 use Rattle.gate_runs.specs.run_parts.Rounds.{IsRefused, Waits}
 use Rattle.gate_runs.proofs.run_parts.workers.want_write.Goals as goal
 
+pub want_write-answer-requires : goal.want_write-answer-requires
+want_write-answer-requires g c = c.loop.invariant.0
+
+pub returns-in-Ok-clause-from : goal.returns-in-Ok-clause-from
+returns-in-Ok-clause-from g c =
+    (c.want_write-answer.ensures.table ∙ c.loop.invariant.0.0, c.want_write-answer.ensures.config ∙ c.loop.invariant.0.1)
+
 pub loop-preserved : goal.loop-preserved
 loop-preserved g c =
     let before = c.loop.invariant in

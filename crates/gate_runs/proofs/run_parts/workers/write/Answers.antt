@@ -1,10 +1,51 @@
 -- one round more
-use Rattle.std.proofs.Common.{◌≡◌, subst, ◌∙◌}
-use Rattle.gate_world.specs.declared.operations.Op.TheVariants.{DropWrite}
-use Rattle.gate_runs.proofs.run_parts.Repeating.{one_more}
+use Rattle.std.proofs.Common.{◌≡◌, ◌+◌, arith, refl, subst, ◌∙◌}
+use Rattle.std.proofs.lemmas.Result.{err_from_is_err_and}
+use Rattle.gate_world.specs.declared.operations.Op.TheVariants.{DropWrite, Grow}
+use Rattle.gate_runs.proofs.run_parts.Repeating.{met, one_more}
 use Rattle.gate_runs.specs.run_parts.Counts.{counted}
 use Rattle.gate_runs.specs.run_parts.Rounds.{Does, Takes, WriterRound}
 use Rattle.gate_runs.proofs.run_parts.workers.write.Goals as goal
+
+pub want_write-requires : goal.want_write-requires
+want_write-requires g c = c.loop-round.invariant.0
+
+pub grow-grown-requires : goal.grow-grown-requires
+grow-grown-requires g c = c.in_ok-denied.ensures.from
+
+pub drop_write-requires : goal.drop_write-requires
+drop_write-requires g c = c.grow-grown.ensures.from
+
+pub returns-in_err-denied-clause-from : goal.returns-in_err-denied-clause-from
+returns-in_err-denied-clause-from g c = c.want_write.ensures.from
+
+pub returns-in_err-denied-clause-rounds : goal.returns-in_err-denied-clause-rounds
+returns-in_err-denied-clause-rounds g c = let p = err_from_is_err_and c.from_residual.result c.from_residual.ensures.1 in rw p.1 tt
+
+pub returns-in_err-drop_write-clause-from : goal.returns-in_err-drop_write-clause-from
+returns-in_err-drop_write-clause-from g c =
+    (c.drop_write.ensures.table ∙ c.grow-grown.ensures.from.0, c.drop_write.ensures.config ∙ c.grow-grown.ensures.from.1)
+
+pub returns-in_err-drop_write-clause-rounds : goal.returns-in_err-drop_write-clause-rounds
+returns-in_err-drop_write-clause-rounds g c =
+    let p = err_from_is_err_and c.from_residual-in_err-drop_write.result c.from_residual-in_err-drop_write.ensures.1 in rw p.1 tt
+
+pub returns-in_err-grown-clause-from : goal.returns-in_err-grown-clause-from
+returns-in_err-grown-clause-from g c =
+    (c.drop_write.ensures.table ∙ c.grow-grown.ensures.from.0, c.drop_write.ensures.config ∙ c.grow-grown.ensures.from.1)
+
+pub returns-in_err-grown-clause-rounds : goal.returns-in_err-grown-clause-rounds
+returns-in_err-grown-clause-rounds g c =
+    let p = err_from_is_err_and c.from_residual-in_err-grown.result c.from_residual-in_err-grown.ensures.1 in rw p.1 tt
+
+pub returns-in_err-grown-clause-refused : goal.returns-in_err-grown-clause-refused
+returns-in_err-grown-clause-refused g c =
+    let p = err_from_is_err_and c.from_residual-in_err-grown.result c.from_residual-in_err-grown.ensures.1 in
+    rw (p.1, p.2) (met c.args.gates.now.words.config c.args.plan.tasks c.args.plan.processors (Grow (c.args.writer + 1) 1) _
+    (omega arith, omega (arith, c.requires.writer), refl) c.in_err-grown.ensures.refused)
+
+pub returns-clause-from : goal.returns-clause-from
+returns-clause-from g c = c.loop-round.invariant.0
 
 pub loop-round-preserved : goal.loop-round-preserved
 loop-round-preserved g c =

@@ -1,10 +1,100 @@
 -- each task has done its part, and stands among the numbers that were taken back
-use Rattle.std.proofs.Common.{arith, ◌∙◌}
+use Rattle.std.proofs.Common.{arith, inl, inr, ◌∙◌}
+use Rattle.std.proofs.lemmas.Result.{err_from_is_err_and}
 use Rattle.gate_runs.specs.run_parts.Splitting.{Gives}
 use Rattle.gate_runs.specs.run_parts.Counts.{no_copies}
 use Rattle.gate_runs.specs.run_parts.Meetings.{was_frozen}
 use Rattle.gate_runs.proofs.run_threads.Staying.{backs_stay, creates_stay, gives_stay, is_among}
 use Rattle.gate_runs.proofs.run_threads.threads.run_threads.Goals as goal
+
+pub create_files-requires : goal.create_files-requires
+create_files-requires g c = c.requires.from
+
+pub returns-in_err-create_files-clause-from : goal.returns-in_err-create_files-clause-from
+returns-in_err-create_files-clause-from g c = c.create_files.ensures.from
+
+pub returns-in_err-create_files-clause-copies : goal.returns-in_err-create_files-clause-copies
+returns-in_err-create_files-clause-copies g c = let p = err_from_is_err_and c.from_residual.result c.from_residual.ensures.1 in rw p.1 tt
+
+pub returns-in_err-create_files-clause-all : goal.returns-in_err-create_files-clause-all
+returns-in_err-create_files-clause-all g c = let p = err_from_is_err_and c.from_residual.result c.from_residual.ensures.1 in rw p.1 tt
+
+pub returns-in_err-create_files-clause-refused : goal.returns-in_err-create_files-clause-refused
+returns-in_err-create_files-clause-refused g c =
+    let p = err_from_is_err_and c.from_residual.result c.from_residual.ensures.1 in
+    rw (p.1, p.2) (inr (inr c.in_err-create_files.ensures.refused))
+
+pub start_workers-requires-clause-from : goal.start_workers-requires-clause-from
+start_workers-requires-clause-from g c = λ _ _. c.in_ok-create_files.ensures.from
+
+pub start_workers-requires-clause-none : goal.start_workers-requires-clause-none
+start_workers-requires-clause-none g c = λ _ _. c.requires.none
+
+pub returns-in_err-start_workers-clause-from : goal.returns-in_err-start_workers-clause-from
+returns-in_err-start_workers-clause-from g c = c.start_workers.ensures.from
+
+pub returns-in_err-start_workers-clause-copies : goal.returns-in_err-start_workers-clause-copies
+returns-in_err-start_workers-clause-copies g c =
+    let p = err_from_is_err_and c.from_residual-in_err-start_workers.result c.from_residual-in_err-start_workers.ensures.1 in rw p.1 tt
+
+pub returns-in_err-start_workers-clause-all : goal.returns-in_err-start_workers-clause-all
+returns-in_err-start_workers-clause-all g c =
+    let p = err_from_is_err_and c.from_residual-in_err-start_workers.result c.from_residual-in_err-start_workers.ensures.1 in rw p.1 tt
+
+pub returns-in_err-start_workers-clause-refused : goal.returns-in_err-start_workers-clause-refused
+returns-in_err-start_workers-clause-refused g c =
+    let p = err_from_is_err_and c.from_residual-in_err-start_workers.result c.from_residual-in_err-start_workers.ensures.1 in
+    rw (p.1, p.2) (inl c.in_err-start_workers.ensures.refused)
+
+pub back_up-requires : goal.back_up-requires
+back_up-requires g c = c.in_ok-start_workers.ensures.from
+
+pub returns-in_err-copies-clause-from : goal.returns-in_err-copies-clause-from
+returns-in_err-copies-clause-from g c = c.back_up.ensures.from
+
+pub returns-in_err-copies-clause-copies : goal.returns-in_err-copies-clause-copies
+returns-in_err-copies-clause-copies g c =
+    let p = err_from_is_err_and c.from_residual-in_err-copies.result c.from_residual-in_err-copies.ensures.1 in rw p.1 tt
+
+pub returns-in_err-copies-clause-all : goal.returns-in_err-copies-clause-all
+returns-in_err-copies-clause-all g c =
+    let p = err_from_is_err_and c.from_residual-in_err-copies.result c.from_residual-in_err-copies.ensures.1 in rw p.1 tt
+
+pub returns-in_err-copies-clause-refused : goal.returns-in_err-copies-clause-refused
+returns-in_err-copies-clause-refused g c =
+    let p = err_from_is_err_and c.from_residual-in_err-copies.result c.from_residual-in_err-copies.ensures.1 in
+    rw (p.1, p.2) (inr (inr c.in_err-copies.ensures.refused))
+
+pub join_workers-requires-clause-from : goal.join_workers-requires-clause-from
+join_workers-requires-clause-from g c = c.in_ok-copies.ensures.from
+
+pub join_workers-requires-clause-some : goal.join_workers-requires-clause-some
+join_workers-requires-clause-some g c = omega (arith, c.in_ok-start_workers.ensures.all, c.args.plan.within.tasks_from)
+
+pub join_workers-requires-clause-homes : goal.join_workers-requires-clause-homes
+join_workers-requires-clause-homes g c = c.in_ok-start_workers.ensures.homes
+
+pub returns-in_err-remounts-clause-from : goal.returns-in_err-remounts-clause-from
+returns-in_err-remounts-clause-from g c = c.join_workers.ensures.from
+
+pub returns-in_err-remounts-clause-copies : goal.returns-in_err-remounts-clause-copies
+returns-in_err-remounts-clause-copies g c =
+    let p = err_from_is_err_and c.from_residual-in_err-remounts.result c.from_residual-in_err-remounts.ensures.1 in rw p.1 tt
+
+pub returns-in_err-remounts-clause-all : goal.returns-in_err-remounts-clause-all
+returns-in_err-remounts-clause-all g c =
+    let p = err_from_is_err_and c.from_residual-in_err-remounts.result c.from_residual-in_err-remounts.ensures.1 in rw p.1 tt
+
+pub returns-in_err-remounts-clause-refused : goal.returns-in_err-remounts-clause-refused
+returns-in_err-remounts-clause-refused g c =
+    let p = err_from_is_err_and c.from_residual-in_err-remounts.result c.from_residual-in_err-remounts.ensures.1 in
+    rw (p.1, p.2) (c.in_err-remounts.ensures.refused)
+
+pub returns-clause-from : goal.returns-clause-from
+returns-clause-from g c = c.in_ok-remounts.ensures.from
+
+pub returns-clause-copies : goal.returns-clause-copies
+returns-clause-copies g c = c.in_ok-copies.ensures.all
 
 pub start_workers-requires-clause-gives : goal.start_workers-requires-clause-gives
 start_workers-requires-clause-gives g c =

@@ -1,0 +1,36 @@
+use Rattle.std.proofs.Common.{◌≡◌, ◌∙◌, sym, ap, subst, ◌∷◌, Ok, IfSome, inr}
+use Rattle.exploration.proofs.Lists.{err_from}
+use Rattle.race_files.specs.Calls.{calls_of}
+use Rattle.race_files.specs.Faults.{IsToldOrMemory}
+use Rattle.race_files.specs.Left.{Left, behind, left_in}
+use Rattle.race_files.specs.declared.faults.RaceFault.TheVariants.{Schedule}
+use Rattle.race_files.proofs.Reading.{at_end, at_line, line_told}
+use Rattle.race_files.proofs.calls.Calls.read.Goals as goal
+
+pub returns-in_err-line-clause-fault : goal.returns-in_err-line-clause-fault
+returns-in_err-line-clause-fault c =
+    err_from _ (Schedule c.in_err-line.field-0.0) _ c.from_residual-in_err-line.ensures.1
+    (inr (c.loop-calls.invariant.1 ∙ at_end _ _ _ _ c.in_err-line.ensures.fault))
+
+pub returns-in_err-read_line-clause-fault : goal.returns-in_err-read_line-clause-fault
+returns-in_err-read_line-clause-fault c =
+    let left = left_in c.loop-calls.lines in
+    let first : left.lines ≡ c.in-Some.line.now ∷ (behind left).lines =
+    subst (λ found. IfSome found (λ line. left.lines ≡ line.now ∷ (behind left).lines)) c.in-Some.is c.in_ok-line.ensures.some in
+    err_from _ c.in_err-read_line.field-0.0 _ c.from_residual-in_err-read_line.ensures.1
+    (subst (λ told. IsToldOrMemory told c.in_err-read_line.field-0.0) (sym c.loop-calls.invariant.1)
+    (line_told _ _ _ _ _ _ c.loop-calls.invariant.0 first c.in_err-read_line.ensures.fault))
+
+pub loop-calls-preserved : goal.loop-calls-preserved
+loop-calls-preserved c =
+    let left = left_in c.loop-calls.lines in
+    let more = c.read_line.new.self.race.calls.items in
+    let first : left.lines ≡ c.in-Some.line.now ∷ (behind left).lines =
+    subst (λ found. IfSome found (λ line. left.lines ≡ line.now ∷ (behind left).lines)) c.in-Some.is c.in_ok-line.ensures.some in (
+      c.in_ok-read_line.ensures.tasks ∙ c.loop-calls.invariant.0,
+      c.loop-calls.invariant.1 ∙ at_line _ _ _ _ _ (Ok more) c.loop-calls.invariant.0 first c.in_ok-read_line.ensures.read
+          ∙ sym (ap (λ (x : Left). calls_of c.args.tasks x.fault x.lines more) c.take.ensures.left),
+    )
+
+pub returns-clause-read : goal.returns-clause-read
+returns-clause-read c = c.loop-calls.invariant.1 ∙ at_end _ _ _ _ (c.in_ok-line.ensures.none (ap Ok c.in_default.is))

@@ -1,0 +1,33 @@
+use Rattle.std.proofs.Common.{◌∙◌, sym, ap, ℕ, ◌-◌, ◌∷◌, List}
+use Rattle.std.proofs.lemmas.Bool.{eqb-true}
+use Rattle.race_files.proofs.Left.{of_front, first_of, some_part, some_bytes, too_many, no_bytes}
+use Rattle.race_files.specs.Left.{left_in, behind}
+use Rattle.race_files.proofs.lines.Lines.line.Goals as goal
+use Rattle.schedule_lines.specs.declared.faults.Fault.TheVariants.{TooManyLines, CutOff}
+
+pub returns-then-is_empty-clause-none : goal.returns-then-is_empty-clause-none
+returns-then-is_empty-clause-none c e =
+    no_bytes (1048576 - c.args.self.now.done) c.args.self.now.rest.now (eqb-true _ _ (sym c.is_empty.ensures ∙ c.if-is_empty.true))
+
+pub returns-then-self-ge-LINES-clause-fault : goal.returns-then-self-ge-LINES-clause-fault
+returns-then-self-ge-LINES-clause-fault c =
+    let lines = c.args.self.now in
+    too_many lines.done lines.rest.now c.if-self-ge-LINES.true
+    ∙ some_part TooManyLines lines.rest.now (some_bytes lines.rest.now (sym c.is_empty.ensures ∙ c.if-is_empty.false))
+
+pub returns-in-Line-clause-some : goal.returns-in-Line-clause-some
+returns-in-Line-clause-some c =
+    let lines = c.args.self.now in
+    let h = first_of _ _ _ (of_front lines.done lines.rest.now _ c.if-self-ge-LINES.false (sym c.front_of.ensures.front ∙ c.in-Line.is)) in
+    h ∙ ap (λ (l : List ℕ). l ∷ (behind (left_in lines)).lines) (sym c.line_of.ensures)
+
+pub returns-in-TooLong-clause-fault : goal.returns-in-TooLong-clause-fault
+returns-in-TooLong-clause-fault c =
+    let lines = c.args.self.now in
+    of_front lines.done lines.rest.now _ c.if-self-ge-LINES.false (sym c.front_of.ensures.front ∙ c.in-TooLong.is)
+
+pub returns-in-Part-clause-fault : goal.returns-in-Part-clause-fault
+returns-in-Part-clause-fault c =
+    let lines = c.args.self.now in
+    of_front lines.done lines.rest.now _ c.if-self-ge-LINES.false (sym c.front_of.ensures.front ∙ c.in-Part.is)
+    ∙ some_part CutOff lines.rest.now (some_bytes lines.rest.now (sym c.is_empty.ensures ∙ c.if-is_empty.false))

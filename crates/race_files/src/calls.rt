@@ -1,0 +1,258 @@
+//! What the tasks of a race call.
+
+ghost use Rattle.std.specs.Prelude.{◌≡◌, ◌≤◌, ◌⊎◌, is_none, length, Some, Ok, Err, IfOk, IfErr, OnOk};
+ghost use Rattle.std.specs.List.{position};
+ghost use Rattle.race_files.specs.Calls.{no_calls, count_of, with_call, with_failure, added, failing, as_run, hook_line, calls_after};
+ghost use Rattle.race_files.specs.Faults.{IsToldOrMemory};
+ghost use Rattle.race_files.specs.Left.{calls_left, left_in};
+ghost use Rattle.schedule_text.specs.Parsing.{parsed};
+ghost use Rattle.schedule_lines.specs.Printed.{Prints};
+ghost use Rattle.schedule_lines.specs.declared.faults.Fault.TheVariants.{Refused};
+ghost use Rattle.access_model.specs.declared.errors.GateError.TheVariants.{NoMemory};
+
+use crate::faults::RaceFault;
+use crate::lines::{Lines, is_race};
+use gate_world::Op;
+use races::{CALLS, Call, Race};
+use schedule_lines::words::{after_word, first_word};
+use schedule_text::{Fault, HookFailure, Line, Output, Request, TaskCommand, parse};
+use std::alloc::{AllocError, Global};
+use transcripts::{no_memory, settled};
+
+/// The line by which a task begins a call, as it stands in the file.
+#[derive(Drop)]
+pub struct CallLine {
+    pub task: u8,
+    /// Which of the task's calls it is, from 0.
+    pub turn: u8,
+    pub text: Vec<u8>,
+}
+
+/// What the tasks of a race call, and the lines that say so.
+#[derive(Drop)]
+pub struct Calls {
+    pub race: Race,
+    pub lines: Vec<CallLine>,
+}
+
+impl Calls {
+    /// Takes all lines after `race`, where there are so many tasks. Its fault is that of the first line that has one, at which it stops, or
+    /// that memory was refused.
+    pub fn read(alloc: Global, tasks: u8, lines: &mut Lines<'_>) -> Result<Calls, RaceFault>
+        ensures tasks { IfOk result (λ calls. calls.race.tasks ≡ tasks) }
+        ensures read { IfOk result (λ calls. calls_left tasks (left_in lines.old) ≡ Ok calls.race.calls.items) }
+        ensures fault { IfErr result (IsToldOrMemory (calls_left tasks (left_in lines.old))) }
+    {
+        let mut calls = Calls::new(alloc, tasks).map_err(no_memory)?;
+        while let Some(line) = lines.line()? {
+            calls.read_line(alloc, line)?;
+            lines.take();
+        }
+        Ok(calls)
+    }
+
+    fn new(alloc: Global, tasks: u8) -> Result<Calls, AllocError>
+        ensures tasks { IfOk result (λ calls. calls.race.tasks ≡ tasks) }
+        ensures none { IfOk result (λ calls. calls.race.calls.items ≡ no_calls tasks) }
+    {
+        let calls = vec![in alloc; [None; CALLS]; usize::from(tasks)]?;
+        Ok(Calls {
+            race: Race { tasks, calls },
+            lines: Vec::new(alloc),
+        })
+    }
+
+    /// A call of a task; None where it has no such call.
+    pub fn call(&self, task: u8, turn: u8) -> Option<Call> {
+        match self.race.calls.get(usize::from(task)) {
+            Some(calls) if usize::from(turn) < CALLS => calls[usize::from(turn)],
+            _ => None,
+        }
+    }
+
+    /// The line by which a task begins a call; empty where it has no such call.
+    pub fn line(&self, task: u8, turn: u8) -> &[u8] {
+        for line in &self.lines {
+            if line.task == task && line.turn == turn {
+                return line.text.as_slice();
+            }
+        }
+        &[]
+    }
+
+    /// Reads a line after `race`.
+    #[tactic(auto, unfolding(crate::specs::Calls::calls_after))]
+    fn read_line(&mut self, alloc: Global, line: &[u8]) -> Result<(), RaceFault>
+        ensures tasks { self.new.race.tasks ≡ self.old.race.tasks }
+        ensures read { OnOk result (calls_after self.old.race.tasks self.old.race.calls.items line.now ≡ Ok self.new.race.calls.items) }
+        ensures fault { IfErr result (IsToldOrMemory (calls_after self.old.race.tasks self.old.race.calls.items line.now)) }
+    {
+        if is_race(line)? {
+            return Err(RaceFault::RaceTwice);
+        }
+        if first_word(after_word(line)) == b"hook".as_slice() {
+            return self.read_hook(alloc, line);
+        }
+        match parse(line, Some(self.race.tasks))? {
+            Line::Skipped => Ok(()),
+            Line::Request(
+                Request::Task {
+                    task,
+                    command: TaskCommand::Begin(op),
+                },
+            ) => self.add(alloc, task, op, line),
+            Line::Config(_) | Line::Request(_) => Err(RaceFault::CallExpected),
+        }
+    }
+
+    /// Reads `T hook HOOK CODE`, which says what `T run HOOK CODE` says of a run: which hook of the task's last call fails, and how.
+    fn read_hook(&mut self, alloc: Global, line: &[u8]) -> Result<(), RaceFault>
+        ensures tasks { self.new.race.tasks ≡ self.old.race.tasks }
+        ensures read { OnOk result (hook_line self.old.race.calls.items (parsed (as_run line.now) (Some self.old.race.tasks))
+            ≡ Ok self.new.race.calls.items) }
+        ensures fault { IfErr result (IsToldOrMemory
+            (hook_line self.old.race.calls.items (parsed (as_run line.now) (Some self.old.race.tasks)))) }
+    {
+        match parse_run(alloc, line, self.race.tasks)? {
+            Line::Skipped => Ok(()),
+            Line::Request(
+                Request::Task {
+                    task,
+                    command: TaskCommand::Run {
+                        failure: Some(failure),
+                    },
+                },
+            ) => self.fail(task, failure),
+            Line::Config(_) | Line::Request(_) => {
+                Err(RaceFault::Schedule(Fault::WrongNumberOfWords))
+            }
+        }
+    }
+
+    /// A call more of a task.
+    #[tactic(auto, unfolding(crate::specs::Calls::added))]
+    fn add(&mut self, alloc: Global, task: u8, op: Op, line: &[u8]) -> Result<(), RaceFault>
+        ensures tasks { self.new.race.tasks ≡ self.old.race.tasks }
+        ensures read { OnOk result (added self.old.race.calls.items task op ≡ Ok self.new.race.calls.items) }
+        ensures fault { IfErr result (IsToldOrMemory (added self.old.race.calls.items task op)) }
+    {
+        let Some(calls) = self.race.calls.get_mut(usize::from(task)) else {
+            return Err(RaceFault::Schedule(Fault::NoSuchTask));
+        };
+        let turn = count_of(calls) as u8;
+        *calls = with_call(*calls, op)?;
+        match self.keep(alloc, task, turn, line) {
+            Ok(()) => Ok(()),
+            Err(refused) => Err(RaceFault::Schedule(no_memory(refused))),
+        }
+    }
+
+    /// Keeps the line by which a task begins a call.
+    fn keep(&mut self, alloc: Global, task: u8, turn: u8, line: &[u8]) -> Result<(), AllocError>
+        ensures { self.new.race ≡ self.old.race }
+    {
+        let text = Vec::from_slice(alloc, line)?;
+        self.lines.push(CallLine { task, turn, text })?;
+        Ok(())
+    }
+
+    /// A hook fails in a task's last call.
+    #[tactic(auto, unfolding(crate::specs::Calls::failing))]
+    fn fail(&mut self, task: u8, failure: HookFailure) -> Result<(), RaceFault>
+        ensures tasks { self.new.race.tasks ≡ self.old.race.tasks }
+        ensures read { OnOk result (failing self.old.race.calls.items task failure ≡ Ok self.new.race.calls.items) }
+        ensures fault { IfErr result (IsToldOrMemory (failing self.old.race.calls.items task failure)) }
+    {
+        let Some(calls) = self.race.calls.get_mut(usize::from(task)) else {
+            return Err(RaceFault::Schedule(Fault::NoSuchTask));
+        };
+        *calls = with_failure(*calls, failure)?;
+        Ok(())
+    }
+}
+
+/// The first place that has no call.
+fn first_free(calls: &[Option<Call>]) -> Option<usize>
+    ensures { result ≡ position is_none calls.now }
+{
+    calls.iter().position(|call| call.is_none())
+}
+
+/// How many calls there are.
+fn count_of(calls: &[Option<Call>]) -> usize
+    ensures is { result ≡ count_of calls.now }
+    ensures few { result ≤ length calls.now }
+{
+    match first_free(calls) {
+        Some(count) => count,
+        None => calls.len(),
+    }
+}
+
+/// The same and a call more.
+#[tactic(auto, unfolding(crate::specs::Calls::with_call))]
+fn with_call(mut calls: [Option<Call>; CALLS], op: Op) -> Result<[Option<Call>; CALLS], RaceFault>
+    ensures { result ≡ with_call calls op }
+{
+    let count = count_of(&calls);
+    if count < CALLS {
+        calls[count] = Some(Call { op, failure: None });
+        Ok(calls)
+    } else {
+        Err(RaceFault::TooManyCalls)
+    }
+}
+
+/// The same, where a hook fails in the last call.
+#[tactic(auto, unfolding(crate::specs::Calls::with_failure))]
+fn with_failure(
+    mut calls: [Option<Call>; CALLS],
+    failure: HookFailure,
+) -> Result<[Option<Call>; CALLS], RaceFault>
+    ensures { result ≡ with_failure calls failure }
+{
+    let count = count_of(&calls);
+    if count == 0 {
+        return Err(RaceFault::CallExpected);
+    }
+    match calls[count - 1] {
+        None => Err(RaceFault::CallExpected),
+        Some(
+            Call {
+                failure: Some(_),
+                ..
+            },
+        ) => Err(RaceFault::HookTwice),
+        Some(Call { op, failure: None }) => {
+            calls[count - 1] = Some(Call {
+                op,
+                failure: Some(failure),
+            });
+            Ok(calls)
+        }
+    }
+}
+
+/// What a line asks for with `run` in the place of its second word.
+fn parse_run(alloc: Global, line: &[u8], tasks: u8) -> Result<Line, Fault>
+    ensures asked { IfOk result (λ asked. parsed (as_run line.now) (Some tasks) ≡ Ok asked) }
+    ensures fault { IfErr result (λ fault. (fault ≡ Refused NoMemory) ⊎ (parsed (as_run line.now) (Some tasks) ≡ Err fault)) }
+{
+    let mut run = Output::new(alloc);
+    print_run(line, &mut run);
+    match settled(&run) {
+        Ok(()) => parse(run.bytes.as_slice(), Some(tasks)),
+        Err(refused) => Err(refused),
+    }
+}
+
+/// Prints a line with `run` in the place of its second word.
+#[tactic(auto, using(crate::proofs::Words::word_within), unfolding(crate::specs::Calls::as_run))]
+fn print_run(line: &[u8], run: &mut Output)
+    ensures { Prints run.old run.new (as_run line.now) }
+{
+    let rest = after_word(line);
+    run.text(first_word(line));
+    run.text(b" run");
+    run.text(&rest[first_word(rest).len()..]);
+}

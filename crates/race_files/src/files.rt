@@ -1,0 +1,74 @@
+//! A whole file of a race.
+
+ghost use Rattle.std.specs.Prelude.{◌≡◌, IfOk, Ok};
+ghost use Rattle.race_files.specs.Left.{IsRaceIn, behind, calls_left, left_in, lines_in};
+
+use crate::calls::Calls;
+use crate::faults::RaceFault;
+use crate::lines::Lines;
+use crate::setting_up::set_up;
+use schedule_lines::bytes::ReplayFault;
+use std::alloc::Global;
+use transcripts::{Core, Session, no_memory};
+
+/// A race that was read: the core, as it was set up, and what each of its tasks calls.
+#[derive(Drop)]
+pub struct RaceFile {
+    pub core: Core,
+    pub calls: Calls,
+    pub ghost tasks: { calls.race.tasks ≡ core.config.tasks },
+}
+
+impl RaceFile {
+    /// Takes the lines from `race` on, on gates that were set up: the calls are those of all lines behind it.
+    pub fn read(
+        alloc: Global,
+        session: &Session<Core>,
+        lines: &mut Lines<'_>,
+    ) -> Result<RaceFile, RaceFault>
+        ensures { IfOk result (λ file. calls_left file.core.config.tasks (behind (left_in lines.old)) ≡ Ok file.calls.race.calls.items) }
+    {
+        expect_idle(session.gates())?;
+        let core = session.gates().twin().map_err(no_memory)?;
+        lines.take();
+        match Calls::read(alloc, core.config().tasks, lines) {
+            Ok(calls) => Ok(RaceFile { core, calls }),
+            Err(fault) => {
+                // By a call: to drop all its parts in line costs the proof more.
+                drop(core);
+                Err(fault)
+            }
+        }
+    }
+}
+
+/// That no task is under way.
+fn expect_idle(core: &Core) -> Result<(), RaceFault> {
+    for task in 0..core.config().tasks {
+        if core.is_under_way(task) {
+            return Err(RaceFault::UnderWay);
+        }
+    }
+    Ok(())
+}
+
+/// Reads a race; its fault is the first.
+pub fn read_race(alloc: Global, bytes: &[u8]) -> Result<RaceFile, ReplayFault>
+    ensures { IfOk result (λ file. IsRaceIn (lines_in 1048576 bytes.now) file.core.config.tasks file.calls.race.calls.items) }
+{
+    let mut lines = Lines::new(bytes);
+    match read_lines(alloc, &mut lines) {
+        Ok(file) => Ok(file),
+        Err(fault) => Err(lines.fault(fault)),
+    }
+}
+
+fn read_lines(alloc: Global, lines: &mut Lines<'_>) -> Result<RaceFile, RaceFault>
+    ensures { IfOk result (λ file. IsRaceIn (left_in lines.old) file.core.config.tasks file.calls.race.calls.items) }
+{
+    let session = set_up(alloc, lines)?;
+    let file = RaceFile::read(alloc, &session, lines);
+    // By a call: to drop all its parts in line costs the proof more.
+    drop(session);
+    file
+}

@@ -1,0 +1,84 @@
+//! What comes before a race.
+
+ghost use Rattle.std.specs.Prelude.{IfOk};
+ghost use Rattle.race_files.specs.Left.{AreLeftOf, BeginRace, left_in};
+
+use crate::faults::RaceFault;
+use crate::lines::{Lines, is_race};
+use schedule_text::{Fault, Line, Output, parse};
+use std::alloc::Global;
+use transcripts::{Core, Session};
+
+/// Who looks at what the lines of a schedule print.
+pub trait Watch {
+    /// Takes what was printed, before the next of these lines is done.
+    fn take(&mut self, lines: &Lines<'_>, printed: &mut Output);
+}
+
+/// What is printed is dropped.
+#[derive(Drop)]
+struct Unwatched;
+
+impl Watch for Unwatched {
+    fn take(&mut self, _lines: &Lines<'_>, printed: &mut Output) {
+        printed.clear();
+    }
+}
+
+/// Takes the lines of a schedule before `race`, and does them. What they print is dropped.
+pub fn set_up(alloc: Global, lines: &mut Lines<'_>) -> Result<Session<Core>, RaceFault>
+    ensures { IfOk result (λ _. BeginRace (left_in lines.old) (left_in lines.new)) }
+{
+    do_setting(alloc, lines, &mut Output::new(alloc), &mut Unwatched)
+}
+
+/// The same, with one who looks at what they print.
+pub fn do_setting<W: Watch>(
+    alloc: Global,
+    lines: &mut Lines<'_>,
+    printed: &mut Output,
+    watch: &mut W,
+) -> Result<Session<Core>, RaceFault>
+    ensures { IfOk result (λ _. BeginRace (left_in lines.old) (left_in lines.new)) }
+{
+    let mut session = open(alloc, lines)?;
+    let done = do_lines(&mut session, lines, printed, watch);
+    done.and(Ok(session))
+}
+
+/// Takes the lines up to the configuration.
+fn open(alloc: Global, lines: &mut Lines<'_>) -> Result<Session<Core>, RaceFault>
+    ensures { IfOk result (λ _. AreLeftOf (left_in lines.old) (left_in lines.new)) }
+{
+    while let Some(line) = lines.line()? {
+        if let Line::Config(config) = parse(line, None)? {
+            let session = Session::new(alloc, config)?;
+            lines.take();
+            return Ok(session);
+        }
+        lines.take();
+    }
+    Err(RaceFault::Schedule(Fault::ConfigExpected))
+}
+
+/// Takes the lines behind the configuration, up to the line `race`, and does them. RaceExpected where there is no such line.
+fn do_lines<W: Watch>(
+    session: &mut Session<Core>,
+    lines: &mut Lines<'_>,
+    printed: &mut Output,
+    watch: &mut W,
+) -> Result<(), RaceFault>
+    ensures { IfOk result (λ _. BeginRace (left_in lines.old) (left_in lines.new)) }
+{
+    while let Some(line) = lines.line()? {
+        if is_race(line)? {
+            return Ok(());
+        }
+        if let Line::Request(request) = parse(line, Some(session.tasks()))? {
+            watch.take(lines, printed);
+            session.do_request(request, printed)?;
+        }
+        lines.take();
+    }
+    Err(RaceFault::RaceExpected)
+}
