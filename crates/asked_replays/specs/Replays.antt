@@ -8,7 +8,7 @@ use Rattle.endings.specs.Endings.{of_file}
 use Rattle.endings.specs.declared.ends.Ending.{Ending}
 use Rattle.endings.specs.declared.ends.Ending.TheVariants.{Done, DoneOverGates, Shown, Refused}
 use Rattle.schedule_lines.specs.declared.bytes.replay_faults.ReplayFault.{ReplayFault}
-use Rattle.transcripts.specs.Replayed.{Replayed}
+use Rattle.line_replays.specs.Replayed.{Replayed}
 
 -- how a replay ends that was done, in this form and over these gates, of standard input
 abbrev pub done_in : Form → Bool → Ending

@@ -1,6 +1,11 @@
-//! A replay, as the command line asks for it. It stands apart from the program, so that it is proved beside the threads of a run.
+//! A replay, as the command line asks for it: over the core, or over the gates that threads use, driven by one thread; plain, or shown in another
+//! form; with what a person is told of a fault, its text and what helps. It stands apart from the program, so that it is proved beside the threads of a run.
 #![tactic(auto)]
 
+mod explained;
+pub mod gates_driver;
 pub mod replays;
+mod telling;
 
+pub use gates_driver::GatesDriver;
 pub use replays::{Person, run_replay};

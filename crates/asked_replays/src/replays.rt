@@ -6,15 +6,15 @@ ghost use Rattle.command_line.specs.CommandLine.{IsPlain};
 ghost use Rattle.endings.specs.declared.ends.Ending.TheVariants.{Refused};
 ghost use Rattle.asked_replays.specs.Replays.{EndsReplayed, EndsReplayedFile, IsRefusedUnread, done_in, done_of};
 
+use crate::gates_driver::GatesDriver;
+use crate::telling::{Telling, replay_told, show_told};
 use command_line::{Form, Replay};
-use driven_gates::GatesDriver;
 use endings::{Ending, unopened};
-use replays_told::{Telling, replay_told, show_told};
 use std::alloc::Global;
 use std::fs;
 use std::io::{Read, Stderr, Write};
 use std::rt::Files;
-use transcripts::replays::Core;
+use transcripts::Core;
 
 /// What a person is told who is to type a schedule.
 const AWAITED: &str =

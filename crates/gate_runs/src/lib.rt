@@ -5,6 +5,8 @@
 pub mod run_parts;
 pub mod run_threads;
 mod runs;
+mod told;
 
 pub use run_plans::{Copies, Details, Meeting, Plan, Sizes, Totals, Watch, Writes};
 pub use runs::{run_plan, run_with};
+pub use told::run_told;

@@ -4,12 +4,12 @@
 
 use crate::{gates, models, schedules, threads};
 use anyhow::Result;
-use driven_gates::GatesDriver;
+use asked_replays::GatesDriver;
 use std::alloc::Global;
 use std::io::Read;
 use std::sync::Wait;
 use std::thread::Threads;
-use transcripts::replays::Core;
+use transcripts::Core;
 
 /// Asks for so many small growths, one after the other, and gives each back.
 fn ask_for_growths(alloc: Global, count: u16) {

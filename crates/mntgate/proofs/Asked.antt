@@ -15,7 +15,7 @@ use Rattle.asked_files.specs.Checks.{TellsPassed, count_checked}
 use Rattle.asked_replays.specs.Replays.{EndsReplayed, done_in, done_of, ending_of}
 use Rattle.mntgate.specs.Asking.{EndsChecked, MayEnd, TellsSomePassed}
 use Rattle.schedule_lines.specs.declared.bytes.replay_faults.ReplayFault.{ReplayFault}
-use Rattle.transcripts.specs.Replayed.{Replayed}
+use Rattle.line_replays.specs.Replayed.{Replayed}
 
 -- a file's replay never ends with `Done`
 never_of_file : (ending : Ending) → of_file ending ≡ Done → ⊥

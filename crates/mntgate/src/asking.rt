@@ -1,6 +1,6 @@
 //! From the words of a command line to how the program ends.
 
-ghost use Rattle.std.specs.Prelude.{◌≡◌, ◌⊎◌, ℕ, List, true, None, Some, IfOk, Ok, map, string_bytes};
+ghost use Rattle.std.specs.Prelude.{◌≡◌, ◌≤◌, ◌⊎◌, ℕ, List, true, None, Some, IfOk, Ok, map, string_bytes};
 ghost use Rattle.std.specs.Borrow.{Bor};
 ghost use Rattle.command_line.specs.CommandLine.{IsPlain, MayAskPlainly, ask_plainly};
 ghost use Rattle.command_line.specs.declared.words.Asked.TheVariants.{Outcomes as AsksOutcomes, Replay as AsksReplay, Unread};
@@ -10,15 +10,16 @@ ghost use Rattle.endings.specs.declared.ends.Ending.TheVariants.{Done, Passed, R
 ghost use Rattle.asked_replays.specs.Replays.{EndsReplayed, EndsReplayedFile, IsRefusedUnread};
 ghost use Rattle.mntgate.specs.Asking.{MayEnd, EndsChecked, TellsSomePassed};
 ghost use Rattle.asked_files.specs.Outcomes.{EndsTold};
-ghost use Rattle.transcripts.specs.Replayed.{Replayed};
+ghost use Rattle.line_replays.specs.Replayed.{Replayed};
+ghost use Rattle.run_plans.specs.Plans.{MayRun};
 
-use crate::runs;
-use crate::runs::AskedRun;
 use asked_files::{run_checks, run_outcomes};
 use asked_replays::{Person, run_replay};
-use command_line::{Asked, Numbers, read_words};
-use endings::{Ending, text_told};
+use command_line::{Asked, Numbers, Tells, read_words};
+use endings::{Ending, refused, text_told};
+use gate_runs::{Plan, run_told};
 use run_plans::Progress;
+use run_plans::rows::ROWS;
 use std::alloc::{AllocError, Global};
 use std::io::{Read, Stderr, Write};
 use std::rt::{Clock, Files};
@@ -90,11 +91,8 @@ fn do_asked<
         Asked::Check(files) => run_checks(rt, alloc, files.as_slice(), reader, writer, errors),
         Asked::Outcomes(asked) => run_outcomes(rt, alloc, *asked, reader, writer, errors),
         Asked::Run(numbers, tells) => {
-            let asked = AskedRun {
-                numbers: *numbers,
-                tells: *tells,
-            };
-            Ok(run_threads(rt, alloc, asked, writer, errors, person.watches))
+            let watched = person.watches;
+            Ok(run_threads(rt, alloc, *numbers, *tells, writer, errors, watched))
         }
         Asked::Told(text) => Ok(text_told(text.as_str(), writer, errors)),
         Asked::Unread => Ok(Ending::Refused),
@@ -102,31 +100,46 @@ fn do_asked<
     }
 }
 
+/// How many of the rows are told: the first of them tell what all tasks did, the others what they met.
+fn count_of(tells: Tells) -> usize
+    ensures { result ≤ ROWS }
+{
+    match tells {
+        Tells::Totals => 5,
+        Tells::Details => ROWS,
+    }
+}
+
 /// Runs the threads. Where the clock can't be read, nobody is told how far they are.
 fn run_threads<R: Threads + Wait + Clock + Sync, W: Write, E: Write>(
     rt: &R,
     alloc: Global,
-    asked: AskedRun,
+    numbers: Numbers,
+    tells: Tells,
     writer: &mut W,
     errors: &mut E,
     watched: Option<Stderr>,
 ) -> Ending
-    ensures { (result ≡ Ran) ⊎ (result ≡ Refused) }
+    ensures ends { (result ≡ Ran) ⊎ (result ≡ Refused) }
+    ensures within { result ≡ Ran → MayRun numbers.tasks numbers.processors numbers.rounds numbers.freezes }
 {
+    let Numbers {
+        tasks,
+        processors,
+        rounds,
+        freezes,
+    } = numbers;
+    let plan = match Plan::new(tasks, processors, rounds, freezes) {
+        Ok(plan) => plan,
+        Err(refusal) => return refused(refusal, errors),
+    };
     let progress = match watched {
-        Some(stderr) => {
-            let Numbers {
-                tasks,
-                rounds,
-                freezes,
-                ..
-            } = asked.numbers;
-            Progress::new(rt, tasks, rounds, freezes, stderr).ok()
-        }
+        Some(stderr) => Progress::new(rt, tasks, rounds, freezes, stderr).ok(),
         None => None,
     };
+    let count = count_of(tells);
     match progress {
-        Some(progress) => runs::run(rt, alloc, asked, &progress, writer, errors),
-        None => runs::run(rt, alloc, asked, &(), writer, errors),
+        Some(progress) => run_told(rt, alloc, plan, count, &progress, writer, errors),
+        None => run_told(rt, alloc, plan, count, &(), writer, errors),
     }
 }

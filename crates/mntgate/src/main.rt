@@ -2,7 +2,6 @@
 #![tactic(auto)]
 
 pub mod asking;
-pub mod runs;
 
 use crate::asking::run;
 use anyhow::Result;

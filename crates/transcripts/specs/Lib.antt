@@ -1,4 +1,3 @@
-pub mod replays
 pub mod Limits
 pub mod Printing
 pub mod Transcript
@@ -6,5 +5,3 @@ pub mod Reached
 pub mod Drivers
 pub mod Tells
 pub mod Sessions
-pub mod Replayed
-pub mod Replaying

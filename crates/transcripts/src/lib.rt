@@ -1,11 +1,9 @@
 //! What a replay prints: the bytes that the lines of a schedule print, and the fault at which it ends, as a definition over the worlds of
-//! the headline; what holds of a replay under way, whichever program makes it; and the session that prints it: the gates of a schedule,
-//! whichever they are, and the model beside them.
+//! the headline; and the session that prints it: the gates of a schedule, whichever they are, and the model beside them.
 #![tactic(auto)]
 
 pub mod drivers;
 pub mod printing;
-pub mod replays;
 pub mod session;
 
 pub use drivers::Driver;

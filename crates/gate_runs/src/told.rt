@@ -1,0 +1,50 @@
+//! A run, with what it counted written.
+
+ghost use Rattle.std.specs.Prelude.{◌≡◌, ◌≤◌, ◌⊎◌};
+ghost use Rattle.endings.specs.declared.ends.Ending.TheVariants.{Ran, Refused};
+
+use crate::runs::run_plan;
+use access_model::GateError;
+use endings::{Ending, refused, why_told};
+use run_plans::rows::{ROWS, add_rows};
+use run_plans::{Plan, Watch};
+use schedule_lines::bytes::write_out;
+use std::alloc::Global;
+use std::io::Write;
+use std::rt::Clock;
+use std::sync::Wait;
+use std::thread::Threads;
+use std::time::Instant;
+
+/// Does the plan (`run_plan`), and writes what was counted: the first so many of the rows. A refusal is told on the writer of faults, and so is
+/// a write that fails; where that can't be told it ends the same.
+pub fn run_told<R: Threads + Wait + Clock + Sync, P: Watch + Sync, W: Write, E: Write>(
+    rt: &R,
+    alloc: Global,
+    plan: Plan,
+    count: usize,
+    watch: &P,
+    writer: &mut W,
+    errors: &mut E,
+) -> Ending
+    requires { count ≤ ROWS }
+    ensures { (result ≡ Ran) ⊎ (result ≡ Refused) }
+{
+    let start = Instant::now(rt).ok();
+    let (totals, details) = match run_plan(rt, alloc, plan, watch) {
+        Ok((totals, details, _)) => (totals, details),
+        Err(refusal) => return refused(refusal, errors),
+    };
+    let took = match start {
+        Some(start) => start.elapsed(rt).ok(),
+        None => None,
+    };
+    let mut lines = String::new(alloc);
+    if add_rows(&mut lines, count, totals, details, took).is_err() {
+        return refused(GateError::NoMemory, errors);
+    }
+    match write_out(writer, lines.as_bytes()) {
+        Ok(()) => Ending::Ran,
+        Err(fault) => why_told(fault.text(), errors),
+    }
+}

@@ -1,0 +1,4 @@
+pub mod Faults
+pub mod Unrolled
+pub mod Replaying
+pub mod Sameness
