@@ -1,19 +1,20 @@
 -- How the program ends that did what was asked for.
-use Rattle.std.proofs.Common.{◌≡◌, inl, inr, refl, sym, subst, ◌∙◌, ℕ, zero, suc, Bool, true, false, List, Option, Some, None, Result, Ok, Err, IfOk}
+use Rattle.std.proofs.Common.{◌≡◌, ◌⊎◌, inl, inr, refl, sym, subst, ◌∙◌, ℕ, zero, suc, Bool, true, false, List, Option, Some, None, Result, Ok, Err}
 use Rattle.std.specs.Borrow.{Bor}
-use Rattle.std.specs.declared.alloc.AllocError.{AllocError}
 use Rattle.command_line.specs.CommandLine.{IsPlain, IsPlainOfInput}
 use Rattle.command_line.specs.declared.words.Asked.{Asked}
 use Rattle.command_line.specs.declared.words.Asked.TheVariants as ask
 use Rattle.command_line.specs.declared.words.Form.{Form}
 use Rattle.command_line.specs.declared.words.Form.TheVariants.{Plain, Events, Columns, Json}
-use Rattle.command_line.specs.declared.words.Replay.{Replay}
+use Rattle.command_line.specs.declared.words.Outcomes.{Outcomes}
 use Rattle.endings.specs.Endings.{of_file}
 use Rattle.endings.specs.declared.ends.Ending.{Ending}
 use Rattle.endings.specs.declared.ends.Ending.TheVariants.{Done, DoneOfFile, DoneOverGates, Shown, Passed, Listed, Ran, Told, Refused, Misused}
 use Rattle.asked_files.specs.Checks.{TellsPassed, count_checked}
-use Rattle.asked_replays.specs.Replays.{EndsReplayed, done_in, done_of, ending_of}
-use Rattle.mntgate.specs.Asking.{EndsChecked, MayEnd, TellsSomePassed}
+use Rattle.asked_replays.specs.Replays.{EndsReplayed, IsRefusedUnread, done_in, done_of, ending_of}
+use Rattle.asked_files.specs.Outcomes.{EndsTold}
+use Rattle.asked_files.specs.Outcomes.EndsTold.{IsWritten, IsRefused, IsCutOff}
+use Rattle.mntgate.specs.Asking.{EndsAsked, TellsSomePassed}
 use Rattle.schedule_lines.specs.declared.bytes.replay_faults.ReplayFault.{ReplayFault}
 use Rattle.line_replays.specs.Replayed.{Replayed}
 
@@ -44,22 +45,15 @@ of_input : (file : Option (Bor (List ℕ))) (form : Form) (over_gates : Bool) �
 of_input None form over_gates e = let plain = plainly form over_gates e in (plain.0, plain.1, refl)
 of_input (Some file) form over_gates e = absurd (never_of_file (done_in form over_gates) e)
 
--- who ends with `Done` was asked for a plain replay of standard input
-pub done_plainly : (asked : Asked) (ending : Ending) → MayEnd asked ending → ending ≡ Done → IsPlainOfInput asked
-done_plainly (ask.Replay r) ending (inl e) done =
-    let plain = of_input r.file r.form r.over_gates (sym e ∙ done) in
-    record { replay = r; is = refl; plain = record { form = plain.0; core = plain.1 }; of_input = plain.2 }
-done_plainly (ask.Replay r) ending (inr e) done = cc
-done_plainly (ask.Check files) ending (inl e) done = cc
-done_plainly (ask.Check files) ending (inr e) done = cc
-done_plainly (ask.Outcomes race) ending (inl e) done = cc
-done_plainly (ask.Outcomes race) ending (inr e) done = cc
-done_plainly (ask.Run numbers tells) ending (inl e) done = cc
-done_plainly (ask.Run numbers tells) ending (inr e) done = cc
-done_plainly (ask.Told text) ending (inl e) done = cc
-done_plainly (ask.Told text) ending (inr e) done = cc
-done_plainly ask.Unread ending e done = cc
-done_plainly ask.Misused ending e done = cc
+-- no outcomes end with `Done` or `Passed`
+never_told : (race : Outcomes) (input held holds : Option (List ℕ)) (ending : Ending) → EndsTold race input held holds ending →
+    (ending ≡ Done) ⊎ (ending ≡ Passed) → ⊥
+never_told race input held holds ending (IsWritten bytes text read told all e) (inl done) = cc
+never_told race input held holds ending (IsWritten bytes text read told all e) (inr passed) = cc
+never_told race input held holds ending (IsRefused kept e) (inl done) = cc
+never_told race input held holds ending (IsRefused kept e) (inr passed) = cc
+never_told race input held holds ending (IsCutOff bytes text read told part e) (inl done) = cc
+never_told race input held holds ending (IsCutOff bytes text read told part e) (inr passed) = cc
 
 -- no replay ends with `Passed`
 never_passed : (file : Option (Bor (List ℕ))) (form : Form) (over_gates : Bool) → done_of file (done_in form over_gates) ≡ Passed → ⊥
@@ -79,58 +73,64 @@ some_told : (n : ℕ) (held holds : Option (List ℕ)) → TellsPassed (count_ch
 some_told zero held holds told = record { others = 0; told = told }
 some_told (suc n) held holds told = record { others = n; told = told }
 
--- who ends with `Passed` was asked for checks, and tells of one at least that it passed
-passes : (asked : Asked) (ending : Ending) (held holds : Option (List ℕ)) → MayEnd asked ending → EndsChecked asked held holds ending →
-    ending ≡ Passed → TellsSomePassed held holds
-passes (ask.Replay r) ending held holds (inl e) told passed = absurd (never_passed r.file r.form r.over_gates (sym e ∙ passed))
-passes (ask.Replay r) ending held holds (inr e) told passed = cc
-passes (ask.Check files) ending held holds may told passed = some_told _ held holds (told passed)
-passes (ask.Outcomes race) ending held holds (inl e) told passed = cc
-passes (ask.Outcomes race) ending held holds (inr e) told passed = cc
-passes (ask.Run numbers tells) ending held holds (inl e) told passed = cc
-passes (ask.Run numbers tells) ending held holds (inr e) told passed = cc
-passes (ask.Told text) ending held holds (inl e) told passed = cc
-passes (ask.Told text) ending held holds (inr e) told passed = cc
-passes ask.Unread ending held holds e told passed = cc
-passes ask.Misused ending held holds e told passed = cc
-
 -- a replay that ended well
 answered : (answer : Result (Unit {0}) ReplayFault) → ending_of answer ≡ Done → answer ≡ Ok tt
 answered (Ok x) e = refl
 answered (Err fault) e = cc
 
-module _ (r : Result Ending AllocError) (asked : Asked) (ends : IfOk r (MayEnd asked)) where
-  -- where it ends with `Done`, it was a replay that ended well
-  pub done_replayed : (input left held holds : Option (List ℕ)) →
-      ((x : Replay) → asked ≡ ask.Replay x → IsPlain x → x.file ≡ None → IfOk r (EndsReplayed input left held holds)) →
-      IfOk r (λ ending. ending ≡ Done → Replayed input left held holds (Ok tt))
-  done_replayed = by r ends
+module _ (input left held holds : Option (List ℕ)) where
+  -- who ends with `Done` was asked for a plain replay of standard input
+  pub done_plainly : (asked : Asked) (ending : Ending) → EndsAsked asked input left held holds ending → ending ≡ Done → IsPlainOfInput asked
+  done_plainly (ask.Replay r) ending ends done = elim ends.ends [
+    | inl e ↦ (let plain = of_input r.file r.form r.over_gates (sym e ∙ done) in
+        record { replay = r; is = refl; plain = record { form = plain.0; core = plain.1 }; of_input = plain.2 })
+    | inr e ↦ cc
+  ]
+  done_plainly (ask.Check files) ending ends done = elim ends.ends [ inl e ↦ cc | inr e ↦ cc ]
+  done_plainly (ask.Outcomes race) ending ends done = absurd (never_told race input held holds ending ends (inl done))
+  done_plainly (ask.Run numbers tells) ending (inl e) done = cc
+  done_plainly (ask.Run numbers tells) ending (inr e) done = cc
+  done_plainly (ask.Told text) ending (inl e) done = cc
+  done_plainly (ask.Told text) ending (inr e) done = cc
+  done_plainly ask.Unread ending ends done = absurd (refused_done ending ends.ends done)
     where
-      by : (r : Result Ending AllocError) → IfOk r (MayEnd asked) → (input left held holds : Option (List ℕ)) →
-          ((x : Replay) → asked ≡ ask.Replay x → IsPlain x → x.file ≡ None → IfOk r (EndsReplayed input left held holds)) →
-          IfOk r (λ ending. ending ≡ Done → Replayed input left held holds (Ok tt))
-      by (Err e) ends input left held holds plain = tt
-      by (Ok ending) ends input left held holds plain = λ done.
-          let p = done_plainly asked ending ends done in
-          let replay = plain p.replay p.is p.plain p.of_input in
-          subst (λ (a : Result (Unit {0}) ReplayFault). Replayed input left held holds a) (answered replay.answer (sym replay.ends ∙ done))
-          replay.replayed
+      refused_done : (ending : Ending) → ending ≡ Refused → ending ≡ Done → ⊥
+      refused_done ending e done = cc
+  done_plainly ask.Misused ending e done = cc
 
-  -- and asked for so
-  pub done_asked : (P : Type 0) → (IsPlainOfInput asked → P) → IfOk r (λ ending. ending ≡ Done → P)
-  done_asked = by r ends
+  -- who ends with `Passed` was asked for checks, and tells of one at least that it passed
+  pub passes : (asked : Asked) (ending : Ending) → EndsAsked asked input left held holds ending → ending ≡ Passed → TellsSomePassed held holds
+  passes (ask.Replay r) ending ends passed = elim ends.ends [
+    | inl e ↦ absurd (never_passed r.file r.form r.over_gates (sym e ∙ passed))
+    | inr e ↦ cc
+  ]
+  passes (ask.Check files) ending ends passed = some_told _ held holds (ends.passed passed)
+  passes (ask.Outcomes race) ending ends passed = absurd (never_told race input held holds ending ends (inr passed))
+  passes (ask.Run numbers tells) ending (inl e) passed = cc
+  passes (ask.Run numbers tells) ending (inr e) passed = cc
+  passes (ask.Told text) ending (inl e) passed = cc
+  passes (ask.Told text) ending (inr e) passed = cc
+  passes ask.Unread ending ends passed = absurd (refused_passed ending ends.ends passed)
     where
-      by : (r : Result Ending AllocError) → IfOk r (MayEnd asked) → (P : Type 0) → (IsPlainOfInput asked → P) →
-          IfOk r (λ ending. ending ≡ Done → P)
-      by (Err e) ends P how = tt
-      by (Ok ending) ends P how = λ done. how (done_plainly asked ending ends done)
+      refused_passed : (ending : Ending) → ending ≡ Refused → ending ≡ Passed → ⊥
+      refused_passed ending e passed = cc
+  passes ask.Misused ending e passed = cc
 
-  -- where it ends with `Passed`, one check at least was told to have passed
-  pub passed_told : (held holds : Option (List ℕ)) → IfOk r (EndsChecked asked held holds) →
-      IfOk r (λ ending. ending ≡ Passed → TellsSomePassed held holds)
-  passed_told = by r ends
-    where
-      by : (r : Result Ending AllocError) → IfOk r (MayEnd asked) → (held holds : Option (List ℕ)) → IfOk r (EndsChecked asked held holds) →
-          IfOk r (λ ending. ending ≡ Passed → TellsSomePassed held holds)
-      by (Err e) ends held holds told = tt
-      by (Ok ending) ends held holds told = passes asked ending held holds ends told
+  -- a plain replay of standard input is one
+  pub replays : (asked : Asked) → IsPlainOfInput asked → (ending : Ending) → EndsAsked asked input left held holds ending →
+      EndsReplayed input left held holds ending
+  replays asked p ending ends =
+      (subst (λ (a : Asked). EndsAsked a input left held holds ending) p.is ends).plain p.plain p.of_input
+
+  -- words that could not be read do nothing
+  pub unread : (asked : Asked) → asked ≡ ask.Unread → (ending : Ending) → EndsAsked asked input left held holds ending →
+      IsRefusedUnread input left held holds ending
+  unread asked e ending ends = subst (λ (a : Asked). EndsAsked a input left held holds ending) e ends
+
+  -- what ends with `Done` was a replay that ended well
+  pub replayed : (asked : Asked) (ending : Ending) → EndsAsked asked input left held holds ending → ending ≡ Done →
+      Replayed input left held holds (Ok tt)
+  replayed asked ending ends done =
+      let replay = replays asked (done_plainly asked ending ends done) ending ends in
+      subst (λ (a : Result (Unit {0}) ReplayFault). Replayed input left held holds a) (answered replay.answer (sym replay.ends ∙ done))
+      replay.replayed

@@ -1,15 +1,10 @@
 //! From the words of a command line to how the program ends.
 
-ghost use Rattle.std.specs.Prelude.{◌≡◌, ◌≤◌, ◌⊎◌, ℕ, List, true, None, Some, IfOk, Ok, map, string_bytes};
-ghost use Rattle.std.specs.Borrow.{Bor};
-ghost use Rattle.command_line.specs.CommandLine.{IsPlain, MayAskPlainly, ask_plainly};
-ghost use Rattle.command_line.specs.declared.words.Asked.TheVariants.{Outcomes as AsksOutcomes, Replay as AsksReplay, Unread};
-ghost use Rattle.command_line.specs.declared.words.Outcomes.{Outcomes as OutcomesAsked};
-ghost use Rattle.command_line.specs.declared.words.Replay.{Replay as ReplayAsked};
+ghost use Rattle.std.specs.Prelude.{◌≡◌, ◌≤◌, ◌⊎◌, true, IfOk, Ok, map, string_bytes};
+ghost use Rattle.command_line.specs.CommandLine.{MayAskPlainly, ask_plainly};
 ghost use Rattle.endings.specs.declared.ends.Ending.TheVariants.{Done, Passed, Ran, Refused};
-ghost use Rattle.asked_replays.specs.Replays.{EndsReplayed, EndsReplayedFile, IsRefusedUnread};
-ghost use Rattle.mntgate.specs.Asking.{MayEnd, EndsChecked, TellsSomePassed};
-ghost use Rattle.asked_files.specs.Outcomes.{EndsTold};
+ghost use Rattle.asked_replays.specs.Replays.{EndsReplayed, IsRefusedUnread};
+ghost use Rattle.mntgate.specs.Asking.{EndsAsked, TellsSomePassed};
 ghost use Rattle.line_replays.specs.Replayed.{Replayed};
 ghost use Rattle.run_plans.specs.Plans.{MayRun};
 
@@ -72,17 +67,7 @@ fn do_asked<
     errors: &mut E,
     person: Person,
 ) -> Result<Ending, AllocError>
-    ensures ends { IfOk result (MayEnd asked.now) }
-    ensures unread { asked.now ≡ Unread → IfOk result (IsRefusedUnread
-        (I.remaining reader.old) (I.remaining reader.new) (W.contents writer.old) (W.contents writer.new)) }
-    ensures plain { (r : ReplayAsked) → asked.now ≡ AsksReplay r → IsPlain r → r.file ≡ None → IfOk result (EndsReplayed
-        (I.remaining reader.old) (I.remaining reader.new) (W.contents writer.old) (W.contents writer.new)) }
-    ensures of_file { (r : ReplayAsked) (file : Bor (List ℕ)) → asked.now ≡ AsksReplay r → IsPlain r → r.file ≡ Some file →
-        IfOk result (λ ending. EndsReplayedFile (W.contents writer.old) (W.contents writer.new) ending
-        ⊎ IsRefusedUnread (I.remaining reader.old) (I.remaining reader.new) (W.contents writer.old) (W.contents writer.new) ending) }
-    ensures listed { (r : OutcomesAsked) → asked.now ≡ AsksOutcomes r → IfOk result (EndsTold r (I.remaining reader.old)
-        (W.contents writer.old) (W.contents writer.new)) }
-    ensures checked { IfOk result (EndsChecked asked.now (W.contents writer.old) (W.contents writer.new)) }
+    ensures { IfOk result (EndsAsked asked.now (I.remaining reader.old) (I.remaining reader.new) (W.contents writer.old) (W.contents writer.new)) }
 {
     match asked {
         Asked::Replay(replay) => {

@@ -1,19 +1,22 @@
 use Rattle.std.proofs.Common.{inl, inr}
 use Rattle.std.proofs.lemmas.Result.{IfOk-weaker}
-use Rattle.mntgate.proofs.Asked.{done_asked, done_replayed, passed_told}
+use Rattle.mntgate.proofs.Asked.{done_plainly, passes, replayed, replays, unread}
 use Rattle.mntgate.proofs.asking.run.Goals as goal
 
 pub returns-clause-plain : goal.returns-clause-plain
 returns-clause-plain g c h = elim (c.in_ok-asked.ensures.plain h) [
-  | inl unread ↦ IfOk-weaker c.do_asked-ended.result _ _ (λ ending x. inr x) (c.do_asked-ended.ensures.unread unread)
-  | inr p ↦ IfOk-weaker c.do_asked-ended.result _ _ (λ ending x. inl x) (c.do_asked-ended.ensures.plain p.replay p.is p.plain p.of_input)
+  | inl no_words ↦ IfOk-weaker c.do_asked-ended.result _ _ (λ ending x. inr (unread _ _ _ _ _ no_words ending x)) c.do_asked-ended.ensures
+  | inr p ↦ IfOk-weaker c.do_asked-ended.result _ _ (λ ending x. inl (replays _ _ _ _ _ p ending x)) c.do_asked-ended.ensures
 ]
 
 pub returns-clause-only : goal.returns-clause-only
-returns-clause-only g c = done_asked c.do_asked-ended.result c.in_ok-asked.asked c.do_asked-ended.ensures.ends _ c.in_ok-asked.ensures.only
+returns-clause-only g c = IfOk-weaker c.do_asked-ended.result _ _
+    (λ ending x done. c.in_ok-asked.ensures.only (done_plainly _ _ _ _ c.in_ok-asked.asked ending x done)) c.do_asked-ended.ensures
 
 pub returns-clause-done : goal.returns-clause-done
-returns-clause-done g c = done_replayed c.do_asked-ended.result c.in_ok-asked.asked c.do_asked-ended.ensures.ends _ _ _ _ c.do_asked-ended.ensures.plain
+returns-clause-done g c = IfOk-weaker c.do_asked-ended.result _ _
+    (λ ending x done. replayed _ _ _ _ c.in_ok-asked.asked ending x done) c.do_asked-ended.ensures
 
 pub returns-clause-passed : goal.returns-clause-passed
-returns-clause-passed g c = passed_told c.do_asked-ended.result c.in_ok-asked.asked c.do_asked-ended.ensures.ends _ _ c.do_asked-ended.ensures.checked
+returns-clause-passed g c = IfOk-weaker c.do_asked-ended.result _ _
+    (λ ending x passed. passes _ _ _ _ c.in_ok-asked.asked ending x passed) c.do_asked-ended.ensures
