@@ -52,7 +52,11 @@ fn rows_of(totals: Totals, details: Details, took: Option<Duration>) -> [Row; RO
     ]
 }
 
-/// Adds the lines of the first rows, so many.
+/// Adds the lines of the first rows, so many, `ROWS` at most. A row that the run has nothing to tell of has no line.
+///
+/// # Errors
+///
+/// AllocError where memory for a line was refused: the lines before it stand there then, and of it there may be a part.
 pub fn add_rows(
     lines: &mut String,
     count: usize,
