@@ -22,3 +22,10 @@ pub record TellsRun (held : ℕ → ℕ → Type 0) (seen : ℕ → Type 0) (tas
   pub remounts : totals.remounts ≡ rounds
   pub ended : Ended closed.config closed.words
   pub all : AllDid (EndsAs ended.world.views) held seen tasks processors rounds freezes details
+
+-- a run of so many was done whole, as its gates tell that are closed
+pub record WasRun (held : ℕ → ℕ → Type 0) (seen : ℕ → Type 0) (tasks processors rounds freezes : ℕ) : Type 0 where
+  pub totals : Totals
+  pub details : Details
+  pub closed : Ending
+  pub tells : TellsRun held seen tasks processors rounds freezes totals details closed

@@ -2,6 +2,7 @@
 
 ghost use Rattle.std.specs.Prelude.{◌≡◌, ◌≤◌, ◌⊎◌};
 ghost use Rattle.endings.specs.declared.ends.Ending.TheVariants.{Ran, Refused};
+ghost use Rattle.gate_runs.specs.Told.{WasRun};
 
 use crate::runs::run_plan;
 use access_model::GateError;
@@ -16,8 +17,8 @@ use std::sync::Wait;
 use std::thread::Threads;
 use std::time::Instant;
 
-/// Does the plan (`run_plan`), and writes what was counted: the first so many of the rows. A refusal is told on the writer of faults, and so is
-/// a write that fails; where that can't be told it ends the same.
+/// Does the plan (`run_plan`), and writes what was counted: the first so many of the rows. It ends as Ran only where all of the plan was done. A refusal
+/// is told on the writer of faults, and so is a write that fails; where that can't be told it ends the same.
 pub fn run_told<R: Threads + Wait + Clock + Sync, P: Watch + Sync, W: Write, E: Write>(
     rt: &R,
     alloc: Global,
@@ -28,7 +29,8 @@ pub fn run_told<R: Threads + Wait + Clock + Sync, P: Watch + Sync, W: Write, E: 
     errors: &mut E,
 ) -> Ending
     requires { count ≤ ROWS }
-    ensures { (result ≡ Ran) ⊎ (result ≡ Refused) }
+    ensures ends { (result ≡ Ran) ⊎ (result ≡ Refused) }
+    ensures ran { result ≡ Ran → WasRun (P.held watch.now) (P.seen watch.now) plan.tasks plan.processors plan.rounds plan.freezes }
 {
     let start = Instant::now(rt).ok();
     let (totals, details) = match run_plan(rt, alloc, plan, watch) {
