@@ -2,9 +2,9 @@
 //! of a race. It needs no thread, and is proved beside the gates that threads use.
 #![tactic(auto)]
 
-pub mod checks;
-pub mod outcomes;
-pub mod race_texts;
+mod checks;
+mod outcomes;
+mod race_texts;
 
 pub use checks::run_checks;
 pub use outcomes::run_outcomes;

@@ -2,10 +2,7 @@
 //! a schedule may say what it prints, in lines `#> TEXT`, which a replay skips as it skips each comment.
 
 pub mod checks;
-pub mod listing;
 pub mod telling;
-pub mod texts;
 
 pub use checks::{Checked, check};
-pub use listing::{Listing, Outcome, list};
 pub use telling::{Details, Schedules, tell, tell_briefly};

@@ -1,8 +1,8 @@
 use Rattle.std.specs.List.{flat_map}
 use Rattle.schedule_lines.specs.Printed.{Prints}
 use Rattle.transcripts.specs.Transcript.{count_up}
-use Rattle.asked_files.specs.race_texts.Texts.{task_part}
-use Rattle.asked_files.proofs.race_texts.texts.outcome_text.Given as goal
+use Rattle.outcome_texts.specs.Texts.{task_part}
+use Rattle.outcome_texts.proofs.texts.outcome_text.Given as goal
 
 -- what the tasks so far print
 abbrev pub invariant-loop-task : goal.invariant-loop-task

@@ -2,10 +2,10 @@ use Rattle.std.proofs.Common.{◌∙◌, sym, ap, subst}
 use Rattle.schedule_lines.specs.declared.output.Output.{Output}
 use Rattle.schedule_lines.specs.Printed.{Prints}
 use Rattle.schedule_lines.proofs.Printed.{prints_nothing, prints_same}
-use Rattle.asked_files.specs.race_texts.Texts.{course_part, task_part}
+use Rattle.outcome_texts.specs.Texts.{course_part, task_part}
 use Rattle.transcripts.proofs.Texts.{one_more}
-use Rattle.asked_files.proofs.race_texts.texts.outcome_text.Goals as goal
-use Rattle.asked_files.proofs.race_texts.texts.outcome_text.Goals.{in-Some, in_default}
+use Rattle.outcome_texts.proofs.texts.outcome_text.Goals as goal
+use Rattle.outcome_texts.proofs.texts.outcome_text.Goals.{in-Some, in_default}
 
 pub loop-task-preserved : goal.loop-task-preserved
 loop-task-preserved c =

@@ -1,8 +1,8 @@
 use Rattle.std.proofs.Common.{take}
 use Rattle.std.specs.List.{flat_map}
 use Rattle.schedule_lines.specs.Printed.{Prints}
-use Rattle.asked_files.specs.race_texts.Texts.{answer_part}
-use Rattle.asked_files.proofs.race_texts.texts.print_course.Given as goal
+use Rattle.outcome_texts.specs.Texts.{answer_part}
+use Rattle.outcome_texts.proofs.texts.print_course.Given as goal
 
 -- what the answers so far print
 abbrev pub invariant-loop-turn : goal.invariant-loop-turn

@@ -2,7 +2,7 @@
 
 ghost use Rattle.std.specs.Prelude.{◌≡◌, IfOk, slice_get};
 ghost use Rattle.schedule_lines.specs.Printed.{Prints};
-ghost use Rattle.asked_files.specs.race_texts.Texts.{told_answer, course_text, outcome_text};
+ghost use Rattle.outcome_texts.specs.Texts.{told_answer, course_text, outcome_text};
 
 use access_model::{GateError, Reply};
 use races::{Course, Race};
@@ -11,7 +11,7 @@ use std::alloc::{AllocError, Global};
 
 /// The text of an outcome: what the calls of each task have answered, task by task, and `T waits` for each task that has calls left; all
 /// joined by `; `.
-#[tactic(auto, unfolding(crate::specs::race_texts::Texts::outcome_text))]
+#[tactic(auto, unfolding(crate::specs::Texts::outcome_text))]
 pub fn outcome_text(alloc: Global, race: &Race, courses: &[Course]) -> Result<Vec<u8>, AllocError>
     ensures { IfOk result (λ text. text.items ≡ outcome_text race.now.tasks race.now.calls.items courses.now) }
 {
@@ -34,7 +34,7 @@ fn course_of(courses: &[Course], task: u8) -> Option<Course>
 }
 
 /// Prints the answers of a task, each behind `; `, and that it waits, where it has calls left.
-#[tactic(auto, unfolding(crate::specs::race_texts::Texts::course_text))]
+#[tactic(auto, unfolding(crate::specs::Texts::course_text))]
 fn print_course(out: &mut Output, race: &Race, task: u8, course: Course)
     ensures { Prints out.old out.new (course_text race.now.calls.items task course) }
 {

@@ -1,0 +1,7 @@
+//! All outcomes of a race, each with its text, in the order of these.
+#![tactic(auto)]
+
+mod listing;
+mod texts;
+
+pub use listing::{Listing, Outcome, list};
