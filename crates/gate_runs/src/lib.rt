@@ -2,8 +2,8 @@
 //! closed. It needs public calls alone, and stands in a crate of its own so that what needs no runs does not wait for their proof.
 #![tactic(auto)]
 
-mod run_parts;
-mod run_threads;
+pub mod run_parts;
+pub mod run_threads;
 mod runs;
 mod told;
 
