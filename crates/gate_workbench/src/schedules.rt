@@ -3,7 +3,7 @@
 use crate::ending::Ending;
 use access_model::GateError;
 use asked_replays::replay_over_gates;
-use line_replays::replay;
+use line_replays::replay::replay;
 use schedule_lines::bytes::ReplayFault;
 use std::alloc::Global;
 
