@@ -12,31 +12,15 @@ ghost use Rattle.vfs_gates.specs.Splitting.{AreNumbered, Gives};
 ghost use Rattle.transcripts.specs.Drivers.{listed_word};
 ghost use Rattle.vfs_gates.specs.Stepped.{Stepped};
 ghost use Rattle.vfs_gates.specs.TaskStates.{IsFrom, IsIdle, TaskState, own_number, refusal_at};
-ghost use Rattle.transcripts.specs.Limits.{IsLineNumber};
 
 use access_model::GateError;
 use cpu_words::{Event, WordName};
 use freeze_levels::HookKind;
 use gate_core::{Step, words_at_start};
 use gate_world::{Config, Op};
-use line_replays::replay_over;
-use schedule_lines::bytes::ReplayFault;
 use std::alloc::Global;
-use std::io::{Read, Write};
 use transcripts::Driver;
 use vfs_gates::{Gates, Task};
-
-/// Reads a schedule and writes what its lines ask for, to the first fault, over the gates that threads use: as `replay_over`, with this thread
-/// doing all tasks' events.
-pub fn replay_over_gates<R: Read, W: Write>(
-    alloc: Global,
-    reader: &mut R,
-    writer: &mut W,
-) -> Result<(), ReplayFault>
-    ensures { IfErr result (λ fault. IsLineNumber fault.line) }
-{
-    replay_over::<GatesDriver, R, W>(alloc, reader, writer)
-}
 
 /// The gates with a task for each number, none of which is ever joined, and the words as the events of all steps have left them.
 /// Gates that are open tell no word: another thread might change it. Here there is none.

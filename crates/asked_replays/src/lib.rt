@@ -3,9 +3,9 @@
 #![tactic(auto)]
 
 mod explained;
-mod gates_driver;
-mod replays;
+pub mod gates_driver;
+pub mod replays;
 mod telling;
 
-pub use gates_driver::replay_over_gates;
+pub use gates_driver::GatesDriver;
 pub use replays::{Person, run_replay};

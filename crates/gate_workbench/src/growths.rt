@@ -2,13 +2,14 @@
 //! is made again. bench/refuse-memory.sh runs them under `rt try --fail-alloc`, which refuses one growth: as many growths are asked for
 //! first as the input's line says, so that each growth of each call is the one that is refused in some run.
 
-use crate::schedules::{Over, replay_schedule};
-use crate::{gates, models, threads};
+use crate::{gates, models, schedules, threads};
 use anyhow::Result;
+use asked_replays::GatesDriver;
 use std::alloc::Global;
 use std::io::Read;
 use std::sync::Wait;
 use std::thread::Threads;
+use transcripts::Core;
 
 /// Asks for so many small growths, one after the other, and gives each back.
 fn ask_for_growths(alloc: Global, count: u16) {
@@ -45,8 +46,8 @@ pub(crate) fn print_endings<R: Threads + Wait + Print + Sync, I: Read>(
         ("gates", made),
         ("split", split),
         ("run", threads::run(rt, alloc)),
-        ("replay", replay_schedule(alloc, Over::Core)),
-        ("over-gates", replay_schedule(alloc, Over::Gates)),
+        ("replay", schedules::replay::<Core>(alloc)),
+        ("over-gates", schedules::replay::<GatesDriver>(alloc)),
     ];
     for (call, ending) in endings {
         println!(rt; "{call} {ending}")?;

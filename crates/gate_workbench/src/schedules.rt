@@ -2,17 +2,10 @@
 
 use crate::ending::Ending;
 use access_model::GateError;
-use asked_replays::replay_over_gates;
-use line_replays::replay::replay;
+use line_replays::replay_over;
 use schedule_lines::bytes::ReplayFault;
 use std::alloc::Global;
-
-/// What a schedule is replayed over.
-#[derive(Clone, Copy)]
-pub(crate) enum Over {
-    Core,
-    Gates,
-}
+use transcripts::Driver;
 
 /// A schedule that needs memory at its first line and at its third.
 static SCHEDULE: &[u8] = b"# a comment\n\nconfig 2 1 1 2 8\n0 want 0 0\n0 run\n";
@@ -23,14 +16,11 @@ const PRINTED: [u8; 5] = *b"0 ok\n";
 /// What stands there where it prints nothing.
 const NOTHING: [u8; 5] = [0; 5];
 
-/// How a replay of it ends, and what it writes.
-fn replayed(alloc: Global, over: Over) -> (Result<(), ReplayFault>, [u8; 5]) {
+/// How a replay of it ends over such gates, and what it writes.
+fn replayed<D: Driver>(alloc: Global) -> (Result<(), ReplayFault>, [u8; 5]) {
     let (mut schedule, mut written) = (SCHEDULE, NOTHING);
     let mut writer = written.as_mut_slice();
-    let ended = match over {
-        Over::Core => replay(alloc, &mut schedule, &mut writer),
-        Over::Gates => replay_over_gates(alloc, &mut schedule, &mut writer),
-    };
+    let ended = replay_over::<D, _, _>(alloc, &mut schedule, &mut writer);
     (ended, written)
 }
 
@@ -42,11 +32,11 @@ fn is_refused(fault: &ReplayFault) -> bool {
     )
 }
 
-/// A replay of it. Where a growth is refused, it ends at the line that needs it and has written nothing.
-pub(crate) fn replay_schedule(alloc: Global, over: Over) -> Ending {
-    match replayed(alloc, over) {
+/// A replay over such gates. Where a growth is refused, it ends at the line that needs it and has written nothing.
+pub(crate) fn replay<D: Driver>(alloc: Global) -> Ending {
+    match replayed::<D>(alloc) {
         (Ok(()), PRINTED) => Ending::Done,
-        (Err(fault), NOTHING) if is_refused(&fault) => match replayed(alloc, over) {
+        (Err(fault), NOTHING) if is_refused(&fault) => match replayed::<D>(alloc) {
             (Ok(()), PRINTED) => Ending::DoneAgain,
             _ => Ending::Wrong,
         },
