@@ -9,17 +9,16 @@ ghost use Rattle.gate_world.specs.Configs.{IsWithin};
 ghost use Rattle.gate_world.specs.declared.work.Phase.{Phase};
 ghost use Rattle.asked_replays.specs.Noted.{words_after};
 ghost use Rattle.vfs_gates.specs.Splitting.{AreNumbered, Gives};
-ghost use Rattle.transcripts.specs.Drivers.{listed_word};
+ghost use Rattle.gate_core.specs.Drivers.{listed_word};
 ghost use Rattle.vfs_gates.specs.Stepped.{Stepped};
 ghost use Rattle.vfs_gates.specs.TaskStates.{IsFrom, IsIdle, TaskState, own_number, refusal_at};
 
 use access_model::GateError;
 use cpu_words::{Event, WordName};
 use freeze_levels::HookKind;
-use gate_core::{Step, words_at_start};
+use gate_core::{Driver, Step, words_at_start};
 use gate_world::{Config, Op};
 use std::alloc::Global;
-use transcripts::Driver;
 use vfs_gates::{Gates, Task};
 
 /// The gates with a task for each number, none of which is ever joined, and the words as the events of all steps have left them.

@@ -10,11 +10,11 @@ use crate::gates_driver::GatesDriver;
 use crate::telling::{Telling, replay_told, show_told};
 use command_line::{Form, Replay};
 use endings::{Ending, unopened};
+use gate_core::Core;
 use std::alloc::Global;
 use std::fs;
 use std::io::{Read, Stderr, Write};
 use std::rt::Files;
-use transcripts::Core;
 
 /// What a person is told who is to type a schedule.
 const AWAITED: &str =

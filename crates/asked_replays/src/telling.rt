@@ -6,12 +6,13 @@ ghost use Rattle.line_replays.specs.Replayed.{Replayed};
 
 use crate::explained::explanation;
 use endings::{fault_told, why_told};
+use gate_core::Driver;
 use line_replays::replay_to_end;
 use schedule_lines::bytes::{ReplayFault, fault_after};
 use shown_events::{Form, Show};
 use std::alloc::Global;
 use std::io::{Read, Write};
-use transcripts::{Driver, no_memory};
+use transcripts::no_memory;
 
 /// What is told of a fault.
 #[derive(Clone, Copy)]

@@ -1,3 +1,5 @@
 pub mod Memory
 pub mod Moves
 pub mod Stepped
+pub mod Drivers
+pub mod Tells

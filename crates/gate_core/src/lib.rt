@@ -2,8 +2,9 @@
 //! and `step`.
 #![tactic(auto)]
 
+mod drivers;
 pub mod machine;
 
-pub use gate_schedules::{Progress, Seat, Step};
+pub use gate_schedules::{Driver, Progress, Seat, Step};
 pub use gate_world::{Accesses, Config, Op};
 pub use machine::{Core, words_at_start};

@@ -1,8 +1,9 @@
 //! Whole schedules, and what holds of each of them: the headline; below it the laws of all operations (`operations`), those of the tree
-//! (`trees`), and that phases which compare equal are the same (`same_phases`). What a step tells, and what is kept of a task between its
-//! steps, by whatever program does them.
+//! (`trees`), and that phases which compare equal are the same (`same_phases`). What a step tells, what is kept of a task between its
+//! steps, and what moves the gates of a schedule (`Driver`), by whatever program does them.
 #![tactic(auto)]
 
+pub mod drivers;
 pub mod laws;
 pub mod operations;
 pub mod same_phases;
@@ -11,6 +12,7 @@ pub mod seats;
 pub mod steps;
 pub mod trees;
 
+pub use drivers::Driver;
 pub use schedules::{every_schedule, every_schedule_keeps_the_rule};
 pub use seats::Seat;
 pub use steps::{Progress, Step};

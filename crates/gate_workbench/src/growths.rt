@@ -5,11 +5,11 @@
 use crate::{gates, models, schedules, threads};
 use anyhow::Result;
 use asked_replays::GatesDriver;
+use gate_core::Core;
 use std::alloc::Global;
 use std::io::Read;
 use std::sync::Wait;
 use std::thread::Threads;
-use transcripts::Core;
 
 /// Asks for so many small growths, one after the other, and gives each back.
 fn ask_for_growths(alloc: Global, count: u16) {

@@ -2,10 +2,10 @@
 
 use crate::ending::Ending;
 use access_model::GateError;
+use gate_core::Driver;
 use line_replays::replay_over;
 use schedule_lines::bytes::ReplayFault;
 use std::alloc::Global;
-use transcripts::Driver;
 
 /// A schedule that needs memory at its first line and at its third.
 static SCHEDULE: &[u8] = b"# a comment\n\nconfig 2 1 1 2 8\n0 want 0 0\n0 run\n";

@@ -16,11 +16,12 @@ ghost use Rattle.line_replays.specs.Replaying.{Stops};
 ghost use Rattle.transcripts.specs.Transcript.{Play, line_effect, tasks_of};
 ghost use Rattle.schedule_lines.specs.bytes.Writing.{AppendsPart};
 
+use gate_schedules::Driver;
 use schedule_lines::bytes::{Input, ReplayFault, fault_after, write_out};
 use schedule_text::{Fault, Front, LINES, Line, Output, Request, parse};
 use std::alloc::{AllocError, Global};
 use std::io::{Read, Write};
-use transcripts::{Driver, Session, settled};
+use transcripts::{Session, settled};
 
 /// From so many printed bytes on they are written out.
 const FULL: usize = 65_536;

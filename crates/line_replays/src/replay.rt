@@ -5,10 +5,11 @@ ghost use Rattle.transcripts.specs.Limits.{IsLineNumber};
 ghost use Rattle.line_replays.specs.Replayed.{Replayed};
 
 use crate::line_replay::LineReplay;
+use gate_core::{Core, Driver};
 use schedule_lines::bytes::{ReplayFault, fault_after};
 use std::alloc::Global;
 use std::io::{Read, Write};
-use transcripts::{Core, Driver, no_memory};
+use transcripts::no_memory;
 
 /// Reads a schedule and writes what its lines ask for, to the first fault. Whatever the lines so far print is written out
 /// before more is read.

@@ -7,9 +7,10 @@ use crate::calls::Calls;
 use crate::faults::RaceFault;
 use crate::lines::Lines;
 use crate::setting_up::set_up;
+use gate_core::Core;
 use schedule_lines::bytes::ReplayFault;
 use std::alloc::Global;
-use transcripts::{Core, Session, no_memory};
+use transcripts::{Session, no_memory};
 
 /// A race that was read: the core, as it was set up, and what each of its tasks calls.
 #[derive(Drop)]

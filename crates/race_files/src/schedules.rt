@@ -1,9 +1,10 @@
 //! The schedule of an outcome.
 
 use crate::calls::Calls;
+use gate_core::Core;
 use schedule_text::{Output, TaskCommand};
 use std::alloc::{AllocError, Global};
-use transcripts::{Core, Session};
+use transcripts::Session;
 
 /// How many tasks a configuration has at most.
 const TASKS: usize = 64;

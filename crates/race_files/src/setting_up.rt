@@ -5,9 +5,10 @@ ghost use Rattle.race_files.specs.Left.{AreLeftOf, BeginRace, left_in};
 
 use crate::faults::RaceFault;
 use crate::lines::{Lines, is_race};
+use gate_core::Core;
 use schedule_text::{Fault, Line, Output, parse};
 use std::alloc::Global;
-use transcripts::{Core, Session};
+use transcripts::Session;
 
 /// Who looks at what the lines of a schedule print.
 pub trait Watch {

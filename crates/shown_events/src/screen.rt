@@ -6,12 +6,12 @@ use crate::json::{self, ANSWER, EVENT, STORE};
 use crate::page::{Page, text_of};
 use crate::waits::Wait;
 use cpu_words::{Event, Touch, WordName};
-use gate_core::{Progress, Step};
+use gate_schedules::{Driver, Progress, Step};
 use schedule_text::{Fault, HookFailure, Line, Output, Request, TaskCommand};
 use std::alloc::Global;
+use transcripts::Session;
 use transcripts::printing::print_ended;
 use transcripts::session::EVENTS;
-use transcripts::{Driver, Session};
 
 /// How many tasks a number can tell.
 const TASKS: usize = 256;

@@ -5,11 +5,12 @@ ghost use Rattle.schedule_lines.specs.bytes.Pending.{pending_count};
 
 use crate::forms::Form;
 use crate::screen::Screen;
+use gate_schedules::Driver;
 use schedule_lines::bytes::{Input, ReplayFault, fault_after};
 use schedule_text::{Fault, Front, LINE_BYTES, LINES, parse};
 use std::alloc::{AllocError, Global};
 use std::io::{Read, Write};
-use transcripts::{Driver, Session};
+use transcripts::Session;
 
 /// How many turns all lines and what follows them take at most: of each line one for itself, and one for each byte of it that was read alone.
 const TURNS: usize = (LINES as usize + 1) * (LINE_BYTES + 2);

@@ -1,8 +1,9 @@
 //! For whom a task waits.
 
 use cpu_words::{Event, WordName};
+use gate_schedules::Driver;
 use schedule_text::Output;
-use transcripts::{Driver, Session};
+use transcripts::Session;
 
 /// Who stands in the way.
 #[derive(Clone, Copy)]

@@ -2,10 +2,7 @@
 //! the headline; and the session that prints it: the gates of a schedule, whichever they are, and the model beside them.
 #![tactic(auto)]
 
-pub mod drivers;
 pub mod printing;
 pub mod session;
 
-pub use drivers::Driver;
-pub use gate_core::Core;
 pub use session::{Session, no_memory, settled};

@@ -5,11 +5,10 @@ ghost use Rattle.schedule_lines.specs.Printed.{Prints};
 ghost use Rattle.schedule_lines.specs.declared.faults.Fault.TheVariants.{Refused};
 ghost use Rattle.access_model.specs.declared.errors.GateError.TheVariants.{Invalid, NoMemory};
 
-use crate::drivers::Driver;
 use crate::printing::{print_ended, print_step};
 use access_model::{GateError, Holder};
 use cpu_words::WordName;
-use gate_core::{Progress, Step};
+use gate_schedules::{Driver, Progress, Step};
 use gate_world::{Config, Op};
 use model_state::Model;
 use schedule_text::{Fault, HookFailure, Output, Request, TaskCommand};

@@ -2,12 +2,13 @@
 
 use crate::race_texts::tell_briefly;
 use exploration::Stop;
+use gate_core::Core;
 use race_files::setting_up::{Watch, do_setting};
 use race_files::{Lines, RaceFault, RaceFile};
 use schedule_lines::bytes::ReplayFault;
 use schedule_text::{LINES, Output};
 use std::alloc::{AllocError, Global};
-use transcripts::{Core, Session};
+use transcripts::Session;
 
 /// How many states a race may have here.
 const STATES: usize = 100_000;

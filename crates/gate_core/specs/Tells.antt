@@ -13,7 +13,7 @@ use Rattle.gate_core.specs.Memory.{Memory}
 use Rattle.gate_world.specs.Configs.{IsWithin, extents_of, extents_kept}
 use Rattle.gate_world.specs.Worlds.{World}
 use Rattle.gate_world.specs.declared.config.Config.{Config}
-use Rattle.transcripts.specs.Drivers.{has_row, core_word, CoreShows}
+use Rattle.gate_core.specs.Drivers.{has_row, core_word, CoreShows}
 
 -- the test finds a word that there is
 found : (e : Extents) (r : Row) → HasRow e r → has_row e r ≡ true

@@ -1,9 +1,9 @@
 //! What moves the gates of a schedule.
 
+use crate::steps::Step;
 use access_model::GateError;
 use cpu_words::WordName;
 use freeze_levels::HookKind;
-use gate_core::{Core, Step};
 use gate_world::{Config, Op};
 use std::alloc::Global;
 
@@ -57,43 +57,4 @@ pub trait Driver: Drop {
     /// What they answer of a word is its value in the world which they show.
     ghost tells: { (driver : Self) (c : ConfigType) (w : World) (name : Name) → shows driver c w → IsWord (extents_of c) name →
         word_of driver name ≡ Some (read w.words name) };
-}
-
-/// All tasks on plain words.
-impl Driver for Core {
-    ghost use Rattle.std.specs.Prelude.{true};
-    ghost use Rattle.transcripts.specs.Drivers.{CoreShows, core_word};
-    ghost use Rattle.transcripts.specs.Tells.{core_tells};
-
-    ghost is_known = { true };
-
-    ghost shows = { CoreShows };
-
-    ghost word_of = { core_word };
-
-    ghost tells = { core_tells };
-
-    fn new(alloc: Global, config: Config) -> Result<Core, GateError> {
-        Core::new(alloc, config)
-    }
-
-    fn begin(&mut self, task: u8, op: Op) -> Result<(), GateError> {
-        self.begin(task, op)
-    }
-
-    fn step(&mut self, task: u8, hook: Result<(), u16>) -> Step {
-        self.step(task, hook)
-    }
-
-    fn wants_hook(&self, task: u8) -> Option<HookKind> {
-        self.wants_hook(task)
-    }
-
-    fn word(&self, name: WordName) -> Option<u64> {
-        if self.config().has_word(name) {
-            self.words().get(name.place()).copied()
-        } else {
-            None
-        }
-    }
 }
