@@ -7,7 +7,7 @@ use freeze_levels::HookKind;
 use gate_world::{Config, Op};
 use std::alloc::Global;
 
-/// The gates of a schedule, with all their tasks: all tasks on plain words, or gates of a crate that stands on this one.
+/// The gates of a schedule, with all their tasks: the core, which has them on plain words, or those that threads use, driven by one of them.
 pub trait Driver: Drop {
     ghost use Rattle.std.specs.Prelude.{◌≡◌, ℕ, true, Bool, Option, Some, Err, IfOk, IfErr, OnOk};
     ghost use Rattle.access_model.specs.declared.errors.GateError.TheVariants.{Invalid, NoMemory};
@@ -36,7 +36,7 @@ pub trait Driver: Drop {
         ensures invalid { ¬ IsWithin config → result ≡ Err Invalid }
         ensures memory { IsWithin config → IfErr result (λ e. e ≡ NoMemory) };
 
-    /// Begins an operation of a task. Refused, and then nothing is changed, as `Core::begin` says.
+    /// Begins an operation of a task. Refused, and then nothing is changed, as the core's `begin` says.
     fn begin(&mut self, task: u8, op: Op) -> Result<(), GateError>
         ensures answer { (c : ConfigType) (w : World) → shows self.old c w → result ≡ begin_answer c w task op }
         ensures shows { (c : ConfigType) (w : World) → shows self.old c w → shows self.new c (happens c w (Begins task op)) };
