@@ -1,11 +1,13 @@
 -- How the program ends that did what was asked for.
-use Rattle.std.proofs.Common.{◌≡◌, ◌⊎◌, inl, inr, refl, sym, subst, ◌∙◌, ℕ, zero, suc, Bool, true, false, List, Option, Some, None, Result, Ok, Err}
+use Rattle.std.proofs.Common.{◌≡◌, inl, inr, refl, sym, ap, subst, ◌∙◌, ℕ, zero, suc, Bool, true, false, List, Option, Some, None, Result, Ok, Err}
 use Rattle.std.specs.Borrow.{Bor}
-use Rattle.command_line.specs.CommandLine.{IsPlain, IsPlainOfInput}
+use mathlib.Core.Bool.{true≢false}
+use Rattle.command_line.specs.CommandLine.{IsPlainOfInput}
 use Rattle.command_line.specs.declared.words.Asked.{Asked}
 use Rattle.command_line.specs.declared.words.Asked.TheVariants as ask
 use Rattle.command_line.specs.declared.words.Form.{Form}
 use Rattle.command_line.specs.declared.words.Form.TheVariants.{Plain, Events, Columns, Json}
+use Rattle.command_line.specs.declared.words.Numbers.{Numbers}
 use Rattle.command_line.specs.declared.words.Outcomes.{Outcomes}
 use Rattle.endings.specs.Endings.{of_file}
 use Rattle.endings.specs.declared.ends.Ending.{Ending}
@@ -14,7 +16,7 @@ use Rattle.asked_files.specs.Checks.{TellsPassed, count_checked}
 use Rattle.asked_replays.specs.Replays.{EndsReplayed, IsRefusedUnread, done_in, done_of, ending_of}
 use Rattle.asked_files.specs.Outcomes.{EndsTold}
 use Rattle.asked_files.specs.Outcomes.EndsTold.{IsWritten, IsRefused, IsCutOff}
-use Rattle.mntgate.specs.Asking.{EndsAsked, TellsSomePassed}
+use Rattle.mntgate.specs.Asking.{EndsAsked, EndsRun, TellsSomePassed}
 use Rattle.schedule_lines.specs.declared.bytes.replay_faults.ReplayFault.{ReplayFault}
 use Rattle.line_replays.specs.Replayed.{Replayed}
 
@@ -45,28 +47,41 @@ of_input : (file : Option (Bor (List ℕ))) (form : Form) (over_gates : Bool) �
 of_input None form over_gates e = let plain = plainly form over_gates e in (plain.0, plain.1, refl)
 of_input (Some file) form over_gates e = absurd (never_of_file (done_in form over_gates) e)
 
--- no outcomes end with `Done` or `Passed`
-never_told : (race : Outcomes) (input held holds : Option (List ℕ)) (ending : Ending) → EndsTold race input held holds ending →
-    (ending ≡ Done) ⊎ (ending ≡ Passed) → ⊥
-never_told race input held holds ending (IsWritten bytes text read told all e) (inl done) = cc
-never_told race input held holds ending (IsWritten bytes text read told all e) (inr passed) = cc
-never_told race input held holds ending (IsRefused kept e) (inl done) = cc
-never_told race input held holds ending (IsRefused kept e) (inr passed) = cc
-never_told race input held holds ending (IsCutOff bytes text read told part e) (inl done) = cc
-never_told race input held holds ending (IsCutOff bytes text read told part e) (inr passed) = cc
+-- what a replay ends with that was done
+abbrev is_of_replay : Ending → Bool
+is_of_replay Done = true
+is_of_replay DoneOfFile = true
+is_of_replay DoneOverGates = true
+is_of_replay Shown = true
+is_of_replay ending = false
 
--- no replay ends with `Passed`
-never_passed : (file : Option (Bor (List ℕ))) (form : Form) (over_gates : Bool) → done_of file (done_in form over_gates) ≡ Passed → ⊥
-never_passed None Plain true e = cc
-never_passed None Plain false e = cc
-never_passed None Events over_gates e = cc
-never_passed None Columns over_gates e = cc
-never_passed None Json over_gates e = cc
-never_passed (Some file) Plain true e = cc
-never_passed (Some file) Plain false e = cc
-never_passed (Some file) Events over_gates e = cc
-never_passed (Some file) Columns over_gates e = cc
-never_passed (Some file) Json over_gates e = cc
+replay_done : (file : Option (Bor (List ℕ))) (form : Form) (over_gates : Bool) → is_of_replay (done_of file (done_in form over_gates)) ≡ true
+replay_done None Plain true = refl
+replay_done None Plain false = refl
+replay_done None Events over_gates = refl
+replay_done None Columns over_gates = refl
+replay_done None Json over_gates = refl
+replay_done (Some file) Plain true = refl
+replay_done (Some file) Plain false = refl
+replay_done (Some file) Events over_gates = refl
+replay_done (Some file) Columns over_gates = refl
+replay_done (Some file) Json over_gates = refl
+
+-- what outcomes end with, and whatever is refused
+abbrev is_of_outcomes : Ending → Bool
+is_of_outcomes Listed = true
+is_of_outcomes Refused = true
+is_of_outcomes ending = false
+
+outcomes_end : (race : Outcomes) (input held holds : Option (List ℕ)) (ending : Ending) → EndsTold race input held holds ending →
+    is_of_outcomes ending ≡ true
+outcomes_end race input held holds ending (IsWritten bytes text read told all e) = ap is_of_outcomes e
+outcomes_end race input held holds ending (IsRefused kept e) = ap is_of_outcomes e
+outcomes_end race input held holds ending (IsCutOff bytes text read told part e) = ap is_of_outcomes e
+
+-- what ends so ends with none that is otherwise
+otherwise : (is : Ending → Bool) (ending other : Ending) → is ending ≡ true → is other ≡ false → ending ≡ other → ⊥
+otherwise is ending other so not same = true≢false (sym so ∙ ap is same ∙ not)
 
 -- one at least is checked
 some_told : (n : ℕ) (held holds : Option (List ℕ)) → TellsPassed (count_checked n) held holds → TellsSomePassed held holds
@@ -87,34 +102,44 @@ module _ (input left held holds : Option (List ℕ)) where
     | inr e ↦ cc
   ]
   done_plainly (ask.Check files) ending ends done = elim ends.ends [ inl e ↦ cc | inr e ↦ cc ]
-  done_plainly (ask.Outcomes race) ending ends done = absurd (never_told race input held holds ending ends (inl done))
-  done_plainly (ask.Run numbers tells) ending (inl e) done = cc
-  done_plainly (ask.Run numbers tells) ending (inr e) done = cc
+  done_plainly (ask.Outcomes race) ending ends done =
+      absurd (otherwise is_of_outcomes ending Done (outcomes_end race input held holds ending ends) refl done)
+  done_plainly (ask.Run numbers tells) ending ends done = elim ends.ends [ inl e ↦ cc | inr e ↦ cc ]
   done_plainly (ask.Told text) ending (inl e) done = cc
   done_plainly (ask.Told text) ending (inr e) done = cc
-  done_plainly ask.Unread ending ends done = absurd (refused_done ending ends.ends done)
-    where
-      refused_done : (ending : Ending) → ending ≡ Refused → ending ≡ Done → ⊥
-      refused_done ending e done = cc
+  done_plainly ask.Unread ending ends done = absurd (otherwise is_of_outcomes ending Done (ap is_of_outcomes ends.ends) refl done)
   done_plainly ask.Misused ending e done = cc
 
   -- who ends with `Passed` was asked for checks, and tells of one at least that it passed
   pub passes : (asked : Asked) (ending : Ending) → EndsAsked asked input left held holds ending → ending ≡ Passed → TellsSomePassed held holds
   passes (ask.Replay r) ending ends passed = elim ends.ends [
-    | inl e ↦ absurd (never_passed r.file r.form r.over_gates (sym e ∙ passed))
+    | inl e ↦ absurd (otherwise is_of_replay ending Passed (ap is_of_replay e ∙ replay_done r.file r.form r.over_gates) refl passed)
     | inr e ↦ cc
   ]
   passes (ask.Check files) ending ends passed = some_told _ held holds (ends.passed passed)
-  passes (ask.Outcomes race) ending ends passed = absurd (never_told race input held holds ending ends (inr passed))
-  passes (ask.Run numbers tells) ending (inl e) passed = cc
-  passes (ask.Run numbers tells) ending (inr e) passed = cc
+  passes (ask.Outcomes race) ending ends passed =
+      absurd (otherwise is_of_outcomes ending Passed (outcomes_end race input held holds ending ends) refl passed)
+  passes (ask.Run numbers tells) ending ends passed = elim ends.ends [ inl e ↦ cc | inr e ↦ cc ]
   passes (ask.Told text) ending (inl e) passed = cc
   passes (ask.Told text) ending (inr e) passed = cc
-  passes ask.Unread ending ends passed = absurd (refused_passed ending ends.ends passed)
-    where
-      refused_passed : (ending : Ending) → ending ≡ Refused → ending ≡ Passed → ⊥
-      refused_passed ending e passed = cc
+  passes ask.Unread ending ends passed = absurd (otherwise is_of_outcomes ending Passed (ap is_of_outcomes ends.ends) refl passed)
   passes ask.Misused ending e passed = cc
+
+  -- who ends with `Ran` was asked for a run, which ended so
+  pub ran : {P : Type 0} (asked : Asked) (ending : Ending) → ((numbers : Numbers) → EndsRun numbers ending → P) →
+      EndsAsked asked input left held holds ending → ending ≡ Ran → P
+  ran (ask.Replay r) ending by ends is = elim ends.ends [
+    | inl e ↦ absurd (otherwise is_of_replay ending Ran (ap is_of_replay e ∙ replay_done r.file r.form r.over_gates) refl is)
+    | inr e ↦ absurd (otherwise is_of_outcomes ending Ran (ap is_of_outcomes e) refl is)
+  ]
+  ran (ask.Check files) ending by ends is = elim ends.ends [ inl e ↦ cc | inr e ↦ cc ]
+  ran (ask.Outcomes race) ending by ends is =
+      absurd (otherwise is_of_outcomes ending Ran (outcomes_end race input held holds ending ends) refl is)
+  ran (ask.Run numbers tells) ending by ends is = by numbers ends
+  ran (ask.Told text) ending by (inl e) is = cc
+  ran (ask.Told text) ending by (inr e) is = cc
+  ran ask.Unread ending by ends is = absurd (otherwise is_of_outcomes ending Ran (ap is_of_outcomes ends.ends) refl is)
+  ran ask.Misused ending by e is = cc
 
   -- a plain replay of standard input is one
   pub replays : (asked : Asked) → IsPlainOfInput asked → (ending : Ending) → EndsAsked asked input left held holds ending →

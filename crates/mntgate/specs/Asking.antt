@@ -5,11 +5,15 @@ use Rattle.asked_replays.specs.Replays.{EndsReplayed, EndsReplayedFile, IsRefuse
 use Rattle.asked_files.specs.Checks.{TellsPassed, count_checked}
 use Rattle.asked_files.specs.Outcomes.{EndsTold}
 use Rattle.command_line.specs.CommandLine.{IsPlain}
+use Rattle.command_line.specs.declared.words.Numbers.{Numbers}
 use Rattle.command_line.specs.declared.words.Replay.{Replay}
 use Rattle.command_line.specs.declared.words.Asked.{Asked}
 use Rattle.command_line.specs.declared.words.Asked.TheVariants as ask
 use Rattle.endings.specs.declared.ends.Ending.{Ending}
-use Rattle.endings.specs.declared.ends.Ending.TheVariants.{Passed, Listed, Ran, Told, Refused, Misused}
+use Rattle.endings.specs.declared.ends.Ending.TheVariants.{Passed, Ran, Told, Refused, Misused}
+use Rattle.gate_runs.specs.Told.{WasRun}
+use Rattle.gate_runs.specs.run_parts.Meetings.{unseen}
+use Rattle.run_plans.specs.Plans.{MayRun}
 
 -- How a replay ends, where its reader had and has this left, and its writer held and holds this.
 pub record EndsReplay (r : Replay) (input left held holds : Option (List ℕ)) (ending : Ending) : Type 0 where
@@ -23,15 +27,34 @@ pub record EndsChecks (count : ℕ) (held holds : Option (List ℕ)) (ending : E
   pub ends : (ending ≡ Passed) ⊎ (ending ≡ Refused)
   pub passed : ending ≡ Passed → TellsPassed (count_checked count) held holds
 
+-- what who watches a run of the program says of a round
+abbrev pub unheld : ℕ → ℕ → Type 0
+unheld task round = Unit {0}
+
+-- A run of these numbers, which are within their limits, was done whole: each task has done its part, and nothing else.
+pub record WasWhole (numbers : Numbers) : Type 0 where
+  pub within : MayRun numbers.tasks numbers.processors numbers.rounds numbers.freezes
+  pub was : WasRun unheld unseen numbers.tasks numbers.processors numbers.rounds numbers.freezes
+
+-- How a run of these numbers ends: with `Ran` only where it was done whole.
+pub record EndsRun (numbers : Numbers) (ending : Ending) : Type 0 where
+  pub ends : (ending ≡ Ran) ⊎ (ending ≡ Refused)
+  pub ran : ending ≡ Ran → WasWhole numbers
+
 -- How it ends, by what was asked for.
 abbrev pub EndsAsked : Asked → (input left held holds : Option (List ℕ)) → Ending → Type 0
 EndsAsked (ask.Replay r) input left held holds ending = EndsReplay r input left held holds ending
 EndsAsked (ask.Check files) input left held holds ending = EndsChecks (vec_len files) held holds ending
 EndsAsked (ask.Outcomes race) input left held holds ending = EndsTold race input held holds ending
-EndsAsked (ask.Run numbers tells) input left held holds ending = (ending ≡ Ran) ⊎ (ending ≡ Refused)
+EndsAsked (ask.Run numbers tells) input left held holds ending = EndsRun numbers ending
 EndsAsked (ask.Told text) input left held holds ending = (ending ≡ Told) ⊎ (ending ≡ Refused)
 EndsAsked ask.Unread input left held holds ending = IsRefusedUnread input left held holds ending
 EndsAsked ask.Misused input left held holds ending = ending ≡ Misused
+
+-- a run of some numbers was done whole
+pub record WasSomeRun : Type 0 where
+  pub numbers : Numbers
+  pub whole : WasWhole numbers
 
 -- checks that passed, of one schedule at least
 pub record TellsSomePassed (held holds : Option (List ℕ)) : Type 0 where

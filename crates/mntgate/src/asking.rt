@@ -2,11 +2,10 @@
 
 ghost use Rattle.std.specs.Prelude.{◌≡◌, ◌≤◌, ◌⊎◌, true, IfOk, Ok, map, string_bytes};
 ghost use Rattle.command_line.specs.CommandLine.{MayAskPlainly, ask_plainly};
-ghost use Rattle.endings.specs.declared.ends.Ending.TheVariants.{Done, Passed, Ran, Refused};
+ghost use Rattle.endings.specs.declared.ends.Ending.TheVariants.{Done, Passed, Ran};
 ghost use Rattle.asked_replays.specs.Replays.{EndsReplayed, IsRefusedUnread};
-ghost use Rattle.mntgate.specs.Asking.{EndsAsked, TellsSomePassed};
+ghost use Rattle.mntgate.specs.Asking.{EndsAsked, EndsRun, TellsSomePassed, WasSomeRun};
 ghost use Rattle.line_replays.specs.Replayed.{Replayed};
-ghost use Rattle.run_plans.specs.Plans.{MayRun};
 
 use asked_files::{run_checks, run_outcomes};
 use asked_replays::{Person, run_replay};
@@ -22,7 +21,8 @@ use std::sync::Wait;
 use std::thread::Threads;
 
 /// Does what the words of a command line ask for; faults are told on a writer of their own, and where they can't be, the
-/// program ends the same. Where a person watches, a run tells there how far it is, and a fault of a schedule is explained.
+/// program ends the same. Where a person watches, a run tells there how far it is, and a fault of a schedule is explained. A run ends as Ran
+/// only where all that was asked of it was done.
 pub fn run<
     R: Threads + Wait + Clock + Sync + Files + Alloc<A = Global>,
     I: Read,
@@ -44,6 +44,7 @@ pub fn run<
     ensures done { IfOk result (λ ending. ending ≡ Done →
         Replayed (I.remaining reader.old) (I.remaining reader.new) (W.contents writer.old) (W.contents writer.new) (Ok tt)) }
     ensures passed { IfOk result (λ ending. ending ≡ Passed → TellsSomePassed (W.contents writer.old) (W.contents writer.new)) }
+    ensures ran { IfOk result (λ ending. ending ≡ Ran → WasSomeRun) }
 {
     let asked = read_words(alloc, words, errors)?;
     let ended = do_asked(rt, alloc, &asked, reader, writer, errors, person);
@@ -105,8 +106,7 @@ fn run_threads<R: Threads + Wait + Clock + Sync, W: Write, E: Write>(
     errors: &mut E,
     watched: Option<Stderr>,
 ) -> Ending
-    ensures ends { (result ≡ Ran) ⊎ (result ≡ Refused) }
-    ensures within { result ≡ Ran → MayRun numbers.tasks numbers.processors numbers.rounds numbers.freezes }
+    ensures { EndsRun numbers result }
 {
     let Numbers {
         tasks,

@@ -1,6 +1,6 @@
 use Rattle.std.proofs.Common.{inl, inr}
 use Rattle.std.proofs.lemmas.Result.{IfOk-weaker}
-use Rattle.mntgate.proofs.Asked.{done_plainly, passes, replayed, replays, unread}
+use Rattle.mntgate.proofs.Asked.{done_plainly, passes, ran, replayed, replays, unread}
 use Rattle.mntgate.proofs.asking.run.Goals as goal
 
 pub returns-clause-plain : goal.returns-clause-plain
@@ -20,3 +20,7 @@ returns-clause-done g c = IfOk-weaker c.do_asked-ended.result _ _
 pub returns-clause-passed : goal.returns-clause-passed
 returns-clause-passed g c = IfOk-weaker c.do_asked-ended.result _ _
     (λ ending x passed. passes _ _ _ _ c.in_ok-asked.asked ending x passed) c.do_asked-ended.ensures
+
+pub returns-clause-ran : goal.returns-clause-ran
+returns-clause-ran g c = IfOk-weaker c.do_asked-ended.result _ _ (λ ending x is.
+    ran _ _ _ _ c.in_ok-asked.asked ending (λ numbers ends. record { numbers = numbers; whole = ends.ran is }) x is) c.do_asked-ended.ensures
