@@ -26,24 +26,28 @@ const SMALL: Config = Config {
     capacity: 8,
 };
 
-const CALLS: &[Case] = &[
-    calls::ACCESSES,
+/// Cases by what they are about. Each table is a test's own: the proof that a table is what it says takes time by the square of its parts.
+const PAIRS: &[Case] = &[calls::ACCESSES, calls::HOLDERS];
+
+const FILES: &[Case] = &[
     calls::FILES,
-    calls::TRIES,
-    calls::HOLDERS,
     calls::OPENS,
     calls::KEPT_OPEN,
     calls::OPENED_TOO,
-    calls::BY_STEPS,
-    calls::CLOSURES,
 ];
 
-const REFUSALS: &[Case] = &[
-    failures::FAILURES,
+const FORMS: &[Case] = &[calls::TRIES, calls::BY_STEPS, calls::CLOSURES];
+
+const HOOKS: &[Case] = &[failures::FAILURES];
+
+const DECISIONS: &[Case] = &[
     decisions::REMOUNTS,
     decisions::BACKUPS,
     decisions::OWN,
     decisions::SNAPSHOTS,
+];
+
+const LOSSES: &[Case] = &[
     lost::ACCESS,
     lost::OWNER,
     lost::HOLDER,
@@ -53,15 +57,40 @@ const REFUSALS: &[Case] = &[
 
 #[test]
 fn calls_are_made_as_their_user_makes_them(rt: HostRuntime) -> Result<(), Fail> {
-    expect_none(last_wrong(&rt, CALLS))
+    expect_none(last_wrong(&rt, PAIRS))
 }
 
 #[test]
-fn refusals_are_as_they_should_be_and_met_as_advised(rt: HostRuntime) -> Result<(), Fail> {
-    expect_none(last_wrong(&rt, REFUSALS))
+fn files_are_changed_as_their_user_changes_them(rt: HostRuntime) -> Result<(), Fail> {
+    expect_none(last_wrong(&rt, FILES))
 }
 
 #[test]
-fn tasks_in_threads_meet(rt: HostRuntime) -> Result<(), Fail> {
-    expect_none(last_wrong(&rt, threads::CASES))
+fn calls_are_made_by_tries_steps_and_closures(rt: HostRuntime) -> Result<(), Fail> {
+    expect_none(last_wrong(&rt, FORMS))
+}
+
+#[test]
+fn failures_of_hooks_are_refusals(rt: HostRuntime) -> Result<(), Fail> {
+    expect_none(last_wrong(&rt, HOOKS))
+}
+
+#[test]
+fn refusals_are_met_as_advised(rt: HostRuntime) -> Result<(), Fail> {
+    expect_none(last_wrong(&rt, DECISIONS))
+}
+
+#[test]
+fn gates_stay_open_where_something_is_lost(rt: HostRuntime) -> Result<(), Fail> {
+    expect_none(last_wrong(&rt, LOSSES))
+}
+
+#[test]
+fn tasks_in_threads_meet_at_mounts(rt: HostRuntime) -> Result<(), Fail> {
+    expect_none(last_wrong(&rt, threads::AT_MOUNTS))
+}
+
+#[test]
+fn tasks_in_threads_meet_at_files(rt: HostRuntime) -> Result<(), Fail> {
+    expect_none(last_wrong(&rt, threads::AT_FILES))
 }

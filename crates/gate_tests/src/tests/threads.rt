@@ -14,11 +14,8 @@ use vfs_gates::Config;
 /// Five tasks at gates that are otherwise small.
 const FIVE: Config = Config { tasks: 5, ..SMALL };
 
-pub const CASES: &[Case] = &[
-    mounts::CASE,
-    remounts::CASE,
-    freezes::CASE,
-    holders::CASE,
-    trees::CASE,
-    opens::CASE,
-];
+/// Changes, remounts, and freezes by one holder and by two.
+pub const AT_MOUNTS: &[Case] = &[mounts::CASE, remounts::CASE, freezes::CASE, holders::CASE];
+
+/// Snapshots beside calls at the tree, and files removed while open.
+pub const AT_FILES: &[Case] = &[trees::CASE, opens::CASE];
