@@ -1,6 +1,6 @@
 -- what the threads did is what their tasks' numbers have in the end
-use Rattle.std.proofs.Common.{rules, ◌≡◌, ℕ, inl, inr, sym, ◌*◌, ◌-◌, ◌≤◌, arith, subst, ap, ◌∙◌}
-use Rattle.std.specs.Prelude.{slice_index}
+use Rattle.std.proofs.Common.{◌≡◌, ℕ, inl, inr, sym, ◌*◌, ◌-◌, ◌≤◌, arith, subst, ap, ◌∙◌}
+use Rattle.std.specs.Prelude.{slice_index, unwrap_or}
 use Rattle.cpu_words.specs.Names.{place, stride}
 use Rattle.cpu_words.specs.declared.names.WordName.TheVariants.{Used}
 use Rattle.gate_world.specs.declared.config.Config.{Config}
@@ -38,7 +38,8 @@ returns-clause-tells g c =
     let closed = c.in_ok-closed.ensures.closed in
     let items = c.in-Ok-in_threads.ended.0.items in
     let views = closed.1.ended.world.views in
-    let grown : c.unwrap_or.result ≡ slice_index c.in_ok-closed.closed.words (stride * place Used) = search rules in
+    let grown : c.unwrap_or.result ≡ slice_index c.in_ok-closed.closed.words (stride * place Used) =
+    c.unwrap_or.ensures ∙ ap (λ o. unwrap_or o 0) (c.word.ensures.there tt) in
     record {
       config = closed.0 ∙ (c.in-Ok.ensures.made.0 ∙ c.config.ensures);
       grown = grown;
