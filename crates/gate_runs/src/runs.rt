@@ -59,8 +59,14 @@ pub fn run_plan<R: Threads + Wait + Sync, W: Watch + Sync>(
     ensures tells { IfOk result (λ r. TellsRun (W.held watch.now) (W.seen watch.now) plan.tasks plan.processors plan.rounds plan.freezes r.0 r.1 r.2) }
     ensures refused { IfErr result (RunRefused (run_config plan.tasks plan.processors plan.rounds) plan.tasks plan.processors) }
 {
-    let (gates, task) = Gates::new(alloc, plan.config())?;
-    let (task, details) = in_threads(rt, alloc, &gates, plan, watch, task)?;
+    let (gates, task) = match Gates::new(alloc, plan.config()) {
+        Ok(made) => made,
+        Err(refusal) => return Err(refusal),
+    };
+    let (task, details) = match in_threads(rt, alloc, &gates, plan, watch, task) {
+        Ok(ended) => ended,
+        Err(refusal) => return Err(refusal),
+    };
     let closed = close(gates, task)?;
     let totals = Totals {
         grown: closed.word(WordName::Used).unwrap_or(0),

@@ -105,7 +105,9 @@ fn start_worker<'s, E, R: Wait + Sync, W: Watch + Sync>(
         × (w.promise.number ≡ number)) }
     ensures refused { IfErr result (λ e. e ≡ NoMemory) }
 {
-    let other = task.split(alloc, gates)?;
+    let Ok(other) = task.split(alloc, gates) else {
+        return Err(GateError::NoMemory);
+    };
     let home = Home {
         gates,
         plan,
@@ -152,7 +154,9 @@ fn start_workers<'s, E, R: Wait + Sync, W: Watch + Sync>(
     ensures refused { IfErr result (λ e. e ≡ NoMemory) }
 {
     for number in REMOUNTER..FIRST_WRITER + plan.writers() {
-        let worker = start_worker(scope, rt, alloc, gates, plan, watch, number, task)?;
+        let Ok(worker) = start_worker(scope, rt, alloc, gates, plan, watch, number, task) else {
+            return Err(GateError::NoMemory);
+        };
         let Ok(()) = workers.push(worker) else {
             return Err(GateError::NoMemory);
         };

@@ -1,6 +1,6 @@
 -- what the threads did is what their tasks' numbers have in the end
-use Rattle.std.proofs.Common.{rules, ◌≡◌, ℕ, inl, inr, sym, ◌*◌, ◌-◌, ◌≤◌, arith, subst, ap, ◌∙◌}
-use Rattle.std.specs.Prelude.{slice_index}
+use Rattle.std.proofs.Common.{◌≡◌, ℕ, inl, inr, sym, ◌*◌, ◌-◌, ◌≤◌, arith, subst, ap, ◌∙◌}
+use Rattle.std.specs.Prelude.{slice_index, unwrap_or}
 use Rattle.cpu_words.specs.Names.{place, stride}
 use Rattle.cpu_words.specs.declared.names.WordName.TheVariants.{Used}
 use Rattle.gate_world.specs.declared.config.Config.{Config}
@@ -18,36 +18,37 @@ use Rattle.gate_runs.proofs.runs.run_plan.Goals as goal
 
 pub in_threads-requires-clause-begins : goal.in_threads-requires-clause-begins
 in_threads-requires-clause-begins g c =
-    let made = c.in_ok-gates.ensures.made in
+    let made = c.in-Ok.ensures.made in
     let tasks : c.config.result.tasks ≡ c.args.plan.tasks = ap (λ (d : Config). d.tasks) c.config.ensures in
     let some : 1 ≤ c.config.result.tasks = omega (arith, tasks, c.args.plan.within.tasks_from) in
-    let begun : HasBegun 0 c.in_ok-gates.task = first_begins c.in_ok-gates.task c.config.result some (ap (λ (t : TaskState). t.items) made.1) in
+    let begun : HasBegun 0 c.in-Ok.made.1 = first_begins c.in-Ok.made.1 c.config.result some (ap (λ (t : TaskState). t.items) made.1) in
     λ _ _. begun
 
 pub in_threads-requires-clause-gives : goal.in_threads-requires-clause-gives
 in_threads-requires-clause-gives g c =
-    let made = c.in_ok-gates.ensures.made in
+    let made = c.in-Ok.ensures.made in
     let tasks : c.config.result.tasks ≡ c.args.plan.tasks = ap (λ (d : Config). d.tasks) c.config.ensures in
     let some : 1 ≤ c.config.result.tasks = omega (arith, tasks, c.args.plan.within.tasks_from) in
-    let gives : Gives c.in_ok-gates.task 1 c.args.plan.tasks = subst (λ n. Gives c.in_ok-gates.task 1 n) tasks
-    (gives_all c.in_ok-gates.task c.config.result some (ap (λ (t : TaskState). t.phase) made.1) (ap (λ (t : TaskState). t.items) made.1)) in
+    let gives : Gives c.in-Ok.made.1 1 c.args.plan.tasks = subst (λ n. Gives c.in-Ok.made.1 1 n) tasks
+    (gives_all c.in-Ok.made.1 c.config.result some (ap (λ (t : TaskState). t.phase) made.1) (ap (λ (t : TaskState). t.items) made.1)) in
     λ _ _. gives
 
 pub returns-clause-tells : goal.returns-clause-tells
 returns-clause-tells g c =
     let closed = c.in_ok-closed.ensures.closed in
-    let items = c.in_ok-task.task.items in
+    let items = c.in-Ok-in_threads.ended.0.items in
     let views = closed.1.ended.world.views in
-    let grown : c.unwrap_or.result ≡ slice_index c.in_ok-closed.closed.words (stride * place Used) = search rules in
+    let grown : c.unwrap_or.result ≡ slice_index c.in_ok-closed.closed.words (stride * place Used) =
+    c.unwrap_or.ensures ∙ ap (λ o. unwrap_or o 0) (c.word.ensures.there tt) in
     record {
-      config = closed.0 ∙ (c.in_ok-gates.ensures.made.0 ∙ c.config.ensures);
+      config = closed.0 ∙ (c.in-Ok.ensures.made.0 ∙ c.config.ensures);
       grown = grown;
       none_held = c.held_in.ensures;
-      frozen = c.from.ensures ∙ c.in_ok-task.ensures.copies.0;
-      snapshots = c.from-2.ensures ∙ c.in_ok-task.ensures.copies.1;
+      frozen = c.from.ensures ∙ c.in-Ok-in_threads.ensures.copies.0;
+      snapshots = c.from-2.ensures ∙ c.in-Ok-in_threads.ensures.copies.1;
       remounts = c.from-3.ensures ∙ c.rounds.ensures;
       ended = closed.1.ended;
-      all = all_did_on (Among items) (EndsAs views) (λ s h. ends_as views items s closed.1.mine h) _ _ _ _ _ _ _ c.in_ok-task.ensures.all;
+      all = all_did_on (Among items) (EndsAs views) (λ s h. ends_as views items s closed.1.mine h) _ _ _ _ _ _ _ c.in-Ok-in_threads.ensures.all;
     }
 
 -- a run's gates are within their limits
@@ -65,20 +66,18 @@ run_within tasks processors rounds freezes may =
       capacity = omega (arith, room);
     }
 
-pub returns-in_err-gates-clause-refused : goal.returns-in_err-gates-clause-refused
-returns-in_err-gates-clause-refused g c =
+pub returns-in-Err-clause-refused : goal.returns-in-Err-clause-refused
+returns-in-Err-clause-refused g c =
     let within : IsWithin c.config.result = subst IsWithin (sym c.config.ensures)
     (run_within c.args.plan.tasks c.args.plan.processors c.args.plan.rounds c.args.plan.freezes c.args.plan.within) in
-    let p = err_from_is_err_and c.from_residual.result c.from_residual.ensures.1 in
-    rw (p.1, p.2) (inl (c.in_err-gates.ensures.memory within))
+    inl (c.in-Err.ensures.memory within)
 
-pub returns-in_err-task-clause-refused : goal.returns-in_err-task-clause-refused
-returns-in_err-task-clause-refused g c =
-    let p = err_from_is_err_and c.from_residual-in_err-task.result c.from_residual-in_err-task.ensures.1 in
-    rw (p.1, p.2) (subst (λ (d : Config). RunRefused d c.args.plan.tasks c.args.plan.processors c.in_err-task.field-0.0)
-    (c.in_ok-gates.ensures.made.0 ∙ c.config.ensures) c.in_err-task.ensures.refused)
+pub returns-in-Err-in_threads-clause-refused : goal.returns-in-Err-in_threads-clause-refused
+returns-in-Err-in_threads-clause-refused g c =
+    subst (λ (d : Config). RunRefused d c.args.plan.tasks c.args.plan.processors c.in-Err-in_threads.refusal)
+    (c.in-Ok.ensures.made.0 ∙ c.config.ensures) c.in-Err-in_threads.ensures.refused
 
 pub returns-in_err-closed-clause-refused : goal.returns-in_err-closed-clause-refused
 returns-in_err-closed-clause-refused g c =
-    let p = err_from_is_err_and c.from_residual-in_err-closed.result c.from_residual-in_err-closed.ensures.1 in
+    let p = err_from_is_err_and c.from_residual.result c.from_residual.ensures.1 in
     rw (p.1, p.2) (inr (inl c.in_err-closed.ensures.refused))

@@ -88,6 +88,25 @@ returns-in_err-ran-clause-refused g c =
     let p = err_from_is_err_and c.from_residual-in_err-ran.result c.from_residual-in_err-ran.ensures.1 in
     rw (p.1, p.2) (c.in_err-ran.ensures.refused c.args.plan.tasks c.args.plan.processors)
 
+pub with_copy-copies-requires-clause-frozen : goal.with_copy-copies-requires-clause-frozen
+with_copy-copies-requires-clause-frozen g c =
+    omega (arith, c.loop-freeze.invariant.frozen, c.loop-freeze-test.true, c.freezes-freeze-end.ensures, c.args.plan.within.freezes_to)
+
+pub with_copy-copies-requires-clause-snapshots : goal.with_copy-copies-requires-clause-snapshots
+with_copy-copies-requires-clause-snapshots g c =
+    omega (arith, c.loop-freeze.invariant.snapshots, c.loop-freeze-test.true, c.freezes-freeze-end.ensures, c.args.plan.within.freezes_to)
+
+pub with_copy-copies-requires-clause-callbacks : goal.with_copy-copies-requires-clause-callbacks
+with_copy-copies-requires-clause-callbacks g c =
+    omega (arith, c.loop-freeze.invariant.callbacks, c.loop-freeze-test.true, c.freezes-freeze-end.ensures, c.args.plan.within.freezes_to)
+
+pub returns-clause-rounds : goal.returns-clause-rounds
+returns-clause-rounds g c =
+    let all : c.loop-freeze.freeze ≡ c.args.plan.freezes =
+    omega (arith, c.freezes-freeze-end.ensures, c.loop-freeze-test.false, c.loop-freeze.auto.freeze-end) in
+    subst (λ n. Repeats (BackupRound (g.W.NotedWatch.sees c.args.watch.now)) n (c.args.task.now, c.args.notes.now, no_copies)
+    (c.loop-freeze.task, c.loop-freeze.notes, c.loop-freeze.copies)) all c.loop-freeze.invariant.did
+
 pub returns-clause-from : goal.returns-clause-from
 returns-clause-from g c = c.loop-freeze.invariant.from
 

@@ -1,8 +1,9 @@
 -- one round more
-use Rattle.std.proofs.Common.{◌≡◌, ◌+◌, arith, refl, subst, ◌∙◌}
+use Rattle.std.proofs.Common.{◌≡◌, ◌+◌, ◌<◌, arith, refl, subst, sym, ◌∙◌}
+use Rattle.std.proofs.lemmas.Nat.{mod_below}
 use Rattle.std.proofs.lemmas.Result.{err_from_is_err_and}
-use Rattle.gate_world.specs.declared.operations.Op.TheVariants.{DropWrite, Grow}
-use Rattle.gate_runs.proofs.run_parts.Repeating.{met, one_more}
+use Rattle.gate_world.specs.declared.operations.Op.TheVariants.{DropWrite, Grow, WantWrite}
+use Rattle.gate_runs.proofs.run_parts.Repeating.{meets, met, one_more}
 use Rattle.gate_runs.specs.run_parts.Counts.{counted}
 use Rattle.gate_runs.specs.run_parts.Rounds.{Does, Takes, WriterRound}
 use Rattle.gate_runs.proofs.run_parts.workers.write.Goals as goal
@@ -22,6 +23,14 @@ returns-in_err-denied-clause-from g c = c.want_write.ensures.from
 pub returns-in_err-denied-clause-rounds : goal.returns-in_err-denied-clause-rounds
 returns-in_err-denied-clause-rounds g c = let p = err_from_is_err_and c.from_residual.result c.from_residual.ensures.1 in rw p.1 tt
 
+pub returns-in_err-denied-clause-refused : goal.returns-in_err-denied-clause-refused
+returns-in_err-denied-clause-refused g c =
+    let p = err_from_is_err_and c.from_residual.result c.from_residual.ensures.1 in
+    let there : c.processor-cpu.result < c.args.plan.processors = subst (λ n. n < c.args.plan.processors) (sym c.processor-cpu.ensures)
+    (mod_below (c.args.writer + c.loop-round.round) c.args.plan.processors c.args.plan.within.processors_from) in
+    rw (p.1, p.2) (met c.args.gates.now.words.config c.args.plan.tasks c.args.plan.processors (WantWrite 0 c.processor-cpu.result) _
+    (refl, there) c.in_err-denied.ensures.refused)
+
 pub returns-in_err-drop_write-clause-from : goal.returns-in_err-drop_write-clause-from
 returns-in_err-drop_write-clause-from g c =
     (c.drop_write.ensures.table ∙ c.grow-grown.ensures.from.0, c.drop_write.ensures.config ∙ c.grow-grown.ensures.from.1)
@@ -29,6 +38,14 @@ returns-in_err-drop_write-clause-from g c =
 pub returns-in_err-drop_write-clause-rounds : goal.returns-in_err-drop_write-clause-rounds
 returns-in_err-drop_write-clause-rounds g c =
     let p = err_from_is_err_and c.from_residual-in_err-drop_write.result c.from_residual-in_err-drop_write.ensures.1 in rw p.1 tt
+
+pub returns-in_err-drop_write-clause-refused : goal.returns-in_err-drop_write-clause-refused
+returns-in_err-drop_write-clause-refused g c =
+    let p = err_from_is_err_and c.from_residual-in_err-drop_write.result c.from_residual-in_err-drop_write.ensures.1 in
+    let there : c.processor.result < c.args.plan.processors = subst (λ n. n < c.args.plan.processors) (sym c.processor.ensures)
+    (mod_below (c.args.writer + (c.loop-round.round + 1)) c.args.plan.processors c.args.plan.within.processors_from) in
+    rw (p.1, p.2) (meets c.args.gates.now.words.config c.args.plan.tasks c.args.plan.processors (DropWrite 0 c.processor.result) _
+    c.grow-grown.new.task c.drop_write.new.self (refl, there) c.grow-grown.ensures.from.1 c.in_err-drop_write.ensures)
 
 pub returns-in_err-grown-clause-from : goal.returns-in_err-grown-clause-from
 returns-in_err-grown-clause-from g c =

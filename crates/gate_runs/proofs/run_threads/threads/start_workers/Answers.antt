@@ -1,6 +1,5 @@
 -- one thread more
 use Rattle.std.proofs.Common.{◌≡◌, ◌+◌, ap, arith, refl, subst, sym, ◌∙◌, length}
-use Rattle.std.proofs.lemmas.Result.{err_from_is_err_and}
 use Rattle.gate_runs.specs.run_parts.Splitting.{Gives}
 use Rattle.gate_runs.proofs.run_threads.Staying.{each_next}
 use Rattle.gate_runs.proofs.run_threads.threads.start_workers.Goals as goal
@@ -21,28 +20,11 @@ start_worker-requires-clause-from g c = λ _ _. c.loop-number.invariant.from
 pub start_worker-requires-clause-gives : goal.start_worker-requires-clause-gives
 start_worker-requires-clause-gives g c = λ _ _. c.loop-number.invariant.gives
 
-pub returns-in_err-worker-clause-from : goal.returns-in_err-worker-clause-from
-returns-in_err-worker-clause-from g c = c.start_worker.ensures.from
-
-pub returns-in_err-worker-clause-same : goal.returns-in_err-worker-clause-same
-returns-in_err-worker-clause-same g c = let p = err_from_is_err_and c.from_residual.result c.from_residual.ensures.1 in rw p.1 tt
-
-pub returns-in_err-worker-clause-gives : goal.returns-in_err-worker-clause-gives
-returns-in_err-worker-clause-gives g c = let p = err_from_is_err_and c.from_residual.result c.from_residual.ensures.1 in rw p.1 tt
-
-pub returns-in_err-worker-clause-all : goal.returns-in_err-worker-clause-all
-returns-in_err-worker-clause-all g c = let p = err_from_is_err_and c.from_residual.result c.from_residual.ensures.1 in rw p.1 tt
-
-pub returns-in_err-worker-clause-homes : goal.returns-in_err-worker-clause-homes
-returns-in_err-worker-clause-homes g c = let p = err_from_is_err_and c.from_residual.result c.from_residual.ensures.1 in rw p.1 tt
-
-pub returns-in_err-worker-clause-refused : goal.returns-in_err-worker-clause-refused
-returns-in_err-worker-clause-refused g c =
-    let p = err_from_is_err_and c.from_residual.result c.from_residual.ensures.1 in
-    rw (p.1, p.2) (c.in_err-worker.ensures.refused)
-
 pub returns-in_default-clause-from : goal.returns-in_default-clause-from
-returns-in_default-clause-from g c = c.in_ok-worker.ensures.from
+returns-in_default-clause-from g c = c.start_worker.ensures.from
+
+pub returns-in_default-push-clause-from : goal.returns-in_default-push-clause-from
+returns-in_default-push-clause-from g c = c.in-Ok.ensures.from
 
 pub returns-clause-from : goal.returns-clause-from
 returns-clause-from g c = c.loop-number.invariant.from
@@ -56,14 +38,14 @@ returns-clause-homes g c = c.loop-number.invariant.homes
 pub loop-number-preserved : goal.loop-number-preserved
 loop-number-preserved g c =
     let before = c.loop-number.invariant in
-    let started = c.in_ok-worker.ensures in
+    let started = c.in-Ok.ensures in
     let place : length c.loop-number.workers.items + 1 ≡ c.loop-number.number = omega (arith, before.all, c.loop-number.workers.ok.0) in
     record {
       from = started.from;
       same = started.same ∙ before.same;
       gives = started.gives;
-      all = omega (arith, c.in-Ok.ensures.len, before.all);
-      homes = rw c.in-Ok.ensures.items (each_next _ _ _ (length c.loop-number.workers.items) refl before.homes
+      all = omega (arith, c.in-Ok-push.ensures.len, before.all);
+      homes = rw c.in-Ok-push.ensures.items (each_next _ _ _ (length c.loop-number.workers.items) refl before.homes
           (started.home.0, started.home.1, started.home.2, started.home.3 ∙ sym place));
     }
 
