@@ -140,7 +140,10 @@ impl Calls {
             return Err(RaceFault::Schedule(Fault::NoSuchTask));
         };
         let turn = count_of(calls) as u8;
-        *calls = with_call(*calls, op)?;
+        match with_call(*calls, op) {
+            Ok(more) => *calls = more,
+            Err(fault) => return Err(fault),
+        }
         match self.keep(alloc, task, turn, line) {
             Ok(()) => Ok(()),
             Err(refused) => Err(RaceFault::Schedule(no_memory(refused))),
@@ -166,8 +169,13 @@ impl Calls {
         let Some(calls) = self.race.calls.get_mut(usize::from(task)) else {
             return Err(RaceFault::Schedule(Fault::NoSuchTask));
         };
-        *calls = with_failure(*calls, failure)?;
-        Ok(())
+        match with_failure(*calls, failure) {
+            Ok(failing) => {
+                *calls = failing;
+                Ok(())
+            }
+            Err(fault) => Err(fault),
+        }
     }
 }
 
