@@ -87,21 +87,26 @@ impl Calls {
         ensures read { OnOk result (calls_after self.old.race.tasks self.old.race.calls.items line.now ≡ Ok self.new.race.calls.items) }
         ensures fault { IfErr result (IsToldOrMemory (calls_after self.old.race.tasks self.old.race.calls.items line.now)) }
     {
-        if is_race(line)? {
-            return Err(RaceFault::RaceTwice);
+        match is_race(line) {
+            Ok(false) => {}
+            Ok(true) => return Err(RaceFault::RaceTwice),
+            Err(fault) => return Err(RaceFault::Schedule(fault)),
         }
         if first_word(after_word(line)) == b"hook".as_slice() {
             return self.read_hook(alloc, line);
         }
-        match parse(line, Some(self.race.tasks))? {
-            Line::Skipped => Ok(()),
-            Line::Request(
-                Request::Task {
-                    task,
-                    command: TaskCommand::Begin(op),
-                },
+        match parse(line, Some(self.race.tasks)) {
+            Ok(Line::Skipped) => Ok(()),
+            Ok(
+                Line::Request(
+                    Request::Task {
+                        task,
+                        command: TaskCommand::Begin(op),
+                    },
+                ),
             ) => self.add(alloc, task, op, line),
-            Line::Config(_) | Line::Request(_) => Err(RaceFault::CallExpected),
+            Ok(Line::Config(_) | Line::Request(_)) => Err(RaceFault::CallExpected),
+            Err(fault) => Err(RaceFault::Schedule(fault)),
         }
     }
 
@@ -113,19 +118,22 @@ impl Calls {
         ensures fault { IfErr result (IsToldOrMemory
             (hook_line self.old.race.calls.items (parsed (as_run line.now) (Some self.old.race.tasks)))) }
     {
-        match parse_run(alloc, line, self.race.tasks)? {
-            Line::Skipped => Ok(()),
-            Line::Request(
-                Request::Task {
-                    task,
-                    command: TaskCommand::Run {
-                        failure: Some(failure),
+        match parse_run(alloc, line, self.race.tasks) {
+            Ok(Line::Skipped) => Ok(()),
+            Ok(
+                Line::Request(
+                    Request::Task {
+                        task,
+                        command: TaskCommand::Run {
+                            failure: Some(failure),
+                        },
                     },
-                },
+                ),
             ) => self.fail(task, failure),
-            Line::Config(_) | Line::Request(_) => {
+            Ok(Line::Config(_) | Line::Request(_)) => {
                 Err(RaceFault::Schedule(Fault::WrongNumberOfWords))
             }
+            Err(fault) => Err(RaceFault::Schedule(fault)),
         }
     }
 
