@@ -18,7 +18,7 @@ use std::rt::Files;
 
 /// What a person is told who is to type a schedule.
 const AWAITED: &str =
-    "mntgate: type a schedule, from 'config TASKS CPUS MOUNTS NODES CAPACITY' on; Ctrl-D ends it";
+    "mntgate: type a schedule, from 'config TASKS CPUS MOUNTS NODES CAPACITY' on; Ctrl-D ends it\n";
 
 /// Where a person is.
 #[derive(Drop)]
@@ -47,28 +47,26 @@ pub fn run_replay<R: Files, I: Read, W: Write, E: Write>(
         ⊎ IsRefusedUnread (I.remaining reader.old) (I.remaining reader.new) (W.contents writer.old) (W.contents writer.new) result }
 {
     let telling = Telling {
+        alloc,
         file: asked.file,
         explains: asked.explain || person.watches.is_some(),
     };
     match asked.file {
         Some(file) => match fs::open(rt, file) {
-            Ok(mut opened) => {
-                replay_as(alloc, asked, telling, &mut opened, writer, errors).of_file()
-            }
+            Ok(mut opened) => { replay_as(asked, telling, &mut opened, writer, errors).of_file() }
             Err(error) => unopened(file, &error, errors),
         },
         None => {
             if person.types {
-                let _ = writeln!(errors, "{AWAITED}");
+                let _ = errors.write_all(AWAITED.as_bytes());
             }
-            replay_as(alloc, asked, telling, reader, writer, errors)
+            replay_as(asked, telling, reader, writer, errors)
         }
     }
 }
 
 /// Replays the schedule of a reader in the form that is asked for.
 fn replay_as<I: Read, W: Write, E: Write>(
-    alloc: Global,
     asked: Replay<'_>,
     telling: Telling<'_>,
     reader: &mut I,
@@ -81,15 +79,13 @@ fn replay_as<I: Read, W: Write, E: Write>(
 {
     let form = match asked.form {
         Form::Plain if asked.over_gates => {
-            return match replay_told::<GatesDriver, I, W, E>(
-                alloc, telling, reader, writer, errors,
-            ) {
+            return match replay_told::<GatesDriver, I, W, E>(telling, reader, writer, errors) {
                 Ok(()) => Ending::DoneOverGates,
                 Err(_) => Ending::Refused,
             };
         }
         Form::Plain => {
-            return match replay_told::<Core, I, W, E>(alloc, telling, reader, writer, errors) {
+            return match replay_told::<Core, I, W, E>(telling, reader, writer, errors) {
                 Ok(()) => Ending::Done,
                 Err(_) => Ending::Refused,
             };
@@ -99,9 +95,9 @@ fn replay_as<I: Read, W: Write, E: Write>(
         Form::Json => shown_events::Form::Json,
     };
     let ended = if asked.over_gates {
-        show_told::<GatesDriver, I, W, E>(alloc, form, telling, reader, writer, errors)
+        show_told::<GatesDriver, I, W, E>(form, telling, reader, writer, errors)
     } else {
-        show_told::<Core, I, W, E>(alloc, form, telling, reader, writer, errors)
+        show_told::<Core, I, W, E>(form, telling, reader, writer, errors)
     };
     match ended {
         Ok(()) => Ending::Shown,

@@ -17,6 +17,8 @@ use transcripts::no_memory;
 /// What is told of a fault.
 #[derive(Clone, Copy)]
 pub struct Telling<'a> {
+    /// Where the memory of the replay, and of what is told, comes from.
+    pub alloc: Global,
     /// The schedule's file, if it has one.
     pub file: Option<&'a str>,
     /// Whether what helps is told on a line of its own.
@@ -25,7 +27,6 @@ pub struct Telling<'a> {
 
 /// A schedule over whatever gates. Its fault is told on a writer of faults, and where that can't be done it ends the same.
 pub fn replay_told<D: Driver, R: Read, W: Write, E: Write>(
-    alloc: Global,
     telling: Telling<'_>,
     reader: &mut R,
     writer: &mut W,
@@ -35,17 +36,11 @@ pub fn replay_told<D: Driver, R: Read, W: Write, E: Write>(
         Replayed (R.remaining reader.old) (R.remaining reader.new) (W.contents writer.old) (W.contents writer.new) result }
     ensures line { IfErr result (λ fault. IsLineNumber fault.line) }
 {
-    let ended = replay_to_end::<D, R, W>(alloc, reader, writer);
+    let ended = replay_to_end::<D, R, W>(telling.alloc, reader, writer);
     if let Err(fault) = ended.result {
         let _ = fault_told(fault, telling.file, errors);
         if let Some(replay) = &ended.replay {
-            explain(
-                alloc,
-                telling,
-                fault,
-                (replay.rest(), replay.tasks()),
-                errors,
-            );
+            explain(telling, fault, (replay.rest(), replay.tasks()), errors);
         }
     }
     ended.result
@@ -53,14 +48,13 @@ pub fn replay_told<D: Driver, R: Read, W: Write, E: Write>(
 
 /// A schedule that is shown, over whatever gates.
 pub fn show_told<D: Driver, R: Read, W: Write, E: Write>(
-    alloc: Global,
     form: Form,
     telling: Telling<'_>,
     reader: &mut R,
     writer: &mut W,
     errors: &mut E,
 ) -> Result<(), ReplayFault> {
-    let mut show = match Show::<D>::new(alloc, form) {
+    let mut show = match Show::<D>::new(telling.alloc, form) {
         Ok(show) => show,
         Err(error) => {
             let fault = fault_after(0, no_memory(error));
@@ -71,7 +65,7 @@ pub fn show_told<D: Driver, R: Read, W: Write, E: Write>(
     let ended = show.do_lines(reader, writer);
     if let Err(fault) = ended {
         let _ = fault_told(fault, telling.file, errors);
-        explain(alloc, telling, fault, (show.rest(), show.tasks()), errors);
+        explain(telling, fault, (show.rest(), show.tasks()), errors);
     }
     ended
 }
@@ -79,14 +73,13 @@ pub fn show_told<D: Driver, R: Read, W: Write, E: Write>(
 /// Tells what helps after a fault, where that is asked for, if there is something to tell, and memory and a writer for it; of what was read
 /// from the faulty line on, and how many tasks there are.
 fn explain<E: Write>(
-    alloc: Global,
     telling: Telling<'_>,
     fault: ReplayFault,
     (rest, tasks): (&[u8], Option<u8>),
     errors: &mut E,
 ) {
     if telling.explains
-        && let Ok(Some(text)) = explanation(alloc, fault, rest, tasks)
+        && let Ok(Some(text)) = explanation(telling.alloc, fault, rest, tasks)
     {
         let _ = why_told(text.as_str(), errors);
     }

@@ -87,21 +87,26 @@ impl Calls {
         ensures read { OnOk result (calls_after self.old.race.tasks self.old.race.calls.items line.now ≡ Ok self.new.race.calls.items) }
         ensures fault { IfErr result (IsToldOrMemory (calls_after self.old.race.tasks self.old.race.calls.items line.now)) }
     {
-        if is_race(line)? {
-            return Err(RaceFault::RaceTwice);
+        match is_race(line) {
+            Ok(false) => {}
+            Ok(true) => return Err(RaceFault::RaceTwice),
+            Err(fault) => return Err(RaceFault::Schedule(fault)),
         }
         if first_word(after_word(line)) == b"hook".as_slice() {
             return self.read_hook(alloc, line);
         }
-        match parse(line, Some(self.race.tasks))? {
-            Line::Skipped => Ok(()),
-            Line::Request(
-                Request::Task {
-                    task,
-                    command: TaskCommand::Begin(op),
-                },
+        match parse(line, Some(self.race.tasks)) {
+            Ok(Line::Skipped) => Ok(()),
+            Ok(
+                Line::Request(
+                    Request::Task {
+                        task,
+                        command: TaskCommand::Begin(op),
+                    },
+                ),
             ) => self.add(alloc, task, op, line),
-            Line::Config(_) | Line::Request(_) => Err(RaceFault::CallExpected),
+            Ok(Line::Config(_) | Line::Request(_)) => Err(RaceFault::CallExpected),
+            Err(fault) => Err(RaceFault::Schedule(fault)),
         }
     }
 
@@ -113,19 +118,22 @@ impl Calls {
         ensures fault { IfErr result (IsToldOrMemory
             (hook_line self.old.race.calls.items (parsed (as_run line.now) (Some self.old.race.tasks)))) }
     {
-        match parse_run(alloc, line, self.race.tasks)? {
-            Line::Skipped => Ok(()),
-            Line::Request(
-                Request::Task {
-                    task,
-                    command: TaskCommand::Run {
-                        failure: Some(failure),
+        match parse_run(alloc, line, self.race.tasks) {
+            Ok(Line::Skipped) => Ok(()),
+            Ok(
+                Line::Request(
+                    Request::Task {
+                        task,
+                        command: TaskCommand::Run {
+                            failure: Some(failure),
+                        },
                     },
-                },
+                ),
             ) => self.fail(task, failure),
-            Line::Config(_) | Line::Request(_) => {
+            Ok(Line::Config(_) | Line::Request(_)) => {
                 Err(RaceFault::Schedule(Fault::WrongNumberOfWords))
             }
+            Err(fault) => Err(RaceFault::Schedule(fault)),
         }
     }
 
@@ -140,7 +148,10 @@ impl Calls {
             return Err(RaceFault::Schedule(Fault::NoSuchTask));
         };
         let turn = count_of(calls) as u8;
-        *calls = with_call(*calls, op)?;
+        match with_call(*calls, op) {
+            Ok(more) => *calls = more,
+            Err(fault) => return Err(fault),
+        }
         match self.keep(alloc, task, turn, line) {
             Ok(()) => Ok(()),
             Err(refused) => Err(RaceFault::Schedule(no_memory(refused))),
@@ -166,8 +177,13 @@ impl Calls {
         let Some(calls) = self.race.calls.get_mut(usize::from(task)) else {
             return Err(RaceFault::Schedule(Fault::NoSuchTask));
         };
-        *calls = with_failure(*calls, failure)?;
-        Ok(())
+        match with_failure(*calls, failure) {
+            Ok(failing) => {
+                *calls = failing;
+                Ok(())
+            }
+            Err(fault) => Err(fault),
+        }
     }
 }
 
