@@ -8,7 +8,7 @@ use mathlib.Core.Option.{some, some-injective, some-ne-none}
 use native.Mathlib.Decide.{ℕ_discrete, dec_lt}
 use lib.ListN.{get_elem?}
 use Rattle.gate_world.specs.{Configs.IsWithin, Views.opening_view, declared.{config.Config.Config, operations.Op.Op, views.View.View}}
-use Rattle.gate_steps.specs.call_events.{Seat.Seat, Seating.{SeatItems, numbered, one_if, times, without, view_in, renewed, kept_of, given_of, deal, Spares}}
+use Rattle.gate_steps.specs.call_events.{Seat.Seat, Seating.{SeatItems, numbered, one_if, times, without, view_in, renewed, kept_of, given_of, deal}}
 use Rattle.gate_steps.specs.declared.seating.Numbered.{Numbered}
 use Rattle.gate_steps.specs.call_events.{Seats.idle_seat, Ties.{PhaseOk, IsStill, AllRest, Keeps, OwnTies, Ties}}
 use Rattle.gate_steps.proofs.call_events.{Dealing.{one_if-same, one_if-other, times-append}, Giving.{view_in-at, times-without, times-without_other}}
@@ -86,11 +86,6 @@ module _ (number : ℕ) (c : Config) (begins : Option Op) (kept : Seat) (flags :
     (t.marks n).0 on,
     λ k lt. no_more (times k xs) (λ some. false_true (sym (low k lt) ∙ (t.marks k).1 some)),
   )
-
-  -- a number whose flag is set is one to give
-  pub spares_it : (l : SeatItems) (n : ℕ) → Ties number c begins kept flags l → IsSet flags n → Spares n l
-  spares_it [] n t on = absurd t
-  spares_it (x ∷ xs) n t on = (t.marks n).0 on
 
   -- where no flag is set, it has none to give
   pub none_there : (l : SeatItems) → Ties number c begins kept flags l → ((k : ℕ) → get_or flags k false ≡ false) → (n : ℕ) →

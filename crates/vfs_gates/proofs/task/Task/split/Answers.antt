@@ -1,8 +1,8 @@
-use Rattle.std.proofs.Common.{◌≡◌, ◌≤◌, ℕ, refl, length, set, false, arith, sym, ap, ◌∙◌, subst, None, true≢false}
+use Rattle.std.proofs.Common.{◌≡◌, ◌≤◌, ℕ, refl, length, set, false, arith, sym, ap, ◌∙◌, subst, None}
 use Rattle.gate_world.specs.declared.views.View.{View}
 use Rattle.gate_steps.specs.Seating.{SeatItems, times}
 use Rattle.gate_steps.specs.call_events.Ties.{Ties}
-use Rattle.vfs_gates.proofs.Parting.{split_self, split_new, lowest_there, spares_it, none_begun, none_there}
+use Rattle.vfs_gates.proofs.Parting.{split_self, split_new, lowest_there, none_begun, none_there}
 use Rattle.gate_steps.specs.call_events.Seat.{Seat}
 use Rattle.vfs_gates.specs.TaskStates.{TaskState, task_state, own_number, own_view, spare_of, Empty}
 use Rattle.vfs_gates.specs.Parts.{SplitOf}
@@ -115,17 +115,3 @@ returns-in_default-new c =
       refused = (refl, (c.if-not-is_idle.ensures.0 refl, λ gave. let none : times n (spare_of c.args.self.now.items) ≡ 0 = gave n in absurd (omega arith)));
       rests = tt;
     }
-
-pub give-seat-requires-clause-spare : goal.give-seat-requires-clause-spare
-give-seat-requires-clause-spare c = let old = c.self.inside in
-    spares_it old.number old.config old.begins old.kept old.spare old.seat.me.0 c.in-Some.number c.self.invariant.0 c.in-Some.ensures.some.1
-
-pub returns-then-not-is_idle : goal.returns-then-not-is_idle
-returns-then-not-is_idle c = record {
-  table = refl;
-  config = refl;
-  from = tt;
-  made = tt;
-  refused = (refl, λ idle. absurd (true≢false (sym (c.if-not-is_idle.ensures.1 idle))));
-  rests = tt;
-}
