@@ -1,5 +1,5 @@
 -- Whether an operation may begin, as a task's fields say.
-use Rattle.std.proofs.Common.{◌≡◌, ℕ, [], ◌∷◌, List, Bool, sym, ap, ◌∙◌}
+use Rattle.std.proofs.Common.{◌≡◌, ℕ, [], ◌∷◌, List, Bool, refl, sym, ap, ◌∙◌}
 use Rattle.std.specs.Prelude.{Option, is_some, Result, Ok, Err}
 use Rattle.access_model.specs.declared.errors.GateError.{GateError}
 use Rattle.gate_world.specs.{Beginnings.{first_phase, refusal, or_refusal, beginning}, Configs.IsWithin, Views.held_of, declared.config.Config.Config}
@@ -56,6 +56,12 @@ pub refused_by : (op : Op) (start : TaskState) (refused : GateError) →
     ◌≡◌ {A = Result (Unit {0}) GateError} (Err refused) (unless_refused (refusal_at op start))
 refused_by op start refused is =
     sym (ap unless_refused (err_means (first_phase start.config (own_number start.items) op) (refusal_at op start) refused is))
+
+-- so an answer that refuses nothing admitted it
+pub admitted_unless : (op : Op) (start : TaskState) (answer : Result Phase GateError) → answer ≡ beginning_at op start →
+    ((refused : GateError) → answer ≡ Err refused → ⊥) → Ok tt ≡ unless_refused (refusal_at op start)
+admitted_unless op start (Ok phase) is granted = admitted_by op start phase is
+admitted_unless op start (Err refused) is granted = absurd (granted refused refl)
 
 -- what is the first phase as the task's state says is so as its fields say
 pub first_so : (op : Op) (task : Inside) (start : TaskState) →

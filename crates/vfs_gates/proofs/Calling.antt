@@ -1,6 +1,6 @@
 -- A call that begins an operation and does its events on what the task keeps, and what it writes down at the end.
 use Rattle.std.proofs.Common.{◌≡◌, ℕ, Bool, false, List, [], ◌∷◌, refl, sym, ap, ◌∙◌, subst}
-use Rattle.std.specs.Prelude.{Option, Some, None, Result, Ok, is_some}
+use Rattle.std.specs.Prelude.{Option, Some, None, Result, Ok, Err, is_some}
 use Rattle.access_model.specs.declared.{errors.GateError.GateError, replies.{Next.{Next, TheVariants.{Go, Wait, Done}}, Reply.Reply}}
 use Rattle.gate_world.specs.{Beginnings.{first_phase, refusal}, Fits.Fits, Views.{phase_after, held_of}, declared.accesses.Accesses.Accesses}
 use Rattle.gate_world.specs.declared.{config.Config.Config, operations.Op.Op, work.Phase.Phase}
@@ -10,7 +10,7 @@ use Rattle.gate_steps.specs.call_events.{Seating.SeatItems, Ties.{PhaseOk, OwnTi
 use Rattle.gate_steps.proofs.call_events.{Beginnings.{MayBegin, may_begin, first_fits}, Running.{not_refused, starts_asking_none}}
 use Rattle.atomic_table.specs.Seated.{TableId}
 use Rattle.vfs_gates.specs.{TaskStates.{TaskState, task_state, own_number, own_view, refusal_at, beginning_at}, declared.task.Task.TheInside.Inside}
-use Rattle.vfs_gates.proofs.Admitting.{admitted_by, first_so, first_by}
+use Rattle.vfs_gates.proofs.Admitting.{admitted_by, admitted_unless, first_so, first_by}
 use Rattle.cpu_words.specs.Hooks.{HookAnswer}
 use Rattle.freeze_levels.specs.declared.hooks.HookCall.{HookCall}
 
@@ -59,13 +59,14 @@ admitted_call op task gates start start_is from ties first answered =
     call_of op task gates start start_is from ties (admitted_by op start first answered) first
     (first_by op task start start_is ties first answered)
 
--- the call of an operation that was admitted with some phase, and whose first phase is this
+-- the call of an operation that was not refused, and whose first phase is this
 abbrev pub call_with : (op : Op) (task : Inside) (gates : Config) (start : TaskState) →
     task_state task.seat.table_id task.config task.begins task.kept.phase task.seat.me.0 ≡ start → start.config ≡ gates →
-    Ties task.number task.config task.begins task.kept task.spare task.seat.me.0 → (answered : Phase) →
-    Ok answered ≡ beginning_at op start → (first : Phase) → first ≡ first_phase start.config (own_number start.items) op → Call
-call_with op task gates start start_is from ties answered admitted first is =
-    call_of op task gates start start_is from ties (admitted_by op start answered admitted) first
+    Ties task.number task.config task.begins task.kept task.spare task.seat.me.0 → (answer : Result Phase GateError) →
+    answer ≡ beginning_at op start → ((refused : GateError) → answer ≡ Err refused → ⊥) →
+    (first : Phase) → first ≡ first_phase start.config (own_number start.items) op → Call
+call_with op task gates start start_is from ties answer answer_is granted first is =
+    call_of op task gates start start_is from ties (admitted_unless op start answer answer_is granted) first
     (first_so op task start start_is ties first is)
 
 -- the numbers of the task, as the call finds them

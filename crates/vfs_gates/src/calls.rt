@@ -90,7 +90,9 @@ impl Task {
         requires tries { IsBounded (most_events self.old.config op) }
         ensures { Performs op self.old self.new result }
     {
-        self.admit(op)?;
+        if let Err(refusal) = self.admit(op) {
+            return Err(refusal);
+        }
         let accesses = &mut self.kept.accesses;
         let next = first.go_in_line(&gates.words, &mut self.seat, accesses, Some(op));
         self.waited = waits(&next);

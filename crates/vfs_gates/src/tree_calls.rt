@@ -59,7 +59,9 @@ impl Task {
         requires tries { IsBounded (most_events self.old.config op) }
         ensures { Replies the_reply op self.old self.new result }
     {
-        self.admit(op)?;
+        if let Err(refusal) = self.admit(op) {
+            return Err(refusal);
+        }
         self.waited = 0;
         go_to_end(
             &gates.words,

@@ -88,7 +88,9 @@ impl Task {
         requires other { is_of_snapshot (P.as_phase first) ≡ false }
         ensures { RepliesAsking H.answers the_reply op self.old self.new result hooks.old hooks.new }
     {
-        self.admit(op)?;
+        if let Err(refusal) = self.admit(op) {
+            return Err(refusal);
+        }
         let accesses = &mut self.kept.accesses;
         let seat = &mut self.seat;
         let (answer, waited) = wait_to_end(rt, &gates.words, seat, accesses, op, first, hooks);
@@ -111,7 +113,9 @@ impl Task {
         requires other { is_of_snapshot (P.as_phase first) ≡ false }
         ensures { Performs op self.old self.new result }
     {
-        self.admit(op)?;
+        if let Err(refusal) = self.admit(op) {
+            return Err(refusal);
+        }
         let accesses = &mut self.kept.accesses;
         let next = first.go_in_line(&gates.words, &mut self.seat, accesses, Some(op));
         self.waited = waits(&next);

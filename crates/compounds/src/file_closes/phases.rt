@@ -1,7 +1,9 @@
 //! The order of events of a close.
 
 ghost use Rattle.std.specs.Prelude.{◌≡◌};
-ghost use Rattle.node_words.specs.Nodes.{closed_node};
+ghost use Rattle.node_words.specs.Nodes.{closed_node, any_file_in};
+ghost use Rattle.node_words.specs.Phases.{after_look};
+ghost use Rattle.compounds.specs.declared.file_closes.phases.ClosePhase.TheVariants.{LoadsFile};
 ghost use Rattle.compounds.specs.file_closes.Phases.{next, after, closed_from, enters, then_frees};
 
 use access_model::{Action, Gate, GateError, Next, Reply};
@@ -109,6 +111,17 @@ impl Closing {
             ClosePhase::LowersCount { close: self, node }
         }
     }
+
+    /// What comes after the load of its file's node, which found this.
+    fn after_load(self, found: u64) -> Next<ClosePhase>
+        ensures { result ≡ after_look (LoadsFile self) (closed_from self) (any_file_in found) }
+    {
+        match NodeWord::any_file(found) {
+            None => Next::Go(ClosePhase::LoadsFile(self)),
+            Some(Err(refusal)) => Next::Done(Err(refusal)),
+            Some(Ok(node)) => Next::Go(self.from(node)),
+        }
+    }
 }
 
 /// What comes after an event at the level: inside it, the node is freed, on the same processor.
@@ -154,14 +167,7 @@ impl ClosePhase {
         ensures { result ≡ after self found }
     {
         match self {
-            ClosePhase::LoadsFile(close) => {
-                let next = match NodeWord::any_file(found) {
-                    None => Next::Go(self),
-                    Some(Err(refusal)) => Next::Done(Err(refusal)),
-                    Some(Ok(node)) => Next::Go(close.from(node)),
-                };
-                (next, None)
-            }
+            ClosePhase::LoadsFile(close) => (close.after_load(found), None),
             ClosePhase::LowersCount { close, node } => {
                 if found == node.pack() {
                     (Next::Done(Ok(Reply::Unit)), Some(Action::Close(close.file)))

@@ -72,3 +72,27 @@ returns-in-Done-clause-called g c of start before goes =
       subst (λ asks. WereAsked g.H.TimedHooks.answers asks before c.go_on_asking-next.new.hooks) (sym called.1) went.2,
       had.1 ∙ ap (λ n. counted n) (sym called.2),
     )
+
+pub go_on_asking-next-requires-clause-table : goal.go_on_asking-next-requires-clause-table
+go_on_asking-next-requires-clause-table g c = c.loop.invariant.table ∙ c.requires.table
+
+pub go_on_asking-next-requires-clause-tied : goal.go_on_asking-next-requires-clause-tied
+go_on_asking-next-requires-clause-tied g c = c.loop.invariant.tied
+
+pub go_along_row-next-requires-clause-table : goal.go_along_row-next-requires-clause-table
+go_along_row-next-requires-clause-table g c = c.go_on_asking-next.ensures.table ∙ (c.loop.invariant.table ∙ c.requires.table)
+
+pub go_along_row-next-requires-clause-tied : goal.go_along_row-next-requires-clause-tied
+go_along_row-next-requires-clause-tied g c = c.go_on_asking-next.ensures.still
+
+pub go_along_row-next-requires-in-loop-clause-table : goal.go_along_row-next-requires-in-loop-clause-table
+go_along_row-next-requires-in-loop-clause-table g c = c.go_along_row-next.ensures.table ∙ (c.go_on_asking-next.ensures.table ∙ (c.loop.invariant.table ∙ c.requires.table))
+
+pub go_along_row-next-requires-in-loop-clause-tied : goal.go_along_row-next-requires-in-loop-clause-tied
+go_along_row-next-requires-in-loop-clause-tied g c = c.go_along_row-next.ensures.still
+
+pub returns-in-Done-clause-table : goal.returns-in-Done-clause-table
+returns-in-Done-clause-table g c = c.in-Done.ensures.table ∙ (c.go_along_row-next.ensures.table ∙ (c.go_on_asking-next.ensures.table ∙ c.loop.invariant.table))
+
+pub returns-in-Done-clause-slots : goal.returns-in-Done-clause-slots
+returns-in-Done-clause-slots g c = c.in-Done.ensures.slots ∙ (c.go_along_row-next.ensures.slots ∙ (c.go_on_asking-next.ensures.slots ∙ c.loop.invariant.slots))

@@ -1,4 +1,5 @@
 -- each event of the line goes on from what the one before it left
+use Rattle.std.proofs.Common.{◌∙◌}
 use Rattle.vfs_gates.proofs.call_lines.changes.end_change.Goals as goal
 
 pub returns-clause-tied : goal.returns-clause-tied
@@ -14,3 +15,27 @@ returns-clause-went c waits op start went =
     (c.go_on_if-next-3.ensures.went waits op start
     (c.go_on_if-next-2.ensures.went waits op start
     (c.go_on_if-next.ensures.went waits op start went)))
+
+pub go_on_if-next-requires-2-clause-table : goal.go_on_if-next-requires-2-clause-table
+go_on_if-next-requires-2-clause-table c = c.go_on_if-next.ensures.table ∙ c.requires.table
+
+pub go_on_if-next-requires-2-clause-tied : goal.go_on_if-next-requires-2-clause-tied
+go_on_if-next-requires-2-clause-tied c = c.go_on_if-next.ensures.still
+
+pub go_on_if-next-requires-3-clause-table : goal.go_on_if-next-requires-3-clause-table
+go_on_if-next-requires-3-clause-table c = c.go_on_if-next-2.ensures.table ∙ (c.go_on_if-next.ensures.table ∙ c.requires.table)
+
+pub go_on_if-next-requires-3-clause-tied : goal.go_on_if-next-requires-3-clause-tied
+go_on_if-next-requires-3-clause-tied c = c.go_on_if-next-2.ensures.still
+
+pub go_on_if-requires-clause-table : goal.go_on_if-requires-clause-table
+go_on_if-requires-clause-table c = c.go_on_if-next-3.ensures.table ∙ (c.go_on_if-next-2.ensures.table ∙ (c.go_on_if-next.ensures.table ∙ c.requires.table))
+
+pub go_on_if-requires-clause-tied : goal.go_on_if-requires-clause-tied
+go_on_if-requires-clause-tied c = c.go_on_if-next-3.ensures.still
+
+pub returns-clause-table : goal.returns-clause-table
+returns-clause-table c = c.go_on_if.ensures.table ∙ (c.go_on_if-next-3.ensures.table ∙ (c.go_on_if-next-2.ensures.table ∙ c.go_on_if-next.ensures.table))
+
+pub returns-clause-slots : goal.returns-clause-slots
+returns-clause-slots c = c.go_on_if.ensures.slots ∙ (c.go_on_if-next-3.ensures.slots ∙ (c.go_on_if-next-2.ensures.slots ∙ c.go_on_if-next.ensures.slots))

@@ -5,11 +5,13 @@ use Rattle.finite_sums.specs.Sums.{total}
 use Rattle.access_model.specs.declared.actions.Gate.{Gate}
 use Rattle.cpu_words.specs.Names.{IsWord, place, stride}
 use Rattle.cpu_words.specs.declared.names.WordName.{WordName}
-use Rattle.gate_world.specs.Configs.{extents_of}
+use Rattle.gate_world.specs.Configs.{extents_of, extents_kept}
+use Rattle.gate_steps.specs.Rules.{table_index}
+use Rattle.gate_steps.proofs.TableWords.{lies_inside}
 use Rattle.vfs_gates.specs.Sums.{IsGate, count_word}
 use Rattle.vfs_gates.specs.Ended.{Ending}
 use Rattle.vfs_gates.proofs.Ending.{sums_to_none, level_sums_to_none}
-use Rattle.vfs_gates.proofs.Gating.{has_count, is_gate}
+use Rattle.vfs_gates.proofs.Gating.{has_count, is_gate, counts_on, counts_one_more}
 use Rattle.vfs_gates.proofs.closed.Closed.gate_sum.Goals as goal
 
 pub returns-clause-mounts : goal.returns-clause-mounts
@@ -64,3 +66,17 @@ returns-then-not-has_word-clause-levels c i is l1 l3 = let w = c.self.inside in
     let word : IsWord (extents_of w.config) c.count_of.result =
     subst (λ (n : WordName). IsWord (extents_of w.config) n) (sym c.count_of.ensures) (has_count w.config c.self.invariant.0 c.args.gate gate) in
     absurd (true≢false (sym (c.if-not-has_word.ensures.1 word)))
+
+pub word_of-sum-requires-clause-inside : goal.word_of-sum-requires-clause-inside
+word_of-sum-requires-clause-inside c = let w = c.self.inside in let name = c.count_of-in-loop-cpu.result in
+    let word : IsWord (extents_kept w.config) name = subst (λ (n : WordName). IsWord (extents_kept w.config) n) (sym c.count_of-in-loop-cpu.ensures)
+    (counts_on w.config c.args.gate (subst (λ (n : WordName). IsWord (extents_of w.config) n) c.count_of.ensures (c.if-not-has_word.ensures.0 refl))
+    c.loop-cpu.cpu c.loop-cpu-test.true) in
+    subst (λ (n : ℕ). table_index (place name) < n) (sym c.self.invariant.2) (lies_inside w.config c.self.invariant.0 name word)
+
+pub loop-cpu-preserved : goal.loop-cpu-preserved
+loop-cpu-preserved c = let ws = slots_items c.self.inside.closed.words in
+    let count : ℕ → ℕ = λ p. slice_index ws (stride * place (count_word c.args.gate p)) in
+    let counted : c.word_of-sum.result ≡ count c.loop-cpu.cpu =
+    c.word_of-sum.ensures ∙ ap (λ (n : WordName). slice_index ws (stride * place n)) c.count_of-in-loop-cpu.ensures in
+    counts_one_more count c.loop-cpu.cpu c.loop-cpu.sum c.word_of-sum.result c.loop-cpu.invariant counted

@@ -1,5 +1,5 @@
 -- the words are as they begin until the first event, and the first task rests
-use Rattle.std.proofs.Common.{refl, sym, subst}
+use Rattle.std.proofs.Common.{refl, sym, subst, true≢false}
 use Rattle.vfs_gates.specs.Ended.{HasOpeningWords}
 use Rattle.vfs_gates.specs.TaskStates.{TaskState}
 use Rattle.vfs_gates.specs.Held.{Rests}
@@ -12,3 +12,39 @@ returns-clause-words c = subst (λ (s : TaskState). HasOpeningWords c.args.confi
 
 pub returns-clause-rests : goal.returns-clause-rests
 returns-clause-rests c = subst Rests (sym c.first.ensures) (refl, first_empty c.args.config c.args.config.tasks)
+
+pub returns-clause-within : goal.returns-clause-within
+returns-clause-within c = c.if-not-is_within.ensures.0 refl
+
+pub returns-clause-invalid : goal.returns-clause-invalid
+returns-clause-invalid c outside = absurd (outside (c.if-not-is_within.ensures.0 refl))
+
+pub returns-then-not-is_within : goal.returns-then-not-is_within
+returns-then-not-is_within c = record {
+  made = tt;
+  words = tt;
+  rests = tt;
+  within = tt;
+  invalid = λ outside. refl;
+  memory = λ within. absurd (true≢false (sym (c.if-not-is_within.ensures.1 within)));
+}
+
+pub returns-in_default : goal.returns-in_default
+returns-in_default c = record {
+  made = tt;
+  words = tt;
+  rests = tt;
+  within = tt;
+  invalid = λ outside. absurd (outside (c.if-not-is_within.ensures.0 refl));
+  memory = λ within. refl;
+}
+
+pub returns-in_default-open : goal.returns-in_default-open
+returns-in_default-open c = record {
+  made = tt;
+  words = tt;
+  rests = tt;
+  within = tt;
+  invalid = λ outside. absurd (outside (c.if-not-is_within.ensures.0 refl));
+  memory = λ within. refl;
+}

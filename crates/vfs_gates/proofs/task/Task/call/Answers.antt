@@ -1,6 +1,5 @@
 -- a call at the tree: its beginning, its events, and what the task shows then
 use Rattle.std.proofs.Common.{refl, sym, ◌∙◌}
-use Rattle.std.proofs.lemmas.Result.{err_from_is_err_and}
 use Rattle.access_model.specs.declared.replies.Next.TheVariants.{Done}
 use Rattle.gate_world.specs.declared.work.Phase.TheVariants.{Trees}
 use Rattle.gate_steps.specs.call_events.Runs.{the_reply}
@@ -17,7 +16,7 @@ use Rattle.vfs_gates.proofs.task.Task.call.Goals.{After-go_to_end}
 abbrev call : After-go_to_end → Call
 call c =
     call_with c.args.op c.self.inside c.args.gates.now.words.config c.args.self.now c.self.view_is c.requires.from.1 c.self.invariant.0
-    c.in_ok-admit.field-0 c.in_ok-admit.ensures (Trees c.args.first) c.requires.first
+    c.admit.result c.admit.ensures c.in_default.not-Err (Trees c.args.first) c.requires.first
 
 abbrev left : (c : After-go_to_end) → Left (call c)
 left c = record {
@@ -34,12 +33,12 @@ left c = record {
 pub go_to_end-requires-clause-tied : goal.go_to_end-requires-clause-tied
 go_to_end-requires-clause-tied c =
     is_tied (call_with c.args.op c.self.inside c.args.gates.now.words.config c.args.self.now c.self.view_is c.requires.from.1 c.self.invariant.0
-    c.in_ok-admit.field-0 c.in_ok-admit.ensures (Trees c.args.first) c.requires.first)
+    c.admit.result c.admit.ensures c.in_default.not-Err (Trees c.args.first) c.requires.first)
 
 pub go_to_end-requires-clause-trying : goal.go_to_end-requires-clause-trying
 go_to_end-requires-clause-trying c =
     let call = call_with c.args.op c.self.inside c.args.gates.now.words.config c.args.self.now c.self.view_is c.requires.from.1 c.self.invariant.0
-    c.in_ok-admit.field-0 c.in_ok-admit.ensures (Trees c.args.first) c.requires.first in
+    c.admit.result c.admit.ensures c.in_default.not-Err (Trees c.args.first) c.requires.first in
     record { op = call.op; start = call.start; goes = has_begun call; tries = c.requires.tries }
 
 pub invariant_of-self : goal.invariant_of-self
@@ -55,7 +54,7 @@ returns c =
     was_done the_reply (call c).op (call c).start _ c.go_to_end.result c.go_to_end.result (sym (told_whole c.go_to_end.result))
     (call c).admitted (ended_at (call c) (left c) c.go_to_end.result refl)
 
-pub returns-in_err-admit : goal.returns-in_err-admit
-returns-in_err-admit c = let p = err_from_is_err_and c.from_residual.result c.from_residual.ensures.1 in
-    rw (p.1, p.2) (was_refused the_reply c.args.op c.args.self.now c.args.self.now c.in_err-admit.field-0.0
-    (refused_by c.args.op c.args.self.now c.in_err-admit.field-0.0 c.in_err-admit.ensures) refl)
+pub returns-in-Err : goal.returns-in-Err
+returns-in-Err c =
+    was_refused the_reply c.args.op c.args.self.now c.args.self.now c.in-Err.refusal
+    (refused_by c.args.op c.args.self.now c.in-Err.refusal (sym c.in-Err.is ∙ c.admit.ensures)) refl

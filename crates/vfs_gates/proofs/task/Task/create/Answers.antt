@@ -1,8 +1,34 @@
 -- it tells of the reply the node that it took
-use Rattle.gate_steps.specs.call_events.Runs.{node_of}
+use Rattle.std.proofs.Common.{◌≡◌, ℕ, Some, None, Ok, Err, refl, sym, subst}
+use Rattle.std.specs.Prelude.{Option, Result, IfOk, List}
+use Rattle.access_model.specs.declared.errors.GateError.{GateError}
+use Rattle.access_model.specs.declared.actions.Kind.{Kind}
+use Rattle.access_model.specs.declared.replies.Reply.{Reply}
+use Rattle.gate_world.specs.Operations.{IsNodeReply}
+use Rattle.gate_world.specs.Traces.{IsHonestAnswer}
+use Rattle.gate_world.specs.declared.config.Config.{Config}
+use Rattle.gate_world.specs.declared.views.Traced.{Traced}
+use Rattle.gate_steps.specs.call_events.Runs.{told_as, node_of, the_reply, Replies}
 use Rattle.gate_steps.proofs.call_events.Running.{was_told}
 use Rattle.gate_world.specs.declared.operations.Op.TheVariants.{Create}
+use Rattle.vfs_gates.specs.TaskStates.{TaskState, refusal_at}
 use Rattle.vfs_gates.proofs.task.Task.create.Goals as goal
+
+-- an answer that is honest tells of a node
+node_or_not : (dir : ℕ) (kind : Kind) (c : Config) (trace : List Traced) (answer : Result Reply GateError) →
+    IsHonestAnswer c (Create dir kind) answer trace → IfOk (told_as the_reply answer) IsNodeReply
+node_or_not dir kind c trace (Ok reply) honest = honest
+node_or_not dir kind c trace (Err refusal) honest = tt
+
+replied_node : (dir : ℕ) (kind : Kind) (old left : TaskState) (outcome : Result Reply GateError) →
+    Replies the_reply (Create dir kind) old left outcome → (o : Option GateError) → refusal_at (Create dir kind) old ≡ o → IfOk outcome IsNodeReply
+replied_node dir kind old left outcome call (Some refusal) at = subst (λ x. IfOk x IsNodeReply) (sym (call.refused refusal at).0) tt
+replied_node dir kind old left outcome call None at =
+    let done = call.done at in
+    subst (λ x. IfOk x IsNodeReply) (sym done.1) (node_or_not dir kind old.config done.2.trace done.0 done.2.honest)
+
+pub node-requires : goal.node-requires
+node-requires c = replied_node c.args.dir c.args.kind _ _ c.call.result c.call.ensures (refusal_at (Create c.args.dir c.args.kind) c.args.self.now) refl
 
 pub returns : goal.returns
 returns c = was_told node_of (Create c.args.dir c.args.kind) _ _ c.call.result c.node.result c.call.ensures c.node.ensures

@@ -3,7 +3,6 @@ use Rattle.std.proofs.Common.{refl, sym, ap, ◌∙◌}
 use Rattle.std.specs.Prelude.{Some}
 use Rattle.gate_world.specs.declared.work.Phase.{Phase}
 use Rattle.access_model.specs.Replies.{map_next}
-use Rattle.std.proofs.lemmas.Result.{err_from_is_err_and}
 use Rattle.gate_steps.specs.call_events.Runs.{unit_of}
 use Rattle.vfs_gates.proofs.Admitting.{refused_by}
 use Rattle.vfs_gates.proofs.Calling.{Call, Left, call_with, is_tied, has_not_waited, ties_at, ties_done, goes_at, ended_at}
@@ -18,7 +17,7 @@ use Rattle.vfs_gates.proofs.Waiting.{left_tells, once}
 abbrev call : (g : _) → After-go_in_line-next g → Call
 call g c =
     call_with c.args.op c.self.inside c.args.gates.now.words.config c.args.self.now c.self.view_is c.requires.from.1 c.self.invariant.0
-    c.in_ok-admit.field-0 c.in_ok-admit.ensures (g.P.UnderWay.as_phase c.args.first) c.requires.first
+    c.admit.result c.admit.ensures c.in_default.not-Err (g.P.UnderWay.as_phase c.args.first) c.requires.first
 
 abbrev left : (g : _) (c : After-go_in_line-next g) → Left (call g c)
 left g c = record {
@@ -34,7 +33,7 @@ left g c = record {
 pub go_in_line-next-requires-clause-tied : goal.go_in_line-next-requires-clause-tied
 go_in_line-next-requires-clause-tied g c =
     is_tied (call_with c.args.op c.self.inside c.args.gates.now.words.config c.args.self.now c.self.view_is c.requires.from.1 c.self.invariant.0
-    c.in_ok-admit.field-0 c.in_ok-admit.ensures (g.P.UnderWay.as_phase c.args.first) c.requires.first)
+    c.admit.result c.admit.ensures c.in_default.not-Err (g.P.UnderWay.as_phase c.args.first) c.requires.first)
 
 pub invariant_of-self : goal.invariant_of-self
 invariant_of-self g c =
@@ -73,7 +72,7 @@ returns-in-Go g c =
     (goes_at (call g d) (left g d) c.phase.result (stands_at g.P.UnderWay.as_phase c.go_in_line-next.result c.in-Go.under_way c.in-Go.is ∙
     ap (λ (p : Phase). Some p) (sym c.phase.ensures))))
 
-pub returns-in_err-admit : goal.returns-in_err-admit
-returns-in_err-admit g c = let p = err_from_is_err_and c.from_residual.result c.from_residual.ensures.1 in
-    rw (p.1, p.2) (was_refused unit_of c.args.op c.args.self.now c.args.self.now c.in_err-admit.field-0.0
-    (refused_by c.args.op c.args.self.now c.in_err-admit.field-0.0 c.in_err-admit.ensures) refl)
+pub returns-in-Err : goal.returns-in-Err
+returns-in-Err g c =
+    was_refused unit_of c.args.op c.args.self.now c.args.self.now c.in-Err.refusal
+    (refused_by c.args.op c.args.self.now c.in-Err.refusal (sym c.in-Err.is ∙ c.admit.ensures)) refl

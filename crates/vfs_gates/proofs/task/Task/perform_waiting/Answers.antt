@@ -1,7 +1,6 @@
 -- a call that does its events until it replies: its beginning, the events, and what the task shows then
 use Rattle.std.proofs.Common.{refl, sym, ap, ◌∙◌, [], add-zero}
 use Rattle.std.specs.Prelude.{None}
-use Rattle.std.proofs.lemmas.Result.{err_from_is_err_and}
 use Rattle.access_model.specs.declared.replies.Next.TheVariants.{Done}
 use Rattle.gate_steps.specs.call_events.Runs.{the_reply}
 use Rattle.vfs_gates.proofs.Admitting.{refused_by}
@@ -20,7 +19,7 @@ use Rattle.vfs_gates.proofs.task.Task.perform_waiting.Goals.{After-wait_to_end-a
 abbrev call : (g : _) → After-wait_to_end-answer g → Call
 call g c =
     call_with c.args.op c.self.inside c.args.gates.now.words.config c.args.self.now c.self.view_is c.requires.from.1 c.self.invariant.0
-    c.in_ok-admit.field-0 c.in_ok-admit.ensures (g.P.UnderWay.as_phase c.args.first) c.requires.first
+    c.admit.result c.admit.ensures c.in_default.not-Err (g.P.UnderWay.as_phase c.args.first) c.requires.first
 
 -- done whole, it has asked the hooks that its events read
 asking : (g : _) (c : After-wait_to_end-answer g) →
@@ -43,7 +42,7 @@ left g c = record {
 pub wait_to_end-answer-requires-clause-tied : goal.wait_to_end-answer-requires-clause-tied
 wait_to_end-answer-requires-clause-tied g c =
     is_tied (call_with c.args.op c.self.inside c.args.gates.now.words.config c.args.self.now c.self.view_is c.requires.from.1 c.self.invariant.0
-    c.in_ok-admit.field-0 c.in_ok-admit.ensures (g.P.UnderWay.as_phase c.args.first) c.requires.first)
+    c.admit.result c.admit.ensures c.in_default.not-Err (g.P.UnderWay.as_phase c.args.first) c.requires.first)
 
 pub invariant_of-self : goal.invariant_of-self
 invariant_of-self g c =
@@ -63,7 +62,7 @@ returns g c =
     (ended_asking (call g d) (left g d) g.H.TimedHooks.answers c.args.hooks.now c.wait_to_end-answer.new.hooks c.wait_to_end-answer.result.0
     c.wait_to_end-answer.result.1 refl (asking g d))
 
-pub returns-in_err-admit : goal.returns-in_err-admit
-returns-in_err-admit g c = let p = err_from_is_err_and c.from_residual.result c.from_residual.ensures.1 in
-    rw (p.1, p.2) (was_refused_asking g.H.TimedHooks.answers the_reply c.args.op c.args.self.now c.args.self.now c.in_err-admit.field-0.0
-    (refused_by c.args.op c.args.self.now c.in_err-admit.field-0.0 c.in_err-admit.ensures) refl c.args.hooks.now)
+pub returns-in-Err : goal.returns-in-Err
+returns-in-Err g c =
+    was_refused_asking g.H.TimedHooks.answers the_reply c.args.op c.args.self.now c.args.self.now c.in-Err.refusal
+    (refused_by c.args.op c.args.self.now c.in-Err.refusal (sym c.in-Err.is ∙ c.admit.ensures)) refl c.args.hooks.now
