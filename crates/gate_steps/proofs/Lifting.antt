@@ -202,15 +202,15 @@ lifted c slots id (x ∷ xs) carried begins phase hook acts s held len at small 
       ),
     )
 
--- The same at a place and a touch that equal those of the phase, with the place's bound
-pub lifted_at : (c : Config) (slots words id : ℕ) (me : Me (Unit {0}) SeatItems) (d : Config) (begins : Option Op) (p : Phase)
-    (h : HookAnswer) (r : WordName × Touch) (i : ℕ) (touch : Touch) →
-    c ≡ d → r ≡ next_of p h → i ≡ table_index (place r.0) → r.1 ≡ touch → words ≡ table_length →
+-- The same at a place, a touch and a moment that equal those of the phase, with the place's bound
+pub lifted_at : (c : Config) (slots words id : ℕ) (me : Me (Unit {0}) SeatItems) (d : Config) (begins starts : Option Op) (p q : Phase)
+    (h k : HookAnswer) (r : WordName × Touch) (i : ℕ) (touch : Touch) →
+    c ≡ d → begins ≡ starts → p ≡ q → h ≡ k → r ≡ next_of p h → i ≡ table_index (place r.0) → r.1 ≡ touch → words ≡ table_length →
     place (next_of p h).0 < words_in_all → Acts c begins p me.0 →
-    (i < words) × Allows (holds c) slots id me i (left touch) (λ n. happened d begins p h me (found_by touch n))
-lifted_at c slots words id me d begins p h r i touch ec er ei et ew small acts =
+    (i < words) × Allows (holds c) slots id me i (left touch) (λ n. happened d starts q k me (found_by touch n))
+lifted_at c slots words id me d begins starts p q h k r i touch ec eb ep eh er ei et ew small acts =
     let at : i ≡ table_index (place (next_of p h).0) = ei ∙ ap (λ (z : WordName × Touch). table_index (place z.0)) er in
     let same : (next_of p h).1 ≡ touch = ap (λ (z : WordName × Touch). z.1) (sym er) ∙ et in
-    let P : Config × ℕ × Touch →
-    Type 0 = λ z. Allows (holds c) slots id me z.1 (left z.2) (λ n. happened z.0 begins p h me (found_by z.2 n)) in
-    (omega arith, subst P (λ j. (ec j, sym at j, same j)) (lifted c slots id me.0 me.1 begins p h acts))
+    let P : Config × Option Op × Phase × HookAnswer × ℕ × Touch →
+    Type 0 = λ z. Allows (holds c) slots id me z.4 (left z.5) (λ n. happened z.0 z.1 z.2 z.3 me (found_by z.5 n)) in
+    (omega arith, subst P (λ j. (ec j, eb j, ep j, eh j, sym at j, same j)) (lifted c slots id me.0 me.1 begins p h acts))

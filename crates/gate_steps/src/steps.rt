@@ -22,31 +22,31 @@ pub fn index_of(word: WordName) -> usize
     STRIDE * word.place()
 }
 
-/// The event of that moment, which touches its word so. The operation that begins, what is under way and the hook's answer are told
-/// for contracts alone: they are the moment.
+/// The event of that moment.
 #[inline(always)]
-fn event_at<J: Moment, P>(
+fn event_at<J: Moment, P: UnderWay>(
     shared: &Shared<(), Items, Config, Rule>,
     seat: &mut Seat<(), Items>,
     begins: Option<Op>,
-    under_way: &P,
+    under_way: P,
     hook: Result<(), u16>,
-    next: (WordName, Touch),
 ) -> Event
     requires config { shared.now.key ≡ J.config }
-    requires next { next ≡ next_of J.phase J.hook }
+    requires begins { begins ≡ J.begins }
+    requires phase { P.as_phase under_way ≡ J.phase }
+    requires hook { hook ≡ J.hook }
     requires table { seat.old.table_id ≡ shared.now.table_id }
     requires words { shared.now.table_id.words ≡ table_length }
-    requires inside { place (next_of J.phase J.hook).0 < words_in_all }
-    requires acts { Acts shared.now.key J.begins J.phase seat.old.me.0 }
+    requires inside { place (next_of (P.as_phase under_way) hook).0 < words_in_all }
+    requires acts { Acts shared.now.key begins (P.as_phase under_way) seat.old.me.0 }
     ensures table { seat.new.table_id ≡ seat.old.table_id }
     ensures id { seat.new.id ≡ seat.old.id }
-    ensures is { result ≡ event_of next.0 next.1 result.found }
-    ensures event { seat.new.me.0 ≡ items_after J.begins J.phase J.hook result.found seat.old.me.0 }
-    ensures moves { IsMove shared.now.key J.begins J.phase J.hook seat.old.me.0 result.found }
+    ensures is { result ≡ event_of (next_of (P.as_phase under_way) hook).0 (next_of (P.as_phase under_way) hook).1 result.found }
+    ensures event { seat.new.me.0 ≡ items_after begins (P.as_phase under_way) hook result.found seat.old.me.0 }
+    ensures moves { IsMove shared.now.key begins (P.as_phase under_way) hook seat.old.me.0 result.found }
     ensures slots { seat.new.me.1 ≡ seat.old.me.1 }
 {
-    let (word, touch) = next;
+    let (word, touch) = under_way.next(hook);
     let i = index_of(word);
     let found = match touch {
         Touch::Load => shared.load::<Happens<J>>(seat, i),
@@ -87,8 +87,7 @@ pub fn event<P: UnderWay>(
     ensures moves { IsMove shared.now.key begins (P.as_phase under_way) hook seat.old.me.0 result.found }
     ensures slots { seat.new.me.1 ≡ seat.old.me.1 }
 {
-    let next = under_way.next(hook);
-    event_at::<Brand, P>(shared, seat, begins, &under_way, hook, next)
+    event_at::<Brand, P>(shared, seat, begins, under_way, hook)
 }
 
 fn give_as<J: Given>(
