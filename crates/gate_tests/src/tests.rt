@@ -26,8 +26,10 @@ const SMALL: Config = Config {
     capacity: 8,
 };
 
-/// Cases by what they are about. Each table is a test's own: the proof that a table is what it says takes time by the square of its parts.
-const PAIRS: &[Case] = &[calls::ACCESSES, calls::HOLDERS];
+// Cases by what they are about, a table for each test: the proof that a table is what it says takes time by the square of its parts.
+
+/// Accesses, and freezes by two holders.
+const ACCESSES: &[Case] = &[calls::ACCESSES, calls::HOLDERS];
 
 const FILES: &[Case] = &[
     calls::FILES,
@@ -57,7 +59,7 @@ const LOSSES: &[Case] = &[
 
 #[test]
 fn calls_are_made_as_their_user_makes_them(rt: HostRuntime) -> Result<(), Fail> {
-    expect_none(last_wrong(&rt, PAIRS))
+    expect_none(last_wrong(&rt, ACCESSES))
 }
 
 #[test]
