@@ -17,7 +17,6 @@ closes c id items ws slots final =
       world = held.world;
       ruled = subst (λ (l : List ℕ). Ruled c l held.world) final.2 held.ruled;
       history = held.history;
-      reached = held.reached;
       mine = held.dealt.same id items final.1.1;
       tasks = known_here c.tasks held.world.views s.views held.dealt id items final.1.1;
     }

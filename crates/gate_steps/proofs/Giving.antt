@@ -174,6 +174,7 @@ renewed_history c w n lt h =
       end = h.end ∙ sym (shown_still c w n lt w.words v refl refl refl refl refl refl refl (λ i. refl) refl);
       lists = λ x. each_updated (λ y (u : View). own_part y h.log ≡ u.actions) w.views n v x (h.lists n) (λ ne. h.lists x);
       snapshots = λ x. each_updated (λ y (u : View). HasMoment c h.log y u.snapshot) w.views n v x tt (λ ne. h.snapshots x);
+      reached = renewed_reached c h.log w h.reached n;
     }
 
 -- and has had the same events
@@ -200,7 +201,6 @@ splits c id n (x ∷ xs) spare s held at =
         opens = λ untouched. held.ruled.opens (λ t there. sym (renewed_events w n t) ∙ untouched t there);
       };
       history = renewed_history c w n lt held.history;
-      reached = renewed_reached c w held.reached n;
       dealt = divided c.tasks w.views s.views held.dealt id n x xs at spare (renewed u) (update w.views n v)
           (update_at w.views n v ∙ ap renewed is) (λ y ne. update_off w.views n v y ne);
     }
@@ -236,6 +236,5 @@ joins c id other v w s held at ne at' = record {
   world = held.world;
   ruled = held.ruled;
   history = held.history;
-  reached = held.reached;
   dealt = merged c.tasks held.world.views s.views held.dealt id other v w at ne (sym (set_else s.views id other (v ++ w) ne) ∙ at');
 }

@@ -23,7 +23,7 @@ use Rattle.gate_schedules.proofs.Schedule.{legal_more}
 use Rattle.gate_schedules.proofs.Snapshots.{beside_moments, begin_moments}
 use Rattle.gate_steps.proofs.{Dealing.{times-at, known_here, inside, redealt}, Reaching.{begun_reached, stepped_reached}, Stores.there_found}
 use Rattle.gate_steps.proofs.TableWords.{table_written}
-use Rattle.gate_steps.specs.{Histories.HasHistory, Rules.{table_index, table_length, TableShows, IsReached, Held}, Seating.{SeatItems, HaveViews, MayStep}}
+use Rattle.gate_steps.specs.{Histories.{HasHistory, IsReached, then_begins}, Rules.{table_index, table_length, TableShows, Held}, Seating.{SeatItems, HaveViews, MayStep}}
 use Rattle.gate_steps.specs.{Seating.{Acts, entered, world_entered, done_by, items_after, happened}, declared.seating.Numbered.Numbered}
 
 abbrev pub Carried : Type 0
@@ -66,7 +66,7 @@ record Entered (c : Config) (w : World) (t : ℕ) (begins : Option Op) (phase : 
   mine : (world_entered c w t begins).views t ≡ entered v begins phase
   at_phase : ((world_entered c w t begins).views t).phase ≡ Some phase
   words : (world_entered c w t begins).words ≡ w.words
-  reached : IsReached c w → IsReached c (world_entered c w t begins)
+  reached : (r : IsReached c log w) → (now : IsReached c log (world_entered c w t begins)) × (now.entries ≡ then_begins t begins r.entries)
   others : (y : ℕ) → (y ≡ t → ⊥) → (world_entered c w t begins).views y ≡ w.views y
 
 enter : (c : Config) (lim : IsWithin c) (w : World) → IsGood c w → (x : Numbered) → x.number < c.tasks → (h : HasHistory c w) →
@@ -80,7 +80,7 @@ enter c lim w good x lt h mine None phase may = record {
   mine = mine;
   at_phase = ap (λ (v : View). v.phase) mine ∙ may;
   words = refl;
-  reached = λ r. r;
+  reached = λ r. (r, refl);
   others = λ y ne. refl;
 }
 enter c lim w good x lt h mine (Some op) phase may =
@@ -97,7 +97,7 @@ enter c lim w good x lt h mine (Some op) phase may =
       mine = here ∙ (λ i. begun_view (mine i) op (sym may.1 i));
       at_phase = ap (λ (u : View). u.phase) here ∙ ap Some (sym may.1);
       words = refl;
-      reached = λ r. begun_reached c w r t lt op ok;
+      reached = λ r. begun_reached c h.log w r t lt op ok;
       others = λ y ne. update_off w.views t v y ne;
     }
 
@@ -155,6 +155,8 @@ lifted c slots id (x ∷ xs) carried begins phase hook acts s held len at small 
     let more : IsLegal (model_limits c) (with_action t a log) × (end_of (with_action t a log) ≡ shown c after) =
     legal_more c lim (shown c w') (shown c after) t a log kept.1 held.history.legal ends in
     let done : HaveDone others log = have_done w.views log held.history.lists xs (λ k. mine (suc k)) in
+    let came = en.reached held.history.reached in
+    let went = stepped_reached c log w' came.0 t lt others phase hook en.at_phase in
     let history : HasHistory c after = record {
       log = with_action t a log;
       legal = more.0;
@@ -162,6 +164,7 @@ lifted c slots id (x ∷ xs) carried begins phase hook acts s held len at small 
       lists = beside_lists others w' log t hook phase en.lists;
       snapshots = beside_moments c w' (frozen_whole c lim w' en.good) log ends others t hook phase en.lists done
           ((phase_keeps c phase).completes lim w' en.good t lt hook en.at_phase) en.snapshots;
+      reached = went.0;
     } in (
       items_after begins phase hook (found_by touch n) (x ∷ xs),
       keeps,
@@ -177,7 +180,6 @@ lifted c slots id (x ∷ xs) carried begins phase hook acts s held len at small 
               (touched others (after.views t) (entered x.view begins phase) phase (found_by touch n) hook own (untouched t lt));
         };
         history = history;
-        reached = stepped_reached c w' (en.reached held.reached) t lt others phase hook en.at_phase;
         dealt = redealt c.tasks w.views s.views held.dealt id (x ∷ xs) at t x.view v xs refl after.views own apart;
       },
       (
@@ -197,6 +199,10 @@ lifted c slots id (x ∷ xs) carried begins phase hook acts s held len at small 
           past = held.history;
           history = history;
           grows = ap (λ (z : Words). with_action t (after_of phase (found_at z phase hook) hook).1 log) en.words;
+          reached = came.0;
+          begun = came.1;
+          stepped = went.1;
+          stands = en.mine;
           left = inside c.tasks w.views s.views held.dealt id (x ∷ xs) at t x.view v xs refl after.views own apart;
         },
       ),

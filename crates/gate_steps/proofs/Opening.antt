@@ -67,8 +67,14 @@ module _ (c : Config) (lim : IsWithin c) (ws : List ℕ) (opens : AreOpening tab
   opening_held = let n : ℕ = c.tasks in record {
     world = opening;
     ruled = record { within = lim; long = opens.long; words = shows_opening; good = opening_good c lim; opens = λ untouched. refl };
-    history = record { log = []; legal = tt; end = opening_shown c lim; lists = λ t. refl; snapshots = λ t. tt };
-    reached = opening_reached c;
+    history = record {
+      log = [];
+      legal = tt;
+      end = opening_shown c lim;
+      lists = λ t. refl;
+      snapshots = λ t. tt;
+      reached = opening_reached c;
+    };
     dealt = record {
       once = λ m lt. let e = times-deal m 0 n (omega arith) (omega arith) in omega arith;
       no_other = λ m ge. let e = times-deal_above m 0 n (omega arith) in omega arith;

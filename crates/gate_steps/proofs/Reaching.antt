@@ -4,12 +4,14 @@ use Rattle.std.specs.Prelude.{is_some, Some, None, List}
 use Rattle.finite_sums.specs.Sums.{update}
 use Rattle.finite_sums.proofs.Totals.{update_at, update_off, each_updated}
 use Rattle.cpu_words.specs.{Hooks.HookAnswer, Touches.event_of}
+use Rattle.access_model.specs.{Histories.Done, declared.actions.Action.Action}
 use Rattle.gate_world.specs.{Beginnings.{first_phase, refusal, view_refusal}, Holdings.holdings_of, Views.{phase_after, actions_after, begun_view}}
-use Rattle.gate_world.specs.{Views.{view_after, view_after_beside}, Work.{next_of, after_of}, Worlds.{World, Begins, Steps, after_begin, value_at, found_at}}
-use Rattle.gate_world.specs.{Worlds.{words_after, after_step, after_step_beside, run, opening}, declared.{config.Config.Config, operations.Op.Op}}
-use Rattle.gate_world.specs.declared.{views.View.View, work.Phase.Phase}
+use Rattle.gate_world.specs.{Views.{view_after, view_after_beside, with_hook}, Work.{next_of, after_of}, Worlds.{World, Entry, Begins, Steps, after_begin}}
+use Rattle.gate_world.specs.{Worlds.{words_after, after_step, after_step_beside, run, opening, happens, history, with_action, action_of, task_of}}
+use Rattle.gate_world.specs.{Worlds.{value_at, found_at, phase_action}, declared.{config.Config.Config, operations.Op.Op}}
+use Rattle.gate_world.specs.declared.{views.{View.View, Traced.Traced}, work.Phase.Phase}
 use Rattle.gate_schedules.proofs.Runs.{run_more}
-use Rattle.gate_steps.specs.{Rules.{IsLike, IsReached}, Seating.renewed}
+use Rattle.gate_steps.specs.{Histories.{IsLike, IsReached, then_steps}, Seating.renewed}
 
 -- views that agree agree after one of each is replaced by views that agree
 like_update : (f g : ℕ → View) (t : ℕ) (v u : View) → IsLike v u → ((x : ℕ) → IsLike (f x) (g x)) → (x : ℕ) →
@@ -21,22 +23,43 @@ like_update f g t v u like each x =
     ]
 
 -- the opening is reached by no entry
-pub opening_reached : (c : Config) → IsReached c opening
-opening_reached c = record { entries = []; words = refl; views = λ t. record { phase = refl; actions = refl; events = refl } }
+pub opening_reached : (c : Config) → IsReached c [] opening
+opening_reached c = record {
+  entries = [];
+  words = refl;
+  views = λ t. record { phase = refl; actions = refl; events = refl; same = λ op is. (is, refl, refl) };
+  made = refl;
+}
 
-module _ (c : Config) (w : World) (reached : IsReached c w) where
+-- the actions of a schedule with one entry more
+history_more : (c : Config) (w : World) (earlier : List Done) (es : List Entry) (e : Entry) →
+    history c w earlier (es ++ e ∷ []) ≡ with_action (task_of e) (action_of c (run c w es) e) (history c w earlier es)
+history_more c w earlier [] e = refl
+history_more c w earlier (x ∷ es) e = history_more c (happens c w x) (with_action (task_of x) (action_of c w x) earlier) es e
+
+-- a number that was given to a new task has no operation
+no_operation : (op : Op) (v u : View) → u.op ≡ None → u.op ≡ Some op → (v.op ≡ Some op) × (v.trace ≡ u.trace) × (v.before ≡ u.before)
+no_operation op v u none is = absurd (let no : ⊥ = cc in no)
+
+module _ (c : Config) (log : List Done) (w : World) (reached : IsReached c log w) where
   -- the world of the schedule so far
   abbrev there : World
   there = run c opening reached.entries
 
   -- after a number is given to a new task
-  pub renewed_reached : (n : ℕ) → IsReached c (record { words = w.words; views = update w.views n (renewed (w.views n)) })
+  pub renewed_reached : (n : ℕ) → IsReached c log (record { words = w.words; views = update w.views n (renewed (w.views n)) })
   renewed_reached n = record {
     entries = reached.entries;
     words = reached.words;
     views = λ x. each_updated (λ y (u : View). IsLike (there.views y) u) w.views n (renewed (w.views n)) x
-        (let like = reached.views n in record { phase = like.phase; actions = like.actions; events = like.events })
+        (let like = reached.views n in record {
+          phase = like.phase;
+          actions = like.actions;
+          events = like.events;
+          same = λ op. no_operation op (there.views n) (renewed (w.views n)) refl;
+        })
         (λ ne. reached.views x);
+    made = reached.made;
   }
 
   module _ (t : ℕ) (lt : t < c.tasks) where
@@ -45,25 +68,37 @@ module _ (c : Config) (w : World) (reached : IsReached c w) where
     refused_there op = let like = reached.views t in λ i. refusal c (is_some (like.phase i)) (holdings_of (like.actions i)) op
 
     -- so the schedule may go on with a beginning that isn't refused here
-    pub begun_reached : (op : Op) → view_refusal c (w.views t) op ≡ None → IsReached c (after_begin c w t op)
+    pub begun_reached : (op : Op) → view_refusal c (w.views t) op ≡ None →
+        (now : IsReached c log (after_begin c w t op)) × (now.entries ≡ reached.entries ++ Begins t op ∷ [])
     begun_reached op may =
         let same : run c opening (reached.entries ++ Begins t op ∷ []) ≡ after_begin c there t op =
         run_more c opening reached.entries (Begins t op) ∙ rw (lt-ltb t c.tasks lt, refused_there op ∙ may) refl in
         let like = reached.views t in
         let begun : IsLike (begun_view (there.views t) op (first_phase c t op)) (begun_view (w.views t) op (first_phase c t op)) =
-        record { phase = refl; actions = like.actions; events = like.events } in
-        record {
-          entries = reached.entries ++ Begins t op ∷ [];
-          words = ap (λ (v : World). v.words) same ∙ reached.words;
-          views = λ x. subst (λ (v : World). IsLike (v.views x) ((after_begin c w t op).views x)) (sym same)
-              (like_update there.views w.views t (begun_view (there.views t) op (first_phase c t op))
-              (begun_view (w.views t) op (first_phase c t op))
-              begun reached.views x);
-        }
+        record { phase = refl; actions = like.actions; events = like.events; same = λ o is. (is, refl, like.actions) } in (
+          record {
+            entries = reached.entries ++ Begins t op ∷ [];
+            words = ap (λ (v : World). v.words) same ∙ reached.words;
+            views = λ x. subst (λ (v : World). IsLike (v.views x) ((after_begin c w t op).views x)) (sym same)
+                (like_update there.views w.views t (begun_view (there.views t) op (first_phase c t op))
+                (begun_view (w.views t) op (first_phase c t op))
+                begun reached.views x);
+            made = history_more c opening [] reached.entries (Begins t op) ∙ reached.made;
+          },
+          refl,
+        )
+
+    -- an event of a task adds there what it adds here
+    acts_there : (phase : Phase) (hook : HookAnswer) → (w.views t).phase ≡ Some phase →
+        action_of c there (Steps t hook) ≡ phase_action w hook (Some phase)
+    acts_there phase hook at =
+        rw (lt-ltb t c.tasks lt, (reached.views t).phase ∙ at)
+        (λ i. (after_of phase (found_at (reached.words i) phase hook) hook).1)
 
     -- and with the next event of a task
     pub stepped_reached : (others : List (ℕ × ℕ)) (phase : Phase) (hook : HookAnswer) → (w.views t).phase ≡ Some phase →
-        IsReached c (after_step_beside others w t phase hook)
+        (now : IsReached c (with_action t (phase_action w hook (Some phase)) log) (after_step_beside others w t phase hook)) ×
+        (now.entries ≡ then_steps t hook reached.entries)
     stepped_reached others phase hook at =
         let same : run c opening (reached.entries ++ Steps t hook ∷ []) ≡ after_step there t phase hook =
         run_more c opening reached.entries (Steps t hook) ∙ rw (lt-ltb t c.tasks lt, (reached.views t).phase ∙ at) refl in
@@ -74,10 +109,19 @@ module _ (c : Config) (w : World) (reached : IsReached c w) where
           phase = λ i. phase_after (after_of phase (found_at (reached.words i) phase hook) hook).0;
           actions = λ i. actions_after (after_of phase (found_at (reached.words i) phase hook) hook).1 (like.actions i);
           events = λ i. event_of (next_of phase hook).0 (next_of phase hook).1 (value_at (reached.words i) phase hook) ∷ like.events i;
-        } in
-        record {
-          entries = reached.entries ++ Steps t hook ∷ [];
-          words = ap (λ (v : World). v.words) same ∙ (λ i. words_after (reached.words i) phase hook);
-          views = λ x. subst (λ (v : World). IsLike (v.views x) ((after_step_beside others w t phase hook).views x)) (sym same)
-              (like_update there.views w.views t before after stepped reached.views x);
-        }
+          same = λ op is. let same_op = like.same op is in (
+            same_op.0,
+            (λ i. with_hook (event_of (next_of phase hook).0 (next_of phase hook).1 (value_at (reached.words i) phase hook)) hook ∷ same_op.1 i),
+            same_op.2,
+          );
+        } in (
+          record {
+            entries = reached.entries ++ Steps t hook ∷ [];
+            words = ap (λ (v : World). v.words) same ∙ (λ i. words_after (reached.words i) phase hook);
+            views = λ x. subst (λ (v : World). IsLike (v.views x) ((after_step_beside others w t phase hook).views x)) (sym same)
+                (like_update there.views w.views t before after stepped reached.views x);
+            made = history_more c opening [] reached.entries (Steps t hook) ∙
+                (λ i. with_action t (acts_there phase hook at i) (reached.made i));
+          },
+          refl,
+        )

@@ -1,17 +1,47 @@
--- The one history of a world.
-use Rattle.std.specs.Prelude.{◌≡◌, List}
+-- The one history of a world, and the schedule that makes it.
+use Rattle.std.specs.Prelude.{◌≡◌, ℕ, Option, Some, None, List, [], ◌∷◌, ◌++◌}
 use Rattle.access_model.specs.Histories.{Done, end_of, IsLegal, IsMerge}
+use Rattle.cpu_words.specs.Hooks.{HookAnswer}
 use Rattle.gate_world.specs.declared.config.Config.{Config}
+use Rattle.gate_world.specs.declared.operations.Op.{Op}
+use Rattle.gate_world.specs.declared.views.View.{View}
 use Rattle.gate_world.specs.Configs.{model_limits}
-use Rattle.gate_world.specs.Worlds.{World}
+use Rattle.gate_world.specs.Worlds.{World, Entry, Begins, Steps, run, opening, history}
 use Rattle.gate_world.specs.Shown.{shown}
 use Rattle.gate_world.specs.Moments.{AllHaveMoments}
 
--- one history: a legal log of actions, whose end is the shown model, of which each number's own list is its part, and in which each
--- number's last snapshot has its moment
+-- Two views of a number agree but for the last snapshot: also in the operation, its trace and what was done before it, where the second has
+-- an operation.
+pub record IsLike (v u : View) : Type 0 where
+  pub phase : v.phase ≡ u.phase
+  pub actions : v.actions ≡ u.actions
+  pub events : v.events ≡ u.events
+  pub same : (op : Op) → u.op ≡ Some op → (v.op ≡ Some op) × (v.trace ≡ u.trace) × (v.before ≡ u.before)
+
+-- The world is what some schedule makes of the opening: all its words, and of each number the phase, the actions and the events, and the
+-- operation with its trace. (A number that was given to a new task has no operation of its own yet.) The actions that the schedule's events
+-- have added are the log.
+pub record IsReached (c : Config) (log : List Done) (w : World) : Type 0 where
+  pub entries : List Entry
+  pub words : (run c opening entries).words ≡ w.words
+  pub views : (t : ℕ) → IsLike ((run c opening entries).views t) (w.views t)
+  pub made : history c opening [] entries ≡ log
+
+-- one history: a legal log of actions, whose end is the shown model, of which each number's own list is its part, in which each
+-- number's last snapshot has its moment, and which are the actions of some schedule that makes of the opening this world
 pub record HasHistory (c : Config) (w : World) : Type 0 where
   pub log : List Done
   pub legal : IsLegal (model_limits c) log
   pub end : end_of log ≡ shown c w
   pub lists : IsMerge (λ t. (w.views t).actions) log
   pub snapshots : AllHaveMoments c log w
+  pub reached : IsReached c log w
+
+-- a schedule that goes on with the beginning of an operation, if there is one
+abbrev pub then_begins : ℕ → Option Op → List Entry → List Entry
+then_begins t None entries = entries
+then_begins t (Some op) entries = entries ++ Begins t op ∷ []
+
+-- and with an event
+abbrev pub then_steps : ℕ → HookAnswer → List Entry → List Entry
+then_steps t hook entries = entries ++ Steps t hook ∷ []

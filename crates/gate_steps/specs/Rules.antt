@@ -6,7 +6,7 @@ use Rattle.cpu_words.specs.Lists.{ListShows}
 use Rattle.gate_world.specs.declared.config.Config.{Config}
 use Rattle.gate_world.specs.declared.views.View.{View}
 use Rattle.gate_world.specs.Configs.{IsWithin, extents_kept}
-use Rattle.gate_world.specs.Worlds.{World, Entry, run, opening}
+use Rattle.gate_world.specs.Worlds.{World}
 use Rattle.gate_world.specs.Rules.{IsGood}
 use Rattle.gate_steps.specs.Histories.{HasHistory}
 use Rattle.gate_steps.specs.Seating.{SeatItems, Dealt, deal}
@@ -35,25 +35,11 @@ pub record Ruled (c : Config) (ws : List ℕ) (w : World) : Type 0 where
   pub good : IsGood c w
   pub opens : IsUntouched c w.views → w.words ≡ opening_words
 
--- two views of a number agree but for the operation, its trace and the last snapshot
-pub record IsLike (v u : View) : Type 0 where
-  pub phase : v.phase ≡ u.phase
-  pub actions : v.actions ≡ u.actions
-  pub events : v.events ≡ u.events
-
--- The world is what some schedule makes of the opening: all its words, and of each number the phase, the actions and the events. (A
--- number that was given to a new task has no operation of its own yet.)
-pub record IsReached (c : Config) (w : World) : Type 0 where
-  pub entries : List Entry
-  pub words : (run c opening entries).words ≡ w.words
-  pub views : (t : ℕ) → IsLike ((run c opening entries).views t) (w.views t)
-
 -- the rule of the table
 pub record Held (c : Config) (ws : List ℕ) (seats : List SeatItems) : Type 0 where
   pub world : World
   pub ruled : Ruled c ws world
   pub history : HasHistory c world
-  pub reached : IsReached c world
   pub dealt : Dealt c.tasks world.views seats
 
 -- what the first seat knows: all numbers

@@ -15,7 +15,7 @@ use Rattle.gate_world.specs.Work.{next_of}
 use Rattle.gate_world.specs.Courses.{MayFind}
 use Rattle.gate_world.specs.Shown.{shown}
 use Rattle.gate_world.specs.Rules.{IsGood, Moves}
-use Rattle.gate_steps.specs.Histories.{HasHistory}
+use Rattle.gate_steps.specs.Histories.{HasHistory, IsReached, then_begins, then_steps}
 use Rattle.gate_steps.specs.declared.seating.Numbered.{Numbered}
 
 -- what a seat knows
@@ -96,7 +96,8 @@ world_left c w begins phase hook n others = after_step_beside (done_by others) (
 
 -- The event happened in some world that the rule holds of, with one history, in which the seat's numbers have their views. What it left
 -- is such a world too, in which they have the views that the seat knows then. It moves the shown model by its action, and its history is
--- the one before with this action. What it found is what its word may hold.
+-- the one before with this action. What it found is what its word may hold. Its schedule is the one before with the beginning, where the
+-- operation has just begun, and with this event: between the two it makes the world in which the event happened.
 pub record Moved (c : Config) (begins : Option Op) (phase : Phase) (hook : HookAnswer) (x : Numbered) (xs : SeatItems)
     (n : ℕ) : Type 0 where
   pub world : World
@@ -111,6 +112,10 @@ pub record Moved (c : Config) (begins : Option Op) (phase : Phase) (hook : HookA
   pub past : HasHistory c world
   pub history : HasHistory c (world_left c world begins phase hook x.number xs)
   pub grows : history.log ≡ with_action x.number (phase_action world hook (Some phase)) past.log
+  pub reached : IsReached c past.log (world_entered c world x.number begins)
+  pub begun : reached.entries ≡ then_begins x.number begins past.reached.entries
+  pub stepped : history.reached.entries ≡ then_steps x.number hook reached.entries
+  pub stands : (world_entered c world x.number begins).views x.number ≡ entered x.view begins phase
   pub left : HaveViews (world_left c world begins phase hook x.number xs).views (items_after begins phase hook n (x ∷ xs))
 
 -- the same of a seat's own number, which is its first

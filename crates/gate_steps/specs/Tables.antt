@@ -4,14 +4,13 @@ use Rattle.gate_world.specs.declared.config.Config.{Config}
 use Rattle.gate_world.specs.Worlds.{World}
 use Rattle.gate_steps.specs.Histories.{HasHistory}
 use Rattle.gate_steps.specs.Seating.{SeatItems, HaveViews, times}
-use Rattle.gate_steps.specs.Rules.{Ruled, IsReached}
+use Rattle.gate_steps.specs.Rules.{Ruled}
 
--- The words are those of some world that the rule holds of, with one history, which some schedule makes of the opening, and in which the
--- numbers of the seat are tasks with these views.
+-- The words are those of some world that the rule holds of, with one history, and the schedule that makes it, and in which the numbers of
+-- the seat are tasks with these views.
 pub record IsClosing (c : Config) (ws : List ℕ) (items : SeatItems) : Type 0 where
   pub world : World
   pub ruled : Ruled c ws world
   pub history : HasHistory c world
-  pub reached : IsReached c world
   pub mine : HaveViews world.views items
   pub tasks : (n : ℕ) → 1 ≤ times n items → n < c.tasks
