@@ -186,6 +186,7 @@ lifted c slots id (x ∷ xs) carried begins phase hook acts s held len at small 
         refl,
         refl,
         record {
+          within = lim;
           world = w;
           task = lt;
           before = good;

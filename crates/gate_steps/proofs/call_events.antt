@@ -17,3 +17,4 @@ pub mod FreezeAsks
 pub mod ThawAsks
 pub mod RemountAsks
 pub mod Refused
+pub mod Caused

@@ -8,6 +8,7 @@ use Rattle.gate_world.specs.declared.operations.Op.{Op}
 use Rattle.gate_world.specs.declared.work.Phase.{Phase}
 use Rattle.gate_world.specs.declared.views.View.{View}
 use Rattle.gate_world.specs.declared.views.Traced.{Traced}
+use Rattle.gate_world.specs.Configs.{IsWithin}
 use Rattle.gate_world.specs.Views.{opening_view, begun_view, view_after_beside}
 use Rattle.gate_world.specs.Beginnings.{first_phase, view_refusal}
 use Rattle.gate_world.specs.Worlds.{World, after_begin, found_at, after_step_beside, phase_action, with_action}
@@ -47,6 +48,7 @@ HaveViews views items = (k : ℕ) (x : Numbered) → get_elem? items k ≡ some 
 
 -- some world that the rule holds of, with one history, in which the numbers of a seat have these views
 pub record HaveHistory (c : Config) (items : SeatItems) : Type 0 where
+  pub within : IsWithin c
   pub world : World
   pub good : IsGood c world
   pub history : HasHistory c world
@@ -100,6 +102,7 @@ world_left c w begins phase hook n others = after_step_beside (done_by others) (
 -- operation has just begun, and with this event: between the two it makes the world in which the event happened.
 pub record Moved (c : Config) (begins : Option Op) (phase : Phase) (hook : HookAnswer) (x : Numbered) (xs : SeatItems)
     (n : ℕ) : Type 0 where
+  pub within : IsWithin c
   pub world : World
   pub task : x.number < c.tasks
   pub before : IsGood c world

@@ -15,3 +15,4 @@ pub mod Runs
 pub mod Waited
 pub mod Asking
 pub mod Asked
+pub mod Caused

@@ -80,7 +80,13 @@ move_has_history : (c : Config) (begins : Option Op) (p : Phase) (hook : HookAns
     IsMove c begins p hook items found → HaveHistory c (items_after begins p hook found items)
 move_has_history c begins p hook [] found move = absurd move
 move_has_history c begins p hook (x ∷ xs) found move =
-    record { world = world_left c move.world begins p hook x.number xs; good = move.after; history = move.history; mine = move.left }
+    record {
+      within = move.within;
+      world = world_left c move.world begins p hook x.number xs;
+      good = move.after;
+      history = move.history;
+      mine = move.left;
+    }
 
 -- what the event of this phase completes
 completed_is : (s : Next Phase) (p : Phase) (earlier : List Traced) (e : Traced) → phase_after s ≡ Some p →

@@ -1,0 +1,36 @@
+-- Of a call that was refused: the moment of a schedule at which its refusal has its cause.
+use Rattle.std.specs.Prelude.{◌≡◌, ℕ, ◌<◌, Some, Err, List, [], ◌∷◌}
+use Rattle.access_model.specs.declared.errors.GateError.{GateError}
+use Rattle.access_model.specs.declared.replies.Next.TheVariants.{Done}
+use Rattle.cpu_words.specs.Touches.{event_of}
+use Rattle.gate_world.specs.Causes.{HasCause, since_begun, trail_of}
+use Rattle.gate_world.specs.Configs.{IsWithin}
+use Rattle.gate_world.specs.Headline.{world_after}
+use Rattle.gate_world.specs.Views.{with_hook}
+use Rattle.gate_world.specs.Work.{next_of, after_of}
+use Rattle.gate_world.specs.Worlds.{Entry, found_at}
+use Rattle.gate_world.specs.declared.config.Config.{Config}
+use Rattle.gate_world.specs.declared.operations.Op.{Op}
+use Rattle.gate_world.specs.declared.views.Traced.{Traced}
+use Rattle.gate_world.specs.declared.work.Phase.{Phase}
+
+-- A schedule ends right before the event with which an operation of this number is refused. In its world the operation is under way, with just
+-- these earlier events; the event finds there what it says that it found, and ends the operation with this refusal; and that has its cause
+-- among the worlds of the schedule since the operation began.
+pub record IsCausedBy (c : Config) (t : ℕ) (op : Op) (earlier : List Traced) (last : Traced) (refusal : GateError) : Type 0 where
+  pub within : IsWithin c
+  pub task : t < c.tasks
+  pub entries : List Entry
+  pub phase : Phase
+  pub at : ((world_after c entries).views t).phase ≡ Some phase
+  pub under_way : ((world_after c entries).views t).op ≡ Some op
+  pub events : ((world_after c entries).views t).trace ≡ earlier
+  pub finds : last ≡ with_hook (event_of (next_of phase last.hook).0 (next_of phase last.hook).1
+      (found_at (world_after c entries).words phase last.hook)) last.hook
+  pub ends : (after_of phase (found_at (world_after c entries).words phase last.hook) last.hook).0 ≡ Done (Err refusal)
+  pub cause : HasCause c t (since_begun t (trail_of c entries)) phase refusal
+
+-- the same of an operation's whole trace
+abbrev pub HasItsCause : Config → ℕ → Op → List Traced → GateError → Type 0
+HasItsCause c t op [] refusal = ⊥
+HasItsCause c t op (last ∷ earlier) refusal = IsCausedBy c t op earlier last refusal
