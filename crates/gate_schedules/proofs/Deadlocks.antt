@@ -1,8 +1,9 @@
--- Of every schedule: a reply is near, or each operation under way is kept.
+-- Of every schedule: a reply is near, or each operation under way is kept; and all that is under way settles.
 use Rattle.std.specs.Prelude.{List}
 use Rattle.gate_world.specs.{Configs.IsWithin, Headline.world_after, Worlds.Entry, declared.config.Config.Config}
-use Rattle.gate_schedules.proofs.operations.{KeptStays.kept_stays, Layers.{phase_ends, phase_keeps}, Plain.world_replies, Whole.world_goes}
-use Rattle.gate_schedules.specs.operations.{Progress.{EventsKeepRule, EventsMoveModel, KeptStaysKept, NobodyIsDeadlocked, RepliesOrIsFrozen}, Ranks.most_events_to_reply}
+use Rattle.gate_schedules.proofs.operations.{KeptStays.kept_stays, Layers.{phase_ends, phase_keeps}, Plain.world_replies, Settles.world_settles, Whole.world_goes}
+use Rattle.gate_schedules.specs.operations.Progress.{EventsKeepRule, EventsMoveModel, EverybodySettles, KeptStaysKept, NobodyIsDeadlocked, RepliesOrIsFrozen}
+use Rattle.gate_schedules.specs.operations.Ranks.{most_events_to_reply, most_events_to_settle}
 use Rattle.gate_schedules.proofs.Whole.{whole_rule}
 
 module _ (c : Config) (lim : IsWithin c) where
@@ -11,6 +12,9 @@ module _ (c : Config) (lim : IsWithin c) where
 
   pub whole_progress : (es : List Entry) → NobodyIsDeadlocked c (most_events_to_reply c) es
   whole_progress es = world_goes c lim events_keep_rule (phase_ends c) (world_after c es) (whole_rule c lim es)
+
+  pub whole_settles : (es : List Entry) → EverybodySettles c (most_events_to_settle c) es
+  whole_settles es = world_settles c lim events_keep_rule (world_after c es) (whole_rule c lim es)
 
   pub whole_replies : (es : List Entry) → RepliesOrIsFrozen c (most_events_to_reply c) es
   whole_replies es = world_replies c lim events_keep_rule (world_after c es) (whole_rule c lim es)

@@ -100,3 +100,4 @@ pub mod Plain
 pub mod KeptStarts
 pub mod KeptCloses
 pub mod KeptStays
+pub mod Settles

@@ -9,8 +9,8 @@ ghost use Rattle.gate_world.specs.Headline.{world_after, MovesTheModel, IsOneRun
 ghost use Rattle.gate_world.specs.Causes.{RefusalsHaveCauses};
 ghost use Rattle.gate_world.specs.LevelRuns.{LevelsAreRuns};
 ghost use Rattle.gate_world.specs.Waits.{EachWaitHasCulprit};
-ghost use Rattle.gate_schedules.specs.operations.Progress.{KeptStaysKept, NobodyIsDeadlocked, RepliesOrIsFrozen};
-ghost use Rattle.gate_schedules.specs.operations.Ranks.{most_events_to_reply};
+ghost use Rattle.gate_schedules.specs.operations.Progress.{EverybodySettles, KeptStaysKept, NobodyIsDeadlocked, RepliesOrIsFrozen};
+ghost use Rattle.gate_schedules.specs.operations.Ranks.{most_events_to_reply, most_events_to_settle};
 
 /// The headline. For every configuration within the limits, and every schedule: any list of beginnings, refused ones included, and of
 /// steps with any hook answers, of any tasks, with any numbers in their types' ranges.
@@ -62,6 +62,8 @@ ghost use Rattle.gate_schedules.specs.operations.Ranks.{most_events_to_reply};
 ///   of them, whatever the hooks answer; or each operation under way is kept: a start or a last close that waits and isn't admitted yet, by its
 ///   closed level; a freeze, by an idle task that holds a level which it has to pass yet; and who waits for `umount`, by such a freeze that
 ///   owns it to its end. It says what is possible, and no more: what may starve is in docs/PROVED.md.
+/// - `settles`: so with no new beginning somebody can pick at most T times as many events, for T tasks, one by one, of tasks under way, whatever
+///   the hooks answer, after which each operation that was under way has its reply, or all that are left are kept.
 /// - `replies`: so, with an operation under way, a reply is at most so many events away, or the file system is frozen as a whole, or an idle
 ///   task keeps a freeze that is under way.
 /// - `kept_stays`: and that is exact: where each operation under way is kept, no event of one of them is a reply, and all stay kept, as long as
@@ -85,6 +87,7 @@ pub fn every_schedule()
     ensures causes { (c : Config) → IsWithin c → (entries : List Entry) → RefusalsHaveCauses c entries }
     ensures waits { (c : Config) → IsWithin c → (entries : List Entry) → EachWaitHasCulprit c entries }
     ensures progress { (c : Config) → IsWithin c → (entries : List Entry) → NobodyIsDeadlocked c (most_events_to_reply c) entries }
+    ensures settles { (c : Config) → IsWithin c → (entries : List Entry) → EverybodySettles c (most_events_to_settle c) entries }
     ensures replies { (c : Config) → IsWithin c → (entries : List Entry) → RepliesOrIsFrozen c (most_events_to_reply c) entries }
     ensures kept_stays { (c : Config) → IsWithin c → (entries : List Entry) → KeptStaysKept c entries }
 {}

@@ -164,6 +164,14 @@ AllAreKept c w = (t : ℕ) → t < c.tasks → (phase : Phase) → (w.views t).p
 abbrev pub Progresses : Config → ℕ → World → Type 0
 Progresses c n w = ReplyWithin c n w ⊎ AllAreKept c w
 
+-- All that is under way comes to its end, as far as it can. Somebody can pick, event by event, one of the tasks under way, knowing what the hooks
+-- have answered so far but not what they will, so that after at most so many events each operation that is still under way is kept. No other
+-- operation begins in between, so each of the others has its reply.
+abbrev pub SettlesWithin : Config → ℕ → World → Type 0
+SettlesWithin c zero w = AllAreKept c w
+SettlesWithin c (suc n) w =
+    AllAreKept c w ⊎ ((t : ℕ) × (t < c.tasks) × IsUnderWay w t × ((hook : HookAnswer) → SettlesWithin c n (happens c w (Steps t hook))))
+
 -- the hook that the next event of a phase asks, if it asks one, agrees
 abbrev pub IsAgreed : Phase → HookAnswer → Type 0
 IsAgreed phase hook = (hook_of phase ≡ None) ⊎ (hook ≡ Ok tt)
@@ -194,9 +202,12 @@ abbrev pub EventsMoveModel : Config → Type 0
 EventsMoveModel c = (w : World) → IsGood c w → (t : ℕ) → t < c.tasks → (hook : HookAnswer) → (phase : Phase) →
     (w.views t).phase ≡ Some phase → Moves c (shown c w) t (phase_action w hook (Some phase)) (shown c (after_step w t phase hook))
 
--- the three of a schedule
+-- the four of a schedule
 abbrev pub NobodyIsDeadlocked : Config → ℕ → List Entry → Type 0
 NobodyIsDeadlocked c n entries = Progresses c n (world_after c entries)
+
+abbrev pub EverybodySettles : Config → ℕ → List Entry → Type 0
+EverybodySettles c n entries = SettlesWithin c n (world_after c entries)
 
 abbrev pub RepliesOrIsFrozen : Config → ℕ → List Entry → Type 0
 RepliesOrIsFrozen c n entries = ReplyOrFrozen c n (world_after c entries)

@@ -312,3 +312,7 @@ most_settled c = max (most_in_loop c) (most_beside c + 5 * (c.tasks - 1))
 -- with those of a freeze that takes `umount` and releases it, after which another one is busy
 abbrev pub most_events_to_reply : Config → ℕ
 most_events_to_reply c = most_settled c + 5
+
+-- so many for each task, until all have their reply or are kept
+abbrev pub most_events_to_settle : Config → ℕ
+most_events_to_settle c = c.tasks * most_events_to_reply c

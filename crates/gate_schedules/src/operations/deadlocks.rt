@@ -5,8 +5,8 @@ ghost use Rattle.gate_world.specs.declared.work.Phase.{Phase};
 ghost use Rattle.gate_world.specs.Configs.{IsWithin};
 ghost use Rattle.gate_world.specs.Rules.{IsGood};
 ghost use Rattle.gate_world.specs.Worlds.{World};
-ghost use Rattle.gate_schedules.specs.operations.Progress.{EventsKeepRule, EventsMoveModel, KeptStays, Progresses, ReplyOrFrozen};
-ghost use Rattle.gate_schedules.specs.operations.Ranks.{most_events_to_reply};
+ghost use Rattle.gate_schedules.specs.operations.Progress.{EventsKeepRule, EventsMoveModel, KeptStays, Progresses, ReplyOrFrozen, SettlesWithin};
+ghost use Rattle.gate_schedules.specs.operations.Ranks.{most_events_to_reply, most_events_to_settle};
 ghost use Rattle.gate_schedules.specs.operations.Ways.{PhaseEnds};
 
 /// Where the way of a phase is free, each of its events lowers its rank and leaves its way free. Does nothing: its contract is the law.
@@ -19,12 +19,15 @@ pub fn each_event_comes_nearer_to_the_reply()
 /// - `progress`: a bounded number of events of tasks under way, which somebody picks one by one, lead to a reply of one of them, whatever
 ///   the hooks answer; or each operation under way is kept (`IsKeptAt`). The bound is the largest of M (P + 2) + 2 N + 22,
 ///   4 P + 7 T + N + 24 and 3 P + 8 T + N + 34, for M mounts, P processors, T tasks and N nodes.
+/// - `settles`: so at most so many events for each task, which somebody picks one by one, whatever the hooks answer, lead to a world in which
+///   each operation that was under way has its reply, or is kept.
 /// - `replies`: so a reply is at most so many events away, or the file system is frozen as a whole, or an idle task keeps a freeze that is
 ///   under way.
 ///
 /// It takes nothing, does nothing and answers nothing: its contract is the theorem.
 pub fn nobody_is_deadlocked()
     ensures progress { (c : Config) → IsWithin c → EventsKeepRule c → (w : World) → IsGood c w → Progresses c (most_events_to_reply c) w }
+    ensures settles { (c : Config) → IsWithin c → EventsKeepRule c → (w : World) → IsGood c w → SettlesWithin c (most_events_to_settle c) w }
     ensures replies { (c : Config) → IsWithin c → EventsKeepRule c → (w : World) → IsGood c w → ReplyOrFrozen c (most_events_to_reply c) w }
 {}
 

@@ -1,5 +1,5 @@
 -- Each clause is a lemma on whole schedules.
-use Rattle.gate_schedules.proofs.Deadlocks.{whole_progress, whole_replies, whole_kept}
+use Rattle.gate_schedules.proofs.Deadlocks.{whole_progress, whole_replies, whole_settles, whole_kept}
 use Rattle.gate_schedules.proofs.LevelRuns.{whole_levels}
 use Rattle.gate_schedules.proofs.Whole.{whole_run, whole_moves, whole_nobody, whole_causes, whole_waits, whole_sums, whole_idle, whole_rests, whole_freezes}
 use Rattle.gate_schedules.proofs.Whole.{whole_holders, whole_trees, whole_snapshots, whole_operations, whole_leads}
@@ -52,6 +52,9 @@ returns-clause-waits c = whole_waits
 
 pub returns-clause-progress : goal.returns-clause-progress
 returns-clause-progress c = whole_progress
+
+pub returns-clause-settles : goal.returns-clause-settles
+returns-clause-settles c = whole_settles
 
 pub returns-clause-replies : goal.returns-clause-replies
 returns-clause-replies c = whole_replies
