@@ -23,7 +23,8 @@ pub record Ending : Type 0 where
   pub words : List ℕ
 
 -- The words are those of a world that the rule holds of, with a legal history that ends in the model that it shows, of which each number's
--- own list is its part, and in which each number's last snapshot has its moment. In that world every number is idle and holds nothing.
+-- own list is its part, in which each number's last snapshot has its moment, and which are the actions of a schedule that makes of the
+-- opening that world. In that world every number is idle and holds nothing.
 pub record Ended (c : Config) (ws : List ℕ) : Type 0 where
   pub world : World
   pub ruled : Ruled c ws world

@@ -13,6 +13,7 @@ ghost use Rattle.gate_world.specs.Courses.{course_of};
 ghost use Rattle.gate_steps.specs.Seating.{SeatItems, done_by};
 ghost use Rattle.vfs_gates.specs.TaskStates.{TaskState, own_number, own_view, spare_of, IsIdle};
 ghost use Rattle.vfs_gates.specs.Held.{Rests, own_actions, IsAsBefore, IsGivenBack, takes_nothing};
+ghost use Rattle.gate_steps.specs.call_events.Caused.{HasItsCause};
 ghost use Rattle.gate_steps.specs.call_events.Runs.{completed_by, Called, Performs};
 ghost use Rattle.gate_world.specs.declared.config.Config.{Config};
 ghost use Rattle.vfs_gates.specs.Ended.{Ended, EndedWith, LeavesSoundTree};
@@ -46,6 +47,16 @@ pub fn a_call_sees_a_moment()
 pub fn a_snapshot_that_replied_was_taken()
     ensures { (wait : Bool) (old left : TaskState) (reply : Reply) → 1 ≤ length old.items →
         Called (SnapshotOp wait) old left (Ok reply) → HasTaken old.config old.items left.items }
+{}
+
+/// A call that was refused, whatever its operation, has its cause in a schedule: one that ends right before the event that brought the
+/// refusal, with the operation under way and just the call's earlier events done. That event finds there what the call's trace says, and
+/// the refusal has there what `every_schedule` says of it (clause `causes`): a want that was ReadOnly, say, a moment since it began at which
+/// the shown model had the mount read-only, and a change that was Busy one at which something was counted there. Does nothing: its
+/// contract is the law.
+pub fn a_refused_call_has_its_cause()
+    ensures { (op : Op) (old left : TaskState) (refusal : GateError) (called : Called op old left (Err refusal)) →
+        HasItsCause old.config (own_number old.items) op called.trace refusal }
 {}
 
 /// The tree that closed gates leave is sound: the blocks charged are those of all files, the children charged to each node are its
