@@ -30,7 +30,7 @@ use Rattle.freeze_levels.specs.declared.freezes.FreezeStep.TheVariants.{LoadsSta
 use Rattle.freeze_levels.specs.declared.thaws.ThawStep.{ThawStep, TheVariants.{LoadsStage as ThawLoadsStage, LoadsHolders as ThawLoadsHolders}}
 use Rattle.freeze_laws.specs.levels.Roles.{closed}
 use Rattle.compounds.specs.declared.write_access.phases.WritePhase.{WritePhase, TheVariants.{Takes, Wants as WriteWants, GivesBack}}
-use Rattle.compounds.specs.declared.file_closes.phases.ClosePhase.{ClosePhase, TheVariants.Enters}
+use Rattle.compounds.specs.declared.file_closes.phases.ClosePhase.{ClosePhase, TheVariants.{Enters, LowersCount}}
 use Rattle.gate_world.specs.{Levels.{sync_role_of, is_frozen_whole, at_level}, Rules.{at_mount, role_of, owns}, Shown.shown, Work.after_of}
 use Rattle.gate_world.specs.Worlds.{World, Entry, happens, run, opening, found_at}
 use Rattle.gate_world.specs.declared.config.Config.{Config}
@@ -353,10 +353,11 @@ WriteRefused c t worlds (Takes m r) refusal = ReadRefused c t worlds r.level ref
 WriteRefused c t worlds (GivesBack m p answer) refusal = WantRefused c t m (last_question t worlds) refusal
 WriteRefused c t worlds x refusal = Unit {0}
 
--- a close: as its start at level 3
+-- a close: as its start at level 3; or again, where its file changed meanwhile; as nothing else
 abbrev pub CloseRefused : Config → ℕ → List World → ClosePhase → GateError → Type 0
 CloseRefused c t worlds (Enters f node r) refusal = ReadRefused c t worlds r.level refusal
-CloseRefused c t worlds x refusal = Unit {0}
+CloseRefused c t worlds (LowersCount x node) Again = Unit {0}
+CloseRefused c t worlds x refusal = ⊥
 
 -- a freeze: as busy, and another was under way, or one held for its holder, when it last looked
 abbrev pub FreezeRefused : Config → ℕ → List World → Holder → GateError → Type 0

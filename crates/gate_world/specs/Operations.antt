@@ -27,11 +27,11 @@ use Rattle.access_model.specs.declared.actions.Action.TheVariants.{Grant, Return
 use Rattle.access_model.specs.declared.actions.Action.TheVariants.{Create as CreateAction, Remove as RemoveAction, Grow as GrowAction, MoveTo as MoveToAction}
 use Rattle.access_model.specs.declared.actions.Action.TheVariants.{Open as OpenAction, Close as CloseAction}
 use Rattle.access_model.specs.declared.actions.{Gate.TheVariants.{Mount, Level}, Holder.Holder}
-use Rattle.access_model.specs.declared.errors.GateError.{GateError, TheVariants.{Again, Busy, ReadOnly, Invalid, NoEntry, IsDir, Hook}}
+use Rattle.access_model.specs.declared.errors.GateError.{GateError, TheVariants.{Again, Busy, ReadOnly, Invalid, Hook}}
 use Rattle.access_model.specs.declared.replies.Reply.{Reply, TheVariants.{Unit as UnitReply, Node as NodeReply, Ran, Tree as TreeReply}}
 use Rattle.cpu_words.specs.declared.names.WordName.{WordName, TheVariants.{Umount, Remount, Stage}}
 use Rattle.gated_tree.specs.Phases.{mark_done}
-use Rattle.gated_tree.specs.Refusals.{CreateHonest, FileHonest, GrowHonest, MoveHonest, SnapshotHonest, finds_free, finds_directory, finds_other}
+use Rattle.gated_tree.specs.Refusals.{CreateHonest, FileHonest, GrowHonest, MoveHonest, SnapshotHonest, finds_other}
 use Rattle.gate_world.specs.Found.{found_read_only, found_hold, found_taken, found_sealed, SeenIn, found_frozen, found_removed, found_dropped, finds_hold}
 use Rattle.gate_world.specs.Found.{finds_taken, each_event, looks_again, counts_loaded, IsEachCount, sum_loaded, ReadAnswer, cleans, newest, found_closed}
 use Rattle.gate_world.specs.Found.{left_closed, holds_since, finds_inside, finds_none_queued, transitions_made, found_incomplete, found_complete, found_moving}
@@ -416,11 +416,8 @@ close_adds file (Ok reply) trace =
     if found_dropped trace then Return (Level 3) ∷ (CloseAction file ∷ (Grant (Level 3) ∷ [])) else CloseAction file ∷ []
 close_adds file (Err refusal) trace = []
 
--- it is refused where its file was free or a directory, which never happens behind the gates, or changed meanwhile, or where it found level
--- 3 closed and doesn't wait
+-- it is refused where its file changed meanwhile, or where it found level 3 closed and doesn't wait; its file is one, as some task has it open
 abbrev close_honest : ℕ → Bool → GateError → List Traced → Type 0
-close_honest file wait NoEntry trace = SeenIn trace (finds_free file)
-close_honest file wait IsDir trace = SeenIn trace (finds_directory file)
 close_honest file wait Again trace = SeenIn trace finds_other ⊎ ((wait ≡ false) × (found_closed 3 trace ≡ true))
 close_honest file wait refusal trace = ⊥
 

@@ -1,6 +1,9 @@
 -- The causes and the waits of a close: those of a down-read of level 3, where it is a last one.
-use Rattle.std.{proofs.{Common.{◌≡◌, ℕ, ap, inl, inr}, lemmas.Bool.cases_Bool}, specs.Prelude.{◌==◌, ◌&&◌, Option, Some, None, Result, Ok, Err, List, ◌∷◌}}
+use Rattle.std.proofs.{Common.{◌≡◌, ℕ, ◌≤◌, ◌%◌, false, true, ap, arith, inl, inr, refl}, lemmas.Bool.{cases_Bool, Decides.nat_tests}}
+use Rattle.std.specs.Prelude.{◌==◌, ◌&&◌, Option, Some, None, Result, Ok, Err, List, ◌∷◌, is_some}
 use Rattle.access_model.specs.{Replies.map_next, declared.{errors.GateError.GateError, replies.Next.Next}}
+use Rattle.node_words.proofs.Refused.{any_file_refused}
+use Rattle.node_words.specs.Nodes.{any_file_in, is_stray, kind_in, opens_in, unpacked}
 use Rattle.node_words.specs.Phases.{after_look}
 use Rattle.node_words.specs.declared.nodes.NodeWord.{NodeWord}
 use Rattle.percpu_rwsem.specs.declared.readers.DownRead.{DownRead}
@@ -8,6 +11,31 @@ use Rattle.compounds.specs.{file_closes.Phases.{then_frees, closed_from}, declar
 use Rattle.gate_world.specs.{Causes.{asks_level, last_asked, WasClosed}, KeptCauses.CauseOf, Views.phase_after, Waits.HasReason, Worlds.World}
 use Rattle.gate_world.specs.declared.{config.Config.Config, work.Phase.Phase}
 use Rattle.gate_schedules.proofs.operations.{ReadCauses.{AsksNext, HasNextCause}, ReadWaits.{WhereRefused, read_refused}}
+
+-- what was looked at as a file, or not as one, is a node's word
+looked_some : (word : ℕ) (refusal : GateError) → any_file_in word ≡ Some (Err refusal) → is_some (unpacked word) ≡ true
+looked_some word refusal e = elim (cases_Bool (is_stray word)) [
+  | inl stray ↦
+      let none : any_file_in word ≡ None = rw stray refl in
+      absurd cc
+  | inr plain ↦ rw plain refl
+]
+
+-- a directory is open nowhere
+closed_directory : (word : ℕ) → is_some (unpacked word) ≡ true → kind_in word ≡ 2 → opens_in word ≡ 0
+closed_directory word some dir = elim (cases_Bool (is_stray word)) [
+  | inl stray ↦
+      let none : is_some (unpacked word) ≡ false = rw stray refl in
+      absurd cc
+  | inr plain ↦ let two : word % 4 ≡ 2 = dir in grind (arith, nat_tests)
+]
+
+-- so a node that some task has open is a file
+pub open_is_file : (word : ℕ) (refusal : GateError) → 1 ≤ opens_in word → any_file_in word ≡ Some (Err refusal) → ⊥
+open_is_file word refusal opens e = elim (any_file_refused word refusal e) [
+  | inl free ↦ let none : opens_in word ≡ 0 = ap opens_in free.1 in omega (arith, none, opens)
+  | inr dir ↦ omega (arith, closed_directory word (looked_some word refusal e) dir.1, opens)
+]
 
 module _ (c : Config) (t : ℕ) (w next : World) (earlier : List World) (file p : ℕ) (node : NodeWord) where
   -- after an event at level 3 the task asks where a down-read does
@@ -48,8 +76,8 @@ module _ (c : Config) (t : ℕ) (w : World) (earlier : List World) where
   looked_cause x (Some (Ok file)) = found_cause x file
   looked_cause x (Some (Err refusal)) = tt
 
-  pub looked_waits : (x : Closing) (r : Option (Result NodeWord GateError)) →
+  pub looked_waits : (x : Closing) (word : ℕ) → 1 ≤ opens_in word → (r : Option (Result NodeWord GateError)) → any_file_in word ≡ r →
       HasReason c w earlier t (Phase.Closes (ClosePhase.LoadsFile x)) (map_next Phase.Closes (after_look (ClosePhase.LoadsFile x) (closed_from x) r))
-  looked_waits x None = tt
-  looked_waits x (Some (Ok file)) = tt
-  looked_waits x (Some (Err refusal)) = tt
+  looked_waits x word opens None e = tt
+  looked_waits x word opens (Some (Ok file)) e = tt
+  looked_waits x word opens (Some (Err refusal)) e = absurd (open_is_file word refusal opens e)

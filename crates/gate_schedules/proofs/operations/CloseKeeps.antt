@@ -6,10 +6,10 @@ use Rattle.node_words.specs.Nodes.{any_file_in, word_of}
 use Rattle.percpu_rwsem.specs.{Readers.down_read_after, declared.readers.DownRead.DownRead}
 use Rattle.freeze_laws.specs.levels.{Events.SyncStep, Roles.closed}
 use Rattle.compounds.specs.{file_closes.Phases.{after, then_frees, leaves_on}, declared.file_closes.phases.ClosePhase.ClosePhase}
-use Rattle.gate_world.specs.{Alike.{rephased, IsBeside}, Causes.asks_level, Configs.IsWithin, Fits.CloseFits, KeptCauses.CauseOf, LevelRuns.level_in}
+use Rattle.gate_world.specs.{Alike.{rephased, IsBeside}, Causes.asks_level, Configs.IsWithin, Courses.CloseMayFind, Fits.CloseFits, KeptCauses.CauseOf, LevelRuns.level_in}
 use Rattle.gate_world.specs.{Levels.sync_role_of, Rules.{IsGood, StepKeeps}, Views.{phase_after, held_of}, Waits.HasReason}
-use Rattle.gate_world.specs.{Worlds.{World, after_step, found_at}, declared.{config.Config.Config, work.Phase.Phase}}
-use Rattle.gate_schedules.proofs.operations.frames.{Keeps.PhaseKeeps, Snapshots.completes_none}
+use Rattle.gate_world.specs.{Worlds.{World, after_step, found_at, value_at}, declared.{config.Config.Config, work.Phase.Phase}}
+use Rattle.gate_schedules.proofs.operations.frames.{Keeps.PhaseKeeps, MayHolds.events_may_be, Snapshots.completes_none}
 use Rattle.gate_schedules.proofs.operations.{ReadCauses.{read_stays, read_own, read_not_closed}, ReadKeeps.{read_phase, end_phase}, ReadWaits.read_waits}
 use Rattle.gate_schedules.proofs.operations.CloseCauses.{enters_asks, enters_cause, enters_waits, looked_cause, looked_waits}
 use Rattle.gate_schedules.proofs.operations.CloseFits.{close_goes, close_there, close_acts, close_agrees}
@@ -78,18 +78,18 @@ close_causes c w earlier good t hook other f e is h = tt
 
 -- it waits at level 3 alone
 close_waits : (c : Config) (w : World) (earlier : List World) (t : ℕ) (hook : HookAnswer) (x : ClosePhase) →
-    CauseOf c t w earlier (Some (Phase.Closes x)) →
+    CloseMayFind x (value_at w.words (Phase.Closes x) hook) → CauseOf c t w earlier (Some (Phase.Closes x)) →
     HasReason c w earlier t (Phase.Closes x) (map_next Phase.Closes (after x (found_at w.words (Phase.Closes x) hook)).0)
-close_waits c w earlier t hook (ClosePhase.LoadsFile x) h =
-    looked_waits c t w earlier x (any_file_in (found_at w.words (Phase.Closes (ClosePhase.LoadsFile x)) hook))
-close_waits c w earlier t hook (ClosePhase.LowersCount x node) h =
+close_waits c w earlier t hook (ClosePhase.LoadsFile x) may h =
+    looked_waits c t w earlier x (w.words.node x.file) may.1 (any_file_in (w.words.node x.file)) refl
+close_waits c w earlier t hook (ClosePhase.LowersCount x node) may h =
     elim (cases_Bool (w.words.node x.file == word_of node)) [ inl z ↦ rw z tt | inr z ↦ rw z tt ]
-close_waits c w earlier t hook (ClosePhase.Enters file node r) h =
+close_waits c w earlier t hook (ClosePhase.Enters file node r) may h =
     enters_waits c t w earlier file r.cpu node r (down_read_after r r.step (found_at w.words (Phase.DownReads r) hook)).0
     (read_waits c w earlier t r r.step (found_at w.words (Phase.DownReads r) hook) h)
-close_waits c w earlier t hook (ClosePhase.FreesNode file p node) h =
+close_waits c w earlier t hook (ClosePhase.FreesNode file p node) may h =
     elim (cases_Bool (w.words.node file == word_of node)) [ inl z ↦ rw z tt | inr z ↦ rw z tt ]
-close_waits c w earlier t hook other h = tt
+close_waits c w earlier t hook other may h = tt
 
 pub close_phase : (c : Config) (x : ClosePhase) → PhaseKeeps c (Phase.Closes x)
 close_phase c x = record {
@@ -102,5 +102,6 @@ close_phase c x = record {
   agrees = λ t held seen same fits. close_agrees c t held seen same x fits;
   stays = λ w next earlier good t f e was quiet h. close_stays c t w next earlier x e h;
   causes = λ w earlier good t lt hook e after is h. close_causes c w earlier good t hook x (close_fits_now c w good t lt hook x e) e is h;
-  reasons = λ lim w earlier good t lt hook e cause. close_waits c w earlier t hook x cause;
+  reasons = λ lim w earlier good t lt hook e cause.
+      close_waits c w earlier t hook x (events_may_be c lim w good t lt (Phase.Closes x) hook e) cause;
 }

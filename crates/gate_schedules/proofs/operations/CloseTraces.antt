@@ -3,18 +3,17 @@ use Rattle.std.proofs.{Common.{◌≡◌, ℕ, ◌≤◌, Bool, true, false, ref
 use Rattle.std.specs.Prelude.{◌==◌, ◌&&◌, Option, Some, None, Result, Ok, Err, List, [], ◌∷◌, length, is_some}
 use Rattle.access_model.specs.{Replies.map_next, declared.{actions.{Action.Action, Gate.Gate}, errors.GateError.GateError, replies.Next.Next}}
 use Rattle.cpu_words.specs.{Hooks.HookAnswer, Touches.{event_of, found_by}}
-use Rattle.node_words.proofs.Refused.{any_file_refused}
-use Rattle.node_words.specs.Nodes.{any_file_in, as_any_file, kind_in, opens_in, unpacked, word_of}
+use Rattle.node_words.specs.Nodes.{any_file_in, as_any_file, opens_in, unpacked, word_of}
 use Rattle.node_words.specs.Phases.{after_look}
 use Rattle.node_words.specs.declared.nodes.NodeWord.{NodeWord}
 use Rattle.percpu_rwsem.specs.{Readers.{down_read_next, down_read_after}, declared.readers.{DownRead.DownRead, DownReadStep.DownReadStep}}
 use Rattle.compounds.specs.{file_closes.Phases.{closed_from, then_frees}, declared.file_closes.phases.ClosePhase.ClosePhase}
-use Rattle.gate_world.specs.{Courses.{CloseMayFind, MayFind, MayHold}, Found.found_dropped, Operations.first_close, Traces.{IsHonest, IsShort, most_events}}
+use Rattle.gate_world.specs.{Courses.{CloseMayFind, MayFind, MayHold}, Found.found_dropped, Operations.first_close, Traces.{IsShort, most_events}}
 use Rattle.gate_world.specs.{Views.{with_hook, actions_after}, Work.next_of}
 use Rattle.gate_world.specs.declared.{config.Config.Config, operations.Op.Op, views.Traced.Traced, work.Phase.Phase}
 use Rattle.gate_schedules.proofs.operations.frames.{CallTraces.made_some, Keeps.OpKeeps, Says.{KeptWell, Says, SaysAfter, event_at, tells_well, is_short_well}}
 use Rattle.gate_schedules.proofs.operations.ReadTraces.{read_at, events_before, ReadSays, ReadNext, read_event}
-use Rattle.gate_schedules.proofs.operations.{CloseFits.found_node, CloseOps.close_op_from}
+use Rattle.gate_schedules.proofs.operations.{CloseCauses.open_is_file, CloseFits.found_node, CloseOps.close_op_from}
 
 -- an event of a down-read isn't on `removed`
 read_dropped : (r : DownRead) (s : DownReadStep) (value : ℕ) (hook : HookAnswer) (earlier : List Traced) →
@@ -116,20 +115,13 @@ module _ (c : Config) (file p t : ℕ) (wait : Bool) (value : ℕ) (hook : HookA
         ]
   ]
 
-  look_honest : (refusal : GateError) → any_file_in value ≡ Some (Err refusal) → IsHonest c (Op.Close file p wait) refusal (loaded ∷ [])
-  look_honest refusal e = elim (any_file_refused value refusal e) [
-    | inl free ↦ rw free.0 (rw (eq-eqb file file refl, eq-eqb value 0 free.1) refl)
-    | inr dir ↦ rw dir.0 (rw (eq-eqb file file refl, eq-eqb (kind_in value) 2 dir.1) refl)
-  ]
-
   looked_says : (r : Option (Result NodeWord GateError)) → any_file_in value ≡ r → is_some r ≡ true → 1 ≤ opens_in value →
       Comes c file p t wait (loaded ∷ []) (after_look looks (closed_from (first_close file p t wait)) r) []
   looked_says None e some opens = absurd cc
   looked_says (Some (Ok node)) e some opens =
       let same : opens_in value ≡ node.opens = ap (λ (x : NodeWord). x.opens) (found_node value node e).2 in
       found_says node (λ z. omega (arith, same, opens, z))
-  looked_says (Some (Err refusal)) e some opens =
-      ((refl, look_honest refusal e), close_short c file p wait (loaded ∷ []) (λ q. omega arith))
+  looked_says (Some (Err refusal)) e some opens = absurd (open_is_file value refusal opens e)
 
   loads_event : CloseMayFind looks value → After looks [] []
   loads_event may =

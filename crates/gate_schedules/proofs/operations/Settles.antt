@@ -1,5 +1,5 @@
 -- All that is under way comes to its reply, one after the other, until what is left is kept.
-use Rattle.std.{proofs.Common.{◌≡◌, ℕ, zero, suc, ◌+◌, ◌*◌, ◌<◌, ◌≤◌, sym, ap, subst, inl, inr, arith}, specs.Prelude.{Option, None, Some, [], ◌⊎◌}}
+use Rattle.std.{proofs.Common.{◌≡◌, ℕ, zero, suc, ◌+◌, ◌*◌, ◌<◌, ◌≤◌, sym, ap, subst, inl, inr, arith}, specs.Prelude.{Option, None, Some, []}}
 use Rattle.finite_sums.specs.Sums.{total}
 use Rattle.finite_sums.proofs.Totals.{total_at, total_bound, total_updated, update_at}
 use Rattle.cpu_words.specs.Hooks.{HookAnswer}
