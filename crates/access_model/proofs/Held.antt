@@ -12,7 +12,7 @@ use Rattle.access_model.specs.Actions.{MayStage, MayDo, after_action}
 use Rattle.access_model.specs.Laws.{IsFrozenFor, StaysFrozen}
 
 -- who holds a freeze isn't nobody
-some_held : (h : Holder) (kernel user : Bool) → is_unheld (record { kernel = kernel; user = user }) ≡ true →
+pub some_held : (h : Holder) (kernel user : Bool) → is_unheld (record { kernel = kernel; user = user }) ≡ true →
     held_by (record { kernel = kernel; user = user }) h ≡ true → ⊥
 some_held Kernel true user none own = false≢true none
 some_held Kernel false user none own = false≢true own

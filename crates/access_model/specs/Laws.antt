@@ -1,10 +1,10 @@
 -- Laws of whole histories.
-use Rattle.std.specs.Prelude.{◌≡◌, ℕ, ◌<◌, ◌≤◌, ◌⊎◌, true, false, List}
+use Rattle.std.specs.Prelude.{◌≡◌, ℕ, ◌<◌, ◌≤◌, ◌⊎◌, true, false, List, [], ◌∷◌}
 use Rattle.access_model.specs.declared.actions.Action.{Action}
 use Rattle.access_model.specs.declared.actions.Action.TheVariants.{Leave}
 use Rattle.access_model.specs.declared.actions.Holder.{Holder}
 use Rattle.access_model.specs.Holders.{held_by}
-use Rattle.access_model.specs.States.{Limits, State}
+use Rattle.access_model.specs.States.{Limits, State, IsClean, NoneRemoved}
 use Rattle.access_model.specs.Actions.{IsAllowed, after_action}
 use Rattle.access_model.specs.Histories.{Done, end_of, own_part, mounts_of, levels_of, opens_of}
 
@@ -35,3 +35,27 @@ IsFrozenFor s h = (s.stage ≡ 4) × (held_by s.holders h ≡ true)
 abbrev pub StaysFrozen : Limits → State → ℕ → Action → Holder → Type 0
 StaysFrozen l s t a h = IsAllowed l s t a → IsFrozenFor s h → (a ≡ Leave h → ⊥) →
     IsFrozenFor (after_action s t a) h × ((after_action s t a).passed ≡ s.passed)
+
+-- What is frozen is shut: at stage 4 all levels are closed, or the superblock is read-only, and then no file is removed; at stages 3 and 4 no file
+-- is dirty; and where some holder holds a freeze all is frozen.
+pub record FrozenIsShut (l : Limits) (s : State) : Type 0 where
+  pub shut : s.stage ≡ 4 → (s.passed ≡ 3) ⊎ (s.sb_ro ≡ true)
+  pub shutting : s.stage ≡ 3 → 2 ≤ s.passed
+  pub clean : 3 ≤ s.stage → IsClean l s
+  pub none_removed : s.sb_ro ≡ true → NoneRemoved l s
+  pub frozen : (h : Holder) → held_by s.holders h ≡ true → s.stage ≡ 4
+
+-- an action leaves each node as it was: whether it is there, its kind, its parent, its size and its marks
+abbrev pub TreeStays : State → State → Type 0
+TreeStays before after = (n : ℕ) → after.tree n ≡ before.tree n
+
+-- none of these actions is that this holder leaves
+abbrev pub NeverLeaves : Holder → List Done → Type 0
+NeverLeaves h [] = Unit {0}
+NeverLeaves h (a ∷ earlier) = (a.1 ≡ Leave h → ⊥) × NeverLeaves h earlier
+
+-- all is frozen still, for this holder, with the same levels closed and the same tree
+pub record IsFrozenStill (h : Holder) (before after : State) : Type 0 where
+  pub frozen : IsFrozenFor after h
+  pub passed : after.passed ≡ before.passed
+  pub tree : TreeStays before after

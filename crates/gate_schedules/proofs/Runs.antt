@@ -1,7 +1,24 @@
 -- Schedules, entry by entry.
-use Rattle.std.proofs.Common.{◌≡◌, List, [], ◌∷◌, ◌++◌, refl}
-use Rattle.gate_world.specs.{Worlds.{World, Entry, happens, run}, declared.config.Config.Config}
+use Rattle.std.proofs.Common.{◌≡◌, ℕ, List, [], ◌∷◌, ◌++◌, append_assoc, refl, sym, ap, ◌∙◌}
+use Rattle.std.specs.Prelude.{Option, Some, None}
+use Rattle.access_model.specs.{Histories.Done, declared.actions.Action.Action}
+use Rattle.gate_world.specs.{Worlds.{World, Entry, happens, run, history, with_action, action_of, task_of}, declared.config.Config.Config}
 
 pub run_more : (c : Config) (w : World) (es : List Entry) (e : Entry) → run c w (es ++ e ∷ []) ≡ happens c (run c w es) e
 run_more c w [] e = refl
 run_more c w (x ∷ es) e = run_more c (happens c w x) es e
+
+-- one action more, or none, goes before all earlier ones
+with_earlier : (t : ℕ) (a : Option Action) (earlier : List Done) → with_action t a earlier ≡ with_action t a [] ++ earlier
+with_earlier t None earlier = refl
+with_earlier t (Some a) earlier = refl
+
+-- the actions of a schedule go before all earlier ones
+pub history_on : (c : Config) (w : World) (earlier : List Done) (es : List Entry) → history c w earlier es ≡ history c w [] es ++ earlier
+history_on c w earlier [] = refl
+history_on c w earlier (e ∷ es) =
+    let next : World = happens c w e in
+    let one : List Done = with_action (task_of e) (action_of c w e) [] in
+    history_on c next (with_action (task_of e) (action_of c w e) earlier) es ∙
+    (ap (λ (l : List Done). history c next [] es ++ l) (with_earlier (task_of e) (action_of c w e) earlier) ∙
+    (sym (append_assoc (history c next [] es) one earlier) ∙ ap (λ (l : List Done). l ++ earlier) (sym (history_on c next one es))))

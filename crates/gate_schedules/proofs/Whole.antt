@@ -1,15 +1,15 @@
 -- What holds of every schedule from the opening on.
-use Rattle.std.{proofs.Common.{◌≡◌, ℕ, refl, sym, subst, ◌∙◌, ap, ◌<◌}, specs.Prelude.{Option, Some, None, Err, List, [], ◌∷◌, ◌++◌, false}}
-use Rattle.access_model.proofs.Closed.{closed}
-use Rattle.access_model.specs.{Laws.NobodyHoldsClosed, States.State}
-use Rattle.access_model.specs.declared.{actions.Action.Action, errors.GateError.GateError, replies.Next.Next}
+use Rattle.std.{proofs.Common.{◌≡◌, ℕ, refl, sym, subst, ◌∙◌, ap, ◌<◌}, specs.Prelude.{Option, Some, None, Err, List, [], ◌∷◌, ◌++◌, false, true}}
+use Rattle.access_model.proofs.{Closed.closed, Frozen.frozen_still}
+use Rattle.access_model.specs.{Histories.{Done, end_of, IsLegal}, Holders.held_by, Laws.{IsFrozenStill, NobodyHoldsClosed}, States.State}
+use Rattle.access_model.specs.declared.{actions.{Action.Action}, errors.GateError.GateError, replies.Next.Next}
 use Rattle.cpu_words.specs.Hooks.{HookAnswer}
 use Rattle.gate_world.specs.{Causes.{since_begun, HasCause, RefusalsHaveCauses, trail_of}, Configs.{IsWithin, model_limits}}
 use Rattle.gate_world.specs.Courses.{course_of, IsTraced, FollowsOrder, AllTraced}
 use Rattle.gate_world.specs.Headline.{world_after, actions_so_far, MovesTheModel, IsOneRun, NobodyIsInside, SumsHold, IdleSumsHold, NothingIsLeft}
-use Rattle.gate_world.specs.Headline.{FreezeIsUnderWay, HoldersAreTold, FrozenTreeIsWhole, SnapshotsStand, ViewTells, OperationsAreKept, LevelsLead}
-use Rattle.gate_world.specs.{Holdings.holdings_of, KeptCauses.CauseOf, Rules.IsGood, Traces.{Tells, actions_of}, Views.HoldsAsBefore}
-use Rattle.gate_world.specs.{Waits.{HasReason, EachWaitHasCulprit, HasCulpritAmong}, Work.after_of, Worlds.{World, Entry, opening, happens, run, found_at}}
+use Rattle.gate_world.specs.Headline.{FreezeIsUnderWay, HoldersAreTold, FrozenTreeIsWhole, FrozenTreeStays, SnapshotsStand, ViewTells, OperationsAreKept, LevelsLead}
+use Rattle.gate_world.specs.{Holdings.holdings_of, KeptCauses.CauseOf, Rules.IsGood, Shown.shown, Traces.{Tells, actions_of}, Views.HoldsAsBefore}
+use Rattle.gate_world.specs.{Waits.{HasReason, EachWaitHasCulprit, HasCulpritAmong}, Work.after_of, Worlds.{World, Entry, opening, happens, run, history, found_at}}
 use Rattle.gate_world.specs.declared.{config.Config.Config, operations.Op.Op, views.{Traced.Traced, View.View}, work.Phase.Phase}
 use Rattle.gate_schedules.proofs.operations.frames.{MayHolds.events_may_be, Traced.{opening_traced, entry_keeps}}
 use Rattle.gate_schedules.proofs.operations.{Frozen.frozen_whole, Layers.{phase_keeps, op_keeps}}
@@ -17,7 +17,7 @@ use Rattle.gate_schedules.proofs.Beginnings.{may_begin}
 use Rattle.gate_schedules.proofs.Between.{AllTold, entry_told, opening_told, holders_told}
 use Rattle.gate_schedules.proofs.Entries.{TrailHolds, trail_holds, begun_on}
 use Rattle.gate_schedules.proofs.Leads.{levels_lead}
-use Rattle.gate_schedules.proofs.Lists.{run_lists}
+use Rattle.gate_schedules.proofs.{Lists.run_lists, Runs.history_on}
 use Rattle.gate_schedules.proofs.Rests.{at_rest, a_freeze_is_under_way}
 use Rattle.gate_schedules.proofs.Schedule.{opening_good, opening_shown, happens_keeps, run_keeps, gate_sums, idle_sums}
 use Rattle.gate_schedules.proofs.Snapshots.{run_moments}
@@ -71,6 +71,21 @@ module _ (c : Config) (lim : IsWithin c) where
 
   pub whole_trees : (es : List Entry) → FrozenTreeIsWhole c (world_after c es)
   whole_trees es = frozen_whole c lim (world_after c es) (whole_rule es)
+
+  -- what was done until a world, and what was done since, is one legal history, so what is frozen there stays so
+  pub whole_stays : (es more : List Entry) → FrozenTreeStays c es more
+  whole_stays es more h held never =
+      let w : World = world_after c es in
+      let earlier : List Done = actions_so_far c es in
+      let first : IsOneRun c es = whole_run es in
+      let all = run_keeps c lim more w earlier (whole_rule es) first.legal first.end in
+      let between : List Done = history c w [] more in
+      let is : history c w earlier more ≡ between ++ earlier = history_on c w earlier more in
+      let legal : IsLegal (model_limits c) (between ++ earlier) = subst (λ (l : List Done). IsLegal (model_limits c) l) is all.1 in
+      let end : end_of (between ++ earlier) ≡ shown c (run c w more) = ap end_of (sym is) ∙ all.2 in
+      let own : held_by (end_of earlier).holders h ≡ true = ap (λ (s : State). held_by s.holders h) first.end ∙ held in
+      subst (λ (z : State × State). IsFrozenStill h z.0 z.1) (λ i. (first.end i, end i))
+      (frozen_still (model_limits c) h between earlier legal own never)
 
   pub whole_snapshots : (es : List Entry) → SnapshotsStand c (world_after c es)
   whole_snapshots es = snapshots_stand c (world_after c es) (whole_rule es)

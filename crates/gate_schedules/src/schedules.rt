@@ -5,7 +5,7 @@ ghost use Rattle.gate_world.specs.declared.config.Config.{Config};
 ghost use Rattle.gate_world.specs.Configs.{IsWithin};
 ghost use Rattle.gate_world.specs.Worlds.{Entry};
 ghost use Rattle.gate_world.specs.Rules.{IsGood};
-ghost use Rattle.gate_world.specs.Headline.{world_after, MovesTheModel, IsOneRun, NobodyIsInside, SumsHold, LevelsLead, IdleSumsHold, NothingIsLeft, FreezeIsUnderWay, HoldersAreTold, FrozenTreeIsWhole, SnapshotsStand, OperationsAreKept};
+ghost use Rattle.gate_world.specs.Headline.{world_after, MovesTheModel, IsOneRun, NobodyIsInside, SumsHold, LevelsLead, IdleSumsHold, NothingIsLeft, FreezeIsUnderWay, HoldersAreTold, FrozenTreeIsWhole, FrozenTreeStays, SnapshotsStand, OperationsAreKept};
 ghost use Rattle.gate_world.specs.Causes.{RefusalsHaveCauses};
 ghost use Rattle.gate_world.specs.LevelRuns.{LevelsAreRuns};
 ghost use Rattle.gate_world.specs.Waits.{EachWaitHasCulprit};
@@ -36,6 +36,8 @@ ghost use Rattle.gate_schedules.specs.operations.Ranks.{most_events_to_reply, mo
 ///   model; and whoever has loaded or stored it has it so until it gives `umount` back.
 /// - `trees`: at SB_FREEZE_COMPLETE the tree is sound and clean, whatever is under way: the blocks charged are those of all files, the
 ///   children charged to each node are those that it has, each parent is a directory, and no file is dirty.
+/// - `stays`: and it stays: from a world in which the kernel or user space holds a freeze on, until it leaves, the stage is SB_FREEZE_COMPLETE, the
+///   levels closed are the same, and so is the tree, each node with its kind, its parent, its size and its marks, whatever entries come.
 /// - `snapshots`: from its load of that stage to its release a snapshot stands in a frozen tree: the stage stays, and each word of the tree
 ///   that it has loaded is still what it was, but for how many tasks have files open.
 /// - `levels`: what a schedule makes of each freeze level is a run of it, so its grace periods are kept: a writer that is past one had a whole
@@ -81,6 +83,7 @@ pub fn every_schedule()
     ensures freezes { (c : Config) → IsWithin c → (entries : List Entry) → FreezeIsUnderWay c (world_after c entries) }
     ensures holders { (c : Config) → IsWithin c → (entries : List Entry) → HoldersAreTold c (world_after c entries) }
     ensures trees { (c : Config) → IsWithin c → (entries : List Entry) → FrozenTreeIsWhole c (world_after c entries) }
+    ensures stays { (c : Config) → IsWithin c → (entries more : List Entry) → FrozenTreeStays c entries more }
     ensures snapshots { (c : Config) → IsWithin c → (entries : List Entry) → SnapshotsStand c (world_after c entries) }
     ensures levels { (c : Config) → IsWithin c → (entries : List Entry) → LevelsAreRuns c entries }
     ensures operations { (c : Config) → IsWithin c → (entries : List Entry) (t : ℕ) → OperationsAreKept c entries t }

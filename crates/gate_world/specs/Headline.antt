@@ -1,7 +1,8 @@
 -- The headline: what holds of every schedule.
-use Rattle.std.specs.Prelude.{◌≡◌, ℕ, ◌%◌, ◌<◌, ◌≤◌, ◌==◌, ◌⊎◌, Bool, false, if◌then◌else◌, Option, Some, None, Err, List, [], ◌+◌}
+use Rattle.std.specs.Prelude.{◌≡◌, ℕ, ◌%◌, ◌<◌, ◌≤◌, ◌==◌, ◌⊎◌, Bool, true, false, if◌then◌else◌, Option, Some, None, Err, List, [], ◌+◌}
 use Rattle.finite_sums.specs.Sums.{total}
-use Rattle.access_model.specs.{Histories.{Done, end_of, IsLegal, IsMerge}, Laws.NobodyHoldsClosed, States.{is_removed, one_if}}
+use Rattle.access_model.specs.{Histories.{Done, end_of, IsLegal, IsMerge}, Laws.{NobodyHoldsClosed, NeverLeaves, IsFrozenStill}, Holders.held_by, States.{is_removed, one_if}}
+use Rattle.access_model.specs.declared.actions.Holder.{Holder}
 use Rattle.access_model.specs.declared.{errors.GateError.GateError, replies.Next.TheVariants.Done as Ended}
 use Rattle.cpu_words.specs.{Sums.lead, declared.{events.Touch.{Touch, TheVariants.Store}, names.WordName.{WordName, TheVariants.Holders}}}
 use Rattle.cpu_words.specs.gate_counts.{Gates.{counted as counted_of, unread}, Levels.{Summing, level_as_gate}}
@@ -86,6 +87,17 @@ TreeIsClean c w = IsClean c.nodes (shown c w).tree
 -- At stage 4 the tree is sound and clean: nobody is under way who has charged anything, or could make a file dirty.
 abbrev pub FrozenTreeIsWhole : Config → World → Type 0
 FrozenTreeIsWhole c w = w.words.stage ≡ 4 → TreeIsSound c w × TreeIsClean c w
+
+-- the actions that entries add which come after a schedule, the newest first
+abbrev pub actions_since : Config → List Entry → List Entry → List Done
+actions_since c entries more = history c (world_after c entries) [] more
+
+-- From a world in which the shown model has this holder hold a freeze on, whatever entries come, until it leaves: all stays frozen for it, with the
+-- same levels closed and the same tree, each node with its kind, its parent, its size and its marks. Which files are open may change.
+abbrev pub FrozenTreeStays : Config → List Entry → List Entry → Type 0
+FrozenTreeStays c entries more =
+    (h : Holder) → held_by (shown c (world_after c entries)).holders h ≡ true → NeverLeaves h (actions_since c entries more) →
+    IsFrozenStill h (shown c (world_after c entries)) (shown c (run c (world_after c entries) more))
 
 -- From its load of stage 4 to its release a snapshot stands in a frozen tree: each word of the tree that it has loaded is still what it
 -- was, but for how many tasks have files open.

@@ -2,7 +2,7 @@
 use Rattle.gate_schedules.proofs.Deadlocks.{whole_progress, whole_replies, whole_settles, whole_kept}
 use Rattle.gate_schedules.proofs.LevelRuns.{whole_levels}
 use Rattle.gate_schedules.proofs.Whole.{whole_run, whole_moves, whole_nobody, whole_causes, whole_waits, whole_sums, whole_idle, whole_rests, whole_freezes}
-use Rattle.gate_schedules.proofs.Whole.{whole_holders, whole_trees, whole_snapshots, whole_operations, whole_leads}
+use Rattle.gate_schedules.proofs.Whole.{whole_holders, whole_trees, whole_stays, whole_snapshots, whole_operations, whole_leads}
 use Rattle.gate_schedules.proofs.schedules.every_schedule.Goals as goal
 
 pub returns-clause-moves : goal.returns-clause-moves
@@ -34,6 +34,9 @@ returns-clause-holders c = whole_holders
 
 pub returns-clause-trees : goal.returns-clause-trees
 returns-clause-trees c = whole_trees
+
+pub returns-clause-stays : goal.returns-clause-stays
+returns-clause-stays c = whole_stays
 
 pub returns-clause-snapshots : goal.returns-clause-snapshots
 returns-clause-snapshots c = whole_snapshots
