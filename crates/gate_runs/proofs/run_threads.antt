@@ -1,2 +1,3 @@
 pub mod Homes
 pub mod Staying
+pub mod Resting

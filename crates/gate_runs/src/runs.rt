@@ -1,8 +1,8 @@
 //! A run: writers, a remounter and a backup, each in a thread of its own.
 
 ghost use Rattle.std.specs.Prelude.{◌≡◌, IfErr, IfOk, OnOk};
-ghost use Rattle.access_model.specs.declared.errors.GateError.TheVariants.{Invalid, Order};
-ghost use Rattle.gate_runs.specs.run_parts.Ended.{EndedWith};
+ghost use Rattle.access_model.specs.declared.errors.GateError.TheVariants.{Invalid};
+ghost use Rattle.gate_runs.specs.run_parts.Ended.{EndedWith, HasAll};
 ghost use Rattle.gate_runs.specs.run_parts.TaskStates.{IsFrom};
 ghost use Rattle.run_plans.specs.declared.counts.Details.{Details as DetailsType};
 ghost use Rattle.gate_runs.specs.run_parts.Meetings.{unseen};
@@ -35,16 +35,16 @@ fn held_in(closed: &Closed) -> u64
     held
 }
 
-/// Closes the gates, where the task is the only one left.
-fn close(gates: Gates, task: Task) -> Result<Closed, GateError>
-    requires { IsFrom task gates }
-    ensures closed { IfOk result (λ c. (c.config ≡ gates.words.config) × EndedWith c.config c.words task.items) }
-    ensures refused { IfErr result (λ e. e ≡ Order) }
+/// Closes the gates: the task is the only one left, and rests.
+fn close(gates: Gates, task: Task) -> Closed
+    requires from { IsFrom task gates }
+    requires all { HasAll task }
+    ensures { (result.config ≡ gates.words.config) × EndedWith result.config result.words task.items }
 {
-    match gates.close(task) {
-        Ok(closed) => Ok(closed),
-        Err((refusal, _, _)) => Err(refusal),
-    }
+    let Ok(closed) = gates.close(task) else {
+        unreachable!()
+    };
+    closed
 }
 
 /// The same as `run_with`, of numbers that are within their limits: makes the gates and their files, does the plan in threads, and closes
@@ -67,7 +67,7 @@ pub fn run_plan<R: Threads + Wait + Sync, W: Watch + Sync>(
         Ok(ended) => ended,
         Err(refusal) => return Err(refusal),
     };
-    let closed = close(gates, task)?;
+    let closed = close(gates, task);
     let totals = Totals {
         grown: closed.word(WordName::Used).unwrap_or(0),
         frozen: u64::from(details.copies.frozen),
@@ -87,7 +87,8 @@ pub fn run_plan<R: Threads + Wait + Sync, W: Watch + Sync>(
 ///
 /// Invalid where a number is out of its limits. NoMemory where a growth was refused or a thread couldn't be started: those that were
 /// started have ended then. Any other refusal is the first one that a task met which the run doesn't expect, and ends it too: that of a call
-/// of it (so Invalid, where a snapshot or a thaw found nothing frozen), or Order, where a task that came back held something.
+/// of it (so Invalid, where a snapshot or a thaw found nothing frozen). Each task that has done its part rests, so it is joined, and the gates
+/// are closed, without a refusal.
 pub fn run_with<R: Threads + Wait + Sync, M: Meeting + Sync>(
     rt: &R,
     alloc: Global,

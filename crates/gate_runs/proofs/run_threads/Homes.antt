@@ -1,9 +1,8 @@
 -- What a task that came home has done, once its number was taken back, and what all have done together.
-use Rattle.std.proofs.Common.{◌≡◌, ℕ, suc, ◌+◌, ◌-◌, subst, arith, inl, inr}
+use Rattle.std.proofs.Common.{◌≡◌, ℕ, suc, ◌+◌, ◌-◌, subst, arith, inr}
 use Rattle.std.specs.Prelude.{Result, Ok, Err, IfErr, IfOk, OnOk}
 use Rattle.std.specs.Result.{result_and}
 use Rattle.access_model.specs.declared.errors.GateError.{GateError}
-use Rattle.access_model.specs.declared.errors.GateError.TheVariants.{Order}
 use Rattle.gate_world.specs.declared.config.Config.{Config}
 use Rattle.run_plans.specs.declared.counts.Remounts.{Remounts}
 use Rattle.run_plans.specs.declared.counts.Writes.{Writes}
@@ -16,6 +15,7 @@ use Rattle.gate_runs.specs.declared.run_threads.threads.Met.TheVariants.{Remount
 use Rattle.gate_runs.specs.run_threads.Homes.{ComesHome, DoesRounds, Part}
 use Rattle.gate_runs.specs.run_threads.Parts.{Among, Remounted, Wrote, AllWrote}
 use Rattle.gate_runs.proofs.run_threads.Staying.{TookBack, all_wrote_before, all_wrote_on, remounted_on, remounter_part, writer_part}
+use Rattle.vfs_gates.specs.Held.{Rests}
 use Rattle.vfs_gates.specs.declared.Gates.{Gates}
 use Rattle.gate_runs.specs.run_parts.Splitting.{HasBegun}
 use Rattle.gate_runs.specs.run_parts.TaskStates.{TaskState}
@@ -42,13 +42,19 @@ came_home held gates plan number last old new (Err e) home took = tt
 pub home_refused : (held : ℕ → ℕ → Type 0) (gates : Gates) (plan : Plan) (number : ℕ) (last : TaskState) (met : Result Met GateError) →
     ComesHome held gates plan number last met → IfErr met (RunRefused gates.words.config plan.tasks plan.processors)
 home_refused held gates plan number last (Ok m) home = tt
-home_refused held gates plan number last (Err e) home = inr (inr home.2)
+home_refused held gates plan number last (Err e) home = inr home.2
 
--- and where it holds something that isn't taken back
-pub not_taken_back : (config : Config) (tasks processors : ℕ) (refusal : GateError) (met : Result Met GateError) → refusal ≡ Order →
-    IfErr met (RunRefused config tasks processors) → IfErr {T = Met} (result_and met (Err refusal)) (RunRefused config tasks processors)
-not_taken_back config tasks processors refusal (Ok m) is home = inr (inl is)
-not_taken_back config tasks processors refusal (Err e) is home = home
+-- it rests, unless it was refused: so where it isn't taken back, it was
+pub home_rests : (held : ℕ → ℕ → Type 0) (gates : Gates) (plan : Plan) (number : ℕ) (last : TaskState) (met : Result Met GateError) →
+    ComesHome held gates plan number last met → OnOk met (Rests last)
+home_rests held gates plan number last (Ok m) home = home.1.3
+home_rests held gates plan number last (Err e) home = tt
+
+pub not_taken_back : (config : Config) (tasks processors : ℕ) (refusal : GateError) (other : TaskState) (met : Result Met GateError) →
+    OnOk met (Rests other) → (Rests other → ⊥) → IfErr met (RunRefused config tasks processors) →
+    IfErr {T = Met} (result_and met (Err refusal)) (RunRefused config tasks processors)
+not_taken_back config tasks processors refusal other (Ok m) rests held home = absurd (held rests)
+not_taken_back config tasks processors refusal other (Err e) rests held home = home
 
 -- then it told nothing of what it met
 pub is_not_done : (P : Type 0) (met : Result Met GateError) (refusal : GateError) → OnOk {T = Met} (result_and met (Err refusal)) P

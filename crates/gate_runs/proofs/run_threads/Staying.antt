@@ -1,5 +1,5 @@
 -- What calls of its own leave a task, and what it is among others in the end.
-use Rattle.std.proofs.Common.{◌≡◌, ℕ, zero, suc, ◌+◌, ◌-◌, ◌≤◌, List, [], ◌∷◌, ◌++◌, length, refl, ap, sym, subst, ◌∙◌, arith, inl, inr}
+use Rattle.std.proofs.Common.{◌≡◌, ℕ, zero, suc, ◌+◌, ◌-◌, ◌<◌, ◌≤◌, List, [], ◌∷◌, ◌++◌, length, refl, ap, sym, subst, ◌∙◌, arith, inl, inr}
 use Rattle.std.specs.Prelude.{Option, Some, None, Result}
 use Rattle.access_model.specs.declared.errors.GateError.{GateError}
 use Rattle.access_model.specs.declared.errors.GateError.TheVariants.{ReadOnly}
@@ -9,6 +9,7 @@ use Rattle.gate_world.specs.declared.operations.Op.{Op}
 use Rattle.gate_world.specs.declared.operations.Op.TheVariants.{WantWrite}
 use Rattle.gate_world.specs.declared.views.Traced.{Traced}
 use Rattle.gate_world.specs.declared.views.View.{View}
+use Rattle.std.proofs.lemmas.Bool.{eq-eqb}
 use Rattle.gate_runs.specs.run_parts.Seating.{SeatItems, HaveViews, numbered, times}
 use Rattle.gate_runs.specs.run_parts.TaskStates.{TaskState, own_number, own_view, spare_of, refusal_at}
 use Rattle.gate_runs.specs.run_parts.Runs.{Replies, ran_items}
@@ -280,3 +281,30 @@ gives_stay first last from count stayed gives = record {
   earlier = λ k low. ap (times k) stayed.spare ∙ gives.earlier k low;
   nothing = subst HaveDoneNothing (sym stayed.spare) gives.nothing;
 }
+
+-- who stands among these numbers is counted there
+among_counted : (items : SeatItems) (s : TaskState) (n : ℕ) → own_number s.items ≡ n → Among items s → 1 ≤ times n items
+among_counted [] s n own h = absurd h
+among_counted (x ∷ xs) s n own (inl is) =
+    let here : x.number ≡ n = ap (λ y. y.number) is ∙ own in rw (eq-eqb x.number n here) (omega arith)
+among_counted (x ∷ xs) s n own (inr h) = let more = among_counted xs s n own h in omega arith
+
+-- each of a list, by its place
+each_at : {A : Type 0} (Is : ℕ → A → Type 0) (n : ℕ) (xs : List A) → EachFrom Is n xs → (k : ℕ) → k < length xs → (x : A) × Is (n + k) x
+each_at Is n [] each k lt = absurd (omega arith)
+each_at Is n (x ∷ xs) each zero lt = let e : n ≡ n + zero = omega arith in (x, subst (λ j. Is j x) e each.0)
+each_at Is n (x ∷ xs) each (suc k) lt =
+    let e : suc n + k ≡ n + suc k = omega arith in
+    let rest = each_at Is (suc n) xs each.1 k (omega arith) in (rest.0, subst (λ j. Is j rest.0) e rest.1)
+
+-- so where all have done their part, all numbers are back
+pub all_back : (items : SeatItems) (held : ℕ → ℕ → Type 0) (seen : ℕ → Type 0) (tasks processors rounds freezes : ℕ) (details : Details) → 3 ≤ tasks →
+    AllDid (Among items) held seen tasks processors rounds freezes details → (n : ℕ) → n < tasks → 1 ≤ times n items
+all_back items held seen tasks processors rounds freezes details some did zero lt =
+    among_counted items did.backup.last 0 did.backup.own did.backup.ends
+all_back items held seen tasks processors rounds freezes details some did (suc zero) lt =
+    among_counted items did.remounter.last 1 did.remounter.own did.remounter.ends
+all_back items held seen tasks processors rounds freezes details some did (suc (suc k)) lt =
+    let place : k < length did.writers.each = omega (arith, did.writers.all) in
+    let wrote = each_at (λ writer. Wrote (Among items) (was_held held) processors rounds writer tt tt) 0 did.writers.each did.writers.parts k place in
+    among_counted items wrote.1.last (suc (suc k)) (wrote.1.own ∙ omega arith) wrote.1.ends

@@ -3,7 +3,7 @@ use Rattle.std.specs.Prelude.{◌≡◌, ℕ, ◌+◌, ◌<◌, ◌≤◌, ◌�
 use Rattle.access_model.specs.declared.actions.Holder.TheVariants.{User}
 use Rattle.access_model.specs.declared.actions.Kind.TheVariants.{File}
 use Rattle.access_model.specs.declared.errors.GateError.{GateError}
-use Rattle.access_model.specs.declared.errors.GateError.TheVariants.{NoMemory, Order}
+use Rattle.access_model.specs.declared.errors.GateError.TheVariants.{NoMemory}
 use Rattle.gate_world.specs.declared.config.Config.{Config}
 use Rattle.gate_world.specs.declared.operations.Op.{Op}
 use Rattle.gate_world.specs.declared.operations.Op.TheVariants.{ChangeMount, WantWrite, DropWrite, Callback, Freeze, Thaw, Create, Grow, Snapshot}
@@ -36,7 +36,6 @@ pub record MetBy (config : Config) (tasks processors : ℕ) (refusal : GateError
   pub its : IsRunCall tasks processors op
   pub was : WasRefused config op refusal
 
--- memory or a thread was refused; or a task that came back, or was left at the end, didn't rest; or a call of a task was refused so
+-- memory or a thread was refused; or a call of a task was refused so
 abbrev pub RunRefused : Config → ℕ → ℕ → GateError → Type 0
-RunRefused config tasks processors refusal =
-    (refusal ≡ NoMemory) ⊎ ((refusal ≡ Order) ⊎ MetBy config tasks processors refusal)
+RunRefused config tasks processors refusal = (refusal ≡ NoMemory) ⊎ MetBy config tasks processors refusal

@@ -9,6 +9,7 @@ use Rattle.gate_runs.specs.run_parts.Rounds.{RemountRound, Repeats, WriterRound}
 use Rattle.gate_runs.specs.declared.run_threads.threads.Met.{Met}
 use Rattle.gate_runs.specs.declared.run_threads.threads.Met.TheVariants.{Remounter, Writer}
 use Rattle.gate_runs.specs.run_threads.Parts.{Remounted, Wrote}
+use Rattle.vfs_gates.specs.Held.{Rests}
 use Rattle.vfs_gates.specs.declared.Gates.{Gates}
 use Rattle.gate_runs.specs.run_parts.Splitting.{HasBegun}
 use Rattle.gate_runs.specs.run_parts.TaskStates.{IsFrom, TaskState}
@@ -20,10 +21,11 @@ DoesRounds held processors rounds number first last (Remounter met) =
 DoesRounds held processors rounds number first last (Writer met) = (writer : ℕ) × (number ≡ writer + 2)
     × Repeats (WriterRound (was_held held) processors writer) rounds (first, tt, no_writes) (last, tt, met)
 
--- it comes back to these gates, and has done all its rounds since it began, unless a call of it was refused so
+-- it comes back to these gates, and has done all its rounds since it began, and rests, unless a call of it was refused so
 abbrev pub ComesHome : (ℕ → ℕ → Type 0) → Gates → Plan → ℕ → TaskState → Result Met GateError → Type 0
 ComesHome held gates plan number last met = IsFrom last gates
-    × IfOk met (λ m. (first : TaskState) × HasBegun number first × DoesRounds held plan.processors plan.rounds number first last m)
+    × IfOk met (λ m. (first : TaskState) × HasBegun number first × DoesRounds held plan.processors plan.rounds number first last m
+    × Rests last)
     × IfErr met (MetBy gates.words.config plan.tasks plan.processors)
 
 -- what it has done of a run, and met, and how it stands at the end

@@ -1,6 +1,6 @@
 //! The threads of a run: started, and joined.
 
-ghost use Rattle.std.specs.Prelude.{◌≡◌, ◌+◌, ◌-◌, ◌<◌, ◌≤◌, [], IfErr, IfOk, OnOk, vec_len};
+ghost use Rattle.std.specs.Prelude.{◌≡◌, ◌+◌, ◌-◌, ◌<◌, ◌≤◌, [], IfErr, IfOk, OnOk, length, vec_len};
 ghost use Rattle.access_model.specs.declared.errors.GateError.TheVariants.{NoMemory};
 ghost use Rattle.gate_runs.specs.run_threads.Homes.{ComesHome, DoesRounds, Part};
 ghost use Rattle.gate_runs.specs.run_threads.Parts.{AllDid, AllWrote, Among, EachFrom, Remounted};
@@ -8,6 +8,7 @@ ghost use Rattle.gate_runs.specs.run_parts.Meetings.{was_held};
 ghost use Rattle.gate_runs.specs.run_parts.Refusals.{MetBy, RunRefused};
 ghost use Rattle.gate_runs.specs.run_parts.Splitting.{Gives, HasBegun};
 ghost use Rattle.gate_runs.specs.run_parts.TaskStates.{IsFrom, TaskState, own_view};
+ghost use Rattle.vfs_gates.specs.Held.{Rests};
 
 use crate::run_parts::{Gates, Task, back_up, create_files, remount, write};
 use access_model::GateError;
@@ -34,8 +35,8 @@ struct Worked {
     met: Result<Met, GateError>,
 }
 
-/// The promise of a thread: its task comes back to these gates, and has done all its rounds since it began, in which it met what it tells, unless
-/// a call of it was refused so.
+/// The promise of a thread: its task comes back to these gates, and has done all its rounds since it began, in which it met what it tells, and rests,
+/// unless a call of it was refused so.
 struct Home<'g, W> {
     gates: &'g Gates,
     plan: Plan,
@@ -72,8 +73,9 @@ fn work<R: Wait, W: Watch>(
 ) -> Result<Met, GateError>
     requires from { IsFrom task.old gates.now }
     requires number { (1 ≤ number) × (number < plan.tasks) }
+    requires rests { Rests task.old }
     ensures from { IsFrom task.new gates.now }
-    ensures does { IfOk result (DoesRounds (W.held watch.now) plan.processors plan.rounds number task.old task.new) }
+    ensures does { IfOk result (λ m. DoesRounds (W.held watch.now) plan.processors plan.rounds number task.old task.new m × Rests task.new) }
     ensures refused { IfErr result (MetBy gates.now.words.config plan.tasks plan.processors) }
 {
     if number == REMOUNTER {
@@ -98,7 +100,9 @@ fn start_worker<'s, E, R: Wait + Sync, W: Watch + Sync>(
     requires from { IsFrom task.old gates.now }
     requires gives { Gives task.old number plan.tasks }
     requires number { (1 ≤ number) × (number < plan.tasks) }
+    requires rests { Rests task.old }
     ensures from { IsFrom task.new gates.now }
+    ensures rests { OnOk result (Rests task.new) }
     ensures same { OnOk result (own_view task.new.items ≡ own_view task.old.items) }
     ensures gives { OnOk result (Gives task.new (number + 1) plan.tasks) }
     ensures home { IfOk result (λ w. (w.promise.gates.now ≡ gates.now) × (w.promise.plan ≡ plan) × (w.promise.watch.now ≡ watch.now)
@@ -118,6 +122,7 @@ fn start_worker<'s, E, R: Wait + Sync, W: Watch + Sync>(
         requires from { IsFrom other gates.now }
         requires begun { HasBegun number other }
         requires number { (1 ≤ number) × (number < plan.tasks) }
+        requires rests { Rests other }
         ensures { ComesHome (W.held watch.entry.now) gates.entry.now plan number result.task result.met }
     {
         let mut task = other;
@@ -144,7 +149,9 @@ fn start_workers<'s, E, R: Wait + Sync, W: Watch + Sync>(
     requires from { IsFrom task.old gates.now }
     requires gives { Gives task.old 1 plan.tasks }
     requires none { workers.old.items ≡ [] }
+    requires rests { Rests task.old }
     ensures from { IsFrom task.new gates.now }
+    ensures rests { OnOk result (Rests task.new) }
     ensures same { OnOk result (own_view task.new.items ≡ own_view task.old.items) }
     ensures gives { OnOk result (Gives task.new plan.tasks plan.tasks) }
     ensures all { OnOk result (vec_len workers.new ≡ plan.tasks - 1) }
@@ -164,7 +171,7 @@ fn start_workers<'s, E, R: Wait + Sync, W: Watch + Sync>(
     Ok(())
 }
 
-/// Joins a thread, and takes its task's number back. Tells what it met, or why it was refused.
+/// Joins a thread, and takes its task's number back: both tasks rest, unless a call of it was refused. Tells what it met, or why it was refused.
 fn join_worker<R: Threads, W: Watch>(
     rt: &R,
     gates: &Gates,
@@ -173,7 +180,10 @@ fn join_worker<R: Threads, W: Watch>(
 ) -> Result<Met, GateError>
     requires from { IsFrom task.old gates.now }
     requires home { worker.promise.gates.now ≡ gates.now }
+    requires rests { Rests task.old }
+    requires there { 1 ≤ length task.old.items }
     ensures from { IsFrom task.new gates.now }
+    ensures rests { OnOk result (Rests task.new × (1 ≤ length task.new.items)) }
     ensures others { OnOk result ((s : TaskState) → Among task.old.items s → Among task.new.items s) }
     ensures part { IfOk result (Part (Among task.new.items) (W.held worker.entry.promise.watch.now)
         worker.entry.promise.plan.processors worker.entry.promise.plan.rounds worker.entry.promise.number) }
@@ -200,7 +210,10 @@ fn join_workers<R: Threads, W: Watch>(
     requires homes { EachFrom
         (λ place w. (w.promise.gates.now ≡ gates.now) × (w.promise.plan ≡ _plan) × (w.promise.watch.now ≡ _watch.now)
         × (w.promise.number ≡ place + 1)) 0 workers.old.items }
+    requires rests { Rests task.old }
+    requires there { 1 ≤ length task.old.items }
     ensures from { IsFrom task.new gates.now }
+    ensures rests { OnOk result (Rests task.new) }
     ensures others { OnOk result ((s : TaskState) → Among task.old.items s → Among task.new.items s) }
     ensures remounted { IfOk result (λ met. Remounted (Among task.new.items) _plan.rounds met.0) }
     ensures wrote { IfOk result (λ met. AllWrote (Among task.new.items) (was_held (W.held _watch.now)) _plan.processors _plan.rounds
@@ -234,6 +247,7 @@ fn run_threads<'s, E, R: Threads + Wait + Sync, W: Watch + Sync>(
     requires gives { Gives task.old 1 plan.tasks }
     requires none { workers.old.items ≡ [] }
     ensures from { IsFrom task.new gates.now }
+    ensures rests { OnOk result (Rests task.new) }
     ensures copies { IfOk result (λ d. (d.copies.frozen ≡ plan.freezes) × (d.copies.snapshots ≡ plan.freezes)) }
     ensures all { IfOk result (AllDid (Among task.new.items) (W.held watch.now) (W.seen watch.now) plan.tasks plan.processors plan.rounds
         plan.freezes) }
@@ -264,6 +278,7 @@ pub fn in_threads<R: Threads + Wait + Sync, W: Watch + Sync>(
     requires begins { HasBegun 0 task }
     requires gives { Gives task 1 plan.tasks }
     ensures from { IfOk result (λ r. IsFrom r.0 gates.now) }
+    ensures rests { IfOk result (λ r. Rests r.0) }
     ensures copies { IfOk result (λ r. (r.1.copies.frozen ≡ plan.freezes) × (r.1.copies.snapshots ≡ plan.freezes)) }
     ensures all { IfOk result (λ r. AllDid (Among r.0.items) (W.held watch.now) (W.seen watch.now) plan.tasks plan.processors plan.rounds
         plan.freezes r.1) }
@@ -277,6 +292,7 @@ pub fn in_threads<R: Threads + Wait + Sync, W: Watch + Sync>(
             requires begins { HasBegun 0 task }
             requires gives { Gives task 1 plan.tasks }
             ensures from { IfOk result (λ r. IsFrom r.0 gates.entry.now) }
+            ensures rests { IfOk result (λ r. Rests r.0) }
             ensures copies { IfOk result (λ r. (r.1.copies.frozen ≡ plan.freezes) × (r.1.copies.snapshots ≡ plan.freezes)) }
             ensures all { IfOk result (λ r. AllDid (Among r.0.items) (W.held watch.entry.now) (W.seen watch.entry.now) plan.tasks plan.processors
                 plan.rounds plan.freezes r.1) }

@@ -1,19 +1,18 @@
 -- what the threads did is what their tasks' numbers have in the end
-use Rattle.std.proofs.Common.{◌≡◌, ℕ, inl, inr, sym, ◌*◌, ◌-◌, ◌≤◌, arith, subst, ap, ◌∙◌}
+use Rattle.std.proofs.Common.{◌≡◌, ℕ, inl, sym, ◌*◌, ◌-◌, ◌≤◌, arith, subst, ap, ◌∙◌}
 use Rattle.std.specs.Prelude.{slice_index, unwrap_or}
 use Rattle.cpu_words.specs.Names.{place, stride}
 use Rattle.cpu_words.specs.declared.names.WordName.TheVariants.{Used}
 use Rattle.gate_world.specs.declared.config.Config.{Config}
 use Rattle.gate_runs.specs.run_parts.TaskStates.{TaskState}
 use Rattle.std.proofs.lemmas.Nat.{mul-le}
-use Rattle.std.proofs.lemmas.Result.{err_from_is_err_and}
 use Rattle.gate_world.specs.Configs.{IsWithin}
 use Rattle.gate_runs.specs.run_threads.Parts.{Among, EndsAs}
 use Rattle.run_plans.specs.Plans.{MayRun, run_config}
 use Rattle.gate_runs.specs.run_parts.Refusals.{RunRefused}
 use Rattle.gate_runs.specs.run_parts.Splitting.{Gives, HasBegun}
 use Rattle.gate_runs.proofs.run_parts.Splitting.{first_begins, gives_all}
-use Rattle.gate_runs.proofs.run_threads.Staying.{all_did_on, ends_as}
+use Rattle.gate_runs.proofs.run_threads.Staying.{all_back, all_did_on, ends_as}
 use Rattle.gate_runs.proofs.runs.run_plan.Goals as goal
 
 pub in_threads-requires-clause-begins : goal.in_threads-requires-clause-begins
@@ -35,10 +34,10 @@ in_threads-requires-clause-gives g c =
 
 pub returns-clause-tells : goal.returns-clause-tells
 returns-clause-tells g c =
-    let closed = c.in_ok-closed.ensures.closed in
+    let closed = c.close-closed.ensures in
     let items = c.in-Ok-in_threads.ended.0.items in
     let views = closed.1.ended.world.views in
-    let grown : c.unwrap_or.result ≡ slice_index c.in_ok-closed.closed.words (stride * place Used) =
+    let grown : c.unwrap_or.result ≡ slice_index c.close-closed.result.words (stride * place Used) =
     c.unwrap_or.ensures ∙ ap (λ o. unwrap_or o 0) (c.word.ensures.there tt) in
     record {
       config = closed.0 ∙ (c.in-Ok.ensures.made.0 ∙ c.config.ensures);
@@ -77,7 +76,12 @@ returns-in-Err-in_threads-clause-refused g c =
     subst (λ (d : Config). RunRefused d c.args.plan.tasks c.args.plan.processors c.in-Err-in_threads.refusal)
     (c.in-Ok.ensures.made.0 ∙ c.config.ensures) c.in-Err-in_threads.ensures.refused
 
-pub returns-in_err-closed-clause-refused : goal.returns-in_err-closed-clause-refused
-returns-in_err-closed-clause-refused g c =
-    let p = err_from_is_err_and c.from_residual.result c.from_residual.ensures.1 in
-    rw (p.1, p.2) (inr (inl c.in_err-closed.ensures.refused))
+-- all numbers are back
+pub close-closed-requires-clause-all : goal.close-closed-requires-clause-all
+close-closed-requires-clause-all g c =
+    let ended = c.in-Ok-in_threads.ensures in
+    let task = c.in-Ok-in_threads.ended.0 in
+    let tasks : task.config.tasks ≡ c.args.plan.tasks =
+    ap (λ (d : Config). d.tasks) (ended.from.1 ∙ (c.in-Ok.ensures.made.0 ∙ c.config.ensures)) in
+    let all = all_back task.items _ _ c.args.plan.tasks _ _ _ c.in-Ok-in_threads.ended.1 c.args.plan.within.tasks_from ended.all in
+    (ended.rests.0, ended.rests.1, λ n lt. all n (omega (arith, tasks, lt)))

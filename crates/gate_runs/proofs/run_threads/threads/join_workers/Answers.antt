@@ -17,6 +17,8 @@ join_worker-requires-clause-home g c = (each_popped _ _ c.pop.new.self.items c.i
 pub loop-worker-init : goal.loop-worker-init
 loop-worker-init g c = record {
   from = c.requires.from;
+  rests = c.requires.rests;
+  there = c.requires.there;
   homes = c.requires.homes;
   others = λ s h. h;
   parts = record {
@@ -44,6 +46,8 @@ loop-worker-preserved-in-Remounter g c =
     (subst (λ v. Part ends (g.W.Watch.held v) promise.plan.processors promise.plan.rounds promise.number its) popped.1.2 joined.part)) in
     record {
       from = joined.from;
+      rests = joined.rests.0;
+      there = joined.rests.1;
       homes = popped.0;
       others = λ s h. joined.others s (before.others s h);
       parts = joined_remounter ends held plan.processors plan.rounds (vec_len c.loop-worker.workers) (vec_len c.pop.new.self) count promise.number
@@ -71,6 +75,8 @@ loop-worker-preserved g c =
     (subst (λ v. Part ends (g.W.Watch.held v) promise.plan.processors promise.plan.rounds promise.number its) popped.1.2 joined.part)) in
     record {
       from = joined.from;
+      rests = joined.rests.0;
+      there = joined.rests.1;
       homes = popped.0;
       others = λ s h. joined.others s (before.others s h);
       parts = joined_writer ends held plan.processors plan.rounds (vec_len c.loop-worker.workers) (vec_len c.pop.new.self) count promise.number

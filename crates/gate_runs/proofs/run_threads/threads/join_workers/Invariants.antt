@@ -1,6 +1,7 @@
 -- All threads that were joined are those of the last tasks, and each of these has done its part, with what they met together.
-use Rattle.std.proofs.Common.{◌≡◌, ◌+◌, ◌-◌, vec_len}
+use Rattle.std.proofs.Common.{◌≡◌, ◌+◌, ◌-◌, ◌≤◌, length, vec_len}
 use Rattle.gate_runs.specs.run_parts.TaskStates.{IsFrom, TaskState}
+use Rattle.vfs_gates.specs.Held.{Rests}
 use Rattle.gate_runs.specs.run_threads.Parts.{Among, EachFrom}
 use Rattle.gate_runs.proofs.run_threads.Homes.{Joined}
 use Rattle.gate_runs.proofs.run_threads.threads.join_workers.Given as goal
@@ -8,6 +9,8 @@ use Rattle.gate_runs.proofs.run_threads.threads.join_workers.Given as goal
 abbrev pub invariant-loop-worker : goal.invariant-loop-worker
 invariant-loop-worker g l = record {
   from : IsFrom l.task l.fn.gates;
+  rests : Rests l.task;
+  there : 1 ≤ length l.task.items;
   homes : EachFrom
       (λ place w. (w.promise.gates.now ≡ l.fn.gates) × (w.promise.plan ≡ l.fn._plan) × (w.promise.watch.now ≡ l.fn._watch)
       × (w.promise.number ≡ place + 1)) 0 l.workers.items;

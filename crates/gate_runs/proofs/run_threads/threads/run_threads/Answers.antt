@@ -5,6 +5,8 @@ use Rattle.gate_runs.specs.run_parts.Splitting.{Gives}
 use Rattle.gate_runs.specs.run_parts.Counts.{no_copies}
 use Rattle.gate_runs.specs.run_parts.Meetings.{was_frozen}
 use Rattle.gate_runs.proofs.run_threads.Staying.{backs_stay, creates_stay, gives_stay, is_among}
+use Rattle.gate_runs.proofs.run_threads.Resting.{backs_rest, begun_rests, creates_rest}
+use Rattle.vfs_gates.specs.Held.{Rests}
 use Rattle.gate_runs.proofs.run_threads.threads.run_threads.Goals as goal
 
 pub create_files-requires : goal.create_files-requires
@@ -12,6 +14,10 @@ create_files-requires g c = c.requires.from
 
 pub returns-in_err-create_files-clause-from : goal.returns-in_err-create_files-clause-from
 returns-in_err-create_files-clause-from g c = c.create_files.ensures.from
+
+pub returns-in_err-create_files-clause-rests : goal.returns-in_err-create_files-clause-rests
+returns-in_err-create_files-clause-rests g c =
+    let p = err_from_is_err_and c.from_residual.result c.from_residual.ensures.1 in rw p.1 tt
 
 pub returns-in_err-create_files-clause-copies : goal.returns-in_err-create_files-clause-copies
 returns-in_err-create_files-clause-copies g c = let p = err_from_is_err_and c.from_residual.result c.from_residual.ensures.1 in rw p.1 tt
@@ -22,7 +28,7 @@ returns-in_err-create_files-clause-all g c = let p = err_from_is_err_and c.from_
 pub returns-in_err-create_files-clause-refused : goal.returns-in_err-create_files-clause-refused
 returns-in_err-create_files-clause-refused g c =
     let p = err_from_is_err_and c.from_residual.result c.from_residual.ensures.1 in
-    rw (p.1, p.2) (inr (inr c.in_err-create_files.ensures.refused))
+    rw (p.1, p.2) (inr c.in_err-create_files.ensures.refused)
 
 pub start_workers-requires-clause-from : goal.start_workers-requires-clause-from
 start_workers-requires-clause-from g c = λ _ _. c.in_ok-create_files.ensures.from
@@ -32,6 +38,10 @@ start_workers-requires-clause-none g c = λ _ _. c.requires.none
 
 pub returns-in_err-start_workers-clause-from : goal.returns-in_err-start_workers-clause-from
 returns-in_err-start_workers-clause-from g c = c.start_workers.ensures.from
+
+pub returns-in_err-start_workers-clause-rests : goal.returns-in_err-start_workers-clause-rests
+returns-in_err-start_workers-clause-rests g c =
+    let p = err_from_is_err_and c.from_residual-in_err-start_workers.result c.from_residual-in_err-start_workers.ensures.1 in rw p.1 tt
 
 pub returns-in_err-start_workers-clause-copies : goal.returns-in_err-start_workers-clause-copies
 returns-in_err-start_workers-clause-copies g c =
@@ -46,11 +56,34 @@ returns-in_err-start_workers-clause-refused g c =
     let p = err_from_is_err_and c.from_residual-in_err-start_workers.result c.from_residual-in_err-start_workers.ensures.1 in
     rw (p.1, p.2) (inl c.in_err-start_workers.ensures.refused)
 
+pub start_workers-requires-clause-rests : goal.start_workers-requires-clause-rests
+start_workers-requires-clause-rests g c =
+    let rests : Rests c.create_files.new.task = creates_rest _ c.args.task.now c.create_files.new.task
+    (begun_rests 0 c.args.task.now c.requires.gives.idle c.requires.begins) c.in_ok-create_files.ensures.created in
+    λ _ _. rests
+
+pub join_workers-requires-clause-rests : goal.join_workers-requires-clause-rests
+join_workers-requires-clause-rests g c = backs_rest (was_frozen (g.W.Watch.seen c.args.watch.now)) c.args.plan.freezes
+    (c.start_workers.new.task, tt, no_copies) (c.back_up.new.task, tt, c.in_ok-copies.copies) c.in_ok-start_workers.ensures.rests
+    c.in_ok-copies.ensures.rounds
+
+pub join_workers-requires-clause-there : goal.join_workers-requires-clause-there
+join_workers-requires-clause-there g c = (backs_stay (was_frozen (g.W.Watch.seen c.args.watch.now)) c.args.plan.freezes
+    (c.start_workers.new.task, tt, no_copies) (c.back_up.new.task, tt, c.in_ok-copies.copies) c.in_ok-copies.ensures.rounds).there
+    c.in_ok-start_workers.ensures.gives.there
+
+pub returns-clause-rests : goal.returns-clause-rests
+returns-clause-rests g c = c.in_ok-remounts.ensures.rests
+
 pub back_up-requires : goal.back_up-requires
 back_up-requires g c = c.in_ok-start_workers.ensures.from
 
 pub returns-in_err-copies-clause-from : goal.returns-in_err-copies-clause-from
 returns-in_err-copies-clause-from g c = c.back_up.ensures.from
+
+pub returns-in_err-copies-clause-rests : goal.returns-in_err-copies-clause-rests
+returns-in_err-copies-clause-rests g c =
+    let p = err_from_is_err_and c.from_residual-in_err-copies.result c.from_residual-in_err-copies.ensures.1 in rw p.1 tt
 
 pub returns-in_err-copies-clause-copies : goal.returns-in_err-copies-clause-copies
 returns-in_err-copies-clause-copies g c =
@@ -63,7 +96,7 @@ returns-in_err-copies-clause-all g c =
 pub returns-in_err-copies-clause-refused : goal.returns-in_err-copies-clause-refused
 returns-in_err-copies-clause-refused g c =
     let p = err_from_is_err_and c.from_residual-in_err-copies.result c.from_residual-in_err-copies.ensures.1 in
-    rw (p.1, p.2) (inr (inr c.in_err-copies.ensures.refused))
+    rw (p.1, p.2) (inr c.in_err-copies.ensures.refused)
 
 pub join_workers-requires-clause-from : goal.join_workers-requires-clause-from
 join_workers-requires-clause-from g c = c.in_ok-copies.ensures.from
@@ -76,6 +109,10 @@ join_workers-requires-clause-homes g c = c.in_ok-start_workers.ensures.homes
 
 pub returns-in_err-remounts-clause-from : goal.returns-in_err-remounts-clause-from
 returns-in_err-remounts-clause-from g c = c.join_workers.ensures.from
+
+pub returns-in_err-remounts-clause-rests : goal.returns-in_err-remounts-clause-rests
+returns-in_err-remounts-clause-rests g c =
+    let p = err_from_is_err_and c.from_residual-in_err-remounts.result c.from_residual-in_err-remounts.ensures.1 in rw p.1 tt
 
 pub returns-in_err-remounts-clause-copies : goal.returns-in_err-remounts-clause-copies
 returns-in_err-remounts-clause-copies g c =

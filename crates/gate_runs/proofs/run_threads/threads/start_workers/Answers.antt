@@ -8,6 +8,7 @@ pub loop-number-init : goal.loop-number-init
 loop-number-init g c =
     let none : length c.args.workers.now.items ≡ 0 = ap length c.requires.none in record {
       from = c.requires.from;
+      rests = c.requires.rests;
       same = refl;
       gives = c.requires.gives;
       all = omega (arith, none, c.args.workers.now.ok.0);
@@ -29,6 +30,12 @@ returns-in_default-push-clause-from g c = c.in-Ok.ensures.from
 pub returns-clause-from : goal.returns-clause-from
 returns-clause-from g c = c.loop-number.invariant.from
 
+pub start_worker-requires-clause-rests : goal.start_worker-requires-clause-rests
+start_worker-requires-clause-rests g c = λ _ _. c.loop-number.invariant.rests
+
+pub returns-clause-rests : goal.returns-clause-rests
+returns-clause-rests g c = c.loop-number.invariant.rests
+
 pub returns-clause-same : goal.returns-clause-same
 returns-clause-same g c = c.loop-number.invariant.same
 
@@ -42,6 +49,7 @@ loop-number-preserved g c =
     let place : length c.loop-number.workers.items + 1 ≡ c.loop-number.number = omega (arith, before.all, c.loop-number.workers.ok.0) in
     record {
       from = started.from;
+      rests = started.rests;
       same = started.same ∙ before.same;
       gives = started.gives;
       all = omega (arith, c.in-Ok-push.ensures.len, before.all);

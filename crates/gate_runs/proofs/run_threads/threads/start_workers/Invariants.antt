@@ -1,6 +1,7 @@
 -- All threads so far were started, each for the next task, and the first task has the numbers behind theirs to give.
 use Rattle.std.proofs.Common.{◌≡◌, ◌+◌, vec_len}
 use Rattle.gate_runs.specs.run_parts.TaskStates.{IsFrom, own_view}
+use Rattle.vfs_gates.specs.Held.{Rests}
 use Rattle.gate_runs.specs.run_threads.Parts.{EachFrom}
 use Rattle.gate_runs.specs.run_parts.Splitting.{Gives}
 use Rattle.gate_runs.proofs.run_threads.threads.start_workers.Given as goal
@@ -8,6 +9,7 @@ use Rattle.gate_runs.proofs.run_threads.threads.start_workers.Given as goal
 abbrev pub invariant-loop-number : goal.invariant-loop-number
 invariant-loop-number g l = record {
   from : IsFrom l.task l.fn.gates;
+  rests : Rests l.task;
   same : own_view l.task.items ≡ own_view l.fn.task.items;
   gives : Gives l.task l.number l.fn.plan.tasks;
   all : vec_len l.workers + 1 ≡ l.number;
