@@ -12,7 +12,7 @@ use Rattle.schedule_lines.specs.bytes.Writing.{AppendsPart}
 use Rattle.asked_files.specs.declared.race_texts.telling.Details.{Details}
 use Rattle.asked_files.specs.declared.race_texts.telling.Schedules.{Schedules}
 use Rattle.asked_files.specs.declared.race_texts.telling.Schedules.TheVariants.{Untold, Lines, Columns}
-use Rattle.race_files.specs.Left.{IsRaceIn, lines_in}
+use Rattle.race_files.specs.{Left.lines_in, Races.IsRaceIn}
 use Rattle.asked_files.specs.race_texts.Told.{Tells}
 
 -- in which form schedules are told
@@ -25,11 +25,12 @@ schedules_as words_as.Columns = Columns
 abbrev pub details_of : Outcomes → Details
 details_of asked = record { schedules = schedules_as asked.schedules; model = asked.model }
 
--- all outcomes of the race that these bytes call are told behind what was there, as was asked for, and nothing else is
+-- All outcomes of the race that these bytes call are told behind what was there, as was asked for, and nothing else is. The core on which it
+-- begins is the one that the lines before the first line `race` make of the opening.
 pub record TellsRace (asked : Outcomes) (bytes before after : List ℕ) : Type 0 where
   pub core : Memory
   pub calls : List (List (Option Call))
-  pub race : IsRaceIn (lines_in 1048576 bytes) core.config.tasks calls
+  pub race : IsRaceIn (lines_in 1048576 bytes) core calls
   pub tells : Tells core calls (details_of asked) before after
 
 -- these bytes are all of what was there to be read; of a file's no contract tells

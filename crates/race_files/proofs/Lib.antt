@@ -1,3 +1,4 @@
 pub mod Left
 pub mod Reading
 pub mod Words
+pub mod SettingUp

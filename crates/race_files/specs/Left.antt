@@ -64,9 +64,3 @@ pub record BeginRace (all left : Left) : Type 0 where
 -- what all lines left behind `race` call, where there are so many tasks
 abbrev pub calls_left : ℕ → Left → Result (List (List (Option Call))) RaceFault
 calls_left tasks left = calls_of tasks left.fault left.lines (no_calls tasks)
-
--- The calls of a race of so many tasks in a text: some lines set up, then comes `race`, and all lines behind it call this.
-pub record IsRaceIn (all : Left) (tasks : ℕ) (calls : List (List (Option Call))) : Type 0 where
-  pub left : Left
-  pub begin : BeginRace all left
-  pub called : calls_left tasks (behind left) ≡ Ok calls

@@ -1,3 +1,5 @@
 pub mod Faults
 pub mod Left
 pub mod Calls
+pub mod SettingUp
+pub mod Races

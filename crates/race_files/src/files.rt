@@ -1,7 +1,11 @@
 //! A whole file of a race.
 
 ghost use Rattle.std.specs.Prelude.{◌≡◌, IfOk, Ok};
-ghost use Rattle.race_files.specs.Left.{IsRaceIn, behind, calls_left, left_in, lines_in};
+ghost use Rattle.gate_core.specs.Drivers.{CoreShows};
+ghost use Rattle.race_files.specs.Left.{behind, calls_left, left_in, lines_in};
+ghost use Rattle.race_files.specs.Races.{IsRaceIn};
+ghost use Rattle.transcripts.specs.Sessions.{ShowsPlay};
+ghost use Rattle.transcripts.specs.Transcript.{Play};
 
 use crate::calls::Calls;
 use crate::faults::RaceFault;
@@ -27,7 +31,8 @@ impl RaceFile {
         session: &Session<Core>,
         lines: &mut Lines<'_>,
     ) -> Result<RaceFile, RaceFault>
-        ensures { IfOk result (λ file. calls_left file.core.config.tasks (behind (left_in lines.old)) ≡ Ok file.calls.race.calls.items) }
+        ensures core { (p : Play) → ShowsPlay CoreShows session.now p → IfOk result (λ file. CoreShows file.core p.config p.world) }
+        ensures calls { IfOk result (λ file. calls_left file.core.config.tasks (behind (left_in lines.old)) ≡ Ok file.calls.race.calls.items) }
     {
         expect_idle(session.gates())?;
         let core = session.gates().twin().map_err(no_memory)?;
@@ -53,9 +58,9 @@ fn expect_idle(core: &Core) -> Result<(), RaceFault> {
     Ok(())
 }
 
-/// Reads a race; its fault is the first.
+/// Reads a race, which begins on the core that the lines before the first line `race` make of the opening; its fault is the first.
 pub fn read_race(alloc: Global, bytes: &[u8]) -> Result<RaceFile, ReplayFault>
-    ensures { IfOk result (λ file. IsRaceIn (lines_in 1048576 bytes.now) file.core.config.tasks file.calls.race.calls.items) }
+    ensures { IfOk result (λ file. IsRaceIn (lines_in 1048576 bytes.now) file.core file.calls.race.calls.items) }
 {
     let mut lines = Lines::new(bytes);
     match read_lines(alloc, &mut lines) {
@@ -65,7 +70,7 @@ pub fn read_race(alloc: Global, bytes: &[u8]) -> Result<RaceFile, ReplayFault>
 }
 
 fn read_lines(alloc: Global, lines: &mut Lines<'_>) -> Result<RaceFile, RaceFault>
-    ensures { IfOk result (λ file. IsRaceIn (left_in lines.old) file.core.config.tasks file.calls.race.calls.items) }
+    ensures { IfOk result (λ file. IsRaceIn (left_in lines.old) file.core file.calls.race.calls.items) }
 {
     let session = set_up(alloc, lines)?;
     let file = RaceFile::read(alloc, &session, lines);

@@ -1,7 +1,11 @@
 //! What comes before a race.
 
-ghost use Rattle.std.specs.Prelude.{IfOk};
+ghost use Rattle.std.specs.Prelude.{IfOk, None, OnOk, Some};
+ghost use Rattle.gate_core.specs.Drivers.{CoreShows};
 ghost use Rattle.race_files.specs.Left.{AreLeftOf, BeginRace, left_in};
+ghost use Rattle.race_files.specs.SettingUp.{SetsUp};
+ghost use Rattle.transcripts.specs.Sessions.{ShowsPlay};
+ghost use Rattle.transcripts.specs.Transcript.{Play};
 
 use crate::faults::RaceFault;
 use crate::lines::{Lines, is_race};
@@ -26,9 +30,11 @@ impl Watch for Unwatched {
     }
 }
 
-/// Takes the lines of a schedule before `race`, and does them. What they print is dropped.
+/// Takes the lines of a schedule before the first line `race`, and does them: the session shows the play that they make of the opening. What
+/// they print is dropped.
 pub fn set_up(alloc: Global, lines: &mut Lines<'_>) -> Result<Session<Core>, RaceFault>
-    ensures { IfOk result (λ _. BeginRace (left_in lines.old) (left_in lines.new)) }
+    ensures begin { IfOk result (λ _. BeginRace (left_in lines.old) (left_in lines.new)) }
+    ensures made { IfOk result (λ session. (p : Play) × SetsUp None (Some p) (left_in lines.old) (left_in lines.new) × ShowsPlay CoreShows session p) }
 {
     do_setting(alloc, lines, &mut Output::new(alloc), &mut Unwatched)
 }
@@ -40,7 +46,8 @@ pub fn do_setting<W: Watch>(
     printed: &mut Output,
     watch: &mut W,
 ) -> Result<Session<Core>, RaceFault>
-    ensures { IfOk result (λ _. BeginRace (left_in lines.old) (left_in lines.new)) }
+    ensures begin { IfOk result (λ _. BeginRace (left_in lines.old) (left_in lines.new)) }
+    ensures made { IfOk result (λ session. (p : Play) × SetsUp None (Some p) (left_in lines.old) (left_in lines.new) × ShowsPlay CoreShows session p) }
 {
     let mut session = open(alloc, lines)?;
     let done = do_lines(&mut session, lines, printed, watch);
@@ -49,7 +56,8 @@ pub fn do_setting<W: Watch>(
 
 /// Takes the lines up to the configuration.
 fn open(alloc: Global, lines: &mut Lines<'_>) -> Result<Session<Core>, RaceFault>
-    ensures { IfOk result (λ _. AreLeftOf (left_in lines.old) (left_in lines.new)) }
+    ensures left { IfOk result (λ _. AreLeftOf (left_in lines.old) (left_in lines.new)) }
+    ensures made { IfOk result (λ session. (p : Play) × SetsUp None (Some p) (left_in lines.old) (left_in lines.new) × ShowsPlay CoreShows session p) }
 {
     while let Some(line) = lines.line()? {
         if let Line::Config(config) = parse(line, None)? {
@@ -69,7 +77,9 @@ fn do_lines<W: Watch>(
     printed: &mut Output,
     watch: &mut W,
 ) -> Result<(), RaceFault>
-    ensures { IfOk result (λ _. BeginRace (left_in lines.old) (left_in lines.new)) }
+    ensures begin { IfOk result (λ _. BeginRace (left_in lines.old) (left_in lines.new)) }
+    ensures made { (p : Play) → ShowsPlay CoreShows session.old p → OnOk result (
+        (q : Play) × SetsUp (Some p) (Some q) (left_in lines.old) (left_in lines.new) × ShowsPlay CoreShows session.new q) }
 {
     while let Some(line) = lines.line()? {
         if is_race(line)? {

@@ -1,10 +1,18 @@
-use Rattle.std.proofs.Common.{length}
+use Rattle.std.proofs.Common.{length, Some}
+use Rattle.gate_core.specs.Drivers.{CoreShows}
 use Rattle.race_files.specs.Left.{AreLeftOf, left_in}
+use Rattle.race_files.specs.SettingUp.{SetsUp}
+use Rattle.transcripts.specs.Sessions.{ShowsPlay}
+use Rattle.transcripts.specs.Transcript.{Play}
 use Rattle.race_files.proofs.setting_up.do_lines.Given as goal
 
--- some lines were taken
+-- some lines were taken, and the session shows what they make
 abbrev pub invariant-loop-line : goal.invariant-loop-line
-invariant-loop-line g l = AreLeftOf (left_in l.initial.lines) (left_in l.lines)
+invariant-loop-line g l = record {
+  left : AreLeftOf (left_in l.initial.lines) (left_in l.lines);
+  made : (p : Play) → ShowsPlay CoreShows l.initial.session p →
+      (q : Play) × SetsUp (Some p) (Some q) (left_in l.initial.lines) (left_in l.lines) × ShowsPlay CoreShows l.session q;
+}
 
 abbrev pub decreases-loop-line : goal.decreases-loop-line
 decreases-loop-line g l = length (left_in l.lines).lines

@@ -1,10 +1,14 @@
-use Rattle.std.proofs.Common.{length}
+use Rattle.std.proofs.Common.{length, None}
 use Rattle.race_files.specs.Left.{AreLeftOf, left_in}
+use Rattle.race_files.specs.SettingUp.{SetsUp}
 use Rattle.race_files.proofs.setting_up.open.Given as goal
 
--- some lines were taken
+-- some lines were taken, which make no play
 abbrev pub invariant-loop-line : goal.invariant-loop-line
-invariant-loop-line l = AreLeftOf (left_in l.initial.lines) (left_in l.lines)
+invariant-loop-line l = record {
+  left : AreLeftOf (left_in l.initial.lines) (left_in l.lines);
+  made : SetsUp None None (left_in l.initial.lines) (left_in l.lines);
+}
 
 abbrev pub decreases-loop-line : goal.decreases-loop-line
 decreases-loop-line l = length (left_in l.lines).lines
