@@ -11,7 +11,8 @@ use Rattle.gate_steps.proofs.call_events.Opening.{times-deal}
 use Rattle.gate_steps.specs.Tables.{IsClosing}
 use Rattle.gate_steps.proofs.call_events.Giving.{view_in-at, view_in-is}
 use Rattle.gate_steps.specs.call_events.Ties.{IsStill, AllRest}
-use Rattle.vfs_gates.specs.Ended.{EndedWith, HasOpeningWords}
+use Rattle.gate_steps.specs.Histories.{IsReached}
+use Rattle.vfs_gates.specs.Ended.{Ended, EndedWith, HasOpeningWords, IsLeftBySchedule}
 use Rattle.vfs_gates.proofs.Parting.{rest-at}
 
 -- all numbers are back in a seat whose views rest: so each number rests, and has the view that the seat knows
@@ -44,3 +45,14 @@ opens_so c ws e =
     λ t lt. view_in-is w.views (first_items c) t e.mine (let once = times-deal t 0 c.tasks (omega arith) (omega arith) in omega arith) ∙
     dealt_view t 0 c.tasks in
     subst (TableShows c ws) (e.ended.ruled.opens (λ t lt. ap (λ (v : View). v.events) (view t lt))) e.ended.ruled.words
+
+-- some schedule leaves what closed gates have
+pub left_by_schedule : (c : Config) (ws : List ℕ) (e : Ended c ws) → IsLeftBySchedule c ws e.world
+left_by_schedule c ws e =
+    let reached : IsReached c e.history.log e.world = e.history.reached in record {
+      within = e.ruled.within;
+      entries = reached.entries;
+      words = subst (TableShows c ws) (sym reached.words) e.ruled.words;
+      idle = λ t lt. (reached.views t).phase ∙ (e.still t lt).0;
+      lists = λ t. (reached.views t).actions;
+    }

@@ -2,7 +2,6 @@
 use Rattle.std.proofs.Common.{◌≡◌, ℕ, ◌≤◌, refl, sym, ap, ◌∙◌, subst, arith, Bool}
 use Rattle.std.specs.Prelude.{◌==◌, Option, Some, None, Err, List, [], ◌∷◌, true, false, if◌then◌else◌, is_some, not, length}
 use Rattle.std.proofs.lemmas.List.{length-set}
-use Rattle.access_model.specs.declared.actions.Action.{Action}
 use Rattle.access_model.specs.declared.replies.Next.{Next}
 use Rattle.access_model.specs.declared.replies.Next.TheVariants.{Go, Wait, Done}
 use Rattle.access_model.specs.Replies.{map_next}

@@ -1,12 +1,14 @@
 -- What is known of the words once no thread shares them.
-use Rattle.std.specs.Prelude.{ℕ, ◌*◌, ◌<◌, ◌≤◌, List, slice_index}
+use Rattle.std.specs.Prelude.{◌≡◌, ℕ, ◌*◌, ◌<◌, ◌≤◌, None, List, slice_index}
 use Rattle.cpu_words.specs.Names.{place, stride}
 use Rattle.cpu_words.specs.declared.names.WordName.TheVariants.{Used, Node, Kids}
 use Rattle.node_words.specs.Nodes.{node_shown}
 use Rattle.gated_tree.specs.Trees.{IsSound}
 use Rattle.cpu_words.specs.Words.{opening_words}
 use Rattle.gate_world.specs.declared.config.Config.{Config}
-use Rattle.gate_world.specs.Worlds.{World}
+use Rattle.gate_world.specs.Configs.{IsWithin}
+use Rattle.gate_world.specs.Headline.{world_after}
+use Rattle.gate_world.specs.Worlds.{World, Entry}
 use Rattle.gate_steps.specs.Histories.{HasHistory}
 use Rattle.gate_steps.specs.Seating.{SeatItems, HaveViews, times}
 use Rattle.gate_steps.specs.Rules.{TableShows, Ruled}
@@ -30,6 +32,15 @@ pub record Ended (c : Config) (ws : List ℕ) : Type 0 where
   pub ruled : Ruled c ws world
   pub history : HasHistory c world
   pub still : (t : ℕ) → t < c.tasks → IsStill c (world.views t)
+
+-- A schedule leaves these words: with it no task is under way, and each number has the list of that world. So each clause of `every_schedule` says
+-- of closed gates what it says of a schedule with no operation under way.
+pub record IsLeftBySchedule (c : Config) (ws : List ℕ) (w : World) : Type 0 where
+  pub within : IsWithin c
+  pub entries : List Entry
+  pub words : TableShows c ws (world_after c entries).words
+  pub idle : (t : ℕ) → t < c.tasks → ((world_after c entries).views t).phase ≡ None
+  pub lists : (t : ℕ) → ((world_after c entries).views t).actions ≡ (w.views t).actions
 
 -- In that world the numbers that the task brought have the views that it knew: closing adds no event and no action to any list.
 pub record EndedWith (c : Config) (ws : List ℕ) (items : SeatItems) : Type 0 where

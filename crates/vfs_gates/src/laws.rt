@@ -16,7 +16,7 @@ ghost use Rattle.vfs_gates.specs.Held.{Rests, own_actions, IsAsBefore, IsGivenBa
 ghost use Rattle.gate_steps.specs.call_events.Caused.{HasItsCause};
 ghost use Rattle.gate_steps.specs.call_events.Runs.{completed_by, Called, Performs};
 ghost use Rattle.gate_world.specs.declared.config.Config.{Config};
-ghost use Rattle.vfs_gates.specs.Ended.{Ended, EndedWith, LeavesSoundTree};
+ghost use Rattle.vfs_gates.specs.Ended.{Ended, EndedWith, IsLeftBySchedule, LeavesSoundTree};
 ghost use Rattle.vfs_gates.specs.Seen.{HasTaken, IsOfAMoment};
 ghost use Rattle.gate_world.specs.declared.operations.Op.TheVariants.{ChangeMount, DropMount, Snapshot as SnapshotOp, Want};
 
@@ -63,6 +63,12 @@ pub fn a_refused_call_has_its_cause()
 /// children, and each parent is a directory. Does nothing: its contract is the law.
 pub fn closed_gates_leave_a_sound_tree()
     ensures { (c : Config) (ws : List ℕ) → Ended c ws → LeavesSoundTree c ws }
+{}
+
+/// What closed gates have, a schedule leaves: all words of its world are theirs, no operation is under way in it, and each number has the list that it
+/// has in theirs. So what `every_schedule` says of such a schedule is so of closed gates. Does nothing: its contract is the law.
+pub fn closed_gates_are_left_by_a_schedule()
+    ensures { (c : Config) (ws : List ℕ) (e : Ended c ws) → IsLeftBySchedule c ws e.world }
 {}
 
 /// An access that a want was granted, and a drop right after it, on the same processor or any that there is: the drop is not refused, both stand
