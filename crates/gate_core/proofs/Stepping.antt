@@ -9,7 +9,8 @@ use Rattle.cpu_words.specs.{Hooks.HookAnswer, Names.{IsWord, place}, Touches.{le
 use Rattle.cpu_words.specs.declared.{events.{Event.Event, Touch.Touch}, names.WordName.WordName}
 use Rattle.gate_world.specs.{Accesses.{held_in, accesses_after}, Configs.extents_kept, Fits.{PhaseFits, Fits, ActionFits}}
 use Rattle.gate_world.specs.{Holdings.{Holdings, Agree, held_after}, Views.{held_of, phase_after, view_after}, Work.{next_of, after_of}}
-use Rattle.gate_world.specs.Worlds.{World, Steps, after_step, happens, run, opening}
+use Rattle.gate_world.specs.Worlds.{World, after_step, happens, run, opening}
+use Rattle.gate_world.specs.declared.entries.Entry.{TheVariants.{Steps}}
 use Rattle.gate_world.specs.declared.{accesses.Accesses.Accesses, config.Config.Config, views.View.View, work.Phase.Phase}
 use Rattle.gate_schedules.proofs.operations.frames.{Accesses.{holdings_of_after, long_after, wide_after, deep_after, agree_after}, Agreeing.{agree_self, agree_sym}}
 use Rattle.gate_schedules.proofs.operations.frames.Places.{are_few}

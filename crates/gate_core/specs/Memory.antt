@@ -6,7 +6,8 @@ use Rattle.cpu_words.specs.Words.{read}
 use Rattle.gate_world.specs.declared.config.Config.{Config}
 use Rattle.gate_world.specs.Configs.{IsWithin, extents_kept}
 use Rattle.gate_world.specs.{Holdings.Agree, Views.held_of}
-use Rattle.gate_world.specs.Worlds.{World, Entry, run, opening}
+use Rattle.gate_world.specs.Worlds.{World, run, opening}
+use Rattle.gate_world.specs.declared.entries.Entry.{Entry}
 use Rattle.gate_world.specs.Fits.{Fits}
 use Rattle.gate_schedules.specs.declared.seats.Seat.{Seat}
 use Rattle.gate_schedules.specs.Seats.{seat_held}

@@ -1,7 +1,8 @@
 -- What the core's step is, as one fact.
 use Rattle.std.specs.Prelude.{◌≡◌, ℕ}
 use Rattle.cpu_words.specs.Hooks.{HookAnswer}
-use Rattle.gate_world.specs.Worlds.{World, Steps, happens}
+use Rattle.gate_world.specs.Worlds.{World, happens}
+use Rattle.gate_world.specs.declared.entries.Entry.{TheVariants.{Steps}}
 use Rattle.gate_schedules.specs.Answers.{step_answer}
 use Rattle.gate_core.specs.Memory.{Memory, Shows}
 use Rattle.gate_core.specs.Moves.{stepped, progress_in}

@@ -8,7 +8,8 @@ use Rattle.gate_schedules.proofs.operations.Layers.{op_keeps}
 use Rattle.gate_schedules.proofs.operations.frames.Holders.{holders_at}
 use Rattle.gate_world.specs.{Beginnings.first_phase, Fits.Fits, Found.stores_stage, Headline.{HoldersAreTold, is_between, stores_nobody}, Rules.Fitting}
 use Rattle.gate_world.specs.{Rules.{Holding, IsGood, Known, holder_role_of}, Views.{begun_view, held_of, phase_after, view_after, with_hook}}
-use Rattle.gate_world.specs.{Work.{after_of, next_of}, Worlds.{Begins, Entry, Steps, World, after_step, begin_of, begin_refusal, found_at, happens, opening}}
+use Rattle.gate_world.specs.{Work.{after_of, next_of}, Worlds.{World, after_step, begin_of, begin_refusal, found_at, happens, opening}}
+use Rattle.gate_world.specs.declared.entries.Entry.{Entry, TheVariants.{Begins, Steps}}
 use Rattle.gate_world.specs.{Worlds.{step_of, value_at, words_after}, declared.{config.Config.Config, operations.Op.Op, views.{Traced.Traced, View.View}}}
 use Rattle.gate_world.specs.declared.work.Phase.{Phase, TheVariants.Closes}
 use Rattle.freeze_levels.proofs.holder_laws.{HolderLaws.held_exactly, Words.held_word}

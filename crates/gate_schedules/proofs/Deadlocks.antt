@@ -1,6 +1,7 @@
 -- Of every schedule: a reply is near, or each operation under way is kept; and all that is under way settles.
 use Rattle.std.specs.Prelude.{List}
-use Rattle.gate_world.specs.{Configs.IsWithin, Headline.world_after, Worlds.Entry, declared.config.Config.Config}
+use Rattle.gate_world.specs.{Configs.IsWithin, Headline.world_after, declared.config.Config.Config}
+use Rattle.gate_world.specs.declared.entries.Entry.{Entry}
 use Rattle.gate_schedules.proofs.operations.{KeptStays.kept_stays, Layers.{phase_ends, phase_keeps}, Plain.world_replies, Settles.world_settles, Whole.world_goes}
 use Rattle.gate_schedules.specs.operations.Progress.{EventsKeepRule, EventsMoveModel, EverybodySettles, KeptStaysKept, NobodyIsDeadlocked, RepliesOrIsFrozen}
 use Rattle.gate_schedules.specs.operations.Ranks.{most_events_to_reply, most_events_to_settle}

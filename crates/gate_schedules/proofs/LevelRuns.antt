@@ -7,7 +7,8 @@ use Rattle.freeze_laws.proofs.levels.{GraceLaws.graces_are_whole, IdleLaws.only_
 use Rattle.freeze_laws.specs.levels.Events.{SyncLevelHolds, SyncStep, SyncRun}
 use Rattle.gate_world.specs.{Beginnings.{first_phase, view_refusal}, Configs.IsWithin}
 use Rattle.gate_world.specs.{LevelRuns.{level_in, level_after, IsLevelRun, GracesAreKept, LevelsAreRuns}, Levels.{inside, sync_role_of}, Rules.IsGood}
-use Rattle.gate_world.specs.{Views.{begun_view, held_of}, Worlds.{World, Entry, Begins, Steps, begin_of, step_of, happens, run, opening}}
+use Rattle.gate_world.specs.{Views.{begun_view, held_of}, Worlds.{World, begin_of, step_of, happens, run, opening}}
+use Rattle.gate_world.specs.declared.entries.Entry.{Entry, TheVariants.{Begins, Steps}}
 use Rattle.gate_world.specs.declared.{config.Config.Config, operations.Op.Op, work.Phase.Phase}
 use Rattle.gate_schedules.proofs.operations.frames.{LevelSteps.{level_stays, level_kept}, LevelWorlds.level_right}
 use Rattle.gate_schedules.proofs.operations.Layers.{phase_keeps, op_keeps}

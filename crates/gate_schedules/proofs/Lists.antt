@@ -5,7 +5,8 @@ use Rattle.finite_sums.proofs.Totals.{each_updated}
 use Rattle.access_model.specs.{Histories.{Done, own_part, IsMerge}, declared.{actions.Action.Action, errors.GateError.GateError}}
 use Rattle.cpu_words.specs.Hooks.{HookAnswer}
 use Rattle.gate_world.specs.{Beginnings.{first_phase, view_refusal}, Views.{actions_after, begun_view, view_after_beside}}
-use Rattle.gate_world.specs.Worlds.{World, Entry, Begins, Steps, begin_of, after_step_beside, step_of, happens, phase_action, action_of, task_of, with_action}
+use Rattle.gate_world.specs.Worlds.{World, begin_of, after_step_beside, step_of, happens, phase_action, action_of, task_of, with_action}
+use Rattle.gate_world.specs.declared.entries.Entry.{Entry, TheVariants.{Begins, Steps}}
 use Rattle.gate_world.specs.Worlds.{value_at, run, history}
 use Rattle.gate_world.specs.declared.{config.Config.Config, operations.Op.Op, views.View.View, work.Phase.Phase}
 

@@ -2,7 +2,8 @@
 use Rattle.std.proofs.Common.{◌≡◌, ℕ, List, [], ◌∷◌, ◌++◌, append_assoc, refl, sym, ap, ◌∙◌}
 use Rattle.std.specs.Prelude.{Option, Some, None}
 use Rattle.access_model.specs.{Histories.Done, declared.actions.Action.Action}
-use Rattle.gate_world.specs.{Worlds.{World, Entry, happens, run, history, with_action, action_of, task_of}, declared.config.Config.Config}
+use Rattle.gate_world.specs.{Worlds.{World, happens, run, history, with_action, action_of, task_of}, declared.config.Config.Config}
+use Rattle.gate_world.specs.declared.entries.Entry.{Entry}
 
 pub run_more : (c : Config) (w : World) (es : List Entry) (e : Entry) → run c w (es ++ e ∷ []) ≡ happens c (run c w es) e
 run_more c w [] e = refl

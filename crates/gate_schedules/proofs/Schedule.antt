@@ -13,7 +13,8 @@ use Rattle.gate_world.specs.{Alike.{IsBeside, off_tree}, Beginnings.{first_phase
 use Rattle.gate_world.specs.{Headline.{IdleSumsHold, SumsHold}, Levels.{at_level, level_role_of}, Owners.KnowsWords, Rules.{AtLevel, AtMount, Files, Fitting}}
 use Rattle.gate_world.specs.Rules.{Holding, Holds, IsGood, Known, LevelHoldsIn, MountHoldsIn, Moves, Owner, Part, Sections, Stages, SyncAt, Tree}
 use Rattle.gate_world.specs.{Rules.{at_mount, owns, role_of}, Shown.shown, Trees.{tree_bounds, tree_role_of}, Views.{begun_view, has_open, held_of}}
-use Rattle.gate_world.specs.Worlds.{Begins, Entry, Steps, World, action_of, after_begin, begin_of, happens, history, opening, phase_action, run, step_of}
+use Rattle.gate_world.specs.Worlds.{World, action_of, after_begin, begin_of, happens, history, opening, phase_action, run, step_of}
+use Rattle.gate_world.specs.declared.entries.Entry.{Entry, TheVariants.{Begins, Steps}}
 use Rattle.gate_world.specs.{Worlds.{task_of, with_action}, declared.{config.Config.Config, operations.Op.Op, views.View.View, work.Phase.Phase}}
 use Rattle.node_words.specs.Nodes.{opens_in}
 use Rattle.freeze_levels.proofs.holder_laws.HolderLaws.{opens as holders_open}

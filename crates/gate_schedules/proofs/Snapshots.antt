@@ -10,7 +10,8 @@ use Rattle.gated_tree.specs.{Trees.{node_at, is_child, HasDirectory, IsSound, Is
 use Rattle.gate_world.specs.{Beginnings.{first_phase, view_refusal}, Configs.{IsWithin, model_limits}, Headline.FrozenTreeIsWhole}
 use Rattle.gate_world.specs.{Moments.{HasMoment, AllHaveMoments, IsPresentTree, CompletesNow}, Rules.{IsGood, Moves}, Shown.shown}
 use Rattle.gate_world.specs.{Snapshots.{completes, last_snapshot}, Views.{view_after_beside, begun_view}}
-use Rattle.gate_world.specs.Worlds.{World, Entry, Begins, Steps, begin_of, after_step_beside, step_of, happens, phase_action, action_of, task_of, with_action}
+use Rattle.gate_world.specs.Worlds.{World, begin_of, after_step_beside, step_of, happens, phase_action, action_of, task_of, with_action}
+use Rattle.gate_world.specs.declared.entries.Entry.{Entry, TheVariants.{Begins, Steps}}
 use Rattle.gate_world.specs.Worlds.{found_at, value_at, run, history}
 use Rattle.gate_world.specs.declared.{config.Config.Config, operations.Op.Op, views.{Snapshot.Snapshot, View.View}, work.Phase.Phase}
 use Rattle.gate_schedules.proofs.operations.{Frozen.frozen_whole, Layers.phase_keeps}

@@ -9,7 +9,8 @@ use Rattle.gate_world.specs.Courses.{course_of, IsTraced, FollowsOrder, AllTrace
 use Rattle.gate_world.specs.Headline.{world_after, actions_so_far, MovesTheModel, IsOneRun, NobodyIsInside, SumsHold, IdleSumsHold, NothingIsLeft}
 use Rattle.gate_world.specs.Headline.{FreezeIsUnderWay, HoldersAreTold, FrozenTreeIsWhole, FrozenTreeStays, SnapshotsStand, ViewTells, OperationsAreKept, LevelsLead}
 use Rattle.gate_world.specs.{Holdings.holdings_of, KeptCauses.CauseOf, Rules.IsGood, Shown.shown, Traces.{Tells, actions_of}, Views.HoldsAsBefore}
-use Rattle.gate_world.specs.{Waits.{HasReason, EachWaitHasCulprit, HasCulpritAmong}, Work.after_of, Worlds.{World, Entry, opening, happens, run, history, found_at}}
+use Rattle.gate_world.specs.{Waits.{HasReason, EachWaitHasCulprit, HasCulpritAmong}, Work.after_of, Worlds.{World, opening, happens, run, history, found_at}}
+use Rattle.gate_world.specs.declared.entries.Entry.{Entry}
 use Rattle.gate_world.specs.declared.{config.Config.Config, operations.Op.Op, views.{Traced.Traced, View.View}, work.Phase.Phase}
 use Rattle.gate_schedules.proofs.operations.frames.{MayHolds.events_may_be, Traced.{opening_traced, entry_keeps}}
 use Rattle.gate_schedules.proofs.operations.{Frozen.frozen_whole, Layers.{phase_keeps, op_keeps}}

@@ -15,7 +15,8 @@ pub trait Driver: Drop {
     ghost use Rattle.cpu_words.specs.Words.{read};
     ghost use Rattle.gate_schedules.specs.Answers.{begin_answer, step_answer, wanted_hook};
     ghost use Rattle.gate_world.specs.Configs.{IsWithin, extents_of};
-    ghost use Rattle.gate_world.specs.Worlds.{World, Begins, Steps, happens, opening};
+    ghost use Rattle.gate_world.specs.Worlds.{World, happens, opening};
+    ghost use Rattle.gate_world.specs.declared.entries.Entry.{TheVariants.{Begins, Steps}};
     ghost use Rattle.gate_world.specs.declared.config.Config.{Config as ConfigType};
     ghost use Rattle.cpu_words.specs.declared.names.WordName.{WordName as Name};
 

@@ -7,7 +7,8 @@ ghost use Rattle.gate_world.specs.declared.views.Traced.{Traced};
 ghost use Rattle.gate_world.specs.Configs.{IsWithin};
 ghost use Rattle.gate_world.specs.Courses.{course_of, IsTrace};
 ghost use Rattle.gate_world.specs.Traces.{Tells, most_events, IsShort};
-ghost use Rattle.gate_world.specs.Worlds.{World, Entry, happens};
+ghost use Rattle.gate_world.specs.Worlds.{World, happens};
+ghost use Rattle.gate_world.specs.declared.entries.Entry.{Entry};
 ghost use Rattle.gate_world.specs.Rules.{IsGood};
 ghost use Rattle.gate_world.specs.KeptCauses.{Causes};
 

@@ -3,7 +3,7 @@
 ghost use Rattle.std.specs.Prelude.{ℕ, List};
 ghost use Rattle.gate_world.specs.declared.config.Config.{Config};
 ghost use Rattle.gate_world.specs.Configs.{IsWithin};
-ghost use Rattle.gate_world.specs.Worlds.{Entry};
+ghost use Rattle.gate_world.specs.declared.entries.Entry.{Entry};
 ghost use Rattle.gate_world.specs.Rules.{IsGood};
 ghost use Rattle.gate_world.specs.Headline.{world_after, MovesTheModel, IsOneRun, NobodyIsInside, SumsHold, LevelsLead, IdleSumsHold, NothingIsLeft, FreezeIsUnderWay, HoldersAreTold, FrozenTreeIsWhole, FrozenTreeStays, SnapshotsStand, OperationsAreKept};
 ghost use Rattle.gate_world.specs.Causes.{RefusalsHaveCauses};

@@ -37,7 +37,7 @@ times_all-one n [] i l e = absurd (some-ne-none l (sym e))
 times_all-one n (y ∷ ys) zero l e = let same : times n y ≡ times n l = ap (times n) (some-injective y l e) in omega arith
 times_all-one n (y ∷ ys) (suc i) l e = let r = times_all-one n ys i l e in omega arith
 
-times_all-two : (n : ℕ) (ls : List SeatItems) (i j : ℕ) (l m : SeatItems) → i ≢ j → get_elem? ls i ≡ some l → get_elem? ls j ≡ some m →
+pub times_all-two : (n : ℕ) (ls : List SeatItems) (i j : ℕ) (l m : SeatItems) → i ≢ j → get_elem? ls i ≡ some l → get_elem? ls j ≡ some m →
     times n l + times n m ≤ times_all n ls
 times_all-two n [] i j l m ne e f = absurd (some-ne-none l (sym e))
 times_all-two n (y ∷ ys) zero zero l m ne e f = absurd (ne refl)

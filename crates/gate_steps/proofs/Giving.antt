@@ -13,7 +13,13 @@ use Rattle.finite_sums.specs.Sums.{update}
 use Rattle.finite_sums.proofs.Totals.{update_at, update_off, each_updated}
 use Rattle.access_model.specs.Histories.{own_part}
 use Rattle.atomic_table.specs.Table.{Splits, Joins}
-use Rattle.atomic_table.proofs.Lists.{at_set, at_snoc, set_else}
+use Rattle.atomic_table.proofs.Lists.{at_set, at_snoc, at_map, at_longer, set_else}
+use Rattle.std.proofs.Common.{map}
+use Rattle.std.proofs.lemmas.List.{map-set, map-append}
+use native.Mathlib.Decide.{dec_le}
+use Rattle.gate_world.specs.declared.entries.Entry.{Entry}
+use Rattle.gate_steps.specs.declared.seating.Knowledge.{Knowledge}
+use Rattle.gate_steps.specs.Seating.{knows, items_of, HaveSeen, known_kept, known_given, known_both}
 use Rattle.cpu_words.specs.Words.{Words}
 use Rattle.gate_schedules.proofs.operations.frames.Frames.{left_alone, shown_still}
 use Rattle.gate_steps.specs.{Histories.HasHistory, Seating.{SeatItems, numbered, one_if, times, times_all, HaveViews, Dealt, without, view_in, renewed}}
@@ -166,32 +172,56 @@ renewed_part c w good n lt (AtMount m) =
 renewed_good : (c : Config) (w : World) → IsGood c w → (n : ℕ) → n < c.tasks → IsGood c (renewed_at w n)
 renewed_good c w good n lt = renewed_part c w good n lt
 
-renewed_history : (c : Config) (w : World) (n : ℕ) → n < c.tasks → HasHistory c w → HasHistory c (renewed_at w n)
+renewed_history : (c : Config) (w : World) (n : ℕ) → n < c.tasks → (h : HasHistory c w) →
+    (now : HasHistory c (renewed_at w n)) × (now.reached.entries ≡ h.reached.entries)
 renewed_history c w n lt h =
-    let v : View = renewed (w.views n) in record {
+    let v : View = renewed (w.views n) in
+    let came = renewed_reached c h.log w h.reached n in (record {
       log = h.log;
       legal = h.legal;
       end = h.end ∙ sym (shown_still c w n lt w.words v refl refl refl refl refl refl refl (λ i. refl) refl);
       lists = λ x. each_updated (λ y (u : View). own_part y h.log ≡ u.actions) w.views n v x (h.lists n) (λ ne. h.lists x);
       snapshots = λ x. each_updated (λ y (u : View). HasMoment c h.log y u.snapshot) w.views n v x tt (λ ne. h.snapshots x);
-      reached = renewed_reached c h.log w h.reached n;
-    }
+      reached = came.0;
+    }, came.1)
 
 -- and has had the same events
 renewed_events : (w : World) (n t : ℕ) → ((renewed_at w n).views t).events ≡ (w.views t).events
 renewed_events w n t = each_updated (λ y (u : View). u.events ≡ (w.views y).events) w.views n (renewed (w.views n)) t refl (λ ne. refl)
 
+-- of fewer numbers all is seen, too
+fewer_seen : (now : List Entry) (all some_of : SeatItems) (seen : List (List Entry)) → ((m : ℕ) → 1 ≤ times m some_of → 1 ≤ times m all) →
+    HaveSeen now all seen → HaveSeen now some_of seen
+fewer_seen now all some_of seen fewer have = record { goes_on = have.goes_on; rested = λ m here. have.rested m (fewer m here) }
+
+few_kept : (m n : ℕ) (x : Numbered) (xs : SeatItems) → 1 ≤ times m (x ∷ without n xs) → 1 ≤ times m (x ∷ xs)
+few_kept m n x xs here = dite (ℕ_discrete m n)
+    (λ yes. let e : times m (without n xs) ≡ 0 = subst (λ k. times m (without k xs) ≡ 0) yes (times-without m xs) in omega (arith, here))
+    (λ no. omega (arith, here, times-without_other m n xs no))
+
+few_given : (m n : ℕ) (v : View) (x : Numbered) (xs : SeatItems) → 1 ≤ times n xs → 1 ≤ times m (numbered n v ∷ []) → 1 ≤ times m (x ∷ xs)
+few_given m n v x xs spare here = dite (ℕ_discrete n m)
+    (λ yes. let e : 1 ≤ times m xs = subst (λ k. 1 ≤ times k xs) yes spare in omega (arith, e))
+    (λ no. absurd (omega (arith, here, one_if-other n m no)))
+
 -- a seat gives a number that it has to give
-pub splits : (c : Config) (id n : ℕ) (v : SeatItems) → Spares n v → Splits (holds c) id v (kept_of n v) (given_of n v)
-splits c id n [] spare s held at = absurd spare
-splits c id n (x ∷ xs) spare s held at =
+pub splits : (c : Config) (id n : ℕ) (v : SeatItems) (seen : List (List Entry)) → Spares n v →
+    Splits (holds c) id (knows v seen) (known_kept n (knows v seen)) (known_given n (knows v seen))
+splits c id n [] seen spare s held at = absurd spare
+splits c id n (x ∷ xs) seen spare s held there_is =
+    let seats : List SeatItems = map items_of s.views in
+    let at : get_elem? seats id ≡ some (x ∷ xs) = at_map items_of s.views id (knows (x ∷ xs) seen) there_is in
+    let kept : Knowledge = knows (x ∷ without n xs) seen in
+    let given_one : Knowledge = knows (given_of n (x ∷ xs)) seen in
+    let have : HaveSeen held.history.reached.entries (x ∷ xs) seen = held.seen id (knows (x ∷ xs) seen) there_is in
     let w : World = held.world in
     let there = view_in-at n xs spare in
     let u : View = view_in n xs in
     let is : w.views n ≡ u = held.dealt.same id (x ∷ xs) at (suc there.0) (numbered n u) there.1 in
-    let all = times_all-one n s.views id (x ∷ xs) at in
-    let lt : n < c.tasks = (known c.tasks w.views s.views held.dealt n (omega arith)).0 in
-    let v : View = renewed (w.views n) in record {
+    let all = times_all-one n seats id (x ∷ xs) at in
+    let lt : n < c.tasks = (known c.tasks w.views seats held.dealt n (omega arith)).0 in
+    let v : View = renewed (w.views n) in
+    let kept_on = renewed_history c w n lt held.history in record {
       world = renewed_at w n;
       ruled = record {
         within = held.ruled.within;
@@ -200,9 +230,21 @@ splits c id n (x ∷ xs) spare s held at =
         good = renewed_good c w held.ruled.good n lt;
         opens = λ untouched. held.ruled.opens (λ t there. sym (renewed_events w n t) ∙ untouched t there);
       };
-      history = renewed_history c w n lt held.history;
-      dealt = divided c.tasks w.views s.views held.dealt id n x xs at spare (renewed u) (update w.views n v)
-          (update_at w.views n v ∙ ap renewed is) (λ y ne. update_off w.views n v y ne);
+      history = kept_on.0;
+      dealt = subst (Dealt c.tasks (update w.views n v))
+          (sym (map-append items_of (set s.views id kept) (given_one ∷ []) ∙
+          ap (λ l. l ++ given_of n (x ∷ xs) ∷ []) (map-set items_of s.views id kept)))
+          (divided c.tasks w.views seats held.dealt id n x xs at spare (renewed u) (update w.views n v)
+          (update_at w.views n v ∙ ap renewed is) (λ y ne. update_off w.views n v y ne));
+      seen = λ j k e. subst (λ now. HaveSeen now k.items k.seen) (sym kept_on.1) (⊎_elim
+          (λ o. ⊎_elim
+          (λ q. subst (λ (l : Knowledge). HaveSeen held.history.reached.entries l.items l.seen) q.1
+          (fewer_seen held.history.reached.entries (x ∷ xs) (x ∷ without n xs) seen (λ m here. few_kept m n x xs here) have))
+          (λ q. held.seen j k q.1)
+          (at_set s.views id j kept k o))
+          (λ o. subst (λ (l : Knowledge). HaveSeen held.history.reached.entries l.items l.seen) o
+          (fewer_seen held.history.reached.entries (x ∷ xs) (given_of n (x ∷ xs)) seen (λ m here. few_given m n (renewed (view_in n xs)) x xs spare here) have))
+          (at_snoc (set s.views id kept) given_one k j e));
     }
 
 module _ (tasks : ℕ) (views : ℕ → View) (seats : List SeatItems) (dealt : Dealt tasks views seats) (id other : ℕ) (v w : SeatItems)
@@ -230,11 +272,57 @@ module _ (tasks : ℕ) (views : ℕ → View) (seats : List SeatItems) (dealt : 
             (at_set (set seats id (v ++ w)) other j [] m e);
       }
 
+-- what stands in the second of two lists stands behind the first
+at_behind : {A : Type 0} (l m : List A) (k : ℕ) (y : A) → get_elem? m k ≡ some y → (j : ℕ) × (get_elem? (l ++ m) j ≡ some y)
+at_behind [] m k y e = (k, e)
+at_behind (x ∷ xs) m k y e = let r = at_behind xs m k y e in (suc r.0, r.1)
+
+seen_nothing : (now : List Entry) → HaveSeen now [] []
+seen_nothing now = record { goes_on = λ k earlier at. absurd (some-ne-none earlier (sym at)); rested = λ n here. absurd (omega (arith, here)) }
+
+-- two seats have seen together what each has
+both_seen : (now : List Entry) (v w : SeatItems) (s r : List (List Entry)) → HaveSeen now v s → HaveSeen now w r →
+    HaveSeen now (v ++ w) (s ++ r)
+both_seen now v w s r a b = record {
+  goes_on = λ k earlier at. ⊎_elim (λ t. a.goes_on k earlier t) (λ t. b.goes_on t.0 earlier t.1) (at_append s r k earlier at);
+  rested = λ n here. dite (dec_le 1 (times n v))
+      (λ yes. let h = a.rested n yes in record {
+        place = h.place;
+        earlier = h.earlier;
+        there = at_longer s r h.place h.earlier h.there;
+        since = h.since;
+        is = h.is;
+        none = h.none;
+      })
+      (λ no. let h = b.rested n (omega (arith, here, times-append n v w, no)) in let p = at_behind s r h.place h.earlier h.there in record {
+        place = p.0;
+        earlier = h.earlier;
+        there = p.1;
+        since = h.since;
+        is = h.is;
+        none = h.none;
+      });
+}
+
 -- a seat takes back all numbers of another
-pub joins : (c : Config) (id other : ℕ) (v w : SeatItems) → Joins (holds c) id v other w (v ++ w) []
-joins c id other v w s held at ne at' = record {
+pub joins : (c : Config) (id other : ℕ) (a b : Knowledge) → Joins (holds c) id a other b (known_both a b) (knows [] [])
+joins c id other a b s held at ne at' = let both : Knowledge = known_both a b in
+    let there : get_elem? s.views other ≡ some b = sym (set_else s.views id other both ne) ∙ at' in
+    let seats : List SeatItems = map items_of s.views in record {
   world = held.world;
   ruled = held.ruled;
   history = held.history;
-  dealt = merged c.tasks held.world.views s.views held.dealt id other v w at ne (sym (set_else s.views id other (v ++ w) ne) ∙ at');
+  dealt = subst (Dealt c.tasks held.world.views)
+      (sym (map-set items_of (set s.views id both) other (knows [] []) ∙
+      ap (λ l. set l other []) (map-set items_of s.views id both)))
+      (merged c.tasks held.world.views seats held.dealt id other a.items b.items (at_map items_of s.views id a at) ne
+      (at_map items_of s.views other b there));
+  seen = λ j k e. ⊎_elim
+      (λ q. subst (λ (l : Knowledge). HaveSeen held.history.reached.entries l.items l.seen) q.1 (seen_nothing held.history.reached.entries))
+      (λ q. ⊎_elim
+      (λ r. subst (λ (l : Knowledge). HaveSeen held.history.reached.entries l.items l.seen) r.1
+      (both_seen held.history.reached.entries a.items b.items a.seen b.seen (held.seen id a at) (held.seen other b there)))
+      (λ r. held.seen j k r.1)
+      (at_set s.views id j both k q.1))
+      (at_set (set s.views id both) other j (knows [] []) k e);
 }

@@ -1,4 +1,5 @@
 pub mod Dealing
+pub mod Growing
 pub mod TableWords
 pub mod Reaching
 pub mod Stores

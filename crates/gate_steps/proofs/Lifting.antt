@@ -22,14 +22,22 @@ use Rattle.gate_schedules.proofs.Schedule.{begun_keeps}
 use Rattle.gate_schedules.proofs.Schedule.{legal_more}
 use Rattle.gate_schedules.proofs.Snapshots.{beside_moments, begin_moments}
 use Rattle.gate_steps.proofs.{Dealing.{times-at, known_here, inside, redealt}, Reaching.{begun_reached, stepped_reached}, Stores.there_found}
+use Rattle.gate_steps.proofs.Growing.{seen_all}
 use Rattle.gate_steps.proofs.TableWords.{table_written}
-use Rattle.gate_steps.specs.{Histories.{HasHistory, IsReached, then_begins}, Rules.{table_index, table_length, TableShows, Held}, Seating.{SeatItems, HaveViews, MayStep}}
+use Rattle.gate_world.specs.declared.entries.Entry.{Entry}
+use Rattle.gate_steps.specs.declared.seating.Knowledge.{Knowledge}
+use Rattle.std.proofs.Common.{map}
+use Rattle.std.proofs.lemmas.List.{map-set}
+use mathlib.Core.Option.{some}
+use lib.ListN.{get_elem?}
+use Rattle.atomic_table.proofs.Lists.{at_map}
+use Rattle.gate_steps.specs.{Histories.{HasHistory, IsReached, then_begins, then_steps}, Rules.{table_index, table_length, TableShows, Held}, Seating.{SeatItems, knows, items_of, HaveViews, Dealt, MayStep}}
 use Rattle.gate_steps.specs.{Seating.{Acts, entered, world_entered, done_by, items_after, happened}, declared.seating.Numbered.Numbered}
 
 abbrev pub Carried : Type 0
 Carried = List (ℕ × Unit {0})
 
-abbrev pub holds : Config → State (Unit {0}) SeatItems → Type 0
+abbrev pub holds : Config → State (Unit {0}) Knowledge → Type 0
 holds c s = Held c s.words s.views
 
 -- a view depends on a word's value only through what the event says that it found
@@ -110,18 +118,20 @@ touched others u v phase n hook is none =
     no
 
 -- Whatever the event, the laws of the machine are what the step asks
-pub lifted : (c : Config) (slots id : ℕ) (items : SeatItems) (carried : Carried) (begins : Option Op) (phase : Phase) (hook : HookAnswer) →
+pub lifted : (c : Config) (slots id : ℕ) (items : SeatItems) (seen : List (List Entry)) (carried : Carried) (begins : Option Op) (phase : Phase) (hook : HookAnswer) →
     Acts c begins phase items →
-    Allows (holds c) slots id (items, carried) (table_index (place (next_of phase hook).0)) (left (next_of phase hook).1)
-    (λ n. happened c begins phase hook (items, carried) (found_by (next_of phase hook).1 n))
-lifted c slots id [] carried begins phase hook acts s held len at small = absurd acts
-lifted c slots id (x ∷ xs) carried begins phase hook acts s held len at small =
+    Allows (holds c) slots id (knows items seen, carried) (table_index (place (next_of phase hook).0)) (left (next_of phase hook).1)
+    (λ n. happened c begins phase hook (knows items seen, carried) (found_by (next_of phase hook).1 n))
+lifted c slots id [] seen carried begins phase hook acts s held len at small = absurd acts
+lifted c slots id (x ∷ xs) seen carried begins phase hook acts s held len there_is small =
+    let seats : List SeatItems = map items_of s.views in
+    let at : get_elem? seats id ≡ some (x ∷ xs) = at_map items_of s.views id (knows (x ∷ xs) seen) there_is in
     let t : ℕ = x.number in
     let w : World = held.world in
     let lim : IsWithin c = held.ruled.within in
     let good : IsGood c w = held.ruled.good in
     let mine : HaveViews w.views (x ∷ xs) = held.dealt.same id (x ∷ xs) at in
-    let lt : t < c.tasks = known_here c.tasks w.views s.views held.dealt id (x ∷ xs) at t (times-at (x ∷ xs) 0 x refl) in
+    let lt : t < c.tasks = known_here c.tasks w.views seats held.dealt id (x ∷ xs) at t (times-at (x ∷ xs) 0 x refl) in
     let log : List Done = held.history.log in
     let en : Entered c w t begins phase x.view log = enter c lim w good x lt held.history (mine 0 x refl) begins phase acts in
     let w' : World = world_entered c w t begins in
@@ -157,6 +167,10 @@ lifted c slots id (x ∷ xs) carried begins phase hook acts s held len at small 
     let done : HaveDone others log = have_done w.views log held.history.lists xs (λ k. mine (suc k)) in
     let came = en.reached held.history.reached in
     let went = stepped_reached c log w' came.0 t lt others phase hook en.at_phase in
+    let past : List Entry = held.history.reached.entries in
+    let now : List Entry = went.0.entries in
+    let grown : now ≡ then_steps t hook (then_begins t begins past) = went.1 ∙ ap (then_steps t hook) came.1 in
+    let left_items : SeatItems = items_after begins phase hook (found_by touch n) (x ∷ xs) in
     let history : HasHistory c after = record {
       log = with_action t a log;
       legal = more.0;
@@ -166,7 +180,7 @@ lifted c slots id (x ∷ xs) carried begins phase hook acts s held len at small 
           ((phase_keeps c phase).completes lim w' en.good t lt hook en.at_phase) en.snapshots;
       reached = went.0;
     } in (
-      items_after begins phase hook (found_by touch n) (x ∷ xs),
+      knows left_items (now ∷ []),
       keeps,
       tt,
       record {
@@ -180,7 +194,9 @@ lifted c slots id (x ∷ xs) carried begins phase hook acts s held len at small 
               (touched others (after.views t) (entered x.view begins phase) phase (found_by touch n) hook own (untouched t lt));
         };
         history = history;
-        dealt = redealt c.tasks w.views s.views held.dealt id (x ∷ xs) at t x.view v xs refl after.views own apart;
+        dealt = subst (Dealt c.tasks after.views) (sym (map-set items_of s.views id (knows left_items (now ∷ []))))
+            (redealt c.tasks w.views seats held.dealt id (x ∷ xs) at t x.view v xs refl after.views own apart);
+        seen = seen_all c.tasks w.views s.views held.dealt id x xs seen there_is begins hook past now grown held.seen left_items;
       },
       (
         refl,
@@ -198,26 +214,28 @@ lifted c slots id (x ∷ xs) carried begins phase hook acts s held len at small 
           moves = subst (λ (z : Shown × Words). Moves c z.0 t (after_of phase (found_at z.1 phase hook) hook).1 (shown c after))
               (λ j. (en.shows j, en.words j)) kept.1;
           past = held.history;
+          from = held.seen id (knows (x ∷ xs) seen) there_is;
           history = history;
           grows = ap (λ (z : Words). with_action t (after_of phase (found_at z phase hook) hook).1 log) en.words;
           reached = came.0;
           begun = came.1;
           stepped = went.1;
+          leaves = refl;
           stands = en.mine;
-          left = inside c.tasks w.views s.views held.dealt id (x ∷ xs) at t x.view v xs refl after.views own apart;
+          left = inside c.tasks w.views seats held.dealt id (x ∷ xs) at t x.view v xs refl after.views own apart;
         },
       ),
     )
 
 -- The same at a place, a touch and a moment that equal those of the phase, with the place's bound
-pub lifted_at : (c : Config) (slots words id : ℕ) (me : Me (Unit {0}) SeatItems) (d : Config) (begins starts : Option Op) (p q : Phase)
+pub lifted_at : (c : Config) (slots words id : ℕ) (me : Me (Unit {0}) Knowledge) (d : Config) (begins starts : Option Op) (p q : Phase)
     (h k : HookAnswer) (r : WordName × Touch) (i : ℕ) (touch : Touch) →
     c ≡ d → begins ≡ starts → p ≡ q → h ≡ k → r ≡ next_of p h → i ≡ table_index (place r.0) → r.1 ≡ touch → words ≡ table_length →
-    place (next_of p h).0 < words_in_all → Acts c begins p me.0 →
+    place (next_of p h).0 < words_in_all → Acts c begins p me.0.items →
     (i < words) × Allows (holds c) slots id me i (left touch) (λ n. happened d starts q k me (found_by touch n))
 lifted_at c slots words id me d begins starts p q h k r i touch ec eb ep eh er ei et ew small acts =
     let at : i ≡ table_index (place (next_of p h).0) = ei ∙ ap (λ (z : WordName × Touch). table_index (place z.0)) er in
     let same : (next_of p h).1 ≡ touch = ap (λ (z : WordName × Touch). z.1) (sym er) ∙ et in
     let P : Config × Option Op × Phase × HookAnswer × ℕ × Touch →
     Type 0 = λ z. Allows (holds c) slots id me z.4 (left z.5) (λ n. happened z.0 z.1 z.2 z.3 me (found_by z.5 n)) in
-    (omega arith, subst P (λ j. (ec j, eb j, ep j, eh j, sym at j, same j)) (lifted c slots id me.0 me.1 begins p h acts))
+    (omega arith, subst P (λ j. (ec j, eb j, ep j, eh j, sym at j, same j)) (lifted c slots id me.0.items me.0.seen me.1 begins p h acts))

@@ -14,11 +14,12 @@ use Rattle.gate_world.specs.Worlds.{opening}
 use Rattle.gate_schedules.proofs.operations.frames.Places.{are_few}
 use Rattle.gate_schedules.proofs.Schedule.{opening_good, opening_shown}
 use Rattle.gate_steps.specs.declared.seating.Numbered.{Numbered}
-use Rattle.gate_steps.specs.Seating.{SeatItems, numbered, one_if, times, HaveViews, deal}
-use Rattle.gate_steps.specs.Rules.{table_index, table_length, TableShows, Held, first_items}
+use Rattle.gate_steps.specs.Seating.{SeatItems, numbered, one_if, times, knows, HaveViews, HaveSeen, deal}
+use Rattle.gate_steps.specs.Rules.{table_index, table_length, TableShows, Held, first_items, first_known}
+use Rattle.gate_steps.specs.declared.seating.Knowledge.{Knowledge}
 use Rattle.gate_steps.proofs.Dealing.{one_if-same, one_if-other}
 use Rattle.gate_steps.proofs.TableWords.{apart}
-use Rattle.gate_steps.proofs.Reaching.{opening_reached}
+use Rattle.gate_steps.proofs.{Growing.seen_now, Reaching.opening_reached}
 
 -- numbers below those that are dealt stand nowhere
 pub times-deal_below : (m from k : ℕ) → m < from → times m (deal from k) ≡ 0
@@ -57,13 +58,18 @@ first_views : (n id : ℕ) (l : SeatItems) → get_elem? (deal 0 n ∷ []) id �
 first_views n zero l e = subst (HaveViews (λ t. opening_view)) (some-injective (deal 0 n) l e) (deal-views 0 n)
 first_views n (suc id) l e = absurd (some-ne-none l (sym e))
 
+-- which has seen the empty schedule
+first_seen : (items : SeatItems) (id : ℕ) (k : Knowledge) → get_elem? (knows items ([] ∷ []) ∷ []) id ≡ some k → HaveSeen [] k.items k.seen
+first_seen items zero k e = subst (λ (l : Knowledge). HaveSeen [] l.items l.seen) (some-injective (knows items ([] ∷ [])) k e) (seen_now [] items)
+first_seen items (suc id) k e = absurd (some-ne-none k (sym e))
+
 module _ (c : Config) (lim : IsWithin c) (ws : List ℕ) (opens : AreOpening table_index table_length ws) where
   -- the table shows the opening words
   shows_opening : TableShows c ws opening_words
   shows_opening = opening_listed (extents_kept c) (are_few c lim) table_index apart table_length ws opens (omega (arith, lim.some_node))
 
   -- and its rule holds, with all numbers in the first seat
-  pub opening_held : Held c ws (first_items c ∷ [])
+  pub opening_held : Held c ws (first_known c ∷ [])
   opening_held = let n : ℕ = c.tasks in record {
     world = opening;
     ruled = record { within = lim; long = opens.long; words = shows_opening; good = opening_good c lim; opens = λ untouched. refl };
@@ -73,11 +79,12 @@ module _ (c : Config) (lim : IsWithin c) (ws : List ℕ) (opens : AreOpening tab
       end = opening_shown c lim;
       lists = λ t. refl;
       snapshots = λ t. tt;
-      reached = opening_reached c;
+      reached = (opening_reached c).0;
     };
     dealt = record {
       once = λ m lt. let e = times-deal m 0 n (omega arith) (omega arith) in omega arith;
       no_other = λ m ge. let e = times-deal_above m 0 n (omega arith) in omega arith;
       same = λ id l e. first_views n id l e;
     };
+    seen = λ id k e. subst (λ l. HaveSeen l k.items k.seen) (sym (opening_reached c).1) (first_seen (first_items c) id k e);
   }

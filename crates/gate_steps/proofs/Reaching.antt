@@ -6,7 +6,8 @@ use Rattle.finite_sums.proofs.Totals.{update_at, update_off, each_updated}
 use Rattle.cpu_words.specs.{Hooks.HookAnswer, Touches.event_of}
 use Rattle.access_model.specs.{Histories.Done, declared.actions.Action.Action}
 use Rattle.gate_world.specs.{Beginnings.{first_phase, refusal, view_refusal}, Holdings.holdings_of, Views.{phase_after, actions_after, begun_view}}
-use Rattle.gate_world.specs.{Views.{view_after, view_after_beside, with_hook}, Work.{next_of, after_of}, Worlds.{World, Entry, Begins, Steps, after_begin}}
+use Rattle.gate_world.specs.{Views.{view_after, view_after_beside, with_hook}, Work.{next_of, after_of}, Worlds.{World, after_begin}}
+use Rattle.gate_world.specs.declared.entries.Entry.{Entry, TheVariants.{Begins, Steps}}
 use Rattle.gate_world.specs.{Worlds.{words_after, after_step, after_step_beside, run, opening, happens, history, with_action, action_of, task_of}}
 use Rattle.gate_world.specs.{Worlds.{value_at, found_at, phase_action}, declared.{config.Config.Config, operations.Op.Op}}
 use Rattle.gate_world.specs.declared.{views.{View.View, Traced.Traced}, work.Phase.Phase}
@@ -23,13 +24,13 @@ like_update f g t v u like each x =
     ]
 
 -- the opening is reached by no entry
-pub opening_reached : (c : Config) → IsReached c [] opening
-opening_reached c = record {
+pub opening_reached : (c : Config) → (r : IsReached c [] opening) × (r.entries ≡ [])
+opening_reached c = (record {
   entries = [];
   words = refl;
   views = λ t. record { phase = refl; actions = refl; events = refl; same = λ op is. (is, refl, refl) };
   made = refl;
-}
+}, refl)
 
 -- the actions of a schedule with one entry more
 history_more : (c : Config) (w : World) (earlier : List Done) (es : List Entry) (e : Entry) →
@@ -47,8 +48,9 @@ module _ (c : Config) (log : List Done) (w : World) (reached : IsReached c log w
   there = run c opening reached.entries
 
   -- after a number is given to a new task
-  pub renewed_reached : (n : ℕ) → IsReached c log (record { words = w.words; views = update w.views n (renewed (w.views n)) })
-  renewed_reached n = record {
+  pub renewed_reached : (n : ℕ) →
+      (now : IsReached c log (record { words = w.words; views = update w.views n (renewed (w.views n)) })) × (now.entries ≡ reached.entries)
+  renewed_reached n = (record {
     entries = reached.entries;
     words = reached.words;
     views = λ x. each_updated (λ y (u : View). IsLike (there.views y) u) w.views n (renewed (w.views n)) x
@@ -60,7 +62,7 @@ module _ (c : Config) (log : List Done) (w : World) (reached : IsReached c log w
         })
         (λ ne. reached.views x);
     made = reached.made;
-  }
+  }, refl)
 
   module _ (t : ℕ) (lt : t < c.tasks) where
     -- an operation is refused there as here

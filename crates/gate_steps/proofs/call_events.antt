@@ -10,6 +10,7 @@ pub mod Going
 pub mod Turning
 pub mod Waited
 pub mod Running
+pub mod Grown
 pub mod Onward
 pub mod Asking
 pub mod Asked

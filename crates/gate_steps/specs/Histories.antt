@@ -6,7 +6,8 @@ use Rattle.gate_world.specs.declared.config.Config.{Config}
 use Rattle.gate_world.specs.declared.operations.Op.{Op}
 use Rattle.gate_world.specs.declared.views.View.{View}
 use Rattle.gate_world.specs.Configs.{model_limits}
-use Rattle.gate_world.specs.Worlds.{World, Entry, Begins, Steps, run, opening, history}
+use Rattle.gate_world.specs.Worlds.{World, run, opening, history}
+use Rattle.gate_world.specs.declared.entries.Entry.{Entry, TheVariants.{Begins, Steps}}
 use Rattle.gate_world.specs.Shown.{shown}
 use Rattle.gate_world.specs.Moments.{AllHaveMoments}
 

@@ -1,5 +1,8 @@
 -- The rule of the table.
-use Rattle.std.specs.Prelude.{◌≡◌, ℕ, ◌*◌, ◌<◌, List, [], length}
+use Rattle.std.specs.Prelude.{◌≡◌, ℕ, ◌*◌, ◌<◌, List, [], ◌∷◌, map, length}
+use mathlib.Core.Option.{some}
+use lib.ListN.{get_elem?}
+use Rattle.gate_steps.specs.declared.seating.Knowledge.{Knowledge}
 use Rattle.cpu_words.specs.Names.{words_in_all, stride}
 use Rattle.cpu_words.specs.Words.{Words, opening_words}
 use Rattle.cpu_words.specs.Lists.{ListShows}
@@ -9,7 +12,7 @@ use Rattle.gate_world.specs.Configs.{IsWithin, extents_kept}
 use Rattle.gate_world.specs.Worlds.{World}
 use Rattle.gate_world.specs.Rules.{IsGood}
 use Rattle.gate_steps.specs.Histories.{HasHistory}
-use Rattle.gate_steps.specs.Seating.{SeatItems, Dealt, deal}
+use Rattle.gate_steps.specs.Seating.{SeatItems, knows, items_of, HaveSeen, Dealt, deal}
 
 -- where the word of a place lies in the table: words lie apart, each in cache lines of its own
 abbrev pub table_index : ℕ → ℕ
@@ -36,12 +39,17 @@ pub record Ruled (c : Config) (ws : List ℕ) (w : World) : Type 0 where
   pub opens : IsUntouched c w.views → w.words ≡ opening_words
 
 -- the rule of the table
-pub record Held (c : Config) (ws : List ℕ) (seats : List SeatItems) : Type 0 where
+pub record Held (c : Config) (ws : List ℕ) (seats : List Knowledge) : Type 0 where
   pub world : World
   pub ruled : Ruled c ws world
   pub history : HasHistory c world
-  pub dealt : Dealt c.tasks world.views seats
+  pub dealt : Dealt c.tasks world.views (map items_of seats)
+  pub seen : (id : ℕ) (k : Knowledge) → get_elem? seats id ≡ some k → HaveSeen history.reached.entries k.items k.seen
 
 -- what the first seat knows: all numbers
 abbrev pub first_items : Config → SeatItems
 first_items c = deal 0 c.tasks
+
+-- and the empty schedule
+abbrev pub first_known : Config → Knowledge
+first_known c = knows (first_items c) ([] ∷ [])

@@ -1,5 +1,5 @@
 -- What a seat knows: task numbers, each with its view. The first is its own, the others it has still to give.
-use Rattle.std.specs.Prelude.{◌≡◌, ℕ, zero, suc, ◌+◌, ◌==◌, ◌<◌, ◌≤◌, Bool, true, false, cond, Option, Some, None, List, [], ◌∷◌, length}
+use Rattle.std.specs.Prelude.{◌≡◌, ℕ, zero, suc, ◌+◌, ◌==◌, ◌<◌, ◌≤◌, Bool, true, false, cond, Option, Some, None, List, [], ◌∷◌, ◌++◌, length}
 use mathlib.Core.Option.{some}
 use lib.ListN.{get_elem?}
 use Rattle.cpu_words.specs.Hooks.{HookAnswer}
@@ -11,21 +11,48 @@ use Rattle.gate_world.specs.declared.views.Traced.{Traced}
 use Rattle.gate_world.specs.Configs.{IsWithin}
 use Rattle.gate_world.specs.Views.{opening_view, begun_view, view_after_beside}
 use Rattle.gate_world.specs.Beginnings.{first_phase, view_refusal}
-use Rattle.gate_world.specs.Worlds.{World, after_begin, found_at, after_step_beside, phase_action, with_action}
+use Rattle.gate_world.specs.Worlds.{World, after_begin, found_at, after_step_beside, phase_action, task_of, with_action}
+use Rattle.gate_world.specs.declared.entries.Entry.{Entry}
 use Rattle.gate_world.specs.Work.{next_of}
 use Rattle.gate_world.specs.Courses.{MayFind}
 use Rattle.gate_world.specs.Shown.{shown}
 use Rattle.gate_world.specs.Rules.{IsGood, Moves}
 use Rattle.gate_steps.specs.Histories.{HasHistory, IsReached, then_begins, then_steps}
-use Rattle.gate_steps.specs.declared.seating.Numbered.{Numbered}
+use Rattle.gate_steps.specs.declared.seating.{Numbered.Numbered, Knowledge.Knowledge}
 
--- what a seat knows
+-- the numbers that a seat has
 abbrev pub SeatItems : Type 0
 SeatItems = List Numbered
 
 -- a number with its view
 abbrev pub numbered : ℕ → View → Numbered
 numbered n v = record { number = n; view = v }
+
+-- these numbers, and these schedules seen
+abbrev pub knows : SeatItems → List (List Entry) → Knowledge
+knows items seen = record { items = items; seen = seen }
+
+-- the numbers of what a seat knows
+abbrev pub items_of : Knowledge → SeatItems
+items_of k = k.items
+
+-- none of these entries is of that number
+abbrev pub NoneOf : ℕ → List Entry → Type 0
+NoneOf n [] = Unit {0}
+NoneOf n (e ∷ es) = (task_of e ≡ n → ⊥) × NoneOf n es
+
+-- a schedule goes on from an earlier one
+abbrev pub GoesOn : List Entry → List Entry → Type 0
+GoesOn earlier now = (since : List Entry) × (now ≡ earlier ++ since)
+
+-- since one of those seen no entry is of that number
+pub record HasRested (n : ℕ) (seen : List (List Entry)) (now : List Entry) : Type 0 where
+  pub place : ℕ
+  pub earlier : List Entry
+  pub there : get_elem? seen place ≡ some earlier
+  pub since : List Entry
+  pub is : now ≡ earlier ++ since
+  pub none : NoneOf n since
 
 -- 1 where it is so
 abbrev pub one_if : Bool → ℕ
@@ -46,13 +73,19 @@ times_all n (l ∷ ls) = times n l + times_all n ls
 abbrev pub HaveViews : (ℕ → View) → SeatItems → Type 0
 HaveViews views items = (k : ℕ) (x : Numbered) → get_elem? items k ≡ some x → views x.number ≡ x.view
 
+-- the schedule goes on from each that the seat has seen, and each number of the seat has rested since one of them
+pub record HaveSeen (now : List Entry) (items : SeatItems) (seen : List (List Entry)) : Type 0 where
+  pub goes_on : (k : ℕ) (earlier : List Entry) → get_elem? seen k ≡ some earlier → GoesOn earlier now
+  pub rested : (n : ℕ) → 1 ≤ times n items → HasRested n seen now
+
 -- some world that the rule holds of, with one history, in which the numbers of a seat have these views
-pub record HaveHistory (c : Config) (items : SeatItems) : Type 0 where
+pub record HaveHistory (c : Config) (items : SeatItems) (seen : List (List Entry)) : Type 0 where
   pub within : IsWithin c
   pub world : World
   pub good : IsGood c world
   pub history : HasHistory c world
   pub mine : HaveViews world.views items
+  pub last : seen ≡ history.reached.entries ∷ []
 
 -- numbers are dealt: each number of a task stands in just one seat, once, there is no other, and what stands beside it is its view
 pub record Dealt (tasks : ℕ) (views : ℕ → View) (seats : List SeatItems) : Type 0 where
@@ -101,7 +134,7 @@ world_left c w begins phase hook n others = after_step_beside (done_by others) (
 -- the one before with this action. What it found is what its word may hold. Its schedule is the one before with the beginning, where the
 -- operation has just begun, and with this event: between the two it makes the world in which the event happened.
 pub record Moved (c : Config) (begins : Option Op) (phase : Phase) (hook : HookAnswer) (x : Numbered) (xs : SeatItems)
-    (n : ℕ) : Type 0 where
+    (n : ℕ) (seen left_seen : List (List Entry)) : Type 0 where
   pub within : IsWithin c
   pub world : World
   pub task : x.number < c.tasks
@@ -113,25 +146,26 @@ pub record Moved (c : Config) (begins : Option Op) (phase : Phase) (hook : HookA
   pub moves : Moves c (shown c world) x.number (phase_action world hook (Some phase))
       (shown c (world_left c world begins phase hook x.number xs))
   pub past : HasHistory c world
+  pub from : HaveSeen past.reached.entries (x ∷ xs) seen
   pub history : HasHistory c (world_left c world begins phase hook x.number xs)
   pub grows : history.log ≡ with_action x.number (phase_action world hook (Some phase)) past.log
   pub reached : IsReached c past.log (world_entered c world x.number begins)
   pub begun : reached.entries ≡ then_begins x.number begins past.reached.entries
   pub stepped : history.reached.entries ≡ then_steps x.number hook reached.entries
+  pub leaves : left_seen ≡ history.reached.entries ∷ []
   pub stands : (world_entered c world x.number begins).views x.number ≡ entered x.view begins phase
   pub left : HaveViews (world_left c world begins phase hook x.number xs).views (items_after begins phase hook n (x ∷ xs))
 
 -- the same of a seat's own number, which is its first
-abbrev pub IsMove : Config → Option Op → Phase → HookAnswer → SeatItems → ℕ → Type 0
-IsMove c begins phase hook [] found = ⊥
-IsMove c begins phase hook (x ∷ xs) found = Moved c begins phase hook x xs found
+abbrev pub IsMove : Config → Option Op → Phase → HookAnswer → SeatItems → ℕ → List (List Entry) → List (List Entry) → Type 0
+IsMove c begins phase hook [] found seen left = ⊥
+IsMove c begins phase hook (x ∷ xs) found seen left = Moved c begins phase hook x xs found seen left
 
 -- what the one play says: the seat's own view is what the event makes of it, nothing else of the seat changed, and it was an event
 -- in a world that the rule holds of
-abbrev pub happened : Config → Option Op → Phase → HookAnswer → SeatItems × List (ℕ × Unit {0}) → ℕ → SeatItems × List (ℕ × Unit {0}) →
-    Type 0
-happened c begins phase hook me found after = (after.0 ≡ items_after begins phase hook found me.0) × (after.1 ≡ me.1) ×
-    IsMove c begins phase hook me.0 found
+abbrev pub happened : Config → Option Op → Phase → HookAnswer → Knowledge × List (ℕ × Unit {0}) → ℕ → Knowledge × List (ℕ × Unit {0}) → Type 0
+happened c begins phase hook me found after = (after.0.items ≡ items_after begins phase hook found me.0.items) × (after.1 ≡ me.1) ×
+    IsMove c begins phase hook me.0.items found me.0.seen after.0.seen
 
 -- these numbers but for one
 abbrev pub without : ℕ → SeatItems → SeatItems
@@ -162,6 +196,17 @@ kept_of n (x ∷ xs) = x ∷ without n xs
 abbrev pub given_of : ℕ → SeatItems → SeatItems
 given_of n [] = []
 given_of n (x ∷ xs) = numbered n (renewed (view_in n xs)) ∷ []
+
+-- both have seen what the seat has
+abbrev pub known_kept : ℕ → Knowledge → Knowledge
+known_kept n k = knows (kept_of n k.items) k.seen
+
+abbrev pub known_given : ℕ → Knowledge → Knowledge
+known_given n k = knows (given_of n k.items) k.seen
+
+-- a seat that takes back another's numbers has seen what that one has, too
+abbrev pub known_both : Knowledge → Knowledge → Knowledge
+known_both mine others = knows (mine.items ++ others.items) (mine.seen ++ others.seen)
 
 -- the number is one that the seat has still to give
 abbrev pub Spares : ℕ → SeatItems → Type 0

@@ -3,14 +3,16 @@ use Rattle.std.specs.Prelude.{ℕ, ◌<◌, ◌≤◌, List}
 use Rattle.gate_world.specs.declared.config.Config.{Config}
 use Rattle.gate_world.specs.Worlds.{World}
 use Rattle.gate_steps.specs.Histories.{HasHistory}
-use Rattle.gate_steps.specs.Seating.{SeatItems, HaveViews, times}
+use Rattle.gate_steps.specs.Seating.{HaveViews, HaveSeen, times}
+use Rattle.gate_steps.specs.declared.seating.Knowledge.{Knowledge}
 use Rattle.gate_steps.specs.Rules.{Ruled}
 
 -- The words are those of some world that the rule holds of, with one history, and the schedule that makes it, and in which the numbers of
 -- the seat are tasks with these views.
-pub record IsClosing (c : Config) (ws : List ℕ) (items : SeatItems) : Type 0 where
+pub record IsClosing (c : Config) (ws : List ℕ) (k : Knowledge) : Type 0 where
   pub world : World
   pub ruled : Ruled c ws world
   pub history : HasHistory c world
-  pub mine : HaveViews world.views items
-  pub tasks : (n : ℕ) → 1 ≤ times n items → n < c.tasks
+  pub mine : HaveViews world.views k.items
+  pub seen : HaveSeen history.reached.entries k.items k.seen
+  pub tasks : (n : ℕ) → 1 ≤ times n k.items → n < c.tasks

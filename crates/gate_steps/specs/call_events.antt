@@ -12,6 +12,7 @@ pub mod Stepped
 pub mod Turns
 pub mod Refused
 pub mod Runs
+pub mod Grown
 pub mod Waited
 pub mod Asking
 pub mod Asked

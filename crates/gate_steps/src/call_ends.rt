@@ -126,12 +126,12 @@ fn go_on_asking<P: Waiting, H: TimedHooks>(
     hooks: &mut H,
 ) -> Next<P>
     requires table { seat.old.table_id ≡ gates.now.table.shared.table_id }
-    requires tied { IsTied gates.now.config begins (Some (P.as_phase under_way)) accesses.old seat.old.me.0 }
+    requires tied { IsTied gates.now.config begins (Some (P.as_phase under_way)) accesses.old seat.old.me.0.items }
     ensures table { seat.new.table_id ≡ seat.old.table_id }
     ensures slots { seat.new.me.1 ≡ seat.old.me.1 }
-    ensures tied { StayTied gates.now.config begins (Some (P.as_phase under_way)) accesses.old seat.old.me.0
-        (phase_after (map_next P.as_phase result)) accesses.new seat.new.me.0 }
-    ensures still { IsTied gates.now.config None (phase_after (map_next P.as_phase result)) accesses.new seat.new.me.0 }
+    ensures tied { StayTied gates.now.config begins (Some (P.as_phase under_way)) accesses.old seat.old.me.0.items
+        (phase_after (map_next P.as_phase result)) accesses.new seat.new.me.0.items }
+    ensures still { IsTied gates.now.config None (phase_after (map_next P.as_phase result)) accesses.new seat.new.me.0.items }
     ensures asked { (waits : ℕ) (op : OpType) (start : TaskState) (before : H) →
         GoesAsking H.answers waits op start before
         (task_state seat.old.table_id gates.now.config begins (Some (P.as_phase under_way)) seat.old.me.0) hooks.old →
@@ -167,12 +167,12 @@ fn go_along_row<P: Waiting>(
     row: Row,
 ) -> Next<P>
     requires table { seat.old.table_id ≡ gates.now.table.shared.table_id }
-    requires tied { IsTied gates.now.config None (phase_after (map_next P.as_phase next)) accesses.old seat.old.me.0 }
+    requires tied { IsTied gates.now.config None (phase_after (map_next P.as_phase next)) accesses.old seat.old.me.0.items }
     ensures table { seat.new.table_id ≡ seat.old.table_id }
     ensures slots { seat.new.me.1 ≡ seat.old.me.1 }
-    ensures tied { StayTied gates.now.config None (phase_after (map_next P.as_phase next)) accesses.old seat.old.me.0
-        (phase_after (map_next P.as_phase result)) accesses.new seat.new.me.0 }
-    ensures still { IsTied gates.now.config None (phase_after (map_next P.as_phase result)) accesses.new seat.new.me.0 }
+    ensures tied { StayTied gates.now.config None (phase_after (map_next P.as_phase next)) accesses.old seat.old.me.0.items
+        (phase_after (map_next P.as_phase result)) accesses.new seat.new.me.0.items }
+    ensures still { IsTied gates.now.config None (phase_after (map_next P.as_phase result)) accesses.new seat.new.me.0.items }
     ensures went { (op : OpType) (start : TaskState) (asks : List Ask) (waits : ℕ) →
         WentWith asks waits op start (map_next P.as_phase next)
         (task_state seat.old.table_id gates.now.config None (phase_after (map_next P.as_phase next)) seat.old.me.0) →
@@ -198,12 +198,12 @@ pub fn go_to_end<P: UnderWay>(
     first: P,
 ) -> Result<Reply, GateError>
     requires table { seat.old.table_id ≡ gates.now.table.shared.table_id }
-    requires tied { IsTied gates.now.config (Some op) (Some (P.as_phase first)) accesses.old seat.old.me.0 }
+    requires tied { IsTied gates.now.config (Some op) (Some (P.as_phase first)) accesses.old seat.old.me.0.items }
     requires trying { IsTrying (task_state seat.old.table_id gates.now.config (Some op) (Some (P.as_phase first)) seat.old.me.0) }
     ensures table { seat.new.table_id ≡ seat.old.table_id }
     ensures slots { seat.new.me.1 ≡ seat.old.me.1 }
-    ensures tied { StayTied gates.now.config (Some op) (Some (P.as_phase first)) accesses.old seat.old.me.0
-        None accesses.new seat.new.me.0 }
+    ensures tied { StayTied gates.now.config (Some op) (Some (P.as_phase first)) accesses.old seat.old.me.0.items
+        None accesses.new seat.new.me.0.items }
     ensures called { (of : OpType) (start : TaskState) →
         Goes of start (task_state seat.old.table_id gates.now.config (Some op) (Some (P.as_phase first)) seat.old.me.0) →
         Called of start (task_state seat.new.table_id gates.now.config None None seat.new.me.0) result }
@@ -239,11 +239,11 @@ pub fn wait_to_end<R: Wait, H: TimedHooks, P: Waiting>(
     hooks: &mut H,
 ) -> (Result<Reply, GateError>, u64)
     requires table { seat.old.table_id ≡ gates.now.table.shared.table_id }
-    requires tied { IsTied gates.now.config (Some op) (Some (P.as_phase first)) accesses.old seat.old.me.0 }
+    requires tied { IsTied gates.now.config (Some op) (Some (P.as_phase first)) accesses.old seat.old.me.0.items }
     ensures table { seat.new.table_id ≡ seat.old.table_id }
     ensures slots { seat.new.me.1 ≡ seat.old.me.1 }
-    ensures tied { StayTied gates.now.config (Some op) (Some (P.as_phase first)) accesses.old seat.old.me.0
-        None accesses.new seat.new.me.0 }
+    ensures tied { StayTied gates.now.config (Some op) (Some (P.as_phase first)) accesses.old seat.old.me.0.items
+        None accesses.new seat.new.me.0.items }
     ensures called { (of : OpType) (start : TaskState) (before : H) →
         GoesAsking H.answers 0 of start before
         (task_state seat.old.table_id gates.now.config (Some op) (Some (P.as_phase first)) seat.old.me.0) hooks.old →

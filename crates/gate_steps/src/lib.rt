@@ -10,6 +10,6 @@ mod steps;
 mod tables;
 
 pub use rule::{Given, Gives, Happens, Items, Moment, Rule, TakesBack};
-pub use seating::Numbered;
+pub use seating::{Knowledge, Numbered};
 pub use steps::{event, give, index_of, take_back};
 pub use tables::{Closed, GateTable, close, open, opening_words, word_of};

@@ -1,23 +1,22 @@
 //! The one rule of the table, and the one play of its steps.
 
-use crate::seating::Numbered;
+use crate::seating::Knowledge;
 use atomic_table::{Join, Play, Split, TableRule};
 use gate_world::Config;
-use std::collections::LinkedList;
 use std::marker::{Brand, PhantomData};
 
 /// What a seat knows. The first of its numbers is its own, the others it has still to give; a spent seat has none.
-pub type Items = LinkedList<Numbered>;
+pub type Items = Knowledge;
 
 /// The rule of the table: the rule of words and views, one history, and numbers that are dealt.
 pub struct Rule;
 
 impl TableRule<(), Items, Config> for Rule {
-    ghost use Rattle.gate_steps.specs.Rules.{Held, first_items};
+    ghost use Rattle.gate_steps.specs.Rules.{Held, first_known};
 
     ghost holds = { λ c s. Held c s.words s.views };
 
-    ghost first = { first_items };
+    ghost first = { first_known };
 }
 
 /// The config of the table, the operation that begins with an event, the phase that the event is of, and the hook's answer that
@@ -80,20 +79,21 @@ pub struct Gives<J> {
 }
 
 impl<J: Given> Split<Items> for Gives<J> {
-    ghost use Rattle.gate_steps.specs.Seating.{kept_of, given_of};
+    ghost use Rattle.gate_steps.specs.Seating.{known_kept, known_given};
 
-    ghost left = { kept_of J.number };
+    ghost left = { known_kept J.number };
 
-    ghost right = { given_of J.number };
+    ghost right = { known_given J.number };
 }
 
 /// All numbers of the joined seat come back.
 pub struct TakesBack;
 
 impl Join<Items> for TakesBack {
-    ghost use Rattle.std.specs.Prelude.{[], ◌++◌};
+    ghost use Rattle.std.specs.Prelude.{[]};
+    ghost use Rattle.gate_steps.specs.Seating.{knows, known_both};
 
-    ghost both = { λ mine others. mine ++ others };
+    ghost both = { known_both };
 
-    ghost spent = { [] };
+    ghost spent = { knows [] [] };
 }

@@ -1,11 +1,11 @@
 //! Each event of a phase as one atomic step, and numbers that go from seat to seat.
 
-ghost use Rattle.std.specs.Prelude.{◌≡◌, ◌<◌, [], ◌++◌};
+ghost use Rattle.std.specs.Prelude.{◌≡◌, ◌<◌, []};
 ghost use Rattle.cpu_words.specs.Names.{place, words_in_all};
 ghost use Rattle.cpu_words.specs.Touches.{event_of};
 ghost use Rattle.gate_world.specs.Work.{next_of};
 ghost use Rattle.gate_steps.specs.Rules.{table_index, table_length};
-ghost use Rattle.gate_steps.specs.Seating.{Acts, IsMove, items_after, Spares, kept_of, given_of};
+ghost use Rattle.gate_steps.specs.Seating.{Acts, IsMove, items_after, Spares, known_kept, known_given, known_both};
 
 use crate::rule::{Given, Gives, Happens, Items, Moment, Rule, TakesBack};
 use atomic_table::{Seat, Shared};
@@ -38,12 +38,12 @@ fn event_at<J: Moment, P: UnderWay>(
     requires table { seat.old.table_id ≡ shared.now.table_id }
     requires words { shared.now.table_id.words ≡ table_length }
     requires inside { place (next_of (P.as_phase under_way) hook).0 < words_in_all }
-    requires acts { Acts shared.now.key begins (P.as_phase under_way) seat.old.me.0 }
+    requires acts { Acts shared.now.key begins (P.as_phase under_way) seat.old.me.0.items }
     ensures table { seat.new.table_id ≡ seat.old.table_id }
     ensures id { seat.new.id ≡ seat.old.id }
     ensures is { result ≡ event_of (next_of (P.as_phase under_way) hook).0 (next_of (P.as_phase under_way) hook).1 result.found }
-    ensures event { seat.new.me.0 ≡ items_after begins (P.as_phase under_way) hook result.found seat.old.me.0 }
-    ensures moves { IsMove shared.now.key begins (P.as_phase under_way) hook seat.old.me.0 result.found }
+    ensures event { seat.new.me.0.items ≡ items_after begins (P.as_phase under_way) hook result.found seat.old.me.0.items }
+    ensures moves { IsMove shared.now.key begins (P.as_phase under_way) hook seat.old.me.0.items result.found seat.old.me.0.seen seat.new.me.0.seen }
     ensures slots { seat.new.me.1 ≡ seat.old.me.1 }
 {
     let (word, touch) = under_way.next(hook);
@@ -79,12 +79,12 @@ pub fn event<P: UnderWay>(
     requires table { seat.old.table_id ≡ shared.now.table_id }
     requires words { shared.now.table_id.words ≡ table_length }
     requires inside { place (next_of (P.as_phase under_way) hook).0 < words_in_all }
-    requires acts { Acts shared.now.key begins (P.as_phase under_way) seat.old.me.0 }
+    requires acts { Acts shared.now.key begins (P.as_phase under_way) seat.old.me.0.items }
     ensures table { seat.new.table_id ≡ seat.old.table_id }
     ensures id { seat.new.id ≡ seat.old.id }
     ensures is { result ≡ event_of (next_of (P.as_phase under_way) hook).0 (next_of (P.as_phase under_way) hook).1 result.found }
-    ensures event { seat.new.me.0 ≡ items_after begins (P.as_phase under_way) hook result.found seat.old.me.0 }
-    ensures moves { IsMove shared.now.key begins (P.as_phase under_way) hook seat.old.me.0 result.found }
+    ensures event { seat.new.me.0.items ≡ items_after begins (P.as_phase under_way) hook result.found seat.old.me.0.items }
+    ensures moves { IsMove shared.now.key begins (P.as_phase under_way) hook seat.old.me.0.items result.found seat.old.me.0.seen seat.new.me.0.seen }
     ensures slots { seat.new.me.1 ≡ seat.old.me.1 }
 {
     event_at::<Brand, P>(shared, seat, begins, under_way, hook)
@@ -98,11 +98,11 @@ fn give_as<J: Given>(
     requires number { number ≡ J.number }
     requires table { seat.old.table_id ≡ shared.now.table_id }
     requires words { shared.now.table_id.words ≡ table_length }
-    requires spare { Spares number seat.old.me.0 }
+    requires spare { Spares number seat.old.me.0.items }
     ensures table { (seat.new.table_id ≡ seat.old.table_id) × (result.table_id ≡ seat.old.table_id) }
     ensures id { seat.new.id ≡ seat.old.id }
-    ensures kept { seat.new.me ≡ (kept_of number seat.old.me.0, seat.old.me.1) }
-    ensures given { result.me ≡ (given_of number seat.old.me.0, []) }
+    ensures kept { seat.new.me ≡ (known_kept number seat.old.me.0, seat.old.me.1) }
+    ensures given { result.me ≡ (known_given number seat.old.me.0, []) }
 {
     shared.split_seat::<Gives<J>>(seat)
 }
@@ -115,11 +115,11 @@ pub fn give(
 ) -> Seat<(), Items>
     requires table { seat.old.table_id ≡ shared.now.table_id }
     requires words { shared.now.table_id.words ≡ table_length }
-    requires spare { Spares number seat.old.me.0 }
+    requires spare { Spares number seat.old.me.0.items }
     ensures table { (seat.new.table_id ≡ seat.old.table_id) × (result.table_id ≡ seat.old.table_id) }
     ensures id { seat.new.id ≡ seat.old.id }
-    ensures kept { seat.new.me ≡ (kept_of number seat.old.me.0, seat.old.me.1) }
-    ensures given { result.me ≡ (given_of number seat.old.me.0, []) }
+    ensures kept { seat.new.me ≡ (known_kept number seat.old.me.0, seat.old.me.1) }
+    ensures given { result.me ≡ (known_given number seat.old.me.0, []) }
 {
     give_as::<Brand>(shared, seat, number)
 }
@@ -135,7 +135,7 @@ pub fn take_back(
     requires slots { other.me.1 ≡ [] }
     ensures table { seat.new.table_id ≡ seat.old.table_id }
     ensures id { seat.new.id ≡ seat.old.id }
-    ensures joined { seat.new.me ≡ (seat.old.me.0 ++ other.me.0, seat.old.me.1) }
+    ensures joined { seat.new.me ≡ (known_both seat.old.me.0 other.me.0, seat.old.me.1) }
 {
     shared.join_seat::<TakesBack>(seat, other)
 }

@@ -5,7 +5,7 @@ ghost use Rattle.cpu_words.specs.Names.{place};
 ghost use Rattle.cpu_words.specs.Lists.{AreOpening};
 ghost use Rattle.std.specs.Slots.{slots_items, slots_len, IsFull};
 ghost use Rattle.gate_world.specs.Configs.{IsWithin};
-ghost use Rattle.gate_steps.specs.Rules.{table_index, table_length, first_items};
+ghost use Rattle.gate_steps.specs.Rules.{table_index, table_length, first_known};
 ghost use Rattle.gate_steps.specs.Tables.{IsClosing};
 
 use crate::rule::{Items, Rule};
@@ -36,7 +36,7 @@ pub fn open(alloc: Global, config: &Config) -> Result<(GateTable, Seat<(), Items
     ensures table { IfOk result (λ t.
         (t.0.shared.key ≡ config.now) × (t.0.shared.table_id.words ≡ table_length) × (t.0.shared.table_id.slots ≡ 0)) }
     ensures seat { IfOk result (λ t.
-        (t.1.table_id ≡ t.0.shared.table_id) × (t.1.id ≡ 0) × (t.1.me ≡ (first_items config.now, []))) }
+        (t.1.table_id ≡ t.0.shared.table_id) × (t.1.id ≡ 0) × (t.1.me ≡ (first_known config.now, []))) }
 {
     let words = opening_words(alloc)?;
     Table::of_words(alloc, &words, config)

@@ -16,7 +16,8 @@ use Rattle.freeze_levels.specs.declared.freezes.FreezeStep.{FreezeStep}
 use Rattle.gate_world.specs.{Configs.model_limits, Courses.{course_of, IsTraced}, Found.{stores_stage, newest}}
 use Rattle.gate_world.specs.{Levels.{at_level, level_role_of, sync_role_of, is_frozen_whole}, Moments.AllHaveMoments, Owners.last_left}
 use Rattle.gate_world.specs.{Rules.{at_mount, owns, Moves}, Shown.shown, Snapshots.values_noted, Traces.{Tells, IsShort, most_events}}
-use Rattle.gate_world.specs.{Views.{held_at, holds_level, HoldsAsBefore}, Worlds.{World, Entry, happens, action_of, task_of, run, opening, history}}
+use Rattle.gate_world.specs.{Views.{held_at, holds_level, HoldsAsBefore}, Worlds.{World, happens, action_of, task_of, run, opening, history}}
+use Rattle.gate_world.specs.declared.entries.Entry.{Entry}
 use Rattle.gate_world.specs.declared.{config.Config.Config, operations.Op.Op, views.{Traced.Traced, View.View}}
 use Rattle.gate_world.specs.declared.work.Phase.{Phase, TheVariants.{Freezes, Thaws, Trees}}
 

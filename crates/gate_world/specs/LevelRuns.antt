@@ -3,7 +3,8 @@ use Rattle.std.specs.Prelude.{◌≡◌, ℕ, suc, ◌<◌, ◌≤◌, Some, Lis
 use Rattle.percpu_rwsem.specs.{Graces.started, declared.sync_word.GpState.TheVariants.{Idle, Exit}}
 use Rattle.freeze_laws.specs.levels.{Changes.state_found, Events.{SyncLevel, SyncRun}, Laws.{NoneFast, WholeGrace}}
 use Rattle.freeze_laws.specs.levels.Roles.{Out, Waiting, Past, Claimed, Ready, entering, claimed}
-use Rattle.gate_world.specs.{Levels.{sync_role_of, inside, is_frozen_whole}, Worlds.{World, Entry, run, opening}, declared.config.Config.Config}
+use Rattle.gate_world.specs.{Levels.{sync_role_of, inside, is_frozen_whole}, Worlds.{World, run, opening}, declared.config.Config.Config}
+use Rattle.gate_world.specs.declared.entries.Entry.{Entry}
 
 -- one level of a world
 abbrev pub level_in : World → ℕ → SyncLevel

@@ -4,17 +4,13 @@ use Rattle.finite_sums.specs.Sums.{update}
 use Rattle.access_model.specs.{Histories.Done, declared.{actions.Action.Action, errors.GateError.{GateError, TheVariants.Invalid}}}
 use Rattle.cpu_words.specs.{Hooks.HookAnswer, Touches.{left, found_by}, Words.{Words, read, put, opening_words}}
 use Rattle.gate_world.specs.{Beginnings.{first_phase, view_refusal}, Views.{opening_view, view_after_beside, begun_view}, Work.{next_of, after_of}}
+use Rattle.gate_world.specs.declared.entries.Entry.{Entry, TheVariants.{Begins, Steps}}
 use Rattle.gate_world.specs.declared.{config.Config.Config, operations.Op.Op, views.View.View, work.Phase.Phase}
 
 -- the words, and what is known of each task number
 pub record World : Type 0 where
   pub words : Words
   pub views : ℕ → View
-
--- an entry of a schedule: a task begins an operation, or does its next event, where a hook answers this
-pub data Entry : Type 0 where
-  Begins : (task : ℕ) (op : Op) → Entry
-  Steps : (task : ℕ) (hook : HookAnswer) → Entry
 
 -- no such task, before all else
 abbrev pub begin_refusal : Config → World → ℕ → Op → Option GateError

@@ -5,12 +5,14 @@
 
 pub mod accesses;
 pub mod config;
+pub mod entries;
 pub mod operations;
 pub mod views;
 pub mod work;
 
 pub use accesses::Accesses;
 pub use config::Config;
+pub use entries::Entry;
 pub use operations::Op;
 pub use views::{Snapshot, Traced, View};
 pub use work::Phase;

@@ -10,7 +10,8 @@ use Rattle.gate_world.specs.declared.config.Config.{Config}
 use Rattle.gate_world.specs.declared.work.Phase.{Phase}
 use Rattle.gate_world.specs.Configs.{model_limits}
 use Rattle.gate_world.specs.Rules.{Moves}
-use Rattle.gate_world.specs.Worlds.{World, Entry, Steps, happens, run, history, opening, action_of, phase_action, task_of, with_action}
+use Rattle.gate_world.specs.Worlds.{World, happens, run, history, opening, action_of, phase_action, task_of, with_action}
+use Rattle.gate_world.specs.declared.entries.Entry.{Entry, TheVariants.{Steps}}
 use Rattle.gate_world.specs.Shown.{shown}
 use Rattle.gate_schedules.specs.Answers.{step_answer, phase_step, idle_step}
 use Rattle.gate_schedules.specs.declared.steps.Step.{Step}

@@ -11,7 +11,8 @@ use Rattle.cpu_words.specs.Hooks.{HookAnswer}
 use Rattle.gate_world.specs.Configs.{model_limits}
 use Rattle.gate_world.specs.declared.config.Config.{Config}
 use Rattle.gate_world.specs.declared.operations.Op.{Op}
-use Rattle.gate_world.specs.Worlds.{World, Entry, Begins, Steps, happens, action_of, with_action, task_of}
+use Rattle.gate_world.specs.Worlds.{World, happens, action_of, with_action, task_of}
+use Rattle.gate_world.specs.declared.entries.Entry.{Entry, TheVariants.{Begins, Steps}}
 use Rattle.gate_schedules.specs.Answers.{step_answer}
 use Rattle.gate_schedules.specs.declared.steps.Step.{Step}
 use Rattle.schedule_lines.specs.declared.faults.Fault.{Fault}

@@ -1,7 +1,8 @@
 -- Plays that some schedule leads to.
 use Rattle.std.specs.Prelude.{◌≡◌, List, []}
 use Rattle.gate_world.specs.Configs.{IsWithin}
-use Rattle.gate_world.specs.Worlds.{Entry, run, history, opening}
+use Rattle.gate_world.specs.Worlds.{run, history, opening}
+use Rattle.gate_world.specs.declared.entries.Entry.{Entry}
 use Rattle.transcripts.specs.Transcript.{Play}
 
 -- some schedule leads to this play

@@ -15,7 +15,8 @@ use Rattle.cpu_words.specs.declared.names.WordName.{WordName}
 use Rattle.cpu_words.specs.declared.names.WordName.TheVariants.{Umount, Stage, Holders, SbFlags, Remount, Removed, MountFlags, MountCount, Block, Sync, LevelCount, Section, Used, Node, Kids}
 use Rattle.cpu_words.specs.Words.{read}
 use Rattle.gate_world.specs.declared.config.Config.{Config}
-use Rattle.gate_world.specs.Worlds.{World, Entry, Begins, Steps, happens, action_of, task_of, with_action, opening}
+use Rattle.gate_world.specs.Worlds.{World, happens, action_of, task_of, with_action, opening}
+use Rattle.gate_world.specs.declared.entries.Entry.{Entry, TheVariants.{Begins, Steps}}
 use Rattle.gate_schedules.specs.declared.steps.Progress.{Progress}
 use Rattle.gate_schedules.specs.declared.steps.Progress.TheVariants.{Idle, Going, Waiting, Done as Ended}
 use Rattle.gate_schedules.specs.Answers.{begin_answer, step_answer, wanted_hook}

@@ -50,7 +50,7 @@ pub fn settled(out: &Output) -> Result<(), Fault>
 
 impl<D: Driver> Session<D> {
     ghost use Rattle.gate_schedules.specs.Answers.{begin_answer, step_answer};
-    ghost use Rattle.gate_world.specs.Worlds.{Begins, Steps};
+    ghost use Rattle.gate_world.specs.declared.entries.Entry.{TheVariants.{Begins, Steps}};
     ghost use Rattle.transcripts.specs.Limits.{is_config};
     ghost use Rattle.transcripts.specs.Sessions.{ShowsPlay};
     ghost use Rattle.transcripts.specs.Transcript.{Play, opening_play, played, used_now, begin_text, hook_answer, run_of, command_outcome, request_outcome, word_text, texts_of, words_of_all, mount_words, level_words, printed_words, printed_tree_words, words_text, tree_words_text, count_up, model_text, freezes_text, freeze_line, closed_line, task_text, tree_line, held_line, level_line, open_line};

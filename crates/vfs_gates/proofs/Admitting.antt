@@ -30,11 +30,11 @@ module _ (number : ℕ) (c : Config) (begins : Option Op) (kept : Seat) (flags :
 -- so the answer that the fields give is the task's
 pub admitted_as : (op : Op) (task : Inside) (start : TaskState) →
     task_state task.seat.table_id task.config task.begins task.kept.phase task.seat.me.0 ≡ start →
-    Ties task.number task.config task.begins task.kept task.spare task.seat.me.0 → (under_way : Bool) →
+    Ties task.number task.config task.begins task.kept task.spare task.seat.me.0.items → (under_way : Bool) →
     under_way ≡ is_some task.kept.phase → (answer : Result Phase GateError) →
     answer ≡ beginning task.config task.number under_way (seat_held task.kept) op → answer ≡ beginning_at op start
 admitted_as op task start start_is ties under_way under_way_is answer is =
-    let items : SeatItems = task.seat.me.0 in
+    let items : SeatItems = task.seat.me.0.items in
     let refused : refusal task.config under_way (seat_held task.kept) op ≡
     refusal task.config (is_some task.kept.phase) (held_of (own_view items)) op =
     ap (λ b. refusal task.config b (seat_held task.kept) op) under_way_is ∙
@@ -66,17 +66,17 @@ admitted_unless op start (Err refused) is granted = absurd (granted refused refl
 -- what is the first phase as the task's state says is so as its fields say
 pub first_so : (op : Op) (task : Inside) (start : TaskState) →
     task_state task.seat.table_id task.config task.begins task.kept.phase task.seat.me.0 ≡ start →
-    Ties task.number task.config task.begins task.kept task.spare task.seat.me.0 → (phase : Phase) →
+    Ties task.number task.config task.begins task.kept task.spare task.seat.me.0.items → (phase : Phase) →
     phase ≡ first_phase start.config (own_number start.items) op → phase ≡ first_phase task.config task.number op
 first_so op task start start_is ties phase is =
     is ∙ sym (ap (λ (n : ℕ). first_phase task.config n op)
-    (number_same task.number task.config task.begins task.kept task.spare task.seat.me.0 ties) ∙
+    (number_same task.number task.config task.begins task.kept task.spare task.seat.me.0.items ties) ∙
     ap (λ (s : TaskState). first_phase s.config (own_number s.items) op) start_is)
 
 -- the phase that was answered is the operation's first
 pub first_by : (op : Op) (task : Inside) (start : TaskState) →
     task_state task.seat.table_id task.config task.begins task.kept.phase task.seat.me.0 ≡ start →
-    Ties task.number task.config task.begins task.kept task.spare task.seat.me.0 → (phase : Phase) → Ok phase ≡ beginning_at op start →
+    Ties task.number task.config task.begins task.kept task.spare task.seat.me.0.items → (phase : Phase) → Ok phase ≡ beginning_at op start →
     phase ≡ first_phase task.config task.number op
 first_by op task start start_is ties phase is =
     first_so op task start start_is ties phase

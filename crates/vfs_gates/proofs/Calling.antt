@@ -1,4 +1,5 @@
 -- A call that begins an operation and does its events on what the task keeps, and what it writes down at the end.
+use Rattle.gate_steps.specs.declared.seating.Knowledge.{Knowledge}
 use Rattle.std.proofs.Common.{◌≡◌, ℕ, Bool, false, List, [], ◌∷◌, refl, sym, ap, ◌∙◌, subst}
 use Rattle.std.specs.Prelude.{Option, Some, None, Result, Ok, Err, is_some}
 use Rattle.access_model.specs.declared.{errors.GateError.GateError, replies.{Next.{Next, TheVariants.{Go, Wait, Done}}, Reply.Reply}}
@@ -28,7 +29,7 @@ pub record Call : Type 0 where
   pub start : TaskState
   pub start_is : task_state task.seat.table_id task.config task.begins task.kept.phase task.seat.me.0 ≡ start
   pub from : start.config ≡ gates
-  pub ties : Ties task.number task.config task.begins task.kept task.spare task.seat.me.0
+  pub ties : Ties task.number task.config task.begins task.kept task.spare task.seat.me.0.items
   pub admitted : Ok tt ≡ unless_refused (refusal_at op start)
   pub first : Phase
   pub first_is : first ≡ first_phase task.config task.number op
@@ -36,7 +37,7 @@ pub record Call : Type 0 where
 -- of these parts
 abbrev pub call_of : (op : Op) (task : Inside) (gates : Config) (start : TaskState) →
     task_state task.seat.table_id task.config task.begins task.kept.phase task.seat.me.0 ≡ start → start.config ≡ gates →
-    Ties task.number task.config task.begins task.kept task.spare task.seat.me.0 → Ok tt ≡ unless_refused (refusal_at op start) →
+    Ties task.number task.config task.begins task.kept task.spare task.seat.me.0.items → Ok tt ≡ unless_refused (refusal_at op start) →
     (first : Phase) → first ≡ first_phase task.config task.number op → Call
 call_of op task gates start start_is from ties admitted first first_is = record {
   op = op;
@@ -54,7 +55,7 @@ call_of op task gates start start_is from ties admitted first first_is = record 
 -- the call of an operation whose first phase was answered
 abbrev pub admitted_call : (op : Op) (task : Inside) (gates : Config) (start : TaskState) →
     task_state task.seat.table_id task.config task.begins task.kept.phase task.seat.me.0 ≡ start → start.config ≡ gates →
-    Ties task.number task.config task.begins task.kept task.spare task.seat.me.0 → (first : Phase) → Ok first ≡ beginning_at op start → Call
+    Ties task.number task.config task.begins task.kept task.spare task.seat.me.0.items → (first : Phase) → Ok first ≡ beginning_at op start → Call
 admitted_call op task gates start start_is from ties first answered =
     call_of op task gates start start_is from ties (admitted_by op start first answered) first
     (first_by op task start start_is ties first answered)
@@ -62,7 +63,7 @@ admitted_call op task gates start start_is from ties first answered =
 -- the call of an operation that was not refused, and whose first phase is this
 abbrev pub call_with : (op : Op) (task : Inside) (gates : Config) (start : TaskState) →
     task_state task.seat.table_id task.config task.begins task.kept.phase task.seat.me.0 ≡ start → start.config ≡ gates →
-    Ties task.number task.config task.begins task.kept task.spare task.seat.me.0 → (answer : Result Phase GateError) →
+    Ties task.number task.config task.begins task.kept task.spare task.seat.me.0.items → (answer : Result Phase GateError) →
     answer ≡ beginning_at op start → ((refused : GateError) → answer ≡ Err refused → ⊥) →
     (first : Phase) → first ≡ first_phase start.config (own_number start.items) op → Call
 call_with op task gates start start_is from ties answer answer_is granted first is =
@@ -71,18 +72,18 @@ call_with op task gates start start_is from ties answer answer_is granted first 
 
 -- the numbers of the task, as the call finds them
 abbrev pub items_of : Call → SeatItems
-items_of call = call.task.seat.me.0
+items_of call = call.task.seat.me.0.items
 
 -- What comes after the last event of a call that has done some, and what it has left of the accesses and the numbers. Before that event so
 -- many came to a wait.
 pub record Left (call : Call) : Type 0 where
   pub next : Next Phase
   pub accesses : Accesses
-  pub items : SeatItems
+  pub known : Knowledge
   pub table : TableId
-  pub tied : StayTied call.gates (Some call.op) (Some call.first) call.task.kept.accesses (items_of call) (phase_after next) accesses items
+  pub tied : StayTied call.gates (Some call.op) (Some call.first) call.task.kept.accesses (items_of call) (phase_after next) accesses known.items
   pub waits : ℕ
-  pub went : WentWaiting waits call.op call.start next (task_state table call.gates None (phase_after next) items)
+  pub went : WentWaiting waits call.op call.start next (task_state table call.gates None (phase_after next) known)
 
 -- where a phase comes next, the operation goes on
 goes_on : (op : Op) (start now : TaskState) (next : Next Phase) (phase : Phase) → phase_after next ≡ Some phase → (waits : ℕ) →
@@ -189,11 +190,11 @@ module _ (call : Call) where
       (begun_ties (items_of call) refl call.ties)
 
   -- and the state
-  pub begun_state : task_state call.task.seat.table_id c (Some op) (Some call.first) (items_of call) ≡
+  pub begun_state : task_state call.task.seat.table_id c (Some op) (Some call.first) call.task.seat.me.0 ≡
       record call.start { begins = Some op; phase = Some (first_phase call.start.config (own_number call.start.items) op) }
   begun_state =
       (λ i. task_state call.task.seat.table_id c (Some op) (Some ((call.first_is ∙ ap (λ (n : ℕ). first_phase c n op) (sym own_is)) i))
-      (items_of call)) ∙
+      call.task.seat.me.0) ∙
       ap (λ (s : TaskState). record s { begins = Some op; phase = Some (first_phase s.config (own_number s.items) op) }) call.start_is
 
   -- as the first event finds them
@@ -205,46 +206,46 @@ module _ (call : Call) where
   is_tied = record { number = number; flags = flags; ties = after_begin }
 
   -- the operation goes on from there, with no hook asked and no wait
-  pub has_asked_none : GoesWith [] 0 op call.start (task_state call.task.seat.table_id call.gates (Some op) (Some call.first) (items_of call))
+  pub has_asked_none : GoesWith [] 0 op call.start (task_state call.task.seat.table_id call.gates (Some op) (Some call.first) call.task.seat.me.0)
   has_asked_none =
-      starts_asking_none op call.start (task_state call.task.seat.table_id call.gates (Some op) (Some call.first) (items_of call)) call.admitted
-      ((λ i. task_state call.task.seat.table_id (sym same i) (Some op) (Some call.first) (items_of call)) ∙ begun_state)
+      starts_asking_none op call.start (task_state call.task.seat.table_id call.gates (Some op) (Some call.first) call.task.seat.me.0) call.admitted
+      ((λ i. task_state call.task.seat.table_id (sym same i) (Some op) (Some call.first) call.task.seat.me.0) ∙ begun_state)
 
-  pub has_begun : Goes op call.start (task_state call.task.seat.table_id call.gates (Some op) (Some call.first) (items_of call))
+  pub has_begun : Goes op call.start (task_state call.task.seat.table_id call.gates (Some op) (Some call.first) call.task.seat.me.0)
   has_begun = has_asked_none.0
 
-  pub has_not_waited : GoesWaiting 0 op call.start (task_state call.task.seat.table_id call.gates (Some op) (Some call.first) (items_of call))
+  pub has_not_waited : GoesWaiting 0 op call.start (task_state call.task.seat.table_id call.gates (Some op) (Some call.first) call.task.seat.me.0)
   has_not_waited = (has_asked_none.0, has_asked_none.2)
 
   -- after the last event, as it is written down
   module _ (left : Left call) where
     -- the state that the last event left
     abbrev found : TaskState
-    found = task_state left.table call.gates None (phase_after left.next) left.items
+    found = task_state left.table call.gates None (phase_after left.next) left.known
 
     -- the fields, where what comes next is this phase or none
-    pub ties_at : (o : Option Phase) → phase_after left.next ≡ o → Ties number c call.task.begins (kept_at o left.accesses) flags left.items
+    pub ties_at : (o : Option Phase) → phase_after left.next ≡ o → Ties number c call.task.begins (kept_at o left.accesses) flags left.known.items
     ties_at o is =
-        let P : Config × Option Op × Option Phase → Type 0 = λ z. Ties number z.0 z.1 (kept_at z.2 left.accesses) flags left.items in
+        let P : Config × Option Op × Option Phase → Type 0 = λ z. Ties number z.0 z.1 (kept_at z.2 left.accesses) flags left.known.items in
         subst P (λ i. (sym same i, sym not_begun i, is i)) (left.tied number flags after_begin)
 
     -- the same where nothing comes next: what is kept of the phase stays as it was
     pub ties_done : (answer : Result Reply GateError) → left.next ≡ Done answer →
-        Ties number c call.task.begins (kept_at kept.phase left.accesses) flags left.items
+        Ties number c call.task.begins (kept_at kept.phase left.accesses) flags left.known.items
     ties_done answer is = ties_at kept.phase (ap (λ (n : Next Phase). phase_after n) is ∙ sym idle)
 
     -- it is the state that the task shows then
-    there_at : (o : Option Phase) → phase_after left.next ≡ o → found ≡ task_state left.table c call.task.begins o left.items
-    there_at o is = λ i. task_state left.table (sym same i) (sym not_begun i) (is i) left.items
+    there_at : (o : Option Phase) → phase_after left.next ≡ o → found ≡ task_state left.table c call.task.begins o left.known
+    there_at o is = λ i. task_state left.table (sym same i) (sym not_begun i) (is i) left.known
 
     -- the operation goes on at this phase
     pub goes_at : (phase : Phase) → phase_after left.next ≡ Some phase →
-        Goes op call.start (task_state left.table c call.task.begins (Some phase) left.items)
+        Goes op call.start (task_state left.table c call.task.begins (Some phase) left.known)
     goes_at phase is = subst (Goes op call.start) (there_at (Some phase) is) (goes_on op call.start found left.next phase is left.waits left.went)
 
     -- or it was done whole
     pub ended_at : (answer : Result Reply GateError) → left.next ≡ Done answer →
-        Called op call.start (task_state left.table c call.task.begins kept.phase left.items) answer
+        Called op call.start (task_state left.table c call.task.begins kept.phase left.known) answer
     ended_at answer is =
         let stands : phase_after left.next ≡ kept.phase = ap (λ (n : Next Phase). phase_after n) is ∙ sym idle in
         subst (λ (s : TaskState). Called op call.start s answer) (there_at kept.phase stands)
@@ -253,9 +254,9 @@ module _ (call : Call) where
     -- with the hooks that it has asked
     pub ended_asking : {H : Type 0} (answers : HookCall → SeatItems → H → HookAnswer → H → Type 0) (before hooks : H)
         (answer : Result Reply GateError) (waited : ℕ) → left.next ≡ Done answer →
-        CalledAsking answers op call.start before (task_state left.table call.gates None None left.items) answer waited hooks →
-        CalledAsking answers op call.start before (task_state left.table c call.task.begins kept.phase left.items) answer waited hooks
+        CalledAsking answers op call.start before (task_state left.table call.gates None None left.known) answer waited hooks →
+        CalledAsking answers op call.start before (task_state left.table c call.task.begins kept.phase left.known) answer waited hooks
     ended_asking answers before hooks answer waited is called =
-        let at : task_state left.table call.gates None None left.items ≡ task_state left.table c call.task.begins kept.phase left.items =
-        λ i. task_state left.table (sym same i) (sym not_begun i) (sym idle i) left.items in
+        let at : task_state left.table call.gates None None left.known ≡ task_state left.table c call.task.begins kept.phase left.known =
+        λ i. task_state left.table (sym same i) (sym not_begun i) (sym idle i) left.known in
         subst (λ s. CalledAsking answers op call.start before s answer waited hooks) at called

@@ -1,4 +1,5 @@
 -- The world of gates that are closed.
+use Rattle.gate_steps.specs.declared.seating.Knowledge.{Knowledge}
 use Rattle.std.proofs.Common.{◌≡◌, ℕ, zero, suc, ◌<◌, ◌≤◌, cond, eqb, List, refl, sym, ap, ◌∙◌, subst, arith}
 use Rattle.gate_world.specs.declared.config.Config.{Config}
 use Rattle.gate_world.specs.declared.views.View.{View}
@@ -16,10 +17,10 @@ use Rattle.vfs_gates.specs.Ended.{Ended, EndedWith, HasOpeningWords, IsLeftBySch
 use Rattle.vfs_gates.proofs.Parting.{rest-at}
 
 -- all numbers are back in a seat whose views rest: so each number rests, and has the view that the seat knows
-pub ended : (c : Config) (items : SeatItems) (ws : List ℕ) → IsClosing c ws items → AllRest c items →
-    ((n : ℕ) → n < c.tasks → 1 ≤ times n items) →
-    EndedWith c ws items
-ended c items ws closing rest all = record {
+pub ended : (c : Config) (k : Knowledge) (ws : List ℕ) → IsClosing c ws k → AllRest c k.items →
+    ((n : ℕ) → n < c.tasks → 1 ≤ times n k.items) →
+    EndedWith c ws k.items
+ended c k ws closing rest all = let items : SeatItems = k.items in record {
   ended = record {
     world = closing.world;
     ruled = closing.ruled;

@@ -1,4 +1,5 @@
 -- What whole calls leave of what a task holds.
+use Rattle.gate_world.specs.declared.entries.Entry.{Entry}
 use Rattle.std.proofs.{Common.{◌≡◌, ℕ, ◌<◌, Bool, true, false, List, [], ◌∷◌, ◌++◌, refl, sym, ap, ◌∙◌, subst, inl, inr, true≢false}, lemmas.Bool.cases_Bool}
 use Rattle.std.specs.Prelude.{Option, Some, None, Result, Ok, Err}
 use Rattle.access_model.specs.declared.actions.Action.{Action, TheVariants.{Grant, Return, SbRo, SbRw, Stage as StageAction, Leave, Pass, Clean}}
@@ -87,21 +88,22 @@ adds_free (Create d kind) reply trace none = tt
 adds_free op reply trace none = search refl
 
 -- a task with no number of its own has no event
-no_move : (c : Config) (op : Op) (earlier : List Traced) (e : Traced) (s : Next Phase) → IsNextMove c op [] earlier e s → ⊥
-no_move c op [] e (Go phase) h = h.2
-no_move c op (d ∷ ds) e (Go phase) h = h.2
-no_move c op [] e (Wait phase) h = h.2
-no_move c op (d ∷ ds) e (Wait phase) h = h.2
-no_move c op earlier e (Done answer) h = h
+no_move : (c : Config) (op : Op) (earlier : List Traced) (e : Traced) (seen gone : List (List Entry)) (s : Next Phase) →
+    IsNextMove c op [] earlier e seen gone s → ⊥
+no_move c op [] e seen gone (Go phase) h = h.2
+no_move c op (d ∷ ds) e seen gone (Go phase) h = h.2
+no_move c op [] e seen gone (Wait phase) h = h.2
+no_move c op (d ∷ ds) e seen gone (Wait phase) h = h.2
+no_move c op earlier e seen gone (Done answer) h = h
 
 -- the own number's actions after a whole operation: those that it has added, and the earlier ones
-acted : (c : Config) (op : Op) (trace : List Traced) (answer : Result Reply GateError) (l : SeatItems) (added : List Action) →
-    (course_of c (own_number l) op trace).comes ≡ Done answer → AreMoves c op l trace →
+acted : (c : Config) (op : Op) (trace : List Traced) (answer : Result Reply GateError) (l : SeatItems) (added : List Action)
+    (seen gone : List (List Entry)) → (course_of c (own_number l) op trace).comes ≡ Done answer → AreMoves c op l seen trace gone →
     (course_of c (own_number l) op trace).added ≡ added →
     (own_view (ran_items c op trace l)).actions ≡ added ++ (own_view l).actions
-acted c op [] answer [] added ends moves is = absurd (let f : ⊥ = cc in f)
-acted c op (e ∷ es) answer [] added ends moves is = absurd (no_move c op es e _ moves.0)
-acted c op trace answer (x ∷ xs) added ends moves is = ap (λ l. l ++ x.view.actions) is
+acted c op [] answer [] added seen gone ends moves is = absurd (let f : ⊥ = cc in f)
+acted c op (e ∷ es) answer [] added seen gone ends moves is = absurd (no_move c op es e moves.0 gone _ moves.1)
+acted c op trace answer (x ∷ xs) added seen gone ends moves is = ap (λ l. l ++ x.view.actions) is
 
 same_own : (c : Config) (op : Op) (trace : List Traced) (l : SeatItems) → own_number (ran_items c op trace l) ≡ own_number l
 same_own c op trace [] = refl
@@ -110,7 +112,7 @@ same_own c op trace (x ∷ xs) = refl
 -- A whole call has added its actions to the task's list.
 module _ (op : Op) (old left : TaskState) (answer : Result Reply GateError) (k : Called op old left answer) where
   pub adds : own_actions left ≡ actions_of op answer k.trace ++ own_actions old
-  adds = ap (λ (s : TaskState). own_actions s) k.after ∙ acted old.config op k.trace answer old.items _ k.ends k.moves k.added
+  adds = ap (λ (s : TaskState). own_actions s) k.after ∙ acted old.config op k.trace answer old.items _ old.seen left.seen k.ends k.moves k.added
 
   -- its task stays, and is idle
   pub stays : (left.table ≡ old.table) × (left.config ≡ old.config) × (own_number left.items ≡ own_number old.items) × IsIdle left

@@ -12,7 +12,7 @@ use Rattle.gate_world.specs.declared.views.Traced.{Traced}
 use Rattle.gate_world.specs.Traces.{IsHonestAnswer}
 use Rattle.gate_world.specs.Views.{opening_view}
 use Rattle.atomic_table.specs.Seated.{TableId}
-use Rattle.gate_steps.specs.Rules.{first_items}
+use Rattle.gate_steps.specs.Rules.{first_items, first_known}
 use Rattle.gate_steps.specs.call_events.Runs.{told_as, unit_of, Called, Performs}
 use Rattle.gate_steps.specs.call_events.Seat.{Seat}
 use Rattle.gate_steps.specs.Seating.{SeatItems, HaveViews, numbered, times, view_in, kept_of, given_of, deal}
@@ -150,10 +150,10 @@ given_none n from zero = refl
 given_none n from (suc k) = ap (λ (v : View). v.actions) (in_dealt n (suc from) k)
 
 -- so neither the first task of some gates nor the one that is split off it first has done anything
-pub split_done_nothing : (c : Config) (id : TableId) (old left other : TaskState) → old ≡ task_state id c None None (first_items c) →
+pub split_done_nothing : (c : Config) (id : TableId) (old left other : TaskState) → old ≡ task_state id c None None (first_known c) →
     SplitOf old left other → (own_actions left ≡ []) × (own_actions other ≡ [])
 split_done_nothing c id old left other is made =
-    let split : SplitOf (task_state id c None None (first_items c)) left other = subst (λ s. SplitOf s left other) is made in (
+    let split : SplitOf (task_state id c None None (first_known c)) left other = subst (λ s. SplitOf s left other) is made in (
       ap own_actions split.kept ∙ kept_none split.number 0 c.tasks,
       ap own_actions split.given ∙ given_none split.number 0 c.tasks,
     )

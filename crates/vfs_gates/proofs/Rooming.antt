@@ -1,4 +1,6 @@
 -- What the room for snapshots tells of a task, as its operation begins and goes on.
+use Rattle.gate_world.specs.declared.entries.Entry.{Entry}
+use Rattle.gate_steps.specs.Seating.{knows}
 use Rattle.std.proofs.Common.{◌≡◌, ℕ, zero, suc, ◌≤◌, refl, sym, ap, ◌∙◌, subst, arith, Bool, true≢false}
 use Rattle.std.specs.Prelude.{Option, Some, None, Result, List, [], ◌∷◌, ◌++◌, false, option_map, length}
 use Rattle.access_model.specs.declared.replies.Next.{Next}
@@ -188,14 +190,14 @@ called_room nodes r op start now answer begins left phase stands other called no
 
 -- as a task begins an operation, its room tells of the operation's first phase
 pub begun_in : (call : Call) (r : Rooms) →
-    RoomTells call.task.config.nodes r (Some call.op) (Some (first_phase call.task.config call.task.number call.op)) call.task.seat.me.0 →
-    RoomTells call.task.config.nodes r (Some call.op) (Some call.first) call.task.seat.me.0
+    RoomTells call.task.config.nodes r (Some call.op) (Some (first_phase call.task.config call.task.number call.op)) call.task.seat.me.0.items →
+    RoomTells call.task.config.nodes r (Some call.op) (Some call.first) call.task.seat.me.0.items
 begun_in call r h =
-    subst (λ (p : Phase). RoomTells call.task.config.nodes r (Some call.op) (Some p) call.task.seat.me.0) (sym call.first_is) h
+    subst (λ (p : Phase). RoomTells call.task.config.nodes r (Some call.op) (Some p) call.task.seat.me.0.items) (sym call.first_is) h
 
 -- of a call that does its events in a line
 module _ (call : Call) (r : Rooms) (other : is_of_snapshot call.first ≡ false)
-    (h : RoomTells call.task.config.nodes r call.task.begins call.task.kept.phase call.task.seat.me.0) where
+    (h : RoomTells call.task.config.nodes r call.task.begins call.task.kept.phase call.task.seat.me.0.items) where
   other_start : is_of_snapshot (first_phase call.start.config (own_number call.start.items) call.op) ≡ false
   other_start =
       sym (ap (λ (s : TaskState). is_of_snapshot (first_phase s.config (own_number s.items) call.op)) call.start_is) ∙
@@ -206,24 +208,24 @@ module _ (call : Call) (r : Rooms) (other : is_of_snapshot call.first ≡ false)
 
   -- it goes on at this phase
   pub room_at : (left : Left call) (phase : Phase) → phase_after left.next ≡ Some phase →
-      RoomTells call.task.config.nodes r call.task.begins (Some phase) left.items
+      RoomTells call.task.config.nodes r call.task.begins (Some phase) left.known.items
   room_at left phase is =
       goes_room call.task.config.nodes r call.op call.start _ call.task.begins call.task.begins call.task.kept.phase other_start
       (goes_at call left phase is) start_room
 
   -- or was done
   pub room_done : (left : Left call) (answer : Result Reply GateError) → left.next ≡ Done answer →
-      RoomTells call.task.config.nodes r call.task.begins call.task.kept.phase left.items
+      RoomTells call.task.config.nodes r call.task.begins call.task.kept.phase left.known.items
   room_done left answer is =
       called_room call.task.config.nodes r call.op call.start _ answer call.task.begins call.task.begins call.task.kept.phase
       call.task.kept.phase other_start (ended_at call left answer is) (idle call) start_room
 
 -- an event of a task, which follows the room
-pub stepped_room : (nodes : ℕ) (r left : Rooms) (begins : Option Op) (phase : Phase) (hook : HookAnswer) (table table_left : TableId)
+pub stepped_room : {seen gone : List (List Entry)} (nodes : ℕ) (r left : Rooms) (begins : Option Op) (phase : Phase) (hook : HookAnswer) (table table_left : TableId)
     (c : Config) (items items_left : SeatItems) (event : Event) (action : Option Action) (next : Next Phase) (number : ℕ) (kept : Seat)
     (flags : List Bool) → Ties number c begins kept flags items →
-    Stepped phase hook (task_state table c begins (Some phase) items) (step_was event action next)
-    (task_state table_left c None (phase_after next) items_left) → RoomTells nodes r begins (Some phase) items →
+    Stepped phase hook (task_state table c begins (Some phase) (knows items seen)) (step_was event action next)
+    (task_state table_left c None (phase_after next) (knows items_left gone)) → RoomTells nodes r begins (Some phase) items →
     ((found : ℕ) → 1 ≤ length items → event ≡ event_of (next_of phase hook).0 (next_of phase hook).1 found →
     RoomTells nodes r begins (Some phase) items →
     RoomTells nodes left None (phase_after (after_of phase event.found hook).0) (items_after begins phase hook found items)) →

@@ -6,7 +6,7 @@ use Rattle.std.specs.Prelude.{None, Result, Ok, nat_lt}
 use Rattle.atomic_table.specs.Seated.{TableId}
 use Rattle.access_model.specs.declared.replies.{Reply.Reply}
 use Rattle.gate_world.specs.declared.operations.Op.TheVariants.{Want, DropMount}
-use Rattle.gate_steps.specs.Rules.{first_items}
+use Rattle.gate_steps.specs.Rules.{first_items, first_known}
 use Rattle.gate_steps.specs.call_events.Runs.{told_as, unit_of}
 use Rattle.gate_steps.specs.Seating.{SeatItems}
 use Rattle.gate_world.specs.declared.config.Config.{Config}
@@ -59,7 +59,7 @@ reopened {m = m} {old = old} {there = there} rests closed call =
 -- Two tasks, the first of some gates and one that was split off it, did this each, were joined, and closed the gates: their numbers have it in the
 -- end, from where they had done nothing.
 pub joined_did : {c : Config} {ws : List ℕ} {items : SeatItems} {one two : ℕ} {opening : Config} {id : TableId} {old f s : TaskState}
-    (F S : TaskState → TaskState → Type 0) (first second : TaskState) → old ≡ task_state id opening None None (first_items opening) → SplitOf old f s →
+    (F S : TaskState → TaskState → Type 0) (first second : TaskState) → old ≡ task_state id opening None None (first_known opening) → SplitOf old f s →
     (e : EndedWith c ws items) → items ≡ first.items ++ second.items → one ≡ own_number first.items → 1 ≤ length first.items →
     two ≡ own_number second.items → 1 ≤ length second.items → F f first → S s second →
     (ended : Ended c ws) × Did (ended.world.views one) F × Did (ended.world.views two) S

@@ -1,4 +1,5 @@
 -- A task's last snapshot is of a moment of the one history.
+use Rattle.gate_world.specs.declared.entries.Entry.{Entry}
 use Rattle.std.proofs.Common.{◌≡◌, ℕ, ◌≤◌, arith, List, [], ◌∷◌, ◌++◌, length, refl, ap, ◌∙◌, subst}
 use Rattle.std.specs.Prelude.{Option, Some, None, Result}
 use Rattle.access_model.specs.declared.actions.Action.{Action}
@@ -22,16 +23,18 @@ use Rattle.vfs_gates.specs.Seen.{IsOfAMoment}
 use Rattle.gate_steps.specs.call_events.Runs.{completed_by, ran_snapshot, ran_items, Called}
 
 -- in any history of a task's numbers
-pub saw_a_moment : (c : Config) (items : SeatItems) (all : HaveHistory c items) (s : Snapshot) → 1 ≤ length items →
+pub saw_a_moment : (c : Config) (items : SeatItems) (last_seen : List (List Entry)) (all : HaveHistory c items last_seen)
+    (s : Snapshot) → 1 ≤ length items →
     (own_view items).snapshot ≡ Some s → IsOfAMoment c (own_number items) items s
-saw_a_moment c [] all s some_there e = absurd (omega arith)
-saw_a_moment c (x ∷ xs) all s some_there e =
+saw_a_moment c [] last_seen all s some_there e = absurd (omega arith)
+saw_a_moment c (x ∷ xs) last_seen all s some_there e =
     let log = all.history.log in
     let here : (all.world.views x.number).snapshot ≡ Some s = ap (λ (v : View). v.snapshot) (all.mine 0 x refl) ∙ e in
     let moment : HasMoment c log x.number (Some s) = subst (HasMoment c log x.number) here (all.history.snapshots x.number) in
     let done : List (ℕ × ℕ) = (x.number, s.done) ∷ s.others in
     let lists : ℕ → List Action = λ t. (all.world.views t).actions in
     record {
+      last_seen = last_seen;
       all = all;
       moment = moment;
       tells = tells (model_limits c) (node_at s.loaded) done lists log all.history.legal all.history.lists moment.stands;
@@ -54,7 +57,7 @@ call_saw op old left answer called s some_there e =
     let own = same_own c op called.trace old.items some_there in
     let number : own_number left.items ≡ own_number old.items = ap own_number is ∙ own.0 in
     let there : 1 ≤ length left.items = omega (arith, ap length is, own.1) in
-    subst (λ n. IsOfAMoment c n left.items s) number (saw_a_moment c left.items called.history s there e)
+    subst (λ n. IsOfAMoment c n left.items s) number (saw_a_moment c left.items left.seen called.history s there e)
 
 -- an event that completes no snapshot leaves the last one; one that completes one, where nothing was added before it, notes what the
 -- call began with

@@ -1,4 +1,6 @@
 -- What a task tells of its waits, as its operations begin, go on and end.
+use Rattle.gate_world.specs.declared.entries.Entry.{Entry}
+use Rattle.gate_steps.specs.Seating.{knows}
 use Rattle.std.proofs.Common.{◌≡◌, ℕ, zero, suc, ◌+◌, ◌≤◌, add-zero, refl, sym, ap, ◌∙◌, subst, arith, Bool, true, false, true≢false, length}
 use Rattle.std.specs.Prelude.{Option, Some, None, is_some, List, [], ◌∷◌, ◌++◌}
 use Rattle.access_model.specs.declared.actions.Action.{Action}
@@ -140,13 +142,13 @@ after_event c (Some op) phase hook found (x ∷ xs) number waited accesses flags
     of_op c x.number phase hook found (done_by xs) op (begun_view x.view op phase) 0 refl (ap (λ (p : Phase). Some p) (sym ties.may.1)) refl
 
 -- so it is of a task that notes it, where the gates name the configuration otherwise
-pub noted_tells : {d c : Config} → d ≡ c → (begins : Option Op) (phase : Phase) (hook : HookAnswer) (table table_left : TableId)
+pub noted_tells : {d c : Config} {seen gone : List (List Entry)} → d ≡ c → (begins : Option Op) (phase : Phase) (hook : HookAnswer) (table table_left : TableId)
     (items left : SeatItems) (event : Event) (action : Option Action) (next : Next Phase) (number waited noted : ℕ) (accesses : Accesses)
     (flags : List Bool) → Ties number c begins (kept_at (Some phase) accesses) flags items →
-    Stepped phase hook (task_state table c begins (Some phase) items) (step_was event action next)
-    (task_state table_left c None (phase_after next) left) → WaitsTell d (own_number items) (own_view items) waited →
+    Stepped phase hook (task_state table c begins (Some phase) (knows items seen)) (step_was event action next)
+    (task_state table_left c None (phase_after next) (knows left gone)) → WaitsTell d (own_number items) (own_view items) waited →
     noted ≡ counted (since begins waited + is_wait next) → WaitsTell d (own_number left) (own_view left) noted
-noted_tells {d} {c} config begins phase hook table table_left items left event action next number waited noted accesses flags ties stepped tells is =
+noted_tells {d} {c} {seen} {gone} config begins phase hook table table_left items left event action next number waited noted accesses flags ties stepped tells is =
     let after : Next Phase = (after_of phase (found_by (next_of phase hook).1 stepped.found) hook).0 in
     let there : left ≡ items_after begins phase hook stepped.found items = ap (λ (s : TaskState). s.items) stepped.new in
     let so : is_wait next ≡ is_wait after = same_wait next after (ap (λ (s : Step). s.progress) stepped.step) in
@@ -195,14 +197,14 @@ has_number number c begins kept flags (x ∷ xs) ties = omega arith
 
 -- so a call tells how many of the events that it has done came to a wait
 pub left_tells : (call : Call) (left : Left call) (waited : ℕ) → waited ≡ counted (left.waits + is_wait left.next) →
-    WaitsTell call.task.config (own_number left.items) (own_view left.items) waited
+    WaitsTell call.task.config (own_number left.known.items) (own_view left.known.items) waited
 left_tells call left waited is =
     let task = call.task in
     let there : 1 ≤ length call.start.items = subst (λ (s : TaskState). 1 ≤ length s.items) call.start_is
-    (has_number task.number task.config task.begins task.kept task.spare task.seat.me.0 call.ties) in
-    let tells = went_tells left.waits call.op call.start left.next (task_state left.table call.gates None (phase_after left.next) left.items) there
+    (has_number task.number task.config task.begins task.kept task.spare task.seat.me.0.items call.ties) in
+    let tells = went_tells left.waits call.op call.start left.next (task_state left.table call.gates None (phase_after left.next) left.known) there
     refl left.went in
-    let P : Config × ℕ → Type 0 = λ z. WaitsTell z.0 (own_number left.items) (own_view left.items) z.1 in
+    let P : Config × ℕ → Type 0 = λ z. WaitsTell z.0 (own_number left.known.items) (own_view left.known.items) z.1 in
     subst P (λ i. ((call.from ∙ sym (same call)) i, sym is i)) tells
 
 -- where none came to one before the last event of a line

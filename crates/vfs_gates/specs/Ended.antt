@@ -8,7 +8,8 @@ use Rattle.cpu_words.specs.Words.{opening_words}
 use Rattle.gate_world.specs.declared.config.Config.{Config}
 use Rattle.gate_world.specs.Configs.{IsWithin}
 use Rattle.gate_world.specs.Headline.{world_after}
-use Rattle.gate_world.specs.Worlds.{World, Entry}
+use Rattle.gate_world.specs.Worlds.{World}
+use Rattle.gate_world.specs.declared.entries.Entry.{Entry}
 use Rattle.gate_steps.specs.Histories.{HasHistory}
 use Rattle.gate_steps.specs.Seating.{SeatItems, HaveViews, times}
 use Rattle.gate_steps.specs.Rules.{TableShows, Ruled}

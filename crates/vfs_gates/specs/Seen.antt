@@ -1,5 +1,6 @@
 -- What a task's last snapshot is of.
-use Rattle.std.specs.Prelude.{◌≡◌, ℕ, Some, length, ◌∷◌}
+use Rattle.gate_world.specs.declared.entries.Entry.{Entry}
+use Rattle.std.specs.Prelude.{◌≡◌, ℕ, Some, List, length, ◌∷◌}
 use Rattle.freeze_laws.specs.moments.Moments.{MomentTells}
 use Rattle.gate_world.specs.declared.config.Config.{Config}
 use Rattle.gate_world.specs.declared.views.Snapshot.{Snapshot}
@@ -13,7 +14,8 @@ use Rattle.vfs_gates.specs.TaskStates.{own_number, own_view, spare_of}
 -- and clean. At that moment everything was frozen, the tree was the one loaded, and the numbers that the snapshot notes had done just what
 -- it notes. What had been done until then is a legal history, which cuts their own lists there, and no node of the tree was dirty.
 pub record IsOfAMoment (c : Config) (number : ℕ) (items : SeatItems) (s : Snapshot) : Type 0 where
-  pub all : HaveHistory c items
+  pub last_seen : List (List Entry)
+  pub all : HaveHistory c items last_seen
   pub moment : IsOfMoment c all.history.log number s
   pub tells : MomentTells (model_limits c) (node_at s.loaded) ((number, s.done) ∷ s.others) (λ t. (all.world.views t).actions)
       moment.stands.earlier

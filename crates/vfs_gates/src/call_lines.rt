@@ -42,11 +42,11 @@ pub trait InLine: UnderWay {
         begins: Option<Op>,
     ) -> Next<Self>
         requires table { seat.old.table_id ≡ gates.now.table.shared.table_id }
-        requires tied { IsTied gates.now.config begins (Some (Self.as_phase self)) accesses.old seat.old.me.0 }
+        requires tied { IsTied gates.now.config begins (Some (Self.as_phase self)) accesses.old seat.old.me.0.items }
         ensures table { seat.new.table_id ≡ seat.old.table_id }
         ensures slots { seat.new.me.1 ≡ seat.old.me.1 }
-        ensures tied { StayTied gates.now.config begins (Some (Self.as_phase self)) accesses.old seat.old.me.0
-            (phase_after (map_next Self.as_phase result)) accesses.new seat.new.me.0 }
+        ensures tied { StayTied gates.now.config begins (Some (Self.as_phase self)) accesses.old seat.old.me.0.items
+            (phase_after (map_next Self.as_phase result)) accesses.new seat.new.me.0.items }
         ensures went { (waits : ℕ) (op : OpType) (start : TaskState) →
             GoesWaiting waits op start (task_state seat.old.table_id gates.now.config begins (Some (Self.as_phase self)) seat.old.me.0) →
             WentWaiting waits op start (map_next Self.as_phase result)
@@ -72,12 +72,12 @@ pub(crate) fn go_on_if<P: Placed>(
     place: P::Place,
 ) -> Next<P>
     requires table { seat.old.table_id ≡ gates.now.table.shared.table_id }
-    requires tied { IsTied gates.now.config None (phase_after (map_next P.as_phase next)) accesses.old seat.old.me.0 }
+    requires tied { IsTied gates.now.config None (phase_after (map_next P.as_phase next)) accesses.old seat.old.me.0.items }
     ensures table { seat.new.table_id ≡ seat.old.table_id }
     ensures slots { seat.new.me.1 ≡ seat.old.me.1 }
-    ensures tied { StayTied gates.now.config None (phase_after (map_next P.as_phase next)) accesses.old seat.old.me.0
-        (phase_after (map_next P.as_phase result)) accesses.new seat.new.me.0 }
-    ensures still { IsTied gates.now.config None (phase_after (map_next P.as_phase result)) accesses.new seat.new.me.0 }
+    ensures tied { StayTied gates.now.config None (phase_after (map_next P.as_phase next)) accesses.old seat.old.me.0.items
+        (phase_after (map_next P.as_phase result)) accesses.new seat.new.me.0.items }
+    ensures still { IsTied gates.now.config None (phase_after (map_next P.as_phase result)) accesses.new seat.new.me.0.items }
     ensures went { (waits : ℕ) (op : OpType) (start : TaskState) →
         WentWaiting waits op start (map_next P.as_phase next)
         (task_state seat.old.table_id gates.now.config None (phase_after (map_next P.as_phase next)) seat.old.me.0) →
@@ -152,11 +152,11 @@ fn ask_in_line(
     next: Next<Want>,
 ) -> Next<Want>
     requires table { seat.old.table_id ≡ gates.now.table.shared.table_id }
-    requires tied { IsTied gates.now.config None (phase_after (of_want next)) accesses.old seat.old.me.0 }
+    requires tied { IsTied gates.now.config None (phase_after (of_want next)) accesses.old seat.old.me.0.items }
     ensures table { seat.new.table_id ≡ seat.old.table_id }
     ensures slots { seat.new.me.1 ≡ seat.old.me.1 }
-    ensures tied { StayTied gates.now.config None (phase_after (of_want next)) accesses.old seat.old.me.0
-        (phase_after (of_want result)) accesses.new seat.new.me.0 }
+    ensures tied { StayTied gates.now.config None (phase_after (of_want next)) accesses.old seat.old.me.0.items
+        (phase_after (of_want result)) accesses.new seat.new.me.0.items }
     ensures went { (waits : ℕ) (op : OpType) (start : TaskState) →
         WentWaiting waits op start (of_want next)
         (task_state seat.old.table_id gates.now.config None (phase_after (of_want next)) seat.old.me.0) →
@@ -177,11 +177,11 @@ fn count_in_line(
     next: Next<DownRead>,
 ) -> Next<DownRead>
     requires table { seat.old.table_id ≡ gates.now.table.shared.table_id }
-    requires tied { IsTied gates.now.config None (phase_after (of_read next)) accesses.old seat.old.me.0 }
+    requires tied { IsTied gates.now.config None (phase_after (of_read next)) accesses.old seat.old.me.0.items }
     ensures table { seat.new.table_id ≡ seat.old.table_id }
     ensures slots { seat.new.me.1 ≡ seat.old.me.1 }
-    ensures tied { StayTied gates.now.config None (phase_after (of_read next)) accesses.old seat.old.me.0
-        (phase_after (of_read result)) accesses.new seat.new.me.0 }
+    ensures tied { StayTied gates.now.config None (phase_after (of_read next)) accesses.old seat.old.me.0.items
+        (phase_after (of_read result)) accesses.new seat.new.me.0.items }
     ensures went { (waits : ℕ) (op : OpType) (start : TaskState) →
         WentWaiting waits op start (of_read next)
         (task_state seat.old.table_id gates.now.config None (phase_after (of_read next)) seat.old.me.0) →
@@ -257,11 +257,11 @@ fn want_then(
     next: Next<WritePhase>,
 ) -> Next<WritePhase>
     requires table { seat.old.table_id ≡ gates.now.table.shared.table_id }
-    requires tied { IsTied gates.now.config None (phase_after (of_write next)) accesses.old seat.old.me.0 }
+    requires tied { IsTied gates.now.config None (phase_after (of_write next)) accesses.old seat.old.me.0.items }
     ensures table { seat.new.table_id ≡ seat.old.table_id }
     ensures slots { seat.new.me.1 ≡ seat.old.me.1 }
-    ensures tied { StayTied gates.now.config None (phase_after (of_write next)) accesses.old seat.old.me.0
-        (phase_after (of_write result)) accesses.new seat.new.me.0 }
+    ensures tied { StayTied gates.now.config None (phase_after (of_write next)) accesses.old seat.old.me.0.items
+        (phase_after (of_write result)) accesses.new seat.new.me.0.items }
     ensures went { (waits : ℕ) (op : OpType) (start : TaskState) →
         WentWaiting waits op start (of_write next)
         (task_state seat.old.table_id gates.now.config None (phase_after (of_write next)) seat.old.me.0) →
@@ -297,11 +297,11 @@ fn take_in_line(
     step: DownReadStep,
 ) -> Next<WritePhase>
     requires table { seat.old.table_id ≡ gates.now.table.shared.table_id }
-    requires tied { IsTied gates.now.config begins (taking mount level cpu task wait step) accesses.old seat.old.me.0 }
+    requires tied { IsTied gates.now.config begins (taking mount level cpu task wait step) accesses.old seat.old.me.0.items }
     ensures table { seat.new.table_id ≡ seat.old.table_id }
     ensures slots { seat.new.me.1 ≡ seat.old.me.1 }
-    ensures tied { StayTied gates.now.config begins (taking mount level cpu task wait step) accesses.old seat.old.me.0
-        (phase_after (of_write result)) accesses.new seat.new.me.0 }
+    ensures tied { StayTied gates.now.config begins (taking mount level cpu task wait step) accesses.old seat.old.me.0.items
+        (phase_after (of_write result)) accesses.new seat.new.me.0.items }
     ensures went { (waits : ℕ) (op : OpType) (start : TaskState) →
         GoesWaiting waits op start (task_state seat.old.table_id gates.now.config begins (taking mount level cpu task wait step) seat.old.me.0) →
         WentWaiting waits op start (of_write result)
@@ -339,11 +339,11 @@ fn give_in_line(
     cpu: u8,
 ) -> Next<WritePhase>
     requires table { seat.old.table_id ≡ gates.now.table.shared.table_id }
-    requires tied { IsTied gates.now.config begins (Some (Writes (Drops mount cpu))) accesses.old seat.old.me.0 }
+    requires tied { IsTied gates.now.config begins (Some (Writes (Drops mount cpu))) accesses.old seat.old.me.0.items }
     ensures table { seat.new.table_id ≡ seat.old.table_id }
     ensures slots { seat.new.me.1 ≡ seat.old.me.1 }
-    ensures tied { StayTied gates.now.config begins (Some (Writes (Drops mount cpu))) accesses.old seat.old.me.0
-        (phase_after (of_write result)) accesses.new seat.new.me.0 }
+    ensures tied { StayTied gates.now.config begins (Some (Writes (Drops mount cpu))) accesses.old seat.old.me.0.items
+        (phase_after (of_write result)) accesses.new seat.new.me.0.items }
     ensures went { (waits : ℕ) (op : OpType) (start : TaskState) →
         GoesWaiting waits op start (task_state seat.old.table_id gates.now.config begins (Some (Writes (Drops mount cpu))) seat.old.me.0) →
         WentWaiting waits op start (of_write result)

@@ -2,7 +2,7 @@
 
 ghost use Rattle.std.specs.Prelude.{◌≡◌, ◌-◌, IfOk, IfErr, OnOk, None};
 ghost use Rattle.gate_world.specs.Configs.{IsWithin};
-ghost use Rattle.gate_steps.specs.Rules.{first_items};
+ghost use Rattle.gate_steps.specs.Rules.{first_known};
 
 use crate::closed::Closed;
 use crate::rooms::Rooms;
@@ -36,7 +36,7 @@ impl Gates {
     /// Invalid where a number of the configuration is out of its limits; NoMemory where a growth was refused.
     pub fn new(alloc: Global, config: Config) -> Result<(Gates, Task), GateError>
         ensures made { IfOk result
-            (λ r. (r.0.words.config ≡ config) × (r.1 ≡ task_state r.0.words.table.shared.table_id config None None (first_items config))) }
+            (λ r. (r.0.words.config ≡ config) × (r.1 ≡ task_state r.0.words.table.shared.table_id config None None (first_known config))) }
         ensures words { IfOk result (λ r. HasOpeningWords config r.1.items) }
         ensures rests { IfOk result (λ r. Rests r.1) }
         ensures within { OnOk result (IsWithin config) }

@@ -65,7 +65,7 @@ impl Task {
         ensures table { self.new.table ≡ self.old.table }
         ensures config { self.new.config ≡ self.old.config }
         ensures joined { IfOk result (λ _. IsIdle self.old × HoldsNothing self.old × IsIdle other × HoldsNothing other
-            × (self.new ≡ record self.old { items = self.old.items ++ other.items })) }
+            × (self.new ≡ record self.old { items = self.old.items ++ other.items; seen = self.old.seen ++ other.seen })) }
         ensures refused { IfErr result (λ e. (e.0 ≡ Order) × (e.1 ≡ other) × (self.new ≡ self.old)
             × ¬ (IsIdle self.old × HoldsNothing self.old × IsIdle other × HoldsNothing other)) }
     {

@@ -5,7 +5,7 @@ ghost use Rattle.gate_world.specs.Configs.{IsWithin};
 ghost use Rattle.gate_world.specs.declared.operations.Op.{Op as OpType};
 ghost use Rattle.gate_world.specs.declared.work.Phase.{Phase as PhaseType};
 ghost use Rattle.vfs_gates.specs.TaskStates.{TaskState, IsNothing};
-ghost use Rattle.gate_steps.specs.Rules.{first_items};
+ghost use Rattle.gate_steps.specs.Rules.{first_known};
 
 use crate::calls::waits;
 use crate::gates::Gates;
@@ -68,9 +68,9 @@ impl Model for Task {
 
     ghost view = { λ t. task_state t.seat.table_id t.config t.begins t.kept.phase t.seat.me.0 };
 
-    ghost invariant = { λ t. Ties t.number t.config t.begins t.kept t.spare t.seat.me.0 × (t.seat.me.1 ≡ [])
-        × RoomTells t.config.nodes t.rooms t.begins t.kept.phase t.seat.me.0
-        × WaitsTell t.config (own_number t.seat.me.0) (own_view t.seat.me.0) t.waited };
+    ghost invariant = { λ t. Ties t.number t.config t.begins t.kept t.spare t.seat.me.0.items × (t.seat.me.1 ≡ [])
+        × RoomTells t.config.nodes t.rooms t.begins t.kept.phase t.seat.me.0.items
+        × WaitsTell t.config (own_number t.seat.me.0.items) (own_view t.seat.me.0.items) t.waited };
 }
 
 /// Written out, so that a crate which lets a task go proves one call of this, and not anew what becomes of each part.
@@ -105,9 +105,9 @@ impl Task {
 
     pub(crate) fn first(config: Config, seat: Seat, rooms: Rooms) -> Task
         requires within { IsWithin config }
-        requires seat { seat.me ≡ (first_items config, []) }
+        requires seat { seat.me ≡ (first_known config, []) }
         requires room { HasSnapshotRoom config.nodes rooms × (rooms.taken ≡ false) }
-        ensures { result ≡ task_state seat.table_id config None None (first_items config) }
+        ensures { result ≡ task_state seat.table_id config None None (first_known config) }
     {
         Task {
             number: 0,
@@ -267,7 +267,7 @@ impl Task {
         requires this { IsFrom self gates.now }
         requires that { IsFrom task.old gates.now }
         requires rest { IsIdle self × HoldsNothing self }
-        ensures { task.new ≡ record task.old { items = task.old.items ++ self.items } }
+        ensures { task.new ≡ record task.old { items = task.old.items ++ self.items; seen = task.old.seen ++ self.seen } }
     {
         let Task {
             number,
@@ -286,8 +286,8 @@ impl Task {
 
     pub(crate) fn into_seat(self) -> Seat
         ensures table { result.table_id ≡ self.table }
-        ensures items { result.me.0 ≡ self.items }
-        ensures rested { IsIdle self × HoldsNothing self → AllRest self.config result.me.0 }
+        ensures items { (result.me.0.items ≡ self.items) × (result.me.0.seen ≡ self.seen) }
+        ensures rested { IsIdle self × HoldsNothing self → AllRest self.config result.me.0.items }
     {
         let Task {
             number: _,

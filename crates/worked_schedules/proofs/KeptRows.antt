@@ -3,7 +3,8 @@ use Rattle.std.{proofs.Common.{◌≡◌, true, List, [], ◌∷◌, ◌++◌, r
 use Rattle.access_model.specs.declared.actions.{Holder.Holder, Kind.Kind}
 use Rattle.percpu_rwsem.specs.declared.readers.{DownRead.DownRead, DownReadStep.DownReadStep}
 use Rattle.compounds.specs.declared.file_closes.phases.ClosePhase.{ClosePhase}
-use Rattle.gate_world.specs.{Worlds.{Entry, Begins, run, opening}, declared.{operations.Op.Op, work.Phase.Phase}}
+use Rattle.gate_world.specs.{Worlds.{run, opening}, declared.{operations.Op.Op, work.Phase.Phase}}
+use Rattle.gate_world.specs.declared.entries.Entry.{Entry, TheVariants.{Begins}}
 use Rattle.gate_schedules.specs.operations.Progress.{StartIsKept, CloseIsKept, LockIsKept, AFreezeIsKept}
 use Rattle.worked_schedules.specs.Schedules.{small, steps}
 use Rattle.worked_schedules.proofs.Rows.{freezes}

@@ -1,7 +1,8 @@
 -- Worked schedules, by computing, on two processors and one mount.
 use Rattle.std.{proofs.Common.{◌≡◌, true, List, [], ◌∷◌, ◌++◌, refl, false}, specs.Prelude.{Ok, Err}}
 use Rattle.access_model.specs.declared.{actions.{Action.Action, Gate.Gate, Holder.Holder}, errors.GateError.GateError, replies.Reply.Reply}
-use Rattle.gate_world.specs.{Worlds.{Entry, Begins, Steps, run, history, opening}, declared.operations.Op.Op}
+use Rattle.gate_world.specs.{Worlds.{run, history, opening}, declared.operations.Op.Op}
+use Rattle.gate_world.specs.declared.entries.Entry.{Entry, TheVariants.{Begins, Steps}}
 use Rattle.gate_schedules.specs.Answers.{step_answer}
 use Rattle.gate_schedules.specs.declared.steps.Progress.{Progress}
 use Rattle.worked_schedules.specs.Schedules.{small, steps, moves}

@@ -2,7 +2,7 @@
 use Rattle.std.specs.Prelude.{ℕ, true, Ok, List, ◌∷◌, ◌++◌, replicate}
 use Rattle.gate_world.specs.declared.config.Config.{Config}
 use Rattle.gate_world.specs.declared.operations.Op.TheVariants.{Want, DropMount}
-use Rattle.gate_world.specs.Worlds.{Entry, Begins, Steps}
+use Rattle.gate_world.specs.declared.entries.Entry.{Entry, TheVariants.{Begins, Steps}}
 
 -- three tasks, two processors, one mount
 abbrev pub small : Config

@@ -130,9 +130,9 @@ own_still : (items more : SeatItems) → 1 ≤ length items → own_view (items 
 own_still [] more there = absurd (omega arith)
 own_still (x ∷ xs) more there = refl
 
-pub joined_rests : (old other new : TaskState) → 1 ≤ length old.items → Rests old → new ≡ record old { items = old.items ++ other.items } → Rests new
+pub joined_rests : (old other new : TaskState) → 1 ≤ length old.items → Rests old → new ≡ record old { items = old.items ++ other.items; seen = old.seen ++ other.seen } → Rests new
 joined_rests old other new there rests is =
-    let same : HoldsNothing (record old { items = old.items ++ other.items }) =
+    let same : HoldsNothing (record old { items = old.items ++ other.items; seen = old.seen ++ other.seen }) =
     let view = own_still old.items other.items there in (
       (λ m lt. ap (λ v. mounts_of v.actions m) view ∙ rests.1.0 m lt),
       (λ i one three. ap (λ v. levels_of v.actions i) view ∙ rests.1.1 i one three),
@@ -144,5 +144,5 @@ there_still : (items more : SeatItems) → 1 ≤ length items → 1 ≤ length (
 there_still [] more there = absurd (omega arith)
 there_still (x ∷ xs) more there = omega arith
 
-pub joined_there : (old other new : TaskState) → 1 ≤ length old.items → new ≡ record old { items = old.items ++ other.items } → 1 ≤ length new.items
+pub joined_there : (old other new : TaskState) → 1 ≤ length old.items → new ≡ record old { items = old.items ++ other.items; seen = old.seen ++ other.seen } → 1 ≤ length new.items
 joined_there old other new there is = subst (λ (s : TaskState). 1 ≤ length s.items) (sym is) (there_still old.items other.items there)

@@ -233,7 +233,7 @@ each_popped Is all rest x are each =
 
 -- a task that was taken back by one that had these numbers
 abbrev pub TookBack : TaskState → TaskState → TaskState → Type 0
-TookBack old other new = new ≡ record old { items = old.items ++ other.items }
+TookBack old other new = new ≡ record old { items = old.items ++ other.items; seen = old.seen ++ other.seen }
 
 pub stays_among : (old other new : TaskState) → TookBack old other new → (s : TaskState) → Among old.items s → Among new.items s
 stays_among old other new took s h =

@@ -3,7 +3,8 @@ use Rattle.std.{proofs.Common.{◌≡◌, ℕ, zero, suc, ◌+◌, ◌*◌, ◌<
 use Rattle.finite_sums.specs.Sums.{total}
 use Rattle.finite_sums.proofs.Totals.{total_at, total_bound, total_updated, update_at}
 use Rattle.cpu_words.specs.Hooks.{HookAnswer}
-use Rattle.gate_world.specs.{Configs.IsWithin, Rules.IsGood, Views.view_after_beside, Worlds.{World, Steps, after_step, value_at, happens}}
+use Rattle.gate_world.specs.{Configs.IsWithin, Rules.IsGood, Views.view_after_beside, Worlds.{World, after_step, value_at, happens}}
+use Rattle.gate_world.specs.declared.entries.Entry.{TheVariants.{Steps}}
 use Rattle.gate_world.specs.declared.{config.Config.Config, views.View.View, work.Phase.Phase}
 use Rattle.gate_schedules.proofs.operations.{Falls.happens_is, Layers.phase_ends, Whole.world_goes}
 use Rattle.gate_schedules.specs.operations.Progress.{AllAreKept, EventsKeepRule, Progresses, ReplyWithin, SettlesWithin}

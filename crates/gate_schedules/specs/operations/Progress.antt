@@ -17,7 +17,8 @@ use Rattle.freeze_levels.specs.declared.thaws.ThawStep.{ThawStep, TheVariants.Lo
 use Rattle.compounds.specs.declared.write_access.phases.WritePhase.{WritePhase, TheVariants.Takes}
 use Rattle.compounds.specs.declared.file_closes.phases.ClosePhase.{ClosePhase, TheVariants.{LoadsFile, Enters as EntersLevel}}
 use Rattle.gate_world.specs.{Headline.world_after, Levels.is_frozen_whole, Rules.{IsGood, Moves, owns}, Shown.shown, Views.holds_level, Work.hook_of}
-use Rattle.gate_world.specs.{Worlds.{World, Entry, Steps, happens, after_step, phase_action}, declared.{config.Config.Config, work.Phase.Phase}}
+use Rattle.gate_world.specs.{Worlds.{World, happens, after_step, phase_action}, declared.{config.Config.Config, work.Phase.Phase}}
+use Rattle.gate_world.specs.declared.entries.Entry.{Entry, TheVariants.{Steps}}
 use Rattle.gate_world.specs.declared.work.Phase.TheVariants.{Mounts, Remounts, DownReads, Writes, Freezes, Thaws, Trees}
 use Rattle.gate_world.specs.declared.work.Phase.TheVariants.{Closes as FileCloses}
 

@@ -8,7 +8,8 @@ use Rattle.cpu_words.specs.{Hooks.HookAnswer, Touches.{event_of, found_by}, Word
 use Rattle.cpu_words.specs.declared.events.Touch.{Touch, TheVariants.Load}
 use Rattle.gate_schedules.proofs.Whole.{whole_causes}
 use Rattle.gate_world.specs.{Headline.world_after, Courses.{course_of, course_after}, Views.{phase_after, with_hook}, Work.{next_of, after_of}}
-use Rattle.gate_world.specs.Worlds.{World, Entry, found_at}
+use Rattle.gate_world.specs.Worlds.{World, found_at}
+use Rattle.gate_world.specs.declared.entries.Entry.{Entry}
 use Rattle.gate_world.specs.declared.{config.Config.Config, operations.Op.Op, views.{Traced.Traced, View.View}, work.Phase.Phase}
 use Rattle.gate_steps.specs.Histories.{IsLike}
 use Rattle.gate_steps.specs.Seating.{SeatItems, entered, world_entered, Moved, IsMove}
@@ -29,12 +30,12 @@ found_again other n = refl
 
 module _ (c : Config) (op : Op) (earlier : List Traced) (e : Traced) (refusal : GateError) where
   -- the event was a move of a phase that it ended so, of an operation that was under way with these earlier events
-  by_move : (begins : Option Op) (phase : Phase) (x : Numbered) (xs : SeatItems) (found : ℕ) →
+  by_move : (begins : Option Op) (phase : Phase) (x : Numbered) (xs : SeatItems) (found : ℕ) (seen gone : List (List Entry)) →
       e ≡ with_hook (event_of (next_of phase e.hook).0 (next_of phase e.hook).1 found) e.hook →
-      Moved c begins phase e.hook x xs found → (entered x.view begins phase).phase ≡ Some phase →
+      Moved c begins phase e.hook x xs found seen gone → (entered x.view begins phase).phase ≡ Some phase →
       (entered x.view begins phase).op ≡ Some op → (entered x.view begins phase).trace ≡ earlier →
       (after_of phase e.event.found e.hook).0 ≡ Done (Err refusal) → IsCausedBy c x.number op earlier e refusal
-  by_move begins phase x xs found is move at under_way events ends =
+  by_move begins phase x xs found seen gone is move at under_way events ends =
       let t : ℕ = x.number in
       let entries : List Entry = move.reached.entries in
       let w : World = world_after c entries in
@@ -64,35 +65,36 @@ module _ (c : Config) (op : Op) (earlier : List Traced) (e : Traced) (refusal : 
       }
 
 -- of a task's numbers, whose own one ran the operation
-of_move : (c : Config) (op : Op) (items : SeatItems) (earlier : List Traced) (e : Traced) (refusal : GateError) (phase : Phase)
+of_move : (c : Config) (op : Op) (items : SeatItems) (earlier : List Traced) (e : Traced) (refusal : GateError) (seen gone : List (List Entry)) (phase : Phase)
     (comes : Next Phase) → (course_of c (own_number items) op earlier).comes ≡ comes → phase_after comes ≡ Some phase →
-    IsMoveOf c op items earlier e phase → (after_of phase e.event.found e.hook).0 ≡ Done (Err refusal) →
+    IsMoveOf c op items earlier e seen gone phase → (after_of phase e.event.found e.hook).0 ≡ Done (Err refusal) →
     IsCausedBy c (own_number items) op earlier e refusal
-of_move c op [] [] e refusal phase comes is at move ends = absurd move.2
-of_move c op [] (d ∷ earlier) e refusal phase comes is at move ends = absurd move.2
-of_move c op (x ∷ xs) [] e refusal phase comes is at move ends =
-    by_move c op [] e refusal (Some op) phase x xs move.0 move.1 move.2 refl refl refl ends
-of_move c op (x ∷ xs) (d ∷ earlier) e refusal phase comes is at move ends =
-    by_move c op (d ∷ earlier) e refusal None phase _ xs move.0 move.1 move.2 (ap phase_after is ∙ at) refl refl ends
+of_move c op [] [] e refusal seen gone phase comes is at move ends = absurd move.2
+of_move c op [] (d ∷ earlier) e refusal seen gone phase comes is at move ends = absurd move.2
+of_move c op (x ∷ xs) [] e refusal seen gone phase comes is at move ends =
+    by_move c op [] e refusal (Some op) phase x xs move.0 seen gone move.1 move.2 refl refl refl ends
+of_move c op (x ∷ xs) (d ∷ earlier) e refusal seen gone phase comes is at move ends =
+    by_move c op (d ∷ earlier) e refusal None phase _ xs move.0 seen gone move.1 move.2 (ap phase_after is ∙ at) refl refl ends
 
 -- what came before the last event was one that it ended
-by_next : (c : Config) (op : Op) (items : SeatItems) (earlier : List Traced) (e : Traced) (refusal : GateError) (comes : Next Phase) →
-    (course_of c (own_number items) op earlier).comes ≡ comes → IsNextMove c op items earlier e comes →
+by_next : (c : Config) (op : Op) (items : SeatItems) (earlier : List Traced) (e : Traced) (refusal : GateError)
+    (seen gone : List (List Entry)) (comes : Next Phase) →
+    (course_of c (own_number items) op earlier).comes ≡ comes → IsNextMove c op items earlier e seen gone comes →
     (course_after comes (course_of c (own_number items) op earlier).added e).comes ≡ Done (Err refusal) →
     IsCausedBy c (own_number items) op earlier e refusal
-by_next c op items earlier e refusal (Go phase) is move ends = of_move c op items earlier e refusal phase (Go phase) is refl move ends
-by_next c op items earlier e refusal (Wait phase) is move ends = of_move c op items earlier e refusal phase (Wait phase) is refl move ends
-by_next c op items earlier e refusal (Done answer) is move ends = absurd move
+by_next c op items earlier e refusal seen gone (Go phase) is move ends = of_move c op items earlier e refusal seen gone phase (Go phase) is refl move ends
+by_next c op items earlier e refusal seen gone (Wait phase) is move ends = of_move c op items earlier e refusal seen gone phase (Wait phase) is refl move ends
+by_next c op items earlier e refusal seen gone (Done answer) is move ends = absurd move
 
-trace_caused : (c : Config) (op : Op) (items : SeatItems) (refusal : GateError) (trace : List Traced) →
-    (course_of c (own_number items) op trace).comes ≡ Done (Err refusal) → AreMoves c op items trace →
+trace_caused : (c : Config) (op : Op) (items : SeatItems) (refusal : GateError) (seen gone : List (List Entry)) (trace : List Traced) →
+    (course_of c (own_number items) op trace).comes ≡ Done (Err refusal) → AreMoves c op items seen trace gone →
     HasItsCause c (own_number items) op trace refusal
-trace_caused c op items refusal [] ends moves = let no : ⊥ = cc in no
-trace_caused c op items refusal (e ∷ earlier) ends moves =
-    by_next c op items earlier e refusal (course_of c (own_number items) op earlier).comes refl moves.0 ends
+trace_caused c op items refusal seen gone [] ends moves = let no : ⊥ = cc in no
+trace_caused c op items refusal seen gone (e ∷ earlier) ends moves =
+    by_next c op items earlier e refusal moves.0 gone (course_of c (own_number items) op earlier).comes refl moves.1 ends
 
 -- so a refused call has it
 pub call_caused : (op : Op) (old left : TaskState) (refusal : GateError) (called : Called op old left (Err refusal)) →
     HasItsCause old.config (own_number old.items) op called.trace refusal
 call_caused op old left refusal called =
-    trace_caused old.config op old.items refusal called.trace called.ends called.moves
+    trace_caused old.config op old.items refusal old.seen left.seen called.trace called.ends called.moves

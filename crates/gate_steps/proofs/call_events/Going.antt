@@ -1,4 +1,6 @@
 -- What an event leaves of a task's fields and view.
+use Rattle.gate_world.specs.declared.entries.Entry.{Entry}
+use Rattle.gate_steps.specs.Seating.{knows}
 use Rattle.std.proofs.Common.{◌≡◌, ℕ, Bool, List, [], ◌∷◌, refl, sym, ap, ◌∙◌, subst}
 use Rattle.std.specs.Prelude.{Option, Some, None}
 use Rattle.access_model.specs.declared.{actions.Action.Action, replies.Next.Next}
@@ -121,15 +123,15 @@ step_in w phase hook =
 
 -- so it is told in the world of the event
 told_in : (c : Config) (begins : Option Op) (phase : Phase) (hook : HookAnswer) (found : ℕ) (items : SeatItems)
-    (move : IsMove c begins phase hook items found) (step : Step) → step ≡ found_step phase hook found →
-    ToldIn c begins phase hook found items move step
-told_in c begins phase hook found [] move step is = absurd move
-told_in c begins phase hook found (x ∷ xs) move step is = is ∙ (ap (found_step phase hook) move.found ∙ step_in move.world phase hook)
+    (seen gone : List (List Entry)) (move : IsMove c begins phase hook items found seen gone) (step : Step) →
+    step ≡ found_step phase hook found → ToldIn c begins phase hook found items seen gone move step
+told_in c begins phase hook found [] seen gone move step is = absurd move
+told_in c begins phase hook found (x ∷ xs) seen gone move step is = is ∙ (ap (found_step phase hook) move.found ∙ step_in move.world phase hook)
 
 -- the event of a step
 pub was_stepped : (phase : Phase) (hook : HookAnswer) (old : TaskState) (done : Step) (left : TaskState) (found : ℕ) → done ≡
-    found_step phase hook found → left ≡ state_after old phase hook found →
-    IsMove old.config old.begins phase hook old.items found → Stepped phase hook old done left
+    found_step phase hook found → left ≡ state_after old phase hook found left.seen →
+    IsMove old.config old.begins phase hook old.items found old.seen left.seen → Stepped phase hook old done left
 was_stepped phase hook old done left found step new moves =
     record {
       found = found;
@@ -137,7 +139,7 @@ was_stepped phase hook old done left found step new moves =
       new = new;
       moves = moves;
       told =
-          told_in old.config old.begins phase hook found old.items moves done step;
+          told_in old.config old.begins phase hook found old.items old.seen left.seen moves done step;
     }
 
 -- the same of the values that the code has
@@ -189,20 +191,21 @@ module _ (number : ℕ) (c : Config) (begins : Option Op) (kept : Seat) (flags :
         }
 
     -- the state that is left
-    pub left_is : (table before : TableId) → table ≡ before → task_state table c None progress.1 after ≡
-        state_after (task_state before c begins kept.phase items) phase hook found
-    left_is table before same = λ i. record { table = same i; config = c; begins = None; phase = same_phase i; items = after_is i }
+    pub left_is : (seen gone : List (List Entry)) (table before : TableId) → table ≡ before → task_state table c None progress.1 (knows after gone) ≡
+        state_after (task_state before c begins kept.phase (knows items seen)) phase hook found gone
+    left_is seen gone table before same =
+        λ i. record { table = same i; config = c; begins = None; phase = same_phase i; items = after_is i; seen = gone }
 
     -- the step that the code has done, where the seat's event was such a move
-    pub stepped_here : (table before : TableId) (now : TaskState) → table ≡ before → task_state before c begins kept.phase items ≡ now →
-        IsMove c begins phase hook items found →
+    pub stepped_here : (seen gone : List (List Entry)) (table before : TableId) (now : TaskState) → table ≡ before →
+        task_state before c begins kept.phase (knows items seen) ≡ now → IsMove c begins phase hook items found seen gone →
         (p : Phase) → now.phase ≡ Some p → Stepped p hook now (record { event = Some event; action = done.1; progress = progress.0 })
-        (task_state table c None progress.1 after)
-    stepped_here table before now same view moves p at =
+        (task_state table c None progress.1 (knows after gone))
+    stepped_here seen gone table before now same view moves p at =
         let other : Some phase ≡ Some p = sym is ∙ (ap (λ (s : TaskState). s.phase) view ∙ at) in
         let same_p : phase ≡ p = cc in
         let step : Step = record { event = Some event; action = done.1; progress = progress.0 } in
-        let left : TaskState = task_state table c None progress.1 after in
+        let left : TaskState = task_state table c None progress.1 (knows after gone) in
         subst (λ (q : Phase). Stepped q hook now step left) same_p
         (subst (λ (s : TaskState). Stepped phase hook s step left) view
-        (was_stepped phase hook (task_state before c begins kept.phase items) step left found step_is (left_is table before same) moves))
+        (was_stepped phase hook (task_state before c begins kept.phase (knows items seen)) step left found step_is (left_is seen gone table before same) moves))

@@ -1,4 +1,5 @@
 -- An operation that goes on after an event, at the phase that comes next.
+use Rattle.gate_steps.specs.declared.seating.Knowledge.{Knowledge}
 use Rattle.std.proofs.Common.{◌≡◌, ◌⊎◌, inl, inr, ap, ℕ, ◌<◌, Bool, List, subst}
 use Rattle.std.specs.Prelude.{Option, Some, None, Result}
 use Rattle.access_model.specs.declared.actions.Action.{Action}
@@ -53,7 +54,7 @@ not_ended (Wait q) phase is a ended = let f : ⊥ = cc in f
 not_ended (Done answer) phase is a ended = let f : ⊥ = cc in f
 
 module _ (c : Config) (within : IsWithin c) (event : Event) (action : Option Action) (next : Next Phase) (hook : HookAnswer)
-    {table left_table : TableId} {begins : Option Op} {phase : Phase} {items left : SeatItems}
+    {table left_table : TableId} {begins : Option Op} {phase : Phase} {items left : Knowledge}
     (after_step : Stepped phase hook (task_state table c begins (Some phase) items) (step_was event action next)
     (task_state left_table c None (phase_after next) left))
     (further : Phase) (is : phase_after next ≡ Some further) where
@@ -91,7 +92,7 @@ tied_so number c accesses flags items o p is ties =
 
 -- an operation that replied was done whole
 pub called_so : (op : Op) (start : TaskState) (next : Next Phase) (answer : Result Reply GateError) (table : TableId) (c : Config)
-    (items : SeatItems) → next ≡ Done answer → Went op start next (task_state table c None (phase_after next) items) →
+    (items : Knowledge) → next ≡ Done answer → Went op start next (task_state table c None (phase_after next) items) →
     Called op start (task_state table c None None items) answer
 called_so op start (Go q) answer table c items is went = absurd (let f : ⊥ = cc in f)
 called_so op start (Wait q) answer table c items is went = absurd (let f : ⊥ = cc in f)

@@ -1,4 +1,5 @@
 -- An operation, event after event, from its beginning to its reply.
+use Rattle.gate_world.specs.declared.entries.Entry.{Entry}
 use Rattle.std.proofs.Common.{◌≡◌, ℕ, ◌+◌, ◌-◌, ◌<◌, ◌≤◌, List, [], ◌∷◌, ◌++◌, length, refl, sym, ap, ◌∙◌, subst, arith, add-zero}
 use Rattle.std.specs.Prelude.{true, false, Option, Some, None, Result, Ok, Err, IfOk, is_some}
 use Rattle.access_model.specs.declared.actions.Action.{Action}
@@ -63,29 +64,30 @@ next_is (Wait q) p e is h = subst (λ r. IsEventOf r e) (let f : p ≡ q = cc in
 next_is (Done a) p e is h = absurd (let f : ⊥ = cc in f)
 
 -- and so does its move
-move_is : (c : Config) (op : Op) (items : SeatItems) (earlier : List Traced) (e : Traced) (s : Next Phase) (p : Phase) → phase_after s ≡
-    Some p → IsMoveOf c op items earlier e p → IsNextMove c op items earlier e s
-move_is c op items earlier e (Go q) p is h = subst (IsMoveOf c op items earlier e) (let f : p ≡ q = cc in f) h
-move_is c op items earlier e (Wait q) p is h = subst (IsMoveOf c op items earlier e) (let f : p ≡ q = cc in f) h
-move_is c op items earlier e (Done a) p is h = absurd (let f : ⊥ = cc in f)
+move_is : (c : Config) (op : Op) (items : SeatItems) (earlier : List Traced) (e : Traced) (seen gone : List (List Entry)) (s : Next Phase) (p : Phase) →
+    phase_after s ≡ Some p → IsMoveOf c op items earlier e seen gone p → IsNextMove c op items earlier e seen gone s
+move_is c op items earlier e seen gone (Go q) p is h = subst (IsMoveOf c op items earlier e seen gone) (let f : p ≡ q = cc in f) h
+move_is c op items earlier e seen gone (Wait q) p is h = subst (IsMoveOf c op items earlier e seen gone) (let f : p ≡ q = cc in f) h
+move_is c op items earlier e seen gone (Done a) p is h = absurd (let f : ⊥ = cc in f)
 
 -- what an event found is what its word may hold
-move_holds : (c : Config) (begins : Option Op) (p : Phase) (hook : HookAnswer) (items : SeatItems) (found : ℕ) →
-    IsMove c begins p hook items found → MayFind p (next_of p hook).0 found
-move_holds c begins p hook [] found move = absurd move
-move_holds c begins p hook (x ∷ xs) found move = move.holds
+move_holds : (c : Config) (begins : Option Op) (p : Phase) (hook : HookAnswer) (items : SeatItems) (found : ℕ)
+    (seen gone : List (List Entry)) → IsMove c begins p hook items found seen gone → MayFind p (next_of p hook).0 found
+move_holds c begins p hook [] found seen gone move = absurd move
+move_holds c begins p hook (x ∷ xs) found seen gone move = move.holds
 
 -- an event leaves one history
-move_has_history : (c : Config) (begins : Option Op) (p : Phase) (hook : HookAnswer) (items : SeatItems) (found : ℕ) →
-    IsMove c begins p hook items found → HaveHistory c (items_after begins p hook found items)
-move_has_history c begins p hook [] found move = absurd move
-move_has_history c begins p hook (x ∷ xs) found move =
+move_has_history : (c : Config) (begins : Option Op) (p : Phase) (hook : HookAnswer) (items : SeatItems) (found : ℕ)
+    (seen gone : List (List Entry)) → IsMove c begins p hook items found seen gone → HaveHistory c (items_after begins p hook found items) gone
+move_has_history c begins p hook [] found seen gone move = absurd move
+move_has_history c begins p hook (x ∷ xs) found seen gone move =
     record {
       within = move.within;
       world = world_left c move.world begins p hook x.number xs;
       good = move.after;
       history = move.history;
       mine = move.left;
+      last = move.leaves;
     }
 
 -- what the event of this phase completes
@@ -214,7 +216,7 @@ starts_asking_none op start now admitted is = subst (GoesWith [] 0 op start) (sy
     going = (first_phase start.config (own_number start.items) op, refl);
     begins = refl;
     items = refl;
-    moves = tt;
+    moves = refl;
   },
   refl,
   refl,
@@ -268,7 +270,7 @@ module _ (op : Op) (start now left : TaskState) (step : Step) (h : HookAnswer) (
 
   -- the trace is one of the operation
   follows_after : IsTrace c n op trace
-  follows_after = (next_is (course_of c n op goes.trace).comes p e stands_there (found, refl, move_holds now.config now.begins p h now.items found did.moves), goes.follows)
+  follows_after = (next_is (course_of c n op goes.trace).comes p e stands_there (found, refl, move_holds now.config now.begins p h now.items found now.seen left.seen did.moves), goes.follows)
 
   -- the course after the event
   course_here : course_of c n op trace ≡ course_with (course_of c n op goes.trace).added after
@@ -331,20 +333,20 @@ module _ (op : Op) (start now left : TaskState) (step : Step) (h : HookAnswer) (
   begins_then = ap (λ (s : TaskState). s.begins) did.new
 
   -- each event was a move
-  moves_then : AreMoves c op start.items trace
+  moves_then : AreMoves c op start.items start.seen trace left.seen
   moves_then =
-      let P : Config × Option Op × SeatItems → Type 0 = λ z. IsMove z.0 z.1 p h z.2 found in
-      let moved : IsMove c (begins_at op goes.trace) p h (items_at c op goes.trace start.items) found =
+      let P : Config × Option Op × SeatItems → Type 0 = λ z. IsMove z.0 z.1 p h z.2 found now.seen left.seen in
+      let moved : IsMove c (begins_at op goes.trace) p h (items_at c op goes.trace start.items) found now.seen left.seen =
       subst P (λ j. (goes.config j, goes.begins j, goes.items j)) did.moves in
-      (move_is c op start.items goes.trace e (course_of c n op goes.trace).comes p stands_there (found, refl, moved), goes.moves)
+      (now.seen, move_is c op start.items goes.trace e now.seen left.seen (course_of c n op goes.trace).comes p stands_there (found, refl, moved), goes.moves)
 
   -- what it leaves has one history
-  history_then : HaveHistory c left.items
+  history_then : HaveHistory c left.items left.seen
   history_then =
-      let history : HaveHistory now.config (items_after now.begins p h found now.items) =
-      move_has_history now.config now.begins p h now.items found did.moves in
-      subst (λ d. HaveHistory d left.items) goes.config
-      (subst (HaveHistory now.config) (ap (λ (s : TaskState). s.items) (sym did.new)) history)
+      let history : HaveHistory now.config (items_after now.begins p h found now.items) left.seen =
+      move_has_history now.config now.begins p h now.items found now.seen left.seen did.moves in
+      subst (λ d. HaveHistory d left.items left.seen) goes.config
+      (subst (λ l. HaveHistory now.config l left.seen) (ap (λ (s : TaskState). s.items) (sym did.new)) history)
 
   -- where it does not reply, it goes on, with this event more
   goes_with_it : ((a : Result Reply GateError) → step.progress ≡ Ended a → ⊥) → (goes : Goes op start left) × (goes.trace ≡ trace)
@@ -392,7 +394,7 @@ module _ (op : Op) (start now left : TaskState) (step : Step) (h : HookAnswer) (
           trace = trace;
           follows = follows_after;
           ends = ends;
-          after = λ i. record { table = table_then i; config = config_then i; begins = begins_then i; phase = idle i; items = items_then i };
+          after = λ i. record { table = table_then i; config = config_then i; begins = begins_then i; phase = idle i; items = items_then i; seen = left.seen };
           moves = moves_then;
           added = tells.0;
           honest = tells.1;
@@ -453,7 +455,8 @@ module _ (op : Op) (start now left : TaskState) (step : Step) (h : HookAnswer) (
       )
 
   -- and its trace has one event more
-  grown : (begins : Option Op) (o : Option Phase) (l : SeatItems) → o ≡ Some p → IsMove now.config begins p h l found →
+  grown : (begins : Option Op) (o : Option Phase) (l : SeatItems) → o ≡ Some p →
+      IsMove now.config begins p h l found now.seen left.seen →
       length (own_view (items_after begins p h found l)).trace ≡ length (own_view (entered_items begins o l)).trace + 1
   grown begins o [] is moves = absurd moves
   grown begins o (x ∷ xs) is moves = subst (λ q. length (own_view (items_after begins p h found (x ∷ xs))).trace ≡

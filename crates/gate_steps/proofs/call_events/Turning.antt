@@ -1,4 +1,8 @@
 -- One event apart from the task: what it leaves of the fields, and which step it was.
+use Rattle.gate_world.specs.declared.entries.Entry.{Entry}
+use Rattle.gate_steps.specs.Seating.{knows}
+use Rattle.gate_steps.specs.declared.seating.Knowledge.{Knowledge}
+use Rattle.std.proofs.Common.{List}
 use Rattle.std.proofs.Common.{◌≡◌, ℕ, ◌<◌, Bool, List, [], ◌∷◌, refl, sym, ap, ◌∙◌, subst, arith}
 use Rattle.std.specs.Prelude.{Option, Some, None}
 use Rattle.access_model.specs.declared.{actions.Action.Action, replies.Next.{Next, TheVariants.{Go, Wait, Done}}}
@@ -64,20 +68,20 @@ module _ (c key : Config) (same_key : key ≡ c) (begins : Option Op) (phase : P
 
   -- the event was a step
   pub stepped_so : (number : ℕ) (flags : List Bool) → Ties number c begins (kept_at (Some phase) accesses) flags items →
-      IsMove key begins phase hook items found → (table before : TableId) → table ≡ before →
-      Stepped phase hook (task_state before c begins (Some phase) items) (step_was event done.1 done.0)
-      (task_state table c None (phase_after done.0) left)
-  stepped_so number flags ties moves table before same =
-      let here : IsMove c begins phase hook items found = subst (λ (k : Config). IsMove k begins phase hook items found) same_key moves in
+      (seen gone : List (List Entry)) → IsMove key begins phase hook items found seen gone → (table before : TableId) → table ≡ before →
+      Stepped phase hook (task_state before c begins (Some phase) (knows items seen)) (step_was event done.1 done.0)
+      (task_state table c None (phase_after done.0) (knows left gone))
+  stepped_so number flags ties seen gone moves table before same =
+      let here : IsMove c begins phase hook items found seen gone = subst (λ (k : Config). IsMove k begins phase hook items found seen gone) same_key moves in
       stepped_here number c begins (kept_at (Some phase) accesses) flags phase refl hook items ties (next_of phase hook) refl found event
       event_is done done_is
       (progress_of done.0, phase_after done.0) refl accesses_left accesses_is left left_is
-      table before (task_state before c begins (Some phase) items) same refl here phase refl
+      seen gone table before (task_state before c begins (Some phase) (knows items seen)) same refl here phase refl
 
 -- and what comes after it tells whether the operation goes on
 pub went_so : (c : Config) → IsWithin c → (op : Op) (start : TaskState) (event : Event) (action : Option Action) (next : Next Phase)
     (hook : HookAnswer)
-    {table left_table : TableId} {begins : Option Op} {phase : Phase} {items left : SeatItems} →
+    {table left_table : TableId} {begins : Option Op} {phase : Phase} {items left : Knowledge} →
     Goes op start (task_state table c begins (Some phase) items) →
     Stepped phase hook (task_state table c begins (Some phase) items) (step_was event action next)
     (task_state left_table c None (phase_after next) left) →
@@ -93,17 +97,17 @@ went_so c within op start event action next hook {table} {left_table} {begins} {
 -- and which hooks it has asked, and how many of its events came to a wait
 pub went_with_so : (c : Config) → IsWithin c → (op : Op) (start : TaskState) (event : Event) (action : Option Action) (next : Next Phase)
     (hook : HookAnswer) (asks : List Ask) (waits : ℕ)
-    {table left_table : TableId} {begins : Option Op} {phase : Phase} {items left : SeatItems} →
+    {table left_table : TableId} {begins : Option Op} {phase : Phase} {items left : Knowledge} →
     GoesWith asks waits op start (task_state table c begins (Some phase) items) →
     Stepped phase hook (task_state table c begins (Some phase) items) (step_was event action next)
     (task_state left_table c None (phase_after next) left) →
-    WentWith (asks_with (call_at phase) items hook asks) waits op start next (task_state left_table c None (phase_after next) left)
+    WentWith (asks_with (call_at phase) items.items hook asks) waits op start next (task_state left_table c None (phase_after next) left)
 went_with_so c within op start event action next hook asks waits {table} {left_table} {begins} {phase} {items} {left} goes after_step =
     let now : TaskState = task_state table c begins (Some phase) items in
     let after : TaskState = task_state left_table c None (phase_after next) left in
     let step : Step = step_was event action next in
     let same : goes.0.going.0 ≡ phase = let at : Some phase ≡ Some goes.0.going.0 = goes.0.going.1 in cc in
-    subst (λ (p : Phase). WentWith (asks_with (call_at p) items hook asks) waits op start next after) same
+    subst (λ (p : Phase). WentWith (asks_with (call_at p) items.items hook asks) waits op start next after) same
     (went_asking op start now after step hook goes.0
     (λ p is. subst (λ (q : Phase). Stepped q hook now step after) (let other : phase ≡ p = cc in other) after_step)
     asks waits goes.1 goes.2 (subst IsWithin goes.0.config within) next refl)
@@ -117,7 +121,7 @@ unasked op start (Done a) now asks waits went = (went.0, went.2)
 
 pub went_waiting_so : (c : Config) → IsWithin c → (waits : ℕ) (op : Op) (start : TaskState) (event : Event) (action : Option Action)
     (next : Next Phase) (hook : HookAnswer)
-    {table left_table : TableId} {begins : Option Op} {phase : Phase} {items left : SeatItems} →
+    {table left_table : TableId} {begins : Option Op} {phase : Phase} {items left : Knowledge} →
     GoesWaiting waits op start (task_state table c begins (Some phase) items) →
     Stepped phase hook (task_state table c begins (Some phase) items) (step_was event action next)
     (task_state left_table c None (phase_after next) left) →

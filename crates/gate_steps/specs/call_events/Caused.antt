@@ -8,7 +8,8 @@ use Rattle.gate_world.specs.Configs.{IsWithin}
 use Rattle.gate_world.specs.Headline.{world_after}
 use Rattle.gate_world.specs.Views.{with_hook}
 use Rattle.gate_world.specs.Work.{next_of, after_of}
-use Rattle.gate_world.specs.Worlds.{Entry, found_at}
+use Rattle.gate_world.specs.Worlds.{found_at}
+use Rattle.gate_world.specs.declared.entries.Entry.{Entry}
 use Rattle.gate_world.specs.declared.config.Config.{Config}
 use Rattle.gate_world.specs.declared.operations.Op.{Op}
 use Rattle.gate_world.specs.declared.views.Traced.{Traced}

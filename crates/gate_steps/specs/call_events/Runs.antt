@@ -8,6 +8,7 @@ use Rattle.access_model.specs.declared.replies.Reply.TheVariants.{Ran, Node as N
 use Rattle.cpu_words.specs.declared.events.Event.{Event}
 use Rattle.cpu_words.specs.Touches.{event_of}
 use Rattle.gate_world.specs.declared.config.Config.{Config}
+use Rattle.gate_world.specs.declared.entries.Entry.{Entry}
 use Rattle.gate_world.specs.declared.operations.Op.{Op}
 use Rattle.gate_world.specs.declared.work.Phase.{Phase}
 use Rattle.gate_world.specs.declared.views.Traced.{Traced}
@@ -73,22 +74,23 @@ items_at c op (e ∷ earlier) items = ran_items c op (e ∷ earlier) items
 
 -- the event was one of this phase in a world that the rule holds of, in which the numbers have their views, and it moved the shown model
 -- by its action
-abbrev pub IsMoveOf : Config → Op → SeatItems → List Traced → Traced → Phase → Type 0
-IsMoveOf c op items earlier e phase =
+abbrev pub IsMoveOf : Config → Op → SeatItems → List Traced → Traced → List (List Entry) → List (List Entry) → Phase → Type 0
+IsMoveOf c op items earlier e seen left phase =
     (found : ℕ) × (e ≡ with_hook (event_of (next_of phase e.hook).0 (next_of phase e.hook).1 found) e.hook)
-    × IsMove c (begins_at op earlier) phase e.hook (items_at c op earlier items) found
+    × IsMove c (begins_at op earlier) phase e.hook (items_at c op earlier items) found seen left
 
 -- the event was such a move of the phase that comes next
-abbrev pub IsNextMove : Config → Op → SeatItems → List Traced → Traced → Next Phase → Type 0
-IsNextMove c op items earlier e (Go phase) = IsMoveOf c op items earlier e phase
-IsNextMove c op items earlier e (Wait phase) = IsMoveOf c op items earlier e phase
-IsNextMove c op items earlier e (Done answer) = ⊥
+abbrev pub IsNextMove : Config → Op → SeatItems → List Traced → Traced → List (List Entry) → List (List Entry) → Next Phase → Type 0
+IsNextMove c op items earlier e seen left (Go phase) = IsMoveOf c op items earlier e seen left phase
+IsNextMove c op items earlier e seen left (Wait phase) = IsMoveOf c op items earlier e seen left phase
+IsNextMove c op items earlier e seen left (Done answer) = ⊥
 
--- each event was such a move of the phase that came next before it
-abbrev pub AreMoves : Config → Op → SeatItems → List Traced → Type 0
-AreMoves c op items [] = Unit {0}
-AreMoves c op items (e ∷ earlier) =
-    IsNextMove c op items earlier e (course_of c (own_number items) op earlier).comes × AreMoves c op items earlier
+-- Each event was such a move of the phase that came next before it, from what the one before has seen: so each one's schedule goes on from
+-- that of the one before, and the first from what the task had seen.
+abbrev pub AreMoves : Config → Op → SeatItems → List (List Entry) → List Traced → List (List Entry) → Type 0
+AreMoves c op items seen [] left = left ≡ seen
+AreMoves c op items seen (e ∷ earlier) left = (before : List (List Entry)) ×
+    IsNextMove c op items earlier e before left (course_of c (own_number items) op earlier).comes × AreMoves c op items seen earlier before
 
 -- an operation that has a most number of events
 abbrev pub IsBounded : Option ℕ → Type 0
@@ -131,14 +133,14 @@ pub record Called (op : Op) (old left : TaskState) (answer : Result Reply GateEr
   pub trace : List Traced
   pub follows : IsTrace old.config (own_number old.items) op trace
   pub ends : (course_of old.config (own_number old.items) op trace).comes ≡ Done answer
-  pub after : left ≡ record old { begins = None; phase = None; items = ran_items old.config op trace old.items }
-  pub moves : AreMoves old.config op old.items trace
+  pub after : left ≡ record old { begins = None; phase = None; items = ran_items old.config op trace old.items; seen = left.seen }
+  pub moves : AreMoves old.config op old.items old.seen trace left.seen
   pub added : (course_of old.config (own_number old.items) op trace).added ≡ actions_of op answer trace
   pub honest : IsHonestAnswer old.config op answer trace
   pub unchanged : IsUnchangedBy answer (course_of old.config (own_number old.items) op trace).added (own_view old.items) (own_view left.items)
   pub waits : WaitsHonestly old.config (own_number old.items) op trace
   pub short : IsShort (most_events old.config op) trace
-  pub history : HaveHistory old.config left.items
+  pub history : HaveHistory old.config left.items left.seen
 
 -- An operation whose beginning is refused changes nothing, and any other is done whole. The call tells its answer as it reads replies.
 pub record Replies {A : Type 0} (read : Reply → A) (op : Op) (old left : TaskState) (outcome : Result A GateError) : Type 0 where
@@ -162,7 +164,7 @@ pub record Goes (op : Op) (start now : TaskState) : Type 0 where
   pub going : (q : Phase) × (now.phase ≡ Some q)
   pub begins : now.begins ≡ begins_at op trace
   pub items : now.items ≡ items_at start.config op trace start.items
-  pub moves : AreMoves start.config op start.items trace
+  pub moves : AreMoves start.config op start.items start.seen trace now.seen
 
 -- what comes after the last event: it goes on, or it was done whole
 abbrev pub Went : Op → TaskState → Next Phase → TaskState → Type 0

@@ -1,5 +1,6 @@
 -- What one step of a task is.
-use Rattle.std.specs.Prelude.{◌≡◌, ℕ, Option, Some, None, [], ◌∷◌}
+use Rattle.std.specs.Prelude.{◌≡◌, ℕ, Option, Some, None, List, [], ◌∷◌}
+use Rattle.gate_world.specs.declared.entries.Entry.{Entry}
 use Rattle.cpu_words.specs.Hooks.{HookAnswer}
 use Rattle.cpu_words.specs.Touches.{found_by, event_of}
 use Rattle.gate_world.specs.declared.config.Config.{Config}
@@ -21,24 +22,25 @@ found_step phase hook found = record {
 }
 
 -- and the task after it
-abbrev pub state_after : TaskState → Phase → HookAnswer → ℕ → TaskState
-state_after old phase hook found = record old {
+abbrev pub state_after : TaskState → Phase → HookAnswer → ℕ → List (List Entry) → TaskState
+state_after old phase hook found seen = record old {
   begins = None;
   phase = phase_after (after_of phase (found_by (next_of phase hook).1 found) hook).0;
   items = items_after old.begins phase hook found old.items;
+  seen = seen;
 }
 
 -- the step is the one that the phase has in the world of this event
-abbrev pub ToldIn : (c : Config) (begins : Option Op) (phase : Phase) (hook : HookAnswer) (found : ℕ) (items : SeatItems) →
-    IsMove c begins phase hook items found → Step → Type 0
-ToldIn c begins phase hook found [] move step = ⊥
-ToldIn c begins phase hook found (x ∷ xs) move step = step ≡ phase_step move.world hook (Some phase)
+abbrev pub ToldIn : (c : Config) (begins : Option Op) (phase : Phase) (hook : HookAnswer) (found : ℕ) (items : SeatItems)
+    (seen left : List (List Entry)) → IsMove c begins phase hook items found seen left → Step → Type 0
+ToldIn c begins phase hook found [] seen left move step = ⊥
+ToldIn c begins phase hook found (x ∷ xs) seen left move step = step ≡ phase_step move.world hook (Some phase)
 
 -- One event of the task's own number, which found something in a world that the rule holds of, before it and after it. The step is the
 -- one that the phase has in that world.
 pub record Stepped (phase : Phase) (hook : HookAnswer) (old : TaskState) (done : Step) (left : TaskState) : Type 0 where
   pub found : ℕ
   pub step : done ≡ found_step phase hook found
-  pub new : left ≡ state_after old phase hook found
-  pub moves : IsMove old.config old.begins phase hook old.items found
-  pub told : ToldIn old.config old.begins phase hook found old.items moves done
+  pub new : left ≡ state_after old phase hook found left.seen
+  pub moves : IsMove old.config old.begins phase hook old.items found old.seen left.seen
+  pub told : ToldIn old.config old.begins phase hook found old.items old.seen left.seen moves done

@@ -1,23 +1,26 @@
 -- What callers know of a task.
-use Rattle.std.specs.Prelude.{◌≡◌, ℕ, ◌<◌, ◌≤◌, false, Option, None, is_some, Result, slice_index, slice_index_or, [], ◌∷◌}
+use Rattle.std.specs.Prelude.{◌≡◌, ℕ, ◌<◌, ◌≤◌, false, Option, None, is_some, Result, slice_index, slice_index_or, List, [], ◌∷◌}
 use Rattle.atomic_table.specs.Seated.{TableId}
 use Rattle.access_model.specs.declared.errors.GateError.{GateError}
 use Rattle.gate_world.specs.{Beginnings.{refusal, beginning}, Views.{opening_view, held_at, holds_level, has_open, held_of}}
 use Rattle.gate_world.specs.declared.{accesses.Accesses.Accesses, config.Config.Config, operations.Op.Op, views.View.View, work.Phase.Phase}
+use Rattle.gate_world.specs.declared.entries.Entry.{Entry}
 use Rattle.gate_steps.specs.Seating.{SeatItems}
+use Rattle.gate_steps.specs.declared.seating.Knowledge.{Knowledge}
 
 -- the table, the configuration, the operation that has begun and has had no event, the phase of the operation under way, and the
--- numbers with their views, its own first
+-- numbers with their views, its own first, and the schedules that it has seen
 pub record TaskState : Type 0 where
   pub table : TableId
   pub config : Config
   pub begins : Option Op
   pub phase : Option Phase
   pub items : SeatItems
+  pub seen : List (List Entry)
 
 -- of these parts
-abbrev pub task_state : TableId → Config → Option Op → Option Phase → SeatItems → TaskState
-task_state t c b p l = record { table = t; config = c; begins = b; phase = p; items = l }
+abbrev pub task_state : TableId → Config → Option Op → Option Phase → Knowledge → TaskState
+task_state t c b p k = record { table = t; config = c; begins = b; phase = p; items = k.items; seen = k.seen }
 
 -- its own number
 abbrev pub own_number : SeatItems → ℕ

@@ -15,7 +15,7 @@ pub trait TimedHooks {
     /// Asks a hook, by the seat of the task that asks: Ok, or Err with the code of its failure. Nobody has the seat as it stands after an
     /// event before that event.
     fn ask(&mut self, call: HookCall, at: &Seat) -> Result<(), u16>
-        ensures { answers call at.now.me.0 self.old result self.new };
+        ensures { answers call at.now.me.0.items self.old result self.new };
 }
 
 impl<H: FsHooks> TimedHooks for H {

@@ -1,6 +1,6 @@
 //! Laws of the hooks that whole calls ask. The functions here do nothing: their contracts are the laws.
 
-ghost use Rattle.std.specs.Prelude.{Bool, Ok};
+ghost use Rattle.std.specs.Prelude.{Bool, Ok, Result};
 ghost use Rattle.access_model.specs.declared.actions.Holder.{Holder};
 ghost use Rattle.access_model.specs.declared.replies.Reply.{Reply};
 ghost use Rattle.gate_world.specs.declared.operations.Op.TheVariants.{Freeze, RemountSb, Thaw};
@@ -8,6 +8,9 @@ ghost use Rattle.freeze_levels.specs.declared.hooks.HookCall.TheVariants.{Unfree
 ghost use Rattle.gate_world.specs.Traces.{actions_of};
 ghost use Rattle.gate_steps.specs.call_events.Asked.{AskedByFreeze, AtMostAsked};
 ghost use Rattle.gate_steps.specs.call_events.Asking.{asks_of};
+ghost use Rattle.access_model.specs.declared.errors.GateError.{GateError};
+ghost use Rattle.gate_world.specs.declared.operations.Op.{Op};
+ghost use Rattle.gate_steps.specs.call_events.Grown.{AllGoOn};
 ghost use Rattle.gate_steps.specs.call_events.Runs.{Called};
 ghost use Rattle.gate_steps.specs.call_events.TaskStates.{TaskState};
 
@@ -30,4 +33,9 @@ pub fn a_granted_thaw_asks_at_most_once()
 pub fn a_granted_remount_asks_for_its_state()
     ensures { (read_only : Bool) (old left : TaskState) (reply : Reply) (called : Called (RemountSb read_only) old left (Ok reply)) →
         AtMostAsked (Reconfigure read_only) (asks_of old.config (RemountSb read_only) old.items called.trace) }
+{}
+
+/// The schedule in which a call ends goes on from each that its task had seen before. Does nothing: its contract is the law.
+pub fn a_call_goes_on_from_what_was_seen()
+    ensures { (op : Op) (old left : TaskState) (answer : Result Reply GateError) → Called op old left answer → AllGoOn old.seen left.seen }
 {}

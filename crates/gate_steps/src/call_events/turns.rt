@@ -39,11 +39,11 @@ pub fn do_event<P: UnderWay>(
     hook: Result<(), u16>,
 ) -> Turn<P>
     requires table { seat.old.table_id ≡ gates.now.table.shared.table_id }
-    requires tied { IsTied gates.now.config begins (Some (P.as_phase under_way)) accesses.old seat.old.me.0 }
+    requires tied { IsTied gates.now.config begins (Some (P.as_phase under_way)) accesses.old seat.old.me.0.items }
     ensures table { seat.new.table_id ≡ seat.old.table_id }
     ensures slots { seat.new.me.1 ≡ seat.old.me.1 }
-    ensures tied { StayTied gates.now.config begins (Some (P.as_phase under_way)) accesses.old seat.old.me.0
-        (phase_after (map_next P.as_phase result.next)) accesses.new seat.new.me.0 }
+    ensures tied { StayTied gates.now.config begins (Some (P.as_phase under_way)) accesses.old seat.old.me.0.items
+        (phase_after (map_next P.as_phase result.next)) accesses.new seat.new.me.0.items }
     ensures stepped { Stepped (P.as_phase under_way) hook
         (task_state seat.old.table_id gates.now.config begins (Some (P.as_phase under_way)) seat.old.me.0)
         (step_was result.event result.action (map_next P.as_phase result.next))
@@ -70,19 +70,19 @@ pub fn go_on<P: UnderWay>(
     hook: Result<(), u16>,
 ) -> Next<P>
     requires table { seat.old.table_id ≡ gates.now.table.shared.table_id }
-    requires tied { IsTied gates.now.config begins (Some (P.as_phase under_way)) accesses.old seat.old.me.0 }
+    requires tied { IsTied gates.now.config begins (Some (P.as_phase under_way)) accesses.old seat.old.me.0.items }
     ensures table { seat.new.table_id ≡ seat.old.table_id }
     ensures slots { seat.new.me.1 ≡ seat.old.me.1 }
-    ensures tied { StayTied gates.now.config begins (Some (P.as_phase under_way)) accesses.old seat.old.me.0
-        (phase_after (map_next P.as_phase result)) accesses.new seat.new.me.0 }
-    ensures still { IsTied gates.now.config None (phase_after (map_next P.as_phase result)) accesses.new seat.new.me.0 }
+    ensures tied { StayTied gates.now.config begins (Some (P.as_phase under_way)) accesses.old seat.old.me.0.items
+        (phase_after (map_next P.as_phase result)) accesses.new seat.new.me.0.items }
+    ensures still { IsTied gates.now.config None (phase_after (map_next P.as_phase result)) accesses.new seat.new.me.0.items }
     ensures went { (waits : ℕ) (op : OpType) (start : TaskState) →
         GoesWaiting waits op start (task_state seat.old.table_id gates.now.config begins (Some (P.as_phase under_way)) seat.old.me.0) →
         WentWaiting waits op start (map_next P.as_phase result)
         (task_state seat.new.table_id gates.now.config None (phase_after (map_next P.as_phase result)) seat.new.me.0) }
     ensures asks { (op : OpType) (start : TaskState) (asks : List Ask) (waits : ℕ) →
         GoesWith asks waits op start (task_state seat.old.table_id gates.now.config begins (Some (P.as_phase under_way)) seat.old.me.0) →
-        WentWith (asks_with (call_at (P.as_phase under_way)) seat.old.me.0 hook asks) waits op start (map_next P.as_phase result)
+        WentWith (asks_with (call_at (P.as_phase under_way)) seat.old.me.0.items hook asks) waits op start (map_next P.as_phase result)
         (task_state seat.new.table_id gates.now.config None (phase_after (map_next P.as_phase result)) seat.new.me.0) }
 {
     let Turn {

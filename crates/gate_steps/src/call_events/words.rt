@@ -1,14 +1,14 @@
 //! The words that all threads share, and a seat at their table.
 
-ghost use Rattle.std.specs.Prelude.{◌≡◌, ◌<◌, ◌++◌, [], IfOk};
+ghost use Rattle.std.specs.Prelude.{◌≡◌, ◌<◌, [], IfOk};
 ghost use Rattle.std.specs.Slots.{slots_items, slots_len, IsFull};
 ghost use Rattle.cpu_words.specs.Names.{place, words_in_all};
 ghost use Rattle.cpu_words.specs.Touches.{event_of};
 ghost use Rattle.gate_world.specs.Configs.{IsWithin};
 ghost use Rattle.gate_world.specs.Work.{next_of};
-ghost use Rattle.gate_steps.specs.Rules.{first_items, table_length};
+ghost use Rattle.gate_steps.specs.Rules.{first_known, table_length};
 ghost use Rattle.gate_steps.specs.Tables.{IsClosing};
-ghost use Rattle.gate_steps.specs.Seating.{Acts, IsMove, items_after, Spares, kept_of, given_of};
+ghost use Rattle.gate_steps.specs.Seating.{Acts, IsMove, items_after, Spares, known_kept, known_given, known_both};
 
 use crate::{Closed, GateTable, Items};
 use cpu_words::Event;
@@ -38,7 +38,7 @@ impl GateWords {
         requires { IsWithin config }
         ensures config { IfOk result (λ t. t.0.config ≡ config) }
         ensures seat { IfOk result (λ t.
-            (t.1.table_id ≡ t.0.table.shared.table_id) × (t.1.id ≡ 0) × (t.1.me ≡ (first_items config, []))) }
+            (t.1.table_id ≡ t.0.table.shared.table_id) × (t.1.id ≡ 0) × (t.1.me ≡ (first_known config, []))) }
     {
         let (table, seat) = crate::open(alloc, &config)?;
         Ok((GateWords { table, config }, seat))
@@ -55,11 +55,11 @@ impl GateWords {
     ) -> Event
         requires table { seat.old.table_id ≡ self.now.table.shared.table_id }
         requires inside { place (next_of (P.as_phase under_way) hook).0 < words_in_all }
-        requires acts { Acts self.now.table.shared.key begins (P.as_phase under_way) seat.old.me.0 }
+        requires acts { Acts self.now.table.shared.key begins (P.as_phase under_way) seat.old.me.0.items }
         ensures table { seat.new.table_id ≡ seat.old.table_id }
         ensures is { result ≡ event_of (next_of (P.as_phase under_way) hook).0 (next_of (P.as_phase under_way) hook).1 result.found }
-        ensures event { seat.new.me.0 ≡ items_after begins (P.as_phase under_way) hook result.found seat.old.me.0 }
-        ensures moves { IsMove self.now.table.shared.key begins (P.as_phase under_way) hook seat.old.me.0 result.found }
+        ensures event { seat.new.me.0.items ≡ items_after begins (P.as_phase under_way) hook result.found seat.old.me.0.items }
+        ensures moves { IsMove self.now.table.shared.key begins (P.as_phase under_way) hook seat.old.me.0.items result.found seat.old.me.0.seen seat.new.me.0.seen }
         ensures slots { seat.new.me.1 ≡ seat.old.me.1 }
     {
         crate::event(&self.table.shared, seat, begins, under_way, hook)
@@ -68,10 +68,10 @@ impl GateWords {
     /// A new seat with one of the numbers that the seat has to give.
     pub fn give(&self, seat: &mut Seat, number: u8) -> Seat
         requires table { seat.old.table_id ≡ self.now.table.shared.table_id }
-        requires spare { Spares number seat.old.me.0 }
+        requires spare { Spares number seat.old.me.0.items }
         ensures table { (seat.new.table_id ≡ seat.old.table_id) × (result.table_id ≡ seat.old.table_id) }
-        ensures kept { seat.new.me ≡ (kept_of number seat.old.me.0, seat.old.me.1) }
-        ensures given { result.me ≡ (given_of number seat.old.me.0, []) }
+        ensures kept { seat.new.me ≡ (known_kept number seat.old.me.0, seat.old.me.1) }
+        ensures given { result.me ≡ (known_given number seat.old.me.0, []) }
     {
         crate::give(&self.table.shared, seat, number)
     }
@@ -81,7 +81,7 @@ impl GateWords {
         requires table { (seat.old.table_id ≡ self.now.table.shared.table_id) × (other.table_id ≡ self.now.table.shared.table_id) }
         requires slots { other.me.1 ≡ [] }
         ensures table { seat.new.table_id ≡ seat.old.table_id }
-        ensures joined { seat.new.me ≡ (seat.old.me.0 ++ other.me.0, seat.old.me.1) }
+        ensures joined { seat.new.me ≡ (known_both seat.old.me.0 other.me.0, seat.old.me.1) }
     {
         crate::take_back(&self.table.shared, seat, other);
     }

@@ -57,12 +57,12 @@ fn begin_change(
     change: Change,
 ) -> Next<Change>
     requires table { seat.old.table_id ≡ gates.now.table.shared.table_id }
-    requires tied { IsTied gates.now.config begins (Some (Mounts (Changes change))) accesses.old seat.old.me.0 }
+    requires tied { IsTied gates.now.config begins (Some (Mounts (Changes change))) accesses.old seat.old.me.0.items }
     ensures table { seat.new.table_id ≡ seat.old.table_id }
     ensures slots { seat.new.me.1 ≡ seat.old.me.1 }
-    ensures tied { StayTied gates.now.config begins (Some (Mounts (Changes change))) accesses.old seat.old.me.0
-        (phase_after (of_change result)) accesses.new seat.new.me.0 }
-    ensures still { IsTied gates.now.config None (phase_after (of_change result)) accesses.new seat.new.me.0 }
+    ensures tied { StayTied gates.now.config begins (Some (Mounts (Changes change))) accesses.old seat.old.me.0.items
+        (phase_after (of_change result)) accesses.new seat.new.me.0.items }
+    ensures still { IsTied gates.now.config None (phase_after (of_change result)) accesses.new seat.new.me.0.items }
     ensures went { (waits : ℕ) (op : OpType) (start : TaskState) →
         GoesWaiting waits op start (task_state seat.old.table_id gates.now.config begins (Some (Mounts (Changes change))) seat.old.me.0) →
         WentWaiting waits op start (of_change result)
@@ -84,12 +84,12 @@ fn add_counts(
     processors: u8,
 ) -> Next<Change>
     requires table { seat.old.table_id ≡ gates.now.table.shared.table_id }
-    requires tied { IsTied gates.now.config None (phase_after (of_change next)) accesses.old seat.old.me.0 }
+    requires tied { IsTied gates.now.config None (phase_after (of_change next)) accesses.old seat.old.me.0.items }
     ensures table { seat.new.table_id ≡ seat.old.table_id }
     ensures slots { seat.new.me.1 ≡ seat.old.me.1 }
-    ensures tied { StayTied gates.now.config None (phase_after (of_change next)) accesses.old seat.old.me.0
-        (phase_after (of_change result)) accesses.new seat.new.me.0 }
-    ensures still { IsTied gates.now.config None (phase_after (of_change result)) accesses.new seat.new.me.0 }
+    ensures tied { StayTied gates.now.config None (phase_after (of_change next)) accesses.old seat.old.me.0.items
+        (phase_after (of_change result)) accesses.new seat.new.me.0.items }
+    ensures still { IsTied gates.now.config None (phase_after (of_change result)) accesses.new seat.new.me.0.items }
     ensures went { (waits : ℕ) (op : OpType) (start : TaskState) →
         WentWaiting waits op start (of_change next)
         (task_state seat.old.table_id gates.now.config None (phase_after (of_change next)) seat.old.me.0) →
@@ -112,11 +112,11 @@ fn end_change(
     next: Next<Change>,
 ) -> Next<Change>
     requires table { seat.old.table_id ≡ gates.now.table.shared.table_id }
-    requires tied { IsTied gates.now.config None (phase_after (of_change next)) accesses.old seat.old.me.0 }
+    requires tied { IsTied gates.now.config None (phase_after (of_change next)) accesses.old seat.old.me.0.items }
     ensures table { seat.new.table_id ≡ seat.old.table_id }
     ensures slots { seat.new.me.1 ≡ seat.old.me.1 }
-    ensures tied { StayTied gates.now.config None (phase_after (of_change next)) accesses.old seat.old.me.0
-        (phase_after (of_change result)) accesses.new seat.new.me.0 }
+    ensures tied { StayTied gates.now.config None (phase_after (of_change next)) accesses.old seat.old.me.0.items
+        (phase_after (of_change result)) accesses.new seat.new.me.0.items }
     ensures went { (waits : ℕ) (op : OpType) (start : TaskState) →
         WentWaiting waits op start (of_change next)
         (task_state seat.old.table_id gates.now.config None (phase_after (of_change next)) seat.old.me.0) →

@@ -47,11 +47,11 @@ fn grow_in_line(
     grow: Grow,
 ) -> Next<Grow>
     requires table { seat.old.table_id ≡ gates.now.table.shared.table_id }
-    requires tied { IsTied gates.now.config begins (Some (Trees (Grows grow))) accesses.old seat.old.me.0 }
+    requires tied { IsTied gates.now.config begins (Some (Trees (Grows grow))) accesses.old seat.old.me.0.items }
     ensures table { seat.new.table_id ≡ seat.old.table_id }
     ensures slots { seat.new.me.1 ≡ seat.old.me.1 }
-    ensures tied { StayTied gates.now.config begins (Some (Trees (Grows grow))) accesses.old seat.old.me.0
-        (phase_after (of_grow result)) accesses.new seat.new.me.0 }
+    ensures tied { StayTied gates.now.config begins (Some (Trees (Grows grow))) accesses.old seat.old.me.0.items
+        (phase_after (of_grow result)) accesses.new seat.new.me.0.items }
     ensures went { (waits : ℕ) (op : OpType) (start : TaskState) →
         GoesWaiting waits op start (task_state seat.old.table_id gates.now.config begins (Some (Trees (Grows grow))) seat.old.me.0) →
         WentWaiting waits op start (of_grow result)

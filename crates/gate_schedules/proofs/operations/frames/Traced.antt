@@ -8,7 +8,8 @@ use Rattle.cpu_words.specs.{Hooks.HookAnswer, Touches.found_by}
 use Rattle.gate_world.specs.Beginnings.{first_phase, view_refusal, refusal}
 use Rattle.gate_world.specs.Courses.{course_with, course_after, course_of, IsEventOf, IsNext, IsTraced, MayFind, AllTraced, EventsMayBe}
 use Rattle.gate_world.specs.{Views.{phase_after, actions_after, with_hook, view_after, begun_view, held_of}, Work.{next_of, after_of}}
-use Rattle.gate_world.specs.Worlds.{World, Entry, Begins, Steps, begin_refusal, begin_of, value_at, step_of, happens, opening}
+use Rattle.gate_world.specs.Worlds.{World, begin_refusal, begin_of, value_at, step_of, happens, opening}
+use Rattle.gate_world.specs.declared.entries.Entry.{Entry, TheVariants.{Begins, Steps}}
 use Rattle.gate_world.specs.declared.{config.Config.Config, operations.Op.Op, views.{Traced.Traced, View.View}, work.Phase.Phase}
 use Rattle.gate_schedules.proofs.operations.frames.Says.{event_at}
 

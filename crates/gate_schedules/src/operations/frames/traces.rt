@@ -3,7 +3,8 @@
 
 ghost use Rattle.gate_world.specs.declared.config.Config.{Config};
 ghost use Rattle.gate_world.specs.Courses.{AllTraced, EventsMayBe};
-ghost use Rattle.gate_world.specs.Worlds.{Entry, World, happens, opening};
+ghost use Rattle.gate_world.specs.Worlds.{World, happens, opening};
+ghost use Rattle.gate_world.specs.declared.entries.Entry.{Entry};
 
 /// The trace of each task is a trace of its operation: its events come in the operation's order, its phase is the one that they lead to,
 /// and the actions that they add are its newest. So it is at the opening, and each entry of a schedule keeps it where the words hold what

@@ -19,11 +19,11 @@ loop-load-preserved g c =
       table = left.table ∙ now.table;
       slots = left.slots ∙ now.slots;
       tied = λ number flags ties. left.tied number flags
-          (subst (λ n. Ties number config None (kept_at (phase_after (map_next as_phase n)) c.loop-load.accesses) flags c.loop-load.seat.me.0)
+          (subst (λ n. Ties number config None (kept_at (phase_after (map_next as_phase n)) c.loop-load.accesses) flags c.loop-load.seat.me.0.items)
           c.in-Some.ensures.0 (now.tied number flags ties));
       still = left.still;
       went = λ op start asks waits went.
-          subst (λ wanted. WentWith (asks_with wanted c.loop-load.seat.me.0 (Ok tt) asks) waits op start (map_next as_phase c.go_on-next.result)
+          subst (λ wanted. WentWith (asks_with wanted c.loop-load.seat.me.0.items (Ok tt) asks) waits op start (map_next as_phase c.go_on-next.result)
           (task_state c.go_on-next.new.seat.table_id config None (phase_after (map_next as_phase c.go_on-next.result)) c.go_on-next.new.seat.me.0))
           c.in-Some.ensures.1
           (left.asks op start asks waits

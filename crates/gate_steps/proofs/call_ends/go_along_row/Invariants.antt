@@ -13,9 +13,9 @@ abbrev pub invariant-loop-load : goal.invariant-loop-load
 invariant-loop-load g l = record {
   table : l.seat.table_id ≡ l.fn.seat.table_id;
   slots : l.seat.me.1 ≡ l.fn.seat.me.1;
-  tied : StayTied l.fn.gates.config None (phase_after (map_next g.P.UnderWay.as_phase l.fn.next)) l.fn.accesses l.fn.seat.me.0
-      (phase_after (map_next g.P.UnderWay.as_phase l.next)) l.accesses l.seat.me.0;
-  still : IsTied l.fn.gates.config None (phase_after (map_next g.P.UnderWay.as_phase l.next)) l.accesses l.seat.me.0;
+  tied : StayTied l.fn.gates.config None (phase_after (map_next g.P.UnderWay.as_phase l.fn.next)) l.fn.accesses l.fn.seat.me.0.items
+      (phase_after (map_next g.P.UnderWay.as_phase l.next)) l.accesses l.seat.me.0.items;
+  still : IsTied l.fn.gates.config None (phase_after (map_next g.P.UnderWay.as_phase l.next)) l.accesses l.seat.me.0.items;
   went : (op : Op) (start : TaskState) (asks : List Ask) (waits : ℕ) →
       WentWith asks waits op start (map_next g.P.UnderWay.as_phase l.fn.next)
       (task_state l.fn.seat.table_id l.fn.gates.config None (phase_after (map_next g.P.UnderWay.as_phase l.fn.next)) l.fn.seat.me.0) →

@@ -8,7 +8,7 @@ use Rattle.gate_steps.proofs.call_ends.go_on_asking.Goals as goal
 pub returns-clause-asked : goal.returns-clause-asked
 returns-clause-asked g c waits op start before goes =
     let wanted = call_at (g.P.UnderWay.as_phase c.args.under_way) in
-    let at = c.args.seat.now.me.0 in
+    let at = c.args.seat.now.me.0.items in
     let asked : AskedFor g.H.TimedHooks.answers wanted at c.match-asks.hook c.args.hooks.now c.match-asks.hooks =
     elim c.match-asks.branch [
       | in-Some w ↦ was_asked g.H.TimedHooks.answers wanted at w.in-Some.call (sym c.asks.ensures ∙ w.in-Some.is)

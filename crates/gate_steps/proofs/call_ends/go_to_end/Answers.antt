@@ -20,7 +20,7 @@ loop-answer-init g c = record {
 
 pub returns-in-Done-clause-tied : goal.returns-in-Done-clause-tied
 returns-in-Done-clause-tied g c number flags ties =
-    tied_so number c.args.gates.now.config c.do_event-next.new.accesses flags c.do_event-next.new.seat.me.0 _ None
+    tied_so number c.args.gates.now.config c.do_event-next.new.accesses flags c.do_event-next.new.seat.me.0.items _ None
     (ap (λ n. phase_after n) (done_at g.P.UnderWay.as_phase c.do_event-next.result.next c.in-Done.answer c.in-Done.is))
     (c.do_event-next.ensures.tied number flags (c.loop-answer.invariant.stay number flags ties))
 
@@ -55,7 +55,7 @@ loop-answer-preserved-in-Go g c =
     let event = c.do_event-next.result.event in
     let action = c.do_event-next.result.action in
     let accesses = c.do_event-next.new.accesses in
-    let items = c.do_event-next.new.seat.me.0 in
+    let items = c.do_event-next.new.seat.me.0.items in
     record {
       table = left.table ∙ now.table;
       slots = left.slots ∙ now.slots;
@@ -76,7 +76,7 @@ loop-answer-preserved g c =
     let event = c.do_event-next.result.event in
     let action = c.do_event-next.result.action in
     let accesses = c.do_event-next.new.accesses in
-    let items = c.do_event-next.new.seat.me.0 in
+    let items = c.do_event-next.new.seat.me.0.items in
     record {
       table = left.table ∙ now.table;
       slots = left.slots ∙ now.slots;

@@ -13,11 +13,11 @@ abbrev pub invariant-loop-answer : goal.invariant-loop-answer
 invariant-loop-answer g l = record {
   table : l.seat.table_id ≡ l.fn.seat.table_id;
   slots : l.seat.me.1 ≡ l.fn.seat.me.1;
-  tied : IsTied l.fn.gates.config l.begins (Some (g.P.UnderWay.as_phase l.under_way)) l.accesses l.seat.me.0;
+  tied : IsTied l.fn.gates.config l.begins (Some (g.P.UnderWay.as_phase l.under_way)) l.accesses l.seat.me.0.items;
   trying : IsTrying (task_state l.seat.table_id l.fn.gates.config l.begins (Some (g.P.UnderWay.as_phase l.under_way)) l.seat.me.0);
   stay : (number : ℕ) (flags : List Bool) →
-      Ties number l.fn.gates.config (Some l.fn.op) (kept_at (Some (g.P.UnderWay.as_phase l.fn.first)) l.fn.accesses) flags l.fn.seat.me.0 →
-      Ties number l.fn.gates.config l.begins (kept_at (Some (g.P.UnderWay.as_phase l.under_way)) l.accesses) flags l.seat.me.0;
+      Ties number l.fn.gates.config (Some l.fn.op) (kept_at (Some (g.P.UnderWay.as_phase l.fn.first)) l.fn.accesses) flags l.fn.seat.me.0.items →
+      Ties number l.fn.gates.config l.begins (kept_at (Some (g.P.UnderWay.as_phase l.under_way)) l.accesses) flags l.seat.me.0.items;
   goes : (of : Op) (start : TaskState) →
       Goes of start (task_state l.fn.seat.table_id l.fn.gates.config (Some l.fn.op) (Some (g.P.UnderWay.as_phase l.fn.first)) l.fn.seat.me.0) →
       Goes of start (task_state l.seat.table_id l.fn.gates.config l.begins (Some (g.P.UnderWay.as_phase l.under_way)) l.seat.me.0);

@@ -15,10 +15,10 @@ invariant-loop g l = record {
   finite : (goal.iterator-loop g).is_finite l.iterator';
   table : l.seat.table_id ≡ l.fn.seat.table_id;
   slots : l.seat.me.1 ≡ l.fn.seat.me.1;
-  tied : IsTied l.fn.gates.config l.begins (Some (g.P.UnderWay.as_phase l.under_way)) l.accesses l.seat.me.0;
+  tied : IsTied l.fn.gates.config l.begins (Some (g.P.UnderWay.as_phase l.under_way)) l.accesses l.seat.me.0.items;
   stay : (number : ℕ) (flags : List Bool) →
-      Ties number l.fn.gates.config (Some l.fn.op) (kept_at (Some (g.P.UnderWay.as_phase l.fn.first)) l.fn.accesses) flags l.fn.seat.me.0 →
-      Ties number l.fn.gates.config l.begins (kept_at (Some (g.P.UnderWay.as_phase l.under_way)) l.accesses) flags l.seat.me.0;
+      Ties number l.fn.gates.config (Some l.fn.op) (kept_at (Some (g.P.UnderWay.as_phase l.fn.first)) l.fn.accesses) flags l.fn.seat.me.0.items →
+      Ties number l.fn.gates.config l.begins (kept_at (Some (g.P.UnderWay.as_phase l.under_way)) l.accesses) flags l.seat.me.0.items;
   goes : (of : Op) (start : TaskState) (before : _) →
       GoesAsking g.H.TimedHooks.answers 0 of start before
       (task_state l.fn.seat.table_id l.fn.gates.config (Some l.fn.op) (Some (g.P.UnderWay.as_phase l.fn.first)) l.fn.seat.me.0) l.fn.hooks →

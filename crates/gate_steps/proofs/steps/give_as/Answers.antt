@@ -7,6 +7,6 @@ pub split_seat-requires : goal.split_seat-requires
 split_seat-requires g c = (
   c.requires.table,
   (let w = c.requires.words in omega arith),
-  splits c.args.shared.now.key c.args.seat.now.id g.J.Given.number c.args.seat.now.me.0
-      (subst (λ (n : ℕ). Spares n c.args.seat.now.me.0) c.requires.number c.requires.spare),
+  splits c.args.shared.now.key c.args.seat.now.id g.J.Given.number c.args.seat.now.me.0.items c.args.seat.now.me.0.seen
+      (subst (λ (n : ℕ). Spares n c.args.seat.now.me.0.items) c.requires.number c.requires.spare),
 )

@@ -13,13 +13,13 @@ pub returns-in-Takes-clause-tied : goal.returns-in-Takes-clause-tied
 returns-in-Takes-clause-tied c number flags ties =
     c.take_in_line.ensures.tied number flags
     (subst (λ (p : WritePhase). Ties number c.args.gates.now.config c.args.begins (kept_at (Some (Writes p)) c.args.accesses.now) flags
-    c.args.seat.now.me.0) c.in-Takes.is ties)
+    c.args.seat.now.me.0.items) c.in-Takes.is ties)
 
 pub returns-in-Drops-clause-tied : goal.returns-in-Drops-clause-tied
 returns-in-Drops-clause-tied c number flags ties =
     c.give_in_line.ensures.tied number flags
     (subst (λ (p : WritePhase). Ties number c.args.gates.now.config c.args.begins (kept_at (Some (Writes p)) c.args.accesses.now) flags
-    c.args.seat.now.me.0) c.in-Drops.is ties)
+    c.args.seat.now.me.0.items) c.in-Drops.is ties)
 
 pub returns-in-Takes-clause-went : goal.returns-in-Takes-clause-went
 returns-in-Takes-clause-went c waits op start goes =

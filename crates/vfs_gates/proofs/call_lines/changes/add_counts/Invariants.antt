@@ -12,9 +12,9 @@ abbrev pub invariant-loop-cpu : goal.invariant-loop-cpu
 invariant-loop-cpu l = record {
   table : l.seat.table_id ≡ l.fn.seat.table_id;
   slots : l.seat.me.1 ≡ l.fn.seat.me.1;
-  tied : StayTied l.fn.gates.config None (phase_after (of_change l.fn.next)) l.fn.accesses l.fn.seat.me.0
-      (phase_after (of_change l.next)) l.accesses l.seat.me.0;
-  still : IsTied l.fn.gates.config None (phase_after (of_change l.next)) l.accesses l.seat.me.0;
+  tied : StayTied l.fn.gates.config None (phase_after (of_change l.fn.next)) l.fn.accesses l.fn.seat.me.0.items
+      (phase_after (of_change l.next)) l.accesses l.seat.me.0.items;
+  still : IsTied l.fn.gates.config None (phase_after (of_change l.next)) l.accesses l.seat.me.0.items;
   went : (waits : ℕ) (op : Op) (start : TaskState) →
       WentWaiting waits op start (of_change l.fn.next)
       (task_state l.fn.seat.table_id l.fn.gates.config None (phase_after (of_change l.fn.next)) l.fn.seat.me.0) →

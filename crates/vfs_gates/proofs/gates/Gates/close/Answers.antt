@@ -16,13 +16,13 @@ ends c =
     let config = c.args.self.words.config in
     let seat = c.into_seat.result in
     let has = c.if-not-has_all.ensures.0 refl in
-    let all : (n : ℕ) → n < config.tasks → 1 ≤ times n seat.me.0 =
-    λ n lt. subst (λ (l : SeatItems). 1 ≤ times n l) (sym c.into_seat.ensures.items)
+    let all : (n : ℕ) → n < config.tasks → 1 ≤ times n seat.me.0.items =
+    λ n lt. subst (λ (l : SeatItems). 1 ≤ times n l) (sym c.into_seat.ensures.items.0)
     (has.2 n (subst (λ (k : Config). n < k.tasks) (sym c.requires.1) lt)) in
-    subst (EndedWith config (slots_items c.close.result.words)) c.into_seat.ensures.items
+    subst (EndedWith config (slots_items c.close.result.words)) c.into_seat.ensures.items.0
     (ended config seat.me.0 (slots_items c.close.result.words)
     (subst (λ (k : Config). IsClosing k (slots_items c.close.result.words) seat.me.0) c.args.self.words.key c.close.ensures.closing)
-    (subst (λ (k : Config). AllRest k seat.me.0) c.requires.1 (c.into_seat.ensures.rested (has.0, has.1))) all)
+    (subst (λ (k : Config). AllRest k seat.me.0.items) c.requires.1 (c.into_seat.ensures.rested (has.0, has.1))) all)
 
 pub invariant_of-result : goal.invariant_of-result
 invariant_of-result c = (

@@ -22,7 +22,7 @@ abbrev left : (c : After-go_to_end) → Left (call c)
 left c = record {
   next = Done c.go_to_end.result;
   accesses = c.go_to_end.new.accesses;
-  items = c.go_to_end.new.seat.me.0;
+  known = c.go_to_end.new.seat.me.0;
   table = c.go_to_end.new.seat.table_id;
   tied = c.go_to_end.ensures.tied;
   waits = 0;

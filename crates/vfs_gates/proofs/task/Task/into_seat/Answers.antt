@@ -8,6 +8,6 @@ use Rattle.vfs_gates.proofs.task.Task.into_seat.Goals as goal
 pub returns-clause-rested : goal.returns-clause-rested
 returns-clause-rested c rests =
     let t = c.self.inside in
-    subst (λ (s : TaskState). AllRest s.config t.seat.me.0) c.self.view_is
-    (all_rest t.number t.config t.begins t.kept t.spare t.seat.me.0 c.self.invariant.0
+    subst (λ (s : TaskState). AllRest s.config t.seat.me.0.items) c.self.view_is
+    (all_rest t.number t.config t.begins t.kept t.spare t.seat.me.0.items c.self.invariant.0
     (ap (λ (s : TaskState). s.phase) c.self.view_is ∙ rests.0) (subst HoldsNothing (sym c.self.view_is) rests.1))

@@ -13,25 +13,25 @@ invariant_of-task c = let mine = c.task.inside in let others = c.self.inside in 
     let idle : others.kept.phase ≡ None = ap (λ (s : TaskState). s.phase) seen ∙ rest.0 in
     let same : others.config ≡ mine.config = ap (λ (s : TaskState). s.config) seen ∙
     (c.requires.this.1 ∙ sym (ap (λ (s : TaskState). s.config) c.task.view_is ∙ c.requires.that.1)) in
-    let none : Empty others.config (own_view others.seat.me.0) = subst (λ (s : TaskState). Empty s.config (own_view s.items)) (sym seen)
+    let none : Empty others.config (own_view others.seat.me.0.items) = subst (λ (s : TaskState). Empty s.config (own_view s.items)) (sym seen)
     rest.1 in
-    let small = below others.number others.config others.begins others.kept others.spare others.seat.me.0 c.self.invariant.0 in
+    let small = below others.number others.config others.begins others.kept others.spare others.seat.me.0.items c.self.invariant.0 in
     let m = join_self mine.number mine.config mine.begins mine.kept mine.spare others.number others.begins others.kept others.spare
-    c.add_all.new.numbers mine.seat.me.0 others.seat.me.0
-    c.task.invariant.0 (subst (λ (k : Config). Ties others.number k others.begins others.kept others.spare others.seat.me.0) same
+    c.add_all.new.numbers mine.seat.me.0.items others.seat.me.0.items
+    c.task.invariant.0 (subst (λ (k : Config). Ties others.number k others.begins others.kept others.spare others.seat.me.0.items) same
     c.self.invariant.0) idle
-    (subst (λ (k : Config). Empty k (own_view others.seat.me.0)) same none) c.add_all.ensures
+    (subst (λ (k : Config). Empty k (own_view others.seat.me.0.items)) same none) c.add_all.ensures
     (let long : length c.add_all.new.numbers ≡ 64 = c.add_all.array_long in omega arith) in
     let joined = c.take_back.ensures.joined in (
       subst (λ (l : SeatItems). Ties mine.number mine.config mine.begins mine.kept (set c.add_all.new.numbers others.number true) l)
-          (sym (ap (λ z. z.0) joined)) m,
+          (sym (ap (λ z. z.0.items) joined)) m,
       ap (λ z. z.1) joined ∙ c.task.invariant.1,
-      room_same mine.config.nodes mine.rooms mine.begins mine.kept.phase mine.seat.me.0 c.take_back.new.seat.me.0
-          (ap (λ z. own_view z.0) joined ∙ joined_view mine.number mine.config mine.begins mine.kept mine.spare mine.seat.me.0
-          others.seat.me.0 c.task.invariant.0) c.task.invariant.2,
-      tell_same mine.config mine.seat.me.0 c.take_back.new.seat.me.0 mine.waited
-          (ap (λ z. own_number z.0) joined ∙ joined_number mine.number mine.config mine.begins mine.kept mine.spare mine.seat.me.0
-          others.seat.me.0 c.task.invariant.0)
-          (ap (λ z. own_view z.0) joined ∙ joined_view mine.number mine.config mine.begins mine.kept mine.spare mine.seat.me.0
-          others.seat.me.0 c.task.invariant.0) c.task.invariant.3,
+      room_same mine.config.nodes mine.rooms mine.begins mine.kept.phase mine.seat.me.0.items c.take_back.new.seat.me.0.items
+          (ap (λ z. own_view z.0.items) joined ∙ joined_view mine.number mine.config mine.begins mine.kept mine.spare mine.seat.me.0.items
+          others.seat.me.0.items c.task.invariant.0) c.task.invariant.2,
+      tell_same mine.config mine.seat.me.0.items c.take_back.new.seat.me.0.items mine.waited
+          (ap (λ z. own_number z.0.items) joined ∙ joined_number mine.number mine.config mine.begins mine.kept mine.spare mine.seat.me.0.items
+          others.seat.me.0.items c.task.invariant.0)
+          (ap (λ z. own_view z.0.items) joined ∙ joined_view mine.number mine.config mine.begins mine.kept mine.spare mine.seat.me.0.items
+          others.seat.me.0.items c.task.invariant.0) c.task.invariant.3,
     )

@@ -23,7 +23,7 @@ abbrev left : (g : _) (c : After-go_in_line-next g) → Left (call g c)
 left g c = record {
   next = map_next g.P.UnderWay.as_phase c.go_in_line-next.result;
   accesses = c.go_in_line-next.new.accesses;
-  items = c.go_in_line-next.new.seat.me.0;
+  known = c.go_in_line-next.new.seat.me.0;
   table = c.go_in_line-next.new.seat.table_id;
   tied = c.go_in_line-next.ensures.tied;
   waits = 0;

@@ -32,7 +32,7 @@ abbrev left : (g : _) (c : After-wait_to_end-answer g) → Left (call g c)
 left g c = record {
   next = Done c.wait_to_end-answer.result.0;
   accesses = c.wait_to_end-answer.new.accesses;
-  items = c.wait_to_end-answer.new.seat.me.0;
+  known = c.wait_to_end-answer.new.seat.me.0;
   table = c.wait_to_end-answer.new.seat.table_id;
   tied = c.wait_to_end-answer.ensures.tied;
   waits = waits_in (call g c).start.config (own_number (call g c).start.items) (call g c).op (asking g c).0.trace;

@@ -13,30 +13,30 @@ use Rattle.vfs_gates.proofs.task.Task.split.Goals as goal
 
 pub invariant_of-result : goal.invariant_of-result
 invariant_of-result c = let old = c.self.inside in let n : ℕ = c.in-Some.number in let low = c.in-Some.ensures.some in
-    let m = split_new old.number old.config old.begins old.kept old.spare old.seat.me.0 n c.none.result c.idle.result c.self.invariant.0
+    let m = split_new old.number old.config old.begins old.kept old.spare old.seat.me.0.items n c.none.result c.idle.result c.self.invariant.0
     low.1 low.0 c.none.ensures.unset c.idle.ensures in
     let given = c.give-seat.ensures.given in
-    let ties = subst (λ (l : SeatItems). Ties n old.config None c.idle.result c.none.result l) (sym (ap (λ z. z.0) given)) m in (
+    let ties = subst (λ (l : SeatItems). Ties n old.config None c.idle.result c.none.result l) (sym (ap (λ z. z.0.items) given)) m in (
       ties,
       ap (λ z. z.1) given,
-      room_new old.config.nodes _ None c.idle.result.phase c.give-seat.result.me.0 c.in-Ok.ensures.0 c.in-Ok.ensures.1
-          (ap (λ z. (own_view z.0).snapshot) given ∙ given_unseen n old.seat.me.0) (ap (λ (k : Seat). k.phase) c.idle.ensures),
-      given_tells n old.config c.idle.result c.none.result n old.seat.me.0 c.give-seat.result.me.0 (ap (λ z. z.0) given) ties
+      room_new old.config.nodes _ None c.idle.result.phase c.give-seat.result.me.0.items c.in-Ok.ensures.0 c.in-Ok.ensures.1
+          (ap (λ z. (own_view z.0.items).snapshot) given ∙ given_unseen n old.seat.me.0.items) (ap (λ (k : Seat). k.phase) c.idle.ensures),
+      given_tells n old.config c.idle.result c.none.result n old.seat.me.0.items c.give-seat.result.me.0.items (ap (λ z. z.0.items) given) ties
           (ap (λ (k : Seat). k.phase) c.idle.ensures),
     )
 
 pub invariant_of-self : goal.invariant_of-self
 invariant_of-self c = let old = c.self.inside in let n : ℕ = c.in-Some.number in let low = c.in-Some.ensures.some in
     let long : length old.spare ≡ 64 = c.self.told in
-    let m = split_self old.number old.config old.begins old.kept old.spare old.seat.me.0 n c.self.invariant.0 (omega arith) in
+    let m = split_self old.number old.config old.begins old.kept old.spare old.seat.me.0.items n c.self.invariant.0 (omega arith) in
     let kept = c.give-seat.ensures.kept in (
-      subst (λ (l : SeatItems). Ties old.number old.config old.begins old.kept (set old.spare n false) l) (sym (ap (λ z. z.0) kept)) m,
+      subst (λ (l : SeatItems). Ties old.number old.config old.begins old.kept (set old.spare n false) l) (sym (ap (λ z. z.0.items) kept)) m,
       ap (λ z. z.1) kept ∙ c.self.invariant.1,
-      room_same old.config.nodes old.rooms old.begins old.kept.phase old.seat.me.0 c.give-seat.new.seat.me.0
-          (ap (λ z. own_view z.0) kept ∙ kept_view n old.seat.me.0) c.self.invariant.2,
-      tell_same old.config old.seat.me.0 c.give-seat.new.seat.me.0 old.waited
-          (ap (λ z. own_number z.0) kept ∙ kept_number n old.seat.me.0)
-          (ap (λ z. own_view z.0) kept ∙ kept_view n old.seat.me.0) c.self.invariant.3,
+      room_same old.config.nodes old.rooms old.begins old.kept.phase old.seat.me.0.items c.give-seat.new.seat.me.0.items
+          (ap (λ z. own_view z.0.items) kept ∙ kept_view n old.seat.me.0.items) c.self.invariant.2,
+      tell_same old.config old.seat.me.0.items c.give-seat.new.seat.me.0.items old.waited
+          (ap (λ z. own_number z.0.items) kept ∙ kept_number n old.seat.me.0.items)
+          (ap (λ z. own_view z.0.items) kept ∙ kept_view n old.seat.me.0.items) c.self.invariant.3,
     )
 
 pub returns-clause-made : goal.returns-clause-made
@@ -46,8 +46,8 @@ returns-clause-made c =
     let low = c.in-Some.ensures.some in
     let ties = c.self.invariant.0 in
     let idle : old.kept.phase ≡ None = ap (λ (s : TaskState). s.phase) c.self.view_is ∙ c.if-not-is_idle.ensures.0 refl in
-    let spares = lowest_there old.number old.config old.begins old.kept old.spare old.seat.me.0 n ties low.1 low.2 in
-    let begun = none_begun old.number old.config old.begins old.kept old.spare old.seat.me.0 ties idle in
+    let spares = lowest_there old.number old.config old.begins old.kept old.spare old.seat.me.0.items n ties low.1 low.2 in
+    let begun = none_begun old.number old.config old.begins old.kept old.spare old.seat.me.0.items ties idle in
     let given = c.give-seat.ensures in
     subst (λ (s : TaskState). SplitOf s
     (task_state c.give-seat.new.seat.table_id old.config old.begins old.kept.phase c.give-seat.new.seat.me.0)
@@ -69,15 +69,15 @@ returns-clause-rests c =
     let low = c.in-Some.ensures.some in
     let ties = c.self.invariant.0 in
     let idle : old.kept.phase ≡ None = ap (λ (s : TaskState). s.phase) c.self.view_is ∙ c.if-not-is_idle.ensures.0 refl in
-    let spares = lowest_there old.number old.config old.begins old.kept old.spare old.seat.me.0 n ties low.1 low.2 in
-    let given = given_empty old.number old.config old.begins old.kept old.spare old.seat.me.0 n ties spares.0 in (
+    let spares = lowest_there old.number old.config old.begins old.kept old.spare old.seat.me.0.items n ties low.1 low.2 in
+    let given = given_empty old.number old.config old.begins old.kept old.spare old.seat.me.0.items n ties spares.0 in (
       (
         ap (λ (k : Seat). k.phase) c.idle.ensures,
-        subst (λ (l : SeatItems). Empty old.config (own_view l)) (sym (ap (λ z. z.0) c.give-seat.ensures.given)) given,
+        subst (λ (l : SeatItems). Empty old.config (own_view l)) (sym (ap (λ z. z.0.items) c.give-seat.ensures.given)) given,
       ),
       (λ rests. (
         idle,
-        subst (λ (v : View). Empty old.config v) (sym (ap (λ z. own_view z.0) c.give-seat.ensures.kept ∙ kept_view n old.seat.me.0))
+        subst (λ (v : View). Empty old.config v) (sym (ap (λ z. own_view z.0.items) c.give-seat.ensures.kept ∙ kept_view n old.seat.me.0.items))
             (subst (λ (s : TaskState). Empty s.config (own_view s.items)) (sym c.self.view_is) rests.1),
       )),
     )
@@ -94,7 +94,7 @@ returns-in_default c =
         (
           c.if-not-is_idle.ensures.0 refl,
           λ n. subst (λ (s : TaskState). times n (spare_of s.items) ≡ 0) c.self.view_is
-              (none_there old.number old.config old.begins old.kept old.spare old.seat.me.0 c.self.invariant.0 c.in_default.ensures.none n),
+              (none_there old.number old.config old.begins old.kept old.spare old.seat.me.0.items c.self.invariant.0 c.in_default.ensures.none n),
         ),
       );
       rests = tt;
@@ -105,7 +105,7 @@ returns-in_default-new c =
     let old = c.self.inside in
     let n : ℕ = c.in-Some.number in
     let low = c.in-Some.ensures.some in
-    let spares = lowest_there old.number old.config old.begins old.kept old.spare old.seat.me.0 n c.self.invariant.0 low.1 low.2 in
+    let spares = lowest_there old.number old.config old.begins old.kept old.spare old.seat.me.0.items n c.self.invariant.0 low.1 low.2 in
     let there : 1 ≤ times n (spare_of c.args.self.now.items) =
     subst (λ (s : TaskState). 1 ≤ times n (spare_of s.items)) c.self.view_is spares.0 in record {
       table = refl;

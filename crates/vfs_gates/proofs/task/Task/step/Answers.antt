@@ -27,7 +27,7 @@ do_event-action-requires-clause-tied c =
     record {
       number = t.number;
       flags = t.spare;
-      ties = tied_at t.number t.begins t.spare t.seat.me.0 t.kept (Some c.in-Some.phase)
+      ties = tied_at t.number t.begins t.spare t.seat.me.0.items t.kept (Some c.in-Some.phase)
           c.self.invariant.0 same c.in-Some.is;
     }
 
@@ -38,30 +38,30 @@ invariant_of-self c =
     let next : Next Phase = c.do_event-action.result.next in
     let stands = ap (λ (n : Next Phase). phase_after n) (map_next_same next) ∙ sym (ap (λ p. p.1) c.of-progress.ensures) in
     let tied = c.do_event-action.ensures.tied t.number t.spare
-    (tied_at t.number t.begins t.spare t.seat.me.0 t.kept (Some c.in-Some.phase) c.self.invariant.0 same c.in-Some.is) in
+    (tied_at t.number t.begins t.spare t.seat.me.0.items t.kept (Some c.in-Some.phase) c.self.invariant.0 same c.in-Some.is) in
     let so_far : c.if-is_some.so_far ≡ since t.begins t.waited = elim c.if-is_some.branch [
       | then-is_some w ↦ w.so_far-is ∙ sym (since_begun t.begins t.waited (sym c.is_some.ensures ∙ w.if-is_some.true))
       | else-is_some w ↦ w.so_far-is ∙ sym (since_going t.begins t.waited (sym c.is_some.ensures ∙ w.if-is_some.false))
     ] in
     let noted : c.saturating_add-self-inside.result ≡ counted (since t.begins t.waited + is_wait (map_next (λ phase. phase) next)) =
     c.saturating_add-self-inside.ensures ∙ ((λ i. counted (so_far i + c.waits.ensures i))) in (
-      tied_at t.number None t.spare c.do_event-action.new.seat.me.0 (kept_at _ c.do_event-action.new.accesses) c.of-progress.result.1 tied
+      tied_at t.number None t.spare c.do_event-action.new.seat.me.0.items (kept_at _ c.do_event-action.new.accesses) c.of-progress.result.1 tied
           (sym same) stands,
       c.do_event-action.ensures.slots ∙ c.self.invariant.1,
-      subst (λ (o : Option Phase). RoomTells t.config.nodes c.follow.new.self None o c.do_event-action.new.seat.me.0)
+      subst (λ (o : Option Phase). RoomTells t.config.nodes c.follow.new.self None o c.do_event-action.new.seat.me.0.items)
           stands
           (stepped_room t.config.nodes t.rooms c.follow.new.self t.begins c.in-Some.phase c.args.hook t.seat.table_id
-          c.do_event-action.new.seat.table_id c.args.gates.now.words.config t.seat.me.0 c.do_event-action.new.seat.me.0
+          c.do_event-action.new.seat.table_id c.args.gates.now.words.config t.seat.me.0.items c.do_event-action.new.seat.me.0.items
           c.do_event-action.result.event c.do_event-action.result.action (map_next (λ phase. phase) next) t.number
           (kept_at (Some c.in-Some.phase) t.kept.accesses) t.spare
-          (tied_at t.number t.begins t.spare t.seat.me.0 t.kept (Some c.in-Some.phase) c.self.invariant.0 same c.in-Some.is)
+          (tied_at t.number t.begins t.spare t.seat.me.0.items t.kept (Some c.in-Some.phase) c.self.invariant.0 same c.in-Some.is)
           c.do_event-action.ensures.stepped
-          (subst (λ (o : Option Phase). RoomTells t.config.nodes t.rooms t.begins o t.seat.me.0) c.in-Some.is c.self.invariant.2)
-          (λ found some is tells. c.follow.ensures t.config.nodes t.begins c.args.hook found t.seat.me.0 some is tells)),
-      noted_tells same t.begins c.in-Some.phase c.args.hook t.seat.table_id c.do_event-action.new.seat.table_id t.seat.me.0
-          c.do_event-action.new.seat.me.0 c.do_event-action.result.event c.do_event-action.result.action (map_next (λ phase. phase) next)
+          (subst (λ (o : Option Phase). RoomTells t.config.nodes t.rooms t.begins o t.seat.me.0.items) c.in-Some.is c.self.invariant.2)
+          (λ found some is tells. c.follow.ensures t.config.nodes t.begins c.args.hook found t.seat.me.0.items some is tells)),
+      noted_tells same t.begins c.in-Some.phase c.args.hook t.seat.table_id c.do_event-action.new.seat.table_id t.seat.me.0.items
+          c.do_event-action.new.seat.me.0.items c.do_event-action.result.event c.do_event-action.result.action (map_next (λ phase. phase) next)
           t.number t.waited c.saturating_add-self-inside.result t.kept.accesses t.spare
-          (tied_at t.number t.begins t.spare t.seat.me.0 t.kept (Some c.in-Some.phase) c.self.invariant.0 same c.in-Some.is)
+          (tied_at t.number t.begins t.spare t.seat.me.0.items t.kept (Some c.in-Some.phase) c.self.invariant.0 same c.in-Some.is)
           c.do_event-action.ensures.stepped c.self.invariant.3 noted,
     )
 

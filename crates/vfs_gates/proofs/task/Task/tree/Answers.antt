@@ -10,11 +10,11 @@ use Rattle.vfs_gates.proofs.task.Task.tree.Goals as goal
 pub returns-clause-last : goal.returns-clause-last
 returns-clause-last c =
     let t = c.self.inside in
-    c.last.ensures ∙ (shows_last t.rooms (own_view t.seat.me.0).snapshot c.self.invariant.2.last ∙
+    c.last.ensures ∙ (shows_last t.rooms (own_view t.seat.me.0.items).snapshot c.self.invariant.2.last ∙
     ap (λ (s : TaskState). option_map (λ (n : Snapshot). n.loaded) (own_view s.items).snapshot) c.self.view_is)
 
 pub returns-clause-there : goal.returns-clause-there
 returns-clause-there c =
     let t = c.self.inside in
     subst (λ (s : TaskState). 1 ≤ length s.items) c.self.view_is
-    (has_own t.number t.config t.begins t.kept t.spare t.seat.me.0 c.self.invariant.0)
+    (has_own t.number t.config t.begins t.kept t.spare t.seat.me.0.items c.self.invariant.0)

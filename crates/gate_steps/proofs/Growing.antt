@@ -1,0 +1,83 @@
+-- The schedule goes on from what each seat has seen.
+use Rattle.std.proofs.Common.{◌≡◌, ℕ, zero, suc, ◌≤◌, ◌≢◌, List, [], ◌∷◌, ◌++◌, map, set, sym, refl, ap, ◌∙◌, subst, ⊎_elim, arith}
+use Rattle.std.specs.Prelude.{Option, Some, None}
+use Rattle.std.proofs.lemmas.List.{append_assoc, append-nil}
+use mathlib.Core.Option.{some, some-injective, some-ne-none}
+use lib.ListN.{get_elem?}
+use Rattle.atomic_table.proofs.Lists.{at_set, at_map}
+use Rattle.cpu_words.specs.Hooks.{HookAnswer}
+use Rattle.gate_world.specs.declared.entries.Entry.{Entry, TheVariants.{Begins, Steps}}
+use Rattle.gate_world.specs.Worlds.{task_of}
+use Rattle.gate_world.specs.declared.{operations.Op.Op, views.View.View}
+use Rattle.gate_steps.specs.declared.seating.{Numbered.Numbered, Knowledge.Knowledge}
+use Rattle.gate_steps.specs.Histories.{then_begins, then_steps}
+use Rattle.gate_steps.specs.Seating.{SeatItems, knows, items_of, times, NoneOf, GoesOn, HasRested, HaveSeen, Dealt}
+use Rattle.gate_steps.proofs.Dealing.{times-at, times_all-two, known}
+
+none_append : (n : ℕ) (a b : List Entry) → NoneOf n a → NoneOf n b → NoneOf n (a ++ b)
+none_append n [] b na nb = nb
+none_append n (x ∷ a) b na nb = (na.0, none_append n a b na.1 nb)
+
+-- the entries that an event adds
+abbrev added_by : ℕ → Option Op → HookAnswer → List Entry
+added_by t None hook = Steps t hook ∷ []
+added_by t (Some op) hook = Begins t op ∷ (Steps t hook ∷ [])
+
+added_is : (t : ℕ) (begins : Option Op) (hook : HookAnswer) (past : List Entry) →
+    then_steps t hook (then_begins t begins past) ≡ past ++ added_by t begins hook
+added_is t None hook past = refl
+added_is t (Some op) hook past = append_assoc past (Begins t op ∷ []) (Steps t hook ∷ [])
+
+none_added : (t n : ℕ) → (t ≡ n → ⊥) → (begins : Option Op) (hook : HookAnswer) → NoneOf n (added_by t begins hook)
+none_added t n ne None hook = (ne, tt)
+none_added t n ne (Some op) hook = (ne, (ne, tt))
+
+-- what a seat has seen, it has seen still after an event of a number that it has not
+pub seen_on : (past more now : List Entry) → now ≡ past ++ more → (items : SeatItems) (seen : List (List Entry)) →
+    ((n : ℕ) → 1 ≤ times n items → NoneOf n more) → HaveSeen past items seen → HaveSeen now items seen
+seen_on past more now is items seen others have = record {
+  goes_on = λ k earlier at. let g = have.goes_on k earlier at in
+      (g.0 ++ more, is ∙ (ap (λ (l : List Entry). l ++ more) g.1 ∙ append_assoc earlier g.0 more));
+  rested = λ n here. let r = have.rested n here in record {
+    place = r.place;
+    earlier = r.earlier;
+    there = r.there;
+    since = r.since ++ more;
+    is = is ∙ (ap (λ (l : List Entry). l ++ more) r.is ∙ append_assoc r.earlier r.since more);
+    none = none_append n r.since more r.none (others n here);
+  };
+}
+
+-- of the schedule that stands, all is seen
+goes_now : (now : List Entry) (k : ℕ) (earlier : List Entry) → get_elem? (now ∷ []) k ≡ some earlier → GoesOn earlier now
+goes_now now zero earlier at = ([], some-injective now earlier at ∙ sym (append-nil earlier))
+goes_now now (suc k) earlier at = absurd (some-ne-none earlier (sym at))
+
+pub seen_now : (now : List Entry) (items : SeatItems) → HaveSeen now items (now ∷ [])
+seen_now now items = record {
+  goes_on = goes_now now;
+  rested = λ n here. record { place = 0; earlier = now; there = refl; since = []; is = sym (append-nil now); none = tt };
+}
+
+-- After an event of the first number of a seat, all that each seat has seen then
+pub seen_all : (tasks : ℕ) (views : ℕ → View) (seats : List Knowledge) (dealt : Dealt tasks views (map items_of seats)) (id : ℕ) (x : Numbered)
+    (xs : SeatItems) (seen : List (List Entry)) (at : get_elem? seats id ≡ some (knows (x ∷ xs) seen)) (begins : Option Op)
+    (hook : HookAnswer) (past now : List Entry) → now ≡ then_steps x.number hook (then_begins x.number begins past) →
+    ((j : ℕ) (k : Knowledge) → get_elem? seats j ≡ some k → HaveSeen past k.items k.seen) → (left : SeatItems) (j : ℕ) (k : Knowledge) →
+    get_elem? (set seats id (knows left (now ∷ []))) j ≡ some k → HaveSeen now k.items k.seen
+seen_all tasks views seats dealt id x xs seen at begins hook past now is have left j k e =
+    let t : ℕ = x.number in
+    let more : List Entry = added_by t begins hook in
+    let here : get_elem? (map items_of seats) id ≡ some (x ∷ xs) = at_map items_of seats id (knows (x ∷ xs) seen) at in
+    ⊎_elim
+    (λ q. subst (λ (l : Knowledge). HaveSeen now l.items l.seen) q.1 (seen_now now left))
+    (λ q. seen_on past more now (is ∙ added_is t begins hook past) k.items k.seen
+    (λ n there. none_added t n
+    (λ same.
+    let two = times_all-two t (map items_of seats) j id k.items (x ∷ xs) q.0 (at_map items_of seats j k q.1) here in
+    let mine : 1 ≤ times t (x ∷ xs) = times-at (x ∷ xs) 0 x refl in
+    let its : 1 ≤ times t k.items = subst (λ m. 1 ≤ times m k.items) (sym same) there in
+    let one = (known tasks views (map items_of seats) dealt t (omega arith)).1 in
+    absurd (omega arith)) begins hook)
+    (have j k q.1))
+    (at_set seats id j (knows left (now ∷ [])) k e)

@@ -1,0 +1,84 @@
+-- The schedule of a call goes on from all that its task had seen.
+use Rattle.std.proofs.Common.{◌≡◌, ℕ, zero, suc, List, [], ◌∷◌, ◌++◌, sym, refl, ap, ◌∙◌, subst}
+use Rattle.std.proofs.lemmas.List.{append_assoc, append-nil}
+use Rattle.std.specs.Prelude.{Option, Some, None}
+use mathlib.Core.Option.{some, some-injective, some-ne-none}
+use lib.ListN.{get_elem?}
+use Rattle.access_model.specs.declared.replies.{Next.{Next, TheVariants.{Go, Wait, Done}}, Reply.Reply}
+use Rattle.access_model.specs.declared.errors.GateError.{GateError}
+use Rattle.std.specs.Prelude.{Result}
+use Rattle.cpu_words.specs.Hooks.{HookAnswer}
+use Rattle.gate_world.specs.declared.{config.Config.Config, entries.Entry.Entry, operations.Op.Op, views.Traced.Traced, work.Phase.Phase}
+use Rattle.gate_world.specs.Courses.{course_of}
+use Rattle.gate_steps.specs.Histories.{then_begins, then_steps}
+use Rattle.gate_steps.specs.Seating.{SeatItems, GoesOn, IsMove, Moved}
+use Rattle.gate_steps.specs.declared.seating.Numbered.{Numbered}
+use Rattle.gate_steps.specs.call_events.Grown.{AllGoOn}
+use Rattle.gate_steps.specs.call_events.Runs.{items_at, begins_at, IsMoveOf, IsNextMove, AreMoves, Called}
+use Rattle.gate_steps.specs.call_events.TaskStates.{TaskState, own_number}
+
+after_more : (a b c : List Entry) → GoesOn a b → GoesOn b c → GoesOn a c
+after_more a b c g h = (g.0 ++ h.0, h.1 ∙ (ap (λ (l : List Entry). l ++ h.0) g.1 ∙ append_assoc a g.0 h.0))
+
+begins_more : (t : ℕ) (begins : Option Op) (now : List Entry) → GoesOn now (then_begins t begins now)
+begins_more t None now = ([], sym (append-nil now))
+begins_more t (Some op) now = (_, refl)
+
+only : (last : List Entry) (j : ℕ) (later : List Entry) → get_elem? (last ∷ []) j ≡ some later → last ≡ later
+only last zero later at = some-injective last later at
+only last (suc j) later at = absurd (some-ne-none later (sym at))
+
+-- the schedules that an event leaves go on from all seen before it
+moved_on : (c : Config) (begins : Option Op) (phase : Phase) (hook : HookAnswer) (items : SeatItems) (found : ℕ) (seen gone : List (List Entry)) →
+    IsMove c begins phase hook items found seen gone → AllGoOn seen gone
+moved_on c begins phase hook [] found seen gone move k earlier at j later there = absurd move
+moved_on c begins phase hook (x ∷ xs) found seen gone move k earlier at j later there =
+    let last : List Entry = move.history.reached.entries in
+    let is : last ≡ later = only last j later (subst (λ l. get_elem? l j ≡ some later) move.leaves there) in
+    let g : GoesOn earlier move.past.reached.entries = move.from.goes_on k earlier at in
+    let h : GoesOn move.past.reached.entries move.reached.entries =
+    subst (GoesOn move.past.reached.entries) (sym move.begun) (begins_more x.number begins move.past.reached.entries) in
+    let s : GoesOn move.reached.entries last = (_, move.stepped) in
+    subst (GoesOn earlier) is (after_more earlier move.reached.entries last
+    (after_more earlier move.past.reached.entries move.reached.entries g h) s)
+
+abbrev HasOne : List (List Entry) → Type 0
+HasOne gone = (l : List Entry) × (get_elem? gone 0 ≡ some l)
+
+one_left : (c : Config) (begins : Option Op) (phase : Phase) (hook : HookAnswer) (items : SeatItems) (found : ℕ) (seen gone : List (List Entry)) →
+    IsMove c begins phase hook items found seen gone → HasOne gone
+one_left c begins phase hook [] found seen gone move = absurd move
+one_left c begins phase hook (x ∷ xs) found seen gone move =
+    (move.history.reached.entries, ap (λ l. get_elem? l 0) move.leaves)
+
+-- where a trace of moves leaves one schedule, it goes on from all seen before
+next_on : (c : Config) (op : Op) (items : SeatItems) (earlier : List Traced) (e : Traced) (seen gone : List (List Entry)) (comes : Next Phase) →
+    IsNextMove c op items earlier e seen gone comes → AllGoOn seen gone × HasOne gone
+next_on c op items earlier e seen gone (Go phase) m =
+    (moved_on c (begins_at op earlier) phase e.hook (items_at c op earlier items) m.0 seen gone m.2,
+    one_left c (begins_at op earlier) phase e.hook (items_at c op earlier items) m.0 seen gone m.2)
+next_on c op items earlier e seen gone (Wait phase) m =
+    (moved_on c (begins_at op earlier) phase e.hook (items_at c op earlier items) m.0 seen gone m.2,
+    one_left c (begins_at op earlier) phase e.hook (items_at c op earlier items) m.0 seen gone m.2)
+next_on c op items earlier e seen gone (Done answer) m = absurd m
+
+pub moves_on : (c : Config) (op : Op) (items : SeatItems) (seen : List (List Entry)) (e : Traced) (earlier : List Traced)
+    (gone : List (List Entry)) → AreMoves c op items seen (e ∷ earlier) gone → AllGoOn seen gone
+moves_on c op items seen e [] gone m =
+    let n = next_on c op items [] e m.0 gone (course_of c (own_number items) op []).comes m.1 in
+    λ k a at j b there. n.0 k a (subst (λ l. get_elem? l k ≡ some a) (sym m.2) at) j b there
+moves_on c op items seen e (d ∷ earlier) gone m =
+    let n = next_on c op items (d ∷ earlier) e m.0 gone (course_of c (own_number items) op (d ∷ earlier)).comes m.1 in
+    let before = next_on c op items earlier d m.2.0 m.0 (course_of c (own_number items) op earlier).comes m.2.1 in
+    let r = moves_on c op items seen d earlier m.0 m.2 in
+    λ k a at j b there. let o = before.1 in
+    after_more a o.0 b (r k a at 0 o.0 o.1) (n.0 0 o.0 o.1 j b there)
+
+trace_goes_on : (c : Config) (op : Op) (items : SeatItems) (seen gone : List (List Entry)) (answer : Result Reply GateError) (trace : List Traced) →
+    (course_of c (own_number items) op trace).comes ≡ Done answer → AreMoves c op items seen trace gone → AllGoOn seen gone
+trace_goes_on c op items seen gone answer [] ends moves = absurd (let no : ⊥ = cc in no)
+trace_goes_on c op items seen gone answer (e ∷ earlier) ends moves = moves_on c op items seen e earlier gone moves
+
+-- so a whole call, which has at least one event
+pub call_goes_on : (op : Op) (old left : TaskState) (answer : Result Reply GateError) → Called op old left answer → AllGoOn old.seen left.seen
+call_goes_on op old left answer called = trace_goes_on old.config op old.items old.seen left.seen answer called.trace called.ends called.moves
