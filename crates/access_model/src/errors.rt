@@ -5,36 +5,47 @@ ghost use Rattle.access_model.specs.declared.errors.GateError.TheVariants.{NoMem
 ghost use Rattle.access_model.specs.Errors.{number_of, name_of};
 
 use std::alloc::AllocError;
-use std::fmt;
 use thiserror::Error;
 
 /// Why a call was refused. The numbers are those of Linux's errno, but a hook's is its own code.
 #[derive(Clone, Copy, PartialEq, Eq, Debug, Error)]
 pub enum GateError {
     /// The node that was named is free.
+    #[error("no such node")]
     NoEntry,
     /// A try form would have had to wait, or another task changed the word in between.
+    #[error("try again")]
     Again,
     /// A growth of memory was refused.
+    #[error("out of memory")]
     NoMemory,
     /// Somebody is inside, or a freeze stands or is under way.
+    #[error("busy")]
     Busy,
     /// The node that was named is a file.
+    #[error("not a directory")]
     NotDir,
     /// The node that was named is a directory.
+    #[error("is a directory")]
     IsDir,
     /// A number out of range, or a stage at which the call can't be.
+    #[error("invalid")]
     Invalid,
     /// One access, or one task, more than there may be.
+    #[error("too many")]
     TooMany,
     /// No free node, or no blocks left.
+    #[error("no space")]
     NoSpace,
     /// The mount or the superblock is read-only.
+    #[error("read-only")]
     ReadOnly,
     /// A call at a time at which the task may not make it.
+    #[error("out of order")]
     Order,
     /// A hook of the file system failed with this code. It is a refusal of its own, whatever the code: `Hook(16)` isn't `Busy`, though its
     /// number is the same.
+    #[error("hook failed with {0}")]
     Hook(u16),
 }
 
@@ -84,34 +95,6 @@ impl GateError {
             GateError::ReadOnly => "ReadOnly",
             GateError::Order => "Order",
             GateError::Hook(_) => "Hook",
-        }
-    }
-
-    /// What it says in words; a hook's code is said beside it.
-    fn message(&self) -> &'static str {
-        match *self {
-            GateError::NoEntry => "no such node",
-            GateError::Again => "try again",
-            GateError::NoMemory => "out of memory",
-            GateError::Busy => "busy",
-            GateError::NotDir => "not a directory",
-            GateError::IsDir => "is a directory",
-            GateError::Invalid => "invalid",
-            GateError::TooMany => "too many",
-            GateError::NoSpace => "no space",
-            GateError::ReadOnly => "read-only",
-            GateError::Order => "out of order",
-            GateError::Hook(_) => "hook failed",
-        }
-    }
-}
-
-impl fmt::Display for GateError {
-    fn fmt<W: fmt::Write>(&self, f: &mut fmt::Formatter<W>) -> fmt::Result {
-        let message = self.message();
-        match self {
-            GateError::Hook(code) => write!(f, "{message} with {code}"),
-            _ => f.write_str(message),
         }
     }
 }

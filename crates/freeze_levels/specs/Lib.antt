@@ -3,4 +3,5 @@ pub mod Levels
 pub mod Freezes
 pub mod Thaws
 pub mod Answers
+pub mod Phases
 pub mod holder_laws

@@ -11,10 +11,12 @@ pub mod holder_laws;
 pub mod holders;
 pub mod hooks;
 pub mod levels;
+pub mod phases;
 pub mod thaws;
 
 pub use freezes::{Freeze, FreezeStep};
 pub use hooks::{FsHooks, HookCall, HookKind};
+pub use phases::FreezePhase;
 pub use thaws::{Thaw, ThawStep};
 
 /// An event of a freeze or a thaw that reads no hook's answer is the same whatever a hook answers, and so is what comes after it. Does

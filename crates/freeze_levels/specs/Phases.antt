@@ -1,0 +1,28 @@
+-- The order of events of a freeze or a thaw.
+use Rattle.std.specs.Prelude.{ℕ, Option}
+use Rattle.access_model.specs.declared.actions.Action.{Action}
+use Rattle.access_model.specs.declared.replies.Next.{Next}
+use Rattle.access_model.specs.Replies.{map_next}
+use Rattle.cpu_words.specs.declared.names.WordName.{WordName}
+use Rattle.cpu_words.specs.declared.events.Touch.{Touch}
+use Rattle.cpu_words.specs.Hooks.{HookAnswer}
+use Rattle.freeze_levels.specs.declared.hooks.HookKind.{HookKind}
+use Rattle.freeze_levels.specs.declared.phases.FreezePhase.{FreezePhase}
+use Rattle.freeze_levels.specs.declared.phases.FreezePhase.TheVariants.{Freeze as Freezes, Thaw as Thaws}
+use Rattle.freeze_levels.specs.Freezes.{freeze_hook, freeze_next, freeze_after}
+use Rattle.freeze_levels.specs.Thaws.{thaw_hook, thaw_next, thaw_after}
+
+-- the hook whose answer the next event reads
+abbrev pub phase_hook : FreezePhase → Option HookKind
+phase_hook (Freezes f) = freeze_hook f.step
+phase_hook (Thaws t) = thaw_hook t.step
+
+-- the word and the touch of the next event, where the file system answers this
+abbrev pub next : FreezePhase → HookAnswer → WordName × Touch
+next (Freezes f) hook = freeze_next f f.step hook
+next (Thaws t) hook = thaw_next t t.step hook
+
+-- what comes after the event that found this value, where the file system answers this, and the action that the event adds
+abbrev pub after : FreezePhase → ℕ → HookAnswer → Next FreezePhase × Option Action
+after (Freezes f) found hook = (map_next Freezes (freeze_after f f.step found hook).0, (freeze_after f f.step found hook).1)
+after (Thaws t) found hook = (map_next Thaws (thaw_after t t.step found hook).0, (thaw_after t t.step found hook).1)
