@@ -176,14 +176,17 @@ renewed_history : (c : Config) (w : World) (n : ℕ) → n < c.tasks → (h : Ha
     (now : HasHistory c (renewed_at w n)) × (now.reached.entries ≡ h.reached.entries)
 renewed_history c w n lt h =
     let v : View = renewed (w.views n) in
-    let came = renewed_reached c h.log w h.reached n in (record {
-      log = h.log;
-      legal = h.legal;
-      end = h.end ∙ sym (shown_still c w n lt w.words v refl refl refl refl refl refl refl (λ i. refl) refl);
-      lists = λ x. each_updated (λ y (u : View). own_part y h.log ≡ u.actions) w.views n v x (h.lists n) (λ ne. h.lists x);
-      snapshots = λ x. each_updated (λ y (u : View). HasMoment c h.log y u.snapshot) w.views n v x tt (λ ne. h.snapshots x);
-      reached = came.0;
-    }, came.1)
+    let came = renewed_reached c h.log w h.reached n in (
+      record {
+        log = h.log;
+        legal = h.legal;
+        end = h.end ∙ sym (shown_still c w n lt w.words v refl refl refl refl refl refl refl (λ i. refl) refl);
+        lists = λ x. each_updated (λ y (u : View). own_part y h.log ≡ u.actions) w.views n v x (h.lists n) (λ ne. h.lists x);
+        snapshots = λ x. each_updated (λ y (u : View). HasMoment c h.log y u.snapshot) w.views n v x tt (λ ne. h.snapshots x);
+        reached = came.0;
+      },
+      came.1,
+    )
 
 -- and has had the same events
 renewed_events : (w : World) (n t : ℕ) → ((renewed_at w n).views t).events ≡ (w.views t).events
@@ -309,20 +312,20 @@ pub joins : (c : Config) (id other : ℕ) (a b : Knowledge) → Joins (holds c) 
 joins c id other a b s held at ne at' = let both : Knowledge = known_both a b in
     let there : get_elem? s.views other ≡ some b = sym (set_else s.views id other both ne) ∙ at' in
     let seats : List SeatItems = map items_of s.views in record {
-  world = held.world;
-  ruled = held.ruled;
-  history = held.history;
-  dealt = subst (Dealt c.tasks held.world.views)
-      (sym (map-set items_of (set s.views id both) other (knows [] []) ∙
-      ap (λ l. set l other []) (map-set items_of s.views id both)))
-      (merged c.tasks held.world.views seats held.dealt id other a.items b.items (at_map items_of s.views id a at) ne
-      (at_map items_of s.views other b there));
-  seen = λ j k e. ⊎_elim
-      (λ q. subst (λ (l : Knowledge). HaveSeen held.history.reached.entries l.items l.seen) q.1 (seen_nothing held.history.reached.entries))
-      (λ q. ⊎_elim
-      (λ r. subst (λ (l : Knowledge). HaveSeen held.history.reached.entries l.items l.seen) r.1
-      (both_seen held.history.reached.entries a.items b.items a.seen b.seen (held.seen id a at) (held.seen other b there)))
-      (λ r. held.seen j k r.1)
-      (at_set s.views id j both k q.1))
-      (at_set (set s.views id both) other j (knows [] []) k e);
-}
+      world = held.world;
+      ruled = held.ruled;
+      history = held.history;
+      dealt = subst (Dealt c.tasks held.world.views)
+          (sym (map-set items_of (set s.views id both) other (knows [] []) ∙
+          ap (λ l. set l other []) (map-set items_of s.views id both)))
+          (merged c.tasks held.world.views seats held.dealt id other a.items b.items (at_map items_of s.views id a at) ne
+          (at_map items_of s.views other b there));
+      seen = λ j k e. ⊎_elim
+          (λ q. subst (λ (l : Knowledge). HaveSeen held.history.reached.entries l.items l.seen) q.1 (seen_nothing held.history.reached.entries))
+          (λ q. ⊎_elim
+          (λ r. subst (λ (l : Knowledge). HaveSeen held.history.reached.entries l.items l.seen) r.1
+          (both_seen held.history.reached.entries a.items b.items a.seen b.seen (held.seen id a at) (held.seen other b there)))
+          (λ r. held.seen j k r.1)
+          (at_set s.views id j both k q.1))
+          (at_set (set s.views id both) other j (knows [] []) k e);
+    }

@@ -25,12 +25,15 @@ like_update f g t v u like each x =
 
 -- the opening is reached by no entry
 pub opening_reached : (c : Config) → (r : IsReached c [] opening) × (r.entries ≡ [])
-opening_reached c = (record {
-  entries = [];
-  words = refl;
-  views = λ t. record { phase = refl; actions = refl; events = refl; same = λ op is. (is, refl, refl) };
-  made = refl;
-}, refl)
+opening_reached c = (
+  record {
+    entries = [];
+    words = refl;
+    views = λ t. record { phase = refl; actions = refl; events = refl; same = λ op is. (is, refl, refl) };
+    made = refl;
+  },
+  refl,
+)
 
 -- the actions of a schedule with one entry more
 history_more : (c : Config) (w : World) (earlier : List Done) (es : List Entry) (e : Entry) →
@@ -50,19 +53,22 @@ module _ (c : Config) (log : List Done) (w : World) (reached : IsReached c log w
   -- after a number is given to a new task
   pub renewed_reached : (n : ℕ) →
       (now : IsReached c log (record { words = w.words; views = update w.views n (renewed (w.views n)) })) × (now.entries ≡ reached.entries)
-  renewed_reached n = (record {
-    entries = reached.entries;
-    words = reached.words;
-    views = λ x. each_updated (λ y (u : View). IsLike (there.views y) u) w.views n (renewed (w.views n)) x
-        (let like = reached.views n in record {
-          phase = like.phase;
-          actions = like.actions;
-          events = like.events;
-          same = λ op. no_operation op (there.views n) (renewed (w.views n)) refl;
-        })
-        (λ ne. reached.views x);
-    made = reached.made;
-  }, refl)
+  renewed_reached n = (
+    record {
+      entries = reached.entries;
+      words = reached.words;
+      views = λ x. each_updated (λ y (u : View). IsLike (there.views y) u) w.views n (renewed (w.views n)) x
+          (let like = reached.views n in record {
+            phase = like.phase;
+            actions = like.actions;
+            events = like.events;
+            same = λ op. no_operation op (there.views n) (renewed (w.views n)) refl;
+          })
+          (λ ne. reached.views x);
+      made = reached.made;
+    },
+    refl,
+  )
 
   module _ (t : ℕ) (lt : t < c.tasks) where
     -- an operation is refused there as here

@@ -9,6 +9,7 @@ pub use Rattle.gate_steps.proofs.Opening
 pub mod Going
 pub mod Turning
 pub mod Waited
+pub mod Leading
 pub mod Running
 pub mod Grown
 pub mod Onward

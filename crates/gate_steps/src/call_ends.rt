@@ -1,15 +1,29 @@
 //! Operations done to their end, event after event, each in the form of its own kind, with nothing written down in between.
 
-ghost use Rattle.std.specs.Prelude.{◌≡◌, ℕ, Some, None, List, IfSome};
+ghost use Rattle.std.specs.Prelude.{◌≡◌, ℕ, Some, None};
 ghost use Rattle.access_model.specs.Replies.{map_next};
 ghost use Rattle.access_model.specs.declared.replies.Next.TheVariants.{Go};
 ghost use Rattle.gate_world.specs.Views.{phase_after};
 ghost use Rattle.gate_world.specs.declared.operations.Op.{Op as OpType};
+ghost use Rattle.gate_world.specs.declared.work.Phase.TheVariants.{Callbacks, Freezes, Thaws};
+ghost use Rattle.gate_steps.specs.call_events.CallingBack.{of_callback};
+ghost use Rattle.gate_steps.specs.call_events.Closings.{of_freeze};
+ghost use Rattle.gate_steps.specs.call_events.Led.{Led};
+ghost use Rattle.gate_steps.specs.call_events.Reopenings.{of_thaw};
 ghost use Rattle.gate_steps.specs.call_events.TaskStates.{TaskState, task_state};
 ghost use Rattle.gate_steps.specs.call_events.Turns.{IsTied, StayTied};
 ghost use Rattle.gate_steps.specs.call_events.Runs.{Called, Goes, IsTrying};
-ghost use Rattle.gate_steps.specs.call_events.Asking.{Ask, call_at, CalledAsking, GoesAsking, WentAsking, WentWith};
+ghost use Rattle.gate_steps.specs.call_events.Asking.{CalledAsking, GoesAsking, WentAsking};
 
+mod callbacks;
+mod closings;
+mod freeze_lines;
+mod thaw_lines;
+
+use crate::call_ends::callbacks::{claim, run_callback};
+use crate::call_ends::closings::close_level;
+use crate::call_ends::freeze_lines::{begin_freeze, close_second, end_freeze};
+use crate::call_ends::thaw_lines::reopen_all;
 use crate::call_events::{GateWords, Seat, TimedHooks, Turn, do_event, go_on};
 use access_model::{GateError, Next, Reply};
 use crossbeam_utils::Backoff;
@@ -17,34 +31,30 @@ use freeze_levels::{Freeze, FreezeStep, HookCall, Thaw, ThawStep};
 use gate_events::UnderWay;
 use gate_world::{Accesses, Op};
 use mount_counts::{Remount, RemountStep};
-use percpu_rwsem::{Callback, CallbackStep, DownWriteStep};
+use percpu_rwsem::{Callback, CallbackStep, DownWriteStep, Transition};
 use std::sync::Wait;
-
-/// Loads in the longest row: one for each task, or for each processor.
-const LONGEST_ROW: u8 = 64;
-
-/// A row of loads of one kind, which follow each other.
-#[derive(Clone, Copy)]
-pub enum Row {
-    /// Loads of section words, one task's after the other.
-    Sections,
-    /// Loads of count words, one processor's after the other.
-    Counts,
-}
 
 /// An operation that may have to wait, in a form of its own.
 pub trait Waiting: UnderWay {
-    ghost use Rattle.std.specs.Prelude.{◌≡◌, IsTrue, None};
+    ghost use Rattle.std.specs.Prelude.{◌≡◌, Some, None};
+    ghost use Rattle.access_model.specs.Replies.{map_next};
+    ghost use Rattle.access_model.specs.declared.replies.Next.TheVariants.{Go};
     ghost use Rattle.gate_steps.specs.call_events.Asking.{call_at};
+    ghost use Rattle.gate_steps.specs.call_events.Led.{Led};
+    ghost use Rattle.gate_steps.specs.call_events.Turns.{IsTied};
 
     /// The hook whose answer the next event reads, with what it is asked.
     fn asks(&self) -> Option<HookCall>
         ensures { result ≡ call_at (Self.as_phase self.now) };
 
-    /// Whether the next event is one of that row, none of which reads what a hook answers. There may be hundreds of them, so the compiler is
-    /// to know what they are.
-    fn is_in_row(&self, row: Row) -> bool
-        ensures { IsTrue result → call_at (Self.as_phase self.now) ≡ None };
+    /// The events that come next and stand in a line, up to what stands in their way; none where the operation stands at none of these.
+    /// They ask no hook and leave the accesses. What comes after the last of them.
+    fn go_in_line(self, gates: &GateWords, seat: &mut Seat, accesses: &Accesses) -> Next<Self>
+        requires table { seat.old.table_id ≡ gates.now.table.shared.table_id }
+        requires tied { IsTied gates.now.config None (Some (Self.as_phase self)) accesses.now seat.old.me.0.items }
+        ensures slots { seat.new.me.1 ≡ seat.old.me.1 }
+        ensures led { Led gates.now.config accesses.now (Go (Self.as_phase self)) seat.old.table_id seat.old.me.0
+            (map_next Self.as_phase result) seat.new.table_id seat.new.me.0 };
 }
 
 impl Waiting for Freeze {
@@ -58,14 +68,8 @@ impl Waiting for Freeze {
     }
 
     #[inline(always)]
-    fn is_in_row(&self, row: Row) -> bool {
-        let FreezeStep::Closes(write) = self.step else {
-            return false;
-        };
-        match row {
-            Row::Sections => matches!(write.step, DownWriteStep::AwaitsSections(_)),
-            Row::Counts => matches!(write.step, DownWriteStep::Sums(_)),
-        }
+    fn go_in_line(self, gates: &GateWords, seat: &mut Seat, accesses: &Accesses) -> Next<Freeze> {
+        freeze_in_line(gates, seat, accesses, self)
     }
 }
 
@@ -79,9 +83,8 @@ impl Waiting for Thaw {
     }
 
     #[inline(always)]
-    fn is_in_row(&self, row: Row) -> bool {
-        let _ = row;
-        false
+    fn go_in_line(self, gates: &GateWords, seat: &mut Seat, accesses: &Accesses) -> Next<Thaw> {
+        thaw_in_line(gates, seat, accesses, self)
     }
 }
 
@@ -98,8 +101,11 @@ impl Waiting for Remount {
     }
 
     #[inline(always)]
-    fn is_in_row(&self, row: Row) -> bool {
-        matches!(row, Row::Counts) && matches!(self.step, RemountStep::Sums { .. })
+    fn go_in_line(self, gates: &GateWords, seat: &mut Seat, accesses: &Accesses) -> Next<Remount> {
+        let _ = gates;
+        let _ = accesses;
+        let _seat = &*seat;
+        Next::Go(self)
     }
 }
 
@@ -110,8 +116,78 @@ impl Waiting for Callback {
     }
 
     #[inline(always)]
-    fn is_in_row(&self, row: Row) -> bool {
-        matches!(row, Row::Sections) && matches!(self.step, CallbackStep::AwaitsSections(_))
+    fn go_in_line(self, gates: &GateWords, seat: &mut Seat, accesses: &Accesses) -> Next<Callback> {
+        callback_in_line(gates, seat, accesses, self)
+    }
+}
+
+/// The line of a thaw from where it stands.
+#[inline(always)]
+fn thaw_in_line(gates: &GateWords, seat: &mut Seat, accesses: &Accesses, thaw: Thaw) -> Next<Thaw>
+    requires table { seat.old.table_id ≡ gates.now.table.shared.table_id }
+    requires tied { IsTied gates.now.config None (Some (Thaws thaw)) accesses.now seat.old.me.0.items }
+    ensures slots { seat.new.me.1 ≡ seat.old.me.1 }
+    ensures led { Led gates.now.config accesses.now (Go (Thaws thaw)) seat.old.table_id seat.old.me.0
+        (of_thaw result) seat.new.table_id seat.new.me.0 }
+{
+    match thaw.step {
+        ThawStep::SetsUnfrozen => reopen_all(gates, seat, accesses, thaw),
+        _ => Next::Go(thaw),
+    }
+}
+
+/// The line of a callback from where it stands.
+#[inline(always)]
+fn callback_in_line(
+    gates: &GateWords,
+    seat: &mut Seat,
+    accesses: &Accesses,
+    callback: Callback,
+) -> Next<Callback>
+    requires table { seat.old.table_id ≡ gates.now.table.shared.table_id }
+    requires tied { IsTied gates.now.config None (Some (Callbacks callback)) accesses.now seat.old.me.0.items }
+    ensures slots { seat.new.me.1 ≡ seat.old.me.1 }
+    ensures led { Led gates.now.config accesses.now (Go (Callbacks callback)) seat.old.table_id seat.old.me.0
+        (of_callback result) seat.new.table_id seat.new.me.0 }
+{
+    match callback.step {
+        CallbackStep::Claims(transition) => match transition {
+            Transition::Exchanges { from, to } => {
+                claim(gates, seat, accesses, callback, from, to)
+            }
+            Transition::Loads => Next::Go(callback),
+        },
+        CallbackStep::AwaitsSections(grace) => run_callback(gates, seat, accesses, callback, grace),
+        CallbackStep::CallsBack(_) => Next::Go(callback),
+    }
+}
+
+/// The line of a freeze from where it stands.
+#[inline(always)]
+fn freeze_in_line(
+    gates: &GateWords,
+    seat: &mut Seat,
+    accesses: &Accesses,
+    freeze: Freeze,
+) -> Next<Freeze>
+    requires table { seat.old.table_id ≡ gates.now.table.shared.table_id }
+    requires tied { IsTied gates.now.config None (Some (Freezes freeze)) accesses.now seat.old.me.0.items }
+    ensures slots { seat.new.me.1 ≡ seat.old.me.1 }
+    ensures led { Led gates.now.config accesses.now (Go (Freezes freeze)) seat.old.table_id seat.old.me.0
+        (of_freeze result) seat.new.table_id seat.new.me.0 }
+{
+    match freeze.step {
+        FreezeStep::Closes(write) => match write.step {
+            DownWriteStep::Enters(transition) => match transition {
+                Transition::Loads => close_level(gates, seat, accesses, freeze, write),
+                Transition::Exchanges { .. } => Next::Go(freeze),
+            },
+            _ => Next::Go(freeze),
+        },
+        FreezeStep::LoadsStage => begin_freeze(gates, seat, accesses, freeze),
+        FreezeStep::SetsPageFault => close_second(gates, seat, accesses, freeze),
+        FreezeStep::Holds(beside) => end_freeze(gates, seat, accesses, freeze, beside),
+        _ => Next::Go(freeze),
     }
 }
 
@@ -145,47 +221,25 @@ fn go_on_asking<P: Waiting, H: TimedHooks>(
     go_on(gates, seat, accesses, begins, under_way, hook)
 }
 
-/// The operation, where it goes on with a load of that row.
+/// The line of an operation, where it goes on.
 #[inline(always)]
-fn load_of_row<P: Waiting>(next: Next<P>, row: Row) -> Option<P>
-    ensures { IfSome result (λ under_way. (next ≡ Go under_way) × (call_at (P.as_phase under_way) ≡ None)) }
-{
-    match next {
-        Next::Go(under_way) if under_way.is_in_row(row) => Some(under_way),
-        _ => None,
-    }
-}
-
-/// The loads of a row that come next, one after the other, and nothing where none does. What comes after the last of them. It is told the
-/// kind of the row, so that the compiler makes a loop of its own of each.
-#[inline(always)]
-fn go_along_row<P: Waiting>(
+fn go_on_in_line<P: Waiting>(
     gates: &GateWords,
     seat: &mut Seat,
-    accesses: &mut Accesses,
-    mut next: Next<P>,
-    row: Row,
+    accesses: &Accesses,
+    next: Next<P>,
 ) -> Next<P>
     requires table { seat.old.table_id ≡ gates.now.table.shared.table_id }
-    requires tied { IsTied gates.now.config None (phase_after (map_next P.as_phase next)) accesses.old seat.old.me.0.items }
-    ensures table { seat.new.table_id ≡ seat.old.table_id }
+    requires tied { IsTied gates.now.config None (phase_after (map_next P.as_phase next)) accesses.now seat.old.me.0.items }
     ensures slots { seat.new.me.1 ≡ seat.old.me.1 }
-    ensures tied { StayTied gates.now.config None (phase_after (map_next P.as_phase next)) accesses.old seat.old.me.0.items
-        (phase_after (map_next P.as_phase result)) accesses.new seat.new.me.0.items }
-    ensures still { IsTied gates.now.config None (phase_after (map_next P.as_phase result)) accesses.new seat.new.me.0.items }
-    ensures went { (op : OpType) (start : TaskState) (asks : List Ask) (waits : ℕ) →
-        WentWith asks waits op start (map_next P.as_phase next)
-        (task_state seat.old.table_id gates.now.config None (phase_after (map_next P.as_phase next)) seat.old.me.0) →
-        WentWith asks waits op start (map_next P.as_phase result)
-        (task_state seat.new.table_id gates.now.config None (phase_after (map_next P.as_phase result)) seat.new.me.0) }
+    ensures led { Led gates.now.config accesses.now (map_next P.as_phase next) seat.old.table_id seat.old.me.0
+        (map_next P.as_phase result) seat.new.table_id seat.new.me.0 }
 {
-    for _load in 0..LONGEST_ROW {
-        let Some(under_way) = load_of_row(next, row) else {
-            return next;
-        };
-        next = go_on(gates, seat, accesses, None, under_way, Ok(()));
+    match next {
+        Next::Go(under_way) => under_way.go_in_line(gates, seat, accesses),
+        Next::Wait(under_way) => Next::Wait(under_way),
+        Next::Done(answer) => Next::Done(answer),
     }
-    next
 }
 
 /// Does the events of an operation that has a most number of them and asks no hook, from its first to its reply.
@@ -256,8 +310,7 @@ pub fn wait_to_end<R: Wait, H: TimedHooks, P: Waiting>(
     let mut under_way = first;
     for _ in rt.forever() {
         let next = go_on_asking(gates, seat, accesses, begins, under_way, hooks);
-        let next = go_along_row(gates, seat, accesses, next, Row::Sections);
-        let next = go_along_row(gates, seat, accesses, next, Row::Counts);
+        let next = go_on_in_line(gates, seat, accesses, next);
         begins = None;
         under_way = match next {
             Next::Done(answer) => return (answer, waited),

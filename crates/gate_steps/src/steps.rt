@@ -2,7 +2,7 @@
 
 ghost use Rattle.std.specs.Prelude.{◌≡◌, ◌<◌, []};
 ghost use Rattle.cpu_words.specs.Names.{place, words_in_all};
-ghost use Rattle.cpu_words.specs.Touches.{event_of};
+ghost use Rattle.cpu_words.specs.Touches.{event_of, found_by};
 ghost use Rattle.gate_world.specs.Work.{next_of};
 ghost use Rattle.gate_steps.specs.Rules.{table_index, table_length};
 ghost use Rattle.gate_steps.specs.Seating.{Acts, IsMove, items_after, Spares, known_kept, known_given, known_both};
@@ -22,33 +22,36 @@ pub fn index_of(word: WordName) -> usize
     STRIDE * word.place()
 }
 
-/// The event of that moment.
+/// The event of that moment, which is known to touch this word so. What it found; of a store, what it wrote.
 #[inline(always)]
-fn event_at<J: Moment, P: UnderWay>(
+fn touch_at<J: Moment, P: UnderWay>(
     shared: &Shared<(), Items, Config, Rule>,
     seat: &mut Seat<(), Items>,
     begins: Option<Op>,
     under_way: P,
     hook: Result<(), u16>,
-) -> Event
+    word: WordName,
+    touch: Touch,
+) -> u64
     requires config { shared.now.key ≡ J.config }
     requires begins { begins ≡ J.begins }
     requires phase { P.as_phase under_way ≡ J.phase }
     requires hook { hook ≡ J.hook }
+    requires known { (word, touch) ≡ next_of (P.as_phase under_way) hook }
     requires table { seat.old.table_id ≡ shared.now.table_id }
     requires words { shared.now.table_id.words ≡ table_length }
     requires inside { place (next_of (P.as_phase under_way) hook).0 < words_in_all }
     requires acts { Acts shared.now.key begins (P.as_phase under_way) seat.old.me.0.items }
     ensures table { seat.new.table_id ≡ seat.old.table_id }
     ensures id { seat.new.id ≡ seat.old.id }
-    ensures is { result ≡ event_of (next_of (P.as_phase under_way) hook).0 (next_of (P.as_phase under_way) hook).1 result.found }
-    ensures event { seat.new.me.0.items ≡ items_after begins (P.as_phase under_way) hook result.found seat.old.me.0.items }
-    ensures moves { IsMove shared.now.key begins (P.as_phase under_way) hook seat.old.me.0.items result.found seat.old.me.0.seen seat.new.me.0.seen }
+    ensures found { found_by touch result ≡ result }
+    ensures event { seat.new.me.0.items ≡ items_after begins (P.as_phase under_way) hook result seat.old.me.0.items }
+    ensures moves { IsMove shared.now.key begins (P.as_phase under_way) hook seat.old.me.0.items result seat.old.me.0.seen seat.new.me.0.seen }
     ensures slots { seat.new.me.1 ≡ seat.old.me.1 }
 {
-    let (word, touch) = under_way.next(hook);
+    let _ = (begins, under_way, hook);
     let i = index_of(word);
-    let found = match touch {
+    match touch {
         Touch::Load => shared.load::<Happens<J>>(seat, i),
         Touch::Store(new) => {
             shared.store::<Happens<J>>(seat, i, new);
@@ -62,8 +65,34 @@ fn event_at<J: Moment, P: UnderWay>(
         Touch::Cas { expect, put } => {
             shared.compare_exchange::<Happens<J>>(seat, i, expect, put)
         }
-    };
-    touch.event(word, found)
+    }
+}
+
+/// The next event of the seat's own number, which is known to touch this word so, in one atomic step. What it found; of a store, what it
+/// wrote.
+#[inline(always)]
+pub fn touch<P: UnderWay>(
+    shared: &Shared<(), Items, Config, Rule>,
+    seat: &mut Seat<(), Items>,
+    begins: Option<Op>,
+    under_way: P,
+    hook: Result<(), u16>,
+    word: WordName,
+    touch: Touch,
+) -> u64
+    requires known { (word, touch) ≡ next_of (P.as_phase under_way) hook }
+    requires table { seat.old.table_id ≡ shared.now.table_id }
+    requires words { shared.now.table_id.words ≡ table_length }
+    requires inside { place (next_of (P.as_phase under_way) hook).0 < words_in_all }
+    requires acts { Acts shared.now.key begins (P.as_phase under_way) seat.old.me.0.items }
+    ensures table { seat.new.table_id ≡ seat.old.table_id }
+    ensures id { seat.new.id ≡ seat.old.id }
+    ensures found { found_by touch result ≡ result }
+    ensures event { seat.new.me.0.items ≡ items_after begins (P.as_phase under_way) hook result seat.old.me.0.items }
+    ensures moves { IsMove shared.now.key begins (P.as_phase under_way) hook seat.old.me.0.items result seat.old.me.0.seen seat.new.me.0.seen }
+    ensures slots { seat.new.me.1 ≡ seat.old.me.1 }
+{
+    touch_at::<Brand, P>(shared, seat, begins, under_way, hook, word, touch)
 }
 
 /// The next event of the seat's own number, in one atomic step. An operation that has begun stands in `begins` until its first
@@ -87,7 +116,9 @@ pub fn event<P: UnderWay>(
     ensures moves { IsMove shared.now.key begins (P.as_phase under_way) hook seat.old.me.0.items result.found seat.old.me.0.seen seat.new.me.0.seen }
     ensures slots { seat.new.me.1 ≡ seat.old.me.1 }
 {
-    event_at::<Brand, P>(shared, seat, begins, under_way, hook)
+    let (word, how) = under_way.next(hook);
+    let found = touch(shared, seat, begins, under_way, hook, word, how);
+    how.event(word, found)
 }
 
 fn give_as<J: Given>(

@@ -54,12 +54,14 @@ one_left c begins phase hook (x ∷ xs) found seen gone move =
 -- where a trace of moves leaves one schedule, it goes on from all seen before
 next_on : (c : Config) (op : Op) (items : SeatItems) (earlier : List Traced) (e : Traced) (seen gone : List (List Entry)) (comes : Next Phase) →
     IsNextMove c op items earlier e seen gone comes → AllGoOn seen gone × HasOne gone
-next_on c op items earlier e seen gone (Go phase) m =
-    (moved_on c (begins_at op earlier) phase e.hook (items_at c op earlier items) m.0 seen gone m.2,
-    one_left c (begins_at op earlier) phase e.hook (items_at c op earlier items) m.0 seen gone m.2)
-next_on c op items earlier e seen gone (Wait phase) m =
-    (moved_on c (begins_at op earlier) phase e.hook (items_at c op earlier items) m.0 seen gone m.2,
-    one_left c (begins_at op earlier) phase e.hook (items_at c op earlier items) m.0 seen gone m.2)
+next_on c op items earlier e seen gone (Go phase) m = (
+  moved_on c (begins_at op earlier) phase e.hook (items_at c op earlier items) m.0 seen gone m.2,
+  one_left c (begins_at op earlier) phase e.hook (items_at c op earlier items) m.0 seen gone m.2,
+)
+next_on c op items earlier e seen gone (Wait phase) m = (
+  moved_on c (begins_at op earlier) phase e.hook (items_at c op earlier items) m.0 seen gone m.2,
+  one_left c (begins_at op earlier) phase e.hook (items_at c op earlier items) m.0 seen gone m.2,
+)
 next_on c op items earlier e seen gone (Done answer) m = absurd m
 
 pub moves_on : (c : Config) (op : Op) (items : SeatItems) (seen : List (List Entry)) (e : Traced) (earlier : List Traced)

@@ -1,7 +1,11 @@
 //! One event of an operation under way, apart from the task that does it: so nothing is written down between two events of a
 //! call, and what is known of the operation lets its events become a straight line of code.
 
-ghost use Rattle.std.specs.Prelude.{◌≡◌, ℕ, Some, None, List};
+ghost use Rattle.std.specs.Prelude.{◌≡◌, ℕ, Some, None, Ok, List};
+ghost use Rattle.access_model.specs.declared.replies.Next.TheVariants.{Go};
+ghost use Rattle.gate_world.specs.Accesses.{accesses_after};
+ghost use Rattle.gate_world.specs.Work.{next_of, after_of};
+ghost use Rattle.gate_steps.specs.call_events.Led.{Led};
 ghost use Rattle.gate_world.specs.Views.{phase_after};
 ghost use Rattle.access_model.specs.Replies.{map_next};
 ghost use Rattle.gate_steps.specs.call_events.TaskStates.{task_state};
@@ -14,7 +18,7 @@ ghost use Rattle.gate_world.specs.declared.operations.Op.{Op as OpType};
 
 use crate::call_events::words::{GateWords, Seat};
 use access_model::{Action, Next};
-use cpu_words::Event;
+use cpu_words::{Event, Touch, WordName};
 use gate_events::UnderWay;
 use gate_world::{Accesses, Op};
 
@@ -91,4 +95,28 @@ pub fn go_on<P: UnderWay>(
         next,
     } = do_event(gates, seat, accesses, begins, under_way, hook);
     next
+}
+
+/// The next event of an operation that goes on, which is known to touch this word so, asks no hook and adds no action on accesses. What it
+/// found; of a store, what it wrote. Whoever calls it says what comes after it, so that it stands in a line of code.
+#[inline(always)]
+pub fn find<P: UnderWay>(
+    gates: &GateWords,
+    seat: &mut Seat,
+    accesses: &Accesses,
+    under_way: P,
+    word: WordName,
+    touch: Touch,
+) -> u64
+    requires known { (word, touch) ≡ next_of (P.as_phase under_way) (Ok tt) }
+    requires unasked { call_at (P.as_phase under_way) ≡ None }
+    requires leaves { (found : ℕ) → accesses.now ≡ accesses_after accesses.now (after_of (P.as_phase under_way) found (Ok tt)).1 }
+    requires table { seat.old.table_id ≡ gates.now.table.shared.table_id }
+    requires tied { IsTied gates.now.config None (Some (P.as_phase under_way)) accesses.now seat.old.me.0.items }
+    ensures slots { seat.new.me.1 ≡ seat.old.me.1 }
+    ensures led { Led gates.now.config accesses.now (Go (P.as_phase under_way)) seat.old.table_id seat.old.me.0
+        (after_of (P.as_phase under_way) result (Ok tt)).0 seat.new.table_id seat.new.me.0 }
+{
+    let _ = accesses;
+    gates.touch(seat, None, under_way, Ok(()), word, touch)
 }

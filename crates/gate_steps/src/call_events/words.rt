@@ -3,7 +3,7 @@
 ghost use Rattle.std.specs.Prelude.{◌≡◌, ◌<◌, [], IfOk};
 ghost use Rattle.std.specs.Slots.{slots_items, slots_len, IsFull};
 ghost use Rattle.cpu_words.specs.Names.{place, words_in_all};
-ghost use Rattle.cpu_words.specs.Touches.{event_of};
+ghost use Rattle.cpu_words.specs.Touches.{event_of, found_by};
 ghost use Rattle.gate_world.specs.Configs.{IsWithin};
 ghost use Rattle.gate_world.specs.Work.{next_of};
 ghost use Rattle.gate_steps.specs.Rules.{first_known, table_length};
@@ -11,7 +11,7 @@ ghost use Rattle.gate_steps.specs.Tables.{IsClosing};
 ghost use Rattle.gate_steps.specs.Seating.{Acts, IsMove, items_after, Spares, known_kept, known_given, known_both};
 
 use crate::{Closed, GateTable, Items};
-use cpu_words::Event;
+use cpu_words::{Event, Touch, WordName};
 use gate_events::UnderWay;
 use gate_world::{Config, Op};
 use std::alloc::{AllocError, Global};
@@ -63,6 +63,38 @@ impl GateWords {
         ensures slots { seat.new.me.1 ≡ seat.old.me.1 }
     {
         crate::event(&self.table.shared, seat, begins, under_way, hook)
+    }
+
+    /// The same of an event that is known to touch this word so (`crate::touch`). What it found; of a store, what it wrote.
+    #[inline(always)]
+    pub(crate) fn touch<P: UnderWay>(
+        &self,
+        seat: &mut Seat,
+        begins: Option<Op>,
+        under_way: P,
+        hook: Result<(), u16>,
+        word: WordName,
+        touch: Touch,
+    ) -> u64
+        requires known { (word, touch) ≡ next_of (P.as_phase under_way) hook }
+        requires table { seat.old.table_id ≡ self.now.table.shared.table_id }
+        requires inside { place (next_of (P.as_phase under_way) hook).0 < words_in_all }
+        requires acts { Acts self.now.table.shared.key begins (P.as_phase under_way) seat.old.me.0.items }
+        ensures table { seat.new.table_id ≡ seat.old.table_id }
+        ensures found { found_by touch result ≡ result }
+        ensures event { seat.new.me.0.items ≡ items_after begins (P.as_phase under_way) hook result seat.old.me.0.items }
+        ensures moves { IsMove self.now.table.shared.key begins (P.as_phase under_way) hook seat.old.me.0.items result seat.old.me.0.seen seat.new.me.0.seen }
+        ensures slots { seat.new.me.1 ≡ seat.old.me.1 }
+    {
+        crate::touch(
+            &self.table.shared,
+            seat,
+            begins,
+            under_way,
+            hook,
+            word,
+            touch,
+        )
     }
 
     /// A new seat with one of the numbers that the seat has to give.
