@@ -4,13 +4,13 @@ use Rattle.std.specs.Prelude.{is_some, Some, None, List}
 use Rattle.finite_sums.specs.Sums.{update}
 use Rattle.finite_sums.proofs.Totals.{update_at, update_off, each_updated}
 use Rattle.cpu_words.specs.{Hooks.HookAnswer, Touches.event_of}
-use Rattle.access_model.specs.{Histories.Done, declared.actions.Action.Action}
+use Rattle.access_model.specs.{Histories.Done}
 use Rattle.gate_world.specs.{Beginnings.{first_phase, refusal, view_refusal}, Holdings.holdings_of, Views.{phase_after, actions_after, begun_view}}
 use Rattle.gate_world.specs.{Views.{view_after, view_after_beside, with_hook}, Work.{next_of, after_of}, Worlds.{World, after_begin}}
 use Rattle.gate_world.specs.declared.entries.Entry.{Entry, TheVariants.{Begins, Steps}}
 use Rattle.gate_world.specs.{Worlds.{words_after, after_step, after_step_beside, run, opening, happens, history, with_action, action_of, task_of}}
 use Rattle.gate_world.specs.{Worlds.{value_at, found_at, phase_action}, declared.{config.Config.Config, operations.Op.Op}}
-use Rattle.gate_world.specs.declared.{views.{View.View, Traced.Traced}, work.Phase.Phase}
+use Rattle.gate_world.specs.declared.{views.{View.View}, work.Phase.Phase}
 use Rattle.gate_schedules.proofs.Runs.{run_more}
 use Rattle.gate_steps.specs.{Histories.{IsLike, IsReached, then_steps}, Seating.renewed}
 

@@ -1,9 +1,8 @@
 -- A refused call has its cause at a moment of a schedule.
 use Rattle.std.proofs.Common.{◌≡◌, ℕ, List, [], ◌∷◌, refl, sym, ap, ◌∙◌, subst}
-use Rattle.std.specs.Prelude.{Option, Some, None, Result, Err}
+use Rattle.std.specs.Prelude.{Option, Some, None, Err}
 use Rattle.access_model.specs.declared.errors.GateError.{GateError}
 use Rattle.access_model.specs.declared.replies.Next.{Next, TheVariants.{Go, Wait, Done}}
-use Rattle.access_model.specs.declared.replies.Reply.{Reply}
 use Rattle.cpu_words.specs.{Hooks.HookAnswer, Touches.{event_of, found_by}, Words.Words}
 use Rattle.cpu_words.specs.declared.events.Touch.{Touch, TheVariants.Load}
 use Rattle.gate_schedules.proofs.Whole.{whole_causes}
@@ -12,10 +11,10 @@ use Rattle.gate_world.specs.Worlds.{World, found_at}
 use Rattle.gate_world.specs.declared.entries.Entry.{Entry}
 use Rattle.gate_world.specs.declared.{config.Config.Config, operations.Op.Op, views.{Traced.Traced, View.View}, work.Phase.Phase}
 use Rattle.gate_steps.specs.Histories.{IsLike}
-use Rattle.gate_steps.specs.Seating.{SeatItems, entered, world_entered, Moved, IsMove}
+use Rattle.gate_steps.specs.Seating.{SeatItems, entered, world_entered, Moved}
 use Rattle.gate_steps.specs.declared.seating.Numbered.{Numbered}
 use Rattle.gate_steps.specs.call_events.Caused.{IsCausedBy, HasItsCause}
-use Rattle.gate_steps.specs.call_events.Runs.{begins_at, items_at, IsMoveOf, IsNextMove, AreMoves, Called}
+use Rattle.gate_steps.specs.call_events.Runs.{IsMoveOf, IsNextMove, AreMoves, Called}
 use Rattle.gate_steps.specs.call_events.TaskStates.{TaskState, own_number}
 
 -- a beginning changes no word

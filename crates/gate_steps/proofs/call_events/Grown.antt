@@ -10,11 +10,10 @@ use Rattle.std.specs.Prelude.{Result}
 use Rattle.cpu_words.specs.Hooks.{HookAnswer}
 use Rattle.gate_world.specs.declared.{config.Config.Config, entries.Entry.Entry, operations.Op.Op, views.Traced.Traced, work.Phase.Phase}
 use Rattle.gate_world.specs.Courses.{course_of}
-use Rattle.gate_steps.specs.Histories.{then_begins, then_steps}
-use Rattle.gate_steps.specs.Seating.{SeatItems, GoesOn, IsMove, Moved}
-use Rattle.gate_steps.specs.declared.seating.Numbered.{Numbered}
+use Rattle.gate_steps.specs.Histories.{then_begins}
+use Rattle.gate_steps.specs.Seating.{SeatItems, GoesOn, IsMove}
 use Rattle.gate_steps.specs.call_events.Grown.{AllGoOn}
-use Rattle.gate_steps.specs.call_events.Runs.{items_at, begins_at, IsMoveOf, IsNextMove, AreMoves, Called}
+use Rattle.gate_steps.specs.call_events.Runs.{items_at, begins_at, IsNextMove, AreMoves, Called}
 use Rattle.gate_steps.specs.call_events.TaskStates.{TaskState, own_number}
 
 after_more : (a b c : List Entry) → GoesOn a b → GoesOn b c → GoesOn a c
