@@ -205,6 +205,7 @@ lifted c slots id (x ∷ xs) seen carried begins phase hook acts s held len ther
           within = lim;
           world = w;
           task = lt;
+          may = acts;
           before = good;
           mine = mine;
           found = ap (found_by touch) (held.ruled.words name there);

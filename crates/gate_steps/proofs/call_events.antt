@@ -19,4 +19,7 @@ pub mod FreezeAsks
 pub mod ThawAsks
 pub mod RemountAsks
 pub mod Refused
+pub mod Moments
+pub mod Spanning
 pub mod Caused
+pub mod Effects

@@ -129,7 +129,8 @@ items_after begins phase hook found (x ∷ xs) =
 abbrev pub world_left : Config → World → Option Op → Phase → HookAnswer → ℕ → SeatItems → World
 world_left c w begins phase hook n others = after_step_beside (done_by others) (world_entered c w n begins) n phase hook
 
--- The event happened in some world that the rule holds of, with one history, in which the seat's numbers have their views. What it left
+-- The event happened in some world that the rule holds of, with one history, in which the seat's numbers have their views, and the seat's own
+-- number may do it. What it left
 -- is such a world too, in which they have the views that the seat knows then. It moves the shown model by its action, and its history is
 -- the one before with this action. What it found is what its word may hold. Its schedule is the one before with the beginning, where the
 -- operation has just begun, and with this event: between the two it makes the world in which the event happened.
@@ -138,6 +139,7 @@ pub record Moved (c : Config) (begins : Option Op) (phase : Phase) (hook : HookA
   pub within : IsWithin c
   pub world : World
   pub task : x.number < c.tasks
+  pub may : MayStep c begins phase x
   pub before : IsGood c world
   pub mine : HaveViews world.views (x ∷ xs)
   pub found : n ≡ found_at world.words phase hook

@@ -17,6 +17,7 @@ pub mod Waited
 pub mod Asking
 pub mod Asked
 pub mod Caused
+pub mod Spans
 pub mod Led
 pub mod Closings
 pub mod CallingBack

@@ -1,99 +1,114 @@
--- A refused call has its cause at a moment of a schedule.
-use Rattle.std.proofs.Common.{◌≡◌, ℕ, List, [], ◌∷◌, refl, sym, ap, ◌∙◌, subst}
-use Rattle.std.specs.Prelude.{Option, Some, None, Err}
+-- A refused call has its cause at a moment of a schedule, between call and return.
+use Rattle.std.proofs.Common.{◌≡◌, ℕ, List, [], ◌∷◌, ◌++◌, refl, sym, ap, ◌∙◌, subst}
+use Rattle.std.specs.Prelude.{Some, Err}
 use Rattle.access_model.specs.declared.errors.GateError.{GateError}
-use Rattle.access_model.specs.declared.replies.Next.{Next, TheVariants.{Go, Wait, Done}}
-use Rattle.cpu_words.specs.{Hooks.HookAnswer, Touches.{event_of, found_by}, Words.Words}
+use Rattle.access_model.specs.declared.replies.Next.TheVariants.{Done}
+use Rattle.cpu_words.specs.{Hooks.HookAnswer, Touches.{event_of, found_by}}
 use Rattle.cpu_words.specs.declared.events.Touch.{Touch, TheVariants.Load}
-use Rattle.gate_schedules.proofs.Whole.{whole_causes}
-use Rattle.gate_world.specs.{Headline.world_after, Courses.{course_of, course_after}, Views.{phase_after, with_hook}, Work.{next_of, after_of}}
+use Rattle.gate_schedules.proofs.Whole.{whole_causes, whole_rule}
+use Rattle.gate_schedules.proofs.operations.Layers.{phase_keeps}
+use Rattle.gate_world.specs.{Causes.HasCause, Headline.world_after, Courses.{Course, course_of}, Work.{next_of, after_of}}
 use Rattle.gate_world.specs.Worlds.{World, found_at}
+use Rattle.gate_world.specs.Snapshots.{completes}
+use Rattle.gated_tree.specs.declared.trees.TreeWords.{TreeWords}
 use Rattle.gate_world.specs.declared.entries.Entry.{Entry}
-use Rattle.gate_world.specs.declared.{config.Config.Config, operations.Op.Op, views.{Traced.Traced, View.View}, work.Phase.Phase}
-use Rattle.gate_steps.specs.Histories.{IsLike}
-use Rattle.gate_steps.specs.Seating.{SeatItems, entered, world_entered, Moved}
-use Rattle.gate_steps.specs.declared.seating.Numbered.{Numbered}
+use Rattle.gate_world.specs.declared.{config.Config.Config, operations.Op.Op, views.Traced.Traced, work.Phase.Phase}
+use Rattle.gate_steps.specs.Seating.{SeatItems}
 use Rattle.gate_steps.specs.call_events.Caused.{IsCausedBy, HasItsCause}
-use Rattle.gate_steps.specs.call_events.Runs.{IsMoveOf, IsNextMove, AreMoves, Called}
+use Rattle.gate_steps.specs.call_events.Runs.{completed_by, AreMoves, Called}
+use Rattle.gate_steps.specs.call_events.Spans.{HappensAfter, IsEventDuring, IsCausedDuring, HasItsCauseDuring, IsTreeDuring}
 use Rattle.gate_steps.specs.call_events.TaskStates.{TaskState, own_number}
-
--- a beginning changes no word
-entered_words : (c : Config) (w : World) (t : ℕ) (begins : Option Op) → (world_entered c w t begins).words ≡ w.words
-entered_words c w t None = refl
-entered_words c w t (Some op) = refl
+use Rattle.gate_steps.proofs.call_events.Running.{course_is, completed_is}
+use Rattle.gate_steps.proofs.call_events.Spanning.{last_event, each_event}
 
 -- what an event says that it found, it finds again
 found_again : (touch : Touch) (n : ℕ) → found_by touch (found_by touch n) ≡ found_by touch n
 found_again Load n = refl
 found_again other n = refl
 
-module _ (c : Config) (op : Op) (earlier : List Traced) (e : Traced) (refusal : GateError) where
-  -- the event was a move of a phase that it ended so, of an operation that was under way with these earlier events
-  by_move : (begins : Option Op) (phase : Phase) (x : Numbered) (xs : SeatItems) (found : ℕ) (seen gone : List (List Entry)) →
-      e ≡ with_hook (event_of (next_of phase e.hook).0 (next_of phase e.hook).1 found) e.hook →
-      Moved c begins phase e.hook x xs found seen gone → (entered x.view begins phase).phase ≡ Some phase →
-      (entered x.view begins phase).op ≡ Some op → (entered x.view begins phase).trace ≡ earlier →
-      (after_of phase e.event.found e.hook).0 ≡ Done (Err refusal) → IsCausedBy c x.number op earlier e refusal
-  by_move begins phase x xs found seen gone is move at under_way events ends =
-      let t : ℕ = x.number in
-      let entries : List Entry = move.reached.entries in
-      let w : World = world_after c entries in
-      let like : IsLike (w.views t) ((world_entered c move.world t begins).views t) = move.reached.views t in
-      let words : w.words ≡ move.world.words = move.reached.words ∙ entered_words c move.world t begins in
-      let hook : HookAnswer = e.hook in
-      let same = like.same op (ap (λ (v : View). v.op) move.stands ∙ under_way) in
-      let here : found ≡ found_at w.words phase hook = move.found ∙ ap (λ (l : Words). found_at l phase hook) (sym words) in
-      let touch : Touch = (next_of phase hook).1 in
-      let says : e.event.found ≡ found_at w.words phase hook =
-      ap (λ (f : Traced). f.event.found) is ∙
-      (ap (found_by touch) move.found ∙ (found_again touch _ ∙ ap (λ (l : Words). found_at l phase hook) (sym words))) in
-      let there : (w.views t).phase ≡ Some phase = like.phase ∙ (ap (λ (v : View). v.phase) move.stands ∙ at) in
-      let done : (after_of phase (found_at w.words phase hook) hook).0 ≡ Done (Err refusal) =
-      subst (λ n. (after_of phase n hook).0 ≡ Done (Err refusal)) says ends in
-      record {
-        within = move.within;
-        task = move.task;
-        entries = entries;
-        phase = phase;
-        at = there;
-        under_way = same.0;
-        events = same.1 ∙ (ap (λ (v : View). v.trace) move.stands ∙ events);
-        finds = is ∙ ap (λ n. with_hook (event_of (next_of phase hook).0 (next_of phase hook).1 n) hook) here;
+-- what an event says that it found, it finds in the world of its moment
+says : (c : Config) (n : ℕ) (op : Op) (earlier : List Traced) (e : Traced) (entries : List Entry)
+    (h : HappensAfter c n op earlier e entries) → e.event.found ≡ found_at (world_after c entries).words h.phase e.hook
+says c n op earlier e entries h =
+    ap (λ (f : Traced). f.event.found) h.finds ∙ found_again (next_of h.phase e.hook).1 _
+
+module _ (c : Config) (items : SeatItems) (op : Op) (earlier : List Traced) (e : Traced) (refusal : GateError)
+    (seen gone : List (List Entry)) where
+  abbrev n : ℕ
+  n = own_number items
+
+  -- an event that ends the operation with a refusal
+  refused_during : (during : IsEventDuring c items op earlier e seen gone) → during.rest ≡ [] →
+      (course_of c n op (e ∷ earlier)).comes ≡ Done (Err refusal) → IsCausedDuring c items op earlier e refusal seen gone
+  refused_during during returns ends =
+      let h : HappensAfter c n op earlier e during.entries = during.happens in
+      let w : World = world_after c during.entries in
+      let done : (after_of h.phase (found_at w.words h.phase e.hook) e.hook).0 ≡ Done (Err refusal) =
+      subst (λ k. (after_of h.phase k e.hook).0 ≡ Done (Err refusal)) (says c n op earlier e during.entries h)
+      (sym (ap (λ (o : Course). o.comes) (course_is (course_of c n op earlier).comes h.phase (course_of c n op earlier).added e h.comes)) ∙
+      ends) in record {
+        during = during;
+        returns = returns;
         ends = done;
-        cause = whole_causes c move.within entries t phase hook refusal move.task there done;
+        cause = subst (λ (worlds : List World). HasCause c n worlds h.phase refusal) during.moments
+            (whole_causes c during.within during.entries n h.phase e.hook refusal during.task h.at done);
       }
 
--- of a task's numbers, whose own one ran the operation
-of_move : (c : Config) (op : Op) (items : SeatItems) (earlier : List Traced) (e : Traced) (refusal : GateError) (seen gone : List (List Entry)) (phase : Phase)
-    (comes : Next Phase) → (course_of c (own_number items) op earlier).comes ≡ comes → phase_after comes ≡ Some phase →
-    IsMoveOf c op items earlier e seen gone phase → (after_of phase e.event.found e.hook).0 ≡ Done (Err refusal) →
-    IsCausedBy c (own_number items) op earlier e refusal
-of_move c op [] [] e refusal seen gone phase comes is at move ends = absurd move.2
-of_move c op [] (d ∷ earlier) e refusal seen gone phase comes is at move ends = absurd move.2
-of_move c op (x ∷ xs) [] e refusal seen gone phase comes is at move ends =
-    by_move c op [] e refusal (Some op) phase x xs move.0 seen gone move.1 move.2 refl refl refl ends
-of_move c op (x ∷ xs) (d ∷ earlier) e refusal seen gone phase comes is at move ends =
-    by_move c op (d ∷ earlier) e refusal None phase _ xs move.0 seen gone move.1 move.2 (ap phase_after is ∙ at) refl refl ends
+  -- so the same in a schedule alone
+  alone : IsCausedDuring c items op earlier e refusal seen gone → IsCausedBy c n op earlier e refusal
+  alone caused =
+      let during : IsEventDuring c items op earlier e seen gone = caused.during in record {
+        within = during.within;
+        task = during.task;
+        entries = during.entries;
+        phase = during.happens.phase;
+        at = during.happens.at;
+        under_way = during.happens.under_way;
+        events = during.happens.events;
+        finds = during.happens.finds;
+        ends = caused.ends;
+        cause = subst (λ (worlds : List World). HasCause c n worlds during.happens.phase refusal) (sym during.moments) caused.cause;
+      }
 
--- what came before the last event was one that it ended
-by_next : (c : Config) (op : Op) (items : SeatItems) (earlier : List Traced) (e : Traced) (refusal : GateError)
-    (seen gone : List (List Entry)) (comes : Next Phase) →
-    (course_of c (own_number items) op earlier).comes ≡ comes → IsNextMove c op items earlier e seen gone comes →
-    (course_after comes (course_of c (own_number items) op earlier).added e).comes ≡ Done (Err refusal) →
-    IsCausedBy c (own_number items) op earlier e refusal
-by_next c op items earlier e refusal seen gone (Go phase) is move ends = of_move c op items earlier e refusal seen gone phase (Go phase) is refl move ends
-by_next c op items earlier e refusal seen gone (Wait phase) is move ends = of_move c op items earlier e refusal seen gone phase (Wait phase) is refl move ends
-by_next c op items earlier e refusal seen gone (Done answer) is move ends = absurd move
-
-trace_caused : (c : Config) (op : Op) (items : SeatItems) (refusal : GateError) (seen gone : List (List Entry)) (trace : List Traced) →
+trace_caused : (c : Config) (items : SeatItems) (op : Op) (refusal : GateError) (seen gone : List (List Entry)) (trace : List Traced) →
     (course_of c (own_number items) op trace).comes ≡ Done (Err refusal) → AreMoves c op items seen trace gone →
-    HasItsCause c (own_number items) op trace refusal
-trace_caused c op items refusal seen gone [] ends moves = let no : ⊥ = cc in no
-trace_caused c op items refusal seen gone (e ∷ earlier) ends moves =
-    by_next c op items earlier e refusal moves.0 gone (course_of c (own_number items) op earlier).comes refl moves.1 ends
+    HasItsCauseDuring c items op trace refusal seen gone
+trace_caused c items op refusal seen gone [] ends moves = let no : ⊥ = cc in no
+trace_caused c items op refusal seen gone (e ∷ earlier) ends moves =
+    let last = last_event c op items seen gone e earlier moves in
+    refused_during c items op earlier e refusal seen gone last.0 last.1 ends
+
+all_alone : (c : Config) (items : SeatItems) (op : Op) (refusal : GateError) (seen gone : List (List Entry)) (trace : List Traced) →
+    HasItsCauseDuring c items op trace refusal seen gone → HasItsCause c (own_number items) op trace refusal
+all_alone c items op refusal seen gone [] h = h
+all_alone c items op refusal seen gone (e ∷ earlier) h = alone c items op earlier e refusal seen gone h
 
 -- so a refused call has it
+pub call_caused_during : (op : Op) (old left : TaskState) (refusal : GateError) (called : Called op old left (Err refusal)) →
+    HasItsCauseDuring old.config old.items op called.trace refusal old.seen left.seen
+call_caused_during op old left refusal called =
+    trace_caused old.config old.items op refusal old.seen left.seen called.trace called.ends called.moves
+
 pub call_caused : (op : Op) (old left : TaskState) (refusal : GateError) (called : Called op old left (Err refusal)) →
     HasItsCause old.config (own_number old.items) op called.trace refusal
 call_caused op old left refusal called =
-    trace_caused old.config op old.items refusal old.seen left.seen called.trace called.ends called.moves
+    all_alone old.config old.items op refusal old.seen left.seen called.trace (call_caused_during op old left refusal called)
+
+-- and where an event of a call has completed a snapshot, that is of the tree of its moment
+pub tree_during : (c : Config) (items : SeatItems) (op : Op) (seen gone : List (List Entry)) (loaded : TreeWords)
+    (later : List Traced) (e : Traced) (earlier : List Traced) → AreMoves c op items seen (later ++ e ∷ earlier) gone →
+    completed_by (course_of c (own_number items) op earlier).comes earlier e ≡ Some loaded → IsTreeDuring c items op seen gone loaded
+tree_during c items op seen gone loaded later e earlier moves completed =
+    let n : ℕ = own_number items in
+    let during : IsEventDuring c items op earlier e seen gone = each_event c op items seen gone later e earlier moves in
+    let h : HappensAfter c n op earlier e during.entries = during.happens in
+    let w : World = world_after c during.entries in
+    let here : completes h.phase (w.views n).trace (found_at w.words h.phase e.hook) ≡ Some loaded =
+    (λ i. completes h.phase (h.events i) (sym (says c n op earlier e during.entries h) i)) ∙
+    (sym (completed_is (course_of c n op earlier).comes h.phase earlier e h.comes) ∙ completed) in record {
+      earlier = earlier;
+      last = e;
+      during = during;
+      tree = (phase_keeps c h.phase).completes during.within w (whole_rule c during.within during.entries) n during.task e.hook h.at
+          loaded here;
+    }

@@ -12,23 +12,23 @@ use Rattle.gate_world.specs.declared.{config.Config.Config, entries.Entry.Entry,
 use Rattle.gate_world.specs.Courses.{course_of}
 use Rattle.gate_steps.specs.Histories.{then_begins}
 use Rattle.gate_steps.specs.Seating.{SeatItems, GoesOn, IsMove}
-use Rattle.gate_steps.specs.call_events.Grown.{AllGoOn}
+use Rattle.gate_steps.specs.call_events.Grown.{AllGoOn, HasSeen, StaySeen}
 use Rattle.gate_steps.specs.call_events.Runs.{items_at, begins_at, IsNextMove, AreMoves, Called}
 use Rattle.gate_steps.specs.call_events.TaskStates.{TaskState, own_number}
 
-after_more : (a b c : List Entry) → GoesOn a b → GoesOn b c → GoesOn a c
+pub after_more : (a b c : List Entry) → GoesOn a b → GoesOn b c → GoesOn a c
 after_more a b c g h = (g.0 ++ h.0, h.1 ∙ (ap (λ (l : List Entry). l ++ h.0) g.1 ∙ append_assoc a g.0 h.0))
 
 begins_more : (t : ℕ) (begins : Option Op) (now : List Entry) → GoesOn now (then_begins t begins now)
 begins_more t None now = ([], sym (append-nil now))
 begins_more t (Some op) now = (_, refl)
 
-only : (last : List Entry) (j : ℕ) (later : List Entry) → get_elem? (last ∷ []) j ≡ some later → last ≡ later
+pub only : (last : List Entry) (j : ℕ) (later : List Entry) → get_elem? (last ∷ []) j ≡ some later → last ≡ later
 only last zero later at = some-injective last later at
 only last (suc j) later at = absurd (some-ne-none later (sym at))
 
 -- the schedules that an event leaves go on from all seen before it
-moved_on : (c : Config) (begins : Option Op) (phase : Phase) (hook : HookAnswer) (items : SeatItems) (found : ℕ) (seen gone : List (List Entry)) →
+pub moved_on : (c : Config) (begins : Option Op) (phase : Phase) (hook : HookAnswer) (items : SeatItems) (found : ℕ) (seen gone : List (List Entry)) →
     IsMove c begins phase hook items found seen gone → AllGoOn seen gone
 moved_on c begins phase hook [] found seen gone move k earlier at j later there = absurd move
 moved_on c begins phase hook (x ∷ xs) found seen gone move k earlier at j later there =
@@ -51,7 +51,7 @@ one_left c begins phase hook (x ∷ xs) found seen gone move =
     (move.history.reached.entries, ap (λ l. get_elem? l 0) move.leaves)
 
 -- where a trace of moves leaves one schedule, it goes on from all seen before
-next_on : (c : Config) (op : Op) (items : SeatItems) (earlier : List Traced) (e : Traced) (seen gone : List (List Entry)) (comes : Next Phase) →
+pub next_on : (c : Config) (op : Op) (items : SeatItems) (earlier : List Traced) (e : Traced) (seen gone : List (List Entry)) (comes : Next Phase) →
     IsNextMove c op items earlier e seen gone comes → AllGoOn seen gone × HasOne gone
 next_on c op items earlier e seen gone (Go phase) m = (
   moved_on c (begins_at op earlier) phase e.hook (items_at c op earlier items) m.0 seen gone m.2,
@@ -83,3 +83,49 @@ trace_goes_on c op items seen gone answer (e ∷ earlier) ends moves = moves_on 
 -- so a whole call, which has at least one event
 pub call_goes_on : (op : Op) (old left : TaskState) (answer : Result Reply GateError) → Called op old left answer → AllGoOn old.seen left.seen
 call_goes_on op old left answer called = trace_goes_on old.config op old.items old.seen left.seen answer called.trace called.ends called.moves
+
+-- what was seen
+pub only_seen : (earlier : List Entry) → GoesOn earlier earlier
+only_seen earlier = ([], sym (append-nil earlier))
+
+-- stays so over a call
+trace_leaves : (c : Config) (op : Op) (items : SeatItems) (seen gone : List (List Entry)) (answer : Result Reply GateError) (trace : List Traced) →
+    (course_of c (own_number items) op trace).comes ≡ Done answer → AreMoves c op items seen trace gone → HasOne gone
+trace_leaves c op items seen gone answer [] ends moves = absurd (let no : ⊥ = cc in no)
+trace_leaves c op items seen gone answer (e ∷ earlier) ends moves =
+    (next_on c op items earlier e moves.0 gone (course_of c (own_number items) op earlier).comes moves.1).1
+
+pub call_stays_seen : (op : Op) (old left : TaskState) (answer : Result Reply GateError) → Called op old left answer →
+    StaySeen old.seen left.seen
+call_stays_seen op old left answer called k earlier at =
+    let one = trace_leaves old.config op old.items old.seen left.seen answer called.trace called.ends called.moves in
+    (0, one.0, one.1, call_goes_on op old left answer called k earlier at 0 one.0 one.1)
+
+-- where nothing came in between
+pub same_stays_seen : (seen : List (List Entry)) → StaySeen seen seen
+same_stays_seen seen k earlier at = (k, earlier, at, only_seen earlier)
+
+-- and over whatever came
+pub stays_seen_on : (one two three : List (List Entry)) → StaySeen one two → StaySeen two three → StaySeen one three
+stays_seen_on one two three f g k earlier at =
+    let a = f k earlier at in
+    let b = g a.0 a.1 a.2 in
+    (b.0, b.1, b.2, after_more earlier a.1 b.1 a.3 b.3)
+
+-- of two that were joined, what either had seen
+first_seen_at : (mine others : List (List Entry)) (k : ℕ) (earlier : List Entry) → get_elem? mine k ≡ some earlier →
+    get_elem? (mine ++ others) k ≡ some earlier
+first_seen_at [] others k earlier at = absurd (some-ne-none earlier (sym at))
+first_seen_at (l ∷ mine) others zero earlier at = at
+first_seen_at (l ∷ mine) others (suc k) earlier at = first_seen_at mine others k earlier at
+
+second_seen_at : (mine others : List (List Entry)) (k : ℕ) (earlier : List Entry) → get_elem? others k ≡ some earlier →
+    (j : ℕ) × (get_elem? (mine ++ others) j ≡ some earlier)
+second_seen_at [] others k earlier at = (k, at)
+second_seen_at (l ∷ mine) others k earlier at = let r = second_seen_at mine others k earlier at in (suc r.0, r.1)
+
+pub both_stay_seen : (mine others : List (List Entry)) → StaySeen mine (mine ++ others) × StaySeen others (mine ++ others)
+both_stay_seen mine others = (
+  λ k earlier at. (k, earlier, first_seen_at mine others k earlier at, only_seen earlier),
+  λ k earlier at. let r = second_seen_at mine others k earlier at in (r.0, earlier, r.1, only_seen earlier),
+)

@@ -91,7 +91,7 @@ move_has_history c begins p hook (x ∷ xs) found seen gone move =
     }
 
 -- what the event of this phase completes
-completed_is : (s : Next Phase) (p : Phase) (earlier : List Traced) (e : Traced) → phase_after s ≡ Some p →
+pub completed_is : (s : Next Phase) (p : Phase) (earlier : List Traced) (e : Traced) → phase_after s ≡ Some p →
     completed_by s earlier e ≡ completes p earlier e.event.found
 completed_is (Go q) p earlier e is = ap (λ r. completes r earlier e.event.found) (let f : q ≡ p = cc in f)
 completed_is (Wait q) p earlier e is = ap (λ r. completes r earlier e.event.found) (let f : q ≡ p = cc in f)

@@ -9,3 +9,12 @@ use Rattle.gate_steps.specs.Seating.{GoesOn}
 abbrev pub AllGoOn : List (List Entry) → List (List Entry) → Type 0
 AllGoOn seen gone = (k : ℕ) (earlier : List Entry) → get_elem? seen k ≡ some earlier → (j : ℕ) (later : List Entry) →
     get_elem? gone j ≡ some later → GoesOn earlier later
+
+-- one of these schedules goes on from it
+abbrev pub HasSeen : List Entry → List (List Entry) → Type 0
+HasSeen earlier seen = (k : ℕ) × (there : List Entry) × (get_elem? seen k ≡ some there) × GoesOn earlier there
+
+-- What was seen is seen still: from each of the first schedules one of the others goes on. So whoever has seen the others has the first
+-- behind it.
+abbrev pub StaySeen : List (List Entry) → List (List Entry) → Type 0
+StaySeen seen now = (k : ℕ) (earlier : List Entry) → get_elem? seen k ≡ some earlier → HasSeen earlier now

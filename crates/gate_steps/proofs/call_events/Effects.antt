@@ -1,0 +1,118 @@
+-- A whole call takes effect between call and return, and calls whose schedules go on from each other do so in order.
+use Rattle.std.proofs.Common.{◌≡◌, ℕ, List, [], ◌∷◌, ◌++◌, refl, sym, ap, ◌∙◌, subst}
+use Rattle.std.proofs.lemmas.List.{append_assoc, append_cancel_right}
+use Rattle.std.specs.Prelude.{Result, Some}
+use mathlib.Core.Option.{some}
+use lib.ListN.{get_elem?}
+use Rattle.access_model.specs.Histories.{Done, own_part}
+use Rattle.access_model.specs.declared.actions.Action.{Action}
+use Rattle.access_model.specs.declared.errors.GateError.{GateError}
+use Rattle.access_model.specs.declared.replies.{Next.{Next, TheVariants.{Go, Wait, Done as Ended}}, Reply.Reply}
+use Rattle.gate_schedules.proofs.Whole.{whole_run}
+use Rattle.gate_world.specs.Courses.{course_of}
+use Rattle.gate_world.specs.Headline.{actions_so_far, actions_since}
+use Rattle.gate_world.specs.declared.entries.Entry.{Entry, TheVariants.{Begins, Steps}}
+use Rattle.gate_world.specs.declared.{config.Config.Config, operations.Op.Op, views.{Traced.Traced, View.View}, work.Phase.Phase}
+use Rattle.gate_steps.specs.Seating.{SeatItems, HaveViews, HaveHistory, GoesOn}
+use Rattle.gate_steps.specs.call_events.Grown.{HasSeen}
+use Rattle.gate_steps.specs.call_events.Runs.{ran_items, IsNextMove, AreMoves, Called}
+use Rattle.gate_steps.specs.call_events.Spans.{own_entries, steps_of, IsEventDuring, TakesEffect, AreInOrder}
+use Rattle.gate_steps.specs.call_events.TaskStates.{TaskState, own_number, own_view}
+use Rattle.gate_steps.proofs.call_events.Grown.{only}
+use Rattle.gate_steps.proofs.call_events.Moments.{own_more, own_one, part_more, actions_append}
+use Rattle.gate_steps.proofs.call_events.Spanning.{last_event}
+
+-- of no numbers there is no move
+none_moves : (c : Config) (op : Op) (earlier : List Traced) (e : Traced) (seen gone : List (List Entry)) (comes : Next Phase) →
+    IsNextMove c op [] earlier e seen gone comes → ⊥
+none_moves c op [] e seen gone (Go phase) m = m.2
+none_moves c op [] e seen gone (Wait phase) m = m.2
+none_moves c op [] e seen gone (Ended answer) m = m
+none_moves c op (d ∷ ds) e seen gone (Go phase) m = m.2
+none_moves c op (d ∷ ds) e seen gone (Wait phase) m = m.2
+none_moves c op (d ∷ ds) e seen gone (Ended answer) m = m
+
+-- what a number has added since it began: all that it has done but for what it had
+since_then : (n : ℕ) (log later before : List Done) (all added was : List Action) → log ≡ later ++ before → own_part n log ≡ all →
+    all ≡ added ++ was → own_part n before ≡ was → own_part n later ≡ added
+since_then n log later before all added was is whole ends had =
+    append_cancel_right (own_part n later) added was
+    (ap (λ (l : List Action). own_part n later ++ l) (sym had) ∙
+    (sym (part_more n later before) ∙ (ap (own_part n) (sym is) ∙ (whole ∙ ends))))
+
+module _ (c : Config) (op : Op) (seen gone : List (List Entry)) (e : Traced) (earlier : List Traced) where
+  -- what the own number has done in the one history that is left
+  has_done : (items left : SeatItems) → left ≡ ran_items c op (e ∷ earlier) items → AreMoves c op items seen (e ∷ earlier) gone →
+      (h : HaveHistory c left gone) →
+      own_part (own_number items) h.history.log ≡ (course_of c (own_number items) op (e ∷ earlier)).added ++ (own_view items).actions
+  has_done [] left is moves h = absurd (none_moves c op earlier e moves.0 gone (course_of c 0 op earlier).comes moves.1)
+  has_done (x ∷ xs) left is moves h =
+      let mine = subst (HaveViews h.world.views) is h.mine in
+      h.history.lists x.number ∙ ap (λ (v : View). v.actions) (mine 0 _ refl)
+
+  trace_effect : (items left : SeatItems) → left ≡ ran_items c op (e ∷ earlier) items → AreMoves c op items seen (e ∷ earlier) gone →
+      (h : HaveHistory c left gone) → TakesEffect c items op (e ∷ earlier) seen gone h.history.log
+  trace_effect items left is moves h =
+      let n : ℕ = own_number items in
+      let last = last_event c op items seen gone e earlier moves in
+      let one : IsEventDuring c items op earlier e seen gone = last.0 in
+      let begin : Entry = Begins n op in
+      let step : Entry = Steps n e.hook in
+      let since : List Entry = begin ∷ (one.since ++ step ∷ []) in
+      let leaves : gone ≡ (one.began ++ since) ∷ [] =
+      one.leaves ∙ ((λ i. (one.is i ++ step ∷ last.1 i) ∷ []) ∙
+      ap (λ (l : List Entry). l ∷ []) (append_assoc one.began (begin ∷ one.since) (step ∷ []))) in
+      let same : one.began ++ since ≡ h.history.reached.entries =
+      only (one.began ++ since) 0 h.history.reached.entries (ap (λ l. get_elem? l 0) (sym leaves ∙ h.last)) in
+      let grows : h.history.log ≡ actions_since c one.began since ++ actions_so_far c one.began =
+      sym (ap (actions_so_far c) same ∙ h.history.reached.made) ∙ actions_append c one.began since in record {
+        began = one.began;
+        begins = one.begins;
+        since = since;
+        own = own_one n begin (one.since ++ step ∷ []) refl ∙
+            ap (λ (l : List Entry). begin ∷ l)
+            (own_more n one.since (step ∷ []) ∙ (λ i. one.own i ++ own_one n step [] refl i));
+        leaves = leaves;
+        grows = grows;
+        added = since_then n h.history.log (actions_since c one.began since) (actions_so_far c one.began) _
+            (course_of c n op (e ∷ earlier)).added (own_view items).actions grows (has_done items left is moves h) refl
+            ((whole_run c one.within one.began).lists n ∙ one.begins.list);
+      }
+
+any_effect : (c : Config) (op : Op) (items left : SeatItems) (seen gone : List (List Entry)) (answer : Result Reply GateError)
+    (trace : List Traced) → (course_of c (own_number items) op trace).comes ≡ Ended answer → left ≡ ran_items c op trace items →
+    AreMoves c op items seen trace gone → (h : HaveHistory c left gone) → TakesEffect c items op trace seen gone h.history.log
+any_effect c op items left seen gone answer [] ends is moves h = absurd (let no : ⊥ = cc in no)
+any_effect c op items left seen gone answer (e ∷ earlier) ends is moves h = trace_effect c op seen gone e earlier items left is moves h
+
+-- so of each whole call
+pub call_effect : (op : Op) (old left : TaskState) (answer : Result Reply GateError) (called : Called op old left answer) →
+    TakesEffect old.config old.items op called.trace old.seen left.seen called.history.history.log
+call_effect op old left answer called =
+    any_effect old.config op old.items left.items old.seen left.seen answer called.trace called.ends
+    (ap (λ (s : TaskState). s.items) called.after) called.moves called.history
+
+-- and two of which the later one has seen what the earlier one left
+pub in_order : (c : Config) (items others : SeatItems) (one two : Op) (first second : List Traced) (seen left begins ends : List (List Entry))
+    (log now : List Done) → TakesEffect c items one first seen left log → TakesEffect c others two second begins ends now →
+    ((k : ℕ) (there : List Entry) → get_elem? left k ≡ some there → HasSeen there begins) →
+    AreInOrder (own_number items) (course_of c (own_number items) one first).added (own_number others)
+    (course_of c (own_number others) two second).added now
+in_order c items others one two first second seen left begins ends log now f s all =
+    let there : List Entry = f.began ++ f.since in
+    let known : HasSeen there begins = all 0 there (ap (λ l. get_elem? l 0) f.leaves) in
+    let on : GoesOn there known.1 = known.3 in
+    let more : GoesOn known.1 s.began = s.begins.saw known.0 known.1 known.2 in
+    let gap : List Entry = on.0 ++ more.0 in
+    let began : s.began ≡ there ++ gap =
+    more.1 ∙ (ap (λ (l : List Entry). l ++ more.0) on.1 ∙ append_assoc there on.0 more.0) in record {
+      later = actions_since c s.began s.since;
+      between = actions_since c there gap;
+      earlier = actions_since c f.began f.since;
+      before = actions_so_far c f.began;
+      is = s.grows ∙ ap (λ (l : List Done). actions_since c s.began s.since ++ l)
+          (ap (actions_so_far c) began ∙ (actions_append c there gap ∙
+          ap (λ (l : List Done). actions_since c there gap ++ l) (actions_append c f.began f.since)));
+      of_first = f.added;
+      of_second = s.added;
+    }
