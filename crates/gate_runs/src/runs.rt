@@ -39,7 +39,7 @@ fn held_in(closed: &Closed) -> u64
 fn close(gates: Gates, task: Task) -> Closed
     requires from { IsFrom task gates }
     requires all { HasAll task }
-    ensures { (result.config ≡ gates.words.config) × EndedWith result.config result.words task.items }
+    ensures { (result.config ≡ gates.words.config) × EndedWith result.config result.words task.items task.seen }
 {
     let Ok(closed) = gates.close(task) else {
         unreachable!()

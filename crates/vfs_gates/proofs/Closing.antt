@@ -1,7 +1,7 @@
 -- The world of gates that are closed.
 use Rattle.gate_steps.specs.declared.seating.Knowledge.{Knowledge}
 use Rattle.std.proofs.Common.{◌≡◌, ℕ, zero, suc, ◌<◌, ◌≤◌, cond, eqb, List, refl, sym, ap, ◌∙◌, subst, arith}
-use Rattle.gate_world.specs.declared.config.Config.{Config}
+use Rattle.gate_world.specs.declared.{config.Config.Config, entries.Entry.Entry}
 use Rattle.gate_world.specs.declared.views.View.{View}
 use Rattle.gate_world.specs.Views.{opening_view}
 use Rattle.gate_world.specs.Worlds.{World}
@@ -13,13 +13,13 @@ use Rattle.gate_steps.specs.Tables.{IsClosing}
 use Rattle.gate_steps.proofs.call_events.Giving.{view_in-at, view_in-is}
 use Rattle.gate_steps.specs.call_events.Ties.{IsStill, AllRest}
 use Rattle.gate_steps.specs.Histories.{IsReached}
-use Rattle.vfs_gates.specs.Ended.{Ended, EndedWith, HasOpeningWords, IsLeftBySchedule}
+use Rattle.vfs_gates.specs.Ended.{Ended, EndedWith, HasOpeningWords, IsLeftAfter, IsLeftBySchedule}
 use Rattle.vfs_gates.proofs.Parting.{rest-at}
 
 -- all numbers are back in a seat whose views rest: so each number rests, and has the view that the seat knows
 pub ended : (c : Config) (k : Knowledge) (ws : List ℕ) → IsClosing c ws k → AllRest c k.items →
     ((n : ℕ) → n < c.tasks → 1 ≤ times n k.items) →
-    EndedWith c ws k.items
+    EndedWith c ws k.items k.seen
 ended c k ws closing rest all = let items : SeatItems = k.items in record {
   ended = record {
     world = closing.world;
@@ -30,6 +30,7 @@ ended c k ws closing rest all = let items : SeatItems = k.items in record {
         (rest-at c items there.0 (numbered t (view_in t items)) rest there.1);
   };
   mine = closing.mine;
+  goes_on = closing.seen;
 }
 
 -- a number that was dealt and has done nothing has an opening view
@@ -40,7 +41,7 @@ dealt_view n from (suc k) = by_bool (eqb from n) (λ b. cond b opening_view (vie
 
 -- so gates that are closed with the first task, which knows that no number has had an event, have all words as they begin
 pub opens_so : (c : Config) → HasOpeningWords c (first_items c)
-opens_so c ws e =
+opens_so c ws seen e =
     let w : World = e.ended.world in
     let view : (t : ℕ) → t < c.tasks → w.views t ≡ opening_view =
     λ t lt. view_in-is w.views (first_items c) t e.mine (let once = times-deal t 0 c.tasks (omega arith) (omega arith) in omega arith) ∙
@@ -56,4 +57,19 @@ left_by_schedule c ws e =
       words = subst (TableShows c ws) (sym reached.words) e.ruled.words;
       idle = λ t lt. (reached.views t).phase ∙ (e.still t lt).0;
       lists = λ t. (reached.views t).actions;
+    }
+
+-- and goes on from all that their last task had seen
+pub left_after : (c : Config) (ws : List ℕ) (items : SeatItems) (seen : List (List Entry)) (e : EndedWith c ws items seen) →
+    IsLeftAfter c ws e.ended.world items seen
+left_after c ws items seen e =
+    let reached : IsReached c e.ended.history.log e.ended.world = e.ended.history.reached in record {
+      left = record {
+        within = e.ended.ruled.within;
+        entries = reached.entries;
+        words = subst (TableShows c ws) (sym reached.words) e.ended.ruled.words;
+        idle = λ t lt. (reached.views t).phase ∙ (e.ended.still t lt).0;
+        lists = λ t. (reached.views t).actions;
+      };
+      goes_on = e.goes_on;
     }

@@ -11,6 +11,7 @@ pub mod Noting
 pub mod Rooming
 pub mod Seeing
 pub mod Taking
+pub mod Timing
 pub mod Holding
 pub mod Returning
 pub mod Resting

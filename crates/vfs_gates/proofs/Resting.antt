@@ -20,6 +20,7 @@ use Rattle.gate_steps.specs.call_events.Ties.{Ties}
 use Rattle.gate_steps.proofs.call_events.Giving.{view_in-at}
 use Rattle.vfs_gates.specs.declared.gates.Gates.{Gates}
 use Rattle.vfs_gates.specs.TaskStates.{TaskState, task_state, own_number, own_view, spare_of, refusal_at, Empty, IsFrom}
+use Rattle.gate_world.specs.declared.entries.Entry.{Entry}
 use Rattle.vfs_gates.specs.Ended.{EndedWith}
 use Rattle.vfs_gates.specs.Parts.{SplitOf}
 use Rattle.vfs_gates.specs.Held.{Rests, own_actions}
@@ -112,10 +113,10 @@ module _ (views : ℕ → View) where
   second_ends [] (y ∷ ys) there have = have 0 y refl
   second_ends (x ∷ xs) m there have = second_ends xs m there (λ k y e. have (suc k) y e)
 
-pub both_end : (c : Config) (ws : List ℕ) (first second : SeatItems) (e : EndedWith c ws (first ++ second)) → 1 ≤ length first →
-    1 ≤ length second →
+pub both_end : (c : Config) (ws : List ℕ) (first second : SeatItems) (seen : List (List Entry)) (e : EndedWith c ws (first ++ second) seen) →
+    1 ≤ length first → 1 ≤ length second →
     (e.ended.world.views (own_number first) ≡ own_view first) × (e.ended.world.views (own_number second) ≡ own_view second)
-both_end c ws first second e some_first some_second = (
+both_end c ws first second seen e some_first some_second = (
   first_ends e.ended.world.views first second some_first e.mine,
   second_ends e.ended.world.views first second some_second e.mine,
 )

@@ -11,6 +11,7 @@ use Rattle.gate_steps.specs.call_events.Runs.{told_as, unit_of}
 use Rattle.gate_steps.specs.Seating.{SeatItems}
 use Rattle.gate_world.specs.declared.config.Config.{Config}
 use Rattle.vfs_gates.specs.Held.{IsGivenBack, takes_nothing}
+use Rattle.gate_world.specs.declared.entries.Entry.{Entry}
 use Rattle.vfs_gates.specs.Ended.{EndedWith}
 pub use Rattle.vfs_gates.specs.Rounds.{GateError, Mount, Op, ChangeMount, Performs, Rests, TaskState, IsFrom, Did, Ended, Granted, refused, round}
 use Rattle.vfs_gates.specs.Parts.{SplitOf}
@@ -58,15 +59,15 @@ reopened {m = m} {old = old} {there = there} rests closed call =
 
 -- Two tasks, the first of some gates and one that was split off it, did this each, were joined, and closed the gates: their numbers have it in the
 -- end, from where they had done nothing.
-pub joined_did : {c : Config} {ws : List ℕ} {items : SeatItems} {one two : ℕ} {opening : Config} {id : TableId} {old f s : TaskState}
+pub joined_did : {c : Config} {ws : List ℕ} {items : SeatItems} {seen : List (List Entry)} {one two : ℕ} {opening : Config} {id : TableId} {old f s : TaskState}
     (F S : TaskState → TaskState → Type 0) (first second : TaskState) → old ≡ task_state id opening None None (first_known opening) → SplitOf old f s →
-    (e : EndedWith c ws items) → items ≡ first.items ++ second.items → one ≡ own_number first.items → 1 ≤ length first.items →
+    (e : EndedWith c ws items seen) → items ≡ first.items ++ second.items → one ≡ own_number first.items → 1 ≤ length first.items →
     two ≡ own_number second.items → 1 ≤ length second.items → F f first → S s second →
     (ended : Ended c ws) × Did (ended.world.views one) F × Did (ended.world.views two) S
-joined_did {c = c} {ws = ws} {opening = opening} {id = id} {old = old} {f = f} {s = s} F S first second is made e joined own there own' there' did did' =
+joined_did {c = c} {ws = ws} {seen = seen} {opening = opening} {id = id} {old = old} {f = f} {s = s} F S first second is made e joined own there own' there' did did' =
     let nothing = split_done_nothing opening id old f s is made in
-    let both : EndedWith c ws (first.items ++ second.items) = subst (EndedWith c ws) joined e in
-    let ends = both_end c ws first.items second.items both there there' in (
+    let both : EndedWith c ws (first.items ++ second.items) seen = subst (λ l. EndedWith c ws l seen) joined e in
+    let ends = both_end c ws first.items second.items seen both there there' in (
       both.ended,
       record { begins = f; ends = first; nothing = nothing.0; does = did; last = ap both.ended.world.views own ∙ ends.0 },
       record { begins = s; ends = second; nothing = nothing.1; does = did'; last = ap both.ended.world.views own' ∙ ends.1 },

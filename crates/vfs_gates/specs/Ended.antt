@@ -11,7 +11,7 @@ use Rattle.gate_world.specs.Headline.{world_after}
 use Rattle.gate_world.specs.Worlds.{World}
 use Rattle.gate_world.specs.declared.entries.Entry.{Entry}
 use Rattle.gate_steps.specs.Histories.{HasHistory}
-use Rattle.gate_steps.specs.Seating.{SeatItems, HaveViews, times}
+use Rattle.gate_steps.specs.Seating.{SeatItems, HaveViews, HaveSeen, times}
 use Rattle.gate_steps.specs.Rules.{TableShows, Ruled}
 use Rattle.vfs_gates.specs.TaskStates.{TaskState, IsIdle, HoldsNothing}
 use Rattle.gate_steps.specs.call_events.Ties.{IsStill}
@@ -43,14 +43,16 @@ pub record IsLeftBySchedule (c : Config) (ws : List ℕ) (w : World) : Type 0 wh
   pub idle : (t : ℕ) → t < c.tasks → ((world_after c entries).views t).phase ≡ None
   pub lists : (t : ℕ) → ((world_after c entries).views t).actions ≡ (w.views t).actions
 
--- In that world the numbers that the task brought have the views that it knew: closing adds no event and no action to any list.
-pub record EndedWith (c : Config) (ws : List ℕ) (items : SeatItems) : Type 0 where
+-- In that world the numbers that the task brought have the views that it knew: closing adds no event and no action to any list. Its schedule
+-- goes on from each that the task had seen, and so from all that was seen by those that were joined.
+pub record EndedWith (c : Config) (ws : List ℕ) (items : SeatItems) (seen : List (List Entry)) : Type 0 where
   pub ended : Ended c ws
   pub mine : HaveViews ended.world.views items
+  pub goes_on : HaveSeen ended.history.reached.entries items seen
 
 -- Gates whose last task knows these numbers would close with all words as they begin.
 abbrev pub HasOpeningWords : Config → SeatItems → Type 0
-HasOpeningWords c items = (ws : List ℕ) → EndedWith c ws items → TableShows c ws opening_words
+HasOpeningWords c items = (ws : List ℕ) (seen : List (List Entry)) → EndedWith c ws items seen → TableShows c ws opening_words
 
 -- The tree of these words is sound: the blocks charged are those of all files, the children charged to each node are its children, and each
 -- parent is a directory.
@@ -58,3 +60,9 @@ abbrev pub LeavesSoundTree : Config → List ℕ → Type 0
 LeavesSoundTree c ws =
     IsSound c.nodes (slice_index ws (stride * place Used)) (λ n. node_shown (slice_index ws (stride * place (Node n))))
     (λ n. slice_index ws (stride * place (Kids n)))
+
+-- A schedule leaves closed gates which goes on from each that these numbers' task had seen, and each of these numbers has no entry behind one of
+-- them.
+pub record IsLeftAfter (c : Config) (ws : List ℕ) (w : World) (items : SeatItems) (seen : List (List Entry)) : Type 0 where
+  pub left : IsLeftBySchedule c ws w
+  pub goes_on : HaveSeen left.entries items seen

@@ -62,7 +62,7 @@ impl Gates {
     /// Order, with both given back as they were, unless the task is idle, holds nothing and has all other numbers.
     pub fn close(self, task: Task) -> Result<Closed, (GateError, Gates, Task)>
         requires { IsFrom task self }
-        ensures closed { IfOk result (λ c. HasAll task × (c.config ≡ self.words.config) × EndedWith c.config c.words task.items) }
+        ensures closed { IfOk result (λ c. HasAll task × (c.config ≡ self.words.config) × EndedWith c.config c.words task.items task.seen) }
         ensures refused { IfErr result (λ e. (e.0 ≡ Order) × (e.1 ≡ self) × (e.2 ≡ task) × ¬ HasAll task) }
     {
         if !task.has_all() {

@@ -16,9 +16,12 @@ ghost use Rattle.vfs_gates.specs.Held.{Rests, own_actions, IsAsBefore, IsGivenBa
 ghost use Rattle.gate_steps.specs.call_events.Caused.{HasItsCause};
 ghost use Rattle.gate_steps.specs.call_events.Runs.{completed_by, Called, Performs};
 ghost use Rattle.gate_world.specs.declared.config.Config.{Config};
+ghost use Rattle.gate_world.specs.declared.entries.Entry.{Entry};
 ghost use Rattle.vfs_gates.specs.Ended.{Ended, EndedWith, IsLeftBySchedule, LeavesSoundTree};
 ghost use Rattle.vfs_gates.specs.Seen.{HasTaken, IsOfAMoment};
 ghost use Rattle.gate_world.specs.declared.operations.Op.TheVariants.{ChangeMount, DropMount, Snapshot as SnapshotOp, Want};
+
+pub mod in_time;
 
 /// After a whole call, the last snapshot of its task is of a moment of the one history that the call leaves. Does nothing: its contract
 /// is the law.
@@ -111,7 +114,7 @@ pub fn a_call_that_takes_nothing_leaves_a_task_as_it_was()
 /// Where two tasks were joined and the gates closed, each of their own numbers has in the world that is left the view that its task knew. Does
 /// nothing: its contract is the law.
 pub fn joined_tasks_end_as_they_were()
-    ensures { (c : Config) (ws : List ℕ) (first second : SeatItems) (e : EndedWith c ws (first ++ second)) → 1 ≤ length first →
-        1 ≤ length second →
+    ensures { (c : Config) (ws : List ℕ) (first second : SeatItems) (seen : List (List Entry))
+        (e : EndedWith c ws (first ++ second) seen) → 1 ≤ length first → 1 ≤ length second →
         (e.ended.world.views (own_number first) ≡ own_view first) × (e.ended.world.views (own_number second) ≡ own_view second) }
 {}

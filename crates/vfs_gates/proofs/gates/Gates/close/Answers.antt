@@ -1,7 +1,7 @@
 -- the last seat has all numbers, and they rest
-use Rattle.std.proofs.Common.{ℕ, ◌<◌, ◌≤◌, refl, sym, ◌∙◌, subst}
+use Rattle.std.proofs.Common.{ℕ, ◌<◌, ◌≤◌, List, refl, sym, ◌∙◌, subst}
 use Rattle.std.specs.Slots.{slots_items}
-use Rattle.gate_world.specs.declared.config.Config.{Config}
+use Rattle.gate_world.specs.declared.{config.Config.Config, entries.Entry.Entry}
 use Rattle.gate_steps.specs.Seating.{SeatItems, times}
 use Rattle.gate_steps.specs.Tables.{IsClosing}
 use Rattle.gate_steps.specs.call_events.Ties.{AllRest}
@@ -11,7 +11,7 @@ use Rattle.vfs_gates.proofs.gates.Gates.close.Goals as goal
 use Rattle.vfs_gates.proofs.gates.Gates.close.Goals.{After-close}
 
 -- what the words and the task's numbers say of each other
-ends : (c : After-close) → EndedWith c.args.self.words.config (slots_items c.close.result.words) c.args.task.items
+ends : (c : After-close) → EndedWith c.args.self.words.config (slots_items c.close.result.words) c.args.task.items c.args.task.seen
 ends c =
     let config = c.args.self.words.config in
     let seat = c.into_seat.result in
@@ -19,7 +19,8 @@ ends c =
     let all : (n : ℕ) → n < config.tasks → 1 ≤ times n seat.me.0.items =
     λ n lt. subst (λ (l : SeatItems). 1 ≤ times n l) (sym c.into_seat.ensures.items.0)
     (has.2 n (subst (λ (k : Config). n < k.tasks) (sym c.requires.1) lt)) in
-    subst (EndedWith config (slots_items c.close.result.words)) c.into_seat.ensures.items.0
+    let P : SeatItems × List (List Entry) → Type 0 = λ z. EndedWith config (slots_items c.close.result.words) z.0 z.1 in
+    subst P (λ i. (c.into_seat.ensures.items.0 i, c.into_seat.ensures.items.1 i))
     (ended config seat.me.0 (slots_items c.close.result.words)
     (subst (λ (k : Config). IsClosing k (slots_items c.close.result.words) seat.me.0) c.args.self.words.key c.close.ensures.closing)
     (subst (λ (k : Config). AllRest k seat.me.0.items) c.requires.1 (c.into_seat.ensures.rested (has.0, has.1))) all)

@@ -1,0 +1,88 @@
+-- Whole calls in the order of time.
+use Rattle.std.proofs.Common.{◌≡◌, ℕ, ◌≤◌, refl, sym, ap, ◌∙◌, subst}
+use Rattle.std.specs.Prelude.{Bool, Option, Some, None, Result, Ok, List, [], ◌∷◌, ◌++◌, length}
+use Rattle.access_model.specs.declared.actions.Action.{Action}
+use Rattle.access_model.specs.declared.errors.GateError.{GateError}
+use Rattle.access_model.specs.declared.replies.Reply.{Reply}
+use Rattle.gated_tree.specs.declared.trees.TreeWords.{TreeWords}
+use Rattle.gate_world.specs.Courses.{course_of}
+use Rattle.gate_world.specs.Snapshots.{last_snapshot}
+use Rattle.gate_world.specs.declared.config.Config.{Config}
+use Rattle.gate_world.specs.declared.operations.Op.{Op}
+use Rattle.gate_world.specs.declared.operations.Op.TheVariants.{Snapshot as SnapshotOp}
+use Rattle.gate_world.specs.declared.views.Snapshot.{Snapshot as Noted}
+use Rattle.gate_world.specs.declared.views.Traced.{Traced}
+use Rattle.gate_world.specs.declared.views.View.{View}
+use Rattle.gate_steps.specs.Seating.{done_by}
+use Rattle.gate_steps.specs.call_events.Grown.{StaySeen}
+use Rattle.gate_steps.specs.call_events.Runs.{completed_by, ran_snapshot, AreMoves, Called}
+use Rattle.gate_steps.specs.call_events.Spans.{AreInOrder, IsTreeDuring, TakesEffect}
+use Rattle.gate_steps.proofs.call_events.{Caused.tree_during, Effects.{call_effect, in_order}}
+use Rattle.vfs_gates.specs.TaskStates.{TaskState, own_number, own_view, spare_of}
+use Rattle.vfs_gates.proofs.{Seeing.same_own, Taking.replied_one}
+
+-- calls of one configuration, of which the later one has seen what the earlier one left
+pub calls_in_order : (one two : Op) (old left begins ends : TaskState) (answer reply : Result Reply GateError)
+    (first : Called one old left answer) (second : Called two begins ends reply) → begins.config ≡ old.config →
+    StaySeen left.seen begins.seen →
+    AreInOrder (own_number old.items) (course_of old.config (own_number old.items) one first.trace).added
+    (own_number begins.items) (course_of begins.config (own_number begins.items) two second.trace).added second.history.history.log
+calls_in_order one two old left begins ends answer reply first second same seen =
+    let effect : TakesEffect begins.config old.items one first.trace old.seen left.seen first.history.history.log =
+    subst (λ c. TakesEffect c old.items one first.trace old.seen left.seen first.history.history.log) (sym same)
+    (call_effect one old left answer first) in
+    subst (λ (c : Config). AreInOrder (own_number old.items) (course_of c (own_number old.items) one first.trace).added
+    (own_number begins.items) (course_of begins.config (own_number begins.items) two second.trace).added second.history.history.log) same
+    (in_order begins.config old.items begins.items one two first.trace second.trace old.seen left.seen begins.seen ends.seen
+    first.history.history.log second.history.history.log effect (call_effect two begins ends reply second) seen)
+
+-- an event of a trace has completed a snapshot of these words
+abbrev HasCompleted : Config → ℕ → Op → List Traced → TreeWords → Type 0
+HasCompleted c t op trace loaded = (later : List Traced) × (e : Traced) × (earlier : List Traced) × (trace ≡ later ++ e ∷ earlier) ×
+    (completed_by (course_of c t op earlier).comes earlier e ≡ Some loaded)
+
+-- of a number that had none, what it has was taken by one of its events, and so it is where it had one before
+module _ (c : Config) (t : ℕ) (op : Op) (others : List (ℕ × ℕ)) (v : View) where
+  abbrev had : View
+  had = record v { snapshot = None }
+
+  by_event : (e : Traced) (earlier : List Traced) (s : Noted) (o : Option TreeWords) →
+      completed_by (course_of c t op earlier).comes earlier e ≡ o → (added : List Action) (before now : Option Noted) →
+      last_snapshot o added others before ≡ Some s → (before ≡ Some s → (now ≡ Some s) × HasCompleted c t op earlier s.loaded) →
+      (last_snapshot o added others now ≡ Some s) × HasCompleted c t op (e ∷ earlier) s.loaded
+  by_event e earlier s (Some loaded) is added before now ends sooner =
+      let same : loaded ≡ s.loaded = ap (λ (n : Noted). n.loaded) (let f : record { loaded = loaded; done = length added; others = others } ≡ s = cc in f) in
+      (ends, ([], e, earlier, refl, is ∙ ap Some same))
+  by_event e earlier s None is added before now ends sooner =
+      let r = sooner ends in (r.0, (e ∷ r.1.0, r.1.1, r.1.2, ap (λ (l : List Traced). e ∷ l) r.1.3, r.1.4))
+
+  was_taken : (trace : List Traced) (s : Noted) → ran_snapshot c t op others trace had ≡ Some s →
+      (ran_snapshot c t op others trace v ≡ Some s) × HasCompleted c t op trace s.loaded
+  was_taken [] s ends = absurd (let no : ⊥ = cc in no)
+  was_taken (e ∷ earlier) s ends =
+      by_event e earlier s (completed_by (course_of c t op earlier).comes earlier e) refl
+      ((course_of c t op earlier).added ++ v.actions) (ran_snapshot c t op others earlier had) (ran_snapshot c t op others earlier v) ends
+      (was_taken earlier s)
+
+-- so a snapshot that replied is of a moment of its call
+pub taken_during : (wait : Bool) (old left : TaskState) (reply : Reply) (s : Noted) → 1 ≤ length old.items →
+    Called (SnapshotOp wait) old left (Ok reply) → (own_view left.items).snapshot ≡ Some s →
+    IsTreeDuring old.config old.items (SnapshotOp wait) old.seen left.seen s.loaded
+taken_during wait old left reply s some_there called shows =
+    let c : Config = old.config in
+    let n : ℕ = own_number old.items in
+    let op : Op = SnapshotOp wait in
+    let others : List (ℕ × ℕ) = done_by (spare_of old.items) in
+    let v : View = own_view old.items in
+    let one = replied_one c n wait others (record v { snapshot = None }) called.trace reply called.follows called.ends in
+    let noted : Noted = record { loaded = one.0; done = length v.actions; others = others } in
+    let taken = was_taken c n op others v called.trace noted one.1 in
+    let own = same_own c op called.trace old.items some_there in
+    let left_so : (own_view left.items).snapshot ≡ Some noted =
+    ap (λ (t : TaskState). (own_view t.items).snapshot) called.after ∙ (own.2 ∙ taken.0) in
+    let both : Some noted ≡ Some s = sym left_so ∙ shows in
+    let same : noted ≡ s = cc in
+    let done = taken.1 in
+    subst (λ (m : Noted). IsTreeDuring c old.items op old.seen left.seen m.loaded) same
+    (tree_during c old.items op old.seen left.seen noted.loaded done.0 done.1 done.2
+    (subst (λ l. AreMoves c op old.items old.seen l left.seen) done.3 called.moves) done.4)

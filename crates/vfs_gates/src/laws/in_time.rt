@@ -1,0 +1,78 @@
+//! Laws of whole calls in the order of time. What a task has seen are schedules: of the moments of its own calls, and of those of each task that
+//! was joined to it or that it was split off. Each later moment's schedule goes on from these. Only the handing over of tasks is order: of two
+//! threads that talk by other means nothing is said here. The functions do nothing: their contracts are the laws.
+
+ghost use Rattle.std.specs.Prelude.{◌≡◌, ◌≤◌, ℕ, Bool, Some, Ok, Err, Result, List, ◌++◌, length};
+ghost use Rattle.access_model.specs.declared.errors.GateError.{GateError};
+ghost use Rattle.access_model.specs.declared.replies.Reply.{Reply};
+ghost use Rattle.gate_world.specs.Courses.{course_of};
+ghost use Rattle.gate_world.specs.declared.config.Config.{Config};
+ghost use Rattle.gate_world.specs.declared.entries.Entry.{Entry};
+ghost use Rattle.gate_world.specs.declared.operations.Op.{Op};
+ghost use Rattle.gate_world.specs.declared.operations.Op.TheVariants.{Snapshot as SnapshotOp};
+ghost use Rattle.gate_world.specs.declared.views.Snapshot.{Snapshot};
+ghost use Rattle.gate_steps.specs.Seating.{SeatItems};
+ghost use Rattle.gate_steps.specs.call_events.Grown.{StaySeen};
+ghost use Rattle.gate_steps.specs.call_events.Runs.{Called};
+ghost use Rattle.gate_steps.specs.call_events.Spans.{AreInOrder, HasItsCauseDuring, IsTreeDuring, TakesEffect};
+ghost use Rattle.vfs_gates.specs.Ended.{EndedWith, IsLeftAfter};
+ghost use Rattle.vfs_gates.specs.Parts.{SplitOf};
+ghost use Rattle.vfs_gates.specs.TaskStates.{TaskState, own_number, own_view};
+
+/// What a task has seen it has seen still after each of its calls, and so have both tasks after a split, and a task that another was joined to has
+/// seen what either had. So what a thread did before its task was joined lies behind the task that goes on, and what was done before a split
+/// behind the new one.
+pub fn what_was_seen_stays_seen()
+    ensures calls { (op : Op) (old left : TaskState) (answer : Result Reply GateError) → Called op old left answer →
+        StaySeen old.seen left.seen }
+    ensures splits { (old left other : TaskState) → SplitOf old left other → StaySeen old.seen left.seen × StaySeen old.seen other.seen }
+    ensures joins { (first second joined : TaskState) → joined.seen ≡ first.seen ++ second.seen →
+        StaySeen first.seen joined.seen × StaySeen second.seen joined.seen }
+    ensures further { (first second third : TaskState) → StaySeen first.seen second.seen → StaySeen second.seen third.seen →
+        StaySeen first.seen third.seen }
+{}
+
+/// The schedule that closed gates leave goes on from each that their last task had seen, and so from all that was seen by the tasks that were
+/// joined to it.
+pub fn closed_gates_are_left_after_all_that_was_seen()
+    ensures { (c : Config) (ws : List ℕ) (items : SeatItems) (seen : List (List Entry)) (e : EndedWith c ws items seen) →
+        IsLeftAfter c ws e.ended.world items seen }
+{}
+
+/// A whole call takes effect between its call and its return. The schedule with which it returns is one that goes on from all that its task had
+/// seen when it called, with more entries, of which the task's are the beginning and the call's own events, each once and in their order. In the
+/// history that it leaves, the actions that were added since the call began come after all that stood there when it did, and the task's own among
+/// them are exactly the call's.
+pub fn a_call_takes_effect_between_call_and_return()
+    ensures { (op : Op) (old left : TaskState) (answer : Result Reply GateError) (called : Called op old left answer) →
+        TakesEffect old.config old.items op called.trace old.seen left.seen called.history.history.log }
+{}
+
+/// Two calls, of which the second was made by a task that had seen what the first one left: in the history that the second one leaves, all that
+/// it added comes after all that the first one added. So it is of two calls of one task, and of calls of two tasks, where the first one's was
+/// joined, or the second one's split off, between the two.
+pub fn calls_take_effect_in_order()
+    ensures { (one two : Op) (old left begins ends : TaskState) (answer reply : Result Reply GateError)
+        (first : Called one old left answer) (second : Called two begins ends reply) → begins.config ≡ old.config →
+        StaySeen left.seen begins.seen →
+        AreInOrder (own_number old.items) (course_of old.config (own_number old.items) one first.trace).added
+        (own_number begins.items) (course_of begins.config (own_number begins.items) two second.trace).added second.history.history.log }
+{}
+
+/// A refused call has its cause between its call and its return, whatever its operation: the worlds among which `every_schedule` finds it (clause
+/// `causes`) are those from the beginning of the operation to the event that brought the refusal, in a schedule that goes on from all that the
+/// task had seen when it called, and with that event it returns. So a want is ReadOnly only if the mount was read-only at a moment of the call, and
+/// not for what had been undone before it.
+pub fn a_refused_call_has_its_cause_between_call_and_return()
+    ensures { (op : Op) (old left : TaskState) (refusal : GateError) (called : Called op old left (Err refusal)) →
+        HasItsCauseDuring old.config old.items op called.trace refusal old.seen left.seen }
+{}
+
+/// A snapshot that replied is of a freeze that stood during the call: at a moment between call and return everything was frozen, and the words of
+/// the tree were those that the snapshot has. The schedule of that moment goes on from all that the task had seen when it called, so what had been
+/// done by then is in the tree.
+pub fn a_snapshot_is_of_a_freeze_that_stood_during_the_call()
+    ensures { (wait : Bool) (old left : TaskState) (reply : Reply) (s : Snapshot) → 1 ≤ length old.items →
+        Called (SnapshotOp wait) old left (Ok reply) → (own_view left.items).snapshot ≡ Some s →
+        IsTreeDuring old.config old.items (SnapshotOp wait) old.seen left.seen s.loaded }
+{}
