@@ -13,13 +13,14 @@ use Rattle.gate_world.specs.declared.config.Config.{Config}
 use Rattle.vfs_gates.specs.Held.{IsGivenBack, takes_nothing}
 use Rattle.gate_world.specs.declared.entries.Entry.{Entry}
 use Rattle.vfs_gates.specs.Ended.{EndedWith}
-pub use Rattle.vfs_gates.specs.Rounds.{GateError, Mount, Op, ChangeMount, Performs, Rests, TaskState, IsFrom, Did, Ended, Granted, refused, round}
+pub use Rattle.vfs_gates.specs.Rounds.{GateError, Mount, Op, ChangeMount, Performs, Rests, TaskState, IsFrom, ComesAfter, Did, Ended, Granted, refused, round}
 use Rattle.vfs_gates.specs.Parts.{SplitOf}
 use Rattle.vfs_gates.specs.TaskStates.{own_number, task_state}
 use Rattle.vfs_gates.proofs.Holding.{keeps, rests_on}
 use Rattle.vfs_gates.proofs.Reopening.{Opens, opens}
 use Rattle.vfs_gates.proofs.Resting.{both_end, change_begins, split_done_nothing}
 use Rattle.vfs_gates.proofs.Returning.{may, was_done, dropped}
+use Rattle.vfs_gates.proofs.Timing.{comes_after}
 
 -- a call that takes nothing leaves a task at rest
 pub rests_after : {op : Op} {old left : TaskState} {outcome : Result (Unit {0}) GateError} → takes_nothing op ≡ true → Rests old →
@@ -72,3 +73,9 @@ joined_did {c = c} {ws = ws} {seen = seen} {opening = opening} {id = id} {old = 
       record { begins = f; ends = first; nothing = nothing.0; does = did; last = ap both.ended.world.views own ∙ ends.0 },
       record { begins = s; ends = second; nothing = nothing.1; does = did'; last = ap both.ended.world.views own' ∙ ends.1 },
     )
+
+-- A call that was done of a task to which another was joined has all behind it that the other had done.
+pub done_after : {op : Op} {other joined left : TaskState} (first : TaskState) → joined.items ≡ first.items ++ other.items → 1 ≤ length first.items →
+    1 ≤ length other.items → Performs op joined left (Ok tt) → ComesAfter other joined left
+done_after {op = op} {other = other} {joined = joined} {left = left} first is some_first some_other call =
+    let was = was_done op joined left call in comes_after op first other joined left (Ok was.reply) is some_first some_other was.called

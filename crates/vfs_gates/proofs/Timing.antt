@@ -1,11 +1,15 @@
 -- Whole calls in the order of time.
-use Rattle.std.proofs.Common.{◌≡◌, ℕ, ◌≤◌, refl, sym, ap, ◌∙◌, subst}
+use Rattle.std.proofs.Common.{◌≡◌, ℕ, suc, ◌≤◌, refl, sym, ap, ◌∙◌, subst, arith}
 use Rattle.std.specs.Prelude.{Bool, Option, Some, None, Result, Ok, List, [], ◌∷◌, ◌++◌, length}
+use mathlib.Core.Option.{some}
+use lib.ListN.{get_elem?}
+use Rattle.access_model.specs.Histories.{Done, own_part}
 use Rattle.access_model.specs.declared.actions.Action.{Action}
 use Rattle.access_model.specs.declared.errors.GateError.{GateError}
 use Rattle.access_model.specs.declared.replies.Reply.{Reply}
 use Rattle.gated_tree.specs.declared.trees.TreeWords.{TreeWords}
 use Rattle.gate_world.specs.Courses.{course_of}
+use Rattle.gate_world.specs.Headline.{actions_so_far, actions_since}
 use Rattle.gate_world.specs.Snapshots.{last_snapshot}
 use Rattle.gate_world.specs.declared.config.Config.{Config}
 use Rattle.gate_world.specs.declared.operations.Op.{Op}
@@ -13,11 +17,13 @@ use Rattle.gate_world.specs.declared.operations.Op.TheVariants.{Snapshot as Snap
 use Rattle.gate_world.specs.declared.views.Snapshot.{Snapshot as Noted}
 use Rattle.gate_world.specs.declared.views.Traced.{Traced}
 use Rattle.gate_world.specs.declared.views.View.{View}
-use Rattle.gate_steps.specs.Seating.{done_by}
+use Rattle.gate_steps.specs.Seating.{SeatItems, done_by}
+use Rattle.gate_steps.specs.declared.seating.Numbered.{Numbered}
 use Rattle.gate_steps.specs.call_events.Grown.{StaySeen}
-use Rattle.gate_steps.specs.call_events.Runs.{completed_by, ran_snapshot, AreMoves, Called}
+use Rattle.gate_steps.specs.call_events.Runs.{completed_by, ran_items, ran_snapshot, AreMoves, Called}
 use Rattle.gate_steps.specs.call_events.Spans.{AreInOrder, IsTreeDuring, TakesEffect}
 use Rattle.gate_steps.proofs.call_events.{Caused.tree_during, Effects.{call_effect, in_order}}
+use Rattle.vfs_gates.specs.Handed.{ComesAfter}
 use Rattle.vfs_gates.specs.TaskStates.{TaskState, own_number, own_view, spare_of}
 use Rattle.vfs_gates.proofs.{Seeing.same_own, Taking.replied_one}
 
@@ -86,3 +92,39 @@ taken_during wait old left reply s some_there called shows =
     subst (λ (m : Noted). IsTreeDuring c old.items op old.seen left.seen m.loaded) same
     (tree_during c old.items op old.seen left.seen noted.loaded done.0 done.1 done.2
     (subst (λ l. AreMoves c op old.items old.seen l left.seen) done.3 called.moves) done.4)
+
+-- what stands in the second of two lists stands in both
+second_place : (mine : SeatItems) (y : Numbered) (ys : SeatItems) → (k : ℕ) × (get_elem? (mine ++ y ∷ ys) k ≡ some y)
+second_place [] y ys = (0, refl)
+second_place (x ∷ mine) y ys = let r = second_place mine y ys in (suc r.0, r.1)
+
+other_behind : (c : Config) (items mine others : SeatItems) (before : List Done) → items ≡ mine ++ others → 1 ≤ length others →
+    ((k : ℕ) (x : Numbered) → get_elem? items k ≡ some x → own_part x.number before ≡ x.view.actions) →
+    own_part (own_number others) before ≡ (own_view others).actions
+other_behind c items mine [] before is there had = absurd (omega arith)
+other_behind c items mine (y ∷ ys) before is there had =
+    let at = second_place mine y ys in had at.0 y (ap (λ (l : SeatItems). get_elem? l at.0) is ∙ at.1)
+
+-- what a task's own number has done after an operation
+ran_actions : (c : Config) (op : Op) (trace : List Traced) (items mine others : SeatItems) → items ≡ mine ++ others → 1 ≤ length mine →
+    (own_view (ran_items c op trace items)).actions ≡ (course_of c (own_number items) op trace).added ++ (own_view items).actions
+ran_actions c op trace [] [] others is there = absurd (omega arith)
+ran_actions c op trace [] (x ∷ mine) others is there = absurd (let no : ⊥ = cc in no)
+ran_actions c op trace (x ∷ items) mine others is there = refl
+
+-- a call of a task to which another was joined
+pub comes_after : (op : Op) (first other joined left : TaskState) (answer : Result Reply GateError) → joined.items ≡ first.items ++ other.items →
+    1 ≤ length first.items → 1 ≤ length other.items → Called op joined left answer → ComesAfter other joined left
+comes_after op first other joined left answer is some_first some_other called =
+    let effect : TakesEffect joined.config joined.items op called.trace joined.seen left.seen called.history.history.log =
+    call_effect op joined left answer called in record {
+      all = called.history;
+      since = actions_since joined.config effect.began effect.since;
+      before = actions_so_far joined.config effect.began;
+      is = effect.grows;
+      behind = other_behind joined.config joined.items first.items other.items (actions_so_far joined.config effect.began) is some_other
+          effect.had;
+      adds = ap (λ (s : TaskState). (own_view s.items).actions) called.after ∙
+          (ran_actions joined.config op called.trace joined.items first.items other.items is some_first ∙
+          ap (λ (l : List Action). l ++ (own_view joined.items).actions) (sym effect.added));
+    }

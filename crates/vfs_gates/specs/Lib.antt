@@ -21,6 +21,7 @@ pub mod Held
 pub mod Pairs
 pub mod Settled
 pub mod Taken
+pub mod Handed
 pub mod Rounds
 pub use Rattle.gate_steps.specs.call_events.Runs
 pub use Rattle.gate_steps.specs.call_events.Asking

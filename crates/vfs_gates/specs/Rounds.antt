@@ -11,6 +11,7 @@ pub use Rattle.gate_world.specs.declared.operations.Op.{Op}
 pub use Rattle.gate_world.specs.declared.operations.Op.TheVariants.{ChangeMount}
 pub use Rattle.gate_steps.specs.call_events.Runs.{Performs}
 pub use Rattle.vfs_gates.specs.Ended.{Ended, Ending}
+pub use Rattle.vfs_gates.specs.Handed.{ComesAfter}
 pub use Rattle.vfs_gates.specs.Held.{Rests, own_actions}
 pub use Rattle.vfs_gates.specs.TaskStates.{TaskState, IsFrom, own_view}
 

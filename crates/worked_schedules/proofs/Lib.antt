@@ -1,5 +1,6 @@
 mod Rows
 mod TreeRows
 mod CauseRows
+mod TimeRows
 mod BadWorlds
 mod KeptRows

@@ -60,7 +60,7 @@ grows_out : (step_answer small (run small opening (grows ++ (Begins 0 (Op.Grow 1
 grows_out = refl
 
 -- a freeze once the writer has left: it cleans the file on its way
-abbrev freezes : List Entry
+abbrev pub freezes : List Entry
 freezes = grows ++ (Begins 0 (Op.DropWrite 0 0) ∷ steps 2 0) ++ (Begins 1 (Op.Freeze Holder.User) ∷ steps 43 1)
 
 freezes_history : history small opening [] freezes ≡
@@ -72,7 +72,7 @@ freezes_history : history small opening [] freezes ≡
 freezes_history = refl
 
 -- a snapshot then, up to the load of the last word
-abbrev snapshots : List Entry
+abbrev pub snapshots : List Entry
 snapshots = freezes ++ (Begins 2 (Op.Snapshot true) ∷ steps 7 2)
 
 -- is the tree, of which this task has done nothing

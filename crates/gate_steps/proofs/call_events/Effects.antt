@@ -10,13 +10,13 @@ use Rattle.access_model.specs.declared.errors.GateError.{GateError}
 use Rattle.access_model.specs.declared.replies.{Next.{Next, TheVariants.{Go, Wait, Done as Ended}}, Reply.Reply}
 use Rattle.gate_schedules.proofs.Whole.{whole_run}
 use Rattle.gate_world.specs.Courses.{course_of}
-use Rattle.gate_world.specs.Headline.{actions_so_far, actions_since}
+use Rattle.gate_world.specs.Headline.{world_after, actions_so_far, actions_since}
 use Rattle.gate_world.specs.declared.entries.Entry.{Entry, TheVariants.{Begins, Steps}}
 use Rattle.gate_world.specs.declared.{config.Config.Config, operations.Op.Op, views.{Traced.Traced, View.View}, work.Phase.Phase}
 use Rattle.gate_steps.specs.Seating.{SeatItems, HaveViews, HaveHistory, GoesOn}
 use Rattle.gate_steps.specs.call_events.Grown.{HasSeen}
 use Rattle.gate_steps.specs.call_events.Runs.{ran_items, IsNextMove, AreMoves, Called}
-use Rattle.gate_steps.specs.call_events.Spans.{own_entries, steps_of, IsEventDuring, TakesEffect, AreInOrder}
+use Rattle.gate_steps.specs.call_events.Spans.{own_entries, steps_of, GoesOnFromSeen, IsEventDuring, TakesEffect, AreInOrder}
 use Rattle.gate_steps.specs.call_events.TaskStates.{TaskState, own_number, own_view}
 use Rattle.gate_steps.proofs.call_events.Grown.{only}
 use Rattle.gate_steps.proofs.call_events.Moments.{own_more, own_one, part_more, actions_append}
@@ -50,6 +50,12 @@ module _ (c : Config) (op : Op) (seen gone : List (List Entry)) (e : Traced) (ea
       let mine = subst (HaveViews h.world.views) is h.mine in
       h.history.lists x.number ∙ ap (λ (v : View). v.actions) (mine 0 _ refl)
 
+  -- and what it had done in the one with which the call began
+  had_done : (items : SeatItems) (began : List Entry) → AreMoves c op items seen (e ∷ earlier) gone → GoesOnFromSeen c items seen began →
+      ((world_after c began).views (own_number items)).actions ≡ (own_view items).actions
+  had_done [] began moves h = absurd (none_moves c op earlier e moves.0 gone (course_of c 0 op earlier).comes moves.1)
+  had_done (x ∷ xs) began moves h = h.lists 0 x refl
+
   trace_effect : (items left : SeatItems) → left ≡ ran_items c op (e ∷ earlier) items → AreMoves c op items seen (e ∷ earlier) gone →
       (h : HaveHistory c left gone) → TakesEffect c items op (e ∷ earlier) seen gone h.history.log
   trace_effect items left is moves h =
@@ -74,9 +80,10 @@ module _ (c : Config) (op : Op) (seen gone : List (List Entry)) (e : Traced) (ea
             (own_more n one.since (step ∷ []) ∙ (λ i. one.own i ++ own_one n step [] refl i));
         leaves = leaves;
         grows = grows;
+        had = λ k x there. (whole_run c one.within one.began).lists x.number ∙ one.begins.lists k x there;
         added = since_then n h.history.log (actions_since c one.began since) (actions_so_far c one.began) _
             (course_of c n op (e ∷ earlier)).added (own_view items).actions grows (has_done items left is moves h) refl
-            ((whole_run c one.within one.began).lists n ∙ one.begins.list);
+            ((whole_run c one.within one.began).lists n ∙ had_done items one.began moves one.begins);
       }
 
 any_effect : (c : Config) (op : Op) (items left : SeatItems) (seen gone : List (List Entry)) (answer : Result Reply GateError)

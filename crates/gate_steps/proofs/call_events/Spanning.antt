@@ -102,7 +102,7 @@ module _ (c : Config) (op : Op) (x : Numbered) (xs : SeatItems) (e : Traced) (ph
             saw = move.from.goes_on;
             rested = move.from.rested n (times-at (x ∷ xs) 0 x refl);
             idle = idle;
-            list = like.actions ∙ ap (λ (v : View). v.actions) mine;
+            lists = λ k y there. (move.past.reached.views y.number).actions ∙ ap (λ (v : View). v.actions) (move.mine k y there);
           };
           since = [];
           own = refl;

@@ -19,7 +19,8 @@ use Rattle.gate_world.specs.Worlds.{World, found_at, task_of}
 use Rattle.gate_world.specs.declared.entries.Entry.{Entry, TheVariants.{Begins, Steps}}
 use Rattle.gate_world.specs.declared.{config.Config.Config, operations.Op.Op, views.Traced.Traced, work.Phase.Phase}
 use Rattle.gate_steps.specs.Seating.{SeatItems, GoesOn, HasRested}
-use Rattle.gate_steps.specs.call_events.TaskStates.{own_number, own_view}
+use Rattle.gate_steps.specs.declared.seating.Numbered.{Numbered}
+use Rattle.gate_steps.specs.call_events.TaskStates.{own_number}
 
 -- the entries of this number among these
 abbrev pub own_entries : ℕ → List Entry → List Entry
@@ -35,13 +36,13 @@ steps_of n (e ∷ earlier) = steps_of n earlier ++ Steps n e.hook ∷ []
 abbrev pub worlds_since : Config → List Entry → ℕ → Op → List Entry → List World
 worlds_since c began n op since = trail c [] (world_after c (began ++ Begins n op ∷ [])) since
 
--- A schedule goes on from all that a task had seen. The task's own number has no entry behind one of these, is idle, and has done just these
--- actions.
-pub record GoesOnFromSeen (c : Config) (n : ℕ) (actions : List Action) (seen : List (List Entry)) (began : List Entry) : Type 0 where
+-- A schedule goes on from all that a task had seen. The task's own number has no entry behind one of these and is idle, and each of its numbers
+-- has done just what the task knew.
+pub record GoesOnFromSeen (c : Config) (items : SeatItems) (seen : List (List Entry)) (began : List Entry) : Type 0 where
   pub saw : (k : ℕ) (earlier : List Entry) → get_elem? seen k ≡ some earlier → GoesOn earlier began
-  pub rested : HasRested n seen began
-  pub idle : ((world_after c began).views n).phase ≡ None
-  pub list : ((world_after c began).views n).actions ≡ actions
+  pub rested : HasRested (own_number items) seen began
+  pub idle : ((world_after c began).views (own_number items)).phase ≡ None
+  pub lists : (k : ℕ) (x : Numbered) → get_elem? items k ≡ some x → ((world_after c began).views x.number).actions ≡ x.view.actions
 
 -- An event of a call happens right after this schedule: in its world the operation is under way with just the earlier events, and the event
 -- finds there what it says that it found.
@@ -62,7 +63,7 @@ pub record IsEventDuring (c : Config) (items : SeatItems) (op : Op) (earlier : L
   pub within : IsWithin c
   pub task : own_number items < c.tasks
   pub began : List Entry
-  pub begins : GoesOnFromSeen c (own_number items) (own_view items).actions seen began
+  pub begins : GoesOnFromSeen c items seen began
   pub since : List Entry
   pub own : own_entries (own_number items) since ≡ steps_of (own_number items) earlier
   pub entries : List Entry
@@ -95,16 +96,17 @@ pub record IsTreeDuring (c : Config) (items : SeatItems) (op : Op) (seen left : 
 
 -- A whole call takes effect between call and return. It began after a schedule that goes on from all that its task had seen, and returns with
 -- one that goes on from there, in which its task has no other entry than the beginning and the call's events, each once and in their order. The
--- actions of the history that it leaves are, the newest first, those that were added since it began, and then all that stood there when it did;
--- and its own among those added since are exactly the call's.
+-- actions of the history that it leaves are, the newest first, those that were added since it began, and then all that stood there when it did,
+-- among which is all that each of its numbers had done; and its own among those added since are exactly the call's.
 pub record TakesEffect (c : Config) (items : SeatItems) (op : Op) (trace : List Traced) (seen left : List (List Entry))
     (log : List Done) : Type 0 where
   pub began : List Entry
-  pub begins : GoesOnFromSeen c (own_number items) (own_view items).actions seen began
+  pub begins : GoesOnFromSeen c items seen began
   pub since : List Entry
   pub own : own_entries (own_number items) since ≡ Begins (own_number items) op ∷ steps_of (own_number items) trace
   pub leaves : left ≡ (began ++ since) ∷ []
   pub grows : log ≡ actions_since c began since ++ actions_so_far c began
+  pub had : (k : ℕ) (x : Numbered) → get_elem? items k ≡ some x → own_part x.number (actions_so_far c began) ≡ x.view.actions
   pub added : own_part (own_number items) (actions_since c began since) ≡ (course_of c (own_number items) op trace).added
 
 -- A history has, the newest first, what was done during a later call, then what was done between the two, then what was done during an earlier

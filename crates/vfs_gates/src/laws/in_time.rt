@@ -16,6 +16,7 @@ ghost use Rattle.gate_steps.specs.call_events.Grown.{StaySeen};
 ghost use Rattle.gate_steps.specs.call_events.Runs.{Called};
 ghost use Rattle.gate_steps.specs.call_events.Spans.{AreInOrder, HasItsCauseDuring, IsTreeDuring, TakesEffect};
 ghost use Rattle.vfs_gates.specs.Ended.{EndedWith, IsLeftAfter};
+ghost use Rattle.vfs_gates.specs.Handed.{ComesAfter};
 ghost use Rattle.vfs_gates.specs.Parts.{SplitOf};
 ghost use Rattle.vfs_gates.specs.TaskStates.{TaskState, own_number, own_view};
 
@@ -75,4 +76,12 @@ pub fn a_snapshot_is_of_a_freeze_that_stood_during_the_call()
     ensures { (wait : Bool) (old left : TaskState) (reply : Reply) (s : Snapshot) → 1 ≤ length old.items →
         Called (SnapshotOp wait) old left (Ok reply) → (own_view left.items).snapshot ≡ Some s →
         IsTreeDuring old.config old.items (SnapshotOp wait) old.seen left.seen s.loaded }
+{}
+
+/// A call of a task to which another was joined comes after all that the other had done: in the history that the
+/// call leaves, the other's whole list stands before all that was added since the call began.
+pub fn a_call_comes_after_what_was_joined()
+    ensures { (op : Op) (first other joined left : TaskState) (answer : Result Reply GateError) →
+        joined.items ≡ first.items ++ other.items → 1 ≤ length first.items → 1 ≤ length other.items → Called op joined left answer →
+        ComesAfter other joined left }
 {}
