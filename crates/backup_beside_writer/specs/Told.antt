@@ -1,11 +1,25 @@
 -- What the program tells of its run: what the lists of its two tasks have in the end.
-use Rattle.std.specs.Prelude.{ℕ, true, false}
-use Rattle.vfs_gates.specs.Rounds.{Rounds, BothDone, Did, Granted, TaskState, Ended, Ending, Mount, ChangeMount}
+use Rattle.std.specs.Prelude.{◌≡◌, ◌++◌, ℕ, true, false, Ok}
+use Rattle.vfs_gates.specs.Rounds.{Rounds, BothDone, Did, Granted, TaskState, Ended, Ending, Mount, ChangeMount, ComesAfter, Performs}
 use Rattle.backup_beside_writer.specs.declared.told.Told.{Told}
+
+-- a copy: the mount was made read-only and then writable, and neither was refused
+abbrev pub HasCopied : TaskState → TaskState → Type 0
+HasCopied old left = BothDone (ChangeMount 0 true true) (ChangeMount 0 false true) old left
 
 -- so many copies: in each the mount was made read-only and then writable, and neither was refused
 abbrev pub Copies : ℕ → TaskState → TaskState → Type 0
-Copies = Rounds (BothDone (ChangeMount 0 true true) (ChangeMount 0 false true))
+Copies = Rounds HasCopied
+
+-- The backup's task, to which the writer's was joined, has copied: the mount was made read-only and then writable, neither was refused, and in the
+-- history that the first change leaves all that the writer had done comes before it.
+pub record HasEveryWrite (backup writer left : TaskState) : Type 0 where
+  pub joined : TaskState
+  pub joins : joined ≡ record backup { items = backup.items ++ writer.items; seen = backup.seen ++ writer.seen }
+  pub there : TaskState
+  pub closes : Performs (ChangeMount 0 true true) joined there (Ok tt)
+  pub after : ComesAfter writer joined there
+  pub opens : Performs (ChangeMount 0 false true) there left (Ok tt)
 
 -- In the closed gates' world the writer was granted an access for each write that is told, and the backup made all copies told, each from no action.
 pub record IsTold (told : Told) (closed : Ending) : Type 0 where

@@ -1,8 +1,8 @@
 //! Both at once, and the end.
 
-ghost use Rattle.std.specs.Prelude.{◌≡◌, ◌++◌, IfOk};
-ghost use Rattle.vfs_gates.specs.Rounds.{IsFrom, Rests};
-ghost use Rattle.backup_beside_writer.specs.Told.{IsTold};
+ghost use Rattle.std.specs.Prelude.{◌≡◌, ◌≤◌, ◌++◌, length, IfOk, IfErr, OnOk};
+ghost use Rattle.vfs_gates.specs.Rounds.{IsFrom, Rests, Busy};
+ghost use Rattle.backup_beside_writer.specs.Told.{HasEveryWrite, IsTold};
 
 use crate::told::Told;
 use crate::{backup, writer};
@@ -25,11 +25,40 @@ fn join(gates: &Gates, mut first: Task, second: Task) -> Task
     requires rests { Rests first × Rests second }
     ensures from { IsFrom result gates.now }
     ensures numbers { result.items ≡ first.items ++ second.items }
+    ensures joined { result ≡ record first { items = first.items ++ second.items; seen = first.seen ++ second.seen } }
 {
     let Ok(()) = first.join(gates, second) else {
         unreachable!()
     };
     first
+}
+
+/// One copy more, by the backup's task, to which the writer's is handed first: whether it is torn. It has every write that was finished: in the history
+/// that its change to read-only leaves, all that the writer had done comes before it. No clause would say so of a backup that only knows by other
+/// means, as by a flag in memory, that the writer is done. The task given back has the numbers of both, and rests, whatever the copy answers.
+///
+/// # Errors
+///
+/// Busy where a writer is counted at the mount; then there is no copy.
+pub fn copy_at_the_end<R: Wait>(
+    rt: &R,
+    gates: &Gates,
+    backup: Task,
+    writer: Task,
+    file: &AtomicU64,
+) -> (Task, Result<bool, GateError>)
+    requires from { IsFrom backup gates.now × IsFrom writer gates.now }
+    requires rests { Rests backup × Rests writer }
+    // `Task::number` says so of each.
+    requires there { (1 ≤ length backup.items) × (1 ≤ length writer.items) }
+    ensures from { IsFrom result.0 gates.now }
+    ensures rests { Rests result.0 }
+    ensures refused { IfErr result.1 (λ refusal. refusal ≡ Busy) }
+    ensures every_write { OnOk result.1 (HasEveryWrite backup writer result.0) }
+{
+    let mut task = join(gates, backup, writer);
+    let copied = backup::copy_once(rt, gates, &mut task, file);
+    (task, copied)
 }
 
 /// Lets the writer and the backup work at one mount, each in a thread, and closes the gates. Tells what both tasks' lists have in the end.

@@ -1,6 +1,6 @@
 -- Laws for a caller, with the words that its proofs cite them by. Their arguments are found from what its calls ensure.
 pub use Rattle.std.proofs.Common.{ℕ, ◌≤◌, rules}
-use Rattle.std.proofs.Common.{◌≡◌, ◌<◌, Bool, true, false, List, ◌++◌, length, refl, sym, ap, ◌∙◌, subst}
+use Rattle.std.proofs.Common.{◌≡◌, ◌<◌, arith, Bool, true, false, List, [], ◌∷◌, ◌++◌, length, refl, sym, ap, ◌∙◌, subst}
 use Rattle.std.proofs.lemmas.Bool.{and_parts, ltb-true}
 use Rattle.std.specs.Prelude.{None, Result, Ok, nat_lt}
 use Rattle.atomic_table.specs.Seated.{TableId}
@@ -15,7 +15,7 @@ use Rattle.gate_world.specs.declared.entries.Entry.{Entry}
 use Rattle.vfs_gates.specs.Ended.{EndedWith}
 pub use Rattle.vfs_gates.specs.Rounds.{GateError, Mount, Op, ChangeMount, Performs, Rests, TaskState, IsFrom, ComesAfter, Did, Ended, Granted, refused, round}
 use Rattle.vfs_gates.specs.Parts.{SplitOf}
-use Rattle.vfs_gates.specs.TaskStates.{own_number, task_state}
+use Rattle.vfs_gates.specs.TaskStates.{own_number, own_view, task_state, Empty}
 use Rattle.vfs_gates.proofs.Holding.{keeps, rests_on}
 use Rattle.vfs_gates.proofs.Reopening.{Opens, opens}
 use Rattle.vfs_gates.proofs.Resting.{both_end, change_begins, split_done_nothing}
@@ -79,3 +79,13 @@ pub done_after : {op : Op} {other joined left : TaskState} (first : TaskState) �
     1 ≤ length other.items → Performs op joined left (Ok tt) → ComesAfter other joined left
 done_after {op = op} {other = other} {joined = joined} {left = left} first is some_first some_other call =
     let was = was_done op joined left call in comes_after op first other joined left (Ok was.reply) is some_first some_other was.called
+
+own_same : (l m : SeatItems) → 1 ≤ length l → own_view l ≡ own_view (l ++ m)
+own_same [] m there = absurd (omega arith)
+own_same (x ∷ xs) m there = refl
+
+-- And it rests as it did.
+pub joined_rests : {joined : TaskState} (first other : TaskState) → joined ≡ record first { items = first.items ++ other.items; seen = first.seen ++ other.seen } →
+    1 ≤ length first.items → Rests first → Rests joined
+joined_rests first other is there rests =
+    subst Rests (sym is) (rests.0, subst (Empty first.config) (own_same first.items other.items there) rests.1)
