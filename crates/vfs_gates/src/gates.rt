@@ -55,7 +55,8 @@ impl Gates {
         Ok((Gates { words }, Task::first(config, seat, rooms)))
     }
 
-    /// The words as they were at the end, where this task is the only one left: all other numbers are its to give.
+    /// The words as they were at the end, where this task is the only one left: all other numbers are its to give. They are left by a schedule
+    /// that goes on from all that the task has seen, and so from all that was seen by those that were joined to it.
     ///
     /// # Errors
     ///

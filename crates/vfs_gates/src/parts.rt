@@ -16,7 +16,8 @@ impl Task {
     ghost use Rattle.vfs_gates.specs.Parts.{SplitOf, SplitRefused};
     ghost use Rattle.vfs_gates.specs.Held.{Rests};
 
-    /// A task with the lowest number that this one has to give. The new one is idle, holds nothing, and has no number to give.
+    /// A task with the lowest number that this one has to give. The new one is idle, holds nothing, has no number to give, and has seen what
+    /// this one has: what was done before the split lies behind its calls.
     ///
     /// # Errors
     ///
@@ -54,7 +55,7 @@ impl Task {
         })
     }
 
-    /// Takes another task's numbers back, to give them again.
+    /// Takes another task's numbers back, to give them again. This one has seen what either had: what the other did lies behind its next calls.
     ///
     /// # Errors
     ///

@@ -20,7 +20,8 @@ use std::marker::Model;
 
 /// A task: a token that one thread owns at a time. It has a number of its own, with which it acts, and the numbers that it may
 /// still give to others. Contracts see its table, its configuration, the operation that it has begun until its first event, the
-/// phase at which it stands, and its numbers with their views, its own first.
+/// phase at which it stands, its numbers with their views, its own first, and the schedules that it has seen: nothing of these is kept
+/// when it runs. Each call goes on from what its task has seen (`laws::in_time`).
 ///
 /// A task that is dropped takes its numbers with it, so that `Gates::close` is refused as `Order` from then on, and what it has left in
 /// the words stays there for good. At rest that is nothing more, and the gates work on. No refusal tells others of it; they meet:

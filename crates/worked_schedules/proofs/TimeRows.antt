@@ -1,14 +1,20 @@
 -- Worked schedules in the order of time, by computing: what a schedule alone allows, and what one that goes on from all that was seen refuses.
-use Rattle.std.{proofs.Common.{◌≡◌, ◌+◌, ◌*◌, ℕ, zero, suc, true, false, List, [], ◌∷◌, ◌++◌, refl, sym, ap, ◌∙◌, arith}, specs.Prelude.{Ok, Err}}
+use Rattle.std.{proofs.Common.{◌≡◌, ◌+◌, ◌*◌, ◌<◌, ℕ, zero, suc, true, false, List, [], ◌∷◌, ◌++◌, refl, sym, ap, ◌∙◌, arith}, specs.Prelude.{Ok, Err, Option, Some, None, slice_index}}
 use Rattle.std.proofs.lemmas.List.{append_assoc}
 use Rattle.access_model.specs.declared.{actions.Holder.Holder, errors.GateError.GateError}
 use Rattle.gated_tree.specs.declared.trees.TreeWords.{TreeWords}
 use Rattle.gate_world.specs.Causes.{trail_of, since_begun, last_question, WantRefused}
-use Rattle.gate_world.specs.{Moments.IsPresentTree, Worlds.{run, opening, task_of}, declared.operations.Op.Op, declared.views.Traced.Traced}
+use Rattle.cpu_words.specs.Touches.{event_of}
+use Rattle.gated_tree.specs.Trees.{node_at}
+use Rattle.mount_counts.specs.declared.phases.MountPhase.{MountPhase}
+use Rattle.node_words.specs.Nodes.{node_shown}
+use Rattle.gate_world.specs.{Configs.IsWithin, Moments.IsPresentTree, Views.with_hook, Work.next_of, Worlds.{run, opening, found_at, task_of}}
+use Rattle.gate_world.specs.declared.{operations.Op.Op, views.Traced.Traced, work.Phase.Phase}
 use Rattle.gate_world.specs.declared.entries.Entry.{Entry, TheVariants.{Begins}}
 use Rattle.gate_schedules.specs.Answers.{step_answer}
 use Rattle.gate_schedules.specs.declared.steps.Progress.{Progress}
 use Rattle.gate_steps.specs.Seating.{SeatItems, GoesOn}
+use Rattle.gate_steps.specs.call_events.Caused.{IsCausedBy}
 use Rattle.gate_steps.specs.call_events.Spans.{IsEventDuring, IsCausedDuring, IsTreeDuring}
 use Rattle.gate_steps.specs.call_events.TaskStates.{own_number}
 use Rattle.worked_schedules.specs.Schedules.{small, steps}
@@ -39,9 +45,50 @@ refuses = closes ++ (Begins 1 (Op.Want 0 1 true) ∷ steps 4 1)
 refuses_ends : (step_answer small (run small opening refuses) 1 (Ok tt)).progress ≡ Progress.Done (Err GateError.ReadOnly)
 refuses_ends = refl
 
--- the cause is there: of a schedule alone no more is said
+-- the cause is there, and of some schedule alone no more is said
 refuses_cause : WantRefused small 1 0 (last_question 1 (since_begun 1 (trail_of small refuses))) GateError.ReadOnly
 refuses_cause = refl
+
+abbrev phase_in : Option Phase → Phase
+phase_in None = Phase.Mounts (MountPhase.Drop 0 0)
+phase_in (Some phase) = phase
+
+-- where the want stands then, its events so far, and its last one
+abbrev stands : Phase
+stands = phase_in ((run small opening refuses).views 1).phase
+
+abbrev so_far : List Traced
+so_far = ((run small opening refuses).views 1).trace
+
+abbrev last_one : Traced
+last_one = with_hook (event_of (next_of stands (Ok tt)).0 (next_of stands (Ok tt)).1 (found_at (run small opening refuses).words stands (Ok tt))) (Ok tt)
+
+small_within : IsWithin small
+small_within = record {
+  some_task = omega arith;
+  tasks = omega arith;
+  some_processor = omega arith;
+  processors = omega arith;
+  some_mount = omega arith;
+  mounts = omega arith;
+  some_node = omega arith;
+  nodes = omega arith;
+  capacity = omega arith;
+}
+
+refuses_allowed : IsCausedBy small 1 (Op.Want 0 1 true) so_far last_one GateError.ReadOnly
+refuses_allowed = record {
+  within = small_within;
+  task = omega arith;
+  entries = refuses;
+  phase = stands;
+  at = refl;
+  under_way = refl;
+  events = refl;
+  finds = refl;
+  ends = refl;
+  cause = refl;
+}
 
 -- the same mount made writable again
 abbrev reopens : List Entry
@@ -64,11 +111,18 @@ abbrev loaded : TreeWords
 loaded = record { used = 3; nodes = 2 ∷ (1 + 4294967296 * 3) ∷ []; kids = 1 ∷ 0 ∷ [] }
 
 -- everything is frozen then, and that is the tree
-older_stands : (run small opening snapshots).words.stage ≡ 4
-older_stands = refl
+older_nodes : (n : ℕ) → n < 2 → node_shown ((run small opening snapshots).words.node n) ≡ node_at loaded n
+older_nodes zero below = refl
+older_nodes (suc zero) below = refl
+older_nodes (suc (suc n)) below = absurd (omega arith)
 
-older_used : (run small opening snapshots).words.used ≡ 3
-older_used = refl
+older_kids : (n : ℕ) → n < 2 → (run small opening snapshots).words.kids n ≡ slice_index loaded.kids n
+older_kids zero below = refl
+older_kids (suc zero) below = refl
+older_kids (suc (suc n)) below = absurd (omega arith)
+
+older_allowed : IsPresentTree small (run small opening snapshots).words loaded
+older_allowed = record { frozen = refl; whole = refl; used = refl; nodes = older_nodes; kids = older_kids }
 
 -- a thaw of it
 abbrev thawed : List Entry
