@@ -1,7 +1,7 @@
 //! The backup: it reads while the mount is read-only.
 
 ghost use Rattle.std.specs.Prelude.{◌≡◌, ◌+◌, ℕ, IfErr, OnErr, OnOk};
-ghost use Rattle.vfs_gates.specs.Rounds.{TaskState, IsFrom, Rests, Busy};
+ghost use Rattle.vfs_gates.specs.Rounds.{TaskState, IsFrom, Rests, Busy, spare_of};
 ghost use Rattle.backup_beside_writer.specs.Told.{Copies, HasCopied};
 
 use crate::MOUNT;
@@ -21,6 +21,7 @@ pub(crate) fn copy_once<R: Wait>(
     ensures from { IsFrom task.new gates.now }
     ensures rests { Rests task.new }
     ensures refused { IfErr result (λ refusal. refusal ≡ Busy) }
+    ensures others { spare_of task.new.items ≡ spare_of task.old.items }
     ensures made { OnOk result (HasCopied task.old task.new) }
     ensures copied { OnOk result ((n : ℕ) (first : TaskState) → Copies n first task.old → Copies (n + 1) first task.new) }
     ensures copied_nothing { OnErr result ((n : ℕ) (first : TaskState) → Copies n first task.old → Copies n first task.new) }

@@ -1,7 +1,7 @@
 //! Both at once, and the end.
 
 ghost use Rattle.std.specs.Prelude.{◌≡◌, ◌≤◌, ◌++◌, length, IfOk, IfErr, OnOk};
-ghost use Rattle.vfs_gates.specs.Rounds.{IsFrom, Rests, Busy};
+ghost use Rattle.vfs_gates.specs.Rounds.{IsFrom, Rests, Busy, spare_of};
 ghost use Rattle.backup_beside_writer.specs.Told.{HasEveryWrite, IsTold};
 
 use crate::told::Told;
@@ -33,7 +33,7 @@ fn join(gates: &Gates, mut first: Task, second: Task) -> Task
     first
 }
 
-/// One copy more, by the backup's task, to which the writer's is handed first: whether it is torn. It has every write that was finished: in the history
+/// One copy more, by a backup's task, to which the writer's is handed first: whether it is torn. It has every write that was finished: in the history
 /// that its change to read-only leaves, all that the writer had done comes before it. No clause would say so of a backup that only knows by other
 /// means, as by a flag in memory, that the writer is done. The task given back has the numbers of both, and rests, whatever the copy answers.
 ///
@@ -54,6 +54,7 @@ pub fn copy_at_the_end<R: Wait>(
     ensures from { IsFrom result.0 gates.now }
     ensures rests { Rests result.0 }
     ensures refused { IfErr result.1 (λ refusal. refusal ≡ Busy) }
+    ensures others { spare_of result.0.items ≡ spare_of (backup.items ++ writer.items) }
     ensures every_write { OnOk result.1 (HasEveryWrite backup writer result.0) }
 {
     let mut task = join(gates, backup, writer);
@@ -61,16 +62,17 @@ pub fn copy_at_the_end<R: Wait>(
     (task, copied)
 }
 
-/// Lets the writer and the backup work at one mount, each in a thread, and closes the gates. Tells what both tasks' lists have in the end.
+/// Lets the writer and the backup work at one mount, each in a thread; then a third task is handed both of theirs and copies once more; and closes the
+/// gates. Tells what both tasks' lists have in the end.
 ///
 /// # Errors
 ///
-/// NoMemory where there is none for the gates or the second task. Order, where a task is left: none is, but no clause says so.
+/// NoMemory where there is none for the gates or a further task. Order, where a task is left: none is, but no clause says so.
 pub fn run<R: Threads + Wait + Sync>(rt: &R, alloc: Global) -> Result<(Told, Closed), GateError>
     ensures { IfOk result (λ done. IsTold done.0 done.1) }
 {
     let config = Config {
-        tasks: 2,
+        tasks: 3,
         processors: 2,
         mounts: 1,
         nodes: 2,
@@ -78,20 +80,25 @@ pub fn run<R: Threads + Wait + Sync>(rt: &R, alloc: Global) -> Result<(Told, Clo
     };
     let (gates, mut first) = Gates::new(alloc, config)?;
     let second = first.split(alloc, &gates)?;
+    let third = first.split(alloc, &gates)?;
     let file = AtomicU64::new(0);
     let (first, (second, torn)) = thread::join(
         rt,
         || writer::write(rt, &gates, first, &file, WRITES),
         || backup::back_up(rt, &gates, second, &file, COPIES),
     );
+    let (writer, backup, last) = (first.number(), second.number(), third.number());
+    let both = join(&gates, first, second);
+    let (task, copied) = copy_at_the_end(rt, &gates, third, both, &file);
     let told = Told {
-        writer: first.number(),
+        writer,
         writes: WRITES,
-        backup: second.number(),
+        backup,
         copies: COPIES,
         torn,
+        last,
+        last_torn: copied.ok(),
     };
-    let task = join(&gates, first, second);
     let Ok(closed) = gates.close(task) else {
         return Err(GateError::Order);
     };

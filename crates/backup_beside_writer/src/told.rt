@@ -15,6 +15,10 @@ pub struct Told {
     pub copies: u32,
     /// How many of these were torn.
     pub torn: u32,
+    /// The number of the task that copied once more at the end.
+    pub last: u8,
+    /// Whether that copy, which has every write, was torn; None where it was refused.
+    pub last_torn: Option<bool>,
 }
 
 impl fmt::Display for Told {

@@ -104,11 +104,11 @@ module _ (m p : ℕ) (old left : TaskState) (refusal : GateError) (rests : Rests
 
 -- The numbers of two tasks that were joined have in the end the views that the two knew.
 module _ (views : ℕ → View) where
-  first_ends : (l m : SeatItems) → 1 ≤ length l → HaveViews views (l ++ m) → views (own_number l) ≡ own_view l
+  pub first_ends : (l m : SeatItems) → 1 ≤ length l → HaveViews views (l ++ m) → views (own_number l) ≡ own_view l
   first_ends [] m there have = absurd (omega arith)
   first_ends (x ∷ xs) m there have = have 0 x refl
 
-  second_ends : (l m : SeatItems) → 1 ≤ length m → HaveViews views (l ++ m) → views (own_number m) ≡ own_view m
+  pub second_ends : (l m : SeatItems) → 1 ≤ length m → HaveViews views (l ++ m) → views (own_number m) ≡ own_view m
   second_ends [] [] there have = absurd (omega arith)
   second_ends [] (y ∷ ys) there have = have 0 y refl
   second_ends (x ∷ xs) m there have = second_ends xs m there (λ k y e. have (suc k) y e)

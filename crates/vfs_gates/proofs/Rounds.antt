@@ -1,24 +1,25 @@
 -- Laws for a caller, with the words that its proofs cite them by. Their arguments are found from what its calls ensure.
 pub use Rattle.std.proofs.Common.{ℕ, ◌≤◌, rules}
-use Rattle.std.proofs.Common.{◌≡◌, ◌<◌, arith, Bool, true, false, List, [], ◌∷◌, ◌++◌, length, refl, sym, ap, ◌∙◌, subst}
+use Rattle.std.proofs.Common.{◌≡◌, ◌<◌, suc, arith, length-append, Bool, true, false, List, [], ◌∷◌, ◌++◌, length, refl, sym, ap, ◌∙◌, subst}
 use Rattle.std.proofs.lemmas.Bool.{and_parts, ltb-true}
-use Rattle.std.specs.Prelude.{None, Result, Ok, nat_lt}
+use Rattle.std.specs.Prelude.{Option, Some, None, Result, Ok, nat_lt}
 use Rattle.atomic_table.specs.Seated.{TableId}
 use Rattle.access_model.specs.declared.replies.{Reply.Reply}
 use Rattle.gate_world.specs.declared.operations.Op.TheVariants.{Want, DropMount}
 use Rattle.gate_steps.specs.Rules.{first_items, first_known}
-use Rattle.gate_steps.specs.call_events.Runs.{told_as, unit_of}
-use Rattle.gate_steps.specs.Seating.{SeatItems}
+use Rattle.gate_steps.specs.call_events.Runs.{ran_items, told_as, unit_of}
+use Rattle.gate_steps.specs.Seating.{SeatItems, HaveViews, kept_of}
+use Rattle.gate_world.specs.declared.views.{Traced.Traced, View.View}
 use Rattle.gate_world.specs.declared.config.Config.{Config}
-use Rattle.vfs_gates.specs.Held.{IsGivenBack, takes_nothing}
+use Rattle.vfs_gates.specs.Held.{own_actions, IsGivenBack, takes_nothing}
 use Rattle.gate_world.specs.declared.entries.Entry.{Entry}
 use Rattle.vfs_gates.specs.Ended.{EndedWith}
 pub use Rattle.vfs_gates.specs.Rounds.{GateError, Mount, Op, ChangeMount, Performs, Rests, TaskState, IsFrom, ComesAfter, Did, Ended, Granted, refused, round}
 use Rattle.vfs_gates.specs.Parts.{SplitOf}
-use Rattle.vfs_gates.specs.TaskStates.{own_number, own_view, task_state, Empty}
+use Rattle.vfs_gates.specs.TaskStates.{own_number, own_view, refusal_at, spare_of, task_state, Empty}
 use Rattle.vfs_gates.proofs.Holding.{keeps, rests_on}
 use Rattle.vfs_gates.proofs.Reopening.{Opens, opens}
-use Rattle.vfs_gates.proofs.Resting.{both_end, change_begins, split_done_nothing}
+use Rattle.vfs_gates.proofs.Resting.{both_end, first_ends, second_ends, change_begins, split_done_nothing}
 use Rattle.vfs_gates.proofs.Returning.{may, was_done, dropped}
 use Rattle.vfs_gates.proofs.Timing.{comes_after}
 
@@ -89,3 +90,76 @@ pub joined_rests : {joined : TaskState} (first other : TaskState) → joined ≡
     1 ≤ length first.items → Rests first → Rests joined
 joined_rests first other is there rests =
     subst Rests (sym is) (rests.0, subst (Empty first.config) (own_same first.items other.items there) rests.1)
+
+-- And has a number of its own.
+pub joined_there : (first other joined : TaskState) → joined.items ≡ first.items ++ other.items → 1 ≤ length first.items →
+    1 ≤ length joined.items
+joined_there first other joined is there = let more = length-append first.items other.items in omega (arith, ap length is, more, there)
+
+-- A call leaves the numbers that its task has to give as they were.
+ran_spare : (c : Config) (op : Op) (trace : List Traced) (l : SeatItems) → spare_of (ran_items c op trace l) ≡ spare_of l
+ran_spare c op trace [] = refl
+ran_spare c op trace (x ∷ xs) = refl
+
+spare_at : (op : Op) (old left : TaskState) (outcome : Result (Unit {0}) GateError) → Performs op old left outcome →
+    (o : Option GateError) → refusal_at op old ≡ o → spare_of left.items ≡ spare_of old.items
+spare_at op old left outcome call None at =
+    let called = (call.done at).2 in
+    ap (λ (s : TaskState). spare_of s.items) called.after ∙ ran_spare old.config op called.trace old.items
+spare_at op old left outcome call (Some refusal) at = ap (λ (s : TaskState). spare_of s.items) (call.refused refusal at).1
+
+pub spare_stays : {op : Op} {old left : TaskState} {outcome : Result (Unit {0}) GateError} → Performs op old left outcome →
+    spare_of left.items ≡ spare_of old.items
+spare_stays {op = op} {old = old} {left = left} {outcome = outcome} call = spare_at op old left outcome call (refusal_at op old) refl
+
+pub spare_stays_on : {one two : Op} {old there left : TaskState} {answer outcome : Result (Unit {0}) GateError} →
+    Performs one old there answer → Performs two there left outcome → spare_of left.items ≡ spare_of old.items
+spare_stays_on first second = spare_stays second ∙ spare_stays first
+
+-- Of views that a task knows, those of the second of two lists of its numbers.
+have_second : (views : ℕ → View) (l m : SeatItems) → HaveViews views (l ++ m) → HaveViews views m
+have_second views [] m have = have
+have_second views (x ∷ xs) m have = have_second views xs m (λ k. have (suc k))
+
+have_spare : (views : ℕ → View) (items mine others : SeatItems) → spare_of items ≡ spare_of (mine ++ others) → 1 ≤ length mine →
+    HaveViews views items → HaveViews views others
+have_spare views items [] others same there have = absurd (omega arith)
+have_spare views [] (x ∷ xs) others same there have = have_second views xs others (subst (HaveViews views) same have)
+have_spare views (y ∷ ys) (x ∷ xs) others same there have =
+    have_second views xs others (subst (HaveViews views) same (λ k. have (suc k)))
+
+kept_same : (n : ℕ) (l : SeatItems) → own_view (kept_of n l) ≡ own_view l
+kept_same n [] = refl
+kept_same n (x ∷ xs) = refl
+
+-- The same of two tasks that were joined to a third, which was split off behind them, and called then itself.
+pub handed_did : {c : Config} {ws : List ℕ} {items : SeatItems} {seen : List (List Entry)} {one two : ℕ} {opening : Config} {id : TableId}
+    {old f g s t : TaskState} (F S : TaskState → TaskState → Type 0) (first second both : TaskState) →
+    old ≡ task_state id opening None None (first_known opening) → SplitOf old f s → SplitOf f g t → (e : EndedWith c ws items seen) →
+    spare_of items ≡ spare_of (t.items ++ both.items) → both.items ≡ first.items ++ second.items → 1 ≤ length t.items →
+    one ≡ own_number first.items → 1 ≤ length first.items → two ≡ own_number second.items → 1 ≤ length second.items → F g first → S s second →
+    (ended : Ended c ws) × Did (ended.world.views one) F × Did (ended.world.views two) S
+handed_did {items = items} {opening = opening} {id = id} {old = old} {f = f} {g = g} {s = s} {t = t} F S first second both is made more e same
+    joined there own own_there two_own two_there did did_too =
+    let nothing = split_done_nothing opening id old f s is made in
+    let views : ℕ → View = e.ended.world.views in
+    let mine : HaveViews views (first.items ++ second.items) =
+    subst (HaveViews views) joined (have_spare views items t.items both.items same there e.mine) in
+    let none : own_actions g ≡ [] =
+    ap own_actions more.kept ∙ (ap (λ (v : View). v.actions) (kept_same more.number f.items) ∙ nothing.0) in (
+      e.ended,
+      record {
+        begins = g;
+        ends = first;
+        nothing = none;
+        does = did;
+        last = ap views own ∙ first_ends views first.items second.items own_there mine;
+      },
+      record {
+        begins = s;
+        ends = second;
+        nothing = nothing.1;
+        does = did_too;
+        last = ap views two_own ∙ second_ends views first.items second.items two_there mine;
+      },
+    )

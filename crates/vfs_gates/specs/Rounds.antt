@@ -13,7 +13,7 @@ pub use Rattle.gate_steps.specs.call_events.Runs.{Performs}
 pub use Rattle.vfs_gates.specs.Ended.{Ended, Ending}
 pub use Rattle.vfs_gates.specs.Handed.{ComesAfter}
 pub use Rattle.vfs_gates.specs.Held.{Rests, own_actions}
-pub use Rattle.vfs_gates.specs.TaskStates.{TaskState, IsFrom, own_view}
+pub use Rattle.vfs_gates.specs.TaskStates.{TaskState, IsFrom, own_view, spare_of}
 
 -- two calls that were done, one right after the other
 abbrev pub BothDone : Op → Op → TaskState → TaskState → Type 0
