@@ -57,7 +57,7 @@ pub fn run_plan<R: Threads + Wait + Sync, W: Watch + Sync>(
     watch: &W,
 ) -> Result<(Totals, Details, Closed), GateError>
     ensures tells { IfOk result (λ r. TellsRun (W.held watch.now) (W.seen watch.now) plan.tasks plan.processors plan.rounds plan.freezes r.0 r.1 r.2) }
-    ensures refused { IfErr result (RunRefused (run_config plan.tasks plan.processors plan.rounds) plan.tasks plan.processors) }
+    ensures refused { IfErr result (RunRefused (run_config plan.tasks plan.processors plan.rounds) plan.tasks) }
 {
     let (gates, task) = match Gates::new(alloc, plan.config()) {
         Ok(made) => made,
@@ -100,7 +100,7 @@ pub fn run_with<R: Threads + Wait + Sync, M: Meeting + Sync>(
 ) -> Result<(Totals, Closed), GateError>
     ensures within { OnOk result (MayRun tasks processors rounds freezes) }
     ensures invalid { ¬ MayRun tasks processors rounds freezes → result ≡ Err Invalid }
-    ensures refused { MayRun tasks processors rounds freezes → IfErr result (RunRefused (run_config tasks processors rounds) tasks processors) }
+    ensures refused { MayRun tasks processors rounds freezes → IfErr result (RunRefused (run_config tasks processors rounds) tasks) }
     ensures tells { IfOk result (λ r. (details : DetailsType) × TellsRun (M.held meeting.now) unseen tasks processors rounds freezes r.0 details r.1) }
 {
     let plan = Plan::new(tasks, processors, rounds, freezes)?;

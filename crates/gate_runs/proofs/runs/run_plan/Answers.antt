@@ -32,6 +32,9 @@ in_threads-requires-clause-gives g c =
     (gives_all c.in-Ok.made.1 c.config.result some (ap (λ (t : TaskState). t.phase) made.1) (ap (λ (t : TaskState). t.items) made.1)) in
     λ _ _. gives
 
+pub in_threads-requires-clause-planned : goal.in_threads-requires-clause-planned
+in_threads-requires-clause-planned g c = λ _ _. c.in-Ok.ensures.made.0 ∙ c.config.ensures
+
 pub returns-clause-tells : goal.returns-clause-tells
 returns-clause-tells g c =
     let closed = c.close-closed.ensures in
@@ -73,7 +76,7 @@ returns-in-Err-clause-refused g c =
 
 pub returns-in-Err-in_threads-clause-refused : goal.returns-in-Err-in_threads-clause-refused
 returns-in-Err-in_threads-clause-refused g c =
-    subst (λ (d : Config). RunRefused d c.args.plan.tasks c.args.plan.processors c.in-Err-in_threads.refusal)
+    subst (λ (d : Config). RunRefused d c.args.plan.tasks c.in-Err-in_threads.refusal)
     (c.in-Ok.ensures.made.0 ∙ c.config.ensures) c.in-Err-in_threads.ensures.refused
 
 -- all numbers are back

@@ -30,7 +30,7 @@ returns-clause-tells g c =
 pub returns-in_err-totals-clause-refused : goal.returns-in_err-totals-clause-refused
 returns-in_err-totals-clause-refused g c = λ within.
     let p = err_from_is_err_and c.from_residual-in_err-totals.result c.from_residual-in_err-totals.ensures.1 in
-    rw (p.1, p.2) (as_asked (λ tasks processors rounds freezes. RunRefused (run_config tasks processors rounds) tasks processors c.in_err-totals.field-0.0)
+    rw (p.1, p.2) (as_asked (λ tasks processors rounds freezes. RunRefused (run_config tasks processors rounds) tasks c.in_err-totals.field-0.0)
     c.in_ok-plan.plan c.args.tasks c.args.processors c.args.rounds c.args.freezes c.in_ok-plan.ensures.asked c.in_err-totals.ensures.refused)
 
 pub returns-clause-within : goal.returns-clause-within
