@@ -1,5 +1,5 @@
 -- What the calls of a run's tasks answer, and how they leave their tasks: at rest, or with the write access that was granted.
-use Rattle.std.proofs.Common.{◌≡◌, ℕ, zero, suc, ◌+◌, ◌<◌, ◌≤◌, Bool, true, ◌∷◌, List, refl, ap, ◌∙◌, subst, arith, lt-ltb}
+use Rattle.std.proofs.Common.{◌≡◌, ◌≢◌, inl, inr, ℕ, zero, suc, ◌+◌, ◌<◌, ◌≤◌, Bool, true, ◌∷◌, List, refl, ap, ◌∙◌, subst, arith, lt-ltb}
 use Rattle.std.specs.Prelude.{None, Some, Result, Ok, Err, IfErr}
 use Rattle.access_model.specs.Histories.{mounts_of, levels_of}
 use Rattle.access_model.specs.declared.actions.Action.TheVariants.{Grant}
@@ -7,7 +7,7 @@ use Rattle.access_model.specs.declared.actions.Gate.TheVariants.{Mount, Level}
 use Rattle.access_model.specs.declared.actions.Holder.TheVariants.{User}
 use Rattle.access_model.specs.declared.actions.Kind.TheVariants.{File}
 use Rattle.access_model.specs.declared.errors.GateError.{GateError}
-use Rattle.access_model.specs.declared.errors.GateError.TheVariants.{Again, Busy, Hook, Invalid, IsDir, NoEntry, NoSpace, NotDir, ReadOnly}
+use Rattle.access_model.specs.declared.errors.GateError.TheVariants.{Again, Busy, Hook, Invalid, IsDir, NoEntry, NoMemory, NoSpace, NotDir, Order, ReadOnly, TooMany}
 use Rattle.access_model.specs.declared.replies.Reply.{Reply}
 use Rattle.gate_world.specs.Holdings.{Holdings, holdings_of, held_after}
 use Rattle.gate_world.specs.Operations.{some_mount}
@@ -16,7 +16,7 @@ use Rattle.gate_world.specs.declared.config.Config.{Config}
 use Rattle.gate_world.specs.declared.operations.Op.{Op}
 use Rattle.gate_world.specs.declared.operations.Op.TheVariants.{WantWrite, DropWrite, Freeze, Thaw, Create, Grow, Snapshot}
 use Rattle.gate_world.specs.declared.views.Traced.{Traced}
-use Rattle.gate_runs.specs.run_parts.Refusals.{EndsCreate, EndsFreeze, EndsGrow, EndsThaw, HasWriteAccess, MayEnd, MetBy, StandsFor, WasRefused}
+use Rattle.gate_runs.specs.run_parts.Refusals.{EndsCreate, EndsFreeze, EndsGrow, EndsThaw, HasWriteAccess, MayEnd, MetBy, RunRefused, StandsFor, WasRefused}
 use Rattle.gate_runs.specs.run_parts.Rounds.{Does, IsRefused}
 use Rattle.vfs_gates.specs.Held.{Rests, IsAsBefore, own_actions, takes_nothing}
 use Rattle.vfs_gates.specs.Runs.{Called, Performs, Replies, told_as}
@@ -218,3 +218,29 @@ snapshot_ends c trace refusal honest = absurd honest
 
 pub snapshot_refused : (first last : TaskState) (refusal : GateError) → Called (Snapshot true) first last (Err refusal) → refusal ≡ Invalid
 snapshot_refused first last refusal k = snapshot_ends first.config k.trace refusal k.honest
+
+-- No call ends a run as Order, nor as TooMany.
+not_order : (tasks : ℕ) (op : Op) → MayEnd tasks op Order → ⊥
+not_order tasks (WantWrite m p) its = let is : Order ≡ ReadOnly = its.2 in let f : ⊥ = cc in f
+not_order tasks (Create d kind) its = its.2
+not_order tasks (Grow file blocks) its = its.3
+not_order tasks (Freeze holder) its = its.1
+not_order tasks (Snapshot wait) its = let is : Order ≡ Invalid = its.1 in let f : ⊥ = cc in f
+not_order tasks (Thaw holder) its = its.1
+not_order tasks op its = its
+
+not_too_many : (tasks : ℕ) (op : Op) → MayEnd tasks op TooMany → ⊥
+not_too_many tasks (WantWrite m p) its = let is : TooMany ≡ ReadOnly = its.2 in let f : ⊥ = cc in f
+not_too_many tasks (Create d kind) its = its.2
+not_too_many tasks (Grow file blocks) its = its.3
+not_too_many tasks (Freeze holder) its = its.1
+not_too_many tasks (Snapshot wait) its = let is : TooMany ≡ Invalid = its.1 in let f : ⊥ = cc in f
+not_too_many tasks (Thaw holder) its = its.1
+not_too_many tasks op its = its
+
+pub in_order : (config : Config) (tasks : ℕ) (refusal : GateError) → RunRefused config tasks refusal → (refusal ≢ Order) × (refusal ≢ TooMany)
+in_order config tasks refusal (inl memory) = ((λ is. let f : ⊥ = cc in f), (λ is. let f : ⊥ = cc in f))
+in_order config tasks refusal (inr by) = (
+  (λ is. not_order tasks by.op (subst (MayEnd tasks by.op) is by.its)),
+  (λ is. not_too_many tasks by.op (subst (MayEnd tasks by.op) is by.its)),
+)
