@@ -1,2 +1,3 @@
 pub use Rattle.vfs_gates.proofs.Splitting
 pub mod Repeating
+pub mod Answering

@@ -1,7 +1,7 @@
 //! A run: writers, a remounter and a backup, each in a thread of its own.
 
-ghost use Rattle.std.specs.Prelude.{◌≡◌, IfErr, IfOk, OnOk};
-ghost use Rattle.access_model.specs.declared.errors.GateError.TheVariants.{Invalid};
+ghost use Rattle.std.specs.Prelude.{◌≡◌, ◌≢◌, IfErr, IfOk, OnOk};
+ghost use Rattle.access_model.specs.declared.errors.GateError.TheVariants.{Invalid, Order, TooMany};
 ghost use Rattle.gate_runs.specs.run_parts.Ended.{EndedWith, HasAll};
 ghost use Rattle.gate_runs.specs.run_parts.TaskStates.{IsFrom};
 ghost use Rattle.run_plans.specs.declared.counts.Details.{Details as DetailsType};
@@ -47,9 +47,13 @@ fn close(gates: Gates, task: Task) -> Closed
     closed
 }
 
-/// The same as `run_with`, of numbers that are within their limits: makes the gates and their files, does the plan in threads, and closes
-/// the gates. Its backup calls the watch too (`Watch::seen` has what these calls show). Tells beside the totals what the tasks met on their way,
-/// each refusal and callback counted. NoMemory, and any other refusal, as there; no number is at fault.
+/// Runs a plan: makes the gates and their files, does the plan in threads, and closes the gates. Its backup calls the watch too
+/// (`Watch::seen` has what these calls show). Tells beside the totals what the tasks met on their way: each refusal that was
+/// tried again, and each callback that ran, is counted.
+///
+/// # Errors
+///
+/// As `run_with`. A plan's numbers are within their limits, so Invalid comes only from a snapshot or a thaw.
 pub fn run_plan<R: Threads + Wait + Sync, W: Watch + Sync>(
     rt: &R,
     alloc: Global,
@@ -57,7 +61,8 @@ pub fn run_plan<R: Threads + Wait + Sync, W: Watch + Sync>(
     watch: &W,
 ) -> Result<(Totals, Details, Closed), GateError>
     ensures tells { IfOk result (λ r. TellsRun (W.held watch.now) (W.seen watch.now) plan.tasks plan.processors plan.rounds plan.freezes r.0 r.1 r.2) }
-    ensures refused { IfErr result (RunRefused (run_config plan.tasks plan.processors plan.rounds) plan.tasks plan.processors) }
+    ensures refused { IfErr result (RunRefused (run_config plan.tasks plan.processors plan.rounds) plan.tasks) }
+    ensures in_order { IfErr result (λ refusal. (refusal ≢ Order) × (refusal ≢ TooMany)) }
 {
     let (gates, task) = match Gates::new(alloc, plan.config()) {
         Ok(made) => made,
@@ -85,10 +90,20 @@ pub fn run_plan<R: Threads + Wait + Sync, W: Watch + Sync>(
 /// while others were before it, meets, and gives the access back on another processor. That each did just this, and nothing else, is told
 /// of the views that its task has in the end (`Meeting::held` has what the calls of the meeting show).
 ///
-/// Invalid where a number is out of its limits. NoMemory where a growth was refused or a thread couldn't be started: those that were
-/// started have ended then. Any other refusal is the first one that a task met which the run doesn't expect, and ends it too: that of a call
-/// of it (so Invalid, where a snapshot or a thaw found nothing frozen). Each task that has done its part rests, so it is joined, and the gates
-/// are closed, without a refusal.
+/// # Errors
+///
+/// Invalid if a number is out of its limits. NoMemory if a growth was refused or a thread couldn't be started. Any other refusal is that
+/// of the first call that ends the run (`RunRefused`):
+///
+/// - the backup's first write access: ReadOnly;
+/// - the creation of a file: NoEntry, NotDir, NoSpace or Again;
+/// - the growth of a file: NoEntry, IsDir or NoSpace;
+/// - a freeze: Busy, or what a hook answered;
+/// - a snapshot: Invalid, if it found that not all was frozen;
+/// - a thaw: Invalid, if it found that not all was frozen or that its holder holds no freeze, or what a hook answered.
+///
+/// The writers' write access, the changes of the mount and the callbacks end no run. None is refused as Order or as TooMany: each
+/// task makes a call only when it may. All threads that were started have ended when it returns.
 pub fn run_with<R: Threads + Wait + Sync, M: Meeting + Sync>(
     rt: &R,
     alloc: Global,
@@ -100,7 +115,8 @@ pub fn run_with<R: Threads + Wait + Sync, M: Meeting + Sync>(
 ) -> Result<(Totals, Closed), GateError>
     ensures within { OnOk result (MayRun tasks processors rounds freezes) }
     ensures invalid { ¬ MayRun tasks processors rounds freezes → result ≡ Err Invalid }
-    ensures refused { MayRun tasks processors rounds freezes → IfErr result (RunRefused (run_config tasks processors rounds) tasks processors) }
+    ensures refused { MayRun tasks processors rounds freezes → IfErr result (RunRefused (run_config tasks processors rounds) tasks) }
+    ensures in_order { IfErr result (λ refusal. (refusal ≢ Order) × (refusal ≢ TooMany)) }
     ensures tells { IfOk result (λ r. (details : DetailsType) × TellsRun (M.held meeting.now) unseen tasks processors rounds freezes r.0 details r.1) }
 {
     let plan = Plan::new(tasks, processors, rounds, freezes)?;

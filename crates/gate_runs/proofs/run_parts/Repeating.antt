@@ -6,11 +6,8 @@ use Rattle.access_model.specs.declared.errors.GateError.TheVariants.{ReadOnly}
 use Rattle.gate_world.specs.declared.operations.Op.{Op}
 use Rattle.gate_world.specs.declared.operations.Op.TheVariants.{WantWrite, DropWrite}
 use Rattle.vfs_gates.specs.TaskStates.{TaskState}
-use Rattle.vfs_gates.specs.Runs.{Performs, Replies, told_as, unit_of}
-use Rattle.access_model.specs.declared.replies.Reply.{Reply}
+use Rattle.vfs_gates.specs.Runs.{Performs}
 use Rattle.gate_runs.specs.run_parts.Counts.{counted}
-use Rattle.gate_runs.specs.run_parts.Refusals.{IsRunCall, MetBy, WasRefused}
-use Rattle.gate_world.specs.declared.config.Config.{Config}
 use Rattle.gate_runs.specs.run_parts.Rounds.{Closes, CreatesFile, CreatesFiles, Does, IsRefused, Repeats, Retries, Takes, Waits}
 
 -- one round more
@@ -49,36 +46,6 @@ stands_still most n = omega arith
 
 pub counted_more : (n : ℕ) → min (counted n + 1) (2 ^ 64 - 1) ≡ counted (n + 1)
 counted_more n = stands_still (2 ^ 64 - 1) n
-
--- an answer that tells only whether the operation was done
-abbrev unit_told : {A : Type 0} → Result A GateError → Result (Unit {0}) GateError
-unit_told (Ok x) = Ok tt
-unit_told (Err e) = Err e
-
-told_unit : {A : Type 0} (read : Reply → A) (answer : Result Reply GateError) → unit_told (told_as read answer) ≡ told_as unit_of answer
-told_unit read (Ok reply) = refl
-told_unit read (Err e) = refl
-
--- a call that is refused tells so, whatever it reads of replies
-pub refused_so : {A : Type 0} (read : Reply → A) (op : Op) (first last : TaskState) (refusal : GateError) →
-    Replies read op first last (Err refusal) → IsRefused op refusal first last
-refused_so read op first last refusal was = record {
-  table = was.table;
-  config = was.config;
-  refused = λ other at. let told = was.refused other at in (ap unit_told told.0, told.1);
-  done = λ admitted. let told = was.done admitted in (told.0, ap unit_told told.1 ∙ told_unit read told.0, told.2);
-}
-
--- a call that a run makes, by a task of its gates, was refused so
-pub meets : (config : Config) (tasks processors : ℕ) (op : Op) (refusal : GateError) (first last : TaskState) → IsRunCall tasks processors op →
-    first.config ≡ config → IsRefused op refusal first last → MetBy config tasks processors refusal
-meets config tasks processors op refusal first last its of refused =
-    record { op = op; its = its; was = record { first = first; last = last; of = of; refused = refused } }
-
--- the same where that is known
-pub met : (config : Config) (tasks processors : ℕ) (op : Op) (refusal : GateError) → IsRunCall tasks processors op → WasRefused config op refusal →
-    MetBy config tasks processors refusal
-met config tasks processors op refusal its was = record { op = op; its = its; was = was }
 
 -- a mount is busy once at most
 pub busy_once : (busy : ℕ) (first last : TaskState) → Closes busy first last → busy ≤ 1

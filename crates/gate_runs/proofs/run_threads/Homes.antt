@@ -35,40 +35,14 @@ pub came_home : (held : ℕ → ℕ → Type 0) (gates : Gates) (plan : Plan) (n
     ComesHome held gates plan number last met → TookBack old last new →
     IfOk met (Part (Among new.items) held plan.processors plan.rounds number)
 came_home held gates plan number last old new (Ok m) home took =
-    part_of held plan.processors plan.rounds number home.1.0 last old new m home.1.1 home.1.2 took
+    part_of held plan.processors plan.rounds number home.2.0 last old new m home.2.1 home.2.2 took
 came_home held gates plan number last old new (Err e) home took = tt
 
 -- why it was refused
 pub home_refused : (held : ℕ → ℕ → Type 0) (gates : Gates) (plan : Plan) (number : ℕ) (last : TaskState) (met : Result Met GateError) →
-    ComesHome held gates plan number last met → IfErr met (RunRefused gates.words.config plan.tasks plan.processors)
+    ComesHome held gates plan number last met → IfErr met (RunRefused gates.words.config plan.tasks)
 home_refused held gates plan number last (Ok m) home = tt
-home_refused held gates plan number last (Err e) home = inr home.2
-
--- it rests, unless it was refused: so where it isn't taken back, it was
-pub home_rests : (held : ℕ → ℕ → Type 0) (gates : Gates) (plan : Plan) (number : ℕ) (last : TaskState) (met : Result Met GateError) →
-    ComesHome held gates plan number last met → OnOk met (Rests last)
-home_rests held gates plan number last (Ok m) home = home.1.3
-home_rests held gates plan number last (Err e) home = tt
-
-pub not_taken_back : (config : Config) (tasks processors : ℕ) (refusal : GateError) (other : TaskState) (met : Result Met GateError) →
-    OnOk met (Rests other) → (Rests other → ⊥) → IfErr met (RunRefused config tasks processors) →
-    IfErr {T = Met} (result_and met (Err refusal)) (RunRefused config tasks processors)
-not_taken_back config tasks processors refusal other (Ok m) rests held home = absurd (held rests)
-not_taken_back config tasks processors refusal other (Err e) rests held home = home
-
--- then it told nothing of what it met
-pub is_not_done : (P : Type 0) (met : Result Met GateError) (refusal : GateError) → OnOk {T = Met} (result_and met (Err refusal)) P
-is_not_done P (Ok m) refusal = tt
-is_not_done P (Err e) refusal = tt
-
-pub was_not_done : (met : Result Met GateError) (refusal : GateError) (P : Met → Type 0) → IfOk {T = Met} (result_and met (Err refusal)) P
-was_not_done (Ok m) refusal P = tt
-was_not_done (Err e) refusal P = tt
-
--- what is known is known where it is done
-pub knows : {P : Type 0} (met : Result Met GateError) → P → OnOk met P
-knows (Ok m) p = p
-knows (Err e) p = tt
+home_refused held gates plan number last (Err e) home = inr home.3
 
 -- what was met by those that were joined, while so many are left: the first of all is the remounter
 pub record Joined (Ends : TaskState → Type 0) (held : ℕ → ℕ → Type 0) (processors rounds left count : ℕ) (remounts : Remounts) (writes : Writes) :

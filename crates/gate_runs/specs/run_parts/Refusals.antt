@@ -1,41 +1,87 @@
 -- Why a run is refused whose numbers are within their limits.
-use Rattle.std.specs.Prelude.{◌≡◌, ℕ, ◌+◌, ◌<◌, ◌≤◌, ◌⊎◌, true}
+use Rattle.std.specs.Prelude.{◌≡◌, ℕ, ◌+◌, ◌<◌, ◌≤◌, ◌⊎◌, None, Err, true}
 use Rattle.access_model.specs.declared.actions.Holder.TheVariants.{User}
 use Rattle.access_model.specs.declared.actions.Kind.TheVariants.{File}
 use Rattle.access_model.specs.declared.errors.GateError.{GateError}
-use Rattle.access_model.specs.declared.errors.GateError.TheVariants.{NoMemory}
+use Rattle.access_model.specs.declared.errors.GateError.TheVariants.{Again, Busy, Hook, Invalid, IsDir, NoEntry, NoMemory, NoSpace, NotDir, ReadOnly}
 use Rattle.gate_world.specs.declared.config.Config.{Config}
 use Rattle.gate_world.specs.declared.operations.Op.{Op}
-use Rattle.gate_world.specs.declared.operations.Op.TheVariants.{ChangeMount, WantWrite, DropWrite, Callback, Freeze, Thaw, Create, Grow, Snapshot}
-use Rattle.vfs_gates.specs.TaskStates.{TaskState}
-use Rattle.gate_runs.specs.run_parts.Rounds.{IsRefused}
+use Rattle.gate_world.specs.declared.operations.Op.TheVariants.{WantWrite, Freeze, Thaw, Create, Grow, Snapshot}
+use Rattle.vfs_gates.specs.Held.{Rests, IsAsBefore}
+use Rattle.vfs_gates.specs.Runs.{Called}
+use Rattle.vfs_gates.specs.TaskStates.{TaskState, refusal_at}
+use Rattle.gate_runs.specs.run_parts.Rounds.{Does}
 
--- the calls of a run's tasks: at its one mount on a processor that there is, at the root and the writers' files, at the levels, as its user
-abbrev pub IsRunCall : ℕ → ℕ → Op → Type 0
-IsRunCall tasks processors (WantWrite mount cpu) = (mount ≡ 0) × (cpu < processors)
-IsRunCall tasks processors (DropWrite mount cpu) = (mount ≡ 0) × (cpu < processors)
-IsRunCall tasks processors (Create dir kind) = (dir ≡ 0) × (kind ≡ File)
-IsRunCall tasks processors (Grow file blocks) = (1 ≤ file) × (file + 1 < tasks) × (blocks ≡ 1)
-IsRunCall tasks processors (ChangeMount mount read_only wait) = (mount ≡ 0) × (wait ≡ true)
-IsRunCall tasks processors (Freeze holder) = holder ≡ User
-IsRunCall tasks processors (Thaw holder) = holder ≡ User
-IsRunCall tasks processors (Snapshot wait) = wait ≡ true
-IsRunCall tasks processors (Callback level) = (1 ≤ level) × (level ≤ 3)
-IsRunCall tasks processors op = ⊥
+-- A task that was granted write access when it rested, and holds since then just what the grant left it.
+pub record HasWriteAccess (s : TaskState) : Type 0 where
+  pub cpu : ℕ
+  pub before : TaskState
+  pub granted : TaskState
+  pub rests : Rests before
+  pub took : Does (WantWrite 0 cpu) before granted
+  pub since : IsAsBefore granted s
 
--- a call of this operation, by a task of gates with this configuration, was refused so
+-- how a run's task stands when it makes a call: inside its write access where it changes the tree, and else at rest
+abbrev pub StandsFor : Op → TaskState → Type 0
+StandsFor (Create dir kind) s = HasWriteAccess s
+StandsFor (Grow file blocks) s = HasWriteAccess s
+StandsFor op s = Rests s
+
+-- the refusals that end the creation of a file
+abbrev pub EndsCreate : GateError → Type 0
+EndsCreate NoEntry = Unit {0}
+EndsCreate NotDir = Unit {0}
+EndsCreate NoSpace = Unit {0}
+EndsCreate Again = Unit {0}
+EndsCreate refusal = ⊥
+
+-- the refusals that end the growth of a file: after Again it is tried again
+abbrev pub EndsGrow : GateError → Type 0
+EndsGrow NoEntry = Unit {0}
+EndsGrow IsDir = Unit {0}
+EndsGrow NoSpace = Unit {0}
+EndsGrow refusal = ⊥
+
+-- the refusals that end a freeze
+abbrev pub EndsFreeze : GateError → Type 0
+EndsFreeze Busy = Unit {0}
+EndsFreeze (Hook code) = Unit {0}
+EndsFreeze refusal = ⊥
+
+-- the refusals that end a thaw
+abbrev pub EndsThaw : GateError → Type 0
+EndsThaw Invalid = Unit {0}
+EndsThaw (Hook code) = Unit {0}
+EndsThaw refusal = ⊥
+
+-- The calls of a run whose refusal ends it, and with which refusals: the backup's taking of write access for the files that it creates, and each
+-- creation; the growth of a writer's file; and the backup's freeze, snapshot and thaw. No other call of a run ends it, and none as Order or as
+-- TooMany. Invalid says here that the file system was not frozen.
+abbrev pub MayEnd : ℕ → Op → GateError → Type 0
+MayEnd tasks (WantWrite mount cpu) refusal = (mount ≡ 0) × (cpu ≡ 0) × (refusal ≡ ReadOnly)
+MayEnd tasks (Create dir kind) refusal = (dir ≡ 0) × (kind ≡ File) × EndsCreate refusal
+MayEnd tasks (Grow file blocks) refusal = (1 ≤ file) × (file + 1 < tasks) × (blocks ≡ 1) × EndsGrow refusal
+MayEnd tasks (Freeze holder) refusal = (holder ≡ User) × EndsFreeze refusal
+MayEnd tasks (Snapshot wait) refusal = (wait ≡ true) × (refusal ≡ Invalid)
+MayEnd tasks (Thaw holder) refusal = (holder ≡ User) × EndsThaw refusal
+MayEnd tasks op refusal = ⊥
+
+-- A task of gates with this configuration, which stood as a run's task does, might begin this operation, and the whole operation was refused so: its
+-- cause is in its trace.
 pub record WasRefused (config : Config) (op : Op) (refusal : GateError) : Type 0 where
   pub first : TaskState
   pub last : TaskState
   pub of : first.config ≡ config
-  pub refused : IsRefused op refusal first last
+  pub stands : StandsFor op first
+  pub began : refusal_at op first ≡ None
+  pub refused : Called op first last (Err refusal)
 
 -- one of a run's calls was
-pub record MetBy (config : Config) (tasks processors : ℕ) (refusal : GateError) : Type 0 where
+pub record MetBy (config : Config) (tasks : ℕ) (refusal : GateError) : Type 0 where
   pub op : Op
-  pub its : IsRunCall tasks processors op
+  pub its : MayEnd tasks op refusal
   pub was : WasRefused config op refusal
 
 -- memory or a thread was refused; or a call of a task was refused so
-abbrev pub RunRefused : Config → ℕ → ℕ → GateError → Type 0
-RunRefused config tasks processors refusal = (refusal ≡ NoMemory) ⊎ MetBy config tasks processors refusal
+abbrev pub RunRefused : Config → ℕ → GateError → Type 0
+RunRefused config tasks refusal = (refusal ≡ NoMemory) ⊎ MetBy config tasks refusal

@@ -21,12 +21,11 @@ DoesRounds held processors rounds number first last (Remounter met) =
 DoesRounds held processors rounds number first last (Writer met) = (writer : ℕ) × (number ≡ writer + 2)
     × Repeats (WriterRound (was_held held) processors writer) rounds (first, tt, no_writes) (last, tt, met)
 
--- it comes back to these gates, and has done all its rounds since it began, and rests, unless a call of it was refused so
+-- it comes back to these gates, at rest, and has done all its rounds since it began, unless a call of it was refused so
 abbrev pub ComesHome : (ℕ → ℕ → Type 0) → Gates → Plan → ℕ → TaskState → Result Met GateError → Type 0
-ComesHome held gates plan number last met = IsFrom last gates
-    × IfOk met (λ m. (first : TaskState) × HasBegun number first × DoesRounds held plan.processors plan.rounds number first last m
-    × Rests last)
-    × IfErr met (MetBy gates.words.config plan.tasks plan.processors)
+ComesHome held gates plan number last met = IsFrom last gates × Rests last
+    × IfOk met (λ m. (first : TaskState) × HasBegun number first × DoesRounds held plan.processors plan.rounds number first last m)
+    × IfErr met (MetBy gates.words.config plan.tasks)
 
 -- what it has done of a run, and met, and how it stands at the end
 abbrev pub Part : (TaskState → Type 0) → (ℕ → ℕ → Type 0) → ℕ → ℕ → ℕ → Met → Type 0

@@ -1,13 +1,15 @@
 //! What each task of a run does.
 
 ghost use Rattle.std.specs.Prelude.{◌≡◌, ◌+◌, ◌-◌, ◌<◌, ◌≤◌, ℕ, IfErr, IfOk, OnOk, Some, length, true};
-ghost use Rattle.access_model.specs.declared.errors.GateError.TheVariants.{Again, ReadOnly};
+ghost use Rattle.access_model.specs.declared.errors.GateError.TheVariants.{Again, Invalid, ReadOnly};
 ghost use Rattle.gated_tree.specs.Trees.{LoadedClean, LoadedSound};
 ghost use Rattle.gate_runs.specs.run_parts.Counts.{blocks_of, counted, no_copies, no_remounts, no_writes, with_waits};
-ghost use Rattle.gate_runs.specs.run_parts.Refusals.{MetBy, WasRefused};
+ghost use Rattle.gate_runs.specs.run_parts.Refusals.{EndsGrow, HasWriteAccess, MetBy, WasRefused};
 ghost use Rattle.gate_runs.specs.run_parts.Rounds.{BackupRound, CallsBack, Closes, CreatesFiles, Does, RemountRound, Repeats, Retries, Takes, WriterRound};
-ghost use Rattle.gate_world.specs.declared.operations.Op.TheVariants.{ChangeMount, WantWrite, Grow, Snapshot as SnapshotOp};
+ghost use Rattle.gate_world.specs.declared.operations.Op.TheVariants.{Grow, Snapshot as SnapshotOp};
 ghost use Rattle.gate_world.specs.declared.views.Snapshot.{Snapshot};
+ghost use Rattle.run_plans.specs.Plans.{run_config};
+ghost use Rattle.vfs_gates.specs.Held.{Rests};
 ghost use Rattle.vfs_gates.specs.TaskStates.{IsFrom, own_number, own_view};
 
 use crate::run_parts::meetings::NotedWatch;
@@ -27,10 +29,12 @@ pub fn create_files<R: Wait>(
     plan: Plan,
     task: &mut Task,
 ) -> Result<(), GateError>
-    requires { IsFrom task.old gates.now }
+    requires from { IsFrom task.old gates.now }
+    requires rests { Rests task.old }
     ensures from { IsFrom task.new gates.now }
+    ensures rests { OnOk result (Rests task.new) }
     ensures created { OnOk result (CreatesFiles (plan.tasks - 2) task.old task.new) }
-    ensures refused { IfErr result (MetBy gates.now.words.config plan.tasks plan.processors) }
+    ensures refused { IfErr result (MetBy gates.now.words.config plan.tasks) }
 {
     task.want_write(rt, gates, MOUNT, 0)?;
     for _writer in 0..plan.writers() {
@@ -55,10 +59,13 @@ fn want_write<R: Wait>(
     cpu: u8,
     so_far: u64,
 ) -> Result<(u64, u64), GateError>
-    requires { IsFrom task.old gates.now }
+    requires from { IsFrom task.old gates.now }
+    requires rests { Rests task.old }
+    requires processor { cpu < gates.now.words.config.processors }
     ensures from { IsFrom task.new gates.now }
+    ensures inside { HasWriteAccess task.new }
     ensures took { IfOk result (λ met. (took : Takes cpu (task.old, so_far) (task.new, met.1)) × (met.0 ≡ counted took.0)) }
-    ensures refused { IfErr result (WasRefused gates.now.words.config (WantWrite 0 cpu)) }
+    ensures granted { IfErr result (λ refusal. ⊥) }
 {
     let backoff = Backoff::new();
     let mut denied = 0u64;
@@ -78,10 +85,13 @@ fn want_write<R: Wait>(
 
 /// Makes a file larger by one block, again while others were before it, and tells how often they were.
 fn grow<R: Wait>(rt: &R, gates: &Gates, task: &mut Task, file: u8) -> Result<u64, GateError>
-    requires { IsFrom task.old gates.now }
+    requires from { IsFrom task.old gates.now }
+    requires inside { HasWriteAccess task.old }
+    requires file { file < gates.now.words.config.nodes }
     ensures from { IsFrom task.new gates.now }
+    ensures inside { HasWriteAccess task.new }
     ensures grew { IfOk result (λ raced. (grew : Retries (Grow file 1) Again task.old task.new) × (raced ≡ counted grew.0)) }
-    ensures refused { IfErr result (WasRefused gates.now.words.config (Grow file 1)) }
+    ensures refused { IfErr result (λ refusal. EndsGrow refusal × WasRefused gates.now.words.config (Grow file 1) refusal) }
 {
     let mut raced = 0u64;
     for _ in rt.forever() {
@@ -105,11 +115,14 @@ pub fn write<R: Wait, W: NotedWatch>(
     notes: &mut W::Notes,
 ) -> Result<Writes, GateError>
     requires from { IsFrom task.old gates.now }
+    requires planned { gates.now.words.config ≡ run_config plan.tasks plan.processors plan.rounds }
     requires writer { writer + 2 < plan.tasks }
+    requires rests { Rests task.old }
     ensures from { IsFrom task.new gates.now }
+    ensures rests { Rests task.new }
     ensures rounds { IfOk result (λ writes. Repeats (WriterRound (W.meets watch.now) plan.processors writer) plan.rounds
         (task.old, notes.old, no_writes) (task.new, notes.new, writes)) }
-    ensures refused { IfErr result (MetBy gates.now.words.config plan.tasks plan.processors) }
+    ensures refused { IfErr result (MetBy gates.now.words.config plan.tasks) }
 {
     let mut writes = Writes::none();
     for round in 0..plan.rounds() {
@@ -125,10 +138,12 @@ pub fn write<R: Wait, W: NotedWatch>(
 
 /// Makes the mount read-only, unless it is busy, and tells how often it was: never, or once.
 fn close_mount<R: Wait>(rt: &R, gates: &Gates, task: &mut Task) -> Result<u32, GateError>
-    requires { IsFrom task.old gates.now }
+    requires from { IsFrom task.old gates.now }
+    requires rests { Rests task.old }
     ensures from { IsFrom task.new gates.now }
+    ensures rests { Rests task.new }
     ensures closed { IfOk result (λ busy. Closes busy task.old task.new) }
-    ensures refused { IfErr result (WasRefused gates.now.words.config (ChangeMount 0 true true)) }
+    ensures answered { IfErr result (λ refusal. ⊥) }
 {
     match task.change_mount(rt, gates, MOUNT, true) {
         Ok(()) => Ok(0),
@@ -144,10 +159,12 @@ pub fn remount<R: Wait>(
     plan: Plan,
     task: &mut Task,
 ) -> Result<Remounts, GateError>
-    requires { IsFrom task.old gates.now }
+    requires from { IsFrom task.old gates.now }
+    requires rests { Rests task.old }
     ensures from { IsFrom task.new gates.now }
+    ensures rests { Rests task.new }
     ensures rounds { IfOk result (λ met. Repeats RemountRound plan.rounds (task.old, no_remounts) (task.new, met)) }
-    ensures refused { IfErr result (MetBy gates.now.words.config plan.tasks plan.processors) }
+    ensures answered { IfErr result (λ refusal. ⊥) }
 {
     let mut met = Remounts::none();
     for _round in 0..plan.rounds() {
@@ -178,11 +195,13 @@ fn whole_blocks(task: &Task) -> Option<u64>
 
 /// Takes a snapshot, and tells its blocks, where it is sound and clean.
 fn take_snapshot<R: Wait>(rt: &R, gates: &Gates, task: &mut Task) -> Result<Option<u64>, GateError>
-    requires { IsFrom task.old gates.now }
+    requires from { IsFrom task.old gates.now }
+    requires rests { Rests task.old }
     ensures from { IsFrom task.new gates.now }
+    ensures rests { Rests task.new }
     ensures whole { IfOk result (λ blocks. blocks ≡ Some (blocks_of task.new)) }
     ensures took { OnOk result (Does (SnapshotOp true) task.old task.new) }
-    ensures refused { IfErr result (WasRefused gates.now.words.config (SnapshotOp true)) }
+    ensures refused { IfErr result (λ refusal. (refusal ≡ Invalid) × WasRefused gates.now.words.config (SnapshotOp true) refusal) }
 {
     task.snapshot(rt, gates)?;
     Ok(whole_blocks(task))
@@ -195,11 +214,13 @@ fn call_back<R: Wait>(
     task: &mut Task,
     so_far: u64,
 ) -> Result<(u32, u64), GateError>
-    requires { IsFrom task.old gates.now }
+    requires from { IsFrom task.old gates.now }
+    requires rests { Rests task.old }
     ensures from { IsFrom task.new gates.now }
+    ensures rests { Rests task.new }
     ensures few { IfOk result (λ met. met.0 ≤ 3) }
     ensures ran { IfOk result (λ met. Repeats (λ k. CallsBack (k + 1)) 3 (task.old, 0, so_far) (task.new, met.0, met.1)) }
-    ensures refused { (tasks processors : ℕ) → IfErr result (MetBy gates.now.words.config tasks processors) }
+    ensures answered { IfErr result (λ refusal. ⊥) }
 {
     let mut ran = 0;
     let mut waits = so_far;
@@ -220,12 +241,14 @@ pub fn back_up<R: Wait, W: NotedWatch>(
     task: &mut Task,
     notes: &mut W::Notes,
 ) -> Result<Copies, GateError>
-    requires { IsFrom task.old gates.now }
+    requires from { IsFrom task.old gates.now }
+    requires rests { Rests task.old }
     ensures from { IsFrom task.new gates.now }
+    ensures rests { Rests task.new }
     ensures all { IfOk result (λ copies. (copies.frozen ≡ plan.freezes) × (copies.snapshots ≡ plan.freezes)) }
     ensures rounds { IfOk result (λ copies. Repeats (BackupRound (W.sees watch.now)) plan.freezes
         (task.old, notes.old, no_copies) (task.new, notes.new, copies)) }
-    ensures refused { IfErr result (MetBy gates.now.words.config plan.tasks plan.processors) }
+    ensures refused { IfErr result (MetBy gates.now.words.config plan.tasks) }
 {
     let mut copies = Copies::none();
     for freeze in 0..plan.freezes() {

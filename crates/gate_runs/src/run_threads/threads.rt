@@ -8,6 +8,7 @@ ghost use Rattle.gate_runs.specs.run_parts.Meetings.{was_held};
 ghost use Rattle.gate_runs.specs.run_parts.Refusals.{MetBy, RunRefused};
 ghost use Rattle.gate_runs.specs.run_parts.Splitting.{Gives, HasBegun};
 ghost use Rattle.gate_runs.specs.run_parts.TaskStates.{IsFrom, TaskState, own_view};
+ghost use Rattle.run_plans.specs.Plans.{run_config};
 ghost use Rattle.vfs_gates.specs.Held.{Rests};
 
 use crate::run_parts::{Gates, Task, back_up, create_files, remount, write};
@@ -35,8 +36,8 @@ struct Worked {
     met: Result<Met, GateError>,
 }
 
-/// The promise of a thread: its task comes back to these gates, and has done all its rounds since it began, in which it met what it tells, and rests,
-/// unless a call of it was refused so.
+/// The promise of a thread: its task comes back to these gates, at rest, and has done all its rounds since it began, in which it met what it
+/// tells, unless a call of it was refused so.
 struct Home<'g, W> {
     gates: &'g Gates,
     plan: Plan,
@@ -72,11 +73,13 @@ fn work<R: Wait, W: Watch>(
     task: &mut Task,
 ) -> Result<Met, GateError>
     requires from { IsFrom task.old gates.now }
+    requires planned { gates.now.words.config ≡ run_config plan.tasks plan.processors plan.rounds }
     requires number { (1 ≤ number) × (number < plan.tasks) }
     requires rests { Rests task.old }
     ensures from { IsFrom task.new gates.now }
-    ensures does { IfOk result (λ m. DoesRounds (W.held watch.now) plan.processors plan.rounds number task.old task.new m × Rests task.new) }
-    ensures refused { IfErr result (MetBy gates.now.words.config plan.tasks plan.processors) }
+    ensures rests { Rests task.new }
+    ensures does { IfOk result (λ m. DoesRounds (W.held watch.now) plan.processors plan.rounds number task.old task.new m) }
+    ensures refused { IfErr result (MetBy gates.now.words.config plan.tasks) }
 {
     if number == REMOUNTER {
         return Ok(Met::Remounter(remount(rt, gates, plan, task)?));
@@ -98,6 +101,7 @@ fn start_worker<'s, E, R: Wait + Sync, W: Watch + Sync>(
     task: &mut Task,
 ) -> Result<Worker<'s, W>, GateError>
     requires from { IsFrom task.old gates.now }
+    requires planned { gates.now.words.config ≡ run_config plan.tasks plan.processors plan.rounds }
     requires gives { Gives task.old number plan.tasks }
     requires number { (1 ≤ number) × (number < plan.tasks) }
     requires rests { Rests task.old }
@@ -120,6 +124,7 @@ fn start_worker<'s, E, R: Wait + Sync, W: Watch + Sync>(
     };
     let run = move || -> Worked
         requires from { IsFrom other gates.now }
+        requires planned { gates.now.words.config ≡ run_config plan.tasks plan.processors plan.rounds }
         requires begun { HasBegun number other }
         requires number { (1 ≤ number) × (number < plan.tasks) }
         requires rests { Rests other }
@@ -147,6 +152,7 @@ fn start_workers<'s, E, R: Wait + Sync, W: Watch + Sync>(
     workers: &mut Vec<Worker<'s, W>>,
 ) -> Result<(), GateError>
     requires from { IsFrom task.old gates.now }
+    requires planned { gates.now.words.config ≡ run_config plan.tasks plan.processors plan.rounds }
     requires gives { Gives task.old 1 plan.tasks }
     requires none { workers.old.items ≡ [] }
     requires rests { Rests task.old }
@@ -171,7 +177,7 @@ fn start_workers<'s, E, R: Wait + Sync, W: Watch + Sync>(
     Ok(())
 }
 
-/// Joins a thread, and takes its task's number back: both tasks rest, unless a call of it was refused. Tells what it met, or why it was refused.
+/// Joins a thread, and takes its task's number back: both tasks rest, so this isn't refused. Tells what it met, or why a call of it was refused.
 fn join_worker<R: Threads, W: Watch>(
     rt: &R,
     gates: &Gates,
@@ -183,17 +189,17 @@ fn join_worker<R: Threads, W: Watch>(
     requires rests { Rests task.old }
     requires there { 1 ≤ length task.old.items }
     ensures from { IsFrom task.new gates.now }
-    ensures rests { OnOk result (Rests task.new × (1 ≤ length task.new.items)) }
-    ensures others { OnOk result ((s : TaskState) → Among task.old.items s → Among task.new.items s) }
+    ensures rests { Rests task.new × (1 ≤ length task.new.items) }
+    ensures others { (s : TaskState) → Among task.old.items s → Among task.new.items s }
     ensures part { IfOk result (Part (Among task.new.items) (W.held worker.entry.promise.watch.now)
         worker.entry.promise.plan.processors worker.entry.promise.plan.rounds worker.entry.promise.number) }
-    ensures refused { IfErr result (RunRefused gates.now.words.config worker.entry.promise.plan.tasks worker.entry.promise.plan.processors) }
+    ensures refused { IfErr result (RunRefused gates.now.words.config worker.entry.promise.plan.tasks) }
 {
     let Worked { task: other, met } = worker.join(rt);
-    match task.join(gates, other) {
-        Ok(()) => met,
-        Err((refusal, _)) => met.and(Err(refusal)),
-    }
+    let Ok(()) = task.join(gates, other) else {
+        unreachable!()
+    };
+    met
 }
 
 /// The same of all threads, of this plan and watch, and what the remounter met, and the writers together. The first refusal that is met ends it.
@@ -213,12 +219,12 @@ fn join_workers<R: Threads, W: Watch>(
     requires rests { Rests task.old }
     requires there { 1 ≤ length task.old.items }
     ensures from { IsFrom task.new gates.now }
-    ensures rests { OnOk result (Rests task.new) }
-    ensures others { OnOk result ((s : TaskState) → Among task.old.items s → Among task.new.items s) }
+    ensures rests { Rests task.new }
+    ensures others { (s : TaskState) → Among task.old.items s → Among task.new.items s }
     ensures remounted { IfOk result (λ met. Remounted (Among task.new.items) _plan.rounds met.0) }
     ensures wrote { IfOk result (λ met. AllWrote (Among task.new.items) (was_held (W.held _watch.now)) _plan.processors _plan.rounds
         0 (vec_len workers.old - 1) tt tt met.1) }
-    ensures refused { IfErr result (RunRefused gates.now.words.config _plan.tasks _plan.processors) }
+    ensures refused { IfErr result (RunRefused gates.now.words.config _plan.tasks) }
 {
     let mut remounts = Remounts::none();
     let mut writes = Writes::none();
@@ -243,6 +249,7 @@ fn run_threads<'s, E, R: Threads + Wait + Sync, W: Watch + Sync>(
     workers: &mut Vec<Worker<'s, W>>,
 ) -> Result<Details, GateError>
     requires from { IsFrom task.old gates.now }
+    requires planned { gates.now.words.config ≡ run_config plan.tasks plan.processors plan.rounds }
     requires begins { HasBegun 0 task.old }
     requires gives { Gives task.old 1 plan.tasks }
     requires none { workers.old.items ≡ [] }
@@ -251,7 +258,7 @@ fn run_threads<'s, E, R: Threads + Wait + Sync, W: Watch + Sync>(
     ensures copies { IfOk result (λ d. (d.copies.frozen ≡ plan.freezes) × (d.copies.snapshots ≡ plan.freezes)) }
     ensures all { IfOk result (AllDid (Among task.new.items) (W.held watch.now) (W.seen watch.now) plan.tasks plan.processors plan.rounds
         plan.freezes) }
-    ensures refused { IfErr result (RunRefused gates.now.words.config plan.tasks plan.processors) }
+    ensures refused { IfErr result (RunRefused gates.now.words.config plan.tasks) }
 {
     create_files(rt, gates, plan, task)?;
     start_workers(scope, rt, alloc, gates, plan, watch, task, workers)?;
@@ -275,6 +282,7 @@ pub fn in_threads<R: Threads + Wait + Sync, W: Watch + Sync>(
     task: Task,
 ) -> Result<(Task, Details), GateError>
     requires from { IsFrom task gates.now }
+    requires planned { gates.now.words.config ≡ run_config plan.tasks plan.processors plan.rounds }
     requires begins { HasBegun 0 task }
     requires gives { Gives task 1 plan.tasks }
     ensures from { IfOk result (λ r. IsFrom r.0 gates.now) }
@@ -282,13 +290,14 @@ pub fn in_threads<R: Threads + Wait + Sync, W: Watch + Sync>(
     ensures copies { IfOk result (λ r. (r.1.copies.frozen ≡ plan.freezes) × (r.1.copies.snapshots ≡ plan.freezes)) }
     ensures all { IfOk result (λ r. AllDid (Among r.0.items) (W.held watch.now) (W.seen watch.now) plan.tasks plan.processors plan.rounds
         plan.freezes r.1) }
-    ensures refused { IfErr result (RunRefused gates.now.words.config plan.tasks plan.processors) }
+    ensures refused { IfErr result (RunRefused gates.now.words.config plan.tasks) }
 {
     thread::scope(
         thread::scope_env(),
         rt,
         move |scope| -> Result<(Task, Details), GateError>
             requires from { IsFrom task gates.now }
+            requires planned { gates.now.words.config ≡ run_config plan.tasks plan.processors plan.rounds }
             requires begins { HasBegun 0 task }
             requires gives { Gives task 1 plan.tasks }
             ensures from { IfOk result (λ r. IsFrom r.0 gates.entry.now) }
@@ -296,7 +305,7 @@ pub fn in_threads<R: Threads + Wait + Sync, W: Watch + Sync>(
             ensures copies { IfOk result (λ r. (r.1.copies.frozen ≡ plan.freezes) × (r.1.copies.snapshots ≡ plan.freezes)) }
             ensures all { IfOk result (λ r. AllDid (Among r.0.items) (W.held watch.entry.now) (W.seen watch.entry.now) plan.tasks plan.processors
                 plan.rounds plan.freezes r.1) }
-            ensures refused { IfErr result (RunRefused gates.entry.now.words.config plan.tasks plan.processors) }
+            ensures refused { IfErr result (RunRefused gates.entry.now.words.config plan.tasks) }
         {
             let mut task = task;
             let mut workers = Vec::new(alloc);

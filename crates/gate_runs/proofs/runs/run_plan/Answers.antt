@@ -11,6 +11,7 @@ use Rattle.gate_runs.specs.run_threads.Parts.{Among, EndsAs}
 use Rattle.run_plans.specs.Plans.{MayRun, run_config}
 use Rattle.gate_runs.specs.run_parts.Refusals.{RunRefused}
 use Rattle.gate_runs.specs.run_parts.Splitting.{Gives, HasBegun}
+use Rattle.gate_runs.proofs.run_parts.Answering.{in_order}
 use Rattle.gate_runs.proofs.run_parts.Splitting.{first_begins, gives_all}
 use Rattle.gate_runs.proofs.run_threads.Staying.{all_back, all_did_on, ends_as}
 use Rattle.gate_runs.proofs.runs.run_plan.Goals as goal
@@ -31,6 +32,9 @@ in_threads-requires-clause-gives g c =
     let gives : Gives c.in-Ok.made.1 1 c.args.plan.tasks = subst (λ n. Gives c.in-Ok.made.1 1 n) tasks
     (gives_all c.in-Ok.made.1 c.config.result some (ap (λ (t : TaskState). t.phase) made.1) (ap (λ (t : TaskState). t.items) made.1)) in
     λ _ _. gives
+
+pub in_threads-requires-clause-planned : goal.in_threads-requires-clause-planned
+in_threads-requires-clause-planned g c = λ _ _. c.in-Ok.ensures.made.0 ∙ c.config.ensures
 
 pub returns-clause-tells : goal.returns-clause-tells
 returns-clause-tells g c =
@@ -73,8 +77,18 @@ returns-in-Err-clause-refused g c =
 
 pub returns-in-Err-in_threads-clause-refused : goal.returns-in-Err-in_threads-clause-refused
 returns-in-Err-in_threads-clause-refused g c =
-    subst (λ (d : Config). RunRefused d c.args.plan.tasks c.args.plan.processors c.in-Err-in_threads.refusal)
+    subst (λ (d : Config). RunRefused d c.args.plan.tasks c.in-Err-in_threads.refusal)
     (c.in-Ok.ensures.made.0 ∙ c.config.ensures) c.in-Err-in_threads.ensures.refused
+
+-- neither is Order or TooMany
+pub returns-in-Err-clause-in_order : goal.returns-in-Err-clause-in_order
+returns-in-Err-clause-in_order g c =
+    let within : IsWithin c.config.result = subst IsWithin (sym c.config.ensures)
+    (run_within c.args.plan.tasks c.args.plan.processors c.args.plan.rounds c.args.plan.freezes c.args.plan.within) in
+    in_order c.config.result c.args.plan.tasks c.in-Err.refusal (inl (c.in-Err.ensures.memory within))
+
+pub returns-in-Err-in_threads-clause-in_order : goal.returns-in-Err-in_threads-clause-in_order
+returns-in-Err-in_threads-clause-in_order g c = in_order _ _ c.in-Err-in_threads.refusal c.in-Err-in_threads.ensures.refused
 
 -- all numbers are back
 pub close-closed-requires-clause-all : goal.close-closed-requires-clause-all

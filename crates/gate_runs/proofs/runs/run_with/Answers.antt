@@ -1,6 +1,7 @@
 -- the plan is what was asked for
 use Rattle.std.proofs.Common.{◌≡◌, ℕ, refl, subst}
 use Rattle.std.proofs.lemmas.Result.{err_from_is_err_and}
+use Rattle.access_model.specs.declared.errors.GateError.TheVariants.{Invalid}
 use Rattle.run_plans.specs.declared.plans.Plan.{Plan}
 use Rattle.gate_runs.specs.run_parts.Meetings.{unseen}
 use Rattle.gate_runs.specs.Told.{TellsRun}
@@ -30,7 +31,7 @@ returns-clause-tells g c =
 pub returns-in_err-totals-clause-refused : goal.returns-in_err-totals-clause-refused
 returns-in_err-totals-clause-refused g c = λ within.
     let p = err_from_is_err_and c.from_residual-in_err-totals.result c.from_residual-in_err-totals.ensures.1 in
-    rw (p.1, p.2) (as_asked (λ tasks processors rounds freezes. RunRefused (run_config tasks processors rounds) tasks processors c.in_err-totals.field-0.0)
+    rw (p.1, p.2) (as_asked (λ tasks processors rounds freezes. RunRefused (run_config tasks processors rounds) tasks c.in_err-totals.field-0.0)
     c.in_ok-plan.plan c.args.tasks c.args.processors c.args.rounds c.args.freezes c.in_ok-plan.ensures.asked c.in_err-totals.ensures.refused)
 
 pub returns-clause-within : goal.returns-clause-within
@@ -62,3 +63,14 @@ returns-in_err-totals-clause-invalid g c = λ not. absurd (not c.in_ok-plan.ensu
 pub returns-in_err-totals-clause-tells : goal.returns-in_err-totals-clause-tells
 returns-in_err-totals-clause-tells g c =
     let p = err_from_is_err_and c.from_residual-in_err-totals.result c.from_residual-in_err-totals.ensures.1 in rw p.1 tt
+
+pub returns-in_err-plan-clause-in_order : goal.returns-in_err-plan-clause-in_order
+returns-in_err-plan-clause-in_order g c =
+    let p = err_from_is_err_and c.from_residual.result c.from_residual.ensures.1 in
+    let is : c.in_err-plan.field-0.0 ≡ Invalid = c.in_err-plan.ensures.refused.0 in
+    rw (p.1, p.2, is) ((λ same. let f : ⊥ = cc in f), (λ same. let f : ⊥ = cc in f))
+
+pub returns-in_err-totals-clause-in_order : goal.returns-in_err-totals-clause-in_order
+returns-in_err-totals-clause-in_order g c =
+    let p = err_from_is_err_and c.from_residual-in_err-totals.result c.from_residual-in_err-totals.ensures.1 in
+    rw (p.1, p.2) c.in_err-totals.ensures.in_order

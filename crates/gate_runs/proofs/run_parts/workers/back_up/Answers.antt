@@ -1,28 +1,45 @@
 -- one freeze more
 use Rattle.std.proofs.Common.{◌≡◌, ◌+◌, ap, arith, refl, subst, ◌∙◌}
 use Rattle.std.proofs.lemmas.Result.{err_from_is_err_and}
-use Rattle.std.specs.Prelude.{true}
+use Rattle.std.specs.Prelude.{true, Result}
+use Rattle.access_model.specs.declared.errors.GateError.{GateError}
 use Rattle.access_model.specs.declared.actions.Holder.TheVariants.{User}
 use Rattle.gate_world.specs.declared.operations.Op.TheVariants.{Freeze, Snapshot, Thaw}
 use Rattle.run_plans.specs.declared.counts.Copies.{Copies}
-use Rattle.gate_runs.proofs.run_parts.Repeating.{meets, met, one_more}
+use Rattle.vfs_gates.specs.Held.{Rests}
+use Rattle.vfs_gates.specs.Runs.{Performs}
+use Rattle.vfs_gates.specs.TaskStates.{TaskState}
+use Rattle.gate_runs.specs.run_parts.Refusals.{WasRefused}
+use Rattle.gate_runs.proofs.run_parts.Answering.{freeze_begins, freeze_refused, met, rests_by, thaw_begins, thaw_refused, was_refused}
+use Rattle.gate_runs.proofs.run_parts.Repeating.{one_more}
 use Rattle.gate_runs.specs.run_parts.Counts.{blocks_of, no_copies, with_copy, with_waits}
 use Rattle.gate_runs.specs.run_parts.Rounds.{BackupRound, CallsBack, Repeats}
 use Rattle.gate_runs.proofs.run_parts.workers.back_up.Goals as goal
+
+-- a freeze and a thaw leave the task at rest
+frozen_rests : (first last : TaskState) (outcome : Result (Unit {0}) GateError) → Rests first → Performs (Freeze User) first last outcome → Rests last
+frozen_rests first last outcome rests did = rests_by _ (Freeze User) first last outcome refl rests did
+
+thawed_rests : (first last : TaskState) (outcome : Result (Unit {0}) GateError) → Rests first → Performs (Thaw User) first last outcome → Rests last
+thawed_rests first last outcome rests did = rests_by _ (Thaw User) first last outcome refl rests did
 
 pub freeze-requires : goal.freeze-requires
 freeze-requires g c = c.loop-freeze.invariant.from
 
 pub take_snapshot-taken-requires : goal.take_snapshot-taken-requires
-take_snapshot-taken-requires g c =
-    (c.freeze.ensures.replies.table ∙ c.loop-freeze.invariant.from.0, c.freeze.ensures.replies.config ∙ c.loop-freeze.invariant.from.1)
+take_snapshot-taken-requires g c = record {
+  from = (c.freeze.ensures.replies.table ∙ c.loop-freeze.invariant.from.0, c.freeze.ensures.replies.config ∙ c.loop-freeze.invariant.from.1);
+  rests = frozen_rests c.loop-freeze.task c.freeze.new.self _ c.loop-freeze.invariant.rests c.freeze.ensures.replies;
+}
 
 pub thaw-requires : goal.thaw-requires
 thaw-requires g c = c.take_snapshot-taken.ensures.from
 
 pub call_back-requires : goal.call_back-requires
-call_back-requires g c =
-    (c.thaw.ensures.replies.table ∙ c.take_snapshot-taken.ensures.from.0, c.thaw.ensures.replies.config ∙ c.take_snapshot-taken.ensures.from.1)
+call_back-requires g c = record {
+  from = (c.thaw.ensures.replies.table ∙ c.take_snapshot-taken.ensures.from.0, c.thaw.ensures.replies.config ∙ c.take_snapshot-taken.ensures.from.1);
+  rests = thawed_rests c.take_snapshot-taken.new.task c.thaw.new.self _ c.take_snapshot-taken.ensures.rests c.thaw.ensures.replies;
+}
 
 pub returns-in_err-freeze-clause-from : goal.returns-in_err-freeze-clause-from
 returns-in_err-freeze-clause-from g c =
@@ -37,8 +54,10 @@ returns-in_err-freeze-clause-rounds g c = let p = err_from_is_err_and c.from_res
 pub returns-in_err-freeze-clause-refused : goal.returns-in_err-freeze-clause-refused
 returns-in_err-freeze-clause-refused g c =
     let p = err_from_is_err_and c.from_residual.result c.from_residual.ensures.1 in
-    rw (p.1, p.2) (meets c.args.gates.now.words.config c.args.plan.tasks c.args.plan.processors (Freeze User) _ c.loop-freeze.task c.freeze.new.self refl
-    c.loop-freeze.invariant.from.1 c.in_err-freeze.ensures.replies)
+    let was : WasRefused c.args.gates.now.words.config (Freeze User) c.in_err-freeze.field-0.0 = was_refused _ _ (Freeze User) c.loop-freeze.task
+    c.freeze.new.self _ c.loop-freeze.invariant.from.1 c.loop-freeze.invariant.rests (freeze_begins c.loop-freeze.task c.loop-freeze.invariant.rests)
+    c.in_err-freeze.ensures.replies in
+    rw (p.1, p.2) (met _ c.args.plan.tasks (Freeze User) _ (refl, freeze_refused _ _ _ was.refused) was)
 
 pub returns-in_err-thaw-clause-from : goal.returns-in_err-thaw-clause-from
 returns-in_err-thaw-clause-from g c =
@@ -54,8 +73,11 @@ returns-in_err-thaw-clause-rounds g c =
 pub returns-in_err-thaw-clause-refused : goal.returns-in_err-thaw-clause-refused
 returns-in_err-thaw-clause-refused g c =
     let p = err_from_is_err_and c.from_residual-in_err-thaw.result c.from_residual-in_err-thaw.ensures.1 in
-    rw (p.1, p.2) (meets c.args.gates.now.words.config c.args.plan.tasks c.args.plan.processors (Thaw User) _ c.take_snapshot-taken.new.task c.thaw.new.self
-    refl c.take_snapshot-taken.ensures.from.1 c.in_err-thaw.ensures.replies)
+    let copied = c.take_snapshot-taken.new.task in
+    let taken = c.take_snapshot-taken.ensures in
+    let was : WasRefused c.args.gates.now.words.config (Thaw User) c.in_err-thaw.field-0.0 = was_refused _ _ (Thaw User) copied c.thaw.new.self _
+    taken.from.1 taken.rests (thaw_begins copied taken.rests) c.in_err-thaw.ensures.replies in
+    rw (p.1, p.2) (met _ c.args.plan.tasks (Thaw User) _ (refl, thaw_refused _ _ _ was.refused) was)
 
 pub returns-in_err-blocks-clause-from : goal.returns-in_err-blocks-clause-from
 returns-in_err-blocks-clause-from g c =
@@ -72,7 +94,8 @@ returns-in_err-blocks-clause-rounds g c =
 pub returns-in_err-blocks-clause-refused : goal.returns-in_err-blocks-clause-refused
 returns-in_err-blocks-clause-refused g c =
     let p = err_from_is_err_and c.from_residual-in_err-blocks.result c.from_residual-in_err-blocks.ensures.1 in
-    rw (p.1, p.2) (met c.args.gates.now.words.config c.args.plan.tasks c.args.plan.processors (Snapshot true) _ refl c.in_err-blocks.ensures.refused)
+    let refused = c.in_err-blocks.ensures.refused in
+    rw (p.1, p.2) (met c.args.gates.now.words.config c.args.plan.tasks (Snapshot true) _ (refl, refused.0) refused.1)
 
 pub returns-in_err-ran-clause-from : goal.returns-in_err-ran-clause-from
 returns-in_err-ran-clause-from g c = c.call_back.ensures.from
@@ -84,9 +107,26 @@ pub returns-in_err-ran-clause-rounds : goal.returns-in_err-ran-clause-rounds
 returns-in_err-ran-clause-rounds g c = let p = err_from_is_err_and c.from_residual-in_err-ran.result c.from_residual-in_err-ran.ensures.1 in rw p.1 tt
 
 pub returns-in_err-ran-clause-refused : goal.returns-in_err-ran-clause-refused
-returns-in_err-ran-clause-refused g c =
-    let p = err_from_is_err_and c.from_residual-in_err-ran.result c.from_residual-in_err-ran.ensures.1 in
-    rw (p.1, p.2) (c.in_err-ran.ensures.refused c.args.plan.tasks c.args.plan.processors)
+returns-in_err-ran-clause-refused g c = absurd c.in_err-ran.ensures.answered
+
+-- the task rests, whatever it met
+pub returns-clause-rests : goal.returns-clause-rests
+returns-clause-rests g c = c.loop-freeze.invariant.rests
+
+pub returns-in_err-freeze-clause-rests : goal.returns-in_err-freeze-clause-rests
+returns-in_err-freeze-clause-rests g c =
+    frozen_rests c.loop-freeze.task c.freeze.new.self _ c.loop-freeze.invariant.rests c.freeze.ensures.replies
+
+pub returns-in_err-thaw-clause-rests : goal.returns-in_err-thaw-clause-rests
+returns-in_err-thaw-clause-rests g c =
+    thawed_rests c.take_snapshot-taken.new.task c.thaw.new.self _ c.take_snapshot-taken.ensures.rests c.thaw.ensures.replies
+
+pub returns-in_err-blocks-clause-rests : goal.returns-in_err-blocks-clause-rests
+returns-in_err-blocks-clause-rests g c =
+    thawed_rests c.take_snapshot-taken.new.task c.thaw.new.self _ c.take_snapshot-taken.ensures.rests c.thaw.ensures.replies
+
+pub returns-in_err-ran-clause-rests : goal.returns-in_err-ran-clause-rests
+returns-in_err-ran-clause-rests g c = c.call_back.ensures.rests
 
 pub with_copy-copies-requires-clause-frozen : goal.with_copy-copies-requires-clause-frozen
 with_copy-copies-requires-clause-frozen g c =
@@ -122,6 +162,7 @@ loop-freeze-preserved g c =
     let thawed = c.with_waits-waits-in-loop-freeze-2.ensures ∙ ap (λ n. with_waits n c.thaw.new.self) taken in
     record {
       from = c.in_ok-ran.ensures.from;
+      rests = c.in_ok-ran.ensures.rests;
       frozen = ap (λ (x : Copies). x.frozen) counts ∙ ap (λ n. n + 1) before.frozen;
       snapshots = ap (λ (x : Copies). x.snapshots) counts ∙ ap (λ n. n + 1) before.snapshots;
       callbacks = omega (arith, before.callbacks, callbacks, c.in_ok-ran.ensures.few);

@@ -1,5 +1,6 @@
--- The task comes from the gates, and all freezes so far were done and counted, with their snapshots and their callbacks.
+-- The task comes from the gates, at rest, and all freezes so far were done and counted, with their snapshots and their callbacks.
 use Rattle.std.proofs.Common.{◌≡◌, ◌*◌, ◌≤◌}
+use Rattle.vfs_gates.specs.Held.{Rests}
 use Rattle.vfs_gates.specs.TaskStates.{IsFrom}
 use Rattle.gate_runs.specs.run_parts.Counts.{no_copies}
 use Rattle.gate_runs.specs.run_parts.Rounds.{BackupRound, Repeats}
@@ -8,6 +9,7 @@ use Rattle.gate_runs.proofs.run_parts.workers.back_up.Given as goal
 abbrev pub invariant-loop-freeze : goal.invariant-loop-freeze
 invariant-loop-freeze g l = record {
   from : IsFrom l.task l.fn.gates;
+  rests : Rests l.task;
   frozen : l.copies.frozen ≡ l.freeze;
   snapshots : l.copies.snapshots ≡ l.freeze;
   callbacks : l.copies.callbacks ≤ 3 * l.freeze;

@@ -1,10 +1,11 @@
 -- one level more
-use Rattle.std.proofs.Common.{rules, ◌≡◌, ℕ, ◌+◌, ◌-◌, ◌≤◌, Bool, true, false, arith, subst, ◌∙◌}
+use Rattle.std.proofs.Common.{rules, ◌≡◌, ℕ, ◌+◌, ◌-◌, ◌≤◌, Bool, true, false, arith, refl, subst, ◌∙◌}
 use Rattle.gate_world.specs.declared.operations.Op.TheVariants.{Callback}
 use Rattle.vfs_gates.specs.TaskStates.{TaskState}
 use Rattle.gate_runs.specs.run_parts.Counts.{with_ran}
-use Rattle.gate_runs.proofs.run_parts.Repeating.{meets, one_more, refused_so}
-use Rattle.gate_runs.specs.run_parts.Refusals.{MetBy}
+use Rattle.vfs_gates.proofs.CallingBack.{never_refused}
+use Rattle.gate_runs.proofs.run_parts.Answering.{rests_by}
+use Rattle.gate_runs.proofs.run_parts.Repeating.{one_more}
 use Rattle.gate_runs.specs.run_parts.Rounds.{CallsBack, Repeats}
 use Rattle.gate_runs.proofs.run_parts.workers.call_back.Goals as goal
 
@@ -26,6 +27,7 @@ loop-level-preserved g c =
     (c.in_ok-callback.field-0, c.in_ok-callback.ensures, counts, c.with_waits-waits.ensures) in
     record {
       from = (c.callback.ensures.table ∙ before.from.0, c.callback.ensures.config ∙ before.from.1);
+      rests = rests_by _ (Callback c.loop-level.level) c.loop-level.task c.callback.new.self _ refl before.rests c.in_ok-callback.ensures;
       few = omega (arith, before.few, counts, once);
       did = subst (λ n. Repeats (λ k. CallsBack (k + 1)) n (c.args.task.now, 0, c.args.so_far) then) next
           (one_more (λ k. CallsBack (k + 1)) k _ _ _ before.did ran);
@@ -36,11 +38,7 @@ returns-clause-ran g c =
     let four : c.loop-level.level ≡ 4 = omega (arith, c.loop-level-test.false, c.loop-level.auto.level-end) in
     subst (λ n. Repeats (λ k. CallsBack (k + 1)) (n - 1) (c.args.task.now, 0, c.args.so_far) (c.loop-level.task, c.loop-level.ran, c.loop-level.waits)) four c.loop-level.invariant.did
 
-pub returns-in_err-callback-clause-refused : goal.returns-in_err-callback-clause-refused
-returns-in_err-callback-clause-refused g c = λ tasks processors.
-    let low : 1 ≤ c.loop-level.level = c.loop-level.auto.level in
+pub returns-in_err-callback-clause-answered : goal.returns-in_err-callback-clause-answered
+returns-in_err-callback-clause-answered g c =
     let high : c.loop-level.level ≤ 3 = omega (arith, c.loop-level-test.true) in
-    let met : MetBy c.args.gates.now.words.config tasks processors c.in_err-callback.field-0.0 =
-    meets _ _ _ (Callback c.loop-level.level) _ c.loop-level.task c.callback.new.self (low, high) c.loop-level.invariant.from.1
-    (refused_so _ _ _ _ _ c.in_err-callback.ensures) in
-    search (rules, met)
+    absurd (never_refused c.loop-level.level c.loop-level.task c.callback.new.self c.loop-level.auto.level high _ c.loop-level.invariant.rests.0 c.in_err-callback.ensures)

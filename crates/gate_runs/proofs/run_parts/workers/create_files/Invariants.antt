@@ -1,7 +1,12 @@
--- The task comes from the gates, and has created all files so far.
+-- The task comes from the gates, is inside its write access, and has created all files so far.
 use Rattle.vfs_gates.specs.TaskStates.{IsFrom}
+use Rattle.gate_runs.specs.run_parts.Refusals.{HasWriteAccess}
 use Rattle.gate_runs.specs.run_parts.Rounds.{CreatesFile, Repeats}
 use Rattle.gate_runs.proofs.run_parts.workers.create_files.Given as goal
 
 abbrev pub invariant-loop-writer : goal.invariant-loop-writer
-invariant-loop-writer g l = IsFrom l.task l.fn.gates × Repeats (λ k. CreatesFile) l._writer l.initial.task l.task
+invariant-loop-writer g l = record {
+  from : IsFrom l.task l.fn.gates;
+  inside : HasWriteAccess l.task;
+  created : Repeats (λ k. CreatesFile) l._writer l.initial.task l.task;
+}

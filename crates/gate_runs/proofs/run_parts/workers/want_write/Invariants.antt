@@ -1,12 +1,13 @@
--- The task comes from the gates, and was refused again and again, as often as was counted, with the waits of each call.
+-- The task comes from the gates, at rest, and was refused again and again, as often as was counted, with the waits of each call.
 use Rattle.std.proofs.Common.{◌≡◌, ℕ}
 use Rattle.access_model.specs.declared.errors.GateError.TheVariants.{ReadOnly}
 use Rattle.gate_world.specs.declared.operations.Op.TheVariants.{WantWrite}
+use Rattle.vfs_gates.specs.Held.{Rests}
 use Rattle.vfs_gates.specs.TaskStates.{IsFrom}
 use Rattle.gate_runs.specs.run_parts.Counts.{counted}
 use Rattle.gate_runs.specs.run_parts.Rounds.{IsRefused, Repeats, Waits}
 use Rattle.gate_runs.proofs.run_parts.workers.want_write.Given as goal
 
 abbrev pub invariant-loop : goal.invariant-loop
-invariant-loop g l = IsFrom l.task l.fn.gates × (tries : ℕ)
+invariant-loop g l = IsFrom l.task l.fn.gates × Rests l.task × (tries : ℕ)
     × Repeats (λ k. Waits (IsRefused (WantWrite 0 l.fn.cpu) ReadOnly)) tries (l.fn.task, l.fn.so_far) (l.task, l.waits) × (l.denied ≡ counted tries)

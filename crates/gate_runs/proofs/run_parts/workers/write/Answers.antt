@@ -1,18 +1,49 @@
 -- one round more
-use Rattle.std.proofs.Common.{◌≡◌, ◌+◌, ◌<◌, arith, refl, subst, sym, ◌∙◌}
+use Rattle.std.proofs.Common.{◌≡◌, ℕ, ◌+◌, ◌-◌, ◌%◌, ◌<◌, ◌≤◌, ap, arith, refl, subst, sym, ◌∙◌}
+use Rattle.std.specs.Prelude.{Result, Ok, Err}
+use Rattle.access_model.specs.declared.errors.GateError.{GateError}
+use Rattle.gate_world.specs.declared.config.Config.{Config}
 use Rattle.std.proofs.lemmas.Nat.{mod_below}
 use Rattle.std.proofs.lemmas.Result.{err_from_is_err_and}
-use Rattle.gate_world.specs.declared.operations.Op.TheVariants.{DropWrite, Grow, WantWrite}
-use Rattle.gate_runs.proofs.run_parts.Repeating.{meets, met, one_more}
+use Rattle.gate_world.specs.declared.operations.Op.TheVariants.{DropWrite, Grow}
+use Rattle.vfs_gates.specs.Held.{Rests}
+use Rattle.vfs_gates.specs.Runs.{Performs}
+use Rattle.vfs_gates.specs.TaskStates.{TaskState}
+use Rattle.vfs_gates.proofs.CallingBack.{none_err}
+use Rattle.gate_runs.specs.run_parts.Refusals.{HasWriteAccess}
+use Rattle.gate_runs.proofs.run_parts.Answering.{gives_back, met}
+use Rattle.gate_runs.proofs.run_parts.Repeating.{one_more}
 use Rattle.gate_runs.specs.run_parts.Counts.{counted}
 use Rattle.gate_runs.specs.run_parts.Rounds.{Does, Takes, WriterRound}
 use Rattle.gate_runs.proofs.run_parts.workers.write.Goals as goal
 
+-- write access is given back without a refusal, on a processor that there is
+given_back : (q : ℕ) (config : Config) (first last : TaskState) (outcome : Result (Unit {0}) GateError) → q < config.processors →
+    first.config ≡ config → HasWriteAccess first → Performs (DropWrite 0 q) first last outcome → (outcome ≡ Ok tt) × Rests last
+given_back q config first last outcome there of held did =
+    gives_back q first last outcome held (subst (λ d. q < d.processors) (sym of) there) did
+
+-- a round's processors are
+on_processor : (place processors q : ℕ) (config : Config) → config.processors ≡ processors → 1 ≤ processors → q ≡ place % processors →
+    q < config.processors
+on_processor place processors q config same some is =
+    subst (λ n. q < n) (sym same) (subst (λ n. n < processors) (sym is) (mod_below place processors some))
+
 pub want_write-requires : goal.want_write-requires
-want_write-requires g c = c.loop-round.invariant.0
+want_write-requires g c = record {
+  from = c.loop-round.invariant.0;
+  rests = c.loop-round.invariant.1;
+  processor = on_processor (c.args.writer + c.loop-round.round) c.args.plan.processors c.processor-cpu.result c.args.gates.now.words.config
+      (ap (λ (d : Config). d.processors) c.requires.planned) c.args.plan.within.processors_from c.processor-cpu.ensures;
+}
 
 pub grow-grown-requires : goal.grow-grown-requires
-grow-grown-requires g c = c.in_ok-denied.ensures.from
+grow-grown-requires g c =
+    let nodes : c.args.gates.now.words.config.nodes ≡ c.args.plan.tasks - 1 = ap (λ (d : Config). d.nodes) c.requires.planned in record {
+      from = c.in_ok-denied.ensures.from;
+      inside = c.in_ok-denied.ensures.inside;
+      file = omega (arith, nodes, c.requires.writer);
+    }
 
 pub drop_write-requires : goal.drop_write-requires
 drop_write-requires g c = c.grow-grown.ensures.from
@@ -24,12 +55,10 @@ pub returns-in_err-denied-clause-rounds : goal.returns-in_err-denied-clause-roun
 returns-in_err-denied-clause-rounds g c = let p = err_from_is_err_and c.from_residual.result c.from_residual.ensures.1 in rw p.1 tt
 
 pub returns-in_err-denied-clause-refused : goal.returns-in_err-denied-clause-refused
-returns-in_err-denied-clause-refused g c =
-    let p = err_from_is_err_and c.from_residual.result c.from_residual.ensures.1 in
-    let there : c.processor-cpu.result < c.args.plan.processors = subst (λ n. n < c.args.plan.processors) (sym c.processor-cpu.ensures)
-    (mod_below (c.args.writer + c.loop-round.round) c.args.plan.processors c.args.plan.within.processors_from) in
-    rw (p.1, p.2) (met c.args.gates.now.words.config c.args.plan.tasks c.args.plan.processors (WantWrite 0 c.processor-cpu.result) _
-    (refl, there) c.in_err-denied.ensures.refused)
+returns-in_err-denied-clause-refused g c = absurd c.in_err-denied.ensures.granted
+
+pub returns-in_err-denied-clause-rests : goal.returns-in_err-denied-clause-rests
+returns-in_err-denied-clause-rests g c = absurd c.in_err-denied.ensures.granted
 
 pub returns-in_err-drop_write-clause-from : goal.returns-in_err-drop_write-clause-from
 returns-in_err-drop_write-clause-from g c =
@@ -40,12 +69,25 @@ returns-in_err-drop_write-clause-rounds g c =
     let p = err_from_is_err_and c.from_residual-in_err-drop_write.result c.from_residual-in_err-drop_write.ensures.1 in rw p.1 tt
 
 pub returns-in_err-drop_write-clause-refused : goal.returns-in_err-drop_write-clause-refused
-returns-in_err-drop_write-clause-refused g c =
-    let p = err_from_is_err_and c.from_residual-in_err-drop_write.result c.from_residual-in_err-drop_write.ensures.1 in
-    let there : c.processor.result < c.args.plan.processors = subst (λ n. n < c.args.plan.processors) (sym c.processor.ensures)
-    (mod_below (c.args.writer + (c.loop-round.round + 1)) c.args.plan.processors c.args.plan.within.processors_from) in
-    rw (p.1, p.2) (meets c.args.gates.now.words.config c.args.plan.tasks c.args.plan.processors (DropWrite 0 c.processor.result) _
-    c.grow-grown.new.task c.drop_write.new.self (refl, there) c.grow-grown.ensures.from.1 c.in_err-drop_write.ensures)
+returns-in_err-drop_write-clause-refused g c = absurd (none_err _ (given_back c.processor.result c.args.gates.now.words.config c.grow-grown.new.task c.drop_write.new.self (Err c.in_err-drop_write.field-0.0)
+    (on_processor (c.args.writer + (c.loop-round.round + 1)) c.args.plan.processors c.processor.result c.args.gates.now.words.config
+    (ap (λ (d : Config). d.processors) c.requires.planned) c.args.plan.within.processors_from c.processor.ensures)
+    c.grow-grown.ensures.from.1 c.grow-grown.ensures.inside c.in_err-drop_write.ensures).0)
+
+pub returns-in_err-drop_write-clause-rests : goal.returns-in_err-drop_write-clause-rests
+returns-in_err-drop_write-clause-rests g c = absurd (none_err _ (given_back c.processor.result c.args.gates.now.words.config c.grow-grown.new.task c.drop_write.new.self (Err c.in_err-drop_write.field-0.0)
+    (on_processor (c.args.writer + (c.loop-round.round + 1)) c.args.plan.processors c.processor.result c.args.gates.now.words.config
+    (ap (λ (d : Config). d.processors) c.requires.planned) c.args.plan.within.processors_from c.processor.ensures)
+    c.grow-grown.ensures.from.1 c.grow-grown.ensures.inside c.in_err-drop_write.ensures).0)
+
+pub returns-in_err-grown-clause-rests : goal.returns-in_err-grown-clause-rests
+returns-in_err-grown-clause-rests g c = (given_back c.processor.result c.args.gates.now.words.config c.grow-grown.new.task c.drop_write.new.self (Ok tt)
+    (on_processor (c.args.writer + (c.loop-round.round + 1)) c.args.plan.processors c.processor.result c.args.gates.now.words.config
+    (ap (λ (d : Config). d.processors) c.requires.planned) c.args.plan.within.processors_from c.processor.ensures)
+    c.grow-grown.ensures.from.1 c.grow-grown.ensures.inside c.in_ok-drop_write.ensures).1
+
+pub returns-clause-rests : goal.returns-clause-rests
+returns-clause-rests g c = c.loop-round.invariant.1
 
 pub returns-in_err-grown-clause-from : goal.returns-in_err-grown-clause-from
 returns-in_err-grown-clause-from g c =
@@ -58,8 +100,8 @@ returns-in_err-grown-clause-rounds g c =
 pub returns-in_err-grown-clause-refused : goal.returns-in_err-grown-clause-refused
 returns-in_err-grown-clause-refused g c =
     let p = err_from_is_err_and c.from_residual-in_err-grown.result c.from_residual-in_err-grown.ensures.1 in
-    rw (p.1, p.2) (met c.args.gates.now.words.config c.args.plan.tasks c.args.plan.processors (Grow (c.args.writer + 1) 1) _
-    (omega arith, omega (arith, c.requires.writer), refl) c.in_err-grown.ensures.refused)
+    rw (p.1, p.2) (met c.args.gates.now.words.config c.args.plan.tasks (Grow (c.args.writer + 1) 1) _
+    (omega arith, omega (arith, c.requires.writer), refl, c.in_err-grown.ensures.refused.0) c.in_err-grown.ensures.refused.1)
 
 pub returns-clause-from : goal.returns-clause-from
 returns-clause-from g c = c.loop-round.invariant.0
@@ -71,9 +113,13 @@ loop-round-preserved g c =
     let took = subst (λ cpu. (did : Takes cpu (c.loop-round.task, c.loop-round.writes.waits) (c.want_write.new.task, c.in_ok-denied.waits))
     × (c.in_ok-denied.denied ≡ counted did.0)) c.processor-cpu.ensures c.in_ok-denied.ensures.took in (
       (c.drop_write.ensures.table ∙ grew.from.0, c.drop_write.ensures.config ∙ grew.from.1),
+      (given_back c.processor.result c.args.gates.now.words.config c.grow-grown.new.task c.drop_write.new.self (Ok tt)
+          (on_processor (c.args.writer + (c.loop-round.round + 1)) c.args.plan.processors c.processor.result c.args.gates.now.words.config
+          (ap (λ (d : Config). d.processors) c.requires.planned) c.args.plan.within.processors_from c.processor.ensures)
+          c.grow-grown.ensures.from.1 c.grow-grown.ensures.inside c.in_ok-drop_write.ensures).1,
       one_more (WriterRound (g.W.NotedWatch.meets c.args.watch.now) c.args.plan.processors c.args.writer) c.loop-round.round
           (c.args.task.now, c.args.notes.now, _) (c.loop-round.task, c.loop-round.notes, c.loop-round.writes)
-          (last, c.holding.new.notes, c.with_round-writes.result) c.loop-round.invariant.1
+          (last, c.holding.new.notes, c.with_round-writes.result) c.loop-round.invariant.2
           (record {
             held = c.want_write.new.task;
             grown = c.grow-grown.new.task;

@@ -89,7 +89,7 @@ pub returns-in_err-its-clause-refused : goal.returns-in_err-its-clause-refused
 returns-in_err-its-clause-refused g c =
     let home = (each_popped _ _ c.pop.new.self.items c.in-Some.worker c.in-Some.ensures.items c.loop-worker.invariant.homes).1 in
     let p = err_from_is_err_and c.from_residual.result c.from_residual.ensures.1 in
-    rw (p.1, p.2) (subst (λ (d : Plan). RunRefused c.args.gates.now.words.config d.tasks d.processors c.in_err-its.field-0.0) home.1
+    rw (p.1, p.2) (subst (λ (d : Plan). RunRefused c.args.gates.now.words.config d.tasks c.in_err-its.field-0.0) home.1
     c.in_err-its.ensures.refused)
 
 pub returns-clause-remounted : goal.returns-clause-remounted

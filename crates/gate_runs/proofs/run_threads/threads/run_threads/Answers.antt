@@ -5,12 +5,11 @@ use Rattle.gate_runs.specs.run_parts.Splitting.{Gives}
 use Rattle.gate_runs.specs.run_parts.Counts.{no_copies}
 use Rattle.gate_runs.specs.run_parts.Meetings.{was_frozen}
 use Rattle.gate_runs.proofs.run_threads.Staying.{backs_stay, creates_stay, gives_stay, is_among}
-use Rattle.gate_runs.proofs.run_threads.Resting.{backs_rest, begun_rests, creates_rest}
-use Rattle.vfs_gates.specs.Held.{Rests}
+use Rattle.gate_runs.proofs.run_threads.Resting.{begun_rests}
 use Rattle.gate_runs.proofs.run_threads.threads.run_threads.Goals as goal
 
 pub create_files-requires : goal.create_files-requires
-create_files-requires g c = c.requires.from
+create_files-requires g c = record { from = c.requires.from; rests = begun_rests 0 c.args.task.now c.requires.gives.idle c.requires.begins }
 
 pub returns-in_err-create_files-clause-from : goal.returns-in_err-create_files-clause-from
 returns-in_err-create_files-clause-from g c = c.create_files.ensures.from
@@ -57,15 +56,13 @@ returns-in_err-start_workers-clause-refused g c =
     rw (p.1, p.2) (inl c.in_err-start_workers.ensures.refused)
 
 pub start_workers-requires-clause-rests : goal.start_workers-requires-clause-rests
-start_workers-requires-clause-rests g c =
-    let rests : Rests c.create_files.new.task = creates_rest _ c.args.task.now c.create_files.new.task
-    (begun_rests 0 c.args.task.now c.requires.gives.idle c.requires.begins) c.in_ok-create_files.ensures.created in
-    λ _ _. rests
+start_workers-requires-clause-rests g c = λ _ _. c.in_ok-create_files.ensures.rests
+
+pub start_workers-requires-clause-planned : goal.start_workers-requires-clause-planned
+start_workers-requires-clause-planned g c = λ _ _. c.requires.planned
 
 pub join_workers-requires-clause-rests : goal.join_workers-requires-clause-rests
-join_workers-requires-clause-rests g c = backs_rest (was_frozen (g.W.Watch.seen c.args.watch.now)) c.args.plan.freezes
-    (c.start_workers.new.task, tt, no_copies) (c.back_up.new.task, tt, c.in_ok-copies.copies) c.in_ok-start_workers.ensures.rests
-    c.in_ok-copies.ensures.rounds
+join_workers-requires-clause-rests g c = c.in_ok-copies.ensures.rests
 
 pub join_workers-requires-clause-there : goal.join_workers-requires-clause-there
 join_workers-requires-clause-there g c = (backs_stay (was_frozen (g.W.Watch.seen c.args.watch.now)) c.args.plan.freezes
@@ -76,7 +73,7 @@ pub returns-clause-rests : goal.returns-clause-rests
 returns-clause-rests g c = c.in_ok-remounts.ensures.rests
 
 pub back_up-requires : goal.back_up-requires
-back_up-requires g c = c.in_ok-start_workers.ensures.from
+back_up-requires g c = record { from = c.in_ok-start_workers.ensures.from; rests = c.in_ok-start_workers.ensures.rests }
 
 pub returns-in_err-copies-clause-from : goal.returns-in_err-copies-clause-from
 returns-in_err-copies-clause-from g c = c.back_up.ensures.from

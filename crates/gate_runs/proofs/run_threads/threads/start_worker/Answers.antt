@@ -31,7 +31,7 @@ pub spawn_with-requires-clause-runs : goal.spawn_with-requires-clause-runs
 spawn_with-requires-clause-runs g c =
     let begun : HasBegun c.args.number c.in-Ok.other =
     has_begun _ _ _ c.args.number _ c.requires.gives c.requires.number.1 c.in-Ok.ensures.made in
-    λ _ _. (c.in-Ok.ensures.from, (begun, (c.requires.number, c.in-Ok.ensures.rests.0)))
+    λ _ _. (c.in-Ok.ensures.from, (c.requires.planned, (begun, (c.requires.number, c.in-Ok.ensures.rests.0))))
 
 pub returns-in-Ok-spawn_with-clause-rests : goal.returns-in-Ok-spawn_with-clause-rests
 returns-in-Ok-spawn_with-clause-rests g c = c.in-Ok.ensures.rests.1 c.requires.rests

@@ -21,6 +21,9 @@ start_worker-requires-clause-from g c = λ _ _. c.loop-number.invariant.from
 pub start_worker-requires-clause-gives : goal.start_worker-requires-clause-gives
 start_worker-requires-clause-gives g c = λ _ _. c.loop-number.invariant.gives
 
+pub start_worker-requires-clause-planned : goal.start_worker-requires-clause-planned
+start_worker-requires-clause-planned g c = λ _ _. c.requires.planned
+
 pub returns-in_default-clause-from : goal.returns-in_default-clause-from
 returns-in_default-clause-from g c = c.start_worker.ensures.from
 
