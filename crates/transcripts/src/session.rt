@@ -167,9 +167,14 @@ impl<D: Driver> Session<D> {
     }
 
     /// Does one event, and the action that it adds.
+    ///
+    /// # Errors
+    ///
+    /// Invalid, if the model doesn't allow the action. Gates that are known to show a world add no such action.
     pub fn step(&mut self, task: u8, hook: Result<(), u16>) -> Result<Step, Fault>
         ensures answer { (p : Play) → ShowsPlay D.shows self.old p → result ≡ Ok (step_answer p.config p.world task hook) }
         ensures shows { (p : Play) → ShowsPlay D.shows self.old p → ShowsPlay D.shows self.new (played p (Steps task hook)) }
+        ensures refused { IfErr result (λ fault. fault ≡ Refused Invalid) }
     {
         let step = self.driver.step(task, hook);
         if let Some(action) = step.action {
