@@ -10,6 +10,7 @@ ghost use Rattle.gate_world.specs.declared.work.Phase.{Phase};
 ghost use Rattle.asked_replays.specs.Noted.{words_after};
 ghost use Rattle.vfs_gates.specs.Splitting.{AreNumbered, Gives};
 ghost use Rattle.gate_core.specs.Drivers.{listed_word};
+ghost use Rattle.transcripts.specs.Limits.{IsLineNumber};
 ghost use Rattle.vfs_gates.specs.Stepped.{Stepped};
 ghost use Rattle.vfs_gates.specs.TaskStates.{IsFrom, IsIdle, TaskState, own_number, refusal_at};
 
@@ -18,7 +19,9 @@ use cpu_words::{Event, WordName};
 use freeze_levels::HookKind;
 use gate_core::{Driver, Step, words_at_start};
 use gate_world::{Config, Op};
+use line_replays::{ReplayFault, replay_over};
 use std::alloc::Global;
+use std::io::{Read, Write};
 use vfs_gates::{Gates, Task};
 
 /// The gates with a task for each number, none of which is ever joined, and the words as the events of all steps have left them.
@@ -165,6 +168,25 @@ impl Driver for GatesDriver {
             None
         }
     }
+}
+
+/// Reads a schedule and replays it over the gates that threads use, driven by this one thread: in the language of `line_replays`' `replay`,
+/// with the same text, as tests show, and the same faults. A task is made for each number by splits, and none is joined. Words and trees are
+/// printed from a list that each step moves by its event, since gates tell their words only once they are closed.
+///
+/// # Errors
+///
+/// The fault at which it ended, and its line: the first line that is none, can't be read or written, or is refused for memory. A
+/// configuration is refused as `Gates::new` is, then as `Task::split`, and at last as the model beside them. What the lines before it print
+/// is written.
+pub fn replay_gates<R: Read, W: Write>(
+    alloc: Global,
+    reader: &mut R,
+    writer: &mut W,
+) -> Result<(), ReplayFault>
+    ensures line { IfErr result (λ fault. IsLineNumber fault.line) }
+{
+    replay_over::<GatesDriver, R, W>(alloc, reader, writer)
 }
 
 /// The first task and those that it gives its numbers to, so many in all, by their numbers.
