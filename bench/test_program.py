@@ -153,7 +153,6 @@ FULL = [
     (["outcomes", "one.race"], b"", "write failed\n"),
     (["outcomes", "one.race", "--schedules"], b"", "write failed\n"),
     (["run", "--tasks", "3", "--cpus", "1", "--rounds", "1", "--freezes", "0"], b"", "write failed\n"),
-    (["--help"], b"", "write failed\n"),
     (["--version"], b"", "write failed\n"),
 ]
 
