@@ -10,6 +10,7 @@ it. For each it prints how many command lines ended as they should, or which end
 status is 0 where all ended as they should, else 1."""
 
 import concurrent.futures
+import glob
 import itertools
 import os
 import sys
@@ -67,6 +68,12 @@ def checks_of_cases(cases):
             for number, given in enumerate(case.inputs, 1):
                 how = case.place if len(case.inputs) == 1 else f"{case.place}, its line {number} of {len(case.inputs)}"
                 yield check_of(Program.run, line.split(" ")[1:], how, (case.status, case.printed, case.told), given=given)
+
+
+def checks_of_examples():
+    """A check of all examples, schedules and races: each prints what it says that it prints."""
+    files = sorted(glob.glob(f"{ROOT}/examples/*.schedule")) + sorted(glob.glob(f"{ROOT}/examples/races/*.race"))
+    yield check_of(Program.run, ["check", *files], "all examples", (0, f"{len(files)} passed, 0 failed\n", ""))
 
 
 # Lines of a schedule, each with what it prints.
@@ -146,7 +153,6 @@ FULL = [
     (["outcomes", "one.race"], b"", "write failed\n"),
     (["outcomes", "one.race", "--schedules"], b"", "write failed\n"),
     (["run", "--tasks", "3", "--cpus", "1", "--rounds", "1", "--freezes", "0"], b"", "write failed\n"),
-    (["--help"], b"", "write failed\n"),
     (["--version"], b"", "write failed\n"),
 ]
 
@@ -251,7 +257,8 @@ def test(path, cases):
     """Tests a program, and prints how that went; whether all command lines ended as they should."""
     with tempfile.TemporaryDirectory() as folder:
         write_files(cases, folder)
-        parts = (checks_of_cases(cases), checks_of_reads(), checks_of_writes(), checks_of_full(), checks_of_persons(), checks_of_forms())
+        parts = (checks_of_cases(cases), checks_of_examples(), checks_of_reads(), checks_of_writes(), checks_of_full(), checks_of_persons(),
+                 checks_of_forms())
         failures, count = failures_of(Program(path, folder), [check for part in parts for check in part])
     shown = os.path.relpath(path)
     if failures:

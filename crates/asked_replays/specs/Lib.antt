@@ -1,2 +1,3 @@
+pub mod Driven
 pub mod Noted
 pub mod Replays

@@ -1,6 +1,6 @@
 //! The gates that threads use, driven by one thread.
 
-ghost use Rattle.std.specs.Prelude.{◌≡◌, ◌≢◌, ◌<◌, ◌≤◌, ◌+◌, ℕ, [], All, IfErr, IfOk, OnOk, vec_len, slice_index_or};
+ghost use Rattle.std.specs.Prelude.{◌≡◌, ◌≢◌, ◌<◌, ◌≤◌, ◌+◌, ℕ, [], All, IfErr, IfOk, OnErr, OnOk, vec_len};
 ghost use Rattle.access_model.specs.declared.errors.GateError.TheVariants.{Invalid, NoMemory};
 ghost use Rattle.cpu_words.specs.Lists.{AreOpening};
 ghost use Rattle.cpu_words.specs.Names.{words_in_all};
@@ -10,6 +10,7 @@ ghost use Rattle.gate_world.specs.declared.work.Phase.{Phase};
 ghost use Rattle.asked_replays.specs.Noted.{words_after};
 ghost use Rattle.vfs_gates.specs.Splitting.{AreNumbered, Gives};
 ghost use Rattle.gate_core.specs.Drivers.{listed_word};
+ghost use Rattle.transcripts.specs.Limits.{IsLineNumber};
 ghost use Rattle.vfs_gates.specs.Stepped.{Stepped};
 ghost use Rattle.vfs_gates.specs.TaskStates.{IsFrom, IsIdle, TaskState, own_number, refusal_at};
 
@@ -18,7 +19,9 @@ use cpu_words::{Event, WordName};
 use freeze_levels::HookKind;
 use gate_core::{Driver, Step, words_at_start};
 use gate_world::{Config, Op};
+use line_replays::{ReplayFault, replay_over};
 use std::alloc::Global;
+use std::io::{Read, Write};
 use vfs_gates::{Gates, Task};
 
 /// The gates with a task for each number, none of which is ever joined, and the words as the events of all steps have left them.
@@ -69,45 +72,6 @@ impl GatesDriver {
         })
     }
 
-    /// Begins an operation of a task; Invalid where there is no such task.
-    pub fn begin(&mut self, task: u8, op: Op) -> Result<(), GateError>
-        ensures answer { (t : TaskState) → task < vec_len self.old.tasks →
-            result ≡ unless_refused (refusal_at op (slice_index_or self.old.tasks.items task t)) }
-        ensures others { (k : ℕ) (t : TaskState) → k ≢ task →
-            slice_index_or self.new.tasks.items k t ≡ slice_index_or self.old.tasks.items k t }
-        ensures words { self.new.words ≡ self.old.words }
-        ensures not_there { vec_len self.old.tasks ≤ task → result ≡ Err Invalid }
-    {
-        let number = task as usize;
-        if number >= self.tasks.len() {
-            return Err(GateError::Invalid);
-        }
-        self.tasks[number].begin(op)
-    }
-
-    /// Does the next event of a task's operation, and notes what it left of its word; none of a task that is idle or that there isn't.
-    pub fn step(&mut self, task: u8, hook: Result<(), u16>) -> Step
-        ensures event { (t : TaskState) (phase : Phase) → task < vec_len self.old.tasks →
-            (slice_index_or self.old.tasks.items task t).phase ≡ Some phase →
-            Stepped phase hook (slice_index_or self.old.tasks.items task t) result (slice_index_or self.new.tasks.items task t) }
-        ensures idle { (t : TaskState) → task < vec_len self.old.tasks → IsIdle (slice_index_or self.old.tasks.items task t) →
-            result ≡ idle_step }
-        ensures others { (k : ℕ) (t : TaskState) → k ≢ task →
-            slice_index_or self.new.tasks.items k t ≡ slice_index_or self.old.tasks.items k t }
-        ensures words { self.new.words.items ≡ words_after result.event self.old.words.items }
-        ensures not_there { vec_len self.old.tasks ≤ task → result ≡ idle_step }
-    {
-        let number = task as usize;
-        if number >= self.tasks.len() {
-            return Step::idle();
-        }
-        let step = self.tasks[number].step(&self.gates, hook);
-        if let Some(event) = step.event {
-            self.note(event);
-        }
-        step
-    }
-
     /// Notes what an event left of its word.
     fn note(&mut self, event: Event)
         ensures words { self.new.words.items ≡ words_after (Some event) self.old.words.items }
@@ -120,37 +84,15 @@ impl GatesDriver {
             self.words[place] = event.left;
         }
     }
-
-    /// The hook whose answer a task's next step reads; None where that is the same whatever a hook answers, and where there is no such
-    /// task.
-    pub fn wants_hook(&self, task: u8) -> Option<HookKind>
-        ensures there { (t : TaskState) → task < vec_len self.now.tasks →
-            result ≡ asked_by (slice_index_or self.now.tasks.items task t).phase }
-        ensures not_there { vec_len self.now.tasks ≤ task → result ≡ None }
-    {
-        match self.tasks.get(task as usize) {
-            Some(task) => task.wants_hook(),
-            None => None,
-        }
-    }
-
-    /// The value of a word, as the events so far have left it; None where the configuration has no such word.
-    pub fn word(&self, name: WordName) -> Option<u64>
-        ensures { result ≡ listed_word self.now.config self.now.words.items name }
-    {
-        if self.config.has_word(name) {
-            self.words.get(name.place()).copied()
-        } else {
-            None
-        }
-    }
 }
 
-/// Nothing is said here of which world they show: what one task finds there was so at that moment, and that no other thread moves them is
-/// known to whoever made them, and to no contract. So what is proved of the text of a schedule is proved of a replay over the core; that a
-/// replay over these gates prints the same is tested. Their words, which `words` and `tree` print, are those of the list.
+/// Each call says what it does to the tasks and to the list of words. Nothing is said of which world they show: what one task finds there was
+/// so at that moment, and that no other thread moves them is known to whoever made them, and to no contract. So what is proved of the text of
+/// a schedule is proved of a replay over the core; that a replay over these gates prints the same is tested. Their words, which `words` and
+/// `tree` print, are those of the list.
 impl Driver for GatesDriver {
     ghost use Rattle.std.specs.Prelude.{false};
+    ghost use Rattle.asked_replays.specs.Driven.{AreOthersKept, task_in, with_begun};
 
     ghost is_known = { false };
 
@@ -164,21 +106,87 @@ impl Driver for GatesDriver {
         GatesDriver::new(alloc, config)
     }
 
-    fn begin(&mut self, task: u8, op: Op) -> Result<(), GateError> {
-        self.begin(task, op)
+    /// Begins an operation of a task: from its next step on it is under way. Words and other tasks are as before.
+    ///
+    /// # Errors
+    ///
+    /// Invalid where there is no such task; else as `Task::begin` is. Then nothing is changed.
+    fn begin(&mut self, task: u8, op: Op) -> Result<(), GateError>
+        ensures answer { (t : TaskState) → task < vec_len self.old.tasks → result ≡ unless_refused (refusal_at op (task_in self.old task t)) }
+        ensures not_there { vec_len self.old.tasks ≤ task → result ≡ Err Invalid }
+        ensures begun { (t : TaskState) → OnOk result (task_in self.new task t ≡ with_begun op (task_in self.old task t)) }
+        ensures refused { (t : TaskState) → OnErr result (task_in self.new task t ≡ task_in self.old task t) }
+        ensures others { AreOthersKept task self.old self.new }
+        ensures words { self.new.words ≡ self.old.words }
+    {
+        let number = task as usize;
+        if number >= self.tasks.len() {
+            return Err(GateError::Invalid);
+        }
+        self.tasks[number].begin(op)
     }
 
-    fn step(&mut self, task: u8, hook: Result<(), u16>) -> Step {
-        self.step(task, hook)
+    /// Does the next event of a task's operation, and notes what it left of its word; none of a task that is idle or that there isn't.
+    fn step(&mut self, task: u8, hook: Result<(), u16>) -> Step
+        ensures event { (t : TaskState) (phase : Phase) → task < vec_len self.old.tasks → (task_in self.old task t).phase ≡ Some phase →
+            Stepped phase hook (task_in self.old task t) result (task_in self.new task t) }
+        ensures idle { (t : TaskState) → task < vec_len self.old.tasks → IsIdle (task_in self.old task t) →
+            (result ≡ idle_step) × (task_in self.new task t ≡ task_in self.old task t) }
+        ensures not_there { (t : TaskState) → vec_len self.old.tasks ≤ task →
+            (result ≡ idle_step) × (task_in self.new task t ≡ task_in self.old task t) }
+        ensures others { AreOthersKept task self.old self.new }
+        ensures words { self.new.words.items ≡ words_after result.event self.old.words.items }
+    {
+        let number = task as usize;
+        if number >= self.tasks.len() {
+            return Step::idle();
+        }
+        let step = self.tasks[number].step(&self.gates, hook);
+        if let Some(event) = step.event {
+            self.note(event);
+        }
+        step
     }
 
-    fn wants_hook(&self, task: u8) -> Option<HookKind> {
-        self.wants_hook(task)
+    /// The hook whose answer a task's next step reads; None where that is the same whatever a hook answers, and where there is no such
+    /// task.
+    fn wants_hook(&self, task: u8) -> Option<HookKind>
+        ensures there { (t : TaskState) → task < vec_len self.now.tasks → result ≡ asked_by (task_in self.now task t).phase }
+        ensures not_there { vec_len self.now.tasks ≤ task → result ≡ None }
+    {
+        match self.tasks.get(task as usize) {
+            Some(task) => task.wants_hook(),
+            None => None,
+        }
     }
 
+    /// The value of a word, as the events so far have left it; None where the configuration has no such word.
     fn word(&self, name: WordName) -> Option<u64> {
-        self.word(name)
+        if self.config.has_word(name) {
+            self.words.get(name.place()).copied()
+        } else {
+            None
+        }
     }
+}
+
+/// Reads a schedule and replays it over the gates that threads use, driven by this one thread: in the language of `line_replays`' `replay`,
+/// with the same text, as tests show, and the same faults. A task is made for each number by splits, and none is joined. Words and trees are
+/// printed from a list that each step moves by its event, since gates tell their words only once they are closed.
+///
+/// # Errors
+///
+/// The fault at which it ended, and its line: the first line that is none, can't be read or written, or is refused for memory. A
+/// configuration is refused as `Gates::new` is, then as `Task::split`, and at last as the model beside them. What the lines before it print
+/// is written.
+pub fn replay_gates<R: Read, W: Write>(
+    alloc: Global,
+    reader: &mut R,
+    writer: &mut W,
+) -> Result<(), ReplayFault>
+    ensures line { IfErr result (λ fault. IsLineNumber fault.line) }
+{
+    replay_over::<GatesDriver, R, W>(alloc, reader, writer)
 }
 
 /// The first task and those that it gives its numbers to, so many in all, by their numbers.

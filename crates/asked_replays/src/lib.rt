@@ -7,5 +7,5 @@ pub mod gates_driver;
 pub mod replays;
 mod telling;
 
-pub use gates_driver::GatesDriver;
+pub use gates_driver::{GatesDriver, replay_gates};
 pub use replays::{Person, run_replay};

@@ -4,7 +4,6 @@ ghost use Rattle.std.specs.Prelude.{◌≡◌, ◌⊎◌, true, false, Some, IfO
 ghost use Rattle.clap.specs.Words.{app_of, found_of, kind_of, one_of, rows_of, rule_of, subcommand_rows_of};
 ghost use Rattle.clap.specs.declared.error.kind.ErrorKind.TheVariants.{OutOfMemory};
 ghost use Rattle.command_line.specs.CommandLine.{AreBare, IsBareReplay, IsPlainOfInput, MayAskPlainly, alone, are_plain, argument_rule, ask_plainly, is_off, is_plain_replay, mntgate_app, subcommand_shape};
-ghost use Rattle.command_line.specs.declared.words.Asked.TheVariants.{Misused, Unread};
 ghost use Rattle.command_line.specs.declared.words.Form.TheVariants.{Plain};
 
 use clap::builder::ValueParser;
@@ -233,22 +232,24 @@ pub enum Asked<'a> {
     Outcomes(Outcomes<'a>),
     /// A run in threads.
     Run(Numbers, Tells),
-    /// Help or the version, which is this text.
+    /// The version, which is this text.
     Told(String),
-    /// Nothing: there was no memory to read them.
-    Unread,
-    /// Nothing: they have a fault.
+    /// Nothing: they have a fault, or wish for help.
     Misused,
 }
 
-/// What the words ask for; a fault of theirs is told on the writer, and where it can't be, it is one all the same.
+/// What the words ask for. A fault of theirs, and the help that they wish for, is told on the writer, and where it can't be, they ask for
+/// nothing all the same.
+///
+/// # Errors
+///
+/// `AllocError` where there was no memory to read them; then nothing is told.
 pub fn read_words<'a, E: Write>(
     alloc: Global,
     words: &'a [String],
     errors: &mut E,
 ) -> Result<Asked<'a>, AllocError>
-    ensures plain { ask_plainly (map string_bytes words.entry.now) ≡ true →
-        IfOk result (λ asked. (asked ≡ Unread) ⊎ IsPlainOfInput asked) }
+    ensures plain { ask_plainly (map string_bytes words.entry.now) ≡ true → IfOk result IsPlainOfInput }
     ensures only { IfOk result (λ asked. IsPlainOfInput asked → MayAskPlainly (map string_bytes words.entry.now)) }
 {
     let command = command(alloc)?;
@@ -267,19 +268,24 @@ pub fn read_words<'a, E: Write>(
     }
 }
 
-/// What a command line asks for that the parser has an answer to itself: help or the version, or nothing.
+/// What a command line asks for that the parser has an answer to itself: the version; else nothing, and the fault, or the help that is wished
+/// for, is told.
 fn answer_of<'a, E: Write>(
     alloc: Global,
     error: &Error,
     errors: &mut E,
 ) -> Result<Asked<'a>, AllocError>
-    ensures memory { kind_of error.now ≡ OutOfMemory → IfOk result (λ asked. asked ≡ Unread) }
+    ensures memory { kind_of error.now ≡ OutOfMemory → IfOk result (λ asked. ⊥) }
     ensures nothing { IfOk result (λ asked. ¬ IsPlainOfInput asked) }
 {
-    if error.use_stderr() {
-        return Ok(misused(error, errors));
+    match error.kind() {
+        ErrorKind::OutOfMemory => Err(AllocError),
+        ErrorKind::DisplayVersion => Ok(Asked::Told(format!(in alloc; "{error}")?)),
+        _ => {
+            let _ = write!(errors, "{error}");
+            Ok(Asked::Misused)
+        }
     }
-    Ok(Asked::Told(format!(in alloc; "{error}")?))
 }
 
 /// What a command line asks for that was understood.
@@ -459,17 +465,5 @@ fn argument_of<'a>(alloc: Global, argument: &Argument) -> Arg<'a>
             .value_name(value)
             .value_parser(ValueParser::unsigned(least, most))
             .required(is_needed),
-    }
-}
-
-/// Says what is wrong with the command line. That there was no memory to read it is no fault of it.
-fn misused<'a, E: Write>(error: &Error, errors: &mut E) -> Asked<'a>
-    ensures memory { kind_of error.now ≡ OutOfMemory → result ≡ Unread }
-    ensures nothing { (result ≡ Unread) ⊎ (result ≡ Misused) }
-{
-    let _ = write!(errors, "{error}");
-    match error.kind() {
-        ErrorKind::OutOfMemory => Asked::Unread,
-        _ => Asked::Misused,
     }
 }

@@ -26,11 +26,11 @@ pub enum Ending {
     Listed,
     /// A run was done, and what it counted is written.
     Ran,
-    /// Help or the version was asked for, and is written.
+    /// The version was asked for, and is written.
     Told,
     /// A schedule, a race or a run was refused, or could not be read or written, or there was no memory; or a check failed.
     Refused,
-    /// The command line has a fault.
+    /// The command line has a fault, or wishes for help.
     Misused,
 }
 
@@ -105,7 +105,7 @@ pub fn unopened<E: Write>(file: &str, error: &io::Error, errors: &mut E) -> Endi
     why_told_of(error, Some(file), errors)
 }
 
-/// Writes the text that was asked for of the program itself.
+/// Writes the text that was asked for of the program itself: its version.
 pub fn text_told<W: Write, E: Write>(text: &str, writer: &mut W, errors: &mut E) -> Ending
     ensures { (result ≡ Told) ⊎ (result ≡ Refused) }
 {

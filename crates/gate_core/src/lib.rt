@@ -1,10 +1,12 @@
 //! The core: all tasks on plain words, moved one event at a time by whoever drives it. A schedule is a list of calls of `begin`
-//! and `step`.
+//! and `step`. What holds of all of them is the contract of `every_schedule`.
 #![tactic(auto)]
 
 mod drivers;
 pub mod machine;
 
-pub use gate_schedules::{Driver, Progress, Seat, Step};
+pub use gate_schedules::{
+    Driver, Progress, Seat, Step, every_schedule, every_schedule_keeps_the_rule,
+};
 pub use gate_world::{Accesses, Config, Op};
 pub use machine::{Core, words_at_start};

@@ -20,9 +20,10 @@ pub fn what_a_trace_tells()
         Tells c op trace (course_of c t op trace).comes (course_of c t op trace).added }
 {}
 
-/// The trace of an operation that waits for nobody has a stated number of events at most: of a want 6, of a drop 1, of a change 7 and
-/// one for each processor, of a create 3 and one for each node, of a grow or a move 5, of a remove 4, of a page fault or a write-back 2,
-/// of a snapshot 4 and two for each node. Does nothing: its contract is the law.
+/// The trace of an operation that waits for nobody has a stated number of events at most: of a drop or an end 1, of a drop of write access,
+/// an open, a page fault or a write-back 2, of a remove 4, of a grow or a move 5, of a create 3 and one for each node. Of those that may be
+/// asked not to wait, and then wait for nobody: of a want or a start 6, of a close 10, of a change 7 and one for each processor, of a
+/// snapshot 4 and two for each node. Does nothing: its contract is the law.
 pub fn how_long_a_trace_is()
     ensures { (c : Config) → IsWithin c → (t : ℕ) (op : Op) (trace : List Traced) → IsTrace c t op trace → IsShort (most_events c op) trace }
 {}

@@ -2,10 +2,9 @@
 //! is made again. bench/refuse-memory.sh runs them under `rt try --fail-alloc`, which refuses one growth: as many growths are asked for
 //! first as the input's line says, so that each growth of each call is the one that is refused in some run.
 
+use crate::schedules::Over;
 use crate::{gates, models, schedules, threads};
 use anyhow::Result;
-use asked_replays::GatesDriver;
-use gate_core::Core;
 use std::alloc::Global;
 use std::io::Read;
 use std::sync::Wait;
@@ -46,8 +45,11 @@ pub(crate) fn print_endings<R: Threads + Wait + Print + Sync, I: Read>(
         ("gates", made),
         ("split", split),
         ("run", threads::run(rt, alloc)),
-        ("replay", schedules::replay::<Core>(alloc)),
-        ("over-gates", schedules::replay::<GatesDriver>(alloc)),
+        ("replay", schedules::ending_of_replay(alloc, Over::Core)),
+        (
+            "over-gates",
+            schedules::ending_of_replay(alloc, Over::Gates),
+        ),
     ];
     for (call, ending) in endings {
         println!(rt; "{call} {ending}")?;

@@ -2,9 +2,9 @@
 
 use crate::ending::Ending;
 use access_model::GateError;
-use gate_core::Driver;
-use line_replays::replay_over;
-use schedule_lines::bytes::ReplayFault;
+use asked_replays::replay_gates;
+use line_replays::ReplayFault;
+use line_replays::replay::replay;
 use std::alloc::Global;
 
 /// A schedule that needs memory at its first line and at its third.
@@ -16,11 +16,23 @@ const PRINTED: [u8; 5] = *b"0 ok\n";
 /// What stands there where it prints nothing.
 const NOTHING: [u8; 5] = [0; 5];
 
-/// How a replay of it ends over such gates, and what it writes.
-fn replayed<D: Driver>(alloc: Global) -> (Result<(), ReplayFault>, [u8; 5]) {
+/// What a schedule is replayed over.
+#[derive(Clone, Copy)]
+pub(crate) enum Over {
+    /// The core.
+    Core,
+    /// The gates that threads use.
+    Gates,
+}
+
+/// How a replay of it ends, and what it writes.
+fn replayed(alloc: Global, over: Over) -> (Result<(), ReplayFault>, [u8; 5]) {
     let (mut schedule, mut written) = (SCHEDULE, NOTHING);
     let mut writer = written.as_mut_slice();
-    let ended = replay_over::<D, _, _>(alloc, &mut schedule, &mut writer);
+    let ended = match over {
+        Over::Core => replay(alloc, &mut schedule, &mut writer),
+        Over::Gates => replay_gates(alloc, &mut schedule, &mut writer),
+    };
     (ended, written)
 }
 
@@ -32,11 +44,11 @@ fn is_refused(fault: &ReplayFault) -> bool {
     )
 }
 
-/// A replay over such gates. Where a growth is refused, it ends at the line that needs it and has written nothing.
-pub(crate) fn replay<D: Driver>(alloc: Global) -> Ending {
-    match replayed::<D>(alloc) {
+/// A replay. Where a growth is refused, it ends at the line that needs it and has written nothing.
+pub(crate) fn ending_of_replay(alloc: Global, over: Over) -> Ending {
+    match replayed(alloc, over) {
         (Ok(()), PRINTED) => Ending::Done,
-        (Err(fault), NOTHING) if is_refused(&fault) => match replayed::<D>(alloc) {
+        (Err(fault), NOTHING) if is_refused(&fault) => match replayed(alloc, over) {
             (Ok(()), PRINTED) => Ending::DoneAgain,
             _ => Ending::Wrong,
         },

@@ -6,3 +6,4 @@ pub mod replay;
 
 pub use line_replay::LineReplay;
 pub use replay::{Ended, replay_over, replay_to_end};
+pub use schedule_lines::bytes::ReplayFault;

@@ -13,7 +13,7 @@ use Rattle.endings.specs.Endings.{of_file}
 use Rattle.endings.specs.declared.ends.Ending.{Ending}
 use Rattle.endings.specs.declared.ends.Ending.TheVariants.{Done, DoneOfFile, DoneOverGates, Shown, Passed, Listed, Ran, Told, Refused, Misused}
 use Rattle.asked_files.specs.Checks.{TellsPassed, count_checked}
-use Rattle.asked_replays.specs.Replays.{EndsReplayed, IsRefusedUnread, done_in, done_of, ending_of}
+use Rattle.asked_replays.specs.Replays.{EndsReplayed, done_in, done_of, ending_of}
 use Rattle.asked_files.specs.Outcomes.{EndsTold}
 use Rattle.asked_files.specs.Outcomes.EndsTold.{IsWritten, IsRefused, IsCutOff}
 use Rattle.mntgate.specs.Asking.{EndsAsked, EndsRun, TellsSomePassed}
@@ -107,7 +107,6 @@ module _ (input left held holds : Option (List ℕ)) where
   done_plainly (ask.Run numbers tells) ending ends done = elim ends.ends [ inl e ↦ cc | inr e ↦ cc ]
   done_plainly (ask.Told text) ending (inl e) done = cc
   done_plainly (ask.Told text) ending (inr e) done = cc
-  done_plainly ask.Unread ending ends done = absurd (otherwise is_of_outcomes ending Done (ap is_of_outcomes ends.ends) refl done)
   done_plainly ask.Misused ending e done = cc
 
   -- who ends with `Passed` was asked for checks, and tells of one at least that it passed
@@ -122,7 +121,6 @@ module _ (input left held holds : Option (List ℕ)) where
   passes (ask.Run numbers tells) ending ends passed = elim ends.ends [ inl e ↦ cc | inr e ↦ cc ]
   passes (ask.Told text) ending (inl e) passed = cc
   passes (ask.Told text) ending (inr e) passed = cc
-  passes ask.Unread ending ends passed = absurd (otherwise is_of_outcomes ending Passed (ap is_of_outcomes ends.ends) refl passed)
   passes ask.Misused ending e passed = cc
 
   -- who ends with `Ran` was asked for a run, which ended so
@@ -138,7 +136,6 @@ module _ (input left held holds : Option (List ℕ)) where
   ran (ask.Run numbers tells) ending by ends is = by numbers ends
   ran (ask.Told text) ending by (inl e) is = cc
   ran (ask.Told text) ending by (inr e) is = cc
-  ran ask.Unread ending by ends is = absurd (otherwise is_of_outcomes ending Ran (ap is_of_outcomes ends.ends) refl is)
   ran ask.Misused ending by e is = cc
 
   -- a plain replay of standard input is one
@@ -146,11 +143,6 @@ module _ (input left held holds : Option (List ℕ)) where
       EndsReplayed input left held holds ending
   replays asked p ending ends =
       (subst (λ (a : Asked). EndsAsked a input left held holds ending) p.is ends).plain p.plain p.of_input
-
-  -- words that could not be read do nothing
-  pub unread : (asked : Asked) → asked ≡ ask.Unread → (ending : Ending) → EndsAsked asked input left held holds ending →
-      IsRefusedUnread input left held holds ending
-  unread asked e ending ends = subst (λ (a : Asked). EndsAsked a input left held holds ending) e ends
 
   -- what ends with `Done` was a replay that ended well
   pub replayed : (asked : Asked) (ending : Ending) → EndsAsked asked input left held holds ending → ending ≡ Done →

@@ -48,7 +48,6 @@ EndsAsked (ask.Check files) input left held holds ending = EndsChecks (vec_len f
 EndsAsked (ask.Outcomes race) input left held holds ending = EndsTold race input held holds ending
 EndsAsked (ask.Run numbers tells) input left held holds ending = EndsRun numbers ending
 EndsAsked (ask.Told text) input left held holds ending = (ending ≡ Told) ⊎ (ending ≡ Refused)
-EndsAsked ask.Unread input left held holds ending = IsRefusedUnread input left held holds ending
 EndsAsked ask.Misused input left held holds ending = ending ≡ Misused
 
 -- a run of some numbers was done whole

@@ -3,7 +3,7 @@
 ghost use Rattle.std.specs.Prelude.{◌≡◌, ◌≤◌, ◌⊎◌, true, IfOk, Ok, map, string_bytes};
 ghost use Rattle.command_line.specs.CommandLine.{MayAskPlainly, ask_plainly};
 ghost use Rattle.endings.specs.declared.ends.Ending.TheVariants.{Done, Passed, Ran};
-ghost use Rattle.asked_replays.specs.Replays.{EndsReplayed, IsRefusedUnread};
+ghost use Rattle.asked_replays.specs.Replays.{EndsReplayed};
 ghost use Rattle.mntgate.specs.Asking.{EndsAsked, EndsRun, TellsSomePassed, WasSomeRun};
 ghost use Rattle.line_replays.specs.Replayed.{Replayed};
 
@@ -23,6 +23,10 @@ use std::thread::Threads;
 /// Does what the words of a command line ask for; faults are told on a writer of their own, and where they can't be, the
 /// program ends the same. Where a person watches, a run tells there how far it is, and a fault of a schedule is explained. A run ends as Ran
 /// only where all that was asked of it was done.
+///
+/// # Errors
+///
+/// `AllocError` where there was no memory to read the words, or for what they ask for.
 pub fn run<
     R: Threads + Wait + Clock + Sync + Files + Alloc<A = Global>,
     I: Read,
@@ -38,8 +42,7 @@ pub fn run<
     person: Person,
 ) -> Result<Ending, AllocError>
     ensures plain { ask_plainly (map string_bytes words.now) ≡ true → IfOk result (λ ending. EndsReplayed
-        (I.remaining reader.old) (I.remaining reader.new) (W.contents writer.old) (W.contents writer.new) ending
-        ⊎ IsRefusedUnread (I.remaining reader.old) (I.remaining reader.new) (W.contents writer.old) (W.contents writer.new) ending) }
+        (I.remaining reader.old) (I.remaining reader.new) (W.contents writer.old) (W.contents writer.new) ending) }
     ensures only { IfOk result (λ ending. ending ≡ Done → MayAskPlainly (map string_bytes words.now)) }
     ensures done { IfOk result (λ ending. ending ≡ Done →
         Replayed (I.remaining reader.old) (I.remaining reader.new) (W.contents writer.old) (W.contents writer.new) (Ok tt)) }
@@ -81,7 +84,6 @@ fn do_asked<
             Ok(run_threads(rt, alloc, *numbers, *tells, writer, errors, watched))
         }
         Asked::Told(text) => Ok(text_told(text.as_str(), writer, errors)),
-        Asked::Unread => Ok(Ending::Refused),
         Asked::Misused => Ok(Ending::Misused),
     }
 }

@@ -11,9 +11,7 @@ use crate::sets::MountSet;
 use access_model::{Action, GateError, Next, Reply};
 use bitflags::Flags;
 use cpu_words::{Sum, Taken, Touch, WordName};
-
-/// The dirty mark of a node word.
-const MARK: u64 = 4;
+use node_words::NodeWord;
 
 /// What the next event of a remount is (`reconfigure_super`, `sb_prepare_remount_readonly`). `mount` is the one at which its
 /// loop stands, and `held` are the mounts at which it has HOLD set.
@@ -117,7 +115,10 @@ impl Remount {
                 WordName::MountFlags(held.lowest()),
                 Touch::And(!MountFlags::HOLD.bits()),
             ),
-            RemountStep::ClearsMark { node } => (WordName::Node(node), Touch::And(!MARK)),
+            RemountStep::ClearsMark { node } => (
+                WordName::Node(node),
+                Touch::And(!NodeWord::DIRTY),
+            ),
             RemountStep::SetsReadOnly => match hook {
                 Ok(()) => (WordName::SbFlags, Touch::Store(1)),
                 Err(_) => (WordName::Remount, Touch::Store(0)),
@@ -291,7 +292,7 @@ fn giving_up(mount: u8, held: MountSet) -> RemountStep
 fn cleaned(node: u8, word: u64) -> Option<Action>
     ensures { result ≡ mark_cleared node word }
 {
-    if word & MARK == MARK {
+    if word & NodeWord::DIRTY == NodeWord::DIRTY {
         Some(Action::Clean(node))
     } else {
         None

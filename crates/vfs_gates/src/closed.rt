@@ -13,13 +13,17 @@ use gate_world::Config;
 use std::marker::Model;
 
 /// The words of gates that are closed: all tasks were joined, no operation is under way, and nothing is held. Contracts see the
-/// configuration and the words. From crates/gate_tests/src/tests/calls.rt, which is run:
+/// configuration and the words. From crates/gate_runs/src/runs.rt, which each run of the program runs:
 ///
 /// ```
-/// closed.gate_sum(Gate::Mount(0)) == Some(0)
-///     && closed.gate_sum(Gate::Level(3)) == Some(0)
-///     && closed.gate_sum(Gate::Mount(1)).is_none()
-///     && closed.word(WordName::Umount) == Some(0)
+/// for gate in [
+///     Gate::Mount(MOUNT),
+///     Gate::Level(1),
+///     Gate::Level(2),
+///     Gate::Level(3),
+/// ] {
+///     held = held.wrapping_add(closed.gate_sum(gate).unwrap_or(0));
+/// }
 /// ```
 pub struct Closed {
     pub(crate) config: Config,

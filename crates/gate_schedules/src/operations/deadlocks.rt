@@ -1,5 +1,5 @@
 //! From each world in which an operation is under way a reply is near, or each task under way is kept by what none of them can change. It
-//! has no code: its functions state laws. Its theorem is of any world in which the rule holds; `gate_schedules` has it of every schedule.
+//! has no code: its functions state laws. Its theorem is of any world in which the rule holds; `every_schedule` has it of every schedule.
 ghost use Rattle.gate_world.specs.declared.config.Config.{Config};
 ghost use Rattle.gate_world.specs.declared.work.Phase.{Phase};
 ghost use Rattle.gate_world.specs.Configs.{IsWithin};

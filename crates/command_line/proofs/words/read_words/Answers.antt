@@ -1,4 +1,4 @@
-use Rattle.std.proofs.Common.{ap, subst, ◌∙◌, inl, inr, map, string_bytes}
+use Rattle.std.proofs.Common.{ap, subst, ◌∙◌, map, string_bytes}
 use Rattle.std.proofs.lemmas.Result.{IfOk-weaker}
 use Rattle.clap.specs.Words.{App, is_simple, subcommand_of, takes}
 use Rattle.command_line.specs.CommandLine.{IsBareReplay, is_plain_replay, mntgate_app}
@@ -10,7 +10,6 @@ returns-in-Ok-clause-plain g c h =
     let words = map string_bytes c.args.words.now in
     let known = c.in_ok-command.ensures in
     let is = (c.in-Ok.ensures.matches (ap is_simple known ∙ is_known)).1 ∙ ap (λ (a : App). subcommand_of a words) known in
-    IfOk-weaker c.request_of-asked.result _ _ (λ asked p. inr p)
     (c.request_of-asked.ensures.plain (ap is_plain_replay is ∙ and_right (takes mntgate_app words) _ h))
 
 pub returns-in-Ok-clause-only : goal.returns-in-Ok-clause-only
@@ -24,7 +23,7 @@ pub returns-in-Err-clause-plain : goal.returns-in-Err-clause-plain
 returns-in-Err-clause-plain g c h =
     let words = map string_bytes c.args.words.now in
     let taken = ap (λ (a : App). takes a words) c.in_ok-command.ensures ∙ and_left (takes mntgate_app words) _ h in
-    IfOk-weaker c.answer_of-asked.result _ _ (λ asked unread. inl unread) (c.answer_of-asked.ensures.memory (c.in-Err.ensures.passes taken))
+    IfOk-weaker c.answer_of-asked.result _ _ (λ asked none. absurd none) (c.answer_of-asked.ensures.memory (c.in-Err.ensures.passes taken))
 
 pub returns-in-Err-clause-only : goal.returns-in-Err-clause-only
 returns-in-Err-clause-only g c = IfOk-weaker c.answer_of-asked.result _ _ (λ asked other plain. absurd (other plain)) c.answer_of-asked.ensures.nothing

@@ -1,4 +1,4 @@
--- What the crate of an operation proves of it: of each of its phases, and of its beginning and its trace.
+-- What is proved of an operation: of each of its phases, and of its beginning and its trace.
 use Rattle.access_model.specs.declared.{actions.Action.Action, errors.GateError.GateError}
 use Rattle.cpu_words.specs.{Hooks.HookAnswer, Names.{Extents, IsWord}, declared.names.WordName.WordName}
 use Rattle.gate_world.specs.{Beginnings.{first_phase, is_in_order, is_in_range, is_within_room}, Causes.{all_counted, all_inside}, Configs.IsWithin}

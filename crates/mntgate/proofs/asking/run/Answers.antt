@@ -1,13 +1,10 @@
-use Rattle.std.proofs.Common.{inl, inr}
 use Rattle.std.proofs.lemmas.Result.{IfOk-weaker}
-use Rattle.mntgate.proofs.Asked.{done_plainly, passes, ran, replayed, replays, unread}
+use Rattle.mntgate.proofs.Asked.{done_plainly, passes, ran, replayed, replays}
 use Rattle.mntgate.proofs.asking.run.Goals as goal
 
 pub returns-clause-plain : goal.returns-clause-plain
-returns-clause-plain g c h = elim (c.in_ok-asked.ensures.plain h) [
-  | inl no_words ↦ IfOk-weaker c.do_asked-ended.result _ _ (λ ending x. inr (unread _ _ _ _ _ no_words ending x)) c.do_asked-ended.ensures
-  | inr p ↦ IfOk-weaker c.do_asked-ended.result _ _ (λ ending x. inl (replays _ _ _ _ _ p ending x)) c.do_asked-ended.ensures
-]
+returns-clause-plain g c h = IfOk-weaker c.do_asked-ended.result _ _
+    (λ ending x. replays _ _ _ _ c.in_ok-asked.asked (c.in_ok-asked.ensures.plain h) ending x) c.do_asked-ended.ensures
 
 pub returns-clause-only : goal.returns-clause-only
 returns-clause-only g c = IfOk-weaker c.do_asked-ended.result _ _
