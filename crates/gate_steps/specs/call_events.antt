@@ -20,4 +20,5 @@ pub mod Caused
 pub mod Led
 pub mod Closings
 pub mod CallingBack
+pub mod Remounting
 pub mod Reopenings
