@@ -21,4 +21,5 @@ pub mod Spans
 pub mod Led
 pub mod Closings
 pub mod CallingBack
+pub mod Remounting
 pub mod Reopenings

@@ -5,10 +5,11 @@ ghost use Rattle.access_model.specs.Replies.{map_next};
 ghost use Rattle.access_model.specs.declared.replies.Next.TheVariants.{Go};
 ghost use Rattle.gate_world.specs.Views.{phase_after};
 ghost use Rattle.gate_world.specs.declared.operations.Op.{Op as OpType};
-ghost use Rattle.gate_world.specs.declared.work.Phase.TheVariants.{Callbacks, Freezes, Thaws};
+ghost use Rattle.gate_world.specs.declared.work.Phase.TheVariants.{Callbacks, Freezes, Remounts, Thaws};
 ghost use Rattle.gate_steps.specs.call_events.CallingBack.{of_callback};
 ghost use Rattle.gate_steps.specs.call_events.Closings.{of_freeze};
 ghost use Rattle.gate_steps.specs.call_events.Led.{Led};
+ghost use Rattle.gate_steps.specs.call_events.Remounting.{of_remount};
 ghost use Rattle.gate_steps.specs.call_events.Reopenings.{of_thaw};
 ghost use Rattle.gate_steps.specs.call_events.TaskStates.{TaskState, task_state};
 ghost use Rattle.gate_steps.specs.call_events.Turns.{IsTied, StayTied};
@@ -18,11 +19,13 @@ ghost use Rattle.gate_steps.specs.call_events.Asking.{CalledAsking, GoesAsking, 
 mod callbacks;
 mod closings;
 mod freeze_lines;
+mod remount_lines;
 mod thaw_lines;
 
 use crate::call_ends::callbacks::{claim, run_callback};
 use crate::call_ends::closings::close_level;
 use crate::call_ends::freeze_lines::{begin_freeze, close_second, end_freeze};
+use crate::call_ends::remount_lines::sum_mount;
 use crate::call_ends::thaw_lines::reopen_all;
 use crate::call_events::{GateWords, Seat, TimedHooks, Turn, do_event, go_on};
 use access_model::{GateError, Next, Reply};
@@ -102,10 +105,7 @@ impl Waiting for Remount {
 
     #[inline(always)]
     fn go_in_line(self, gates: &GateWords, seat: &mut Seat, accesses: &Accesses) -> Next<Remount> {
-        let _ = gates;
-        let _ = accesses;
-        let _seat = &*seat;
-        Next::Go(self)
+        remount_in_line(gates, seat, accesses, self)
     }
 }
 
@@ -133,6 +133,28 @@ fn thaw_in_line(gates: &GateWords, seat: &mut Seat, accesses: &Accesses, thaw: T
     match thaw.step {
         ThawStep::SetsUnfrozen => reopen_all(gates, seat, accesses, thaw),
         _ => Next::Go(thaw),
+    }
+}
+
+/// The line of a remount from where it stands.
+#[inline(always)]
+fn remount_in_line(
+    gates: &GateWords,
+    seat: &mut Seat,
+    accesses: &Accesses,
+    remount: Remount,
+) -> Next<Remount>
+    requires table { seat.old.table_id ≡ gates.now.table.shared.table_id }
+    requires tied { IsTied gates.now.config None (Some (Remounts remount)) accesses.now seat.old.me.0.items }
+    ensures slots { seat.new.me.1 ≡ seat.old.me.1 }
+    ensures led { Led gates.now.config accesses.now (Go (Remounts remount)) seat.old.table_id seat.old.me.0
+        (of_remount result) seat.new.table_id seat.new.me.0 }
+{
+    match remount.step {
+        RemountStep::Sums { mount, held, sum } => {
+            sum_mount(gates, seat, accesses, remount, mount, held, sum)
+        }
+        _ => Next::Go(remount),
     }
 }
 
