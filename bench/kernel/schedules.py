@@ -138,7 +138,7 @@ class Drawn:
 
     def choices(self, task):
         """The calls that the task can make. Left out is a change to read-only of a mount while the superblock is: the kernel sets the mount's
-        own flag then, and the gates don't (docs/KERNEL.md)."""
+        own flag then, and the gates don't (docs/kernel.md)."""
         if task in self.inside:
             return [["end"]]
         draw, ways = self.draw, ["rw"] if self.flags.startswith("ro") else ["ro", "rw"]

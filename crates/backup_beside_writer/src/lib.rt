@@ -1,5 +1,6 @@
 //! Two threads at one mount: a writer that changes a file, and a backup that makes the mount read-only, reads the file twice and makes
-//! the mount writable again. At the end a third task is handed both of theirs and copies once more: that copy has every write. docs/CALLING.md explains it line by line; `gate_workbench backup` runs it, and prints the same whatever the schedule.
+//! the mount writable again. At the end a third task is handed both of theirs and copies once more: that copy has every write.
+//! docs/library.md explains it; `gate_workbench backup` runs it, and prints the same whatever the schedule.
 #![tactic(auto)]
 
 mod backup;

@@ -63,7 +63,7 @@ ghost use Rattle.gate_schedules.specs.operations.Ranks.{most_events_to_reply, mo
 /// - `progress`: nobody is deadlocked: a bounded number of events of tasks under way, which somebody picks one by one, lead to a reply of one
 ///   of them, whatever the hooks answer; or each operation under way is kept: a start or a last close that waits and isn't admitted yet, by its
 ///   closed level; a freeze, by an idle task that holds a level which it has to pass yet; and who waits for `umount`, by such a freeze that
-///   owns it to its end. It says what is possible, and no more: what may starve is in docs/PROVED.md.
+///   owns it to its end. It says what is possible, and no more: what may starve is in docs/theorem.md.
 /// - `settles`: so with no new beginning somebody can pick at most T times as many events, for T tasks, one by one, of tasks under way, whatever
 ///   the hooks answer, after which each operation that was under way has its reply, or all that are left are kept.
 /// - `replies`: so, with an operation under way, a reply is at most so many events away, or the file system is frozen as a whole, or an idle

@@ -37,7 +37,7 @@ use std::marker::Model;
 /// - a call at the tree: what it has charged stays charged, and the level that it needs is as above.
 ///
 /// So each task is to be joined, at rest: an access is given back before a refusal is handed on, and an operation that has begun is done
-/// to its end. docs/REFUSALS.md says more. From crates/backup_beside_writer/src/writer.rt, a proved crate:
+/// to its end. docs/refusals.md says more. From crates/backup_beside_writer/src/writer.rt, a proved crate:
 ///
 /// ```
 /// task.want(rt, gates, MOUNT, CPU)?;

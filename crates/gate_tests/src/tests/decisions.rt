@@ -1,4 +1,4 @@
-//! What docs/REFUSALS.md advises: a remount script that is busy, a backup whose freeze is refused, a snapshot that finds nothing frozen.
+//! What docs/refusals.md advises: a remount script that is busy, a backup whose freeze is refused, a snapshot that finds nothing frozen.
 
 ghost use Rattle.vfs_gates.specs.TaskStates.{IsFrom};
 

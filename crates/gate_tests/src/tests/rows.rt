@@ -57,7 +57,7 @@ pub enum Deed {
     Steps(WordName, u64, Progress),
     /// The next time that it is asked this, the file system fails with this code.
     FailsAt(HookCall, u16),
-    /// What docs/REFUSALS.md advises, and how it ends: a remount with three tries; one that sees what was in the way; a backup; a snapshot with
+    /// What docs/refusals.md advises, and how it ends: a remount with three tries; one that sees what was in the way; a backup; a snapshot with
     /// two tries.
     Shuts(Result<(), GateError>),
     ShutsAndSees(Result<Option<WordName>, GateError>),

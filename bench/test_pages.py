@@ -1,0 +1,265 @@
+#!/usr/bin/env -S python3 -B
+"""Tests the pages README.md, CONTRIBUTING.md and docs/**/*.md against the repository and the built program.
+
+    bench/test_pages.py [--links] [PROGRAM]
+
+With no PROGRAM it takes crates/mntgate/out/mntgate. With --links it runs no command. Four things are tested:
+
+Links      A link to a file names one that exists, and its #heading one that the file has. Links to other hosts are not followed.
+Paths      A path in backticks that begins with a folder of the repository exists. One with NAME, `..`, `<` or /out is skipped.
+Commands   A block that begins with ```console is run. A line `$ COMMAND` is a command for bash, lines `> ` behind it continue it, and all other
+           lines are what it prints, standard error included. A line `...` stands for any lines. All commands of a page run in one folder, in
+           which bin/mntgate is the program and all else of the repository has its place, so that a page may write files there. A command whose
+           status isn't 0 has to say so: `$ COMMAND; echo $?`.
+Quotes     A block that begins with ```LANGUAGE FILE has lines of that file, in their order and with none left out; their common indent may
+           differ. A line `...` stands for any lines of the file. FILE is relative to the repository's top.
+
+And each docs/NAME.md that a file of the repository mentions exists. Prints what is wrong, by page and line; the exit status is 1 then."""
+
+import difflib
+import glob
+import os
+import re
+import subprocess
+import sys
+import tempfile
+import textwrap
+from typing import NamedTuple
+
+ROOT = os.path.dirname(os.path.dirname(os.path.realpath(__file__)))
+PROGRAM = f"{ROOT}/crates/mntgate/out/mntgate"
+FENCE = re.compile(r"^(\s*)```+(.*)$")
+LINK = re.compile(r"(?<!!)\[(?:[^\]`]|`[^`]*`)*\]\(([^)\s]+)\)")
+CODE = re.compile(r"`([^`]+)`")
+HEADING = re.compile(r"^#{1,6} +(.*?)(?: +#+)?$")
+FOLDERS = ("crates", "bench", "bin", "docs", "examples", "man", ".ci")
+PATH = re.compile(rf"^(?:{'|'.join(map(re.escape, FOLDERS))})/[\w./*-]*$")
+MENTION = re.compile(r"\bdocs/[\w./-]*?\.md\b")
+# How long one command may take, in seconds.
+LONGEST = 60
+
+
+class Block(NamedTuple):
+    """A fenced block: the line of its fence, what stands behind the fence, and its lines."""
+
+    line: int
+    info: str
+    lines: list
+
+
+class Page(NamedTuple):
+    """A page: its path, its fenced blocks, and its other lines by number."""
+
+    path: str
+    blocks: list
+    prose: list
+
+
+def read_page(path):
+    """Reads a page."""
+    blocks, prose, begun, indent = [], [], None, ""
+    with open(f"{ROOT}/{path}", encoding="utf-8") as it:
+        lines = it.read().splitlines()
+    for number, line in enumerate(lines, 1):
+        fence = FENCE.match(line)
+        if fence and begun is None:
+            indent, begun = fence[1], Block(number, fence[2].strip(), [])
+        elif fence and not fence[2].strip():
+            blocks.append(begun)
+            begun = None
+        elif begun is not None:
+            begun.lines.append(line.removeprefix(indent))
+        else:
+            prose.append((number, line))
+    return Page(path, blocks, prose)
+
+
+def pages():
+    """All pages."""
+    found = glob.glob("*.md", root_dir=ROOT) + glob.glob("docs/**/*.md", root_dir=ROOT, recursive=True)
+    return [read_page(path) for path in sorted(found)]
+
+
+def anchors(page):
+    """The anchors of a page's headings, as code hosts make them."""
+    found, times = set(), {}
+    for _, line in page.prose:
+        if heading := HEADING.match(line):
+            text = re.sub(r"\[([^\]]*)\]\([^)]*\)", r"\1", heading[1])
+            base = re.sub(r"[^\w\- ]", "", text.lower()).replace(" ", "-")
+            found.add(f"{base}-{times[base]}" if base in times else base)
+            times[base] = times.get(base, 0) + 1
+    return found
+
+
+def link_faults(page, by_path):
+    """The links of a page that lead nowhere."""
+    for number, line in page.prose:
+        for target in LINK.findall(re.sub(r"`[^`]*`", "", line)):
+            if "://" in target or target.startswith("mailto:"):
+                continue
+            name, _, anchor = target.partition("#")
+            path = os.path.normpath(os.path.join(os.path.dirname(page.path), name)) if name else page.path
+            if not os.path.exists(f"{ROOT}/{path}"):
+                yield f"{page.path}:{number}: no file {path}"
+            elif anchor and path in by_path and anchor not in anchors(by_path[path]):
+                yield f"{page.path}:{number}: {path} has no heading #{anchor}"
+
+
+def path_faults(page):
+    """The paths in backticks that are not there."""
+    for number, line in page.prose:
+        for code in CODE.findall(line):
+            word = code.split(" ")[0].rstrip(".,:")
+            if PATH.match(word) and not any(part in word for part in ("NAME", "..", "<", "/out")):
+                if not glob.glob(f"{ROOT}/{word}"):
+                    yield f"{page.path}:{number}: no path {word}"
+
+
+def mention_faults():
+    """The pages that a file mentions and that are not there."""
+    for folder in (*FOLDERS, "."):
+        for place, folders, names in os.walk(f"{ROOT}/{folder}"):
+            folders[:] = [] if folder == "." else [name for name in folders if name not in ("out", "__pycache__", ".git")]
+            for path in (os.path.join(place, name) for name in names):
+                try:
+                    with open(path, encoding="utf-8") as it:
+                        text = it.read()
+                except (OSError, UnicodeDecodeError):
+                    continue
+                for mentioned in sorted(set(MENTION.findall(text))):
+                    if "NAME" not in mentioned and not os.path.exists(f"{ROOT}/{mentioned}"):
+                        yield f"{os.path.relpath(path, ROOT)}: no page {mentioned}"
+
+
+def parts_of(lines):
+    """Lines in parts between those that are `...`."""
+    parts = [[]]
+    for line in lines:
+        if line.strip() == "...":
+            parts.append([])
+        else:
+            parts[-1].append(line)
+    return parts
+
+
+def fits(wanted, came):
+    """Whether lines are those wanted, where `...` stands for any."""
+    parts, at = parts_of(wanted), 0
+    if len(parts) == 1:
+        return wanted == came
+    if came[: len(parts[0])] != parts[0]:
+        return False
+    at = len(parts[0])
+    for part in parts[1:-1]:
+        at = next((k + len(part) for k in range(at, len(came) + 1) if came[k : k + len(part)] == part), None)
+        if at is None:
+            return False
+    last = parts[-1]
+    return len(came) - len(last) >= at and (not last or came[-len(last) :] == last)
+
+
+def commands_of(block):
+    """The commands of a block, each with its line and what it should print."""
+    found = []
+    for number, line in enumerate(block.lines, block.line + 1):
+        if line.startswith("$ "):
+            found.append((number, [line[2:]], []))
+        elif line.startswith("> ") and found and not found[-1][2]:
+            found[-1][1].append(line[2:])
+        elif found:
+            found[-1][2].append(line)
+    return [(number, "\n".join(words), printed) for number, words, printed in found]
+
+
+def make_folder(folder, program):
+    """Makes a folder like the repository, with this program in its bin."""
+    os.mkdir(f"{folder}/bin")
+    os.symlink(os.path.abspath(program), f"{folder}/bin/mntgate")
+    for name in os.listdir(ROOT):
+        if name not in ("bin", ".git"):
+            os.symlink(f"{ROOT}/{name}", f"{folder}/{name}")
+
+
+def run(command, folder):
+    """Runs a command; what it printed, line by line, and its exit status."""
+    environment = {**os.environ, "LC_ALL": "C", "COLUMNS": "100"}
+    words = ["bash", "-c", command]
+    try:
+        ended = subprocess.run(words, cwd=folder, env=environment, stdin=subprocess.DEVNULL, stdout=subprocess.PIPE, stderr=subprocess.STDOUT,
+                               timeout=LONGEST, check=False)
+    except subprocess.TimeoutExpired:
+        return [f"(no end within {LONGEST} seconds)"], 1
+    return [line.rstrip() for line in ended.stdout.decode("utf-8", "replace").splitlines()], ended.returncode
+
+
+def command_faults(page, program):
+    """The commands of a page that print something else; and how many there are."""
+    faults, count = [], 0
+    with tempfile.TemporaryDirectory() as folder:
+        make_folder(folder, program)
+        for block in page.blocks:
+            for number, command, wanted in commands_of(block) if block.info == "console" else []:
+                came, status = run(command, folder)
+                count += 1
+                if not fits(wanted, came):
+                    changed = difflib.unified_diff(wanted, came, "the page", "the program", lineterm="", n=1)
+                    faults.append("\n".join([f"{page.path}:{number}: $ {command}", *changed]))
+                elif status:
+                    faults.append(f"{page.path}:{number}: $ {command}\nends with status {status}, which the page doesn't say")
+    return faults, count
+
+
+def quote_faults(page):
+    """The quotes of a page that aren't in their file; and how many there are."""
+    faults, count = [], 0
+    for block in page.blocks:
+        words = block.info.split(" ")
+        if len(words) != 2:
+            continue
+        count += 1
+        try:
+            with open(f"{ROOT}/{words[1]}", encoding="utf-8") as it:
+                file = it.read().splitlines()
+        except OSError:
+            faults.append(f"{page.path}:{block.line}: no file {words[1]}")
+            continue
+        at = 0
+        for part in parts_of(block.lines):
+            wanted = textwrap.dedent("\n".join(part)).strip("\n").splitlines()
+            size = len(wanted)
+            found = (k for k in range(at, len(file) - size + 1) if textwrap.dedent("\n".join(file[k : k + size])).splitlines() == wanted)
+            at = next(found, None)
+            if at is None:
+                faults.append(f"{page.path}:{block.line}: {words[1]} doesn't have the lines from {wanted[0].strip()!r} on")
+                break
+            at += size
+    return faults, count
+
+
+def main(words):
+    """Tests the pages; the exit status."""
+    links_alone = "--links" in words
+    program = next((word for word in words if word != "--links"), PROGRAM)
+    if not links_alone and not os.access(program, os.X_OK):
+        sys.exit(f"test_pages: there is no program {os.path.relpath(program)}: bin/prove builds it")
+    every = pages()
+    by_path = {page.path: page for page in every}
+    faults, commands, quotes = list(mention_faults()), 0, 0
+    for page in every:
+        faults += [*link_faults(page, by_path), *path_faults(page)]
+        quoted, count = quote_faults(page)
+        faults, quotes = faults + quoted, quotes + count
+        if not links_alone:
+            ended, count = command_faults(page, program)
+            faults, commands = faults + ended, commands + count
+    if faults:
+        print(*faults, sep="\n")
+        print(f"{len(faults)} places of the pages are wrong")
+        return 1
+    print(f"{len(every)} pages: their links lead somewhere, {commands} commands print what they say, {quotes} quotes stand in the code")
+    return 0
+
+
+if __name__ == "__main__":
+    sys.exit(main(sys.argv[1:]))
