@@ -1,6 +1,6 @@
 -- What the program tells of its run: what the lists of its two tasks have in the end.
-use Rattle.std.specs.Prelude.{◌≡◌, ◌++◌, ℕ, true, false, Ok}
-use Rattle.vfs_gates.specs.Rounds.{Rounds, BothDone, Did, Granted, TaskState, Ended, Ending, Mount, ChangeMount, ComesAfter, Performs}
+use Rattle.std.specs.Prelude.{◌≡◌, ◌++◌, ℕ, true, false, Ok, IfSome}
+use Rattle.vfs_gates.specs.Rounds.{Rounds, BothDone, Did, Granted, TaskState, Ended, Ending, Mount, ChangeMount, ComesAfter, Performs, granted_in, own_actions}
 use Rattle.backup_beside_writer.specs.declared.told.Told.{Told}
 
 -- a copy: the mount was made read-only and then writable, and neither was refused
@@ -21,8 +21,18 @@ pub record HasEveryWrite (backup writer left : TaskState) : Type 0 where
   pub after : ComesAfter writer joined there
   pub opens : Performs (ChangeMount 0 false true) there left (Ok tt)
 
--- In the closed gates' world the writer was granted an access for each write that is told, and the backup made all copies told, each from no action.
+-- A task to which one was joined that had been granted so many accesses, and no more, has copied then.
+pub record HasAllWrites (writes : ℕ) : Type 0 where
+  pub last : TaskState
+  pub writer : TaskState
+  pub left : TaskState
+  pub granted : granted_in (Mount 0) (own_actions writer) ≡ writes
+  pub copied : HasEveryWrite last writer left
+
+-- In the closed gates' world the writer was granted an access for each write that is told, and the backup made all copies told, each from no action; and
+-- the last copy, where it is told whether it was torn, has all writes told.
 pub record IsTold (told : Told) (closed : Ending) : Type 0 where
   pub ended : Ended closed.config closed.words
   pub writes : Did (ended.world.views told.writer) (Granted (Mount 0) told.writes)
   pub copies : Did (ended.world.views told.backup) (Copies told.copies)
+  pub every_write : IfSome told.last_torn (λ torn. HasAllWrites told.writes)

@@ -63,7 +63,7 @@ pub fn copy_at_the_end<R: Wait>(
 }
 
 /// Lets the writer and the backup work at one mount, each in a thread; then a third task is handed both of theirs and copies once more; and closes the
-/// gates. Tells what both tasks' lists have in the end.
+/// gates. Tells what both tasks' lists have in the end, and that the copy at the end, if it was made, has every write.
 ///
 /// # Errors
 ///

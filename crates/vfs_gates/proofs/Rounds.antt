@@ -1,6 +1,6 @@
 -- Laws for a caller, with the words that its proofs cite them by. Their arguments are found from what its calls ensure.
 pub use Rattle.std.proofs.Common.{ℕ, ◌≤◌, rules}
-use Rattle.std.proofs.Common.{◌≡◌, ◌<◌, suc, arith, length-append, Bool, true, false, List, [], ◌∷◌, ◌++◌, length, refl, sym, ap, ◌∙◌, subst}
+use Rattle.std.proofs.Common.{◌≡◌, ◌<◌, ◌+◌, suc, arith, add-zero, length-append, Bool, true, false, List, [], ◌∷◌, ◌++◌, length, refl, sym, ap, ◌∙◌, subst}
 use Rattle.std.proofs.lemmas.Bool.{and_parts, ltb-true}
 use Rattle.std.specs.Prelude.{Option, Some, None, Result, Ok, nat_lt}
 use Rattle.atomic_table.specs.Seated.{TableId}
@@ -15,6 +15,8 @@ use Rattle.vfs_gates.specs.Held.{own_actions, IsGivenBack, takes_nothing}
 use Rattle.gate_world.specs.declared.entries.Entry.{Entry}
 use Rattle.vfs_gates.specs.Ended.{EndedWith}
 pub use Rattle.vfs_gates.specs.Rounds.{GateError, Mount, Op, ChangeMount, Performs, Rests, TaskState, IsFrom, ComesAfter, Did, Ended, Granted, refused, round}
+use Rattle.access_model.specs.declared.actions.Gate.{Gate}
+use Rattle.vfs_gates.specs.Rounds.{granted_in}
 use Rattle.vfs_gates.specs.Parts.{SplitOf}
 use Rattle.vfs_gates.specs.TaskStates.{own_number, own_view, refusal_at, spare_of, task_state, Empty}
 use Rattle.vfs_gates.proofs.Holding.{keeps, rests_on}
@@ -131,6 +133,17 @@ have_spare views (y ∷ ys) (x ∷ xs) others same there have =
 kept_same : (n : ℕ) (l : SeatItems) → own_view (kept_of n l) ≡ own_view l
 kept_same n [] = refl
 kept_same n (x ∷ xs) = refl
+
+-- A task that was granted so many accesses, from where it had done nothing, and to which another was joined then, has just these in its list.
+pub granted_alone : {opening : Config} {id : TableId} {old f g s t : TaskState} (gate : Gate) (n : ℕ) (first other joined : TaskState) →
+    old ≡ task_state id opening None None (first_known opening) → SplitOf old f s → SplitOf f g t → Granted gate n g first →
+    joined.items ≡ first.items ++ other.items → 1 ≤ length first.items → granted_in gate (own_actions joined) ≡ n
+granted_alone {opening = opening} {id = id} {old = old} {f = f} {g = g} {s = s} gate n first other joined is made more granted items there =
+    let nothing = split_done_nothing opening id old f s is made in
+    let none : own_actions g ≡ [] =
+    ap own_actions more.kept ∙ (ap (λ (v : View). v.actions) (kept_same more.number f.items) ∙ nothing.0) in
+    ap (λ (v : View). granted_in gate v.actions) (ap own_view items ∙ sym (own_same first.items other.items there)) ∙
+    (granted ∙ (ap (λ l. n + granted_in gate l) none ∙ add-zero n))
 
 -- The same of two tasks that were joined to a third, which was split off behind them, and called then itself.
 pub handed_did : {c : Config} {ws : List ℕ} {items : SeatItems} {seen : List (List Entry)} {one two : ℕ} {opening : Config} {id : TableId}
