@@ -1,13 +1,13 @@
 -- What the calls of a run's tasks answer, and how they leave their tasks: at rest, or with the write access that was granted.
-use Rattle.std.proofs.Common.{◌≡◌, ◌≢◌, inl, inr, ℕ, zero, suc, ◌+◌, ◌<◌, ◌≤◌, Bool, true, ◌∷◌, List, refl, ap, ◌∙◌, subst, arith, lt-ltb}
-use Rattle.std.specs.Prelude.{None, Some, Result, Ok, Err, IfErr}
+use Rattle.std.proofs.Common.{◌≡◌, ◌≢◌, inl, inr, ℕ, zero, suc, ◌+◌, ◌<◌, true, List, refl, ap, ◌∙◌, subst, arith, lt-ltb}
+use Rattle.std.specs.Prelude.{None, Some, Result, Ok, Err}
 use Rattle.access_model.specs.Histories.{mounts_of, levels_of}
 use Rattle.access_model.specs.declared.actions.Action.TheVariants.{Grant}
 use Rattle.access_model.specs.declared.actions.Gate.TheVariants.{Mount, Level}
 use Rattle.access_model.specs.declared.actions.Holder.TheVariants.{User}
 use Rattle.access_model.specs.declared.actions.Kind.TheVariants.{File}
 use Rattle.access_model.specs.declared.errors.GateError.{GateError}
-use Rattle.access_model.specs.declared.errors.GateError.TheVariants.{Again, Busy, Hook, Invalid, IsDir, NoEntry, NoMemory, NoSpace, NotDir, Order, ReadOnly, TooMany}
+use Rattle.access_model.specs.declared.errors.GateError.TheVariants.{Again, Busy, Hook, Invalid, IsDir, NoEntry, NoSpace, NotDir, Order, ReadOnly, TooMany}
 use Rattle.access_model.specs.declared.replies.Reply.{Reply}
 use Rattle.gate_world.specs.Holdings.{Holdings, holdings_of, held_after}
 use Rattle.gate_world.specs.Operations.{some_mount}
@@ -18,7 +18,7 @@ use Rattle.gate_world.specs.declared.operations.Op.TheVariants.{WantWrite, DropW
 use Rattle.gate_world.specs.declared.views.Traced.{Traced}
 use Rattle.gate_runs.specs.run_parts.Refusals.{EndsCreate, EndsFreeze, EndsGrow, EndsThaw, HasWriteAccess, MayEnd, MetBy, RunRefused, StandsFor, WasRefused}
 use Rattle.gate_runs.specs.run_parts.Rounds.{Does, IsRefused}
-use Rattle.vfs_gates.specs.Held.{Rests, IsAsBefore, own_actions, takes_nothing}
+use Rattle.vfs_gates.specs.Held.{Rests, own_actions, takes_nothing}
 use Rattle.vfs_gates.specs.Runs.{Called, Performs, Replies, told_as}
 use Rattle.vfs_gates.specs.TaskStates.{TaskState, refusal_at}
 use Rattle.vfs_gates.proofs.Holding.{adds, as_before_twice, keeps, refused_call_keeps, rests_on, unchanged}

@@ -1,9 +1,7 @@
 -- What a task that came home has done, once its number was taken back, and what all have done together.
 use Rattle.std.proofs.Common.{◌≡◌, ℕ, suc, ◌+◌, ◌-◌, subst, arith, inr}
-use Rattle.std.specs.Prelude.{Result, Ok, Err, IfErr, IfOk, OnOk}
-use Rattle.std.specs.Result.{result_and}
+use Rattle.std.specs.Prelude.{Result, Ok, Err, IfErr, IfOk}
 use Rattle.access_model.specs.declared.errors.GateError.{GateError}
-use Rattle.gate_world.specs.declared.config.Config.{Config}
 use Rattle.run_plans.specs.declared.counts.Remounts.{Remounts}
 use Rattle.run_plans.specs.declared.counts.Writes.{Writes}
 use Rattle.run_plans.specs.declared.plans.Plan.{Plan}
@@ -15,7 +13,6 @@ use Rattle.gate_runs.specs.declared.run_threads.threads.Met.TheVariants.{Remount
 use Rattle.gate_runs.specs.run_threads.Homes.{ComesHome, DoesRounds, Part}
 use Rattle.gate_runs.specs.run_threads.Parts.{Among, Remounted, Wrote, AllWrote}
 use Rattle.gate_runs.proofs.run_threads.Staying.{TookBack, all_wrote_before, all_wrote_on, remounted_on, remounter_part, writer_part}
-use Rattle.vfs_gates.specs.Held.{Rests}
 use Rattle.vfs_gates.specs.declared.Gates.{Gates}
 use Rattle.gate_runs.specs.run_parts.Splitting.{HasBegun}
 use Rattle.gate_runs.specs.run_parts.TaskStates.{TaskState}

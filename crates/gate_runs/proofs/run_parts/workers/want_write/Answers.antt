@@ -4,7 +4,7 @@ use Rattle.std.specs.Prelude.{Ok, Err}
 use Rattle.access_model.specs.declared.errors.GateError.TheVariants.{ReadOnly}
 use Rattle.gate_world.specs.declared.operations.Op.TheVariants.{WantWrite}
 use Rattle.vfs_gates.specs.Runs.{Performs}
-use Rattle.gate_runs.proofs.run_parts.Answering.{is_inside, rests_refused, want_begins, want_read_only, was_whole}
+use Rattle.gate_runs.proofs.run_parts.Answering.{is_inside, rests_refused}
 use Rattle.gate_runs.proofs.run_parts.Repeating.{counted_more, one_more, taken}
 use Rattle.gate_runs.specs.run_parts.Rounds.{IsRefused, Waits}
 use Rattle.gate_runs.proofs.run_parts.workers.want_write.Goals as goal
