@@ -1,6 +1,6 @@
 //! The model by its calls, and the printed names and numbers of refusals.
 
-use access_model::{Action, Gate, GateError, Holder, Kind, NodeInfo};
+use access_model::{Action, Gate, GateError, Holder, Holders, Kind, NodeInfo};
 use model_state::Model;
 use std::process::Abort;
 use std::test::Fail;
@@ -120,6 +120,29 @@ fn a_model_does_what_is_allowed(rt: HostRuntime) -> Result<(), Fail> {
     does(&rt, &mut model, THAWS.as_slice());
     assert!(rt; was_frozen && is_read_only(&model));
     Ok(())
+}
+
+/// One task at one mount. The mount is made read-only once its writer has left, and grants nothing then.
+static SHUTS: [Row; 5] = [
+    (0, Action::Grant(Gate::Mount(0)), true),
+    (0, Action::MountRo(0), false),
+    (0, Action::Return(Gate::Mount(0)), true),
+    (0, Action::MountRo(0), true),
+    (0, Action::Grant(Gate::Mount(0)), false),
+];
+
+#[test]
+fn a_model_grants_nothing_where_it_is_read_only(rt: HostRuntime) -> Result<(), Fail> {
+    let mut model = Model::new(rt.alloc(), 1, 1, 2, 8)?;
+    does(&rt, &mut model, SHUTS.as_slice());
+    Ok(())
+}
+
+#[test]
+fn a_freeze_has_holders(rt: HostRuntime) {
+    let held = Holders::none().with(Holder::User);
+    let has = [held.has(Holder::Kernel), held.has(Holder::User)];
+    assert!(rt; has == [false, true] && held.without(Holder::User).is_none());
 }
 
 /// Refusals, with the numbers of `errno`.

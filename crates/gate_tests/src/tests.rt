@@ -12,6 +12,7 @@ mod tasks;
 mod teams;
 mod threads;
 mod turns;
+mod worked;
 
 use std::test::Fail;
 use teams::{Case, expect_none, last_wrong};
@@ -57,6 +58,8 @@ const LOSSES: &[Case] = &[
     lost::RESTING,
 ];
 
+const WORKED: &[Case] = &[worked::READERS, worked::WRITERS, worked::ALONE];
+
 #[test]
 fn calls_are_made_as_their_user_makes_them(rt: HostRuntime) -> Result<(), Fail> {
     expect_none(last_wrong(&rt, ACCESSES))
@@ -95,4 +98,9 @@ fn tasks_in_threads_meet_at_mounts(rt: HostRuntime) -> Result<(), Fail> {
 #[test]
 fn tasks_in_threads_meet_at_files(rt: HostRuntime) -> Result<(), Fail> {
     expect_none(last_wrong(&rt, threads::AT_FILES))
+}
+
+#[test]
+fn worked_examples_end_as_worked_out(rt: HostRuntime) -> Result<(), Fail> {
+    expect_none(last_wrong(&rt, WORKED))
 }

@@ -1,6 +1,6 @@
 //! Runs: what they count, and that their tasks run at the same time.
 
-use gate_runs::{Plan, Totals, Watch, run_plan, run_with};
+use gate_runs::{Meeting, Plan, Totals, Watch, run_plan, run_with};
 use std::alloc::Global;
 use std::sync::Wait;
 use std::sync::atomic::{AtomicBool, AtomicU32, Ordering};
@@ -8,16 +8,15 @@ use std::test::Fail;
 use std::thread;
 use std::thread::Threads;
 
-/// Where two writers look for each other while they hold write access, and how often one has seen the other; and how many freezes there were.
+/// Where two writers look for each other while they hold write access, and how often one has seen the other.
 #[derive(Drop)]
 struct Rendezvous {
     is_first_here: AtomicBool,
     is_second_here: AtomicBool,
     seen: AtomicU32,
-    frozen: AtomicU32,
 }
 
-/// How often a writer looks.
+/// How often a writer looks at most.
 const TURNS: u32 = 100_000_000;
 
 impl Rendezvous {
@@ -36,13 +35,26 @@ impl Rendezvous {
     }
 }
 
-impl Watch for Rendezvous {
+impl Meeting for Rendezvous {
     fn holding(&self, task: u8, _round: u32) {
         if task == 2 {
             self.look_for(&self.is_first_here, &self.is_second_here);
         } else {
             self.look_for(&self.is_second_here, &self.is_first_here);
         }
+    }
+}
+
+/// How often writers held write access, and how many freezes there were.
+#[derive(Drop)]
+struct Counted {
+    held: AtomicU32,
+    frozen: AtomicU32,
+}
+
+impl Watch for Counted {
+    fn holding(&self, _task: u8, _round: u32) {
+        self.held.fetch_add(1, Ordering::SeqCst);
     }
 
     fn frozen(&self, _freeze: u32) {
@@ -61,30 +73,36 @@ fn wanted(writers: u32, rounds: u32, freezes: u32) -> Totals {
     }
 }
 
-/// Whether a run of two writers counts what it does, as its watch does. They meet, unless there are freezes: one of these may keep the one out
-/// while the other holds, so that they are taken for met.
-fn meets<R: Threads + Wait + Sync + Alloc<A = Global>>(
-    rt: &R,
-    processors: u8,
-    rounds: u32,
-    freezes: u32,
-) -> bool {
-    let watch = Rendezvous {
-        is_first_here: AtomicBool::new(freezes > 0),
-        is_second_here: AtomicBool::new(freezes > 0),
+/// Whether two writers hold write access at the same time: each sees the other before it gives its access back.
+fn meets<R: Threads + Wait + Sync + Alloc<A = Global>>(rt: &R) -> bool {
+    let meeting = Rendezvous {
+        is_first_here: AtomicBool::new(false),
+        is_second_here: AtomicBool::new(false),
         seen: AtomicU32::new(0),
+    };
+    let is_counted = match run_with(rt, rt.alloc(), 4, 2, 1, 0, &meeting) {
+        Ok((totals, _)) => totals == wanted(2, 1, 0),
+        Err(_) => false,
+    };
+    is_counted && meeting.seen.load(Ordering::SeqCst) == 2
+}
+
+/// Whether a run counts what it does, as its watch does.
+fn is_watched<R: Threads + Wait + Sync + Alloc<A = Global>>(rt: &R) -> bool {
+    let watch = Counted {
+        held: AtomicU32::new(0),
         frozen: AtomicU32::new(0),
     };
-    let is_counted = match Plan::new(4, processors, rounds, freezes) {
+    let is_counted = match Plan::new(4, 2, 100, 3) {
         Ok(plan) => match run_plan(rt, rt.alloc(), plan, &watch) {
-            Ok((totals, _, _)) => totals == wanted(2, rounds, freezes),
+            Ok((totals, _, _)) => totals == wanted(2, 100, 3),
             Err(_) => false,
         },
         Err(_) => false,
     };
-    let seen = watch.seen.load(Ordering::SeqCst);
+    let held = watch.held.load(Ordering::SeqCst);
     let frozen = watch.frozen.load(Ordering::SeqCst);
-    is_counted && seen == rounds.saturating_mul(2) && frozen == freezes
+    is_counted && held == 200 && frozen == 3
 }
 
 /// Whether a run may have 64 tasks.
@@ -96,10 +114,19 @@ fn has_many<R: Threads + Wait + Sync + Alloc<A = Global>>(rt: &R) -> bool {
 }
 
 #[test]
-fn runs_count_what_they_do_at_the_same_time(rt: HostRuntime) -> Result<(), Fail> {
-    if meets(&rt, 1, 1, 0) && meets(&rt, 2, 1, 0) && meets(&rt, 2, 100, 3) && has_many(&rt) {
+fn writers_hold_write_access_at_the_same_time(rt: HostRuntime) -> Result<(), Fail> {
+    if meets(&rt) {
         Ok(())
     } else {
         Err(Fail::new("counted otherwise, or not at the same time"))
+    }
+}
+
+#[test]
+fn runs_count_what_they_do(rt: HostRuntime) -> Result<(), Fail> {
+    if is_watched(&rt) && has_many(&rt) {
+        Ok(())
+    } else {
+        Err(Fail::new("counted otherwise"))
     }
 }

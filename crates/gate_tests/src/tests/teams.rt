@@ -22,6 +22,8 @@ pub enum Act {
     Second(&'static [Row]),
     /// All but the first do, each in a thread of its own.
     Beside(&'static [Part]),
+    /// The first and the second one do the same, each in a thread of its own.
+    Both(&'static Part),
     /// The first one splits another one off, or is refused so.
     Splits(Result<(), GateError>),
     /// The first one joins the last one, or is refused so.
@@ -118,6 +120,50 @@ fn go_beside<R: Wait + Threads + Sync>(
     );
 }
 
+/// Two tasks do the same part, each in a thread of its own.
+fn work_both<R: Wait + Threads + Sync>(
+    first: &mut Task,
+    second: &mut Task,
+    rt: &R,
+    gates: &Gates,
+    scene: &Scene,
+    part: &Part,
+)
+    requires first { IsFrom first.old gates.now }
+    requires second { IsFrom second.old gates.now }
+    ensures first { IsFrom first.new gates.now }
+    ensures second { IsFrom second.new gates.now }
+{
+    thread::join_mut(
+        rt,
+        &mut || work(first, rt, gates, scene, part),
+        &mut || work(second, rt, gates, scene, part),
+    );
+}
+
+/// The first and the second task do the same part, each in a thread of its own. Whether there is a second one.
+fn go_both<R: Wait + Threads + Sync>(
+    first: &mut Task,
+    others: &mut Vec<Task>,
+    rt: &R,
+    gates: &Gates,
+    scene: &Scene,
+    part: &Part,
+) -> bool
+    requires first { IsFrom first.old gates.now }
+    requires others { All (λ task. IsFrom task gates.now) others.old.items }
+    ensures first { IsFrom first.new gates.now }
+    ensures others { All (λ task. IsFrom task gates.now) others.new.items }
+{
+    match others.get_mut(0) {
+        Some(second) => {
+            work_both(first, second, rt, gates, scene, part);
+            true
+        }
+        None => false,
+    }
+}
+
 /// What acts say, in a row.
 fn go<R: Wait + Threads + Sync + Alloc<A = Global>>(
     first: &mut Task,
@@ -150,6 +196,7 @@ fn go<R: Wait + Threads + Sync + Alloc<A = Global>>(
                 go_beside(others, rt, gates, scene, parts);
                 true
             }
+            Act::Both(part) => go_both(first, others, rt, gates, scene, part),
             Act::Splits(wanted) => split(first, others, rt.alloc(), gates) == *wanted,
             Act::Joins(wanted) => join(first, others, gates) == *wanted,
             Act::Loses => others.pop().is_some(),
@@ -158,10 +205,12 @@ fn go<R: Wait + Threads + Sync + Alloc<A = Global>>(
     }
 }
 
-/// Whether closed gates have left this, and show themselves.
+/// Whether closed gates have left this, count nobody, and show themselves.
 fn has_left(alloc: Global, closed: &Closed, words: &[(WordName, u64)]) -> bool {
     let mut is_so = shows(alloc, closed, "Closed { config: Config { tasks: ")
-        && closed.gate_sum(Gate::Mount(0)) == Some(0);
+        && closed.gate_sum(Gate::Mount(0)) == Some(0)
+        && closed.gate_sum(Gate::Level(1)) == Some(0)
+        && closed.gate_sum(Gate::Level(4)).is_none();
     for (word, value) in words {
         is_so = is_so && closed.word(*word) == Some(*value);
     }
@@ -169,7 +218,7 @@ fn has_left(alloc: Global, closed: &Closed, words: &[(WordName, u64)]) -> bool {
 }
 
 impl Case {
-    /// Closes the gates, and looks at what they have left; where that is refused, all come back as they were.
+    /// Closes the gates, and looks at what they have left. If that is refused, it is as Order, and all come back as they were.
     fn closes(
         &self,
         alloc: Global,
@@ -189,7 +238,10 @@ impl Case {
                 scene.expect(is_left, self.name);
                 Ok(())
             }
-            Err((_refusal, gates, first)) => Err((gates, first)),
+            Err((refusal, gates, first)) => {
+                scene.expect(refusal == GateError::Order, self.name);
+                Err((gates, first))
+            }
         }
     }
 
