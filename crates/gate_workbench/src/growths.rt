@@ -46,7 +46,10 @@ pub(crate) fn print_endings<R: Threads + Wait + Print + Sync, I: Read>(
         ("split", split),
         ("run", threads::run(rt, alloc)),
         ("replay", schedules::ending_of_replay(alloc, Over::Core)),
-        ("over-gates", schedules::ending_of_replay(alloc, Over::Gates)),
+        (
+            "over-gates",
+            schedules::ending_of_replay(alloc, Over::Gates),
+        ),
     ];
     for (call, ending) in endings {
         println!(rt; "{call} {ending}")?;
