@@ -9,7 +9,6 @@ set -u
 WORDS=5
 LAST=65
 root=$(cd "$(dirname "$0")/.." && pwd)
-source "$root/bin/unproved.bash"
 ROOM=$(mktemp -d)
 trap 'rm -rf "$ROOM"' EXIT
 
@@ -19,10 +18,7 @@ for ((growth = 0; growth <= LAST; growth++)); do
 done
 # The interpreter runs no threads, so it isn't given any steps to speak of.
 cd "$root/crates/gate_workbench" || exit 1
-read_uses
-reach gate_workbench
-make_command gate_workbench --steps 1 --fail-alloc $((WORDS + LAST)) --cases "$ROOM/cases" -- growths
-if ! TMPDIR=$ROOM "${command[@]}" > "$ROOM/told" 2> "$ROOM/said"; then
+if ! TMPDIR=$ROOM rt try --steps 1 --fail-alloc $((WORDS + LAST)) --cases "$ROOM/cases" -- growths > "$ROOM/told" 2> "$ROOM/said"; then
   tail -n 5 "$ROOM/said"
   echo "FAILED"
   exit 1

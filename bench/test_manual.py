@@ -24,9 +24,11 @@ def heading(kind, words):
             return "[FILE]"
         case "Files":
             return "[FILE]..."
+        case "Word":
+            return f"[{words[0]}]"
         case "Flag":
             return f"--{words[0]}"
-        case "Number":
+        case "Number" | "Choice":
             return f"--{words[0]} <{words[1]}>"
     sys.exit(f"test_manual: an argument of a kind that no page has: {kind}")
 

@@ -3,7 +3,7 @@
 
     bench/test_pages.py [--links] [PROGRAM]
 
-With no PROGRAM it takes crates/mntgate/out/mntgate. With --links it runs no command. Four things are tested:
+With no PROGRAM it takes crates/mntgate/out/mntgate. With --links it runs no command. Five things are tested:
 
 Links      A link to a file names one that exists, and its #heading one that the file has. Links to other hosts are not followed.
 Paths      A path in backticks that begins with a folder of the repository exists. One with NAME, `..`, `<` or /out is skipped.
@@ -13,6 +13,7 @@ Commands   A block that begins with ```console is run. A line `$ COMMAND` is a c
            status isn't 0 has to say so: `$ COMMAND; echo $?`.
 Quotes     A block that begins with ```LANGUAGE FILE has lines of that file, in their order and with none left out; their common indent may
            differ. A line `...` stands for any lines of the file. FILE is relative to the repository's top.
+Pictures   Those of the pages are what the program makes (bench/pictures.py), and each that a page shows is there.
 
 And each docs/NAME.md that a file of the repository mentions exists. Prints what is wrong, by page and line; the exit status is 1 then."""
 
@@ -26,13 +27,15 @@ import tempfile
 import textwrap
 from typing import NamedTuple
 
+from pictures import picture_faults
+
 ROOT = os.path.dirname(os.path.dirname(os.path.realpath(__file__)))
 PROGRAM = f"{ROOT}/crates/mntgate/out/mntgate"
 FENCE = re.compile(r"^(\s*)```+(.*)$")
-LINK = re.compile(r"(?<!!)\[(?:[^\]`]|`[^`]*`)*\]\(([^)\s]+)\)")
+LINK = re.compile(r"\[(?:[^\]`]|`[^`]*`)*\]\(([^)\s]+)\)")
 CODE = re.compile(r"`([^`]+)`")
 HEADING = re.compile(r"^#{1,6} +(.*?)(?: +#+)?$")
-FOLDERS = ("crates", "bench", "bin", "docs", "examples", "man", ".ci")
+FOLDERS = ("crates", "bench", "bin", "bindings", "docs", "examples", "man", ".ci")
 PATH = re.compile(rf"^(?:{'|'.join(map(re.escape, FOLDERS))})/[\w./*-]*$")
 MENTION = re.compile(r"\bdocs/[\w./-]*?\.md\b")
 # How long one command may take, in seconds.
@@ -253,6 +256,8 @@ def main(words):
         if not links_alone:
             ended, count = command_faults(page, program)
             faults, commands = faults + ended, commands + count
+    if not links_alone:
+        faults += picture_faults(program)
     if faults:
         print(*faults, sep="\n")
         print(f"{len(faults)} places of the pages are wrong")

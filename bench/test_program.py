@@ -72,7 +72,7 @@ def checks_of_cases(cases):
 
 def checks_of_examples():
     """A check of all examples, schedules and races: each prints what it says that it prints."""
-    files = sorted(glob.glob(f"{ROOT}/examples/*.schedule")) + sorted(glob.glob(f"{ROOT}/examples/races/*.race"))
+    files = sorted(glob.glob(f"{ROOT}/examples/*.schedule")) + sorted(glob.glob(f"{ROOT}/examples/races/**/*.race", recursive=True))
     yield check_of(Program.run, ["check", *files], "all examples", (0, f"{len(files)} passed, 0 failed\n", ""))
 
 
@@ -112,8 +112,8 @@ def checks_of_reads():
             ends = 1, "".join(text for _, text in LINES[:whole]), f"line {whole + 1}: read failed\n"
             yield check_of(Program.run_cut, words, f"a read fails behind {size} bytes", ends, given=given)
             yield check_of(Program.run_interrupted, words, f"a read is interrupted behind {size} bytes", ends, given=given)
-        for flags in ([], ["--explain"]):
-            yield check_of(Program.run_over_folder, [*words, *flags], "a folder is read", (1, "", "line 1: read failed\n"))
+        for flags, told in (([], "line 1: read failed\n"), (["--explain"], "<stdin>:1: error: read failed\n")):
+            yield check_of(Program.run_over_folder, [*words, *flags], "a folder is read", (1, "", told))
         yield check_of(Program.run_answering, words, "line by line", (0, TEXT, ""), lines=LINES)
 
 
@@ -144,15 +144,18 @@ def checks_of_writes():
 # Command lines whose output can't be written, each with its input, and with what is told.
 FULL = [
     (["replay"], SCHEDULE, "line 9: write failed\n"),
-    (["replay", "--explain", "--over-gates"], SCHEDULE, "line 9: write failed\n"),
+    (["replay", "--explain", "--over-gates"], SCHEDULE, "<stdin>:9: error: write failed\n"),
     (["replay", "--events"], SCHEDULE, "line 9: write failed\n"),
     (["replay", "--columns"], SCHEDULE, "line 9: write failed\n"),
     (["replay", "--json", "--over-gates"], SCHEDULE, "line 9: write failed\n"),
+    (["replay", "--html"], SCHEDULE, "line 1: write failed\n"),
     (["replay", "one.schedule"], b"", "one.schedule: line 3: write failed\n"),
     (["check", "good.schedule"], b"", "write failed\n"),
     (["outcomes", "one.race"], b"", "write failed\n"),
     (["outcomes", "one.race", "--schedules"], b"", "write failed\n"),
+    (["outcomes", "one.race", "--html"], b"", "write failed\n"),
     (["run", "--tasks", "3", "--cpus", "1", "--rounds", "1", "--freezes", "0"], b"", "write failed\n"),
+    (["explain", "freeze"], b"", "write failed\n"),
     (["--version"], b"", "write failed\n"),
 ]
 
@@ -166,14 +169,54 @@ def checks_of_full():
 def checks_of_persons():
     """What a person is told who types a schedule, or who watches: what is awaited, and what helps after a fault. And an argument that is no text."""
     awaited = ("mntgate: type a schedule, from 'config *", True)
-    helps = [("line 2: unknown command", False), ("'rum' at column 3: did you mean 'run'?", False)]
+    helps = [(line, False) for line in ("<stdin>:2:3: error: unknown command 'rum'", "  0 rum", "    ^~~", "help: did you mean 'run'?")]
     for words, (line, status, text, told) in itertools.product(OVER, (("0 step", 0, "0 idle\n", []), ("0 rum", 1, "", helps))):
         given = f"config 1 1 1 2 8\n{line}\n".encode()
         ends = status, text, wanted_of([awaited, *told])
         yield check_of(Program.run_typed, words, f"'{line}' is typed", ends, given=given, types=True)
         yield check_of(Program.run_typed, words, f"'{line}' is watched", (status, text, wanted_of(told)), given=given, types=False)
+    for words, text in (("replay", ""), ("outcomes", ""), ("check", "0 passed, 1 failed\n")):
+        ends = 1, text, wanted_of([("\\x1b[2J: *", True)])
+        yield check_of(Program.run, [words, "\x1b[2J"], "a name with control characters", ends)
+    ends = 2, "", wanted_of([("error: unexpected argument '\\x1b[2J' found", False), ("...", True)])
+    yield check_of(Program.run, ["replay", "one.schedule", "\x1b[2J"], "an argument with control characters", ends)
     for words in ([b"\xff"], ["replay", b"one.schedule\xc3"]):
         yield check_of(Program.run, words, "no text", (2, "", wanted_of([("error: *", True), ("...", True)])))
+
+
+# A schedule that says what it prints in wrong places and words, or not at all; and as it is once that is written into it.
+UNBLESSED = b"# first\nconfig 1 1 1 2 8\n0 want 0 0\n0 run\n# between\n#> nonsense\n#> more\nwords\n0 run\n#> 0 ok\n"
+BLESSED = b"# first\nconfig 1 1 1 2 8\n0 want 0 0\n0 run\n# between\n#> 0 ok\nwords\n#> mount0.cpu0 1\n0 run\n#> 0 idle\n"
+
+
+class Blessing(NamedTuple):
+    """A file into which a check writes what it prints: it is then as wanted, no other file is left beside it, and a check passes."""
+
+    name: str
+    given: bytes
+    wanted: bytes
+
+    def difference(self, program):
+        """How it ends otherwise; nothing where it ends as it should."""
+        with tempfile.TemporaryDirectory() as folder:
+            path = f"{folder}/{self.name}"
+            with open(path, "wb") as file:
+                file.write(self.given)
+            ends = ((["--bless"], "1 written, 0 unchanged, 0 failed\n"), (["--bless"], "0 written, 1 unchanged, 0 failed\n"), ([], "1 passed, 0 failed\n"))
+            came = [program.run(["check", *flags, path]) for flags, _ in ends]
+            wrong = [f"{ended.printed!r} came\n" for ended, (_, text) in zip(came, ends) if (ended.status, ended.printed) != (0, text.encode())]
+            with open(path, "rb") as file:
+                written = file.read()
+            if written != self.wanted or os.listdir(folder) != [self.name]:
+                wrong += [f"{self.name}, beside {os.listdir(folder)}:\n", *changes(self.wanted.decode(), written)]
+        return "".join(wrong)
+
+
+def checks_of_blessings():
+    """Files into which a check writes what they print: a schedule, and a race."""
+    yield Blessing("blessed.schedule", UNBLESSED, BLESSED)
+    race = b"config 1 1 1 2 8\nrace\n0 drop 0 0\n"
+    yield Blessing("blessed.race", race, race.replace(b"race\n", b"race\n#> 2 states, 1 outcome\n#> 0 refused 35 Order\n"))
 
 
 # The form of each command on a task, as a person is told it.
@@ -212,6 +255,13 @@ def word_of(place, chosen):
     return words[chosen % len(words)] if len(words) > 1 else "1"
 
 
+def misfit(line, count):
+    """Where a line differs from a form of so many words: the column of the first word too many, and how wide all of them are; or its end."""
+    words = line.split(" ")
+    rest = " ".join(words[count:])
+    return (len(line) - len(rest) + 1, len(rest)) if rest else (len(line) + 1, 1)
+
+
 def checks_of_forms():
     """Of each form lines with each number of words: those that have as many as it are accepted, also without what may be left out, and of any other
     the form is told."""
@@ -222,7 +272,9 @@ def checks_of_forms():
         for count, chosen in itertools.product(range(2, 8), range(choices)):
             words = ["0", places[1], *(word_of(place, chosen) for place in [*places[2:], *"NNNNNN"])]
             line = " ".join(words[:count])
-            wrong = f"line 2: wrong number of words\nits form is '{form}'\n"
+            column, width = misfit(line, len(places))
+            wrong = (f"<stdin>:2:{column}: error: wrong number of words\n  {line}\n  {' ' * (column - 1)}^{'~' * (width - 1)}\n"
+                     f"help: its form is '{form}'\n")
             ends = (0, ANYTHING, "") if count in may_have else (1, "", wrong)
             yield check_of(Program.run, ["replay", "--explain"], line, ends, given=f"config 2 4 4 8 8\n{line}\n".encode())
 
@@ -258,7 +310,7 @@ def test(path, cases):
     with tempfile.TemporaryDirectory() as folder:
         write_files(cases, folder)
         parts = (checks_of_cases(cases), checks_of_examples(), checks_of_reads(), checks_of_writes(), checks_of_full(), checks_of_persons(),
-                 checks_of_forms())
+                 checks_of_forms(), checks_of_blessings())
         failures, count = failures_of(Program(path, folder), [check for part in parts for check in part])
     shown = os.path.relpath(path)
     if failures:

@@ -67,7 +67,7 @@ impl Holders {
         }
     }
 
-    /// The same, where this one holds a freeze.
+    /// Returns these holders and this one, if it was not among them.
     #[inline(always)]
     pub fn with(self, holder: Holder) -> Holders
         ensures { result ≡ with_holder holder true self }
@@ -81,7 +81,7 @@ impl Holders {
         }
     }
 
-    /// The same, where this one holds none.
+    /// Returns these holders but for this one.
     #[inline(always)]
     pub fn without(self, holder: Holder) -> Holders
         ensures { result ≡ with_holder holder false self }

@@ -31,8 +31,8 @@ pub enum Next<P> {
 }
 
 impl<P> Next<P> {
-    /// The same, with what this function gives in the place of its phase: what comes after an event of a layer, as what comes
-    /// after it in an operation that the layer is a part of.
+    /// Replaces the phase by what this function gives for it. So what comes after an event of a layer becomes what comes after it in an
+    /// operation that the layer is a part of.
     #[inline(always)]
     pub fn map<Q, F: FnOnce(P) -> Q>(self, to: F) -> Next<Q>
         requires { F.IsAlwaysCallable to }

@@ -1,91 +1,109 @@
 //! Checks of schedules, from the command line.
 
-ghost use Rattle.std.specs.Prelude.{◌≡◌, ◌⊎◌, ◌<◌, ◌≤◌, ◌+◌, ◌^◌, IfOk, OnOk, length};
+ghost use Rattle.std.specs.Prelude.{◌≡◌, ◌⊎◌, ◌<◌, ◌+◌, ◌^◌, IsTrue, length};
+ghost use Rattle.std.specs.Io.KnownBytes.{Appends};
 ghost use Rattle.schedule_lines.specs.Printed.{Prints};
-ghost use Rattle.asked_files.specs.Checks.{TellsPassed, count_checked, counts_text};
+ghost use Rattle.asked_files.specs.Checks.{TellsPassed, WritesMore, count_checked, counts_text};
 ghost use Rattle.endings.specs.declared.ends.Ending.TheVariants.{Passed, Refused};
 
-use crate::race_texts::{Checked, check};
-use endings::{Ending, read_bytes, why_told};
+use crate::race_texts::{Source, check};
+use access_model::GateError;
+use endings::{Ending, read_bytes, refused, refused_of, why_told};
 use schedule_lines::bytes::write_out;
-use schedule_text::Output;
+use schedule_text::{Fault, Output};
 use std::alloc::{AllocError, Global};
 use std::io::{Read, Write};
 use std::rt::Files;
 
-/// How many schedules passed and failed, and what is told of those that failed.
+/// How many schedules passed and failed.
 #[derive(Drop)]
 struct Checks {
     alloc: Global,
     passed: u64,
     failed: u64,
-    told: Output,
+    /// Whether all that was to be told so far is written.
+    is_written: bool,
 }
 
 impl Checks {
     /// Reads and checks the schedule of a file, or of the reader, where none is named.
-    fn add_read<R: Files + Alloc<A = Global>, I: Read, E: Write>(
+    fn add_read<R: Files + Alloc<A = Global>, I: Read, W: Write, E: Write>(
         &mut self,
         rt: &R,
         file: Option<&str>,
         reader: &mut I,
+        writer: &mut W,
         errors: &mut E,
-    ) -> Result<(), AllocError>
+    )
         requires { self.old.passed + self.old.failed + 1 < 2 ^ 64 }
-        ensures { OnOk result (self.new.passed + self.new.failed ≡ self.old.passed + self.old.failed + 1) }
+        ensures counted { self.new.passed + self.new.failed ≡ self.old.passed + self.old.failed + 1 }
+        ensures before { IsTrue self.new.is_written → IsTrue self.old.is_written }
+        ensures written { IsTrue self.new.is_written → WritesMore (W.contents writer.old) (W.contents writer.new) }
     {
         match read_bytes(rt, self.alloc, file, reader, errors) {
-            Ok(schedule) => self.add(file, schedule.as_slice()),
-            Err(_) => {
+            Ok(bytes) => {
+                let bytes = bytes.as_slice();
+                self.add(Source { file, bytes }, writer, errors);
+            }
+            Err(_) => self.failed += 1,
+        }
+    }
+
+    /// Checks a schedule, counts it, and writes what differs. Want of memory is told on the writer of faults, and then it has failed.
+    fn add<W: Write, E: Write>(&mut self, source: Source<'_>, writer: &mut W, errors: &mut E)
+        requires { self.old.passed + self.old.failed + 1 < 2 ^ 64 }
+        ensures counted { self.new.passed + self.new.failed ≡ self.old.passed + self.old.failed + 1 }
+        ensures before { IsTrue self.new.is_written → IsTrue self.old.is_written }
+        ensures written { IsTrue self.new.is_written → WritesMore (W.contents writer.old) (W.contents writer.new) }
+    {
+        match check(self.alloc, source) {
+            Ok(checked) => {
+                if checked.passed {
+                    self.passed += 1;
+                } else {
+                    self.failed += 1;
+                }
+                self.write(checked.told.as_bytes(), writer);
+            }
+            Err(AllocError) => {
                 self.failed += 1;
-                Ok(())
+                let _ = refused_of(GateError::NoMemory, source.file, errors);
             }
         }
     }
 
-    /// Checks a schedule, counts it, and tells what differs.
-    fn add(&mut self, file: Option<&str>, schedule: &[u8]) -> Result<(), AllocError>
-        requires { self.old.passed + self.old.failed + 1 < 2 ^ 64 }
-        ensures { OnOk result (self.new.passed + self.new.failed ≡ self.old.passed + self.old.failed + 1) }
+    /// Writes a text, unless a write has failed before.
+    fn write<W: Write>(&mut self, text: &[u8], writer: &mut W)
+        ensures passed { self.new.passed ≡ self.old.passed }
+        ensures failed { self.new.failed ≡ self.old.failed }
+        ensures before { IsTrue self.new.is_written → IsTrue self.old.is_written }
+        ensures written { IsTrue self.new.is_written → Appends (W.contents writer.old) (W.contents writer.new) text.now }
     {
-        let checked = check_of(self.alloc, file, schedule)?;
-        if checked.passed {
-            self.passed += 1;
+        if self.is_written {
+            self.is_written = write_out(writer, text).is_ok();
+        }
+    }
+
+    /// Writes how many passed and failed.
+    fn end<W: Write, E: Write>(mut self, writer: &mut W, errors: &mut E) -> Ending
+        ensures ends { (result ≡ Passed) ⊎ (result ≡ Refused) }
+        ensures passed { result ≡ Passed → IsTrue self.is_written × (self.failed ≡ 0)
+            × Appends (W.contents writer.old) (W.contents writer.new) (counts_text self.passed 0) }
+    {
+        let mut counts = Output::new(self.alloc);
+        tell_counts(self.passed, self.failed, &mut counts);
+        if counts.settled().is_err() {
+            return refused(GateError::NoMemory, errors);
+        }
+        self.write(counts.bytes.as_slice(), writer);
+        if !self.is_written {
+            return why_told(Fault::WriteFailed.text(), errors);
+        }
+        if self.failed == 0 {
+            Ending::Passed
         } else {
-            self.failed += 1;
+            Ending::Refused
         }
-        self.told.text(checked.told.bytes.as_slice());
-        self.told.settled()
-    }
-
-    /// Writes what was told, and last how many passed and failed.
-    fn write<W: Write, E: Write>(
-        &mut self,
-        writer: &mut W,
-        errors: &mut E,
-    ) -> Result<Ending, AllocError>
-        ensures ends { IfOk result (λ ending. (ending ≡ Passed) ⊎ (ending ≡ Refused)) }
-        ensures passed { IfOk result (λ ending. ending ≡ Passed →
-            (self.old.failed ≡ 0) × TellsPassed (self.old.passed) (W.contents writer.old) (W.contents writer.new)) }
-    {
-        tell_counts(self.passed, self.failed, &mut self.told);
-        self.told.settled()?;
-        match write_out(writer, self.told.bytes.as_slice()) {
-            Ok(()) if self.failed == 0 => Ok(Ending::Passed),
-            Ok(()) => Ok(Ending::Refused),
-            Err(fault) => Ok(why_told(fault.text(), errors)),
-        }
-    }
-}
-
-/// Checks a schedule; what differs is told behind its file, if it has one.
-fn check_of(alloc: Global, file: Option<&str>, schedule: &[u8]) -> Result<Checked, AllocError> {
-    match file {
-        Some(file) => {
-            let name = format!(in alloc; "{file}: ")?;
-            check(alloc, name.as_str(), schedule)
-        }
-        None => check(alloc, "", schedule),
     }
 }
 
@@ -99,7 +117,7 @@ fn tell_counts(passed: u64, failed: u64, told: &mut Output)
     told.text(b" failed\n");
 }
 
-/// Checks the schedules of some files, or that of the reader, where none is named. Writes what differs, and last how many passed and
+/// Checks the schedules of some files, or that of the reader, where none is named. Writes what differs, file by file, and last how many passed and
 /// failed; a file that can't be read is told on the writer of faults, and has failed.
 pub fn run_checks<R: Files + Alloc<A = Global>, I: Read, W: Write, E: Write>(
     rt: &R,
@@ -108,20 +126,20 @@ pub fn run_checks<R: Files + Alloc<A = Global>, I: Read, W: Write, E: Write>(
     reader: &mut I,
     writer: &mut W,
     errors: &mut E,
-) -> Result<Ending, AllocError>
-    ensures ends { IfOk result (λ ending. (ending ≡ Passed) ⊎ (ending ≡ Refused)) }
-    ensures passed { IfOk result (λ ending. ending ≡ Passed →
-        TellsPassed (count_checked (length files.now)) (W.contents writer.old) (W.contents writer.new)) }
+) -> Ending
+    ensures ends { (result ≡ Passed) ⊎ (result ≡ Refused) }
+    ensures passed { result ≡ Passed →
+        TellsPassed (count_checked (length files.now)) (W.contents writer.old) (W.contents writer.new) }
 {
     let mut checks = Checks {
         alloc,
         passed: 0,
         failed: 0,
-        told: Output::new(alloc),
+        is_written: true,
     };
     // Where no file is named the one at 0 is none.
     for number in 0..files.len().max(1) {
-        checks.add_read(rt, files.get(number).copied(), reader, errors)?;
+        checks.add_read(rt, files.get(number).copied(), reader, writer, errors);
     }
-    checks.write(writer, errors)
+    checks.end(writer, errors)
 }

@@ -40,6 +40,12 @@ pub record EndsReplayedFile (held holds : Option (List ℕ)) (ending : Ending) :
   pub replayed : Replayed input left held holds answer
   pub ends : ending ≡ of_file (ending_of answer)
 
+-- A plain replay of standard input that was named `-`: it is that of standard input, and ends as one of a file.
+pub record EndsReplayedNamed (input left held holds : Option (List ℕ)) (ending : Ending) : Type 0 where
+  pub unnamed : Ending
+  pub replayed : EndsReplayed input left held holds unnamed
+  pub ends : ending ≡ of_file unnamed
+
 -- nothing was read or written, and the ending is a refusal
 pub record IsRefusedUnread (input left held holds : Option (List ℕ)) (ending : Ending) : Type 0 where
   pub unread : Keeps input left

@@ -2,7 +2,6 @@
 //! form; with what a person is told of a fault, its text and what helps. It stands apart from the program, so that it is proved beside the threads of a run.
 #![tactic(auto)]
 
-mod explained;
 pub mod gates_driver;
 pub mod replays;
 mod telling;

@@ -4,15 +4,16 @@ ghost use Rattle.std.specs.Prelude.{◌≡◌, true, IfErr};
 ghost use Rattle.transcripts.specs.Limits.{IsLineNumber};
 ghost use Rattle.line_replays.specs.Replayed.{Replayed};
 
-use crate::explained::explanation;
-use endings::{fault_told, why_told};
+use diagnostics::{Context, Faulty, tell_faulty};
+use endings::fault_told;
 use gate_core::Driver;
 use line_replays::replay_to_end;
-use schedule_lines::bytes::{ReplayFault, fault_after};
-use shown_events::{Form, Show};
+use schedule_lines::bytes::{ReplayFault, fault_after, write_out};
+use schedule_text::Output;
+use shown_events::{Form, Look, Show, html};
 use std::alloc::Global;
 use std::io::{Read, Write};
-use transcripts::no_memory;
+use transcripts::{no_memory, settled};
 
 /// What is told of a fault.
 #[derive(Clone, Copy)]
@@ -21,7 +22,7 @@ pub struct Telling<'a> {
     pub alloc: Global,
     /// The schedule's file, if it has one.
     pub file: Option<&'a str>,
-    /// Whether what helps is told on a line of its own.
+    /// Whether the faulty line is told too, and how to mend it.
     pub explains: bool,
 }
 
@@ -38,49 +39,90 @@ pub fn replay_told<D: Driver, R: Read, W: Write, E: Write>(
 {
     let ended = replay_to_end::<D, R, W>(telling.alloc, reader, writer);
     if let Err(fault) = ended.result {
-        let _ = fault_told(fault, telling.file, errors);
-        if let Some(replay) = &ended.replay {
-            explain(telling, fault, (replay.rest(), replay.tasks()), errors);
+        match &ended.replay {
+            Some(replay) => tell(telling, fault, (replay.rest(), replay.tasks()), errors),
+            None => tell(telling, fault, (&[], None), errors),
         }
     }
     ended.result
 }
 
-/// A schedule that is shown, over whatever gates.
+/// A schedule that is shown, over whatever gates; a picture stands on a page of its own.
 pub fn show_told<D: Driver, R: Read, W: Write, E: Write>(
-    form: Form,
+    look: Look,
     telling: Telling<'_>,
     reader: &mut R,
     writer: &mut W,
     errors: &mut E,
 ) -> Result<(), ReplayFault> {
-    let mut show = match Show::<D>::new(telling.alloc, form) {
+    let mut show = match Show::<D>::new(telling.alloc, look) {
         Ok(show) => show,
         Err(error) => {
             let fault = fault_after(0, no_memory(error));
-            let _ = fault_told(fault, telling.file, errors);
+            tell(telling, fault, (&[], None), errors);
             return Err(fault);
         }
     };
-    let ended = show.do_lines(reader, writer);
+    let ended = match look.form {
+        Form::Picture => show_page(&mut show, telling, reader, writer),
+        _ => show.do_lines(reader, writer),
+    };
     if let Err(fault) = ended {
-        let _ = fault_told(fault, telling.file, errors);
-        explain(telling, fault, (show.rest(), show.tasks()), errors);
+        tell(telling, fault, (show.rest(), show.tasks()), errors);
     }
     ended
 }
 
-/// Tells what helps after a fault, where that is asked for, if there is something to tell, and memory and a writer for it; of what was read
-/// from the faulty line on, and how many tasks there are.
-fn explain<E: Write>(
+/// Shows a schedule on a page, which is whole also where the schedule has a fault.
+fn show_page<D: Driver, R: Read, W: Write>(
+    show: &mut Show<D>,
+    telling: Telling<'_>,
+    reader: &mut R,
+    writer: &mut W,
+) -> Result<(), ReplayFault> {
+    let mut out = Output::new(telling.alloc);
+    html::print_head(&mut out, telling.file.unwrap_or("A schedule"));
+    out.text(b"<figure>\n");
+    write_page(&mut out, writer)?;
+    let ended = show.do_lines(reader, writer);
+    out.text(b"</figure>\n");
+    html::print_end(&mut out);
+    let written = write_page(&mut out, writer);
+    ended.and(written)
+}
+
+/// Writes out a part of a page.
+fn write_page<W: Write>(out: &mut Output, writer: &mut W) -> Result<(), ReplayFault> {
+    let written = match settled(out) {
+        Ok(()) => write_out(writer, out.bytes.as_slice()),
+        Err(fault) => Err(fault),
+    };
+    out.clear();
+    written.map_err(|fault| fault_after(0, fault))
+}
+
+/// Tells a fault; where that is asked for, with its line, and how to mend it: of what was read from the faulty line on, and how many tasks there are.
+fn tell<E: Write>(
     telling: Telling<'_>,
     fault: ReplayFault,
     (rest, tasks): (&[u8], Option<u8>),
     errors: &mut E,
 ) {
-    if telling.explains
-        && let Ok(Some(text)) = explanation(telling.alloc, fault, rest, tasks)
-    {
-        let _ = why_told(text.as_str(), errors);
-    }
+    let Telling {
+        alloc,
+        file,
+        explains,
+    } = telling;
+    let context = Context::of_schedule(tasks);
+    let faulty = Faulty {
+        file,
+        fault,
+        context,
+        rest,
+    };
+    let _ = if explains {
+        tell_faulty(alloc, faulty, errors)
+    } else {
+        fault_told(fault, file, errors)
+    };
 }

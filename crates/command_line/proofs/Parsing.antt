@@ -3,10 +3,10 @@ use Rattle.std.proofs.Common.{◌≡◌, refl, sym, ap, ap₂, ◌∙◌, ℕ, �
 use Rattle.std.proofs.{Common.{Bor, get_or, Option, Some, None, codes, option_map}, lemmas.{Bool.false≢true, List.{map-append, take_all, take_more}}}
 use Rattle.std.proofs.lemmas.Slice.Eq.{bytes_eq-Decides}
 use Rattle.std.specs.{Option.option_map_or, Prelude.{IsSomeAnd, not, is_some}, Str.bytes_eq}
-use Rattle.clap.specs.{Simple.new_shape, Words.{AddsArg, AddsSubcommand, App, Rule, Shape, Text, app_of, is_simple, rule_of, with_rule, with_subcommand}}
+use Rattle.clap.specs.{Simple.new_shape, Words.{AddsArg, AddsSubcommand, App, Row, Rule, Shape, Text, app_of, first_of, is_simple, rule_of, with_rule, with_subcommand}}
 use Rattle.clap.specs.declared.builder.{action.ArgAction.ArgAction, arg.Arg.Arg, command.Command.Command, range.ValueRange.ValueRange, texts.Texts.TheVariants.One, value_parser.ValueParser.ValueParser}
 use Rattle.clap.proofs.OnLiterals.{clap_on_literals}
-use Rattle.command_line.specs.CommandLine.{alone, argument_rule, ask_plainly, mntgate_app, subcommand_shape}
+use Rattle.command_line.specs.CommandLine.{alone, are_plain, are_usual, argument_rule, ask_plainly, is_off, mntgate_app, subcommand_shape}
 use Rattle.command_line.specs.declared.words.{Asked.TheVariants.Replay as AsksReplay, Form.Form, Replay.Replay, Argument.Argument, Subcommand.Subcommand}
 
 -- both of two tests
@@ -41,6 +41,37 @@ off_false (Some text) r off none other =
     let some : Text → Option Text = Some in
     other (ap some ((bytes_eq-Decides text (codes "false")).0 off))
 
+-- what the words of a plain replay say of each argument
+pub record PlainRows (rows : List Row) : Type 0 where
+  pub file : first_of (codes "FILE") rows ≡ None
+  pub names : first_of (codes "names") rows ≡ None
+  pub raw : is_off rows (codes "raw") ≡ true
+  pub events : is_off rows (codes "events") ≡ true
+  pub columns : is_off rows (codes "columns") ≡ true
+  pub json : is_off rows (codes "json") ≡ true
+  pub html : is_off rows (codes "html") ≡ true
+  pub gates : is_off rows (codes "over-gates") ≡ true
+
+pub plain_rows : (rows : List Row) → are_plain rows ≡ true → PlainRows rows
+plain_rows rows h =
+    let off = λ (name : Text). is_off rows name in
+    let others = and_right (not (is_some (first_of (codes "FILE") rows))) _ h in
+    let usual = and_left (are_usual rows) _ others in
+    let forms = and_right (are_usual rows) _ others in
+    let after_events = and_right (off (codes "events")) _ forms in
+    let after_columns = and_right (off (codes "columns")) _ after_events in
+    let after_json = and_right (off (codes "json")) _ after_columns in
+    record {
+      file = is_none _ (and_left (not (is_some (first_of (codes "FILE") rows))) _ h);
+      names = is_none _ (and_left (not (is_some (first_of (codes "names") rows))) _ usual);
+      raw = and_right (not (is_some (first_of (codes "names") rows))) _ usual;
+      events = and_left (off (codes "events")) _ forms;
+      columns = and_left (off (codes "columns")) _ after_events;
+      json = and_left (off (codes "json")) _ after_columns;
+      html = and_left (off (codes "html")) _ after_json;
+      gates = and_right (off (codes "html")) _ after_json;
+    }
+
 -- two requests that are the same are of the same replay
 pub same_replay : (a b : Replay) → AsksReplay a ≡ AsksReplay b → a ≡ b
 same_replay a b e = cc
@@ -48,6 +79,10 @@ same_replay a b e = cc
 -- two forms that are there and the same
 pub same_form : (a b : Form) → Some a ≡ Some b → a ≡ b
 same_form a b e = cc
+
+-- two flags that are there and the same
+pub same_flag : (a b : Bool) → Some a ≡ Some b → a ≡ b
+same_flag a b e = cc
 
 -- a range that is there
 pub range_there : (o : Option ValueRange) (r : ValueRange) → IsSomeAnd o (λ v. v ≡ r) → o ≡ Some r

@@ -3,8 +3,8 @@ use Rattle.std.specs.{Option.option_map_or, Prelude.{◌≡◌, ◌&&◌, ℕ, B
 use Rattle.std.specs.Str.{bytes_eq}
 use Rattle.clap.specs.{Lexer.usize_max, Simple.new_shape, Words.{App, Row, Rule, Shape, Text, first_of, new_rule, one_of, subcommand_of, takes}}
 use Rattle.clap.specs.declared.builder.{action.ArgAction.TheVariants.SetTrue, value_parser.ValueParser.TheVariants.Unsigned}
-use Rattle.command_line.specs.declared.words.{Argument.{Argument, TheVariants.{File, Files, Flag, Number}}, Asked.Asked}
-use Rattle.command_line.specs.declared.words.{Asked.TheVariants.Replay as AsksReplay, Form.TheVariants.Plain, Replay.Replay, Subcommand.Subcommand}
+use Rattle.command_line.specs.declared.words.{Argument.{Argument, TheVariants.{File, Word, Files, Flag, Number, Choice}}, Asked.Asked}
+use Rattle.command_line.specs.declared.words.{Asked.TheVariants.Replay as AsksReplay, Form.TheVariants.Plain, Replay.Replay, Style.Style, Subcommand.Subcommand}
 
 -- a flag, which is left out or given once
 abbrev pub flag_rule : Text → Rule
@@ -18,6 +18,10 @@ number_rule name least most = record (new_rule name) { long = Some name; value_n
 abbrev pub needed_rule : Text → ℕ → ℕ → Rule
 needed_rule name least most = record (number_rule name least most) { required = true }
 
+-- a word, which may be left out
+abbrev pub word_rule : Text → Rule
+word_rule name = record (new_rule name) { long = Some name; value_names = 1 }
+
 -- a file at most
 abbrev pub file_rule : Rule
 file_rule = new_rule (codes "FILE")
@@ -29,9 +33,11 @@ files_rule = record file_rule { range = Some (record { start_inclusive = 1; end_
 -- an argument
 abbrev pub argument_rule : Argument → Rule
 argument_rule (File help) = file_rule
+argument_rule (Word name help) = new_rule name.now
 argument_rule (Files help) = files_rule
 argument_rule (Flag name help) = flag_rule name.now
 argument_rule (Number name value least most needed help) = record (number_rule name.now least most) { required = needed }
+argument_rule (Choice name value help) = word_rule name.now
 
 -- a command with its arguments
 abbrev pub command_of : Text → List Rule → Shape
@@ -40,17 +46,22 @@ command_of name rules = record (new_shape name) { rules = rules }
 -- `replay`
 abbrev pub replay_shape : Shape
 replay_shape = command_of (codes "replay") (
-    file_rule ∷ flag_rule (codes "events") ∷ flag_rule (codes "columns") ∷ flag_rule (codes "json")
-    ∷ flag_rule (codes "over-gates") ∷ flag_rule (codes "explain") ∷ [])
+    file_rule ∷ flag_rule (codes "events") ∷ flag_rule (codes "columns") ∷ flag_rule (codes "json") ∷ flag_rule (codes "html")
+    ∷ flag_rule (codes "raw") ∷ word_rule (codes "names") ∷ flag_rule (codes "over-gates") ∷ flag_rule (codes "explain") ∷ [])
 
 -- `check`
 abbrev pub check_shape : Shape
-check_shape = command_of (codes "check") (files_rule ∷ [])
+check_shape = command_of (codes "check") (files_rule ∷ flag_rule (codes "bless") ∷ [])
+
+-- `explain`
+abbrev pub explain_shape : Shape
+explain_shape = command_of (codes "explain") (new_rule (codes "CALL") ∷ new_rule (codes "REFUSAL") ∷ [])
 
 -- `outcomes`
 abbrev pub outcomes_shape : Shape
 outcomes_shape = command_of (codes "outcomes") (
     file_rule ∷ flag_rule (codes "schedules") ∷ flag_rule (codes "columns") ∷ flag_rule (codes "model")
+    ∷ flag_rule (codes "json") ∷ flag_rule (codes "html") ∷ flag_rule (codes "raw") ∷ word_rule (codes "names")
     ∷ number_rule (codes "limit") 1 4294967295 ∷ [])
 
 -- `run`
@@ -67,7 +78,7 @@ subcommand_shape s = command_of s.name.now (map argument_rule s.arguments.now)
 abbrev pub mntgate_app : App
 mntgate_app = record {
   top = record (new_shape (codes "mntgate")) { is_leaf = false; has_version = true; subcommand_required = true };
-  subs = replay_shape ∷ check_shape ∷ outcomes_shape ∷ run_shape ∷ [];
+  subs = replay_shape ∷ check_shape ∷ explain_shape ∷ outcomes_shape ∷ run_shape ∷ [];
 }
 
 -- a command with no commands of its own
@@ -78,11 +89,19 @@ alone s = record { top = s; subs = [] }
 abbrev pub is_off : List Row → Text → Bool
 is_off rows name = option_map_or (λ text. bytes_eq text (codes "false")) (one_of name rows) true
 
--- no file, no other form and not over the gates
+-- the words of schedules, and values as what they say
+abbrev pub usual_style : Style
+usual_style = record { kernel_names = false; raw = false }
+
+-- in the usual style
+abbrev pub are_usual : List Row → Bool
+are_usual rows = not (is_some (first_of (codes "names") rows)) && is_off rows (codes "raw")
+
+-- no file, no other form or style, and not over the gates
 abbrev pub are_plain : List Row → Bool
 are_plain rows =
-    not (is_some (first_of (codes "FILE") rows)) && (is_off rows (codes "events") && (is_off rows (codes "columns")
-    && (is_off rows (codes "json") && is_off rows (codes "over-gates"))))
+    not (is_some (first_of (codes "FILE") rows)) && (are_usual rows && (is_off rows (codes "events") && (is_off rows (codes "columns")
+    && (is_off rows (codes "json") && (is_off rows (codes "html") && is_off rows (codes "over-gates"))))))
 
 -- the command is `replay`, with such words
 abbrev pub is_plain_replay : Option (Text × List Row) → Bool
@@ -104,12 +123,13 @@ pub record IsPlainOfInput (asked : Asked) : Type 0 where
   pub plain : IsPlain replay
   pub of_input : replay.file ≡ None
 
--- No word names a file, or puts another flag on than `--explain`.
+-- No word names a file, or puts a flag of another form or of other gates on.
 pub record AreBare (rows : List Row) : Type 0 where
   pub file : first_of (codes "FILE") rows ≡ None
   pub events : ¬ (one_of (codes "events") rows ≡ Some (codes "true"))
   pub columns : ¬ (one_of (codes "columns") rows ≡ Some (codes "true"))
   pub json : ¬ (one_of (codes "json") rows ≡ Some (codes "true"))
+  pub html : ¬ (one_of (codes "html") rows ≡ Some (codes "true"))
   pub core : ¬ (one_of (codes "over-gates") rows ≡ Some (codes "true"))
 
 -- the command is `replay`, with no such word

@@ -3,4 +3,6 @@
 
 pub mod words;
 
-pub use words::{Asked, Form, Numbers, Outcomes, Replay, Schedules, Tells, read_words};
+pub use words::{
+    Asked, Explain, Form, Listing, Numbers, Outcomes, Replay, Schedules, Style, Tells, read_words,
+};

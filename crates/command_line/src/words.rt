@@ -1,16 +1,26 @@
 //! The words of a command line.
 
-ghost use Rattle.std.specs.Prelude.{◌≡◌, ◌⊎◌, true, false, Some, IfOk, map, codes, string_bytes};
-ghost use Rattle.clap.specs.Words.{app_of, found_of, kind_of, one_of, rows_of, rule_of, subcommand_rows_of};
+ghost use Rattle.std.specs.Prelude.{◌≡◌, ◌⊎◌, true, false, None, Some, IfOk, map, codes, string_bytes};
+ghost use Rattle.clap.specs.Words.{app_of, first_of, found_of, kind_of, one_of, rows_of, rule_of, subcommand_rows_of};
 ghost use Rattle.clap.specs.declared.error.kind.ErrorKind.TheVariants.{OutOfMemory};
-ghost use Rattle.command_line.specs.CommandLine.{AreBare, IsBareReplay, IsPlainOfInput, MayAskPlainly, alone, are_plain, argument_rule, ask_plainly, is_off, is_plain_replay, mntgate_app, subcommand_shape};
+ghost use Rattle.command_line.specs.CommandLine.{AreBare, IsBareReplay, IsPlainOfInput, MayAskPlainly, alone, are_plain, argument_rule, ask_plainly, is_off, is_plain_replay, mntgate_app, subcommand_shape, usual_style};
 ghost use Rattle.command_line.specs.declared.words.Form.TheVariants.{Plain};
 
 use clap::builder::ValueParser;
 use clap::error::ErrorKind;
 use clap::{Arg, ArgAction, ArgMatches, Command, Error};
+use endings::Printable;
 use std::alloc::{AllocError, Global};
+use std::fmt::Display;
 use std::io::Write;
+
+/// Why names can't be asked for.
+const WHOSE: &str = "the argument '--names' takes 'schedule' or 'kernel'";
+
+/// How a replay and a list of outcomes are asked for.
+const REPLAY_USAGE: &str = "replay [OPTIONS] [FILE]";
+
+const OUTCOMES_USAGE: &str = "outcomes [OPTIONS] [FILE]";
 
 /// The version of the program.
 const VERSION: &str = "1.0.0";
@@ -28,8 +38,23 @@ const COLUMNS: &str = "columns";
 
 const JSON: &str = "json";
 
+const HTML: &str = "html";
+
+/// The options of how words and their values are printed.
+const RAW: &str = "raw";
+
+const NAMES: &str = "names";
+
 /// The flag of a replay that tells what helps after a fault.
 const EXPLAIN: &str = "explain";
+
+/// The flag of a check that writes what is printed into the files.
+const BLESS: &str = "bless";
+
+/// The arguments of an explanation.
+const CALL: &str = "CALL";
+
+const REFUSAL: &str = "REFUSAL";
 
 /// The flag of a run that tells what its tasks met.
 const DETAILS: &str = "details";
@@ -57,28 +82,39 @@ struct Subcommand {
 enum Argument {
     /// A file at most.
     File(&'static str),
+    /// A word at most, by the name that help calls it.
+    Word(&'static str, &'static str),
     /// Files.
     Files(&'static str),
     /// A flag of this name.
     Flag(&'static str, &'static str),
     /// An option of this name with a number, which help calls so, from the least to the most; and whether it has to be there.
     Number(&'static str, &'static str, u64, u64, bool, &'static str),
+    /// An option of this name with a word, which help calls so.
+    Choice(&'static str, &'static str, &'static str),
 }
 
-const SUBCOMMANDS: [Subcommand; 4] = [
+const SUBCOMMANDS: [Subcommand; 5] = [
     Subcommand {
         name: "replay",
         about: "Replays a schedule, and prints what its lines ask for",
         arguments: &[
-            Argument::File("Its file; standard input, where none is named"),
+            Argument::File("Its file; standard input, where none is named, or '-'"),
             Argument::Flag(
                 EVENTS,
-                "Prints the events of a run too, and for whom a task waits",
+                "Prints each beginning and each step, and for whom a task waits",
             ),
             Argument::Flag(COLUMNS, "Prints them in a column for each task"),
             Argument::Flag(
                 JSON,
-                "Prints a line of JSON for each event, answer and listing",
+                "Prints a line of JSON for each beginning, step, answer and listing",
+            ),
+            Argument::Flag(HTML, "Prints a page with a picture of them"),
+            Argument::Flag(RAW, "Prints values as numbers in these forms"),
+            Argument::Choice(
+                NAMES,
+                "WHOSE",
+                "Names words in these forms as 'schedule' or as 'kernel' does",
             ),
             Argument::Flag(
                 OVER_GATES,
@@ -86,23 +122,57 @@ const SUBCOMMANDS: [Subcommand; 4] = [
             ),
             Argument::Flag(
                 EXPLAIN,
-                "Tells after a fault what helps, as it does on a terminal",
+                "Tells a fault with its line, and how to mend it, as on a terminal",
             ),
         ],
     },
     Subcommand {
         name: "check",
         about: "Replays schedules and lists outcomes of races, and compares what they print with their lines '#> TEXT'",
-        arguments: &[Argument::Files("Their files; standard input, where none is named")],
+        arguments: &[
+            Argument::Files("Their files; standard input, where none is named, or '-'"),
+            Argument::Flag(
+                BLESS,
+                "Writes what they print into the files, in the place of what they say of it",
+            ),
+        ],
+    },
+    Subcommand {
+        name: "explain",
+        about: "Explains a refusal: what it means, what the state is now, what to do next, and what never to do",
+        arguments: &[
+            Argument::Word(
+                CALL,
+                "A call, as 'remount' or 'remount_sb'; an index of all refusals, where none is named",
+            ),
+            Argument::Word(
+                REFUSAL,
+                "A refusal of it, as '16', 'EBUSY' or 'Busy'; all of the call, where none is named",
+            ),
+        ],
     },
     Subcommand {
         name: "outcomes",
         about: "Prints all outcomes of a race: what its calls can answer, whatever their order",
         arguments: &[
-            Argument::File("Its file; standard input, where none is named"),
+            Argument::File("Its file; standard input, where none is named, or '-'"),
             Argument::Flag(SCHEDULES, "Prints a shortest schedule for each outcome"),
             Argument::Flag(COLUMNS, "Prints one too, in a column for each task"),
             Argument::Flag(MODEL, "Prints the model at the end of each schedule"),
+            Argument::Flag(
+                JSON,
+                "Prints a line of JSON for each outcome, and of what else is printed",
+            ),
+            Argument::Flag(
+                HTML,
+                "Prints a page with a picture of a schedule for each outcome",
+            ),
+            Argument::Flag(RAW, "Prints values as numbers"),
+            Argument::Choice(
+                NAMES,
+                "WHOSE",
+                "Names words as 'schedule' or as 'kernel' does",
+            ),
             Argument::Number(
                 LIMIT,
                 "STATES",
@@ -171,7 +241,7 @@ pub struct Numbers {
 pub enum Tells {
     /// What its tasks did, in five lines.
     Totals,
-    /// The same, and then what they met on their way.
+    /// What its tasks did, in five lines, and then what they met on their way.
     Details,
 }
 
@@ -180,12 +250,23 @@ pub enum Tells {
 pub enum Form {
     /// What its lines ask for.
     Plain,
-    /// The same, with the events of each `run`.
+    /// What its lines ask for, with the events of each `run`.
     Events,
     /// The events in a column for each task.
     Columns,
-    /// A line of JSON for each event, answer and listing.
+    /// A line of JSON for each beginning, step, answer and listing.
     Json,
+    /// A page with a picture.
+    Html,
+}
+
+/// How words and their values are printed in the forms that show steps.
+#[derive(Clone, Copy)]
+pub struct Style {
+    /// Whether words have the names of the kernel.
+    pub kernel_names: bool,
+    /// Whether values are numbers.
+    pub raw: bool,
 }
 
 /// How a schedule is replayed.
@@ -194,8 +275,16 @@ pub struct Replay<'a> {
     /// The file that has it; standard input, where none is named.
     pub file: Option<&'a str>,
     pub form: Form,
+    pub style: Style,
     pub over_gates: bool,
     pub explain: bool,
+}
+
+/// Which refusals are to be explained: all of a call, if no refusal is named; an index of them, if no call is.
+#[derive(Clone, Copy)]
+pub struct Explain<'a> {
+    pub call: Option<&'a str>,
+    pub refusal: Option<&'a str>,
 }
 
 /// In which form a schedule of each outcome is told, if it is.
@@ -208,11 +297,24 @@ pub enum Schedules {
     Columns,
 }
 
+/// In which form the outcomes of a race are told.
+#[derive(Clone, Copy)]
+pub enum Listing {
+    /// A line for each.
+    Text,
+    /// A line of JSON for each.
+    Json,
+    /// A page with a picture for each.
+    Html,
+}
+
 /// How the outcomes of a race are told.
 #[derive(Clone, Copy)]
 pub struct Outcomes<'a> {
     /// The file that has it; standard input, where none is named.
     pub file: Option<&'a str>,
+    pub form: Listing,
+    pub style: Style,
     pub schedules: Schedules,
     /// Whether the model is told.
     pub model: bool,
@@ -228,6 +330,10 @@ pub enum Asked<'a> {
     /// To replay the schedules of these files, and to compare what they print with what they say of it; that of standard input, where none
     /// is named.
     Check(Vec<&'a str>),
+    /// To write what the schedules of these files print into them, in the place of what they say of it.
+    Bless(Vec<&'a str>),
+    /// An explanation of refusals.
+    Explain(Explain<'a>),
     /// All outcomes of a race.
     Outcomes(Outcomes<'a>),
     /// A run in threads.
@@ -282,7 +388,10 @@ fn answer_of<'a, E: Write>(
         ErrorKind::OutOfMemory => Err(AllocError),
         ErrorKind::DisplayVersion => Ok(Asked::Told(format!(in alloc; "{error}")?)),
         _ => {
-            let _ = write!(errors, "{error}");
+            // It quotes words of the command line.
+            for line in format!(in alloc; "{error}")?.lines() {
+                let _ = writeln!(errors, "{}", Printable(line));
+            }
             Ok(Asked::Misused)
         }
     }
@@ -301,10 +410,16 @@ fn request_of<'a, E: Write>(
         return Ok(replay_of(replay, errors));
     }
     if let Some(check) = matches.subcommand_matches("check") {
-        return Ok(Asked::Check(files_of(alloc, check)?));
+        return check_of(alloc, check, errors);
+    }
+    if let Some(explain) = matches.subcommand_matches("explain") {
+        return Ok(Asked::Explain(Explain {
+            call: explain.get_str(CALL),
+            refusal: explain.get_str(REFUSAL),
+        }));
     }
     if let Some(outcomes) = matches.subcommand_matches("outcomes") {
-        return Ok(Asked::Outcomes(outcomes_of(outcomes)));
+        return Ok(outcomes_asked(outcomes, errors));
     }
     if let Some(run) = matches.subcommand_matches("run") {
         return Ok(run_of(run));
@@ -346,40 +461,130 @@ fn replay_of<'a, E: Write>(replay: &ArgMatches<'a>, errors: &mut E) -> Asked<'a>
     ensures plain { are_plain (rows_of (found_of replay.now)) ≡ true → IsPlainOfInput result }
     ensures only { IsPlainOfInput result → AreBare (rows_of (found_of replay.now)) }
 {
-    match form_of(replay) {
-        Some(form) => Asked::Replay(Replay {
-            file: replay.get_str(FILE),
-            form,
-            over_gates: is_on(replay, OVER_GATES),
-            explain: is_on(replay, EXPLAIN),
-        }),
-        None => {
-            let _ = writeln!(
-                errors,
-                "error: '--events', '--columns' and '--json' cannot be used together"
-            );
-            Asked::Misused
+    let Some(form) = form_of(replay) else {
+        let (one, other) = first_two(replay, &[EVENTS, COLUMNS, JSON, HTML]);
+        return excluded(one, other, REPLAY_USAGE, errors);
+    };
+    let Some(style) = style_of(replay) else {
+        return misused(WHOSE, REPLAY_USAGE, errors);
+    };
+    if matches!(form, Form::Plain) && (style.raw || style.kernel_names) {
+        let why =
+            "the arguments '--raw' and '--names' need '--events', '--columns', '--json' or '--html'";
+        return misused(why, REPLAY_USAGE, errors);
+    }
+    Asked::Replay(Replay {
+        file: replay.get_str(FILE),
+        form,
+        style,
+        over_gates: is_on(replay, OVER_GATES),
+        explain: is_on(replay, EXPLAIN),
+    })
+}
+
+/// How words and their values are to be printed; None where nobody's names are asked for.
+fn style_of(matches: &ArgMatches<'_>) -> Option<Style>
+    ensures { let rows = rows_of (found_of matches.now) in first_of (codes "names") rows ≡ None → is_off rows (codes "raw") ≡ true →
+        result ≡ Some usual_style }
+{
+    let kernel_names = has_kernel_names(matches)?;
+    Some(Style {
+        kernel_names,
+        raw: is_on(matches, RAW),
+    })
+}
+
+/// Whether words are to have the names of the kernel; None where nobody's are asked for.
+fn has_kernel_names(matches: &ArgMatches<'_>) -> Option<bool>
+    ensures { first_of (codes "names") (rows_of (found_of matches.now)) ≡ None → result ≡ Some false }
+{
+    match matches.get_str(NAMES) {
+        None => Some(false),
+        Some(whose) => names_of(whose),
+    }
+}
+
+/// Whether these are the names of the kernel; None where they are nobody's.
+fn names_of(whose: &str) -> Option<bool> {
+    match whose {
+        "schedule" => Some(false),
+        "kernel" => Some(true),
+        _ => None,
+    }
+}
+
+/// Returns the first two of these flags that are given.
+fn first_two(matches: &ArgMatches<'_>, flags: &[&'static str]) -> (&'static str, &'static str) {
+    let mut given = [""; 2];
+    let mut count = 0;
+    for flag in flags {
+        if count < 2 && matches.get_flag(flag) {
+            given[count] = *flag;
+            count += 1;
         }
     }
+    (given[0], given[1])
+}
+
+/// Tells that two flags can't be used together.
+fn excluded<'a, E: Write>(one: &str, other: &str, usage: &str, errors: &mut E) -> Asked<'a>
+    ensures { ¬ IsPlainOfInput result }
+{
+    let why = format_args!("the argument '--{one}' cannot be used with '--{other}'");
+    misused(why, usage, errors)
+}
+
+/// Tells a fault that the parser doesn't know, as it tells its own.
+fn misused<'a, D: Display + Drop, E: Write>(why: D, usage: &str, errors: &mut E) -> Asked<'a>
+    ensures { ¬ IsPlainOfInput result }
+{
+    let _ = writeln!(
+        errors,
+        "error: {why}\n\nUsage: mntgate {usage}\n\nFor more information, try '--help'."
+    );
+    Asked::Misused
+}
+
+/// What `check` asks for. Standard input can't be written.
+fn check_of<'a, E: Write>(
+    alloc: Global,
+    check: &ArgMatches<'a>,
+    errors: &mut E,
+) -> Result<Asked<'a>, AllocError>
+    ensures { IfOk result (λ asked. ¬ IsPlainOfInput asked) }
+{
+    let files = files_of(alloc, check)?;
+    if !check.get_flag(BLESS) {
+        return Ok(Asked::Check(files));
+    }
+    if files.is_empty() || files.contains(&"-") {
+        drop(files);
+        let why = "the argument '--bless' needs files: standard input can't be written";
+        return Ok(misused(why, "check [OPTIONS] [FILE]...", errors));
+    }
+    Ok(Asked::Bless(files))
 }
 
 /// What is to be printed of a replay; None where more than one of its flags is given.
 fn form_of(replay: &ArgMatches<'_>) -> Option<Form>
     ensures plain { let rows = rows_of (found_of replay.now) in is_off rows (codes "events") ≡ true → is_off rows (codes "columns") ≡ true →
-        is_off rows (codes "json") ≡ true → result ≡ Some Plain }
+        is_off rows (codes "json") ≡ true → is_off rows (codes "html") ≡ true → result ≡ Some Plain }
     ensures events { result ≡ Some Plain → ¬ (one_of (codes "events") (rows_of (found_of replay.now)) ≡ Some (codes "true")) }
     ensures columns { result ≡ Some Plain → ¬ (one_of (codes "columns") (rows_of (found_of replay.now)) ≡ Some (codes "true")) }
     ensures json { result ≡ Some Plain → ¬ (one_of (codes "json") (rows_of (found_of replay.now)) ≡ Some (codes "true")) }
+    ensures html { result ≡ Some Plain → ¬ (one_of (codes "html") (rows_of (found_of replay.now)) ≡ Some (codes "true")) }
 {
     match (
         is_on(replay, EVENTS),
         is_on(replay, COLUMNS),
         is_on(replay, JSON),
+        is_on(replay, HTML),
     ) {
-        (false, false, false) => Some(Form::Plain),
-        (true, false, false) => Some(Form::Events),
-        (false, true, false) => Some(Form::Columns),
-        (false, false, true) => Some(Form::Json),
+        (false, false, false, false) => Some(Form::Plain),
+        (true, false, false, false) => Some(Form::Events),
+        (false, true, false, false) => Some(Form::Columns),
+        (false, false, true, false) => Some(Form::Json),
+        (false, false, false, true) => Some(Form::Html),
         _ => None,
     }
 }
@@ -392,8 +597,36 @@ fn is_on(matches: &ArgMatches<'_>, name: &str) -> bool
     matches.get_flag(name)
 }
 
-/// How outcomes are to be told.
-fn outcomes_of<'a>(outcomes: &ArgMatches<'a>) -> Outcomes<'a> {
+/// What `outcomes` asks for.
+fn outcomes_asked<'a, E: Write>(outcomes: &ArgMatches<'a>, errors: &mut E) -> Asked<'a>
+    ensures { ¬ IsPlainOfInput result }
+{
+    let Some(form) = listing_of(outcomes) else {
+        let (one, other) = first_two(outcomes, &[JSON, HTML, COLUMNS]);
+        return excluded(one, other, OUTCOMES_USAGE, errors);
+    };
+    match style_of(outcomes) {
+        Some(style) => Asked::Outcomes(outcomes_of(outcomes, form, style)),
+        None => misused(WHOSE, OUTCOMES_USAGE, errors),
+    }
+}
+
+/// The form of outcomes; None where more than one is asked for.
+fn listing_of(outcomes: &ArgMatches<'_>) -> Option<Listing> {
+    match (
+        outcomes.get_flag(JSON),
+        outcomes.get_flag(HTML),
+        outcomes.get_flag(COLUMNS),
+    ) {
+        (false, false, _) => Some(Listing::Text),
+        (true, false, false) => Some(Listing::Json),
+        (false, true, false) => Some(Listing::Html),
+        _ => None,
+    }
+}
+
+/// How outcomes are to be told, in this form.
+fn outcomes_of<'a>(outcomes: &ArgMatches<'a>, form: Listing, style: Style) -> Outcomes<'a> {
     let schedules = if outcomes.get_flag(COLUMNS) {
         Schedules::Columns
     } else if outcomes.get_flag(SCHEDULES) {
@@ -403,6 +636,8 @@ fn outcomes_of<'a>(outcomes: &ArgMatches<'a>) -> Outcomes<'a> {
     };
     Outcomes {
         file: outcomes.get_str(FILE),
+        form,
+        style,
         schedules,
         model: outcomes.get_flag(MODEL),
         limit: outcomes.get_one(LIMIT).unwrap_or(STATES),
@@ -454,6 +689,7 @@ fn argument_of<'a>(alloc: Global, argument: &Argument) -> Arg<'a>
 {
     match *argument {
         Argument::File(help) => Arg::new(alloc, FILE).help(help),
+        Argument::Word(name, help) => Arg::new(alloc, name).help(help),
         Argument::Files(help) => Arg::new(alloc, FILE).help(help).num_args(1..),
         Argument::Flag(name, help) => Arg::new(alloc, name)
             .help(help)
@@ -465,5 +701,9 @@ fn argument_of<'a>(alloc: Global, argument: &Argument) -> Arg<'a>
             .value_name(value)
             .value_parser(ValueParser::unsigned(least, most))
             .required(is_needed),
+        Argument::Choice(name, value, help) => Arg::new(alloc, name)
+            .help(help)
+            .long(name)
+            .value_name(value),
     }
 }

@@ -1,4 +1,6 @@
--- The endings of replays.
+-- The endings of replays, and what is read.
+use Rattle.std.specs.Prelude.{◌≡◌, ℕ, List, Option, Some, None, codes}
+use Rattle.std.specs.Borrow.{Bor}
 use Rattle.endings.specs.declared.ends.Ending.{Ending}
 use Rattle.endings.specs.declared.ends.Ending.TheVariants.{Done, DoneOfFile}
 
@@ -6,3 +8,8 @@ use Rattle.endings.specs.declared.ends.Ending.TheVariants.{Done, DoneOfFile}
 abbrev pub of_file : Ending → Ending
 of_file Done = DoneOfFile
 of_file ending = ending
+
+-- standard input is read: no file is named, or `-`
+abbrev pub IsInput : Option (Bor (List ℕ)) → Type 0
+IsInput None = Unit {0}
+IsInput (Some file) = file.now ≡ codes "-"

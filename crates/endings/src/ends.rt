@@ -1,13 +1,17 @@
 //! How the program ends, and what it tells of a fault.
 
 ghost use Rattle.std.specs.Prelude.{◌≡◌, ◌⊎◌};
-ghost use Rattle.endings.specs.declared.ends.Ending.TheVariants.{Done, DoneOfFile, DoneOverGates, Shown, Passed, Listed, Ran, Told, Refused, Misused};
+ghost use Rattle.endings.specs.declared.ends.Ending.TheVariants.{Done, DoneOfFile, DoneOverGates, Shown, Passed, Blessed, Listed, Ran, Told, Refused, Misused};
 
+use crate::reading::is_input;
 use access_model::GateError;
 use schedule_lines::bytes::{ReplayFault, write_out};
 use std::fmt::Display;
-use std::io;
 use std::io::Write;
+use std::{fmt, io};
+
+/// What is said of a folder that was named in the place of a file.
+const IS_FOLDER: &str = "it is a folder, and a file is expected";
 
 /// How the program ends.
 #[derive(Clone, Copy)]
@@ -22,11 +26,13 @@ pub enum Ending {
     Shown,
     /// Each schedule of a check prints what it says.
     Passed,
+    /// Each file says what it prints.
+    Blessed,
     /// All outcomes of a race are told.
     Listed,
     /// A run was done, and what it counted is written.
     Ran,
-    /// The version was asked for, and is written.
+    /// A text of the program's own was asked for, its version or an explanation, and is written.
     Told,
     /// A schedule, a race or a run was refused, or could not be read or written, or there was no memory; or a check failed.
     Refused,
@@ -44,6 +50,7 @@ impl Ending {
         ensures done_over_gates { self ≡ DoneOverGates → result ≡ 0 }
         ensures shown { self ≡ Shown → result ≡ 0 }
         ensures passed { self ≡ Passed → result ≡ 0 }
+        ensures blessed { self ≡ Blessed → result ≡ 0 }
         ensures listed { self ≡ Listed → result ≡ 0 }
         ensures ran { self ≡ Ran → result ≡ 0 }
         ensures told { self ≡ Told → result ≡ 0 }
@@ -52,13 +59,14 @@ impl Ending {
     {
         match self {
             Ending::Done | Ending::DoneOfFile | Ending::DoneOverGates | Ending::Shown => 0,
-            Ending::Passed | Ending::Listed | Ending::Ran | Ending::Told => 0,
+            Ending::Passed | Ending::Blessed | Ending::Listed => 0,
+            Ending::Ran | Ending::Told => 0,
             Ending::Refused => 1,
             Ending::Misused => 2,
         }
     }
 
-    /// The same of a file's schedule.
+    /// Returns how the program ends, if the schedule is that of a file.
     pub fn of_file(self) -> Ending
         ensures { result ≡ of_file self }
     {
@@ -77,7 +85,37 @@ pub fn why_told<D: Display + Drop, E: Write>(why: D, errors: &mut E) -> Ending
     Ending::Refused
 }
 
-/// The same, and of which file, if it is of one.
+/// A text in which each control character is told by its number, so that none of them moves a terminal's cursor.
+#[derive(Clone, Copy)]
+pub struct Printable<'a>(pub &'a str);
+
+impl fmt::Display for Printable<'_> {
+    fn fmt<W: fmt::Write>(&self, f: &mut fmt::Formatter<W>) -> fmt::Result {
+        for character in self.0.chars() {
+            if character.is_control() {
+                write!(f, "\\x{:02x}", u32::from(character))?;
+            } else {
+                write!(f, "{character}")?;
+            }
+        }
+        Ok(())
+    }
+}
+
+/// The name by which what is read is told: that of its file, in printable characters; `<stdin>` if no file is named, or `-`.
+#[derive(Clone, Copy)]
+pub struct SourceName<'a>(pub Option<&'a str>);
+
+impl fmt::Display for SourceName<'_> {
+    fn fmt<W: fmt::Write>(&self, f: &mut fmt::Formatter<W>) -> fmt::Result {
+        match self.0 {
+            Some(file) if !is_input(self.0) => write!(f, "{}", Printable(file)),
+            _ => write!(f, "<stdin>"),
+        }
+    }
+}
+
+/// Says why the program ends, and of which file, if it is of one. Where that can't be said it ends the same.
 pub fn why_told_of<D: Display + Drop, E: Write>(
     why: D,
     file: Option<&str>,
@@ -87,7 +125,7 @@ pub fn why_told_of<D: Display + Drop, E: Write>(
 {
     match file {
         None => why_told(why, errors),
-        Some(file) => why_told(format_args!("{file}: {why}"), errors),
+        Some(_) => why_told(format_args!("{}: {why}", SourceName(file)), errors),
     }
 }
 
@@ -98,11 +136,23 @@ pub fn fault_told<E: Write>(fault: ReplayFault, file: Option<&str>, errors: &mut
     why_told_of(fault, file, errors)
 }
 
-/// Says why a file can't be opened or read.
-pub fn unopened<E: Write>(file: &str, error: &io::Error, errors: &mut E) -> Ending
+/// Says why a file, or standard input where none is named, can't be opened or read.
+pub fn unopened<E: Write>(file: Option<&str>, error: &io::Error, errors: &mut E) -> Ending
     ensures { result ≡ Refused }
 {
-    why_told_of(error, Some(file), errors)
+    let name = SourceName(file);
+    match error.kind() {
+        io::ErrorKind::OutOfMemory => refused_of(GateError::NoMemory, file, errors),
+        io::ErrorKind::IsADirectory => why_told(format_args!("{name}: {IS_FOLDER}"), errors),
+        _ => why_told(format_args!("{name}: {error}"), errors),
+    }
+}
+
+/// Says that a folder was named in the place of a file.
+pub fn folder_told<E: Write>(file: &str, errors: &mut E) -> Ending
+    ensures { result ≡ Refused }
+{
+    why_told_of(IS_FOLDER, Some(file), errors)
 }
 
 /// Writes the text that was asked for of the program itself: its version.
@@ -119,20 +169,30 @@ pub fn text_told<W: Write, E: Write>(text: &str, writer: &mut W, errors: &mut E)
 pub fn refused<E: Write>(refusal: GateError, errors: &mut E) -> Ending
     ensures { result ≡ Refused }
 {
+    refused_of(refusal, None, errors)
+}
+
+/// Says why the program ends that was refused something, and of which file, if it is of one.
+pub fn refused_of<E: Write>(refusal: GateError, file: Option<&str>, errors: &mut E) -> Ending
+    ensures { result ≡ Refused }
+{
     let (number, name) = (refusal.number(), refusal.name());
-    why_told(format_args!("refused {number} {name}"), errors)
+    why_told_of(format_args!("refused {number} {name}"), file, errors)
 }
 
 /// Says that there are no words: an argument is no text, or there was no memory for them.
 pub fn unreadable<E: Write>(error: &io::Error, errors: &mut E) -> Ending
     ensures { (result ≡ Refused) ⊎ (result ≡ Misused) }
 {
-    if error.kind() != io::ErrorKind::InvalidData {
-        return why_told(format_args!("error: {error}"), errors);
+    match error.kind() {
+        io::ErrorKind::InvalidData => {
+            why_told(
+                "error: invalid UTF-8 was detected in one or more arguments",
+                errors,
+            );
+            Ending::Misused
+        }
+        io::ErrorKind::OutOfMemory => refused(GateError::NoMemory, errors),
+        _ => why_told(format_args!("error: {error}"), errors),
     }
-    why_told(
-        "error: invalid UTF-8 was detected in one or more arguments",
-        errors,
-    );
-    Ending::Misused
 }

@@ -6,6 +6,7 @@ pub mod ends;
 pub mod reading;
 
 pub use ends::{
-    Ending, fault_told, refused, text_told, unopened, unreadable, why_told, why_told_of,
+    Ending, Printable, SourceName, fault_told, folder_told, refused, refused_of, text_told,
+    unopened, unreadable, why_told, why_told_of,
 };
-pub use reading::read_bytes;
+pub use reading::{is_input, read_bytes};

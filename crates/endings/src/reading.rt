@@ -1,6 +1,7 @@
 //! The bytes that a command line asks for.
 
-ghost use Rattle.std.specs.Prelude.{◌≡◌, None, IfOk, IfErr, IfSome};
+ghost use Rattle.std.specs.Prelude.{◌≡◌, ◌↔◌, IsTrue, IfOk, IfErr, IfSome};
+ghost use Rattle.endings.specs.Endings.{IsInput};
 ghost use Rattle.endings.specs.declared.ends.Ending.TheVariants.{Refused};
 
 use crate::ends::{Ending, unopened};
@@ -9,7 +10,21 @@ use std::io::{Read, Write};
 use std::rt::Files;
 use std::{fs, io};
 
-/// All bytes of a file, or of the reader, where none is named; or how the program ends, where they can't be read.
+/// Whether standard input is to be read: no file is named, or `-`.
+pub fn is_input(file: Option<&str>) -> bool
+    ensures { IsTrue result ↔ IsInput file.entry }
+{
+    match file {
+        None => true,
+        Some(file) => file == "-",
+    }
+}
+
+/// Reads all bytes of a file, or of the reader, where no file is named, or `-`.
+///
+/// # Errors
+///
+/// How the program ends if they can't be read, which is told.
 pub fn read_bytes<R: Files + Alloc<A = Global>, I: Read, E: Write>(
     rt: &R,
     alloc: Global,
@@ -17,19 +32,19 @@ pub fn read_bytes<R: Files + Alloc<A = Global>, I: Read, E: Write>(
     reader: &mut I,
     errors: &mut E,
 ) -> Result<Vec<u8>, Ending>
-    ensures read { IfOk result (λ bytes. file.entry ≡ None → IfSome (I.remaining reader.old) (λ all. bytes.items ≡ all)) }
+    ensures read { IfOk result (λ bytes. IsInput file.entry → IfSome (I.remaining reader.old) (λ all. bytes.items ≡ all)) }
     ensures refused { IfErr result (λ ending. ending ≡ Refused) }
 {
     match file {
-        Some(file) => match fs::read(rt, file) {
+        Some(file) if !is_input(Some(file)) => match fs::read(rt, file) {
             Ok(bytes) => Ok(bytes),
-            Err(error) => Err(unopened(file, &error, errors)),
+            Err(error) => Err(unopened(Some(file), &error, errors)),
         },
-        None => {
+        _ => {
             let mut bytes = Vec::new(alloc);
             match reader.read_to_end(&mut bytes) {
                 Ok(_) => Ok(bytes),
-                Err(error) => Err(unopened("standard input", &error, errors)),
+                Err(error) => Err(unopened(None, &error, errors)),
             }
         }
     }

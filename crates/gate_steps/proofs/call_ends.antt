@@ -1,3 +1,4 @@
+pub mod Beginning
 pub mod Closing
 pub mod CallingBack
 pub mod Remounting

@@ -8,7 +8,7 @@ ghost use Rattle.gate_world.specs.declared.operations.Op.{Op as OpType};
 ghost use Rattle.gate_world.specs.declared.work.Phase.TheVariants.{Callbacks, Freezes, Remounts, Thaws};
 ghost use Rattle.gate_steps.specs.call_events.CallingBack.{of_callback};
 ghost use Rattle.gate_steps.specs.call_events.Closings.{of_freeze};
-ghost use Rattle.gate_steps.specs.call_events.Led.{Led};
+ghost use Rattle.gate_steps.specs.call_events.Led.{Led, LedAsking};
 ghost use Rattle.gate_steps.specs.call_events.Remounting.{of_remount};
 ghost use Rattle.gate_steps.specs.call_events.Reopenings.{of_thaw};
 ghost use Rattle.gate_steps.specs.call_events.TaskStates.{TaskState, task_state};
@@ -22,11 +22,12 @@ mod freeze_lines;
 mod remount_lines;
 mod thaw_lines;
 
-use crate::call_ends::callbacks::{claim, run_callback};
-use crate::call_ends::closings::close_level;
-use crate::call_ends::freeze_lines::{begin_freeze, close_second, end_freeze};
-use crate::call_ends::remount_lines::sum_mount;
-use crate::call_ends::thaw_lines::reopen_all;
+use crate::call_ends::callbacks::{callback_first, run_callback};
+use crate::call_ends::freeze_lines::{
+    close_second, end_freeze, freeze_first, freeze_locked, go_on_level,
+};
+use crate::call_ends::remount_lines::{remount_first, sum_mount};
+use crate::call_ends::thaw_lines::{reopen_all, thaw_first, thaw_locked};
 use crate::call_events::{GateWords, Seat, TimedHooks, Turn, do_event, go_on};
 use access_model::{GateError, Next, Reply};
 use crossbeam_utils::Backoff;
@@ -34,7 +35,7 @@ use freeze_levels::{Freeze, FreezeStep, HookCall, Thaw, ThawStep};
 use gate_events::UnderWay;
 use gate_world::{Accesses, Op};
 use mount_counts::{Remount, RemountStep};
-use percpu_rwsem::{Callback, CallbackStep, DownWriteStep, Transition};
+use percpu_rwsem::{Callback, CallbackStep};
 use std::sync::Wait;
 
 /// An operation that may have to wait, in a form of its own.
@@ -43,21 +44,42 @@ pub trait Waiting: UnderWay {
     ghost use Rattle.access_model.specs.Replies.{map_next};
     ghost use Rattle.access_model.specs.declared.replies.Next.TheVariants.{Go};
     ghost use Rattle.gate_steps.specs.call_events.Asking.{call_at};
-    ghost use Rattle.gate_steps.specs.call_events.Led.{Led};
+    ghost use Rattle.gate_steps.specs.call_events.Led.{LedAsking};
     ghost use Rattle.gate_steps.specs.call_events.Turns.{IsTied};
 
     /// The hook whose answer the next event reads, with what it is asked.
     fn asks(&self) -> Option<HookCall>
         ensures { result ≡ call_at (Self.as_phase self.now) };
 
-    /// The events that come next and stand in a line, up to what stands in their way; none where the operation stands at none of these.
-    /// They ask no hook and leave the accesses. What comes after the last of them.
-    fn go_in_line(self, gates: &GateWords, seat: &mut Seat, accesses: &Accesses) -> Next<Self>
+    /// Does the first step of the operation and those that stand in a line with it, up to what stands in their way. Each hook is asked right
+    /// before the step that reads its answer. What comes after the last step.
+    fn begin_in_line<H: TimedHooks>(
+        self,
+        gates: &GateWords,
+        seat: &mut Seat,
+        accesses: &Accesses,
+        op: Op,
+        hooks: &mut H,
+    ) -> Next<Self>
+        requires table { seat.old.table_id ≡ gates.now.table.shared.table_id }
+        requires tied { IsTied gates.now.config (Some op) (Some (Self.as_phase self)) accesses.now seat.old.me.0.items }
+        ensures slots { seat.new.me.1 ≡ seat.old.me.1 }
+        ensures led { LedAsking H.answers gates.now.config (Some op) accesses.now (Go (Self.as_phase self)) seat.old.table_id seat.old.me.0
+            hooks.old (map_next Self.as_phase result) seat.new.table_id seat.new.me.0 hooks.new };
+
+    /// Does the steps that come next and stand in a line, likewise; none where the operation stands at none of these.
+    fn go_in_line<H: TimedHooks>(
+        self,
+        gates: &GateWords,
+        seat: &mut Seat,
+        accesses: &Accesses,
+        hooks: &mut H,
+    ) -> Next<Self>
         requires table { seat.old.table_id ≡ gates.now.table.shared.table_id }
         requires tied { IsTied gates.now.config None (Some (Self.as_phase self)) accesses.now seat.old.me.0.items }
         ensures slots { seat.new.me.1 ≡ seat.old.me.1 }
-        ensures led { Led gates.now.config accesses.now (Go (Self.as_phase self)) seat.old.table_id seat.old.me.0
-            (map_next Self.as_phase result) seat.new.table_id seat.new.me.0 };
+        ensures led { LedAsking H.answers gates.now.config None accesses.now (Go (Self.as_phase self)) seat.old.table_id seat.old.me.0
+            hooks.old (map_next Self.as_phase result) seat.new.table_id seat.new.me.0 hooks.new };
 }
 
 impl Waiting for Freeze {
@@ -71,8 +93,26 @@ impl Waiting for Freeze {
     }
 
     #[inline(always)]
-    fn go_in_line(self, gates: &GateWords, seat: &mut Seat, accesses: &Accesses) -> Next<Freeze> {
-        freeze_in_line(gates, seat, accesses, self)
+    fn begin_in_line<H: TimedHooks>(
+        self,
+        gates: &GateWords,
+        seat: &mut Seat,
+        accesses: &Accesses,
+        op: Op,
+        hooks: &mut H,
+    ) -> Next<Freeze> {
+        freeze_first(gates, seat, accesses, op, self, hooks)
+    }
+
+    #[inline(always)]
+    fn go_in_line<H: TimedHooks>(
+        self,
+        gates: &GateWords,
+        seat: &mut Seat,
+        accesses: &Accesses,
+        hooks: &mut H,
+    ) -> Next<Freeze> {
+        freeze_in_line(gates, seat, accesses, self, hooks)
     }
 }
 
@@ -86,8 +126,26 @@ impl Waiting for Thaw {
     }
 
     #[inline(always)]
-    fn go_in_line(self, gates: &GateWords, seat: &mut Seat, accesses: &Accesses) -> Next<Thaw> {
-        thaw_in_line(gates, seat, accesses, self)
+    fn begin_in_line<H: TimedHooks>(
+        self,
+        gates: &GateWords,
+        seat: &mut Seat,
+        accesses: &Accesses,
+        op: Op,
+        hooks: &mut H,
+    ) -> Next<Thaw> {
+        thaw_first(gates, seat, accesses, op, self, hooks)
+    }
+
+    #[inline(always)]
+    fn go_in_line<H: TimedHooks>(
+        self,
+        gates: &GateWords,
+        seat: &mut Seat,
+        accesses: &Accesses,
+        hooks: &mut H,
+    ) -> Next<Thaw> {
+        thaw_in_line(gates, seat, accesses, self, hooks)
     }
 }
 
@@ -104,7 +162,27 @@ impl Waiting for Remount {
     }
 
     #[inline(always)]
-    fn go_in_line(self, gates: &GateWords, seat: &mut Seat, accesses: &Accesses) -> Next<Remount> {
+    fn begin_in_line<H: TimedHooks>(
+        self,
+        gates: &GateWords,
+        seat: &mut Seat,
+        accesses: &Accesses,
+        op: Op,
+        hooks: &mut H,
+    ) -> Next<Remount> {
+        let _hooks = &*hooks;
+        remount_first(gates, seat, accesses, op, self)
+    }
+
+    #[inline(always)]
+    fn go_in_line<H: TimedHooks>(
+        self,
+        gates: &GateWords,
+        seat: &mut Seat,
+        accesses: &Accesses,
+        hooks: &mut H,
+    ) -> Next<Remount> {
+        let _hooks = &*hooks;
         remount_in_line(gates, seat, accesses, self)
     }
 }
@@ -116,21 +194,48 @@ impl Waiting for Callback {
     }
 
     #[inline(always)]
-    fn go_in_line(self, gates: &GateWords, seat: &mut Seat, accesses: &Accesses) -> Next<Callback> {
+    fn begin_in_line<H: TimedHooks>(
+        self,
+        gates: &GateWords,
+        seat: &mut Seat,
+        accesses: &Accesses,
+        op: Op,
+        hooks: &mut H,
+    ) -> Next<Callback> {
+        let _hooks = &*hooks;
+        callback_first(gates, seat, accesses, op, self.level, self.tasks)
+    }
+
+    #[inline(always)]
+    fn go_in_line<H: TimedHooks>(
+        self,
+        gates: &GateWords,
+        seat: &mut Seat,
+        accesses: &Accesses,
+        hooks: &mut H,
+    ) -> Next<Callback> {
+        let _hooks = &*hooks;
         callback_in_line(gates, seat, accesses, self)
     }
 }
 
 /// The line of a thaw from where it stands.
 #[inline(always)]
-fn thaw_in_line(gates: &GateWords, seat: &mut Seat, accesses: &Accesses, thaw: Thaw) -> Next<Thaw>
+fn thaw_in_line<H: TimedHooks>(
+    gates: &GateWords,
+    seat: &mut Seat,
+    accesses: &Accesses,
+    thaw: Thaw,
+    hooks: &mut H,
+) -> Next<Thaw>
     requires table { seat.old.table_id ≡ gates.now.table.shared.table_id }
     requires tied { IsTied gates.now.config None (Some (Thaws thaw)) accesses.now seat.old.me.0.items }
     ensures slots { seat.new.me.1 ≡ seat.old.me.1 }
-    ensures led { Led gates.now.config accesses.now (Go (Thaws thaw)) seat.old.table_id seat.old.me.0
-        (of_thaw result) seat.new.table_id seat.new.me.0 }
+    ensures led { LedAsking H.answers gates.now.config None accesses.now (Go (Thaws thaw)) seat.old.table_id seat.old.me.0 hooks.old
+        (of_thaw result) seat.new.table_id seat.new.me.0 hooks.new }
 {
     match thaw.step {
+        ThawStep::LoadsStage => thaw_locked(gates, seat, accesses, thaw, hooks),
         ThawStep::SetsUnfrozen => reopen_all(gates, seat, accesses, thaw),
         _ => Next::Go(thaw),
     }
@@ -147,7 +252,7 @@ fn remount_in_line(
     requires table { seat.old.table_id ≡ gates.now.table.shared.table_id }
     requires tied { IsTied gates.now.config None (Some (Remounts remount)) accesses.now seat.old.me.0.items }
     ensures slots { seat.new.me.1 ≡ seat.old.me.1 }
-    ensures led { Led gates.now.config accesses.now (Go (Remounts remount)) seat.old.table_id seat.old.me.0
+    ensures led { Led gates.now.config None accesses.now (Go (Remounts remount)) seat.old.table_id seat.old.me.0
         (of_remount result) seat.new.table_id seat.new.me.0 }
 {
     match remount.step {
@@ -169,70 +274,65 @@ fn callback_in_line(
     requires table { seat.old.table_id ≡ gates.now.table.shared.table_id }
     requires tied { IsTied gates.now.config None (Some (Callbacks callback)) accesses.now seat.old.me.0.items }
     ensures slots { seat.new.me.1 ≡ seat.old.me.1 }
-    ensures led { Led gates.now.config accesses.now (Go (Callbacks callback)) seat.old.table_id seat.old.me.0
+    ensures led { Led gates.now.config None accesses.now (Go (Callbacks callback)) seat.old.table_id seat.old.me.0
         (of_callback result) seat.new.table_id seat.new.me.0 }
 {
     match callback.step {
-        CallbackStep::Claims(transition) => match transition {
-            Transition::Exchanges { from, to } => {
-                claim(gates, seat, accesses, callback, from, to)
+        CallbackStep::AwaitsSections(grace) => {
+            let Callback { level, tasks, .. } = callback;
+            let mut rest = Next::Done(Ok(Reply::Ran(true)));
+            if run_callback(gates, seat, accesses, level, tasks, grace, &mut rest) {
+                return Next::Done(Ok(Reply::Ran(true)));
             }
-            Transition::Loads => Next::Go(callback),
-        },
-        CallbackStep::AwaitsSections(grace) => run_callback(gates, seat, accesses, callback, grace),
-        CallbackStep::CallsBack(_) => Next::Go(callback),
+            rest
+        }
+        CallbackStep::Claims(_) | CallbackStep::CallsBack(_) => Next::Go(callback),
     }
 }
 
 /// The line of a freeze from where it stands.
 #[inline(always)]
-fn freeze_in_line(
+fn freeze_in_line<H: TimedHooks>(
     gates: &GateWords,
     seat: &mut Seat,
     accesses: &Accesses,
     freeze: Freeze,
+    hooks: &mut H,
 ) -> Next<Freeze>
     requires table { seat.old.table_id ≡ gates.now.table.shared.table_id }
     requires tied { IsTied gates.now.config None (Some (Freezes freeze)) accesses.now seat.old.me.0.items }
     ensures slots { seat.new.me.1 ≡ seat.old.me.1 }
-    ensures led { Led gates.now.config accesses.now (Go (Freezes freeze)) seat.old.table_id seat.old.me.0
-        (of_freeze result) seat.new.table_id seat.new.me.0 }
+    ensures led { LedAsking H.answers gates.now.config None accesses.now (Go (Freezes freeze)) seat.old.table_id seat.old.me.0 hooks.old
+        (of_freeze result) seat.new.table_id seat.new.me.0 hooks.new }
 {
     match freeze.step {
-        FreezeStep::Closes(write) => match write.step {
-            DownWriteStep::Enters(transition) => match transition {
-                Transition::Loads => close_level(gates, seat, accesses, freeze, write),
-                Transition::Exchanges { .. } => Next::Go(freeze),
-            },
-            _ => Next::Go(freeze),
-        },
-        FreezeStep::LoadsStage => begin_freeze(gates, seat, accesses, freeze),
-        FreezeStep::SetsPageFault => close_second(gates, seat, accesses, freeze),
+        FreezeStep::LoadsStage => freeze_locked(gates, seat, accesses, freeze, hooks),
+        FreezeStep::Closes(write) => go_on_level(gates, seat, accesses, freeze, write, hooks),
+        FreezeStep::SetsPageFault => close_second(gates, seat, accesses, freeze, hooks),
         FreezeStep::Holds(beside) => end_freeze(gates, seat, accesses, freeze, beside),
         _ => Next::Go(freeze),
     }
 }
 
-/// The next event of an operation: what comes after it. Where it reads what a hook answers, that hook is asked right before it.
+/// Does the next step of an operation. What comes after it. Where it reads what a hook answers, that hook is asked right before it.
 #[inline(always)]
 fn go_on_asking<P: Waiting, H: TimedHooks>(
     gates: &GateWords,
     seat: &mut Seat,
     accesses: &mut Accesses,
-    begins: Option<Op>,
     under_way: P,
     hooks: &mut H,
 ) -> Next<P>
     requires table { seat.old.table_id ≡ gates.now.table.shared.table_id }
-    requires tied { IsTied gates.now.config begins (Some (P.as_phase under_way)) accesses.old seat.old.me.0.items }
+    requires tied { IsTied gates.now.config None (Some (P.as_phase under_way)) accesses.old seat.old.me.0.items }
     ensures table { seat.new.table_id ≡ seat.old.table_id }
     ensures slots { seat.new.me.1 ≡ seat.old.me.1 }
-    ensures tied { StayTied gates.now.config begins (Some (P.as_phase under_way)) accesses.old seat.old.me.0.items
+    ensures tied { StayTied gates.now.config None (Some (P.as_phase under_way)) accesses.old seat.old.me.0.items
         (phase_after (map_next P.as_phase result)) accesses.new seat.new.me.0.items }
     ensures still { IsTied gates.now.config None (phase_after (map_next P.as_phase result)) accesses.new seat.new.me.0.items }
     ensures asked { (waits : ℕ) (op : OpType) (start : TaskState) (before : H) →
         GoesAsking H.answers waits op start before
-        (task_state seat.old.table_id gates.now.config begins (Some (P.as_phase under_way)) seat.old.me.0) hooks.old →
+        (task_state seat.old.table_id gates.now.config None (Some (P.as_phase under_way)) seat.old.me.0) hooks.old →
         WentAsking H.answers waits op start before (map_next P.as_phase result)
         (task_state seat.new.table_id gates.now.config None (phase_after (map_next P.as_phase result)) seat.new.me.0) hooks.new }
 {
@@ -240,25 +340,26 @@ fn go_on_asking<P: Waiting, H: TimedHooks>(
         Some(call) => hooks.ask(call, seat),
         None => Ok(()),
     };
-    go_on(gates, seat, accesses, begins, under_way, hook)
+    go_on(gates, seat, accesses, None, under_way, hook)
 }
 
 /// The line of an operation, where it goes on.
 #[inline(always)]
-fn go_on_in_line<P: Waiting>(
+fn go_on_in_line<P: Waiting, H: TimedHooks>(
     gates: &GateWords,
     seat: &mut Seat,
     accesses: &Accesses,
     next: Next<P>,
+    hooks: &mut H,
 ) -> Next<P>
     requires table { seat.old.table_id ≡ gates.now.table.shared.table_id }
     requires tied { IsTied gates.now.config None (phase_after (map_next P.as_phase next)) accesses.now seat.old.me.0.items }
     ensures slots { seat.new.me.1 ≡ seat.old.me.1 }
-    ensures led { Led gates.now.config accesses.now (map_next P.as_phase next) seat.old.table_id seat.old.me.0
-        (map_next P.as_phase result) seat.new.table_id seat.new.me.0 }
+    ensures led { LedAsking H.answers gates.now.config None accesses.now (map_next P.as_phase next) seat.old.table_id seat.old.me.0 hooks.old
+        (map_next P.as_phase result) seat.new.table_id seat.new.me.0 hooks.new }
 {
     match next {
-        Next::Go(under_way) => under_way.go_in_line(gates, seat, accesses),
+        Next::Go(under_way) => under_way.go_in_line(gates, seat, accesses, hooks),
         Next::Wait(under_way) => Next::Wait(under_way),
         Next::Done(answer) => Next::Done(answer),
     }
@@ -328,13 +429,9 @@ pub fn wait_to_end<R: Wait, H: TimedHooks, P: Waiting>(
 {
     let backoff = Backoff::new();
     let mut waited: u64 = 0;
-    let mut begins = Some(op);
-    let mut under_way = first;
+    let mut next = first.begin_in_line(gates, seat, accesses, op, hooks);
     for _ in rt.forever() {
-        let next = go_on_asking(gates, seat, accesses, begins, under_way, hooks);
-        let next = go_on_in_line(gates, seat, accesses, next);
-        begins = None;
-        under_way = match next {
+        let under_way = match next {
             Next::Done(answer) => return (answer, waited),
             Next::Go(further) => further,
             Next::Wait(further) => {
@@ -343,6 +440,8 @@ pub fn wait_to_end<R: Wait, H: TimedHooks, P: Waiting>(
                 further
             }
         };
+        let after = go_on_asking(gates, seat, accesses, under_way, hooks);
+        next = go_on_in_line(gates, seat, accesses, after, hooks);
     }
     unreachable!()
 }

@@ -10,5 +10,5 @@ mod words;
 pub use crate::{Closed, Happens, index_of, word_of};
 pub use gate_schedules::{Progress, Seat as Kept, Step};
 pub use hooks::TimedHooks;
-pub use turns::{Turn, do_event, find, go_on};
+pub use turns::{Turn, do_event, find, find_asking, find_first, go_on};
 pub use words::{GateWords, Seat};

@@ -46,7 +46,7 @@ pub struct Ended<D> {
     pub replay: Option<LineReplay<D>>,
 }
 
-/// The same, with the replay as it is at its end.
+/// Replays a schedule over whatever gates, to the first fault, and returns the replay as it is at its end.
 pub fn replay_to_end<D: Driver, R: Read, W: Write>(
     alloc: Global,
     reader: &mut R,

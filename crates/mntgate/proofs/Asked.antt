@@ -1,22 +1,22 @@
 -- How the program ends that did what was asked for.
-use Rattle.std.proofs.Common.{◌≡◌, inl, inr, refl, sym, ap, subst, ◌∙◌, ℕ, zero, suc, Bool, true, false, List, Option, Some, None, Result, Ok, Err}
+use Rattle.std.proofs.Common.{◌≡◌, ◌⊎◌, inl, inr, refl, sym, ap, subst, ◌∙◌, ℕ, zero, suc, Bool, true, false, List, Option, Some, None, Result, Ok, Err, IfOk}
 use Rattle.std.specs.Borrow.{Bor}
 use mathlib.Core.Bool.{true≢false}
 use Rattle.command_line.specs.CommandLine.{IsPlainOfInput}
 use Rattle.command_line.specs.declared.words.Asked.{Asked}
 use Rattle.command_line.specs.declared.words.Asked.TheVariants as ask
 use Rattle.command_line.specs.declared.words.Form.{Form}
-use Rattle.command_line.specs.declared.words.Form.TheVariants.{Plain, Events, Columns, Json}
+use Rattle.command_line.specs.declared.words.Form.TheVariants.{Plain, Events, Columns, Json, Html}
+use Rattle.command_line.specs.declared.words.Listing.TheVariants.{Text}
 use Rattle.command_line.specs.declared.words.Numbers.{Numbers}
 use Rattle.command_line.specs.declared.words.Outcomes.{Outcomes}
 use Rattle.endings.specs.Endings.{of_file}
 use Rattle.endings.specs.declared.ends.Ending.{Ending}
-use Rattle.endings.specs.declared.ends.Ending.TheVariants.{Done, DoneOfFile, DoneOverGates, Shown, Passed, Listed, Ran, Told, Refused, Misused}
+use Rattle.endings.specs.declared.ends.Ending.TheVariants.{Done, DoneOfFile, DoneOverGates, Shown, Passed, Blessed, Listed, Ran, Told, Refused, Misused}
 use Rattle.asked_files.specs.Checks.{TellsPassed, count_checked}
 use Rattle.asked_replays.specs.Replays.{EndsReplayed, done_in, done_of, ending_of}
 use Rattle.asked_files.specs.Outcomes.{EndsTold}
-use Rattle.asked_files.specs.Outcomes.EndsTold.{IsWritten, IsRefused, IsCutOff}
-use Rattle.mntgate.specs.Asking.{EndsAsked, EndsRun, TellsSomePassed}
+use Rattle.mntgate.specs.Asking.{EndsAsked, EndsOutcomes, EndsRun, TellsSomePassed}
 use Rattle.schedule_lines.specs.declared.bytes.replay_faults.ReplayFault.{ReplayFault}
 use Rattle.line_replays.specs.Replayed.{Replayed}
 
@@ -27,6 +27,7 @@ never_of_file DoneOfFile e = cc
 never_of_file DoneOverGates e = cc
 never_of_file Shown e = cc
 never_of_file Passed e = cc
+never_of_file Blessed e = cc
 never_of_file Listed e = cc
 never_of_file Ran e = cc
 never_of_file Told e = cc
@@ -40,6 +41,7 @@ plainly Plain false e = (refl, refl)
 plainly Events over_gates e = cc
 plainly Columns over_gates e = cc
 plainly Json over_gates e = cc
+plainly Html over_gates e = cc
 
 -- a replay that ends with `Done` is a plain one of standard input
 of_input : (file : Option (Bor (List ℕ))) (form : Form) (over_gates : Bool) → done_of file (done_in form over_gates) ≡ Done →
@@ -61,11 +63,13 @@ replay_done None Plain false = refl
 replay_done None Events over_gates = refl
 replay_done None Columns over_gates = refl
 replay_done None Json over_gates = refl
+replay_done None Html over_gates = refl
 replay_done (Some file) Plain true = refl
 replay_done (Some file) Plain false = refl
 replay_done (Some file) Events over_gates = refl
 replay_done (Some file) Columns over_gates = refl
 replay_done (Some file) Json over_gates = refl
+replay_done (Some file) Html over_gates = refl
 
 -- what outcomes end with, and whatever is refused
 abbrev is_of_outcomes : Ending → Bool
@@ -73,11 +77,18 @@ is_of_outcomes Listed = true
 is_of_outcomes Refused = true
 is_of_outcomes ending = false
 
-outcomes_end : (race : Outcomes) (input held holds : Option (List ℕ)) (ending : Ending) → EndsTold race input held holds ending →
-    is_of_outcomes ending ≡ true
-outcomes_end race input held holds ending (IsWritten bytes text read told all e) = ap is_of_outcomes e
-outcomes_end race input held holds ending (IsRefused kept e) = ap is_of_outcomes e
-outcomes_end race input held holds ending (IsCutOff bytes text read told part e) = ap is_of_outcomes e
+outcomes_end : (ending : Ending) → (ending ≡ Listed) ⊎ (ending ≡ Refused) → is_of_outcomes ending ≡ true
+outcomes_end ending (inl e) = ap is_of_outcomes e
+outcomes_end ending (inr e) = ap is_of_outcomes e
+
+-- how it ends where outcomes were asked for, unless memory was refused
+pub outcomes_ended : {E : Type 0} (asked : Asked) (race : Outcomes) (input left held holds : Option (List ℕ)) (r : Result Ending E) →
+    asked ≡ ask.Outcomes race → IfOk r (λ ending. (ending ≡ Listed) ⊎ (ending ≡ Refused)) →
+    (race.form ≡ Text → IfOk r (EndsTold race input held holds)) → IfOk r (EndsAsked asked input left held holds)
+outcomes_ended asked race input left held holds (Ok ending) is ends told =
+    let ended : EndsOutcomes race input held holds ending = record { ends = ends; told = told } in
+    subst (λ (a : Asked). EndsAsked a input left held holds ending) (sym is) ended
+outcomes_ended asked race input left held holds (Err refused) is ends told = tt
 
 -- what ends so ends with none that is otherwise
 otherwise : (is : Ending → Bool) (ending other : Ending) → is ending ≡ true → is other ≡ false → ending ≡ other → ⊥
@@ -102,8 +113,13 @@ module _ (input left held holds : Option (List ℕ)) where
     | inr e ↦ cc
   ]
   done_plainly (ask.Check files) ending ends done = elim ends.ends [ inl e ↦ cc | inr e ↦ cc ]
+  done_plainly (ask.Bless files) ending (inl e) done = cc
+  done_plainly (ask.Bless files) ending (inr e) done = cc
+  done_plainly (ask.Explain refusals) ending (inl e) done = cc
+  done_plainly (ask.Explain refusals) ending (inr (inl e)) done = cc
+  done_plainly (ask.Explain refusals) ending (inr (inr e)) done = cc
   done_plainly (ask.Outcomes race) ending ends done =
-      absurd (otherwise is_of_outcomes ending Done (outcomes_end race input held holds ending ends) refl done)
+      absurd (otherwise is_of_outcomes ending Done (outcomes_end ending ends.ends) refl done)
   done_plainly (ask.Run numbers tells) ending ends done = elim ends.ends [ inl e ↦ cc | inr e ↦ cc ]
   done_plainly (ask.Told text) ending (inl e) done = cc
   done_plainly (ask.Told text) ending (inr e) done = cc
@@ -116,8 +132,13 @@ module _ (input left held holds : Option (List ℕ)) where
     | inr e ↦ cc
   ]
   passes (ask.Check files) ending ends passed = some_told _ held holds (ends.passed passed)
+  passes (ask.Bless files) ending (inl e) passed = cc
+  passes (ask.Bless files) ending (inr e) passed = cc
+  passes (ask.Explain refusals) ending (inl e) passed = cc
+  passes (ask.Explain refusals) ending (inr (inl e)) passed = cc
+  passes (ask.Explain refusals) ending (inr (inr e)) passed = cc
   passes (ask.Outcomes race) ending ends passed =
-      absurd (otherwise is_of_outcomes ending Passed (outcomes_end race input held holds ending ends) refl passed)
+      absurd (otherwise is_of_outcomes ending Passed (outcomes_end ending ends.ends) refl passed)
   passes (ask.Run numbers tells) ending ends passed = elim ends.ends [ inl e ↦ cc | inr e ↦ cc ]
   passes (ask.Told text) ending (inl e) passed = cc
   passes (ask.Told text) ending (inr e) passed = cc
@@ -131,8 +152,13 @@ module _ (input left held holds : Option (List ℕ)) where
     | inr e ↦ absurd (otherwise is_of_outcomes ending Ran (ap is_of_outcomes e) refl is)
   ]
   ran (ask.Check files) ending by ends is = elim ends.ends [ inl e ↦ cc | inr e ↦ cc ]
+  ran (ask.Bless files) ending by (inl e) is = cc
+  ran (ask.Bless files) ending by (inr e) is = cc
+  ran (ask.Explain refusals) ending by (inl e) is = cc
+  ran (ask.Explain refusals) ending by (inr (inl e)) is = cc
+  ran (ask.Explain refusals) ending by (inr (inr e)) is = cc
   ran (ask.Outcomes race) ending by ends is =
-      absurd (otherwise is_of_outcomes ending Ran (outcomes_end race input held holds ending ends) refl is)
+      absurd (otherwise is_of_outcomes ending Ran (outcomes_end ending ends.ends) refl is)
   ran (ask.Run numbers tells) ending by ends is = by numbers ends
   ran (ask.Told text) ending by (inl e) is = cc
   ran (ask.Told text) ending by (inr e) is = cc

@@ -1,16 +1,18 @@
 -- What the program does that is asked for something, and how it ends.
-use Rattle.std.specs.Prelude.{◌≡◌, ◌⊎◌, ℕ, suc, List, Option, Some, None, vec_len}
+use Rattle.std.specs.Prelude.{◌≡◌, ◌⊎◌, ℕ, suc, List, Option, Some, None, codes, vec_len}
 use Rattle.std.specs.Borrow.{Bor}
-use Rattle.asked_replays.specs.Replays.{EndsReplayed, EndsReplayedFile, IsRefusedUnread, done_in, done_of}
+use Rattle.asked_replays.specs.Replays.{EndsReplayed, EndsReplayedFile, EndsReplayedNamed, IsRefusedUnread, done_in, done_of}
 use Rattle.asked_files.specs.Checks.{TellsPassed, count_checked}
 use Rattle.asked_files.specs.Outcomes.{EndsTold}
 use Rattle.command_line.specs.CommandLine.{IsPlain}
+use Rattle.command_line.specs.declared.words.Listing.TheVariants.{Text}
 use Rattle.command_line.specs.declared.words.Numbers.{Numbers}
+use Rattle.command_line.specs.declared.words.Outcomes.{Outcomes}
 use Rattle.command_line.specs.declared.words.Replay.{Replay}
 use Rattle.command_line.specs.declared.words.Asked.{Asked}
 use Rattle.command_line.specs.declared.words.Asked.TheVariants as ask
 use Rattle.endings.specs.declared.ends.Ending.{Ending}
-use Rattle.endings.specs.declared.ends.Ending.TheVariants.{Passed, Ran, Told, Refused, Misused}
+use Rattle.endings.specs.declared.ends.Ending.TheVariants.{Listed, Passed, Blessed, Ran, Told, Refused, Misused}
 use Rattle.gate_runs.specs.Told.{WasRun}
 use Rattle.gate_runs.specs.run_parts.Meetings.{unseen}
 use Rattle.run_plans.specs.Plans.{MayRun}
@@ -21,11 +23,17 @@ pub record EndsReplay (r : Replay) (input left held holds : Option (List ℕ)) (
   pub plain : IsPlain r → r.file ≡ None → EndsReplayed input left held holds ending
   pub of_file : (file : Bor (List ℕ)) → IsPlain r → r.file ≡ Some file →
       EndsReplayedFile held holds ending ⊎ IsRefusedUnread input left held holds ending
+  pub named : (file : Bor (List ℕ)) → IsPlain r → r.file ≡ Some file → file.now ≡ codes "-" → EndsReplayedNamed input left held holds ending
 
 -- How checks of so many schedules end: where they passed, what is written ends with the line that says so of as many as were asked for.
 pub record EndsChecks (count : ℕ) (held holds : Option (List ℕ)) (ending : Ending) : Type 0 where
   pub ends : (ending ≡ Passed) ⊎ (ending ≡ Refused)
   pub passed : ending ≡ Passed → TellsPassed (count_checked count) held holds
+
+-- How it ends where all outcomes of a race were asked for: as text, they are told.
+pub record EndsOutcomes (race : Outcomes) (input held holds : Option (List ℕ)) (ending : Ending) : Type 0 where
+  pub ends : (ending ≡ Listed) ⊎ (ending ≡ Refused)
+  pub told : race.form ≡ Text → EndsTold race input held holds ending
 
 -- what who watches a run of the program says of a round
 abbrev pub unheld : ℕ → ℕ → Type 0
@@ -45,7 +53,9 @@ pub record EndsRun (numbers : Numbers) (ending : Ending) : Type 0 where
 abbrev pub EndsAsked : Asked → (input left held holds : Option (List ℕ)) → Ending → Type 0
 EndsAsked (ask.Replay r) input left held holds ending = EndsReplay r input left held holds ending
 EndsAsked (ask.Check files) input left held holds ending = EndsChecks (vec_len files) held holds ending
-EndsAsked (ask.Outcomes race) input left held holds ending = EndsTold race input held holds ending
+EndsAsked (ask.Bless files) input left held holds ending = (ending ≡ Blessed) ⊎ (ending ≡ Refused)
+EndsAsked (ask.Explain refusals) input left held holds ending = (ending ≡ Told) ⊎ (ending ≡ Refused) ⊎ (ending ≡ Misused)
+EndsAsked (ask.Outcomes race) input left held holds ending = EndsOutcomes race input held holds ending
 EndsAsked (ask.Run numbers tells) input left held holds ending = EndsRun numbers ending
 EndsAsked (ask.Told text) input left held holds ending = (ending ≡ Told) ⊎ (ending ≡ Refused)
 EndsAsked ask.Misused input left held holds ending = ending ≡ Misused

@@ -7,11 +7,12 @@ ghost use Rattle.asked_replays.specs.Replays.{EndsReplayed};
 ghost use Rattle.mntgate.specs.Asking.{EndsAsked, EndsRun, TellsSomePassed, WasSomeRun};
 ghost use Rattle.line_replays.specs.Replayed.{Replayed};
 
-use asked_files::{run_checks, run_outcomes};
+use asked_files::{run_blessings, run_checks, run_outcomes};
 use asked_replays::{Person, run_replay};
 use command_line::{Asked, Numbers, Tells, read_words};
 use endings::{Ending, refused, text_told};
 use gate_runs::{Plan, run_told};
+use refusals::run_explanation;
 use run_plans::Progress;
 use run_plans::rows::ROWS;
 use std::alloc::{AllocError, Global};
@@ -77,7 +78,15 @@ fn do_asked<
         Asked::Replay(replay) => {
             Ok(run_replay(rt, alloc, *replay, reader, writer, errors, &person))
         }
-        Asked::Check(files) => run_checks(rt, alloc, files.as_slice(), reader, writer, errors),
+        Asked::Check(files) => {
+            Ok(run_checks(rt, alloc, files.as_slice(), reader, writer, errors))
+        }
+        Asked::Bless(files) => {
+            Ok(run_blessings(rt, alloc, files.as_slice(), reader, writer, errors))
+        }
+        Asked::Explain(explain) => {
+            Ok(run_explanation(alloc, explain.call, explain.refusal, writer, errors))
+        }
         Asked::Outcomes(asked) => run_outcomes(rt, alloc, *asked, reader, writer, errors),
         Asked::Run(numbers, tells) => {
             let watched = person.watches;

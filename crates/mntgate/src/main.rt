@@ -4,18 +4,18 @@
 pub mod asking;
 
 use crate::asking::run;
-use anyhow::Result;
+use access_model::GateError;
 use asked_replays::Person;
-use endings::unreadable;
-use std::io::IsTerminal;
+use endings::{Ending, refused, unreadable};
+use std::alloc::{AllocError, Global};
+use std::io::{IsTerminal, Stderr};
 use std::process::ExitCode;
 
-fn main(rt: HostRuntime) -> Result<ExitCode> {
+fn main(rt: HostRuntime) -> ExitCode {
     let alloc = rt.alloc();
     let (mut reader, mut writer, mut errors) = (rt.stdin(), rt.stdout(), rt.stderr());
-    let ending = match std::env::args(&rt) {
+    let ending = match words_of(&rt, alloc, &mut errors) {
         Ok(words) => {
-            let words: Vec<String> = words.collect(alloc)?;
             let person = Person {
                 watches: if errors.is_terminal() {
                     Some(rt.stderr())
@@ -35,9 +35,27 @@ fn main(rt: HostRuntime) -> Result<ExitCode> {
             );
             // Before any way out, so that it is dropped in one place.
             drop(words);
-            ended?
+            match ended {
+                Ok(ending) => ending,
+                Err(AllocError) => refused(GateError::NoMemory, &mut errors),
+            }
         }
-        Err(error) => unreadable(&error, &mut errors),
+        Err(ending) => ending,
     };
-    Ok(ExitCode::from(ending.status()))
+    ExitCode::from(ending.status())
+}
+
+/// Returns the words of the command line.
+///
+/// # Errors
+///
+/// How the program ends if a word is no text, or there is no memory for them, which is told.
+fn words_of(rt: &HostRuntime, alloc: Global, errors: &mut Stderr) -> Result<Vec<String>, Ending> {
+    match std::env::args(rt) {
+        Ok(words) => match words.collect(alloc) {
+            Ok(words) => Ok(words),
+            Err(AllocError) => Err(refused(GateError::NoMemory, errors)),
+        },
+        Err(error) => Err(unreadable(&error, errors)),
+    }
 }

@@ -11,7 +11,7 @@ ghost use Rattle.schedule_lines.specs.declared.faults.Fault.TheVariants.{Refused
 ghost use Rattle.access_model.specs.declared.errors.GateError.TheVariants.{NoMemory};
 
 use crate::faults::RaceFault;
-use crate::lines::{Lines, is_race};
+use crate::lines::{Lines, is_claim, is_race};
 use gate_world::Op;
 use races::{CALLS, Call, Race};
 use schedule_lines::words::{after_word, first_word};
@@ -87,6 +87,9 @@ impl Calls {
         ensures read { OnOk result (calls_after self.old.race.tasks self.old.race.calls.items line.now ≡ Ok self.new.race.calls.items) }
         ensures fault { IfErr result (IsToldOrMemory (calls_after self.old.race.tasks self.old.race.calls.items line.now)) }
     {
+        if is_claim(line) {
+            return Ok(());
+        }
         match is_race(line) {
             Ok(false) => {}
             Ok(true) => return Err(RaceFault::RaceTwice),

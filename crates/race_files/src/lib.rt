@@ -13,5 +13,5 @@ pub mod setting_up;
 pub use calls::{CallLine, Calls};
 pub use faults::RaceFault;
 pub use files::{RaceFile, read_race};
-pub use lines::{Lines, is_race};
+pub use lines::{Lines, is_claim, is_race};
 pub use setting_up::set_up;

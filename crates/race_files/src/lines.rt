@@ -1,9 +1,10 @@
 //! The lines of an input that was read whole.
 
 ghost use Rattle.std.specs.Prelude.{◌≡◌, ◌<◌, ◌≤◌, ◌+◌, length, take, drop};
-ghost use Rattle.race_files.specs.Calls.{is_race};
+ghost use Rattle.race_files.specs.Calls.{is_claim, is_race};
 
 use crate::faults::RaceFault;
+use condition_text::kind_of;
 use schedule_lines::bytes::ReplayFault;
 use schedule_lines::words::{first_word, word_count};
 use schedule_text::{Fault, Front, LINES, front_of};
@@ -129,4 +130,12 @@ pub fn is_race(line: &[u8]) -> Result<bool, Fault>
     } else {
         Err(Fault::WrongNumberOfWords)
     }
+}
+
+/// Whether a line claims something of the race.
+#[tactic(auto, unfolding(crate::specs::Calls::is_claim))]
+pub fn is_claim(line: &[u8]) -> bool
+    ensures { result ≡ is_claim line.now }
+{
+    kind_of(first_word(line)).is_some()
 }

@@ -2,7 +2,8 @@
 
 use crate::calls::Calls;
 use gate_core::Core;
-use schedule_text::{Output, TaskCommand};
+use gate_schedules::Step;
+use schedule_text::Output;
 use std::alloc::{AllocError, Global};
 use transcripts::Session;
 
@@ -10,7 +11,8 @@ use transcripts::Session;
 const TASKS: usize = 64;
 
 /// Moves gates that were set up as these movers do, and prints a line for each move, which a replay takes: a beginning as it stands in the
-/// file, `T step`, or `T step CODE` where the hook fails that the event asks.
+/// file, `T step`, or `T step CODE` where the hook fails that the event asks. An action that the model forbids, which only a build that isn't
+/// proved can add, is told in a comment under its step.
 pub fn print_schedule(
     alloc: Global,
     calls: &Calls,
@@ -44,17 +46,26 @@ fn print_move(
     let Some(call) = calls.call(task, turn) else {
         return Ok(());
     };
-    let command = if session.gates().is_under_way(task) {
-        let hook = session.hook_answer(task, call.failure);
-        print_step(task, hook, out);
-        TaskCommand::Step { hook }
-    } else {
+    if !session.gates().is_under_way(task) {
         out.line(calls.line(task, turn));
-        TaskCommand::Begin(call.op)
-    };
-    session
-        .do_command(task, command, &mut Output::new(alloc))
-        .or(Err(AllocError))
+        let begun = session.begin(task, call.op, &mut Output::new(alloc));
+        return begun.or(Err(AllocError));
+    }
+    let hook = session.hook_answer(task, call.failure);
+    print_step(task, hook, out);
+    let judged = session.step_judged(task, hook);
+    if !judged.is_allowed {
+        print_forbidden(task, judged.step, out);
+    }
+    Ok(())
+}
+
+/// Prints, as a comment, that the model forbids the action of a step.
+fn print_forbidden(task: u8, step: Step, out: &mut Output) {
+    if let Some(event) = step.event {
+        out.text(b"# the model forbids this action: ");
+        out.event_line(task, event, step.action, false);
+    }
 }
 
 /// Prints the next event of a task.

@@ -39,7 +39,7 @@ pub fn set_up(alloc: Global, lines: &mut Lines<'_>) -> Result<Session<Core>, Rac
     do_setting(alloc, lines, &mut Output::new(alloc), &mut Unwatched)
 }
 
-/// The same, with one who looks at what they print.
+/// Does the lines before the first line `race`, for one who looks at what they print.
 pub fn do_setting<W: Watch>(
     alloc: Global,
     lines: &mut Lines<'_>,

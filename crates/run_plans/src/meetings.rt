@@ -17,7 +17,8 @@ impl Meeting for () {
     fn holding(&self, _task: u8, _round: u32) {}
 }
 
-/// The same for who also looks at the freezes, as programs that tell how far a run is. Each `Meeting` is one at whose freezes nothing is done.
+/// Looks at a run. It is called by each writer while it holds its access, as a `Meeting` is, and by the backup at each freeze: so a program can
+/// tell how far a run is. Each `Meeting` is a `Watch` at whose freezes nothing is done.
 pub trait Watch {
     ghost use Rattle.std.specs.Prelude.{ℕ};
 

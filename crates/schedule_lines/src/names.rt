@@ -175,7 +175,7 @@ impl Output {
         }
     }
 
-    /// The same on a line of its own.
+    /// Prints an answer on a line of its own.
     #[tactic(auto, unfolding(crate::specs::Printing::answer_line))]
     pub fn answer_line(&mut self, task: u8, answer: Result<Reply, GateError>, used: u64)
         ensures { Prints self.old self.new (answer_line task answer used) }

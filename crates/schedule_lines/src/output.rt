@@ -71,7 +71,7 @@ impl Output {
         }
     }
 
-    /// The same, however many digits it has.
+    /// Prints a number, however many digits it has.
     #[inline(never)]
     fn digits(&mut self, number: u64)
         ensures { Prints self.old self.new (decimal number) }

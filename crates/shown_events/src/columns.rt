@@ -1,54 +1,57 @@
-//! Events in a column for each task.
+//! Entries in a column for each task.
 
-use crate::forms::Kind;
+use crate::forms::Style;
+use crate::listings::Listed;
 use crate::page::{Page, text_of};
+use crate::rows::rows_of;
+use crate::trace::behind_task;
+use cpu_words::WORDS;
 use schedule_text::Output;
 use std::alloc::{AllocError, Global};
-
-/// How wide all columns are together, where there is room for it.
-const PAGE: usize = 100;
 
 /// How wide a column is at least.
 const LEAST: usize = 14;
 
-/// The most tasks for whom words are whole.
+/// The most tasks for which words are whole.
 const FEW: u8 = 4;
-
-/// The value of a word that isn't listed.
-static ZERO: &str = "0";
 
 /// What narrower words are told by.
 static NARROWER: &str = "narrower words: m is mount, l level, s section, .f .flags, .c .cpu\n";
 
 /// What stands for what in them.
 static SHORTER: [(&str, &str); 5] = [
-    ("mount", "m"),
-    ("level", "l"),
-    ("section", "s"),
+    (" mount", " m"),
+    (" level", " l"),
+    (" section", " s"),
     (".flags", ".f"),
     (".cpu", ".c"),
 ];
 
-/// A column for each task, and the words that were listed last.
+/// A column for each task, and the words as they were listed last.
 #[derive(Drop)]
 pub(crate) struct Columns {
+    /// How wide all columns are together, where there is room for it.
+    page: usize,
     width: usize,
     is_narrow: bool,
-    listed: Output,
+    /// Each value at the place of its word; none before the first listing.
+    listed: Vec<u64>,
 }
 
 impl Columns {
-    pub(crate) fn new(alloc: Global) -> Columns {
+    /// No column yet.
+    pub(crate) fn new(alloc: Global, page: usize) -> Columns {
         Columns {
-            width: PAGE,
+            page,
+            width: page,
             is_narrow: false,
-            listed: Output::new(alloc),
+            listed: Vec::new(alloc),
         }
     }
 
     /// Prints the heads of the columns.
     pub(crate) fn begin(&mut self, tasks: u8, page: &mut Page) {
-        self.width = (PAGE / usize::from(tasks.max(1))).max(LEAST);
+        self.width = (self.page / usize::from(tasks.max(1))).max(LEAST);
         self.is_narrow = tasks > FEW;
         if self.is_narrow {
             page.text(NARROWER);
@@ -57,7 +60,7 @@ impl Columns {
         for task in 0..tasks {
             let used = page.len().saturating_sub(start);
             page.spaces(self.indent(task).saturating_sub(used));
-            page.numbered(b"task ", u64::from(task));
+            page.out.numbered(b"task ", u64::from(task));
         }
         page.text("\n");
     }
@@ -67,100 +70,65 @@ impl Columns {
         self.width.saturating_mul(usize::from(task))
     }
 
-    /// Prints what a session printed: the line of a task in its column, and of `words` what has changed.
-    pub(crate) fn print(&mut self, kind: Kind, text: &str, page: &mut Page) {
-        match kind {
-            Kind::Line(task, _) => self.cell(task, text, page),
-            Kind::Listing("words") => self.changes(text, page),
-            Kind::Listing(_) => page.text(text),
-        }
-    }
-
-    /// Prints the line of a task, with shorter words where it has to be narrow.
-    fn cell(&self, task: u8, line: &str, page: &mut Page) {
+    /// Prints the line of a task in its column, with shorter words where it has to be narrow.
+    pub(crate) fn line(&self, task: u8, line: &[u8], page: &mut Page) {
+        let text = behind_task(line);
         if !self.is_narrow {
-            return self.words(task, line, page);
+            return self.cell(task, text, page);
         }
-        match shortened(page.alloc, line) {
-            Ok(short) => self.words(task, short.as_str(), page),
+        match shortened(page.alloc, text_of(text)) {
+            Ok(short) => self.cell(task, short.as_bytes(), page),
             Err(refused) => page.note(Err(refused)),
         }
     }
 
-    /// Prints the words of a line, but for its task's number, in the task's column: what has no room there goes on in the next row.
-    fn words(&self, task: u8, line: &str, page: &mut Page) {
+    /// Prints a text in the task's column: what has no room there goes on in the next row, behind a space.
+    fn cell(&self, task: u8, text: &[u8], page: &mut Page) {
         let indent = self.indent(task);
-        page.spaces(indent);
-        let mut used = 0;
-        for word in line.trim_end().split(' ').skip(1) {
-            used = self.word(indent, used, word, page);
+        match rows_of(page.alloc, text, self.width.saturating_sub(1)) {
+            Ok(rows) => {
+                for (number, row) in rows.iter().enumerate() {
+                    page.spaces(indent.saturating_add(number.min(1)));
+                    page.out.line(*row);
+                }
+            }
+            Err(refused) => page.note(Err(refused)),
         }
-        page.text("\n");
-    }
-
-    /// Prints a word behind so many bytes of its row, or in the next row; says how many bytes of its row are used then.
-    fn word(&self, indent: usize, used: usize, word: &str, page: &mut Page) -> usize {
-        let needed = used.saturating_add(word.len()).saturating_add(1);
-        let used = if used == 0 {
-            word.len()
-        } else if needed < self.width {
-            page.text(" ");
-            needed
-        } else {
-            page.text("\n");
-            page.spaces(indent.saturating_add(1));
-            word.len().saturating_add(1)
-        };
-        page.text(word);
-        used
     }
 
     /// Prints the words that have changed since they were listed last, as `WORD BEFORE -> NOW`.
-    fn changes(&mut self, listed: &str, page: &mut Page) {
-        let before = text_of(self.listed.bytes.as_slice());
+    pub(crate) fn changes(&mut self, words: &[Listed], style: Style, page: &mut Page) {
+        if self.listed.is_empty() {
+            match vec![in page.alloc; 0u64; WORDS] {
+                Ok(listed) => self.listed = listed,
+                Err(refused) => return page.note(Err(refused)),
+            }
+        }
         let start = page.len();
-        compare(listed, before, listed, false, page);
-        compare(before, before, listed, true, page);
+        for listed in words {
+            let Listed { word, value } = *listed;
+            if let Some(last) = self.listed.get_mut(word.place()) {
+                let was = *last;
+                *last = value;
+                if was != value {
+                    print_change(&mut page.out, listed, was, style);
+                }
+            }
+        }
         if page.len() == start {
             page.text("no word has changed\n");
         }
-        self.listed.clear();
-        self.listed.text(listed.as_bytes());
-        page.note(self.listed.settled());
     }
 }
 
-/// Prints the change of each of these words that has changed: of those that are 0 now, or of the others.
-fn compare(words: &str, before: &str, now: &str, are_gone: bool, page: &mut Page) {
-    for line in words.lines() {
-        let (word, _) = pair(line);
-        let (was, is) = (value_of(before, word), value_of(now, word));
-        if was != is && (is == ZERO) == are_gone {
-            change(word, was, is, page);
-        }
-    }
-}
-
-fn change(word: &str, was: &str, is: &str, page: &mut Page) {
-    for part in [word, " ", was, " -> ", is, "\n"] {
-        page.text(part);
-    }
-}
-
-/// A word and its value, of a line that lists it.
-fn pair(line: &str) -> (&str, &str) {
-    line.split_once(' ').unwrap_or((line, ZERO))
-}
-
-/// The value of a word among listed ones.
-fn value_of<'a>(listed: &'a str, word: &str) -> &'a str {
-    for line in listed.lines() {
-        let (name, value) = pair(line);
-        if name == word {
-            return value;
-        }
-    }
-    ZERO
+/// Prints a word, what it was, and what it is now.
+fn print_change(out: &mut Output, now: &Listed, was: u64, style: Style) {
+    style.name(out, now.word);
+    out.text(b" ");
+    style.value(out, now.word, was);
+    out.text(b" -> ");
+    style.value(out, now.word, now.value);
+    out.text(b"\n");
 }
 
 /// A text with its words shortened.

@@ -1,23 +1,58 @@
 //! The forms in which a schedule is shown.
 
-use crate::json::Names;
+ghost use Rattle.std.specs.Prelude.{◌≡◌};
 
-/// How events are shown.
+/// How a schedule is shown.
 #[derive(Clone, Copy)]
 pub enum Form {
-    /// Each on a line, as `step` prints it.
+    /// A line for each beginning, step and answer.
     Events,
-    /// In a column for each task.
-    Columns,
-    /// Each as a line of JSON.
+    /// The same in a column for each task, which are so many bytes wide together.
+    Columns { width: usize },
+    /// A record for each, as a line of JSON.
     Json,
+    /// One picture of all of it, as SVG.
+    Picture,
 }
 
-/// What a text is that a session printed.
+/// By which names words are printed.
+#[derive(Clone, Copy, PartialEq, Eq)]
+pub enum Names {
+    /// Those of schedules, as `umount`.
+    Schedule,
+    /// Those of Linux 6.1, as `s_umount`.
+    Kernel,
+}
+
+/// How words and their values are printed.
 #[derive(Clone, Copy)]
-pub(crate) enum Kind {
-    /// A line about a task, whose words have these names.
-    Line(u8, &'static Names),
-    /// A listing: `words`, `tree` or `model`.
-    Listing(&'static str),
+pub struct Style {
+    pub names: Names,
+    /// Whether values are the numbers in memory, and not what these say.
+    pub raw: bool,
+}
+
+impl Style {
+    ghost use Rattle.shown_events.specs.Styles.{style_of};
+
+    /// The style with the kernel's names or not, and with values as numbers or not.
+    pub fn of(has_kernel_names: bool, raw: bool) -> Style
+        ensures { result ≡ style_of has_kernel_names raw }
+    {
+        Style {
+            names: if has_kernel_names {
+                Names::Kernel
+            } else {
+                Names::Schedule
+            },
+            raw,
+        }
+    }
+}
+
+/// A form, and how words and their values are printed in it.
+#[derive(Clone, Copy)]
+pub struct Look {
+    pub form: Form,
+    pub style: Style,
 }

@@ -1,14 +1,28 @@
-//! A schedule that can be seen: a replay that prints each event, also those of a `run`, in lines, in columns or as JSON, and says of a task
-//! that waits for whom. What a replay without a form prints is `line_replays`'s; here are the same session and the same steps.
+//! A schedule that can be seen: a replay that shows each step, also those of a `run`, with the call that it is of, what it does to the model
+//! and for whom it waits. What is seen is one trace of entries (`trace`), which each form prints in its way: as lines, in columns, as JSON, as a
+//! picture. What a replay without a form prints is `line_replays`'s; here are the same session and the same steps.
 #![tactic(auto)]
 
 mod columns;
+mod drawing;
 pub mod forms;
+pub mod html;
 mod json;
+mod kernel;
+mod layout;
+mod listings;
+mod markup;
 mod page;
+mod picture;
+mod reasons;
+pub mod records;
+mod rows;
 mod screen;
 pub mod show;
+mod terms;
+mod trace;
+mod values;
 mod waits;
 
-pub use forms::Form;
+pub use forms::{Form, Look, Names, Style};
 pub use show::Show;

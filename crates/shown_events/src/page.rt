@@ -6,6 +6,9 @@ use std::alloc::{AllocError, Global};
 use std::io::Write;
 use transcripts::settled;
 
+/// How many bytes are written out at once, at least, while there is more to do.
+const BLOCK: usize = 65_536;
+
 /// What was printed and not yet written out. What prints has no way out of its own: a fault is noted, as is memory that was refused, and where
 /// the line ends all of it is taken back.
 #[derive(Drop)]
@@ -13,7 +16,7 @@ pub(crate) struct Page {
     pub(crate) alloc: Global,
     /// How many lines of the schedule are done.
     pub(crate) lines: u32,
-    output: Output,
+    pub(crate) out: Output,
     /// So many bytes are of lines that are done.
     done: usize,
     /// The fault of what was printed since.
@@ -26,7 +29,7 @@ impl Page {
         Page {
             alloc,
             lines: 0,
-            output: Output::new(alloc),
+            out: Output::new(alloc),
             done: 0,
             fault: None,
         }
@@ -34,21 +37,26 @@ impl Page {
 
     /// How many bytes there are.
     pub(crate) fn len(&self) -> usize {
-        self.output.bytes.len()
+        self.out.bytes.len()
+    }
+
+    /// Whether there are so many that they are to be written out.
+    pub(crate) fn is_full(&self) -> bool {
+        self.len() >= BLOCK
     }
 
     /// Writes out what was printed, and forgets it.
     pub(crate) fn write_out<W: Write>(&mut self, writer: &mut W) -> Result<(), Fault> {
         self.settle()?;
-        let written = write_out(writer, self.output.bytes.as_slice());
-        self.output.clear();
+        let written = write_out(writer, self.out.bytes.as_slice());
+        self.out.clear();
         self.done = 0;
         written
     }
 
     /// Notes whether there was memory for something.
     pub(crate) fn note(&mut self, printed: Result<(), AllocError>) {
-        self.output.is_whole &= printed.is_ok();
+        self.out.is_whole &= printed.is_ok();
     }
 
     /// Notes a fault.
@@ -60,24 +68,19 @@ impl Page {
     pub(crate) fn settle(&mut self) -> Result<(), Fault> {
         let ended = match self.fault.take() {
             Some(fault) => Err(fault),
-            None => settled(&self.output),
+            None => settled(&self.out),
         };
         if ended.is_err() {
-            self.output.bytes.truncate(self.done);
-            self.output.is_whole = true;
+            self.out.bytes.truncate(self.done);
+            self.out.is_whole = true;
         }
-        self.done = self.output.bytes.len();
+        self.done = self.out.bytes.len();
         ended
     }
 
     /// Prints a text.
     pub(crate) fn text(&mut self, text: &str) {
-        self.output.text(text.as_bytes());
-    }
-
-    /// Prints a text and a number right after it.
-    pub(crate) fn numbered(&mut self, text: &[u8], number: u64) {
-        self.output.numbered(text, number);
+        self.out.text(text.as_bytes());
     }
 
     /// Prints so many spaces.

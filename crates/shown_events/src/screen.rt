@@ -1,20 +1,44 @@
 //! What is seen of a session.
 
 use crate::columns::Columns;
-use crate::forms::{Form, Kind};
-use crate::json::{self, ANSWER, EVENT, STORE};
-use crate::page::{Page, text_of};
+use crate::forms::{Form, Look, Style};
+use crate::json;
+use crate::listings::{Listed, Listing, words_of};
+use crate::page::Page;
+use crate::picture::Picture;
+use crate::reasons::Asker;
+use crate::trace::{Entry, Happening, Taken};
 use crate::waits::Wait;
-use cpu_words::{Event, Touch, WordName};
+use cpu_words::{Event, WordName};
 use gate_schedules::{Driver, Progress, Step};
+use gate_world::Op;
 use schedule_text::{Fault, HookFailure, Line, Output, Request, TaskCommand};
 use std::alloc::Global;
 use transcripts::Session;
-use transcripts::printing::print_ended;
-use transcripts::session::EVENTS;
+use transcripts::session::{EVENTS, JudgedStep};
 
 /// How many tasks a number can tell.
 const TASKS: usize = 256;
+
+/// What was seen of a task that its next step is told by.
+#[derive(Clone, Copy)]
+struct Seen {
+    /// The call that is under way.
+    call: Option<Op>,
+    /// The word of the call's last step.
+    word: Option<WordName>,
+    /// The level whose block the task loaded last.
+    block: u8,
+}
+
+/// What prints entries in a form.
+#[derive(Drop)]
+enum Printer {
+    Events,
+    Columns(Columns),
+    Json,
+    Picture(Picture),
+}
 
 /// A form, and what was printed in it.
 #[derive(Drop)]
@@ -22,32 +46,52 @@ pub(crate) struct Screen {
     pub(crate) page: Page,
     /// How many tasks there are, once there is a configuration.
     pub(crate) tasks: Option<u8>,
-    form: Form,
-    columns: Columns,
-    /// What a session printed, before it has its form.
+    style: Style,
+    printer: Printer,
+    /// A line that isn't in its form yet.
     text: Output,
-    /// Of each task the level whose block it loaded last.
-    blocks: [u8; TASKS],
+    seen: [Seen; TASKS],
 }
 
 impl Screen {
     /// Nothing printed yet.
-    pub(crate) fn new(alloc: Global, form: Form) -> Screen {
+    pub(crate) fn new(alloc: Global, look: Look) -> Screen {
+        let printer = match look.form {
+            Form::Events => Printer::Events,
+            Form::Columns { width } => Printer::Columns(Columns::new(alloc, width)),
+            Form::Json => Printer::Json,
+            Form::Picture => Printer::Picture(Picture::new(alloc, look.style)),
+        };
+        let nothing = Seen {
+            call: None,
+            word: None,
+            block: 0,
+        };
         Screen {
             page: Page::new(alloc),
             tasks: None,
-            form,
-            columns: Columns::new(alloc),
+            style: look.style,
+            printer,
             text: Output::new(alloc),
-            blocks: [0; TASKS],
+            seen: [nothing; TASKS],
         }
     }
 
-    /// That there are so many tasks.
-    pub(crate) fn begin(&mut self, tasks: u8) {
+    /// Begins to show a session.
+    pub(crate) fn begin<D: Driver>(&mut self, session: &Session<D>) {
+        let tasks = session.tasks();
         self.tasks = Some(tasks);
-        if let Form::Columns = self.form {
-            self.columns.begin(tasks, &mut self.page);
+        match &mut self.printer {
+            Printer::Columns(columns) => columns.begin(tasks, &mut self.page),
+            Printer::Picture(picture) => picture.begin(tasks, session.model()),
+            Printer::Events | Printer::Json => {}
+        }
+    }
+
+    /// Prints what is printed at the end: the picture.
+    pub(crate) fn end(&mut self) {
+        if let Printer::Picture(picture) = &mut self.printer {
+            picture.print(&mut self.page);
         }
     }
 
@@ -57,8 +101,8 @@ impl Screen {
             Line::Skipped => {}
             Line::Config(config) => match Session::new(self.page.alloc, config) {
                 Ok(opened) => {
+                    self.begin(&opened);
                     *session = Some(opened);
-                    self.begin(config.tasks);
                 }
                 Err(fault) => self.page.fail(fault),
             },
@@ -71,44 +115,95 @@ impl Screen {
 
     fn do_request<D: Driver>(&mut self, session: &mut Session<D>, request: Request) {
         match request {
-            Request::Task {
-                task,
-                command: TaskCommand::Step { hook },
-            } => {
-                self.step(session, task, hook);
+            Request::Words => self.list(session, Listing::Words),
+            Request::Tree => self.list(session, Listing::Tree),
+            Request::Model => self.show_model(session),
+            Request::Task { task, command } => match command {
+                TaskCommand::Begin(op) => self.start(session, task, op),
+                TaskCommand::Step { hook } => {
+                    self.step(session, task, hook);
+                }
+                TaskCommand::Run { failure } => self.run(session, task, failure),
+            },
+        }
+    }
+
+    /// Shows an entry.
+    fn show(&mut self, task: u8, happens: Happening) {
+        let entry = Entry { task, happens };
+        match &mut self.printer {
+            Printer::Events => entry.print(&mut self.page.out, self.style),
+            Printer::Columns(columns) => {
+                self.text.clear();
+                entry.print(&mut self.text, self.style);
+                self.page.note(self.text.settled());
+                columns.line(task, self.text.bytes.as_slice(), &mut self.page);
             }
-            Request::Task {
-                task,
-                command: TaskCommand::Run { failure },
-            } => self.run(session, task, failure),
-            _ => self.do_plainly(session, request),
+            Printer::Json => json::print_entry(&entry, self.style, &mut self.page),
+            Printer::Picture(picture) => self.page.note(picture.add(entry)),
         }
     }
 
-    /// Does what has no event: a beginning, which prints its refusal, if it is refused, or a listing.
-    fn do_plainly<D: Driver>(&mut self, session: &mut Session<D>, request: Request) {
-        self.text.clear();
-        if let Err(fault) = session.do_request(request, &mut self.text) {
-            return self.page.fail(fault);
+    /// Shows the words of a listing. In columns `words` has those that have changed.
+    fn list<D: Driver>(&mut self, session: &Session<D>, listing: Listing) {
+        match words_of(self.page.alloc, session, listing) {
+            Ok(words) => self.show_words(listing, words.as_slice()),
+            Err(refused) => self.page.note(Err(refused)),
         }
-        let kind = match request {
-            Request::Words => Kind::Listing("words"),
-            Request::Tree => Kind::Listing("tree"),
-            Request::Model => Kind::Listing("model"),
-            Request::Task { .. } if self.text.bytes.is_empty() => return,
-            Request::Task { task, .. } => Kind::Line(task, &ANSWER),
-        };
-        self.print(kind);
     }
 
-    /// Prints the text in its form.
-    fn print(&mut self, kind: Kind) {
-        self.page.note(self.text.settled());
-        let text = text_of(self.text.bytes.as_slice());
-        match self.form {
-            Form::Events => self.page.text(text),
-            Form::Columns => self.columns.print(kind, text, &mut self.page),
-            Form::Json => json::print(kind, text, &mut self.page),
+    fn show_words(&mut self, listing: Listing, words: &[Listed]) {
+        match &mut self.printer {
+            Printer::Columns(columns) if listing == Listing::Words => {
+                columns.changes(words, self.style, &mut self.page);
+            }
+            Printer::Json => json::print_words(listing, words, self.style, &mut self.page),
+            Printer::Events | Printer::Columns(_) => {
+                print_words(words, self.style, &mut self.page.out);
+            }
+            Printer::Picture(picture) => {
+                self.text.clear();
+                print_words(words, self.style, &mut self.text);
+                self.page.note(picture.add_listing(listing, &self.text));
+            }
+        }
+    }
+
+    fn show_model<D: Driver>(&mut self, session: &Session<D>) {
+        match &mut self.printer {
+            Printer::Events | Printer::Columns(_) => session.print_model(&mut self.page.out),
+            Printer::Json => json::print_model(session, &mut self.page),
+            Printer::Picture(picture) => {
+                self.text.clear();
+                session.print_model(&mut self.text);
+                self.page
+                    .note(picture.add_listing(Listing::Model, &self.text));
+            }
+        }
+    }
+
+    /// Begins a call, or shows why it can't begin.
+    fn start<D: Driver>(&mut self, session: &mut Session<D>, task: u8, call: Op) {
+        let under_way = self.seen[usize::from(task)].call;
+        match session.try_begin(task, call) {
+            Ok(()) => {
+                let seen = &mut self.seen[usize::from(task)];
+                seen.call = Some(call);
+                seen.word = None;
+                let is_refused = false;
+                self.show(task, Happening::Begins { call, is_refused });
+            }
+            Err(refusal) => {
+                let is_refused = true;
+                self.show(task, Happening::Begins { call, is_refused });
+                let asker = Asker {
+                    session,
+                    task,
+                    under_way,
+                };
+                let reason = asker.reason(call, refusal);
+                self.show(task, Happening::Unbegun { refusal, reason });
+            }
         }
     }
 
@@ -120,55 +215,71 @@ impl Screen {
                 return;
             };
         }
-        self.reply(session, task, Progress::Going);
+        self.show(task, Happening::GoesOn);
     }
 
-    /// Does one event and shows it, and the reply, if the operation has ended; says how it stands.
+    /// Does one event and shows it, also one whose action the model forbids, and the reply, if the operation has ended; says how it stands.
     fn step<D: Driver>(
         &mut self,
         session: &mut Session<D>,
         task: u8,
         hook: Result<(), u16>,
     ) -> Progress {
-        match session.step(task, hook) {
-            Ok(step) => {
-                if let Some(event) = step.event {
-                    self.event(session, task, event, step);
-                }
-                if let Progress::Idle | Progress::Done(_) = step.progress {
-                    self.reply(session, task, step.progress);
-                }
-                step.progress
-            }
-            Err(fault) => {
-                self.page.fail(fault);
-                Progress::Idle
-            }
+        let JudgedStep { step, is_allowed } = session.step_judged(task, hook);
+        if let Some(event) = step.event {
+            self.show_step(session, task, event, step);
         }
+        if !is_allowed {
+            self.show(task, Happening::IsForbidden);
+        }
+        self.show_end(session, task, step.progress);
+        step.progress
     }
 
-    /// Shows how an operation stands.
-    fn reply<D: Driver>(&mut self, session: &Session<D>, task: u8, progress: Progress) {
-        self.text.clear();
-        print_ended(&mut self.text, task, progress, session.used());
-        self.print(Kind::Line(task, &ANSWER));
+    /// Shows the reply, where a call has ended, and that there is no call.
+    fn show_end<D: Driver>(&mut self, session: &Session<D>, task: u8, progress: Progress) {
+        match progress {
+            Progress::Going | Progress::Waiting => {}
+            Progress::Idle => self.show(task, Happening::IsIdle),
+            Progress::Done(answer) => {
+                let used = session.used();
+                self.seen[usize::from(task)].call = None;
+                self.show(task, Happening::Answers { answer, used });
+            }
+        }
     }
 
     /// Shows the event of a step, and for whom it waits.
-    fn event<D: Driver>(&mut self, session: &Session<D>, task: u8, event: Event, step: Step) {
-        self.text.clear();
-        self.text.event_line(task, event, step.action, false);
+    fn show_step<D: Driver>(&mut self, session: &Session<D>, task: u8, event: Event, step: Step) {
+        let seen = &mut self.seen[usize::from(task)];
         if let WordName::Block(level) = event.word {
-            self.blocks[usize::from(task)] = level;
+            seen.block = level;
         }
-        if let Progress::Waiting = step.progress {
-            let wait = Wait::of(session, task, event, self.blocks[usize::from(task)]);
-            wait.print(&mut self.text);
-        }
-        let names = match event.touch {
-            Touch::Store(_) => &STORE,
-            _ => &EVENT,
+        let Seen { call, word, block } = *seen;
+        seen.word = Some(event.word);
+        let wait = match step.progress {
+            Progress::Waiting => Some(Wait::of(session, task, event, block)),
+            _ => None,
         };
-        self.print(Kind::Line(task, names));
+        let taken = Taken {
+            event,
+            action: step.action,
+            wait,
+            call,
+            before: word,
+        };
+        self.show(task, Happening::Steps(taken));
+    }
+}
+
+/// Prints the words that aren't 0, each on a line of its own.
+fn print_words(words: &[Listed], style: Style, out: &mut Output) {
+    for listed in words {
+        if listed.value != 0 {
+            style.name(out, listed.word);
+            out.text(b" ");
+            style.value(out, listed.word, listed.value);
+            out.text(b"\n");
+        }
     }
 }

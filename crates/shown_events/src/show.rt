@@ -3,7 +3,7 @@
 ghost use Rattle.std.specs.Prelude.{◌<◌};
 ghost use Rattle.schedule_lines.specs.bytes.Pending.{pending_count};
 
-use crate::forms::Form;
+use crate::forms::Look;
 use crate::screen::Screen;
 use gate_schedules::Driver;
 use schedule_lines::bytes::{Input, ReplayFault, fault_after};
@@ -25,21 +25,21 @@ pub struct Show<D> {
 
 impl<D: Driver> Show<D> {
     /// Nothing read and nothing printed yet.
-    pub fn new(alloc: Global, form: Form) -> Result<Show<D>, AllocError> {
+    pub fn new(alloc: Global, look: Look) -> Result<Show<D>, AllocError> {
         let input = Input::new(alloc)?;
         Ok(Show {
             input,
             session: None,
-            screen: Screen::new(alloc, form),
+            screen: Screen::new(alloc, look),
         })
     }
 
     /// Gates that were set up before, with no configuration to be read.
-    pub fn over(alloc: Global, form: Form, session: Session<D>) -> Result<Show<D>, AllocError> {
+    pub fn over(alloc: Global, look: Look, session: Session<D>) -> Result<Show<D>, AllocError> {
         match Input::new(alloc) {
             Ok(input) => {
-                let mut screen = Screen::new(alloc, form);
-                screen.begin(session.tasks());
+                let mut screen = Screen::new(alloc, look);
+                screen.begin(&session);
                 Ok(Show {
                     input,
                     session: Some(session),
@@ -78,15 +78,26 @@ impl<D: Driver> Show<D> {
                 Err(fault) => return Err(self.ended(fault, writer)),
             }
         }
-        Ok(())
+        let written = self.write_end(writer);
+        written.map_err(|fault| self.fault(fault))
     }
 
     /// Writes out what was shown before a fault. Where that fails, this is the fault.
     fn ended<W: Write>(&mut self, fault: Fault, writer: &mut W) -> ReplayFault {
-        let fault = match self.screen.page.write_out(writer) {
-            Ok(()) => fault,
-            Err(failed) => failed,
-        };
+        match self.write_end(writer) {
+            Ok(()) => self.fault(fault),
+            Err(failed) => self.fault(failed),
+        }
+    }
+
+    /// Writes out what was shown, and what is shown at the end alone.
+    fn write_end<W: Write>(&mut self, writer: &mut W) -> Result<(), Fault> {
+        self.screen.end();
+        self.screen.page.write_out(writer)
+    }
+
+    /// A fault at the next line.
+    fn fault(&self, fault: Fault) -> ReplayFault {
         fault_after(self.screen.page.lines.min(LINES), fault)
     }
 
@@ -96,7 +107,13 @@ impl<D: Driver> Show<D> {
             return Err(Fault::TooManyLines);
         }
         match self.input.front() {
-            Front::Line(length) => self.do_line(length),
+            Front::Line(length) => {
+                self.do_line(length)?;
+                if self.screen.page.is_full() {
+                    self.screen.page.write_out(writer)?;
+                }
+                Ok(true)
+            }
             Front::TooLong => Err(Fault::LineTooLong),
             Front::Part => self.read_more(reader, writer),
         }
@@ -117,7 +134,7 @@ impl<D: Driver> Show<D> {
     }
 
     /// Does and shows the line that the pending bytes begin with, and takes it, with its newline.
-    fn do_line(&mut self, length: usize) -> Result<bool, Fault>
+    fn do_line(&mut self, length: usize) -> Result<(), Fault>
         requires inside { length < pending_count self.old.input }
     {
         let line = parse(self.input.first(length), self.screen.tasks)?;
@@ -125,6 +142,6 @@ impl<D: Driver> Show<D> {
         self.screen.page.settle()?;
         self.screen.page.lines = self.screen.page.lines.saturating_add(1);
         self.input.take(length + 1);
-        Ok(true)
+        Ok(())
     }
 }

@@ -1,5 +1,6 @@
 //! For whom a task waits.
 
+use crate::forms::Style;
 use cpu_words::{Event, WordName};
 use gate_schedules::Driver;
 use schedule_text::Output;
@@ -18,8 +19,8 @@ pub(crate) enum Culprit {
 /// What a task waits for: the word at which it found that it has to wait, and who stands in the way.
 #[derive(Clone, Copy)]
 pub(crate) struct Wait {
-    word: WordName,
-    culprit: Culprit,
+    pub(crate) word: WordName,
+    pub(crate) culprit: Culprit,
 }
 
 impl Wait {
@@ -46,17 +47,15 @@ impl Wait {
         }
     }
 
-    /// Prints it behind the line of an event: ` waiting for mount0.flags, task 1`.
-    pub(crate) fn print(self, line: &mut Output) {
-        let _ = line.bytes.pop();
-        line.text(b" waiting for ");
-        line.word_name(self.word);
+    /// Prints it: `waiting for mount0.flags, task 1`.
+    pub(crate) fn print(self, out: &mut Output, style: Style) {
+        out.text(b"waiting for ");
+        style.name(out, self.word);
         match self.culprit {
-            Culprit::Task(task) => line.numbered(b", task ", u64::from(task)),
-            Culprit::Freeze => line.text(b", the freeze"),
+            Culprit::Task(task) => out.numbered(b", task ", u64::from(task)),
+            Culprit::Freeze => out.text(b", the freeze"),
             Culprit::Gone => {}
         }
-        line.text(b"\n");
     }
 }
 

@@ -32,6 +32,13 @@ pub struct Ran {
     pub progress: Progress,
 }
 
+/// A step of the gates, and whether the model allows the action that it adds; a step that adds none is allowed.
+#[derive(Clone, Copy)]
+pub struct JudgedStep {
+    pub step: Step,
+    pub is_allowed: bool,
+}
+
 /// A growth that was refused.
 pub fn no_memory(_error: AllocError) -> Fault
     ensures { result ≡ Refused NoMemory }
@@ -157,13 +164,25 @@ impl<D: Driver> Session<D> {
         ensures shows { (p : Play) → ShowsPlay D.shows self.old p → ShowsPlay D.shows self.new (played p (Begins task op)) }
         ensures memory { IfErr result (λ fault. fault ≡ Refused NoMemory) }
     {
-        match self.driver.begin(task, op) {
+        match self.try_begin(task, op) {
             Ok(()) => Ok(()),
             Err(refusal) => {
                 out.refused_line(task, refusal);
                 settled(out)
             }
         }
+    }
+
+    /// Begins an operation of a task, and prints nothing.
+    ///
+    /// # Errors
+    ///
+    /// The refusal of an operation that can't begin; then nothing has changed.
+    pub fn try_begin(&mut self, task: u8, op: Op) -> Result<(), GateError>
+        ensures answer { (p : Play) → ShowsPlay D.shows self.old p → result ≡ begin_answer p.config p.world task op }
+        ensures shows { (p : Play) → ShowsPlay D.shows self.old p → ShowsPlay D.shows self.new (played p (Begins task op)) }
+    {
+        self.driver.begin(task, op)
     }
 
     /// Does one event, and the action that it adds.
@@ -176,11 +195,28 @@ impl<D: Driver> Session<D> {
         ensures shows { (p : Play) → ShowsPlay D.shows self.old p → ShowsPlay D.shows self.new (played p (Steps task hook)) }
         ensures refused { IfErr result (λ fault. fault ≡ Refused Invalid) }
     {
-        let step = self.driver.step(task, hook);
-        if let Some(action) = step.action {
-            self.model.apply(task, &action).map_err(Fault::Refused)?;
+        let judged = self.step_judged(task, hook);
+        if judged.is_allowed {
+            Ok(judged.step)
+        } else {
+            Err(Fault::Refused(GateError::Invalid))
         }
-        Ok(step)
+    }
+
+    /// Does one event, and the action that it adds, if the model allows it. Else the model stays as it was, and the gates have done the event
+    /// all the same: so a build that isn't proved can be looked at behind its first wrong step. Gates that are known to show a world add no
+    /// such action.
+    pub fn step_judged(&mut self, task: u8, hook: Result<(), u16>) -> JudgedStep
+        ensures step { (p : Play) → ShowsPlay D.shows self.old p → result.step ≡ step_answer p.config p.world task hook }
+        ensures allowed { (p : Play) → ShowsPlay D.shows self.old p → result.is_allowed ≡ true }
+        ensures shows { (p : Play) → ShowsPlay D.shows self.old p → ShowsPlay D.shows self.new (played p (Steps task hook)) }
+    {
+        let step = self.driver.step(task, hook);
+        let is_allowed = match step.action {
+            Some(action) => self.model.apply(task, &action).is_ok(),
+            None => true,
+        };
+        JudgedStep { step, is_allowed }
     }
 
     /// Goes on to the reply, or to the first event that finds that the task has to wait, or to the last event that one line

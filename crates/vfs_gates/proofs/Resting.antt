@@ -12,7 +12,7 @@ use Rattle.gate_world.specs.declared.views.Traced.{Traced}
 use Rattle.gate_world.specs.Traces.{IsHonestAnswer}
 use Rattle.gate_world.specs.Views.{opening_view}
 use Rattle.atomic_table.specs.Seated.{TableId}
-use Rattle.gate_steps.specs.Rules.{first_items, first_known}
+use Rattle.gate_steps.specs.Rules.{first_known}
 use Rattle.gate_steps.specs.call_events.Runs.{told_as, unit_of, Called, Performs}
 use Rattle.gate_steps.specs.call_events.Seat.{Seat}
 use Rattle.gate_steps.specs.Seating.{SeatItems, HaveViews, numbered, times, view_in, kept_of, given_of, deal}

@@ -6,7 +6,7 @@ use Rattle.std.specs.Prelude.{Option, Some, None, Result, Ok, nat_lt}
 use Rattle.atomic_table.specs.Seated.{TableId}
 use Rattle.access_model.specs.declared.replies.{Reply.Reply}
 use Rattle.gate_world.specs.declared.operations.Op.TheVariants.{Want, DropMount}
-use Rattle.gate_steps.specs.Rules.{first_items, first_known}
+use Rattle.gate_steps.specs.Rules.{first_known}
 use Rattle.gate_steps.specs.call_events.Runs.{ran_items, told_as, unit_of}
 use Rattle.gate_steps.specs.Seating.{SeatItems, HaveViews, kept_of}
 use Rattle.gate_world.specs.declared.views.{Traced.Traced, View.View}

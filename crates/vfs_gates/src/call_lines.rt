@@ -1,20 +1,22 @@
 //! Operations whose usual events are known ahead: they are done in a straight line of code, and nothing is written down in between.
 
-ghost use Rattle.std.specs.Prelude.{◌≡◌, ℕ, Some, None};
+ghost use Rattle.std.specs.Prelude.{◌≡◌, ℕ, IfSome, IsTrue, Some, None, Ok};
 ghost use Rattle.access_model.specs.Replies.{map_next};
+ghost use Rattle.access_model.specs.declared.replies.Next.TheVariants.{Done};
+ghost use Rattle.access_model.specs.declared.replies.Reply.TheVariants.{Unit as UnitReply};
 ghost use Rattle.gate_world.specs.Views.{phase_after};
 ghost use Rattle.gate_world.specs.declared.operations.Op.{Op as OpType};
 ghost use Rattle.gate_world.specs.declared.work.Phase.TheVariants.{Writes};
 ghost use Rattle.gate_steps.specs.call_events.TaskStates.{TaskState, task_state};
-ghost use Rattle.gate_steps.specs.call_events.Turns.{IsTied, StayTied, of_write, taking};
-ghost use Rattle.compounds.specs.declared.write_access.phases.WritePhase.TheVariants.{Drops};
+ghost use Rattle.gate_steps.specs.call_events.Turns.{IsTied, StayTied, of_write};
+ghost use Rattle.compounds.specs.declared.write_access.phases.WritePhase.TheVariants.{Drops, Takes};
 ghost use Rattle.gate_steps.specs.call_events.Waited.{GoesWaiting, WentWaiting};
-ghost use Rattle.vfs_gates.specs.Lines.{of_read, of_want};
+ghost use Rattle.vfs_gates.specs.Lines.{done_or, of_read, of_want, taking_first};
 
 mod changes;
 mod grows;
 
-use access_model::Next;
+use access_model::{Next, Reply};
 use compounds::WritePhase;
 use gate_events::UnderWay;
 use gate_steps::call_events::{GateWords, Seat, go_on};
@@ -168,7 +170,7 @@ fn ask_in_line(
     go_on_if(gates, seat, accesses, next, WantStep::LoadsSuperblock)
 }
 
-/// The same of a start that finds its level idle: the load of its sync word, its count, and the end of its section.
+/// Takes a start that finds its level idle to its end, in a line: the load of its sync word, its count, and the end of its section.
 #[inline]
 fn count_in_line(
     gates: &GateWords,
@@ -280,44 +282,77 @@ fn want_then(
     go_on_if(gates, seat, accesses, next, place)
 }
 
-/// The events of a taking of write access that begins, in a line; of one that has gone on its next event alone. What comes after the
-/// last of them. It is a function of its own, as it is long. It is told the parts of its phase, and asks whether it begins, so that
-/// the compiler knows each event in it.
-#[inline]
-fn take_in_line(
-    gates: &GateWords,
-    seat: &mut Seat,
-    accesses: &mut Accesses,
-    begins: Option<Op>,
+/// Who takes write access, where, and on which processor.
+#[derive(Clone, Copy)]
+pub(crate) struct Writer {
     mount: u8,
-    level: u8,
     cpu: u8,
     task: u8,
-    wait: bool,
-    step: DownReadStep,
-) -> Next<WritePhase>
-    requires table { seat.old.table_id ≡ gates.now.table.shared.table_id }
-    requires tied { IsTied gates.now.config begins (taking mount level cpu task wait step) accesses.old seat.old.me.0.items }
-    ensures table { seat.new.table_id ≡ seat.old.table_id }
-    ensures slots { seat.new.me.1 ≡ seat.old.me.1 }
-    ensures tied { StayTied gates.now.config begins (taking mount level cpu task wait step) accesses.old seat.old.me.0.items
-        (phase_after (of_write result)) accesses.new seat.new.me.0.items }
-    ensures went { (waits : ℕ) (op : OpType) (start : TaskState) →
-        GoesWaiting waits op start (task_state seat.old.table_id gates.now.config begins (taking mount level cpu task wait step) seat.old.me.0) →
-        WentWaiting waits op start (of_write result)
-        (task_state seat.new.table_id gates.now.config None (phase_after (of_write result)) seat.new.me.0) }
+}
+
+/// The writer of a taking that begins; none of one that has gone on.
+#[inline(always)]
+fn first_writer(mount: u8, read: DownRead) -> Option<Writer>
+    ensures { IfSome result (λ writer. Writes (Takes mount read) ≡ taking_first writer) }
 {
-    let read = DownRead {
+    let DownRead {
         level,
         cpu,
         task,
         wait,
         step,
+    } = read;
+    if level != 1 {
+        return None;
+    }
+    if !wait {
+        return None;
+    }
+    match step {
+        DownReadStep::EntersSection => Some(Writer { mount, cpu, task }),
+        _ => None,
+    }
+}
+
+/// Whether a taking of write access is done, and granted.
+#[inline(always)]
+fn is_granted(next: Next<WritePhase>) -> bool
+    ensures { IsTrue result → next ≡ Done (Ok UnitReply) }
+{
+    matches!(next, Next::Done(Ok(Reply::Unit)))
+}
+
+/// The events of a taking of write access that begins, in a line. Whether it is done. Where it isn't, what comes after the last of them is left
+/// in `rest`: so the usual answer is one bit, and nothing lies in memory.
+#[inline(never)]
+fn take_write(
+    gates: &GateWords,
+    seat: &mut Seat,
+    accesses: &mut Accesses,
+    begins: Option<Op>,
+    writer: Writer,
+    rest: &mut Next<WritePhase>,
+) -> bool
+    requires table { seat.old.table_id ≡ gates.now.table.shared.table_id }
+    requires tied { IsTied gates.now.config begins (Some (taking_first writer)) accesses.old seat.old.me.0.items }
+    ensures table { seat.new.table_id ≡ seat.old.table_id }
+    ensures slots { seat.new.me.1 ≡ seat.old.me.1 }
+    ensures tied { StayTied gates.now.config begins (Some (taking_first writer)) accesses.old seat.old.me.0.items
+        (phase_after (of_write (done_or result rest.new))) accesses.new seat.new.me.0.items }
+    ensures went { (waits : ℕ) (op : OpType) (start : TaskState) →
+        GoesWaiting waits op start (task_state seat.old.table_id gates.now.config begins (Some (taking_first writer)) seat.old.me.0) →
+        WentWaiting waits op start (of_write (done_or result rest.new))
+        (task_state seat.new.table_id gates.now.config None (phase_after (of_write (done_or result rest.new))) seat.new.me.0) }
+{
+    let Writer { mount, cpu, task } = writer;
+    let read = DownRead {
+        level: 1,
+        cpu,
+        task,
+        wait: true,
+        step: DownReadStep::EntersSection,
     };
     let phase = WritePhase::Takes { mount, read };
-    if step != DownReadStep::EntersSection {
-        return go_on(gates, seat, accesses, begins, phase, Ok(()));
-    }
     let next = go_on(gates, seat, accesses, begins, phase, Ok(()));
     let place = WritePlace::Enters(DownReadStep::LoadsSync);
     let next = go_on_if(gates, seat, accesses, next, place);
@@ -325,7 +360,12 @@ fn take_in_line(
     let next = go_on_if(gates, seat, accesses, next, place);
     let place = WritePlace::Enters(DownReadStep::LeavesAdmitted);
     let next = go_on_if(gates, seat, accesses, next, place);
-    want_then(gates, seat, accesses, next)
+    let next = want_then(gates, seat, accesses, next);
+    if is_granted(next) {
+        return true;
+    }
+    *rest = next;
+    false
 }
 
 /// The two events of a return of write access, likewise.
@@ -354,6 +394,31 @@ fn give_in_line(
     go_on_if(gates, seat, accesses, next, WritePlace::Leaves)
 }
 
+/// Does the next event of a taking or a return that has gone on. What comes after it. It stands apart, so that one that begins is small enough
+/// to be put in line.
+#[cold]
+#[inline(never)]
+fn go_on_apart(
+    gates: &GateWords,
+    seat: &mut Seat,
+    accesses: &mut Accesses,
+    begins: Option<Op>,
+    phase: WritePhase,
+) -> Next<WritePhase>
+    requires table { seat.old.table_id ≡ gates.now.table.shared.table_id }
+    requires tied { IsTied gates.now.config begins (Some (Writes phase)) accesses.old seat.old.me.0.items }
+    ensures table { seat.new.table_id ≡ seat.old.table_id }
+    ensures slots { seat.new.me.1 ≡ seat.old.me.1 }
+    ensures tied { StayTied gates.now.config begins (Some (Writes phase)) accesses.old seat.old.me.0.items
+        (phase_after (of_write result)) accesses.new seat.new.me.0.items }
+    ensures went { (waits : ℕ) (op : OpType) (start : TaskState) →
+        GoesWaiting waits op start (task_state seat.old.table_id gates.now.config begins (Some (Writes phase)) seat.old.me.0) →
+        WentWaiting waits op start (of_write result)
+        (task_state seat.new.table_id gates.now.config None (phase_after (of_write result)) seat.new.me.0) }
+{
+    go_on(gates, seat, accesses, begins, phase, Ok(()))
+}
+
 impl InLine for WritePhase {
     #[inline(always)]
     fn go_in_line(
@@ -365,21 +430,19 @@ impl InLine for WritePhase {
     ) -> Next<WritePhase> {
         match self {
             WritePhase::Takes { mount, read } => {
-                let DownRead {
-                    level,
-                    cpu,
-                    task,
-                    wait,
-                    step,
-                } = read;
-                take_in_line(
-                    gates, seat, accesses, begins, mount, level, cpu, task, wait, step,
-                )
+                let Some(writer) = first_writer(mount, read) else {
+                    return go_on_apart(gates, seat, accesses, begins, self);
+                };
+                let mut rest = Next::Done(Ok(Reply::Unit));
+                if take_write(gates, seat, accesses, begins, writer, &mut rest) {
+                    return Next::Done(Ok(Reply::Unit));
+                }
+                rest
             }
             WritePhase::Drops { mount, cpu } => {
                 give_in_line(gates, seat, accesses, begins, mount, cpu)
             }
-            phase => go_on(gates, seat, accesses, begins, phase, Ok(())),
+            phase => go_on_apart(gates, seat, accesses, begins, phase),
         }
     }
 }

@@ -249,15 +249,15 @@ impl Task {
         }
     }
 
-    /// Whether no operation is under way, and nothing is held.
-    pub(crate) fn rests(&self) -> bool
+    /// Whether no operation is under way, and nothing is held: no access, no level and no open file.
+    pub fn rests(&self) -> bool
         ensures { IsTrue result ↔ (IsIdle self.now × HoldsNothing self.now) }
     {
         self.is_idle() && holds_nothing(&self.kept.accesses, self.config.mounts)
     }
 
-    /// Whether the task rests, and all other numbers are its to give.
-    pub(crate) fn has_all(&self) -> bool
+    /// Whether the task rests, and all other numbers are its to give: then `Gates::close` is not refused.
+    pub fn has_all(&self) -> bool
         ensures { IsTrue result ↔ HasAll self.now }
     {
         self.rests() && are_all(&self.spare, self.number, self.config.tasks)

@@ -223,7 +223,8 @@ impl Task {
         outcome(self.run(gates, Op::Close { file, cpu, wait }))
     }
 
-    /// The same, which waits while a freeze closes level 3.
+    /// Closes a file that the task has open (`__fput`), and waits while a freeze closes level 3. The last close of a removed file frees it and its
+    /// blocks.
     ///
     /// # Errors
     ///
@@ -255,7 +256,7 @@ impl Task {
         outcome(self.run(gates, Op::Snapshot { wait: false }))
     }
 
-    /// The same, which waits for `umount`.
+    /// Takes a snapshot of the frozen file system, which `tree` shows from then on, and waits for `umount`.
     ///
     /// # Errors
     ///

@@ -20,16 +20,6 @@ use mount_counts::{Remount, RemountStep, Want, WantStep};
 use percpu_rwsem::{Callback, CallbackStep, DownRead, DownReadStep, Transition};
 use std::sync::Wait;
 
-/// Waits a little after an event that found what the operation waits for, and the longer the more often it did: soon the processor is
-/// left to others each time, since who is waited for may need it. A wait may take several events before it looks again, so none of
-/// these makes the pauses short again.
-fn pause(backoff: &Backoff, progress: Progress) {
-    match progress {
-        Progress::Waiting => backoff.snooze(),
-        Progress::Idle | Progress::Going | Progress::Done(_) => {}
-    }
-}
-
 /// Why the operation was refused, or whether a callback ran.
 fn ran(answer: Result<Reply, GateError>) -> Result<bool, GateError>
     requires { IfOk answer IsRanReply }
@@ -50,7 +40,10 @@ impl Task {
     ghost use Rattle.gate_steps.specs.call_events.Runs.{the_reply, Called, Replies, Performs};
     ghost use Rattle.gate_steps.specs.call_events.Asking.{PerformsAsking, RepliesAsking};
 
-    /// Does the events of the operation that has begun and asks no hook until it replies, however long it has to wait.
+    /// Does the events of the operation that has begun and asks no hook until it replies, however long it has to wait. After an event that
+    /// found what the operation waits for it pauses, and the longer the more often one did: soon the processor is left to others each time,
+    /// since who is waited for may need it. A wait may take several events before it looks again, so none of these makes the pauses short
+    /// again.
     #[cold]
     #[inline(never)]
     pub(crate) fn finish_waiting<R: Wait>(
@@ -67,7 +60,9 @@ impl Task {
             if let Progress::Done(answer) = step.progress {
                 return answer;
             }
-            pause(&backoff, step.progress);
+            if let Progress::Waiting = step.progress {
+                backoff.snooze();
+            }
         }
         unreachable!()
     }

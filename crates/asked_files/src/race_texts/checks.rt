@@ -1,53 +1,58 @@
 //! What a schedule prints, compared with what it says of it.
 
-use crate::race_texts::tell_briefly;
+use crate::race_texts::claims::{claims_some, tell_claims};
+use crate::race_texts::playing::{STATES, Source, Stopped, expected_in};
+use diagnostics::{Text, diagnosis};
+use endings::SourceName;
 use exploration::Stop;
-use gate_core::Core;
-use race_files::setting_up::{Watch, do_setting};
-use race_files::{Lines, RaceFault, RaceFile};
-use schedule_lines::bytes::ReplayFault;
+use race_files::setting_up::Watch;
+use race_files::{Lines, read_race};
 use schedule_text::{LINES, Output};
 use std::alloc::{AllocError, Global};
-use transcripts::Session;
-
-/// How many states a race may have here.
-const STATES: usize = 100_000;
 
 /// How a schedule compares.
 #[derive(Drop)]
 pub struct Checked {
     /// Whether it has no fault, and prints what it says, each line under its command.
     pub passed: bool,
-    /// What differs, a line for each, and the fault.
-    pub told: Output,
+    /// What differs, and the fault, on lines that each end with a newline.
+    pub told: String,
 }
 
 /// Replays a schedule over the core, and compares what each command prints with the lines `#> TEXT` between it and the next command, and
-/// all outcomes of a race, where it ends with one, with those behind the line `race`.
-/// `name` is what each line that is told begins with: that of a file, a colon and a space; or nothing.
-pub fn check(alloc: Global, name: &str, schedule: &[u8]) -> Result<Checked, AllocError> {
-    let mut lines = Lines::new(schedule);
+/// all outcomes of a race, where it ends with one, with those behind the line `race`. What it claims of a race is judged. A race of which
+/// something is claimed need not say its outcomes.
+pub fn check(alloc: Global, source: Source<'_>) -> Result<Checked, AllocError> {
     let mut comparison = Comparison {
-        name,
-        said: Lines::new(schedule),
+        file: source.file,
+        said: Lines::new(source.bytes),
         passed: true,
-        told: Output::new(alloc),
+        told: Text::new(alloc),
     };
-    let done = comparison.do_lines(alloc, &mut lines, &mut Output::new(alloc));
-    if let Err(fault) = done {
-        comparison.fault(alloc, lines.fault(fault));
+    match source.play(alloc, &mut comparison) {
+        Ok(()) => comparison.judge(alloc, source)?,
+        Err(stopped) => comparison.stop(alloc, source, stopped)?,
     }
-    comparison.checked()
+    let Comparison {
+        file: _,
+        said: _,
+        passed,
+        told,
+    } = comparison;
+    Ok(Checked {
+        passed,
+        told: told.ended()?,
+    })
 }
 
 /// A check on its way.
 #[derive(Drop)]
 struct Comparison<'a> {
-    name: &'a str,
+    file: Option<&'a str>,
     /// The lines from the last command on, which say what it prints.
     said: Lines<'a>,
     passed: bool,
-    told: Output,
+    told: Text,
 }
 
 impl Watch for Comparison<'_> {
@@ -66,49 +71,6 @@ impl Watch for Comparison<'_> {
 }
 
 impl Comparison<'_> {
-    /// Does all lines, or those up to a fault.
-    fn do_lines(
-        &mut self,
-        alloc: Global,
-        lines: &mut Lines<'_>,
-        printed: &mut Output,
-    ) -> Result<(), RaceFault> {
-        let set_up = do_setting(alloc, lines, printed, self);
-        self.take(lines, printed);
-        match set_up {
-            Ok(session) => {
-                let done = self.do_race(alloc, &session, lines, printed);
-                // By a call: to drop all its parts in line costs the proof more.
-                drop(session);
-                done
-            }
-            Err(RaceFault::RaceExpected) => Ok(()),
-            Err(fault) => Err(fault),
-        }
-    }
-
-    /// Reads a race, and compares its outcomes with the lines from `race` on.
-    fn do_race(
-        &mut self,
-        alloc: Global,
-        session: &Session<Core>,
-        lines: &mut Lines<'_>,
-        printed: &mut Output,
-    ) -> Result<(), RaceFault> {
-        let file = RaceFile::read(alloc, session, lines)?;
-        match tell_briefly(alloc, file, STATES, printed) {
-            Ok(()) => {}
-            Err(Stop::NoMemory) => self.told.is_whole = false,
-            Err(Stop::TooMany) => {
-                self.begin();
-                self.told.numbered(b"more than ", STATES as u64);
-                self.told.text(b" states\n");
-            }
-        }
-        self.take(lines, printed);
-        Ok(())
-    }
-
     /// Compares what is expected with the line that was printed.
     fn compare(&mut self, number: u32, text: &[u8], line: Option<&[u8]>) {
         if let Some(line) = line
@@ -116,10 +78,11 @@ impl Comparison<'_> {
         {
             return;
         }
-        self.differs(number, b"expected '", text, b"', and ");
+        self.begin(number);
+        self.quote("expected '", text, "', and ");
         match line {
-            Some(line) => self.quote(b"'", line, b"' was printed\n"),
-            None => self.told.text(b"nothing more was printed\n"),
+            Some(line) => self.quote("'", line, "' was printed\n"),
+            None => self.told.put("nothing more was printed\n"),
         }
     }
 
@@ -129,56 +92,87 @@ impl Comparison<'_> {
             let Some(line) = shown.next() else {
                 break;
             };
-            self.differs(command, b"'", line, b"' was printed, which no line says\n");
+            self.begin(command);
+            self.quote("'", line, "' was printed, which no line says\n");
         }
     }
 
-    /// Tells what differs at a line: a text, and what stands before and after it.
-    fn differs(&mut self, number: u32, before: &[u8], text: &[u8], after: &[u8]) {
-        self.begin();
-        self.told.numbered(b"line ", u64::from(number));
-        self.told.text(b": ");
-        self.quote(before, text, after);
+    /// Begins to tell that it has not passed, by a line.
+    fn begin(&mut self, number: u32) {
+        self.passed = false;
+        self.told.put(SourceName(self.file));
+        self.told.put(":");
+        self.told.put(number);
+        self.told.put(": error: ");
     }
 
     /// Tells a text, and what stands before and after it.
-    fn quote(&mut self, before: &[u8], text: &[u8], after: &[u8]) {
-        self.told.text(before);
-        self.told.text(text);
-        self.told.text(after);
+    fn quote(&mut self, before: &str, text: &[u8], after: &str) {
+        self.told.put(before);
+        self.told.bytes(text);
+        self.told.put(after);
     }
 
-    /// Tells the fault.
-    fn fault(&mut self, alloc: Global, fault: ReplayFault) {
-        self.begin();
-        match format!(in alloc; "{fault}\n") {
-            Ok(text) => self.told.text(text.as_bytes()),
-            Err(_) => self.told.is_whole = false,
+    /// Judges what a file claims of its race, if it claims something, and tells which claims don't hold.
+    fn judge(&mut self, alloc: Global, source: Source<'_>) -> Result<(), AllocError> {
+        if !claims_some(source.bytes) {
+            return Ok(());
+        }
+        let file = match read_race(alloc, source.bytes) {
+            Ok(file) => file,
+            Err(fault) => return self.stop(alloc, source, Stopped::Fault(fault)),
+        };
+        let mut told = Output::new(alloc);
+        let hold = tell_claims(alloc, source.bytes, &file, STATES, true, &mut told);
+        drop(file);
+        told.settled()?;
+        match hold {
+            Ok(true) => Ok(()),
+            Ok(false) => {
+                self.passed = false;
+                if let Some(file) = self.file {
+                    self.told.put(file);
+                    self.told.put(": ");
+                }
+                self.tell_lines(told.bytes.as_slice());
+                Ok(())
+            }
+            Err(Stop::TooMany) => self.stop(alloc, source, Stopped::TooMany),
+            Err(Stop::NoMemory) => Err(AllocError),
         }
     }
 
-    /// Begins to tell that it has not passed.
-    fn begin(&mut self) {
+    /// Tells lines as they are.
+    fn tell_lines(&mut self, bytes: &[u8]) {
+        let mut lines = Lines::new(bytes);
+        for _ in 0..=LINES {
+            let Some(line) = lines.next() else {
+                break;
+            };
+            self.told.bytes(line);
+            self.told.put("\n");
+        }
+    }
+
+    /// Tells why the lines were not done to their end.
+    fn stop(
+        &mut self,
+        alloc: Global,
+        source: Source<'_>,
+        stopped: Stopped,
+    ) -> Result<(), AllocError> {
         self.passed = false;
-        self.told.text(self.name.as_bytes());
-    }
-
-    /// All that was told, if there was memory for it.
-    fn checked(self) -> Result<Checked, AllocError> {
-        if !self.told.is_whole {
-            return Err(AllocError);
+        match stopped {
+            Stopped::Fault(fault) => {
+                let text = diagnosis(alloc, source.faulty(fault))?;
+                self.told.put(text.as_str());
+                self.told.put("\n");
+            }
+            Stopped::TooMany => {
+                self.told.put(SourceName(self.file));
+                self.told.put(format_args!(": more than {STATES} states\n"));
+            }
         }
-        Ok(Checked {
-            passed: self.passed,
-            told: self.told,
-        })
-    }
-}
-
-/// What a line `#> TEXT` says that is printed.
-fn expected_in(line: Option<&[u8]>) -> Option<&[u8]> {
-    match line {
-        Some([b'#', b'>', text @ ..]) => Some(text.strip_prefix(b" ").unwrap_or(text)),
-        _ => None,
+        Ok(())
     }
 }

@@ -15,7 +15,7 @@ pub trait NotedWatch {
     /// What a call of `holding` by a task that stands so, in this round, may make of its notes.
     ghost meets: { Self → TaskState → ℕ → Self.Notes → Self.Notes → Type 0 };
 
-    /// The same of `frozen`.
+    /// What a call of `frozen` by a task that stands so, at this freeze, makes of the notes.
     ghost sees: { Self → TaskState → ℕ → Self.Notes → Self.Notes → Type 0 };
 
     /// Called by each writer in each round, from 0, between the grant of its write access and its return.

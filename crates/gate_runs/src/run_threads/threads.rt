@@ -140,7 +140,7 @@ fn start_worker<'s, E, R: Wait + Sync, W: Watch + Sync>(
     }
 }
 
-/// The same of all other tasks, in their order.
+/// Splits off all other tasks, in their order, and starts their threads.
 fn start_workers<'s, E, R: Wait + Sync, W: Watch + Sync>(
     scope: &Scope<'s, E>,
     rt: &'s R,
@@ -202,7 +202,7 @@ fn join_worker<R: Threads, W: Watch>(
     met
 }
 
-/// The same of all threads, of this plan and watch, and what the remounter met, and the writers together. The first refusal that is met ends it.
+/// Joins all threads, of this plan and watch, and tells what the remounter met, and the writers together. The first refusal that is met ends it.
 fn join_workers<R: Threads, W: Watch>(
     rt: &R,
     gates: &Gates,
@@ -272,7 +272,7 @@ fn run_threads<'s, E, R: Threads + Wait + Sync, W: Watch + Sync>(
     })
 }
 
-/// The same in a scope: all threads have ended when it returns, whatever it answers.
+/// Does a run in a scope of threads: all of them have ended when it returns, whatever it answers.
 pub fn in_threads<R: Threads + Wait + Sync, W: Watch + Sync>(
     rt: &R,
     alloc: Global,

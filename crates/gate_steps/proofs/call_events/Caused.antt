@@ -3,7 +3,7 @@ use Rattle.std.proofs.Common.{◌≡◌, ℕ, List, [], ◌∷◌, ◌++◌, ref
 use Rattle.std.specs.Prelude.{Some, Err}
 use Rattle.access_model.specs.declared.errors.GateError.{GateError}
 use Rattle.access_model.specs.declared.replies.Next.TheVariants.{Done}
-use Rattle.cpu_words.specs.{Hooks.HookAnswer, Touches.{event_of, found_by}}
+use Rattle.cpu_words.specs.{Touches.{found_by}}
 use Rattle.cpu_words.specs.declared.events.Touch.{Touch, TheVariants.Load}
 use Rattle.gate_schedules.proofs.Whole.{whole_causes, whole_rule}
 use Rattle.gate_schedules.proofs.operations.Layers.{phase_keeps}
@@ -12,7 +12,7 @@ use Rattle.gate_world.specs.Worlds.{World, found_at}
 use Rattle.gate_world.specs.Snapshots.{completes}
 use Rattle.gated_tree.specs.declared.trees.TreeWords.{TreeWords}
 use Rattle.gate_world.specs.declared.entries.Entry.{Entry}
-use Rattle.gate_world.specs.declared.{config.Config.Config, operations.Op.Op, views.Traced.Traced, work.Phase.Phase}
+use Rattle.gate_world.specs.declared.{config.Config.Config, operations.Op.Op, views.Traced.Traced}
 use Rattle.gate_steps.specs.Seating.{SeatItems}
 use Rattle.gate_steps.specs.call_events.Caused.{IsCausedBy, HasItsCause}
 use Rattle.gate_steps.specs.call_events.Runs.{completed_by, AreMoves, Called}

@@ -1,7 +1,7 @@
 -- A whole call takes effect between call and return, and calls whose schedules go on from each other do so in order.
 use Rattle.std.proofs.Common.{◌≡◌, ℕ, List, [], ◌∷◌, ◌++◌, refl, sym, ap, ◌∙◌, subst}
 use Rattle.std.proofs.lemmas.List.{append_assoc, append_cancel_right}
-use Rattle.std.specs.Prelude.{Result, Some}
+use Rattle.std.specs.Prelude.{Result}
 use mathlib.Core.Option.{some}
 use lib.ListN.{get_elem?}
 use Rattle.access_model.specs.Histories.{Done, own_part}
@@ -16,7 +16,7 @@ use Rattle.gate_world.specs.declared.{config.Config.Config, operations.Op.Op, vi
 use Rattle.gate_steps.specs.Seating.{SeatItems, HaveViews, HaveHistory, GoesOn}
 use Rattle.gate_steps.specs.call_events.Grown.{HasSeen}
 use Rattle.gate_steps.specs.call_events.Runs.{ran_items, IsNextMove, AreMoves, Called}
-use Rattle.gate_steps.specs.call_events.Spans.{own_entries, steps_of, GoesOnFromSeen, IsEventDuring, TakesEffect, AreInOrder}
+use Rattle.gate_steps.specs.call_events.Spans.{GoesOnFromSeen, IsEventDuring, TakesEffect, AreInOrder}
 use Rattle.gate_steps.specs.call_events.TaskStates.{TaskState, own_number, own_view}
 use Rattle.gate_steps.proofs.call_events.Grown.{only}
 use Rattle.gate_steps.proofs.call_events.Moments.{own_more, own_one, part_more, actions_append}

@@ -12,7 +12,7 @@ use Rattle.gate_world.specs.declared.{config.Config.Config, entries.Entry.Entry,
 use Rattle.gate_world.specs.Courses.{course_of}
 use Rattle.gate_steps.specs.Histories.{then_begins}
 use Rattle.gate_steps.specs.Seating.{SeatItems, GoesOn, IsMove}
-use Rattle.gate_steps.specs.call_events.Grown.{AllGoOn, HasSeen, StaySeen}
+use Rattle.gate_steps.specs.call_events.Grown.{AllGoOn, StaySeen}
 use Rattle.gate_steps.specs.call_events.Runs.{items_at, begins_at, IsNextMove, AreMoves, Called}
 use Rattle.gate_steps.specs.call_events.TaskStates.{TaskState, own_number}
 

@@ -20,10 +20,10 @@ use Rattle.gate_steps.specs.Seating.{SeatItems, numbered, GoesOn, HasRested, don
 use Rattle.gate_steps.specs.declared.seating.Numbered.{Numbered}
 use Rattle.gate_steps.specs.call_events.Grown.{AllGoOn}
 use Rattle.gate_steps.specs.call_events.Runs.{ran_view, IsMoveOf, IsNextMove, AreMoves}
-use Rattle.gate_steps.specs.call_events.Spans.{own_entries, steps_of, worlds_since, GoesOnFromSeen, HappensAfter, IsEventDuring}
+use Rattle.gate_steps.specs.call_events.Spans.{own_entries, worlds_since, HappensAfter, IsEventDuring}
 use Rattle.gate_steps.specs.call_events.TaskStates.{own_number}
 use Rattle.gate_steps.proofs.Dealing.{times-at}
-use Rattle.gate_steps.proofs.call_events.Grown.{after_more, only, next_on}
+use Rattle.gate_steps.proofs.call_events.Grown.{only, next_on}
 use Rattle.gate_steps.proofs.call_events.Moments.{own_more, own_none, own_one, run_append, run_quiet, idle_since, trail_more, one_since, one_run, more_since}
 
 -- a beginning changes no word

@@ -1,5 +1,20 @@
 -- How many events came to a wait, one after the other.
-use Rattle.std.proofs.Common.{◌≡◌, ℕ, ◌+◌, ◌-◌, ◌^◌, min, arith, ap, ◌∙◌}
+use Rattle.std.proofs.Common.{◌≡◌, ℕ, ◌+◌, ◌-◌, ◌^◌, min, arith, ap, sym, subst, ◌∙◌}
+use Rattle.std.specs.Prelude.{Some, None, Result}
+use Rattle.atomic_table.specs.Seated.{TableId}
+use Rattle.access_model.specs.declared.errors.GateError.{GateError}
+use Rattle.access_model.specs.declared.replies.Next.{Next, TheVariants.{Go, Wait, Done}}
+use Rattle.access_model.specs.declared.replies.Reply.{Reply}
+use Rattle.cpu_words.specs.Hooks.{HookAnswer}
+use Rattle.freeze_levels.specs.declared.hooks.HookCall.{HookCall}
+use Rattle.gate_world.specs.Views.{phase_after}
+use Rattle.gate_world.specs.declared.config.Config.{Config}
+use Rattle.gate_world.specs.declared.operations.Op.{Op}
+use Rattle.gate_world.specs.declared.work.Phase.{Phase}
+use Rattle.gate_steps.specs.Seating.{SeatItems}
+use Rattle.gate_steps.specs.declared.seating.Knowledge.{Knowledge}
+use Rattle.gate_steps.specs.call_events.Asking.{CalledAsking, GoesAsking, WentAsking, WereAsked}
+use Rattle.gate_steps.specs.call_events.TaskStates.{TaskState, task_state}
 use Rattle.gate_steps.specs.call_events.Waited.{counted}
 
 -- a count that stands still at its end is of a sum the same
@@ -9,3 +24,23 @@ counted_more n = omega arith
 -- one more
 pub one_more : (waits before after : ℕ) → before ≡ counted waits → after ≡ min (before + 1) (2 ^ 64 - 1) → after ≡ counted (waits + 1)
 one_more waits before after had more = more ∙ (ap (λ n. counted (n + 1)) had ∙ counted_more waits)
+
+-- Where an operation stands after a line: it goes on, or waits, or was done whole.
+module _ {H : Type 0} (answers : HookCall → SeatItems → H → HookAnswer → H → Type 0) (waits : ℕ) {op : Op} {start : TaskState} {before hooks : H}
+    {c : Config} {table : TableId} {me : Knowledge} {next : Next Phase} where
+  pub going_on : {phase : Phase} → next ≡ Go phase → WentAsking answers waits op start before next (task_state table c None (phase_after next) me) hooks →
+      GoesAsking answers waits op start before (task_state table c None (Some phase) me) hooks
+  going_on is went = subst (λ n. WentAsking answers waits op start before n (task_state table c None (phase_after n) me) hooks) is went
+
+  pub waiting_on : {phase : Phase} → next ≡ Wait phase → WentAsking answers waits op start before next (task_state table c None (phase_after next) me) hooks →
+      GoesAsking answers (waits + 1) op start before (task_state table c None (Some phase) me) hooks
+  waiting_on is went = subst (λ n. WentAsking answers waits op start before n (task_state table c None (phase_after n) me) hooks) is went
+
+  pub replied : {answer : Result Reply GateError} (waited : ℕ) → waited ≡ counted waits → next ≡ Done answer → WentAsking answers waits op start before next (task_state table c None (phase_after next) me) hooks →
+      CalledAsking answers op start before (task_state table c None None me) answer waited hooks
+  replied {answer} waited told is went =
+      let done : WentAsking answers waits op start before (Done answer) (task_state table c None None me) hooks = subst (λ n. WentAsking answers waits op start before n (task_state table c None (phase_after n) me) hooks) is went in (
+        done.1.0,
+        subst (λ asks. WereAsked answers asks before hooks) (sym done.1.1) done.2,
+        told ∙ ap (λ n. counted n) (sym done.1.2),
+      )

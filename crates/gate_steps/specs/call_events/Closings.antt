@@ -4,6 +4,7 @@ use Rattle.access_model.specs.Replies.{map_next}
 use Rattle.access_model.specs.declared.replies.Next.{Next}
 use Rattle.access_model.specs.declared.replies.Next.TheVariants.{Go, Wait}
 use Rattle.freeze_levels.specs.Freezes.{at_freeze, level_closed}
+use Rattle.freeze_levels.specs.Levels.{closing}
 use Rattle.freeze_levels.specs.declared.freezes.Freeze.{Freeze}
 use Rattle.freeze_levels.specs.declared.freezes.FreezeStep.{FreezeStep}
 use Rattle.freeze_levels.specs.declared.freezes.FreezeStep.TheVariants.{Closes}
@@ -12,13 +13,12 @@ use Rattle.gate_world.specs.declared.work.Phase.TheVariants.{Freezes}
 use Rattle.percpu_rwsem.specs.Writers.{at_down_write, sum_begun}
 use Rattle.percpu_rwsem.specs.declared.grace.Grace.{Grace}
 use Rattle.percpu_rwsem.specs.declared.transitions.Transition.TheVariants.{Loads}
-use Rattle.percpu_rwsem.specs.declared.writers.DownWrite.{DownWrite}
 use Rattle.percpu_rwsem.specs.declared.writers.DownWriteStep.{DownWriteStep}
 use Rattle.percpu_rwsem.specs.declared.writers.DownWriteStep.TheVariants.{AwaitsSections, CallsBack}
 
 -- a freeze that closes a level, at this step of its down-write
-abbrev pub closing_at : Freeze → DownWrite → DownWriteStep → Phase
-closing_at x d step = Freezes (at_freeze x (Closes (at_down_write d step)))
+abbrev pub closing_at : Freeze → ℕ → DownWriteStep → Phase
+closing_at x level step = Freezes (at_freeze x (Closes (at_down_write (closing level x.tasks x.processors) step)))
 
 -- a freeze at this step
 abbrev pub standing : Freeze → FreezeStep → Phase
@@ -29,11 +29,16 @@ abbrev pub of_freeze : Next Freeze → Next Phase
 of_freeze next = map_next (λ freeze. Freezes freeze) next
 
 -- after its grace period, which has come as far as this, or has ended
-abbrev pub awaited : Freeze → DownWrite → Option Grace → Next Phase
-awaited x d None = Go (closing_at x d (CallsBack Loads))
-awaited x d (Some grace) = Wait (closing_at x d (AwaitsSections grace))
+abbrev pub awaited : Freeze → ℕ → Option Grace → Next Phase
+awaited x level None = Go (closing_at x level (CallsBack Loads))
+awaited x level (Some grace) = Wait (closing_at x level (AwaitsSections grace))
 
 -- after a sum, where nobody was counted
-abbrev pub summed : Freeze → DownWrite → Bool → Next Phase
-summed x d false = Wait (closing_at x d sum_begun)
-summed x d true = Go (Freezes (at_freeze x (level_closed d.level x.nodes)))
+abbrev pub summed : Freeze → ℕ → Bool → Next Phase
+summed x level false = Wait (closing_at x level sum_begun)
+summed x level true = Go (standing x (level_closed level x.nodes))
+
+-- after the closing of a level: it is closed, or this comes next
+abbrev pub closed_or : Freeze → ℕ → Bool → Next Freeze → Next Phase
+closed_or x level true rest = Go (standing x (level_closed level x.nodes))
+closed_or x level false rest = of_freeze rest

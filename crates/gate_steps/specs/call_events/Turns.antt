@@ -18,9 +18,7 @@ use Rattle.gate_schedules.specs.declared.steps.Step.{Step}
 use Rattle.gate_schedules.specs.Answers.{progress_of}
 use Rattle.gate_steps.specs.Seating.{SeatItems}
 use Rattle.gate_steps.specs.call_events.Ties.{Ties}
-use Rattle.percpu_rwsem.specs.declared.readers.DownReadStep.{DownReadStep}
 use Rattle.compounds.specs.declared.write_access.phases.WritePhase.{WritePhase}
-use Rattle.compounds.specs.declared.write_access.phases.WritePhase.TheVariants.{Takes}
 
 -- what is kept of a task whose operation stands there
 abbrev pub kept_at : Option Phase → Accesses → Seat
@@ -53,8 +51,3 @@ of_change next = map_next (λ change. Mounts (Changes change)) next
 -- what comes next of a grow of a file, as phases
 abbrev pub of_grow : Next Grow → Next Phase
 of_grow next = map_next (λ grow. Trees (Grows grow)) next
-
--- a taking of write access at a mount, with a down-read of these parts
-abbrev pub taking : ℕ → ℕ → ℕ → ℕ → Bool → DownReadStep → Option Phase
-taking mount level cpu task wait step =
-    Some (Writes (Takes mount (record { level = level; cpu = cpu; task = task; wait = wait; step = step })))

@@ -1,17 +1,17 @@
-//! The events of a callback after its claim, in a line.
+//! The steps of a callback, in a line.
 
 ghost use Rattle.std.specs.Prelude.{◌≡◌, Some, None};
 ghost use Rattle.access_model.specs.declared.replies.Next.TheVariants.{Go};
 ghost use Rattle.percpu_rwsem.specs.declared.callbacks.CallbackStep.TheVariants.{AwaitsSections, CallsBack, Claims};
-ghost use Rattle.percpu_rwsem.specs.declared.transitions.Transition.TheVariants.{Exchanges, Loads};
-ghost use Rattle.gate_steps.specs.call_events.CallingBack.{calling_at, of_callback, sections_ended};
+ghost use Rattle.percpu_rwsem.specs.declared.transitions.Transition.TheVariants.{Loads};
+ghost use Rattle.gate_steps.specs.call_events.CallingBack.{called_or, calling_at, of_callback, sections_ended};
 ghost use Rattle.gate_steps.specs.call_events.Led.{Led};
 ghost use Rattle.gate_steps.specs.call_events.Turns.{IsTied};
 
-use crate::call_events::{GateWords, Seat, find};
+use crate::call_events::{GateWords, Seat, find, find_first};
 use access_model::{Next, Reply};
 use cpu_words::{Touch, WordName};
-use gate_world::Accesses;
+use gate_world::{Accesses, Op};
 use percpu_rwsem::{Callback, CallbackStep, Grace, GraceNext, SyncWord, Transition};
 
 /// Loads the section word of one task after the other, from this one of the grace period on, until each section that was under way has
@@ -21,18 +21,19 @@ fn await_sections(
     gates: &GateWords,
     seat: &mut Seat,
     accesses: &Accesses,
-    callback: Callback,
+    level: u8,
+    tasks: u8,
     mut grace: Grace,
 ) -> Option<Grace>
     requires table { seat.old.table_id ≡ gates.now.table.shared.table_id }
-    requires tied { IsTied gates.now.config None (Some (calling_at callback (AwaitsSections grace))) accesses.now seat.old.me.0.items }
+    requires tied { IsTied gates.now.config None (Some (calling_at level tasks (AwaitsSections grace))) accesses.now seat.old.me.0.items }
     ensures slots { seat.new.me.1 ≡ seat.old.me.1 }
-    ensures led { Led gates.now.config accesses.now (Go (calling_at callback (AwaitsSections grace))) seat.old.table_id seat.old.me.0
-        (sections_ended callback result) seat.new.table_id seat.new.me.0 }
+    ensures led { Led gates.now.config None accesses.now (Go (calling_at level tasks (AwaitsSections grace))) seat.old.table_id seat.old.me.0
+        (sections_ended level tasks result) seat.new.table_id seat.new.me.0 }
 {
     loop {
         let step = CallbackStep::AwaitsSections(grace);
-        let here = Callback { step, ..callback };
+        let here = Callback { level, tasks, step };
         let word = WordName::Section(grace.task);
         let found = find(gates, seat, accesses, here, word, Touch::Load);
         match grace.look(found) {
@@ -43,107 +44,110 @@ fn await_sections(
     }
 }
 
-/// Makes the callback's transition, in two events. What comes after them: the same again where the word was none, or another task changed
-/// it in between.
+/// Makes the callback's transition, in two events. Whether it is made: not where the word was none, or another task changed it in between.
+/// Then it is tried again, as `rest` says.
 #[inline(always)]
 fn call_back(
     gates: &GateWords,
     seat: &mut Seat,
     accesses: &Accesses,
-    callback: Callback,
-) -> Next<Callback>
+    level: u8,
+    tasks: u8,
+    rest: &mut Next<Callback>,
+) -> bool
     requires table { seat.old.table_id ≡ gates.now.table.shared.table_id }
-    requires tied { IsTied gates.now.config None (Some (calling_at callback (CallsBack Loads))) accesses.now seat.old.me.0.items }
+    requires tied { IsTied gates.now.config None (Some (calling_at level tasks (CallsBack Loads))) accesses.now seat.old.me.0.items }
     ensures slots { seat.new.me.1 ≡ seat.old.me.1 }
-    ensures led { Led gates.now.config accesses.now (Go (calling_at callback (CallsBack Loads))) seat.old.table_id seat.old.me.0
-        (of_callback result) seat.new.table_id seat.new.me.0 }
+    ensures led { Led gates.now.config None accesses.now (Go (calling_at level tasks (CallsBack Loads))) seat.old.table_id seat.old.me.0
+        (called_or result rest.new) seat.new.table_id seat.new.me.0 }
 {
-    let sync = WordName::Sync(callback.level);
+    let sync = WordName::Sync(level);
     let step = CallbackStep::CallsBack(Transition::Loads);
-    let again = Callback { step, ..callback };
+    let again = Callback { level, tasks, step };
     let expect = find(gates, seat, accesses, again, sync, Touch::Load);
     let Some(from) = SyncWord::unpack(expect) else {
-        return Next::Go(again);
+        *rest = Next::Go(again);
+        return false;
     };
     let Some(to) = from.on_callback() else {
-        return Next::Go(again);
+        *rest = Next::Go(again);
+        return false;
     };
     let put = to.pack();
     let step = CallbackStep::CallsBack(Transition::Exchanges { from, to });
-    let here = Callback { step, ..callback };
-    let found = find(
-        gates,
-        seat,
-        accesses,
-        here,
-        sync,
-        Touch::Cas { expect, put },
-    );
-    if found == expect {
-        Next::Done(Ok(Reply::Ran(true)))
-    } else {
-        Next::Go(again)
+    let here = Callback { level, tasks, step };
+    let touch = Touch::Cas { expect, put };
+    let found = find(gates, seat, accesses, here, sync, touch);
+    if found != expect {
+        *rest = Next::Go(again);
+        return false;
     }
+    true
 }
 
-/// The grace period of a callback, and its transition. What comes after the last event.
+/// The grace period of a callback, and its transition. Whether it is made; where it isn't, what comes next is left in `rest`.
 #[inline(never)]
 pub(crate) fn run_callback(
     gates: &GateWords,
     seat: &mut Seat,
     accesses: &Accesses,
-    callback: Callback,
+    level: u8,
+    tasks: u8,
     grace: Grace,
-) -> Next<Callback>
+    rest: &mut Next<Callback>,
+) -> bool
     requires table { seat.old.table_id ≡ gates.now.table.shared.table_id }
-    requires tied { IsTied gates.now.config None (Some (calling_at callback (AwaitsSections grace))) accesses.now seat.old.me.0.items }
+    requires tied { IsTied gates.now.config None (Some (calling_at level tasks (AwaitsSections grace))) accesses.now seat.old.me.0.items }
     ensures slots { seat.new.me.1 ≡ seat.old.me.1 }
-    ensures led { Led gates.now.config accesses.now (Go (calling_at callback (AwaitsSections grace))) seat.old.table_id seat.old.me.0
-        (of_callback result) seat.new.table_id seat.new.me.0 }
+    ensures led { Led gates.now.config None accesses.now (Go (calling_at level tasks (AwaitsSections grace))) seat.old.table_id seat.old.me.0
+        (called_or result rest.new) seat.new.table_id seat.new.me.0 }
 {
-    match await_sections(gates, seat, accesses, callback, grace) {
-        Some(further) => {
-            let step = CallbackStep::AwaitsSections(further);
-            Next::Wait(Callback { step, ..callback })
-        }
-        None => call_back(gates, seat, accesses, callback),
+    if let Some(further) = await_sections(gates, seat, accesses, level, tasks, grace) {
+        let step = CallbackStep::AwaitsSections(further);
+        *rest = Next::Wait(Callback { level, tasks, step });
+        return false;
     }
+    call_back(gates, seat, accesses, level, tasks, rest)
 }
 
-/// Takes the callback that is queued, where the word is still the one that was loaded, and runs it after its grace period. What comes
-/// after the last event.
-#[inline(always)]
-pub(crate) fn claim(
+/// Runs the callback of a level, from the first step on. What comes after the last one that stands in the line.
+#[inline(never)]
+pub(crate) fn callback_first(
     gates: &GateWords,
     seat: &mut Seat,
     accesses: &Accesses,
-    callback: Callback,
-    from: SyncWord,
-    to: SyncWord,
+    op: Op,
+    level: u8,
+    tasks: u8,
 ) -> Next<Callback>
     requires table { seat.old.table_id ≡ gates.now.table.shared.table_id }
-    requires tied { IsTied gates.now.config None (Some (calling_at callback (Claims (Exchanges from to)))) accesses.now seat.old.me.0.items }
+    requires tied { IsTied gates.now.config (Some op) (Some (calling_at level tasks (Claims Loads))) accesses.now seat.old.me.0.items }
     ensures slots { seat.new.me.1 ≡ seat.old.me.1 }
-    ensures led { Led gates.now.config accesses.now (Go (calling_at callback (Claims (Exchanges from to)))) seat.old.table_id seat.old.me.0
+    ensures led { Led gates.now.config (Some op) accesses.now (Go (calling_at level tasks (Claims Loads))) seat.old.table_id seat.old.me.0
         (of_callback result) seat.new.table_id seat.new.me.0 }
 {
-    let step = CallbackStep::Claims(Transition::Exchanges { from, to });
-    let here = Callback { step, ..callback };
-    let expect = from.pack();
+    let sync = WordName::Sync(level);
+    let step = CallbackStep::Claims(Transition::Loads);
+    let again = Callback { level, tasks, step };
+    let expect = find_first(gates, seat, accesses, op, again, sync, Touch::Load);
+    let Some(from) = SyncWord::unpack(expect) else {
+        return Next::Go(again);
+    };
+    let Some(to) = from.on_claim() else {
+        return Next::Done(Ok(Reply::Ran(false)));
+    };
     let put = to.pack();
-    let sync = WordName::Sync(callback.level);
-    let found = find(
-        gates,
-        seat,
-        accesses,
-        here,
-        sync,
-        Touch::Cas { expect, put },
-    );
+    let step = CallbackStep::Claims(Transition::Exchanges { from, to });
+    let here = Callback { level, tasks, step };
+    let touch = Touch::Cas { expect, put };
+    let found = find(gates, seat, accesses, here, sync, touch);
     if found != expect {
-        let step = CallbackStep::Claims(Transition::Loads);
-        return Next::Go(Callback { step, ..callback });
+        return Next::Go(again);
     }
-    let grace = Grace::start(callback.tasks);
-    run_callback(gates, seat, accesses, callback, grace)
+    let grace = Grace::start(tasks);
+    let mut rest = Next::Done(Ok(Reply::Ran(true)));
+    if run_callback(gates, seat, accesses, level, tasks, grace, &mut rest) {
+        return Next::Done(Ok(Reply::Ran(true)));
+    }
+    rest
 }

@@ -2,11 +2,11 @@
 
 ghost use Rattle.std.specs.Prelude.{◌≡◌, Some, None};
 ghost use Rattle.access_model.specs.declared.replies.Next.TheVariants.{Go};
-ghost use Rattle.freeze_levels.specs.Freezes.{level_closed};
-ghost use Rattle.percpu_rwsem.specs.declared.writers.DownWriteStep.TheVariants.{Enters, AwaitsSections, CallsBack, SetsBlock};
+ghost use Rattle.freeze_levels.specs.Freezes.{freeze_closes};
+ghost use Rattle.percpu_rwsem.specs.declared.writers.DownWriteStep.TheVariants.{Enters, AwaitsSections, CallsBack, SetsBlock, Sums};
 ghost use Rattle.percpu_rwsem.specs.declared.transitions.Transition.TheVariants.{Loads};
-ghost use Rattle.percpu_rwsem.specs.Writers.{entered_from, sum_begun};
-ghost use Rattle.gate_steps.specs.call_events.Closings.{closing_at, awaited, summed, of_freeze};
+ghost use Rattle.percpu_rwsem.specs.Writers.{entered_from};
+ghost use Rattle.gate_steps.specs.call_events.Closings.{awaited, closed_or, closing_at, standing, summed};
 ghost use Rattle.gate_steps.specs.call_events.Led.{Led};
 ghost use Rattle.gate_steps.specs.call_events.Turns.{IsTied};
 
@@ -15,7 +15,6 @@ use access_model::Next;
 use cpu_words::{Sum, Taken, Touch, WordName};
 use freeze_levels::{Freeze, FreezeStep};
 use gate_world::Accesses;
-use node_words::ClearMarks;
 use percpu_rwsem::{DownWrite, DownWriteStep, GpState, Grace, GraceNext, SyncWord, Transition};
 
 /// The step after an enter of a word in this state, among so many tasks.
@@ -38,18 +37,23 @@ fn enter(
     seat: &mut Seat,
     accesses: &Accesses,
     freeze: Freeze,
-    write: DownWrite,
+    level: u8,
 ) -> DownWriteStep
     requires table { seat.old.table_id ≡ gates.now.table.shared.table_id }
-    requires tied { IsTied gates.now.config None (Some (closing_at freeze write (Enters Loads))) accesses.now seat.old.me.0.items }
+    requires tied { IsTied gates.now.config None (Some (closing_at freeze level (Enters Loads))) accesses.now seat.old.me.0.items }
     ensures slots { seat.new.me.1 ≡ seat.old.me.1 }
-    ensures led { Led gates.now.config accesses.now (Go (closing_at freeze write (Enters Loads))) seat.old.table_id seat.old.me.0
-        (Go (closing_at freeze write result)) seat.new.table_id seat.new.me.0 }
+    ensures led { Led gates.now.config None accesses.now (Go (closing_at freeze level (Enters Loads))) seat.old.table_id seat.old.me.0
+        (Go (closing_at freeze level result)) seat.new.table_id seat.new.me.0 }
 {
-    let sync = WordName::Sync(write.level);
+    let sync = WordName::Sync(level);
     let step = DownWriteStep::Enters(Transition::Loads);
     let here = Freeze {
-        step: FreezeStep::Closes(DownWrite { step, ..write }),
+        step: FreezeStep::Closes(DownWrite {
+            level,
+            tasks: freeze.tasks,
+            processors: freeze.processors,
+            step,
+        }),
         ..freeze
     };
     let expect = find(gates, seat, accesses, here, sync, Touch::Load);
@@ -63,8 +67,10 @@ fn enter(
     let exchanges = DownWriteStep::Enters(Transition::Exchanges { from, to });
     let here = Freeze {
         step: FreezeStep::Closes(DownWrite {
+            level,
+            tasks: freeze.tasks,
+            processors: freeze.processors,
             step: exchanges,
-            ..write
         }),
         ..freeze
     };
@@ -77,7 +83,7 @@ fn enter(
         Touch::Cas { expect, put },
     );
     if found == expect {
-        entered(from.state, write.tasks)
+        entered(from.state, freeze.tasks)
     } else {
         step
     }
@@ -91,19 +97,24 @@ fn await_sections(
     seat: &mut Seat,
     accesses: &Accesses,
     freeze: Freeze,
-    write: DownWrite,
+    level: u8,
     mut grace: Grace,
 ) -> Option<Grace>
     requires table { seat.old.table_id ≡ gates.now.table.shared.table_id }
-    requires tied { IsTied gates.now.config None (Some (closing_at freeze write (AwaitsSections grace))) accesses.now seat.old.me.0.items }
+    requires tied { IsTied gates.now.config None (Some (closing_at freeze level (AwaitsSections grace))) accesses.now seat.old.me.0.items }
     ensures slots { seat.new.me.1 ≡ seat.old.me.1 }
-    ensures led { Led gates.now.config accesses.now (Go (closing_at freeze write (AwaitsSections grace))) seat.old.table_id seat.old.me.0
-        (awaited freeze write result) seat.new.table_id seat.new.me.0 }
+    ensures led { Led gates.now.config None accesses.now (Go (closing_at freeze level (AwaitsSections grace))) seat.old.table_id seat.old.me.0
+        (awaited freeze level result) seat.new.table_id seat.new.me.0 }
 {
     loop {
         let step = DownWriteStep::AwaitsSections(grace);
         let here = Freeze {
-            step: FreezeStep::Closes(DownWrite { step, ..write }),
+            step: FreezeStep::Closes(DownWrite {
+                level,
+                tasks: freeze.tasks,
+                processors: freeze.processors,
+                step,
+            }),
             ..freeze
         };
         let found = find(
@@ -129,18 +140,23 @@ fn call_back(
     seat: &mut Seat,
     accesses: &Accesses,
     freeze: Freeze,
-    write: DownWrite,
+    level: u8,
 ) -> DownWriteStep
     requires table { seat.old.table_id ≡ gates.now.table.shared.table_id }
-    requires tied { IsTied gates.now.config None (Some (closing_at freeze write (CallsBack Loads))) accesses.now seat.old.me.0.items }
+    requires tied { IsTied gates.now.config None (Some (closing_at freeze level (CallsBack Loads))) accesses.now seat.old.me.0.items }
     ensures slots { seat.new.me.1 ≡ seat.old.me.1 }
-    ensures led { Led gates.now.config accesses.now (Go (closing_at freeze write (CallsBack Loads))) seat.old.table_id seat.old.me.0
-        (Go (closing_at freeze write result)) seat.new.table_id seat.new.me.0 }
+    ensures led { Led gates.now.config None accesses.now (Go (closing_at freeze level (CallsBack Loads))) seat.old.table_id seat.old.me.0
+        (Go (closing_at freeze level result)) seat.new.table_id seat.new.me.0 }
 {
-    let sync = WordName::Sync(write.level);
+    let sync = WordName::Sync(level);
     let step = DownWriteStep::CallsBack(Transition::Loads);
     let here = Freeze {
-        step: FreezeStep::Closes(DownWrite { step, ..write }),
+        step: FreezeStep::Closes(DownWrite {
+            level,
+            tasks: freeze.tasks,
+            processors: freeze.processors,
+            step,
+        }),
         ..freeze
     };
     let expect = find(gates, seat, accesses, here, sync, Touch::Load);
@@ -154,8 +170,10 @@ fn call_back(
     let exchanges = DownWriteStep::CallsBack(Transition::Exchanges { from, to });
     let here = Freeze {
         step: FreezeStep::Closes(DownWrite {
+            level,
+            tasks: freeze.tasks,
+            processors: freeze.processors,
             step: exchanges,
-            ..write
         }),
         ..freeze
     };
@@ -174,147 +192,238 @@ fn call_back(
     }
 }
 
-/// Loads the count word of one processor after the other. Whether nobody was counted: then the level is closed.
+/// Loads the count word of one processor after the other, from this one of the sum on. Whether nobody was counted: then the level is closed.
 #[inline(never)]
 fn sum_counts(
     gates: &GateWords,
     seat: &mut Seat,
     accesses: &Accesses,
     freeze: Freeze,
-    write: DownWrite,
+    level: u8,
+    mut sum: Sum,
 ) -> bool
     requires table { seat.old.table_id ≡ gates.now.table.shared.table_id }
-    requires tied { IsTied gates.now.config None (Some (closing_at freeze write sum_begun)) accesses.now seat.old.me.0.items }
+    requires tied { IsTied gates.now.config None (Some (closing_at freeze level (Sums sum))) accesses.now seat.old.me.0.items }
     ensures slots { seat.new.me.1 ≡ seat.old.me.1 }
-    ensures led { Led gates.now.config accesses.now (Go (closing_at freeze write sum_begun)) seat.old.table_id seat.old.me.0
-        (summed freeze write result) seat.new.table_id seat.new.me.0 }
+    ensures led { Led gates.now.config None accesses.now (Go (closing_at freeze level (Sums sum))) seat.old.table_id seat.old.me.0
+        (summed freeze level result) seat.new.table_id seat.new.me.0 }
 {
-    let mut sum = Sum::start();
     loop {
         let step = DownWriteStep::Sums(sum);
         let here = Freeze {
-            step: FreezeStep::Closes(DownWrite { step, ..write }),
+            step: FreezeStep::Closes(DownWrite {
+                level,
+                tasks: freeze.tasks,
+                processors: freeze.processors,
+                step,
+            }),
             ..freeze
         };
-        let word = WordName::LevelCount(write.level, sum.words);
+        let word = WordName::LevelCount(level, sum.words);
         let found = find(gates, seat, accesses, here, word, Touch::Load);
-        match sum.take(found, write.processors) {
+        match sum.take(found, freeze.processors) {
             Taken::More(further) => sum = further,
             Taken::Total(total) => return total == 0,
         }
     }
 }
 
-/// The freeze's step after the closing of a level, among so many nodes.
+/// Sums the read counts. Whether nobody was counted.
 #[inline(always)]
-fn closed(level: u8, nodes: u8) -> FreezeStep
-    ensures { result ≡ level_closed level nodes }
+fn sum(
+    gates: &GateWords,
+    seat: &mut Seat,
+    accesses: &Accesses,
+    freeze: Freeze,
+    level: u8,
+    so_far: Sum,
+    rest: &mut Next<Freeze>,
+) -> bool
+    requires table { seat.old.table_id ≡ gates.now.table.shared.table_id }
+    requires tied { IsTied gates.now.config None (Some (closing_at freeze level (Sums so_far))) accesses.now seat.old.me.0.items }
+    ensures slots { seat.new.me.1 ≡ seat.old.me.1 }
+    ensures led { Led gates.now.config None accesses.now (Go (closing_at freeze level (Sums so_far))) seat.old.table_id seat.old.me.0
+        (closed_or freeze level result rest.new) seat.new.table_id seat.new.me.0 }
 {
-    match level {
-        1 => FreezeStep::LocksAgain,
-        2 => FreezeStep::Cleans(ClearMarks { node: 1, nodes }),
-        _ => FreezeStep::SetsComplete,
+    if sum_counts(gates, seat, accesses, freeze, level, so_far) {
+        return true;
     }
+    let step = DownWriteStep::Sums(Sum { words: 0, total: 0 });
+    let write = DownWrite {
+        level,
+        tasks: freeze.tasks,
+        processors: freeze.processors,
+        step,
+    };
+    let step = FreezeStep::Closes(write);
+    *rest = Next::Wait(Freeze { step, ..freeze });
+    false
 }
 
-/// Sets `block` and sums the read counts. What comes after the last event.
+/// Sets `block` and sums the read counts. Whether the level is closed.
 #[inline(always)]
 fn block(
     gates: &GateWords,
     seat: &mut Seat,
     accesses: &Accesses,
     freeze: Freeze,
-    write: DownWrite,
-) -> Next<Freeze>
+    level: u8,
+    rest: &mut Next<Freeze>,
+) -> bool
     requires table { seat.old.table_id ≡ gates.now.table.shared.table_id }
-    requires tied { IsTied gates.now.config None (Some (closing_at freeze write SetsBlock)) accesses.now seat.old.me.0.items }
+    requires tied { IsTied gates.now.config None (Some (closing_at freeze level SetsBlock)) accesses.now seat.old.me.0.items }
     ensures slots { seat.new.me.1 ≡ seat.old.me.1 }
-    ensures led { Led gates.now.config accesses.now (Go (closing_at freeze write SetsBlock)) seat.old.table_id seat.old.me.0
-        (of_freeze result) seat.new.table_id seat.new.me.0 }
+    ensures led { Led gates.now.config None accesses.now (Go (closing_at freeze level SetsBlock)) seat.old.table_id seat.old.me.0
+        (closed_or freeze level result rest.new) seat.new.table_id seat.new.me.0 }
 {
     let step = DownWriteStep::SetsBlock;
-    let here = Freeze {
-        step: FreezeStep::Closes(DownWrite { step, ..write }),
-        ..freeze
+    let write = DownWrite {
+        level,
+        tasks: freeze.tasks,
+        processors: freeze.processors,
+        step,
     };
-    let found = find(
-        gates,
-        seat,
-        accesses,
-        here,
-        WordName::Block(write.level),
-        Touch::Swap(1),
-    );
+    let step = FreezeStep::Closes(write);
+    let here = Freeze { step, ..freeze };
+    let block = WordName::Block(level);
+    let found = find(gates, seat, accesses, here, block, Touch::Swap(1));
     if found != 0 {
-        return Next::Wait(here);
+        *rest = Next::Wait(here);
+        return false;
     }
-    if sum_counts(gates, seat, accesses, freeze, write) {
-        let step = closed(write.level, freeze.nodes);
-        return Next::Go(Freeze { step, ..freeze });
-    }
-    let step = DownWriteStep::Sums(Sum { words: 0, total: 0 });
-    let here = Freeze {
-        step: FreezeStep::Closes(DownWrite { step, ..write }),
-        ..freeze
-    };
-    Next::Wait(here)
+    sum(gates, seat, accesses, freeze, level, Sum::start(), rest)
 }
 
-/// Waits for the grace period, and closes the level after it. What comes after the last event.
+/// Waits for the grace period, and closes the level after it, likewise.
 #[inline(always)]
 fn pass(
     gates: &GateWords,
     seat: &mut Seat,
     accesses: &Accesses,
     freeze: Freeze,
-    write: DownWrite,
+    level: u8,
     grace: Grace,
-) -> Next<Freeze>
+    rest: &mut Next<Freeze>,
+) -> bool
     requires table { seat.old.table_id ≡ gates.now.table.shared.table_id }
-    requires tied { IsTied gates.now.config None (Some (closing_at freeze write (AwaitsSections grace))) accesses.now seat.old.me.0.items }
+    requires tied { IsTied gates.now.config None (Some (closing_at freeze level (AwaitsSections grace))) accesses.now seat.old.me.0.items }
     ensures slots { seat.new.me.1 ≡ seat.old.me.1 }
-    ensures led { Led gates.now.config accesses.now (Go (closing_at freeze write (AwaitsSections grace))) seat.old.table_id seat.old.me.0
-        (of_freeze result) seat.new.table_id seat.new.me.0 }
+    ensures led { Led gates.now.config None accesses.now (Go (closing_at freeze level (AwaitsSections grace))) seat.old.table_id seat.old.me.0
+        (closed_or freeze level result rest.new) seat.new.table_id seat.new.me.0 }
 {
-    match await_sections(gates, seat, accesses, freeze, write, grace) {
+    match await_sections(gates, seat, accesses, freeze, level, grace) {
         Some(further) => {
             let step = DownWriteStep::AwaitsSections(further);
-            Next::Wait(Freeze {
-                step: FreezeStep::Closes(DownWrite { step, ..write }),
-                ..freeze
-            })
+            let write = DownWrite {
+                level,
+                tasks: freeze.tasks,
+                processors: freeze.processors,
+                step,
+            };
+            let step = FreezeStep::Closes(write);
+            *rest = Next::Wait(Freeze { step, ..freeze });
+            false
         }
-        None => match call_back(gates, seat, accesses, freeze, write) {
-            DownWriteStep::SetsBlock => block(gates, seat, accesses, freeze, write),
-            step => Next::Go(Freeze {
-                step: FreezeStep::Closes(DownWrite { step, ..write }),
-                ..freeze
-            }),
+        None => match call_back(gates, seat, accesses, freeze, level) {
+            DownWriteStep::SetsBlock => block(gates, seat, accesses, freeze, level, rest),
+            step => {
+                let write = DownWrite {
+                    level,
+                    tasks: freeze.tasks,
+                    processors: freeze.processors,
+                    step,
+                };
+                let step = FreezeStep::Closes(write);
+                *rest = Next::Go(Freeze { step, ..freeze });
+                false
+            }
         },
     }
 }
 
-/// Closes a level, up to the load that finds nobody inside, or up to what stands in its way. What comes after the last event.
+/// Closes a level, up to the load that finds nobody inside, or up to what stands in its way. Whether it is closed; where it isn't, what comes
+/// next of the freeze is left in `rest`. So the usual answer is one bit, and no part of the freeze is written to memory.
 #[inline(never)]
 pub(crate) fn close_level(
     gates: &GateWords,
     seat: &mut Seat,
     accesses: &Accesses,
     freeze: Freeze,
-    write: DownWrite,
-) -> Next<Freeze>
+    level: u8,
+    rest: &mut Next<Freeze>,
+) -> bool
     requires table { seat.old.table_id ≡ gates.now.table.shared.table_id }
-    requires tied { IsTied gates.now.config None (Some (closing_at freeze write (Enters Loads))) accesses.now seat.old.me.0.items }
+    requires tied { IsTied gates.now.config None (Some (standing freeze (freeze_closes freeze level))) accesses.now seat.old.me.0.items }
     ensures slots { seat.new.me.1 ≡ seat.old.me.1 }
-    ensures led { Led gates.now.config accesses.now (Go (closing_at freeze write (Enters Loads))) seat.old.table_id seat.old.me.0
-        (of_freeze result) seat.new.table_id seat.new.me.0 }
+    ensures led { Led gates.now.config None accesses.now (Go (standing freeze (freeze_closes freeze level))) seat.old.table_id seat.old.me.0
+        (closed_or freeze level result rest.new) seat.new.table_id seat.new.me.0 }
 {
-    match enter(gates, seat, accesses, freeze, write) {
-        DownWriteStep::SetsBlock => block(gates, seat, accesses, freeze, write),
-        DownWriteStep::AwaitsSections(grace) => pass(gates, seat, accesses, freeze, write, grace),
-        step => Next::Go(Freeze {
-            step: FreezeStep::Closes(DownWrite { step, ..write }),
-            ..freeze
-        }),
+    match enter(gates, seat, accesses, freeze, level) {
+        DownWriteStep::SetsBlock => block(gates, seat, accesses, freeze, level, rest),
+        DownWriteStep::AwaitsSections(grace) => {
+            pass(gates, seat, accesses, freeze, level, grace, rest)
+        }
+        step => {
+            let write = DownWrite {
+                level,
+                tasks: freeze.tasks,
+                processors: freeze.processors,
+                step,
+            };
+            let step = FreezeStep::Closes(write);
+            *rest = Next::Go(Freeze { step, ..freeze });
+            false
+        }
+    }
+}
+
+/// Goes on with the closing of a level, from this step on, likewise.
+#[inline(never)]
+pub(crate) fn go_on_closing(
+    gates: &GateWords,
+    seat: &mut Seat,
+    accesses: &Accesses,
+    freeze: Freeze,
+    level: u8,
+    step: DownWriteStep,
+    rest: &mut Next<Freeze>,
+) -> bool
+    requires table { seat.old.table_id ≡ gates.now.table.shared.table_id }
+    requires tied { IsTied gates.now.config None (Some (closing_at freeze level step)) accesses.now seat.old.me.0.items }
+    ensures slots { seat.new.me.1 ≡ seat.old.me.1 }
+    ensures led { Led gates.now.config None accesses.now (Go (closing_at freeze level step)) seat.old.table_id seat.old.me.0
+        (closed_or freeze level result rest.new) seat.new.table_id seat.new.me.0 }
+{
+    match step {
+        DownWriteStep::Enters(transition) => match transition {
+            Transition::Loads => close_level(gates, seat, accesses, freeze, level, rest),
+            Transition::Exchanges { .. } => {
+                let write = DownWrite {
+                    level,
+                    tasks: freeze.tasks,
+                    processors: freeze.processors,
+                    step,
+                };
+                let step = FreezeStep::Closes(write);
+                *rest = Next::Go(Freeze { step, ..freeze });
+                false
+            }
+        },
+        DownWriteStep::AwaitsSections(grace) => {
+            pass(gates, seat, accesses, freeze, level, grace, rest)
+        }
+        DownWriteStep::SetsBlock => block(gates, seat, accesses, freeze, level, rest),
+        DownWriteStep::Sums(so_far) => sum(gates, seat, accesses, freeze, level, so_far, rest),
+        DownWriteStep::CallsBack(_) | DownWriteStep::AwaitsPassed => {
+            let write = DownWrite {
+                level,
+                tasks: freeze.tasks,
+                processors: freeze.processors,
+                step,
+            };
+            let step = FreezeStep::Closes(write);
+            *rest = Next::Go(Freeze { step, ..freeze });
+            false
+        }
     }
 }

@@ -1,34 +1,84 @@
-//! The events of a freeze between those that close a level, in lines.
+//! The steps of a freeze, in a line: the file system is frozen where nothing stands in the way.
 
-ghost use Rattle.std.specs.Prelude.{◌≡◌, Some, None};
+ghost use Rattle.std.specs.Prelude.{◌≡◌, ◌≤◌, Some, None};
 ghost use Rattle.access_model.specs.declared.replies.Next.TheVariants.{Go};
-ghost use Rattle.freeze_levels.specs.declared.freezes.FreezeStep.TheVariants.{Holds, LoadsStage, SetsPageFault};
+ghost use Rattle.freeze_levels.specs.Freezes.{at_freeze, freeze_fails, level_closed};
+ghost use Rattle.freeze_levels.specs.declared.freezes.FreezeStep.TheVariants.{
+  Cleans,
+  Closes,
+  Holds,
+  LoadsStage,
+  Locks,
+  LocksAgain,
+  SetsComplete,
+  SetsFs,
+  SetsPageFault,
+  SetsWrite,
+};
 ghost use Rattle.gate_steps.specs.call_events.Closings.{of_freeze, standing};
-ghost use Rattle.gate_steps.specs.call_events.Led.{Led};
+ghost use Rattle.gate_steps.specs.call_events.Led.{Led, LedAsking};
 ghost use Rattle.gate_steps.specs.call_events.Turns.{IsTied};
 
-use crate::call_ends::closings::close_level;
-use crate::call_events::{GateWords, Seat, find};
+use crate::call_ends::closings::{close_level, go_on_closing};
+use crate::call_events::{GateWords, Seat, TimedHooks, find, find_asking, find_first};
 use access_model::{GateError, Holders, Next, Reply};
 use cpu_words::{Touch, WordName};
 use freeze_levels::holders::pack;
-use freeze_levels::{Freeze, FreezeStep};
-use gate_world::Accesses;
-use percpu_rwsem::{DownWrite, DownWriteStep, Transition};
+use freeze_levels::{Freeze, FreezeStep, HookCall};
+use gate_world::{Accesses, Op};
+use node_words::{ClearMarks, NodeWord, following};
+use percpu_rwsem::{DownWrite, UpWrite, UpWriteStep};
 
-/// From the load of the stage on, with `umount` taken, to the closing of level 1.
+/// Freezes, from the first step on. What comes after the last one that stands in the line.
 #[inline(never)]
-pub(crate) fn begin_freeze(
+pub(crate) fn freeze_first<H: TimedHooks>(
+    gates: &GateWords,
+    seat: &mut Seat,
+    accesses: &Accesses,
+    op: Op,
+    freeze: Freeze,
+    hooks: &mut H,
+) -> Next<Freeze>
+    requires table { seat.old.table_id ≡ gates.now.table.shared.table_id }
+    requires tied { IsTied gates.now.config (Some op) (Some (standing freeze Locks)) accesses.now seat.old.me.0.items }
+    ensures slots { seat.new.me.1 ≡ seat.old.me.1 }
+    ensures led { LedAsking H.answers gates.now.config (Some op) accesses.now (Go (standing freeze Locks)) seat.old.table_id seat.old.me.0
+        hooks.old (of_freeze result) seat.new.table_id seat.new.me.0 hooks.new }
+{
+    let locks = Freeze {
+        step: FreezeStep::Locks,
+        ..freeze
+    };
+    let put = u64::from(freeze.task) + 1;
+    let taken = find_first(
+        gates,
+        seat,
+        accesses,
+        op,
+        locks,
+        WordName::Umount,
+        Touch::Cas { expect: 0, put },
+    );
+    if taken != 0 {
+        return Next::Wait(locks);
+    }
+    freeze_locked(gates, seat, accesses, freeze, hooks)
+}
+
+/// Goes on from the load of the stage, with `umount` taken, likewise.
+#[inline(always)]
+pub(crate) fn freeze_locked<H: TimedHooks>(
     gates: &GateWords,
     seat: &mut Seat,
     accesses: &Accesses,
     freeze: Freeze,
+    hooks: &mut H,
 ) -> Next<Freeze>
     requires table { seat.old.table_id ≡ gates.now.table.shared.table_id }
     requires tied { IsTied gates.now.config None (Some (standing freeze LoadsStage)) accesses.now seat.old.me.0.items }
     ensures slots { seat.new.me.1 ≡ seat.old.me.1 }
-    ensures led { Led gates.now.config accesses.now (Go (standing freeze LoadsStage)) seat.old.table_id seat.old.me.0
-        (of_freeze result) seat.new.table_id seat.new.me.0 }
+    ensures led { LedAsking H.answers gates.now.config None accesses.now (Go (standing freeze LoadsStage)) seat.old.table_id seat.old.me.0
+        hooks.old (of_freeze result) seat.new.table_id seat.new.me.0 hooks.new }
 {
     let here = Freeze {
         step: FreezeStep::LoadsStage,
@@ -58,75 +108,271 @@ pub(crate) fn begin_freeze(
             ..freeze
         });
     }
-    let here = Freeze {
-        step: FreezeStep::SetsWrite,
-        ..freeze
-    };
-    let _stored = find(
-        gates,
-        seat,
-        accesses,
-        here,
-        WordName::Stage,
-        Touch::Store(1),
-    );
-    let here = Freeze {
-        step: FreezeStep::Unlocks,
-        ..freeze
-    };
-    let _freed = find(
-        gates,
-        seat,
-        accesses,
-        here,
-        WordName::Umount,
-        Touch::Store(0),
-    );
-    let write = DownWrite {
-        level: 1,
-        tasks: freeze.tasks,
-        processors: freeze.processors,
-        step: DownWriteStep::Enters(Transition::Loads),
-    };
-    close_level(gates, seat, accesses, freeze, write)
+    close_first(gates, seat, accesses, freeze, hooks)
 }
 
-/// The store of SB_FREEZE_PAGEFAULT, and the closing of level 2.
+/// Goes on from the store of SB_FREEZE_WRITE: gives `umount` back, and closes level 1.
 #[inline(always)]
-pub(crate) fn close_second(
+fn close_first<H: TimedHooks>(
     gates: &GateWords,
     seat: &mut Seat,
     accesses: &Accesses,
     freeze: Freeze,
+    hooks: &mut H,
+) -> Next<Freeze>
+    requires table { seat.old.table_id ≡ gates.now.table.shared.table_id }
+    requires tied { IsTied gates.now.config None (Some (standing freeze SetsWrite)) accesses.now seat.old.me.0.items }
+    ensures slots { seat.new.me.1 ≡ seat.old.me.1 }
+    ensures led { LedAsking H.answers gates.now.config None accesses.now (Go (standing freeze SetsWrite)) seat.old.table_id seat.old.me.0
+        hooks.old (of_freeze result) seat.new.table_id seat.new.me.0 hooks.new }
+{
+    let here = Freeze {
+        step: FreezeStep::SetsWrite,
+        ..freeze
+    };
+    let write = Touch::Store(1);
+    let _stored = find(gates, seat, accesses, here, WordName::Stage, write);
+    let here = Freeze {
+        step: FreezeStep::Unlocks,
+        ..freeze
+    };
+    let free = Touch::Store(0);
+    let _freed = find(gates, seat, accesses, here, WordName::Umount, free);
+    let mut rest = Next::Done(Ok(Reply::Unit));
+    if close_level(gates, seat, accesses, freeze, 1, &mut rest) {
+        return lock_again(gates, seat, accesses, freeze, hooks);
+    }
+    rest
+}
+
+/// Goes on where level 1 is closed: takes `umount` again.
+#[inline(always)]
+fn lock_again<H: TimedHooks>(
+    gates: &GateWords,
+    seat: &mut Seat,
+    accesses: &Accesses,
+    freeze: Freeze,
+    hooks: &mut H,
+) -> Next<Freeze>
+    requires table { seat.old.table_id ≡ gates.now.table.shared.table_id }
+    requires tied { IsTied gates.now.config None (Some (standing freeze LocksAgain)) accesses.now seat.old.me.0.items }
+    ensures slots { seat.new.me.1 ≡ seat.old.me.1 }
+    ensures led { LedAsking H.answers gates.now.config None accesses.now (Go (standing freeze LocksAgain)) seat.old.table_id seat.old.me.0
+        hooks.old (of_freeze result) seat.new.table_id seat.new.me.0 hooks.new }
+{
+    let again = Freeze {
+        step: FreezeStep::LocksAgain,
+        ..freeze
+    };
+    let put = u64::from(freeze.task) + 1;
+    let touch = Touch::Cas { expect: 0, put };
+    let taken = find(gates, seat, accesses, again, WordName::Umount, touch);
+    if taken != 0 {
+        return Next::Wait(again);
+    }
+    close_second(gates, seat, accesses, freeze, hooks)
+}
+
+/// Goes on from the store of SB_FREEZE_PAGEFAULT: closes level 2.
+#[inline(always)]
+pub(crate) fn close_second<H: TimedHooks>(
+    gates: &GateWords,
+    seat: &mut Seat,
+    accesses: &Accesses,
+    freeze: Freeze,
+    hooks: &mut H,
 ) -> Next<Freeze>
     requires table { seat.old.table_id ≡ gates.now.table.shared.table_id }
     requires tied { IsTied gates.now.config None (Some (standing freeze SetsPageFault)) accesses.now seat.old.me.0.items }
     ensures slots { seat.new.me.1 ≡ seat.old.me.1 }
-    ensures led { Led gates.now.config accesses.now (Go (standing freeze SetsPageFault)) seat.old.table_id seat.old.me.0
-        (of_freeze result) seat.new.table_id seat.new.me.0 }
+    ensures led { LedAsking H.answers gates.now.config None accesses.now (Go (standing freeze SetsPageFault)) seat.old.table_id seat.old.me.0
+        hooks.old (of_freeze result) seat.new.table_id seat.new.me.0 hooks.new }
 {
     let here = Freeze {
         step: FreezeStep::SetsPageFault,
         ..freeze
     };
-    let _stored = find(
-        gates,
-        seat,
-        accesses,
-        here,
-        WordName::Stage,
-        Touch::Store(2),
-    );
-    let write = DownWrite {
-        level: 2,
-        tasks: freeze.tasks,
-        processors: freeze.processors,
-        step: DownWriteStep::Enters(Transition::Loads),
-    };
-    close_level(gates, seat, accesses, freeze, write)
+    let page_fault = Touch::Store(2);
+    let _stored = find(gates, seat, accesses, here, WordName::Stage, page_fault);
+    let mut rest = Next::Done(Ok(Reply::Unit));
+    if close_level(gates, seat, accesses, freeze, 2, &mut rest) {
+        return sync(gates, seat, accesses, freeze, hooks);
+    }
+    rest
 }
 
-/// The store of its holder beside these, and the return of `umount`: the freeze is done.
+/// Clears the dirty mark of one node after the other, from this one on.
+#[inline(never)]
+fn clean(
+    gates: &GateWords,
+    seat: &mut Seat,
+    accesses: &Accesses,
+    freeze: Freeze,
+    mut clearing: ClearMarks,
+)
+    requires table { seat.old.table_id ≡ gates.now.table.shared.table_id }
+    requires tied { IsTied gates.now.config None (Some (standing freeze (Cleans clearing))) accesses.now seat.old.me.0.items }
+    ensures slots { seat.new.me.1 ≡ seat.old.me.1 }
+    ensures led { Led gates.now.config None accesses.now (Go (standing freeze (Cleans clearing))) seat.old.table_id seat.old.me.0
+        (Go (standing freeze SetsFs)) seat.new.table_id seat.new.me.0 }
+{
+    loop {
+        let step = FreezeStep::Cleans(clearing);
+        let here = Freeze { step, ..freeze };
+        let clean = Touch::And(!NodeWord::DIRTY);
+        let node = WordName::Node(clearing.node);
+        let _cleaned = find(gates, seat, accesses, here, node, clean);
+        match following(clearing.node, clearing.nodes) {
+            Some(node) => clearing = ClearMarks { node, ..clearing },
+            None => return,
+        }
+    }
+}
+
+/// Goes on where level 2 is closed: clears the dirty marks and asks the file system for its `sync`.
+#[inline(always)]
+fn sync<H: TimedHooks>(
+    gates: &GateWords,
+    seat: &mut Seat,
+    accesses: &Accesses,
+    freeze: Freeze,
+    hooks: &mut H,
+) -> Next<Freeze>
+    requires table { seat.old.table_id ≡ gates.now.table.shared.table_id }
+    requires tied { IsTied gates.now.config None (Some (standing freeze (level_closed 2 freeze.nodes))) accesses.now seat.old.me.0.items }
+    ensures slots { seat.new.me.1 ≡ seat.old.me.1 }
+    ensures led { LedAsking H.answers gates.now.config None accesses.now (Go (standing freeze (level_closed 2 freeze.nodes))) seat.old.table_id seat.old.me.0
+        hooks.old (of_freeze result) seat.new.table_id seat.new.me.0 hooks.new }
+{
+    let clearing = ClearMarks::start(freeze.nodes);
+    clean(gates, seat, accesses, freeze, clearing);
+    close_third(gates, seat, accesses, freeze, hooks)
+}
+
+/// Goes on where the marks are cleared: asks for `sync`, and closes level 3.
+#[inline(always)]
+fn close_third<H: TimedHooks>(
+    gates: &GateWords,
+    seat: &mut Seat,
+    accesses: &Accesses,
+    freeze: Freeze,
+    hooks: &mut H,
+) -> Next<Freeze>
+    requires table { seat.old.table_id ≡ gates.now.table.shared.table_id }
+    requires tied { IsTied gates.now.config None (Some (standing freeze SetsFs)) accesses.now seat.old.me.0.items }
+    ensures slots { seat.new.me.1 ≡ seat.old.me.1 }
+    ensures led { LedAsking H.answers gates.now.config None accesses.now (Go (standing freeze SetsFs)) seat.old.table_id seat.old.me.0
+        hooks.old (of_freeze result) seat.new.table_id seat.new.me.0 hooks.new }
+{
+    let here = Freeze {
+        step: FreezeStep::SetsFs,
+        ..freeze
+    };
+    let answer = find_asking(gates, seat, accesses, here, hooks, HookCall::Sync);
+    if let Err(code) = answer {
+        return Next::Go(failed(freeze, 2, code));
+    }
+    let mut rest = Next::Done(Ok(Reply::Unit));
+    if close_level(gates, seat, accesses, freeze, 3, &mut rest) {
+        return complete(gates, seat, accesses, freeze, hooks);
+    }
+    rest
+}
+
+/// Goes on where all levels are closed: asks for `freeze_fs`, and ends the freeze.
+#[inline(always)]
+fn complete<H: TimedHooks>(
+    gates: &GateWords,
+    seat: &mut Seat,
+    accesses: &Accesses,
+    freeze: Freeze,
+    hooks: &mut H,
+) -> Next<Freeze>
+    requires table { seat.old.table_id ≡ gates.now.table.shared.table_id }
+    requires tied { IsTied gates.now.config None (Some (standing freeze SetsComplete)) accesses.now seat.old.me.0.items }
+    ensures slots { seat.new.me.1 ≡ seat.old.me.1 }
+    ensures led { LedAsking H.answers gates.now.config None accesses.now (Go (standing freeze SetsComplete)) seat.old.table_id seat.old.me.0
+        hooks.old (of_freeze result) seat.new.table_id seat.new.me.0 hooks.new }
+{
+    let here = Freeze {
+        step: FreezeStep::SetsComplete,
+        ..freeze
+    };
+    let answer = find_asking(gates, seat, accesses, here, hooks, HookCall::FreezeFs);
+    if let Err(code) = answer {
+        return Next::Go(failed(freeze, 3, code));
+    }
+    end_freeze(gates, seat, accesses, freeze, Holders::none())
+}
+
+/// The freeze after a hook has failed with this code, which has the levels up to this one still to reopen, the highest first.
+fn failed(freeze: Freeze, level: u8, code: u16) -> Freeze
+    requires { 1 ≤ level }
+    ensures { result ≡ at_freeze freeze (freeze_fails level code) }
+{
+    let step = UpWriteStep::ClearsBlock;
+    let write = UpWrite { level, step };
+    Freeze {
+        step: FreezeStep::Reopens { write, code },
+        ..freeze
+    }
+}
+
+/// Goes on with the closing of a level, and with what comes after it.
+#[inline(never)]
+pub(crate) fn go_on_level<H: TimedHooks>(
+    gates: &GateWords,
+    seat: &mut Seat,
+    accesses: &Accesses,
+    freeze: Freeze,
+    write: DownWrite,
+    hooks: &mut H,
+) -> Next<Freeze>
+    requires table { seat.old.table_id ≡ gates.now.table.shared.table_id }
+    requires tied { IsTied gates.now.config None (Some (standing freeze (Closes write))) accesses.now seat.old.me.0.items }
+    ensures slots { seat.new.me.1 ≡ seat.old.me.1 }
+    ensures led { LedAsking H.answers gates.now.config None accesses.now (Go (standing freeze (Closes write))) seat.old.table_id seat.old.me.0
+        hooks.old (of_freeze result) seat.new.table_id seat.new.me.0 hooks.new }
+{
+    // A freeze closes each level among its own tasks and processors.
+    if write.tasks != freeze.tasks || write.processors != freeze.processors {
+        let step = FreezeStep::Closes(write);
+        return Next::Go(Freeze { step, ..freeze });
+    }
+    let DownWrite { level, step, .. } = write;
+    let mut rest = Next::Done(Ok(Reply::Unit));
+    if go_on_closing(gates, seat, accesses, freeze, level, step, &mut rest) {
+        return go_on_closed(gates, seat, accesses, freeze, level, hooks);
+    }
+    rest
+}
+
+/// Goes on where a level is closed.
+#[inline(always)]
+fn go_on_closed<H: TimedHooks>(
+    gates: &GateWords,
+    seat: &mut Seat,
+    accesses: &Accesses,
+    freeze: Freeze,
+    level: u8,
+    hooks: &mut H,
+) -> Next<Freeze>
+    requires table { seat.old.table_id ≡ gates.now.table.shared.table_id }
+    requires tied { IsTied gates.now.config None (Some (standing freeze (level_closed level freeze.nodes))) accesses.now seat.old.me.0.items }
+    ensures slots { seat.new.me.1 ≡ seat.old.me.1 }
+    ensures led { LedAsking H.answers gates.now.config None accesses.now (Go (standing freeze (level_closed level freeze.nodes))) seat.old.table_id seat.old.me.0
+        hooks.old (of_freeze result) seat.new.table_id seat.new.me.0 hooks.new }
+{
+    if level == 1 {
+        return lock_again(gates, seat, accesses, freeze, hooks);
+    }
+    if level == 2 {
+        return sync(gates, seat, accesses, freeze, hooks);
+    }
+    complete(gates, seat, accesses, freeze, hooks)
+}
+
+/// Stores its holder beside these, and gives `umount` back: the freeze is done.
 #[inline(always)]
 pub(crate) fn end_freeze(
     gates: &GateWords,
@@ -138,7 +384,7 @@ pub(crate) fn end_freeze(
     requires table { seat.old.table_id ≡ gates.now.table.shared.table_id }
     requires tied { IsTied gates.now.config None (Some (standing freeze (Holds beside))) accesses.now seat.old.me.0.items }
     ensures slots { seat.new.me.1 ≡ seat.old.me.1 }
-    ensures led { Led gates.now.config accesses.now (Go (standing freeze (Holds beside))) seat.old.table_id seat.old.me.0
+    ensures led { Led gates.now.config None accesses.now (Go (standing freeze (Holds beside))) seat.old.table_id seat.old.me.0
         (of_freeze result) seat.new.table_id seat.new.me.0 }
 {
     let here = Freeze {
@@ -147,25 +393,13 @@ pub(crate) fn end_freeze(
     };
     let holders = beside.with(freeze.holder);
     let word = pack(holders);
-    let _stored = find(
-        gates,
-        seat,
-        accesses,
-        here,
-        WordName::Holders,
-        Touch::Store(word),
-    );
+    let hold = Touch::Store(word);
+    let _stored = find(gates, seat, accesses, here, WordName::Holders, hold);
     let here = Freeze {
         step: FreezeStep::Releases(Ok(Reply::Unit)),
         ..freeze
     };
-    let _freed = find(
-        gates,
-        seat,
-        accesses,
-        here,
-        WordName::Umount,
-        Touch::Store(0),
-    );
+    let free = Touch::Store(0);
+    let _freed = find(gates, seat, accesses, here, WordName::Umount, free);
     Next::Done(Ok(Reply::Unit))
 }

@@ -1,19 +1,20 @@
-//! The events by which a thaw reopens the levels, in a line.
+//! The steps of a thaw, in a line: the file system is thawed where nothing stands in the way.
 
 ghost use Rattle.std.specs.Prelude.{◌≡◌, Some, None};
 ghost use Rattle.access_model.specs.declared.replies.Next.TheVariants.{Go};
-ghost use Rattle.freeze_levels.specs.declared.thaws.ThawStep.TheVariants.{SetsUnfrozen};
+ghost use Rattle.freeze_levels.specs.declared.thaws.ThawStep.TheVariants.{LeavesLast, LoadsStage, Locks, SetsUnfrozen};
 ghost use Rattle.percpu_rwsem.specs.declared.writers.UpWriteStep.TheVariants.{ClearsBlock, Exits};
 ghost use Rattle.percpu_rwsem.specs.declared.transitions.Transition.TheVariants.{Loads};
 ghost use Rattle.gate_steps.specs.call_events.Reopenings.{opening_at, of_thaw, reopened, thaw_at};
-ghost use Rattle.gate_steps.specs.call_events.Led.{Led};
+ghost use Rattle.gate_steps.specs.call_events.Led.{Led, LedAsking};
 ghost use Rattle.gate_steps.specs.call_events.Turns.{IsTied};
 
-use crate::call_events::{GateWords, Seat, find};
-use access_model::{Next, Reply};
+use crate::call_events::{GateWords, Seat, TimedHooks, find, find_asking, find_first};
+use access_model::{GateError, Next, Reply};
 use cpu_words::{Touch, WordName};
-use freeze_levels::{Thaw, ThawStep};
-use gate_world::Accesses;
+use freeze_levels::holders::unpack;
+use freeze_levels::{HookCall, Thaw, ThawStep};
+use gate_world::{Accesses, Op};
 use percpu_rwsem::{SyncWord, Transition, UpWrite, UpWriteStep};
 
 /// Leaves the level's `rcu_sync`, in two events. False where the word was none, or another task changed it in between.
@@ -22,7 +23,7 @@ fn exit(gates: &GateWords, seat: &mut Seat, accesses: &Accesses, thaw: Thaw, lev
     requires table { seat.old.table_id ≡ gates.now.table.shared.table_id }
     requires tied { IsTied gates.now.config None (Some (opening_at thaw level (Exits Loads))) accesses.now seat.old.me.0.items }
     ensures slots { seat.new.me.1 ≡ seat.old.me.1 }
-    ensures led { Led gates.now.config accesses.now (Go (opening_at thaw level (Exits Loads))) seat.old.table_id seat.old.me.0
+    ensures led { Led gates.now.config None accesses.now (Go (opening_at thaw level (Exits Loads))) seat.old.table_id seat.old.me.0
         (Go (reopened thaw level result)) seat.new.table_id seat.new.me.0 }
 {
     let sync = WordName::Sync(level);
@@ -61,7 +62,7 @@ fn reopen(gates: &GateWords, seat: &mut Seat, accesses: &Accesses, thaw: Thaw, l
     requires table { seat.old.table_id ≡ gates.now.table.shared.table_id }
     requires tied { IsTied gates.now.config None (Some (opening_at thaw level ClearsBlock)) accesses.now seat.old.me.0.items }
     ensures slots { seat.new.me.1 ≡ seat.old.me.1 }
-    ensures led { Led gates.now.config accesses.now (Go (opening_at thaw level ClearsBlock)) seat.old.table_id seat.old.me.0
+    ensures led { Led gates.now.config None accesses.now (Go (opening_at thaw level ClearsBlock)) seat.old.table_id seat.old.me.0
         (Go (reopened thaw level result)) seat.new.table_id seat.new.me.0 }
 {
     let step = UpWriteStep::ClearsBlock;
@@ -91,7 +92,7 @@ pub(crate) fn reopen_all(
     requires table { seat.old.table_id ≡ gates.now.table.shared.table_id }
     requires tied { IsTied gates.now.config None (Some (thaw_at thaw SetsUnfrozen)) accesses.now seat.old.me.0.items }
     ensures slots { seat.new.me.1 ≡ seat.old.me.1 }
-    ensures led { Led gates.now.config accesses.now (Go (thaw_at thaw SetsUnfrozen)) seat.old.table_id seat.old.me.0
+    ensures led { Led gates.now.config None accesses.now (Go (thaw_at thaw SetsUnfrozen)) seat.old.table_id seat.old.me.0
         (of_thaw result) seat.new.table_id seat.new.me.0 }
 {
     let here = Thaw {
@@ -143,4 +144,121 @@ pub(crate) fn reopen_all(
         Touch::Store(0),
     );
     Next::Done(Ok(Reply::Unit))
+}
+
+/// Thaws, from the first step on. What comes after the last one that stands in the line.
+#[inline(never)]
+pub(crate) fn thaw_first<H: TimedHooks>(
+    gates: &GateWords,
+    seat: &mut Seat,
+    accesses: &Accesses,
+    op: Op,
+    thaw: Thaw,
+    hooks: &mut H,
+) -> Next<Thaw>
+    requires table { seat.old.table_id ≡ gates.now.table.shared.table_id }
+    requires tied { IsTied gates.now.config (Some op) (Some (thaw_at thaw Locks)) accesses.now seat.old.me.0.items }
+    ensures slots { seat.new.me.1 ≡ seat.old.me.1 }
+    ensures led { LedAsking H.answers gates.now.config (Some op) accesses.now (Go (thaw_at thaw Locks)) seat.old.table_id seat.old.me.0
+        hooks.old (of_thaw result) seat.new.table_id seat.new.me.0 hooks.new }
+{
+    let locks = Thaw {
+        step: ThawStep::Locks,
+        ..thaw
+    };
+    let put = u64::from(thaw.task) + 1;
+    let taken = find_first(
+        gates,
+        seat,
+        accesses,
+        op,
+        locks,
+        WordName::Umount,
+        Touch::Cas { expect: 0, put },
+    );
+    if taken != 0 {
+        return Next::Wait(locks);
+    }
+    thaw_locked(gates, seat, accesses, thaw, hooks)
+}
+
+/// Goes on from the load of the stage, with `umount` taken, likewise.
+#[inline(always)]
+pub(crate) fn thaw_locked<H: TimedHooks>(
+    gates: &GateWords,
+    seat: &mut Seat,
+    accesses: &Accesses,
+    thaw: Thaw,
+    hooks: &mut H,
+) -> Next<Thaw>
+    requires table { seat.old.table_id ≡ gates.now.table.shared.table_id }
+    requires tied { IsTied gates.now.config None (Some (thaw_at thaw LoadsStage)) accesses.now seat.old.me.0.items }
+    ensures slots { seat.new.me.1 ≡ seat.old.me.1 }
+    ensures led { LedAsking H.answers gates.now.config None accesses.now (Go (thaw_at thaw LoadsStage)) seat.old.table_id seat.old.me.0
+        hooks.old (of_thaw result) seat.new.table_id seat.new.me.0 hooks.new }
+{
+    let here = Thaw {
+        step: ThawStep::LoadsStage,
+        ..thaw
+    };
+    let stage = find(gates, seat, accesses, here, WordName::Stage, Touch::Load);
+    let refused = Thaw {
+        step: ThawStep::Releases(Err(GateError::Invalid)),
+        ..thaw
+    };
+    if stage != 4 {
+        return Next::Go(refused);
+    }
+    let here = Thaw {
+        step: ThawStep::LoadsHolders,
+        ..thaw
+    };
+    let word = find(gates, seat, accesses, here, WordName::Holders, Touch::Load);
+    let held = unpack(word);
+    let is_holder = held.has(thaw.holder);
+    if !is_holder {
+        return Next::Go(refused);
+    }
+    let others = held.without(thaw.holder);
+    let is_last = others.is_none();
+    if !is_last {
+        let step = ThawStep::Leaves(held);
+        return Next::Go(Thaw { step, ..thaw });
+    }
+    let here = Thaw {
+        step: ThawStep::LoadsSuperblock,
+        ..thaw
+    };
+    let flags = find(gates, seat, accesses, here, WordName::SbFlags, Touch::Load);
+    if flags != 0 {
+        let step = ThawStep::LeavesReadOnly;
+        return Next::Go(Thaw { step, ..thaw });
+    }
+    thaw_last(gates, seat, accesses, thaw, hooks)
+}
+
+/// Goes on where nobody else holds a freeze: asks for `unfreeze_fs`, and reopens the levels.
+#[inline(always)]
+fn thaw_last<H: TimedHooks>(
+    gates: &GateWords,
+    seat: &mut Seat,
+    accesses: &Accesses,
+    thaw: Thaw,
+    hooks: &mut H,
+) -> Next<Thaw>
+    requires table { seat.old.table_id ≡ gates.now.table.shared.table_id }
+    requires tied { IsTied gates.now.config None (Some (thaw_at thaw LeavesLast)) accesses.now seat.old.me.0.items }
+    ensures slots { seat.new.me.1 ≡ seat.old.me.1 }
+    ensures led { LedAsking H.answers gates.now.config None accesses.now (Go (thaw_at thaw LeavesLast)) seat.old.table_id seat.old.me.0
+        hooks.old (of_thaw result) seat.new.table_id seat.new.me.0 hooks.new }
+{
+    let here = Thaw {
+        step: ThawStep::LeavesLast,
+        ..thaw
+    };
+    let answer = find_asking(gates, seat, accesses, here, hooks, HookCall::UnfreezeFs);
+    if let Err(code) = answer {
+        return Next::Done(Err(GateError::Hook(code)));
+    }
+    reopen_all(gates, seat, accesses, thaw)
 }

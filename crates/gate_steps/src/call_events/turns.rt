@@ -3,9 +3,10 @@
 
 ghost use Rattle.std.specs.Prelude.{◌≡◌, ℕ, Some, None, Ok, List};
 ghost use Rattle.access_model.specs.declared.replies.Next.TheVariants.{Go};
+ghost use Rattle.cpu_words.specs.Hooks.{HookAnswer};
 ghost use Rattle.gate_world.specs.Accesses.{accesses_after};
 ghost use Rattle.gate_world.specs.Work.{next_of, after_of};
-ghost use Rattle.gate_steps.specs.call_events.Led.{Led};
+ghost use Rattle.gate_steps.specs.call_events.Led.{Led, LedAsking};
 ghost use Rattle.gate_world.specs.Views.{phase_after};
 ghost use Rattle.access_model.specs.Replies.{map_next};
 ghost use Rattle.gate_steps.specs.call_events.TaskStates.{task_state};
@@ -16,9 +17,11 @@ ghost use Rattle.gate_steps.specs.call_events.Asking.{Ask, asks_with, call_at, G
 ghost use Rattle.gate_steps.specs.call_events.TaskStates.{TaskState};
 ghost use Rattle.gate_world.specs.declared.operations.Op.{Op as OpType};
 
+use crate::call_events::hooks::TimedHooks;
 use crate::call_events::words::{GateWords, Seat};
 use access_model::{Action, Next};
 use cpu_words::{Event, Touch, WordName};
+use freeze_levels::HookCall;
 use gate_events::UnderWay;
 use gate_world::{Accesses, Op};
 
@@ -97,8 +100,8 @@ pub fn go_on<P: UnderWay>(
     next
 }
 
-/// The next event of an operation that goes on, which is known to touch this word so, asks no hook and adds no action on accesses. What it
-/// found; of a store, what it wrote. Whoever calls it says what comes after it, so that it stands in a line of code.
+/// Does the next step of an operation that goes on, which is known to touch this word so, asks no hook and adds no action on accesses. Returns
+/// what it found; of a store, what it wrote. Whoever calls it says what comes after it, so that it stands in a line of code.
 #[inline(always)]
 pub fn find<P: UnderWay>(
     gates: &GateWords,
@@ -114,9 +117,59 @@ pub fn find<P: UnderWay>(
     requires table { seat.old.table_id ≡ gates.now.table.shared.table_id }
     requires tied { IsTied gates.now.config None (Some (P.as_phase under_way)) accesses.now seat.old.me.0.items }
     ensures slots { seat.new.me.1 ≡ seat.old.me.1 }
-    ensures led { Led gates.now.config accesses.now (Go (P.as_phase under_way)) seat.old.table_id seat.old.me.0
+    ensures led { Led gates.now.config None accesses.now (Go (P.as_phase under_way)) seat.old.table_id seat.old.me.0
         (after_of (P.as_phase under_way) result (Ok tt)).0 seat.new.table_id seat.new.me.0 }
 {
     let _ = accesses;
     gates.touch(seat, None, under_way, Ok(()), word, touch)
+}
+
+/// Does the first step of an operation that has begun, known as that of `find`. Returns what it found.
+#[inline(always)]
+pub fn find_first<P: UnderWay>(
+    gates: &GateWords,
+    seat: &mut Seat,
+    accesses: &Accesses,
+    op: Op,
+    under_way: P,
+    word: WordName,
+    touch: Touch,
+) -> u64
+    requires known { (word, touch) ≡ next_of (P.as_phase under_way) (Ok tt) }
+    requires unasked { call_at (P.as_phase under_way) ≡ None }
+    requires leaves { (found : ℕ) → accesses.now ≡ accesses_after accesses.now (after_of (P.as_phase under_way) found (Ok tt)).1 }
+    requires table { seat.old.table_id ≡ gates.now.table.shared.table_id }
+    requires tied { IsTied gates.now.config (Some op) (Some (P.as_phase under_way)) accesses.now seat.old.me.0.items }
+    ensures slots { seat.new.me.1 ≡ seat.old.me.1 }
+    ensures led { Led gates.now.config (Some op) accesses.now (Go (P.as_phase under_way)) seat.old.table_id seat.old.me.0
+        (after_of (P.as_phase under_way) result (Ok tt)).0 seat.new.table_id seat.new.me.0 }
+{
+    let _ = accesses;
+    gates.touch(seat, Some(op), under_way, Ok(()), word, touch)
+}
+
+/// Asks the hook whose answer the next step of an operation reads, and does the step as the hook has answered: it adds no action on accesses.
+/// Returns the answer.
+#[inline(always)]
+pub fn find_asking<P: UnderWay, H: TimedHooks>(
+    gates: &GateWords,
+    seat: &mut Seat,
+    accesses: &Accesses,
+    under_way: P,
+    hooks: &mut H,
+    call: HookCall,
+) -> Result<(), u16>
+    requires wanted { call_at (P.as_phase under_way) ≡ Some call }
+    requires leaves { (found : ℕ) (hook : HookAnswer) → accesses.now ≡ accesses_after accesses.now (after_of (P.as_phase under_way) found hook).1 }
+    requires table { seat.old.table_id ≡ gates.now.table.shared.table_id }
+    requires tied { IsTied gates.now.config None (Some (P.as_phase under_way)) accesses.now seat.old.me.0.items }
+    ensures slots { seat.new.me.1 ≡ seat.old.me.1 }
+    ensures led { (found : ℕ) × LedAsking H.answers gates.now.config None accesses.now (Go (P.as_phase under_way)) seat.old.table_id
+        seat.old.me.0 hooks.old (after_of (P.as_phase under_way) found result).0 seat.new.table_id seat.new.me.0 hooks.new }
+{
+    let _ = accesses;
+    let answer = hooks.ask(call, seat);
+    let (word, touch) = under_way.next(answer);
+    let _found = gates.touch(seat, None, under_way, answer, word, touch);
+    answer
 }

@@ -11,6 +11,12 @@ returns-in-File c =
     let made = helped c.new.result c.help.result _ (record { rule = c.new.ensures.rule; local = c.new.ensures.optional.1 }) _ c.help.ensures in
     record { rule = made.rule ∙ ap argument_rule (sym c.in-File.is); local = made.local }
 
+pub returns-in-Word : goal.returns-in-Word
+returns-in-Word c =
+    let start = c.new-in-Word in
+    let made = helped start.result c.help-in-Word.result _ (record { rule = start.ensures.rule; local = start.ensures.optional.1 }) _ c.help-in-Word.ensures in
+    record { rule = made.rule ∙ ap argument_rule (sym c.in-Word.is); local = made.local }
+
 pub returns-in-Files : goal.returns-in-Files
 returns-in-Files c =
     let start = c.new-in-Files in
@@ -41,3 +47,11 @@ returns-in-Number c =
     (parser.1 ∙ ap some (parser.2 ∙ c.unsigned.ensures)) in
     let made = required c.value_parser.result c.required.result _ made _ c.required.ensures in
     record { rule = made.rule ∙ ap argument_rule (sym c.in-Number.is); local = made.local }
+
+pub returns-in-Choice : goal.returns-in-Choice
+returns-in-Choice c =
+    let start = c.new-in-Choice in
+    let made = helped start.result c.help-in-Choice.result _ (record { rule = start.ensures.rule; local = start.ensures.optional.1 }) _ c.help-in-Choice.ensures in
+    let made = named c.help-in-Choice.result c.long-in-Choice.result _ made _ c.long-in-Choice.ensures in
+    let made = valued c.long-in-Choice.result c.value_name-in-Choice.result _ made _ c.value_name-in-Choice.ensures in
+    record { rule = made.rule ∙ ap argument_rule (sym c.in-Choice.is); local = made.local }

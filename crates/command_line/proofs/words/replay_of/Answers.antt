@@ -6,33 +6,30 @@ use Rattle.clap.proofs.WalkLemmas.{first_value-rows}
 use Rattle.command_line.specs.CommandLine.{is_off}
 use Rattle.command_line.specs.declared.words.Form.{Form}
 use Rattle.command_line.specs.declared.words.Replay.{Replay}
-use Rattle.command_line.proofs.Parsing.{and_left, and_right, is_none, unmapped, same_replay, same_form}
+use Rattle.command_line.proofs.Parsing.{PlainRows, and_left, and_right, is_none, plain_rows, unmapped, same_replay, same_form}
 use Rattle.command_line.proofs.words.replay_of.Goals as goal
 
-pub returns-in-Some-clause-plain : goal.returns-in-Some-clause-plain
-returns-in-Some-clause-plain g c h =
+pub returns-in_default-clause-plain : goal.returns-in_default-clause-plain
+returns-in_default-clause-plain g c h =
+    let plain = plain_rows (rows_of (found_of c.args.replay.now)) h in
+    absurd (c.in_default.not-Some _ (c.form_of.ensures.plain plain.events plain.columns plain.json plain.html))
+
+pub returns-clause-plain : goal.returns-clause-plain
+returns-clause-plain g c h =
     let found = found_of c.args.replay.now in
-    let rows = rows_of found in
-    let no_file = and_left (not (is_some (first_of (codes "FILE") rows))) _ h in
-    let flags = and_right (not (is_some (first_of (codes "FILE") rows))) _ h in
-    let events = and_left (is_off rows (codes "events")) _ flags in
-    let others = and_right (is_off rows (codes "events")) _ flags in
-    let columns = and_left (is_off rows (codes "columns")) _ others in
-    let last = and_right (is_off rows (codes "columns")) _ others in
-    let json = and_left (is_off rows (codes "json")) _ last in
-    let gates = and_right (is_off rows (codes "json")) _ last in
+    let plain = plain_rows (rows_of found) h in
     record {
       replay = _;
       is = refl;
       plain = record {
-        form = same_form _ _ (sym c.in-Some.is ∙ c.form_of.ensures.plain events columns json);
-        core = c.is_on.ensures.off gates;
+        form = same_form _ _ (sym c.in-Some.is ∙ c.form_of.ensures.plain plain.events plain.columns plain.json plain.html);
+        core = c.is_on.ensures.off plain.gates;
       };
-      of_input = unmapped _ _ (c.get_str.ensures ∙ first_value-rows found (codes "FILE") ∙ is_none _ no_file);
+      of_input = unmapped _ _ (c.get_str.ensures ∙ first_value-rows found (codes "FILE") ∙ plain.file);
     }
 
-pub returns-in-Some-clause-only : goal.returns-in-Some-clause-only
-returns-in-Some-clause-only g c h =
+pub returns-clause-only : goal.returns-clause-only
+returns-clause-only g c h =
     let found = found_of c.args.replay.now in
     let same = same_replay _ _ h.is in
     let some : Form → Option Form = Some in
@@ -44,5 +41,6 @@ returns-in-Some-clause-only g c h =
       events = c.form_of.ensures.events form;
       columns = c.form_of.ensures.columns form;
       json = c.form_of.ensures.json form;
+      html = c.form_of.ensures.html form;
       core = λ on. let bad : false ≡ true = sym core ∙ c.is_on.ensures.on on in absurd (false≢true bad);
     }

@@ -1,11 +1,12 @@
--- Each event goes on from what the one before it left.
-use Rattle.std.proofs.Common.{◌≡◌, ℕ, Bool, List}
-use Rattle.std.specs.Prelude.{Some}
+-- Each step goes on from what the one before it left.
+use Rattle.std.proofs.Common.{◌≡◌, ℕ}
+use Rattle.std.specs.Prelude.{Some, None}
+use Rattle.access_model.specs.Replies.{map_next}
+use Rattle.gate_world.specs.Views.{phase_after}
 use Rattle.gate_world.specs.declared.operations.Op.{Op}
 use Rattle.gate_steps.specs.call_events.TaskStates.{TaskState, task_state}
-use Rattle.gate_steps.specs.call_events.Ties.{Ties}
-use Rattle.gate_steps.specs.call_events.Turns.{kept_at, IsTied}
-use Rattle.gate_steps.specs.call_events.Asking.{GoesAsking}
+use Rattle.gate_steps.specs.call_events.Turns.{IsTied, StayTied}
+use Rattle.gate_steps.specs.call_events.Asking.{GoesAsking, WentAsking}
 use Rattle.gate_steps.specs.call_events.Waited.{counted}
 use Rattle.gate_steps.proofs.call_ends.wait_to_end.Given as goal
 
@@ -15,13 +16,12 @@ invariant-loop g l = record {
   finite : (goal.iterator-loop g).is_finite l.iterator';
   table : l.seat.table_id ≡ l.fn.seat.table_id;
   slots : l.seat.me.1 ≡ l.fn.seat.me.1;
-  tied : IsTied l.fn.gates.config l.begins (Some (g.P.UnderWay.as_phase l.under_way)) l.accesses l.seat.me.0.items;
-  stay : (number : ℕ) (flags : List Bool) →
-      Ties number l.fn.gates.config (Some l.fn.op) (kept_at (Some (g.P.UnderWay.as_phase l.fn.first)) l.fn.accesses) flags l.fn.seat.me.0.items →
-      Ties number l.fn.gates.config l.begins (kept_at (Some (g.P.UnderWay.as_phase l.under_way)) l.accesses) flags l.seat.me.0.items;
-  goes : (of : Op) (start : TaskState) (before : _) →
+  tied : IsTied l.fn.gates.config None (phase_after (map_next g.P.UnderWay.as_phase l.next)) l.accesses l.seat.me.0.items;
+  stay : StayTied l.fn.gates.config (Some l.fn.op) (Some (g.P.UnderWay.as_phase l.fn.first)) l.fn.accesses l.fn.seat.me.0.items
+      (phase_after (map_next g.P.UnderWay.as_phase l.next)) l.accesses l.seat.me.0.items;
+  went : (of : Op) (start : TaskState) (before : _) →
       GoesAsking g.H.TimedHooks.answers 0 of start before
       (task_state l.fn.seat.table_id l.fn.gates.config (Some l.fn.op) (Some (g.P.UnderWay.as_phase l.fn.first)) l.fn.seat.me.0) l.fn.hooks →
-      (waits : ℕ) × (l.waited ≡ counted waits) × GoesAsking g.H.TimedHooks.answers waits of start before
-      (task_state l.seat.table_id l.fn.gates.config l.begins (Some (g.P.UnderWay.as_phase l.under_way)) l.seat.me.0) l.hooks;
+      (waits : ℕ) × (l.waited ≡ counted waits) × WentAsking g.H.TimedHooks.answers waits of start before (map_next g.P.UnderWay.as_phase l.next)
+      (task_state l.seat.table_id l.fn.gates.config None (phase_after (map_next g.P.UnderWay.as_phase l.next)) l.seat.me.0) l.hooks;
 }

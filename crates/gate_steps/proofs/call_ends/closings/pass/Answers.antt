@@ -11,12 +11,12 @@ call_back-requires-clause-tied c = still_tied c.in-None.ensures.led c.requires.t
 pub block-requires-clause-tied : goal.block-requires-clause-tied
 block-requires-clause-tied c =
     still_tied (led_on c.in-None.ensures.led
-    (led_to (ap (λ s. Go (closing_at c.args.freeze c.args.write s)) c.in-SetsBlock.is) c.call_back.ensures.led)) c.requires.tied
+    (led_to (ap (λ s. Go (closing_at c.args.freeze c.args.level s)) c.in-SetsBlock.is) c.call_back.ensures.led)) c.requires.tied
 
 pub returns-in-SetsBlock-clause-led : goal.returns-in-SetsBlock-clause-led
 returns-in-SetsBlock-clause-led c =
     led_on c.in-None.ensures.led
-    (led_on (led_to (ap (λ s. Go (closing_at c.args.freeze c.args.write s)) c.in-SetsBlock.is) c.call_back.ensures.led) c.block.ensures.led)
+    (led_on (led_to (ap (λ s. Go (closing_at c.args.freeze c.args.level s)) c.in-SetsBlock.is) c.call_back.ensures.led) c.block.ensures.led)
 
 pub returns-in_default : goal.returns-in_default
 returns-in_default c = record {

@@ -1,9 +1,21 @@
 -- the closing goes on from the store
-use Rattle.gate_steps.proofs.call_events.Leading.{led_on, still_tied}
+use Rattle.std.proofs.Common.{refl}
+use Rattle.gate_steps.proofs.call_events.Leading.{asking_on, led_on, led_to, led_unasked, still_tied}
+use Rattle.gate_steps.proofs.call_ends.Closing.{closed_so, not_closed}
 use Rattle.gate_steps.proofs.call_ends.freeze_lines.close_second.Goals as goal
 
 pub close_level-requires-clause-tied : goal.close_level-requires-clause-tied
-close_level-requires-clause-tied c = still_tied c.find-stored.ensures.led c.requires.tied
+close_level-requires-clause-tied g c =
+    still_tied c.find-stored.ensures.led c.requires.tied
+
+pub sync-requires-clause-tied : goal.sync-requires-clause-tied
+sync-requires-clause-tied g c =
+    still_tied (led_on c.find-stored.ensures.led (led_to (closed_so c.args.freeze 2 c.close_level.result c.close_level.new.rest c.if-close_level.true) c.close_level.ensures.led)) c.requires.tied
+
+pub returns-then-close_level-clause-led : goal.returns-then-close_level-clause-led
+returns-then-close_level-clause-led g c =
+    asking_on (led_unasked (led_on c.find-stored.ensures.led (led_to (closed_so c.args.freeze 2 c.close_level.result c.close_level.new.rest c.if-close_level.true) c.close_level.ensures.led)) refl) c.sync.ensures.led
 
 pub returns-clause-led : goal.returns-clause-led
-returns-clause-led c = led_on c.find-stored.ensures.led c.close_level.ensures.led
+returns-clause-led g c =
+    led_unasked (led_on c.find-stored.ensures.led (led_to (not_closed c.args.freeze 2 c.close_level.result c.close_level.new.rest c.if-close_level.false) c.close_level.ensures.led)) refl

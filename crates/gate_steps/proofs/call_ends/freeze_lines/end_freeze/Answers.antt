@@ -1,4 +1,4 @@
--- the return goes on from the store
+-- the release goes on from the store
 use Rattle.std.proofs.Common.{ap, ◌∙◌}
 use Rattle.cpu_words.specs.declared.events.Touch.TheVariants.{Store}
 use Rattle.cpu_words.specs.declared.names.WordName.TheVariants.{Holders as HoldersWord}

@@ -1,5 +1,5 @@
 -- each load goes on from what the one before it left
-use Rattle.std.proofs.Common.{refl, sym, ap, ◌∙◌}
+use Rattle.std.proofs.Common.{refl, ◌∙◌}
 use Rattle.access_model.specs.declared.replies.Next.TheVariants.{Go}
 use Rattle.mount_counts.specs.declared.remounts.RemountStep.TheVariants.{Sums}
 use Rattle.gate_steps.specs.call_events.Remounting.{remounting_at}

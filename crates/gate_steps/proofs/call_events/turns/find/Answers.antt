@@ -1,10 +1,5 @@
 -- the event is known, so what it left of the task's fields and what comes after it are
-use Rattle.std.proofs.Common.{◌≡◌, refl, sym, ap, subst, ◌∙◌}
 use Rattle.std.specs.Prelude.{None, Ok}
-use Rattle.cpu_words.specs.Touches.{event_of}
-use Rattle.cpu_words.specs.declared.events.Event.{Event}
-use Rattle.gate_world.specs.Work.{next_of, after_of}
-use Rattle.gate_steps.specs.call_events.Led.{Led}
 use Rattle.gate_steps.proofs.call_events.Turning.{inside_so, acts_so}
 use Rattle.gate_steps.proofs.call_events.Leading.{led_by}
 use Rattle.gate_steps.proofs.call_events.turns.find.Goals as goal
@@ -21,7 +16,7 @@ touch-requires-clause-acts g c =
 
 pub returns-clause-led : goal.returns-clause-led
 returns-clause-led g c =
-    led_by c.args.gates.now.config c.args.gates.now.table.shared.key c.args.gates.now.key c.args.gates.now.within
-    (g.P.UnderWay.as_phase c.args.under_way) c.args.accesses.now c.args.seat.now.me.0 c.touch.new.seat.me.0 c.touch.result
-    (c.args.word, c.args.touch) c.requires.known c.touch.ensures.found c.requires.unasked c.requires.leaves c.requires.tied
-    c.touch.ensures.event c.touch.ensures.moves c.touch.new.seat.table_id c.args.seat.now.table_id c.touch.ensures.table
+    led_by c.args.gates.now.config c.args.gates.now.table.shared.key c.args.gates.now.key c.args.gates.now.within None
+    (g.P.UnderWay.as_phase c.args.under_way) c.args.accesses.now c.args.seat.now.me.0 c.touch.new.seat.me.0 (Ok tt) c.touch.result
+    (c.args.word, c.args.touch) c.requires.known c.touch.ensures.found (c.requires.leaves c.touch.result) c.requires.tied
+    c.touch.ensures.event c.touch.ensures.moves c.touch.new.seat.table_id c.args.seat.now.table_id c.touch.ensures.table c.requires.unasked

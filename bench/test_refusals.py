@@ -1,0 +1,106 @@
+#!/usr/bin/env -S python3 -B
+"""Compares the section 'The calls' of docs/refusals.md with the table in crates/refusals, which `mntgate explain` prints: each row of the table stands
+there, in its order, and nothing else does.
+
+    bench/test_refusals.py [--write]
+
+Prints what differs, and the exit status is 1 then. With --write the section is written anew."""
+
+import difflib
+import os
+import re
+import sys
+import textwrap
+
+ROOT = os.path.dirname(os.path.dirname(os.path.realpath(__file__)))
+CRATE = f"{ROOT}/crates/refusals/src"
+PAGE = f"{ROOT}/docs/refusals.md"
+# The section on the page, from its heading to the next one.
+SECTION = re.compile(r"(?ms)^## The calls\n.*?(?=^## )")
+TEXT = r'"((?:[^"\\]|\\.)*)"'
+ROW = re.compile(r"(?s)Row \{\s+calls: &\[(.*?)\],\s+refusal: GateError::(\w+)(?:\(0\))?,\s+" + r",\s+".join(
+    rf"{field}: {TEXT}" for field in ("when", "means", "state", "next", "never", "system")) + r",\s+\}")
+# The parts of the table, with their headings and what stands under them.
+PARTS = (
+    ("gates", "Mounts, levels and the superblock", "`drop_mount`, `drop_write`, `end` and `callback` are never refused after their first step."),
+    ("trees", "The tree and snapshots", "Of these calls only `close_file` and `snapshot` may wait. A removed file that is open can only be closed."),
+    ("tasks", "Tasks, gates and runs", "What is refused before the first step has a table of its own: [below](#before-the-first-step)."),
+)
+LABELS = ("Means", "State now", "Do next", "Never", "In Linux")
+HEAD = """## The calls
+
+Each refusal has what it means, the state now, what to do next, what never to do, and how a script
+finds on a real system who is in the way. `mntgate explain CALL REFUSAL` prints the text here.
+"""
+
+
+def text_of(path):
+    with open(path, encoding="utf-8") as it:
+        return it.read()
+
+
+def names_of_calls():
+    """The names of each call, by that of its constant."""
+    found = re.findall(r"const (\w+): Call = &\[(.*?)\];", text_of(f"{CRATE}/calls.rt"), re.S)
+    return {name: re.findall(TEXT, names) for name, names in found}
+
+
+def errnos():
+    """The number of each refusal and its name in Linux."""
+    numbers = dict(re.findall(r"GateError::(\w+) => (\d+),", text_of(f"{ROOT}/crates/access_model/src/errors.rt")))
+    names = re.findall(rf"\(\s*GateError::(\w+)(?:\(0\))?,\s*{TEXT},", text_of(f"{CRATE}/causes.rt"))
+    return {name: f"{numbers[name]} `{name}` (`{errno}`)" if errno else f"`{name}(code)`" for name, errno in names}
+
+
+def heading_of(calls, refusal, when, names):
+    """The heading of a row: its refusal and when it comes; its calls, unless they are too many for one."""
+    of = ", ".join(f"`{names[call][0]}`" for call in calls) if len(calls) < 8 else "all calls"
+    return f"#### {of}: {refusal}{f', {when}' if when else ''}"
+
+
+def part_of(name, names, numbers):
+    """The rows of a part of the table, as the page has them."""
+    source = text_of(f"{CRATE}/table/{name}.rt")
+    rows = ROW.findall(source)
+    if len(rows) != source.count("Row {") :
+        sys.exit(f"test_refusals: {name}.rt has rows that can't be read")
+    for calls, refusal, when, *texts in rows:
+        calls = re.findall(r"\w+", calls)
+        yield heading_of(calls, numbers[refusal], when, names)
+        lines = []
+        for label, text in zip(LABELS, texts):
+            if text:
+                told = f"- **{label}:** " + text.replace('\\"', '"')
+                lines += textwrap.wrap(told, 100, subsequent_indent="  ", break_long_words=False, break_on_hyphens=False)
+        yield "\n".join(lines)
+
+
+def section():
+    """The section, as the table has it."""
+    names, numbers = names_of_calls(), errnos()
+    parts = [HEAD.rstrip()]
+    for name, heading, remark in PARTS:
+        parts += [f"### {heading}", textwrap.fill(remark, 100), *part_of(name, names, numbers)]
+    return "\n\n".join(parts) + "\n\n"
+
+
+def main(words):
+    page, wanted = text_of(PAGE), section()
+    found = SECTION.search(page)
+    if found is None:
+        sys.exit("test_refusals: docs/refusals.md has no section 'The calls'")
+    if words == ["--write"]:
+        with open(PAGE, "w", encoding="utf-8") as it:
+            it.write(page[: found.start()] + wanted + page[found.end() :])
+        return 0
+    changed = difflib.unified_diff(wanted.splitlines(), found[0].splitlines(), "crates/refusals", "docs/refusals.md", lineterm="", n=1)
+    lines = list(changed)
+    if lines:
+        print(*lines, sep="\n")
+        return 1
+    print(f"docs/refusals.md has the {wanted.count('#### ')} rows of the table")
+    return 0
+
+
+if __name__ == "__main__":
+    sys.exit(main(sys.argv[1:]))

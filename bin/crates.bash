@@ -1,0 +1,29 @@
+# What bin/mntgate, bin/prove and bin/install-c share. Whoever sources this has set $root, the repository's top.
+
+# Prints the names of the crates that this crate stands on, and its own, by the lines 'NAME HOW..: LIBRARY..' of crates.txt. A library that has no line
+# there is the kit's.
+crates_below() {
+    awk -v top="$1" '
+        function reach(name,   parts, count, at) {
+            if (!(name in uses) || name in reached) return
+            reached[name]
+            count = split(uses[name], parts, " ")
+            for (at = 1; at <= count; at++) reach(parts[at])
+            print name
+        }
+        { sub(/#.*/, "") }
+        /:/ { name = $1; sub(/:.*/, "", name); sub(/[^:]*:/, ""); uses[name] = $0 }
+        END { reach(top) }' "$root/crates.txt"
+}
+
+# Whether this file, a program or a library, is built, and no source of this crate or of those below it is newer. A file that was taken away makes
+# its folder newer.
+is_current() {
+    local crate
+    local sources=("$root/crates.txt")
+    [[ -f $1 ]] || return
+    for crate in $(crates_below "$2"); do
+        sources+=("$root/crates/$crate"/{src,specs,proofs})
+    done
+    [[ -z $(find "${sources[@]}" -newer "$1" -print -quit 2>/dev/null) ]]
+}

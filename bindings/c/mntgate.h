@@ -1,0 +1,568 @@
+/*
+ * mntgate.h - the write gates of a mounted file system, as a C library.
+ *
+ * What is guarded
+ *   While a mount, or the whole superblock, reports itself read-only, nobody holds an access there. Once a freeze is done, nobody is
+ *   inside a freeze level. A snapshot is the tree of one moment. These laws are proved of the library, for every interleaving of its
+ *   threads. They speak of what the gates count: take an access before you write your own data, and give it back after.
+ *
+ * What the library asks of a C program; no compiler checks it
+ *   1. A handle is a `struct mntgate_task`. It is MNTGATE_NONE, or mntgate_open or mntgate_split filled it. Do not copy it to use it
+ *      twice, do not write it, do not follow its pointer.
+ *   2. Each handle is used by one call at a time. It may go to another thread by a mutex, by pthread_create or pthread_join, or by a
+ *      sequentially consistent atomic.
+ *   3. A call gets a handle that has a task. Only the handle of mntgate_open and the second one of mntgate_split have none.
+ *   4. mntgate_join gets two tasks that come from one mntgate_open.
+ *   5. No call is made by a signal handler, nor in the child of a fork of a process with threads.
+ *   6. malloc, realloc and free come from one allocator.
+ *
+ * Results
+ *   A call answers 0, or why it was refused: an errno (EBUSY, EROFS ..), or MNTGATE_HOOK and more where a hook of the file system failed.
+ *   So the failure 16 of a hook is MNTGATE_HOOK + 16, and never EBUSY. A refused call leaves the task holding what it held before, unless
+ *   its own text says otherwise. Every call may answer
+ *     EDEADLK  the task may not make the call now: another operation of it is under way, it holds what the call must not find held, or it
+ *              doesn't hold what the call gives back.
+ *     EINVAL   a number is out of range.
+ *   The state is then as it was, and no other task has seen anything of the call.
+ *
+ * Traps
+ *   A handle that is lost leaves what its task held: give back, join, close. docs/refusals.md says what the others meet.
+ *   A thread sanitizer doesn't see into the archive. Under -fsanitize=thread this header tells it that each call orders what was before it
+ *   and what comes after it. It then misses races that the gates don't prevent.
+ *
+ * Link with -lmntgate -lpthread (pkg-config mntgate). docs/c.md is the guide.
+ */
+#ifndef MNTGATE_H
+#define MNTGATE_H
+
+#include <errno.h>
+#include <sched.h>
+#include <stdbool.h>
+#include <stddef.h>
+#include <stdint.h>
+
+#ifdef __cplusplus
+extern "C" {
+#endif
+
+/* A task of some gates, or none. One thread at a time uses it. Calls don't write the handle, but for those that give it a task or take
+ * it. */
+struct mntgate_task {
+	void *at;
+};
+
+#ifdef __cplusplus
+#define MNTGATE_NONE mntgate_task()
+#else
+#define MNTGATE_NONE ((struct mntgate_task){ NULL })
+#endif
+
+/* 0, an errno, or MNTGATE_HOOK + the code of a hook that failed. */
+typedef uint32_t mntgate_result;
+
+#define MNTGATE_HOOK 65536u
+
+/* Whether a hook failed, and with which code. */
+#define MNTGATE_IS_HOOK(result) ((result) >= MNTGATE_HOOK)
+#define MNTGATE_HOOK_CODE(result) ((uint16_t)((result) - MNTGATE_HOOK))
+
+/* How many of each there are: 1 to 64 tasks, 1 to 64 processors, 1 to 8 mounts, 2 to 64 nodes of the tree with its root, and how many
+ * blocks all files may have together. Tasks, processors, mounts and nodes count from 0; freeze levels are 1, 2 and 3. */
+struct mntgate_config {
+	uint8_t tasks;
+	uint8_t processors;
+	uint8_t mounts;
+	uint8_t nodes;
+	uint32_t capacity;
+};
+
+/* Opening and closing ------------------------------------------------------------------------------------------------------------------ */
+
+/* Opens gates. `task`, which has none, gets the task with number 0, which has all other numbers to give.
+ *   EINVAL  a number of the configuration is out of its limits.   ENOMEM  there is no memory. The handle then has no task. */
+mntgate_result mntgate_open(struct mntgate_task *task, const struct mntgate_config *config);
+
+/* Gives `other`, which has no task, one with the lowest number that `task` has to give.
+ *   EDEADLK  `task` has an operation under way, or holds something.   EMFILE  it has no number left to give.   ENOMEM  there is no memory.
+ *   `other` then has no task. */
+mntgate_result mntgate_split(struct mntgate_task *task, struct mntgate_task *other);
+
+/* Takes the numbers of `other` back, which has no task then. What the two have done lies behind all that `task` does from here on.
+ *   EDEADLK  one of them has an operation under way or holds something; both are as they were. */
+mntgate_result mntgate_join(struct mntgate_task *task, struct mntgate_task *other);
+
+/* A word of the gates, for mntgate_close_reading and mntgate_step. */
+enum mntgate_word_kind {
+	MNTGATE_WORD_UMOUNT = 0,       /* who owns s_umount: 0, or a task's number and 1 */
+	MNTGATE_WORD_STAGE = 1,        /* s_writers.frozen, 0 to 4 */
+	MNTGATE_WORD_HOLDERS = 2,      /* who holds a freeze: the kernel 1, user space 2 */
+	MNTGATE_WORD_SB_FLAGS = 3,     /* SB_RDONLY: 0 or 1 */
+	MNTGATE_WORD_REMOUNT = 4,      /* s_readonly_remount: 0 or 1 */
+	MNTGATE_WORD_REMOVED = 5,      /* how many removed files are open */
+	MNTGATE_WORD_MOUNT_FLAGS = 6,  /* of a mount: read-only 1, held 2 */
+	MNTGATE_WORD_MOUNT_COUNT = 7,  /* of a mount on a processor */
+	MNTGATE_WORD_BLOCK = 8,        /* of a level: 0 or 1 */
+	MNTGATE_WORD_SYNC = 9,         /* of a level: its rcu_sync */
+	MNTGATE_WORD_LEVEL_COUNT = 10, /* of a level on a processor */
+	MNTGATE_WORD_SECTION = 11,     /* of a task: odd inside */
+	MNTGATE_WORD_USED = 12,        /* the blocks charged */
+	MNTGATE_WORD_NODE = 13,        /* of a node */
+	MNTGATE_WORD_KIDS = 14,        /* of a node: its children */
+	MNTGATE_SUM_MOUNT = 15,        /* of a mount: the sum of its counts over all processors */
+	MNTGATE_SUM_LEVEL = 16         /* of a level: likewise */
+};
+
+struct mntgate_word {
+	uint8_t kind;   /* enum mntgate_word_kind; the sums only for mntgate_close_reading */
+	uint8_t first;  /* the mount, level, task or node */
+	uint8_t second; /* the processor */
+};
+
+/* Closes the gates, whose last task `task` is; the handle has none then. Writes to `values` what the `count` words of `words` hold at the
+ * end, and 0 for a word that there isn't. Every sum is 0, the umount word is 0, and no mount is held: that is proved.
+ *   EDEADLK  the task has an operation under way or holds something, or another task was not joined; it is as it was.
+ *   EBUSY, ENOMEM  never, unless point 3 or 4 above was not met: another handle has the gates still. */
+mntgate_result mntgate_close_words(struct mntgate_task *task, const struct mntgate_word *words, size_t words_count, uint64_t *values, size_t values_count);
+
+static inline mntgate_result mntgate_close_reading(struct mntgate_task *task, const struct mntgate_word *words, uint64_t *values, size_t count)
+{
+	return mntgate_close_words(task, words, count, values, count);
+}
+
+/* Closes the gates, as mntgate_close_reading does, and reads no word. */
+static inline mntgate_result mntgate_close(struct mntgate_task *task)
+{
+	const struct mntgate_word none = { 0, 0, 0 };
+	uint64_t nothing = 0;
+
+	return mntgate_close_words(task, &none, 0, &nothing, 0);
+}
+
+/* Calls that wait for nobody ----------------------------------------------------------------------------------------------------------- */
+
+/* Takes an access at a mount, counted on a processor (__mnt_want_write). A task may hold 1024.
+ *   EAGAIN  a change of the mount holds writers off.   EROFS  the mount or the superblock is read-only.   EMFILE  a 1025th access. */
+mntgate_result mntgate_try_want(struct mntgate_task *task, uint8_t mount, uint8_t processor);
+
+/* Gives an access at a mount back, on any processor (__mnt_drop_write). */
+mntgate_result mntgate_drop_mount(struct mntgate_task *task, uint8_t mount, uint8_t processor);
+
+/* Goes inside a freeze level, counted on a processor (sb_start_write_trylock). EDEADLK inside this level or one above it.
+ *   EAGAIN  a freeze closes the level. */
+mntgate_result mntgate_try_start(struct mntgate_task *task, uint8_t level, uint8_t processor);
+
+/* Leaves a freeze level, on any processor (sb_end_write, sb_end_pagefault, sb_end_intwrite). */
+mntgate_result mntgate_end(struct mntgate_task *task, uint8_t level, uint8_t processor);
+
+/* Gives an access at a mount back and leaves level 1, as after mntgate_want_write (mnt_drop_write). */
+mntgate_result mntgate_drop_write(struct mntgate_task *task, uint8_t mount, uint8_t processor);
+
+/* Makes a mount read-only, or writable again (mnt_make_readonly). EDEADLK inside a level.
+ *   EAGAIN  another task owns s_umount.   EBUSY  writers are counted at the mount. */
+mntgate_result mntgate_try_change_mount(struct mntgate_task *task, uint8_t mount, bool read_only);
+
+/* The tree. A create, a remove, a grow and a move want level 1 and an access at some mount, a fault level 2 and an access, a flush level 3;
+ * else they answer EDEADLK. An open and a close want neither. EAGAIN means that another task changed the node meanwhile, and nothing is
+ * changed: try again. */
+
+/* Makes an empty file or directory in a directory, and writes its node (vfs_create, vfs_mkdir).
+ *   ENOENT  the directory's node is free.   ENOTDIR  it is a file.   ENOSPC  no node is free.   EAGAIN. */
+mntgate_result mntgate_create(struct mntgate_task *task, uint8_t dir, bool is_dir, uint8_t *node);
+
+/* Removes a file (vfs_unlink). Who has it open keeps its node and blocks until the last close.
+ *   ENOENT  the node is free, or was removed.   EISDIR  it is a directory.   EAGAIN. */
+mntgate_result mntgate_remove(struct mntgate_task *task, uint8_t file);
+
+/* Makes a file larger by so many blocks, at least one, and dirty (vfs_write past its end).
+ *   ENOENT, EISDIR, EAGAIN  as mntgate_remove.   ENOSPC  there is no room. */
+mntgate_result mntgate_grow(struct mntgate_task *task, uint8_t file, uint32_t blocks);
+
+/* Gives a file another directory (vfs_rename).   ENOENT, EISDIR, ENOTDIR, EAGAIN. */
+mntgate_result mntgate_move_to(struct mntgate_task *task, uint8_t file, uint8_t dir);
+
+/* Makes a file dirty (page_mkwrite), or clean, as a write-back does.   ENOENT, EISDIR, EAGAIN. */
+mntgate_result mntgate_fault(struct mntgate_task *task, uint8_t file);
+mntgate_result mntgate_flush(struct mntgate_task *task, uint8_t file);
+
+/* Opens a file (do_dentry_open), which is there until its last close.   ENOENT, EISDIR, EAGAIN.   EMFILE  the task has it open. */
+mntgate_result mntgate_open_file(struct mntgate_task *task, uint8_t file);
+
+/* Closes a file that the task has open (__fput); where it was removed, the last close frees it, inside level 3.
+ *   EAGAIN  a freeze closes level 3 then; the file is open as before. */
+mntgate_result mntgate_try_close_file(struct mntgate_task *task, uint8_t file, uint8_t processor);
+
+/* Takes a snapshot of the tree. EDEADLK inside a level.
+ *   EAGAIN  another task owns s_umount.   EINVAL  the file system is not frozen. The last snapshot stays. */
+mntgate_result mntgate_try_snapshot(struct mntgate_task *task);
+
+/* A node of a snapshot. */
+struct mntgate_node {
+	bool there;     /* whether there is one; else all but `kids` is 0 */
+	bool is_dir;
+	bool dirty;
+	bool removed;   /* while a task has it open */
+	uint8_t parent;
+	uint32_t size;  /* in blocks */
+	uint64_t kids;  /* the children of a directory */
+};
+
+/* Writes a node of the last snapshot that the task has taken, or the blocks that were charged in it.
+ *   ENOENT  the task has taken none; nothing is written. */
+mntgate_result mntgate_tree_node(struct mntgate_task *task, uint8_t number, struct mntgate_node *node);
+mntgate_result mntgate_tree_used(struct mntgate_task *task, uint64_t *used);
+
+/* Writes the nodes 0 to `count` - 1 of the last snapshot that the task has taken.   ENOENT  as mntgate_tree_node. */
+static inline mntgate_result mntgate_tree(struct mntgate_task *task, struct mntgate_node *nodes, uint8_t count)
+{
+	mntgate_result result = 0;
+	uint8_t number;
+
+	for (number = 0; number < count && result == 0; number++)
+		result = mntgate_tree_node(task, number, &nodes[number]);
+	return result;
+}
+
+/* What a task knows of itself ---------------------------------------------------------------------------------------------------------- */
+
+uint8_t mntgate_number(struct mntgate_task *task);                      /* its own number, 0 to 63 */
+bool mntgate_is_idle(struct mntgate_task *task);                        /* no operation is under way */
+bool mntgate_rests(struct mntgate_task *task);                          /* nor is anything held */
+uint16_t mntgate_holds_mount(struct mntgate_task *task, uint8_t mount); /* its accesses at a mount */
+bool mntgate_holds_level(struct mntgate_task *task, uint8_t level);     /* whether it is inside a level */
+bool mntgate_has_open(struct mntgate_task *task, uint8_t file);         /* whether it has a file open */
+uint64_t mntgate_waited(struct mntgate_task *task);                     /* how often its last operation came to a wait */
+
+/* Operations step by step -------------------------------------------------------------------------------------------------------------- */
+
+enum mntgate_op_kind {
+	MNTGATE_OP_WANT = 0,
+	MNTGATE_OP_DROP_MOUNT = 1,
+	MNTGATE_OP_CHANGE_MOUNT = 2,
+	MNTGATE_OP_REMOUNT_SB = 3,
+	MNTGATE_OP_START = 4,
+	MNTGATE_OP_END = 5,
+	MNTGATE_OP_WANT_WRITE = 6,
+	MNTGATE_OP_DROP_WRITE = 7,
+	MNTGATE_OP_CALLBACK = 8,
+	MNTGATE_OP_FREEZE = 9,
+	MNTGATE_OP_THAW = 10,
+	MNTGATE_OP_CREATE = 11,
+	MNTGATE_OP_REMOVE = 12,
+	MNTGATE_OP_GROW = 13,
+	MNTGATE_OP_MOVE_TO = 14,
+	MNTGATE_OP_FAULT = 15,
+	MNTGATE_OP_FLUSH = 16,
+	MNTGATE_OP_OPEN_FILE = 17,
+	MNTGATE_OP_CLOSE_FILE = 18,
+	MNTGATE_OP_SNAPSHOT = 19
+};
+
+/* An operation with what it is given. Fields that its kind doesn't read may have any value. */
+struct mntgate_op {
+	uint8_t kind;   /* enum mntgate_op_kind */
+	uint8_t number; /* the mount, the level, the file, or the directory of a create */
+	uint8_t other;  /* the processor, or the directory of a move */
+	bool choice;    /* to read-only; held for the kernel; a directory */
+	bool wait;      /* it waits where its try form answers EAGAIN */
+	uint32_t blocks;
+};
+
+/* Begins an operation; no other task sees that. It is refused as the call of that name is at once: EDEADLK, EINVAL (also for a kind that
+ * there isn't), EMFILE. From then on mntgate_step and mntgate_run do its steps. */
+mntgate_result mntgate_begin(struct mntgate_task *task, const struct mntgate_op *op);
+
+enum mntgate_progress {
+	MNTGATE_IDLE = 0,    /* no operation was under way */
+	MNTGATE_GOING = 1,   /* it goes on */
+	MNTGATE_WAITING = 2, /* it found what it waits for: pause, and go on */
+	MNTGATE_DONE = 3     /* it has ended, and the task is idle */
+};
+
+/* What an operation replies that was not refused. */
+enum mntgate_reply {
+	MNTGATE_REPLY_UNIT = 0,
+	MNTGATE_REPLY_NODE = 1, /* a node was made: `value` is its number */
+	MNTGATE_REPLY_RAN = 2,  /* whether a callback ran: `value` is 1 or 0 */
+	MNTGATE_REPLY_TREE = 3  /* a snapshot was taken */
+};
+
+struct mntgate_outcome {
+	uint32_t progress; /* enum mntgate_progress */
+	uint32_t answer;   /* a mntgate_result, once it is done */
+	uint32_t reply;    /* enum mntgate_reply, once it is done and `answer` is 0 */
+	uint32_t value;
+};
+
+/* What a step did to its word. */
+struct mntgate_event {
+	bool there;     /* false where no operation was under way */
+	uint8_t touch;  /* 0 load, 1 store, 2 add, 3 sub, 4 or, 5 and, 6 swap, 7 compare and exchange */
+	struct mntgate_word word;
+	uint64_t operand; /* what is stored, added, subtracted, or'd, and'd or put */
+	uint64_t expect;  /* what a compare and exchange looks for */
+	uint64_t found;
+	uint64_t left;
+};
+
+/* What a step added to the history of the gates; docs/theorem.md says what an action is. */
+struct mntgate_action {
+	uint8_t kind;   /* 0 none; 1, 2 grant a mount, a level; 3, 4 return one; 5, 6 mount read-only, writable; 7, 8 superblock likewise; 9 stage;
+	                 * 10, 11 hold for the kernel, for user space; 12, 13 leave likewise; 14 pass, 15 reopen a level; 16, 17 create a file, a
+	                 * directory; 18 remove; 19 grow; 20 move; 21 dirty; 22 clean; 23 open; 24 close */
+	uint8_t number; /* the mount, level, stage or node */
+	uint8_t dir;
+	uint32_t blocks;
+};
+
+struct mntgate_step_done {
+	struct mntgate_outcome outcome;
+	struct mntgate_event event;
+	struct mntgate_action action;
+};
+
+/* Does one step, which is one atomic operation on one word, and writes what it was. `hook` is what a hook answered: 0, or the code of its
+ * failure. It is read where mntgate_wants_hook said so. */
+void mntgate_step(struct mntgate_task *task, uint16_t hook, struct mntgate_step_done *done);
+
+/* Does a step, and up to `most` - 1 more, as long as the operation goes on and asks no hook. Writes how it stands then. */
+void mntgate_run(struct mntgate_task *task, uint16_t hook, uint32_t most, struct mntgate_outcome *outcome);
+
+/* The hook whose answer the next step reads: 0 none, 1 sync, 2 freeze_fs, 3 unfreeze_fs, 4 reconfigure. */
+uint32_t mntgate_wants_hook(struct mntgate_task *task);
+
+/* Calls that wait ---------------------------------------------------------------------------------------------------------------------- */
+
+/* These are loops of C over the calls above. They try again and again, with pauses that grow, and then leave the processor each time
+ * (sched_yield). There is no wake-up and no time limit: who needs one writes such a loop over mntgate_begin and mntgate_run. */
+
+/* The hooks of a file system. Each answers 0, or a code from 1 to 65535 by which it failed. NULL stands for a hook that answers 0. They
+ * are called between two steps, while their task owns s_umount: a hook must not wait for another task, nor use the handle. */
+struct mntgate_hooks {
+	void *data;
+	uint16_t (*sync)(void *data);
+	uint16_t (*freeze_fs)(void *data);
+	uint16_t (*unfreeze_fs)(void *data);
+	uint16_t (*reconfigure)(void *data, bool read_only);
+};
+
+/* Who holds a freeze. */
+#define MNTGATE_USER false
+#define MNTGATE_KERNEL true
+
+#if defined(__SANITIZE_THREAD__)
+#define MNTGATE_THREAD_SANITIZER 1
+#elif defined(__has_feature)
+#if __has_feature(thread_sanitizer)
+#define MNTGATE_THREAD_SANITIZER 1
+#endif
+#endif
+#ifdef MNTGATE_THREAD_SANITIZER
+extern void __tsan_acquire(void *at);
+extern void __tsan_release(void *at);
+static char mntgate_order;
+#define MNTGATE_ORDERED(call) __extension__({ __tsan_release(&mntgate_order); __typeof__(call) mntgate_told = call; __tsan_acquire(&mntgate_order); mntgate_told; })
+#define mntgate_try_want(...) MNTGATE_ORDERED(mntgate_try_want(__VA_ARGS__))
+#define mntgate_drop_mount(...) MNTGATE_ORDERED(mntgate_drop_mount(__VA_ARGS__))
+#define mntgate_try_start(...) MNTGATE_ORDERED(mntgate_try_start(__VA_ARGS__))
+#define mntgate_end(...) MNTGATE_ORDERED(mntgate_end(__VA_ARGS__))
+#define mntgate_drop_write(...) MNTGATE_ORDERED(mntgate_drop_write(__VA_ARGS__))
+#define mntgate_try_change_mount(...) MNTGATE_ORDERED(mntgate_try_change_mount(__VA_ARGS__))
+#define mntgate_wants_hook(...) MNTGATE_ORDERED(mntgate_wants_hook(__VA_ARGS__))
+#endif
+
+#if defined(__GNUC__)
+#define MNTGATE_UNLIKELY(test) __builtin_expect(!!(test), 0)
+#define MNTGATE_COLD static __attribute__((cold, noinline, unused))
+#else
+#define MNTGATE_UNLIKELY(test) (test)
+#define MNTGATE_COLD static inline
+#endif
+
+/* Waits a little, and the longer the more often: begin with *round = 0. */
+static inline void mntgate_pause(unsigned *round)
+{
+	if (*round <= 6) {
+		unsigned i;
+
+		for (i = 0; i < 1u << *round; i++) {
+#if defined(__x86_64__) || defined(__i386__)
+			__builtin_ia32_pause();
+#elif defined(__aarch64__)
+			__asm__ volatile("isb");
+#endif
+		}
+		++*round;
+	} else {
+		sched_yield();
+	}
+}
+
+/* Asks the hook that the next step wants. */
+static inline uint16_t mntgate_ask(struct mntgate_task *task, const struct mntgate_hooks *hooks, bool read_only)
+{
+	uint32_t wanted = mntgate_wants_hook(task);
+
+	if (hooks == NULL || wanted == 0)
+		return 0;
+	if (wanted == 1)
+		return hooks->sync ? hooks->sync(hooks->data) : (uint16_t)0;
+	if (wanted == 2)
+		return hooks->freeze_fs ? hooks->freeze_fs(hooks->data) : (uint16_t)0;
+	if (wanted == 3)
+		return hooks->unfreeze_fs ? hooks->unfreeze_fs(hooks->data) : (uint16_t)0;
+	return hooks->reconfigure ? hooks->reconfigure(hooks->data, read_only) : (uint16_t)0;
+}
+
+/* Does the operation that has begun to its end, however long it has to wait. */
+static inline mntgate_result mntgate_finish(struct mntgate_task *task, const struct mntgate_hooks *hooks, bool read_only, struct mntgate_outcome *outcome)
+{
+	unsigned round = 0;
+
+	for (;;) {
+		uint16_t hook = mntgate_ask(task, hooks, read_only);
+
+		mntgate_run(task, hook, 1024, outcome);
+		if (outcome->progress == MNTGATE_WAITING)
+			mntgate_pause(&round);
+		else if (outcome->progress != MNTGATE_GOING)
+			return outcome->answer;
+	}
+}
+
+/* Begins an operation and does it to its end. */
+static inline mntgate_result mntgate_perform(struct mntgate_task *task, const struct mntgate_op *op, const struct mntgate_hooks *hooks)
+{
+	struct mntgate_outcome outcome = { 0, 0, 0, 0 };
+	mntgate_result result = mntgate_begin(task, op);
+
+	return result ? result : mntgate_finish(task, hooks, op->choice, &outcome);
+}
+
+/* The operation of a call that has found somebody in its way, in a function of its own, so that the usual way stays short. */
+MNTGATE_COLD mntgate_result mntgate_perform_at(struct mntgate_task *task, uint8_t kind, uint8_t number, uint8_t processor)
+{
+	struct mntgate_op op = { 0, 0, 0, false, true, 0 };
+
+	op.kind = kind;
+	op.number = number;
+	op.other = processor;
+	return mntgate_perform(task, &op, NULL);
+}
+
+/* Takes an access at a mount (__mnt_want_write); waits while a change of the mount holds writers off.   EROFS, EMFILE  as mntgate_try_want. */
+static inline mntgate_result mntgate_want(struct mntgate_task *task, uint8_t mount, uint8_t processor)
+{
+	mntgate_result result = mntgate_try_want(task, mount, processor);
+
+	return MNTGATE_UNLIKELY(result == EAGAIN) ? mntgate_perform_at(task, MNTGATE_OP_WANT, mount, processor) : result;
+}
+
+/* Goes inside a freeze level (sb_start_write, sb_start_pagefault, sb_start_intwrite); waits while a freeze closes it. */
+static inline mntgate_result mntgate_start(struct mntgate_task *task, uint8_t level, uint8_t processor)
+{
+	mntgate_result result = mntgate_try_start(task, level, processor);
+
+	return MNTGATE_UNLIKELY(result == EAGAIN) ? mntgate_perform_at(task, MNTGATE_OP_START, level, processor) : result;
+}
+
+/* Goes inside level 1 and takes an access at a mount (mnt_want_write); waits for both. EDEADLK inside a level.
+ *   EROFS  the mount or the superblock is read-only; the task has left the level.   EMFILE. */
+static inline mntgate_result mntgate_want_write(struct mntgate_task *task, uint8_t mount, uint8_t processor)
+{
+	const struct mntgate_op op = { MNTGATE_OP_WANT_WRITE, mount, processor, false, true, 0 };
+
+	return mntgate_perform(task, &op, NULL);
+}
+
+/* Makes a mount read-only, or writable again; waits for s_umount.   EBUSY  as mntgate_try_change_mount. */
+static inline mntgate_result mntgate_change_mount(struct mntgate_task *task, uint8_t mount, bool read_only)
+{
+	const struct mntgate_op op = { MNTGATE_OP_CHANGE_MOUNT, mount, 0, read_only, true, 0 };
+
+	return mntgate_perform(task, &op, NULL);
+}
+
+/* Remounts the superblock read-only or writable (reconfigure_super); waits for s_umount. The hook reconfigure is asked once, where the
+ * superblock isn't as it is asked for. EDEADLK inside a level.
+ *   EBUSY  a freeze stands or is under way; to read-only also: a mount has writers, or a removed file is open.
+ *   MNTGATE_HOOK + code  the hook failed; the superblock is as it was. */
+static inline mntgate_result mntgate_remount_sb(struct mntgate_task *task, bool read_only, const struct mntgate_hooks *hooks)
+{
+	const struct mntgate_op op = { MNTGATE_OP_REMOUNT_SB, 0, 0, read_only, true, 0 };
+
+	return mntgate_perform(task, &op, hooks);
+}
+
+/* Freezes the file system for a holder, MNTGATE_USER or MNTGATE_KERNEL (freeze_super): closes level 1, 2 and 3 and waits at each for who is
+ * inside. The hook sync is asked with levels 1 and 2 closed, freeze_fs with all closed. Where the other holder has frozen all, it is held
+ * for this one too. EDEADLK inside a level.
+ *   EBUSY  a freeze is under way, or this holder holds one.   MNTGATE_HOOK + code  a hook failed; the levels are open again. */
+static inline mntgate_result mntgate_freeze(struct mntgate_task *task, bool by_kernel, const struct mntgate_hooks *hooks)
+{
+	const struct mntgate_op op = { MNTGATE_OP_FREEZE, 0, 0, by_kernel, true, 0 };
+
+	return mntgate_perform(task, &op, hooks);
+}
+
+/* Gives a holder's freeze back, whichever task froze (thaw_super); the last one asks unfreeze_fs and opens the levels. EDEADLK inside a level.
+ *   EINVAL  nothing is frozen, or not for this holder.   MNTGATE_HOOK + code  the hook failed; all stays frozen. */
+static inline mntgate_result mntgate_thaw(struct mntgate_task *task, bool by_kernel, const struct mntgate_hooks *hooks)
+{
+	const struct mntgate_op op = { MNTGATE_OP_THAW, 0, 0, by_kernel, true, 0 };
+
+	return mntgate_perform(task, &op, hooks);
+}
+
+/* Runs the callback that a level's rcu_sync has queued (rcu_sync_func); writes whether there was one. After a thaw readers take the slow
+ * path until it has run. */
+static inline mntgate_result mntgate_callback(struct mntgate_task *task, uint8_t level, bool *ran)
+{
+	const struct mntgate_op op = { MNTGATE_OP_CALLBACK, level, 0, false, true, 0 };
+	struct mntgate_outcome outcome = { 0, 0, 0, 0 };
+	mntgate_result result = mntgate_begin(task, &op);
+
+	if (result == 0)
+		result = mntgate_finish(task, NULL, false, &outcome);
+	if (result == 0)
+		*ran = outcome.value != 0;
+	return result;
+}
+
+/* Runs the callbacks of all levels, until none is queued. */
+static inline mntgate_result mntgate_settle(struct mntgate_task *task)
+{
+	uint8_t level;
+
+	for (level = 1; level <= 3; level++) {
+		bool ran = true;
+
+		while (ran) {
+			mntgate_result result = mntgate_callback(task, level, &ran);
+
+			if (result)
+				return result;
+		}
+	}
+	return 0;
+}
+
+/* Closes a file that the task has open; waits while a freeze closes level 3.   EAGAIN  the file changed meanwhile; it is open as before. */
+static inline mntgate_result mntgate_close_file(struct mntgate_task *task, uint8_t file, uint8_t processor)
+{
+	const struct mntgate_op op = { MNTGATE_OP_CLOSE_FILE, file, processor, false, true, 0 };
+
+	return mntgate_perform(task, &op, NULL);
+}
+
+/* Takes a snapshot of the frozen tree; waits for s_umount.   EINVAL  as mntgate_try_snapshot. */
+static inline mntgate_result mntgate_snapshot(struct mntgate_task *task)
+{
+	const struct mntgate_op op = { MNTGATE_OP_SNAPSHOT, 0, 0, false, true, 0 };
+
+	return mntgate_perform(task, &op, NULL);
+}
+
+#ifdef __cplusplus
+}
+#endif
+#endif

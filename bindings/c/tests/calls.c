@@ -1,0 +1,174 @@
+/* Each call once and its refusals, in one thread. Prints "all calls" where all answer as the header says. */
+#undef NDEBUG
+#include <assert.h>
+#include <stdio.h>
+
+#include "mntgate.h"
+
+static uint16_t answers[4];
+static int asked[4];
+static bool to_read_only;
+
+static uint16_t on_sync(void *data)
+{
+	(void)data;
+	asked[0]++;
+	return answers[0];
+}
+
+static uint16_t on_freeze(void *data)
+{
+	(void)data;
+	asked[1]++;
+	return answers[1];
+}
+
+static uint16_t on_unfreeze(void *data)
+{
+	(void)data;
+	asked[2]++;
+	return answers[2];
+}
+
+static uint16_t on_reconfigure(void *data, bool read_only)
+{
+	(void)data;
+	asked[3]++;
+	to_read_only = read_only;
+	return answers[3];
+}
+
+static const struct mntgate_hooks hooks = { NULL, on_sync, on_freeze, on_unfreeze, on_reconfigure };
+
+static void test_accesses(struct mntgate_task *task, struct mntgate_task *other)
+{
+	assert(mntgate_want(task, 0, 0) == 0 && mntgate_try_want(task, 0, 1) == 0);
+	assert(mntgate_holds_mount(task, 0) == 2 && mntgate_holds_mount(task, 9) == 0);
+	assert(mntgate_try_change_mount(other, 0, true) == EBUSY && mntgate_change_mount(other, 0, true) == EBUSY);
+	assert(mntgate_join(task, other) == EDEADLK && other->at != NULL);
+	assert(mntgate_drop_mount(task, 0, 1) == 0 && mntgate_drop_mount(task, 0, 1) == 0);
+	assert(mntgate_drop_mount(task, 0, 0) == EDEADLK && mntgate_try_want(task, 1, 0) == EINVAL && mntgate_want(task, 0, 2) == EINVAL);
+	assert(mntgate_change_mount(other, 0, true) == 0);
+	assert(mntgate_want(task, 0, 0) == EROFS && mntgate_want_write(task, 0, 0) == EROFS);
+	assert(mntgate_rests(task) && mntgate_waited(task) == 0);
+	assert(mntgate_try_change_mount(other, 0, false) == 0);
+}
+
+static void test_levels(struct mntgate_task *task, struct mntgate_task *other)
+{
+	assert(mntgate_start(task, 1, 0) == 0 && mntgate_try_start(task, 2, 0) == 0);
+	assert(mntgate_holds_level(task, 2) && !mntgate_holds_level(task, 3) && !mntgate_holds_level(task, 4));
+	assert(mntgate_start(task, 1, 0) == EDEADLK && mntgate_freeze(task, MNTGATE_USER, &hooks) == EDEADLK);
+	assert(mntgate_end(task, 2, 1) == 0 && mntgate_end(task, 1, 1) == 0);
+	assert(mntgate_freeze(other, MNTGATE_USER, &hooks) == 0 && asked[0] == 1 && asked[1] == 1);
+	assert(mntgate_try_start(task, 1, 0) == EAGAIN);
+	assert(mntgate_freeze(task, MNTGATE_USER, &hooks) == EBUSY && mntgate_remount_sb(task, true, &hooks) == EBUSY);
+	assert(mntgate_freeze(task, MNTGATE_KERNEL, &hooks) == 0 && mntgate_thaw(other, MNTGATE_USER, &hooks) == 0 && asked[2] == 0);
+	assert(mntgate_thaw(other, MNTGATE_USER, &hooks) == EINVAL);
+	assert(mntgate_thaw(other, MNTGATE_KERNEL, &hooks) == 0 && asked[2] == 1 && mntgate_settle(task) == 0);
+}
+
+/* A hook's 16 isn't EBUSY. */
+static void test_hooks(struct mntgate_task *task)
+{
+	mntgate_result result;
+
+	answers[0] = EBUSY;
+	result = mntgate_freeze(task, MNTGATE_USER, &hooks);
+	assert(result != EBUSY && MNTGATE_IS_HOOK(result) && MNTGATE_HOOK_CODE(result) == EBUSY);
+	answers[0] = 0;
+	answers[3] = 65535;
+	result = mntgate_remount_sb(task, true, &hooks);
+	assert(result == MNTGATE_HOOK + 65535u && to_read_only);
+	answers[3] = 0;
+	assert(mntgate_remount_sb(task, true, &hooks) == 0 && mntgate_want(task, 0, 0) == EROFS);
+	assert(mntgate_remount_sb(task, false, &hooks) == 0 && !to_read_only && mntgate_remount_sb(task, false, NULL) == 0);
+	assert(mntgate_settle(task) == 0);
+}
+
+static void test_tree(struct mntgate_task *task, struct mntgate_task *other)
+{
+	struct mntgate_node nodes[4];
+	uint64_t used = 7;
+	uint8_t file = 0, dir = 0;
+
+	assert(mntgate_tree_used(task, &used) == ENOENT && used == 7 && mntgate_tree(task, nodes, 4) == ENOENT);
+	assert(mntgate_create(task, 0, false, &file) == EDEADLK && file == 0);
+	assert(mntgate_want_write(task, 0, 0) == 0);
+	assert(mntgate_create(task, 0, true, &dir) == 0 && dir == 1 && mntgate_create(task, dir, false, &file) == 0 && file == 2);
+	assert(mntgate_create(task, file, false, &dir) == ENOTDIR && dir == 1 && mntgate_remove(task, dir) == EISDIR && mntgate_remove(task, 3) == ENOENT);
+	assert(mntgate_grow(task, file, 5) == 0 && mntgate_grow(task, file, 0) == EINVAL && mntgate_grow(task, file, 6) == ENOSPC);
+	assert(mntgate_move_to(task, file, 0) == 0 && mntgate_move_to(task, file, dir) == 0);
+	assert(mntgate_try_start(task, 2, 0) == 0 && mntgate_fault(task, file) == 0 && mntgate_end(task, 2, 0) == 0);
+	assert(mntgate_try_start(task, 3, 0) == 0 && mntgate_flush(task, file) == 0 && mntgate_end(task, 3, 0) == 0);
+	assert(mntgate_open_file(task, file) == 0 && mntgate_open_file(task, file) == EMFILE && mntgate_has_open(task, file));
+	assert(mntgate_remove(task, file) == 0 && mntgate_drop_write(task, 0, 1) == 0);
+	assert(mntgate_try_snapshot(other) == EINVAL && mntgate_snapshot(other) == EINVAL);
+	assert(mntgate_freeze(other, MNTGATE_KERNEL, NULL) == 0 && mntgate_snapshot(other) == 0 && mntgate_try_snapshot(other) == 0);
+	assert(mntgate_tree_used(other, &used) == 0 && used == 5 && mntgate_tree(other, nodes, 4) == 0);
+	assert(nodes[0].there && nodes[0].is_dir && nodes[0].kids == 1 && nodes[1].is_dir && nodes[1].parent == 0);
+	assert(nodes[2].there && nodes[2].removed && nodes[2].size == 5 && nodes[2].parent == 1 && !nodes[3].there);
+	assert(mntgate_try_close_file(task, file, 0) == EAGAIN && mntgate_has_open(task, file));
+	assert(mntgate_thaw(other, MNTGATE_KERNEL, NULL) == 0 && mntgate_settle(other) == 0);
+	assert(mntgate_close_file(task, file, 0) == 0 && mntgate_close_file(task, file, 0) == EDEADLK);
+}
+
+static void test_steps(struct mntgate_task *task, struct mntgate_task *other)
+{
+	const struct mntgate_op want = { MNTGATE_OP_WANT, 0, 1, false, true, 0 }, unknown = { 20, 0, 0, false, false, 0 };
+	const struct mntgate_op drop = { MNTGATE_OP_DROP_MOUNT, 0, 1, false, false, 0 }, freeze = { MNTGATE_OP_FREEZE, 0, 0, MNTGATE_USER, true, 0 };
+	struct mntgate_step_done done;
+	struct mntgate_outcome outcome;
+	int steps = 1;
+
+	mntgate_step(task, 0, &done);
+	assert(!done.event.there && done.outcome.progress == MNTGATE_IDLE);
+	assert(mntgate_begin(task, &unknown) == EINVAL && mntgate_begin(task, &want) == 0 && mntgate_begin(task, &drop) == EDEADLK);
+	assert(!mntgate_is_idle(task) && mntgate_wants_hook(task) == 0);
+	mntgate_step(task, 0, &done);
+	assert(done.event.there && done.event.touch == 2 && done.event.word.kind == MNTGATE_WORD_MOUNT_COUNT && done.event.word.first == 0);
+	assert(done.event.word.second == 1 && done.event.operand == 1 && done.event.left == done.event.found + 1 && done.action.kind == 0);
+	while (done.outcome.progress == MNTGATE_GOING) {
+		mntgate_step(task, 0, &done);
+		steps++;
+	}
+	assert(steps == 5 && done.outcome.progress == MNTGATE_DONE && done.outcome.answer == 0 && done.action.kind == 1 && done.action.number == 0);
+	assert(mntgate_begin(task, &drop) == 0);
+	mntgate_run(task, 0, 0, &outcome);
+	assert(outcome.progress == MNTGATE_DONE && outcome.answer == 0 && outcome.reply == MNTGATE_REPLY_UNIT);
+	/* a freeze stops at what it waits for, and at each hook */
+	assert(mntgate_start(task, 1, 0) == 0 && mntgate_begin(other, &freeze) == 0);
+	mntgate_run(other, 0, 1000, &outcome);
+	assert(outcome.progress == MNTGATE_WAITING && mntgate_end(task, 1, 0) == 0);
+	while (mntgate_wants_hook(other) == 0)
+		mntgate_run(other, 0, 1000, &outcome);
+	assert(outcome.progress == MNTGATE_GOING && mntgate_wants_hook(other) == 1 && mntgate_waited(other) > 0);
+	mntgate_run(other, 9, 1000, &outcome);
+	assert(outcome.progress == MNTGATE_DONE && outcome.answer == MNTGATE_HOOK + 9 && mntgate_settle(other) == 0);
+}
+
+int main(void)
+{
+	const struct mntgate_config config = { 2, 2, 1, 4, 10 }, none = { 0, 2, 1, 4, 10 };
+	const struct mntgate_word words[] = { { MNTGATE_SUM_MOUNT, 0, 0 }, { MNTGATE_SUM_LEVEL, 3, 0 }, { MNTGATE_WORD_UMOUNT, 0, 0 },
+					      { MNTGATE_WORD_KIDS, 0, 0 }, { MNTGATE_WORD_MOUNT_FLAGS, 5, 0 }, { 99, 0, 0 } };
+	uint64_t values[6] = { 9, 9, 9, 9, 9, 9 };
+	struct mntgate_task task = MNTGATE_NONE, other = MNTGATE_NONE, third = MNTGATE_NONE;
+
+	assert(mntgate_open(&task, &none) == EINVAL && task.at == NULL);
+	assert(mntgate_open(&task, &config) == 0 && mntgate_number(&task) == 0);
+	assert(mntgate_split(&task, &other) == 0 && mntgate_number(&other) == 1 && mntgate_split(&task, &third) == EMFILE && third.at == NULL);
+	test_accesses(&task, &other);
+	test_levels(&task, &other);
+	test_hooks(&task);
+	test_tree(&task, &other);
+	test_steps(&task, &other);
+	assert(mntgate_close(&task) == EDEADLK && task.at != NULL);
+	assert(mntgate_join(&task, &other) == 0 && other.at == NULL);
+	assert(mntgate_close_words(&task, words, 6, values, 5) == EINVAL && task.at != NULL);
+	assert(mntgate_close_reading(&task, words, values, 6) == 0 && task.at == NULL);
+	assert(values[0] == 0 && values[1] == 0 && values[2] == 0 && values[3] == 1 && values[4] == 0 && values[5] == 0);
+	assert(mntgate_open(&task, &config) == 0 && mntgate_close(&task) == 0);
+	puts("all calls");
+	return 0;
+}

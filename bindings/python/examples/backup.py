@@ -1,0 +1,91 @@
+#!/usr/bin/env python3
+"""A backup that decides by each refusal what to do.
+
+    backup.py
+
+It meets, one after the other, a file system that another backup has frozen, one whose sync fails, one that is read-only, and one at peace, and says
+what it does. Task `other` stands for the rest of the system."""
+
+import errno
+import os
+import sys
+
+sys.path.insert(0, os.path.join(os.path.dirname(os.path.abspath(__file__)), ".."))
+
+import mntgate
+
+
+class Disk(mntgate.Hooks):
+    """A file system whose sync fails so many times, with the code 16: the number of EBUSY, and no refusal of the gates."""
+
+    def __init__(self, failures: int = 0) -> None:
+        self.failures = failures
+
+    def sync(self) -> int:
+        self.failures -= 1
+        return 16 if self.failures >= 0 else 0
+
+
+def back_up(task: mntgate.Task, disk: Disk) -> str:
+    """Takes one backup, or says why not, and what comes next."""
+    try:
+        with task.frozen(hooks=disk):
+            tree = task.snapshot()
+        task.settle()
+    except mntgate.HookFailed as failed:
+        return f"the disk failed with {failed.code}: the levels are open again, so check the disk, and come back"
+    except mntgate.Error as refused:
+        if refused.errno == errno.EBUSY:
+            return "somebody has frozen it: wait for the thaw, and never thaw for him"
+        raise
+    files = sum(node is not None and not node.is_dir for node in tree.nodes)
+    return f"{files} files of {tree.used} blocks"
+
+
+def write(task: mntgate.Task, blocks: int) -> str:
+    """Writes to file 1, or says why not."""
+    try:
+        with task.write(mount=0) as writer:
+            writer.grow(1, blocks)
+    except mntgate.Error as refused:
+        if refused.errno == errno.EROFS:
+            return "read-only: tell the user, and don't try again by yourself"
+        if refused.errno == errno.ENOSPC:
+            return "no space: nothing was written"
+        raise
+    return f"{blocks} blocks more"
+
+
+def main() -> None:
+    with mntgate.open(tasks=2, processors=2, nodes=4, capacity=100) as task:
+        other = task.split()
+        with other.write(mount=0) as writer:
+            assert writer.create(0) == 1
+        print("a write:", write(other, 10))
+        with other.frozen(mntgate.Holder.USER):
+            print("a backup beside another one:", back_up(task, Disk()))
+        print("a backup of a disk that fails:", back_up(task, Disk(failures=1)))
+        print("a backup at peace:", back_up(task, Disk()))
+        with task.read_only(0):
+            print("a write to a mount that is read-only:", write(other, 10))
+        print("a write that is too large:", write(other, 1000))
+        with other.access(0):
+            try:
+                task.change_mount(0, True)
+            except mntgate.Error as refused:
+                assert refused.errno == errno.EBUSY
+                print("read-only with a writer inside: busy, so let him finish")
+        other.try_want(0)
+        try:
+            task.join(other)
+        except mntgate.Error as refused:
+            assert refused.errno == errno.EDEADLK
+            print("a join of a task that holds an access: out of order, so it gives back first")
+        other.drop_mount(0)
+        task.join(other)
+        assert task.close([(15, 0, 0), (16, 1, 0), (3, 0, 0)]) == (0, 0, 0)
+    print("closed: every count is 0")
+
+
+if __name__ == "__main__":
+    main()

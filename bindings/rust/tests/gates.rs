@@ -1,0 +1,172 @@
+//! The gates as a Rust program uses them.
+use mntgate::{Backoff, Config, Error, Gates, HookKind, Holder, Hooks, Op, Progress, Reply, Task};
+use std::sync::atomic::{AtomicU64, Ordering::Relaxed};
+use std::thread;
+
+const CONFIG: Config = Config { tasks: 4, processors: 2, mounts: 1, nodes: 3, capacity: 100 };
+
+/// Hooks that are counted; the first freeze_fs fails.
+#[derive(Default)]
+struct Counts {
+    sync: u32,
+    freeze: u32,
+    unfreeze: u32,
+    read_only: Option<bool>,
+}
+
+impl Hooks for Counts {
+    fn sync(&mut self) -> Result<(), u16> {
+        self.sync += 1;
+        Ok(())
+    }
+
+    fn freeze_fs(&mut self) -> Result<(), u16> {
+        self.freeze += 1;
+        if self.freeze == 1 {
+            Err(16)
+        } else {
+            Ok(())
+        }
+    }
+
+    fn unfreeze_fs(&mut self) -> Result<(), u16> {
+        self.unfreeze += 1;
+        Ok(())
+    }
+
+    fn reconfigure(&mut self, read_only: bool) -> Result<(), u16> {
+        self.read_only = Some(read_only);
+        Ok(())
+    }
+}
+
+fn pair() -> (Task, Task) {
+    let mut task = Gates::open(CONFIG).unwrap();
+    let other = task.split().unwrap();
+    (task, other)
+}
+
+fn close(mut task: Task, other: Task) {
+    task.join(other).unwrap();
+    task.close().unwrap();
+}
+
+#[test]
+fn a_guard_gives_back_what_it_holds() {
+    let (mut task, mut other) = pair();
+    let access = task.want(0, 0).unwrap();
+    assert_eq!(other.change_mount(0, true), Err(Error::Busy));
+    drop(access);
+    let read_only = other.read_only(0).unwrap();
+    assert_eq!(task.want(0, 0).err(), Some(Error::ReadOnly));
+    assert_eq!(task.write(0, 0).err(), Some(Error::ReadOnly));
+    drop(read_only);
+    let level = task.level(3, 1).unwrap();
+    assert_eq!(level.gates().config(), CONFIG);
+    drop(level);
+    assert!(task.rests() && other.rests());
+    close(task, other);
+}
+
+#[test]
+fn a_hook_that_fails_is_no_busy() {
+    let mut task = Gates::open(CONFIG).unwrap();
+    let mut hooks = Counts::default();
+    assert_eq!(task.frozen(Holder::User, &mut hooks).err(), Some(Error::Hook(16)));
+    let frozen = task.frozen(Holder::Kernel, &mut hooks).unwrap();
+    frozen.thaw().unwrap();
+    drop(task.frozen(Holder::User, &mut hooks).unwrap());
+    assert_eq!((hooks.sync, hooks.freeze, hooks.unfreeze), (3, 3, 2));
+    task.remount_sb(true, &mut hooks).unwrap();
+    assert_eq!(hooks.read_only, Some(true));
+    task.remount_sb(false, &mut hooks).unwrap();
+    assert_eq!(hooks.read_only, Some(false));
+    task.settle().unwrap();
+    assert!(!task.callback(1).unwrap());
+    task.close().unwrap();
+}
+
+#[test]
+fn a_snapshot_has_the_tree() {
+    let (mut task, mut other) = pair();
+    assert_eq!(task.tree(), None);
+    let mut write = other.write(0, 0).unwrap();
+    assert_eq!(write.create(0, false), Ok(1));
+    write.grow(1, 7).unwrap();
+    let mut level = write.level(2, 0).unwrap();
+    level.fault(1).unwrap();
+    drop(level);
+    assert_eq!(write.create(1, false), Err(Error::NotDir));
+    drop(write);
+    let tree = task.frozen(Holder::User, &mut ()).unwrap().snapshot().unwrap();
+    assert_eq!((tree.used, tree.nodes.len()), (7, 3));
+    let file = tree.nodes[1].unwrap();
+    assert_eq!((file.is_dir, file.parent, file.size, file.dirty), (false, 0, 7, false));
+    assert_eq!(tree.nodes[2], None);
+    assert_eq!(task.tree(), Some(tree));
+    close(task, other);
+}
+
+#[test]
+fn a_task_is_joined_to_its_own_gates_alone() {
+    let (mut task, other) = pair();
+    let stranger = Gates::open(CONFIG).unwrap();
+    assert!(!stranger.gates().is(task.gates()));
+    let refused = task.join(stranger).unwrap_err();
+    assert_eq!(refused.error, Error::Invalid);
+    refused.task.close().unwrap();
+    let refused = task.close().unwrap_err();
+    assert_eq!((refused.error, refused.to_string().as_str()), (Error::Order, "out of order"));
+    let mut task = refused.task;
+    task.join(other).unwrap();
+    assert_eq!(task.close_reading(&[(15, 0, 0), (14, 0, 0), (99, 0, 0)]).unwrap(), [0, 0, 0]);
+}
+
+#[test]
+fn an_operation_can_be_stepped() {
+    let (mut task, mut other) = pair();
+    task.begin(Op::Start { level: 1, processor: 0, wait: true }).unwrap();
+    assert_eq!(task.begin(Op::Callback { level: 1 }), Err(Error::Order));
+    assert_eq!(task.run(Ok(()), 100), Progress::Done(Ok(Reply::Unit)));
+    other.begin(Op::Freeze { holder: Holder::User }).unwrap();
+    assert_eq!(other.run(Ok(()), 1000), Progress::Waiting);
+    task.end(1, 1).unwrap();
+    while other.wants_hook().is_none() {
+        other.run(Ok(()), 1000);
+    }
+    assert_eq!((other.wants_hook(), other.waited() > 0), (Some(HookKind::Sync), true));
+    assert_eq!(other.run(Err(0), 1000), Progress::Done(Err(Error::Hook(1))));
+    assert_eq!(other.step(Ok(())), (None, Progress::Idle));
+    close(task, other);
+}
+
+#[test]
+fn no_writer_is_inside_a_read_only_mount() {
+    let (mut task, mut other) = pair();
+    let record = [AtomicU64::new(0), AtomicU64::new(0)];
+    let torn = thread::scope(|scope| {
+        scope.spawn(|| {
+            let mut backoff = Backoff::default();
+            for round in 1..=5_000 {
+                let access = loop {
+                    match other.want(0, 1) {
+                        Ok(access) => break access,
+                        Err(_) => backoff.snooze(),
+                    }
+                };
+                record[0].store(round, Relaxed);
+                record[1].store(round, Relaxed);
+                drop(access);
+            }
+        });
+        let mut torn = 0;
+        for _ in 0..500 {
+            if let Ok(_read_only) = task.read_only(0) {
+                torn += u32::from(record[0].load(Relaxed) != record[1].load(Relaxed));
+            }
+        }
+        torn
+    });
+    assert_eq!(torn, 0);
+    close(task, other);
+}

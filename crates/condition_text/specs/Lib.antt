@@ -1,0 +1,4 @@
+pub mod Faults
+pub mod Pieces
+pub mod Parsing
+pub mod Claims

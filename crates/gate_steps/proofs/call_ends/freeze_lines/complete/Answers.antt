@@ -1,0 +1,26 @@
+-- the end goes on from what `freeze_fs` has answered
+use Rattle.std.proofs.Common.{ap, refl, sym}
+use Rattle.access_model.specs.declared.replies.Next.TheVariants.{Go}
+use Rattle.freeze_levels.specs.declared.freezes.FreezeStep.TheVariants.{Holds}
+use Rattle.gate_world.specs.declared.work.Phase.TheVariants.{Freezes}
+use Rattle.gate_steps.specs.call_events.Closings.{standing}
+use Rattle.gate_steps.proofs.call_events.Leading.{asking_on, asking_tied, asking_to, led_unasked}
+use Rattle.gate_steps.proofs.call_ends.Closing.{completes_leave}
+use Rattle.gate_steps.proofs.call_ends.freeze_lines.complete.Goals as goal
+
+pub find_asking-answer-requires-clause-leaves : goal.find_asking-answer-requires-clause-leaves
+find_asking-answer-requires-clause-leaves g c =
+    λ found hook. completes_leave c.args.freeze c.args.accesses.now found hook
+
+pub returns-in-Err-clause-led : goal.returns-in-Err-clause-led
+returns-in-Err-clause-led g c =
+    asking_to (ap (λ f. Go (Freezes f)) (sym c.failed.ensures)) c.in-Err.ensures.led.1
+
+pub end_freeze-requires-clause-tied : goal.end_freeze-requires-clause-tied
+end_freeze-requires-clause-tied g c =
+    asking_tied (asking_to (ap (λ h. Go (standing c.args.freeze (Holds h))) (sym c.none.ensures)) c.in_default.ensures.led.1) c.requires.tied
+
+pub returns-clause-led : goal.returns-clause-led
+returns-clause-led g c =
+    asking_on (asking_to (ap (λ h. Go (standing c.args.freeze (Holds h))) (sym c.none.ensures)) c.in_default.ensures.led.1)
+    (led_unasked c.end_freeze.ensures.led refl)

@@ -1,0 +1,18 @@
+-- the store goes on from the taking of `umount`
+use Rattle.std.proofs.Common.{arith, refl}
+use Rattle.gate_steps.proofs.call_events.Leading.{asking_on, led_to, led_unasked, still_tied}
+use Rattle.gate_steps.proofs.call_ends.Closing.{locked_again, not_locked_again}
+use Rattle.gate_steps.proofs.call_ends.freeze_lines.lock_again.Goals as goal
+
+pub returns-then-taken-ne0-clause-led : goal.returns-then-taken-ne0-clause-led
+returns-then-taken-ne0-clause-led g c =
+    led_unasked (led_to (not_locked_again c.args.freeze c.find-taken.result (λ is. omega arith)) c.find-taken.ensures.led) refl
+
+pub close_second-requires-clause-tied : goal.close_second-requires-clause-tied
+close_second-requires-clause-tied g c =
+    still_tied (led_to (locked_again c.args.freeze c.find-taken.result (omega arith)) c.find-taken.ensures.led) c.requires.tied
+
+pub returns-clause-led : goal.returns-clause-led
+returns-clause-led g c =
+    asking_on (led_unasked (led_to (locked_again c.args.freeze c.find-taken.result (omega arith)) c.find-taken.ensures.led) refl)
+    c.close_second.ensures.led

@@ -1,0 +1,20 @@
+-- the marks are cleared from the first node on
+use Rattle.std.proofs.Common.{ap, refl}
+use Rattle.access_model.specs.declared.replies.Next.TheVariants.{Go}
+use Rattle.freeze_levels.specs.declared.freezes.FreezeStep.TheVariants.{Cleans}
+use Rattle.gate_steps.specs.call_events.Closings.{standing}
+use Rattle.gate_steps.proofs.call_events.Leading.{asking_on, led_from, led_unasked, still_tied, tied_from}
+use Rattle.gate_steps.proofs.call_ends.freeze_lines.sync.Goals as goal
+
+pub clean-requires-clause-tied : goal.clean-requires-clause-tied
+clean-requires-clause-tied g c =
+    tied_from (ap (λ m. Go (standing c.args.freeze (Cleans m))) c.start-clearing.ensures) c.requires.tied
+
+pub close_third-requires-clause-tied : goal.close_third-requires-clause-tied
+close_third-requires-clause-tied g c =
+    still_tied (led_from (ap (λ m. Go (standing c.args.freeze (Cleans m))) c.start-clearing.ensures) c.clean.ensures.led) c.requires.tied
+
+pub returns-clause-led : goal.returns-clause-led
+returns-clause-led g c =
+    asking_on (led_unasked (led_from (ap (λ m. Go (standing c.args.freeze (Cleans m))) c.start-clearing.ensures) c.clean.ensures.led) refl)
+    c.close_third.ensures.led

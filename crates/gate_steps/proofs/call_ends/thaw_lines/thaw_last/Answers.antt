@@ -1,0 +1,17 @@
+-- the reopening goes on from what `unfreeze_fs` has answered
+use Rattle.std.proofs.Common.{refl}
+use Rattle.gate_steps.proofs.call_events.Leading.{asking_on, asking_tied, led_unasked}
+use Rattle.gate_steps.proofs.call_ends.Reopening.{leaves_last}
+use Rattle.gate_steps.proofs.call_ends.thaw_lines.thaw_last.Goals as goal
+
+pub find_asking-answer-requires-clause-leaves : goal.find_asking-answer-requires-clause-leaves
+find_asking-answer-requires-clause-leaves g c =
+    λ found hook. leaves_last c.args.thaw c.args.accesses.now found hook
+
+pub reopen_all-requires-clause-tied : goal.reopen_all-requires-clause-tied
+reopen_all-requires-clause-tied g c =
+    asking_tied c.in_default.ensures.led.1 c.requires.tied
+
+pub returns-clause-led : goal.returns-clause-led
+returns-clause-led g c =
+    asking_on c.in_default.ensures.led.1 (led_unasked c.reopen_all.ensures.led refl)

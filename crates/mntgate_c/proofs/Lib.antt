@@ -1,0 +1,4 @@
+pub mod HandleSteps
+pub mod Results
+pub mod Told
+pub mod Unboxing

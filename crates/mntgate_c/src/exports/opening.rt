@@ -1,0 +1,156 @@
+//! Gates opened and closed, and tasks made and joined.
+
+ghost use Rattle.std.specs.Prelude.{◌≡◌, ◌++◌, true, false, Err, OnOk, OnErr, length};
+ghost use Rattle.access_model.specs.declared.errors.GateError.TheVariants.{Busy, Invalid, NoMemory, Order};
+ghost use Rattle.gate_world.specs.Configs.{IsWithin};
+ghost use Rattle.vfs_gates.specs.Ended.{HasAll, HasOpeningWords};
+ghost use Rattle.vfs_gates.specs.Held.{Rests};
+ghost use Rattle.vfs_gates.specs.Parts.{SplitOf};
+ghost use Rattle.mntgate_c.specs.Closings.{ClosedWith};
+ghost use Rattle.mntgate_c.specs.Codes.{answer_of};
+ghost use Rattle.mntgate_c.specs.Opening.{config_of};
+
+use crate::closings::write_values;
+use crate::codes::code;
+use crate::events::WordRecord;
+use crate::handles::TaskHandle;
+use crate::members::Member;
+use std::alloc::Global;
+use vfs_gates::{Config, GateError};
+
+/// How many of each there are: tasks and processors 1 to 64, mounts 1 to 8, nodes 2 to 64, and the blocks that all files may have.
+#[repr(C)]
+#[derive(Clone, Copy)]
+pub struct ConfigRecord {
+    pub tasks: u8,
+    pub processors: u8,
+    pub mounts: u8,
+    pub nodes: u8,
+    pub capacity: u32,
+}
+
+/// The configuration that C names.
+fn config(named: ConfigRecord) -> Config
+    ensures { result ≡ config_of named }
+{
+    let ConfigRecord {
+        tasks,
+        processors,
+        mounts,
+        nodes,
+        capacity,
+    } = named;
+    Config {
+        tasks,
+        processors,
+        mounts,
+        nodes,
+        capacity,
+    }
+}
+
+/// Opens gates, and gives the handle, which has none, the task that has all other numbers to give. Where it is refused the handle has
+/// none still.
+#[unsafe(no_mangle)]
+pub extern "C" fn mntgate_open(alloc: Global, task: &mut TaskHandle, named: &ConfigRecord) -> u32
+    requires { task.old.full ≡ false }
+    ensures full { OnOk (answer_of result) (task.new.full ≡ true) }
+    ensures rests { OnOk (answer_of result) (Rests task.new.state) }
+    ensures config { OnOk (answer_of result) (task.new.state.config ≡ config_of named.now) }
+    ensures words { OnOk (answer_of result) (HasOpeningWords task.new.state.config task.new.state.items) }
+    ensures refused { OnErr (answer_of result) (task.new.full ≡ false) }
+    ensures invalid { ¬ IsWithin (config_of named.now) → answer_of result ≡ Err Invalid }
+    ensures memory { IsWithin (config_of named.now) → OnErr (answer_of result) (answer_of result ≡ Err NoMemory) }
+{
+    match Member::open(alloc, config(*named)) {
+        Ok(member) => {
+            task.put(member);
+            0
+        }
+        Err(refusal) => code(Err(refusal)),
+    }
+}
+
+/// Splits off a task with the lowest number that this one has to give, for a handle that has none. EDEADLK, with both as they were, unless
+/// the task rests.
+#[unsafe(no_mangle)]
+pub extern "C" fn mntgate_split(alloc: Global, task: &mut TaskHandle, other: &mut TaskHandle) -> u32
+    requires this { task.old.full ≡ true }
+    requires that { other.old.full ≡ false }
+    ensures this { task.new.full ≡ true }
+    ensures that { OnOk (answer_of result) (other.new.full ≡ true) }
+    // So the new task has the table and the configuration of the old one, as `mntgate_join` asks.
+    ensures made { OnOk (answer_of result) (SplitOf task.old.state task.new.state other.new.state) }
+    ensures rests { OnOk (answer_of result) (Rests task.new.state × Rests other.new.state) }
+    ensures refused { OnErr (answer_of result) (other.new.full ≡ false) }
+    ensures order { answer_of result ≡ Err Order → task.new.state ≡ task.old.state }
+{
+    match task.member().split(alloc) {
+        Ok(made) => {
+            other.put(made);
+            0
+        }
+        Err(refusal) => code(Err(refusal)),
+    }
+}
+
+/// Takes back the numbers of another task of the same gates, whose handle has none then. EDEADLK, with both as they were, unless both
+/// rest.
+#[unsafe(no_mangle)]
+pub extern "C" fn mntgate_join(alloc: Global, task: &mut TaskHandle, other: &mut TaskHandle) -> u32
+    requires this { task.old.full ≡ true }
+    requires that { other.old.full ≡ true }
+    requires same { (other.old.state.table ≡ task.old.state.table) × (other.old.state.config ≡ task.old.state.config) }
+    ensures full { task.new.full ≡ true }
+    ensures joined { OnOk (answer_of result) ((other.new.full ≡ false) × Rests task.old.state × Rests other.old.state
+        × (task.new.state ≡ record task.old.state { items = task.old.state.items ++ other.old.state.items; seen = task.old.state.seen ++ other.old.state.seen })) }
+    ensures refused { OnErr (answer_of result) ((answer_of result ≡ Err Order) × (other.new.full ≡ true) × (task.new.state ≡ task.old.state)
+        × (other.new.state ≡ other.old.state) × ¬ (Rests task.old.state × Rests other.old.state)) }
+{
+    if !task.member().task.rests() || !other.member().task.rests() {
+        return code(Err(GateError::Order));
+    }
+    let joined = other.take(alloc);
+    task.member().absorb(Box::into_inner(joined));
+    0
+}
+
+/// Closes the gates, whose last task this is, leaves the handle without one, and writes to `values` what the words hold at the end that
+/// are asked for, and 0 for one that there isn't. EDEADLK, with the task as it was, unless it rests and has all other numbers, and EINVAL
+/// where there isn't one value for each word. What the header asks of C leaves no other refusal: EBUSY, with the task as it was, tells of
+/// another handle that has the gates still, and ENOMEM that there was no memory to keep that task.
+#[unsafe(no_mangle)]
+pub extern "C" fn mntgate_close_words(
+    alloc: Global,
+    task: &mut TaskHandle,
+    asked: &[WordRecord],
+    values: &mut [u64],
+) -> u32
+    requires { task.old.full ≡ true }
+    ensures closed { OnOk (answer_of result) ((task.new.full ≡ false) × HasAll task.old.state) }
+    ensures words { OnOk (answer_of result) (ClosedWith task.old.state asked.now values.new) }
+    ensures length { length values.new ≡ length values.old }
+    ensures many { ¬ (length asked.now ≡ length values.old) → (answer_of result ≡ Err Invalid) × (task.new.full ≡ true) × (task.new.state ≡ task.old.state) }
+    ensures refused { answer_of result ≡ Err Order → (task.new.full ≡ true) × (task.new.state ≡ task.old.state) × ¬ HasAll task.old.state }
+    ensures busy { answer_of result ≡ Err Busy → (task.new.full ≡ true) × (task.new.state ≡ task.old.state) }
+{
+    if asked.len() != values.len() {
+        return code(Err(GateError::Invalid));
+    }
+    if !task.member().task.has_all() {
+        return code(Err(GateError::Order));
+    }
+    match Box::into_inner(task.take(alloc)).close() {
+        Ok(closed) => {
+            write_values(&closed, asked, values);
+            0
+        }
+        Err(back) => match Box::new(alloc, back) {
+            Ok(member) => {
+                task.put(member);
+                code(Err(GateError::Busy))
+            }
+            Err(_) => code(Err(GateError::NoMemory)),
+        },
+    }
+}

@@ -1,0 +1,15 @@
+//! The gates for C: a static library over `vfs_gates`. A handle is a pointer that C keeps, to a task with the gates that it came from.
+//! `bindings/c/mntgate.h` is what C includes. Each export says by the library's own clause what it did.
+#![tactic(auto)]
+
+mod closings;
+pub mod codes;
+pub mod events;
+pub mod exports;
+pub mod handles;
+mod lending;
+pub mod members;
+pub mod operations;
+mod runs;
+pub mod trees;
+mod unboxed;

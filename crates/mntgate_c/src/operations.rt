@@ -1,0 +1,112 @@
+//! Operations as records of numbers.
+
+ghost use Rattle.std.specs.Prelude.{◌≡◌};
+ghost use Rattle.mntgate_c.specs.Operations.{kind_of, op_at};
+
+use crate::codes::holder;
+use vfs_gates::{Kind, Op};
+
+/// An operation that C names: its kind with what it is given. A field that the kind doesn't read may have any value.
+#[repr(C)]
+#[derive(Clone, Copy)]
+pub struct OpRecord {
+    /// 0 want, 1 drop_mount, 2 change_mount, 3 remount_sb, 4 start, 5 end, 6 want_write, 7 drop_write, 8 callback, 9 freeze, 10 thaw,
+    /// 11 create, 12 remove, 13 grow, 14 move_to, 15 fault, 16 flush, 17 open_file, 18 close_file, 19 snapshot.
+    pub kind: u8,
+    /// The mount, the level, the file, or the directory of a create.
+    pub number: u8,
+    /// The processor, or the directory of a move.
+    pub other: u8,
+    /// To read-only, not to writable; held for the kernel, not for user space; a directory, not a file.
+    pub choice: bool,
+    /// Whether it waits for others, where it is one that may answer `Again` instead.
+    pub wait: bool,
+    /// By how many blocks a file grows.
+    pub blocks: u32,
+}
+
+/// A file's kind, by whether it is a directory.
+pub(crate) fn kind(is_dir: bool) -> Kind
+    ensures { result ≡ kind_of is_dir }
+{
+    if is_dir { Kind::Dir } else { Kind::File }
+}
+
+/// The operation that C names; None where there is none of that kind.
+pub(crate) fn operation(named: OpRecord) -> Option<Op>
+    ensures { result ≡ op_at named }
+{
+    let OpRecord {
+        kind: which,
+        number,
+        other,
+        choice,
+        wait,
+        blocks,
+    } = named;
+    let op = match which {
+        0 => Op::Want {
+            mount: number,
+            cpu: other,
+            wait,
+        },
+        1 => Op::DropMount {
+            mount: number,
+            cpu: other,
+        },
+        2 => Op::ChangeMount {
+            mount: number,
+            read_only: choice,
+            wait,
+        },
+        3 => Op::RemountSb { read_only: choice },
+        4 => Op::Start {
+            level: number,
+            cpu: other,
+            wait,
+        },
+        5 => Op::End {
+            level: number,
+            cpu: other,
+        },
+        6 => Op::WantWrite {
+            mount: number,
+            cpu: other,
+        },
+        7 => Op::DropWrite {
+            mount: number,
+            cpu: other,
+        },
+        8 => Op::Callback { level: number },
+        9 => Op::Freeze {
+            holder: holder(choice),
+        },
+        10 => Op::Thaw {
+            holder: holder(choice),
+        },
+        11 => Op::Create {
+            dir: number,
+            kind: kind(choice),
+        },
+        12 => Op::Remove { file: number },
+        13 => Op::Grow {
+            file: number,
+            blocks,
+        },
+        14 => Op::MoveTo {
+            file: number,
+            dir: other,
+        },
+        15 => Op::Fault { file: number },
+        16 => Op::Flush { file: number },
+        17 => Op::Open { file: number },
+        18 => Op::Close {
+            file: number,
+            cpu: other,
+            wait,
+        },
+        19 => Op::Snapshot { wait },
+        _ => return None,
+    };
+    Some(op)
+}

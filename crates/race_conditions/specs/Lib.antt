@@ -1,0 +1,5 @@
+pub mod Conditions
+pub mod Seen
+pub mod Named
+pub mod Models
+pub mod Laws

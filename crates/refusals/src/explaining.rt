@@ -1,0 +1,357 @@
+//! Explanations, from the command line.
+
+ghost use Rattle.std.specs.Prelude.{◌≡◌, ◌⊎◌};
+ghost use Rattle.endings.specs.declared.ends.Ending.TheVariants.{Misused, Refused, Told};
+
+use crate::calls::CALLS;
+use crate::causes::CAUSES;
+use crate::rows::{Call, Row};
+use crate::table::{gates, tasks, trees};
+use access_model::GateError;
+use diagnostics::Text;
+use endings::{Ending, refused, text_told, why_told};
+use std::alloc::{AllocError, Global};
+use std::io::Write;
+use strsim::osa_distance;
+
+/// At which column the lines of an explanation end, and at which its texts begin.
+const WIDTH: usize = 78;
+
+const MARGIN: usize = 13;
+
+/// How many letters a name may differ in from the one that was meant.
+const FAR: usize = 2;
+
+/// What is asked for.
+#[derive(Clone, Copy)]
+struct Asked<'a> {
+    /// A name of a call; all calls, if there is none.
+    call: Option<&'a str>,
+    /// A number or a name of a refusal; all refusals, if there is none.
+    refusal: Option<&'a str>,
+}
+
+/// Writes what is to be known of a refusal of a call: of all of them, if no refusal is named; an index of the refusals, if no call is. A refusal may be
+/// named in the place of a call, and is then explained for all calls. A name that nobody has is told as a fault of the command line.
+pub fn run_explanation<W: Write, E: Write>(
+    alloc: Global,
+    call: Option<&str>,
+    refusal: Option<&str>,
+    writer: &mut W,
+    errors: &mut E,
+) -> Ending
+    ensures { (result ≡ Told) ⊎ (result ≡ Refused) ⊎ (result ≡ Misused) }
+{
+    let asked = match (call, refusal) {
+        (Some(word), None) if !are_named(CALLS.as_slice(), word) && is_any_refusal(word) => Asked {
+            call: None,
+            refusal: call,
+        },
+        _ => Asked { call, refusal },
+    };
+    let mut text = Text::new(alloc);
+    let is_found = match asked {
+        Asked {
+            call: None,
+            refusal: None,
+        } => {
+            put_index(&mut text);
+            true
+        }
+        _ => put_rows(&mut text, asked),
+    };
+    if !is_found {
+        return unknown(alloc, asked, errors);
+    }
+    match text.ended() {
+        Ok(text) => text_told(text.as_str(), writer, errors),
+        Err(AllocError) => refused(GateError::NoMemory, errors),
+    }
+}
+
+/// Puts each row that is asked for; whether there are some.
+fn put_rows(text: &mut Text, asked: Asked<'_>) -> bool {
+    let is_found = put_part(text, gates::ROWS.as_slice(), asked, false);
+    let is_found = put_part(text, trees::ROWS.as_slice(), asked, is_found);
+    put_part(text, tasks::ROWS.as_slice(), asked, is_found)
+}
+
+/// Puts each of these rows that is asked for, behind others, if some were found; whether there are some now.
+fn put_part(text: &mut Text, rows: &[Row], asked: Asked<'_>, others: bool) -> bool {
+    let mut is_found = others;
+    for row in rows {
+        if is_asked(row, asked) {
+            if is_found {
+                text.put("\n");
+            }
+            put_row(text, row);
+            is_found = true;
+        }
+    }
+    is_found
+}
+
+/// Whether a row is asked for.
+fn is_asked(row: &Row, asked: Asked<'_>) -> bool {
+    let is_of_call = match asked.call {
+        Some(word) => are_named(row.calls, word),
+        None => true,
+    };
+    let is_of_refusal = match asked.refusal {
+        Some(word) => is_refusal(row.refusal, word),
+        None => true,
+    };
+    is_of_call && is_of_refusal
+}
+
+/// Puts a row: its calls, its refusal, and each text behind its label.
+fn put_row(text: &mut Text, row: &Row) {
+    put_head(text, row);
+    put_labelled(text, "means", row.means);
+    put_labelled(text, "state now", row.state);
+    put_labelled(text, "do next", row.next);
+    put_labelled(text, "never", row.never);
+    put_labelled(text, "in Linux", row.system);
+}
+
+/// Puts the refusal of a row, and its calls.
+fn put_head(text: &mut Text, row: &Row) {
+    put_refusal(text, row.refusal);
+    if !row.when.is_empty() {
+        text.put(", ");
+        text.put(row.when);
+    }
+    text.put("\n");
+    let mut calls = Lines::new(text, "of");
+    for call in row.calls {
+        calls.put_word(name_of(*call));
+    }
+    calls.end();
+}
+
+/// Puts a refusal by its number and its names.
+fn put_refusal(text: &mut Text, refusal: GateError) {
+    if let GateError::Hook(_) = refusal {
+        return text.put("Hook(code)");
+    }
+    text.put(refusal.number());
+    text.put(" ");
+    text.put(refusal.name());
+    for (cause, errno, _) in &CAUSES {
+        if *cause == refusal {
+            text.put(" (");
+            text.put(*errno);
+            text.put(")");
+        }
+    }
+}
+
+/// Puts a text behind its label, in lines that end at the margin; nothing if it is empty.
+fn put_labelled(text: &mut Text, label: &str, told: &str) {
+    if told.is_empty() {
+        return;
+    }
+    let mut lines = Lines::new(text, label);
+    for word in told.split(' ') {
+        lines.put_word(word);
+    }
+    lines.end();
+}
+
+/// Lines behind a label, on their way.
+struct Lines<'a> {
+    text: &'a mut Text,
+    /// How many characters the last line has.
+    column: usize,
+}
+
+impl<'a> Lines<'a> {
+    /// Begins the first line by a label.
+    fn new(text: &'a mut Text, label: &str) -> Lines<'a> {
+        text.put("  ");
+        text.put(label);
+        Lines {
+            text,
+            column: label.len().saturating_add(2),
+        }
+    }
+
+    /// Puts a word: on a line of its own, if the last one has no room for it.
+    fn put_word(&mut self, word: &str) {
+        if self.column > MARGIN && self.column.saturating_add(word.len()) >= WIDTH {
+            self.text.put("\n");
+            self.column = 0;
+        }
+        let spaces = MARGIN.saturating_sub(self.column).max(1);
+        self.text.repeated(' ', spaces);
+        self.text.put(word);
+        self.column = self
+            .column
+            .saturating_add(spaces)
+            .saturating_add(word.len());
+    }
+
+    /// Ends the last line.
+    fn end(self) {
+        let Lines { text, column: _ } = self;
+        text.put("\n");
+    }
+}
+
+/// Puts a line for each refusal, and the names of the calls.
+fn put_index(text: &mut Text) {
+    for (cause, errno, short) in &CAUSES {
+        match cause {
+            GateError::Hook(_) => text.put("-- Hook(code)       "),
+            _ => put_columns(text, *cause, errno),
+        }
+        text.put(*short);
+        text.put("\n");
+    }
+    text.put("\n'mntgate explain CALL REFUSAL' tells what to do about one. The calls:\n");
+    let mut lines = Lines::new(text, "");
+    for call in &CALLS {
+        lines.put_word(name_of(*call));
+    }
+    lines.end();
+}
+
+/// Puts the number and the names of a refusal in columns.
+fn put_columns(text: &mut Text, cause: GateError, errno: &str) {
+    if cause.number() < 10 {
+        text.put(" ");
+    }
+    text.put(cause.number());
+    text.put(" ");
+    text.put(cause.name());
+    text.repeated(' ', 9usize.saturating_sub(cause.name().len()));
+    text.put(errno);
+    text.repeated(' ', 8usize.saturating_sub(errno.len()));
+}
+
+/// Tells that a call or a refusal isn't known, or that the call is never refused so.
+fn unknown<E: Write>(alloc: Global, asked: Asked<'_>, errors: &mut E) -> Ending
+    ensures { (result ≡ Refused) ⊎ (result ≡ Misused) }
+{
+    let mut text = Text::new(alloc);
+    text.put("error: ");
+    match asked.call {
+        Some(word) if !are_named(CALLS.as_slice(), word) => put_unknown_call(
+            alloc, &mut text, word,
+        ),
+        call => put_unknown_refusal(&mut text, call, asked.refusal.unwrap_or("")),
+    }
+    text.put("\n\nUsage: mntgate explain [CALL] [REFUSAL]\n\nFor more information, try '--help'.");
+    match text.ended() {
+        Ok(text) => {
+            let _ = why_told(text.as_str(), errors);
+            Ending::Misused
+        }
+        Err(AllocError) => refused(GateError::NoMemory, errors),
+    }
+}
+
+/// Puts that there is no such call, and the nearest name.
+fn put_unknown_call(alloc: Global, text: &mut Text, word: &str) {
+    text.put("there is no call or refusal '");
+    text.bytes(word.as_bytes());
+    text.put("'");
+    match nearest(alloc, word) {
+        Some(name) => {
+            text.put("; did you mean '");
+            text.put(name);
+            text.put("'?");
+        }
+        None => text.put(": 'mntgate explain' lists them"),
+    }
+}
+
+/// Puts that a call is never refused so, and how it is.
+fn put_unknown_refusal(text: &mut Text, call: Option<&str>, word: &str) {
+    text.put("'");
+    text.bytes(word.as_bytes());
+    text.put("' is no refusal");
+    let Some(call) = call else {
+        return text.put(": 'mntgate explain' lists them");
+    };
+    text.put(" of '");
+    text.bytes(call.as_bytes());
+    text.put("', which may be refused as:");
+    let asked = Asked {
+        call: Some(call),
+        refusal: None,
+    };
+    put_refusals(text, gates::ROWS.as_slice(), asked);
+    put_refusals(text, trees::ROWS.as_slice(), asked);
+    put_refusals(text, tasks::ROWS.as_slice(), asked);
+}
+
+/// Puts the refusals of these rows that are asked for, each once.
+fn put_refusals(text: &mut Text, rows: &[Row], asked: Asked<'_>) {
+    let mut last = None;
+    for row in rows {
+        if is_asked(row, asked) && last != Some(row.refusal) {
+            text.put(" ");
+            put_refusal(text, row.refusal);
+            last = Some(row.refusal);
+        }
+    }
+}
+
+/// Returns the name of a call that is nearest to a word, if one is near and there is memory to find it.
+fn nearest(alloc: Global, word: &str) -> Option<&'static str> {
+    let mut nearest = None;
+    let mut least = FAR.saturating_add(1).min(word.len());
+    for call in &CALLS {
+        for name in *call {
+            if let Ok(distance) = osa_distance(alloc, word, name)
+                && distance < least
+            {
+                nearest = Some(*name);
+                least = distance;
+            }
+        }
+    }
+    nearest
+}
+
+/// Whether one of these calls has this name.
+fn are_named(calls: &[Call], word: &str) -> bool {
+    for call in calls {
+        if is_named(*call, word) {
+            return true;
+        }
+    }
+    false
+}
+
+/// Whether a call has this name.
+fn is_named(call: Call, word: &str) -> bool {
+    call.iter().any(|name| *name == word)
+}
+
+/// Returns the first name of a call.
+fn name_of(call: Call) -> &'static str {
+    call.first().copied().unwrap_or("")
+}
+
+/// Whether some refusal is named so.
+fn is_any_refusal(word: &str) -> bool {
+    CAUSES.iter().any(|(cause, _, _)| is_refusal(*cause, word))
+}
+
+/// Whether a refusal is named so: by its number, its name or that in Linux, in capitals or not.
+fn is_refusal(refusal: GateError, word: &str) -> bool {
+    if refusal.name().eq_ignore_ascii_case(word) {
+        return true;
+    }
+    if let GateError::Hook(_) = refusal {
+        return false;
+    }
+    let is_number = word
+        .parse::<u16>()
+        .is_ok_and(|number| number == refusal.number());
+    is_number
+        || CAUSES.iter().any(|(cause, errno, _)| *cause == refusal
+            && errno.eq_ignore_ascii_case(word))
+}

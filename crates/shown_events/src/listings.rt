@@ -1,0 +1,106 @@
+//! The words that `words` and `tree` list.
+
+use cpu_words::WordName;
+use gate_schedules::Driver;
+use std::alloc::{AllocError, Global};
+use transcripts::Session;
+
+/// What a listing is of.
+#[derive(Clone, Copy, PartialEq, Eq)]
+pub(crate) enum Listing {
+    Words,
+    Tree,
+    Model,
+}
+
+impl Listing {
+    /// The line that asks for it.
+    pub(crate) fn name(self) -> &'static str {
+        match self {
+            Listing::Words => "words",
+            Listing::Tree => "tree",
+            Listing::Model => "model",
+        }
+    }
+}
+
+/// A word, and its value now.
+#[derive(Clone, Copy)]
+pub(crate) struct Listed {
+    pub(crate) word: WordName,
+    pub(crate) value: u64,
+}
+
+/// The words of a listing, also those that are 0, in their order.
+pub(crate) fn words_of<D: Driver>(
+    alloc: Global,
+    session: &Session<D>,
+    listing: Listing,
+) -> Result<Vec<Listed>, AllocError> {
+    let mut words = Words {
+        session,
+        listed: Vec::new(alloc),
+    };
+    let added = match listing {
+        Listing::Words => words.add_gates(),
+        Listing::Tree => words.add_tree(),
+        Listing::Model => Ok(()),
+    };
+    let Words { listed, .. } = words;
+    added?;
+    Ok(listed)
+}
+
+/// The words that were found so far.
+#[derive(Drop)]
+struct Words<'a, D> {
+    session: &'a Session<D>,
+    listed: Vec<Listed>,
+}
+
+impl<'a, D: Driver> Words<'a, D> {
+    /// Adds a word, where the configuration has it.
+    fn add(&mut self, word: WordName) -> Result<(), AllocError> {
+        if let Some(value) = self.session.word(word) {
+            self.listed.push(Listed { word, value })?;
+        }
+        Ok(())
+    }
+
+    fn add_gates(&mut self) -> Result<(), AllocError> {
+        self.add(WordName::Umount)?;
+        self.add(WordName::Stage)?;
+        self.add(WordName::Holders)?;
+        self.add(WordName::SbFlags)?;
+        self.add(WordName::Remount)?;
+        self.add(WordName::Removed)?;
+        for mount in 0..8 {
+            self.add(WordName::MountFlags(mount))?;
+            for cpu in 0..64 {
+                self.add(WordName::MountCount(mount, cpu))?;
+            }
+        }
+        for level in 1..4 {
+            self.add(WordName::Block(level))?;
+            self.add(WordName::Sync(level))?;
+            for cpu in 0..64 {
+                self.add(WordName::LevelCount(level, cpu))?;
+            }
+        }
+        for task in 0..self.session.tasks() {
+            self.add(WordName::Section(task))?;
+        }
+        Ok(())
+    }
+
+    fn add_tree(&mut self) -> Result<(), AllocError> {
+        self.add(WordName::Used)?;
+        for node in 0..64 {
+            self.add(WordName::Node(node))?;
+        }
+        for node in 0..64 {
+            self.add(WordName::Kids(node))?;
+        }
+        Ok(())
+    }
+}
