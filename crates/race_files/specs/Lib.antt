@@ -1,6 +1,6 @@
 pub mod Faults
 pub mod Left
-pub mod Marks
+pub mod Prefixes
 pub mod Calls
 pub mod SettingUp
 pub mod Races

@@ -2,8 +2,8 @@
 
 ghost use Rattle.std.specs.Prelude.{◌≡◌, ◌≤◌, ◌⊎◌, is_none, length, Some, Ok, Err, IfOk, IfErr, OnOk};
 ghost use Rattle.std.specs.List.{position};
-ghost use Rattle.race_files.specs.Calls.{no_calls, count_of, is_unconditional, with_call, with_failure, added, failing, as_run, begin_line, hook_line, marked_line, calls_after};
-ghost use Rattle.race_files.specs.Marks.{without_marks};
+ghost use Rattle.race_files.specs.Calls.{no_calls, count_of, is_unconditional, with_call, with_failure, added, failing, as_run, begin_line, hook_line, prefixed_line, calls_after};
+ghost use Rattle.race_files.specs.Prefixes.{without_prefix};
 ghost use Rattle.race_files.specs.Faults.{IsToldOrMemory};
 ghost use Rattle.race_files.specs.Left.{calls_left, left_in};
 ghost use Rattle.schedule_text.specs.Parsing.{parsed};
@@ -13,7 +13,7 @@ ghost use Rattle.access_model.specs.declared.errors.GateError.TheVariants.{NoMem
 
 use crate::faults::RaceFault;
 use crate::lines::{Lines, is_claim, is_race};
-use crate::marks::{Marks, command_at, is_marked, print_without_marks, retries_at, when_at};
+use crate::prefixes::{Prefix, command_at, has_prefix, print_without_prefix, retries_at, when_at};
 use races::{CALLS, Call, Race, When};
 use schedule_lines::words::{after_word, first_word};
 use schedule_text::{Fault, HookFailure, Line, Output, Request, TaskCommand, parse};
@@ -99,18 +99,18 @@ impl Calls {
         if first_word(after_word(line)) == b"hook".as_slice() {
             return self.read_hook(alloc, line);
         }
-        if is_marked(line) {
-            return self.read_marked(alloc, line);
+        if has_prefix(line) {
+            return self.read_prefixed(alloc, line);
         }
-        self.read_call(alloc, Marks::none(), line)
+        self.read_call(alloc, Prefix::none(), line)
     }
 
     /// Reads a line that has `if ok`, `if refused` or `retry` before its command.
-    #[tactic(auto, unfolding(crate::specs::Calls::marked_line))]
-    fn read_marked(&mut self, alloc: Global, line: &[u8]) -> Result<(), RaceFault>
+    #[tactic(auto, unfolding(crate::specs::Calls::prefixed_line))]
+    fn read_prefixed(&mut self, alloc: Global, line: &[u8]) -> Result<(), RaceFault>
         ensures tasks { self.new.race.tasks ≡ self.old.race.tasks }
-        ensures read { OnOk result (marked_line self.old.race.tasks self.old.race.calls.items line.now ≡ Ok self.new.race.calls.items) }
-        ensures fault { IfErr result (IsToldOrMemory (marked_line self.old.race.tasks self.old.race.calls.items line.now)) }
+        ensures read { OnOk result (prefixed_line self.old.race.tasks self.old.race.calls.items line.now ≡ Ok self.new.race.calls.items) }
+        ensures fault { IfErr result (IsToldOrMemory (prefixed_line self.old.race.tasks self.old.race.calls.items line.now)) }
     {
         let rest = after_word(line);
         let Some(when) = when_at(rest) else {
@@ -119,23 +119,23 @@ impl Calls {
         if command_at(rest).is_empty() {
             return Err(RaceFault::CallExpected);
         }
-        let marks = Marks {
+        let prefix = Prefix {
             when,
             retries: retries_at(rest),
         };
         match plain_line(alloc, line) {
-            Ok(plain) => self.read_call(alloc, marks, plain.as_slice()),
+            Ok(plain) => self.read_call(alloc, prefix, plain.as_slice()),
             Err(refused) => Err(RaceFault::Schedule(no_memory(refused))),
         }
     }
 
-    /// Reads a line that begins an operation, as a call with these marks.
-    fn read_call(&mut self, alloc: Global, marks: Marks, line: &[u8]) -> Result<(), RaceFault>
+    /// Reads a line that begins an operation, as a call with this prefix.
+    fn read_call(&mut self, alloc: Global, prefix: Prefix, line: &[u8]) -> Result<(), RaceFault>
         ensures tasks { self.new.race.tasks ≡ self.old.race.tasks }
-        ensures read { OnOk result (begin_line self.old.race.calls.items marks (parsed line.now (Some self.old.race.tasks))
+        ensures read { OnOk result (begin_line self.old.race.calls.items prefix (parsed line.now (Some self.old.race.tasks))
             ≡ Ok self.new.race.calls.items) }
         ensures fault { IfErr result (IsToldOrMemory
-            (begin_line self.old.race.calls.items marks (parsed line.now (Some self.old.race.tasks)))) }
+            (begin_line self.old.race.calls.items prefix (parsed line.now (Some self.old.race.tasks)))) }
     {
         match parse(line, Some(self.race.tasks)) {
             Ok(Line::Skipped) => Ok(()),
@@ -146,7 +146,7 @@ impl Calls {
                         command: TaskCommand::Begin(op),
                     },
                 ),
-            ) => self.add(alloc, task, marks.call(op), line),
+            ) => self.add(alloc, task, prefix.call(op), line),
             Ok(Line::Config(_) | Line::Request(_)) => Err(RaceFault::CallExpected),
             Err(fault) => Err(RaceFault::Schedule(fault)),
         }
@@ -307,12 +307,12 @@ fn with_failure(
     }
 }
 
-/// A line without its marks.
+/// A line without its prefix.
 fn plain_line(alloc: Global, line: &[u8]) -> Result<Vec<u8>, AllocError>
-    ensures { IfOk result (λ plain. plain.items ≡ without_marks line.now) }
+    ensures { IfOk result (λ plain. plain.items ≡ without_prefix line.now) }
 {
     let mut plain = Output::new(alloc);
-    print_without_marks(line, &mut plain);
+    print_without_prefix(line, &mut plain);
     plain.settled()?;
     Vec::from_slice(alloc, plain.bytes.as_slice())
 }

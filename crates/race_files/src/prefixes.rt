@@ -1,7 +1,7 @@
 //! What stands between the task of a call's line and its command: `if ok` or `if refused`, and `retry`.
 
 ghost use Rattle.std.specs.Prelude.{◌≡◌};
-ghost use Rattle.race_files.specs.Marks.{behind_branch, branch_named, command_at, is_marked, marked_call, no_marks, retries_at, when_at, without_marks};
+ghost use Rattle.race_files.specs.Prefixes.{behind_branch, branch_named, command_at, has_prefix, prefixed_call, no_prefix, retries_at, when_at, without_prefix};
 ghost use Rattle.schedule_lines.specs.Printed.{Prints};
 
 use gate_world::Op;
@@ -12,25 +12,25 @@ use schedule_text::Output;
 
 /// When a call is made, and whether it is made again while it is refused.
 #[derive(Clone, Copy)]
-pub struct Marks {
+pub struct Prefix {
     pub when: When,
     pub retries: bool,
 }
 
-impl Marks {
+impl Prefix {
     /// Those of a line that has none.
-    pub fn none() -> Marks
-        ensures { result ≡ no_marks }
+    pub fn none() -> Prefix
+        ensures { result ≡ no_prefix }
     {
-        Marks {
+        Prefix {
             when: When::Always,
             retries: false,
         }
     }
 
-    /// The call of an operation with these marks, of which no hook fails.
+    /// The call of an operation with this prefix, of which no hook fails.
     pub fn call(self, op: Op) -> Call
-        ensures { result ≡ marked_call self op }
+        ensures { result ≡ prefixed_call self op }
     {
         Call {
             op,
@@ -41,17 +41,17 @@ impl Marks {
     }
 }
 
-/// Whether a line on a task has a mark.
-#[tactic(auto, unfolding(crate::specs::Marks::is_marked))]
-pub fn is_marked(line: &[u8]) -> bool
-    ensures { result ≡ is_marked line.now }
+/// Whether a line on a task has a prefix.
+#[tactic(auto, unfolding(crate::specs::Prefixes::has_prefix))]
+pub fn has_prefix(line: &[u8]) -> bool
+    ensures { result ≡ has_prefix line.now }
 {
     let second = first_word(after_word(line));
     is_digits(first_word(line)) && (second == b"if".as_slice() || second == b"retry".as_slice())
 }
 
 /// When a call is made, by what stands behind its task; None where `if` stands there, and neither `ok` nor `refused` behind it.
-#[tactic(auto, unfolding(crate::specs::Marks::when_at))]
+#[tactic(auto, unfolding(crate::specs::Prefixes::when_at))]
 pub fn when_at(rest: &[u8]) -> Option<When>
     ensures { result ≡ when_at rest.now }
 {
@@ -63,7 +63,7 @@ pub fn when_at(rest: &[u8]) -> Option<When>
 }
 
 /// The same by the word behind `if`.
-#[tactic(auto, unfolding(crate::specs::Marks::branch_named))]
+#[tactic(auto, unfolding(crate::specs::Prefixes::branch_named))]
 fn branch_named(word: &[u8]) -> Option<When>
     ensures { result ≡ branch_named word.now }
 {
@@ -77,7 +77,7 @@ fn branch_named(word: &[u8]) -> Option<When>
 }
 
 /// What stands behind `if ok` or `if refused`.
-#[tactic(auto, unfolding(crate::specs::Marks::behind_branch))]
+#[tactic(auto, unfolding(crate::specs::Prefixes::behind_branch))]
 fn behind_branch(rest: &[u8]) -> &[u8]
     ensures { result.now ≡ behind_branch rest.now }
 {
@@ -89,15 +89,15 @@ fn behind_branch(rest: &[u8]) -> &[u8]
 }
 
 /// Whether a call is made again while it is refused, by what stands behind its task.
-#[tactic(auto, unfolding(crate::specs::Marks::retries_at))]
+#[tactic(auto, unfolding(crate::specs::Prefixes::retries_at))]
 pub fn retries_at(rest: &[u8]) -> bool
     ensures { result ≡ retries_at rest.now }
 {
     first_word(behind_branch(rest)) == b"retry".as_slice()
 }
 
-/// The command, behind all marks.
-#[tactic(auto, unfolding(crate::specs::Marks::command_at))]
+/// The command, behind the prefix.
+#[tactic(auto, unfolding(crate::specs::Prefixes::command_at))]
 pub fn command_at(rest: &[u8]) -> &[u8]
     ensures { result.now ≡ command_at rest.now }
 {
@@ -109,10 +109,10 @@ pub fn command_at(rest: &[u8]) -> &[u8]
     }
 }
 
-/// Prints a line without its marks.
-#[tactic(auto, unfolding(crate::specs::Marks::without_marks))]
-pub fn print_without_marks(line: &[u8], out: &mut Output)
-    ensures { Prints out.old out.new (without_marks line.now) }
+/// Prints a line without its prefix.
+#[tactic(auto, unfolding(crate::specs::Prefixes::without_prefix))]
+pub fn print_without_prefix(line: &[u8], out: &mut Output)
+    ensures { Prints out.old out.new (without_prefix line.now) }
 {
     out.text(first_word(line));
     out.text(b" ");
