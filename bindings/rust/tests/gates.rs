@@ -178,7 +178,8 @@ fn an_operation_that_is_begun_at_once_is_run_to_its_end() {
     let write = Op::WantWrite { mount: 0, processor: 1 };
     let done = Progress::Done(Ok(Reply::Unit));
     assert_eq!(task.begin_at_once(freeze), Ok(done));
-    assert_eq!(task.begin_at_once(freeze), Ok(Progress::Done(Err(Error::Busy))));
+    assert_eq!(task.begin_at_once(freeze), Ok(Progress::Going));
+    assert_eq!(task.run(Ok(()), 1024), Progress::Done(Err(Error::Busy)));
     assert_eq!(other.begin_at_once(write), Ok(Progress::Going));
     assert_eq!(other.begin_at_once(write), Err(Error::Order));
     assert_eq!(other.run(Ok(()), 1024), Progress::Waiting);
