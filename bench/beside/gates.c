@@ -64,8 +64,7 @@ static void level_pairs(struct job *job)
 static void write_pairs(struct job *job)
 {
 	for (unsigned long i = 0; i < pairs; i++) {
-		check(mntgate_start(&job->task, 1, job->number));
-		check(mntgate_want(&job->task, 0, job->number));
+		check(mntgate_want_write(&job->task, 0, job->number));
 		INSIDE();
 		check(mntgate_drop_write(&job->task, 0, job->number));
 	}

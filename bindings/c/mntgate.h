@@ -330,6 +330,18 @@ void mntgate_run(struct mntgate_task *task, uint16_t hook, uint32_t most, struct
 /* The hook whose answer the next step reads: 0 none, 1 sync, 2 freeze_fs, 3 unfreeze_fs, 4 reconfigure. */
 uint32_t mntgate_wants_hook(struct mntgate_task *task);
 
+/* Operations at once ------------------------------------------------------------------------------------------------------------------- */
+
+/* Each begins the operation of its name, and does its steps up to one that finds something in the way. It waits for nobody, and each hook
+ * answers 0. The result is 0, or a refusal by which it was not begun: EDEADLK, EINVAL, EMFILE; nothing is written then. `outcome` says
+ * whether it is done, with its answer, or goes on: then mntgate_run does the rest. An operation that goes on can't be given up. A freeze
+ * may have closed levels. */
+mntgate_result mntgate_want_write_at_once(struct mntgate_task *task, uint8_t mount, uint8_t processor, struct mntgate_outcome *outcome);
+mntgate_result mntgate_callback_at_once(struct mntgate_task *task, uint8_t level, struct mntgate_outcome *outcome);
+mntgate_result mntgate_remount_sb_at_once(struct mntgate_task *task, bool read_only, struct mntgate_outcome *outcome);
+mntgate_result mntgate_freeze_at_once(struct mntgate_task *task, bool by_kernel, struct mntgate_outcome *outcome);
+mntgate_result mntgate_thaw_at_once(struct mntgate_task *task, bool by_kernel, struct mntgate_outcome *outcome);
+
 /* Calls that wait ---------------------------------------------------------------------------------------------------------------------- */
 
 /* These are loops of C over the calls above. They try again and again, with pauses that grow, and then leave the processor each time
@@ -368,6 +380,11 @@ static char mntgate_order;
 #define mntgate_drop_write(...) MNTGATE_ORDERED(mntgate_drop_write(__VA_ARGS__))
 #define mntgate_try_change_mount(...) MNTGATE_ORDERED(mntgate_try_change_mount(__VA_ARGS__))
 #define mntgate_wants_hook(...) MNTGATE_ORDERED(mntgate_wants_hook(__VA_ARGS__))
+#define mntgate_want_write_at_once(...) MNTGATE_ORDERED(mntgate_want_write_at_once(__VA_ARGS__))
+#define mntgate_callback_at_once(...) MNTGATE_ORDERED(mntgate_callback_at_once(__VA_ARGS__))
+#define mntgate_remount_sb_at_once(...) MNTGATE_ORDERED(mntgate_remount_sb_at_once(__VA_ARGS__))
+#define mntgate_freeze_at_once(...) MNTGATE_ORDERED(mntgate_freeze_at_once(__VA_ARGS__))
+#define mntgate_thaw_at_once(...) MNTGATE_ORDERED(mntgate_thaw_at_once(__VA_ARGS__))
 #endif
 
 #if defined(__GNUC__)
@@ -429,6 +446,20 @@ static inline mntgate_result mntgate_finish(struct mntgate_task *task, const str
 	}
 }
 
+/* The rest of an operation that goes on, in a function of its own, so that the usual way stays short. */
+MNTGATE_COLD mntgate_result mntgate_finish_begun(struct mntgate_task *task, struct mntgate_outcome *outcome)
+{
+	return mntgate_finish(task, NULL, false, outcome);
+}
+
+/* What an operation answers that was begun at once: it is done, or is done to its end. */
+static inline mntgate_result mntgate_answer(struct mntgate_task *task, mntgate_result begun, struct mntgate_outcome *outcome)
+{
+	if (begun)
+		return begun;
+	return MNTGATE_UNLIKELY(outcome->progress != MNTGATE_DONE) ? mntgate_finish_begun(task, outcome) : outcome->answer;
+}
+
 /* Begins an operation and does it to its end. */
 static inline mntgate_result mntgate_perform(struct mntgate_task *task, const struct mntgate_op *op, const struct mntgate_hooks *hooks)
 {
@@ -469,9 +500,10 @@ static inline mntgate_result mntgate_start(struct mntgate_task *task, uint8_t le
  *   EROFS  the mount or the superblock is read-only; the task has left the level.   EMFILE. */
 static inline mntgate_result mntgate_want_write(struct mntgate_task *task, uint8_t mount, uint8_t processor)
 {
-	const struct mntgate_op op = { MNTGATE_OP_WANT_WRITE, mount, processor, false, true, 0 };
+	struct mntgate_outcome outcome;
+	mntgate_result begun = mntgate_want_write_at_once(task, mount, processor, &outcome);
 
-	return mntgate_perform(task, &op, NULL);
+	return mntgate_answer(task, begun, &outcome);
 }
 
 /* Makes a mount read-only, or writable again; waits for s_umount.   EBUSY  as mntgate_try_change_mount. */
@@ -489,8 +521,11 @@ static inline mntgate_result mntgate_change_mount(struct mntgate_task *task, uin
 static inline mntgate_result mntgate_remount_sb(struct mntgate_task *task, bool read_only, const struct mntgate_hooks *hooks)
 {
 	const struct mntgate_op op = { MNTGATE_OP_REMOUNT_SB, 0, 0, read_only, true, 0 };
+	struct mntgate_outcome outcome;
 
-	return mntgate_perform(task, &op, hooks);
+	if (hooks != NULL)
+		return mntgate_perform(task, &op, hooks);
+	return mntgate_answer(task, mntgate_remount_sb_at_once(task, read_only, &outcome), &outcome);
 }
 
 /* Freezes the file system for a holder, MNTGATE_USER or MNTGATE_KERNEL (freeze_super): closes level 1, 2 and 3 and waits at each for who is
@@ -500,8 +535,11 @@ static inline mntgate_result mntgate_remount_sb(struct mntgate_task *task, bool 
 static inline mntgate_result mntgate_freeze(struct mntgate_task *task, bool by_kernel, const struct mntgate_hooks *hooks)
 {
 	const struct mntgate_op op = { MNTGATE_OP_FREEZE, 0, 0, by_kernel, true, 0 };
+	struct mntgate_outcome outcome;
 
-	return mntgate_perform(task, &op, hooks);
+	if (hooks != NULL)
+		return mntgate_perform(task, &op, hooks);
+	return mntgate_answer(task, mntgate_freeze_at_once(task, by_kernel, &outcome), &outcome);
 }
 
 /* Gives a holder's freeze back, whichever task froze (thaw_super); the last one asks unfreeze_fs and opens the levels. EDEADLK inside a level.
@@ -509,20 +547,20 @@ static inline mntgate_result mntgate_freeze(struct mntgate_task *task, bool by_k
 static inline mntgate_result mntgate_thaw(struct mntgate_task *task, bool by_kernel, const struct mntgate_hooks *hooks)
 {
 	const struct mntgate_op op = { MNTGATE_OP_THAW, 0, 0, by_kernel, true, 0 };
+	struct mntgate_outcome outcome;
 
-	return mntgate_perform(task, &op, hooks);
+	if (hooks != NULL)
+		return mntgate_perform(task, &op, hooks);
+	return mntgate_answer(task, mntgate_thaw_at_once(task, by_kernel, &outcome), &outcome);
 }
 
 /* Runs the callback that a level's rcu_sync has queued (rcu_sync_func); writes whether there was one. After a thaw readers take the slow
  * path until it has run. */
 static inline mntgate_result mntgate_callback(struct mntgate_task *task, uint8_t level, bool *ran)
 {
-	const struct mntgate_op op = { MNTGATE_OP_CALLBACK, level, 0, false, true, 0 };
-	struct mntgate_outcome outcome = { 0, 0, 0, 0 };
-	mntgate_result result = mntgate_begin(task, &op);
+	struct mntgate_outcome outcome;
+	mntgate_result result = mntgate_answer(task, mntgate_callback_at_once(task, level, &outcome), &outcome);
 
-	if (result == 0)
-		result = mntgate_finish(task, NULL, false, &outcome);
 	if (result == 0)
 		*ran = outcome.value != 0;
 	return result;

@@ -142,6 +142,9 @@ _CALLS: dict = {
     "number": (_BYTE, []), "is_idle": (_BOOL, []), "rests": (_BOOL, []), "holds_mount": (ctypes.c_uint16, [_BYTE]), "holds_level": (_BOOL, [_BYTE]),
     "has_open": (_BOOL, [_BYTE]), "waited": (ctypes.c_uint64, []), "begin": (_U32, [ctypes.POINTER(_Op)]),
     "run": (None, [ctypes.c_uint16, _U32, ctypes.POINTER(_Outcome)]), "wants_hook": (_U32, []),
+    "want_write_at_once": (_U32, [_BYTE, _BYTE, ctypes.POINTER(_Outcome)]), "callback_at_once": (_U32, [_BYTE, ctypes.POINTER(_Outcome)]),
+    "remount_sb_at_once": (_U32, [_BOOL, ctypes.POINTER(_Outcome)]), "freeze_at_once": (_U32, [_BOOL, ctypes.POINTER(_Outcome)]),
+    "thaw_at_once": (_U32, [_BOOL, ctypes.POINTER(_Outcome)]),
 }
 
 
@@ -196,16 +199,21 @@ class Task:
     def _perform(self, kind: int, number: int = 0, other: int = 0, choice: bool = False, hooks: Optional[Hooks] = None) -> int:
         """Begins an operation that may wait, and does it to its end; the value of its reply."""
         op, outcome, pause = _Op(kind, _u8(number), _u8(other), choice, True, 0), _Outcome(), 0.0
+        at_once = {3: ("remount_sb", choice), 6: ("want_write", number, other), 8: ("callback", number), 9: ("freeze", choice), 10: ("thaw", choice)}
         with self._lock:
-            self._ask("begin", ctypes.byref(op))
-            while True:
+            if hooks is None and kind in at_once:
+                name, *words = at_once[kind]
+                self._ask(f"{name}_at_once", *words, ctypes.byref(outcome))
+            else:
+                self._ask("begin", ctypes.byref(op))
+                outcome.progress = 1
+            while outcome.progress != 3:
                 self._do("run", self._hook(hooks, choice), STEPS, ctypes.byref(outcome))
                 if outcome.progress == 2:
                     time.sleep(pause)
                     pause = min(pause + 1e-5, 1e-3)
-                elif outcome.progress != 1:
-                    _raise(outcome.answer)
-                    return outcome.value
+            _raise(outcome.answer)
+            return outcome.value
 
     def _hook(self, hooks: Optional[Hooks], read_only: bool) -> int:
         wanted = self._do("wants_hook")

@@ -147,6 +147,37 @@ static void test_steps(struct mntgate_task *task, struct mntgate_task *other)
 	assert(outcome.progress == MNTGATE_DONE && outcome.answer == MNTGATE_HOOK + 9 && mntgate_settle(other) == 0);
 }
 
+/* A call that begins at once is done, or goes on, and then it is run to its end. */
+static void test_at_once(struct mntgate_task *task, struct mntgate_task *other)
+{
+	struct mntgate_outcome outcome = { 9, 9, 9, 9 };
+	bool ran = true;
+
+	assert(mntgate_callback_at_once(task, 4, &outcome) == EINVAL && mntgate_want_write_at_once(task, 0, 2, &outcome) == EINVAL);
+	assert(mntgate_start(task, 1, 0) == 0 && mntgate_freeze_at_once(task, MNTGATE_USER, &outcome) == EDEADLK);
+	assert(mntgate_thaw_at_once(task, MNTGATE_USER, &outcome) == EDEADLK && mntgate_remount_sb_at_once(task, true, &outcome) == EDEADLK);
+	assert(outcome.progress == 9 && mntgate_end(task, 1, 0) == 0);
+	assert(mntgate_freeze_at_once(task, MNTGATE_USER, &outcome) == 0 && outcome.progress == MNTGATE_DONE && outcome.answer == 0);
+	assert(outcome.reply == MNTGATE_REPLY_UNIT && mntgate_is_idle(task) && mntgate_freeze(other, MNTGATE_USER, NULL) == EBUSY);
+	assert(mntgate_remount_sb(task, true, NULL) == EBUSY && mntgate_callback(task, 1, &ran) == 0 && !ran);
+	/* write access waits for the thaw */
+	assert(mntgate_want_write_at_once(other, 0, 1, &outcome) == 0 && outcome.progress == MNTGATE_GOING);
+	assert(mntgate_want_write_at_once(other, 0, 1, &outcome) == EDEADLK && !mntgate_is_idle(other));
+	mntgate_run(other, 0, 1000, &outcome);
+	assert(outcome.progress == MNTGATE_WAITING && mntgate_waited(other) > 0);
+	assert(mntgate_thaw_at_once(task, MNTGATE_USER, &outcome) == 0 && outcome.progress == MNTGATE_DONE && outcome.answer == 0);
+	mntgate_run(other, 0, 1000, &outcome);
+	assert(outcome.progress == MNTGATE_DONE && outcome.answer == 0 && mntgate_holds_level(other, 1) && mntgate_holds_mount(other, 0) == 1);
+	/* a freeze waits for the writer, with level 1 closed */
+	assert(mntgate_freeze_at_once(task, MNTGATE_KERNEL, &outcome) == 0 && outcome.progress == MNTGATE_GOING);
+	mntgate_run(task, 0, 1000, &outcome);
+	assert(outcome.progress == MNTGATE_WAITING && mntgate_drop_write(other, 0, 0) == 0 && mntgate_try_start(other, 1, 0) == EAGAIN);
+	assert(mntgate_finish(task, NULL, false, &outcome) == 0 && mntgate_thaw(other, MNTGATE_USER, NULL) == EINVAL);
+	assert(mntgate_thaw(other, MNTGATE_KERNEL, NULL) == 0 && mntgate_callback(task, 1, &ran) == 0 && ran && mntgate_settle(task) == 0);
+	assert(mntgate_remount_sb(task, true, NULL) == 0 && mntgate_want_write(task, 0, 0) == EROFS && mntgate_rests(task));
+	assert(mntgate_remount_sb(task, false, NULL) == 0 && mntgate_want_write(task, 0, 0) == 0 && mntgate_drop_write(task, 0, 1) == 0);
+}
+
 int main(void)
 {
 	const struct mntgate_config config = { 2, 2, 1, 4, 10 }, none = { 0, 2, 1, 4, 10 };
@@ -163,6 +194,7 @@ int main(void)
 	test_hooks(&task);
 	test_tree(&task, &other);
 	test_steps(&task, &other);
+	test_at_once(&task, &other);
 	assert(mntgate_close(&task) == EDEADLK && task.at != NULL);
 	assert(mntgate_join(&task, &other) == 0 && other.at == NULL);
 	assert(mntgate_close_words(&task, words, 6, values, 5) == EINVAL && task.at != NULL);

@@ -5,6 +5,9 @@
 ///
 /// [`Error::Hook`]: crate::Error::Hook
 pub trait Hooks {
+    /// Whether each hook answers `Ok` and does nothing: then none is asked, and a call goes on without a stop.
+    const ARE_NONE: bool = false;
+
     /// Writes all that is dirty. A freeze asks it with levels 1 and 2 closed.
     fn sync(&mut self) -> Result<(), u16> {
         Ok(())
@@ -28,4 +31,6 @@ pub trait Hooks {
 }
 
 /// A file system of which nothing is to be done.
-impl Hooks for () {}
+impl Hooks for () {
+    const ARE_NONE: bool = true;
+}

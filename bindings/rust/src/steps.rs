@@ -163,6 +163,38 @@ impl Task {
         answer(unsafe { sys::mntgate_begin(self.handle(), &record) })
     }
 
+    /// Begins an operation and does its steps up to one that finds something in the way, where each hook answers `Ok`. Then it is done, or
+    /// goes on: [`Task::run`] does the rest. An operation that has no such call is begun, and has done no step.
+    ///
+    /// # Errors
+    ///
+    /// As [`Task::begin`]; then nothing is changed.
+    ///
+    /// ```
+    /// # use mntgate::{Config, Gates, Holder, Op, Progress, Reply};
+    /// let mut task = Gates::open(Config { tasks: 1, ..Config::default() })?;
+    /// let freeze = Op::Freeze { holder: Holder::User };
+    /// assert_eq!(task.begin_at_once(freeze)?, Progress::Done(Ok(Reply::Unit)));
+    /// let thaw = Op::Thaw { holder: Holder::User };
+    /// assert_eq!(task.begin_at_once(thaw)?, Progress::Done(Ok(Reply::Unit)));
+    /// task.close().map_err(|refused| refused.error)?;
+    /// # Ok::<(), mntgate::Error>(())
+    /// ```
+    pub fn begin_at_once(&mut self, op: Op) -> Result<Progress, Error> {
+        let mut outcome = sys::Outcome::default();
+        let (handle, to) = (self.handle(), &mut outcome);
+        let begun = match op {
+            Op::WantWrite { mount, processor } => unsafe { sys::mntgate_want_write_at_once(handle, mount, processor, to) },
+            Op::Callback { level } => unsafe { sys::mntgate_callback_at_once(handle, level, to) },
+            Op::RemountSb { read_only } => unsafe { sys::mntgate_remount_sb_at_once(handle, read_only, to) },
+            Op::Freeze { holder } => unsafe { sys::mntgate_freeze_at_once(handle, holder == Holder::Kernel, to) },
+            Op::Thaw { holder } => unsafe { sys::mntgate_thaw_at_once(handle, holder == Holder::Kernel, to) },
+            other => return self.begin(other).map(|()| Progress::Going),
+        };
+        answer(begun)?;
+        Ok(Progress::of(outcome))
+    }
+
     /// Does one step, where a hook answers this, if it reads one; what it was, None of an idle task, and how the operation stands.
     pub fn step(&mut self, hook: Result<(), u16>) -> (Option<Step>, Progress) {
         let mut done = sys::StepDone::default();

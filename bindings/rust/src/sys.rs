@@ -116,5 +116,10 @@ extern "C" {
     pub fn mntgate_begin(task: *mut TaskHandle, op: *const Op) -> u32;
     pub fn mntgate_step(task: *mut TaskHandle, hook: u16, done: *mut StepDone);
     pub fn mntgate_run(task: *mut TaskHandle, hook: u16, most: u32, outcome: *mut Outcome);
+    pub fn mntgate_want_write_at_once(task: *mut TaskHandle, mount: u8, processor: u8, outcome: *mut Outcome) -> u32;
+    pub fn mntgate_callback_at_once(task: *mut TaskHandle, level: u8, outcome: *mut Outcome) -> u32;
+    pub fn mntgate_remount_sb_at_once(task: *mut TaskHandle, read_only: bool, outcome: *mut Outcome) -> u32;
+    pub fn mntgate_freeze_at_once(task: *mut TaskHandle, by_kernel: bool, outcome: *mut Outcome) -> u32;
+    pub fn mntgate_thaw_at_once(task: *mut TaskHandle, by_kernel: bool, outcome: *mut Outcome) -> u32;
     pub fn mntgate_wants_hook(task: *mut TaskHandle) -> u32;
 }

@@ -38,9 +38,13 @@ fn ask(kind: HookKind, hooks: &mut impl Hooks, read_only: bool) -> Result<(), u1
 
 impl Task {
     /// Begins an operation and does it to its end, however long it has to wait, with these hooks.
-    pub(crate) fn perform(&mut self, op: Op, hooks: &mut impl Hooks) -> Result<Reply, Error> {
+    pub(crate) fn perform<H: Hooks>(&mut self, op: Op, hooks: &mut H) -> Result<Reply, Error> {
         let read_only = op == Op::RemountSb { read_only: true };
-        self.begin(op)?;
+        if !H::ARE_NONE {
+            self.begin(op)?;
+        } else if let Progress::Done(answer) = self.begin_at_once(op)? {
+            return answer;
+        }
         let mut backoff = Backoff::default();
         loop {
             let hook = self.wants_hook().map_or(Ok(()), |kind| ask(kind, hooks, read_only));

@@ -170,3 +170,27 @@ fn no_writer_is_inside_a_read_only_mount() {
     assert_eq!(torn, 0);
     close(task, other);
 }
+
+#[test]
+fn an_operation_that_is_begun_at_once_is_run_to_its_end() {
+    let (mut task, mut other) = pair();
+    let (freeze, thaw) = (Op::Freeze { holder: Holder::User }, Op::Thaw { holder: Holder::User });
+    let write = Op::WantWrite { mount: 0, processor: 1 };
+    let done = Progress::Done(Ok(Reply::Unit));
+    assert_eq!(task.begin_at_once(freeze), Ok(done));
+    assert_eq!(task.begin_at_once(freeze), Ok(Progress::Going));
+    assert_eq!(task.run(Ok(()), 1024), Progress::Done(Err(Error::Busy)));
+    assert_eq!(other.begin_at_once(write), Ok(Progress::Going));
+    assert_eq!(other.begin_at_once(write), Err(Error::Order));
+    assert_eq!(other.run(Ok(()), 1024), Progress::Waiting);
+    assert_eq!(task.begin_at_once(thaw), Ok(done));
+    assert_eq!(other.run(Ok(()), 1024), done);
+    assert_eq!(task.begin_at_once(freeze), Ok(Progress::Going));
+    assert_eq!(task.run(Ok(()), 1024), Progress::Waiting);
+    assert_eq!(other.begin_at_once(Op::DropWrite { mount: 0, processor: 0 }), Ok(Progress::Going));
+    assert_eq!(other.run(Ok(()), 1024), done);
+    while task.run(Ok(()), 1024) != done {}
+    task.thaw(Holder::User, &mut ()).unwrap();
+    assert_eq!(task.begin_at_once(Op::Callback { level: 1 }), Ok(Progress::Done(Ok(Reply::Ran(true)))));
+    close(task, other);
+}

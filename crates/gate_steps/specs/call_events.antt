@@ -1,6 +1,7 @@
 pub use Rattle.gate_schedules.specs.Answers
 pub use Rattle.gate_schedules.specs.Seats
 pub use Rattle.gate_schedules.specs.declared.seats.Seat
+pub use Rattle.gate_schedules.specs.declared.steps.Progress
 pub use Rattle.gate_schedules.specs.declared.steps.Step
 pub use Rattle.gate_steps.specs.Histories
 pub use Rattle.gate_steps.specs.Rules

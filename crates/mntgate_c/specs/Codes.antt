@@ -55,3 +55,7 @@ abbrev pub progress_at : Outcome → Progress
 progress_at o =
     if o.progress == 0 then Idle else if o.progress == 1 then Going else if o.progress == 2 then Waiting
     else Done (done_at (answer_of o.answer) (reply_at o.reply o.value))
+
+-- how an operation stands that was begun, or why it was refused
+abbrev pub begun_at : ℕ → Outcome → Result Progress GateError
+begun_at n o = if n == 0 then Ok (progress_at o) else Err (refusal_of n)

@@ -1,7 +1,7 @@
 //! Answers as numbers.
 
-ghost use Rattle.std.specs.Prelude.{◌≡◌, ◌<◌};
-ghost use Rattle.mntgate_c.specs.Codes.{answer_of, holder_of, hook_at, hook_answer, progress_at};
+ghost use Rattle.std.specs.Prelude.{◌≡◌, ◌<◌, OnErr};
+ghost use Rattle.mntgate_c.specs.Codes.{answer_of, begun_at, holder_of, hook_at, hook_answer, progress_at};
 
 use vfs_gates::{GateError, Holder, HookKind, Progress, Reply};
 
@@ -118,4 +118,19 @@ pub(crate) fn tell(progress: Progress) -> Outcome
         }
     }
     outcome
+}
+
+/// Writes how an operation stands that has begun; nothing, where it was refused. 0, or why it was.
+#[inline]
+pub(crate) fn begun(answer: Result<Progress, GateError>, outcome: &mut Outcome) -> u32
+    ensures begun { begun_at result outcome.new ≡ answer }
+    ensures refused { OnErr (answer_of result) (outcome.new ≡ outcome.old) }
+{
+    match answer {
+        Ok(progress) => {
+            *outcome = tell(progress);
+            0
+        }
+        Err(refusal) => refusal_code(refusal),
+    }
 }

@@ -18,3 +18,4 @@ pub mod Resting
 pub mod Reopening
 pub mod Rounds
 pub mod CallingBack
+pub mod AtOnce

@@ -23,5 +23,6 @@ pub mod Settled
 pub mod Taken
 pub mod Handed
 pub mod Rounds
+pub mod AtOnce
 pub use Rattle.gate_steps.specs.call_events.Runs
 pub use Rattle.gate_steps.specs.call_events.Asking

@@ -2,9 +2,11 @@
 //! right to do that number's events, and the numbers that it may still give to others. What a caller names of the crates below it finds here, too.
 #![tactic(auto)]
 
+mod at_once;
 mod call_lines;
 mod calls;
 mod closed;
+mod firsts;
 mod gates;
 pub mod laws;
 mod numbers;

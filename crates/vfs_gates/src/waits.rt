@@ -10,14 +10,12 @@ use crate::calls::{outcome, waits};
 use crate::gates::Gates;
 use crate::task::Task;
 use access_model::{GateError, Holder, Next, Reply};
-use compounds::WritePhase;
 use crossbeam_utils::Backoff;
-use freeze_levels::{Freeze, FreezeStep, Thaw, ThawStep};
 use gate_steps::call_ends::{Waiting, wait_to_end};
 use gate_steps::call_events::{Progress, TimedHooks};
 use gate_world::Op;
-use mount_counts::{Remount, RemountStep, Want, WantStep};
-use percpu_rwsem::{Callback, CallbackStep, DownRead, DownReadStep, Transition};
+use mount_counts::{Want, WantStep};
+use percpu_rwsem::{DownRead, DownReadStep};
 use std::sync::Wait;
 
 /// Why the operation was refused, or whether a callback ran.
@@ -193,15 +191,8 @@ impl Task {
         requires { IsFrom self.old gates.now }
         ensures { Performs (WantWrite mount cpu) self.old self.new result }
     {
-        let read = DownRead {
-            level: 1,
-            cpu,
-            task: self.number(),
-            wait: true,
-            step: DownReadStep::EntersSection,
-        };
         let op = Op::WantWrite { mount, cpu };
-        self.perform_or_wait(rt, gates, op, WritePhase::Takes { mount, read })
+        self.perform_or_wait(rt, gates, op, self.first_taking(mount, cpu))
     }
 
     /// `rcu_sync_func`, with the wait of `call_rcu` before it: runs the callback that the `rcu_sync` of a level, 1 to 3, has queued, after
@@ -215,11 +206,7 @@ impl Task {
         requires { IsFrom self.old gates.now }
         ensures { Replies ran_of (CallbackOp level) self.old self.new result }
     {
-        let callback = Callback {
-            level,
-            tasks: self.config.tasks,
-            step: CallbackStep::Claims(Transition::Loads),
-        };
+        let callback = self.first_callback(level);
         ran(self.perform_waiting(rt, gates, Op::Callback { level }, callback, &mut ()))
     }
 
@@ -266,14 +253,7 @@ impl Task {
         requires { IsFrom self.old gates.now }
         ensures { PerformsAsking H.answers (RemountSb read_only) self.old self.new result hooks.old hooks.new }
     {
-        let remount = Remount {
-            read_only,
-            task: self.number(),
-            processors: self.config.processors,
-            mounts: self.config.mounts,
-            nodes: self.config.nodes,
-            step: RemountStep::Locks,
-        };
+        let remount = self.first_remount(read_only);
         let op = Op::RemountSb { read_only };
         outcome(self.perform_waiting(rt, gates, op, remount, hooks))
     }
@@ -298,14 +278,7 @@ impl Task {
         requires { IsFrom self.old gates.now }
         ensures { PerformsAsking H.answers (FreezeOp holder) self.old self.new result hooks.old hooks.new }
     {
-        let freeze = Freeze {
-            task: self.number(),
-            tasks: self.config.tasks,
-            processors: self.config.processors,
-            nodes: self.config.nodes,
-            holder,
-            step: FreezeStep::Locks,
-        };
+        let freeze = self.first_freeze(holder);
         let op = Op::Freeze { holder };
         outcome(self.perform_waiting(rt, gates, op, freeze, hooks))
     }
@@ -328,11 +301,7 @@ impl Task {
         requires { IsFrom self.old gates.now }
         ensures { PerformsAsking H.answers (ThawOp holder) self.old self.new result hooks.old hooks.new }
     {
-        let thaw = Thaw {
-            task: self.number(),
-            holder,
-            step: ThawStep::Locks,
-        };
+        let thaw = self.first_thaw(holder);
         let op = Op::Thaw { holder };
         outcome(self.perform_waiting(rt, gates, op, thaw, hooks))
     }

@@ -149,7 +149,7 @@ abbrev pub events_left : TaskState → ℕ
 events_left now = most_events_of_all + 1 - steps_of now
 
 -- why an operation can't begin, said of the answer of a beginning
-refused_as : (e : GateError) (o : Option GateError) {A : Type 0} (r : GateError) → Err e ≡ unless_refused o → o ≡ Some r →
+pub refused_as : (e : GateError) (o : Option GateError) {A : Type 0} (r : GateError) → Err e ≡ unless_refused o → o ≡ Some r →
     ◌≡◌ {A = Result A GateError} (Err e) (Err r)
 refused_as e o r is at =
     let both : ◌≡◌ {A = Result (Unit {0}) GateError} (Err e) (Err r) = is ∙ ap unless_refused at in
@@ -157,7 +157,7 @@ refused_as e o r is at =
     ap (λ x. Err x) same
 
 -- a refused beginning has a refusal
-refused_none : (e : GateError) (o : Option GateError) → Err e ≡ unless_refused o → o ≡ None → ⊥
+pub refused_none : (e : GateError) (o : Option GateError) → Err e ≡ unless_refused o → o ≡ None → ⊥
 refused_none e o is at =
     let both : ◌≡◌ {A = Result (Unit {0}) GateError} (Err e) (Ok tt) = is ∙ ap unless_refused at in
     let no : ⊥ = cc in

@@ -113,7 +113,7 @@ went_with_so c within op start event action next hook asks waits {table} {left_t
     asks waits goes.1 goes.2 (subst IsWithin goes.0.config within) next refl)
 
 -- of which the hooks may be left out
-unasked : (op : Op) (start : TaskState) (next : Next Phase) (now : TaskState) (asks : List Ask) (waits : ℕ) →
+pub unasked : (op : Op) (start : TaskState) (next : Next Phase) (now : TaskState) (asks : List Ask) (waits : ℕ) →
     WentWith asks waits op start next now → WentWaiting waits op start next now
 unasked op start (Go q) now asks waits went = (went.0, went.2)
 unasked op start (Wait q) now asks waits went = (went.0, went.2)

@@ -1,0 +1,74 @@
+-- a beginning, and a line of steps that may ask hooks
+use Rattle.std.proofs.Common.{sym, ap, ◌∙◌}
+use Rattle.std.specs.Prelude.{Some}
+use Rattle.access_model.specs.Replies.{map_next}
+use Rattle.gate_steps.proofs.call_events.Onward.{stands_at, done_at}
+use Rattle.gate_steps.specs.call_events.Progress.TheVariants.{Going, Done}
+use Rattle.gate_world.specs.declared.work.Phase.{Phase}
+use Rattle.vfs_gates.proofs.Admitting.{refused_by}
+use Rattle.vfs_gates.proofs.AtOnce.{went_there, refused_at_once, told_at_once}
+use Rattle.vfs_gates.proofs.Calling.{Call, Left, call_with, is_tied, has_asked_none, not_begun, ties_at, ties_done, goes_at, ended_at}
+use Rattle.vfs_gates.proofs.Rooming.{room_at, room_done}
+use Rattle.vfs_gates.proofs.Waiting.{left_tells, once}
+use Rattle.vfs_gates.proofs.task.Task.perform_at_once.Goals as goal
+use Rattle.vfs_gates.proofs.task.Task.perform_at_once.Goals.{After-begin_in_line-next}
+
+-- the call, and what its line has left
+abbrev call : (g : _) → After-begin_in_line-next g → Call
+call g c =
+    call_with c.args.op c.self.inside c.args.gates.now.words.config c.args.self.now c.self.view_is c.requires.from.1 c.self.invariant.0
+    c.admit.result c.admit.ensures c.in_default.not-Err (g.P.UnderWay.as_phase c.args.first) c.requires.first
+
+abbrev left : (g : _) (c : After-begin_in_line-next g) → Left (call g c)
+left g c = record {
+  next = map_next g.P.UnderWay.as_phase c.begin_in_line-next.result;
+  accesses = c.self.inside.kept.accesses;
+  known = c.begin_in_line-next.new.seat.me.0;
+  table = c.begin_in_line-next.new.seat.table_id;
+  tied = c.begin_in_line-next.ensures.led.tied;
+  waits = 0;
+  went = went_there (call g c).op (call g c).start c.begin_in_line-next.ensures.led (has_asked_none (call g c));
+}
+
+pub begin_in_line-next-requires-clause-tied : goal.begin_in_line-next-requires-clause-tied
+begin_in_line-next-requires-clause-tied g c =
+    is_tied (call_with c.args.op c.self.inside c.args.gates.now.words.config c.args.self.now c.self.view_is c.requires.from.1 c.self.invariant.0
+    c.admit.result c.admit.ensures c.in_default.not-Err (g.P.UnderWay.as_phase c.args.first) c.requires.first)
+
+pub invariant_of-self : goal.invariant_of-self
+invariant_of-self g c =
+    let d = (goal.at.invariant_of-self g c).After-begin_in_line-next in (
+      ties_done (call g d) (left g d) c.in-Done.answer (done_at g.P.UnderWay.as_phase c.begin_in_line-next.result c.in-Done.answer c.in-Done.is),
+      c.begin_in_line-next.ensures.slots ∙ c.self.invariant.1,
+      room_done (call g d) _ c.requires.other c.self.invariant.2 (left g d) c.in-Done.answer
+          (done_at g.P.UnderWay.as_phase c.begin_in_line-next.result c.in-Done.answer c.in-Done.is),
+      left_tells (call g d) (left g d) c.waits-self-inside.result (once (map_next g.P.UnderWay.as_phase c.begin_in_line-next.result) c.waits-self-inside.result c.waits-self-inside.ensures),
+    )
+
+pub invariant_of-self-in-Go : goal.invariant_of-self-in-Go
+invariant_of-self-in-Go g c =
+    let d = (goal.at.invariant_of-self-in-Go g c).After-begin_in_line-next in
+    let stands = stands_at g.P.UnderWay.as_phase c.begin_in_line-next.result c.in-Go.under_way c.in-Go.is ∙ ap (λ (p : Phase). Some p) (sym c.phase.ensures) in (
+      ties_at (call g d) (left g d) _ stands,
+      c.begin_in_line-next.ensures.slots ∙ c.self.invariant.1,
+      room_at (call g d) _ c.requires.other c.self.invariant.2 (left g d) _ stands,
+      left_tells (call g d) (left g d) c.waits-self-inside.result (once (map_next g.P.UnderWay.as_phase c.begin_in_line-next.result) c.waits-self-inside.result c.waits-self-inside.ensures),
+    )
+
+pub returns-in-Done : goal.returns-in-Done
+returns-in-Done g c =
+    let d = (goal.at.returns-in-Done g c).After-begin_in_line-next in
+    let called = ended_at (call g d) (left g d) c.in-Done.answer (done_at g.P.UnderWay.as_phase c.begin_in_line-next.result c.in-Done.answer c.in-Done.is) in
+    told_at_once (call g d).op (call g d).start _ (call g d).admitted (ap (λ s. s.table) called.after) (ap (λ s. s.config) called.after)
+    (not_begun (call g d)) (Done c.in-Done.answer) called
+
+pub returns-in-Go : goal.returns-in-Go
+returns-in-Go g c =
+    let d = (goal.at.returns-in-Go g c).After-begin_in_line-next in
+    let goes = goes_at (call g d) (left g d) c.phase.result (stands_at g.P.UnderWay.as_phase c.begin_in_line-next.result c.in-Go.under_way c.in-Go.is ∙
+    ap (λ (p : Phase). Some p) (sym c.phase.ensures)) in
+    told_at_once (call g d).op (call g d).start _ (call g d).admitted goes.table goes.config (not_begun (call g d)) Going goes
+
+pub returns-in-Err : goal.returns-in-Err
+returns-in-Err g c =
+    refused_at_once c.args.op c.args.self.now c.in-Err.refusal (refused_by c.args.op c.args.self.now c.in-Err.refusal (sym c.in-Err.is ∙ c.admit.ensures))
