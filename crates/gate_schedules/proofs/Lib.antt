@@ -12,3 +12,4 @@ pub mod Whole
 pub mod Runs
 pub mod LevelRuns
 pub mod Deadlocks
+pub mod same_phases

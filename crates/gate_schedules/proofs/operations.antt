@@ -1,3 +1,4 @@
+pub mod frames
 pub mod WantLoads
 pub mod WantCounts
 pub mod Wants

@@ -3,7 +3,6 @@ pub mod Counts
 pub mod Changes
 pub mod Clearings
 pub mod Each
-mod Sample
 pub mod Allowed
 pub mod Steps
 pub mod Sweeps

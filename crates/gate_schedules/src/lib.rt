@@ -1,12 +1,10 @@
-//! Whole schedules, and what holds of each of them: the headline; below it the laws of all operations (`operations`), those of the tree
-//! (`trees`), and that phases which compare equal are the same (`same_phases`). What a step tells, what is kept of a task between its
-//! steps, and what moves the gates of a schedule (`Driver`), by whatever program does them.
+//! Whole schedules, and what holds of each of them: the headline; below it the laws of all operations (`operations`) and those of the tree
+//! (`trees`). What a step tells, what is kept of a task between its steps, and what moves the gates of a schedule (`Driver`), by whatever
+//! program does them.
 #![tactic(auto)]
 
 pub mod drivers;
-pub mod laws;
 pub mod operations;
-pub mod same_phases;
 pub mod schedules;
 pub mod seats;
 pub mod steps;

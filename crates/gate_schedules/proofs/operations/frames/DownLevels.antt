@@ -196,11 +196,6 @@ queued_passed GpState.Exit e = refl
 queued_passed GpState.Replay e = refl
 queued_passed s e = absurd (true≢false (sym e))
 
--- a load of a word whose state is so ends the wait for it
-state_passes : (d : DownWrite) (n : ℕ) (word : SyncWord) → unpack n ≡ Some word → is_passed word.state ≡ true →
-    passed_awaited d (unpack n) ≡ Next.Go (at_down_write d DownWriteStep.SetsBlock)
-state_passes d n word packed e = rw (packed, e) refl
-
 module _ (c : Config) (lim : IsWithin c) (w : World) (good : IsGood c w) (t : ℕ) (lt : t < c.tasks) where
   -- the counts of a level whose writer goes from one role to another
   abbrev RoleAfter : ℕ → LevelRole → Type 0

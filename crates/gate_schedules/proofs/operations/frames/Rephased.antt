@@ -2,7 +2,7 @@
 use Rattle.access_model.specs.declared.{actions.Action.Action, replies.Next.Next}
 use Rattle.cpu_words.specs.{Hooks.HookAnswer, declared.{events.Touch.Touch, names.WordName.WordName}}
 use Rattle.finite_sums.proofs.Totals.{update_at}
-use Rattle.gate_schedules.proofs.operations.frames.{Beside.{made, made_again, made_keeps_beside, rephased_beside, shown_beside}, Frames.left_alone}
+use Rattle.gate_schedules.proofs.operations.frames.{Beside.{made, made_again, made_keeps_beside, rephased_beside}, Frames.left_alone}
 use Rattle.gate_world.specs.{Alike.{IsAlike, Roles, at_phase, off_tree, rephased, roles_of}, Fits.Fits, Holdings.held_after, Rules.Files}
 use Rattle.gate_world.specs.{Rules.{Holds, IsGood, Moves, Tree}, Shown.shown, Views.{held_of, phase_after}, Worlds.World, declared.config.Config.Config}
 use Rattle.gate_world.specs.declared.{views.View.View, work.Phase.Phase}
@@ -22,9 +22,6 @@ module _ (c : Config) (w : World) (t : ℕ) (lt : t < c.tasks) (q : Option Phase
 
   pub rephased_good : Fits c t (held_of (w.views t)) q → IsGood c w → IsGood c (rephased w t q)
   rephased_good fits good = rephased_beside c w t lt q (λ j. off_tree (same j)) fits good (rephased_tree (good Tree)) (rephased_files (good Files))
-
-  pub rephased_shown : shown c (rephased w t q) ≡ shown c w
-  rephased_shown = shown_beside c w t lt q (λ j. off_tree (same j))
 
 -- an event of a task that stands at one phase, and of the same task at another phase that is alike
 module _ (c : Config) (w : World) (t : ℕ) (lt : t < c.tasks) (p : Option Phase) (n : WordName × Touch) (hook : HookAnswer)

@@ -5,14 +5,14 @@ use Rattle.std.specs.Prelude.{Option, Some, None, Bool, if◌then◌else◌}
 use Rattle.finite_sums.{proofs.Totals.{update_map, update_off, update_same}, specs.Sums.update}
 use Rattle.cpu_words.specs.{Touches.left, Words.{Words, put, read}, declared.{events.Touch.Touch, names.WordName.WordName}}
 use Rattle.cpu_words.specs.gate_counts.Levels.{LevelRole, LevelHolds, Out as CountsNot, Passed as CountsPassed}
-use Rattle.freeze_levels.specs.Levels.{closing, reopening}
+use Rattle.freeze_levels.specs.Levels.{closing}
 use Rattle.freeze_laws.specs.levels.{Events.{SyncLevel, SyncStep}, Operations.{put_at, left_by}, Roles.{Closed, Out as IsApart}}
 use Rattle.gate_world.specs.{LevelRuns.level_in, Levels.{at_level, level_role_of, inside, is_frozen_whole}}
 use Rattle.gate_world.specs.Roles.{Stand, stand_count, stand_sync, closed_to}
 use Rattle.gate_world.specs.{Rules.{IsGood, Holds, AtLevel, SyncAt, Sections}, Worlds.World, declared.{config.Config.Config, views.View.View, work.Phase.Phase}}
 use Rattle.gate_schedules.proofs.operations.frames.Frames.{left_alone, level_as, level_view_as, SameLevelWords, SameLevelCounts}
 use Rattle.gate_schedules.proofs.operations.frames.LevelWorlds.{IsEventAt, sync_there, sync_elsewhere, sections_stay}
-use Rattle.gate_schedules.proofs.operations.frames.Standing.{LevelsHold, left_world, closing_stand, still_closed, Stands, opening_stand}
+use Rattle.gate_schedules.proofs.operations.frames.Standing.{LevelsHold, left_world, closing_stand, still_closed, Stands}
 
 pub count_at : (i : ℕ) (s : Stand) → i ≡ s.level → stand_count i (Some s) ≡ s.count
 count_at i s e = rw (eq-eqb i s.level e) refl
@@ -50,10 +50,6 @@ sync_closed i n le = elim (eqb_tells i n) [
 pub record SaySame (s z : Option Stand) : Type 0 where
   pub counts : (i : ℕ) → 1 ≤ i → i ≤ 3 → stand_count i z ≡ stand_count i s
   pub syncs : (i : ℕ) → 1 ≤ i → i ≤ 3 → stand_sync i z ≡ stand_sync i s
-
--- each stand says what it says
-pub says_same : (s : Option Stand) → SaySame s s
-says_same s = record { counts = λ i one three. refl; syncs = λ i one three. refl }
 
 -- the other way round
 pub say_back : (s z : Option Stand) → SaySame s z → SaySame z s
@@ -130,11 +126,6 @@ closing_first p tasks processors = stands_so p _ _ (say_back _ _ (closing_says_n
 
 pub still_up : (n : ℕ) → still_closed (suc n) ≡ Some (closed_to (suc n))
 still_up n = rw (ne_eqb (suc n) 0 (λ e. omega (arith, e))) refl
-
--- with a level closed, its reopening that is to begin is that stand
-pub still_closed_is : (level : ℕ) → 1 ≤ level → still_closed level ≡ Some (opening_stand (reopening level))
-still_closed_is zero one = absurd (omega (arith, one))
-still_closed_is (suc n) one = still_up n
 
 -- before a level that isn't the first, the one below it is the last that is closed
 pub still_before : (n : ℕ) → still_closed (suc (suc n) - 1) ≡ Some (closed_to (suc n))
