@@ -1,15 +1,35 @@
-//! The laws of all operations: each event of each phase keeps the rule, and moves the shown model by its action or not at all; what a trace
-//! tells of its operation; and who comes to a reply, who is kept, and by what. It has no code: its functions state laws.
+//! The laws of all operations: each event of each phase keeps the rule, and moves the shown model by its action or not at all; a frozen tree
+//! is whole; and who comes to a reply, who is kept, and by what (`deadlocks`). It has no code: its functions state laws.
 
-pub mod call_events;
-pub mod change_events;
-pub mod close_events;
 pub mod deadlocks;
-pub mod frames;
-pub mod freeze_events;
-pub mod read_events;
-pub mod remount_events;
-pub mod snapshot_events;
-pub mod thaw_events;
-pub mod want_events;
-pub mod write_events;
+
+ghost use Rattle.std.specs.Prelude.{◌≡◌, ℕ, ◌<◌, Some};
+ghost use Rattle.cpu_words.specs.Hooks.{HookAnswer};
+ghost use Rattle.gate_world.specs.declared.config.Config.{Config};
+ghost use Rattle.gate_world.specs.declared.work.Phase.{Phase};
+ghost use Rattle.gate_world.specs.Configs.{IsWithin};
+ghost use Rattle.gate_world.specs.Headline.{FrozenTreeIsWhole};
+ghost use Rattle.gate_world.specs.Moments.{CompletesNow};
+ghost use Rattle.gate_world.specs.Rules.{IsGood, StepKeeps};
+ghost use Rattle.gate_world.specs.Work.{hook_of, IgnoresAnswer};
+ghost use Rattle.gate_world.specs.Worlds.{World};
+
+/// Each event of each operation keeps the rule, and moves the shown model by its action or not at all (`keeps`). A snapshot that it completes
+/// has loaded the present tree, while all is frozen (`completes`). Does nothing: its contract is the law.
+pub fn each_event_keeps_the_rule()
+    ensures keeps { (c : Config) → IsWithin c → (w : World) → IsGood c w → (t : ℕ) → t < c.tasks → (hook : HookAnswer) (phase : Phase) →
+        (w.views t).phase ≡ Some phase → StepKeeps c w t hook phase }
+    ensures completes { (c : Config) → IsWithin c → (w : World) → IsGood c w → (t : ℕ) → t < c.tasks → (hook : HookAnswer)
+        (phase : Phase) → (w.views t).phase ≡ Some phase → CompletesNow c w t hook phase }
+{}
+
+/// An event that reads no hook's answer is the same whatever a hook answers, and so is what comes after it. Does nothing: its contract
+/// is the law.
+pub fn an_event_ignores_answers_that_it_does_not_read()
+    ensures { (phase : Phase) → IgnoresAnswer phase (hook_of phase) }
+{}
+
+/// Where the rule holds, a tree that is frozen is sound and clean. Does nothing: its contract is the law.
+pub fn a_frozen_tree_is_whole()
+    ensures { (c : Config) → IsWithin c → (w : World) → IsGood c w → FrozenTreeIsWhole c w }
+{}

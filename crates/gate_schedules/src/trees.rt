@@ -1,9 +1,7 @@
-//! The laws of the tree behind the gates, over its words and the roles of tasks: what each event there keeps, and what action it is.
-//! It has no code: its functions state laws.
+//! The laws of the calls at the tree behind the gates, over its words and the roles of tasks: what each event keeps, which action it is, and
+//! what justifies a refusal. It has no code: its functions state laws.
 
-ghost use Rattle.std.specs.Prelude.{◌≡◌, ℕ, suc, ◌+◌, ◌<◌, ◌≤◌, Bool, Option};
-ghost use Rattle.access_model.specs.declared.actions.Action.{Action};
-ghost use Rattle.access_model.specs.States.{Limits, State};
+ghost use Rattle.std.specs.Prelude.{◌≡◌, ℕ, ◌<◌, Bool};
 ghost use Rattle.cpu_words.specs.Hooks.{HookAnswer};
 ghost use Rattle.cpu_words.specs.Names.{Extents, IsWord};
 ghost use Rattle.cpu_words.specs.Words.{Words};
@@ -24,46 +22,11 @@ ghost use Rattle.gated_tree.specs.declared.opens.OpenStep.{OpenStep};
 ghost use Rattle.gated_tree.specs.declared.snapshots.Snapshot.{Snapshot};
 ghost use Rattle.gated_tree.specs.declared.snapshots.SnapshotStep.{SnapshotStep};
 ghost use Rattle.gated_tree.specs.declared.phases.TreePhase.{TreePhase};
-ghost use Rattle.node_words.specs.Nodes.{IsNode};
-ghost use Rattle.gated_tree.specs.Phases.{after, create_next, grow_next, mark_next, move_next, next, open_next, remove_next, snapshot_next};
-ghost use Rattle.gated_tree.specs.Calls.{NextFits, TreePhaseFits, phase_role};
-ghost use Rattle.gated_tree.specs.Roles.{AreWithin, Bounds, Reading, Role, TreeHolds, TreeState};
-ghost use Rattle.gated_tree.specs.Trees.{IsClean, IsSound};
-ghost use Rattle.gate_schedules.specs.trees.Events.{Comes, Event, HasLeave, IsQuiet, ModelDoes, MovesBy, TreeAllows, bounds_of, tree_shown};
+ghost use Rattle.gated_tree.specs.Phases.{create_next, grow_next, mark_next, move_next, next, open_next, remove_next, snapshot_next};
+ghost use Rattle.gated_tree.specs.Calls.{TreePhaseFits, phase_role};
+ghost use Rattle.gated_tree.specs.Roles.{AreWithin, Bounds, Role, TreeHolds};
 ghost use Rattle.gate_schedules.specs.trees.Ends.{CreateEnds, CreateKnows, GrowEnds, GrowKnows, MarkEnds, MoveEnds, MoveKnows, OpenEnds, Passed, RemoveEnds, RemoveKnows, SeesMore, SnapshotEnds, SnapshotKnows};
 ghost use Rattle.gate_schedules.specs.trees.Steps.{MayStep, Notes, StepKeeps, found_at, tree_in};
-
-/// Each event keeps what holds of the tree. Where it adds an action, the shown tree allows that and moves by just its effect; else the
-/// shown tree stays. Does nothing: its contract is the law.
-pub fn each_event_keeps_the_tree()
-    ensures { (c : Bounds) → AreWithin c → (s : TreeState) → TreeHolds c s → (t : ℕ) → t < c.tasks → (next : TreeState)
-        (action : Option Action) → Event c s t next action → TreeHolds c next × MovesBy c s.node next.node action }
-{}
-
-/// At any moment each node word is one that a node may have, and the blocks charged are within the capacity. Does nothing: its
-/// contract is the law.
-pub fn each_node_word_unpacks()
-    ensures nodes { (c : Bounds) → AreWithin c → (s : TreeState) → Comes c s → (n : ℕ) → n < c.nodes → IsNode (s.node n) }
-    ensures room { (c : Bounds) → AreWithin c → (s : TreeState) → Comes c s → s.used ≤ c.capacity }
-{}
-
-/// Where nobody has charged anything, the tree is sound. A whole snapshot of a sealed tree has then loaded the words of a tree that is
-/// sound and clean. Does nothing: its contract is the law.
-pub fn counts_are_exact_where_nobody_charges()
-    ensures words { (c : Bounds) → AreWithin c → (s : TreeState) → Comes c s → IsQuiet c s →
-        IsSound c.nodes s.used (tree_shown s.node) s.kids }
-    ensures snapshot { (c : Bounds) → AreWithin c → (s : TreeState) → Comes c s → IsQuiet c s → s.sealed ≡ 1 →
-        (t : ℕ) → t < c.tasks → (k : ℕ) (values : ℕ → ℕ) → s.at t ≡ Reading k values → c.nodes + c.nodes < k →
-        IsSound c.nodes (values 0) (tree_shown (λ n. values (suc n))) (λ d. values (suc (c.nodes + d))) ×
-        IsClean c.nodes (tree_shown (λ n. values (suc n))) }
-{}
-
-/// An action that the tree allows, of a task with the accesses that the model asks for, is one that the model allows, and it changes
-/// the tree alone. Does nothing: its contract is the law.
-pub fn the_model_allows_what_the_tree_allows()
-    ensures { (l : Limits) (s : State) (t : ℕ) (action : Action) → HasLeave l s t action → TreeAllows (bounds_of l) s.tree action →
-        ModelDoes l s t action }
-{}
 
 /// Each event of each call at the tree, among all words, keeps what holds of the tree. Where it adds an action, the shown tree allows that
 /// and moves by just its effect; else the shown tree stays. The word of the event is there. Does nothing: its contract is the law.
@@ -75,12 +38,6 @@ pub fn each_call_keeps_the_tree()
     ensures words { (c : Bounds) → AreWithin c → (sealed bare : ℕ) (w : Words) (at : ℕ → Role) → TreeHolds c (tree_in sealed bare w at) →
         (t : ℕ) → t < c.tasks → (e : Extents) → e.nodes ≡ c.nodes → (phase : TreePhase) (values : ℕ → ℕ) (hook : HookAnswer) →
         at t ≡ phase_role values phase → TreePhaseFits c t phase → IsWord e (next phase hook).0 }
-{}
-
-/// Whatever an event of a phase finds, the numbers of the phase that comes after it are in range. Does nothing: its contract is the law.
-pub fn what_comes_after_fits()
-    ensures { (c : Bounds) → AreWithin c → (t : ℕ) (phase : TreePhase) (found : ℕ) (hook : HookAnswer) → TreePhaseFits c t phase →
-        NextFits c t (after phase found hook).0 }
 {}
 
 /// What the events of a call have found is known from each event to the next, by any account of which tests they passed. So a call that is

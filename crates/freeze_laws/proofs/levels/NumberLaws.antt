@@ -32,16 +32,6 @@ put_from (Some w) put e = (w, refl)
 pub state_is : (n : ℕ) (w : SyncWord) (s : GpState) → unpack n ≡ Some w → state_found n ≡ Some s → w.state ≡ s
 state_is n w s e h = let f : state_found n ≡ Some w.state = ap state_found_in e in cc
 
-lawful_empty : (s : GpState) (t : Bool) (c : ℕ) → c ≡ 0 → is_lawful s t c ≡ true → (s ≡ GpState.Idle) ⊎ (is_queued s ≡ true)
-lawful_empty s t (suc c) e l = absurd (omega arith)
-lawful_empty GpState.Idle t zero e l = inl refl
-lawful_empty GpState.Enter true zero e l = cc
-lawful_empty GpState.Enter false zero e l = cc
-lawful_empty GpState.Passed true zero e l = cc
-lawful_empty GpState.Passed false zero e l = cc
-lawful_empty GpState.Exit t zero e l = inr refl
-lawful_empty GpState.Replay t zero e l = inr refl
-
 module _ (tasks sync block full : ℕ) (section : ℕ → ℕ) (at : ℕ → SyncRole) (level : SyncNumberHolds tasks sync block full section at) where
   can_go_on : (on : SyncWord → Option SyncWord) (P : SyncWord → Type 0) → Leaves (on level.word) P → CanGoOn on sync
   can_go_on on P h = subst (λ o. (put : ℕ) × (transition_of on o ≡ Some put)) (sym level.packed) (puts P (on level.word) h)

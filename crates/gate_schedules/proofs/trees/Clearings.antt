@@ -1,9 +1,9 @@
 -- A clearing of the dirty marks; the tree is sealed and opened again; a snapshot; what holds where nothing is charged.
-use Rattle.std.proofs.Common.{◌≡◌, ℕ, suc, ◌+◌, ◌-◌, ◌<◌, ◌≤◌, false, sym, ap, ◌∙◌, subst, inl, inr, arith}
-use Rattle.std.proofs.lemmas.Bool.{ne_eqb, lt-ltb, le-ltb, Decides.eqb_tells}
+use Rattle.std.proofs.Common.{◌≡◌, ℕ, suc, ◌<◌, ◌≤◌, false, sym, ap, ◌∙◌, subst, inl, inr, arith}
+use Rattle.std.proofs.lemmas.Bool.{ne_eqb, Decides.eqb_tells}
 use Rattle.std.specs.Prelude.{Option, Some, None}
-use Rattle.finite_sums.{proofs.Totals.{update_same, each_updated, total_none, total_same}, specs.Sums.update}
-use Rattle.access_model.specs.{States.{size_of, is_dirty, IsDirectory}, declared.actions.{Action.Action, NodeInfo.NodeInfo}}
+use Rattle.finite_sums.{proofs.Totals.{update_same, each_updated, total_none}, specs.Sums.update}
+use Rattle.access_model.specs.{States.{is_dirty}, declared.actions.{Action.Action, NodeInfo.NodeInfo}}
 use Rattle.node_words.proofs.ClearedMarks.{clean_stays, cleared_is, marked_file, file_shown, directory_clean}
 use Rattle.node_words.proofs.Packing.{word_returns}
 use Rattle.node_words.proofs.Words.{dirty_shown}
@@ -11,7 +11,7 @@ use Rattle.node_words.specs.Nodes.{dirty_in, removed_in, kind_in, kind_of, word_
 use Rattle.gated_tree.specs.Roles.{Out, Clearing, Reading, Bounds, TreeState, AreWithin, charge, child_charge, removal, tree_word, seen_as, IsFileNode}
 use Rattle.gated_tree.specs.Roles.{HasParent, TreeHolds}
 use Rattle.node_words.specs.declared.nodes.NodeWord.{NodeWord}
-use Rattle.gated_tree.specs.Trees.{is_child, HasDirectory, IsSound, IsClean}
+use Rattle.gated_tree.specs.Trees.{HasDirectory, IsSound, IsClean}
 use Rattle.gate_schedules.proofs.trees.{Changes.{file_shows, unmarks}, Laws.{role_says, moves}}
 use Rattle.gate_schedules.specs.trees.Events.{turned, with_node, cleared_word, tree_shown, opens_shown, TreeDoes, MovesBy, MayClean, IsQuiet}
 
@@ -19,11 +19,6 @@ parent_there : (nodes : ℕ) (node : ℕ → ℕ) (entry : Option NodeInfo) → 
     HasDirectory nodes (tree_shown node) entry
 parent_there nodes node None h = tt
 parent_there nodes node (Some info) h = h
-
-parent_loaded : (nodes : ℕ) (tree loaded : ℕ → Option NodeInfo) → ((n : ℕ) → n < nodes → loaded n ≡ tree n) → (entry : Option NodeInfo) →
-    HasDirectory nodes tree entry → HasDirectory nodes loaded entry
-parent_loaded nodes tree loaded shows None h = tt
-parent_loaded nodes tree loaded shows (Some info) h = (h.0, subst IsDirectory (sym (shows info.parent h.0)) h.1)
 
 module _ (c : Bounds) (s : TreeState) (good : TreeHolds c s) where
   -- with other flags, where these have what they ask for
@@ -130,21 +125,6 @@ module _ (c : Bounds) (s : TreeState) (good : TreeHolds c s) where
           | inr e ↦ ap (seen_as c.nodes i) (earlier i (omega (arith, l, e.1))) ∙ before i (omega (arith, l, e.1))
         ])
 
-    -- what a whole snapshot has loaded are the words of the tree, but for who has files open
-    pub snapshot_is : (k : ℕ) (values : ℕ → ℕ) → s.at t ≡ Reading k values → c.nodes + c.nodes < k →
-        (values 0 ≡ s.used) × ((n : ℕ) → n < c.nodes → node_shown (values (suc n)) ≡ node_shown (s.node n)) ×
-        ((d : ℕ) → d < c.nodes → values (suc (c.nodes + d)) ≡ s.kids d)
-    snapshot_is k values is whole =
-        let says : (i : ℕ) → i < k → seen_as c.nodes i (values i) ≡ seen_as c.nodes i (tree_word c.nodes s.used s.node s.kids i) =
-        role_says c s good t lt (Reading k values) is in (
-          ap (λ x. x.1) (says 0 (omega (arith, whole))),
-          λ n ln. ap (λ x. x.0) (rw (lt-ltb n c.nodes ln) at (says (suc n) (omega (arith, whole, ln)))),
-          λ d ld.
-              let back : c.nodes + d - c.nodes ≡ d = omega arith in
-              ap (λ x. x.1) (rw (le-ltb (c.nodes + d) c.nodes (omega arith)) at (says (suc (c.nodes + d)) (omega (arith, whole, ld)))) ∙
-              ap s.kids back,
-        )
-
   -- where nobody has charged anything, the counts are exact
   pub exact : IsQuiet c s → IsSound c.nodes s.used (tree_shown s.node) s.kids
   exact none = record {
@@ -152,24 +132,3 @@ module _ (c : Bounds) (s : TreeState) (good : TreeHolds c s) where
     children = λ d ld. omega (arith, good.children d ld, total_none c.tasks (λ t. child_charge d (s.at t)) (λ t l. (none t l).children d));
     parents = λ n ln. parent_there c.nodes s.node (node_shown (s.node n)) (good.parents n ln);
   }
-
-  -- and a whole snapshot of a sealed tree has loaded the words of a sound and clean one
-  pub snapshot_exact : (t : ℕ) → t < c.tasks → (k : ℕ) (values : ℕ → ℕ) → s.at t ≡ Reading k values → c.nodes + c.nodes < k → s.sealed ≡ 1 →
-      IsQuiet c s →
-      IsSound c.nodes (values 0) (tree_shown (λ n. values (suc n))) (λ d. values (suc (c.nodes + d))) ×
-      IsClean c.nodes (tree_shown (λ n. values (suc n)))
-  snapshot_exact t lt k values is whole sealed none =
-      let w = snapshot_is t lt k values is whole in
-      let shows : (n : ℕ) → n < c.nodes → node_shown (values (suc n)) ≡ node_shown (s.node n) = w.1 in
-      let exactly : IsSound c.nodes s.used (tree_shown s.node) s.kids = exact none in
-      let parents : (entry : Option NodeInfo) → HasDirectory c.nodes (tree_shown s.node) entry →
-      HasDirectory c.nodes (tree_shown (λ n. values (suc n))) entry =
-      λ entry. parent_loaded c.nodes (tree_shown s.node) (tree_shown (λ n. values (suc n))) shows entry in (
-        record {
-          blocks = w.0 ∙ exactly.blocks ∙ sym (total_same c.nodes _ _ (λ n ln. ap size_of (shows n ln)));
-          children = λ d ld. w.2 d ld ∙ exactly.children d ld ∙ sym (total_same c.nodes _ _ (λ n ln. ap (is_child d n) (shows n ln)));
-          parents = λ n ln. subst (HasDirectory c.nodes (tree_shown (λ x. values (suc x)))) (sym (shows n ln))
-              (parents (node_shown (s.node n)) (exactly.parents n ln));
-        },
-        λ n ln. ap is_dirty (shows n ln) ∙ good.clean sealed n ln,
-      )

@@ -1,6 +1,6 @@
 -- Loads, and the events at `used` and at the counts of children. None of them changes a node word, so the shown tree stays.
-use Rattle.std.proofs.{Common.{◌≡◌, ℕ, Bool, zero, suc, ◌+◌, ◌<◌, ◌≤◌, refl, sym, ap, ◌∙◌, subst, arith}, lemmas.Bool.Decides.nat_tests}
-use Rattle.std.specs.Prelude.{Option, Some, None, Ok, true, false, if◌then◌else◌}
+use Rattle.std.proofs.{Common.{◌≡◌, ℕ, Bool, zero, suc, ◌+◌, ◌<◌, ◌≤◌, refl, sym, ap, ◌∙◌, arith}, lemmas.Bool.Decides.nat_tests}
+use Rattle.std.specs.Prelude.{Option, Some, Ok, true, false}
 use Rattle.finite_sums.{proofs.Totals.{each_updated, total_bound, total_at}, specs.Sums.{update, total}}
 use Rattle.access_model.specs.{States.{is_removed, one_if}, declared.actions.{Kind.Kind, NodeInfo.NodeInfo}}
 use Rattle.cpu_words.specs.Touches.{wrap_add, wrap_sub}
@@ -17,22 +17,14 @@ pub same_le : (d e : ℕ) → is_same d e ≤ 1
 same_le d e = grind (arith, nat_tests)
 
 parent_le : (d : ℕ) (entry : Option NodeInfo) → has_parent d entry ≤ 1
-parent_le d None = omega arith
-parent_le d (Some info) = elim info.removed as (λ b. (if b then 0 else is_same info.parent d) ≤ 1) [
-  | true ↦ omega arith
-  | false ↦ same_le info.parent d
-]
+parent_le d entry = grind arith
 
 pub child_le : (d n : ℕ) (entry : Option NodeInfo) → is_child d n entry ≤ 1
 child_le d zero entry = omega arith
 child_le d (suc n) entry = parent_le d entry
 
 pub child_charge_le : (d : ℕ) (r : Role) → child_charge d r ≤ 1
-child_charge_le d (Placing e) = same_le e d
-child_charge_le d (Moving file e) = same_le e d
-child_charge_le d (Freed b e) = same_le e d
-child_charge_le d (Returning e) = same_le e d
-child_charge_le d _ = omega arith
+child_charge_le d r = grind arith
 
 removal_le : (r : Role) → removal r ≤ 1
 removal_le (Removing file) = omega arith
@@ -45,9 +37,7 @@ one_le false = omega arith
 -- what the tree says of the parent of a file that was loaded
 file_parent : (c : Bounds) (node : ℕ → ℕ) (word : ℕ) (file : NodeWord) → node_shown word ≡ info_of file → file.kind ≡ Some Kind.File →
     HasParent c.nodes node (node_shown word) → IsDirectoryAt c.nodes node file.parent
-file_parent c node word file shows kind h =
-    let made : HasParent c.nodes node (info_of file) = subst (HasParent c.nodes node) shows h in
-    subst (λ k. HasParent c.nodes node (info_of (record file { kind = k }))) kind made
+file_parent c node word file shows kind h = grind arith
 
 module _ (c : Bounds) (s : TreeState) (good : TreeHolds c s) (t : ℕ) (lt : t < c.tasks) where
   pub looks : TreeHolds c (turned s t (s.at t))

@@ -12,7 +12,7 @@ use Rattle.gate_schedules.proofs.trees.Counts.{looks, finds_directory, finds_fil
 use Rattle.gate_schedules.proofs.trees.Counts.{refunds_blocks, frees_blocks, drops_blocks, remove_fails, counts_removal, uncounts, finds_last, finds_none, create_adds}
 use Rattle.gate_schedules.proofs.trees.Counts.{move_adds, subtracts_child}
 use Rattle.gate_schedules.proofs.trees.Laws.{role_says}
-use Rattle.gate_schedules.specs.trees.Events.{Event, MovesBy, Comes, Opening, After, opening_tree, turned, FindsDirectory, FindsFile, FindsTarget, FindsRoom, Looks}
+use Rattle.gate_schedules.specs.trees.Events.{Event, MovesBy, opening_tree, turned, FindsDirectory, FindsFile, FindsTarget, FindsRoom, Looks}
 use Rattle.gate_schedules.specs.trees.Events.{Leaves, CreateFails, MoveFails, RemoveFails, GrowFails, ChargesBlocks, RefundsBlocks, FreesBlocks, DropsBlocks}
 use Rattle.gate_schedules.specs.trees.Events.{CountsRemoval, Uncounts, CreateAdds, MoveAdds, SubtractsChild, Creates, Removes, MarksRemoved, Grows, Moves, Dirties}
 use Rattle.gate_schedules.specs.trees.Events.{Flushes, OpensFile, ClosesFile, FindsLast, FreesFile, FindsNone, GoesBare, StopsBare, BeginsClearing, Clears, Passes, Seals}
@@ -113,8 +113,3 @@ opening_holds c within =
       roles = λ t lt. tt;
       clean = λ e. absurd (omega (arith, e));
     }
-
-pub each_tree : (c : Bounds) → AreWithin c → (s : TreeState) → Comes c s → TreeHolds c s
-each_tree c within s Opening = opening_holds c within
-each_tree c within s (After before next t action comes lt event) =
-    (each_event c within before (each_tree c within before comes) t lt next action event).0

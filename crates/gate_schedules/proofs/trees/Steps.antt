@@ -2,7 +2,7 @@
 use Rattle.std.proofs.Common.{◌≡◌, ℕ, Bool, true, false, ◌+◌, ◌<◌, ◌≤◌, refl, sym, ap, ◌∙◌, subst, inl, inr, arith}
 use Rattle.std.proofs.lemmas.Bool.{cases_lt, lt-ltb, le-ltb, Decides.eqb_tells}
 use Rattle.std.specs.Prelude.{◌==◌, Option, Some, None, Result, Ok, Err, is_some, nat_lt, if◌then◌else◌}
-use Rattle.finite_sums.{proofs.Totals.update_same, specs.Sums.update}
+use Rattle.finite_sums.{specs.Sums.update}
 use Rattle.access_model.specs.declared.{actions.{Action.Action, Kind.Kind}, errors.GateError.GateError, replies.{Next.Next, Reply.Reply}}
 use Rattle.cpu_words.specs.{Words.{Words, read, put}, declared.{events.Touch.Touch, names.WordName.WordName}}
 use Rattle.gated_tree.specs.Calls.{create_role, remove_role, grow_role, move_role, mark_role, open_role, role_after, CreateStepFits, RemoveStepFits}
@@ -31,9 +31,7 @@ use Rattle.gate_schedules.specs.trees.Steps.{tree_in, words_left, found_at, Even
 
 -- a write of what is there leaves the tree
 same_tree : (sealed bare : ℕ) (w : Words) (at : ℕ → Role) (name : WordName) → tree_in sealed bare (put w name (read w name)) at ≡ tree_in sealed bare w at
-same_tree sealed bare w at (WordName.Node n) = λ j. record (tree_in sealed bare w at) { node = update_same w.node n j }
-same_tree sealed bare w at (WordName.Kids n) = λ j. record (tree_in sealed bare w at) { kids = update_same w.kids n j }
-same_tree sealed bare w at other = refl
+same_tree sealed bare w at name = grind arith
 
 module _ (c : Bounds) (within : AreWithin c) (sealed bare : ℕ) (w : Words) (at : ℕ → Role) (good : TreeHolds c (tree_in sealed bare w at))
     (t : ℕ) (lt : t < c.tasks) where

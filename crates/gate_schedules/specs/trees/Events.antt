@@ -1,7 +1,7 @@
 -- The events at the tree: what a task finds and does there, the tree that it leaves, and its action.
 use Rattle.std.specs.Prelude.{◌≡◌, ℕ, suc, ◌+◌, ◌-◌, ◌<◌, ◌≤◌, ◌⊎◌, true, false, Option, Some, None, Ok, bit_and}
 use Rattle.finite_sums.specs.Sums.{update, total}
-use Rattle.access_model.specs.Actions.{HoldsSomeMount, IsWriter, MayDo, opens_after, after_action, tree_after}
+use Rattle.access_model.specs.Actions.{HoldsSomeMount, IsWriter, tree_after}
 use Rattle.access_model.specs.States.{Limits, State, size_of, is_removed, IsFile, IsLinkedFile, IsDirectory, openers}
 use Rattle.access_model.specs.declared.actions.Action.{Action, TheVariants.{Create, Remove, Grow, MoveTo, Dirty, Clean, Open, Close}}
 use Rattle.access_model.specs.declared.actions.{Kind.{Kind, TheVariants.File}, NodeInfo.NodeInfo}
@@ -164,11 +164,6 @@ MovesBy c node after (Some action) = TreeDoes c node after action
 abbrev pub opening_tree : TreeState
 opening_tree = record { sealed = 0; bare = 0; used = 0; removed = 0; node = update (λ n. 0) 0 2; kids = λ d. 0; at = λ t. Out }
 
--- trees that come from the opening by events, one after another
-pub data Comes (c : Bounds) : TreeState → Type 0 where
-  Opening : Comes c opening_tree
-  After : (s next : TreeState) (t : ℕ) (action : Option Action) → Comes c s → t < c.tasks → Event c s t next action → Comes c next
-
 -- nobody has charged anything
 abbrev pub IsQuiet : Bounds → TreeState → Type 0
 IsQuiet c s = (t : ℕ) → t < c.tasks → HasNoCharge (s.at t)
@@ -189,10 +184,3 @@ HasLeave l s t _ = ⊥
 -- the model's numbers of tasks, nodes and blocks
 abbrev pub bounds_of : Limits → Bounds
 bounds_of l = record { tasks = l.tasks; nodes = l.nodes; capacity = l.capacity }
-
--- the model allows an action of a task, and its effect is on the tree and on the task's own open files alone
-abbrev pub ModelDoes : Limits → State → ℕ → Action → Type 0
-ModelDoes l s t action = MayDo l s t action × (after_action s t action ≡ record s {
-  opens = update s.opens t (opens_after action (s.opens t));
-  tree = tree_after action (openers s.opens) s.tree;
-})

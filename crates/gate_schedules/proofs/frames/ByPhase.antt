@@ -1,0 +1,65 @@
+-- What the theorem says of a phase by its steps is what its role with the stage says: whether it closes a level, which stage it stored last in
+-- a freeze, and whether it owns `umount`.
+use Rattle.std.proofs.Common.{◌≡◌, ℕ, refl, sym, ap, ◌∙◌, arith}
+use Rattle.std.specs.Prelude.{Option, Some, None, ◌==◌, ◌&&◌, ◌+◌, if◌then◌else◌}
+use Rattle.finite_sums.specs.Sums.{total}
+use Rattle.gated_tree.specs.declared.{snapshots.SnapshotStep.SnapshotStep}
+use Rattle.mount_counts.specs.declared.remounts.RemountStep.{RemountStep}
+use Rattle.percpu_rwsem.specs.declared.writers.{UpWriteStep.UpWriteStep}
+use Rattle.freeze_levels.specs.declared.{freezes.FreezeStep.FreezeStep, thaws.ThawStep.ThawStep}
+use Rattle.freeze_laws.specs.stages.{Roles.{Freezing, StageRole, freezes, sums, owns as stage_owns}, Shown.{is_passed as passed_at_level, passed_shown}}
+use Rattle.gate_world.specs.Roles.{freeze_owns, freeze_stage_role, remount_stage_role, reopening_role, snapshot_owns, snapshot_stage_role}
+use Rattle.gate_world.specs.{Roles.{thaw_owns, thaw_stage_role}, Rules.{stage_role_of, stage_roles}, Shown.{closing, is_passed, shown}}
+use Rattle.gate_world.specs.{Headline.{freezing_at}, Worlds.World, declared.{config.Config.Config, work.Phase.Phase}}
+
+reopening_owner : (level : ℕ) (s : UpWriteStep) → stage_owns (reopening_role level s) ≡ 1
+reopening_owner level UpWriteStep.ClearsBlock = refl
+reopening_owner level (UpWriteStep.Exits transition) = refl
+
+-- a freeze, a thaw and a snapshot own `umount` exactly where their roles with the stage say so
+pub freeze_owner : (nodes : ℕ) (s : FreezeStep) → stage_owns (freeze_stage_role nodes s) ≡ freeze_owns s
+freeze_owner nodes (FreezeStep.Reopens u code) = reopening_owner u.level u.step
+freeze_owner nodes s = refl
+
+pub thaw_owner : (s : ThawStep) → stage_owns (thaw_stage_role s) ≡ thaw_owns s
+thaw_owner (ThawStep.Reopens u) = reopening_owner u.level u.step
+thaw_owner s = refl
+
+pub snapshot_owner : (s : SnapshotStep) → stage_owns (snapshot_stage_role s) ≡ snapshot_owns s
+snapshot_owner SnapshotStep.Locks = refl
+snapshot_owner s = refl
+
+remount_apart : (nodes : ℕ) (s : RemountStep) → freezes (remount_stage_role nodes s) ≡ 0
+remount_apart nodes RemountStep.Locks = refl
+remount_apart nodes s = refl
+
+snapshot_apart : (s : SnapshotStep) → freezes (snapshot_stage_role s) ≡ 0
+snapshot_apart SnapshotStep.Locks = refl
+snapshot_apart s = refl
+
+pub closing_is : (i : ℕ) (p : Option Phase) → closing i p ≡ sums i (stage_role_of p)
+closing_is i p = grind arith
+
+-- so who has the same role closes the same
+pub closing_as : (p q : Option Phase) → stage_role_of q ≡ stage_role_of p → (i : ℕ) → closing i q ≡ closing i p
+closing_as p q same i = closing_is i q ∙ ap (sums i) same ∙ sym (closing_is i p)
+
+-- and the shown number of levels passed is that of the roles
+pub shown_passed : (c : Config) (w : World) → (shown c w).passed ≡ passed_shown c.tasks w.words.block (stage_roles w)
+shown_passed c w =
+    let each : (i : ℕ) → is_passed c w i ≡ passed_at_level c.tasks w.words.block (stage_roles w) i =
+    λ i j. if w.words.block i == 1 && total c.tasks (λ t. closing_is i (w.views t).phase j) == 0 then 1 else 0 in
+    λ j. each 1 j + (each 2 j + each 3 j)
+
+-- the stage that a freeze of this role stored last
+abbrev pub stage_of : StageRole → Option ℕ
+stage_of (Freezing stage place owner) = Some stage
+stage_of r = None
+
+pub apart_stage : (r : StageRole) → freezes r ≡ 0 → stage_of r ≡ None
+apart_stage (Freezing stage place owner) none = absurd (omega (arith, none))
+apart_stage r none = refl
+
+-- is the one that it stored last by its phase
+pub freezing_is : (p : Option Phase) → freezing_at p ≡ stage_of (stage_role_of p)
+freezing_is p = grind arith

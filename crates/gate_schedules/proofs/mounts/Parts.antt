@@ -1,0 +1,167 @@
+-- What the events of want, drop and change touch: the rest of the rule stays.
+use Rattle.std.proofs.{Common.{Bool, arith, inl, inr, refl, sym, true, true≢false, ◌≡◌, ◌<◌, ◌⊎◌, subst, ℕ, ◌∙◌, ap, List}, lemmas.Bool.{cases_Bool}}
+use Rattle.std.specs.Prelude.{Some, false, if◌then◌else◌}
+use Rattle.access_model.specs.{Histories.{levels_of, opens_of}, Replies.map_next, declared.{actions.Action.Action, replies.Next.Next}}
+use Rattle.cpu_words.specs.{Hooks.HookAnswer, Touches.{found_by, left}, Words.{Words, put, read}}
+use Rattle.cpu_words.specs.declared.{events.Touch.Touch, names.WordName.WordName}
+use Rattle.mount_counts.specs.Phases.{next, after}
+use Rattle.mount_counts.specs.declared.phases.{MountPhase.MountPhase}
+use Rattle.gate_world.specs.{Found.is_load, Levels.{at_level, level_added_after, level_taken_after, level_added_by, level_taken_by}}
+use Rattle.gate_world.specs.{Alike.{Roles, no_roles, roles_of}, Rules.{Holds, IsGood, Known, Part}}
+use Rattle.gate_world.specs.Rules.{SameView}
+use Rattle.gate_world.specs.Rules.{SameWords, Stages, Holding, StepKeeps, at_gates, GateStepKeeps, Tree, AtLevel, SyncAt, Sections, Files}
+use Rattle.gate_world.specs.{Trees.tree_role_of, Views.{phase_after, view_after, actions_after, has_open}, Worlds.{World, after_step, value_at}}
+use Rattle.gate_world.specs.{Worlds.words_after, declared.{config.Config.Config, views.View.View, work.Phase.Phase}}
+use Rattle.gate_schedules.proofs.frames.{Frames.{left_alone, level_view_as}, Known.{IsOwnersWork, known_after}, Words.load_same}
+
+-- the words that want, drop and change write
+abbrev pub is_gate_word : WordName → Bool
+is_gate_word WordName.Umount = true
+is_gate_word (WordName.MountFlags m) = true
+is_gate_word (WordName.MountCount m p) = true
+is_gate_word word = false
+
+-- the event of this touch on this word is a load, or it is a word of these
+abbrev pub IsGateTouch : WordName × Touch → Type 0
+IsGateTouch x = (is_load x.1 ≡ true) ⊎ (is_gate_word x.0 ≡ true)
+
+mounts_touch : (x : MountPhase) (hook : HookAnswer) → IsGateTouch (next x hook)
+mounts_touch x hook = grind arith
+
+-- the part of what an owner knows, which each event's own trace moves
+abbrev pub is_known_part : Part → Bool
+is_known_part Known = true
+is_known_part part = false
+
+pub known_is : (part : Part) → is_known_part part ≡ true → part ≡ Known
+known_is Known h = refl
+known_is part h = absurd (true≢false (sym h))
+
+-- the words but for these
+abbrev pub off_gates : Words → Words
+off_gates w = record w { umount = 0; flags = λ m. 0; count = λ m p. 0 }
+
+-- a load leaves all words
+pub load_left : (w : Words) (word : WordName) (touch : Touch) → is_load touch ≡ true → put w word (left touch (read w word)) ≡ w
+load_left w word Touch.Load h = load_same w word
+load_left w word touch h = absurd (true≢false (sym h))
+
+-- so they are as they were
+gate_words_left : (w : Words) (x : WordName × Touch) → IsGateTouch x → off_gates (put w x.0 (left x.1 (read w x.0))) ≡ off_gates w
+gate_words_left w x touches = grind arith
+
+-- and the parts of the stage, the holders, the tree, the files and the levels read none of these
+unread : (part : Part) → at_gates part ≡ false → is_known_part part ≡ false → (old new : Words) → off_gates new ≡ off_gates old →
+    SameWords old new part
+unread part h k old new same = grind arith
+
+-- these roles but for those of want, drop and change
+abbrev pub off_mounts : Roles → Roles
+off_mounts r = record r { mount = no_roles.mount; owns = 0 }
+
+-- so what the parts that an event of one doesn't touch read of its task's view is the same
+record IsUnseen (old new : View) : Type 0 where
+  roles_same : off_mounts (roles_of new.phase) ≡ off_mounts (roles_of old.phase)
+  tree_same : tree_role_of new.trace new.phase ≡ tree_role_of old.trace old.phase
+  level_same : (i : ℕ) → at_level i new ≡ at_level i old
+  open_same : has_open new ≡ has_open old
+
+unseen : (part : Part) → at_gates part ≡ false → is_known_part part ≡ false → (old new : View) → IsUnseen old new → SameView old new part
+unseen Stages h k old new same = λ j. (same.roles_same j).stage
+unseen Holding h k old new same = λ j. (same.roles_same j).holder
+unseen Known h k old new same = absurd (true≢false k)
+unseen Tree h k old new same = same.tree_same
+unseen Files h k old new same = (same.open_same, λ j. (same.roles_same j).file)
+unseen (AtLevel i) h k old new same = same.level_same i
+unseen (SyncAt i) h k old new same = λ j. (same.roles_same j).sync i
+unseen Sections h k old new same = λ j. (same.roles_same j).inside
+unseen part h k old new same = absurd (true≢false h)
+
+-- an event on a word of want, drop and change counts at no level
+level_added_gate : (word : WordName) → is_gate_word word ≡ true → (touch : Touch) (added : ℕ → ℕ → ℕ) →
+    level_added_after word touch added ≡ added
+level_added_gate (WordName.LevelCount i p) q touch added = absurd (true≢false (sym q))
+level_added_gate word q touch added = refl
+
+level_taken_gate : (word : WordName) → is_gate_word word ≡ true → (touch : Touch) (taken : ℕ → ℕ → ℕ) →
+    level_taken_after word touch taken ≡ taken
+level_taken_gate (WordName.LevelCount i p) q touch taken = absurd (true≢false (sym q))
+level_taken_gate word q touch taken = refl
+
+pub level_added_load : (word : WordName) (touch : Touch) (added : ℕ → ℕ → ℕ) → is_load touch ≡ true →
+    level_added_after word touch added ≡ added
+level_added_load word touch added h = grind arith
+
+pub level_taken_load : (word : WordName) (touch : Touch) (taken : ℕ → ℕ → ℕ) → is_load touch ≡ true →
+    level_taken_after word touch taken ≡ taken
+level_taken_load word touch taken h = grind arith
+
+-- want, drop and change have no role but at mounts, and own `umount` or not
+pub mounts_roles : (next : Next MountPhase) → off_mounts (roles_of (phase_after (map_next Phase.Mounts next))) ≡ no_roles
+mounts_roles (Next.Go x) = refl
+mounts_roles other = refl
+
+-- so owned words change only under `umount`
+mounts_work : (w : World) (x : MountPhase) (hook : HookAnswer) → IsOwnersWork w (Phase.Mounts x) hook
+mounts_work w x hook = grind arith
+
+mounts_levels : (x : MountPhase) (found : ℕ) (hook : HookAnswer) (actions : List Action) →
+    levels_of (actions_after (after x found hook).1 actions) ≡ levels_of actions
+mounts_levels x found hook actions = grind arith
+
+mounts_opens : (x : MountPhase) (found : ℕ) (hook : HookAnswer) (actions : List Action) →
+    opens_of (actions_after (after x found hook).1 actions) ≡ opens_of actions
+mounts_opens x found hook actions = grind arith
+
+-- so their events are unseen at the levels
+mounts_unseen : (v : View) (x : MountPhase) (value : ℕ) (hook : HookAnswer) → v.phase ≡ Some (Phase.Mounts x) →
+    IsUnseen v (view_after v (Phase.Mounts x) value hook)
+mounts_unseen v x value hook e =
+    let found : ℕ = found_by (next x hook).1 value in
+    let here : off_mounts (roles_of v.phase) ≡ no_roles = ap (λ p. off_mounts (roles_of p)) e in
+    let there : off_mounts (roles_of (phase_after (map_next Phase.Mounts (after x found hook).0))) ≡ no_roles = mounts_roles (after x found hook).0 in
+    let added : level_added_after (next x hook).0 (next x hook).1 (level_added_by v.events) ≡ level_added_by v.events =
+    elim (mounts_touch x hook) [
+      | inl h ↦ level_added_load (next x hook).0 (next x hook).1 (level_added_by v.events) h
+      | inr h ↦ level_added_gate (next x hook).0 h (next x hook).1 (level_added_by v.events)
+    ] in
+    let taken : level_taken_after (next x hook).0 (next x hook).1 (level_taken_by v.events) ≡ level_taken_by v.events =
+    elim (mounts_touch x hook) [
+      | inl h ↦ level_taken_load (next x hook).0 (next x hook).1 (level_taken_by v.events) h
+      | inr h ↦ level_taken_gate (next x hook).0 h (next x hook).1 (level_taken_by v.events)
+    ] in
+    record {
+      roles_same = there ∙ sym here;
+      tree_same = (λ j. (there j).tree (view_after v (Phase.Mounts x) value hook).trace) ∙ sym (λ j. (here j).tree v.trace);
+      level_same = λ i. level_view_as
+          (ap (λ (f : ℕ → Bool). if f i then 1 else 0) (mounts_levels x found hook v.actions))
+          (ap (λ f. f i) added) (ap (λ f. f i) taken) ((λ j. (there j).count i) ∙ sym (λ j. (here j).count i));
+      open_same = mounts_opens x found hook v.actions;
+    }
+
+-- what an event of want, drop or change leaves of the other parts
+others_hold : (c : Config) (w : World) (t : ℕ) → t < c.tasks → IsGood c w → (hook : HookAnswer) (x : MountPhase) →
+    (w.views t).phase ≡ Some (Phase.Mounts x) →
+    (part : Part) → at_gates part ≡ false → (b : Bool) → is_known_part part ≡ b → Holds c (after_step w t (Phase.Mounts x) hook) part
+others_hold c w t lt good hook x e part h true k =
+    subst (Holds c (after_step w t (Phase.Mounts x) hook)) (sym (known_is part k))
+    (known_after c w t (Phase.Mounts x) hook good lt e (mounts_work w x hook))
+others_hold c w t lt good hook x e part h false k =
+    left_alone c w t lt part (words_after w.words (Phase.Mounts x) hook)
+    (view_after (w.views t) (Phase.Mounts x) (value_at w.words (Phase.Mounts x) hook) hook)
+    (unread part h k w.words (words_after w.words (Phase.Mounts x) hook) (gate_words_left w.words (next x hook) (mounts_touch x hook)))
+    (unseen part h k (w.views t) (view_after (w.views t) (Phase.Mounts x) (value_at w.words (Phase.Mounts x) hook) hook)
+    (mounts_unseen (w.views t) x (value_at w.words (Phase.Mounts x) hook) hook e)) (good part)
+
+-- so an event of want, drop or change keeps the rule where it keeps the parts that it may touch
+pub whole_step : (c : Config) (w : World) (t : ℕ) → t < c.tasks → IsGood c w → (hook : HookAnswer) (x : MountPhase) →
+    (w.views t).phase ≡ Some (Phase.Mounts x) →
+    GateStepKeeps c w t hook (Phase.Mounts x) → StepKeeps c w t hook (Phase.Mounts x)
+whole_step c w t lt good hook x e keeps = (
+  λ part.
+      elim (cases_Bool (at_gates part)) [
+        | inl h ↦ keeps.0 part h
+        | inr h ↦ others_hold c w t lt good hook x e part h (is_known_part part) refl
+      ],
+  keeps.1,
+)

@@ -1,0 +1,60 @@
+-- A want whose mount is not held, a drop, and a change that finds `umount` free run out.
+use Rattle.std.proofs.{Common.{◌≡◌, ℕ, Bool, true, false, ap, ◌∙◌, arith}}
+use Rattle.access_model.specs.Replies.{map_next}
+use Rattle.cpu_words.specs.{Touches.{left, found_by}, Words.{Words, read, put}}
+use Rattle.mount_counts.specs.Phases.{has_flag, want_next, want_after, change_next, change_after, lock_failed}
+use Rattle.mount_counts.specs.declared.phases.{Change.Change, ChangeStep.ChangeStep, MountPhase.MountPhase, Want.Want, WantStep.WantStep}
+use Rattle.gate_world.specs.{Worlds.{words_after, found_at}, declared.{config.Config.Config, work.Phase.Phase}}
+use Rattle.gate_schedules.proofs.operations.deadlocks.Falls.{falls_as}
+use Rattle.gate_schedules.specs.operations.{Ranks.{rank, mount_rank, want_rank, change_rank}, Ways.{IsFree, MountIsFree, HoldIsClear, ChangeIsFree, Falls, PhaseEnds}}
+
+module _ (w : Words) (x : Want) where
+  pub want_flags : (s : WantStep) →
+      (put w (want_next x s).0 (left (want_next x s).1 (read w (want_next x s).0))).flags x.mount ≡ w.flags x.mount
+  want_flags s = grind arith
+
+  -- each event of a want: with these words after it, that leave the mount free
+  pub want_falls : (after : Words) → HoldIsClear after x.mount → HoldIsClear w x.mount → (s : WantStep) →
+      Falls (λ (y : Want). want_rank y.step) (λ (y : Want). HoldIsClear after y.mount) (want_rank s)
+      (want_after x s (found_by (want_next x s).1 (read w (want_next x s).0))).0
+  want_falls after stays clear s = grind arith
+
+module _ (w : Words) (x : Change) where
+  -- a change that doesn't wait ends where `umount` was taken
+  locked_falls : (after : Words) → (x.wait ≡ true → ⊥) → (b : Bool) → x.wait ≡ b →
+      Falls (λ (y : Change). change_rank y.processors y.step) (λ (y : Change). ChangeIsFree after y.step y.wait)
+      (change_rank x.processors ChangeStep.Locks) (lock_failed x b)
+  locked_falls after never true e = absurd (never e)
+  locked_falls after never false e = tt
+
+  -- each event of a change
+  change_falls : (after : Words) (s : ChangeStep) → ChangeIsFree w s x.wait →
+      Falls (λ (y : Change). change_rank y.processors y.step) (λ (y : Change). ChangeIsFree after y.step y.wait) (change_rank x.processors s)
+      (change_after x s (found_by (change_next x s).1 (read w (change_next x s).0))).0
+  change_falls after s free = grind arith
+
+pub want_ends : (c : Config) (x : Want) → PhaseEnds c (Phase.Mounts (MountPhase.Want x))
+want_ends c x = record {
+  falls = λ lim w good t lt hook at clear.
+      let after : Words = words_after w.words (Phase.Mounts (MountPhase.Want x)) hook in
+      let stays : HoldIsClear after x.mount = ap (λ f. has_flag f 2) (want_flags w.words x x.step) ∙ clear in
+      falls_as Phase.Mounts (rank after) (IsFree c after) (want_rank x.step)
+      (map_next MountPhase.Want (want_after x x.step (found_at w.words (Phase.Mounts (MountPhase.Want x)) hook)).0)
+      (falls_as MountPhase.Want mount_rank (MountIsFree after) (want_rank x.step)
+      (want_after x x.step (found_at w.words (Phase.Mounts (MountPhase.Want x)) hook)).0
+      (want_falls w.words x after stays clear x.step));
+}
+
+pub drop_ends : (c : Config) (m p : ℕ) → PhaseEnds c (Phase.Mounts (MountPhase.Drop m p))
+drop_ends c m p = record { falls = λ lim w good t lt hook at free. tt }
+
+pub change_ends : (c : Config) (x : Change) → PhaseEnds c (Phase.Mounts (MountPhase.Change x))
+change_ends c x = record {
+  falls = λ lim w good t lt hook at free.
+      let after : Words = words_after w.words (Phase.Mounts (MountPhase.Change x)) hook in
+      falls_as Phase.Mounts (rank after) (IsFree c after) (change_rank x.processors x.step)
+      (map_next MountPhase.Change (change_after x x.step (found_at w.words (Phase.Mounts (MountPhase.Change x)) hook)).0)
+      (falls_as MountPhase.Change mount_rank (MountIsFree after) (change_rank x.processors x.step)
+      (change_after x x.step (found_at w.words (Phase.Mounts (MountPhase.Change x)) hook)).0
+      (change_falls w.words x after x.step free));
+}

@@ -1,0 +1,235 @@
+-- A call at the tree that its next event refuses for what a node is: the event loads that node, and the shown model has it so.
+use Rattle.std.proofs.Common.{inl, inr, ◌≡◌, ℕ, refl, subst}
+use Rattle.std.proofs.Common.{arith}
+use Rattle.std.specs.Prelude.{Some, None, Err, List, Option, Result, ◌==◌, ◌+◌, ◌∷◌, if◌then◌else◌, Bool, true, false, nat_lt, option_map}
+use Rattle.access_model.specs.{Replies.map_next, declared.{actions.Kind.Kind, errors.GateError.GateError, replies.{Next.Next, Reply.Reply}}}
+use Rattle.cpu_words.specs.Hooks.{HookAnswer}
+use Rattle.node_words.proofs.Packing.{fields_shown}
+use Rattle.gated_tree.specs.Calls.{IsMoveAnswer, MoveStepFits}
+use Rattle.node_words.specs.Nodes.{word_of, unpacked, file_in, directory_in, node_after, node_of, node_shown, info_of, as_file, as_directory, kind_of, kind_in}
+use Rattle.node_words.specs.Nodes.{is_stray}
+use Rattle.gated_tree.specs.Phases.{create_after, create_looked, remove_after, grow_after, move_after, mark_after, open_after}
+use Rattle.node_words.specs.Phases.{clear_after, after_look, clears_at}
+use Rattle.gated_tree.specs.Phases.{at_open, at_create, at_remove, at_grow, at_move, at_mark}
+use Rattle.gated_tree.specs.declared.changes.{Create.Create, CreateStep.CreateStep, MoveStep.MoveStep, MoveTo.MoveTo, Remove.Remove, RemoveStep.RemoveStep}
+use Rattle.node_words.specs.declared.marks.ClearMarks.{ClearMarks}
+use Rattle.gated_tree.specs.declared.growth.Grow.{Grow}
+use Rattle.gated_tree.specs.declared.growth.GrowStep.{GrowStep}
+use Rattle.gated_tree.specs.declared.marks.Mark.{Mark}
+use Rattle.gated_tree.specs.declared.marks.MarkStep.{MarkStep}
+use Rattle.node_words.specs.declared.nodes.NodeWord.{NodeWord}
+use Rattle.gated_tree.specs.declared.opens.OpenFile.{OpenFile}
+use Rattle.gated_tree.specs.declared.opens.OpenStep.{OpenStep}
+use Rattle.gated_tree.specs.declared.phases.TreePhase.{TreePhase}
+use Rattle.gate_world.specs.{Causes.{TellsOf, CallRefused, tree_sees}, Shown.shown, Work.after_of, Worlds.{World, found_at}}
+use Rattle.gate_world.specs.declared.{config.Config.Config, work.Phase.Phase}
+
+pub some_is : {A : Type 0} (a b : A) → Some a ≡ Some b → a ≡ b
+some_is a b e = cc
+
+refused_is : (a b : GateError) (r : Result NodeWord GateError) → r ≡ Err a → r ≡ Err b → a ≡ b
+refused_is a b r e f = cc
+
+-- a node that a call refuses to take for a file is free or removed, or a directory
+file_refused : (node : NodeWord) (removed : Bool) (kind : Option Kind) (refusal : GateError) → as_file node removed kind ≡ Err refusal →
+    TellsOf (info_of (record node { kind = kind; removed = removed })) refusal
+file_refused node true None refusal e = subst (TellsOf None) (refused_is GateError.NoEntry refusal (Err GateError.NoEntry) refl e) (inl refl)
+file_refused node false None refusal e = subst (TellsOf None) (refused_is GateError.NoEntry refusal (Err GateError.NoEntry) refl e) (inl refl)
+file_refused node true (Some Kind.File) refusal e =
+    subst (TellsOf (info_of (record node { kind = Some Kind.File; removed = true }))) (refused_is GateError.NoEntry refusal (Err GateError.NoEntry) refl e)
+    (inr refl)
+file_refused node false (Some Kind.File) refusal e = absurd cc
+file_refused node true (Some Kind.Dir) refusal e =
+    subst (TellsOf (info_of (record node { kind = Some Kind.Dir; removed = true }))) (refused_is GateError.IsDir refusal (Err GateError.IsDir) refl e) refl
+file_refused node false (Some Kind.Dir) refusal e =
+    subst (TellsOf (info_of (record node { kind = Some Kind.Dir; removed = false }))) (refused_is GateError.IsDir refusal (Err GateError.IsDir) refl e) refl
+
+-- one that it refuses to take for a directory is free, or a file
+directory_refused : (node : NodeWord) (kind : Option Kind) (refusal : GateError) → as_directory node kind ≡ Err refusal →
+    TellsOf (info_of (record node { kind = kind })) refusal
+directory_refused node kind refusal e = grind arith
+
+refused_unless : (look : NodeWord → Option Kind → Result NodeWord GateError) (stray : Bool) (node : NodeWord) (refusal : GateError) →
+    option_map (λ n. look n n.kind) (if stray then None else Some node) ≡ Some (Err refusal) → look node node.kind ≡ Err refusal
+refused_unless look true node refusal e = absurd cc
+refused_unless look false node refusal e = some_is _ _ e
+
+file_unless : (stray : Bool) (node : NodeWord) (refusal : GateError) →
+    option_map (λ n. as_file n n.removed n.kind) (if stray then None else Some node) ≡ Some (Err refusal) →
+    as_file node node.removed node.kind ≡ Err refusal
+file_unless true node refusal e = absurd cc
+file_unless false node refusal e = some_is _ _ e
+
+file_tells : (word : ℕ) (refusal : GateError) → file_in word ≡ Some (Err refusal) → TellsOf (node_shown word) refusal
+file_tells word refusal e =
+    subst (λ entry. TellsOf entry refusal) (fields_shown word)
+    (file_refused (node_of word) (node_of word).removed (kind_of (kind_in word)) refusal
+    (file_unless (is_stray word) (node_of word) refusal e))
+
+directory_tells : (word : ℕ) (refusal : GateError) → directory_in word ≡ Some (Err refusal) → TellsOf (node_shown word) refusal
+directory_tells word refusal e =
+    subst (λ entry. TellsOf entry refusal) (fields_shown word)
+    (directory_refused (node_of word) (kind_of (kind_in word)) refusal
+    (refused_unless as_directory (is_stray word) (node_of word) refusal e))
+
+-- what comes after a look at a node is a refusal only where the look was refused
+look_refused : {A : Type 0} {P : Type 0} (to : P → TreePhase) (again : P) (from : A → P) (r : Option (Result A GateError))
+    (refusal : GateError) → map_next Phase.Trees (map_next to (after_look again from r)) ≡ Next.Done (Err refusal) → r ≡ Some (Err refusal)
+look_refused to again from r refusal e = grind arith
+
+-- a refusal that tells what a node is
+abbrev pub is_of_node : GateError → Bool
+is_of_node GateError.NoEntry = true
+is_of_node GateError.NotDir = true
+is_of_node GateError.IsDir = true
+is_of_node refusal = false
+
+-- A call at the tree that its next event refuses so loads a node with that event, and the shown model has the node so.
+abbrev pub NodeHasCause : Config → World → TreePhase → Type 0
+NodeHasCause c w phase = (hook : HookAnswer) (refusal : GateError) →
+    (after_of (Phase.Trees phase) (found_at w.words (Phase.Trees phase) hook) hook).0 ≡ Next.Done (Err refusal) → is_of_node refusal ≡ true →
+    (n : ℕ) × (tree_sees phase ≡ Some n) × TellsOf ((shown c w).tree n) refusal
+
+-- so it is of a refusal, whatever it tells
+pub call_refused : (c : Config) (w : World) (earlier : List World) (phase : TreePhase) (refusal : GateError) →
+    (is_of_node refusal ≡ true → (n : ℕ) × (tree_sees phase ≡ Some n) × TellsOf ((shown c w).tree n) refusal) →
+    CallRefused c (w ∷ earlier) phase refusal
+call_refused c w earlier phase refusal h = grind arith
+
+-- an end that is no refusal for what a node is
+abbrev NotOfNode : {P : Type 0} → Next P → Type 0
+NotOfNode (Next.Done (Err refusal)) = is_of_node refusal ≡ false
+NotOfNode other = Unit {0}
+
+-- either of two
+either : {P : Type 0} (b : Bool) (n m : Next P) → NotOfNode n → NotOfNode m → NotOfNode (if b then n else m)
+either true n m h k = h
+either false n m h k = k
+
+-- it is none
+not_of_node : {A : Type 0} {P : Type 0} (to : P → TreePhase) (n : Next P) → NotOfNode n → (refusal : GateError) →
+    map_next Phase.Trees (map_next to n) ≡ Next.Done (Err refusal) → is_of_node refusal ≡ true → A
+not_of_node to n h refusal e is = grind arith
+
+create_looked_not : (x : Create) (node : ℕ) (found : Option NodeWord) → NotOfNode (create_looked x node found)
+create_looked_not x node found = grind arith
+
+answer_not : (answer : Result Reply GateError) → IsMoveAnswer answer → NotOfNode {P = MoveTo} (Next.Done answer)
+answer_not answer h = grind arith
+
+-- a clearing of marks is never refused
+clears_not : (x : ClearMarks) (o : Option ℕ) → NotOfNode (clears_at x o)
+clears_not x None = tt
+clears_not x (Some node) = tt
+
+module _ (c : Config) (w : World) where
+  pub create_node : (x : Create) (s : CreateStep) → NodeHasCause c w (TreePhase.Create (at_create x s))
+  create_node x CreateStep.LoadsDirectory hook refusal e is = (
+    x.dir,
+    refl,
+    directory_tells (w.words.node x.dir) refusal
+        (look_refused TreePhase.Create _ _ (directory_in (w.words.node x.dir)) refusal e),
+  )
+  create_node x (CreateStep.LoadsNode node) hook refusal e is =
+      not_of_node TreePhase.Create _ (create_looked_not (at_create x (CreateStep.LoadsNode node)) node (unpacked (w.words.node node))) refusal e is
+  create_node x (CreateStep.ChargesChild node) hook refusal e is =
+      not_of_node TreePhase.Create
+      (create_after (at_create x (CreateStep.ChargesChild node)) (CreateStep.ChargesChild node) (w.words.kids x.dir)).0 tt refusal e is
+  create_node x (CreateStep.TakesNode node) hook refusal e is =
+      not_of_node TreePhase.Create (create_after (at_create x (CreateStep.TakesNode node)) (CreateStep.TakesNode node) (w.words.node node)).0
+      (either (w.words.node node == 0) _ _ tt tt) refusal e is
+  create_node x CreateStep.RefundsChild hook refusal e is =
+      not_of_node TreePhase.Create (create_after (at_create x CreateStep.RefundsChild) CreateStep.RefundsChild (w.words.kids x.dir)).0 refl refusal e is
+
+  pub remove_node : (x : Remove) (s : RemoveStep) → NodeHasCause c w (TreePhase.Remove (at_remove x s))
+  remove_node x RemoveStep.LoadsFile hook refusal e is = (
+    x.file,
+    refl,
+    file_tells (w.words.node x.file) refusal
+        (look_refused TreePhase.Remove _ _ (file_in (w.words.node x.file)) refusal e),
+  )
+  remove_node x (RemoveStep.FreesNode file) hook refusal e is =
+      not_of_node TreePhase.Remove (remove_after (at_remove x (RemoveStep.FreesNode file)) (RemoveStep.FreesNode file) (w.words.node x.file)).0
+      (either (w.words.node x.file == word_of file) _ _ tt refl) refusal e is
+  remove_node x (RemoveStep.CountsRemoved file) hook refusal e is =
+      not_of_node TreePhase.Remove
+      (remove_after (at_remove x (RemoveStep.CountsRemoved file)) (RemoveStep.CountsRemoved file) w.words.removed).0 tt refusal e is
+  remove_node x (RemoveStep.MarksRemoved file) hook refusal e is =
+      not_of_node TreePhase.Remove (remove_after (at_remove x (RemoveStep.MarksRemoved file)) (RemoveStep.MarksRemoved file) (w.words.node x.file)).0
+      (either (w.words.node x.file == word_of file) _ _ tt tt) refusal e is
+  remove_node x RemoveStep.RefundsRemoved hook refusal e is =
+      not_of_node TreePhase.Remove (remove_after (at_remove x RemoveStep.RefundsRemoved) RemoveStep.RefundsRemoved w.words.removed).0 refl refusal e is
+  remove_node x (RemoveStep.RefundsBlocks file) hook refusal e is =
+      not_of_node TreePhase.Remove (remove_after (at_remove x (RemoveStep.RefundsBlocks file)) (RemoveStep.RefundsBlocks file) w.words.used).0 tt
+      refusal e is
+  remove_node x (RemoveStep.RefundsChild file) hook refusal e is =
+      not_of_node TreePhase.Remove
+      (remove_after (at_remove x (RemoveStep.RefundsChild file)) (RemoveStep.RefundsChild file) (w.words.kids file.parent)).0 tt refusal e is
+
+  pub grow_node : (x : Grow) (s : GrowStep) → NodeHasCause c w (TreePhase.Grow (at_grow x s))
+  grow_node x GrowStep.LoadsFile hook refusal e is = (
+    x.file,
+    refl,
+    file_tells (w.words.node x.file) refusal
+        (look_refused TreePhase.Grow _ _ (file_in (w.words.node x.file)) refusal e),
+  )
+  grow_node x (GrowStep.LoadsUsed file) hook refusal e is =
+      not_of_node TreePhase.Grow (grow_after (at_grow x (GrowStep.LoadsUsed file)) (GrowStep.LoadsUsed file) w.words.used).0
+      (either (nat_lt x.capacity (w.words.used + x.blocks)) _ _ refl (either (nat_lt x.capacity (file.size + x.blocks)) _ _ refl tt))
+      refusal e is
+  grow_node x (GrowStep.ChargesBlocks file used) hook refusal e is =
+      not_of_node TreePhase.Grow (grow_after (at_grow x (GrowStep.ChargesBlocks file used)) (GrowStep.ChargesBlocks file used) w.words.used).0
+      (either (w.words.used == used) _ _ tt refl) refusal e is
+  grow_node x (GrowStep.GrowsFile file) hook refusal e is =
+      not_of_node TreePhase.Grow (grow_after (at_grow x (GrowStep.GrowsFile file)) (GrowStep.GrowsFile file) (w.words.node x.file)).0
+      (either (w.words.node x.file == word_of file) _ _ tt tt) refusal e is
+  grow_node x GrowStep.RefundsBlocks hook refusal e is =
+      not_of_node TreePhase.Grow (grow_after (at_grow x GrowStep.RefundsBlocks) GrowStep.RefundsBlocks w.words.used).0 refl refusal e is
+
+  pub move_node : (x : MoveTo) (s : MoveStep) → MoveStepFits s → NodeHasCause c w (TreePhase.MoveTo (at_move x s))
+  move_node x MoveStep.LoadsFile fits hook refusal e is = (
+    x.file,
+    refl,
+    file_tells (w.words.node x.file) refusal
+        (look_refused TreePhase.MoveTo _ _ (file_in (w.words.node x.file)) refusal e),
+  )
+  move_node x (MoveStep.LoadsDirectory file) fits hook refusal e is = (
+    x.dir,
+    refl,
+    directory_tells (w.words.node x.dir) refusal
+        (look_refused TreePhase.MoveTo _ _ (directory_in (w.words.node x.dir)) refusal e),
+  )
+  move_node x (MoveStep.ChargesChild file) fits hook refusal e is =
+      not_of_node TreePhase.MoveTo (move_after (at_move x (MoveStep.ChargesChild file)) (MoveStep.ChargesChild file) (w.words.kids x.dir)).0 tt refusal e is
+  move_node x (MoveStep.MovesFile file) fits hook refusal e is =
+      not_of_node TreePhase.MoveTo (move_after (at_move x (MoveStep.MovesFile file)) (MoveStep.MovesFile file) (w.words.node x.file)).0
+      (either (w.words.node x.file == word_of file) _ _ tt tt) refusal e is
+  move_node x (MoveStep.RefundsChild dir answer) fits hook refusal e is =
+      not_of_node TreePhase.MoveTo (move_after (at_move x (MoveStep.RefundsChild dir answer)) (MoveStep.RefundsChild dir answer) (w.words.kids dir)).0
+      (answer_not answer fits.1) refusal e is
+
+  pub mark_node : (x : Mark) (s : MarkStep) → NodeHasCause c w (TreePhase.Mark (at_mark x s))
+  mark_node x MarkStep.LoadsFile hook refusal e is = (
+    x.file,
+    refl,
+    file_tells (w.words.node x.file) refusal
+        (look_refused TreePhase.Mark _ _ (file_in (w.words.node x.file)) refusal e),
+  )
+  mark_node x (MarkStep.MarksFile file) hook refusal e is =
+      not_of_node TreePhase.Mark (mark_after (at_mark x (MarkStep.MarksFile file)) (MarkStep.MarksFile file) (w.words.node x.file)).0
+      (either (w.words.node x.file == word_of file) _ _ tt refl) refusal e is
+
+  pub open_node : (x : OpenFile) (s : OpenStep) → NodeHasCause c w (TreePhase.OpenFile (at_open x s))
+  open_node x OpenStep.LoadsFile hook refusal e is = (
+    x.file,
+    refl,
+    file_tells (w.words.node x.file) refusal
+        (look_refused TreePhase.OpenFile _ _ (file_in (w.words.node x.file)) refusal e),
+  )
+  open_node x (OpenStep.OpensFile file) hook refusal e is =
+      not_of_node TreePhase.OpenFile (open_after (at_open x (OpenStep.OpensFile file)) (OpenStep.OpensFile file) (w.words.node x.file)).0
+      (either (w.words.node x.file == word_of file) _ _ tt refl) refusal e is
+
+  pub clear_node : (x : ClearMarks) → NodeHasCause c w (TreePhase.ClearMarks x)
+  clear_node x hook refusal e is =
+      not_of_node TreePhase.ClearMarks (clear_after x (w.words.node x.node)).0 (clears_not x (node_after x.node x.nodes)) refusal e is

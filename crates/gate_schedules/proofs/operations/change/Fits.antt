@@ -1,0 +1,35 @@
+-- What fits after an event of a change.
+use Rattle.std.proofs.{Common.{◌≡◌, ℕ, ◌<◌, Bool, true, false, arith}}
+use Rattle.access_model.specs.{Replies.map_next, declared.{replies.Next.Next}}
+use Rattle.cpu_words.specs.{Names.IsWord, declared.sums.Sum.Sum}
+use Rattle.mount_counts.specs.Phases.{step_between, change_summed, change_next, change_after, next}
+use Rattle.mount_counts.specs.declared.phases.{Change.Change, ChangeStep.ChangeStep, MountPhase.MountPhase}
+use Rattle.gate_world.specs.{Configs.{IsWithin, extents_of}, Fits.{SumFits, MountFits, Fits, ActionFits}, Holdings.{Holdings, held_after}, Views.phase_after}
+use Rattle.gate_world.specs.declared.{config.Config.Config, work.Phase.Phase}
+
+pub change_there : (c : Config) (x : Change) (step : ChangeStep) → x.mount < c.mounts → SumFits c step → IsWord (extents_of c) (change_next x step).0
+change_there c x step m f = grind arith
+
+module _ (c : Config) (within : IsWithin c) (t : ℕ) (held : Holdings) where
+  pub change_acts : (x : Change) (step : ChangeStep) (found : ℕ) → ActionFits held (change_after x step found).1
+  change_acts x ChangeStep.Locks found = tt
+  change_acts x step found = tt
+
+  between : (wanted found : Bool) → SumFits c (step_between wanted found)
+  between true true = tt
+  between true false = tt
+  between false true = tt
+  between false false = tt
+
+  summed : (x : Change) (sum : Sum) (word : ℕ) → x.processors ≡ c.processors → SumFits c (change_summed x sum word)
+  summed x sum word same = grind arith
+
+  -- what comes after an event fits
+  abbrev NextFits : Next Change → Type 0
+  NextFits next = Fits c t held (phase_after (map_next Phase.Mounts (map_next MountPhase.Change next)))
+
+  -- what comes after each event of a change fits
+  pub change_goes : (x : Change) (step : ChangeStep) (found : ℕ) → MountFits c t held (MountPhase.Change record x { step = step }) →
+      Fits c t (held_after (change_after x step found).1 held)
+      (phase_after (map_next Phase.Mounts (map_next MountPhase.Change (change_after x step found).0)))
+  change_goes x step found f = grind arith

@@ -1,6 +1,0 @@
--- by cases on the phase
-use Rattle.gate_schedules.proofs.operations.frames.Hooks.{ignores}
-use Rattle.gate_schedules.proofs.operations.frames.an_event_ignores_answers_that_it_does_not_read.Goals as goal
-
-pub returns : goal.returns
-returns g = ignores

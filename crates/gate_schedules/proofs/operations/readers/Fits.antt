@@ -1,0 +1,147 @@
+-- What fits after an event of a down-read, an up-read and a callback.
+use Rattle.std.proofs.Common.{◌≡◌, ℕ, ◌<◌, ◌≤◌, Bool, true, false, refl, sym, subst, ◌∙◌, inl, inr, arith}
+use Rattle.std.specs.Prelude.{◌==◌, ◌&&◌, nat_lt, Some, None, Ok, Err}
+use Rattle.std.proofs.lemmas.Bool.{cases_Bool, ltb-true}
+use Rattle.finite_sums.proofs.Totals.{update_at}
+use Rattle.access_model.specs.declared.actions.Action.TheVariants.{Grant}
+use Rattle.access_model.specs.declared.actions.Gate.TheVariants.{Level}
+use Rattle.access_model.specs.declared.replies.Next.{Next}
+use Rattle.access_model.specs.declared.replies.Next.TheVariants.{Go, Wait, Done}
+use Rattle.access_model.specs.Replies.{map_next}
+use Rattle.cpu_words.specs.Names.{IsWord}
+use Rattle.percpu_rwsem.specs.declared.readers.DownRead.{DownRead}
+use Rattle.percpu_rwsem.specs.declared.readers.DownReadStep.{DownReadStep}
+use Rattle.percpu_rwsem.specs.declared.readers.DownReadStep.TheVariants.{EntersSection, LoadsSync, CountsUpFast, CountsUpSlow, LoadsBlock, CountsDown, LeavesAdmitted, LeavesBlocked}
+use Rattle.percpu_rwsem.specs.declared.callbacks.Callback.{Callback}
+use Rattle.percpu_rwsem.specs.declared.callbacks.CallbackStep.{CallbackStep}
+use Rattle.percpu_rwsem.specs.declared.callbacks.CallbackStep.TheVariants.{Claims}
+use Rattle.percpu_rwsem.specs.SyncWords.{unpack}
+use Rattle.percpu_rwsem.specs.Readers.{down_read_next, down_read_after, at_down_read, left_blocked}
+use Rattle.percpu_rwsem.specs.Callbacks.{callback_next, callback_after, at_callback}
+use Rattle.freeze_laws.specs.levels.Operations.{KnowsCallback, HoldsOfNext}
+use Rattle.gate_world.specs.declared.config.Config.{Config}
+use Rattle.gate_world.specs.declared.work.Phase.TheVariants.{DownReads, Callbacks}
+use Rattle.gate_world.specs.Configs.{IsWithin, extents_of}
+use Rattle.gate_world.specs.Views.{phase_after}
+use Rattle.gate_world.specs.Operations.{holds_none_from, is_level_number}
+use Rattle.gate_world.specs.{Fits.{ReadStepFits, ReadFits, GraceFits, PhaseFits, Fits, ActionFits}, Holdings.{Holdings, held_after}}
+use Rattle.gate_schedules.proofs.{frames.Keeps.by_bool, operations.readers.Trace.by_word}
+
+-- each is true where both are
+pub both_true : (a b : Bool) → (a && b) ≡ true → (a ≡ true) × (b ≡ true)
+both_true true true e = (refl, refl)
+both_true true false e = (refl, e)
+both_true false b e = absurd (cc)
+
+-- a number that is a level's
+pub level_there : (i : ℕ) → is_level_number i ≡ true → (1 ≤ i) × (i ≤ 3)
+level_there i h =
+    let l : (nat_lt 0 i ≡ true) × (nat_lt i 4 ≡ true) = both_true (nat_lt 0 i) (nat_lt i 4) h in
+    (omega (arith, ltb-true 0 i l.0), omega (arith, ltb-true i 4 l.1))
+
+module _ (h k : ℕ → Bool) (levels : (i : ℕ) → 1 ≤ i → i ≤ 3 → h i ≡ k i) where
+  -- accesses that agree at each level hold none from a level up alike
+  pub none_from_agree : (i : ℕ) → holds_none_from i h ≡ holds_none_from i k
+  none_from_agree i = rw (levels 1 (omega arith) (omega arith), levels 2 (omega arith) (omega arith), levels 3 (omega arith) (omega arith))
+
+  -- and a step of a down-read fits them alike
+  pub read_step_agrees : (i : ℕ) (s : DownReadStep) → 1 ≤ i → i ≤ 3 → ReadStepFits i h s → ReadStepFits i k s
+  read_step_agrees i LeavesAdmitted l1 l3 f = sym (levels i l1 l3) ∙ f
+  read_step_agrees i s l1 l3 f = sym (none_from_agree i) ∙ f
+
+-- the word of each event of a down-read is there
+pub read_there : (c : Config) (t : ℕ) → t < c.tasks → (r : DownRead) (s : DownReadStep) → 1 ≤ r.level → r.level ≤ 3 →
+    r.cpu < c.processors → r.task ≡ t → IsWord (extents_of c) (down_read_next r s).0
+read_there c t lt r s l1 l3 p same = grind arith
+
+-- its action can be done
+pub read_acts : (held : Holdings) (r : DownRead) (s : DownReadStep) (found : ℕ) → 1 ≤ r.level → r.level ≤ 3 →
+    ActionFits held (down_read_after r s found).1
+read_acts held r s found l1 l3 = grind arith
+
+-- What comes after an event of a down-read at this level, on this processor, fits these accesses; and where it ends well, the level is
+-- held. So an operation that goes on inside the level knows that it is.
+abbrev pub ReadGoes : Config → ℕ → ℕ → ℕ → Holdings → Next DownRead → Type 0
+ReadGoes c t i p held (Go r) = ReadFits c t held r × (r.level ≡ i) × (r.cpu ≡ p)
+ReadGoes c t i p held (Wait r) = ReadFits c t held r × (r.level ≡ i) × (r.cpu ≡ p)
+ReadGoes c t i p held (Done (Ok reply)) = held.levels i ≡ true
+ReadGoes c t i p held (Done (Err refusal)) = Unit {0}
+
+module _ (c : Config) (t : ℕ) (r : DownRead) (l1 : 1 ≤ r.level) (l3 : r.level ≤ 3) (p : r.cpu < c.processors) (same : r.task ≡ t) where
+  -- the next step fits these accesses
+  goes_on : (held : Holdings) (s : DownReadStep) → ReadStepFits r.level held.levels s →
+      ReadGoes c t r.level r.cpu held (Go (at_down_read r s))
+  goes_on held s h = ((l1, l3, p, same, h), refl, refl)
+
+  -- so it is after each event
+  pub read_goes : (held : Holdings) (s : DownReadStep) (found : ℕ) → ReadStepFits r.level held.levels s →
+      ReadGoes c t r.level r.cpu (held_after (down_read_after r s found).1 held) (down_read_after r s found).0
+  read_goes held EntersSection found h = goes_on held LoadsSync h
+  read_goes held LoadsSync found h =
+      by_word (λ s. ReadGoes c t r.level r.cpu held (Go (at_down_read r s))) (goes_on held LoadsSync h)
+      (goes_on held CountsUpFast h) (goes_on held CountsUpSlow h) (unpack found)
+  read_goes held CountsUpFast found h = goes_on (held_after (Some (Grant (Level r.level))) held) LeavesAdmitted (update_at held.levels r.level true)
+  read_goes held CountsUpSlow found h = goes_on held LoadsBlock h
+  read_goes held LoadsBlock found h =
+      elim (cases_Bool (found == 0)) [
+        | inl f ↦ rw f (goes_on (held_after (Some (Grant (Level r.level))) held) LeavesAdmitted (update_at held.levels r.level true))
+        | inr f ↦ rw f (goes_on held CountsDown h)
+      ]
+  read_goes held CountsDown found h = goes_on held LeavesBlocked h
+  read_goes held LeavesAdmitted found h = h
+  read_goes held LeavesBlocked found h =
+      by_bool r.wait (λ b. ReadGoes c t r.level r.cpu held (left_blocked r b)) (goes_on held EntersSection h) tt
+
+-- what comes after an event of a down-read that stands alone fits
+pub read_fits : (c : Config) (t i p : ℕ) (held : Holdings) (n : Next DownRead) → ReadGoes c t i p held n →
+    Fits c t held (phase_after (map_next DownReads n))
+read_fits c t i p held n h = grind arith
+
+-- the word of each event of a callback is there
+pub callback_there : (c : Config) (b : Callback) (s : CallbackStep) → 1 ≤ b.level → b.level ≤ 3 → GraceFits c.tasks s →
+    IsWord (extents_of c) (callback_next b s).0
+callback_there c b s l1 l3 f = grind arith
+
+-- no event of a callback adds an action
+pub callback_acts_none : (b : Callback) (s : CallbackStep) (found : ℕ) → (callback_after b s found).1 ≡ None
+callback_acts_none b (Claims transition) found = refl
+callback_acts_none b other found = refl
+
+-- the grace period of a callback that comes next is of all tasks, and has a task more to look at
+abbrev NextGraceFits : ℕ → Next Callback → Type 0
+NextGraceFits tasks next = HoldsOfNext (λ (x : Callback). GraceFits tasks x.step) next
+
+-- so its grace period fits after each event of a callback
+grace_goes : (b : Callback) (s : CallbackStep) (found : ℕ) → 0 < b.tasks → GraceFits b.tasks s →
+    NextGraceFits b.tasks (callback_after b s found).0
+grace_goes b s found some f = grind arith
+
+-- what comes next knows the words of its exchange, and is of as many tasks
+abbrev KnowsNext : Callback → Next Callback → Type 0
+KnowsNext b next = HoldsOfNext (λ (x : Callback). (x.tasks ≡ b.tasks) × KnowsCallback x.step) next
+
+-- and so at each step
+knows_next : (b : Callback) (s : CallbackStep) (found : ℕ) → 0 < b.tasks → KnowsCallback s → KnowsNext b (callback_after b s found).0
+knows_next b s found some k = grind arith
+
+-- and it is at the same level
+abbrev AtLevelOf : Callback → Next Callback → Type 0
+AtLevelOf b next = HoldsOfNext (λ (x : Callback). x.level ≡ b.level) next
+
+-- so after each event
+same_level : (b : Callback) (s : CallbackStep) (found : ℕ) → AtLevelOf b (callback_after b s found).0
+same_level b s found = grind arith
+
+module _ (c : Config) (within : IsWithin c) (t : ℕ) (held : Holdings) (b : Callback) where
+  -- all this together says that what comes next fits
+  all_fit : 1 ≤ b.level → b.level ≤ 3 → b.tasks ≡ c.tasks → (n : Next Callback) → AtLevelOf b n → NextGraceFits b.tasks n →
+      KnowsNext b n → Fits c t held (phase_after (map_next Callbacks n))
+  all_fit l1 l3 same n l g k = grind arith
+
+  -- what comes after each event of a callback fits
+  pub callback_goes : (s : CallbackStep) (found : ℕ) → PhaseFits c t held (Callbacks (at_callback b s)) →
+      Fits c t held (phase_after (map_next Callbacks (callback_after b s found).0))
+  callback_goes s found f =
+      let some : 0 < b.tasks = omega (arith, f.2, within.some_task) in
+      all_fit f.0 f.1 f.2 (callback_after b s found).0 (same_level b s found)
+      (grace_goes b s found some (subst (λ n. GraceFits n s) (sym f.2) f.3)) (knows_next b s found some f.4)

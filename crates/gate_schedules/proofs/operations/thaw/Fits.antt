@@ -1,0 +1,53 @@
+-- What fits after an event of a thaw.
+use Rattle.std.proofs.{Common.{false, ◌≡◌, ℕ, true, arith}}
+use Rattle.std.specs.Prelude.{if◌then◌else◌, Err}
+use Rattle.access_model.specs.{Holders.{held_by, with_holder, is_unheld}, Replies.map_next}
+use Rattle.access_model.specs.declared.{actions.{Holders.Holders}, errors.GateError.GateError, replies.Next.Next}
+use Rattle.cpu_words.specs.{Hooks.HookAnswer, Names.IsWord}
+use Rattle.freeze_levels.specs.{Thaws.{thaw_next, thaw_after, at_thaw, thaw_finds}}
+use Rattle.freeze_levels.specs.declared.thaws.{Thaw.Thaw, ThawStep.ThawStep}
+use Rattle.gate_world.specs.{Configs.extents_of, Fits.{ThawFits, PhaseFits, Fits, ActionFits}}
+use Rattle.gate_world.specs.{Holdings.{Holdings, held_after}, Operations.holds_none}
+use Rattle.gate_world.specs.{Views.phase_after, declared.{config.Config.Config, work.Phase.Phase}}
+use Rattle.gate_schedules.proofs.{frames.{Cases.both}}
+
+-- What comes after a look at who holds a freeze: a refusal, where its own holder doesn't; the superblock's flag, where it alone does; or
+-- else the store without it.
+pub finds_cases : (x : Thaw) (held : Holders) (P : ThawStep → Type 0) →
+    (held_by held x.holder ≡ false → P (ThawStep.Releases (Err GateError.Invalid))) →
+    (held_by held x.holder ≡ true → is_unheld (with_holder x.holder false held) ≡ true → P ThawStep.LoadsSuperblock) →
+    (held_by held x.holder ≡ true → is_unheld (with_holder x.holder false held) ≡ false → P (ThawStep.Leaves held)) → P (thaw_finds x held)
+finds_cases x held P refused alone shared =
+    both (held_by held x.holder)
+    (λ b. P (if b then (if is_unheld (with_holder x.holder false held) then ThawStep.LoadsSuperblock else ThawStep.Leaves held)
+    else ThawStep.Releases (Err GateError.Invalid)))
+    (λ own. both (is_unheld (with_holder x.holder false held)) (λ b. P (if b then ThawStep.LoadsSuperblock else ThawStep.Leaves held)) (alone own) (shared own))
+    refused
+
+-- the word of each event of a thaw is there
+pub thaw_there : (c : Config) (x : Thaw) (s : ThawStep) (hook : HookAnswer) → ThawFits x.holder s → IsWord (extents_of c) (thaw_next x s hook).0
+thaw_there c x s hook f = grind arith
+
+pub thaw_acts : (held : Holdings) (x : Thaw) (s : ThawStep) (found : ℕ) (hook : HookAnswer) → ActionFits held (thaw_after x s found hook).1
+thaw_acts held x s found hook = grind arith
+
+module _ (c : Config) (t : ℕ) (held : Holdings) (x : Thaw) (same : x.task ≡ t) (none : holds_none held.levels ≡ true) where
+  -- what comes after an event fits
+  abbrev NextFits : Next Thaw → Type 0
+  NextFits next = Fits c t held (phase_after (map_next Phase.Thaws next))
+
+  -- after an event of a thaw, what comes fits the accesses that its action leaves
+  abbrev GoesOn : ThawStep → ℕ → HookAnswer → Type 0
+  GoesOn s found hook =
+      Fits c t (held_after (thaw_after x s found hook).1 held)
+      (phase_after (map_next Phase.Thaws (thaw_after x s found hook).0))
+
+  step_goes : (s : ThawStep) (found : ℕ) (hook : HookAnswer) → ThawFits x.holder s → GoesOn s found hook
+  step_goes s found hook f = grind arith
+
+-- what comes after each event of a thaw fits
+pub thaw_goes : (c : Config) (t : ℕ) (held : Holdings) (x : Thaw) (s : ThawStep) (found : ℕ) (hook : HookAnswer) →
+    PhaseFits c t held (Phase.Thaws (at_thaw x s)) →
+    Fits c t (held_after (thaw_after x s found hook).1 held)
+    (phase_after (map_next Phase.Thaws (thaw_after x s found hook).0))
+thaw_goes c t held x s found hook f = step_goes c t held x f.0 f.1 s found hook f.2

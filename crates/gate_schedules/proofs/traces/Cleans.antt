@@ -1,0 +1,22 @@
+-- The marks that a trace has cleared are nothing that a task holds.
+use Rattle.std.{proofs.{Common.{◌≡◌, ℕ}}, specs.Prelude.{List, [], ◌∷◌, ◌++◌}}
+use Rattle.std.proofs.Common.{arith}
+use Rattle.access_model.specs.declared.actions.Action.{Action}
+use Rattle.cpu_words.specs.declared.{events.Touch.Touch, names.WordName.WordName}
+use Rattle.gate_world.specs.{Found.{clean_found, cleans}, Holdings.holdings_of, declared.views.Traced.Traced}
+
+-- these actions leave what the task holds as it was
+abbrev pub LeaveAccesses : List Action → List Action → Type 0
+LeaveAccesses actions before = holdings_of (actions ++ before) ≡ holdings_of before
+
+-- clearing a mark leaves them, on top of actions that do
+clean_leaves : (word : WordName) (touch : Touch) (found : ℕ) (actions rest before : List Action) → LeaveAccesses (actions ++ rest) before →
+    LeaveAccesses (clean_found word touch found actions ++ rest) before
+clean_leaves word touch found actions rest before h = grind arith
+
+-- so does clearing each mark of a trace
+pub cleans_leave : (trace : List Traced) (rest before : List Action) → LeaveAccesses rest before →
+    LeaveAccesses (cleans trace ++ rest) before
+cleans_leave [] rest before h = h
+cleans_leave (e ∷ earlier) rest before h =
+    clean_leaves e.event.word e.event.touch e.event.found (cleans earlier) rest before (cleans_leave earlier rest before h)

@@ -1,0 +1,62 @@
+-- Each view follows its operation, after every schedule.
+use Rattle.std.proofs.Common.{◌≡◌, ℕ, refl, ap, inl, inr, ◌<◌}
+use Rattle.std.proofs.Common.{arith}
+use Rattle.std.proofs.lemmas.Bool.{cases_Bool, cases_lt, lt-ltb, le-ltb}
+use Rattle.std.specs.Prelude.{Option, Some, None, nat_lt, List, ◌∷◌, ◌++◌}
+use Rattle.finite_sums.proofs.Totals.{each_updated}
+use Rattle.access_model.specs.declared.{actions.Action.Action, errors.GateError.GateError, replies.Next.Next}
+use Rattle.cpu_words.specs.{Hooks.HookAnswer}
+use Rattle.gate_world.specs.Beginnings.{view_refusal}
+use Rattle.gate_world.specs.Courses.{course_with, course_after, IsEventOf, IsNext, IsTraced, MayFind, AllTraced, EventsMayBe}
+use Rattle.gate_world.specs.{Views.{phase_after, actions_after, view_after}, Work.{next_of, after_of}}
+use Rattle.gate_world.specs.Worlds.{World, begin_refusal, begin_of, value_at, step_of, happens, opening}
+use Rattle.gate_world.specs.declared.entries.Entry.{Entry, TheVariants.{Begins, Steps}}
+use Rattle.gate_world.specs.declared.{config.Config.Config, operations.Op.Op, views.{Traced.Traced, View.View}, work.Phase.Phase}
+
+-- where an operation stands at this phase, its event is the next, and what comes after it is the course after it
+stands_at : (comes : Next Phase) (added : List Action) (phase : Phase) (e : Traced) → phase_after comes ≡ Some phase → IsEventOf phase e →
+    IsNext comes e × (course_after comes added e ≡ course_with added (after_of phase e.event.found e.hook))
+stands_at comes added phase e h next = grind arith
+
+-- an action more goes before the earlier ones
+newest : (action : Option Action) (actions added before : List Action) → actions ≡ added ++ before →
+    actions_after action actions ≡ actions_after action added ++ before
+newest None actions added before h = h
+newest (Some a) actions added before h = ap (λ l. a ∷ l) h
+
+-- the next event of a view that follows its operation
+step_follows : (c : Config) (t : ℕ) (v : View) (op : Option Op) (phase : Phase) (value : ℕ) (hook : HookAnswer) → v.phase ≡ Some phase →
+    MayFind phase (next_of phase hook).0 value → IsTraced c t v op → IsTraced c t (view_after v phase value hook) op
+step_follows c t v op phase value hook e may h = grind arith
+
+-- a beginning empties the trace, and notes the actions so far
+begin_keeps : (c : Config) (w : World) (t : ℕ) (op : Op) (refused : Option GateError) → view_refusal c (w.views t) op ≡ refused →
+    AllTraced c w →
+    AllTraced c (begin_of c w t op refused)
+begin_keeps c w t op refused e h x = grind arith
+
+begin_entry : (c : Config) (w : World) (t : ℕ) (op : Op) → AllTraced c w → AllTraced c (begin_of c w t op (begin_refusal c w t op))
+begin_entry c w t op h =
+    elim (cases_Bool (nat_lt t c.tasks)) [
+      | inl f ↦ rw f (begin_keeps c w t op (view_refusal c (w.views t) op) refl h)
+      | inr f ↦ rw f h
+    ]
+
+-- a step adds the event that the phase wants, on a word that holds what it may
+step_keeps : (c : Config) (w : World) (t : ℕ) (hook : HookAnswer) (phase : Option Phase) → (w.views t).phase ≡ phase → t < c.tasks →
+    EventsMayBe c w → AllTraced c w → AllTraced c (step_of w t hook phase)
+step_keeps c w t hook None e lt may h x = h x
+step_keeps c w t hook (Some phase) e lt may h x =
+    each_updated (λ y (v : View). IsTraced c y v v.op) w.views t (view_after (w.views t) phase (value_at w.words phase hook) hook) x
+    (step_follows c t (w.views t) (w.views t).op phase (value_at w.words phase hook) hook e (may t lt phase hook e) (h t)) (λ ne. h x)
+
+pub entry_keeps : (c : Config) (w : World) (e : Entry) → EventsMayBe c w → AllTraced c w → AllTraced c (happens c w e)
+entry_keeps c w (Begins t op) may h = begin_entry c w t op h
+entry_keeps c w (Steps t hook) may h =
+    elim (cases_lt t c.tasks) [
+      | inl l ↦ rw (lt-ltb t c.tasks l) (step_keeps c w t hook (w.views t).phase refl l may h)
+      | inr l ↦ rw (le-ltb t c.tasks l) h
+    ]
+
+pub opening_traced : (c : Config) → AllTraced c opening
+opening_traced c t = (refl, refl, refl)

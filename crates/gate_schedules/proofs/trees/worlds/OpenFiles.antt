@@ -1,0 +1,152 @@
+-- How many tasks have each file open, after an action of one of them.
+use Rattle.std.proofs.{Common.{◌≡◌, ℕ, ◌+◌, ◌-◌, ◌<◌, Bool, true, false, refl, sym, ap, ◌∙◌, inl, inr, arith}, lemmas.Bool.Decides.eqb_tells}
+use Rattle.std.specs.Prelude.{Option, Some, None, Result, Ok, Err, nat_lt}
+use Rattle.finite_sums.{proofs.Totals.{update_at, update_off, update_same, total_updated}, specs.Sums.update}
+use Rattle.access_model.specs.{Actions.{tree_after, after_remove, after_close}, Replies.map_next, States.{Limits, State, one_if, most_tasks, openers}}
+use Rattle.access_model.specs.declared.{actions.{Action.Action, NodeInfo.NodeInfo}, errors.GateError.GateError, replies.Next.Next}
+use Rattle.cpu_words.specs.Hooks.{HookAnswer}
+use Rattle.node_words.specs.Nodes.{opens_in, word_of, file_in}
+use Rattle.node_words.specs.Phases.{after_look}
+use Rattle.gated_tree.specs.Phases.{after, at_open, opens_from, open_after, create_after, remove_after, grow_after, move_after, mark_after}
+use Rattle.node_words.specs.Phases.{clear_after}
+use Rattle.gated_tree.specs.Phases.{snapshot_after}
+use Rattle.node_words.specs.declared.nodes.NodeWord.{NodeWord}
+use Rattle.gated_tree.specs.Roles.{Bounds}
+use Rattle.gated_tree.specs.declared.opens.OpenFile.{OpenFile}
+use Rattle.gated_tree.specs.declared.opens.OpenStep.{OpenStep}
+use Rattle.gated_tree.specs.declared.phases.TreePhase.{TreePhase}
+use Rattle.gate_schedules.specs.trees.Events.{TreeAllows, MovesBy, HasLeave, opens_shown, bounds_of}
+use Rattle.gate_world.specs.{Fits.{HasFile, file_of}, Holdings.{Holdings, held_after}, Views.phase_after, declared.work.Phase.Phase}
+
+-- an action's effect on the tree asks only how many tasks have its own node open
+pub same_counts : (c : Bounds) (f g : ℕ → ℕ) (tree : ℕ → Option NodeInfo) (action : Action) → TreeAllows c tree action →
+    ((n : ℕ) → n < c.nodes → f n ≡ g n) → tree_after action f tree ≡ tree_after action g tree
+same_counts c f g tree (Action.Create n d kind) allows same = refl
+same_counts c f g tree (Action.Remove n) allows same = ap (λ k. update tree n (after_remove k (tree n))) (same n allows.0)
+same_counts c f g tree (Action.Grow n b) allows same = refl
+same_counts c f g tree (Action.MoveTo n d) allows same = refl
+same_counts c f g tree (Action.Dirty n) allows same = refl
+same_counts c f g tree (Action.Clean n) allows same = refl
+same_counts c f g tree (Action.Open n) allows same = refl
+same_counts c f g tree (Action.Close n) allows same = ap (λ k. update tree n (after_close k (tree n))) (same n allows)
+same_counts c f g tree _ allows same = absurd allows
+
+-- how many tasks have a file open, where one task has it open or not
+module _ (opens : ℕ → ℕ → Bool) (t : ℕ) (lt : t < most_tasks) where
+  changed : (k : ℕ) (b : Bool) (n : ℕ) →
+      openers (update opens t (update (opens t) k b)) n + one_if (opens t n) ≡ openers opens n + one_if (update (opens t) k b n)
+  changed k b n = total_updated (λ (f : ℕ → Bool). one_if (f n)) most_tasks t opens (update (opens t) k b) lt
+
+  -- it opens one
+  more_open : (k n : ℕ) → opens t k ≡ false →
+      update (openers opens) k (openers opens k + 1) n ≡ openers (update opens t (update (opens t) k true)) n
+  more_open k n own = elim (eqb_tells n k) [
+    | inl h ↦
+        let now : one_if (update (opens t) k true n) ≡ 1 = ap (λ x. one_if (update (opens t) k true x)) h.1 ∙ ap one_if (update_at (opens t) k true) in
+        let was : one_if (opens t n) ≡ 0 = ap (λ x. one_if (opens t x)) h.1 ∙ ap one_if own in
+        let here : update (openers opens) k (openers opens k + 1) n ≡ openers opens n + 1 =
+        ap (update (openers opens) k (openers opens k + 1)) h.1 ∙ update_at (openers opens) k (openers opens k + 1) ∙
+        ap (λ x. openers opens x + 1) (sym h.1) in
+        omega (arith, changed k true n, now, was, here)
+    | inr h ↦
+        let still : one_if (update (opens t) k true n) ≡ one_if (opens t n) = ap one_if (update_off (opens t) k true n h.1) in
+        let here : update (openers opens) k (openers opens k + 1) n ≡ openers opens n = update_off (openers opens) k (openers opens k + 1) n h.1 in
+        omega (arith, changed k true n, still, here)
+  ]
+
+  -- it closes one
+  fewer_open : (k n : ℕ) → opens t k ≡ true →
+      update (openers opens) k (openers opens k - 1) n ≡ openers (update opens t (update (opens t) k false)) n
+  fewer_open k n own = elim (eqb_tells n k) [
+    | inl h ↦
+        let now : one_if (update (opens t) k false n) ≡ 0 =
+        ap (λ x. one_if (update (opens t) k false x)) h.1 ∙ ap one_if (update_at (opens t) k false) in
+        let was : one_if (opens t n) ≡ 1 = ap (λ x. one_if (opens t x)) h.1 ∙ ap one_if own in
+        let here : update (openers opens) k (openers opens k - 1) n ≡ openers opens n - 1 =
+        ap (update (openers opens) k (openers opens k - 1)) h.1 ∙ update_at (openers opens) k (openers opens k - 1) ∙
+        ap (λ x. openers opens x - 1) (sym h.1) in
+        omega (arith, changed k false n, now, was, here)
+    | inr h ↦
+        let still : one_if (update (opens t) k false n) ≡ one_if (opens t n) = ap one_if (update_off (opens t) k false n h.1) in
+        let here : update (openers opens) k (openers opens k - 1) n ≡ openers opens n = update_off (openers opens) k (openers opens k - 1) n h.1 in
+        omega (arith, changed k false n, still, here)
+  ]
+
+-- the model gives leave to an action, if there is one
+abbrev pub LeaveToDo : Limits → State → ℕ → Option Action → Type 0
+LeaveToDo l s t None = Unit {0}
+LeaveToDo l s t (Some action) = HasLeave l s t action
+
+-- what a task of the model holds
+abbrev pub held_shown : State → ℕ → Holdings
+held_shown s t = record { mounts = s.mounts t; levels = s.levels t; files = s.opens t }
+
+-- so the words say how many have each open after an event that moves the shown tree by an action, where they said so before it
+module _ (l : Limits) (s : State) (t : ℕ) (lt : t < most_tasks) (node node' : ℕ → ℕ) where
+  abbrev pub AreCounted : Type 0
+  AreCounted = (n : ℕ) → n < l.nodes → opens_in (node n) ≡ openers s.opens n
+
+  stays_counted : (opens_shown node' ≡ opens_shown node) → AreCounted → (n : ℕ) → n < l.nodes →
+      opens_in (node' n) ≡ openers (update s.opens t (s.opens t)) n
+  stays_counted same counted n ln = ap (λ f. f n) same ∙ counted n ln ∙ sym (ap (λ f. openers f n) (update_same s.opens t))
+
+  one_counted : (k v : ℕ) (b : Bool) → opens_shown node' ≡ update (opens_shown node) k v → (n : ℕ) → n < l.nodes → AreCounted →
+      (u : ℕ) → v ≡ u → update (openers s.opens) k u n ≡ openers (update s.opens t (update (s.opens t) k b)) n →
+      opens_in (node' n) ≡ openers (update s.opens t (update (s.opens t) k b)) n
+  one_counted k v b moves n ln counted u same is =
+      ap (λ f. f n) moves ∙
+      elim (eqb_tells n k) as (λ h. update (opens_shown node) k v n ≡ update (openers s.opens) k u n) [
+        | inl h ↦ ap (update (opens_shown node) k v) h.1 ∙ update_at (opens_shown node) k v ∙ same ∙
+            sym (ap (update (openers s.opens) k u) h.1 ∙ update_at (openers s.opens) k u)
+        | inr h ↦ update_off (opens_shown node) k v n h.1 ∙ counted n ln ∙ sym (update_off (openers s.opens) k u n h.1)
+      ] ∙ is
+
+  pub files_counted : (action : Option Action) → LeaveToDo l s t action → MovesBy (bounds_of l) node node' action → AreCounted →
+      (n : ℕ) → n < l.nodes → opens_in (node' n) ≡ openers (update s.opens t (held_after action (held_shown s t)).files) n
+  files_counted None leave moves counted n ln = stays_counted moves.1 counted n ln
+  files_counted (Some (Action.Open k)) leave moves counted n ln =
+      one_counted k (opens_shown node k + 1) true moves.opens n ln counted (openers s.opens k + 1)
+      (ap (λ x. x + 1) (counted k moves.allowed.0)) (more_open s.opens t lt k n leave)
+  files_counted (Some (Action.Close k)) leave moves counted n ln =
+      one_counted k (opens_shown node k - 1) false moves.opens n ln counted (openers s.opens k - 1)
+      (ap (λ x. x - 1) (counted k moves.allowed)) (fewer_open s.opens t lt k n leave.0)
+  files_counted (Some (Action.Create k d kind)) leave moves counted n ln = stays_counted moves.opens counted n ln
+  files_counted (Some (Action.Remove k)) leave moves counted n ln = stays_counted moves.opens counted n ln
+  files_counted (Some (Action.Grow k b)) leave moves counted n ln = stays_counted moves.opens counted n ln
+  files_counted (Some (Action.MoveTo k d)) leave moves counted n ln = stays_counted moves.opens counted n ln
+  files_counted (Some (Action.Dirty k)) leave moves counted n ln = stays_counted moves.opens counted n ln
+  files_counted (Some (Action.Clean k)) leave moves counted n ln = stays_counted moves.opens counted n ln
+  files_counted (Some action) leave moves counted n ln = absurd leave
+
+-- a call but an open relies on no file
+no_file : {P : Type 0} (to : P → TreePhase) → ((y : P) → file_of (Some (Phase.Trees (to y))) ≡ None) → (files : ℕ → Bool) (n : Next P) →
+    HasFile files (file_of (phase_after (map_next Phase.Trees (map_next to n))))
+no_file to none files n = grind arith
+
+-- an open relies on that its task doesn't have its file open, until it has
+look_file : (x again : OpenFile) (to : NodeWord → OpenFile) (files : ℕ → Bool) (r : Option (Result NodeWord GateError)) →
+    again.file ≡ x.file → ((node : NodeWord) → (to node).file ≡ x.file) → files x.file ≡ false →
+    HasFile files (file_of (phase_after (map_next Phase.Trees (map_next TreePhase.OpenFile (after_look again to r)))))
+look_file x again to files None same on own = ap files same ∙ own
+look_file x again to files (Some (Ok node)) same on own = ap files (on node) ∙ own
+look_file x again to files (Some (Err refusal)) same on own = tt
+
+open_file : (held : Holdings) (x : OpenFile) (s : OpenStep) (found : ℕ) → held.files x.file ≡ false →
+    HasFile (held_after (open_after x s found).1 held).files
+    (file_of (phase_after (map_next Phase.Trees (map_next TreePhase.OpenFile (open_after x s found).0))))
+open_file held x OpenStep.LoadsFile found own =
+    look_file x (at_open x OpenStep.LoadsFile) (λ file. at_open x (opens_from file (nat_lt file.opens 64))) held.files (file_in found) refl
+    (λ node. refl) own
+open_file held x (OpenStep.OpensFile file) found own = elim (eqb_tells found (word_of file)) [ inl h ↦ rw h.0 tt | inr h ↦ rw h.0 tt ]
+
+-- so after an event of a call its task has open, or not, what the phase relies on
+pub file_then : (held : Holdings) (x : TreePhase) (found : ℕ) (hook : HookAnswer) → HasFile held.files (file_of (Some (Phase.Trees x))) →
+    HasFile (held_after (after x found hook).1 held).files (file_of (phase_after (map_next Phase.Trees (after x found hook).0)))
+file_then held (TreePhase.Create x) found hook own = no_file TreePhase.Create (λ y. refl) _ (create_after x x.step found).0
+file_then held (TreePhase.Remove x) found hook own = no_file TreePhase.Remove (λ y. refl) _ (remove_after x x.step found).0
+file_then held (TreePhase.Grow x) found hook own = no_file TreePhase.Grow (λ y. refl) _ (grow_after x x.step found).0
+file_then held (TreePhase.MoveTo x) found hook own = no_file TreePhase.MoveTo (λ y. refl) _ (move_after x x.step found).0
+file_then held (TreePhase.Mark x) found hook own = no_file TreePhase.Mark (λ y. refl) _ (mark_after x x.step found).0
+file_then held (TreePhase.OpenFile x) found hook own = open_file held x x.step found own
+file_then held (TreePhase.Snapshot x) found hook own = no_file TreePhase.Snapshot (λ y. refl) _ (snapshot_after x x.step found).0
+file_then held (TreePhase.ClearMarks x) found hook own = no_file TreePhase.ClearMarks (λ y. refl) _ (clear_after x found).0
