@@ -26,7 +26,7 @@ use crate::call_ends::callbacks::{callback_first, run_callback};
 use crate::call_ends::freeze_lines::{
     close_second, end_freeze, freeze_first, freeze_locked, go_on_level,
 };
-use crate::call_ends::remount_lines::{remount_first, sum_mount};
+use crate::call_ends::remount_lines::{remount_first, remount_locked};
 use crate::call_ends::thaw_lines::{reopen_all, thaw_first, thaw_locked};
 use crate::call_events::{GateWords, Seat, TimedHooks, Turn, do_event, go_on};
 use access_model::{GateError, Next, Reply};
@@ -170,8 +170,7 @@ impl Waiting for Remount {
         op: Op,
         hooks: &mut H,
     ) -> Next<Remount> {
-        let _hooks = &*hooks;
-        remount_first(gates, seat, accesses, op, self)
+        remount_first(gates, seat, accesses, op, self, hooks)
     }
 
     #[inline(always)]
@@ -182,8 +181,7 @@ impl Waiting for Remount {
         accesses: &Accesses,
         hooks: &mut H,
     ) -> Next<Remount> {
-        let _hooks = &*hooks;
-        remount_in_line(gates, seat, accesses, self)
+        remount_in_line(gates, seat, accesses, self, hooks)
     }
 }
 
@@ -243,22 +241,21 @@ fn thaw_in_line<H: TimedHooks>(
 
 /// The line of a remount from where it stands.
 #[inline(always)]
-fn remount_in_line(
+fn remount_in_line<H: TimedHooks>(
     gates: &GateWords,
     seat: &mut Seat,
     accesses: &Accesses,
     remount: Remount,
+    hooks: &mut H,
 ) -> Next<Remount>
     requires table { seat.old.table_id ≡ gates.now.table.shared.table_id }
     requires tied { IsTied gates.now.config None (Some (Remounts remount)) accesses.now seat.old.me.0.items }
     ensures slots { seat.new.me.1 ≡ seat.old.me.1 }
-    ensures led { Led gates.now.config None accesses.now (Go (Remounts remount)) seat.old.table_id seat.old.me.0
-        (of_remount result) seat.new.table_id seat.new.me.0 }
+    ensures led { LedAsking H.answers gates.now.config None accesses.now (Go (Remounts remount)) seat.old.table_id seat.old.me.0 hooks.old
+        (of_remount result) seat.new.table_id seat.new.me.0 hooks.new }
 {
     match remount.step {
-        RemountStep::Sums { mount, held, sum } => {
-            sum_mount(gates, seat, accesses, remount, mount, held, sum)
-        }
+        RemountStep::LoadsStage => remount_locked(gates, seat, accesses, remount, hooks),
         _ => Next::Go(remount),
     }
 }
