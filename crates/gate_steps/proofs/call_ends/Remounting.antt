@@ -4,7 +4,7 @@ use Rattle.std.proofs.lemmas.Nat.{and_le_l}
 use Rattle.std.specs.Int.{bit_not, w8}
 use Rattle.std.specs.Prelude.{bit_and, Some, None, Ok, Err, ◌==◌, nat_lt, not, if◌then◌else◌}
 use Rattle.access_model.specs.declared.actions.Action.TheVariants.{Clean}
-use Rattle.access_model.specs.declared.replies.Next.TheVariants.{Go, Wait}
+use Rattle.access_model.specs.declared.replies.Next.TheVariants.{Go}
 use Rattle.cpu_words.specs.Hooks.{HookAnswer}
 use Rattle.cpu_words.specs.Sums.{sum_taking}
 use Rattle.cpu_words.specs.declared.sums.Sum.{Sum}
@@ -55,12 +55,9 @@ module _ (x : Remount) where
   pub remount_stands : (s : RemountStep) → x.step ≡ s → Go (remounting_at x s) ≡ Go (Remounts x)
   remount_stands s at = ap (λ t. Go (remounting_at x t)) (sym at)
 
-  -- `umount` was free, or taken
+  -- `umount` was free
   pub locked : (found : ℕ) → found ≡ 0 → (after_of (remounting_at x Locks) found (Ok tt)).0 ≡ Go (remounting_at x LoadsStage)
   locked found is = rw (same_number found 0 is) refl
-
-  pub not_locked : (found : ℕ) → (found ≡ 0 → ⊥) → (after_of (remounting_at x Locks) found (Ok tt)).0 ≡ Wait (remounting_at x Locks)
-  not_locked found not = rw (other_number found 0 not) refl
 
   -- the load of the stage
   pub stage_free : (found : ℕ) → found ≡ 0 → (after_of (remounting_at x LoadsStage) found (Ok tt)).0 ≡ Go (remounting_at x LoadsSuperblock)

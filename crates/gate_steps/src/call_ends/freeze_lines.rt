@@ -4,7 +4,6 @@ ghost use Rattle.std.specs.Prelude.{◌≡◌, ◌≤◌, Some, None, Ok};
 ghost use Rattle.access_model.specs.declared.replies.Next.TheVariants.{Go};
 ghost use Rattle.freeze_levels.specs.Freezes.{at_freeze, freeze_fails, level_closed};
 ghost use Rattle.gate_world.specs.Work.{after_of};
-ghost use Rattle.gate_world.specs.declared.work.Phase.TheVariants.{Freezes};
 ghost use Rattle.freeze_levels.specs.declared.freezes.FreezeStep.TheVariants.{
   Cleans,
   Closes,
@@ -31,13 +30,14 @@ use gate_world::{Accesses, Op};
 use node_words::{ClearMarks, NodeWord, following};
 use percpu_rwsem::{DownWrite, UpWrite, UpWriteStep};
 
-/// What comes after a step that has found this, where that leads out of the line. It stands apart, so that none of it is written where the line
-/// goes on.
+/// What comes after a step that has found this, where that leads out of the line. It stands apart, and takes the step by itself, so that nothing is
+/// written to memory where the line goes on.
 #[cold]
 #[inline(never)]
-fn leave(here: Freeze, found: u64) -> Next<Freeze>
-    ensures { of_freeze result ≡ (after_of (Freezes here) found (Ok tt)).0 }
+fn leave(freeze: Freeze, step: FreezeStep, found: u64) -> Next<Freeze>
+    ensures { of_freeze result ≡ (after_of (standing freeze step) found (Ok tt)).0 }
 {
+    let here = Freeze { step, ..freeze };
     let (next, _action) = here.after(found, Ok(()));
     next
 }
@@ -73,7 +73,7 @@ pub(crate) fn freeze_first<H: TimedHooks>(
         Touch::Cas { expect: 0, put },
     );
     if taken != 0 {
-        return leave(locks, taken);
+        return leave(freeze, FreezeStep::Locks, taken);
     }
     freeze_locked(gates, seat, accesses, freeze, hooks)
 }
@@ -99,7 +99,7 @@ pub(crate) fn freeze_locked<H: TimedHooks>(
     };
     let stage = find(gates, seat, accesses, here, WordName::Stage, Touch::Load);
     if stage != 0 {
-        return leave(here, stage);
+        return leave(freeze, FreezeStep::LoadsStage, stage);
     }
     let here = Freeze {
         step: FreezeStep::LoadsSuperblock,
@@ -107,7 +107,7 @@ pub(crate) fn freeze_locked<H: TimedHooks>(
     };
     let flags = find(gates, seat, accesses, here, WordName::SbFlags, Touch::Load);
     if flags != 0 {
-        return leave(here, flags);
+        return leave(freeze, FreezeStep::LoadsSuperblock, flags);
     }
     close_first(gates, seat, accesses, freeze, hooks)
 }
@@ -169,7 +169,7 @@ fn lock_again<H: TimedHooks>(
     let touch = Touch::Cas { expect: 0, put };
     let taken = find(gates, seat, accesses, again, WordName::Umount, touch);
     if taken != 0 {
-        return leave(again, taken);
+        return leave(freeze, FreezeStep::LocksAgain, taken);
     }
     close_second(gates, seat, accesses, freeze, hooks)
 }

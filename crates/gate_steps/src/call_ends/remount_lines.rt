@@ -3,7 +3,6 @@
 ghost use Rattle.std.specs.Prelude.{◌≡◌, Some, None, Ok};
 ghost use Rattle.access_model.specs.declared.replies.Next.TheVariants.{Go};
 ghost use Rattle.gate_world.specs.Work.{after_of};
-ghost use Rattle.gate_world.specs.declared.work.Phase.TheVariants.{Remounts};
 ghost use Rattle.mount_counts.specs.Remounts.{let_go};
 ghost use Rattle.mount_counts.specs.Sets.{no_mounts};
 ghost use Rattle.mount_counts.specs.declared.remounts.RemountStep.TheVariants.{
@@ -29,12 +28,14 @@ use gate_world::{Accesses, Op};
 use mount_counts::{MountFlags, MountSet, Remount, RemountStep};
 use node_words::{NodeWord, following};
 
-/// What comes after a step that has found this, where that leads out of the line.
+/// What comes after a step that has found this, where that leads out of the line. It stands apart, and takes the step by itself, so that nothing is
+/// written to memory where the line goes on.
 #[cold]
 #[inline(never)]
-fn leave(here: Remount, found: u64) -> Next<Remount>
-    ensures { of_remount result ≡ (after_of (Remounts here) found (Ok tt)).0 }
+fn leave(remount: Remount, step: RemountStep, found: u64) -> Next<Remount>
+    ensures { of_remount result ≡ (after_of (remounting_at remount step) found (Ok tt)).0 }
 {
+    let here = Remount { step, ..remount };
     let (next, _action) = here.after(found, Ok(()));
     next
 }
@@ -69,7 +70,7 @@ fn sum_mount(
                 if total == 0 {
                     return true;
                 }
-                *rest = leave(here, found);
+                *rest = leave(remount, RemountStep::Sums { mount, held, sum }, found);
                 return false;
             }
         }
@@ -260,7 +261,7 @@ fn bar_writers<H: TimedHooks>(
     let here = Remount { step, ..remount };
     let removed = find(gates, seat, accesses, here, WordName::Removed, Touch::Load);
     if removed != 0 {
-        return leave(here, removed);
+        return leave(remount, RemountStep::LoadsRemovedAgain { held }, removed);
     }
     let step = RemountStep::SetsRemount { held };
     let here = Remount { step, ..remount };
@@ -290,7 +291,7 @@ fn make_read_only<H: TimedHooks>(
     let here = Remount { step, ..remount };
     let removed = find(gates, seat, accesses, here, WordName::Removed, Touch::Load);
     if removed != 0 {
-        return leave(here, removed);
+        return leave(remount, RemountStep::LoadsRemoved, removed);
     }
     let mut rest = Next::Done(Ok(Reply::Unit));
     let Some(held) = hold_mounts(gates, seat, accesses, remount, &mut rest) else {
@@ -326,7 +327,7 @@ fn make_writable<H: TimedHooks>(
 }
 
 /// Goes on from the load of the stage, with `umount` taken. What comes after the last step that stands in the line.
-#[inline(always)]
+#[inline(never)]
 pub(crate) fn remount_locked<H: TimedHooks>(
     gates: &GateWords,
     seat: &mut Seat,
@@ -344,7 +345,7 @@ pub(crate) fn remount_locked<H: TimedHooks>(
     let here = Remount { step, ..remount };
     let stage = find(gates, seat, accesses, here, WordName::Stage, Touch::Load);
     if stage != 0 {
-        return leave(here, stage);
+        return leave(remount, RemountStep::LoadsStage, stage);
     }
     let step = RemountStep::LoadsSuperblock;
     let here = Remount { step, ..remount };
@@ -362,7 +363,7 @@ pub(crate) fn remount_locked<H: TimedHooks>(
 }
 
 /// Remounts, from the first step on, likewise.
-#[inline(never)]
+#[inline(always)]
 pub(crate) fn remount_first<H: TimedHooks>(
     gates: &GateWords,
     seat: &mut Seat,
@@ -383,7 +384,7 @@ pub(crate) fn remount_first<H: TimedHooks>(
     let touch = Touch::Cas { expect: 0, put };
     let taken = find_first(gates, seat, accesses, op, locks, WordName::Umount, touch);
     if taken != 0 {
-        return Next::Wait(locks);
+        return leave(remount, RemountStep::Locks, taken);
     }
     remount_locked(gates, seat, accesses, remount, hooks)
 }

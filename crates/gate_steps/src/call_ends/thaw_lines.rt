@@ -3,7 +3,6 @@
 ghost use Rattle.std.specs.Prelude.{◌≡◌, Some, None, Ok, false};
 ghost use Rattle.access_model.specs.declared.replies.Next.TheVariants.{Go};
 ghost use Rattle.gate_world.specs.Work.{after_of};
-ghost use Rattle.gate_world.specs.declared.work.Phase.TheVariants.{Thaws};
 ghost use Rattle.freeze_levels.specs.declared.thaws.ThawStep.TheVariants.{LeavesLast, LoadsStage, Locks, SetsUnfrozen};
 ghost use Rattle.percpu_rwsem.specs.declared.writers.UpWriteStep.TheVariants.{ClearsBlock, Exits};
 ghost use Rattle.percpu_rwsem.specs.declared.transitions.Transition.TheVariants.{Loads};
@@ -19,12 +18,14 @@ use freeze_levels::{HookCall, Thaw, ThawStep};
 use gate_world::{Accesses, Op};
 use percpu_rwsem::{SyncWord, Transition, UpWrite, UpWriteStep};
 
-/// What comes after a step that has found this, where that leads out of the line.
+/// What comes after a step that has found this, where that leads out of the line. It stands apart, and takes the step by itself, so that nothing is
+/// written to memory where the line goes on.
 #[cold]
 #[inline(never)]
-fn leave(here: Thaw, found: u64) -> Next<Thaw>
-    ensures { of_thaw result ≡ (after_of (Thaws here) found (Ok tt)).0 }
+fn leave(thaw: Thaw, step: ThawStep, found: u64) -> Next<Thaw>
+    ensures { of_thaw result ≡ (after_of (thaw_at thaw step) found (Ok tt)).0 }
 {
+    let here = Thaw { step, ..thaw };
     let (next, _action) = here.after(found, Ok(()));
     next
 }
@@ -185,7 +186,7 @@ pub(crate) fn thaw_first<H: TimedHooks>(
         Touch::Cas { expect: 0, put },
     );
     if taken != 0 {
-        return leave(locks, taken);
+        return leave(thaw, ThawStep::Locks, taken);
     }
     thaw_locked(gates, seat, accesses, thaw, hooks)
 }
@@ -211,7 +212,7 @@ pub(crate) fn thaw_locked<H: TimedHooks>(
     };
     let stage = find(gates, seat, accesses, here, WordName::Stage, Touch::Load);
     if stage != 4 {
-        return leave(here, stage);
+        return leave(thaw, ThawStep::LoadsStage, stage);
     }
     let here = Thaw {
         step: ThawStep::LoadsHolders,
@@ -221,12 +222,12 @@ pub(crate) fn thaw_locked<H: TimedHooks>(
     let held = unpack(word);
     let is_holder = held.has(thaw.holder);
     if !is_holder {
-        return leave(here, word);
+        return leave(thaw, ThawStep::LoadsHolders, word);
     }
     let others = held.without(thaw.holder);
     let is_last = others.is_none();
     if !is_last {
-        return leave(here, word);
+        return leave(thaw, ThawStep::LoadsHolders, word);
     }
     let here = Thaw {
         step: ThawStep::LoadsSuperblock,
@@ -234,7 +235,7 @@ pub(crate) fn thaw_locked<H: TimedHooks>(
     };
     let flags = find(gates, seat, accesses, here, WordName::SbFlags, Touch::Load);
     if flags != 0 {
-        return leave(here, flags);
+        return leave(thaw, ThawStep::LoadsSuperblock, flags);
     }
     thaw_last(gates, seat, accesses, thaw, hooks)
 }
