@@ -14,7 +14,7 @@ use Rattle.gate_world.specs.Work.{after_of}
 use Rattle.gate_world.specs.declared.accesses.Accesses.{Accesses}
 use Rattle.gate_world.specs.declared.work.Phase.TheVariants.{Remounts}
 use Rattle.mount_counts.specs.Phases.{has_flag}
-use Rattle.mount_counts.specs.Remounts.{at_remount, let_go, past_mount, remount_from}
+use Rattle.mount_counts.specs.Remounts.{let_go, past_mount, remount_from}
 use Rattle.mount_counts.specs.Sets.{has_mount, lowest, no_mounts, one_mount, with_mount, without_lowest}
 use Rattle.mount_counts.specs.declared.remounts.Remount.{Remount}
 use Rattle.mount_counts.specs.declared.remounts.RemountStep.{RemountStep}

@@ -21,7 +21,7 @@ use Rattle.percpu_rwsem.specs.declared.transitions.Transition.TheVariants.{Loads
 use Rattle.percpu_rwsem.specs.declared.transitions.TransitionNext.TheVariants.{More, Made}
 use Rattle.percpu_rwsem.specs.declared.writers.UpWriteStep.TheVariants.{Exits}
 use Rattle.gate_steps.specs.call_events.Reopenings.{opening_at, of_thaw, reopened, thaw_at}
-use Rattle.gate_steps.proofs.call_ends.Closing.{same_number, other_number}
+use Rattle.gate_steps.proofs.call_ends.Closing.{same_number}
 
 module _ (x : Thaw) where
   -- `umount` was free, or taken

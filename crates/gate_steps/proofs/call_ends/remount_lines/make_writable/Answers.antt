@@ -1,7 +1,6 @@
 -- the return goes on from what `reconfigure` has answered
 use Rattle.std.proofs.Common.{refl}
 use Rattle.gate_steps.proofs.call_events.Leading.{asking_on, asking_tied, led_unasked}
-use Rattle.gate_steps.proofs.call_ends.Remounting.{opens_leave}
 use Rattle.gate_steps.proofs.call_ends.remount_lines.make_writable.Goals as goal
 
 pub release-requires-clause-tied : goal.release-requires-clause-tied
