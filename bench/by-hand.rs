@@ -1,7 +1,8 @@
 //! What `gate_workbench measure` is compared with: the same by hand, over padded atomics with sequentially consistent steps, and with no
 //! proof. It takes the same three words, and prints nanoseconds likewise; `bench/by-turns.py` builds it and measures both by turns.
 //! A pair is a want and a drop of a mount, a start and an end of level 1, or a taking and a return of write access, which is
-//! both. Each thread is a task of its own, at a processor of its own. Freezes and thaws are one task's, among so many tasks and processors. A
+//! both. Each thread is a task of its own, at a processor of its own. Freezes and thaws are one task's, among so many tasks and processors, and so
+//! are remounts of the superblock to read-only and back, snapshots of so many nodes, and a file's opens and closes. A
 //! round is what a writer does in a run (`mntgate run`): it takes write access, makes its file larger by one block, and gives the access
 //! back on another processor, while one more thread makes the mount read-only and writable again.
 //!
@@ -34,10 +35,13 @@ const COUNTED: u64 = 256;
 /// Rounds of each writer in one run.
 const ROUNDS: u32 = 10_000;
 
-/// A node's word: the kind in bits 0 and 1, the dirty mark, and the size from bit 32 on.
+/// A node's word: the kind in bits 0 and 1, the dirty mark, the mark of a removed file, how many tasks have it open, and the size from bit 32 on.
 const FILE: u64 = 1;
 const KIND: u64 = 3;
 const DIRTY: u64 = 4;
+const GONE: u64 = 8;
+const OPEN: u64 = 1 << 16;
+const OPENS: u64 = 127;
 const BLOCK: u64 = 1 << 32;
 
 #[derive(Debug)]
@@ -76,6 +80,14 @@ impl Words {
 
     fn level_count(&self, level: usize, cpu: usize) -> &AtomicU64 {
         &self.0[APART * (659 + 64 * level + cpu)]
+    }
+
+    fn kids(&self, node: usize) -> &AtomicU64 {
+        &self.0[APART * (147 + node)]
+    }
+
+    fn removed(&self) -> &AtomicU64 {
+        &self.0[APART * 915]
     }
 
     fn used(&self) -> &AtomicU64 {
@@ -376,6 +388,111 @@ fn change_mount(words: &Words, number: u64, mount: usize, read_only: bool, proce
     if sum == 0 { Ok(()) } else { Err(Refusal::Busy) }
 }
 
+/// Remounts the superblock read-only, or writable.
+#[inline(never)]
+fn remount_sb(words: &Words, node: &AtomicU64, read_only: bool, processors: usize) -> Result<(), Refusal> {
+    let (superblock, bar) = (&words.0[APART * SUPERBLOCK], &words.0[APART * REMOUNT]);
+    lock(words, 0);
+    if words.0[APART * STAGE].load(SeqCst) != 0 {
+        unlock(words);
+        return Err(Refusal::Busy);
+    }
+    let found = superblock.load(SeqCst) != 0;
+    if found == read_only || !read_only {
+        if found != read_only {
+            superblock.store(0, SeqCst);
+        }
+        unlock(words);
+        return Ok(());
+    }
+    if words.removed().load(SeqCst) != 0 {
+        unlock(words);
+        return Err(Refusal::Busy);
+    }
+    let flags = words.flags(0);
+    let is_held = flags.load(SeqCst) & READONLY == 0;
+    let mut sum = 0;
+    if is_held {
+        flags.fetch_or(HOLD, SeqCst);
+        sum = (0..processors).fold(0u64, |sum, cpu| words.count(0, cpu).load(SeqCst).wrapping_add(sum));
+    }
+    let is_barred = sum == 0 && words.removed().load(SeqCst) == 0;
+    if is_barred {
+        bar.store(1, SeqCst);
+    }
+    if is_held {
+        flags.fetch_and(!HOLD, SeqCst);
+    }
+    if is_barred {
+        node.fetch_and(!DIRTY, SeqCst);
+        superblock.store(1, SeqCst);
+        bar.store(0, SeqCst);
+    }
+    unlock(words);
+    if is_barred { Ok(()) } else { Err(Refusal::Busy) }
+}
+
+/// A tree as a snapshot loads it.
+struct Tree {
+    used: u64,
+    nodes: Vec<u64>,
+    kids: Vec<u64>,
+}
+
+/// Takes a snapshot of the frozen file system.
+#[inline(never)]
+fn snapshot(words: &Words, tree: &mut Tree) -> bool {
+    lock(words, 0);
+    let is_frozen = words.0[APART * STAGE].load(SeqCst) == 4;
+    if is_frozen {
+        tree.used = words.used().load(SeqCst);
+        for (node, word) in tree.nodes.iter_mut().enumerate() {
+            *word = words.node(node).load(SeqCst);
+        }
+        for (node, word) in tree.kids.iter_mut().enumerate() {
+            *word = words.kids(node).load(SeqCst);
+        }
+    }
+    unlock(words);
+    is_frozen
+}
+
+/// Opens a file.
+#[inline(never)]
+fn open(words: &Words, files: &mut [bool; 64], file: usize) -> Result<(), Refusal> {
+    if files[file] {
+        return Err(Refusal::TooMany);
+    }
+    let node = words.node(file);
+    let found = node.load(SeqCst);
+    if found & KIND != FILE || found & GONE != 0 {
+        return Err(Refusal::NoEntry);
+    }
+    if node.compare_exchange(found, found + OPEN, SeqCst, SeqCst).is_err() {
+        return Err(Refusal::Again);
+    }
+    files[file] = true;
+    Ok(())
+}
+
+/// Closes a file that is not removed.
+#[inline(never)]
+fn close(words: &Words, files: &mut [bool; 64], file: usize) -> Result<(), Refusal> {
+    if !files[file] {
+        return Err(Refusal::Order);
+    }
+    let node = words.node(file);
+    let found = node.load(SeqCst);
+    if found & GONE != 0 || found / OPEN & OPENS == 0 {
+        return Err(Refusal::NoEntry);
+    }
+    if node.compare_exchange(found, found - OPEN, SeqCst, SeqCst).is_err() {
+        return Err(Refusal::Again);
+    }
+    files[file] = false;
+    Ok(())
+}
+
 /// Waits longer from time to time: some turns, and then the processor is left to others.
 struct Backoff(u32);
 
@@ -435,7 +552,7 @@ fn run(tasks: usize) {
 
 /// The words of the gates, all at 0.
 fn words() -> Words {
-    Words((0..APART * 915).map(|_| AtomicU64::new(0)).collect())
+    Words((0..APART * 916).map(|_| AtomicU64::new(0)).collect())
 }
 
 fn measure_pairs(pair: Pair, threads: usize, pairs: u32) -> Duration {
@@ -461,6 +578,42 @@ fn measure_freezes(runs_callbacks: bool, size: usize, rounds: u32) -> Duration {
     start.elapsed()
 }
 
+fn measure_remounts(size: usize, rounds: u32) -> Duration {
+    let (words, node) = (words(), AtomicU64::new(0));
+    let start = Instant::now();
+    for _ in 0..rounds {
+        remount_sb(&words, &node, true, size).expect("nobody writes");
+        remount_sb(&words, &node, false, size).expect("it is never refused");
+    }
+    start.elapsed()
+}
+
+fn measure_snapshots(nodes: usize, rounds: u32) -> Duration {
+    let (words, node) = (words(), AtomicU64::new(0));
+    let mut tree = Tree {
+        used: 0,
+        nodes: vec![0; nodes],
+        kids: vec![0; nodes],
+    };
+    assert!(freeze(&words, &node, 1));
+    let start = Instant::now();
+    for _ in 0..rounds {
+        assert!(snapshot(&words, &mut tree));
+    }
+    start.elapsed()
+}
+
+fn measure_file(rounds: u32) -> Duration {
+    let (words, mut files) = (words(), [false; 64]);
+    words.node(1).store(FILE, SeqCst);
+    let start = Instant::now();
+    for _ in 0..rounds {
+        open(&words, &mut files, 1).expect("it is there");
+        close(&words, &mut files, 1).expect("it is open");
+    }
+    start.elapsed()
+}
+
 fn measure_runs(tasks: usize, runs: u32) -> Duration {
     let start = Instant::now();
     for _ in 0..runs {
@@ -481,6 +634,9 @@ fn measure(asked: &[String]) -> Option<Duration> {
         "write-access" => Some(measure_pairs(Pair::WriteAccess, size, count)),
         "freeze" => Some(measure_freezes(false, size, count)),
         "freeze-and-callbacks" => Some(measure_freezes(true, size, count)),
+        "remounts" => Some(measure_remounts(size, count)),
+        "snapshot" => Some(measure_snapshots(size, count)),
+        "file" => Some(measure_file(count)),
         "run" if size > 2 => Some(measure_runs(size, count)),
         _ => None,
     }
@@ -489,7 +645,7 @@ fn measure(asked: &[String]) -> Option<Duration> {
 fn main() {
     let asked: Vec<String> = env::args().skip(1).collect();
     let Some(took) = measure(&asked) else {
-        eprintln!("usage: by-hand mount|level|write-access|freeze|freeze-and-callbacks|run SIZE COUNT");
+        eprintln!("usage: by-hand mount|level|write-access|freeze|freeze-and-callbacks|remounts|snapshot|file|run SIZE COUNT");
         process::exit(2);
     };
     println!("{}", took.as_nanos());

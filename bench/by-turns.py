@@ -1,11 +1,14 @@
 #!/usr/bin/env python3
 """Measures `gate_workbench measure` and bench/by-hand.rs by turns, in the same minutes, and prints medians and ratios.
 
-    bench/by-turns.py [--turns N] [--only WORD] [--program FILE]
+    bench/by-turns.py [--turns N] [--only WORD] [--program FILE] [--instructions]
 
 Each row is measured by itself, N times (5, if left out) each program, one right after the other, and each turn begins with the other
 one. A row's figures are medians. 'speed' is the program's speed beside that by hand: 1.00 is as fast, 0.50 half as fast; and in brackets the
 least and the most of the N turns. --only takes the rows that have the word in their name.
+
+With --instructions callgrind counts the instructions of one pair or round in place of its time: those of 1,200 less those of 200, divided by
+1,000. They are the same whatever else the machine does. Rows of several threads and runs are left out. valgrind has to be there.
 
 gate_workbench has to be built: cd crates/gate_workbench && rt run -- --help. rustc has to be there. No proof covers these figures, and they say
 little while the machine does other work: the last line has its load. The exit status is 0, 1 where a program failed, and 2 for a misuse.
@@ -13,6 +16,8 @@ little while the machine does other work: the last line has its load. The exit s
 
 import argparse
 import os
+import re
+import shutil
 import statistics
 import subprocess
 import sys
@@ -31,7 +36,7 @@ def millions(size, count, nanos):
 
 
 def microseconds(_size, count, nanos):
-    """Microseconds for one freeze with its thaw."""
+    """Microseconds for one round: a freeze with its thaw, two remounts or a snapshot."""
     return nanos / count / 1e3
 
 
@@ -47,6 +52,9 @@ KINDS = [
     ("write-access", (1, 2, 4), 3_000_000, "million pairs a second", millions),
     ("freeze", (1, 8, 64), 100_000, "microseconds", microseconds),
     ("freeze-and-callbacks", (1, 8, 64), 50_000, "microseconds", microseconds),
+    ("remounts", (1, 8, 64), 100_000, "microseconds", microseconds),
+    ("snapshot", (2, 8, 64), 100_000, "microseconds", microseconds),
+    ("file", (1,), 1_000_000, "million pairs a second", millions),
     ("run", (4, 8, 16), 10, "thousand rounds a second", thousands),
 ]
 
@@ -71,6 +79,31 @@ def measure(programs, turns, words):
     return times
 
 
+def instructions(program, name, size, folder):
+    """Gives the instructions of one round: the difference of two counts."""
+    counts = []
+    for rounds in (200, 1_200):
+        command = ["valgrind", "--tool=callgrind", f"--callgrind-out-file={folder}/callgrind", *program, name, str(size), str(rounds)]
+        ran = subprocess.run(command, capture_output=True, text=True)
+        found = re.search(r"Collected : (\d+)", ran.stderr)
+        if ran.returncode or not found:
+            sys.exit(f"by-turns: {' '.join(command)} ended with status {ran.returncode}: {ran.stderr.strip()}")
+        counts.append(int(found[1]))
+    return (counts[1] - counts[0]) / 1_000
+
+
+def count(programs, only, folder):
+    """Prints the instructions of each row that one thread does."""
+    print("| What | Size | gate_workbench | By hand |")
+    print("|---|---|---|---|")
+    for name, sizes, *_ in KINDS:
+        if only not in name or name == "run":
+            continue
+        for size in sizes[:1] if sizes == (1, 2, 4) else sizes:
+            ours, by_hand = (instructions(program, name, size, folder) for program in programs)
+            print(f"| {name} | {size} | {ours:.0f} | {by_hand:.0f} |", flush=True)
+
+
 def row(programs, turns, kind, size):
     """Measures one row, and gives its text."""
     name, _, count, unit, figure = kind
@@ -86,16 +119,22 @@ def main():
     parser.add_argument("--turns", type=int, default=5)
     parser.add_argument("--only", default="")
     parser.add_argument("--program", default=PROGRAM)
+    parser.add_argument("--instructions", action="store_true")
     asked = parser.parse_args()
     if asked.turns < 1:
         parser.error("there is at least one turn")
     if not os.access(asked.program, os.X_OK):
         parser.error(f"{asked.program} is not built: cd crates/gate_workbench && rt run -- --help")
+    if asked.instructions and not shutil.which("valgrind"):
+        parser.error("valgrind is not there, which counts the instructions")
     with tempfile.TemporaryDirectory() as folder:
         by_hand = f"{folder}/by-hand"
         if subprocess.run(["rustc", "-O", "-o", by_hand, f"{ROOT}/bench/by-hand.rs"]).returncode:
             sys.exit("by-turns: bench/by-hand.rs is not built")
         programs = ([asked.program, "measure"], [by_hand])
+        if asked.instructions:
+            count(programs, asked.only, folder)
+            return
         print("| What | Size | gate_workbench | By hand | Speed | Unit |")
         print("|---|---|---|---|---|---|")
         for kind in KINDS:

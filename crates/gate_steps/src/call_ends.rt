@@ -26,7 +26,7 @@ use crate::call_ends::callbacks::{callback_first, run_callback};
 use crate::call_ends::freeze_lines::{
     close_second, end_freeze, freeze_first, freeze_locked, go_on_level,
 };
-use crate::call_ends::remount_lines::{remount_first, sum_mount};
+use crate::call_ends::remount_lines::{remount_first, remount_locked};
 use crate::call_ends::thaw_lines::{reopen_all, thaw_first, thaw_locked};
 use crate::call_events::{GateWords, Seat, TimedHooks, Turn, do_event, go_on};
 use access_model::{GateError, Next, Reply};
@@ -170,8 +170,7 @@ impl Waiting for Remount {
         op: Op,
         hooks: &mut H,
     ) -> Next<Remount> {
-        let _hooks = &*hooks;
-        remount_first(gates, seat, accesses, op, self)
+        remount_first(gates, seat, accesses, op, self, hooks)
     }
 
     #[inline(always)]
@@ -182,8 +181,7 @@ impl Waiting for Remount {
         accesses: &Accesses,
         hooks: &mut H,
     ) -> Next<Remount> {
-        let _hooks = &*hooks;
-        remount_in_line(gates, seat, accesses, self)
+        remount_in_line(gates, seat, accesses, self, hooks)
     }
 }
 
@@ -243,22 +241,21 @@ fn thaw_in_line<H: TimedHooks>(
 
 /// The line of a remount from where it stands.
 #[inline(always)]
-fn remount_in_line(
+fn remount_in_line<H: TimedHooks>(
     gates: &GateWords,
     seat: &mut Seat,
     accesses: &Accesses,
     remount: Remount,
+    hooks: &mut H,
 ) -> Next<Remount>
     requires table { seat.old.table_id ≡ gates.now.table.shared.table_id }
     requires tied { IsTied gates.now.config None (Some (Remounts remount)) accesses.now seat.old.me.0.items }
     ensures slots { seat.new.me.1 ≡ seat.old.me.1 }
-    ensures led { Led gates.now.config None accesses.now (Go (Remounts remount)) seat.old.table_id seat.old.me.0
-        (of_remount result) seat.new.table_id seat.new.me.0 }
+    ensures led { LedAsking H.answers gates.now.config None accesses.now (Go (Remounts remount)) seat.old.table_id seat.old.me.0 hooks.old
+        (of_remount result) seat.new.table_id seat.new.me.0 hooks.new }
 {
     match remount.step {
-        RemountStep::Sums { mount, held, sum } => {
-            sum_mount(gates, seat, accesses, remount, mount, held, sum)
-        }
+        RemountStep::LoadsStage => remount_locked(gates, seat, accesses, remount, hooks),
         _ => Next::Go(remount),
     }
 }
@@ -401,10 +398,53 @@ pub fn go_to_end<P: UnderWay>(
     }
 }
 
-/// Does the events of an operation from its first to its reply, however long it has to wait. A hook of the file system is asked once,
-/// right before the event that reads its answer. Where an event found what the operation waits for, it waits a little, and the longer the more
-/// often one did: soon the processor is left to others each time, since who is waited for may need it. A wait may take several events
-/// before it looks again, so none of these makes the pauses short again. It tells how many events did.
+/// Goes on with an operation to its reply, however long it has to wait. A hook of the file system is asked once, right before the event that
+/// reads its answer. Where an event found what the operation waits for, it waits a little, and the longer the more often one did: soon the
+/// processor is left to others each time, since who is waited for may need it. A wait may take several events before it looks again, so none of
+/// these makes the pauses short again. It tells how many events did.
+#[cold]
+#[inline(never)]
+fn go_on_waiting<R: Wait, H: TimedHooks, P: Waiting>(
+    rt: &R,
+    gates: &GateWords,
+    seat: &mut Seat,
+    accesses: &mut Accesses,
+    begun: Next<P>,
+    hooks: &mut H,
+) -> (Result<Reply, GateError>, u64)
+    requires table { seat.old.table_id ≡ gates.now.table.shared.table_id }
+    requires tied { IsTied gates.now.config None (phase_after (map_next P.as_phase begun)) accesses.old seat.old.me.0.items }
+    ensures table { seat.new.table_id ≡ seat.old.table_id }
+    ensures slots { seat.new.me.1 ≡ seat.old.me.1 }
+    ensures tied { StayTied gates.now.config None (phase_after (map_next P.as_phase begun)) accesses.old seat.old.me.0.items
+        None accesses.new seat.new.me.0.items }
+    ensures called { (of : OpType) (start : TaskState) (before : H) →
+        WentAsking H.answers 0 of start before (map_next P.as_phase begun)
+        (task_state seat.old.table_id gates.now.config None (phase_after (map_next P.as_phase begun)) seat.old.me.0) hooks.old →
+        CalledAsking H.answers of start before (task_state seat.new.table_id gates.now.config None None seat.new.me.0) result.0 result.1
+        hooks.new }
+{
+    let backoff = Backoff::new();
+    let mut waited: u64 = 0;
+    let mut next = begun;
+    for _ in rt.forever() {
+        let under_way = match next {
+            Next::Done(answer) => return (answer, waited),
+            Next::Go(further) => further,
+            Next::Wait(further) => {
+                waited = waited.saturating_add(1);
+                backoff.snooze();
+                further
+            }
+        };
+        let after = go_on_asking(gates, seat, accesses, under_way, hooks);
+        next = go_on_in_line(gates, seat, accesses, after, hooks);
+    }
+    unreachable!()
+}
+
+/// Does the events of an operation from its first to its reply, however long it has to wait, and tells how many events found what it waits for.
+/// Where its line leads to the reply, nothing of it is written to memory.
 #[inline(never)]
 pub fn wait_to_end<R: Wait, H: TimedHooks, P: Waiting>(
     rt: &R,
@@ -427,21 +467,9 @@ pub fn wait_to_end<R: Wait, H: TimedHooks, P: Waiting>(
         CalledAsking H.answers of start before (task_state seat.new.table_id gates.now.config None None seat.new.me.0) result.0 result.1
         hooks.new }
 {
-    let backoff = Backoff::new();
-    let mut waited: u64 = 0;
-    let mut next = first.begin_in_line(gates, seat, accesses, op, hooks);
-    for _ in rt.forever() {
-        let under_way = match next {
-            Next::Done(answer) => return (answer, waited),
-            Next::Go(further) => further,
-            Next::Wait(further) => {
-                waited = waited.saturating_add(1);
-                backoff.snooze();
-                further
-            }
-        };
-        let after = go_on_asking(gates, seat, accesses, under_way, hooks);
-        next = go_on_in_line(gates, seat, accesses, after, hooks);
+    let next = first.begin_in_line(gates, seat, accesses, op, hooks);
+    if let Next::Done(answer) = next {
+        return (answer, 0);
     }
-    unreachable!()
+    go_on_waiting(rt, gates, seat, accesses, next, hooks)
 }

@@ -10,7 +10,7 @@ use std::sync::Wait;
 use std::thread;
 use std::thread::Threads;
 use std::time::{Duration, Instant};
-use vfs_gates::{Config, GateError, Gates, Holder, Task};
+use vfs_gates::{Config, GateError, Gates, Holder, Kind, Task};
 
 /// What a round is.
 #[derive(Clone, Copy)]
@@ -25,6 +25,12 @@ pub(crate) enum Round {
     Freeze,
     /// The same, and the callbacks of the levels. Each freeze and each callback waits for a grace period at each level.
     FreezeAndCallbacks,
+    /// A remount to read-only and one back, by one task.
+    Remounts,
+    /// A snapshot of the frozen file system, by one task.
+    Snapshot,
+    /// A file, opened and closed, by one task.
+    File,
 }
 
 /// Takes an access at mount 0 and gives it back, so often, on the processor with the task's own number, and says whether each call
@@ -102,6 +108,57 @@ fn freezes<R: Wait>(task: &mut Task, rt: &R, gates: &Gates, callbacks: bool, cou
     true
 }
 
+/// Remounts to read-only and back so often, and says whether each call was done.
+fn remounts<R: Wait>(task: &mut Task, rt: &R, gates: &Gates, count: u32) -> bool
+    requires { IsFrom task.old gates.now }
+{
+    for _round in 0..count {
+        let there = task.remount_sb(rt, gates, true, &mut ());
+        if there.is_err() || task.remount_sb(rt, gates, false, &mut ()).is_err() {
+            return false;
+        }
+    }
+    true
+}
+
+/// Freezes, and takes so many snapshots, likewise.
+fn snapshots<R: Wait>(task: &mut Task, rt: &R, gates: &Gates, count: u32) -> bool
+    requires { IsFrom task.old gates.now }
+{
+    if task.freeze(rt, gates, Holder::User, &mut ()).is_err() {
+        return false;
+    }
+    for _round in 0..count {
+        if task.snapshot(rt, gates).is_err() {
+            return false;
+        }
+    }
+    true
+}
+
+/// Makes a file, and opens and closes it so often, likewise.
+fn open_and_close<R: Wait>(task: &mut Task, rt: &R, gates: &Gates, count: u32) -> bool
+    requires { IsFrom task.old gates.now }
+{
+    let cpu = task.number();
+    if task.want_write(rt, gates, 0, cpu).is_err() {
+        return false;
+    }
+    let Ok(file) = task.create(gates, 0, Kind::File) else {
+        return false;
+    };
+    if task.drop_write(gates, 0, cpu).is_err() {
+        return false;
+    }
+    for _round in 0..count {
+        let opened = task.open_file(gates, file);
+        if opened.is_err() || task.close_file(rt, gates, file, cpu).is_err() {
+            return false;
+        }
+    }
+    true
+}
+
 /// Does so many rounds of one kind.
 fn do_rounds<R: Wait>(task: &mut Task, rt: &R, gates: &Gates, round: Round, count: u32) -> bool
     requires { IsFrom task.old gates.now }
@@ -112,6 +169,9 @@ fn do_rounds<R: Wait>(task: &mut Task, rt: &R, gates: &Gates, round: Round, coun
         Round::WriteAccess => want_and_drop_write(task, rt, gates, count),
         Round::Freeze => freezes(task, rt, gates, false, count),
         Round::FreezeAndCallbacks => freezes(task, rt, gates, true, count),
+        Round::Remounts => remounts(task, rt, gates, count),
+        Round::Snapshot => snapshots(task, rt, gates, count),
+        Round::File => open_and_close(task, rt, gates, count),
     }
 }
 
@@ -185,7 +245,8 @@ fn time_first<R: Threads + Wait + Clock + Sync>(
     time_tasks(rt, gates, tasks, round, count)
 }
 
-/// How long so many rounds take each of so many tasks, with as many processors. Where they are freezes, one task does them.
+/// How long so many rounds take each of so many tasks, with as many processors. All but pairs are done by one task. A snapshot has as many
+/// nodes.
 pub(crate) fn measure<R: Threads + Wait + Clock + Sync>(
     rt: &R,
     alloc: Global,
@@ -193,16 +254,20 @@ pub(crate) fn measure<R: Threads + Wait + Clock + Sync>(
     size: u8,
     count: u32,
 ) -> Result<Duration> {
+    let nodes = match round {
+        Round::Snapshot => size,
+        _ => 2,
+    };
     let config = Config {
         tasks: size,
         processors: size,
         mounts: 1,
-        nodes: 2,
+        nodes,
         capacity: 0,
     };
     let threads = match round {
         Round::Mount | Round::Level | Round::WriteAccess => size,
-        Round::Freeze | Round::FreezeAndCallbacks => 1,
+        _ => 1,
     };
     let (gates, first) = Gates::new(alloc, config)?;
     time_first(rt, alloc, &gates, first, threads, round, count)

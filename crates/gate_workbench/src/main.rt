@@ -31,9 +31,10 @@ Usage: gate_workbench measure <WHAT> <SIZE> <COUNT>
 
 measure  Measures the gates, and prints nanoseconds
          WHAT   mount, level or write-access: pairs of a taken and a returned access; freeze or freeze-and-callbacks: freezes, each
-                with its thaw; run: runs
-         SIZE   Threads of the pairs, or tasks and processors: 1 to 64, and at least 3 for runs
-         COUNT  How many pairs each thread does, or freezes, or runs
+                with its thaw; remounts: remounts to read-only, each with one back; snapshot: snapshots; file: a file's opens, each with
+                its close; run: runs
+         SIZE   Threads of the pairs, or tasks and processors, and nodes of a snapshot: 1 to 64, and at least 3 for runs
+         COUNT  How many of them: of pairs, for each thread
 growths  Makes each call that takes memory, and prints how it ended; asks for as many growths first as standard input says
 backup   Runs a backup beside a writer, and prints what both have done
 both     A backup, and then the growths";

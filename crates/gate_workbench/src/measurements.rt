@@ -39,6 +39,9 @@ impl Measurement {
             "write-access" => Subject::Rounds(Round::WriteAccess),
             "freeze" => Subject::Rounds(Round::Freeze),
             "freeze-and-callbacks" => Subject::Rounds(Round::FreezeAndCallbacks),
+            "remounts" => Subject::Rounds(Round::Remounts),
+            "snapshot" => Subject::Rounds(Round::Snapshot),
+            "file" => Subject::Rounds(Round::File),
             "run" => Subject::Runs,
             _ => return None,
         };

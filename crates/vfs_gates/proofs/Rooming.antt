@@ -220,6 +220,12 @@ module _ (call : Call) (r : Rooms) (other : is_of_snapshot call.first ≡ false)
       called_room call.task.config.nodes r call.op call.start _ answer call.task.begins call.task.begins call.task.kept.phase
       call.task.kept.phase other_start (ended_at call left answer is) (idle call) start_room
 
+-- what the room tells follows an event that found this
+abbrev pub FollowsBy : Rooms → Rooms → Event → Phase → ℕ → Option Op → HookAnswer → ℕ → SeatItems → Type 0
+FollowsBy r left event phase nodes begins hook found items =
+    1 ≤ length items → event ≡ event_of (next_of phase hook).0 (next_of phase hook).1 found → RoomTells nodes r begins (Some phase) items →
+    RoomTells nodes left None (phase_after (after_of phase event.found hook).0) (items_after begins phase hook found items)
+
 -- an event of a task, which follows the room
 pub stepped_room : {seen gone : List (List Entry)} (nodes : ℕ) (r left : Rooms) (begins : Option Op) (phase : Phase) (hook : HookAnswer) (table table_left : TableId)
     (c : Config) (items items_left : SeatItems) (event : Event) (action : Option Action) (next : Next Phase) (number : ℕ) (kept : Seat)

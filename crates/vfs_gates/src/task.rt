@@ -6,16 +6,21 @@ ghost use Rattle.gate_world.specs.declared.operations.Op.{Op as OpType};
 ghost use Rattle.gate_world.specs.declared.work.Phase.{Phase as PhaseType};
 ghost use Rattle.vfs_gates.specs.TaskStates.{TaskState, IsNothing};
 ghost use Rattle.gate_steps.specs.Rules.{first_known};
+ghost use Rattle.access_model.specs.Replies.{map_next};
+ghost use Rattle.gate_world.specs.Views.{phase_after};
+ghost use Rattle.gate_steps.specs.call_events.Answers.{progress_of};
 
 use crate::calls::waits;
 use crate::gates::Gates;
 use crate::numbers::{Numbers, add_all, are_all, others_of};
 use crate::rooms::Rooms;
-use access_model::GateError;
+use access_model::{GateError, Next};
 use freeze_levels::HookKind;
+use gate_events::UnderWay;
 use gate_steps::call_events::{Kept, Progress, Seat, Step, Turn, do_event};
-use gate_world::{Accesses, Config, Op};
+use gate_world::{Accesses, Config, Op, Phase};
 use gated_tree::Tree;
+use mount_counts::MountPhase;
 use std::marker::Model;
 
 /// A task: a token that one thread owns at a time. It has a number of its own, with which it acts, and the numbers that it may
@@ -229,17 +234,61 @@ impl Task {
         let Some(phase) = self.kept.phase else {
             return Step::idle();
         };
+        self.step_there(gates, phase, hook)
+    }
+
+    /// Does the next event of an operation that stands here, in the form of its own kind, so that it goes through no other's phases.
+    #[inline(always)]
+    fn step_there(&mut self, gates: &Gates, phase: Phase, hook: Result<(), u16>) -> Step
+        requires from { IsFrom self.old gates.now }
+        requires at { self.old.phase ≡ Some phase }
+        ensures table { self.new.table ≡ self.old.table }
+        ensures config { self.new.config ≡ self.old.config }
+        ensures event { (p : PhaseType) → self.old.phase ≡ Some p → Stepped p hook self.old result self.new }
+    {
+        match phase {
+            Phase::Mounts(MountPhase::Want(want)) => self.step_as(gates, want, hook),
+            Phase::Mounts(MountPhase::Change(change)) => self.step_as(gates, change, hook),
+            Phase::Mounts(phase) => self.step_as(gates, phase, hook),
+            Phase::Remounts(remount) => self.step_as(gates, remount, hook),
+            Phase::DownReads(read) => self.step_as(gates, read, hook),
+            Phase::UpReads(read) => self.step_as(gates, read, hook),
+            Phase::Callbacks(callback) => self.step_as(gates, callback, hook),
+            Phase::Writes(phase) => self.step_as(gates, phase, hook),
+            Phase::Freezes(freeze) => self.step_as(gates, freeze, hook),
+            Phase::Thaws(thaw) => self.step_as(gates, thaw, hook),
+            Phase::Trees(phase) => self.step_as(gates, phase, hook),
+            Phase::Closes(phase) => self.step_as(gates, phase, hook),
+        }
+    }
+
+    /// The event of an operation of one kind: a function of its own for each kind, so that none pays for another's.
+    #[inline(never)]
+    fn step_as<P: UnderWay>(&mut self, gates: &Gates, under_way: P, hook: Result<(), u16>) -> Step
+        requires from { IsFrom self.old gates.now }
+        requires at { self.old.phase ≡ Some (P.as_phase under_way) }
+        ensures table { self.new.table ≡ self.old.table }
+        ensures config { self.new.config ≡ self.old.config }
+        ensures event { (p : PhaseType) → self.old.phase ≡ Some p → Stepped p hook self.old result self.new }
+    {
         let begins = self.begins;
         let accesses = &mut self.kept.accesses;
         let Turn {
             event,
             action,
             next,
-        } = do_event(&gates.words, &mut self.seat, accesses, begins, phase, hook);
-        self.rooms.follow(phase, event);
+        } = do_event(
+            &gates.words,
+            &mut self.seat,
+            accesses,
+            begins,
+            under_way,
+            hook,
+        );
+        self.rooms.follow(under_way.phase(), event);
         let so_far = if begins.is_some() { 0 } else { self.waited };
         self.waited = so_far.saturating_add(waits(&next));
-        let (progress, phase) = Progress::of(next);
+        let (progress, phase) = standing(next);
         self.begins = None;
         self.kept.phase = phase;
         Step {
@@ -301,6 +350,18 @@ impl Task {
             seat,
         } = self;
         seat
+    }
+}
+
+/// How an operation stands after an event, and its next phase.
+#[inline(always)]
+fn standing<P: UnderWay>(next: Next<P>) -> (Progress, Option<Phase>)
+    ensures { result ≡ (progress_of (map_next P.as_phase next), phase_after (map_next P.as_phase next)) }
+{
+    match next {
+        Next::Go(under_way) => (Progress::Going, Some(under_way.phase())),
+        Next::Wait(under_way) => (Progress::Waiting, Some(under_way.phase())),
+        Next::Done(answer) => (Progress::Done(answer), None),
     }
 }
 

@@ -2,7 +2,6 @@
 use Rattle.std.proofs.Common.{◌≡◌, ℕ, ◌-◌, ◌<◌, Bool, true, false, refl, sym, ap, ◌∙◌, arith}
 use Rattle.std.specs.Prelude.{Some, None, Ok, Err, ◌==◌, if◌then◌else◌}
 use Rattle.access_model.specs.declared.actions.Action.TheVariants.{Clean, Pass}
-use Rattle.access_model.specs.declared.errors.GateError.{TheVariants.{Busy}}
 use Rattle.access_model.specs.declared.replies.Next.{Next, TheVariants.{Go, Wait, Done}}
 use Rattle.access_model.specs.declared.replies.Reply.{TheVariants.{Unit as UnitReply}}
 use Rattle.cpu_words.specs.Hooks.{HookAnswer}
@@ -14,9 +13,8 @@ use Rattle.freeze_levels.specs.Freezes.{after_closing, at_freeze, level_closed}
 use Rattle.freeze_levels.specs.Levels.{closing}
 use Rattle.freeze_levels.specs.declared.freezes.Freeze.{Freeze}
 use Rattle.freeze_levels.specs.declared.freezes.FreezeStep.{FreezeStep}
-use Rattle.freeze_levels.specs.declared.freezes.FreezeStep.TheVariants.{Closes, Cleans, Locks, LocksAgain, LoadsStage, LoadsHolders}
+use Rattle.freeze_levels.specs.declared.freezes.FreezeStep.TheVariants.{Closes, Cleans, Locks, LocksAgain, LoadsStage}
 use Rattle.freeze_levels.specs.declared.freezes.FreezeStep.TheVariants.{LoadsSuperblock, SetsWrite, SetsPageFault, SetsFs, SetsComplete}
-use Rattle.freeze_levels.specs.declared.freezes.FreezeStep.TheVariants.{CompletesReadOnly, Releases}
 use Rattle.gate_world.specs.declared.work.Phase.TheVariants.{Freezes}
 use Rattle.gate_world.specs.Accesses.{accesses_after}
 use Rattle.gate_world.specs.Work.{after_of}
@@ -52,32 +50,16 @@ module _ (x : Freeze) where
   pub stage_free : (found : ℕ) → found ≡ 0 → (after_of (standing x LoadsStage) found (Ok tt)).0 ≡ Go (standing x LoadsSuperblock)
   stage_free found is = rw (same_number found 0 is) refl
 
-  pub stage_frozen : (found : ℕ) → found ≡ 4 → (after_of (standing x LoadsStage) found (Ok tt)).0 ≡ Go (standing x LoadsHolders)
-  stage_frozen found is = rw is refl
-
-  pub stage_busy : (found : ℕ) → (found ≡ 0 → ⊥) → (found ≡ 4 → ⊥) →
-      (after_of (standing x LoadsStage) found (Ok tt)).0 ≡ Go (standing x (Releases (Err Busy)))
-  stage_busy found not_free not_frozen = rw (other_number found 0 not_free, other_number found 4 not_frozen) refl
-
   -- the load of the superblock's flag
   pub flag_clear : (found : ℕ) → found ≡ 0 → (after_of (standing x LoadsSuperblock) found (Ok tt)).0 ≡ Go (standing x SetsWrite)
   flag_clear found is = rw (same_number found 0 is) refl
-
-  pub flag_set : (found : ℕ) → (found ≡ 0 → ⊥) → (after_of (standing x LoadsSuperblock) found (Ok tt)).0 ≡ Go (standing x CompletesReadOnly)
-  flag_set found not = rw (other_number found 0 not) refl
 
   -- `umount` was free, or taken
   pub locked : (found : ℕ) → found ≡ 0 → (after_of (standing x Locks) found (Ok tt)).0 ≡ Go (standing x LoadsStage)
   locked found is = rw (same_number found 0 is) refl
 
-  pub not_locked : (found : ℕ) → (found ≡ 0 → ⊥) → (after_of (standing x Locks) found (Ok tt)).0 ≡ Wait (standing x Locks)
-  not_locked found not = rw (other_number found 0 not) refl
-
   pub locked_again : (found : ℕ) → found ≡ 0 → (after_of (standing x LocksAgain) found (Ok tt)).0 ≡ Go (standing x SetsPageFault)
   locked_again found is = rw (same_number found 0 is) refl
-
-  pub not_locked_again : (found : ℕ) → (found ≡ 0 → ⊥) → (after_of (standing x LocksAgain) found (Ok tt)).0 ≡ Wait (standing x LocksAgain)
-  not_locked_again found not = rw (other_number found 0 not) refl
 
   -- a level was closed, or wasn't
   pub closed_so : (level : ℕ) (b : Bool) (rest : Next Freeze) → b ≡ true → closed_or x level b rest ≡ Go (standing x (level_closed level x.nodes))

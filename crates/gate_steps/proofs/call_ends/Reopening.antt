@@ -3,14 +3,13 @@ use Rattle.std.proofs.Common.{◌≡◌, ℕ, Bool, true, false, refl, sym, ap, 
 use Rattle.std.specs.Prelude.{Some, None, Ok, Err, ◌==◌, if◌then◌else◌}
 use Rattle.access_model.specs.Holders.{held_by, with_holder, is_unheld}
 use Rattle.access_model.specs.declared.actions.Holders.{Holders}
-use Rattle.access_model.specs.declared.errors.GateError.TheVariants.{Invalid}
-use Rattle.access_model.specs.declared.replies.Next.TheVariants.{Go, Wait}
+use Rattle.access_model.specs.declared.replies.Next.TheVariants.{Go}
 use Rattle.cpu_words.specs.Hooks.{HookAnswer}
 use Rattle.freeze_levels.specs.Holders.{holders_in}
 use Rattle.freeze_levels.specs.Thaws.{after_opening, thaw_finds}
 use Rattle.freeze_levels.specs.declared.thaws.Thaw.{Thaw}
 use Rattle.freeze_levels.specs.declared.thaws.ThawStep.{ThawStep}
-use Rattle.freeze_levels.specs.declared.thaws.ThawStep.TheVariants.{Leaves, LeavesLast, LeavesReadOnly, LoadsHolders, LoadsStage, LoadsSuperblock, Locks, Releases}
+use Rattle.freeze_levels.specs.declared.thaws.ThawStep.TheVariants.{LeavesLast, LoadsHolders, LoadsStage, LoadsSuperblock, Locks}
 use Rattle.gate_world.specs.Accesses.{accesses_after}
 use Rattle.gate_world.specs.Work.{after_of}
 use Rattle.gate_world.specs.declared.accesses.Accesses.{Accesses}
@@ -22,37 +21,21 @@ use Rattle.percpu_rwsem.specs.declared.transitions.Transition.TheVariants.{Loads
 use Rattle.percpu_rwsem.specs.declared.transitions.TransitionNext.TheVariants.{More, Made}
 use Rattle.percpu_rwsem.specs.declared.writers.UpWriteStep.TheVariants.{Exits}
 use Rattle.gate_steps.specs.call_events.Reopenings.{opening_at, of_thaw, reopened, thaw_at}
-use Rattle.gate_steps.proofs.call_ends.Closing.{same_number, other_number}
+use Rattle.gate_steps.proofs.call_ends.Closing.{same_number}
 
 module _ (x : Thaw) where
   -- `umount` was free, or taken
   pub locked : (found : ℕ) → found ≡ 0 → (after_of (thaw_at x Locks) found (Ok tt)).0 ≡ Go (thaw_at x LoadsStage)
   locked found is = rw (same_number found 0 is) refl
 
-  pub not_locked : (found : ℕ) → (found ≡ 0 → ⊥) → (after_of (thaw_at x Locks) found (Ok tt)).0 ≡ Wait (thaw_at x Locks)
-  not_locked found not = rw (other_number found 0 not) refl
-
   -- the load of the stage
   pub stage_frozen : (found : ℕ) → found ≡ 4 → (after_of (thaw_at x LoadsStage) found (Ok tt)).0 ≡ Go (thaw_at x LoadsHolders)
   stage_frozen found is = rw (same_number found 4 is) refl
-
-  pub stage_other : (found : ℕ) → (found ≡ 4 → ⊥) → (after_of (thaw_at x LoadsStage) found (Ok tt)).0 ≡ Go (thaw_at x (Releases (Err Invalid)))
-  stage_other found not = rw (other_number found 4 not) refl
 
   -- the load of who holds a freeze
   module _ (found : ℕ) (held : Holders) (is : held ≡ holders_in found) where
     finds : (step : ThawStep) → thaw_finds x held ≡ step → (after_of (thaw_at x LoadsHolders) found (Ok tt)).0 ≡ Go (thaw_at x step)
     finds step so = ap (λ h. Go (thaw_at x (thaw_finds x h))) (sym is) ∙ ap (λ s. Go (thaw_at x s)) so
-
-    pub held_by_none : (has : Bool) → has ≡ held_by held x.holder → has ≡ false →
-        (after_of (thaw_at x LoadsHolders) found (Ok tt)).0 ≡ Go (thaw_at x (Releases (Err Invalid)))
-    held_by_none has has_is so = finds (Releases (Err Invalid)) (rw (sym has_is ∙ so) refl)
-
-    pub held_by_another : (has : Bool) → has ≡ held_by held x.holder → has ≡ true → (others : Holders) →
-        others ≡ with_holder x.holder false held → (last : Bool) → last ≡ is_unheld others → last ≡ false →
-        (after_of (thaw_at x LoadsHolders) found (Ok tt)).0 ≡ Go (thaw_at x (Leaves held))
-    held_by_another has has_is so others others_is last last_is not_last =
-        finds (Leaves held) (rw (sym has_is ∙ so, sym (ap is_unheld others_is) ∙ (sym last_is ∙ not_last)) refl)
 
     pub held_by_this : (has : Bool) → has ≡ held_by held x.holder → has ≡ true → (others : Holders) →
         others ≡ with_holder x.holder false held → (last : Bool) → last ≡ is_unheld others → last ≡ true →
@@ -63,9 +46,6 @@ module _ (x : Thaw) where
   -- the load of the superblock's flag
   pub flag_clear : (found : ℕ) → found ≡ 0 → (after_of (thaw_at x LoadsSuperblock) found (Ok tt)).0 ≡ Go (thaw_at x LeavesLast)
   flag_clear found is = rw (same_number found 0 is) refl
-
-  pub flag_set : (found : ℕ) → (found ≡ 0 → ⊥) → (after_of (thaw_at x LoadsSuperblock) found (Ok tt)).0 ≡ Go (thaw_at x LeavesReadOnly)
-  flag_set found not = rw (other_number found 0 not) refl
 
   -- the store that `unfreeze_fs` decides leaves the accesses
   pub leaves_last : (held : Accesses) (found : ℕ) (hook : HookAnswer) → held ≡ accesses_after held (after_of (thaw_at x LeavesLast) found hook).1

@@ -46,46 +46,32 @@ fn enter(
         (Go (closing_at freeze level result)) seat.new.table_id seat.new.me.0 }
 {
     let sync = WordName::Sync(level);
-    let step = DownWriteStep::Enters(Transition::Loads);
-    let here = Freeze {
-        step: FreezeStep::Closes(DownWrite {
-            level,
-            tasks: freeze.tasks,
-            processors: freeze.processors,
-            step,
-        }),
-        ..freeze
+    let again = DownWriteStep::Enters(Transition::Loads);
+    let write = DownWrite {
+        level,
+        tasks: freeze.tasks,
+        processors: freeze.processors,
+        step: again,
     };
+    let step = FreezeStep::Closes(write);
+    let here = Freeze { step, ..freeze };
     let expect = find(gates, seat, accesses, here, sync, Touch::Load);
     let Some(from) = SyncWord::unpack(expect) else {
-        return step;
+        return again;
     };
     let Some(to) = from.on_enter() else {
-        return step;
+        return again;
     };
     let put = to.pack();
-    let exchanges = DownWriteStep::Enters(Transition::Exchanges { from, to });
-    let here = Freeze {
-        step: FreezeStep::Closes(DownWrite {
-            level,
-            tasks: freeze.tasks,
-            processors: freeze.processors,
-            step: exchanges,
-        }),
-        ..freeze
-    };
-    let found = find(
-        gates,
-        seat,
-        accesses,
-        here,
-        sync,
-        Touch::Cas { expect, put },
-    );
+    let step = DownWriteStep::Enters(Transition::Exchanges { from, to });
+    let step = FreezeStep::Closes(DownWrite { step, ..write });
+    let here = Freeze { step, ..freeze };
+    let touch = Touch::Cas { expect, put };
+    let found = find(gates, seat, accesses, here, sync, touch);
     if found == expect {
         entered(from.state, freeze.tasks)
     } else {
-        step
+        again
     }
 }
 
@@ -149,46 +135,32 @@ fn call_back(
         (Go (closing_at freeze level result)) seat.new.table_id seat.new.me.0 }
 {
     let sync = WordName::Sync(level);
-    let step = DownWriteStep::CallsBack(Transition::Loads);
-    let here = Freeze {
-        step: FreezeStep::Closes(DownWrite {
-            level,
-            tasks: freeze.tasks,
-            processors: freeze.processors,
-            step,
-        }),
-        ..freeze
+    let again = DownWriteStep::CallsBack(Transition::Loads);
+    let write = DownWrite {
+        level,
+        tasks: freeze.tasks,
+        processors: freeze.processors,
+        step: again,
     };
+    let step = FreezeStep::Closes(write);
+    let here = Freeze { step, ..freeze };
     let expect = find(gates, seat, accesses, here, sync, Touch::Load);
     let Some(from) = SyncWord::unpack(expect) else {
-        return step;
+        return again;
     };
     let Some(to) = from.on_callback() else {
-        return step;
+        return again;
     };
     let put = to.pack();
-    let exchanges = DownWriteStep::CallsBack(Transition::Exchanges { from, to });
-    let here = Freeze {
-        step: FreezeStep::Closes(DownWrite {
-            level,
-            tasks: freeze.tasks,
-            processors: freeze.processors,
-            step: exchanges,
-        }),
-        ..freeze
-    };
-    let found = find(
-        gates,
-        seat,
-        accesses,
-        here,
-        sync,
-        Touch::Cas { expect, put },
-    );
+    let step = DownWriteStep::CallsBack(Transition::Exchanges { from, to });
+    let step = FreezeStep::Closes(DownWrite { step, ..write });
+    let here = Freeze { step, ..freeze };
+    let touch = Touch::Cas { expect, put };
+    let found = find(gates, seat, accesses, here, sync, touch);
     if found == expect {
         DownWriteStep::SetsBlock
     } else {
-        step
+        again
     }
 }
 

@@ -1,8 +1,9 @@
 //! The steps of a freeze, in a line: the file system is frozen where nothing stands in the way.
 
-ghost use Rattle.std.specs.Prelude.{◌≡◌, ◌≤◌, Some, None};
+ghost use Rattle.std.specs.Prelude.{◌≡◌, ◌≤◌, Some, None, Ok};
 ghost use Rattle.access_model.specs.declared.replies.Next.TheVariants.{Go};
 ghost use Rattle.freeze_levels.specs.Freezes.{at_freeze, freeze_fails, level_closed};
+ghost use Rattle.gate_world.specs.Work.{after_of};
 ghost use Rattle.freeze_levels.specs.declared.freezes.FreezeStep.TheVariants.{
   Cleans,
   Closes,
@@ -21,13 +22,25 @@ ghost use Rattle.gate_steps.specs.call_events.Turns.{IsTied};
 
 use crate::call_ends::closings::{close_level, go_on_closing};
 use crate::call_events::{GateWords, Seat, TimedHooks, find, find_asking, find_first};
-use access_model::{GateError, Holders, Next, Reply};
+use access_model::{Holders, Next, Reply};
 use cpu_words::{Touch, WordName};
 use freeze_levels::holders::pack;
 use freeze_levels::{Freeze, FreezeStep, HookCall};
 use gate_world::{Accesses, Op};
 use node_words::{ClearMarks, NodeWord, following};
 use percpu_rwsem::{DownWrite, UpWrite, UpWriteStep};
+
+/// What comes after a step that has found this, where that leads out of the line. It stands apart, and takes the step by itself, so that nothing is
+/// written to memory where the line goes on.
+#[cold]
+#[inline(never)]
+fn leave(freeze: Freeze, step: FreezeStep, found: u64) -> Next<Freeze>
+    ensures { of_freeze result ≡ (after_of (standing freeze step) found (Ok tt)).0 }
+{
+    let here = Freeze { step, ..freeze };
+    let (next, _action) = here.after(found, Ok(()));
+    next
+}
 
 /// Freezes, from the first step on. What comes after the last one that stands in the line.
 #[inline(never)]
@@ -60,7 +73,7 @@ pub(crate) fn freeze_first<H: TimedHooks>(
         Touch::Cas { expect: 0, put },
     );
     if taken != 0 {
-        return Next::Wait(locks);
+        return leave(freeze, FreezeStep::Locks, taken);
     }
     freeze_locked(gates, seat, accesses, freeze, hooks)
 }
@@ -85,17 +98,8 @@ pub(crate) fn freeze_locked<H: TimedHooks>(
         ..freeze
     };
     let stage = find(gates, seat, accesses, here, WordName::Stage, Touch::Load);
-    if stage == 4 {
-        return Next::Go(Freeze {
-            step: FreezeStep::LoadsHolders,
-            ..freeze
-        });
-    }
     if stage != 0 {
-        return Next::Go(Freeze {
-            step: FreezeStep::Releases(Err(GateError::Busy)),
-            ..freeze
-        });
+        return leave(freeze, FreezeStep::LoadsStage, stage);
     }
     let here = Freeze {
         step: FreezeStep::LoadsSuperblock,
@@ -103,10 +107,7 @@ pub(crate) fn freeze_locked<H: TimedHooks>(
     };
     let flags = find(gates, seat, accesses, here, WordName::SbFlags, Touch::Load);
     if flags != 0 {
-        return Next::Go(Freeze {
-            step: FreezeStep::CompletesReadOnly,
-            ..freeze
-        });
+        return leave(freeze, FreezeStep::LoadsSuperblock, flags);
     }
     close_first(gates, seat, accesses, freeze, hooks)
 }
@@ -168,7 +169,7 @@ fn lock_again<H: TimedHooks>(
     let touch = Touch::Cas { expect: 0, put };
     let taken = find(gates, seat, accesses, again, WordName::Umount, touch);
     if taken != 0 {
-        return Next::Wait(again);
+        return leave(freeze, FreezeStep::LocksAgain, taken);
     }
     close_second(gates, seat, accesses, freeze, hooks)
 }
@@ -270,7 +271,7 @@ fn close_third<H: TimedHooks>(
     };
     let answer = find_asking(gates, seat, accesses, here, hooks, HookCall::Sync);
     if let Err(code) = answer {
-        return Next::Go(failed(freeze, 2, code));
+        return fail(freeze, 2, code);
     }
     let mut rest = Next::Done(Ok(Reply::Unit));
     if close_level(gates, seat, accesses, freeze, 3, &mut rest) {
@@ -300,22 +301,22 @@ fn complete<H: TimedHooks>(
     };
     let answer = find_asking(gates, seat, accesses, here, hooks, HookCall::FreezeFs);
     if let Err(code) = answer {
-        return Next::Go(failed(freeze, 3, code));
+        return fail(freeze, 3, code);
     }
     end_freeze(gates, seat, accesses, freeze, Holders::none())
 }
 
-/// The freeze after a hook has failed with this code, which has the levels up to this one still to reopen, the highest first.
-fn failed(freeze: Freeze, level: u8, code: u16) -> Freeze
+/// What comes after a hook has failed with this code: the levels up to this one are still to reopen, the highest first.
+#[cold]
+#[inline(never)]
+fn fail(freeze: Freeze, level: u8, code: u16) -> Next<Freeze>
     requires { 1 ≤ level }
-    ensures { result ≡ at_freeze freeze (freeze_fails level code) }
+    ensures { result ≡ Go (at_freeze freeze (freeze_fails level code)) }
 {
     let step = UpWriteStep::ClearsBlock;
     let write = UpWrite { level, step };
-    Freeze {
-        step: FreezeStep::Reopens { write, code },
-        ..freeze
-    }
+    let step = FreezeStep::Reopens { write, code };
+    Next::Go(Freeze { step, ..freeze })
 }
 
 /// Goes on with the closing of a level, and with what comes after it.

@@ -1,7 +1,8 @@
 //! The steps of a thaw, in a line: the file system is thawed where nothing stands in the way.
 
-ghost use Rattle.std.specs.Prelude.{◌≡◌, Some, None};
+ghost use Rattle.std.specs.Prelude.{◌≡◌, Some, None, Ok, false};
 ghost use Rattle.access_model.specs.declared.replies.Next.TheVariants.{Go};
+ghost use Rattle.gate_world.specs.Work.{after_of};
 ghost use Rattle.freeze_levels.specs.declared.thaws.ThawStep.TheVariants.{LeavesLast, LoadsStage, Locks, SetsUnfrozen};
 ghost use Rattle.percpu_rwsem.specs.declared.writers.UpWriteStep.TheVariants.{ClearsBlock, Exits};
 ghost use Rattle.percpu_rwsem.specs.declared.transitions.Transition.TheVariants.{Loads};
@@ -16,6 +17,29 @@ use freeze_levels::holders::unpack;
 use freeze_levels::{HookCall, Thaw, ThawStep};
 use gate_world::{Accesses, Op};
 use percpu_rwsem::{SyncWord, Transition, UpWrite, UpWriteStep};
+
+/// What comes after a step that has found this, where that leads out of the line. It stands apart, and takes the step by itself, so that nothing is
+/// written to memory where the line goes on.
+#[cold]
+#[inline(never)]
+fn leave(thaw: Thaw, step: ThawStep, found: u64) -> Next<Thaw>
+    ensures { of_thaw result ≡ (after_of (thaw_at thaw step) found (Ok tt)).0 }
+{
+    let here = Thaw { step, ..thaw };
+    let (next, _action) = here.after(found, Ok(()));
+    next
+}
+
+/// What comes where the exit of a level was not made: it is tried again.
+#[cold]
+#[inline(never)]
+fn exit_again(thaw: Thaw, level: u8) -> Next<Thaw>
+    ensures { of_thaw result ≡ Go (reopened thaw level false) }
+{
+    let step = UpWriteStep::Exits(Transition::Loads);
+    let step = ThawStep::Reopens(UpWrite { level, step });
+    Next::Go(Thaw { step, ..thaw })
+}
 
 /// Leaves the level's `rcu_sync`, in two events. False where the word was none, or another task changed it in between.
 #[inline(always)]
@@ -108,28 +132,13 @@ pub(crate) fn reopen_all(
         Touch::Store(0),
     );
     if !reopen(gates, seat, accesses, thaw, 3) {
-        let level = 3;
-        let step = UpWriteStep::Exits(Transition::Loads);
-        return Next::Go(Thaw {
-            step: ThawStep::Reopens(UpWrite { level, step }),
-            ..thaw
-        });
+        return exit_again(thaw, 3);
     }
     if !reopen(gates, seat, accesses, thaw, 2) {
-        let level = 2;
-        let step = UpWriteStep::Exits(Transition::Loads);
-        return Next::Go(Thaw {
-            step: ThawStep::Reopens(UpWrite { level, step }),
-            ..thaw
-        });
+        return exit_again(thaw, 2);
     }
     if !reopen(gates, seat, accesses, thaw, 1) {
-        let level = 1;
-        let step = UpWriteStep::Exits(Transition::Loads);
-        return Next::Go(Thaw {
-            step: ThawStep::Reopens(UpWrite { level, step }),
-            ..thaw
-        });
+        return exit_again(thaw, 1);
     }
     let here = Thaw {
         step: ThawStep::Releases(Ok(Reply::Unit)),
@@ -177,7 +186,7 @@ pub(crate) fn thaw_first<H: TimedHooks>(
         Touch::Cas { expect: 0, put },
     );
     if taken != 0 {
-        return Next::Wait(locks);
+        return leave(thaw, ThawStep::Locks, taken);
     }
     thaw_locked(gates, seat, accesses, thaw, hooks)
 }
@@ -202,12 +211,8 @@ pub(crate) fn thaw_locked<H: TimedHooks>(
         ..thaw
     };
     let stage = find(gates, seat, accesses, here, WordName::Stage, Touch::Load);
-    let refused = Thaw {
-        step: ThawStep::Releases(Err(GateError::Invalid)),
-        ..thaw
-    };
     if stage != 4 {
-        return Next::Go(refused);
+        return leave(thaw, ThawStep::LoadsStage, stage);
     }
     let here = Thaw {
         step: ThawStep::LoadsHolders,
@@ -217,13 +222,12 @@ pub(crate) fn thaw_locked<H: TimedHooks>(
     let held = unpack(word);
     let is_holder = held.has(thaw.holder);
     if !is_holder {
-        return Next::Go(refused);
+        return leave(thaw, ThawStep::LoadsHolders, word);
     }
     let others = held.without(thaw.holder);
     let is_last = others.is_none();
     if !is_last {
-        let step = ThawStep::Leaves(held);
-        return Next::Go(Thaw { step, ..thaw });
+        return leave(thaw, ThawStep::LoadsHolders, word);
     }
     let here = Thaw {
         step: ThawStep::LoadsSuperblock,
@@ -231,8 +235,7 @@ pub(crate) fn thaw_locked<H: TimedHooks>(
     };
     let flags = find(gates, seat, accesses, here, WordName::SbFlags, Touch::Load);
     if flags != 0 {
-        let step = ThawStep::LeavesReadOnly;
-        return Next::Go(Thaw { step, ..thaw });
+        return leave(thaw, ThawStep::LoadsSuperblock, flags);
     }
     thaw_last(gates, seat, accesses, thaw, hooks)
 }

@@ -1,6 +1,5 @@
 -- the operation stands at its first step
-use Rattle.std.proofs.Common.{refl}
-use Rattle.gate_steps.proofs.call_events.Leading.{led_from, led_unasked, tied_from}
+use Rattle.gate_steps.proofs.call_events.Leading.{asking_from, tied_from}
 use Rattle.gate_steps.proofs.call_ends.Beginning.{remount_begun}
 use Rattle.gate_steps.proofs.call_ends.RemountWaiting.begin_in_line.Goals as goal
 
@@ -10,4 +9,4 @@ remount_first-requires-clause-tied g c =
 
 pub returns-clause-led : goal.returns-clause-led
 returns-clause-led g c =
-    led_unasked (led_from (remount_begun c.args.self c.requires.tied) c.remount_first.ensures.led) refl
+    asking_from (remount_begun c.args.self c.requires.tied) c.remount_first.ensures.led

@@ -1,7 +1,6 @@
 -- the closing goes on from what `sync` has answered
 use Rattle.std.proofs.Common.{ap, refl, sym}
-use Rattle.access_model.specs.declared.replies.Next.TheVariants.{Go}
-use Rattle.gate_world.specs.declared.work.Phase.TheVariants.{Freezes}
+use Rattle.gate_steps.specs.call_events.Closings.{of_freeze}
 use Rattle.gate_steps.proofs.call_events.Leading.{asking_on, asking_tied, asking_to, led_to, led_unasked, still_tied}
 use Rattle.gate_steps.proofs.call_ends.Closing.{closed_so, not_closed, syncs_leave}
 use Rattle.gate_steps.proofs.call_ends.freeze_lines.close_third.Goals as goal
@@ -12,7 +11,7 @@ find_asking-answer-requires-clause-leaves g c =
 
 pub returns-in-Err-clause-led : goal.returns-in-Err-clause-led
 returns-in-Err-clause-led g c =
-    asking_to (ap (λ f. Go (Freezes f)) (sym c.failed.ensures)) c.in-Err.ensures.led.1
+    asking_to (ap of_freeze (sym c.fail.ensures)) c.in-Err.ensures.led.1
 
 pub close_level-requires-clause-tied : goal.close_level-requires-clause-tied
 close_level-requires-clause-tied g c =

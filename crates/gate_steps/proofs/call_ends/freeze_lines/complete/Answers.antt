@@ -2,8 +2,7 @@
 use Rattle.std.proofs.Common.{ap, refl, sym}
 use Rattle.access_model.specs.declared.replies.Next.TheVariants.{Go}
 use Rattle.freeze_levels.specs.declared.freezes.FreezeStep.TheVariants.{Holds}
-use Rattle.gate_world.specs.declared.work.Phase.TheVariants.{Freezes}
-use Rattle.gate_steps.specs.call_events.Closings.{standing}
+use Rattle.gate_steps.specs.call_events.Closings.{of_freeze, standing}
 use Rattle.gate_steps.proofs.call_events.Leading.{asking_on, asking_tied, asking_to, led_unasked}
 use Rattle.gate_steps.proofs.call_ends.Closing.{completes_leave}
 use Rattle.gate_steps.proofs.call_ends.freeze_lines.complete.Goals as goal
@@ -14,7 +13,7 @@ find_asking-answer-requires-clause-leaves g c =
 
 pub returns-in-Err-clause-led : goal.returns-in-Err-clause-led
 returns-in-Err-clause-led g c =
-    asking_to (ap (λ f. Go (Freezes f)) (sym c.failed.ensures)) c.in-Err.ensures.led.1
+    asking_to (ap of_freeze (sym c.fail.ensures)) c.in-Err.ensures.led.1
 
 pub end_freeze-requires-clause-tied : goal.end_freeze-requires-clause-tied
 end_freeze-requires-clause-tied g c =

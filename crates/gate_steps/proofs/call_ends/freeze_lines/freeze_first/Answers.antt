@@ -1,12 +1,12 @@
 -- the steps under `umount` go on from its taking
-use Rattle.std.proofs.Common.{arith, refl}
+use Rattle.std.proofs.Common.{arith, refl, sym}
 use Rattle.gate_steps.proofs.call_events.Leading.{asking_on, led_to, led_unasked, still_tied}
-use Rattle.gate_steps.proofs.call_ends.Closing.{locked, not_locked}
+use Rattle.gate_steps.proofs.call_ends.Closing.{locked}
 use Rattle.gate_steps.proofs.call_ends.freeze_lines.freeze_first.Goals as goal
 
 pub returns-then-taken-ne0-clause-led : goal.returns-then-taken-ne0-clause-led
 returns-then-taken-ne0-clause-led g c =
-    led_unasked (led_to (not_locked c.args.freeze c.find_first-taken.result (λ is. omega arith)) c.find_first-taken.ensures.led) refl
+    led_unasked (led_to (sym c.leave.ensures) c.find_first-taken.ensures.led) refl
 
 pub freeze_locked-requires-clause-tied : goal.freeze_locked-requires-clause-tied
 freeze_locked-requires-clause-tied g c =

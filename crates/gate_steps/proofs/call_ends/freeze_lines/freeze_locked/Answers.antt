@@ -1,16 +1,11 @@
 -- each step goes on from what the one before it left
-use Rattle.std.proofs.Common.{arith, refl}
+use Rattle.std.proofs.Common.{arith, refl, sym}
 use Rattle.gate_steps.proofs.call_events.Leading.{asking_on, led_on, led_to, led_unasked, still_tied}
-use Rattle.gate_steps.proofs.call_ends.Closing.{stage_free, stage_frozen, stage_busy, flag_clear, flag_set}
+use Rattle.gate_steps.proofs.call_ends.Closing.{stage_free, flag_clear}
 use Rattle.gate_steps.proofs.call_ends.freeze_lines.freeze_locked.Goals as goal
 
-pub returns-then-stage-eq4-clause-led : goal.returns-then-stage-eq4-clause-led
-returns-then-stage-eq4-clause-led g c =
-    led_unasked (led_to (stage_frozen c.args.freeze c.find-stage.result (omega arith)) c.find-stage.ensures.led) refl
-
 pub returns-then-stage-ne0-clause-led : goal.returns-then-stage-ne0-clause-led
-returns-then-stage-ne0-clause-led g c =
-    led_unasked (led_to (stage_busy c.args.freeze c.find-stage.result (λ is. omega arith) (λ is. omega arith)) c.find-stage.ensures.led) refl
+returns-then-stage-ne0-clause-led g c = led_unasked (led_to (sym c.leave.ensures) c.find-stage.ensures.led) refl
 
 pub find-flags-requires-clause-tied : goal.find-flags-requires-clause-tied
 find-flags-requires-clause-tied g c =
@@ -19,7 +14,7 @@ find-flags-requires-clause-tied g c =
 pub returns-then-flags-ne0-clause-led : goal.returns-then-flags-ne0-clause-led
 returns-then-flags-ne0-clause-led g c =
     led_unasked (led_on (led_to (stage_free c.args.freeze c.find-stage.result (omega arith)) c.find-stage.ensures.led)
-    (led_to (flag_set c.args.freeze c.find-flags.result (λ is. omega arith)) c.find-flags.ensures.led)) refl
+    (led_to (sym c.leave-then-flags-ne0.ensures) c.find-flags.ensures.led)) refl
 
 pub close_first-requires-clause-tied : goal.close_first-requires-clause-tied
 close_first-requires-clause-tied g c =

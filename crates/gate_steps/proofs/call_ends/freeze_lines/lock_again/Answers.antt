@@ -1,12 +1,12 @@
 -- the store goes on from the taking of `umount`
-use Rattle.std.proofs.Common.{arith, refl}
+use Rattle.std.proofs.Common.{arith, refl, sym}
 use Rattle.gate_steps.proofs.call_events.Leading.{asking_on, led_to, led_unasked, still_tied}
-use Rattle.gate_steps.proofs.call_ends.Closing.{locked_again, not_locked_again}
+use Rattle.gate_steps.proofs.call_ends.Closing.{locked_again}
 use Rattle.gate_steps.proofs.call_ends.freeze_lines.lock_again.Goals as goal
 
 pub returns-then-taken-ne0-clause-led : goal.returns-then-taken-ne0-clause-led
 returns-then-taken-ne0-clause-led g c =
-    led_unasked (led_to (not_locked_again c.args.freeze c.find-taken.result (λ is. omega arith)) c.find-taken.ensures.led) refl
+    led_unasked (led_to (sym c.leave.ensures) c.find-taken.ensures.led) refl
 
 pub close_second-requires-clause-tied : goal.close_second-requires-clause-tied
 close_second-requires-clause-tied g c =

@@ -1,18 +1,19 @@
 -- each load goes on from what the one before it left
-use Rattle.std.proofs.Common.{refl, ◌∙◌}
+use Rattle.std.proofs.Common.{refl, sym, ap, ◌∙◌, arith}
 use Rattle.access_model.specs.declared.replies.Next.TheVariants.{Go}
 use Rattle.mount_counts.specs.declared.remounts.RemountStep.TheVariants.{Sums}
-use Rattle.gate_steps.specs.call_events.Remounting.{remounting_at}
+use Rattle.gate_steps.specs.call_events.Remounting.{first_count, remounting_at}
 use Rattle.gate_steps.proofs.call_events.Leading.{led_on, led_to, led_nowhere, still_tied}
 use Rattle.gate_steps.proofs.call_ends.Closing.{fewer_words}
-use Rattle.gate_steps.proofs.call_ends.Remounting.{sums_on, sums_last}
+use Rattle.gate_steps.proofs.call_ends.Remounting.{sums_on, sums_none}
 use Rattle.gate_steps.proofs.call_ends.remount_lines.sum_mount.Goals as goal
 
 pub loop-further-init : goal.loop-further-init
 loop-further-init c = record {
   slots = refl;
-  led = led_nowhere c.args.gates.now.config c.args.accesses.now (Go (remounting_at c.args.remount (Sums c.args.mount c.args.held c.args.sum)))
-      c.args.seat.now.table_id c.args.seat.now.me.0;
+  led = led_to (ap (λ s. Go (remounting_at c.args.remount (Sums c.args.mount c.args.held s))) (sym c.start-sum.ensures))
+      (led_nowhere c.args.gates.now.config c.args.accesses.now (Go (remounting_at c.args.remount (first_count c.args.mount c.args.held)))
+      c.args.seat.now.table_id c.args.seat.now.me.0);
 }
 
 pub find-found-requires-clause-table : goal.find-found-requires-clause-table
@@ -32,12 +33,11 @@ loop-further-preserved c = record {
       c.find-found.ensures.led);
 }
 
-pub returns-in-Total-clause-slots : goal.returns-in-Total-clause-slots
-returns-in-Total-clause-slots c = c.find-found.ensures.slots ∙ c.loop-further.invariant.slots
+pub returns-then-total-eq0-clause-led : goal.returns-then-total-eq0-clause-led
+returns-then-total-eq0-clause-led c =
+    led_on c.loop-further.invariant.led
+    (led_to (sums_none c.args.remount c.args.mount c.args.held c.loop-further.sum c.find-found.result c.in-Total.total c.in-Total.ensures.step
+    (omega arith)) c.find-found.ensures.led)
 
 pub returns-in-Total-clause-led : goal.returns-in-Total-clause-led
-returns-in-Total-clause-led c =
-    led_on c.loop-further.invariant.led
-    (led_to (sums_last c.args.remount c.args.mount c.args.held c.loop-further.sum c.find-found.result c.after-next.result
-    c.after-next.ensures)
-    c.find-found.ensures.led)
+returns-in-Total-clause-led c = led_on c.loop-further.invariant.led (led_to (sym c.leave.ensures) c.find-found.ensures.led)

@@ -1,81 +1,16 @@
--- the fields after an event are what the seat knows after it
-use Rattle.std.proofs.Common.{◌≡◌, ◌+◌, ◌∙◌, sym, ap, refl, subst}
+-- the event of its kind is the event of the operation
+use Rattle.std.proofs.Common.{sym, ap, ◌∙◌, refl, subst}
 use Rattle.std.proofs.lemmas.Option.{none-some}
-use Rattle.std.specs.Prelude.{Option, Some, None}
-use Rattle.access_model.specs.declared.replies.Next.{Next}
-use Rattle.gate_world.specs.declared.work.Phase.{Phase}
-use Rattle.gate_world.specs.Views.{phase_after}
-use Rattle.gate_steps.specs.call_events.Answers.{progress_of}
-use Rattle.vfs_gates.specs.TaskStates.{TaskState, task_state}
-use Rattle.gate_steps.specs.call_events.Turns.{kept_at}
+use Rattle.vfs_gates.specs.TaskStates.{TaskState}
 use Rattle.gate_steps.proofs.call_events.Running.{told_then}
-use Rattle.gate_steps.proofs.call_events.Turning.{tied_at, stepped_there}
 use Rattle.gate_world.specs.Configs.{IsWithin}
-use Rattle.access_model.proofs.Mapped.{map_next_same}
-use Rattle.access_model.specs.Replies.{map_next}
-use Rattle.vfs_gates.specs.Room.{RoomTells}
-use Rattle.vfs_gates.proofs.Rooming.{stepped_room}
-use Rattle.vfs_gates.specs.Waits.{counted, is_wait}
-use Rattle.vfs_gates.proofs.Waiting.{noted_tells, since, since_begun, since_going}
-use Rattle.vfs_gates.proofs.task.Task.step.Goals.{then-is_some, else-is_some}
 use Rattle.vfs_gates.proofs.task.Task.step.Goals as goal
 
-pub do_event-action-requires-clause-tied : goal.do_event-action-requires-clause-tied
-do_event-action-requires-clause-tied c =
-    let t = c.self.inside in
-    let same : t.config ≡ c.args.gates.now.words.config = ap (λ (s : TaskState). s.config) c.self.view_is ∙ c.requires.1 in
-    record {
-      number = t.number;
-      flags = t.spare;
-      ties = tied_at t.number t.begins t.spare t.seat.me.0.items t.kept (Some c.in-Some.phase)
-          c.self.invariant.0 same c.in-Some.is;
-    }
-
-pub invariant_of-self : goal.invariant_of-self
-invariant_of-self c =
-    let t = c.self.inside in
-    let same : t.config ≡ c.args.gates.now.words.config = ap (λ (s : TaskState). s.config) c.self.view_is ∙ c.requires.1 in
-    let next : Next Phase = c.do_event-action.result.next in
-    let stands = ap (λ (n : Next Phase). phase_after n) (map_next_same next) ∙ sym (ap (λ p. p.1) c.of-progress.ensures) in
-    let tied = c.do_event-action.ensures.tied t.number t.spare
-    (tied_at t.number t.begins t.spare t.seat.me.0.items t.kept (Some c.in-Some.phase) c.self.invariant.0 same c.in-Some.is) in
-    let so_far : c.if-is_some.so_far ≡ since t.begins t.waited = elim c.if-is_some.branch [
-      | then-is_some w ↦ w.so_far-is ∙ sym (since_begun t.begins t.waited (sym c.is_some.ensures ∙ w.if-is_some.true))
-      | else-is_some w ↦ w.so_far-is ∙ sym (since_going t.begins t.waited (sym c.is_some.ensures ∙ w.if-is_some.false))
-    ] in
-    let noted : c.saturating_add-self-inside.result ≡ counted (since t.begins t.waited + is_wait (map_next (λ phase. phase) next)) =
-    c.saturating_add-self-inside.ensures ∙ ((λ i. counted (so_far i + c.waits.ensures i))) in (
-      tied_at t.number None t.spare c.do_event-action.new.seat.me.0.items (kept_at _ c.do_event-action.new.accesses) c.of-progress.result.1 tied
-          (sym same) stands,
-      c.do_event-action.ensures.slots ∙ c.self.invariant.1,
-      subst (λ (o : Option Phase). RoomTells t.config.nodes c.follow.new.self None o c.do_event-action.new.seat.me.0.items)
-          stands
-          (stepped_room t.config.nodes t.rooms c.follow.new.self t.begins c.in-Some.phase c.args.hook t.seat.table_id
-          c.do_event-action.new.seat.table_id c.args.gates.now.words.config t.seat.me.0.items c.do_event-action.new.seat.me.0.items
-          c.do_event-action.result.event c.do_event-action.result.action (map_next (λ phase. phase) next) t.number
-          (kept_at (Some c.in-Some.phase) t.kept.accesses) t.spare
-          (tied_at t.number t.begins t.spare t.seat.me.0.items t.kept (Some c.in-Some.phase) c.self.invariant.0 same c.in-Some.is)
-          c.do_event-action.ensures.stepped
-          (subst (λ (o : Option Phase). RoomTells t.config.nodes t.rooms t.begins o t.seat.me.0.items) c.in-Some.is c.self.invariant.2)
-          (λ found some is tells. c.follow.ensures t.config.nodes t.begins c.args.hook found t.seat.me.0.items some is tells)),
-      noted_tells same t.begins c.in-Some.phase c.args.hook t.seat.table_id c.do_event-action.new.seat.table_id t.seat.me.0.items
-          c.do_event-action.new.seat.me.0.items c.do_event-action.result.event c.do_event-action.result.action (map_next (λ phase. phase) next)
-          t.number t.waited c.saturating_add-self-inside.result t.kept.accesses t.spare
-          (tied_at t.number t.begins t.spare t.seat.me.0.items t.kept (Some c.in-Some.phase) c.self.invariant.0 same c.in-Some.is)
-          c.do_event-action.ensures.stepped c.self.invariant.3 noted,
-    )
+pub step_there-requires-clause-at : goal.step_there-requires-clause-at
+step_there-requires-clause-at c = sym (ap (λ (s : TaskState). s.phase) c.self.view_is) ∙ c.in-Some.is
 
 pub returns-clause-event : goal.returns-clause-event
-returns-clause-event c =
-    let t = c.self.inside in
-    let same : t.config ≡ c.args.gates.now.words.config = ap (λ (s : TaskState). s.config) c.self.view_is ∙ c.requires.1 in
-    let next : Next Phase = c.do_event-action.result.next in
-    let stands = ap (λ (n : Next Phase). phase_after n) (map_next_same next) ∙ sym (ap (λ p. p.1) c.of-progress.ensures) in
-    let told = ap (λ (n : Next Phase). progress_of n) (map_next_same next) ∙ sym (ap (λ p. p.0) c.of-progress.ensures) in
-    let before = (λ i. task_state t.seat.table_id (sym same i) t.begins (sym c.in-Some.is i) t.seat.me.0) ∙ c.self.view_is in
-    stepped_there c.do_event-action.ensures.stepped before
-    (λ i. record { event = Some c.do_event-action.result.event; action = c.do_event-action.result.action; progress = told i })
-    (λ i. task_state c.do_event-action.new.seat.table_id (sym same i) None (stands i) c.do_event-action.new.seat.me.0) refl
+returns-clause-event c = c.step_there.ensures.event
 
 pub returns-in_default-clause-idle : goal.returns-in_default-clause-idle
 returns-in_default-clause-idle c idle = (refl, c.idle.ensures)

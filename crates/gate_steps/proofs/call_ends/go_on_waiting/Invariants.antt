@@ -1,14 +1,14 @@
 -- Each step goes on from what the one before it left.
 use Rattle.std.proofs.Common.{◌≡◌, ℕ}
-use Rattle.std.specs.Prelude.{Some, None}
+use Rattle.std.specs.Prelude.{None}
 use Rattle.access_model.specs.Replies.{map_next}
 use Rattle.gate_world.specs.Views.{phase_after}
 use Rattle.gate_world.specs.declared.operations.Op.{Op}
 use Rattle.gate_steps.specs.call_events.TaskStates.{TaskState, task_state}
 use Rattle.gate_steps.specs.call_events.Turns.{IsTied, StayTied}
-use Rattle.gate_steps.specs.call_events.Asking.{GoesAsking, WentAsking}
+use Rattle.gate_steps.specs.call_events.Asking.{WentAsking}
 use Rattle.gate_steps.specs.call_events.Waited.{counted}
-use Rattle.gate_steps.proofs.call_ends.wait_to_end.Given as goal
+use Rattle.gate_steps.proofs.call_ends.go_on_waiting.Given as goal
 
 abbrev pub invariant-loop : goal.invariant-loop
 invariant-loop g l = record {
@@ -17,11 +17,11 @@ invariant-loop g l = record {
   table : l.seat.table_id ≡ l.fn.seat.table_id;
   slots : l.seat.me.1 ≡ l.fn.seat.me.1;
   tied : IsTied l.fn.gates.config None (phase_after (map_next g.P.UnderWay.as_phase l.next)) l.accesses l.seat.me.0.items;
-  stay : StayTied l.fn.gates.config (Some l.fn.op) (Some (g.P.UnderWay.as_phase l.fn.first)) l.fn.accesses l.fn.seat.me.0.items
+  stay : StayTied l.fn.gates.config None (phase_after (map_next g.P.UnderWay.as_phase l.fn.begun)) l.fn.accesses l.fn.seat.me.0.items
       (phase_after (map_next g.P.UnderWay.as_phase l.next)) l.accesses l.seat.me.0.items;
   went : (of : Op) (start : TaskState) (before : _) →
-      GoesAsking g.H.TimedHooks.answers 0 of start before
-      (task_state l.fn.seat.table_id l.fn.gates.config (Some l.fn.op) (Some (g.P.UnderWay.as_phase l.fn.first)) l.fn.seat.me.0) l.fn.hooks →
+      WentAsking g.H.TimedHooks.answers 0 of start before (map_next g.P.UnderWay.as_phase l.fn.begun)
+      (task_state l.fn.seat.table_id l.fn.gates.config None (phase_after (map_next g.P.UnderWay.as_phase l.fn.begun)) l.fn.seat.me.0) l.fn.hooks →
       (waits : ℕ) × (l.waited ≡ counted waits) × WentAsking g.H.TimedHooks.answers waits of start before (map_next g.P.UnderWay.as_phase l.next)
       (task_state l.seat.table_id l.fn.gates.config None (phase_after (map_next g.P.UnderWay.as_phase l.next)) l.seat.me.0) l.hooks;
 }
