@@ -7,8 +7,7 @@ use Rattle.access_model.specs.declared.errors.GateError.{GateError}
 use Rattle.gate_world.specs.{Beginnings.{first_phase, refusal, beginning}, Fits.Fits, Holdings.Agree, Views.{held_of, begun_view}}
 use Rattle.gate_world.specs.{Worlds.{World, begin_refusal, happens, run, opening}, declared.{operations.Op.Op, views.View.View, work.Phase.Phase}}
 use Rattle.gate_world.specs.declared.entries.Entry.{TheVariants.{Begins}}
-use Rattle.gate_schedules.proofs.Beginnings.{refusal_agree, may_begin, first_fits, ok_means, err_means}
-use Rattle.gate_schedules.proofs.Runs.{run_more}
+use Rattle.gate_schedules.proofs.schedules.{Beginnings.{refusal_agree, may_begin, first_fits, ok_means, err_means}, Runs.run_more}
 use Rattle.gate_core.proofs.Each.{seat_cases}
 use Rattle.gate_schedules.specs.Answers.{unless_refused, begin_answer}
 use Rattle.gate_core.specs.Memory.{Memory, Shows, IsSound, no_seat, seat_of}

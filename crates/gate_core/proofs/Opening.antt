@@ -3,7 +3,7 @@ use Rattle.std.proofs.{Common.{◌≡◌, ℕ, zero, suc, ◌<◌, false, List, 
 use Rattle.std.specs.Prelude.{None, slice_index_or, replicate}
 use Rattle.cpu_words.{proofs.Places.opening_listed, specs.{Lists.AreOpening, Names.words_in_all}}
 use Rattle.gate_world.specs.{Configs.{IsWithin, extents_kept}, Fits.Fits, Holdings.{Agree, holdings_of}, Worlds.opening, declared.config.Config.Config}
-use Rattle.gate_schedules.proofs.operations.frames.Places.{are_few}
+use Rattle.gate_schedules.proofs.frames.Places.{are_few}
 use Rattle.gate_schedules.specs.Seats.{idle_seat, seat_held}
 use Rattle.gate_schedules.specs.declared.seats.Seat.{Seat}
 use Rattle.gate_core.specs.Memory.{Memory, Shows, IsSound, no_seat}

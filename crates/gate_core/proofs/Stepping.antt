@@ -12,10 +12,8 @@ use Rattle.gate_world.specs.{Holdings.{Holdings, Agree, held_after}, Views.{held
 use Rattle.gate_world.specs.Worlds.{World, after_step, happens, run, opening}
 use Rattle.gate_world.specs.declared.entries.Entry.{TheVariants.{Steps}}
 use Rattle.gate_world.specs.declared.{accesses.Accesses.Accesses, config.Config.Config, views.View.View, work.Phase.Phase}
-use Rattle.gate_schedules.proofs.operations.frames.{Accesses.{holdings_of_after, long_after, wide_after, deep_after, agree_after}, Agreeing.{agree_self, agree_sym}}
-use Rattle.gate_schedules.proofs.operations.frames.Places.{are_few}
-use Rattle.gate_schedules.proofs.Phases.{word_there, word_placed, action_fits, fits_after, fits_agree}
-use Rattle.gate_schedules.proofs.Runs.{run_more}
+use Rattle.gate_schedules.proofs.frames.{Accesses.{holdings_of_after, long_after, wide_after, deep_after, agree_after}, Agreeing.{agree_self, agree_sym}}
+use Rattle.gate_schedules.proofs.{frames.Places.are_few, schedules.{Phases.{word_there, word_placed, action_fits, fits_after, fits_agree}, Runs.run_more}}
 use Rattle.gate_core.proofs.Each.{seat_cases}
 use Rattle.gate_schedules.specs.Answers.{progress_of, step_answer}
 use Rattle.gate_core.specs.Memory.{Memory, Shows, IsSound, no_seat, seat_of}

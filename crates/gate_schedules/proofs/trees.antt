@@ -9,3 +9,4 @@ pub mod Sweeps
 pub mod Fitting
 pub mod Phases
 pub mod Ends
+pub mod worlds

@@ -21,7 +21,7 @@ use Rattle.gate_world.specs.declared.entries.Entry.{Entry}
 use Rattle.gate_steps.specs.declared.seating.Knowledge.{Knowledge}
 use Rattle.gate_steps.specs.Seating.{knows, items_of, HaveSeen, known_kept, known_given, known_both}
 use Rattle.cpu_words.specs.Words.{Words}
-use Rattle.gate_schedules.proofs.operations.frames.Frames.{left_alone, shown_still}
+use Rattle.gate_schedules.proofs.frames.Frames.{left_alone, shown_still}
 use Rattle.gate_steps.specs.{Histories.HasHistory, Seating.{SeatItems, numbered, one_if, times, times_all, HaveViews, Dealt, without, view_in, renewed}}
 use Rattle.gate_steps.specs.{Seating.{given_of, Spares, trace_kept}, declared.seating.Numbered.Numbered}
 use Rattle.gate_steps.proofs.{Dealing.{one_if-same, one_if-other, times-append, times_all-set, times_all-one, times_all-snoc, known, apart}, Lifting.holds}

@@ -13,14 +13,9 @@ use Rattle.gate_world.specs.{Views.{begun_view, view_with, view_after_beside, he
 use Rattle.gate_world.specs.{Worlds.{found_at, after_step, after_step_beside, phase_action, with_action}, declared.{config.Config.Config, operations.Op.Op}}
 use Rattle.gate_world.specs.declared.{views.{View.View, Snapshot.Snapshot}, work.Phase.Phase}
 use Rattle.freeze_laws.specs.moments.Moments.{HaveDone}
-use Rattle.gate_schedules.proofs.operations.frames.{MayHolds.events_may_be, Snapshots.others_apart}
-use Rattle.gate_schedules.proofs.operations.{Frozen.frozen_whole, Layers.phase_keeps}
-use Rattle.gate_schedules.proofs.Beginnings.{may_begin}
-use Rattle.gate_schedules.proofs.Lists.{beside_lists, begin_lists}
-use Rattle.gate_schedules.proofs.Phases.{word_there}
-use Rattle.gate_schedules.proofs.Schedule.{begun_keeps}
-use Rattle.gate_schedules.proofs.Schedule.{legal_more}
-use Rattle.gate_schedules.proofs.Snapshots.{beside_moments, begin_moments}
+use Rattle.gate_schedules.proofs.{frames.{MayHolds.events_may_be, Snapshots.others_apart}, operations.Layers.phase_keeps, schedules.Beginnings.may_begin}
+use Rattle.gate_schedules.proofs.schedules.{Lists.{beside_lists, begin_lists}, Phases.word_there, Schedule.{begun_keeps, legal_more}}
+use Rattle.gate_schedules.proofs.{schedules.Snapshots.{beside_moments, begin_moments}, trees.worlds.Frozen.frozen_whole}
 use Rattle.gate_steps.proofs.{Dealing.{times-at, known_here, inside, redealt}, Reaching.{begun_reached, stepped_reached}, Stores.there_found}
 use Rattle.gate_steps.proofs.Growing.{seen_all}
 use Rattle.gate_steps.proofs.TableWords.{table_written}

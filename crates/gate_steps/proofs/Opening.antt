@@ -11,8 +11,7 @@ use Rattle.gate_world.specs.declared.config.Config.{Config}
 use Rattle.gate_world.specs.Configs.{IsWithin, extents_kept}
 use Rattle.gate_world.specs.Views.{opening_view}
 use Rattle.gate_world.specs.Worlds.{opening}
-use Rattle.gate_schedules.proofs.operations.frames.Places.{are_few}
-use Rattle.gate_schedules.proofs.Schedule.{opening_good, opening_shown}
+use Rattle.gate_schedules.proofs.{frames.Places.are_few, schedules.Schedule.{opening_good, opening_shown}}
 use Rattle.gate_steps.specs.declared.seating.Numbered.{Numbered}
 use Rattle.gate_steps.specs.Seating.{SeatItems, numbered, one_if, times, knows, HaveViews, HaveSeen, deal}
 use Rattle.gate_steps.specs.Rules.{table_index, table_length, TableShows, Held, first_items, first_known}

@@ -11,7 +11,7 @@ use Rattle.gate_world.specs.declared.entries.Entry.{Entry, TheVariants.{Begins, 
 use Rattle.gate_world.specs.{Worlds.{words_after, after_step, after_step_beside, run, opening, happens, history, with_action, action_of, task_of}}
 use Rattle.gate_world.specs.{Worlds.{value_at, found_at, phase_action}, declared.{config.Config.Config, operations.Op.Op}}
 use Rattle.gate_world.specs.declared.{views.{View.View}, work.Phase.Phase}
-use Rattle.gate_schedules.proofs.Runs.{run_more}
+use Rattle.gate_schedules.proofs.schedules.Runs.{run_more}
 use Rattle.gate_steps.specs.{Histories.{IsLike, IsReached, then_steps}, Seating.renewed}
 
 -- views that agree agree after one of each is replaced by views that agree

@@ -9,7 +9,7 @@ use Rattle.cpu_words.specs.Words.{Words, put}
 use Rattle.cpu_words.proofs.Places.{place_small, written}
 use Rattle.gate_world.specs.declared.config.Config.{Config}
 use Rattle.gate_world.specs.Configs.{IsWithin, extents_kept}
-use Rattle.gate_schedules.proofs.operations.frames.Places.{are_few}
+use Rattle.gate_schedules.proofs.frames.Places.{are_few}
 use Rattle.gate_steps.specs.Rules.{table_index, table_length, TableShows}
 
 -- words lie apart

@@ -5,7 +5,7 @@ use Rattle.access_model.specs.declared.errors.GateError.{GateError}
 use Rattle.access_model.specs.declared.replies.Next.TheVariants.{Done}
 use Rattle.cpu_words.specs.{Touches.{found_by}}
 use Rattle.cpu_words.specs.declared.events.Touch.{Touch, TheVariants.Load}
-use Rattle.gate_schedules.proofs.Whole.{whole_causes, whole_rule}
+use Rattle.gate_schedules.proofs.schedules.Whole.{whole_causes, whole_rule}
 use Rattle.gate_schedules.proofs.operations.Layers.{phase_keeps}
 use Rattle.gate_world.specs.{Causes.HasCause, Headline.world_after, Courses.{Course, course_of}, Work.{next_of, after_of}}
 use Rattle.gate_world.specs.Worlds.{World, found_at}

@@ -8,7 +8,7 @@ use Rattle.access_model.specs.Histories.{Done, own_part}
 use Rattle.access_model.specs.declared.actions.Action.{Action}
 use Rattle.access_model.specs.declared.errors.GateError.{GateError}
 use Rattle.access_model.specs.declared.replies.{Next.{Next, TheVariants.{Go, Wait, Done as Ended}}, Reply.Reply}
-use Rattle.gate_schedules.proofs.Whole.{whole_run}
+use Rattle.gate_schedules.proofs.schedules.Whole.{whole_run}
 use Rattle.gate_world.specs.Courses.{course_of}
 use Rattle.gate_world.specs.Headline.{world_after, actions_so_far, actions_since}
 use Rattle.gate_world.specs.declared.entries.Entry.{Entry, TheVariants.{Begins, Steps}}

@@ -14,8 +14,8 @@ use Rattle.gate_schedules.specs.Seats.{seat_held}
 use Rattle.gate_schedules.specs.declared.seats.Seat.{Seat}
 use Rattle.gate_schedules.specs.declared.steps.Progress.{Progress}
 use Rattle.gate_schedules.specs.declared.steps.Step.{Step}
-use Rattle.gate_schedules.proofs.Phases.{action_fits, fits_after, fits_agree}
-use Rattle.gate_schedules.proofs.operations.frames.{Accesses.{holdings_of_after, long_after, wide_after, deep_after, agree_after}, Agreeing.agree_sym}
+use Rattle.gate_schedules.proofs.frames.{Accesses.{holdings_of_after, long_after, wide_after, deep_after, agree_after}, Agreeing.agree_sym}
+use Rattle.gate_schedules.proofs.schedules.Phases.{action_fits, fits_after, fits_agree}
 use Rattle.gate_steps.specs.{Seating.{SeatItems, numbered, entered, done_by, items_after, IsMove}, declared.seating.Numbered.Numbered}
 use Rattle.atomic_table.specs.Seated.{TableId}
 use Rattle.gate_steps.specs.call_events.{Stepped.{found_step, state_after, ToldIn, Stepped}, TaskStates.{TaskState, task_state}, Ties.{PhaseOk, OwnTies, Ties}}

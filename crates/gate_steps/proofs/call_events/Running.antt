@@ -23,7 +23,7 @@ use Rattle.gate_world.specs.Work.{next_of, after_of}
 use Rattle.gate_world.specs.Beginnings.{first_phase}
 use Rattle.gate_world.specs.Courses.{Course, course_with, course_after, course_of, IsEventOf, IsNext, IsTrace, MayFind}
 use Rattle.gate_world.specs.Traces.{actions_of, Tells, IsHonestAnswer, IsTold, most_events, IsShort, MayWait}
-use Rattle.gate_schedules.proofs.operations.frames.Keeps.{most_events_of_all, IsSmall}
+use Rattle.gate_schedules.proofs.{frames.Keeps.{most_events_of_all, IsSmall}, schedules.Beginnings.may_begin}
 use Rattle.gate_schedules.proofs.operations.Layers.{op_keeps}
 use Rattle.gate_schedules.specs.declared.steps.Progress.{Progress}
 use Rattle.gate_schedules.specs.declared.steps.Progress.TheVariants.{Done as Ended, Waiting}
@@ -36,7 +36,6 @@ use Rattle.gate_steps.specs.call_events.Asking.{Ask, asks_of, asks_with, call_at
 use Rattle.gate_steps.specs.call_events.Waited.{is_wait, waits_in}
 use Rattle.gate_steps.specs.call_events.Refused.{IsUnchanged, IsUnchangedBy, IsHonestWait}
 use Rattle.gate_steps.proofs.call_events.Refused.{is_unchanged, waits_honestly}
-use Rattle.gate_schedules.proofs.Beginnings.{may_begin}
 use Rattle.gate_steps.specs.call_events.Runs.{events_onto, completed_by, ran_snapshot, ran_view, ran_items, begins_at, items_at, IsMoveOf, IsNextMove, AreMoves, IsBounded, IsRanReply, told_as, the_reply, Goes, Went, Told, Called, Replies}
 
 -- the numbers of a task whose own number has begun the operation

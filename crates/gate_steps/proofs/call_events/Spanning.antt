@@ -6,7 +6,7 @@ use mathlib.Core.Option.{some}
 use lib.ListN.{get_elem?}
 use Rattle.access_model.specs.declared.replies.Next.{Next, TheVariants.{Go, Wait, Done}}
 use Rattle.cpu_words.specs.{Hooks.HookAnswer, Touches.{event_of}, Words.Words}
-use Rattle.gate_schedules.proofs.{Beginnings.may_begin, Entries.begun_on, Runs.run_more}
+use Rattle.gate_schedules.proofs.schedules.{Beginnings.may_begin, Entries.begun_on, Runs.run_more}
 use Rattle.gate_world.specs.Causes.{since_begun, trail, trail_of}
 use Rattle.gate_world.specs.Courses.{course_of}
 use Rattle.gate_world.specs.Headline.{world_after}

@@ -12,7 +12,7 @@ use Rattle.gate_world.specs.declared.{accesses.Accesses.Accesses, config.Config.
 use Rattle.gate_schedules.specs.Answers.{progress_of}
 use Rattle.gate_schedules.specs.declared.seats.Seat.{Seat}
 use Rattle.gate_schedules.specs.declared.steps.Step.{Step}
-use Rattle.gate_schedules.proofs.Phases.{word_placed}
+use Rattle.gate_schedules.proofs.schedules.Phases.{word_placed}
 use Rattle.gate_steps.specs.Seating.{SeatItems, Acts, items_after, IsMove}
 use Rattle.atomic_table.specs.Seated.{TableId}
 use Rattle.gate_steps.specs.call_events.{Asking.{Ask, asks_with, call_at, GoesWith, WentWith}, Runs.{Goes, Went}, Stepped.Stepped, Waited.{GoesWaiting, WentWaiting}, TaskStates.{TaskState, task_state}}

@@ -1,0 +1,78 @@
+-- Who holds a freeze, as the laws of the holders have it: what holds of it in a world, and what an event of a task leaves of it.
+use Rattle.std.proofs.{Common.{◌≡◌, ℕ, ◌<◌, ◌≤◌, sym, ap, ◌∙◌, subst, inl, inr, arith}, lemmas.Bool.{cases_Bool, Decides.eqb_tells}}
+use Rattle.std.specs.Prelude.{Option, Some}
+use Rattle.finite_sums.{proofs.Totals.{total_none, update_map, update_same}, specs.Sums.{update, total}}
+use Rattle.access_model.specs.{Holders.is_unheld, declared.actions.Holder.Holder}
+use Rattle.cpu_words.specs.Words.{Words}
+use Rattle.freeze_levels.specs.declared.{freezes.FreezeStep.FreezeStep, thaws.ThawStep.ThawStep}
+use Rattle.freeze_levels.{proofs.holder_laws.HolderLaws.events_keep, specs.holder_laws.{Events.{HolderMoment, HolderEvent, Happens, Moves, Stays}, Roles.{HoldersHold, minds}}}
+use Rattle.gate_world.specs.{Roles.{freeze_holder_role, freeze_owns, thaw_holder_role, thaw_owns}, Rules.{Holding, Holds, IsGood, Owner}}
+use Rattle.gate_world.specs.{Rules.{holder_role_of, holder_roles, owns}, Worlds.World, declared.{config.Config.Config, views.View.View, work.Phase.Phase}}
+use Rattle.gate_schedules.proofs.frames.Owners.{owns_le}
+
+-- who relies on the holders owns `umount`
+freeze_minds : (s : FreezeStep) → minds (freeze_holder_role s) ≤ freeze_owns s
+freeze_minds (FreezeStep.Holds beside) =
+    elim (cases_Bool (is_unheld beside)) [ inl h ↦ rw h (omega arith) | inr h ↦ rw h (omega arith) ]
+freeze_minds s = omega arith
+
+thaw_minds : (holder : Holder) (s : ThawStep) → minds (thaw_holder_role holder s) ≤ thaw_owns s
+thaw_minds holder (ThawStep.Leaves held) = omega arith
+thaw_minds holder s = omega arith
+
+pub holder_owner : (p : Option Phase) → minds (holder_role_of p) ≤ owns p
+holder_owner (Some (Phase.Freezes x)) = freeze_minds x.step
+holder_owner (Some (Phase.Thaws x)) = thaw_minds x.holder x.step
+holder_owner other = omega arith
+
+-- the holders of a world
+abbrev pub holders_at : World → HolderMoment
+holders_at w = record { stage = w.words.stage; holders = w.words.holders; at = holder_roles w }
+
+module _ (c : Config) (w : World) (good : IsGood c w) (t : ℕ) (lt : t < c.tasks) where
+  -- beside an owner that relies on nothing nobody does
+  pub nobody_minds : owns (w.views t).phase ≡ 1 → minds (holder_roles w t) ≡ 0 → total c.tasks (λ y. minds (holder_roles w y)) ≡ 0
+  nobody_minds own none = total_none c.tasks (λ y. minds (holder_roles w y)) (λ y ly.
+      elim (eqb_tells y t) [
+        | inl q ↦ subst (λ z. minds (holder_roles w z) ≡ 0) (sym q.1) none
+        | inr q ↦
+            let other : owns (w.views y).phase ≡ 1 → ⊥ =
+            λ o. q.1 (omega (arith, (good Owner).locked y ly o, (good Owner).locked t lt own)) in
+            omega (arith, other, owns_le (w.views y).phase, holder_owner (w.views y).phase)
+      ])
+
+  module _ (ws : Words) (v : View) where
+    -- what is there of the holders where the event is one of these
+    abbrev pub IsHolderEvent : HolderEvent → Type 0
+    IsHolderEvent kind = Happens c.tasks t (holders_at w) record {
+      stage = ws.stage;
+      holders = ws.holders;
+      at = update (holder_roles w) t (holder_role_of v.phase);
+    } kind
+
+    -- so what holds of them holds again
+    pub holders_after : (kind : HolderEvent) → IsHolderEvent kind → Holds c (record { words = ws; views = update w.views t v }) Holding
+    holders_after kind happens =
+        subst (HoldersHold c.tasks ws.stage ws.holders) (sym (update_map (λ (u : View). holder_role_of u.phase) w.views t v))
+        (events_keep c.tasks t (holders_at w) _ kind (good Holding) lt happens)
+
+    -- a task that has to do with them what it had, where the stage and they are as they were, or the stage was not 4 and isn't
+    pub holders_stay : ws.stage ≡ w.words.stage → ws.holders ≡ w.words.holders →
+        holder_role_of v.phase ≡ holder_role_of (w.views t).phase → Holds c (record { words = ws; views = update w.views t v }) Holding
+    holders_stay es eh role = holders_after Stays (λ j. record {
+      stage = es j;
+      holders = eh j;
+      at = (ap (update (holder_roles w) t) role ∙ update_same (holder_roles w) t) j;
+    })
+
+    pub holders_move : (w.words.stage ≡ 4 → ⊥) → (ws.stage ≡ 4 → ⊥) → ws.holders ≡ w.words.holders →
+        holder_role_of v.phase ≡ holder_role_of (w.views t).phase → Holds c (record { words = ws; views = update w.views t v }) Holding
+    holders_move off off' eh role = holders_after (Moves ws.stage) (
+      off,
+      off',
+      λ j. record {
+        stage = ws.stage;
+        holders = eh j;
+        at = (ap (update (holder_roles w) t) role ∙ update_same (holder_roles w) t) j;
+      },
+    )

@@ -1,0 +1,253 @@
+-- The next event of each task is on a word that holds what it may: the word of a node of the tree is a node's, and the sync word of a level
+-- is one.
+use Rattle.std.proofs.Common.{◌≡◌, ℕ, ◌<◌, ◌≤◌, ◌*◌, subst, ap, true, false, arith}
+use Rattle.std.specs.Prelude.{Ok, Err, Some, is_some}
+use Rattle.mount_counts.specs.{Phases.{want_next, change_next}, Remounts.remount_next, declared.phases.MountPhase.TheVariants.Want as MWants}
+use Rattle.mount_counts.specs.declared.phases.{MountPhase.TheVariants.{Change as MChanges}, WantStep.TheVariants.CountsUp}
+use Rattle.mount_counts.specs.declared.phases.{ChangeStep.{TheVariants.Locks, ChangeStep}, Want.Want, Change.Change, WantStep.WantStep}
+use Rattle.mount_counts.specs.declared.remounts.{RemountStep.TheVariants.{SetsWritable, ClearsMark, SetsReadOnly as RSetsReadOnly}, Remount.Remount}
+use Rattle.mount_counts.specs.declared.remounts.RemountStep.{RemountStep}
+use Rattle.percpu_rwsem.specs.{Callbacks.callback_next, Readers.down_read_next, Transitions.transition_next, Writers.{down_write_next, up_write_next}}
+use Rattle.percpu_rwsem.specs.declared.callbacks.CallbackStep.TheVariants.{Claims, AwaitsSections as CAwaitsSections, CallsBack as CCallsBack}
+use Rattle.percpu_rwsem.specs.declared.{callbacks.{Callback.Callback, CallbackStep.CallbackStep}, readers.DownReadStep.TheVariants.LoadsSync}
+use Rattle.percpu_rwsem.specs.declared.{readers.{DownRead.DownRead, DownReadStep.DownReadStep}, transitions.Transition.TheVariants.{Loads, Exchanges}}
+use Rattle.percpu_rwsem.specs.declared.{transitions.Transition.Transition, writers.DownWriteStep.TheVariants.{Enters, AwaitsPassed, CallsBack as WCallsBack}}
+use Rattle.percpu_rwsem.specs.declared.writers.{UpWriteStep.TheVariants.{ClearsBlock, Exits}, DownWrite.DownWrite, UpWrite.UpWrite}
+use Rattle.percpu_rwsem.specs.declared.writers.{DownWriteStep.DownWriteStep, UpWriteStep.UpWriteStep}
+use Rattle.compounds.specs.{write_access.Phases.next as write_next, declared.write_access.phases.WritePhase.{TheVariants.{Takes, Wants as WWants}, WritePhase}}
+use Rattle.freeze_levels.specs.{Freezes.freeze_next, Thaws.thaw_next, declared.freezes.FreezeStep.TheVariants.{Closes, Cleans, SetsFs, SetsComplete}}
+use Rattle.freeze_levels.specs.declared.freezes.{FreezeStep.{TheVariants.Reopens as FReopens, FreezeStep}, Freeze.Freeze}
+use Rattle.freeze_levels.specs.declared.thaws.{ThawStep.{TheVariants.{LeavesLast, Reopens as TReopens}, ThawStep}, Thaw.Thaw}
+use Rattle.node_words.specs.Nodes.{unpacked, opens_in}
+use Rattle.gated_tree.specs.Calls.{CreateStepFits, SnapshotStepFits, TreePhaseFits}
+use Rattle.gated_tree.specs.Phases.{next as tree_next, remove_next}
+use Rattle.gated_tree.specs.{Phases.{grow_next, move_next, mark_next, create_next, snapshot_next, open_next}, Roles.RoleHolds}
+use Rattle.gated_tree.specs.declared.changes.CreateStep.TheVariants.{LoadsDirectory, LoadsNode, ChargesChild, TakesNode, RefundsChild}
+use Rattle.gated_tree.specs.declared.changes.RemoveStep.TheVariants.{LoadsFile as LoadsFileToRemove, FreesNode, MarksRemoved}
+use Rattle.gated_tree.specs.declared.changes.MoveStep.TheVariants.{LoadsFile as LoadsFileToMove, LoadsDirectory as LoadsTarget, ChargesChild as ChargesTarget}
+use Rattle.gated_tree.specs.declared.changes.{MoveStep.TheVariants.{MovesFile, RefundsChild as RefundsOne}, Create.Create, Remove.Remove, MoveTo.MoveTo}
+use Rattle.gated_tree.specs.declared.changes.{CreateStep.CreateStep, RemoveStep.RemoveStep, MoveStep.MoveStep}
+use Rattle.gated_tree.specs.declared.growth.{GrowStep.{TheVariants.{LoadsFile as LoadsFileToGrow, GrowsFile}, GrowStep}, Grow.Grow}
+use Rattle.gated_tree.specs.declared.{marks.{MarkStep.{TheVariants.{LoadsFile as LoadsFileToMark, MarksFile}, MarkStep}, Mark.Mark}, opens.OpenFile.OpenFile}
+use Rattle.gated_tree.specs.declared.opens.OpenStep.{OpenStep, TheVariants.{LoadsFile as LoadsFileToOpen, OpensFile}}
+use Rattle.gated_tree.specs.declared.phases.TreePhase.TheVariants.{Create as Creates, Remove as Removes, Grow as Grows, MoveTo as Moves, Mark as TreeMarks}
+use Rattle.gated_tree.specs.declared.phases.TreePhase.{TheVariants.{OpenFile as OpensOne, Snapshot as Snapshots, ClearMarks as TreeClears}, TreePhase}
+use Rattle.gated_tree.specs.declared.snapshots.{SnapshotStep.{TheVariants.LoadsNode as SLoadsNode, SnapshotStep}, Snapshot.Snapshot}
+use Rattle.gate_world.specs.{Configs.IsWithin, Courses.{MayHold, MayFind, CloseMayFind, OpenMayFind, EventsMayBe}, Fits.{FreezeFits, ThawFits, WriteFits}}
+use Rattle.gate_world.specs.{Fits.{PhaseFits, CloseFits, HasFile, file_of, Fits}, Holdings.Holdings, Remounts.RemountFits, Rules.{IsGood, Tree, Files}}
+use Rattle.gate_world.specs.{Rules.{Fitting, SyncAt, SyncHoldsIn}, Trees.{tree_bounds, tree_role_of}, Views.{held_of, has_open}, Work.next_of, Worlds.World}
+use Rattle.gate_world.specs.declared.{config.Config.Config, work.Phase.TheVariants.{Mounts, Remounts, DownReads, Callbacks, Writes, Freezes, Thaws}}
+use Rattle.gate_world.specs.declared.work.Phase.{TheVariants.{Trees, Closes}, Phase}
+use Rattle.node_words.proofs.Packing.{packed_unpacks}
+use Rattle.cpu_words.specs.{Hooks.HookAnswer, Words.read, declared.names.WordName.{TheVariants.{Node, Sync}, WordName}}
+use Rattle.compounds.specs.{file_closes.Phases.next as close_next, declared.file_closes.phases.ClosePhase.{ClosePhase, TheVariants.{LoadsFile as CloseLoadsFile, LowersCount}}}
+use Rattle.compounds.specs.declared.file_closes.phases.ClosePhase.TheVariants.{Enters as EntersLevel, FreesNode as ClosesNode}
+use Rattle.finite_sums.specs.Sums.{update, total}
+use Rattle.finite_sums.proofs.Totals.{total_at, total_updated, total_bound, each_updated}
+use Rattle.access_model.specs.States.{one_if, most_tasks}
+use Rattle.gate_schedules.proofs.frames.Openers.{most_tasks_is, one_le}
+
+-- the word of a node is that of one of the tree's, and a sync word that of one of the levels
+abbrev IsThere : Config → WordName → Type 0
+IsThere c (Node n) = n < c.nodes
+IsThere c (Sync i) = (1 ≤ i) × (i ≤ 3)
+IsThere c word = Unit {0}
+
+module _ (c : Config) where
+  want_word : (x : Want) (s : WantStep) → IsThere c (want_next x s).0
+  want_word x CountsUp = tt
+  want_word x other = tt
+
+  change_word : (x : Change) (s : ChangeStep) → IsThere c (change_next x s).0
+  change_word x Locks = tt
+  change_word x other = tt
+
+  remount_word : (x : Remount) (s : RemountStep) (hook : HookAnswer) → RemountFits c s → IsThere c (remount_next x s hook).0
+  remount_word x SetsWritable (Ok answer) fits = tt
+  remount_word x SetsWritable (Err code) fits = tt
+  remount_word x (ClearsMark n) hook fits = fits.1
+  remount_word x RSetsReadOnly (Ok answer) fits = tt
+  remount_word x RSetsReadOnly (Err code) fits = tt
+  remount_word x other hook fits = tt
+
+  transition_word : (level : ℕ) (x : Transition) → 1 ≤ level → level ≤ 3 → IsThere c (transition_next level x).0
+  transition_word level Loads l1 l3 = (l1, l3)
+  transition_word level (Exchanges from to) l1 l3 = (l1, l3)
+
+  read_word : (x : DownRead) (s : DownReadStep) → 1 ≤ x.level → x.level ≤ 3 → IsThere c (down_read_next x s).0
+  read_word x LoadsSync l1 l3 = (l1, l3)
+  read_word x other l1 l3 = tt
+
+  callback_word : (x : Callback) (s : CallbackStep) → 1 ≤ x.level → x.level ≤ 3 → IsThere c (callback_next x s).0
+  callback_word x (Claims transition) l1 l3 = transition_word x.level transition l1 l3
+  callback_word x (CAwaitsSections grace) l1 l3 = tt
+  callback_word x (CCallsBack transition) l1 l3 = transition_word x.level transition l1 l3
+
+  down_write_word : (x : DownWrite) (s : DownWriteStep) → 1 ≤ x.level → x.level ≤ 3 → IsThere c (down_write_next x s).0
+  down_write_word x (Enters transition) l1 l3 = transition_word x.level transition l1 l3
+  down_write_word x AwaitsPassed l1 l3 = (l1, l3)
+  down_write_word x (WCallsBack transition) l1 l3 = transition_word x.level transition l1 l3
+  down_write_word x other l1 l3 = tt
+
+  up_write_word : (x : UpWrite) (s : UpWriteStep) → 1 ≤ x.level → x.level ≤ 3 → IsThere c (up_write_next x s).0
+  up_write_word x ClearsBlock l1 l3 = tt
+  up_write_word x (Exits transition) l1 l3 = transition_word x.level transition l1 l3
+
+  write_word : (t : ℕ) (held : Holdings) (x : WritePhase) → WriteFits c t held x → IsThere c (write_next x).0
+  write_word t held (Takes m r) fits = read_word r r.step fits.0.0 fits.0.1
+  write_word t held (WWants w) fits = want_word w w.step
+  write_word t held other fits = tt
+
+  freeze_word : (x : Freeze) (s : FreezeStep) (hook : HookAnswer) → FreezeFits c x.holder s → IsThere c (freeze_next x s hook).0
+  freeze_word x (Closes d) hook fits = down_write_word d d.step fits.0 fits.1
+  freeze_word x (Cleans marks) hook fits = fits.2
+  freeze_word x SetsFs (Ok answer) fits = tt
+  freeze_word x SetsFs (Err code) fits = tt
+  freeze_word x SetsComplete (Ok answer) fits = tt
+  freeze_word x SetsComplete (Err code) fits = tt
+  freeze_word x (FReopens u code) hook fits = up_write_word u u.step fits.0 fits.1
+  freeze_word x other hook fits = tt
+
+  thaw_word : (x : Thaw) (s : ThawStep) (hook : HookAnswer) → ThawFits x.holder s → IsThere c (thaw_next x s hook).0
+  thaw_word x LeavesLast (Ok answer) fits = tt
+  thaw_word x LeavesLast (Err code) fits = tt
+  thaw_word x (TReopens u) hook fits = up_write_word u u.step fits.0 fits.1
+  thaw_word x other hook fits = tt
+
+  create_word : (x : Create) (s : CreateStep) → x.dir < c.nodes → CreateStepFits (tree_bounds c) s → IsThere c (create_next x s).0
+  create_word x LoadsDirectory lt fits = lt
+  create_word x (LoadsNode n) lt fits = fits
+  create_word x (ChargesChild n) lt fits = tt
+  create_word x (TakesNode n) lt fits = fits
+  create_word x RefundsChild lt fits = tt
+
+  remove_word : (x : Remove) (s : RemoveStep) → x.file < c.nodes → IsThere c (remove_next x s).0
+  remove_word x LoadsFileToRemove lt = lt
+  remove_word x (FreesNode file) lt = lt
+  remove_word x (MarksRemoved file) lt = lt
+  remove_word x other lt = tt
+
+  grow_word : (x : Grow) (s : GrowStep) → x.file < c.nodes → IsThere c (grow_next x s).0
+  grow_word x LoadsFileToGrow lt = lt
+  grow_word x (GrowsFile file) lt = lt
+  grow_word x other lt = tt
+
+  move_word : (x : MoveTo) (s : MoveStep) → x.file < c.nodes → x.dir < c.nodes → IsThere c (move_next x s).0
+  move_word x LoadsFileToMove lt ld = lt
+  move_word x (LoadsTarget file) lt ld = ld
+  move_word x (ChargesTarget file) lt ld = tt
+  move_word x (MovesFile file) lt ld = lt
+  move_word x (RefundsOne dir answer) lt ld = tt
+
+  mark_word : (x : Mark) (s : MarkStep) → x.file < c.nodes → IsThere c (mark_next x s).0
+  mark_word x LoadsFileToMark lt = lt
+  mark_word x (MarksFile file) lt = lt
+
+  snapshot_word : (x : Snapshot) (s : SnapshotStep) → SnapshotStepFits (tree_bounds c) s → IsThere c (snapshot_next x s).0
+  snapshot_word x (SLoadsNode n) fits = fits
+  snapshot_word x other fits = tt
+
+  open_word : (x : OpenFile) (s : OpenStep) → x.file < c.nodes → IsThere c (open_next x s).0
+  open_word x LoadsFileToOpen lt = lt
+  open_word x (OpensFile file) lt = lt
+
+  close_word : (t : ℕ) (held : Holdings) (x : ClosePhase) → CloseFits c t held x → IsThere c (close_next x).0
+  close_word t held (CloseLoadsFile x) fits = fits.0
+  close_word t held (LowersCount x node) fits = fits.0.0
+  close_word t held (EntersLevel f node r) fits = read_word r r.step fits.2.0 fits.2.1
+  close_word t held (ClosesNode f p node) fits = fits.0
+  close_word t held other fits = tt
+
+  tree_word : (t : ℕ) (x : TreePhase) (hook : HookAnswer) → TreePhaseFits (tree_bounds c) t x → IsThere c (tree_next x hook).0
+  tree_word t (Creates x) hook fits = create_word x x.step fits.0 fits.2
+  tree_word t (Removes x) hook fits = remove_word x x.step fits.0
+  tree_word t (Grows x) hook fits = grow_word x x.step fits.0
+  tree_word t (Moves x) hook fits = move_word x x.step fits.0 fits.1
+  tree_word t (TreeMarks x) hook fits = mark_word x x.step fits
+  tree_word t (OpensOne x) hook fits = open_word x x.step fits.0
+  tree_word t (Snapshots x) hook fits = snapshot_word x x.step fits.2
+  tree_word t (TreeClears x) hook fits = fits.0
+
+  -- the word of each phase's next event
+  phase_word : (t : ℕ) (held : Holdings) (phase : Phase) (hook : HookAnswer) → PhaseFits c t held phase →
+      IsThere c (next_of phase hook).0
+  phase_word t held (Mounts (MWants x)) hook fits = want_word x x.step
+  phase_word t held (Mounts (MChanges x)) hook fits = change_word x x.step
+  phase_word t held (Remounts x) hook fits = remount_word x x.step hook fits.5
+  phase_word t held (DownReads r) hook fits = read_word r r.step fits.0 fits.1
+  phase_word t held (Callbacks b) hook fits = callback_word b b.step fits.0 fits.1
+  phase_word t held (Writes x) hook fits = write_word t held x fits
+  phase_word t held (Freezes x) hook fits = freeze_word x x.step hook fits.5
+  phase_word t held (Thaws x) hook fits = thaw_word x x.step hook fits.2
+  phase_word t held (Trees x) hook fits = tree_word t x hook fits.0
+  phase_word t held (Closes x) hook fits = close_word t held x fits
+  phase_word t held other hook fits = tt
+
+  -- the words of a good world hold what they may
+  held_well : (w : World) → IsGood c w → (word : WordName) → IsThere c word → MayHold word (read w.words word)
+  held_well w good (Node n) lt = ap is_some (packed_unpacks (w.words.node n) ((good Tree).words n lt).packed)
+  held_well w good (Sync i) there = let s : SyncHoldsIn c w i = good (SyncAt i) there.0 there.1 in ap is_some s.packed
+  held_well w good word lt = tt
+
+  module _ (within : IsWithin c) (w : World) (good : IsGood c w) (t : ℕ) (lt : t < c.tasks) where
+    -- a file that this task has open is open in its word, and one that it hasn't open is not open for all tasks
+    open_counted : (f : ℕ) → f < c.nodes → has_open (w.views t) f ≡ true → 1 ≤ opens_in (w.words.node f)
+    open_counted f lf own = omega (
+      arith,
+      (good Files).counted f lf,
+      total_at most_tasks t (λ x. one_if (has_open (w.views x) f)) (omega (arith, lt, within.tasks, most_tasks_is)),
+      ap one_if own,
+    )
+
+    room_counted : (f : ℕ) → f < c.nodes → has_open (w.views t) f ≡ false → opens_in (w.words.node f) < 64
+    room_counted f lf own =
+        let g : ℕ → ℕ = λ x. one_if (has_open (w.views x) f) in
+        let lm : t < most_tasks = omega (arith, lt, within.tasks, most_tasks_is) in
+        let more = total_updated (λ v. v) most_tasks t g 1 lm in
+        let few : total most_tasks (update g t 1) ≤ most_tasks * 1 =
+        total_bound most_tasks 1 (update g t 1) (λ x lx. each_updated (λ y v. v ≤ 1) g t 1 x (omega arith) (λ ne. one_le (has_open (w.views x) f))) in
+        omega (arith, (good Files).counted f lf, more, few, ap one_if own, most_tasks_is)
+
+    -- what the next event of a phase may find
+    node_packed : (f : ℕ) → f < c.nodes → is_some (unpacked (w.words.node f)) ≡ true
+    node_packed f lf = ap is_some (packed_unpacks (w.words.node f) ((good Tree).words f lf).packed)
+
+    close_finds : (x : ClosePhase) → (w.views t).phase ≡ Some (Closes x) → CloseFits c t (held_of (w.views t)) x →
+        CloseMayFind x (read w.words (close_next x).0)
+    close_finds (CloseLoadsFile x) is fits = (
+      node_packed x.file fits.0,
+      open_counted x.file fits.0 (subst (λ p. HasFile (has_open (w.views t)) (file_of p)) is ((good Files).own t lt)),
+    )
+    close_finds (LowersCount x node) is fits = node_packed x.file fits.0.0
+    close_finds (EntersLevel f node r) is fits =
+        held_well w good (down_read_next r r.step).0 (read_word r r.step fits.2.0 fits.2.1)
+    close_finds (ClosesNode f p node) is fits =
+        (subst (λ q. RoleHolds (tree_bounds c) w.words.used w.words.removed w.words.node w.words.kids (tree_role_of (w.views t).trace q)) is
+        ((good Tree).roles t lt)).1.word
+    close_finds other is fits = tt
+
+    open_finds : (x : OpenFile) (s : OpenStep) → has_open (w.views t) x.file ≡ false → x.file < c.nodes →
+        OpenMayFind s (read w.words (open_next x s).0)
+    open_finds x LoadsFileToOpen own lf = (node_packed x.file lf, room_counted x.file lf own)
+    open_finds x (OpensFile file) own lf = node_packed x.file lf
+
+    tree_finds : (x : TreePhase) (hook : HookAnswer) → (w.views t).phase ≡ Some (Trees x) →
+        PhaseFits c t (held_of (w.views t)) (Trees x) →
+        MayFind (Trees x) (tree_next x hook).0 (read w.words (tree_next x hook).0)
+    tree_finds (OpensOne x) hook is fits =
+        open_finds x x.step (subst (λ p. HasFile (has_open (w.views t)) (file_of p)) is ((good Files).own t lt)) fits.0.0
+    tree_finds x hook is fits = held_well w good (tree_next x hook).0 (tree_word t x hook fits.0)
+
+    finds_well : (phase : Phase) (hook : HookAnswer) → (w.views t).phase ≡ Some phase →
+        PhaseFits c t (held_of (w.views t)) phase →
+        MayFind phase (next_of phase hook).0 (read w.words (next_of phase hook).0)
+    finds_well (Closes x) hook is fits = close_finds x is fits
+    finds_well (Trees x) hook is fits = tree_finds x hook is fits
+    finds_well phase hook is fits =
+        held_well w good (next_of phase hook).0 (phase_word t (held_of (w.views t)) phase hook fits)
+
+  -- so each event is on such a word
+  pub events_may_be : IsWithin c → (w : World) → IsGood c w → EventsMayBe c w
+  events_may_be within w good t lt phase hook is =
+      finds_well within w good t lt phase hook is
+      (subst (Fits c t (held_of (w.views t))) is (good Fitting t lt))

@@ -1,0 +1,302 @@
+-- What every owner of `umount` may rely on, and its events: under the lock, on the word `umount`, and on a mount's flags.
+use Rattle.cpu_words.specs.{Words.Words, declared.sums.Sum.Sum}
+use Rattle.finite_sums.proofs.Totals.{HasPlace, each_updated, total_at, total_none, total_place, total_updated, update_at, update_map, update_off}
+use Rattle.finite_sums.proofs.Totals.{update_same}
+use Rattle.finite_sums.specs.Sums.{total, update}
+use Rattle.gate_schedules.proofs.frames.Frames.{MountHoldsAfter, gates_after, holds_as, owner_same, shown_held, shown_still, view_as}
+use Rattle.gate_world.specs.{Holdings.Holdings, Remounts.{giving_role, held_role, loop_role, remount_owns, remount_role, remount_sets, summing_role}}
+use Rattle.gate_world.specs.Roles.{change_owns, change_role, freeze_owns, role_if, snapshot_owns, thaw_owns, tree_owns, want_role, write_role}
+use Rattle.gate_world.specs.{Rules.{AtMount, GatesHold, IsGood, IsSteady, Owner, OwnerHolds, ViewFits, at_mount, owns, remounts, role_of}, Shown.closing}
+use Rattle.gate_world.specs.{Shown.shown, Views.{added_by, held_of, taken_by}, Waits.{HasCulprit, IsWaitedFor}, Worlds.World, declared.config.Config.Config}
+use Rattle.gate_world.specs.declared.{views.View.View, work.Phase.Phase}
+use Rattle.mount_counts.specs.{Roles.{Role, has_hold, hold_bit, ro_bit, skips}, Sets.has_mount, declared.phases.ChangeStep.ChangeStep}
+use Rattle.mount_counts.specs.declared.{phases.{MountPhase.MountPhase, WantStep.WantStep}, remounts.RemountStep.RemountStep}
+use Rattle.freeze_levels.specs.declared.{freezes.FreezeStep.FreezeStep, thaws.ThawStep.ThawStep}
+use Rattle.gated_tree.specs.declared.{phases.TreePhase.TreePhase, snapshots.SnapshotStep.SnapshotStep}
+use Rattle.freeze_laws.proofs.stages.Facts.{bit_le}
+use Rattle.std.proofs.{Common.{Bool, ap, arith, false, inl, inr, nat_lt, refl, suc, true, ℕ, ◌+◌, ◌<◌, ◌∙◌, ◌≡◌, ◌≤◌}, lemmas.Bool.Decides.eqb_tells}
+use Rattle.std.specs.Prelude.{Err, Ok, Option, Some, ◌-◌, ◌==◌}
+use Rattle.compounds.specs.declared.write_access.phases.WritePhase.{WritePhase}
+
+change_owns_le : (s : ChangeStep) → change_owns s ≤ 1
+change_owns_le ChangeStep.Locks = omega arith
+change_owns_le step = omega arith
+
+remount_owns_le : (s : RemountStep) → remount_owns s ≤ 1
+remount_owns_le RemountStep.Locks = omega arith
+remount_owns_le step = omega arith
+
+freeze_owns_le : (s : FreezeStep) → freeze_owns s ≤ 1
+freeze_owns_le FreezeStep.Locks = omega arith
+freeze_owns_le (FreezeStep.Closes d) = bit_le (nat_lt 1 d.level)
+freeze_owns_le FreezeStep.LocksAgain = omega arith
+freeze_owns_le step = omega arith
+
+thaw_owns_le : (s : ThawStep) → thaw_owns s ≤ 1
+thaw_owns_le ThawStep.Locks = omega arith
+thaw_owns_le step = omega arith
+
+snapshot_owns_le : (s : SnapshotStep) → snapshot_owns s ≤ 1
+snapshot_owns_le SnapshotStep.Locks = omega arith
+snapshot_owns_le s = omega arith
+
+tree_owns_le : (x : TreePhase) → tree_owns x ≤ 1
+tree_owns_le (TreePhase.Snapshot x) = snapshot_owns_le x.step
+tree_owns_le x = omega arith
+
+pub owns_le : (p : Option Phase) → owns p ≤ 1
+owns_le (Some (Phase.Mounts (MountPhase.Change x))) = change_owns_le x.step
+owns_le (Some (Phase.Remounts x)) = remount_owns_le x.step
+owns_le (Some (Phase.Freezes x)) = freeze_owns_le x.step
+owns_le (Some (Phase.Thaws x)) = thaw_owns_le x.step
+owns_le (Some (Phase.Trees x)) = tree_owns_le x
+owns_le other = omega arith
+
+want_hold : (p : ℕ) (s : WantStep) → has_hold (want_role p s) + skips (want_role p s) ≡ 0
+want_hold p WantStep.CountsUp = refl
+want_hold p step = refl
+
+-- a change has one set only while it owns
+change_hold : (s : ChangeStep) → has_hold (change_role s) + skips (change_role s) ≤ change_owns s
+change_hold ChangeStep.Locks = omega arith
+change_hold (ChangeStep.ClearsHold (Ok answer)) = omega arith
+change_hold (ChangeStep.ClearsHold (Err refusal)) = omega arith
+change_hold step = omega arith
+
+hold_if : (b : Bool) (r : Role) → has_hold (role_if b r) + skips (role_if b r) ≤ has_hold r + skips r
+hold_if true r = omega arith
+hold_if false r = omega arith
+
+-- in its loop, and where it lets its mounts go, a remount has at most one of both at a mount
+loop_hold : (a b : Bool) → has_hold (loop_role a b) + skips (loop_role a b) ≤ 1
+loop_hold true b = omega arith
+loop_hold false true = omega arith
+loop_hold false false = omega arith
+
+summing_hold : (a : Bool) (sum : Sum) (r : Role) → has_hold r + skips r ≤ 1 →
+    has_hold (summing_role a sum r) + skips (summing_role a sum r) ≤ 1
+summing_hold true sum r h = omega arith
+summing_hold false sum r h = h
+
+held_hold : (a : Bool) → has_hold (held_role a) + skips (held_role a) ≤ 1
+held_hold true = omega arith
+held_hold false = omega arith
+
+giving_hold : (a b : Bool) → has_hold (giving_role a b) + skips (giving_role a b) ≤ 1
+giving_hold true true = omega arith
+giving_hold false true = omega arith
+giving_hold true false = omega arith
+giving_hold false false = omega arith
+
+-- a remount has one set, or skips, only while it owns
+remount_hold : (m : ℕ) (s : RemountStep) → has_hold (remount_role m s) + skips (remount_role m s) ≤ remount_owns s
+remount_hold m (RemountStep.LoadsFlags at held) = loop_hold (has_mount held m) (nat_lt m at)
+remount_hold m (RemountStep.SetsHold at held) = loop_hold (has_mount held m) (nat_lt m at)
+remount_hold m (RemountStep.Sums at held sum) =
+    summing_hold (m == at) sum (loop_role (has_mount held m) (nat_lt m at)) (loop_hold (has_mount held m) (nat_lt m at))
+remount_hold m (RemountStep.LoadsRemovedAgain held) = loop_hold (has_mount held m) true
+remount_hold m (RemountStep.LeavesHolds held) = held_hold (has_mount held m)
+remount_hold m (RemountStep.SetsRemount held) = loop_hold (has_mount held m) true
+remount_hold m (RemountStep.ClearsHold held) = held_hold (has_mount held m)
+remount_hold m (RemountStep.GivesUp at held) = giving_hold (m == at) (has_mount held m)
+remount_hold m RemountStep.Locks = omega arith
+remount_hold m step = omega arith
+
+write_hold : (m : ℕ) (x : WritePhase) → has_hold (write_role m x) + skips (write_role m x) ≡ 0
+write_hold m (WritePhase.Wants x) = omega (arith, hold_if (m == x.mount) (want_role x.cpu x.step), want_hold x.cpu x.step)
+write_hold m x = refl
+
+-- only the owner of `umount` has a hold flag set, or counts on a mount's staying read-only
+pub hold_owns : (m : ℕ) (p : Option Phase) → has_hold (role_of m p) + skips (role_of m p) ≤ owns p
+hold_owns m (Some (Phase.Mounts (MountPhase.Want x))) = omega (arith, hold_if (m == x.mount) (want_role x.cpu x.step), want_hold x.cpu x.step)
+hold_owns m (Some (Phase.Mounts (MountPhase.Change x))) = omega (arith, hold_if (m == x.mount) (change_role x.step), change_hold x.step)
+hold_owns m (Some (Phase.Remounts x)) = remount_hold m x.step
+hold_owns m (Some (Phase.Writes x)) = omega (arith, write_hold m x)
+hold_owns m other = omega arith
+
+remount_sets_owns : (s : RemountStep) → remount_sets s ≤ remount_owns s
+remount_sets_owns RemountStep.Locks = omega arith
+remount_sets_owns step = omega arith
+
+pub remounts_owns : (p : Option Phase) → remounts p ≤ owns p
+remounts_owns (Some (Phase.Remounts x)) = remount_sets_owns x.step
+remounts_owns other = omega arith
+
+module _ (c : Config) (w : World) (good : IsGood c w) (t : ℕ) (lt : t < c.tasks) where
+  pub alone : (x : ℕ) → x < c.tasks → (x ≡ t → ⊥) → owns (w.views t).phase ≡ 1 → owns (w.views x).phase ≡ 0
+  alone x lx ne o =
+      let both : owns (w.views x).phase ≡ 1 → ⊥ = λ q.
+      let a : w.words.umount ≡ suc x = (good Owner).locked x lx q in
+      let b : w.words.umount ≡ suc t = (good Owner).locked t lt o in
+      ne (omega arith) in
+      omega (arith, both, owns_le (w.views x).phase)
+
+  pub no_remount : owns (w.views t).phase ≡ 1 → remounts (w.views t).phase ≡ 0 → w.words.remount ≡ 1 → ⊥
+  no_remount o z q =
+      let none : total c.tasks (λ x. remounts (w.views x).phase) ≡ 0 = total_none c.tasks (λ x. remounts (w.views x).phase) (λ x lx.
+      elim (eqb_tells x t) [
+        | inl h ↦ ap (λ y. remounts (w.views y).phase) h.1 ∙ z
+        | inr h ↦ omega (arith, alone x lx h.1 o, remounts_owns (w.views x).phase)
+      ]) in
+      omega (arith, (good Owner).remounting, q, none)
+
+  -- an owner that hasn't HOLD set at a mount finds it clear there
+  pub no_hold : (m : ℕ) → m < c.mounts → owns (w.views t).phase ≡ 1 → has_hold (role_of m (w.views t).phase) ≡ 0 →
+      hold_bit (w.words.flags m) ≡ 0
+  no_hold m lm o z =
+      let none : total c.tasks (λ x. has_hold (role_of m (w.views x).phase)) ≡ 0 =
+      total_none c.tasks (λ x. has_hold (role_of m (w.views x).phase)) (λ x lx.
+      elim (eqb_tells x t) [
+        | inl h ↦ ap (λ y. has_hold (role_of m (w.views y).phase)) h.1 ∙ z
+        | inr h ↦ omega (arith, alone x lx h.1 o, hold_owns m (w.views x).phase)
+      ]) in
+      omega (arith, none, (good (AtMount m) lm).gate.flag)
+
+  -- nobody else counts on a mount's staying read-only
+  pub no_skip : (m x : ℕ) → x < c.tasks → (x ≡ t → ⊥) → owns (w.views t).phase ≡ 1 → skips (role_of m (w.views x).phase) ≡ 1 → ⊥
+  no_skip m x lx ne o s = omega (arith, s, alone x lx ne o, hold_owns m (w.views x).phase)
+
+  -- where HOLD is set at a mount, another task has it set, if this one has not
+  pub who_holds : (m : ℕ) → m < c.mounts → hold_bit (w.words.flags m) ≡ 1 → has_hold (role_of m (w.views t).phase) ≡ 0 →
+      (y : ℕ) × (y < c.tasks) × (y ≡ t → ⊥) × (has_hold (role_of m (w.views y).phase) ≡ 1)
+  who_holds m lm set mine =
+      let place : HasPlace c.tasks (λ x. has_hold (role_of m (w.views x).phase)) =
+      total_place c.tasks (λ x. has_hold (role_of m (w.views x).phase))
+      (λ none. omega (arith, none, set, (good (AtMount m) lm).gate.flag)) in (
+        place.0,
+        place.1,
+        λ same. place.2 (ap (λ y. has_hold (role_of m (w.views y).phase)) same ∙ mine),
+        omega (arith, place.2, hold_owns m (w.views place.0).phase, owns_le (w.views place.0).phase),
+      )
+
+  -- where `umount` is taken, another task has it, if this one has not; so a phase that waits for who has it has a culprit
+  pub umount_taken : (phase : Phase) → ((y : ℕ) → owns (w.views y).phase ≡ 1 → IsWaitedFor w phase y) → (w.words.umount ≡ 0 → ⊥) →
+      owns (w.views t).phase ≡ 0 → HasCulprit c w t phase
+  umount_taken phase waits taken mine =
+      let y : ℕ = w.words.umount - 1 in
+      let is : w.words.umount ≡ suc y = omega (arith, taken) in
+      let ly : y < c.tasks = omega (arith, is, (good Owner).known) in
+      let own : owns (w.views y).phase ≡ 1 = (good Owner).owned y ly is in
+      record { task = y; there = ly; other = λ same. omega (arith, own, mine, ap (λ x. owns (w.views x).phase) same); stands = waits y own }
+
+  -- the sum of who has `remount` set, where this task has as before
+  remounts_same : (v : View) → remounts v.phase ≡ remounts (w.views t).phase →
+      w.words.remount ≡ total c.tasks (λ x. remounts (update w.views t v x).phase)
+  remounts_same v same =
+      omega (arith, (good Owner).remounting, same, total_updated (λ (u : View). remounts u.phase) c.tasks t w.views v lt)
+
+  -- the lock: `umount` was free, and has the task's number
+  pub locks_umount : (n : ℕ) (v : View) → w.words.umount ≡ 0 → n ≡ suc t → owns v.phase ≡ 1 →
+      remounts v.phase ≡ remounts (w.views t).phase →
+      OwnerHolds c.tasks n w.words.remount (λ x. (update w.views t v x).phase)
+  locks_umount n v free mine own same = record {
+    locked = λ x lx.
+        each_updated (λ y (u : View). y < c.tasks → owns u.phase ≡ 1 → n ≡ suc y) w.views t v x
+        (λ l q. mine) (λ ne l q. absurd (omega (arith, free, (good Owner).locked x l q))) lx;
+    owned = λ x lx.
+        each_updated (λ y (u : View). y < c.tasks → n ≡ suc y → owns u.phase ≡ 1) w.views t v x
+        (λ l q. own) (λ ne l q. absurd (ne (omega (arith, mine, q)))) lx;
+    known = omega (arith, lt, mine);
+    bit = (good Owner).bit;
+    remounting = remounts_same v same;
+  }
+
+  -- the release: it was the task's own, and is free
+  pub releases_umount : (v : View) → owns (w.views t).phase ≡ 1 → owns v.phase ≡ 0 →
+      remounts v.phase ≡ remounts (w.views t).phase →
+      OwnerHolds c.tasks 0 w.words.remount (λ x. (update w.views t v x).phase)
+  releases_umount v own none same =
+      let mine : w.words.umount ≡ suc t = (good Owner).locked t lt own in
+      record {
+        locked = λ x lx.
+            each_updated (λ y (u : View). y < c.tasks → owns u.phase ≡ 1 → 0 ≡ suc y) w.views t v x
+            (λ l q. absurd (omega (arith, q, none))) (λ ne l q. absurd (ne (omega (arith, mine, (good Owner).locked x l q)))) lx;
+        owned = λ x lx.
+            each_updated (λ y (u : View). y < c.tasks → 0 ≡ suc y → owns u.phase ≡ 1) w.views t v x
+            (λ l q. absurd (omega arith)) (λ ne l q. absurd (omega arith)) lx;
+        known = omega arith;
+        bit = (good Owner).bit;
+        remounting = remounts_same v same;
+      }
+
+  -- nobody but the owner has `remount` set
+  only_remount : owns (w.views t).phase ≡ 1 → total c.tasks (λ x. remounts (w.views x).phase) ≡ remounts (w.views t).phase
+  only_remount o =
+      elim (eqb_tells (remounts (w.views t).phase) 0) [
+        | inl z ↦ omega (arith, z.1, (good Owner).bit, (good Owner).remounting, no_remount o z.1)
+        | inr z ↦ omega (
+          arith,
+          z.1,
+          (good Owner).bit,
+          (good Owner).remounting,
+          total_at c.tasks t (λ x. remounts (w.views x).phase) lt,
+        )
+      ]
+
+  pub remount_stands : remounts (w.views t).phase ≡ 1 → w.words.remount ≡ 1
+  remount_stands h =
+      omega (arith, h, total_at c.tasks t (λ x. remounts (w.views x).phase) lt, (good Owner).remounting, (good Owner).bit)
+
+  -- the owner stores `remount`, which stands after it as its phase says
+  pub remount_stored : (set : ℕ) (v : View) → owns (w.views t).phase ≡ 1 → owns v.phase ≡ 1 → remounts v.phase ≡ set →
+      OwnerHolds c.tasks w.words.umount set (λ x. (update w.views t v x).phase)
+  remount_stored set v o o' is = record {
+    locked = λ x lx.
+        each_updated (λ y (u : View). y < c.tasks → owns u.phase ≡ 1 → w.words.umount ≡ suc y) w.views t v x
+        (λ l q. (good Owner).locked t l o) (λ ne. (good Owner).locked x) lx;
+    owned = λ x lx.
+        each_updated (λ y (u : View). y < c.tasks → w.words.umount ≡ suc y → owns u.phase ≡ 1) w.views t v x
+        (λ l q. o') (λ ne. (good Owner).owned x) lx;
+    known = (good Owner).known;
+    bit = omega (arith, is, remounts_owns v.phase, owns_le v.phase);
+    remounting = omega (arith, is, total_updated (λ (u : View). remounts u.phase) c.tasks t w.views v lt, only_remount o);
+  }
+
+  -- an event that leaves all words but `umount`, and the task's role at each mount
+  pub umount_law : (n : ℕ) (v : View) → OwnerHolds c.tasks n w.words.remount (λ x. (update w.views t v x).phase) → ViewFits c t v →
+      held_of v ≡ held_of (w.views t) → added_by v.events ≡ added_by (w.views t).events → taken_by v.events ≡ taken_by (w.views t).events →
+      ((y : ℕ) → role_of y v.phase ≡ role_of y (w.views t).phase) → ((i : ℕ) → closing i v.phase ≡ closing i (w.views t).phase) →
+      let next_world : World = record { words = record w.words { umount = n }; views = update w.views t v } in
+      GatesHold c next_world × (shown c next_world ≡ shown c w)
+  umount_law n v owner fits held added taken role close =
+      let ws : Words = record w.words { umount = n } in
+      let same : (y : ℕ) → at_mount y v ≡ at_mount y (w.views t) =
+      λ y. view_as (ap (λ (h : Holdings). h.mounts y) held) (ap (λ g. g y) added) (ap (λ g. g y) taken) (role y) in (
+        gates_after c w t lt good 0 ws v refl refl owner fits (λ y ne. (refl, refl, same y))
+            (λ lm. holds_as refl refl refl refl
+            (ap (update (λ x. at_mount 0 (w.views x)) t) (same 0) ∙ update_same (λ x. at_mount 0 (w.views x)) t) (good (AtMount 0) lm)),
+        shown_still c w t lt ws v refl refl refl refl refl refl refl close held,
+      )
+
+  pub flag_law : (m f : ℕ) (v : View) (r : Role) → m < c.mounts → IsSteady (w.views t).phase v.phase → ViewFits c t v →
+      held_of v ≡ held_of (w.views t) → added_by v.events ≡ added_by (w.views t).events → taken_by v.events ≡ taken_by (w.views t).events →
+      ((y : ℕ) → (y ≡ m → ⊥) → role_of y v.phase ≡ role_of y (w.views t).phase) → role_of m v.phase ≡ r →
+      MountHoldsAfter c w t m f (w.words.count m) (record (at_mount m (w.views t)) { role = r }) →
+      GatesHold c (record { words = record w.words { flags = update w.words.flags m f }; views = update w.views t v })
+  flag_law m f v r lm same fits held added taken off role own =
+      let at : (y : ℕ) (q : Role) → role_of y v.phase ≡ q → at_mount y v ≡ record (at_mount y (w.views t)) { role = q } =
+      λ y q is. view_as (ap (λ (h : Holdings). h.mounts y) held) (ap (λ g. g y) added) (ap (λ g. g y) taken) is in
+      gates_after c w t lt good m (record w.words { flags = update w.words.flags m f }) v refl refl (owner_same c w t lt good v same) fits
+      (λ y ne. (update_off w.words.flags m f y ne, refl, at y (role_of y (w.views t).phase) (off y ne)))
+      (λ l. holds_as (update_at w.words.flags m f) refl refl refl (ap (update (λ x. at_mount m (w.views x)) t) (at m r role)) own)
+
+module _ (c : Config) (w : World) (t : ℕ) (lt : t < c.tasks) (m f : ℕ) (v : View) where
+  -- the world after an event on the flags of a mount
+  abbrev pub flags_after : World
+  flags_after = record { words = record w.words { flags = update w.words.flags m f }; views = update w.views t v }
+
+  -- the shown model then, where READONLY is so and the task has the same accesses
+  pub flags_shown : (b : Bool) → IsSteady (w.views t).phase v.phase → (ro_bit f == 1) ≡ b →
+      held_of v ≡ held_of (w.views t) → shown c flags_after ≡ record (shown c w) { mount_ro = update (λ n. ro_bit (w.words.flags n) == 1) m b }
+  flags_shown b same h eh =
+      let ro : (λ n. ro_bit (update w.words.flags m f n) == 1) ≡ update (λ n. ro_bit (w.words.flags n) == 1) m b =
+      update_map (λ x. ro_bit x == 1) w.words.flags m f ∙ ap (update (λ n. ro_bit (w.words.flags n) == 1) m) h in
+      shown_held c w t lt (record w.words { flags = update w.words.flags m f }) v refl same.closing_same eh ∙
+      (λ j. record (shown c w) { mount_ro = ro j })
+
+  -- where READONLY stays
+  pub flags_show_same : IsSteady (w.views t).phase v.phase → ro_bit f ≡ ro_bit (w.words.flags m) →
+      held_of v ≡ held_of (w.views t) → shown c flags_after ≡ shown c w
+  flags_show_same same h eh =
+      flags_shown (ro_bit (w.words.flags m) == 1) same (ap (λ x. x == 1) h) eh ∙
+      (λ j. record (shown c w) { mount_ro = update_same (λ n. ro_bit (w.words.flags n) == 1) m j })

@@ -1,0 +1,12 @@
+pub mod Steps
+pub mod Stands
+pub mod Worlds
+pub mod Standing
+pub mod StandRoles
+pub mod Whole
+pub mod UpWrite
+pub mod DownWrite
+pub mod Runs
+pub mod Parts
+pub mod Counts
+pub mod Facts

@@ -1,0 +1,96 @@
+-- What each event of a freeze or a thaw is of each level: one of the level's own kinds of event, or one that leaves it.
+use Rattle.std.proofs.{Common.{refl, ℕ, ◌<◌, ◌≤◌, ◌≡◌, sym, ap, ◌∙◌, inl, subst, arith, inr, ◌+◌}, lemmas.Bool.Decides.eqb_tells}
+use Rattle.std.specs.Prelude.{Option, Some}
+use Rattle.finite_sums.{proofs.Totals.{update_at, update_same}, specs.Sums.{update, total}}
+use Rattle.cpu_words.specs.{Touches.{left, found_by}, Words.{Words, put, read}, declared.{events.Touch.Touch, names.WordName.WordName}}
+use Rattle.percpu_rwsem.specs.Writers.{down_write_after, up_write_after, down_write_next, up_write_next}
+use Rattle.percpu_rwsem.specs.declared.writers.{DownWrite.DownWrite, UpWrite.UpWrite}
+use Rattle.freeze_laws.specs.levels.{Events.SyncStep, Operations.{put_at, left_by}, Roles.{Out as IsApart, entered}}
+use Rattle.gate_world.specs.{Configs.IsWithin, Fits.{DownWriteFits, UpWriteFits}, LevelRuns.level_in, Levels.{inside, sync_role_of, is_frozen_whole}}
+use Rattle.gate_world.specs.{Roles.{Stand, stand_sync}, Rules.IsGood, Worlds.World, declared.{config.Config.Config, views.View.View}}
+use Rattle.gate_schedules.proofs.{frames.Frames.SameLevelWords, levels.DownWrite.{next_closing, down_write_event, closing_others, closing_there}}
+use Rattle.gate_schedules.proofs.levels.StandRoles.{SayBeside, touched_sync, put_inside, touched_block, touched_whole}
+use Rattle.gate_schedules.proofs.levels.Standing.{Stands, LevelsRun, closing_stand, opening_stand, left_world, stand_after_closing, stand_after_opening}
+use Rattle.gate_schedules.proofs.levels.{Steps.{level_stays, level_kept, level_moved}, UpWrite.{next_opening, up_write_event, opening_others, opening_there}}
+use Rattle.gate_schedules.proofs.levels.Worlds.{IsEventAt, section_kept}
+
+-- an event that leaves what the levels read of the words, and how its task stands with them, leaves each level
+pub levels_stay_runs : (c : Config) (w : World) (t : ℕ) → t < c.tasks → (ws : Words) (v : View) (s : Option Stand) →
+    SameLevelWords w.words ws → Stands (w.views t).phase s → Stands v.phase s → LevelsRun c w (left_world w t ws v)
+levels_stay_runs c w t lt ws v s words was now i one three =
+    level_stays c.tasks t lt (level_in w i) (level_in (left_world w t ws v) i)
+    (level_kept w t i ws v (ap (λ f. f i) words.sync_same) (ap (λ f. f i) words.block_same) words.whole_same words.section_same
+    (now.outside ∙ sym was.outside) (now.syncs i one three ∙ sym (was.syncs i one three)))
+
+put_level : (w : World) (i : ℕ) (name : WordName) (touch : Touch) → IsEventAt i name touch → (n : ℕ) →
+    put_at (level_in w i) name n ≡ level_in (record { words = put w.words name n; views = w.views }) i
+put_level w i (WordName.Sync j) touch e n =
+    λ q. record (level_in w i) { sync = (sym (update_at w.words.sync j n) ∙ ap (update w.words.sync j n) e) q }
+put_level w i (WordName.Block j) touch e n =
+    λ q. record (level_in w i) { block = (sym (update_at w.words.block j n) ∙ ap (update w.words.block j n) e) q }
+put_level w i (WordName.LevelCount j p) touch e n = refl
+put_level w i (WordName.Section u) touch e n = refl
+put_level w i name touch e n = absurd e
+
+module _ (c : Config) (w : World) (t : ℕ) (lt : t < c.tasks) (v : View) (s z : Option Stand) (was : Stands (w.views t).phase s)
+    (now : Stands v.phase z) (i : ℕ) (name : WordName) (touch : Touch) (is : IsEventAt i name touch) where
+  -- the words after an event of one level's words
+  abbrev words_touched : Words
+  words_touched = put w.words name (left touch (read w.words name))
+
+  -- what the level's own event leaves of it is the level then
+  own_level : 1 ≤ i → i ≤ 3 →
+      left_by (level_in w i) t (name, touch) (read w.words name) (stand_sync i z) ≡ level_in (left_world w t words_touched v) i
+  own_level one three =
+      let n : ℕ = left touch (read w.words name) in
+      let out : (put_at (level_in w i) name n).inside ≡ update (level_in w i).inside t (inside v.phase) =
+      put_inside (level_in w i) name n ∙
+      (sym (update_same (level_in w i).inside t) ∙ ap (update (level_in w i).inside t) (was.outside ∙ sym now.outside)) in
+      (λ q. record (left_by (level_in w i) t (name, touch) (read w.words name) (sym (now.syncs i one three) q)) { inside = out q }) ∙
+      ((λ q. record (put_level w i name touch is n q) {
+        inside = update (level_in w i).inside t (inside v.phase);
+        at = update (level_in w i).at t (sync_role_of i v.phase);
+      }) ∙ sym (level_moved w t i words_touched v))
+
+  -- another level is left, where what the task says of it is
+  other_level : (j : ℕ) → (j ≡ i → ⊥) → stand_sync j z ≡ stand_sync j s → 1 ≤ j → j ≤ 3 →
+      level_in (left_world w t words_touched v) j ≡ level_in w j
+  other_level j ne same one three =
+      level_kept w t j words_touched v (touched_sync w.words i j ne name touch is) (touched_block w.words i j ne name touch is)
+      (touched_whole w.words i name touch is) (section_kept w.words i name touch is) (now.outside ∙ sym was.outside)
+      (now.syncs j one three ∙ (same ∙ sym (was.syncs j one three)))
+
+  -- so it is an event of each level, where it is one of its own
+  pub levels_move_runs : SayBeside i s z → (1 ≤ i → i ≤ 3 → SyncStep c.tasks (level_in w i)
+      (left_by (level_in w i) t (name, touch) (read w.words name) (stand_sync i z))) → LevelsRun c w (left_world w t words_touched v)
+  levels_move_runs beside step j one three = elim (eqb_tells j i) [
+    | inl q ↦ subst (λ k. SyncStep c.tasks (level_in w k) (level_in (left_world w t words_touched v) k)) (sym q.1)
+        (subst (SyncStep c.tasks (level_in w i)) (own_level (omega (arith, one, q.1)) (omega (arith, three, q.1)))
+        (step (omega (arith, one, q.1)) (omega (arith, three, q.1))))
+    | inr q ↦ level_stays c.tasks t lt (level_in w j) (level_in (left_world w t words_touched v) j)
+        (other_level j q.1 (beside.syncs j one three q.1) one three)
+  ]
+
+pub down_write_runs : (c : Config) → IsWithin c → (w : World) → IsGood c w → (t : ℕ) → t < c.tasks → (d : DownWrite) (v : View) →
+    DownWriteFits c d → Stands (w.views t).phase (Some (closing_stand d)) →
+    Stands v.phase (stand_after_closing d.level
+    (down_write_after d d.step (found_by (down_write_next d d.step).1 (read w.words (down_write_next d d.step).0))).0) →
+    (sync_role_of d.level (w.views t).phase ≡ IsApart →
+    total c.tasks (λ x. entered (sync_role_of d.level (w.views x).phase)) + is_frozen_whole w.words ≡ 0) →
+    LevelsRun c w (left_world w t (put w.words (down_write_next d d.step).0
+    (left (down_write_next d d.step).1 (read w.words (down_write_next d d.step).0))) v)
+down_write_runs c lim w good t lt d v fits was now alone =
+    levels_move_runs c w t lt v (Some (closing_stand d)) (stand_after_closing d.level (next_closing c lim w good t lt d d.step)) was now
+    d.level (down_write_next d d.step).0 (down_write_next d d.step).1 (down_write_event d d.step)
+    (closing_others c lim w good t lt d d.step) (λ low high. closing_there c lim w good t lt d d.step fits was alone)
+
+pub up_write_runs : (c : Config) → IsWithin c → (w : World) → IsGood c w → (t : ℕ) → t < c.tasks → (u : UpWrite) (v : View) →
+    UpWriteFits u → Stands (w.views t).phase (Some (opening_stand u)) →
+    Stands v.phase (stand_after_opening u.level
+    (up_write_after u u.step (found_by (up_write_next u u.step).1 (read w.words (up_write_next u u.step).0))).0) →
+    LevelsRun c w (left_world w t (put w.words (up_write_next u u.step).0
+    (left (up_write_next u u.step).1 (read w.words (up_write_next u u.step).0))) v)
+up_write_runs c lim w good t lt u v fits was now =
+    levels_move_runs c w t lt v (Some (opening_stand u)) (stand_after_opening u.level (next_opening c lim w good t lt u u.step)) was now
+    u.level (up_write_next u u.step).0 (up_write_next u u.step).1 (up_write_event u u.step)
+    (opening_others c lim w good t lt u u.step fits) (opening_there c lim w good t lt u u.step fits was)

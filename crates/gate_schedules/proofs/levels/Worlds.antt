@@ -1,0 +1,258 @@
+-- One level of a world, as the laws of a level have it: what holds there, and what an event of a task leaves of it.
+use Rattle.std.proofs.{Common.{◌≡◌, ℕ, zero, suc, ◌-◌, ◌<◌, ◌≤◌, refl, sym, ap, ◌∙◌, subst, arith}, lemmas.Bool.{eq-eqb, ne_eqb}}
+use Rattle.std.specs.Prelude.{Option, Some, Bool, true, false, ◌==◌, ◌&&◌, if◌then◌else◌}
+use Rattle.finite_sums.{proofs.Totals.{total_le, update_map, update_same, update_at, update_off}, specs.Sums.{update, total}}
+use Rattle.cpu_words.specs.{Touches.{wrap_add, left}, Words.{Words, put, read}, declared.{events.Touch.Touch, names.WordName.WordName}}
+use Rattle.percpu_rwsem.specs.declared.{callbacks.CallbackStep.CallbackStep, readers.DownReadStep.DownReadStep}
+use Rattle.freeze_laws.proofs.levels.Whole.{events_keep, fast_finds_open as level_is_open}
+use Rattle.freeze_laws.specs.levels.Events.{SyncLevelHolds, SyncStep, TurnsSection}
+use Rattle.freeze_laws.specs.levels.Operations.{down_read_role, callback_role, down_read_inside, put_at, value_at, left_by}
+use Rattle.freeze_laws.specs.levels.Roles.{SyncRole, Out as IsApart, Fast, fast, closed}
+use Rattle.compounds.specs.declared.write_access.phases.WritePhase.{WritePhase}
+use Rattle.compounds.specs.declared.file_closes.phases.ClosePhase.{ClosePhase}
+use Rattle.gate_world.specs.{LevelRuns.level_in, Levels.{inside, sync_role_of}, Roles.{freeze_stand, sync_role_if, thaw_stand}, Rules.{Holds, IsGood}}
+use Rattle.gate_world.specs.{Rules.{SameWords, Sections, SyncAt}, Shown.{closing, is_passed, shown}, Worlds.World, declared.config.Config.Config}
+use Rattle.gate_world.specs.declared.{views.View.View, work.Phase.Phase}
+use Rattle.gate_schedules.proofs.{frames.Frames.left_alone, levels.Stands.{freeze_slow, stand_below, thaw_slow}}
+
+read_fast : (b : Bool) (s : DownReadStep) → fast (sync_role_if b (down_read_role s)) ≤ down_read_inside s
+read_fast true DownReadStep.EntersSection = omega arith
+read_fast true other = omega arith
+read_fast false s = omega arith
+
+-- a callback is never on the fast path
+callback_slow : (b : Bool) (s : CallbackStep) → fast (sync_role_if b (callback_role s)) ≡ 0
+callback_slow true (CallbackStep.Claims transition) = refl
+callback_slow true (CallbackStep.AwaitsSections grace) = refl
+callback_slow true (CallbackStep.CallsBack transition) = refl
+callback_slow false s = refl
+
+pub fast_in_section : (i : ℕ) (p : Option Phase) → fast (sync_role_of i p) ≤ inside p
+fast_in_section i (Some (Phase.DownReads r)) = read_fast (i == r.level) r.step
+fast_in_section i (Some (Phase.Callbacks b)) = omega (arith, callback_slow (i == b.level) b.step)
+fast_in_section i (Some (Phase.Writes (WritePhase.Takes m r))) = read_fast (i == r.level) r.step
+fast_in_section i (Some (Phase.Freezes x)) = omega (arith, freeze_slow i x.step)
+fast_in_section i (Some (Phase.Thaws x)) = omega (arith, thaw_slow i x.step)
+fast_in_section i (Some (Phase.Closes (ClosePhase.Enters f node r))) = read_fast (i == r.level) r.step
+fast_in_section i other = omega arith
+
+pub read_opens : (b : Bool) (s : DownReadStep) → closed (sync_role_if b (down_read_role s)) ≡ 0
+read_opens true DownReadStep.EntersSection = refl
+read_opens true other = refl
+read_opens false s = refl
+
+pub callback_opens : (b : Bool) (s : CallbackStep) → closed (sync_role_if b (callback_role s)) ≡ 0
+callback_opens true (CallbackStep.Claims transition) = refl
+callback_opens true (CallbackStep.AwaitsSections grace) = refl
+callback_opens true (CallbackStep.CallsBack transition) = refl
+callback_opens false s = refl
+
+pub closed_below : (i j : ℕ) (p : Option Phase) → 1 ≤ i → i ≤ j → closed (sync_role_of j p) ≤ closed (sync_role_of i p)
+closed_below i j (Some (Phase.DownReads r)) one le = omega (arith, read_opens (j == r.level) r.step)
+closed_below i j (Some (Phase.Callbacks b)) one le = omega (arith, callback_opens (j == b.level) b.step)
+closed_below i j (Some (Phase.Writes (WritePhase.Takes m r))) one le = omega (arith, read_opens (j == r.level) r.step)
+closed_below i j (Some (Phase.Freezes x)) one le = stand_below i j (freeze_stand x.step) le
+closed_below i j (Some (Phase.Thaws x)) one le = stand_below i j (thaw_stand x.step) le
+closed_below i j (Some (Phase.Closes (ClosePhase.Enters f node r))) one le = omega (arith, read_opens (j == r.level) r.step)
+closed_below i j other one le = omega arith
+
+pub sync_on : (i : ℕ) (r : SyncRole) → sync_role_if (i == i) r ≡ r
+sync_on i r = rw (eq-eqb i i refl)
+
+pub sync_off : (i j : ℕ) (r : SyncRole) → (i ≡ j → ⊥) → sync_role_if (i == j) r ≡ IsApart
+sync_off i j r ne = rw (ne_eqb i j ne)
+
+-- a word that the rcu_sync or the counts of this level read
+abbrev pub IsOfLevel : ℕ → WordName → Type 0
+IsOfLevel i (WordName.Sync j) = j ≡ i
+IsOfLevel i (WordName.Block j) = j ≡ i
+IsOfLevel i (WordName.LevelCount j p) = j ≡ i
+IsOfLevel i (WordName.Section u) = Unit {0}
+IsOfLevel i name = ⊥
+
+-- An event at this level that changes no section word: of its sync word, its `block` or its counts, or a load of a section word.
+abbrev pub IsEventAt : ℕ → WordName → Touch → Type 0
+IsEventAt i (WordName.Sync j) touch = j ≡ i
+IsEventAt i (WordName.Block j) touch = j ≡ i
+IsEventAt i (WordName.LevelCount j p) touch = j ≡ i
+IsEventAt i (WordName.Section u) Touch.Load = Unit {0}
+IsEventAt i name touch = ⊥
+
+pub event_word : (i : ℕ) (name : WordName) (touch : Touch) → IsEventAt i name touch → IsOfLevel i name
+event_word i (WordName.Sync j) touch e = e
+event_word i (WordName.Block j) touch e = e
+event_word i (WordName.LevelCount j p) touch e = e
+event_word i (WordName.Section u) touch e = tt
+event_word i name touch e = absurd e
+
+put_level : (w : World) (i : ℕ) (name : WordName) → IsOfLevel i name → (n : ℕ) →
+    put_at (level_in w i) name n ≡ level_in (record { words = put w.words name n; views = w.views }) i
+put_level w i (WordName.Sync j) e n = λ q. record (level_in w i) { sync = (sym (update_at w.words.sync j n) ∙ ap (update w.words.sync j n) e) q }
+put_level w i (WordName.Block j) e n =
+    λ q. record (level_in w i) { block = (sym (update_at w.words.block j n) ∙ ap (update w.words.block j n) e) q }
+put_level w i (WordName.LevelCount j p) e n = refl
+put_level w i (WordName.Section u) e n = refl
+put_level w i name e n = absurd e
+
+-- the level finds in its word what the world has there
+pub found_level : (w : World) (i : ℕ) (name : WordName) → IsOfLevel i name →
+    value_at (level_in w i) (read w.words name) name ≡ read w.words name
+found_level w i (WordName.Sync j) e = ap w.words.sync (sym e)
+found_level w i (WordName.Block j) e = ap w.words.block (sym e)
+found_level w i (WordName.LevelCount j p) e = refl
+found_level w i (WordName.Section u) e = refl
+found_level w i name e = absurd e
+
+-- such an event leaves the sections
+pub section_kept : (w : Words) (i : ℕ) (name : WordName) (touch : Touch) → IsEventAt i name touch →
+    (put w name (left touch (read w name))).section ≡ w.section
+section_kept w i (WordName.Sync j) touch e = refl
+section_kept w i (WordName.Block j) touch e = refl
+section_kept w i (WordName.LevelCount j p) touch e = refl
+section_kept w i (WordName.Section u) Touch.Load e = update_same w.section u
+section_kept w i name touch e = absurd e
+
+-- and what the rcu_sync of another level reads
+other_words : (w : Words) (i j : ℕ) → (j ≡ i → ⊥) → (name : WordName) (touch : Touch) → IsEventAt i name touch →
+    SameWords w (put w name (left touch (read w name))) (SyncAt j)
+other_words w i j ne (WordName.Sync k) touch e = (update_off w.sync k _ j (λ q. ne (q ∙ e)), refl, refl, refl)
+other_words w i j ne (WordName.Block k) touch e = (refl, update_off w.block k _ j (λ q. ne (q ∙ e)), refl, refl)
+other_words w i j ne (WordName.LevelCount k p) touch e = (refl, refl, refl, refl)
+other_words w i j ne (WordName.Section u) Touch.Load e = (refl, refl, update_same w.section u, refl)
+other_words w i j ne name touch e = absurd e
+
+passed_blocked : (c : Config) (w : World) (i : ℕ) → w.words.block i ≡ 0 → is_passed c w i ≡ 0
+passed_blocked c w i e = rw e refl
+
+passed_once : (b : Bool) → (if b then 1 else 0) ≤ 1
+passed_once true = omega arith
+passed_once false = omega arith
+
+module _ (c : Config) (w : World) (good : IsGood c w) where
+  pub level_right : (i : ℕ) → 1 ≤ i → i ≤ 3 → SyncLevelHolds c.tasks (level_in w i)
+  level_right i one three = record {
+    level = good (SyncAt i) one three;
+    sections = record { odd = good Sections; fast_inside = λ x lx. fast_in_section i (w.views x).phase };
+  }
+
+  pub block_below : (i j : ℕ) → 1 ≤ i → i ≤ j → j ≤ 3 → w.words.block j ≤ w.words.block i
+  block_below i j one le three =
+      let low = (level_right i one (omega arith)).level.holds.blocked in
+      let high = (level_right j (omega arith) three).level.holds.blocked in
+      omega (
+        arith,
+        low,
+        high,
+        total_le c.tasks (λ x. closed (sync_role_of j (w.views x).phase))
+            (λ x. closed (sync_role_of i (w.views x).phase)) (λ x lx. closed_below i j (w.views x).phase one le),
+      )
+
+  pub clear_above : (i j : ℕ) → 1 ≤ i → i ≤ j → j ≤ 3 → w.words.block i ≡ 0 → is_passed c w j ≡ 0
+  clear_above i j one le three e = passed_blocked c w j (omega (arith, block_below i j one le three, e))
+
+  counts_once : (i : ℕ) → is_passed c w i ≤ 1
+  counts_once i = passed_once (w.words.block i == 1 && total c.tasks (λ x. closing i (w.views x).phase) == 0)
+
+  pub not_passed : (i : ℕ) → 1 ≤ i → i ≤ 3 → w.words.block i ≡ 0 → (shown c w).passed < i
+  not_passed zero one three e = absurd (omega arith)
+  not_passed (suc zero) one three e =
+      let above : (j : ℕ) → 1 ≤ j → j ≤ 3 → is_passed c w j ≡ 0 = λ j le most. clear_above 1 j one le most e in
+      omega (arith, above 1 one three, above 2 (omega arith) (omega arith), above 3 (omega arith) (omega arith))
+  not_passed (suc (suc zero)) one three e =
+      let above : (j : ℕ) → 2 ≤ j → j ≤ 3 → is_passed c w j ≡ 0 = λ j le most. clear_above 2 j one le most e in
+      omega (arith, counts_once 1, above 2 (omega arith) three, above 3 (omega arith) (omega arith))
+  not_passed (suc (suc (suc zero))) one three e =
+      omega (arith, counts_once 1, counts_once 2, clear_above 3 3 one (omega arith) three e)
+  not_passed (suc (suc (suc (suc n)))) one three e = absurd (omega arith)
+
+  -- a task on the fast path of a level finds it open
+  pub fast_finds_open : (i : ℕ) → 1 ≤ i → i ≤ 3 → (t : ℕ) → t < c.tasks → sync_role_of i (w.views t).phase ≡ Fast →
+      w.words.block i ≡ 0
+  fast_finds_open i one three t lt here = (level_is_open c.tasks (level_in w i) (level_right i one three) t lt here).1
+
+  module _ (t : ℕ) (lt : t < c.tasks) where
+    -- the level of the world after an event of this task
+    pub level_moves : (ws : Words) (v : View) (i : ℕ) → level_in (record { words = ws; views = update w.views t v }) i ≡
+        record (level_in (record { words = ws; views = w.views }) i) {
+          inside = update (level_in w i).inside t (inside v.phase);
+          at = update (level_in w i).at t (sync_role_of i v.phase);
+        }
+    level_moves ws v i = λ q. record (level_in (record { words = ws; views = w.views }) i) {
+      inside = update_map (λ (u : View). inside u.phase) w.views t v q;
+      at = update_map (λ (u : View). sync_role_of i u.phase) w.views t v q;
+    }
+
+    -- an event of a level leaves what holds there
+    pub level_steps : (ws : Words) (v : View) (i : ℕ) → 1 ≤ i → i ≤ 3 →
+        SyncStep c.tasks (level_in w i) (level_in (record { words = ws; views = update w.views t v }) i) →
+        SyncLevelHolds c.tasks (level_in (record { words = ws; views = update w.views t v }) i)
+    level_steps ws v i one three s = events_keep c.tasks (level_in w i) _ (level_right i one three) s
+
+    -- the words after an addition to the task's own section word
+    abbrev pub turned_words : Words
+    turned_words = record w.words { section = update w.words.section t (wrap_add (w.words.section t) 1) }
+
+    module _ (v : View) (slow : (i : ℕ) → fast (sync_role_of i (w.views t).phase) ≡ 0)
+        (still : (i : ℕ) → sync_role_of i v.phase ≡ sync_role_of i (w.views t).phase)
+        (turns : inside v.phase ≡ 1 - inside (w.views t).phase) where
+      -- such an addition is an event of each level
+      turns_level : (i : ℕ) → SyncStep c.tasks (level_in w i) (level_in (record { words = turned_words; views = update w.views t v }) i)
+      turns_level i = record {
+        task = t;
+        there = lt;
+        kind = TurnsSection;
+        happens = (
+          slow i,
+          level_moves turned_words v i ∙
+              (λ q. record (level_in (record { words = turned_words; views = w.views }) i) {
+                inside = update (level_in w i).inside t (turns q);
+                at = (ap (update (level_in w i).at t) (still i) ∙ update_same (level_in w i).at t) q;
+              }),
+        );
+      }
+
+      -- so it leaves the rcu_sync of each level
+      pub sync_turned : (i : ℕ) → Holds c (record { words = turned_words; views = update w.views t v }) (SyncAt i)
+      sync_turned i one three = (level_steps turned_words v i one three (turns_level i)).level
+
+      pub sections_turned : Holds c (record { words = turned_words; views = update w.views t v }) Sections
+      sections_turned = (level_steps turned_words v 1 (omega arith) (omega arith) (turns_level 1)).sections.odd
+
+    -- what an event of a level leaves, where it is one of this task on a word of the level
+    pub level_there : (i : ℕ) (name : WordName) (touch : Touch) → IsOfLevel i name → (v : View) → 1 ≤ i → i ≤ 3 →
+        SyncStep c.tasks (level_in w i)
+        (record (left_by (level_in w i) t (name, touch) (read w.words name) (sync_role_of i v.phase)) {
+          inside = update (level_in w i).inside t (inside v.phase);
+        }) →
+        SyncLevelHolds c.tasks
+        (level_in (record { words = put w.words name (left touch (read w.words name)); views = update w.views t v }) i)
+    level_there i name touch is v one three s =
+        let n : ℕ = left touch (read w.words name) in
+        level_steps (put w.words name n) v i one three (subst (SyncStep c.tasks (level_in w i))
+        ((λ q. record (put_level w i name is n q) {
+          inside = update (level_in w i).inside t (inside v.phase);
+          at = update (level_in w i).at t (sync_role_of i v.phase);
+        }) ∙ sym (level_moves (put w.words name n) v i)) s)
+
+    module _ (i : ℕ) (name : WordName) (touch : Touch) (is : IsEventAt i name touch) (v : View) where
+      -- the world after an event at this level
+      abbrev pub touched : World
+      touched = record { words = put w.words name (left touch (read w.words name)); views = update w.views t v }
+
+      -- where it is an event of the level, it leaves what holds there
+      pub sync_there :
+          (1 ≤ i → i ≤ 3 → SyncStep c.tasks (level_in w i)
+          (record (left_by (level_in w i) t (name, touch) (read w.words name) (sync_role_of i v.phase)) {
+            inside = update (level_in w i).inside t (inside v.phase);
+          })) → Holds c touched (SyncAt i)
+      sync_there s one three = (level_there i name touch (event_word i name touch is) v one three (s one three)).level
+
+      -- the other levels are left alone
+      pub sync_elsewhere : (j : ℕ) → (j ≡ i → ⊥) → sync_role_of j v.phase ≡ sync_role_of j (w.views t).phase →
+          Holds c touched (SyncAt j)
+      sync_elsewhere j ne same =
+          left_alone c w t lt (SyncAt j) touched.words v (other_words w.words i j ne name touch is) same (good (SyncAt j))
+
+      pub sections_stay : inside v.phase ≡ inside (w.views t).phase → Holds c touched Sections
+      sections_stay same =
+          left_alone c w t lt Sections touched.words v (section_kept w.words i name touch is) same (good Sections)

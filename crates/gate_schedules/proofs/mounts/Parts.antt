@@ -1,0 +1,261 @@
+-- What the events of want, drop and change touch: the rest of the rule stays.
+use Rattle.std.proofs.{Common.{Bool, arith, inl, inr, refl, sym, true, true≢false, ◌≡◌, ◌<◌, ◌⊎◌, subst, ℕ, ◌∙◌, ap, List}, lemmas.Bool.{cases_Bool, or_cases}}
+use Rattle.std.specs.Prelude.{Some, false, sum, ◌==◌, if◌then◌else◌}
+use Rattle.access_model.specs.{Histories.{levels_of, opens_of}, Replies.map_next, declared.{actions.Action.Action, replies.Next.Next}}
+use Rattle.cpu_words.specs.{Hooks.HookAnswer, Touches.{event_of, found_by, left}, Words.{Words, put, read}}
+use Rattle.cpu_words.specs.declared.{events.Touch.Touch, names.WordName.WordName}
+use Rattle.mount_counts.specs.Phases.{change_after, change_next, lock_failed, want_after, want_next, next, after}
+use Rattle.mount_counts.specs.declared.phases.{Change.Change, ChangeStep.ChangeStep, MountPhase.MountPhase, Want.Want, WantStep.WantStep}
+use Rattle.gate_world.specs.{Found.is_load, Levels.{at_level, level_added_after, level_taken_after, level_added_by, level_taken_by}, Owners.is_owned}
+use Rattle.gate_world.specs.{Alike.{Roles, no_roles, roles_of}, Owners.takes_lock, Roles.change_owns, Rules.{AtMount, Holds, IsGood, Known, Owner, Part}}
+use Rattle.gate_world.specs.Rules.{SameView}
+use Rattle.gate_world.specs.Rules.{SameWords, Stages, Holding, StepKeeps, at_gates, owns, GateStepKeeps, Tree, AtLevel, SyncAt, Sections, Files}
+use Rattle.gate_world.specs.{Trees.tree_role_of, Views.{phase_after, view_after, actions_after, has_open}, Worlds.{World, after_step, found_at, value_at}}
+use Rattle.gate_world.specs.{Worlds.words_after, declared.{config.Config.Config, views.View.View, work.Phase.Phase}}
+use Rattle.gate_schedules.proofs.frames.{Frames.{unwritten, left_alone, level_view_as}, Known.{IsOwnersWork, known_after}, Words.load_same}
+
+-- the words that want, drop and change write
+abbrev pub is_gate_word : WordName → Bool
+is_gate_word WordName.Umount = true
+is_gate_word (WordName.MountFlags m) = true
+is_gate_word (WordName.MountCount m p) = true
+is_gate_word word = false
+
+-- the event of this touch on this word is a load, or it is a word of these
+abbrev pub IsGateTouch : WordName × Touch → Type 0
+IsGateTouch x = (is_load x.1 ≡ true) ⊎ (is_gate_word x.0 ≡ true)
+
+want_touches : (x : Want) (s : WantStep) → IsGateTouch (want_next x s)
+want_touches x WantStep.CountsUp = inr refl
+want_touches x (WantStep.CountsDown refusal) = inr refl
+want_touches x s = inl refl
+
+change_touches : (x : Change) (s : ChangeStep) → IsGateTouch (change_next x s)
+change_touches x ChangeStep.Locks = inr refl
+change_touches x ChangeStep.LoadsSuperblock = inl refl
+change_touches x (ChangeStep.Sums sum) = inl refl
+change_touches x s = inr refl
+
+mounts_touch : (x : MountPhase) (hook : HookAnswer) → IsGateTouch (next x hook)
+mounts_touch (MountPhase.Want x) hook = want_touches x x.step
+mounts_touch (MountPhase.Change x) hook = change_touches x x.step
+mounts_touch x hook = or_cases _ _ refl
+
+-- the part of what an owner knows, which each event's own trace moves
+abbrev pub is_known_part : Part → Bool
+is_known_part Known = true
+is_known_part part = false
+
+pub known_is : (part : Part) → is_known_part part ≡ true → part ≡ Known
+known_is Known h = refl
+known_is part h = absurd (true≢false (sym h))
+
+-- the words but for these
+abbrev pub off_gates : Words → Words
+off_gates w = record w { umount = 0; flags = λ m. 0; count = λ m p. 0 }
+
+gate_written : (w : Words) (word : WordName) (n : ℕ) → is_gate_word word ≡ true → off_gates (put w word n) ≡ off_gates w
+gate_written w WordName.Umount n q = refl
+gate_written w (WordName.MountFlags m) n q = refl
+gate_written w (WordName.MountCount m p) n q = refl
+gate_written w word n q = absurd (true≢false (sym q))
+
+-- a load leaves all words
+pub load_left : (w : Words) (word : WordName) (touch : Touch) → is_load touch ≡ true → put w word (left touch (read w word)) ≡ w
+load_left w word Touch.Load h = load_same w word
+load_left w word touch h = absurd (true≢false (sym h))
+
+-- so they are as they were
+gate_words_left : (w : Words) (x : WordName × Touch) → IsGateTouch x → off_gates (put w x.0 (left x.1 (read w x.0))) ≡ off_gates w
+gate_words_left w x touches = elim touches [
+  | inl h ↦ ap off_gates (load_left w x.0 x.1 h)
+  | inr h ↦ gate_written w x.0 (left x.1 (read w x.0)) h
+]
+
+-- and the parts of the stage, the holders, the tree, the files and the levels read none of these
+unread : (part : Part) → at_gates part ≡ false → is_known_part part ≡ false → (old new : Words) → off_gates new ≡ off_gates old →
+    SameWords old new part
+unread Owner h k old new same = absurd (true≢false h)
+unread (AtMount m) h k old new same = absurd (true≢false h)
+unread Known h k old new same = absurd (true≢false k)
+unread part h k old new same = unwritten same part
+
+-- these roles but for those of want, drop and change
+abbrev pub off_mounts : Roles → Roles
+off_mounts r = record r { mount = no_roles.mount; owns = 0 }
+
+-- so what the parts that an event of one doesn't touch read of its task's view is the same
+record IsUnseen (old new : View) : Type 0 where
+  roles_same : off_mounts (roles_of new.phase) ≡ off_mounts (roles_of old.phase)
+  tree_same : tree_role_of new.trace new.phase ≡ tree_role_of old.trace old.phase
+  level_same : (i : ℕ) → at_level i new ≡ at_level i old
+  open_same : has_open new ≡ has_open old
+
+unseen : (part : Part) → at_gates part ≡ false → is_known_part part ≡ false → (old new : View) → IsUnseen old new → SameView old new part
+unseen Stages h k old new same = λ j. (same.roles_same j).stage
+unseen Holding h k old new same = λ j. (same.roles_same j).holder
+unseen Known h k old new same = absurd (true≢false k)
+unseen Tree h k old new same = same.tree_same
+unseen Files h k old new same = (same.open_same, λ j. (same.roles_same j).file)
+unseen (AtLevel i) h k old new same = same.level_same i
+unseen (SyncAt i) h k old new same = λ j. (same.roles_same j).sync i
+unseen Sections h k old new same = λ j. (same.roles_same j).inside
+unseen part h k old new same = absurd (true≢false h)
+
+-- an event on a word of want, drop and change counts at no level
+level_added_gate : (word : WordName) → is_gate_word word ≡ true → (touch : Touch) (added : ℕ → ℕ → ℕ) →
+    level_added_after word touch added ≡ added
+level_added_gate (WordName.LevelCount i p) q touch added = absurd (true≢false (sym q))
+level_added_gate word q touch added = refl
+
+level_taken_gate : (word : WordName) → is_gate_word word ≡ true → (touch : Touch) (taken : ℕ → ℕ → ℕ) →
+    level_taken_after word touch taken ≡ taken
+level_taken_gate (WordName.LevelCount i p) q touch taken = absurd (true≢false (sym q))
+level_taken_gate word q touch taken = refl
+
+pub level_added_load : (word : WordName) (touch : Touch) (added : ℕ → ℕ → ℕ) → is_load touch ≡ true →
+    level_added_after word touch added ≡ added
+level_added_load WordName.Umount Touch.Load added h = refl
+level_added_load word Touch.Load added h = refl
+level_added_load word touch added h = absurd (true≢false (sym h))
+
+pub level_taken_load : (word : WordName) (touch : Touch) (taken : ℕ → ℕ → ℕ) → is_load touch ≡ true →
+    level_taken_after word touch taken ≡ taken
+level_taken_load WordName.Umount Touch.Load taken h = refl
+level_taken_load word Touch.Load taken h = refl
+level_taken_load word touch taken h = absurd (true≢false (sym h))
+
+-- want, drop and change have no role but at mounts, and own `umount` or not
+pub mounts_roles : (next : Next MountPhase) → off_mounts (roles_of (phase_after (map_next Phase.Mounts next))) ≡ no_roles
+mounts_roles (Next.Go x) = refl
+mounts_roles other = refl
+
+want_owns : (next : Next Want) → owns (phase_after (map_next Phase.Mounts (map_next MountPhase.Want next))) ≡ 0
+want_owns (Next.Go x) = refl
+want_owns other = refl
+
+failed_owns : (x : Change) (wait : Bool) → owns (phase_after (map_next Phase.Mounts (map_next MountPhase.Change (lock_failed x wait)))) ≡ 0
+failed_owns x true = refl
+failed_owns x false = refl
+
+-- a change comes to own `umount` by taking it
+change_comes : (x : Change) (s : ChangeStep) (value : ℕ) →
+    owns (phase_after (map_next Phase.Mounts (map_next MountPhase.Change (change_after x s (found_by (change_next x s).1 value)).0))) ≡ 1 →
+    (change_owns s ≡ 1) ⊎ (takes_lock (event_of (change_next x s).0 (change_next x s).1 value) ≡ true)
+change_comes x ChangeStep.Locks value h =
+    elim (cases_Bool (value == 0)) [
+      | inl f ↦ inr f
+      | inr f ↦ absurd (omega (arith, failed_owns x x.wait, rw f at h))
+    ]
+change_comes x s value h = inl refl
+
+-- it changes an owned word only as the owner
+change_changes : (x : Change) (s : ChangeStep) → is_owned (change_next x s).0 ≡ true →
+    (is_load (change_next x s).1 ≡ true) ⊎ (change_owns s ≡ 1)
+change_changes x ChangeStep.Locks h = absurd (true≢false (sym h))
+change_changes x s h = inr refl
+
+-- a want changes no owned word
+want_changes : (x : Want) (s : WantStep) → is_owned (want_next x s).0 ≡ true → (is_load (want_next x s).1 ≡ true)
+want_changes x WantStep.CountsUp h = absurd (true≢false (sym h))
+want_changes x (WantStep.CountsDown refusal) h = absurd (true≢false (sym h))
+want_changes x s h = refl
+
+-- so owned words change only under `umount`
+mounts_work : (w : World) (x : MountPhase) (hook : HookAnswer) → IsOwnersWork w (Phase.Mounts x) hook
+mounts_work w (MountPhase.Want x) hook = record {
+  changes = λ h. inl (want_changes x x.step h);
+  comes_to_own = λ h. absurd (omega (arith, want_owns (want_after x x.step (found_at w.words (Phase.Mounts (MountPhase.Want x)) hook)).0, h));
+}
+mounts_work w (MountPhase.Change x) hook = record {
+  changes = change_changes x x.step;
+  comes_to_own = change_comes x x.step (value_at w.words (Phase.Mounts (MountPhase.Change x)) hook);
+}
+mounts_work w x hook = record { changes = λ h. inl (cc); comes_to_own = λ h. absurd (omega (arith, h)) }
+
+-- they add no action at a level
+want_levels : (x : Want) (s : WantStep) (found : ℕ) (actions : List Action) →
+    levels_of (actions_after (want_after x s found).1 actions) ≡ levels_of actions
+want_levels x WantStep.LoadsSuperblock found actions = elim (cases_Bool (found == 0)) [ inl h ↦ rw h refl | inr h ↦ rw h refl ]
+want_levels x s found actions = refl
+
+change_levels : (x : Change) (s : ChangeStep) (found : ℕ) (actions : List Action) →
+    levels_of (actions_after (change_after x s found).1 actions) ≡ levels_of actions
+change_levels x ChangeStep.Locks found actions = refl
+change_levels x s found actions = refl
+
+mounts_levels : (x : MountPhase) (found : ℕ) (hook : HookAnswer) (actions : List Action) →
+    levels_of (actions_after (after x found hook).1 actions) ≡ levels_of actions
+mounts_levels (MountPhase.Want x) found hook actions = want_levels x x.step found actions
+mounts_levels (MountPhase.Change x) found hook actions = change_levels x x.step found actions
+mounts_levels x found hook actions = refl
+
+-- nor of a file
+want_opens : (x : Want) (s : WantStep) (found : ℕ) (actions : List Action) →
+    opens_of (actions_after (want_after x s found).1 actions) ≡ opens_of actions
+want_opens x WantStep.LoadsSuperblock found actions = elim (cases_Bool (found == 0)) [ inl h ↦ rw h refl | inr h ↦ rw h refl ]
+want_opens x s found actions = refl
+
+change_opens : (x : Change) (s : ChangeStep) (found : ℕ) (actions : List Action) →
+    opens_of (actions_after (change_after x s found).1 actions) ≡ opens_of actions
+change_opens x ChangeStep.Locks found actions = refl
+change_opens x s found actions = refl
+
+mounts_opens : (x : MountPhase) (found : ℕ) (hook : HookAnswer) (actions : List Action) →
+    opens_of (actions_after (after x found hook).1 actions) ≡ opens_of actions
+mounts_opens (MountPhase.Want x) found hook actions = want_opens x x.step found actions
+mounts_opens (MountPhase.Change x) found hook actions = change_opens x x.step found actions
+mounts_opens x found hook actions = refl
+
+-- so their events are unseen at the levels
+mounts_unseen : (v : View) (x : MountPhase) (value : ℕ) (hook : HookAnswer) → v.phase ≡ Some (Phase.Mounts x) →
+    IsUnseen v (view_after v (Phase.Mounts x) value hook)
+mounts_unseen v x value hook e =
+    let found : ℕ = found_by (next x hook).1 value in
+    let here : off_mounts (roles_of v.phase) ≡ no_roles = ap (λ p. off_mounts (roles_of p)) e in
+    let there : off_mounts (roles_of (phase_after (map_next Phase.Mounts (after x found hook).0))) ≡ no_roles = mounts_roles (after x found hook).0 in
+    let added : level_added_after (next x hook).0 (next x hook).1 (level_added_by v.events) ≡ level_added_by v.events =
+    elim (mounts_touch x hook) [
+      | inl h ↦ level_added_load (next x hook).0 (next x hook).1 (level_added_by v.events) h
+      | inr h ↦ level_added_gate (next x hook).0 h (next x hook).1 (level_added_by v.events)
+    ] in
+    let taken : level_taken_after (next x hook).0 (next x hook).1 (level_taken_by v.events) ≡ level_taken_by v.events =
+    elim (mounts_touch x hook) [
+      | inl h ↦ level_taken_load (next x hook).0 (next x hook).1 (level_taken_by v.events) h
+      | inr h ↦ level_taken_gate (next x hook).0 h (next x hook).1 (level_taken_by v.events)
+    ] in
+    record {
+      roles_same = there ∙ sym here;
+      tree_same = (λ j. (there j).tree (view_after v (Phase.Mounts x) value hook).trace) ∙ sym (λ j. (here j).tree v.trace);
+      level_same = λ i. level_view_as
+          (ap (λ (f : ℕ → Bool). if f i then 1 else 0) (mounts_levels x found hook v.actions))
+          (ap (λ f. f i) added) (ap (λ f. f i) taken) ((λ j. (there j).count i) ∙ sym (λ j. (here j).count i));
+      open_same = mounts_opens x found hook v.actions;
+    }
+
+-- what an event of want, drop or change leaves of the other parts
+others_hold : (c : Config) (w : World) (t : ℕ) → t < c.tasks → IsGood c w → (hook : HookAnswer) (x : MountPhase) →
+    (w.views t).phase ≡ Some (Phase.Mounts x) →
+    (part : Part) → at_gates part ≡ false → (b : Bool) → is_known_part part ≡ b → Holds c (after_step w t (Phase.Mounts x) hook) part
+others_hold c w t lt good hook x e part h true k =
+    subst (Holds c (after_step w t (Phase.Mounts x) hook)) (sym (known_is part k))
+    (known_after c w t (Phase.Mounts x) hook good lt e (mounts_work w x hook))
+others_hold c w t lt good hook x e part h false k =
+    left_alone c w t lt part (words_after w.words (Phase.Mounts x) hook)
+    (view_after (w.views t) (Phase.Mounts x) (value_at w.words (Phase.Mounts x) hook) hook)
+    (unread part h k w.words (words_after w.words (Phase.Mounts x) hook) (gate_words_left w.words (next x hook) (mounts_touch x hook)))
+    (unseen part h k (w.views t) (view_after (w.views t) (Phase.Mounts x) (value_at w.words (Phase.Mounts x) hook) hook)
+    (mounts_unseen (w.views t) x (value_at w.words (Phase.Mounts x) hook) hook e)) (good part)
+
+-- so an event of want, drop or change keeps the rule where it keeps the parts that it may touch
+pub whole_step : (c : Config) (w : World) (t : ℕ) → t < c.tasks → IsGood c w → (hook : HookAnswer) (x : MountPhase) →
+    (w.views t).phase ≡ Some (Phase.Mounts x) →
+    GateStepKeeps c w t hook (Phase.Mounts x) → StepKeeps c w t hook (Phase.Mounts x)
+whole_step c w t lt good hook x e keeps = (
+  λ part.
+      elim (cases_Bool (at_gates part)) [
+        | inl h ↦ keeps.0 part h
+        | inr h ↦ others_hold c w t lt good hook x e part h (is_known_part part) refl
+      ],
+  keeps.1,
+)

@@ -1,0 +1,123 @@
+-- A want whose mount is not held, a drop, and a change that finds `umount` free run out.
+use Rattle.std.proofs.{Common.{◌≡◌, ℕ, ◌+◌, ◌≤◌, Bool, true, false, refl, ap, ◌∙◌, inl, inr, arith}, lemmas.Bool.{cases_Bool, ltb-true, Decides.eqb_tells}}
+use Rattle.std.specs.Prelude.{◌%◌, ◌==◌, not, nat_lt}
+use Rattle.finite_sums.proofs.Totals.{update_same}
+use Rattle.access_model.specs.Replies.{map_next}
+use Rattle.cpu_words.specs.{Touches.{left, found_by}, Words.{Words, read, put}, declared.sums.{Sum.Sum, Taken.Taken}}
+use Rattle.mount_counts.specs.Phases.{has_flag, want_next, want_after, change_next, change_after, step_between, step_summed, lock_failed}
+use Rattle.mount_counts.specs.declared.phases.{Change.Change, ChangeStep.ChangeStep, MountPhase.MountPhase, Want.Want, WantStep.WantStep}
+use Rattle.gate_world.specs.{Worlds.{words_after, found_at}, declared.{config.Config.Config, work.Phase.Phase}}
+use Rattle.gate_schedules.proofs.operations.deadlocks.Falls.{falls_as}
+use Rattle.gate_schedules.specs.operations.{Ranks.{rank, mount_rank, want_rank, change_rank}, Ways.{IsFree, MountIsFree, HoldIsClear, ChangeIsFree, Falls, PhaseEnds}}
+
+module _ (w : Words) (x : Want) where
+  pub want_flags : (s : WantStep) →
+      (put w (want_next x s).0 (left (want_next x s).1 (read w (want_next x s).0))).flags x.mount ≡ w.flags x.mount
+  want_flags WantStep.LoadsHold = ap (λ f. f x.mount) (update_same w.flags x.mount)
+  want_flags WantStep.LoadsReadOnly = ap (λ f. f x.mount) (update_same w.flags x.mount)
+  want_flags other = refl
+
+  -- each event of a want: with these words after it, that leave the mount free
+  pub want_falls : (after : Words) → HoldIsClear after x.mount → HoldIsClear w x.mount → (s : WantStep) →
+      Falls (λ (y : Want). want_rank y.step) (λ (y : Want). HoldIsClear after y.mount) (want_rank s)
+      (want_after x s (found_by (want_next x s).1 (read w (want_next x s).0))).0
+  want_falls after stays clear WantStep.CountsUp = (omega arith, stays)
+  want_falls after stays clear WantStep.LoadsHold = rw clear (omega arith, stays)
+  want_falls after stays clear WantStep.LoadsRemount =
+      elim (eqb_tells w.remount 0) [ inl h ↦ rw h.0 (omega arith, stays) | inr h ↦ rw h.0 (omega arith, stays) ]
+  want_falls after stays clear WantStep.LoadsReadOnly =
+      elim (cases_Bool (has_flag (w.flags x.mount) 1)) [ inl h ↦ rw h (omega arith, stays) | inr h ↦ rw h (omega arith, stays) ]
+  want_falls after stays clear WantStep.LoadsSuperblock =
+      elim (eqb_tells w.sb 0) [ inl h ↦ rw h.0 tt | inr h ↦ rw h.0 (omega arith, stays) ]
+  want_falls after stays clear (WantStep.CountsDown refusal) = tt
+
+between_rank : (p : ℕ) (a b : Bool) → change_rank p (step_between a b) ≤ p + 4
+between_rank p true true = omega arith
+between_rank p true false = omega arith
+between_rank p false true = omega arith
+between_rank p false false = omega arith
+
+between_free : (w : Words) (wait a b : Bool) → ChangeIsFree w (step_between a b) wait
+between_free w wait true true = tt
+between_free w wait true false = tt
+between_free w wait false true = tt
+between_free w wait false false = tt
+
+total_rank : (p total : ℕ) → change_rank p (step_summed (Taken.Total total)) ≤ 2
+total_rank p total = elim (eqb_tells total 0) [ inl h ↦ rw h.0 (omega arith) | inr h ↦ rw h.0 (omega arith) ]
+
+total_free : (w : Words) (wait : Bool) (total : ℕ) → ChangeIsFree w (step_summed (Taken.Total total)) wait
+total_free w wait total = elim (eqb_tells total 0) [ inl h ↦ rw h.0 tt | inr h ↦ rw h.0 tt ]
+
+module _ (w : Words) (x : Change) where
+  -- a sum of a change takes one word more
+  taking_falls : (after : Words) (sum : Sum) (found : ℕ) →
+      Falls (λ (y : Change). change_rank y.processors y.step) (λ (y : Change). ChangeIsFree after y.step y.wait)
+      (change_rank x.processors (ChangeStep.Sums sum)) (change_after x (ChangeStep.Sums sum) found).0
+  taking_falls after sum found =
+      elim (cases_Bool (nat_lt (sum.words + 1) x.processors)) [
+        | inl h ↦ rw h (omega (arith, ltb-true (sum.words + 1) x.processors h), tt)
+        | inr h ↦ rw h (
+          omega (arith, total_rank x.processors ((sum.total + found) % 18446744073709551616)),
+          total_free after x.wait
+              ((sum.total + found) % 18446744073709551616),
+        )
+      ]
+
+  -- a change that doesn't wait ends where `umount` was taken
+  locked_falls : (after : Words) → (x.wait ≡ true → ⊥) → (b : Bool) → x.wait ≡ b →
+      Falls (λ (y : Change). change_rank y.processors y.step) (λ (y : Change). ChangeIsFree after y.step y.wait)
+      (change_rank x.processors ChangeStep.Locks) (lock_failed x b)
+  locked_falls after never true e = absurd (never e)
+  locked_falls after never false e = tt
+
+  -- each event of a change
+  change_falls : (after : Words) (s : ChangeStep) → ChangeIsFree w s x.wait →
+      Falls (λ (y : Change). change_rank y.processors y.step) (λ (y : Change). ChangeIsFree after y.step y.wait) (change_rank x.processors s)
+      (change_after x s (found_by (change_next x s).1 (read w (change_next x s).0))).0
+  change_falls after ChangeStep.Locks free =
+      elim (eqb_tells w.umount 0) [
+        | inl h ↦ rw h.0 (omega arith, tt)
+        | inr h ↦ rw h.0 (locked_falls after (λ e. h.1 (free e)) x.wait refl)
+      ]
+  change_falls after ChangeStep.LoadsFlags free =
+      elim (cases_Bool (has_flag (w.flags x.mount) 1)) [
+        | inl h ↦ rw h (omega (arith, between_rank x.processors x.read_only true), between_free after x.wait x.read_only true)
+        | inr h ↦ rw h (omega arith, tt)
+      ]
+  change_falls after ChangeStep.LoadsSuperblock free = (
+    omega (arith, between_rank x.processors x.read_only (not (w.sb == 0))),
+    between_free after x.wait x.read_only (not (w.sb == 0)),
+  )
+  change_falls after ChangeStep.ClearsReadOnly free = (omega arith, tt)
+  change_falls after ChangeStep.SetsHold free = (omega arith, tt)
+  change_falls after (ChangeStep.Sums sum) free = taking_falls after sum (w.count x.mount sum.words)
+  change_falls after ChangeStep.SetsReadOnly free = (omega arith, tt)
+  change_falls after (ChangeStep.ClearsHold answer) free = (omega arith, tt)
+  change_falls after (ChangeStep.Releases answer) free = tt
+
+pub want_ends : (c : Config) (x : Want) → PhaseEnds c (Phase.Mounts (MountPhase.Want x))
+want_ends c x = record {
+  falls = λ lim w good t lt hook at clear.
+      let after : Words = words_after w.words (Phase.Mounts (MountPhase.Want x)) hook in
+      let stays : HoldIsClear after x.mount = ap (λ f. has_flag f 2) (want_flags w.words x x.step) ∙ clear in
+      falls_as Phase.Mounts (rank after) (IsFree c after) (want_rank x.step)
+      (map_next MountPhase.Want (want_after x x.step (found_at w.words (Phase.Mounts (MountPhase.Want x)) hook)).0)
+      (falls_as MountPhase.Want mount_rank (MountIsFree after) (want_rank x.step)
+      (want_after x x.step (found_at w.words (Phase.Mounts (MountPhase.Want x)) hook)).0
+      (want_falls w.words x after stays clear x.step));
+}
+
+pub drop_ends : (c : Config) (m p : ℕ) → PhaseEnds c (Phase.Mounts (MountPhase.Drop m p))
+drop_ends c m p = record { falls = λ lim w good t lt hook at free. tt }
+
+pub change_ends : (c : Config) (x : Change) → PhaseEnds c (Phase.Mounts (MountPhase.Change x))
+change_ends c x = record {
+  falls = λ lim w good t lt hook at free.
+      let after : Words = words_after w.words (Phase.Mounts (MountPhase.Change x)) hook in
+      falls_as Phase.Mounts (rank after) (IsFree c after) (change_rank x.processors x.step)
+      (map_next MountPhase.Change (change_after x x.step (found_at w.words (Phase.Mounts (MountPhase.Change x)) hook)).0)
+      (falls_as MountPhase.Change mount_rank (MountIsFree after) (change_rank x.processors x.step)
+      (change_after x x.step (found_at w.words (Phase.Mounts (MountPhase.Change x)) hook)).0
+      (change_falls w.words x after x.step free));
+}

@@ -1,0 +1,4 @@
+pub mod Events
+pub mod Trace
+pub mod Progress
+pub mod Laws

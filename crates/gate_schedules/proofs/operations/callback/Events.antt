@@ -1,0 +1,322 @@
+-- Events of a callback: each keeps the rule, and leaves the shown model.
+use Rattle.access_model.specs.Histories.{levels_of, mounts_of, opens_of}
+use Rattle.access_model.specs.Replies.{map_next}
+use Rattle.access_model.specs.declared.replies.Next.{Next}
+use Rattle.cpu_words.specs.Hooks.{HookAnswer}
+use Rattle.cpu_words.specs.Touches.{found_by, left}
+use Rattle.cpu_words.specs.Words.{Words, put, read}
+use Rattle.cpu_words.specs.declared.events.Touch.{Touch}
+use Rattle.cpu_words.specs.declared.names.WordName.{WordName}
+use Rattle.finite_sums.proofs.Totals.{update_same}
+use Rattle.finite_sums.specs.Sums.{update}
+use Rattle.cpu_words.specs.gate_counts.Levels.{Out as CountsNot}
+use Rattle.gate_schedules.proofs.frames.Frames.{left_alone, level_view_as}
+use Rattle.gate_schedules.proofs.levels.Parts.{IsAtLevels, IsBeside, SameAtMounts, level_parts, level_still, whole_same}
+use Rattle.gate_schedules.proofs.levels.Worlds.{IsEventAt, IsOfLevel, found_level, level_there, sync_elsewhere, sync_off, sync_on}
+use Rattle.gate_world.specs.Configs.{IsWithin}
+use Rattle.gate_world.specs.Fits.{Fits, GraceFits, PhaseFits}
+use Rattle.gate_world.specs.Holdings.{Holdings}
+use Rattle.gate_world.specs.LevelRuns.{level_in}
+use Rattle.gate_world.specs.Levels.{inside, level_added_after, level_added_by, level_role_of, level_taken_after, level_taken_by, sync_role_of}
+use Rattle.gate_world.specs.Roles.{sync_role_if}
+use Rattle.gate_world.specs.Rules.{AtLevel, Fitting, Holds, IsGood, Moves, StepKeeps, SyncAt, ViewFits}
+use Rattle.gate_world.specs.Shown.{shown}
+use Rattle.gate_world.specs.Views.{actions_after, added_after, added_by, held_of, phase_after, taken_after, taken_by, view_after}
+use Rattle.gate_world.specs.Worlds.{World}
+use Rattle.gate_world.specs.declared.config.Config.{Config}
+use Rattle.gate_world.specs.declared.views.View.{View}
+use Rattle.gate_world.specs.declared.work.Phase.{Phase}
+use Rattle.freeze_laws.proofs.levels.Operations.{callbacks_are_there}
+use Rattle.freeze_laws.specs.levels.Events.{SyncLevel, SyncLevelHolds, SyncStep}
+use Rattle.freeze_laws.specs.levels.Operations.{CallbackIsThere, HoldsOfNext, KnowsCallback, by_next, callback_role, left_by, put_at, value_at}
+use Rattle.freeze_laws.specs.levels.Roles.{Out as IsApart}
+use Rattle.percpu_rwsem.specs.Callbacks.{at_callback, callback_after, callback_looked, callback_next, called_back, claimed}
+use Rattle.percpu_rwsem.specs.Graces.{is_first, looked, passed_on}
+use Rattle.percpu_rwsem.specs.SyncWords.{on_callback, on_claim}
+use Rattle.percpu_rwsem.specs.Transitions.{transition_after}
+use Rattle.percpu_rwsem.specs.declared.callbacks.Callback.{Callback}
+use Rattle.percpu_rwsem.specs.declared.callbacks.CallbackStep.{CallbackStep}
+use Rattle.percpu_rwsem.specs.declared.grace.Grace.{Grace}
+use Rattle.percpu_rwsem.specs.declared.transitions.Transition.{Transition}
+use Rattle.percpu_rwsem.specs.declared.transitions.TransitionNext.{TransitionNext}
+use Rattle.std.proofs.Common.{ap, arith, inl, inr, refl, subst, sym, ℕ, ◌+◌, ◌<◌, ◌∙◌, ◌≡◌, ◌≤◌}
+use Rattle.std.proofs.lemmas.Bool.{cases_Bool, ltb-true}
+use Rattle.std.proofs.lemmas.Bool.Decides.{eqb_tells}
+use Rattle.std.specs.Prelude.{None, Some, if◌then◌else◌, nat_lt, ◌%◌, ◌&&◌, ◌==◌}
+
+pub event_of_level : (b : Callback) (s : CallbackStep) → IsEventAt b.level (callback_next b s).0 (callback_next b s).1
+event_of_level b (CallbackStep.Claims Transition.Loads) = refl
+event_of_level b (CallbackStep.AwaitsSections g) = tt
+event_of_level b (CallbackStep.CallsBack Transition.Loads) = refl
+event_of_level b other = refl
+
+pub word_of_level : (b : Callback) (s : CallbackStep) → IsOfLevel b.level (callback_next b s).0
+word_of_level b (CallbackStep.Claims Transition.Loads) = refl
+word_of_level b (CallbackStep.AwaitsSections g) = tt
+word_of_level b (CallbackStep.CallsBack Transition.Loads) = refl
+word_of_level b other = refl
+
+-- it leaves the words beside the levels, and each `block`
+words_beside : (w : Words) (b : Callback) (s : CallbackStep) (n : ℕ) → IsBeside w (put w (callback_next b s).0 n)
+words_beside w b (CallbackStep.Claims Transition.Loads) n = refl
+words_beside w b (CallbackStep.CallsBack Transition.Loads) n = refl
+words_beside w b other n = refl
+
+-- and the counts of each level
+counts_same : (w : Words) (b : Callback) (s : CallbackStep) (n : ℕ) → (put w (callback_next b s).0 n).level ≡ w.level
+counts_same w b (CallbackStep.Claims Transition.Loads) n = refl
+counts_same w b (CallbackStep.CallsBack Transition.Loads) n = refl
+counts_same w b other n = refl
+
+-- and which tasks are inside a section
+inside_same : (l : SyncLevel) (b : Callback) (s : CallbackStep) (n : ℕ) → (put_at l (callback_next b s).0 n).inside ≡ l.inside
+inside_same l b (CallbackStep.Claims Transition.Loads) n = refl
+inside_same l b (CallbackStep.CallsBack Transition.Loads) n = refl
+inside_same l b other n = refl
+
+-- its event counts nowhere
+module _ (b : Callback) (counted : ℕ → ℕ → ℕ) where
+  added_same : (s : CallbackStep) → added_after (callback_next b s).0 (callback_next b s).1 counted ≡ counted
+  added_same (CallbackStep.Claims Transition.Loads) = refl
+  added_same (CallbackStep.CallsBack Transition.Loads) = refl
+  added_same other = refl
+
+  taken_same : (s : CallbackStep) → taken_after (callback_next b s).0 (callback_next b s).1 counted ≡ counted
+  taken_same (CallbackStep.Claims Transition.Loads) = refl
+  taken_same (CallbackStep.CallsBack Transition.Loads) = refl
+  taken_same other = refl
+
+  level_added_same : (s : CallbackStep) → level_added_after (callback_next b s).0 (callback_next b s).1 counted ≡ counted
+  level_added_same (CallbackStep.Claims Transition.Loads) = refl
+  level_added_same (CallbackStep.CallsBack Transition.Loads) = refl
+  level_added_same other = refl
+
+  level_taken_same : (s : CallbackStep) → level_taken_after (callback_next b s).0 (callback_next b s).1 counted ≡ counted
+  level_taken_same (CallbackStep.Claims Transition.Loads) = refl
+  level_taken_same (CallbackStep.CallsBack Transition.Loads) = refl
+  level_taken_same other = refl
+
+no_action : (b : Callback) (s : CallbackStep) (found : ℕ) → (callback_after b s found).1 ≡ None
+no_action b (CallbackStep.Claims x) found = refl
+no_action b other found = refl
+
+after_at_levels : (n : Next Callback) → IsAtLevels (phase_after (map_next Phase.Callbacks n))
+after_at_levels (Next.Go x) = refl
+after_at_levels other = refl
+
+after_counts : (i : ℕ) (n : Next Callback) → level_role_of i (phase_after (map_next Phase.Callbacks n)) ≡ CountsNot
+after_counts i (Next.Go x) = refl
+after_counts i other = refl
+
+after_outside : (n : Next Callback) → inside (phase_after (map_next Phase.Callbacks n)) ≡ 0
+after_outside (Next.Go x) = refl
+after_outside other = refl
+
+-- what stays of a callback from event to event: its level, and that its grace period is among all tasks
+abbrev Stays : ℕ → ℕ → Callback → Type 0
+Stays level tasks x = (x.level ≡ level) × (x.tasks ≡ tasks) × GraceFits tasks x.step
+
+-- a task number is passed, and another one is next or none is left
+passed_stays : (b : Callback) (g : Grace) → g.tasks ≡ b.tasks →
+    HoldsOfNext (Stays b.level b.tasks) (callback_looked b (passed_on g))
+passed_stays b g e =
+    elim (cases_Bool (nat_lt (g.task + 1) g.tasks)) [
+      | inl h ↦ rw h (refl, refl, (e, omega (arith, ltb-true (g.task + 1) g.tasks h, e)))
+      | inr h ↦ rw h (refl, refl, tt)
+    ]
+
+-- a load of a section word
+looked_stays : (b : Callback) (g : Grace) → g.tasks ≡ b.tasks → g.task < b.tasks → (found : ℕ) →
+    HoldsOfNext (Stays b.level b.tasks) (callback_looked b (looked g found))
+looked_stays b g e lt found =
+    elim (cases_Bool ((found % 2 == 1) && is_first g.first found)) [
+      | inl h ↦ rw h (refl, refl, (e, lt))
+      | inr h ↦ rw h (passed_stays b g e)
+    ]
+
+claim_stays : (b : Callback) → 0 < b.tasks → (n : TransitionNext) → HoldsOfNext (Stays b.level b.tasks) (claimed b n)
+claim_stays b some (TransitionNext.More x) = (refl, refl, tt)
+claim_stays b some TransitionNext.Undefined = tt
+claim_stays b some (TransitionNext.Made state) = (refl, refl, (refl, some))
+
+-- an event of its own transition
+call_stays : (b : Callback) (n : TransitionNext) → HoldsOfNext (Stays b.level b.tasks) (called_back b n)
+call_stays b (TransitionNext.More x) = (refl, refl, tt)
+call_stays b TransitionNext.Undefined = (refl, refl, tt)
+call_stays b (TransitionNext.Made state) = tt
+
+-- so each event leaves it
+stays_after : (b : Callback) → 0 < b.tasks → (s : CallbackStep) → GraceFits b.tasks s → (found : ℕ) →
+    HoldsOfNext (Stays b.level b.tasks) (callback_after b s found).0
+stays_after b some (CallbackStep.Claims x) f found = claim_stays b some (transition_after on_claim x found)
+stays_after b some (CallbackStep.AwaitsSections g) f found = looked_stays b g f.0 f.1 found
+stays_after b some (CallbackStep.CallsBack x) f found = call_stays b (transition_after on_callback x found)
+
+-- at its level, the role of what comes after an event is the one of its step
+role_next : (i tasks : ℕ) (n : Next Callback) → HoldsOfNext (Stays i tasks) n →
+    by_next (λ (x : Callback). callback_role x.step) IsApart n ≡ sync_role_of i (phase_after (map_next Phase.Callbacks n))
+role_next i tasks (Next.Go x) h = sym (ap (λ k. sync_role_if (i == k) (callback_role x.step)) h.0 ∙ sync_on i (callback_role x.step))
+role_next i tasks (Next.Wait x) h = sym (ap (λ k. sync_role_if (i == k) (callback_role x.step)) h.0 ∙ sync_on i (callback_role x.step))
+role_next i tasks (Next.Done answer) h = refl
+
+-- at another level there is none
+role_elsewhere : (i j tasks : ℕ) → (j ≡ i → ⊥) → (n : Next Callback) → HoldsOfNext (Stays i tasks) n →
+    sync_role_of j (phase_after (map_next Phase.Callbacks n)) ≡ IsApart
+role_elsewhere i j tasks ne (Next.Go x) h = sync_off j x.level (callback_role x.step) (λ q. ne (q ∙ h.0))
+role_elsewhere i j tasks ne (Next.Wait x) h = sync_off j x.level (callback_role x.step) (λ q. ne (q ∙ h.0))
+role_elsewhere i j tasks ne (Next.Done answer) h = refl
+
+-- one callback of a level and of all tasks that knows what is to come fits
+one_fits : (c : Config) (t level tasks : ℕ) (held : Holdings) → 1 ≤ level → level ≤ 3 → tasks ≡ c.tasks → (x : Callback) →
+    Stays level tasks x → KnowsCallback x.step → PhaseFits c t held (Phase.Callbacks x)
+one_fits c t level tasks held one three all x stays knows = (
+  omega (arith, one, stays.0),
+  omega (arith, three, stays.0),
+  stays.1 ∙ all,
+  subst (λ k. GraceFits k x.step) all stays.2,
+  knows,
+)
+
+-- so what comes after an event does
+next_fits : (c : Config) (t level tasks : ℕ) (held : Holdings) → 1 ≤ level → level ≤ 3 → tasks ≡ c.tasks →
+    (n : Next Callback) → HoldsOfNext (Stays level tasks) n →
+    HoldsOfNext (λ (x : Callback). (x.tasks ≡ tasks) × KnowsCallback x.step) n →
+    Fits c t held (phase_after (map_next Phase.Callbacks n))
+next_fits c t level tasks held one three all (Next.Go x) stays knows =
+    one_fits c t level tasks held one three all x stays knows.1
+next_fits c t level tasks held one three all (Next.Wait x) stays knows =
+    one_fits c t level tasks held one three all x stays knows.1
+next_fits c t level tasks held one three all (Next.Done answer) stays knows = tt
+
+module _ (c : Config) (w : World) (good : IsGood c w) (t : ℕ) (lt : t < c.tasks) (hook : HookAnswer) (b : Callback) (s : CallbackStep)
+    (e : (w.views t).phase ≡ Some (Phase.Callbacks (at_callback b s))) where
+  -- the word of its event
+  abbrev pub name : WordName
+  name = (callback_next b s).0
+
+  -- and how it touches it
+  abbrev pub touch : Touch
+  touch = (callback_next b s).1
+
+  -- what comes after it
+  abbrev coming : Next Callback
+  coming = (callback_after b s (found_by touch (read w.words name))).0
+
+  -- its view then
+  abbrev pub seen_after : View
+  seen_after = view_after (w.views t) (Phase.Callbacks (at_callback b s)) (read w.words name) hook
+
+  abbrev then_words : Words
+  then_words = put w.words name (left touch (read w.words name))
+
+  abbrev then_world : World
+  then_world = record { words = then_words; views = update w.views t seen_after }
+
+  -- what its phase says before the event
+  here_fits : PhaseFits c t (held_of (w.views t)) (Phase.Callbacks (at_callback b s))
+  here_fits = subst (Fits c t (held_of (w.views t))) e (good Fitting t lt)
+
+  some_task : 0 < b.tasks
+  some_task = omega (arith, lt, here_fits.2)
+
+  stays : HoldsOfNext (Stays b.level b.tasks) coming
+  stays =
+      stays_after b some_task s (subst (λ k. GraceFits k s) (sym here_fits.2) here_fits.3) (found_by touch (read w.words name))
+
+  is_there : CallbackIsThere t (read w.words name) (level_in w b.level) b s
+  is_there =
+      callbacks_are_there t (read w.words name) (level_in w b.level) (at_callback b s) (omega (arith, lt, here_fits.2))
+      (ap (sync_role_of b.level) e ∙ sync_on b.level (callback_role s)) here_fits.4
+
+  -- on the value that the world has in its word
+  found : value_at (level_in w b.level) (read w.words name) name ≡ read w.words name
+  found = found_level w b.level name (word_of_level b s)
+
+  -- what comes after it knows what is to come
+  knows_next : HoldsOfNext (λ (x : Callback). (x.tasks ≡ b.tasks) × KnowsCallback x.step) coming
+  knows_next =
+      subst (λ value. HoldsOfNext (λ (x : Callback). (x.tasks ≡ b.tasks) × KnowsCallback x.step)
+      (callback_after b s (found_by touch value)).0) found is_there.1
+
+  -- it is inside no section before its event and after it
+  pub stays_outside : inside seen_after.phase ≡ inside (w.views t).phase
+  stays_outside = after_outside coming ∙ sym (ap inside e)
+
+  -- the event is one of its level
+  pub steps_there : SyncStep c.tasks (level_in w b.level)
+      (record (left_by (level_in w b.level) t (name, touch) (read w.words name) (sync_role_of b.level seen_after.phase)) {
+        inside = update (level_in w b.level).inside t (inside seen_after.phase);
+      })
+  steps_there =
+      let i : ℕ = b.level in
+      let n : ℕ = left touch (read w.words name) in
+      let out : update (level_in w i).inside t (inside seen_after.phase) ≡ (put_at (level_in w i) name n).inside =
+      ap (update (level_in w i).inside t) stays_outside ∙
+      (update_same (level_in w i).inside t ∙ sym (inside_same (level_in w i) b s n)) in
+      subst (λ k. SyncStep c.tasks (level_in w i) (record (left_by (level_in w i) t (name, touch) (read w.words name)
+      (sync_role_of i seen_after.phase)) { inside = k })) (sym out)
+      (subst (λ k. SyncStep c.tasks (level_in w i) (left_by (level_in w i) t (name, touch) (read w.words name) k))
+      (role_next i b.tasks coming stays)
+      (subst (λ value. SyncStep c.tasks (level_in w i) (left_by (level_in w i) t (name, touch) value
+      (by_next (λ (x : Callback). callback_role x.step) IsApart (callback_after b s (found_by touch value)).0))) found
+      (subst (λ k. SyncStep k (level_in w i) (left_by (level_in w i) t (name, touch) (value_at (level_in w i) (read w.words name) name)
+      (by_next (λ (x : Callback). callback_role x.step) IsApart
+      (callback_after b s (found_by touch (value_at (level_in w i) (read w.words name) name))).0))) here_fits.2 is_there.0)))
+
+  own_level : SyncLevelHolds c.tasks (level_in then_world b.level)
+  own_level =
+      level_there c w good t lt b.level name touch (word_of_level b s) seen_after here_fits.0 here_fits.1 steps_there
+
+  pub stays_apart : (i : ℕ) → (i ≡ b.level → ⊥) → sync_role_of i seen_after.phase ≡ sync_role_of i (w.views t).phase
+  stays_apart i ne =
+      role_elsewhere b.level i b.tasks ne coming stays ∙ sym (ap (sync_role_of i) e ∙ sync_off i b.level (callback_role s) ne)
+
+  syncs : (i : ℕ) → Holds c then_world (SyncAt i)
+  syncs i =
+      elim (eqb_tells i b.level) [
+        | inl q ↦ subst (λ k. Holds c then_world (SyncAt k)) (sym q.1) (λ one three. own_level.level)
+        | inr q ↦
+            sync_elsewhere c w good t lt b.level name touch (event_of_level b s) seen_after i q.1 (stays_apart i q.1)
+      ]
+
+  same_actions : seen_after.actions ≡ (w.views t).actions
+  same_actions = ap (λ a. actions_after a (w.views t).actions) (no_action b s (found_by touch (read w.words name)))
+
+  same_at_mounts : SameAtMounts (w.views t) seen_after
+  same_at_mounts = record {
+    held_same = ap mounts_of same_actions;
+    added_same = added_same b (added_by (w.views t).events) s;
+    taken_same = taken_same b (taken_by (w.views t).events) s;
+    open_same = ap opens_of same_actions;
+  }
+
+  level_counts : (i : ℕ) → Holds c then_world (AtLevel i)
+  level_counts i =
+      left_alone c w t lt (AtLevel i) then_words seen_after (
+        λ j. (words_beside w.words b s (left touch (read w.words name)) j).block i,
+        ap (λ f. f i) (counts_same w.words b s (left touch (read w.words name))),
+        whole_same w.words then_words (words_beside w.words b s (left touch (read w.words name))),
+      ) (level_view_as (ap (λ a. if levels_of a i then 1 else 0) same_actions)
+      (ap (λ f. f i) (level_added_same b (level_added_by (w.views t).events) s))
+      (ap (λ f. f i) (level_taken_same b (level_taken_by (w.views t).events) s))
+      (after_counts i coming ∙ sym (ap (level_role_of i) e))) (good (AtLevel i))
+
+  fits_next : ViewFits c t seen_after
+  fits_next =
+      next_fits c t b.level b.tasks (held_of seen_after) here_fits.0 here_fits.1 here_fits.2 coming stays
+      knows_next
+
+  keeps_at : StepKeeps c w t hook (Phase.Callbacks (at_callback b s))
+  keeps_at =
+      let words : IsBeside w.words then_words = words_beside w.words b s (left touch (read w.words name)) in
+      let was : IsAtLevels (w.views t).phase = subst IsAtLevels (sym e) (after_at_levels (Next.Go (at_callback b s))) in
+      let now : IsAtLevels seen_after.phase = after_at_levels coming in (
+        level_parts c w good t lt then_words seen_after words was now same_at_mounts fits_next level_counts syncs own_level.sections.odd,
+        subst (λ a. Moves c (shown c w) t a (shown c then_world)) (sym (no_action b s (found_by touch (read w.words name))))
+            (level_still c w good t lt then_words seen_after words was now same_at_mounts (ap levels_of same_actions)),
+      )
+
+-- each event of a callback keeps the rule, and leaves the shown model
+pub callback_keeps : (c : Config) → IsWithin c → (w : World) → IsGood c w → (t : ℕ) → t < c.tasks → (hook : HookAnswer) (b : Callback) →
+    (w.views t).phase ≡ Some (Phase.Callbacks b) → StepKeeps c w t hook (Phase.Callbacks b)
+callback_keeps c lim w good t lt hook b e = keeps_at c w good t lt hook b b.step e

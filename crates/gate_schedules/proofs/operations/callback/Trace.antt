@@ -1,0 +1,102 @@
+-- Traces of a callback.
+use Rattle.std.proofs.{Common.{◌≡◌, ℕ, suc, ◌+◌, ◌%◌, refl, sym, ap, subst, inl, inr}, lemmas.Bool.{eq-eqb, cases_Bool}}
+use Rattle.std.specs.Prelude.{◌==◌, nat_lt, Option, Some, None, List, [], ◌∷◌}
+use Rattle.access_model.specs.{Replies.map_next, declared.{actions.Action.Action, replies.Next.Next}}
+use Rattle.cpu_words.specs.Hooks.{HookAnswer}
+use Rattle.percpu_rwsem.specs.{Callbacks.{claimed, callback_looked, called_back}, Graces.{started, is_first, passed_on}}
+use Rattle.percpu_rwsem.specs.{SyncWords.{pack, unpack, on_claim, on_callback}, Transitions.{exchange_for, word_loaded}}
+use Rattle.percpu_rwsem.specs.declared.{callbacks.{Callback.Callback, CallbackStep.CallbackStep}, grace.Grace.Grace, sync_word.SyncWord.SyncWord}
+use Rattle.percpu_rwsem.specs.declared.transitions.Transition.{Transition}
+use Rattle.gate_world.specs.{Found.transitions_made, Views.with_hook, declared.{config.Config.Config, operations.Op.Op, views.Traced.Traced, work.Phase.Phase}}
+use Rattle.gate_schedules.proofs.traces.Says.{Says, SaysAfter, Kept, event_at}
+
+-- a callback of this level over so many tasks, at a step
+abbrev pub callback_on : ℕ → ℕ → CallbackStep → Callback
+callback_on i tasks s = record { level = i; tasks = tasks; step = s }
+
+-- how many transitions it has made before a step
+abbrev made_before : CallbackStep → ℕ
+made_before (CallbackStep.Claims transition) = 0
+made_before (CallbackStep.AwaitsSections grace) = 1
+made_before (CallbackStep.CallsBack transition) = 1
+
+-- what a callback's trace says at a phase: it has added nothing, and made as many transitions as its step says
+abbrev pub CallbackAt : ℕ → ℕ → List Traced → Phase → List Action → Type 0
+CallbackAt i tasks trace phase added =
+    (s : CallbackStep) × (phase ≡ Phase.Callbacks (callback_on i tasks s)) × (added ≡ []) × (transitions_made i trace ≡ made_before s)
+
+module _ (c : Config) (i tasks value : ℕ) (hook : HookAnswer) (earlier : List Traced) (added : List Action) (none : added ≡ []) where
+  -- what the trace says by what comes after an event of a step
+  abbrev SaysNow : CallbackStep → Next Callback → Type 0
+  SaysNow s n =
+      Says (CallbackAt i tasks) c (Op.Callback i) (with_hook (event_at (Phase.Callbacks (callback_on i tasks s)) value hook) hook ∷ earlier)
+      (map_next Phase.Callbacks n) added
+
+  -- after a load of the sync word that has no callback to take, none ran
+  claim_loaded : transitions_made i earlier ≡ 0 → (o : Option SyncWord) → unpack value ≡ o →
+      SaysNow (CallbackStep.Claims Transition.Loads) (claimed (callback_on i tasks (CallbackStep.Claims Transition.Loads)) (word_loaded on_claim o))
+  claim_loaded h None e = (CallbackStep.Claims Transition.Loads, refl, none, rw (eq-eqb i i refl) h)
+  claim_loaded h (Some from) e =
+      elim (on_claim from) as (λ (x : Option SyncWord). on_claim from ≡ x →
+      SaysNow (CallbackStep.Claims Transition.Loads) (claimed (callback_on i tasks (CallbackStep.Claims Transition.Loads)) (exchange_for from x))) [
+        | None ↦ λ f. ((none, (rw (eq-eqb i i refl) h, rw (eq-eqb i i refl, e, f) refl)), tt)
+        | Some to ↦ λ f. (CallbackStep.Claims (Transition.Exchanges from to), refl, none, rw (eq-eqb i i refl) h)
+      ] refl
+
+  -- after one by a callback that is past its grace period, it goes on
+  call_loaded : transitions_made i earlier ≡ 1 → (o : Option SyncWord) →
+      SaysNow (CallbackStep.CallsBack Transition.Loads)
+      (called_back (callback_on i tasks (CallbackStep.CallsBack Transition.Loads)) (word_loaded on_callback o))
+  call_loaded h None = (CallbackStep.CallsBack Transition.Loads, refl, none, rw (eq-eqb i i refl) h)
+  call_loaded h (Some from) =
+      elim (on_callback from) as (λ (x : Option SyncWord).
+      SaysNow (CallbackStep.CallsBack Transition.Loads) (called_back (callback_on i tasks (CallbackStep.CallsBack Transition.Loads)) (exchange_for from x))) [
+        | None ↦ (CallbackStep.CallsBack Transition.Loads, refl, none, rw (eq-eqb i i refl) h)
+        | Some to ↦ (CallbackStep.CallsBack (Transition.Exchanges from to), refl, none, rw (eq-eqb i i refl) h)
+      ]
+
+  -- what the trace says after the event of a step
+  abbrev After : CallbackStep → Type 0
+  After s = SaysAfter (CallbackAt i tasks) c (Op.Callback i) (Phase.Callbacks (callback_on i tasks s)) value hook earlier added
+
+  passed : (g : Grace) → transitions_made i earlier ≡ 1 →
+      SaysNow (CallbackStep.AwaitsSections g) (callback_looked (callback_on i tasks (CallbackStep.AwaitsSections g)) (passed_on g))
+  passed g h =
+      elim (cases_Bool (nat_lt (g.task + 1) g.tasks)) [
+        | inl f ↦ rw f (CallbackStep.AwaitsSections (record { tasks = g.tasks; task = g.task + 1; first = None }), refl, none, h)
+        | inr f ↦ rw f (CallbackStep.CallsBack Transition.Loads, refl, none, h)
+      ]
+
+  callback_event : (s : CallbackStep) → transitions_made i earlier ≡ made_before s → After s
+  callback_event (CallbackStep.Claims Transition.Loads) h = claim_loaded h (unpack value) refl
+  callback_event (CallbackStep.Claims (Transition.Exchanges from to)) h =
+      elim (cases_Bool (value == pack from)) [
+        | inl f ↦ rw f (CallbackStep.AwaitsSections (started tasks), refl, none, rw (eq-eqb i i refl, f) (ap suc h))
+        | inr f ↦ rw f (CallbackStep.Claims Transition.Loads, refl, none, rw (eq-eqb i i refl, f) h)
+      ]
+  callback_event (CallbackStep.AwaitsSections g) h =
+      elim (cases_Bool (value % 2 == 1)) [
+        | inl f ↦ elim (cases_Bool (is_first g.first value)) [
+          | inl e ↦ rw (f, e) (
+            (CallbackStep.AwaitsSections (record { tasks = g.tasks; task = g.task; first = Some value }), refl, none, h),
+            rw f refl,
+          )
+          | inr e ↦ rw (f, e) (passed g h)
+        ]
+        | inr f ↦ rw f (passed g h)
+      ]
+  callback_event (CallbackStep.CallsBack Transition.Loads) h = call_loaded h (unpack value)
+  callback_event (CallbackStep.CallsBack (Transition.Exchanges from to)) h =
+      elim (cases_Bool (value == pack from)) [
+        | inl f ↦ rw f ((none, rw (eq-eqb i i refl, f) (ap suc h)), tt)
+        | inr f ↦ rw f (CallbackStep.CallsBack Transition.Loads, refl, none, rw (eq-eqb i i refl, f) h)
+      ]
+
+pub callback_kept : (c : Config) (t i : ℕ) → Kept (CallbackAt i c.tasks) c t (Op.Callback i)
+callback_kept c t i = record {
+  first = (CallbackStep.Claims Transition.Loads, refl, refl, refl);
+  more = λ phase value hook earlier added here.
+      subst (λ (x : Phase). SaysAfter (CallbackAt i c.tasks) c (Op.Callback i) x value hook earlier added) (sym here.1)
+      (callback_event c i c.tasks value hook earlier added here.2 here.0 here.3);
+  short = λ trace phase added here. tt;
+}

@@ -1,0 +1,16 @@
+pub mod Words
+pub mod Fits
+pub mod Waits
+pub mod Causes
+pub mod NodeCauses
+pub mod Events
+pub mod Progress
+pub mod PhaseLaws
+pub mod Laws
+pub mod Trace
+pub mod CreateTrace
+pub mod RemoveTrace
+pub mod GrowTrace
+pub mod MoveTrace
+pub mod MarkTrace
+pub mod OpenTrace

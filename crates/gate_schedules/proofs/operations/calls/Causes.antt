@@ -1,0 +1,95 @@
+-- The causes of the refusals of the calls at the tree, along a schedule: a snapshot keeps one, as a thaw does, and no other call does.
+use Rattle.std.proofs.{Common.{◌≡◌, ℕ, ap, ◌∙◌, inl, inr}, lemmas.Bool.{ne_eqb, Decides.eqb_tells}}
+use Rattle.std.specs.Prelude.{Option, Some, None, Err, List, ◌∷◌, not, Bool, true, false, if◌then◌else◌, is_some, ◌==◌}
+use Rattle.access_model.specs.{Replies.map_next, declared.{errors.GateError.GateError, replies.Next.Next}}
+use Rattle.cpu_words.specs.Hooks.{HookAnswer}
+use Rattle.node_words.specs.Nodes.{unpacked, node_after}
+use Rattle.node_words.specs.Phases.{clear_after}
+use Rattle.gated_tree.specs.Phases.{create_after, remove_after, grow_after, move_after, mark_after, open_after, snapshot_locked_out, at_snapshot}
+use Rattle.gated_tree.specs.Phases.{kids_step, node_step}
+use Rattle.gated_tree.specs.declared.{phases.TreePhase.TreePhase, snapshots.{Snapshot.Snapshot, SnapshotStep.SnapshotStep}}
+use Rattle.gate_world.specs.{Causes.{looks_at_stage, was_incomplete}, KeptCauses.{SnapshotCause, TreeCause, CauseOf}, Views.phase_after, Work.after_of}
+use Rattle.gate_world.specs.{Worlds.{World, found_at}, declared.{config.Config.Config, work.Phase.Phase}}
+use Rattle.gate_schedules.proofs.traces.Moments.{look_skips, look_stands}
+
+-- a snapshot whose view another entry leaves alone: the cause of each step stays
+snapshot_stays : (c : Config) (t : ℕ) (w next : World) (earlier : List World) (x : Snapshot) (s : SnapshotStep) →
+    (next.views t).phase ≡ Some (Phase.Trees (TreePhase.Snapshot (at_snapshot x s))) → SnapshotCause c t w earlier s →
+    SnapshotCause c t next (w ∷ earlier) s
+snapshot_stays c t w next earlier x (SnapshotStep.Releases (Err GateError.Invalid)) e h =
+    ap (was_incomplete c) (look_skips t next (w ∷ earlier) (ap looks_at_stage e)) ∙ h
+snapshot_stays c t w next earlier x (SnapshotStep.Releases (Err GateError.Again)) e h = absurd h
+snapshot_stays c t w next earlier x s e h = tt
+
+-- so it is of each call at the tree
+pub tree_stays : (c : Config) (t : ℕ) (w next : World) (earlier : List World) (x : TreePhase) →
+    (next.views t).phase ≡ Some (Phase.Trees x) → TreeCause c t w earlier x → TreeCause c t next (w ∷ earlier) x
+tree_stays c t w next earlier (TreePhase.Snapshot x) e h = snapshot_stays c t w next earlier x x.step e h
+tree_stays c t w next earlier x e h = tt
+
+-- the task that steps: what its next phase says, in the world after the event
+module _ (c : Config) (t : ℕ) (w next : World) (earlier : List World) where
+  -- what comes of a snapshot says
+  abbrev CauseAfter : Next Snapshot → Type 0
+  CauseAfter n = CauseOf c t next (w ∷ earlier) (phase_after (map_next Phase.Trees (map_next TreePhase.Snapshot n)))
+
+  -- a call that keeps no cause keeps none
+  no_cause : {P : Type 0} (to : P → TreePhase) → ((p : P) → TreeCause c t next (w ∷ earlier) (to p)) → (n : Next P) →
+      CauseOf c t next (w ∷ earlier) (phase_after (map_next Phase.Trees (map_next to n)))
+  no_cause to none (Next.Go p) = none p
+  no_cause to none (Next.Wait p) = none p
+  no_cause to none (Next.Done answer) = tt
+
+  either : (b : Bool) (n m : Next Snapshot) → CauseAfter n → CauseAfter m → CauseAfter (if b then n else m)
+  either true n m h k = h
+  either false n m h k = k
+
+  locked_out_own : (x : Snapshot) (wait : Bool) → CauseAfter (snapshot_locked_out x wait)
+  locked_out_own x true = tt
+  locked_out_own x false = tt
+
+  node_own : (x : Snapshot) (o : Option ℕ) → CauseAfter (Next.Go (at_snapshot x (node_step o)))
+  node_own x (Some node) = tt
+  node_own x None = tt
+
+  kids_own : (x : Snapshot) (o : Option ℕ) → CauseAfter (Next.Go (at_snapshot x (kids_step o)))
+  kids_own x (Some node) = tt
+  kids_own x None = tt
+
+  -- where the stage was found other than 4, it was so when the snapshot looked
+  stage_own : (x : Snapshot) → (w.views t).phase ≡ Some (Phase.Trees (TreePhase.Snapshot (at_snapshot x SnapshotStep.LoadsStage))) → (w.words.stage ≡ 4 → ⊥) →
+      (next.views t).phase ≡ Some (Phase.Trees (TreePhase.Snapshot (at_snapshot x (SnapshotStep.Releases (Err GateError.Invalid))))) →
+      SnapshotCause c t next (w ∷ earlier) (SnapshotStep.Releases (Err GateError.Invalid))
+  stage_own x e other e' =
+      ap (was_incomplete c) (look_skips t next (w ∷ earlier) (ap looks_at_stage e') ∙ look_stands t w earlier (ap looks_at_stage e)) ∙
+      ap not (ne_eqb w.words.stage 4 other)
+
+  snapshot_own : (hook : HookAnswer) (x : Snapshot) (s : SnapshotStep) → (w.views t).phase ≡ Some (Phase.Trees (TreePhase.Snapshot (at_snapshot x s))) →
+      let comes : Option Phase = phase_after
+      (after_of (Phase.Trees (TreePhase.Snapshot (at_snapshot x s))) (found_at w.words (Phase.Trees (TreePhase.Snapshot (at_snapshot x s))) hook) hook).0 in
+      (next.views t).phase ≡ comes → CauseOf c t next (w ∷ earlier) comes
+  snapshot_own hook x SnapshotStep.Locks e e' = either (w.words.umount == 0) _ _ tt (locked_out_own (at_snapshot x SnapshotStep.Locks) x.wait)
+  snapshot_own hook x SnapshotStep.LoadsStage e e' =
+      elim (eqb_tells w.words.stage 4) [ inl z ↦ rw z.0 tt | inr z ↦ rw z.0 (stage_own x e z.1 (rw z.0 at e')) ]
+  snapshot_own hook x SnapshotStep.LoadsUsed e e' = tt
+  snapshot_own hook x (SnapshotStep.LoadsNode node) e e' =
+      either (is_some (unpacked (w.words.node node))) _ _ (node_own (at_snapshot x (SnapshotStep.LoadsNode node)) (node_after node x.nodes)) tt
+  snapshot_own hook x (SnapshotStep.LoadsKids node) e e' = kids_own (at_snapshot x (SnapshotStep.LoadsKids node)) (node_after node x.nodes)
+  snapshot_own hook x (SnapshotStep.Releases answer) e e' = tt
+
+  pub tree_own : (hook : HookAnswer) (x : TreePhase) → (w.views t).phase ≡ Some (Phase.Trees x) →
+      let comes : Option Phase = phase_after (after_of (Phase.Trees x) (found_at w.words (Phase.Trees x) hook) hook).0 in
+      (next.views t).phase ≡ comes → CauseOf c t next (w ∷ earlier) comes
+  tree_own hook (TreePhase.Create x) e e' =
+      no_cause TreePhase.Create (λ p. tt) (create_after x x.step (found_at w.words (Phase.Trees (TreePhase.Create x)) hook)).0
+  tree_own hook (TreePhase.Remove x) e e' =
+      no_cause TreePhase.Remove (λ p. tt) (remove_after x x.step (found_at w.words (Phase.Trees (TreePhase.Remove x)) hook)).0
+  tree_own hook (TreePhase.Grow x) e e' = no_cause TreePhase.Grow (λ p. tt) (grow_after x x.step (found_at w.words (Phase.Trees (TreePhase.Grow x)) hook)).0
+  tree_own hook (TreePhase.MoveTo x) e e' =
+      no_cause TreePhase.MoveTo (λ p. tt) (move_after x x.step (found_at w.words (Phase.Trees (TreePhase.MoveTo x)) hook)).0
+  tree_own hook (TreePhase.Mark x) e e' = no_cause TreePhase.Mark (λ p. tt) (mark_after x x.step (found_at w.words (Phase.Trees (TreePhase.Mark x)) hook)).0
+  tree_own hook (TreePhase.OpenFile x) e e' =
+      no_cause TreePhase.OpenFile (λ p. tt) (open_after x x.step (found_at w.words (Phase.Trees (TreePhase.OpenFile x)) hook)).0
+  tree_own hook (TreePhase.Snapshot x) e e' = snapshot_own hook x x.step e e'
+  tree_own hook (TreePhase.ClearMarks x) e e' =
+      no_cause TreePhase.ClearMarks (λ p. tt) (clear_after x (found_at w.words (Phase.Trees (TreePhase.ClearMarks x)) hook)).0

@@ -1,0 +1,146 @@
+-- Traces of a create.
+use Rattle.std.proofs.{Common.{◌≡◌, ℕ, ◌+◌, ◌<◌, ◌≤◌, Bool, true, false, refl, sym, subst, inl, inr, arith}, lemmas.Bool.{cases_Bool, cases_lt, lt-ltb, le-ltb}}
+use Rattle.std.specs.Prelude.{◌==◌, Option, Some, None, Result, Ok, List, [], ◌∷◌, length, is_some}
+use Rattle.access_model.specs.declared.{actions.{Action.Action, Kind.Kind}, errors.GateError.GateError, replies.{Next.Next, Reply.Reply}}
+use Rattle.cpu_words.specs.{Touches.found_by, declared.events.Event.Event}
+use Rattle.node_words.specs.Nodes.{as_directory, unpacked, directory_in}
+use Rattle.gated_tree.specs.Phases.{at_create, create_after, create_looked, create_next}
+use Rattle.gated_tree.specs.Refusals.{CreateHonest}
+use Rattle.node_words.specs.declared.nodes.NodeWord.{NodeWord}
+use Rattle.gated_tree.specs.declared.changes.Create.{Create}
+use Rattle.gated_tree.specs.declared.changes.CreateStep.{CreateStep}
+use Rattle.gated_tree.specs.declared.phases.TreePhase.{TreePhase}
+use Rattle.gate_schedules.{proofs.trees.Ends.create_ends, specs.trees.Ends.{CreateKnows, IsNodeReply, create_adds}}
+use Rattle.gate_world.specs.{Configs.IsWithin, Courses.{IsTrace, MayHold, MayFind, course_of}, Found.SeenIn, Operations.first_create}
+use Rattle.gate_world.specs.{Traces.{actions_of, IsHonest, IsShort, IsTold, Tells, most_events}, Views.with_hook, Work.next_of}
+use Rattle.gate_world.specs.declared.{config.Config.Config, operations.Op.Op, views.Traced.Traced, work.Phase.Phase}
+use Rattle.gate_schedules.proofs.operations.calls.Trace.{Answers, CallAt, Stays, call_says, looked, made_some, sees}
+use Rattle.gate_schedules.proofs.traces.Says.{KeptWell, SaysAfter, event_at, tells_well, is_short_well}
+
+-- the node that a create loads is one of the tree's
+abbrev IsThere : Config → List Traced → CreateStep → Type 0
+IsThere c trace (CreateStep.LoadsNode node) = node < c.nodes
+IsThere c trace step = Unit {0}
+
+-- how many events a create has done before a step, at most
+abbrev events_before : Config → CreateStep → ℕ
+events_before c CreateStep.LoadsDirectory = 0
+events_before c (CreateStep.LoadsNode node) = node
+events_before c (CreateStep.ChargesChild node) = c.nodes
+events_before c (CreateStep.TakesNode node) = c.nodes + 1
+events_before c CreateStep.RefundsChild = c.nodes + 2
+
+-- what a create knows at its step
+abbrev Knows : ((Event → Bool) → Type 0) → Create → Type 0
+Knows seen x = CreateKnows seen x x.step
+
+-- it has added nothing before its end
+abbrev so_far : Create → List Action
+so_far x = []
+
+module _ (c : Config) (d : ℕ) (kind : Kind) where
+  -- the create at a step
+  abbrev create_of : CreateStep → Create
+  create_of s = at_create (first_create c d kind) s
+
+  -- what its trace says at a phase
+  abbrev CreateAt : List Traced → Phase → List Action → Type 0
+  CreateAt = CallAt Create CreateStep TreePhase.Create create_of Knows so_far (IsThere c) (events_before c) (c.nodes + 3) false c (Op.Create d kind)
+
+  -- what comes after so many events
+  abbrev Comes : List Traced → ℕ → Next Create → Type 0
+  Comes = Stays Create CreateStep TreePhase.Create create_of Knows so_far (IsThere c) (events_before c) (c.nodes + 3) false c (Op.Create d kind)
+
+  node_looked : (trace : List Traced) (node : ℕ) (r : Option NodeWord) → node < c.nodes → is_some r ≡ true →
+      Comes trace node (create_looked (create_of (CreateStep.LoadsNode node)) node r)
+  node_looked trace node None lt h = absurd (cc)
+  node_looked trace node (Some found) lt h = elim (cases_Bool (is_some found.kind)) [
+    | inl taken ↦ rw taken (elim (cases_lt (node + 1) c.nodes) [
+      | inl l ↦ rw (lt-ltb (node + 1) c.nodes l) (CreateStep.LoadsNode (node + 1), refl, l, λ q. omega arith)
+      | inr l ↦ rw (le-ltb (node + 1) c.nodes l) (λ q. omega (arith, lt))
+    ])
+    | inr free ↦ rw free (CreateStep.ChargesChild node, refl, tt, λ q. lt)
+  ]
+
+  -- each event of a create is followed by a later step of it, or by its end
+  create_goes : IsWithin c → (earlier : List Traced) (s : CreateStep) (value : ℕ) → IsThere c earlier s →
+      (trace : List Traced) → MayHold (create_next (create_of s) s).0 value →
+      Comes trace (events_before c s) (create_after (create_of s) s (found_by (create_next (create_of s) s).1 value)).0
+  create_goes lim earlier CreateStep.LoadsDirectory value there trace may =
+      looked (Comes trace 0) (create_of CreateStep.LoadsDirectory) (λ dir. create_of (CreateStep.LoadsNode 1)) (directory_in value)
+      (made_some (λ node. as_directory node node.kind) (unpacked value) may)
+      (λ dir. (CreateStep.LoadsNode 1, refl, lim.some_node, λ q. omega arith)) (λ refusal q. omega arith)
+  create_goes lim earlier (CreateStep.LoadsNode node) value there trace may = node_looked trace node (unpacked value) there may
+  create_goes lim earlier (CreateStep.ChargesChild node) value there trace may = (CreateStep.TakesNode node, refl, tt, λ q. omega arith)
+  create_goes lim earlier (CreateStep.TakesNode node) value there trace may = elim (cases_Bool (value == 0)) [
+    | inl e ↦ rw e (λ q. omega arith)
+    | inr e ↦ rw e (CreateStep.RefundsChild, refl, tt, λ q. omega arith)
+  ]
+  create_goes lim earlier CreateStep.RefundsChild value there trace may = λ q. omega arith
+
+  -- why a create is refused doesn't depend on its step
+  create_cause : (s : CreateStep) (trace : List Traced) (refusal : GateError) → CreateHonest (SeenIn trace) (create_of s) refusal →
+      IsHonest c (Op.Create d kind) refusal trace
+  create_cause s trace GateError.NoEntry h = h
+  create_cause s trace GateError.NotDir h = h
+  create_cause s trace GateError.NoSpace h = h
+  create_cause s trace GateError.Again h = h
+  create_cause s trace refusal h = absurd h
+
+  -- a create that is done answers a node
+  create_told : (trace : List Traced) (reply : Reply) → IsNodeReply reply → IsTold (Op.Create d kind) reply trace
+  create_told trace (Reply.Node n) h = tt
+  create_told trace reply h = absurd h
+
+  -- what it has added, said both ways
+  create_actions : (s : CreateStep) (trace : List Traced) (answer : Result Reply GateError) →
+      create_adds (create_of s) answer ≡ actions_of (Op.Create d kind) answer trace
+  create_actions s trace (Ok (Reply.Node n)) = refl
+  create_actions s trace other = refl
+
+  -- a step comes after at most that many events
+  create_within : (s : CreateStep) (trace : List Traced) → IsThere c trace s → length trace ≤ events_before c s →
+      length trace ≤ c.nodes + 3
+  create_within (CreateStep.LoadsNode node) trace there h = omega (arith, there, h)
+  create_within s trace there h = omega (arith, h)
+
+  -- so the trace of a create says what its row asks for
+  create_answers : (s : CreateStep) (trace : List Traced) →
+      Answers Create CreateStep TreePhase.Create create_of Knows so_far (IsThere c) (events_before c) (c.nodes + 3) false c (Op.Create d kind)
+      IsNodeReply (CreateHonest (SeenIn trace) (create_of s)) (create_adds (create_of s)) trace
+  create_answers s trace = record {
+    told = create_told trace;
+    honest = create_cause s trace;
+    actions = create_actions s trace;
+    short = λ h. h refl;
+  }
+
+  -- and keeps it along
+  create_kept : IsWithin c → (t : ℕ) → KeptWell CreateAt c t (Op.Create d kind)
+  create_kept lim t = record {
+    first = (CreateStep.LoadsDirectory, refl, (tt, tt, refl, λ q. omega arith));
+    more = λ phase value hook earlier added may here.
+        let s : CreateStep = here.0 in
+        let x : Phase = Phase.Trees (TreePhase.Create (create_of s)) in
+        let e : Traced = with_hook (event_at x value hook) hook in
+        subst (λ (p : Phase). MayFind p (next_of p hook).0 value → SaysAfter CreateAt c (Op.Create d kind) p value hook earlier added)
+        (sym here.1)
+        (λ holds.
+        call_says Create CreateStep TreePhase.Create create_of Knows so_far (IsThere c) (events_before c) (c.nodes + 3) false c (Op.Create d kind)
+        IsNodeReply (CreateHonest (SeenIn (e ∷ earlier)) (create_of s)) (create_adds (create_of s)) e earlier
+        (create_answers s (e ∷ earlier)) (events_before c s) here.2.3
+        (create_after (create_of s) s (found_by (create_next (create_of s) s).1 value)).0
+        (create_after (create_of s) s (found_by (create_next (create_of s) s).1 value)).1 [] added here.2.2
+        (create_ends (SeenIn earlier) (SeenIn (e ∷ earlier)) (create_of s) s value here.2.1 (sees e earlier))
+        (create_goes lim earlier s value here.2.0 (e ∷ earlier) holds))
+        may;
+    short = λ trace phase added here. create_within here.0 trace here.2.0 (here.2.3 refl);
+  }
+
+pub create_tells : (d : ℕ) (kind : Kind) (c : Config) → IsWithin c → (t : ℕ) (trace : List Traced) → IsTrace c t (Op.Create d kind) trace →
+    Tells c (Op.Create d kind) trace (course_of c t (Op.Create d kind) trace).comes (course_of c t (Op.Create d kind) trace).added
+create_tells d kind c lim t trace h = tells_well (CreateAt c d kind) c t (Op.Create d kind) (create_kept c d kind lim t) trace h
+
+pub create_short : (d : ℕ) (kind : Kind) (c : Config) → IsWithin c → (t : ℕ) (trace : List Traced) → IsTrace c t (Op.Create d kind) trace →
+    IsShort (most_events c (Op.Create d kind)) trace
+create_short d kind c lim t trace h = is_short_well (CreateAt c d kind) c t (Op.Create d kind) (create_kept c d kind lim t) trace h

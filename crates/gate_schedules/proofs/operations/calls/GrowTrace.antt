@@ -1,0 +1,132 @@
+-- Traces of a grow.
+use Rattle.std.proofs.{Common.{◌≡◌, ℕ, ◌≤◌, Bool, false, refl, sym, subst, inl, inr, arith}, lemmas.Bool.cases_Bool}
+use Rattle.std.specs.Prelude.{◌+◌, nat_lt, ◌==◌, Result, Ok, Err, List, [], ◌∷◌, length}
+use Rattle.access_model.specs.declared.{actions.Action.Action, errors.GateError.GateError, replies.{Next.Next, Reply.Reply}}
+use Rattle.cpu_words.specs.{Touches.found_by, declared.events.Event.Event}
+use Rattle.node_words.specs.Nodes.{word_of, as_file, unpacked, file_in}
+use Rattle.gated_tree.specs.Phases.{at_grow, grow_after, grow_next}
+use Rattle.gated_tree.specs.Refusals.{GrowHonest}
+use Rattle.gated_tree.specs.declared.{growth.{Grow.Grow, GrowStep.GrowStep}, phases.TreePhase.TreePhase}
+use Rattle.gate_schedules.{proofs.trees.Ends.grow_ends, specs.trees.Ends.{GrowKnows, IsReply, where_done}}
+use Rattle.gate_world.specs.{Configs.IsWithin, Courses.{IsTrace, MayHold, MayFind, course_of}, Found.SeenIn, Operations.first_grow}
+use Rattle.gate_world.specs.{Traces.{actions_of, IsHonest, IsShort, Tells, most_events}, Views.with_hook, Work.next_of}
+use Rattle.gate_world.specs.declared.{config.Config.Config, operations.Op.Op, views.Traced.Traced, work.Phase.Phase}
+use Rattle.gate_schedules.proofs.operations.calls.Trace.{Answers, CallAt, Stays, call_says, looked, made_some, sees}
+use Rattle.gate_schedules.proofs.traces.Says.{KeptWell, SaysAfter, event_at, tells_well, is_short_well}
+
+-- how many events a grow has done before a step
+abbrev events_before : GrowStep → ℕ
+events_before GrowStep.LoadsFile = 0
+events_before (GrowStep.LoadsUsed file) = 1
+events_before (GrowStep.ChargesBlocks file used) = 2
+events_before (GrowStep.GrowsFile file) = 3
+events_before GrowStep.RefundsBlocks = 4
+
+-- what a grow knows at its step, and what it has added
+abbrev Knows : ((Event → Bool) → Type 0) → Grow → Type 0
+Knows seen x = GrowKnows seen x x.step
+
+abbrev so_far : Grow → List Action
+so_far x = []
+
+-- its trace says no more
+abbrev IsThere : List Traced → GrowStep → Type 0
+IsThere trace s = Unit {0}
+
+module _ (c : Config) (file blocks : ℕ) where
+  -- the grow at a step
+  abbrev grow_of : GrowStep → Grow
+  grow_of s = at_grow (first_grow c file blocks) s
+
+  -- what its trace says at a phase
+  abbrev GrowAt : List Traced → Phase → List Action → Type 0
+  GrowAt = CallAt Grow GrowStep TreePhase.Grow grow_of Knows so_far IsThere events_before 5 false c (Op.Grow file blocks)
+
+  -- what comes after so many events
+  abbrev Comes : List Traced → ℕ → Next Grow → Type 0
+  Comes = Stays Grow GrowStep TreePhase.Grow grow_of Knows so_far IsThere events_before 5 false c (Op.Grow file blocks)
+
+  -- each event is followed by a later step of the grow, or by its end
+  grow_goes : (s : GrowStep) (value : ℕ) (trace : List Traced) → MayHold (grow_next (grow_of s) s).0 value →
+      Comes trace (events_before s) (grow_after (grow_of s) s (found_by (grow_next (grow_of s) s).1 value)).0
+  grow_goes GrowStep.LoadsFile value trace may =
+      looked (Comes trace 0) (grow_of GrowStep.LoadsFile) (λ node. grow_of (GrowStep.LoadsUsed node)) (file_in value)
+      (made_some (λ node. as_file node node.removed node.kind) (unpacked value) may)
+      (λ node. (GrowStep.LoadsUsed node, refl, tt, λ q. omega arith)) (λ refusal q. omega arith)
+  grow_goes (GrowStep.LoadsUsed node) value trace may = elim (cases_Bool (nat_lt c.capacity (value + blocks))) [
+    | inl full ↦ rw full (λ q. omega arith)
+    | inr room ↦ rw room (elim (cases_Bool (nat_lt c.capacity (node.size + blocks))) [
+      | inl large ↦ rw large (λ q. omega arith)
+      | inr fits ↦ rw fits (GrowStep.ChargesBlocks node value, refl, tt, λ q. omega arith)
+    ])
+  ]
+  grow_goes (GrowStep.ChargesBlocks node used) value trace may = elim (cases_Bool (value == used)) [
+    | inl e ↦ rw e (GrowStep.GrowsFile node, refl, tt, λ q. omega arith)
+    | inr e ↦ rw e (λ q. omega arith)
+  ]
+  grow_goes (GrowStep.GrowsFile node) value trace may = elim (cases_Bool (value == word_of node)) [
+    | inl e ↦ rw e (λ q. omega arith)
+    | inr e ↦ rw e (GrowStep.RefundsBlocks, refl, tt, λ q. omega arith)
+  ]
+  grow_goes GrowStep.RefundsBlocks value trace may = λ q. omega arith
+
+  -- why a grow is refused doesn't depend on its step
+  grow_cause : (s : GrowStep) (trace : List Traced) (refusal : GateError) → GrowHonest (SeenIn trace) (grow_of s) refusal →
+      IsHonest c (Op.Grow file blocks) refusal trace
+  grow_cause s trace GateError.NoEntry h = h
+  grow_cause s trace GateError.IsDir h = h
+  grow_cause s trace GateError.NoSpace h = h
+  grow_cause s trace GateError.Again h = h
+  grow_cause s trace refusal h = absurd h
+
+  -- what it has added, said both ways
+  grow_actions : (trace : List Traced) (answer : Result Reply GateError) →
+      where_done (Action.Grow file blocks) answer ≡ actions_of (Op.Grow file blocks) answer trace
+  grow_actions trace (Ok reply) = refl
+  grow_actions trace (Err refusal) = refl
+
+  -- so the trace of a grow says what its row asks for
+  grow_answers : (s : GrowStep) (trace : List Traced) →
+      Answers Grow GrowStep TreePhase.Grow grow_of Knows so_far IsThere events_before 5 false c (Op.Grow file blocks)
+      (IsReply Reply.Unit) (GrowHonest (SeenIn trace) (grow_of s)) (where_done (Action.Grow file blocks)) trace
+  grow_answers s trace = record {
+    told = λ reply h. h;
+    honest = grow_cause s trace;
+    actions = grow_actions trace;
+    short = λ h. h refl;
+  }
+
+  -- a step comes after at most that many events
+  grow_within : (s : GrowStep) (trace : List Traced) → length trace ≤ events_before s → length trace ≤ 5
+  grow_within GrowStep.LoadsFile trace h = omega (arith, h)
+  grow_within other trace h = omega (arith, h)
+
+  -- and keeps it along
+  grow_kept : (t : ℕ) → KeptWell GrowAt c t (Op.Grow file blocks)
+  grow_kept t = record {
+    first = (GrowStep.LoadsFile, refl, (tt, tt, refl, λ q. omega arith));
+    more = λ phase value hook earlier added may here.
+        let s : GrowStep = here.0 in
+        let x : Phase = Phase.Trees (TreePhase.Grow (grow_of s)) in
+        let e : Traced = with_hook (event_at x value hook) hook in
+        subst (λ (p : Phase). MayFind p (next_of p hook).0 value → SaysAfter GrowAt c (Op.Grow file blocks) p value hook earlier added)
+        (sym here.1)
+        (λ holds.
+        call_says Grow GrowStep TreePhase.Grow grow_of Knows so_far IsThere events_before 5 false c (Op.Grow file blocks)
+        (IsReply Reply.Unit) (GrowHonest (SeenIn (e ∷ earlier)) (grow_of s)) (where_done (Action.Grow file blocks)) e earlier
+        (grow_answers s (e ∷ earlier)) (events_before s) here.2.3
+        (grow_after (grow_of s) s (found_by (grow_next (grow_of s) s).1 value)).0
+        (grow_after (grow_of s) s (found_by (grow_next (grow_of s) s).1 value)).1 ([]) added here.2.2
+        (grow_ends (SeenIn earlier) (SeenIn (e ∷ earlier)) (grow_of s) s value here.2.1 (sees e earlier))
+        (grow_goes s value (e ∷ earlier) holds))
+        may;
+    short = λ trace phase added here. grow_within here.0 trace (here.2.3 refl);
+  }
+
+pub grow_tells : (file blocks : ℕ) (c : Config) → IsWithin c → (t : ℕ) (trace : List Traced) → IsTrace c t (Op.Grow file blocks) trace →
+    Tells c (Op.Grow file blocks) trace (course_of c t (Op.Grow file blocks) trace).comes (course_of c t (Op.Grow file blocks) trace).added
+grow_tells file blocks c lim t trace h = tells_well (GrowAt c file blocks) c t (Op.Grow file blocks) (grow_kept c file blocks t) trace h
+
+pub grow_short : (file blocks : ℕ) (c : Config) → IsWithin c → (t : ℕ) (trace : List Traced) → IsTrace c t (Op.Grow file blocks) trace →
+    IsShort (most_events c (Op.Grow file blocks)) trace
+grow_short file blocks c lim t trace h = is_short_well (GrowAt c file blocks) c t (Op.Grow file blocks) (grow_kept c file blocks t) trace h

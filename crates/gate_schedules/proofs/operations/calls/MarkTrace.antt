@@ -1,0 +1,145 @@
+-- Traces of a page fault and of a write-back.
+use Rattle.std.proofs.{Common.{◌≡◌, ℕ, ◌≤◌, Bool, true, false, refl, sym, subst, inl, inr, arith}, lemmas.Bool.cases_Bool}
+use Rattle.std.specs.Prelude.{◌==◌, Result, Ok, Err, List, [], ◌∷◌, length}
+use Rattle.access_model.specs.declared.{actions.Action.Action, errors.GateError.GateError, replies.{Next.Next, Reply.Reply}}
+use Rattle.cpu_words.specs.{Touches.found_by, declared.events.Event.Event}
+use Rattle.node_words.specs.Nodes.{word_of, as_file, unpacked, file_in}
+use Rattle.gated_tree.specs.Phases.{at_mark, mark_after, mark_done, mark_next}
+use Rattle.gated_tree.specs.Refusals.{FileHonest}
+use Rattle.gated_tree.specs.declared.{marks.{Mark.Mark, MarkStep.MarkStep}, phases.TreePhase.TreePhase}
+use Rattle.gate_schedules.{proofs.trees.Ends.mark_ends, specs.trees.Ends.{IsReply, where_done}}
+use Rattle.gate_world.specs.{Beginnings.first_phase, Configs.IsWithin, Courses.{IsTrace, MayHold, MayFind, course_of}, Found.SeenIn, Operations.first_mark}
+use Rattle.gate_world.specs.{Traces.{actions_of, IsHonest, IsShort, IsTold, Tells, most_events}, Views.with_hook, Work.next_of}
+use Rattle.gate_world.specs.declared.{config.Config.Config, operations.Op.Op, views.Traced.Traced, work.Phase.Phase}
+use Rattle.gate_schedules.proofs.operations.calls.Trace.{Answers, CallAt, Stays, call_says, looked, made_some, sees}
+use Rattle.gate_schedules.proofs.traces.Says.{KeptWell, SaysAfter, event_at, tells_well, is_short_well}
+
+-- how many events one has done before a step
+abbrev events_before : MarkStep → ℕ
+events_before MarkStep.LoadsFile = 0
+events_before (MarkStep.MarksFile file) = 1
+
+-- what one knows at its step, and what it has added
+abbrev Knows : ((Event → Bool) → Type 0) → Mark → Type 0
+Knows seen x = Unit {0}
+
+abbrev so_far : Mark → List Action
+so_far x = []
+
+-- its trace says no more
+abbrev IsThere : List Traced → MarkStep → Type 0
+IsThere trace s = Unit {0}
+
+-- the operation: a page fault sets a file's mark, a write-back clears it
+abbrev mark_op : ℕ → Bool → Op
+mark_op file true = Op.Fault file
+mark_op file false = Op.Flush file
+
+-- its first phase is the one of a mark
+mark_first : (c : Config) (t file : ℕ) (dirty : Bool) → first_phase c t (mark_op file dirty) ≡ Phase.Trees (TreePhase.Mark (first_mark dirty file))
+mark_first c t file true = refl
+mark_first c t file false = refl
+
+-- it is refused as a mark is
+mark_cause : (c : Config) (file : ℕ) (dirty : Bool) (trace : List Traced) (refusal : GateError) → FileHonest (SeenIn trace) file refusal →
+    IsHonest c (mark_op file dirty) refusal trace
+mark_cause c file true trace refusal h = h
+mark_cause c file false trace refusal h = h
+
+-- where it is done, it answers nothing else
+mark_told : (file : ℕ) (dirty : Bool) (trace : List Traced) (reply : Reply) → IsReply Reply.Unit reply →
+    IsTold (mark_op file dirty) reply trace
+mark_told file true trace reply h = h
+mark_told file false trace reply h = h
+
+-- what it has added, said both ways
+mark_actions : (file : ℕ) (dirty : Bool) (trace : List Traced) (answer : Result Reply GateError) →
+    where_done (mark_done dirty file) answer ≡ actions_of (mark_op file dirty) answer trace
+mark_actions file true trace (Ok reply) = refl
+mark_actions file true trace (Err refusal) = refl
+mark_actions file false trace (Ok reply) = refl
+mark_actions file false trace (Err refusal) = refl
+
+mark_short : (c : Config) (file : ℕ) (dirty : Bool) (trace : List Traced) → length trace ≤ 2 →
+    IsShort (most_events c (mark_op file dirty)) trace
+mark_short c file true trace h = h
+mark_short c file false trace h = h
+
+module _ (c : Config) (file : ℕ) (dirty : Bool) where
+  -- the mark at a step
+  abbrev mark_of : MarkStep → Mark
+  mark_of s = at_mark (first_mark dirty file) s
+
+  -- what its trace says at a phase
+  abbrev MarkAt : List Traced → Phase → List Action → Type 0
+  MarkAt = CallAt Mark MarkStep TreePhase.Mark mark_of Knows so_far IsThere events_before 2 false c (mark_op file dirty)
+
+  -- what comes after so many events
+  abbrev Comes : List Traced → ℕ → Next Mark → Type 0
+  Comes = Stays Mark MarkStep TreePhase.Mark mark_of Knows so_far IsThere events_before 2 false c (mark_op file dirty)
+
+  -- each event is followed by a later step of the mark, or by its end
+  mark_goes : (s : MarkStep) (value : ℕ) (trace : List Traced) → MayHold (mark_next (mark_of s) s).0 value →
+      Comes trace (events_before s) (mark_after (mark_of s) s (found_by (mark_next (mark_of s) s).1 value)).0
+  mark_goes MarkStep.LoadsFile value trace may =
+      looked (Comes trace 0) (mark_of MarkStep.LoadsFile) (λ node. mark_of (MarkStep.MarksFile node)) (file_in value)
+      (made_some (λ node. as_file node node.removed node.kind) (unpacked value) may)
+      (λ node. (MarkStep.MarksFile node, refl, tt, λ q. omega arith)) (λ refusal q. omega arith)
+  mark_goes (MarkStep.MarksFile node) value trace may = elim (cases_Bool (value == word_of node)) [
+    | inl e ↦ rw e (λ q. omega arith)
+    | inr e ↦ rw e (λ q. omega arith)
+  ]
+
+  -- so the trace of a mark says what its row asks for
+  mark_answers : (trace : List Traced) →
+      Answers Mark MarkStep TreePhase.Mark mark_of Knows so_far IsThere events_before 2 false c (mark_op file dirty)
+      (IsReply Reply.Unit) (FileHonest (SeenIn trace) file) (where_done (mark_done dirty file)) trace
+  mark_answers trace = record {
+    told = mark_told file dirty trace;
+    honest = mark_cause c file dirty trace;
+    actions = mark_actions file dirty trace;
+    short = λ h. mark_short c file dirty trace (h refl);
+  }
+
+  -- a step comes after at most that many events
+  mark_within : (s : MarkStep) (trace : List Traced) → length trace ≤ events_before s → length trace ≤ 2
+  mark_within MarkStep.LoadsFile trace h = omega (arith, h)
+  mark_within (MarkStep.MarksFile file) trace h = omega (arith, h)
+
+  -- and keeps it along
+  mark_kept : (t : ℕ) → KeptWell MarkAt c t (mark_op file dirty)
+  mark_kept t = record {
+    first = (MarkStep.LoadsFile, mark_first c t file dirty, (tt, tt, refl, λ q. omega arith));
+    more = λ phase value hook earlier added may here.
+        let s : MarkStep = here.0 in
+        let x : Phase = Phase.Trees (TreePhase.Mark (mark_of s)) in
+        let e : Traced = with_hook (event_at x value hook) hook in
+        subst (λ (p : Phase). MayFind p (next_of p hook).0 value → SaysAfter MarkAt c (mark_op file dirty) p value hook earlier added)
+        (sym here.1)
+        (λ holds.
+        call_says Mark MarkStep TreePhase.Mark mark_of Knows so_far IsThere events_before 2 false c (mark_op file dirty)
+        (IsReply Reply.Unit) (FileHonest (SeenIn (e ∷ earlier)) file) (where_done (mark_done dirty file)) e earlier
+        (mark_answers (e ∷ earlier)) (events_before s) here.2.3
+        (mark_after (mark_of s) s (found_by (mark_next (mark_of s) s).1 value)).0
+        (mark_after (mark_of s) s (found_by (mark_next (mark_of s) s).1 value)).1 ([]) added here.2.2
+        (mark_ends (SeenIn earlier) (SeenIn (e ∷ earlier)) (mark_of s) s value (sees e earlier))
+        (mark_goes s value (e ∷ earlier) holds))
+        may;
+    short = λ trace phase added here. mark_short c file dirty trace (mark_within here.0 trace (here.2.3 refl));
+  }
+
+pub fault_tells : (file : ℕ) (c : Config) → IsWithin c → (t : ℕ) (trace : List Traced) → IsTrace c t (Op.Fault file) trace →
+    Tells c (Op.Fault file) trace (course_of c t (Op.Fault file) trace).comes (course_of c t (Op.Fault file) trace).added
+fault_tells file c lim t trace h = tells_well (MarkAt c file true) c t (Op.Fault file) (mark_kept c file true t) trace h
+
+pub fault_short : (file : ℕ) (c : Config) → IsWithin c → (t : ℕ) (trace : List Traced) → IsTrace c t (Op.Fault file) trace →
+    IsShort (most_events c (Op.Fault file)) trace
+fault_short file c lim t trace h = is_short_well (MarkAt c file true) c t (Op.Fault file) (mark_kept c file true t) trace h
+
+pub flush_tells : (file : ℕ) (c : Config) → IsWithin c → (t : ℕ) (trace : List Traced) → IsTrace c t (Op.Flush file) trace →
+    Tells c (Op.Flush file) trace (course_of c t (Op.Flush file) trace).comes (course_of c t (Op.Flush file) trace).added
+flush_tells file c lim t trace h = tells_well (MarkAt c file false) c t (Op.Flush file) (mark_kept c file false t) trace h
+
+pub flush_short : (file : ℕ) (c : Config) → IsWithin c → (t : ℕ) (trace : List Traced) → IsTrace c t (Op.Flush file) trace →
+    IsShort (most_events c (Op.Flush file)) trace
+flush_short file c lim t trace h = is_short_well (MarkAt c file false) c t (Op.Flush file) (mark_kept c file false t) trace h

@@ -1,0 +1,125 @@
+-- Traces of a move.
+use Rattle.std.proofs.{Common.{◌≡◌, ℕ, ◌≤◌, Bool, false, refl, sym, subst, inl, inr, arith}, lemmas.Bool.cases_Bool}
+use Rattle.std.specs.Prelude.{◌==◌, Result, Ok, Err, List, ◌∷◌, length}
+use Rattle.access_model.specs.declared.{actions.Action.Action, errors.GateError.GateError, replies.{Next.Next, Reply.Reply}}
+use Rattle.cpu_words.specs.{Touches.found_by, declared.events.Event.Event}
+use Rattle.node_words.specs.Nodes.{word_of, as_file, as_directory, unpacked, file_in, directory_in}
+use Rattle.gated_tree.specs.Phases.{at_move, move_after, move_next}
+use Rattle.gated_tree.specs.{Refusals.MoveHonest, declared.{changes.{MoveStep.MoveStep, MoveTo.MoveTo}, phases.TreePhase.TreePhase}}
+use Rattle.gate_schedules.{proofs.trees.Ends.move_ends, specs.trees.Ends.{IsReply, MoveKnows, move_added, where_done}}
+use Rattle.gate_world.specs.{Configs.IsWithin, Courses.{IsTrace, MayHold, MayFind, course_of}, Found.SeenIn, Operations.first_move}
+use Rattle.gate_world.specs.{Traces.{actions_of, IsHonest, IsShort, Tells, most_events}, Views.with_hook, Work.next_of}
+use Rattle.gate_world.specs.declared.{config.Config.Config, operations.Op.Op, views.Traced.Traced, work.Phase.Phase}
+use Rattle.gate_schedules.proofs.operations.calls.Trace.{Answers, CallAt, Stays, call_says, looked, made_some, sees}
+use Rattle.gate_schedules.proofs.traces.Says.{KeptWell, SaysAfter, event_at, tells_well, is_short_well}
+
+-- how many events a move has done before a step
+abbrev events_before : MoveStep → ℕ
+events_before MoveStep.LoadsFile = 0
+events_before (MoveStep.LoadsDirectory file) = 1
+events_before (MoveStep.ChargesChild file) = 2
+events_before (MoveStep.MovesFile file) = 3
+events_before (MoveStep.RefundsChild dir answer) = 4
+
+-- what a move knows at its step, and what it has added
+abbrev Knows : ((Event → Bool) → Type 0) → MoveTo → Type 0
+Knows seen x = MoveKnows seen x x.step
+
+abbrev so_far : MoveTo → List Action
+so_far x = move_added x x.step
+
+-- its trace says no more
+abbrev IsThere : List Traced → MoveStep → Type 0
+IsThere trace s = Unit {0}
+
+module _ (c : Config) (file dir : ℕ) where
+  -- the move at a step
+  abbrev move_of : MoveStep → MoveTo
+  move_of s = at_move (first_move file dir) s
+
+  -- what its trace says at a phase
+  abbrev MoveAt : List Traced → Phase → List Action → Type 0
+  MoveAt = CallAt MoveTo MoveStep TreePhase.MoveTo move_of Knows so_far IsThere events_before 5 false c (Op.MoveTo file dir)
+
+  -- what comes after so many events
+  abbrev Comes : List Traced → ℕ → Next MoveTo → Type 0
+  Comes = Stays MoveTo MoveStep TreePhase.MoveTo move_of Knows so_far IsThere events_before 5 false c (Op.MoveTo file dir)
+
+  -- each event is followed by a later step of the move, or by its end
+  move_goes : (s : MoveStep) (value : ℕ) (trace : List Traced) → MayHold (move_next (move_of s) s).0 value →
+      Comes trace (events_before s) (move_after (move_of s) s (found_by (move_next (move_of s) s).1 value)).0
+  move_goes MoveStep.LoadsFile value trace may =
+      looked (Comes trace 0) (move_of MoveStep.LoadsFile) (λ node. move_of (MoveStep.LoadsDirectory node)) (file_in value)
+      (made_some (λ node. as_file node node.removed node.kind) (unpacked value) may)
+      (λ node. (MoveStep.LoadsDirectory node, refl, tt, λ q. omega arith)) (λ refusal q. omega arith)
+  move_goes (MoveStep.LoadsDirectory node) value trace may =
+      looked (Comes trace 1) (move_of (MoveStep.LoadsDirectory node)) (λ found. move_of (MoveStep.ChargesChild node)) (directory_in value)
+      (made_some (λ found. as_directory found found.kind) (unpacked value) may)
+      (λ found. (MoveStep.ChargesChild node, refl, tt, λ q. omega arith)) (λ refusal q. omega arith)
+  move_goes (MoveStep.ChargesChild node) value trace may = (MoveStep.MovesFile node, refl, tt, λ q. omega arith)
+  move_goes (MoveStep.MovesFile node) value trace may = elim (cases_Bool (value == word_of node)) [
+    | inl e ↦ rw e (MoveStep.RefundsChild node.parent (Ok Reply.Unit), refl, tt, λ q. omega arith)
+    | inr e ↦ rw e (MoveStep.RefundsChild dir (Err GateError.Again), refl, tt, λ q. omega arith)
+  ]
+  move_goes (MoveStep.RefundsChild from answer) value trace may = λ q. omega arith
+
+  -- why a move is refused doesn't depend on its step
+  move_cause : (s : MoveStep) (trace : List Traced) (refusal : GateError) → MoveHonest (SeenIn trace) (move_of s) refusal →
+      IsHonest c (Op.MoveTo file dir) refusal trace
+  move_cause s trace GateError.NoEntry h = h
+  move_cause s trace GateError.IsDir h = h
+  move_cause s trace GateError.NotDir h = h
+  move_cause s trace GateError.Again h = h
+  move_cause s trace refusal h = absurd h
+
+  -- what it has added, said both ways
+  move_actions : (trace : List Traced) (answer : Result Reply GateError) →
+      where_done (Action.MoveTo file dir) answer ≡ actions_of (Op.MoveTo file dir) answer trace
+  move_actions trace (Ok reply) = refl
+  move_actions trace (Err refusal) = refl
+
+  -- so the trace of a move says what its row asks for
+  move_answers : (s : MoveStep) (trace : List Traced) →
+      Answers MoveTo MoveStep TreePhase.MoveTo move_of Knows so_far IsThere events_before 5 false c (Op.MoveTo file dir)
+      (IsReply Reply.Unit) (MoveHonest (SeenIn trace) (move_of s)) (where_done (Action.MoveTo file dir)) trace
+  move_answers s trace = record {
+    told = λ reply h. h;
+    honest = move_cause s trace;
+    actions = move_actions trace;
+    short = λ h. h refl;
+  }
+
+  -- a step comes after at most that many events
+  move_within : (s : MoveStep) (trace : List Traced) → length trace ≤ events_before s → length trace ≤ 5
+  move_within MoveStep.LoadsFile trace h = omega (arith, h)
+  move_within other trace h = omega (arith, h)
+
+  -- and keeps it along
+  move_kept : (t : ℕ) → KeptWell MoveAt c t (Op.MoveTo file dir)
+  move_kept t = record {
+    first = (MoveStep.LoadsFile, refl, (tt, tt, refl, λ q. omega arith));
+    more = λ phase value hook earlier added may here.
+        let s : MoveStep = here.0 in
+        let x : Phase = Phase.Trees (TreePhase.MoveTo (move_of s)) in
+        let e : Traced = with_hook (event_at x value hook) hook in
+        subst (λ (p : Phase). MayFind p (next_of p hook).0 value → SaysAfter MoveAt c (Op.MoveTo file dir) p value hook earlier added)
+        (sym here.1)
+        (λ holds.
+        call_says MoveTo MoveStep TreePhase.MoveTo move_of Knows so_far IsThere events_before 5 false c (Op.MoveTo file dir)
+        (IsReply Reply.Unit) (MoveHonest (SeenIn (e ∷ earlier)) (move_of s)) (where_done (Action.MoveTo file dir)) e earlier
+        (move_answers s (e ∷ earlier)) (events_before s) here.2.3
+        (move_after (move_of s) s (found_by (move_next (move_of s) s).1 value)).0
+        (move_after (move_of s) s (found_by (move_next (move_of s) s).1 value)).1 (move_added (move_of s) s) added here.2.2
+        (move_ends (SeenIn earlier) (SeenIn (e ∷ earlier)) (move_of s) s value here.2.1 (sees e earlier))
+        (move_goes s value (e ∷ earlier) holds))
+        may;
+    short = λ trace phase added here. move_within here.0 trace (here.2.3 refl);
+  }
+
+pub move_tells : (file dir : ℕ) (c : Config) → IsWithin c → (t : ℕ) (trace : List Traced) → IsTrace c t (Op.MoveTo file dir) trace →
+    Tells c (Op.MoveTo file dir) trace (course_of c t (Op.MoveTo file dir) trace).comes (course_of c t (Op.MoveTo file dir) trace).added
+move_tells file dir c lim t trace h = tells_well (MoveAt c file dir) c t (Op.MoveTo file dir) (move_kept c file dir t) trace h
+
+pub move_short : (file dir : ℕ) (c : Config) → IsWithin c → (t : ℕ) (trace : List Traced) → IsTrace c t (Op.MoveTo file dir) trace →
+    IsShort (most_events c (Op.MoveTo file dir)) trace
+move_short file dir c lim t trace h = is_short_well (MoveAt c file dir) c t (Op.MoveTo file dir) (move_kept c file dir t) trace h

@@ -1,0 +1,122 @@
+-- Traces of an open.
+use Rattle.std.proofs.{Common.{◌≡◌, ℕ, ◌<◌, ◌≤◌, Bool, true, false, refl, sym, ap, subst, inl, inr, arith}, lemmas.Bool.{cases_Bool, lt-ltb}}
+use Rattle.std.specs.Prelude.{◌==◌, Option, Some, None, Result, Ok, Err, List, [], ◌∷◌, length, nat_lt, is_some}
+use Rattle.access_model.specs.declared.{actions.Action.Action, errors.GateError.GateError, replies.{Next.Next, Reply.Reply}}
+use Rattle.cpu_words.specs.{Touches.found_by, declared.events.Event.Event}
+use Rattle.node_words.proofs.Refused.{size_loaded}
+use Rattle.node_words.specs.Nodes.{word_of, opens_in, as_file, unpacked, file_in}
+use Rattle.node_words.specs.Phases.{after_look}
+use Rattle.gated_tree.specs.Phases.{at_open, opens_from, open_after, open_next}
+use Rattle.node_words.specs.declared.nodes.NodeWord.{NodeWord}
+use Rattle.gated_tree.specs.Refusals.{FileHonest}
+use Rattle.gated_tree.specs.declared.opens.OpenFile.{OpenFile}
+use Rattle.gated_tree.specs.declared.opens.OpenStep.{OpenStep}
+use Rattle.gated_tree.specs.declared.phases.TreePhase.{TreePhase}
+use Rattle.gate_schedules.{proofs.trees.Ends.open_ends, specs.trees.Ends.{IsReply, where_done}}
+use Rattle.gate_world.specs.{Configs.IsWithin, Courses.{IsTrace, MayFind, OpenMayFind, course_of}, Found.SeenIn, Operations.first_open}
+use Rattle.gate_world.specs.{Traces.{actions_of, IsShort, Tells, most_events}, Views.with_hook, Work.next_of}
+use Rattle.gate_world.specs.declared.{config.Config.Config, operations.Op.Op, views.Traced.Traced, work.Phase.Phase}
+use Rattle.gate_schedules.proofs.operations.calls.Trace.{Answers, CallAt, Stays, call_says, made_some, sees}
+use Rattle.gate_schedules.proofs.traces.Says.{KeptWell, SaysAfter, event_at, tells_well, is_short_well}
+
+-- how many events an open has done before a step
+abbrev events_before : OpenStep → ℕ
+events_before OpenStep.LoadsFile = 0
+events_before (OpenStep.OpensFile file) = 1
+
+-- what an open knows at its step, and what it has added
+abbrev Knows : ((Event → Bool) → Type 0) → OpenFile → Type 0
+Knows seen x = Unit {0}
+
+abbrev so_far : OpenFile → List Action
+so_far x = []
+
+-- its trace says no more
+abbrev IsThere : List Traced → OpenStep → Type 0
+IsThere trace s = Unit {0}
+
+module _ (c : Config) (file : ℕ) where
+  -- the open at a step
+  abbrev open_of : OpenStep → OpenFile
+  open_of s = at_open (first_open file) s
+
+  -- what its trace says at a phase
+  abbrev OpenAt : List Traced → Phase → List Action → Type 0
+  OpenAt = CallAt OpenFile OpenStep TreePhase.OpenFile open_of Knows so_far IsThere events_before 2 false c (Op.Open file)
+
+  -- what comes after so many events
+  abbrev Comes : List Traced → ℕ → Next OpenFile → Type 0
+  Comes = Stays OpenFile OpenStep TreePhase.OpenFile open_of Knows so_far IsThere events_before 2 false c (Op.Open file)
+
+  -- a look that finds its file room goes on
+  look_goes : (value : ℕ) (trace : List Traced) (r : Option (Result NodeWord GateError)) → file_in value ≡ r → is_some r ≡ true →
+      opens_in value < 64 →
+      Comes trace 0 (after_look (open_of OpenStep.LoadsFile) (λ node. open_of (opens_from node (nat_lt node.opens 64))) r)
+  look_goes value trace None e some room = absurd cc
+  look_goes value trace (Some (Ok node)) e some room =
+      let same : opens_in value ≡ node.opens = ap (λ (x : NodeWord). x.opens) (size_loaded value node e) in
+      let fits : nat_lt node.opens 64 ≡ true = lt-ltb node.opens 64 (omega (arith, same, room)) in
+      rw fits (OpenStep.OpensFile node, refl, tt, λ q. omega arith)
+  look_goes value trace (Some (Err refusal)) e some room = λ q. omega arith
+
+  -- each event is followed by a later step of the open, or by its end
+  open_goes : (s : OpenStep) (value : ℕ) (trace : List Traced) → OpenMayFind s value →
+      Comes trace (events_before s) (open_after (open_of s) s (found_by (open_next (open_of s) s).1 value)).0
+  open_goes OpenStep.LoadsFile value trace may =
+      look_goes value trace (file_in value) refl (made_some (λ node. as_file node node.removed node.kind) (unpacked value) may.0) may.1
+  open_goes (OpenStep.OpensFile node) value trace may = elim (cases_Bool (value == word_of node)) [
+    | inl e ↦ rw e (λ q. omega arith)
+    | inr e ↦ rw e (λ q. omega arith)
+  ]
+
+  -- what it has added, said both ways
+  open_actions : (trace : List Traced) (answer : Result Reply GateError) →
+      where_done (Action.Open file) answer ≡ actions_of (Op.Open file) answer trace
+  open_actions trace (Ok reply) = refl
+  open_actions trace (Err refusal) = refl
+
+  -- so the trace of an open says what its row asks for
+  open_answers : (trace : List Traced) →
+      Answers OpenFile OpenStep TreePhase.OpenFile open_of Knows so_far IsThere events_before 2 false c (Op.Open file)
+      (IsReply Reply.Unit) (FileHonest (SeenIn trace) file) (where_done (Action.Open file)) trace
+  open_answers trace = record {
+    told = λ reply h. h;
+    honest = λ refusal h. h;
+    actions = open_actions trace;
+    short = λ h. h refl;
+  }
+
+  -- a step comes after at most that many events
+  open_within : (s : OpenStep) (trace : List Traced) → length trace ≤ events_before s → length trace ≤ 2
+  open_within OpenStep.LoadsFile trace h = omega (arith, h)
+  open_within (OpenStep.OpensFile file) trace h = omega (arith, h)
+
+  -- and keeps it along
+  open_kept : (t : ℕ) → KeptWell OpenAt c t (Op.Open file)
+  open_kept t = record {
+    first = (OpenStep.LoadsFile, refl, (tt, tt, refl, λ q. omega arith));
+    more = λ phase value hook earlier added may here.
+        let s : OpenStep = here.0 in
+        let x : Phase = Phase.Trees (TreePhase.OpenFile (open_of s)) in
+        let e : Traced = with_hook (event_at x value hook) hook in
+        subst (λ (p : Phase). MayFind p (next_of p hook).0 value → SaysAfter OpenAt c (Op.Open file) p value hook earlier added)
+        (sym here.1)
+        (λ holds.
+        call_says OpenFile OpenStep TreePhase.OpenFile open_of Knows so_far IsThere events_before 2 false c (Op.Open file)
+        (IsReply Reply.Unit) (FileHonest (SeenIn (e ∷ earlier)) file) (where_done (Action.Open file)) e earlier
+        (open_answers (e ∷ earlier)) (events_before s) here.2.3
+        (open_after (open_of s) s (found_by (open_next (open_of s) s).1 value)).0
+        (open_after (open_of s) s (found_by (open_next (open_of s) s).1 value)).1 ([]) added here.2.2
+        (open_ends (SeenIn earlier) (SeenIn (e ∷ earlier)) (open_of s) s value (sees e earlier))
+        (open_goes s value (e ∷ earlier) holds))
+        may;
+    short = λ trace phase added here. open_within here.0 trace (here.2.3 refl);
+  }
+
+pub open_tells : (file : ℕ) (c : Config) → IsWithin c → (t : ℕ) (trace : List Traced) → IsTrace c t (Op.Open file) trace →
+    Tells c (Op.Open file) trace (course_of c t (Op.Open file) trace).comes (course_of c t (Op.Open file) trace).added
+open_tells file c lim t trace h = tells_well (OpenAt c file) c t (Op.Open file) (open_kept c file t) trace h
+
+pub open_short : (file : ℕ) (c : Config) → IsWithin c → (t : ℕ) (trace : List Traced) → IsTrace c t (Op.Open file) trace →
+    IsShort (most_events c (Op.Open file)) trace
+open_short file c lim t trace h = is_short_well (OpenAt c file) c t (Op.Open file) (open_kept c file t) trace h

@@ -1,0 +1,209 @@
+-- The calls at the tree run out, a snapshot where it finds `umount` free.
+use Rattle.std.proofs.Common.{◌≡◌, ℕ, ◌+◌, ◌<◌, Bool, true, false, refl, sym, ◌∙◌, inl, inr, arith, true≢false}
+use Rattle.std.proofs.lemmas.Bool.{cases_Bool, ltb-true, lt-ltb, Decides.eqb_tells}
+use Rattle.std.specs.Prelude.{◌-◌, nat_lt, is_some, option_map, Option, Some, None, Result, Ok, Err}
+use Rattle.access_model.specs.declared.{actions.Kind.Kind, errors.GateError.GateError}
+use Rattle.cpu_words.specs.{Hooks.HookAnswer, Touches.found_by, Words.{Words, read}}
+use Rattle.node_words.specs.Nodes.{word_of, is_stray, node_of, opens_in, unpacked, as_file, as_directory}
+use Rattle.node_words.specs.Phases.{after_look}
+use Rattle.gated_tree.specs.Phases.{next as tree_next, after as tree_after, at_open, opens_from, create_next, create_after, create_looked}
+use Rattle.gated_tree.specs.Phases.{remove_next, remove_after, grow_next, grow_after, move_next, move_after, mark_next, mark_after, open_next, open_after}
+use Rattle.node_words.specs.Phases.{clear_after}
+use Rattle.gated_tree.specs.Phases.{snapshot_next, snapshot_after, snapshot_locked_out}
+use Rattle.gated_tree.specs.declared.changes.{Create.Create, CreateStep.CreateStep, MoveStep.MoveStep, MoveTo.MoveTo, Remove.Remove, RemoveStep.RemoveStep}
+use Rattle.node_words.specs.declared.marks.ClearMarks.{ClearMarks}
+use Rattle.gated_tree.specs.declared.growth.Grow.{Grow}
+use Rattle.gated_tree.specs.declared.growth.GrowStep.{GrowStep}
+use Rattle.gated_tree.specs.declared.marks.Mark.{Mark}
+use Rattle.gated_tree.specs.declared.marks.MarkStep.{MarkStep}
+use Rattle.node_words.specs.declared.nodes.NodeWord.{NodeWord}
+use Rattle.gated_tree.specs.declared.opens.OpenFile.{OpenFile}
+use Rattle.gated_tree.specs.declared.opens.OpenStep.{OpenStep}
+use Rattle.gated_tree.specs.declared.phases.TreePhase.{TreePhase}
+use Rattle.gated_tree.specs.declared.snapshots.{Snapshot.Snapshot, SnapshotStep.SnapshotStep}
+use Rattle.gate_world.specs.{Courses.{MayHold, MayFind, OpenMayFind}, Worlds.{words_after, found_at}, declared.{config.Config.Config, work.Phase.Phase}}
+use Rattle.gate_schedules.proofs.{frames.MayHolds.events_may_be, operations.deadlocks.Falls.falls_as}
+use Rattle.gate_schedules.specs.operations.Ranks.{rank, create_rank, remove_rank, grow_rank, move_rank, mark_rank, open_rank, snapshot_rank, tree_rank}
+use Rattle.gate_schedules.specs.operations.Ways.{IsFree, SnapshotIsFree, TreeIsFree, Falls, PhaseEnds}
+
+module _ {P : Type 0} (rank_of : P → ℕ) (free : P → Type 0) (n : ℕ) (again : P) (to : NodeWord → P)
+    (goes : (a : NodeWord) → (rank_of (to a) < n) × free (to a)) where
+  answer_falls : (r : Result NodeWord GateError) → Falls rank_of free n (after_look again to (Some r))
+  answer_falls (Ok a) = goes a
+  answer_falls (Err refusal) = tt
+
+  look_falls : (kind_of : NodeWord → Result NodeWord GateError) (o : Option NodeWord) → is_some o ≡ true →
+      Falls rank_of free n (after_look again to (option_map kind_of o))
+  look_falls kind_of None h = absurd (true≢false (sym h))
+  look_falls kind_of (Some node) h = answer_falls (kind_of node)
+
+module _ (w : Words) where
+  module _ (c : Create) where
+    create_looked_falls : (node : ℕ) (o : Option NodeWord) → is_some o ≡ true →
+        Falls (λ (y : Create). create_rank y.nodes y.step) (λ (y : Create). Unit {0}) (create_rank c.nodes (CreateStep.LoadsNode node))
+        (create_looked c node o)
+    create_looked_falls node None h = absurd (true≢false (sym h))
+    create_looked_falls node (Some found) h =
+        elim (cases_Bool (is_some found.kind)) [
+          | inl k ↦ rw k (
+              elim (cases_Bool (nat_lt (node + 1) c.nodes)) [
+                | inl q ↦ rw q (omega (arith, ltb-true (node + 1) c.nodes q), tt)
+                | inr q ↦ rw q tt
+              ]
+              )
+          | inr k ↦ rw k (omega arith, tt)
+        ]
+
+    create_falls : (s : CreateStep) → MayHold (create_next c s).0 (read w (create_next c s).0) →
+        Falls (λ (y : Create). create_rank y.nodes y.step) (λ (y : Create). Unit {0}) (create_rank c.nodes s)
+        (create_after c s (found_by (create_next c s).1 (read w (create_next c s).0))).0
+    create_falls CreateStep.LoadsDirectory h =
+        look_falls (λ (y : Create). create_rank y.nodes y.step) (λ (y : Create). Unit {0}) (create_rank c.nodes CreateStep.LoadsDirectory) _ _
+        (λ a. (omega arith, tt)) (λ node. as_directory node node.kind) (unpacked (w.node c.dir)) h
+    create_falls (CreateStep.LoadsNode node) h = create_looked_falls node (unpacked (w.node node)) h
+    create_falls (CreateStep.ChargesChild node) h = (omega arith, tt)
+    create_falls (CreateStep.TakesNode node) h =
+        elim (eqb_tells (w.node node) 0) [ inl q ↦ rw q.0 tt | inr q ↦ rw q.0 (omega arith, tt) ]
+    create_falls CreateStep.RefundsChild h = tt
+
+  remove_falls : (r : Remove) (s : RemoveStep) → MayHold (remove_next r s).0 (read w (remove_next r s).0) →
+      Falls (λ (y : Remove). remove_rank y.step) (λ (y : Remove). Unit {0}) (remove_rank s)
+      (remove_after r s (found_by (remove_next r s).1 (read w (remove_next r s).0))).0
+  remove_falls r RemoveStep.LoadsFile h =
+      look_falls (λ (y : Remove). remove_rank y.step) (λ (y : Remove). Unit {0}) 3 _ _
+      (λ file. elim (eqb_tells file.opens 0) [ inl q ↦ rw q.0 (omega arith, tt) | inr q ↦ rw q.0 (omega arith, tt) ])
+      (λ node. as_file node node.removed node.kind) (unpacked (w.node r.file)) h
+  remove_falls r (RemoveStep.FreesNode file) h =
+      elim (eqb_tells (w.node r.file) (word_of file)) [ inl q ↦ rw q.0 (omega arith, tt) | inr q ↦ rw q.0 tt ]
+  remove_falls r (RemoveStep.CountsRemoved file) h = (omega arith, tt)
+  remove_falls r (RemoveStep.MarksRemoved file) h =
+      elim (eqb_tells (w.node r.file) (word_of file)) [ inl q ↦ rw q.0 (omega arith, tt) | inr q ↦ rw q.0 (omega arith, tt) ]
+  remove_falls r RemoveStep.RefundsRemoved h = tt
+  remove_falls r (RemoveStep.RefundsBlocks file) h = (omega arith, tt)
+  remove_falls r (RemoveStep.RefundsChild file) h = tt
+
+  grow_falls : (g : Grow) (s : GrowStep) → MayHold (grow_next g s).0 (read w (grow_next g s).0) →
+      Falls (λ (y : Grow). grow_rank y.step) (λ (y : Grow). Unit {0}) (grow_rank s)
+      (grow_after g s (found_by (grow_next g s).1 (read w (grow_next g s).0))).0
+  grow_falls g GrowStep.LoadsFile h =
+      look_falls (λ (y : Grow). grow_rank y.step) (λ (y : Grow). Unit {0}) 4 _ _
+      (λ a. (omega arith, tt)) (λ node. as_file node node.removed node.kind) (unpacked (w.node g.file)) h
+  grow_falls g (GrowStep.LoadsUsed file) h =
+      elim (cases_Bool (nat_lt g.capacity (w.used + g.blocks))) [
+        | inl q ↦ rw q tt
+        | inr q ↦ rw q (
+            elim (cases_Bool (nat_lt g.capacity (file.size + g.blocks))) [ inl k ↦ rw k tt | inr k ↦ rw k (omega arith, tt) ]
+            )
+      ]
+  grow_falls g (GrowStep.ChargesBlocks file used) h = elim (eqb_tells w.used used) [ inl q ↦ rw q.0 (omega arith, tt) | inr q ↦ rw q.0 tt ]
+  grow_falls g (GrowStep.GrowsFile file) h =
+      elim (eqb_tells (w.node g.file) (word_of file)) [ inl q ↦ rw q.0 tt | inr q ↦ rw q.0 (omega arith, tt) ]
+  grow_falls g GrowStep.RefundsBlocks h = tt
+
+  move_falls : (m : MoveTo) (s : MoveStep) → MayHold (move_next m s).0 (read w (move_next m s).0) →
+      Falls (λ (y : MoveTo). move_rank y.step) (λ (y : MoveTo). Unit {0}) (move_rank s)
+      (move_after m s (found_by (move_next m s).1 (read w (move_next m s).0))).0
+  move_falls m MoveStep.LoadsFile h =
+      look_falls (λ (y : MoveTo). move_rank y.step) (λ (y : MoveTo). Unit {0}) 4 _ _
+      (λ a. (omega arith, tt)) (λ node. as_file node node.removed node.kind) (unpacked (w.node m.file)) h
+  move_falls m (MoveStep.LoadsDirectory file) h =
+      look_falls (λ (y : MoveTo). move_rank y.step) (λ (y : MoveTo). Unit {0}) 3 _ _
+      (λ a. (omega arith, tt)) (λ node. as_directory node node.kind) (unpacked (w.node m.dir)) h
+  move_falls m (MoveStep.ChargesChild file) h = (omega arith, tt)
+  move_falls m (MoveStep.MovesFile file) h =
+      elim (eqb_tells (w.node m.file) (word_of file)) [ inl q ↦ rw q.0 (omega arith, tt) | inr q ↦ rw q.0 (omega arith, tt) ]
+  move_falls m (MoveStep.RefundsChild dir answer) h = tt
+
+  mark_falls : (m : Mark) (s : MarkStep) → MayHold (mark_next m s).0 (read w (mark_next m s).0) →
+      Falls (λ (y : Mark). mark_rank y.step) (λ (y : Mark). Unit {0}) (mark_rank s)
+      (mark_after m s (found_by (mark_next m s).1 (read w (mark_next m s).0))).0
+  mark_falls m MarkStep.LoadsFile h =
+      look_falls (λ (y : Mark). mark_rank y.step) (λ (y : Mark). Unit {0}) 1 _ _
+      (λ a. (omega arith, tt)) (λ node. as_file node node.removed node.kind) (unpacked (w.node m.file)) h
+  mark_falls m (MarkStep.MarksFile file) h = elim (eqb_tells (w.node m.file) (word_of file)) [ inl q ↦ rw q.0 tt | inr q ↦ rw q.0 tt ]
+
+  -- an open finds room, so it loads its file once
+  open_kind_falls : (o : OpenFile) (node : NodeWord) → (nat_lt node.opens 64) ≡ true → (removed : Bool) (kind : Option Kind) →
+      Falls (λ (y : OpenFile). open_rank y.step) (λ (y : OpenFile). Unit {0}) 1
+      (after_look (at_open o OpenStep.LoadsFile) (λ file. at_open o (opens_from file (nat_lt file.opens 64)))
+      (Some (as_file node removed kind)))
+  open_kind_falls o node room removed None = tt
+  open_kind_falls o node room true (Some Kind.File) = tt
+  open_kind_falls o node room false (Some Kind.File) = rw room (omega arith, tt)
+  open_kind_falls o node room removed (Some Kind.Dir) = tt
+
+  open_falls : (o : OpenFile) (s : OpenStep) → OpenMayFind s (read w (open_next o s).0) →
+      Falls (λ (y : OpenFile). open_rank y.step) (λ (y : OpenFile). Unit {0}) (open_rank s)
+      (open_after o s (found_by (open_next o s).1 (read w (open_next o s).0))).0
+  open_falls o OpenStep.LoadsFile h =
+      elim (cases_Bool (is_stray (w.node o.file))) [
+        | inl q ↦ absurd (true≢false (sym h.0 ∙ rw q refl))
+        | inr q ↦
+            let node : NodeWord = node_of (w.node o.file) in
+            rw q (open_kind_falls o node (lt-ltb (opens_in (w.node o.file)) 64 h.1) node.removed node.kind)
+      ]
+  open_falls o (OpenStep.OpensFile file) h = elim (eqb_tells (w.node o.file) (word_of file)) [ inl q ↦ rw q.0 tt | inr q ↦ rw q.0 tt ]
+
+  -- a snapshot that finds `umount` free
+  locked_falls : (after : Words) (x : Snapshot) → (x.wait ≡ true → ⊥) → (b : Bool) → x.wait ≡ b →
+      Falls (λ (y : Snapshot). snapshot_rank y.nodes y.step) (λ (y : Snapshot). SnapshotIsFree after y.step y.wait)
+      (snapshot_rank x.nodes SnapshotStep.Locks) (snapshot_locked_out x b)
+  locked_falls after x never true e = absurd (never e)
+  locked_falls after x never false e = tt
+
+  snapshot_falls : (after : Words) (x : Snapshot) (s : SnapshotStep) → SnapshotIsFree w s x.wait →
+      MayHold (snapshot_next x s).0 (read w (snapshot_next x s).0) →
+      Falls (λ (y : Snapshot). snapshot_rank y.nodes y.step) (λ (y : Snapshot). SnapshotIsFree after y.step y.wait) (snapshot_rank x.nodes s)
+      (snapshot_after x s (found_by (snapshot_next x s).1 (read w (snapshot_next x s).0))).0
+  snapshot_falls after x SnapshotStep.Locks free h =
+      elim (eqb_tells w.umount 0) [
+        | inl q ↦ rw q.0 (omega arith, tt)
+        | inr q ↦ rw q.0 (locked_falls after x (λ e. q.1 (free e)) x.wait refl)
+      ]
+  snapshot_falls after x SnapshotStep.LoadsStage free h =
+      elim (eqb_tells w.stage 4) [ inl q ↦ rw q.0 (omega arith, tt) | inr q ↦ rw q.0 (omega arith, tt) ]
+  snapshot_falls after x SnapshotStep.LoadsUsed free h = (omega arith, tt)
+  snapshot_falls after x (SnapshotStep.LoadsNode node) free h =
+      rw h (
+      elim (cases_Bool (nat_lt (node + 1) x.nodes)) [
+        | inl q ↦ rw q (omega (arith, ltb-true (node + 1) x.nodes q), tt)
+        | inr q ↦ rw q (omega arith, tt)
+      ]
+      )
+  snapshot_falls after x (SnapshotStep.LoadsKids node) free h =
+      elim (cases_Bool (nat_lt (node + 1) x.nodes)) [
+        | inl q ↦ rw q (omega (arith, ltb-true (node + 1) x.nodes q), tt)
+        | inr q ↦ rw q (omega arith, tt)
+      ]
+  snapshot_falls after x (SnapshotStep.Releases answer) free h = tt
+
+  pub clear_falls : (x : ClearMarks) (found : ℕ) →
+      Falls (λ (y : ClearMarks). y.nodes - y.node) (λ (y : ClearMarks). Unit {0}) (x.nodes - x.node) (clear_after x found).0
+  clear_falls x found =
+      elim (cases_Bool (nat_lt (x.node + 1) x.nodes)) [
+        | inl q ↦ rw q (omega (arith, ltb-true (x.node + 1) x.nodes q), tt)
+        | inr q ↦ rw q tt
+      ]
+
+  -- each event of a call
+  tree_falls : (after : Words) (hook : HookAnswer) (x : TreePhase) → TreeIsFree w x →
+      MayFind (Phase.Trees x) (tree_next x hook).0 (read w (tree_next x hook).0) →
+      Falls tree_rank (TreeIsFree after) (tree_rank x)
+      (tree_after x (found_by (tree_next x hook).1 (read w (tree_next x hook).0)) hook).0
+  tree_falls after hook (TreePhase.Create x) free h = falls_as TreePhase.Create tree_rank (TreeIsFree after) _ _ (create_falls x x.step h)
+  tree_falls after hook (TreePhase.Remove x) free h = falls_as TreePhase.Remove tree_rank (TreeIsFree after) _ _ (remove_falls x x.step h)
+  tree_falls after hook (TreePhase.Grow x) free h = falls_as TreePhase.Grow tree_rank (TreeIsFree after) _ _ (grow_falls x x.step h)
+  tree_falls after hook (TreePhase.MoveTo x) free h = falls_as TreePhase.MoveTo tree_rank (TreeIsFree after) _ _ (move_falls x x.step h)
+  tree_falls after hook (TreePhase.Mark x) free h = falls_as TreePhase.Mark tree_rank (TreeIsFree after) _ _ (mark_falls x x.step h)
+  tree_falls after hook (TreePhase.OpenFile x) free h = falls_as TreePhase.OpenFile tree_rank (TreeIsFree after) _ _ (open_falls x x.step h)
+  tree_falls after hook (TreePhase.Snapshot x) free h =
+      falls_as TreePhase.Snapshot tree_rank (TreeIsFree after) _ _ (snapshot_falls after x x.step free h)
+  tree_falls after hook (TreePhase.ClearMarks x) free h = falls_as TreePhase.ClearMarks tree_rank (TreeIsFree after) _ _ (clear_falls x (w.node x.node))
+
+pub tree_ends : (c : Config) (x : TreePhase) → PhaseEnds c (Phase.Trees x)
+tree_ends c x = record {
+  falls = λ lim w good t lt hook at free.
+      let after : Words = words_after w.words (Phase.Trees x) hook in
+      falls_as Phase.Trees (rank after) (IsFree c after) (tree_rank x) (tree_after x (found_at w.words (Phase.Trees x) hook) hook).0
+      (tree_falls w.words after hook x free (events_may_be c lim w good t lt (Phase.Trees x) hook at));
+}

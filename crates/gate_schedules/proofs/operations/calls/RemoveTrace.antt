@@ -1,0 +1,127 @@
+-- Traces of a remove.
+use Rattle.std.proofs.{Common.{◌≡◌, ℕ, ◌<◌, ◌≤◌, Bool, false, refl, sym, subst, inl, inr, arith}, lemmas.Bool.cases_Bool}
+use Rattle.std.specs.Prelude.{◌==◌, Result, Ok, Err, List, ◌∷◌, length}
+use Rattle.access_model.specs.declared.{actions.Action.Action, errors.GateError.GateError, replies.{Next.Next, Reply.Reply}}
+use Rattle.cpu_words.specs.{Touches.found_by, declared.events.Event.Event}
+use Rattle.node_words.specs.Nodes.{word_of, as_file, unpacked, file_in}
+use Rattle.gated_tree.specs.Phases.{at_remove, removes_file, remove_after, remove_next}
+use Rattle.gated_tree.specs.Refusals.{FileHonest}
+use Rattle.node_words.specs.declared.nodes.NodeWord.{NodeWord}
+use Rattle.gated_tree.specs.declared.changes.Remove.{Remove}
+use Rattle.gated_tree.specs.declared.changes.RemoveStep.{RemoveStep}
+use Rattle.gated_tree.specs.declared.phases.TreePhase.{TreePhase}
+use Rattle.gate_schedules.{proofs.trees.Ends.remove_ends, specs.trees.Ends.{IsReply, RemoveKnows, remove_added, where_done}}
+use Rattle.gate_world.specs.{Configs.IsWithin, Courses.{IsTrace, MayHold, MayFind, course_of}, Found.SeenIn, Operations.first_remove}
+use Rattle.gate_world.specs.{Traces.{actions_of, IsShort, Tells, most_events}, Views.with_hook, Work.next_of}
+use Rattle.gate_world.specs.declared.{config.Config.Config, operations.Op.Op, views.Traced.Traced, work.Phase.Phase}
+use Rattle.gate_schedules.proofs.operations.calls.Trace.{Answers, CallAt, Stays, call_says, looked, made_some, sees}
+use Rattle.gate_schedules.proofs.traces.Says.{KeptWell, SaysAfter, event_at, tells_well, is_short_well}
+
+-- how many events a remove has done before a step
+abbrev events_before : RemoveStep → ℕ
+events_before RemoveStep.LoadsFile = 0
+events_before (RemoveStep.FreesNode file) = 1
+events_before (RemoveStep.CountsRemoved file) = 1
+events_before (RemoveStep.MarksRemoved file) = 2
+events_before RemoveStep.RefundsRemoved = 3
+events_before (RemoveStep.RefundsBlocks file) = 2
+events_before (RemoveStep.RefundsChild file) = 3
+
+removes_later : (file : NodeWord) (opens : ℕ) → 0 < events_before (removes_file file opens)
+removes_later file opens = elim (cases_Bool (opens == 0)) [ inl e ↦ rw e (omega arith) | inr e ↦ rw e (omega arith) ]
+
+-- what a remove knows at its step, and what it has added
+abbrev Knows : ((Event → Bool) → Type 0) → Remove → Type 0
+Knows seen x = RemoveKnows seen x x.step
+
+abbrev so_far : Remove → List Action
+so_far x = remove_added x x.step
+
+-- its trace says no more
+abbrev IsThere : List Traced → RemoveStep → Type 0
+IsThere trace s = Unit {0}
+
+module _ (c : Config) (file : ℕ) where
+  -- the remove at a step
+  abbrev remove_of : RemoveStep → Remove
+  remove_of s = at_remove (first_remove file) s
+
+  -- what its trace says at a phase
+  abbrev RemoveAt : List Traced → Phase → List Action → Type 0
+  RemoveAt = CallAt Remove RemoveStep TreePhase.Remove remove_of Knows so_far IsThere events_before 4 false c (Op.Remove file)
+
+  -- what comes after so many events
+  abbrev Comes : List Traced → ℕ → Next Remove → Type 0
+  Comes = Stays Remove RemoveStep TreePhase.Remove remove_of Knows so_far IsThere events_before 4 false c (Op.Remove file)
+
+  -- each event is followed by a later step of the remove, or by its end
+  remove_goes : (s : RemoveStep) (value : ℕ) (trace : List Traced) → MayHold (remove_next (remove_of s) s).0 value →
+      Comes trace (events_before s) (remove_after (remove_of s) s (found_by (remove_next (remove_of s) s).1 value)).0
+  remove_goes RemoveStep.LoadsFile value trace may =
+      looked (Comes trace 0) (remove_of RemoveStep.LoadsFile) (λ node. remove_of (removes_file node node.opens)) (file_in value)
+      (made_some (λ node. as_file node node.removed node.kind) (unpacked value) may)
+      (λ node. (removes_file node node.opens, refl, tt, λ q. removes_later node node.opens)) (λ refusal q. omega arith)
+  remove_goes (RemoveStep.FreesNode node) value trace may = elim (cases_Bool (value == word_of node)) [
+    | inl e ↦ rw e (RemoveStep.RefundsBlocks node, refl, tt, λ q. omega arith)
+    | inr e ↦ rw e (λ q. omega arith)
+  ]
+  remove_goes (RemoveStep.CountsRemoved node) value trace may = (RemoveStep.MarksRemoved node, refl, tt, λ q. omega arith)
+  remove_goes (RemoveStep.MarksRemoved node) value trace may = elim (cases_Bool (value == word_of node)) [
+    | inl e ↦ rw e (RemoveStep.RefundsChild node, refl, tt, λ q. omega arith)
+    | inr e ↦ rw e (RemoveStep.RefundsRemoved, refl, tt, λ q. omega arith)
+  ]
+  remove_goes RemoveStep.RefundsRemoved value trace may = λ q. omega arith
+  remove_goes (RemoveStep.RefundsBlocks node) value trace may = (RemoveStep.RefundsChild node, refl, tt, λ q. omega arith)
+  remove_goes (RemoveStep.RefundsChild node) value trace may = λ q. omega arith
+
+  -- what it has added, said both ways
+  remove_actions : (trace : List Traced) (answer : Result Reply GateError) →
+      where_done (Action.Remove file) answer ≡ actions_of (Op.Remove file) answer trace
+  remove_actions trace (Ok reply) = refl
+  remove_actions trace (Err refusal) = refl
+
+  -- so the trace of a remove says what its row asks for
+  remove_answers : (trace : List Traced) →
+      Answers Remove RemoveStep TreePhase.Remove remove_of Knows so_far IsThere events_before 4 false c (Op.Remove file)
+      (IsReply Reply.Unit) (FileHonest (SeenIn trace) file) (where_done (Action.Remove file)) trace
+  remove_answers trace = record {
+    told = λ reply h. h;
+    honest = λ refusal h. h;
+    actions = remove_actions trace;
+    short = λ h. h refl;
+  }
+
+  -- a step comes after at most that many events
+  remove_within : (s : RemoveStep) (trace : List Traced) → length trace ≤ events_before s → length trace ≤ 4
+  remove_within RemoveStep.LoadsFile trace h = omega (arith, h)
+  remove_within other trace h = omega (arith, h)
+
+  -- and keeps it along
+  remove_kept : (t : ℕ) → KeptWell RemoveAt c t (Op.Remove file)
+  remove_kept t = record {
+    first = (RemoveStep.LoadsFile, refl, (tt, tt, refl, λ q. omega arith));
+    more = λ phase value hook earlier added may here.
+        let s : RemoveStep = here.0 in
+        let x : Phase = Phase.Trees (TreePhase.Remove (remove_of s)) in
+        let e : Traced = with_hook (event_at x value hook) hook in
+        subst (λ (p : Phase). MayFind p (next_of p hook).0 value → SaysAfter RemoveAt c (Op.Remove file) p value hook earlier added)
+        (sym here.1)
+        (λ holds.
+        call_says Remove RemoveStep TreePhase.Remove remove_of Knows so_far IsThere events_before 4 false c (Op.Remove file)
+        (IsReply Reply.Unit) (FileHonest (SeenIn (e ∷ earlier)) file) (where_done (Action.Remove file)) e earlier
+        (remove_answers (e ∷ earlier)) (events_before s) here.2.3
+        (remove_after (remove_of s) s (found_by (remove_next (remove_of s) s).1 value)).0
+        (remove_after (remove_of s) s (found_by (remove_next (remove_of s) s).1 value)).1 (remove_added (remove_of s) s) added here.2.2
+        (remove_ends (SeenIn earlier) (SeenIn (e ∷ earlier)) (remove_of s) s value here.2.1 (sees e earlier))
+        (remove_goes s value (e ∷ earlier) holds))
+        may;
+    short = λ trace phase added here. remove_within here.0 trace (here.2.3 refl);
+  }
+
+pub remove_tells : (file : ℕ) (c : Config) → IsWithin c → (t : ℕ) (trace : List Traced) → IsTrace c t (Op.Remove file) trace →
+    Tells c (Op.Remove file) trace (course_of c t (Op.Remove file) trace).comes (course_of c t (Op.Remove file) trace).added
+remove_tells file c lim t trace h = tells_well (RemoveAt c file) c t (Op.Remove file) (remove_kept c file t) trace h
+
+pub remove_short : (file : ℕ) (c : Config) → IsWithin c → (t : ℕ) (trace : List Traced) → IsTrace c t (Op.Remove file) trace →
+    IsShort (most_events c (Op.Remove file)) trace
+remove_short file c lim t trace h = is_short_well (RemoveAt c file) c t (Op.Remove file) (remove_kept c file t) trace h

@@ -1,0 +1,98 @@
+-- What the trace of a call at the tree says, kept from each event to the next, whichever call it is.
+use Rattle.std.proofs.Common.{◌≡◌, ℕ, ◌<◌, ◌≤◌, Bool, true, false, refl, sym, ap, ◌∙◌, subst, arith}
+use Rattle.std.specs.Prelude.{◌||◌, Option, Some, None, Result, Ok, Err, List, ◌∷◌, length, is_some, option_map}
+use Rattle.access_model.specs.{Replies.map_next, declared.{actions.Action.Action, errors.GateError.GateError, replies.{Next.Next, Reply.Reply}}}
+use Rattle.cpu_words.specs.declared.events.Event.{Event}
+use Rattle.node_words.specs.Phases.{after_look}
+use Rattle.gated_tree.specs.declared.phases.TreePhase.{TreePhase}
+use Rattle.gate_schedules.specs.trees.Ends.{with_action, EndsWell, SeesMore}
+use Rattle.gate_world.specs.{Found.SeenIn, Traces.{actions_of, IsHonest, IsTold, most_events, IsShort, MayWait}, Views.actions_after}
+use Rattle.gate_world.specs.declared.{config.Config.Config, operations.Op.Op, views.Traced.Traced, work.Phase.Phase}
+use Rattle.gate_schedules.proofs.traces.Says.{Says}
+
+or_one : (a b : Bool) → a ≡ true → (a || b) ≡ true
+or_one a b h = rw h refl
+
+pub or_other : (a b : Bool) → b ≡ true → (a || b) ≡ true
+or_other true b h = refl
+or_other false b h = h
+
+pub sees : (e : Traced) (earlier : List Traced) → SeesMore (SeenIn earlier) (SeenIn (e ∷ earlier)) e.event
+sees e earlier = record {
+  earlier = λ test h. or_other (test e.event) _ h;
+  now = λ test h. or_one (test e.event) _ h;
+}
+
+same_actions : (action : Option Action) (added : List Action) → with_action action added ≡ actions_after action added
+same_actions None added = refl
+same_actions (Some a) added = refl
+
+pub made_some : {A B : Type 0} (f : A → B) (o : Option A) → is_some o ≡ true → is_some (option_map f o) ≡ true
+made_some f None h = absurd (cc)
+made_some f (Some a) h = refl
+
+-- A look at a word that may be there goes on or is refused: it is never done again.
+pub looked : {A P : Type 0} (Holds : Next P → Type 0) (again : P) (to : A → P) (r : Option (Result A GateError)) → is_some r ≡ true →
+    ((a : A) → Holds (Next.Go (to a))) → ((refusal : GateError) → Holds (Next.Done (Err refusal))) → Holds (after_look again to r)
+looked Holds again to None h goes refused = absurd (cc)
+looked Holds again to (Some (Ok a)) h goes refused = goes a
+looked Holds again to (Some (Err refusal)) h goes refused = refused refusal
+
+-- A kind of call: its steps and what it is at each, as a phase of the tree; what it knows and has added there, what its trace says
+-- besides, and after how many events it is there at most; how many events it has at most where it doesn't wait; its operation.
+module _ (P S : Type 0) (to : P → TreePhase) (at : S → P) (Knows : ((Event → Bool) → Type 0) → P → Type 0) (so_far : P → List Action)
+    (Is : List Traced → S → Type 0) (done : S → ℕ) (most : ℕ) (waits : Bool) (c : Config) (op : Op) where
+  -- what the trace of a call says at a step
+  abbrev pub CallSays : List Traced → S → List Action → Type 0
+  CallSays trace s added =
+      Is trace s × Knows (SeenIn trace) (at s) × (added ≡ so_far (at s)) × (waits ≡ false → length trace ≤ done s)
+
+  -- the same at a phase
+  abbrev pub CallAt : List Traced → Phase → List Action → Type 0
+  CallAt trace phase added = (s : S) × (phase ≡ Phase.Trees (to (at s))) × CallSays trace s added
+
+  -- what comes is a step of the same call, after one event more than so many, or the call's end
+  abbrev pub Stays : List Traced → ℕ → Next P → Type 0
+  Stays trace n (Next.Go y) = (s : S) × (y ≡ at s) × Is trace s × (waits ≡ false → n < done s)
+  Stays trace n (Next.Wait y) = (s : S) × (y ≡ at s) × Is trace s × (waits ≡ true) × MayWait c op trace
+  Stays trace n (Next.Done answer) = waits ≡ false → n < most
+
+  -- what is known, told and added by an answer is what the operation's row asks for
+  pub record Answers (IsOne : Reply → Type 0) (Honest : GateError → Type 0) (adds : Result Reply GateError → List Action)
+      (trace : List Traced) : Type 0 where
+    pub told : (reply : Reply) → IsOne reply → IsTold op reply trace
+    pub honest : (refusal : GateError) → Honest refusal → IsHonest c op refusal trace
+    pub actions : (answer : Result Reply GateError) → adds answer ≡ actions_of op answer trace
+    pub short : (waits ≡ false → length trace ≤ most) → IsShort (most_events c op) trace
+
+  module _ (IsOne : Reply → Type 0) (Honest : GateError → Type 0) (adds : Result Reply GateError → List Action) (e : Traced)
+      (earlier : List Traced) (answers : Answers IsOne Honest adds (e ∷ earlier)) (n : ℕ)
+      (within : waits ≡ false → length earlier ≤ n) where
+    -- what is known and what comes say what the trace says after an event
+    next_says : (next : Next P) (added : List Action) → EndsWell (Knows (SeenIn (e ∷ earlier))) so_far IsOne Honest adds next added →
+        Stays (e ∷ earlier) n next → Says CallAt c op (e ∷ earlier) (map_next Phase.Trees (map_next to next)) added
+    next_says (Next.Go y) added h stays =
+        let k : Knows (SeenIn (e ∷ earlier)) (at stays.0) × (added ≡ so_far (at stays.0)) =
+        subst (λ x. Knows (SeenIn (e ∷ earlier)) x × (added ≡ so_far x)) stays.1 h in
+        (stays.0, ap (λ x. Phase.Trees (to x)) stays.1, (stays.2, k.0, k.1, λ q. omega (arith, within q, stays.3 q)))
+    next_says (Next.Wait y) added h stays =
+        let k : Knows (SeenIn (e ∷ earlier)) (at stays.0) × (added ≡ so_far (at stays.0)) =
+        subst (λ x. Knows (SeenIn (e ∷ earlier)) x × (added ≡ so_far x)) stays.1 h in
+        ((stays.0, ap (λ x. Phase.Trees (to x)) stays.1, (stays.2, k.0, k.1, λ q. absurd (cc))), stays.4)
+    next_says (Next.Done (Ok reply)) added h stays = (
+      (h.1 ∙ answers.actions (Ok reply), answers.told reply h.0),
+      answers.short (λ q. omega (arith, within q, stays q)),
+    )
+    next_says (Next.Done (Err refusal)) added h stays = (
+      (h.1 ∙ answers.actions (Err refusal), answers.honest refusal h.0),
+      answers.short (λ q. omega (arith, within q, stays q)),
+    )
+
+    -- the same, of what the event added on top of what was added before
+    pub call_says : (next : Next P) (action : Option Action) (before added : List Action) → added ≡ before →
+        EndsWell (Knows (SeenIn (e ∷ earlier))) so_far IsOne Honest adds next (with_action action before) → Stays (e ∷ earlier) n next →
+        Says CallAt c op (e ∷ earlier) (map_next Phase.Trees (map_next to next)) (actions_after action added)
+    call_says next action before added same ends stays =
+        subst (Says CallAt c op (e ∷ earlier) (map_next Phase.Trees (map_next to next)))
+        (same_actions action before ∙ ap (actions_after action) (sym same))
+        (next_says next (with_action action before) ends stays)

@@ -1,0 +1,173 @@
+-- Of the calls at the tree only a snapshot waits, and only where another task has `umount`; each is refused only for its cause.
+use Rattle.std.proofs.{Common.{◌≡◌, ℕ, ◌<◌, ap, inl, inr, refl}, lemmas.Bool.Decides.eqb_tells}
+use Rattle.std.specs.Prelude.{Some, None, Ok, Err, List, Option, Result, ◌==◌, if◌then◌else◌, Bool, true, false, is_some, nat_lt, ◌+◌, ◌∷◌}
+use Rattle.access_model.specs.{Replies.map_next, declared.{errors.GateError.GateError, replies.Next.Next}}
+use Rattle.cpu_words.specs.Hooks.{HookAnswer}
+use Rattle.node_words.specs.Nodes.{word_of, unpacked, file_in, directory_in, node_after}
+use Rattle.gated_tree.specs.Phases.{create_after, create_past, create_looks_at, create_looked, remove_after, grow_after, move_after, mark_after, open_after}
+use Rattle.node_words.specs.Phases.{clear_after, after_look, clears_at}
+use Rattle.gated_tree.specs.Phases.{snapshot_locked_out, at_create, at_snapshot, node_step}
+use Rattle.gated_tree.specs.declared.changes.{Create.Create, CreateStep.CreateStep, MoveStep.MoveStep, MoveTo.MoveTo, Remove.Remove, RemoveStep.RemoveStep}
+use Rattle.node_words.specs.declared.marks.ClearMarks.{ClearMarks}
+use Rattle.gated_tree.specs.declared.growth.Grow.{Grow}
+use Rattle.gated_tree.specs.declared.growth.GrowStep.{GrowStep}
+use Rattle.gated_tree.specs.declared.marks.Mark.{Mark}
+use Rattle.gated_tree.specs.declared.marks.MarkStep.{MarkStep}
+use Rattle.node_words.specs.declared.nodes.NodeWord.{NodeWord}
+use Rattle.gated_tree.specs.declared.opens.OpenFile.{OpenFile}
+use Rattle.gated_tree.specs.declared.opens.OpenStep.{OpenStep}
+use Rattle.gated_tree.specs.declared.phases.TreePhase.{TreePhase}
+use Rattle.gated_tree.specs.declared.snapshots.{Snapshot.Snapshot, SnapshotStep.SnapshotStep}
+use Rattle.gate_world.specs.{Causes.{CallRefused, TreeRefused, IsTaken, TellsOf, tree_sees}, Fits.PhaseFits, KeptCauses.{SnapshotCause, TreeCause}}
+use Rattle.gate_world.specs.{Rules.{owns, IsGood}, Shown.shown, Views.held_of, Waits.{HasReason, HasCulprit}, Work.after_of}
+use Rattle.gate_world.specs.{Worlds.{World, found_at}, declared.{config.Config.Config, work.Phase.Phase}}
+use Rattle.gate_schedules.proofs.frames.Owners.{umount_taken}
+use Rattle.gate_schedules.proofs.operations.calls.NodeCauses.{is_of_node, call_refused, create_node, remove_node, grow_node, move_node, mark_node, open_node}
+use Rattle.gate_schedules.proofs.operations.calls.NodeCauses.{clear_node}
+
+-- what comes is no wait
+abbrev GoesOn : {P : Type 0} → Next P → Type 0
+GoesOn (Next.Go p) = Unit {0}
+GoesOn (Next.Wait p) = ⊥
+GoesOn (Next.Done answer) = Unit {0}
+
+either : {P : Type 0} (b : Bool) (n m : Next P) → GoesOn n → GoesOn m → GoesOn (if b then n else m)
+either true n m h k = h
+either false n m h k = k
+
+look_goes : {A : Type 0} {P : Type 0} (again : P) (to : A → P) (r : Option (Result A GateError)) → GoesOn (after_look again to r)
+look_goes again to None = tt
+look_goes again to (Some (Ok a)) = tt
+look_goes again to (Some (Err refusal)) = tt
+
+-- a create goes on to the next node, or there is none
+create_at : (x : Create) (o : Option ℕ) → GoesOn (create_looks_at x o)
+create_at x None = tt
+create_at x (Some node) = tt
+
+-- or it has looked at a node
+create_seen : (x : Create) (node : ℕ) (found : Option NodeWord) → GoesOn (create_looked x node found)
+create_seen x node None = tt
+create_seen x node (Some found) =
+    either (is_some found.kind) (create_past x node) (Next.Go (at_create x (CreateStep.ChargesChild node))) (create_at x (node_after node x.nodes)) tt
+
+-- so it never waits
+create_goes_on : (x : Create) (s : CreateStep) (found : ℕ) → GoesOn (create_after x s found).0
+create_goes_on x CreateStep.LoadsDirectory found = look_goes _ _ (directory_in found)
+create_goes_on x (CreateStep.LoadsNode node) found = create_seen x node (unpacked found)
+create_goes_on x (CreateStep.ChargesChild node) found = tt
+create_goes_on x (CreateStep.TakesNode node) found = either (found == 0) _ _ tt tt
+create_goes_on x CreateStep.RefundsChild found = tt
+
+remove_goes_on : (x : Remove) (s : RemoveStep) (found : ℕ) → GoesOn (remove_after x s found).0
+remove_goes_on x RemoveStep.LoadsFile found = look_goes _ _ (file_in found)
+remove_goes_on x (RemoveStep.FreesNode file) found = either (found == word_of file) _ _ tt tt
+remove_goes_on x (RemoveStep.MarksRemoved file) found = either (found == word_of file) _ _ tt tt
+remove_goes_on x other found = tt
+
+grow_goes_on : (x : Grow) (s : GrowStep) (found : ℕ) → GoesOn (grow_after x s found).0
+grow_goes_on x GrowStep.LoadsFile found = look_goes _ _ (file_in found)
+grow_goes_on x (GrowStep.LoadsUsed file) found =
+    either (nat_lt x.capacity (found + x.blocks)) _ _ tt (either (nat_lt x.capacity (file.size + x.blocks)) _ _ tt tt)
+grow_goes_on x (GrowStep.ChargesBlocks file used) found = either (found == used) _ _ tt tt
+grow_goes_on x (GrowStep.GrowsFile file) found = either (found == word_of file) _ _ tt tt
+grow_goes_on x GrowStep.RefundsBlocks found = tt
+
+move_goes_on : (x : MoveTo) (s : MoveStep) (found : ℕ) → GoesOn (move_after x s found).0
+move_goes_on x MoveStep.LoadsFile found = look_goes _ _ (file_in found)
+move_goes_on x (MoveStep.LoadsDirectory file) found = look_goes _ _ (directory_in found)
+move_goes_on x (MoveStep.ChargesChild file) found = tt
+move_goes_on x (MoveStep.MovesFile file) found = either (found == word_of file) _ _ tt tt
+move_goes_on x (MoveStep.RefundsChild dir answer) found = tt
+
+mark_goes_on : (x : Mark) (s : MarkStep) (found : ℕ) → GoesOn (mark_after x s found).0
+mark_goes_on x MarkStep.LoadsFile found = look_goes _ _ (file_in found)
+mark_goes_on x (MarkStep.MarksFile file) found = either (found == word_of file) _ _ tt tt
+
+open_goes_on : (x : OpenFile) (s : OpenStep) (found : ℕ) → GoesOn (open_after x s found).0
+open_goes_on x OpenStep.LoadsFile found = look_goes _ _ (file_in found)
+open_goes_on x (OpenStep.OpensFile file) found = either (found == word_of file) _ _ tt tt
+
+clear_goes_on : (x : ClearMarks) (o : Option ℕ) → GoesOn (clears_at x o)
+clear_goes_on x None = tt
+clear_goes_on x (Some node) = tt
+
+module _ (c : Config) (w : World) (earlier : List World) (t : ℕ) where
+  -- what is no wait waits for nobody, and a refusal of a call that is no snapshot has its cause at its own event
+  no_wait : {P : Type 0} (to : P → TreePhase) (x : TreePhase) (n : Next P) → GoesOn n →
+      ((refusal : GateError) → CallRefused c (w ∷ earlier) x refusal → TreeRefused c t (w ∷ earlier) x refusal) →
+      ((refusal : GateError) → map_next Phase.Trees (map_next to n) ≡ Next.Done (Err refusal) → is_of_node refusal ≡ true →
+      (m : ℕ) × (tree_sees x ≡ Some m) × TellsOf ((shown c w).tree m) refusal) →
+      HasReason c w earlier t (Phase.Trees x) (map_next Phase.Trees (map_next to n))
+  no_wait to x (Next.Go p) h call node = tt
+  no_wait to x (Next.Wait p) h call node = absurd h
+  no_wait to x (Next.Done (Ok reply)) h call node = tt
+  no_wait to x (Next.Done (Err refusal)) h call node = call refusal (call_refused c w earlier x refusal (node refusal refl))
+
+  goes_on : (x : Snapshot) (b : Bool) (s s' : SnapshotStep) →
+      HasReason c w earlier t (Phase.Trees (TreePhase.Snapshot x))
+      (map_next Phase.Trees (map_next TreePhase.Snapshot (if b then Next.Go (at_snapshot x s) else Next.Go (at_snapshot x s'))))
+  goes_on x true s s' = tt
+  goes_on x false s s' = tt
+
+  -- a snapshot that finds `umount` taken waits for who has it, or is refused
+  locked_out_waits : (x : Snapshot) (wait : Bool) → HasCulprit c w t (Phase.Trees (TreePhase.Snapshot x)) → IsTaken c t (w ∷ earlier) →
+      HasReason c w earlier t (Phase.Trees (TreePhase.Snapshot x)) (map_next Phase.Trees (map_next TreePhase.Snapshot (snapshot_locked_out x wait)))
+  locked_out_waits x true h taken = h
+  locked_out_waits x false h taken = taken
+
+  module _ (good : IsGood c w) (lt : t < c.tasks) where
+    -- each event of a snapshot
+    snapshot_waits : (hook : HookAnswer) (x : Snapshot) (s : SnapshotStep) →
+        (w.views t).phase ≡ Some (Phase.Trees (TreePhase.Snapshot (at_snapshot x s))) → SnapshotCause c t w earlier s →
+        HasReason c w earlier t (Phase.Trees (TreePhase.Snapshot (at_snapshot x s)))
+        (after_of (Phase.Trees (TreePhase.Snapshot (at_snapshot x s))) (found_at w.words (Phase.Trees (TreePhase.Snapshot (at_snapshot x s))) hook) hook).0
+    snapshot_waits hook x SnapshotStep.Locks e cause =
+        elim (eqb_tells w.words.umount 0) [
+          | inl h ↦ rw h.0 tt
+          | inr h ↦
+              let who = umount_taken c w good t lt (Phase.Trees (TreePhase.Snapshot (at_snapshot x SnapshotStep.Locks))) (λ y own. own) h.1 (ap owns e) in
+              rw h.0 (locked_out_waits (at_snapshot x SnapshotStep.Locks) x.wait who (who.task, who.there, who.other, who.stands))
+        ]
+    snapshot_waits hook x SnapshotStep.LoadsStage e cause =
+        goes_on (at_snapshot x SnapshotStep.LoadsStage) (w.words.stage == 4) SnapshotStep.LoadsUsed (SnapshotStep.Releases (Err GateError.Invalid))
+    snapshot_waits hook x SnapshotStep.LoadsUsed e cause = tt
+    snapshot_waits hook x (SnapshotStep.LoadsNode node) e cause =
+        goes_on (at_snapshot x (SnapshotStep.LoadsNode node)) (is_some (unpacked (w.words.node node))) (node_step (node_after node x.nodes))
+        (SnapshotStep.LoadsNode node)
+    snapshot_waits hook x (SnapshotStep.LoadsKids node) e cause = tt
+    snapshot_waits hook x (SnapshotStep.Releases (Ok reply)) e cause = tt
+    snapshot_waits hook x (SnapshotStep.Releases (Err GateError.Again)) e cause = absurd cause
+    snapshot_waits hook x (SnapshotStep.Releases (Err refusal)) e cause = cause
+
+    -- so it is of each event at the tree
+    pub tree_waits : (hook : HookAnswer) (x : TreePhase) → (w.views t).phase ≡ Some (Phase.Trees x) →
+        PhaseFits c t (held_of (w.views t)) (Phase.Trees x) → TreeCause c t w earlier x →
+        HasReason c w earlier t (Phase.Trees x) (after_of (Phase.Trees x) (found_at w.words (Phase.Trees x) hook) hook).0
+    tree_waits hook (TreePhase.Create x) e fits cause =
+        let found : ℕ = found_at w.words (Phase.Trees (TreePhase.Create x)) hook in
+        no_wait TreePhase.Create (TreePhase.Create x) (create_after x x.step found).0 (create_goes_on x x.step found) (λ refusal h. h)
+        (create_node c w x x.step hook)
+    tree_waits hook (TreePhase.Remove x) e fits cause =
+        let found : ℕ = found_at w.words (Phase.Trees (TreePhase.Remove x)) hook in
+        no_wait TreePhase.Remove (TreePhase.Remove x) (remove_after x x.step found).0 (remove_goes_on x x.step found) (λ refusal h. h)
+        (remove_node c w x x.step hook)
+    tree_waits hook (TreePhase.Grow x) e fits cause =
+        let found : ℕ = found_at w.words (Phase.Trees (TreePhase.Grow x)) hook in
+        no_wait TreePhase.Grow (TreePhase.Grow x) (grow_after x x.step found).0 (grow_goes_on x x.step found) (λ refusal h. h) (grow_node c w x x.step hook)
+    tree_waits hook (TreePhase.MoveTo x) e fits cause =
+        let found : ℕ = found_at w.words (Phase.Trees (TreePhase.MoveTo x)) hook in
+        no_wait TreePhase.MoveTo (TreePhase.MoveTo x) (move_after x x.step found).0 (move_goes_on x x.step found) (λ refusal h. h)
+        (move_node c w x x.step fits.0.2 hook)
+    tree_waits hook (TreePhase.Mark x) e fits cause =
+        let found : ℕ = found_at w.words (Phase.Trees (TreePhase.Mark x)) hook in
+        no_wait TreePhase.Mark (TreePhase.Mark x) (mark_after x x.step found).0 (mark_goes_on x x.step found) (λ refusal h. h) (mark_node c w x x.step hook)
+    tree_waits hook (TreePhase.OpenFile x) e fits cause =
+        let found : ℕ = found_at w.words (Phase.Trees (TreePhase.OpenFile x)) hook in
+        no_wait TreePhase.OpenFile (TreePhase.OpenFile x) (open_after x x.step found).0 (open_goes_on x x.step found) (λ refusal h. h)
+        (open_node c w x x.step hook)
+    tree_waits hook (TreePhase.Snapshot x) e fits cause = snapshot_waits hook x x.step e cause
+    tree_waits hook (TreePhase.ClearMarks x) e fits cause =
+        let found : ℕ = found_at w.words (Phase.Trees (TreePhase.ClearMarks x)) hook in
+        no_wait TreePhase.ClearMarks (TreePhase.ClearMarks x) (clear_after x found).0 (clear_goes_on x (node_after x.node x.nodes)) (λ refusal h. h)
+        (clear_node c w x hook)

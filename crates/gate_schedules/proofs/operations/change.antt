@@ -1,0 +1,8 @@
+pub mod Loads
+pub mod Steps
+pub mod Events
+pub mod Fits
+pub mod Causes
+pub mod Trace
+pub mod Waits
+pub mod Laws

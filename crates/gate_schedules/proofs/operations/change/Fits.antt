@@ -1,0 +1,56 @@
+-- What fits after an event of a change.
+use Rattle.std.proofs.{Common.{◌≡◌, ℕ, ◌+◌, ◌<◌, Bool, true, false, inl, inr, arith}, lemmas.Bool.{cases_Bool, ltb-true}}
+use Rattle.std.specs.Prelude.{◌==◌, not, nat_lt, if◌then◌else◌, Err}
+use Rattle.access_model.specs.{Replies.map_next, declared.{errors.GateError.GateError, replies.Next.Next}}
+use Rattle.cpu_words.specs.{Names.IsWord, Touches.wrap_add, declared.sums.Sum.Sum}
+use Rattle.mount_counts.specs.Phases.{has_flag, at_change, lock_failed, step_between, change_from, change_summed, change_next, change_after, next}
+use Rattle.mount_counts.specs.declared.phases.{Change.Change, ChangeStep.ChangeStep, MountPhase.MountPhase}
+use Rattle.gate_world.specs.{Configs.{IsWithin, extents_of}, Fits.{SumFits, MountFits, Fits, ActionFits}, Holdings.{Holdings, held_after}, Views.phase_after}
+use Rattle.gate_world.specs.declared.{config.Config.Config, work.Phase.Phase}
+use Rattle.gate_schedules.proofs.frames.Keeps.{by_bool}
+
+pub change_there : (c : Config) (x : Change) (step : ChangeStep) → x.mount < c.mounts → SumFits c step → IsWord (extents_of c) (change_next x step).0
+change_there c x ChangeStep.Locks m f = tt
+change_there c x ChangeStep.LoadsSuperblock m f = tt
+change_there c x (ChangeStep.Sums sum) m f = (m, f)
+change_there c x (ChangeStep.Releases answer) m f = tt
+change_there c x step m f = m
+
+module _ (c : Config) (within : IsWithin c) (t : ℕ) (held : Holdings) where
+  pub change_acts : (x : Change) (step : ChangeStep) (found : ℕ) → ActionFits held (change_after x step found).1
+  change_acts x ChangeStep.Locks found = tt
+  change_acts x step found = tt
+
+  between : (wanted found : Bool) → SumFits c (step_between wanted found)
+  between true true = tt
+  between true false = tt
+  between false true = tt
+  between false false = tt
+
+  summed : (x : Change) (sum : Sum) (word : ℕ) → x.processors ≡ c.processors → SumFits c (change_summed x sum word)
+  summed x sum word same =
+      elim (cases_Bool (nat_lt (sum.words + 1) x.processors)) [
+        | inl h ↦ rw h (omega (arith, ltb-true (sum.words + 1) x.processors h))
+        | inr h ↦ rw h (by_bool (wrap_add sum.total word == 0)
+            (λ b. SumFits c (if b then ChangeStep.SetsReadOnly else ChangeStep.ClearsHold (Err GateError.Busy))) tt tt)
+      ]
+
+  -- what comes after an event fits
+  abbrev NextFits : Next Change → Type 0
+  NextFits next = Fits c t held (phase_after (map_next Phase.Mounts (map_next MountPhase.Change next)))
+
+  -- what comes after each event of a change fits
+  pub change_goes : (x : Change) (step : ChangeStep) (found : ℕ) → MountFits c t held (MountPhase.Change record x { step = step }) →
+      Fits c t (held_after (change_after x step found).1 held)
+      (phase_after (map_next Phase.Mounts (map_next MountPhase.Change (change_after x step found).0)))
+  change_goes x ChangeStep.Locks found f =
+      by_bool (found == 0) (λ b. NextFits (if b then Next.Go (at_change x ChangeStep.LoadsFlags) else lock_failed x x.wait)) f
+      (by_bool x.wait (λ b. NextFits (lock_failed x b)) f tt)
+  change_goes x ChangeStep.LoadsFlags found f =
+      by_bool (has_flag found 1) (λ b. NextFits (if b then Next.Go (at_change x (change_from x true)) else Next.Go (at_change x ChangeStep.LoadsSuperblock)))
+      (f.0, f.1, f.2, f.3, between x.read_only true) f
+  change_goes x ChangeStep.LoadsSuperblock found f = (f.0, f.1, f.2, f.3, between x.read_only (not (found == 0)))
+  change_goes x ChangeStep.SetsHold found f = (f.0, f.1, f.2, f.3, omega (arith, within.some_processor))
+  change_goes x (ChangeStep.Sums sum) found f = (f.0, f.1, f.2, f.3, summed x sum found f.2)
+  change_goes x (ChangeStep.Releases answer) found f = tt
+  change_goes x other found f = f

@@ -1,0 +1,44 @@
+-- All that is proved of a change.
+use Rattle.gate_schedules.proofs.frames.{Agreeing.none_agree, Frames.role_none, Keeps.{IsSmall, OpKeeps, PhaseKeeps, by_bool, word_among}}
+use Rattle.gate_schedules.proofs.{frames.Snapshots.completes_none, mounts.Runs.mounts_run, operations.change.Causes.{change_kept, change_own}}
+use Rattle.gate_schedules.proofs.operations.change.{Events.change_keeps, Fits.{change_acts, change_goes, change_there}}
+use Rattle.gate_schedules.proofs.{operations.change.{Trace.{ChangeAt, change_kept as change_traced}, Waits.change_waits}, traces.Says.{is_short, tells}}
+use Rattle.gate_world.specs.{Alike.no_roles, Fits.Fits, Rules.Fitting, Traces.most_events, Views.held_of, Worlds.after_step, declared.config.Config.Config}
+use Rattle.gate_world.specs.declared.{operations.Op.Op, work.Phase.Phase}
+use Rattle.mount_counts.specs.declared.phases.{Change.Change, MountPhase.MountPhase}
+use Rattle.std.proofs.{Common.{Bool, arith, refl, subst, ℕ}, lemmas.Bool.ltb-true}
+use Rattle.std.specs.Prelude.{Some}
+
+pub change_phase : (c : Config) (x : Change) → PhaseKeeps c (Phase.Mounts (MountPhase.Change x))
+change_phase c x = record {
+  step = λ lim w good t lt hook e. change_keeps c lim w good t lt hook x.mount x.read_only x.wait x.task x.processors x.step e;
+  runs = λ lim w good t lt hook e i l1 l3. mounts_run c.tasks w t lt hook (MountPhase.Change x) e i;
+  completes = λ lim w good t lt hook e. completes_none c w t hook (Phase.Mounts (MountPhase.Change x)) (λ trace found. refl);
+  word = λ n le t lt held hook f. word_among c n le _ (change_there c x x.step f.0 f.4);
+  acts = λ lim t held found hook f. change_acts c lim t held x x.step found;
+  goes = λ lim t held found hook f. change_goes c lim t held x x.step found f;
+  agrees = λ t held seen same fits. (fits.0, fits.1, fits.2, rw (← none_agree held.levels seen.levels same.levels) fits.3, fits.4);
+  stays = λ w next earlier after t f e was quiet h. change_kept c t w next earlier after x.mount x.read_only x.wait x.task x.processors
+      x.step f.0 e was (quiet.mounts x.mount) h;
+  causes = λ w earlier good t lt hook e after is h.
+      let f : Fits c t (held_of (w.views t)) (Some (Phase.Mounts (MountPhase.Change x))) =
+      subst (Fits c t (held_of (w.views t))) e (good Fitting t lt) in
+      change_own c t lt w (after_step w t (Phase.Mounts (MountPhase.Change x)) hook) earlier good after hook x.mount x.read_only x.wait x.task
+      x.processors x.step f.0 e refl h is;
+  reasons = λ lim w earlier good t lt hook e cause.
+      change_waits c w earlier good t lt x.mount x.read_only x.task x.processors hook x.wait x.step e cause;
+}
+
+pub change_op : (c : Config) (m : ℕ) (ro wait : Bool) → OpKeeps c (Op.ChangeMount m ro wait)
+change_op c m ro wait = record {
+  fits = λ t held there order room. (ltb-true m c.mounts there, refl, refl, order, tt);
+  starts_aside = λ t k. record no_roles { mount = λ y. role_none y m k };
+  cause = λ t w earlier. tt;
+  order_agrees = λ held seen same there. none_agree held.levels seen.levels same.levels;
+  room_agrees = λ held seen same there. refl;
+  restores = λ refusal trace before order. refl;
+  file = λ t held order room. tt;
+  tells = λ lim t trace h. tells (ChangeAt c t m ro wait) c t (Op.ChangeMount m ro wait) (change_traced c lim t m ro wait) trace h;
+  short = λ lim t trace h. is_short (ChangeAt c t m ro wait) c t (Op.ChangeMount m ro wait) (change_traced c lim t m ro wait) trace h;
+  most_small = λ lim. by_bool wait (λ w. IsSmall (most_events c (Op.ChangeMount m ro w))) tt (omega (arith, lim.processors));
+}

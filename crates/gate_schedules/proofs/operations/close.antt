@@ -1,0 +1,9 @@
+pub mod Fits
+pub mod Parts
+pub mod LevelEvents
+pub mod Causes
+pub mod Beginning
+pub mod Trace
+pub mod Progress
+pub mod Laws
+pub mod Events

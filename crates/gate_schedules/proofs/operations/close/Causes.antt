@@ -1,0 +1,83 @@
+-- The causes and the waits of a close: those of a down-read of level 3, where it is a last one.
+use Rattle.std.proofs.{Common.{◌≡◌, ℕ, ◌≤◌, ◌%◌, false, true, ap, arith, inl, inr, refl}, lemmas.Bool.{cases_Bool, Decides.nat_tests}}
+use Rattle.std.specs.Prelude.{◌==◌, ◌&&◌, Option, Some, None, Result, Ok, Err, List, ◌∷◌, is_some}
+use Rattle.access_model.specs.{Replies.map_next, declared.{errors.GateError.GateError, replies.Next.Next}}
+use Rattle.node_words.proofs.Refused.{any_file_refused}
+use Rattle.node_words.specs.Nodes.{any_file_in, is_stray, kind_in, opens_in, unpacked}
+use Rattle.node_words.specs.Phases.{after_look}
+use Rattle.node_words.specs.declared.nodes.NodeWord.{NodeWord}
+use Rattle.percpu_rwsem.specs.declared.readers.DownRead.{DownRead}
+use Rattle.compounds.specs.{file_closes.Phases.{then_frees, closed_from}, declared.file_closes.phases.{ClosePhase.ClosePhase, Closing.Closing}}
+use Rattle.gate_world.specs.{Causes.{asks_level, last_asked, WasClosed}, KeptCauses.CauseOf, Views.phase_after, Waits.HasReason, Worlds.World}
+use Rattle.gate_world.specs.declared.{config.Config.Config, work.Phase.Phase}
+use Rattle.gate_schedules.proofs.operations.readers.{Causes.{AsksNext, HasNextCause}, Waits.{WhereRefused, read_refused}}
+
+-- what was looked at as a file, or not as one, is a node's word
+looked_some : (word : ℕ) (refusal : GateError) → any_file_in word ≡ Some (Err refusal) → is_some (unpacked word) ≡ true
+looked_some word refusal e = elim (cases_Bool (is_stray word)) [
+  | inl stray ↦
+      let none : any_file_in word ≡ None = rw stray refl in
+      absurd cc
+  | inr plain ↦ rw plain refl
+]
+
+-- a directory is open nowhere
+closed_directory : (word : ℕ) → is_some (unpacked word) ≡ true → kind_in word ≡ 2 → opens_in word ≡ 0
+closed_directory word some dir = elim (cases_Bool (is_stray word)) [
+  | inl stray ↦
+      let none : is_some (unpacked word) ≡ false = rw stray refl in
+      absurd cc
+  | inr plain ↦ let two : word % 4 ≡ 2 = dir in grind (arith, nat_tests)
+]
+
+-- so a node that some task has open is a file
+pub open_is_file : (word : ℕ) (refusal : GateError) → 1 ≤ opens_in word → any_file_in word ≡ Some (Err refusal) → ⊥
+open_is_file word refusal opens e = elim (any_file_refused word refusal e) [
+  | inl free ↦ let none : opens_in word ≡ 0 = ap opens_in free.1 in omega (arith, none, opens)
+  | inr dir ↦ omega (arith, closed_directory word (looked_some word refusal e) dir.1, opens)
+]
+
+module _ (c : Config) (t : ℕ) (w next : World) (earlier : List World) (file p : ℕ) (node : NodeWord) where
+  -- after an event at level 3 the task asks where a down-read does
+  pub enters_asks : (n : Next DownRead) → (next.views t).phase ≡ phase_after (map_next Phase.Closes (then_frees file node p n)) →
+      AsksNext c t w next earlier n
+  enters_asks (Next.Go r) e = ap asks_level e
+  enters_asks (Next.Wait r) e = ap asks_level e
+  enters_asks (Next.Done answer) e = tt
+
+  -- and what comes then has its cause
+  pub enters_cause : (n : Next DownRead) → HasNextCause c t w next earlier n →
+      CauseOf c t next (w ∷ earlier) (phase_after (map_next Phase.Closes (then_frees file node p n)))
+  enters_cause (Next.Go r) h = h
+  enters_cause (Next.Wait r) h = h
+  enters_cause (Next.Done (Ok reply)) h = tt
+  enters_cause (Next.Done (Err refusal)) h = tt
+
+module _ (c : Config) (t : ℕ) (w : World) (earlier : List World) where
+  pub enters_waits : (file p : ℕ) (node : NodeWord) (r : DownRead) (n : Next DownRead) →
+      WhereRefused (WasClosed c t r.level (last_asked t (w ∷ earlier))) n →
+      HasReason c w earlier t (Phase.Closes (ClosePhase.Enters file node r)) (map_next Phase.Closes (then_frees file node p n))
+  enters_waits file p node r (Next.Go x) h = tt
+  enters_waits file p node r (Next.Wait x) h = h
+  enters_waits file p node r (Next.Done (Ok reply)) h = tt
+  enters_waits file p node r (Next.Done (Err refusal)) h = read_refused c t (w ∷ earlier) r.level refusal h
+
+  -- what comes after its file was found has no cause yet
+  found_cause : (x : Closing) (file : NodeWord) → CauseOf c t w earlier (Some (Phase.Closes (closed_from x file)))
+  found_cause x file =
+      elim (cases_Bool (file.opens == 0)) [
+        | inl z ↦ rw z tt
+        | inr z ↦ elim (cases_Bool (file.removed && (file.opens == 1))) [ inl h ↦ rw (z, h) tt | inr h ↦ rw (z, h) tt ]
+      ]
+
+  pub looked_cause : (x : Closing) (r : Option (Result NodeWord GateError)) →
+      CauseOf c t w earlier (phase_after (map_next Phase.Closes (after_look (ClosePhase.LoadsFile x) (closed_from x) r)))
+  looked_cause x None = tt
+  looked_cause x (Some (Ok file)) = found_cause x file
+  looked_cause x (Some (Err refusal)) = tt
+
+  pub looked_waits : (x : Closing) (word : ℕ) → 1 ≤ opens_in word → (r : Option (Result NodeWord GateError)) → any_file_in word ≡ r →
+      HasReason c w earlier t (Phase.Closes (ClosePhase.LoadsFile x)) (map_next Phase.Closes (after_look (ClosePhase.LoadsFile x) (closed_from x) r))
+  looked_waits x word opens None e = tt
+  looked_waits x word opens (Some (Ok file)) e = tt
+  looked_waits x word opens (Some (Err refusal)) e = absurd (open_is_file word refusal opens e)

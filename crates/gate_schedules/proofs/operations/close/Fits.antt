@@ -1,0 +1,145 @@
+-- What fits after an event of a close.
+use Rattle.std.proofs.Common.{◌≡◌, ℕ, ◌<◌, ◌≤◌, ◌⊎◌, Bool, true, false, refl, sym, ap, ◌∙◌, subst, inl, inr, arith, true≢false}
+use Rattle.std.proofs.lemmas.Bool.{cases_Bool, Decides.{eqb_tells, nat_tests}}
+use Rattle.std.specs.Prelude.{◌==◌, ◌&&◌, Option, Some, None, Result, Ok, Err, if◌then◌else◌}
+use Rattle.access_model.specs.{Replies.map_next, declared.{actions.{Action.Action, Kind.Kind}, errors.GateError.GateError, replies.Next.Next}}
+use Rattle.cpu_words.specs.{Hooks.HookAnswer, Names.IsWord}
+use Rattle.node_words.specs.Nodes.{any_file_in, as_any_file, is_stray, node_of, kind_in, kind_of, dirty_in, removed_in, opens_in, IsLawful, word_of}
+use Rattle.node_words.specs.Phases.{after_look}
+use Rattle.node_words.specs.declared.nodes.NodeWord.{NodeWord}
+use Rattle.percpu_rwsem.specs.{Readers.down_read_after, declared.readers.DownRead.DownRead}
+use Rattle.compounds.specs.{file_closes.Phases.{next, after, closed_from, then_frees, leaves_on}, declared.file_closes.phases.{ClosePhase.ClosePhase, Closing.Closing}}
+use Rattle.gate_world.specs.{Holdings.{Holdings, held_after, Agree}, Configs.IsWithin, Fits.{Fits, CloseFits, ClosingFits, ActionFits}, Views.phase_after}
+use Rattle.gate_world.specs.declared.{config.Config.Config, work.Phase.Phase}
+use Rattle.gate_schedules.proofs.{frames.Keeps.{by_bool, extents_touched}, operations.readers.Fits.{ReadGoes, read_goes, none_from_agree, read_acts}}
+use Rattle.gate_schedules.proofs.operations.readers.Laws.{read_phase, end_phase}
+
+some_is : {A : Type 0} (a b : A) → Some a ≡ Some b → a ≡ b
+some_is a b e = cc
+
+taken_is : (node file : NodeWord) (kind : Option Kind) → as_any_file node kind ≡ Ok file → (kind ≡ Some Kind.File) × (node ≡ file)
+taken_is node file None e = absurd cc
+taken_is node file (Some Kind.File) e = (refl, cc)
+taken_is node file (Some Kind.Dir) e = absurd cc
+
+-- what a load of any word found to be a file says what a word can say
+lawful_file : (word : ℕ) → is_stray word ≡ false → kind_of (kind_in word) ≡ Some Kind.File → IsLawful (node_of word)
+lawful_file word plain kind = record {
+  parent = omega arith;
+  free = λ z. absurd cc;
+  few = grind (arith, nat_tests);
+  closed = λ z. absurd cc;
+  marked = λ r.
+      elim (eqb_tells (removed_in word) 1) [
+        | inl one ↦
+            let set : removed_in word ≡ 1 = one.1 in
+            let m : (dirty_in word ≡ 0) × (1 ≤ opens_in word) = grind (arith, nat_tests) in
+            (kind, rw m.0 refl, m.1)
+        | inr z ↦ absurd (true≢false (sym r ∙ z.0))
+      ];
+}
+
+pub found_node : (word : ℕ) (file : NodeWord) → any_file_in word ≡ Some (Ok file) → (is_stray word ≡ false) ×
+    (kind_of (kind_in word) ≡ Some Kind.File) × (node_of word ≡ file)
+found_node word file e = elim (cases_Bool (is_stray word)) [
+  | inl stray ↦
+      let none : any_file_in word ≡ None = rw stray refl in
+      absurd cc
+  | inr plain ↦
+      let is : any_file_in word ≡ Some (as_any_file (node_of word) (kind_of (kind_in word))) = rw plain refl in
+      let same : (kind_of (kind_in word) ≡ Some Kind.File) × (node_of word ≡ file) =
+      taken_is (node_of word) file (kind_of (kind_in word)) (some_is _ _ (sym is ∙ e)) in
+      (plain, same.0, same.1)
+]
+
+pub found_file : (word : ℕ) (file : NodeWord) → any_file_in word ≡ Some (Ok file) → (file.kind ≡ Some Kind.File) × IsLawful file
+found_file word file e =
+    let h = found_node word file e in
+    (sym (ap (λ (node : NodeWord). node.kind) h.2) ∙ h.1, subst IsLawful h.2 (lawful_file word h.0 h.1))
+
+stays_open : (removed : Bool) (n : ℕ) → (n ≡ 0 → ⊥) → (removed && (n == 1)) ≡ false → (removed ≡ false) ⊎ (2 ≤ n)
+stays_open false n some h = inl refl
+stays_open true n some h = elim (eqb_tells n 1) [
+  | inl z ↦ absurd (true≢false (sym z.0 ∙ h))
+  | inr z ↦ inr (omega (arith, z.1, some))
+]
+
+module _ (c : Config) (t : ℕ) (held : Holdings) where
+  found_fits : (x : Closing) (file : NodeWord) → ClosingFits c t held x → (file.kind ≡ Some Kind.File) × IsLawful file →
+      CloseFits c t held (closed_from x file)
+  found_fits x file f is =
+      elim (eqb_tells file.opens 0) [
+        | inl z ↦ rw z.0 f
+        | inr z ↦
+            elim (cases_Bool (file.removed && (file.opens == 1))) [
+              | inl last ↦ rw (z.0, last) (f.0, refl, (omega arith, omega arith, f.1, f.2, f.3))
+              | inr more ↦ rw (z.0, more) (f, (is.0, is.1, omega (arith, z.1), stays_open file.removed file.opens z.1 more))
+            ]
+      ]
+
+  looked_fits : (x : Closing) (word : ℕ) → ClosingFits c t held x → (r : Option (Result NodeWord GateError)) → any_file_in word ≡ r →
+      Fits c t held (phase_after (map_next Phase.Closes (after_look (ClosePhase.LoadsFile x) (closed_from x) r)))
+  looked_fits x word f None e = f
+  looked_fits x word f (Some (Ok file)) e = found_fits x file f (found_file word file e)
+  looked_fits x word f (Some (Err refusal)) e = tt
+
+  pub enters_goes : (file p i : ℕ) (node : NodeWord) (n : Next DownRead) → file < c.nodes → p < c.processors → i ≡ 3 →
+      ReadGoes c t i p held n → Fits c t held (phase_after (map_next Phase.Closes (then_frees file node p n)))
+  enters_goes file p i node (Next.Go r) there cpu three h = (there, h.1 ∙ three, h.0)
+  enters_goes file p i node (Next.Wait r) there cpu three h = (there, h.1 ∙ three, h.0)
+  enters_goes file p i node (Next.Done (Ok reply)) there cpu three h = (there, cpu, subst (λ j. held.levels j ≡ true) three h)
+  enters_goes file p i node (Next.Done (Err refusal)) there cpu three h = tt
+
+pub enters_fits : (c : Config) (t : ℕ) (held : Holdings) (file : ℕ) (node : NodeWord) (r : DownRead) (found : ℕ) →
+    CloseFits c t held (ClosePhase.Enters file node r) → Fits c t (held_after (down_read_after r r.step found).1 held)
+    (phase_after (map_next Phase.Closes (then_frees file node r.cpu (down_read_after r r.step found).0)))
+enters_fits c t held file node r found f =
+    enters_goes c t (held_after (down_read_after r r.step found).1 held) file r.cpu r.level node (down_read_after r r.step found).0 f.0 f.2.2 f.1
+    (read_goes c t r f.2.0 f.2.1 f.2.2 f.2.3 held r.step found f.2.4)
+
+-- what comes after each event fits
+pub close_goes : (c : Config) (t : ℕ) (held : Holdings) (x : ClosePhase) (found : ℕ) → CloseFits c t held x →
+    Fits c t (held_after (after x found).1 held) (phase_after (map_next Phase.Closes (after x found).0))
+close_goes c t held (ClosePhase.LoadsFile x) found f = looked_fits c t held x found f (any_file_in found) refl
+close_goes c t held (ClosePhase.LowersCount x node) found f =
+    elim (cases_Bool (found == word_of node)) [ inl h ↦ rw h tt | inr h ↦ rw h tt ]
+close_goes c t held (ClosePhase.Enters file node r) found f = enters_fits c t held file node r found f
+close_goes c t held (ClosePhase.FreesNode file p node) found f =
+    elim (cases_Bool (found == word_of node)) [ inl h ↦ rw h (f.1, f.2) | inr h ↦ rw h f ]
+close_goes c t held (ClosePhase.RefundsBlocks p blocks) found f = f
+close_goes c t held (ClosePhase.Uncounts p) found f = f
+close_goes c t held (ClosePhase.Leaves p) found f = tt
+
+-- the word of each event is there
+pub close_there : (c : Config) (n : ℕ) → c.tasks ≤ n → (t : ℕ) → t < n → (held : Holdings) (hook : HookAnswer)
+    (x : ClosePhase) → CloseFits c t held x → IsWord (extents_touched n c) (next x).0
+close_there c n le t lt held hook (ClosePhase.LoadsFile x) f = omega (arith, f.0)
+close_there c n le t lt held hook (ClosePhase.LowersCount x node) f = omega (arith, f.0.0)
+close_there c n le t lt held hook (ClosePhase.Enters file node r) f = (read_phase c r).word n le t lt held hook f.2
+close_there c n le t lt held hook (ClosePhase.FreesNode file p node) f = omega (arith, f.0)
+close_there c n le t lt held hook (ClosePhase.RefundsBlocks p blocks) f = tt
+close_there c n le t lt held hook (ClosePhase.Uncounts p) f = tt
+close_there c n le t lt held hook (ClosePhase.Leaves p) f =
+    (end_phase c (leaves_on p)).word n le t lt held hook (omega arith, omega arith, f.0, f.1)
+
+-- and its action can be done
+pub close_acts : (c : Config) → IsWithin c → (t : ℕ) (held : Holdings) (x : ClosePhase) (found : ℕ) →
+    CloseFits c t held x → ActionFits held (after x found).1
+close_acts c lim t held (ClosePhase.LowersCount x node) found f =
+    by_bool (found == word_of node) (λ b. ActionFits held (if b then Some (Action.Close x.file) else None)) (omega (arith, f.0.0, lim.nodes)) tt
+close_acts c lim t held (ClosePhase.Enters file node r) found f = read_acts held r r.step found f.2.0 f.2.1
+close_acts c lim t held (ClosePhase.FreesNode file p node) found f =
+    by_bool (found == word_of node) (λ b. ActionFits held (if b then Some (Action.Close file) else None)) (omega (arith, f.0, lim.nodes)) tt
+close_acts c lim t held (ClosePhase.Leaves p) found f = (omega arith, omega arith)
+close_acts c lim t held other found f = tt
+
+-- it fits holdings that agree
+pub close_agrees : (c : Config) (t : ℕ) (held seen : Holdings) → Agree c held seen → (x : ClosePhase) → CloseFits c t held x → CloseFits c t seen x
+close_agrees c t held seen same (ClosePhase.LoadsFile x) fits =
+    (fits.0, fits.1, fits.2, sym (none_from_agree held.levels seen.levels same.levels 3) ∙ fits.3)
+close_agrees c t held seen same (ClosePhase.LowersCount x node) fits =
+    ((fits.0.0, fits.0.1, fits.0.2, sym (none_from_agree held.levels seen.levels same.levels 3) ∙ fits.0.3), fits.1)
+close_agrees c t held seen same (ClosePhase.Enters file node r) fits = (fits.0, fits.1, (read_phase c r).agrees t held seen same fits.2)
+close_agrees c t held seen same (ClosePhase.FreesNode file p node) fits =
+    (fits.0, fits.1, sym (same.levels 3 (omega arith) (omega arith)) ∙ fits.2)
+close_agrees c t held seen same other fits = (fits.0, sym (same.levels 3 (omega arith) (omega arith)) ∙ fits.1)

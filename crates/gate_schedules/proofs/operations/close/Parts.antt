@@ -1,0 +1,252 @@
+-- An event of a close at the tree: it leaves the mounts, the levels and the sections alone, and all of the shown model but the tree and its
+-- task's open files.
+use Rattle.access_model.specs.{Replies.map_next, States.is_removed, declared.{actions.Action.Action, errors.GateError.GateError, replies.Next.Next}}
+use Rattle.cpu_words.specs.Hooks.{HookAnswer}
+use Rattle.compounds.specs.{file_closes.Phases.{after, closed_from, enters, next}, declared.file_closes.phases.{ClosePhase.ClosePhase, Closing.Closing}}
+use Rattle.gate_schedules.proofs.frames.Frames.{count_none, sync_none}
+use Rattle.gate_schedules.proofs.operations.close.Events.{close_drops, close_frees, close_loads, close_lowers, close_uncounts, closer_unread, dropped_removed}
+use Rattle.gate_schedules.proofs.operations.close.Events.{freeing_removed, frees_alone}
+use Rattle.gate_schedules.proofs.{operations.close.Fits.close_goes, trees.worlds.{Events.{IsPlain, plain_parts, tree_run}, MayTree.LeaveFor}}
+use Rattle.gate_schedules.proofs.trees.worlds.Parts.{IsAtTree, IsOffGates, LeavesAccesses, files_then, fitting_then, idle_off, is_node_word, leaves_if}
+use Rattle.gate_schedules.proofs.trees.worlds.Parts.{leaves_none, node_call, shown_moves, tree_then}
+use Rattle.gate_schedules.proofs.trees.worlds.Trees.{tree_within}
+use Rattle.gate_world.specs.{Configs.{IsWithin, model_limits}, Fits.{CloseFits, Fits, HasFile, MayLower, file_of}, Holdings.{Holdings, held_after}}
+use Rattle.gate_world.specs.{Alike.no_roles, LevelRuns.level_in, Roles.close_tree_role, Rules.{Files, Fitting, IsGood, StepKeeps, Tree}, Shown.shown}
+use Rattle.gate_world.specs.{Trees.{is_bare_at, is_sealed, tree_bounds, tree_role_of, tree_roles}, Views.{has_open, held_of, phase_after, view_after}}
+use Rattle.gate_world.specs.{Worlds.{World, after_step, found_at, value_at}, declared.{config.Config.Config, views.{Traced.Traced, View.View}}}
+use Rattle.gate_world.specs.declared.work.Phase.{Phase}
+use Rattle.node_words.proofs.Words.{word_opens, word_shows}
+use Rattle.node_words.specs.Nodes.{any_file_in, info_of, node_shown, opens_in, word_of}
+use Rattle.node_words.specs.Phases.{after_look}
+use Rattle.gated_tree.specs.Calls.{role_after}
+use Rattle.gated_tree.specs.Roles.{Dropped, Freeing}
+use Rattle.node_words.specs.declared.nodes.NodeWord.{NodeWord}
+use Rattle.freeze_laws.specs.levels.Events.{SyncStep}
+use Rattle.std.proofs.{Common.{Bool, ap, arith, false, inl, inr, refl, subst, sym, true, true≢false, ℕ, ◌<◌, ◌∙◌, ◌≡◌}, lemmas.Bool.cases_Bool}
+use Rattle.std.proofs.lemmas.Bool.Decides.{eqb_tells}
+use Rattle.std.specs.Prelude.{Err, List, None, Ok, Option, Result, Some, ◌&&◌, ◌==◌}
+use Rattle.gate_schedules.specs.trees.{Events.HasLeave, Steps.EventKeeps}
+
+-- the events at the tree
+abbrev pub is_at_tree : ClosePhase → Bool
+is_at_tree (ClosePhase.Enters file node r) = false
+is_at_tree (ClosePhase.Leaves p) = false
+is_at_tree x = true
+
+close_word : (x : ClosePhase) → is_at_tree x ≡ true → is_node_word (next x).0 ≡ true
+close_word (ClosePhase.Enters file node r) h = absurd (true≢false (sym h))
+close_word (ClosePhase.Leaves p) h = absurd (true≢false (sym h))
+close_word other h = refl
+
+close_leaves : (x : ClosePhase) → is_at_tree x ≡ true → (found : ℕ) → LeavesAccesses (after x found).1
+close_leaves (ClosePhase.LowersCount x node) h found =
+    leaves_if (found == word_of node) _ (record { mounts = λ held. refl; levels = λ held. refl })
+close_leaves (ClosePhase.FreesNode file p node) h found =
+    leaves_if (found == word_of node) _ (record { mounts = λ held. refl; levels = λ held. refl })
+close_leaves (ClosePhase.Enters file node r) h found = absurd (true≢false (sym h))
+close_leaves (ClosePhase.Leaves p) h found = absurd (true≢false (sym h))
+close_leaves other h found = leaves_none
+
+off_close : (x : ClosePhase) → is_at_tree x ≡ true → IsOffGates (Some (Phase.Closes x))
+off_close (ClosePhase.Enters file node r) h = absurd (true≢false (sym h))
+off_close (ClosePhase.Leaves p) h = absurd (true≢false (sym h))
+off_close other h = record { roles = refl; closing_none = λ i. refl }
+
+off_leaves : (p : ℕ) → IsOffGates (Some (Phase.Closes (ClosePhase.Leaves p)))
+off_leaves p = record { roles = refl; closing_none = λ i. refl }
+
+off_enters : (x : Closing) (file : NodeWord) → IsOffGates (Some (Phase.Closes (enters x file)))
+off_enters x file = record {
+  roles = λ k. record no_roles { count = λ i. count_none i 3 k; sync = λ i. sync_none i 3 k };
+  closing_none = λ i. refl;
+}
+
+off_found : (x : Closing) (file : NodeWord) → IsOffGates (Some (Phase.Closes (closed_from x file)))
+off_found x file =
+    elim (cases_Bool (file.opens == 0)) [
+      | inl z ↦ rw z (off_close (ClosePhase.LoadsFile x) refl)
+      | inr z ↦
+          elim (cases_Bool (file.removed && (file.opens == 1))) [
+            | inl h ↦ rw (z, h) (off_enters x file)
+            | inr h ↦ rw (z, h) (off_close (ClosePhase.LowersCount x file) refl)
+          ]
+    ]
+
+off_looked : (x : Closing) (r : Option (Result NodeWord GateError)) →
+    IsOffGates (phase_after (map_next Phase.Closes (after_look (ClosePhase.LoadsFile x) (closed_from x) r)))
+off_looked x None = off_close (ClosePhase.LoadsFile x) refl
+off_looked x (Some (Ok file)) = off_found x file
+off_looked x (Some (Err refusal)) = idle_off
+
+off_next : (x : ClosePhase) → is_at_tree x ≡ true → (found : ℕ) → IsOffGates (phase_after (map_next Phase.Closes (after x found).0))
+off_next (ClosePhase.LoadsFile x) h found = off_looked x (any_file_in found)
+off_next (ClosePhase.LowersCount x node) h found =
+    elim (cases_Bool (found == word_of node)) [ inl e ↦ rw e idle_off | inr e ↦ rw e idle_off ]
+off_next (ClosePhase.FreesNode file p node) h found =
+    elim (cases_Bool (found == word_of node)) [
+      | inl e ↦ rw e (off_close (ClosePhase.RefundsBlocks p node.size) refl)
+      | inr e ↦ rw e
+          (off_close (ClosePhase.FreesNode file p node) refl)
+    ]
+off_next (ClosePhase.RefundsBlocks p blocks) h found = off_close (ClosePhase.Uncounts p) refl
+off_next (ClosePhase.Uncounts p) h found = off_leaves p
+off_next (ClosePhase.Enters file node r) h found = absurd (true≢false (sym h))
+off_next (ClosePhase.Leaves p) h found = absurd (true≢false (sym h))
+
+-- a close has to do with no stage and owns nothing, and so has what comes after one
+plain_next : (n : Next ClosePhase) → IsPlain (phase_after (map_next Phase.Closes n))
+plain_next (Next.Go x) = record { aside = refl; owns_none = refl }
+plain_next other = record { aside = refl; owns_none = refl }
+
+-- its role at the tree is that of its phase
+role_comes : (n : Next ClosePhase) (trace : List Traced) → role_after close_tree_role n ≡ tree_role_of trace (phase_after (map_next Phase.Closes n))
+role_comes (Next.Go x) trace = refl
+role_comes other trace = refl
+
+-- its task has its file open until it has closed it
+found_has : (files : ℕ → Bool) (x : Closing) (file : NodeWord) → files x.file ≡ true → HasFile files (file_of (Some (Phase.Closes (closed_from x file))))
+found_has files x file own =
+    elim (cases_Bool (file.opens == 0)) [
+      | inl z ↦ rw z own
+      | inr z ↦ elim (cases_Bool (file.removed && (file.opens == 1))) [ inl h ↦ rw (z, h) own | inr h ↦ rw (z, h) own ]
+    ]
+
+looked_has : (files : ℕ → Bool) (x : Closing) (r : Option (Result NodeWord GateError)) → files x.file ≡ true →
+    HasFile files (file_of (phase_after (map_next Phase.Closes (after_look (ClosePhase.LoadsFile x) (closed_from x) r))))
+looked_has files x None own = own
+looked_has files x (Some (Ok file)) own = found_has files x file own
+looked_has files x (Some (Err refusal)) own = tt
+
+file_then : (held : Holdings) (x : ClosePhase) → is_at_tree x ≡ true → (found : ℕ) → HasFile held.files (file_of (Some (Phase.Closes x))) →
+    HasFile (held_after (after x found).1 held).files (file_of (phase_after (map_next Phase.Closes (after x found).0)))
+file_then held (ClosePhase.LoadsFile x) h found own = looked_has held.files x (any_file_in found) own
+file_then held (ClosePhase.LowersCount x node) h found own =
+    elim (cases_Bool (found == word_of node)) [ inl e ↦ rw e tt | inr e ↦ rw e tt ]
+file_then held (ClosePhase.FreesNode file p node) h found own =
+    elim (cases_Bool (found == word_of node)) [ inl e ↦ rw e tt | inr e ↦ rw e own ]
+file_then held (ClosePhase.RefundsBlocks p blocks) h found own = tt
+file_then held (ClosePhase.Uncounts p) h found own = tt
+file_then held (ClosePhase.Enters file node r) h found own = absurd (true≢false (sym h))
+file_then held (ClosePhase.Leaves p) h found own = absurd (true≢false (sym h))
+
+close_at : (w : World) (x : ClosePhase) (hook : HookAnswer) → is_at_tree x ≡ true → IsAtTree w (Phase.Closes x) hook
+close_at w x hook at = record {
+  touches = inr (node_call (next x).0 (close_word x at));
+  leaves = close_leaves x at (found_at w.words (Phase.Closes x) hook);
+  off = off_close x at;
+  off_then = off_next x at (found_at w.words (Phase.Closes x) hook);
+}
+
+module _ (c : Config) (within : IsWithin c) (w : World) (good : IsGood c w) (t : ℕ) (lt : t < c.tasks) (hook : HookAnswer) (x : ClosePhase)
+    (at : is_at_tree x ≡ true) (e : (w.views t).phase ≡ Some (Phase.Closes x)) where
+  abbrev close_view : View
+  close_view = view_after (w.views t) (Phase.Closes x) (value_at w.words (Phase.Closes x) hook) hook
+
+  abbrev close_found : ℕ
+  close_found = found_at w.words (Phase.Closes x) hook
+
+  abbrev close_next : Next ClosePhase
+  close_next = (after x close_found).0
+
+  abbrev close_action : Option Action
+  close_action = (after x close_found).1
+
+  fits_now : CloseFits c t (held_of (w.views t)) x
+  fits_now = subst (Fits c t (held_of (w.views t))) e (good Fitting t lt)
+
+  has_now : HasFile (has_open (w.views t)) (file_of (Some (Phase.Closes x)))
+  has_now = subst (λ p. HasFile (has_open (w.views t)) (file_of p)) e ((good Files).own t lt)
+
+  role_now : tree_roles w t ≡ close_tree_role x
+  role_now = ap (tree_role_of (w.views t).trace) e
+
+  -- what the tree's own law says of the event
+  abbrev TreeLaw : Type 0
+  TreeLaw = EventKeeps (tree_bounds c) (is_sealed w.words) (is_bare_at w.words) w.words (tree_roles w) t (next x)
+      (role_after close_tree_role close_next) close_action
+
+  close_kept : LeaveFor c w good t lt close_action → TreeLaw → StepKeeps c w t hook (Phase.Closes x)
+  close_kept leave kept = (
+    plain_parts c w good t lt (Phase.Closes x) hook e (close_at w x hook at) (close_word x at) (record { aside = refl; owns_none = refl })
+        (plain_next close_next)
+        (fitting_then c w good t lt (Phase.Closes x) hook e (close_at w x hook at)
+        (close_goes c t (held_of (w.views t)) x close_found fits_now))
+        (tree_then c w good t lt (Phase.Closes x) hook e (close_at w x hook at) (role_after close_tree_role close_next)
+        (role_comes close_next close_view.trace) kept.0)
+        (files_then c w good t lt (Phase.Closes x) hook e (close_at w x hook at) within leave kept.1
+        (file_then (held_of (w.views t)) x at close_found has_now)),
+    shown_moves c w good t lt (Phase.Closes x) hook e (close_at w x hook at) close_action refl leave kept.1,
+  )
+
+pub close_run : (c : Config) (w : World) (t : ℕ) → t < c.tasks → (hook : HookAnswer) (x : ClosePhase) → is_at_tree x ≡ true →
+    (w.views t).phase ≡ Some (Phase.Closes x) → (i : ℕ) → SyncStep c.tasks (level_in w i) (level_in (after_step w t (Phase.Closes x) hook) i)
+close_run c w t lt hook x at e i = tree_run c.tasks w t lt (Phase.Closes x) hook e (close_at w x hook at) i
+
+module _ (c : Config) (within : IsWithin c) (w : World) (good : IsGood c w) (t : ℕ) (lt : t < c.tasks) (hook : HookAnswer) where
+  abbrev IsHere : ClosePhase → Type 0
+  IsHere x = (w.views t).phase ≡ Some (Phase.Closes x)
+
+  -- a close whose file is linked, or open for another task too, needs no level
+  shared_leave : (file : ℕ) (node : NodeWord) → file < c.nodes → MayLower node → w.words.node file ≡ word_of node →
+      has_open (w.views t) file ≡ true →
+      HasLeave (model_limits c) (shown c w) t (Action.Close file)
+  shared_leave file node lf may found own =
+      let shows : node_shown (w.words.node file) ≡ info_of node = ap node_shown found ∙ word_shows node may.1.parent may.1.few in
+      let gone : is_removed (node_shown (w.words.node file)) ≡ node.removed =
+      ap is_removed (shows ∙ ap (λ k. info_of (record node { kind = k })) may.0) in
+      let count : opens_in (w.words.node file) ≡ node.opens = ap opens_in found ∙ word_opens node may.1.parent may.1.few in (
+        own,
+        λ r one. elim may.3 [
+          | inl linked ↦ absurd (true≢false (sym r ∙ gone ∙ linked))
+          | inr two ↦ absurd (omega (arith, two, one, count, (good Files).counted file lf))
+        ],
+      )
+
+  pub loads_file : (x : Closing) → IsHere (ClosePhase.LoadsFile x) → StepKeeps c w t hook (Phase.Closes (ClosePhase.LoadsFile x))
+  loads_file x e =
+      let f : CloseFits c t (held_of (w.views t)) (ClosePhase.LoadsFile x) = fits_now c within w good t lt hook (ClosePhase.LoadsFile x) refl e in
+      close_kept c within w good t lt hook (ClosePhase.LoadsFile x) refl e tt
+      (close_loads (tree_bounds c) (tree_within c within) (is_sealed w.words) (is_bare_at w.words) w.words (tree_roles w) (good Tree) t lt x
+      (role_now c within w good t lt hook (ClosePhase.LoadsFile x) refl e) f.0)
+
+  pub lowers_count : (x : Closing) (node : NodeWord) → IsHere (ClosePhase.LowersCount x node) →
+      StepKeeps c w t hook (Phase.Closes (ClosePhase.LowersCount x node))
+  lowers_count x node e =
+      let f : CloseFits c t (held_of (w.views t)) (ClosePhase.LowersCount x node) = fits_now c within w good t lt hook
+      (ClosePhase.LowersCount x node) refl e in
+      let own : has_open (w.views t) x.file ≡ true = has_now c within w good t lt hook (ClosePhase.LowersCount x node) refl e in
+      close_kept c within w good t lt hook (ClosePhase.LowersCount x node) refl e
+      (elim (eqb_tells (w.words.node x.file) (word_of node)) [
+        | inl h ↦ rw h.0 (shared_leave x.file node f.0.0 f.1 h.1 own)
+        | inr h ↦ rw h.0 tt
+      ])
+      (close_lowers (tree_bounds c) (tree_within c within) (is_sealed w.words) (is_bare_at w.words) w.words (tree_roles w) (good Tree) t lt x
+      node (role_now c within w good t lt hook (ClosePhase.LowersCount x node) refl e) f.0.0 f.1)
+
+  pub frees_node : (file p : ℕ) (node : NodeWord) → IsHere (ClosePhase.FreesNode file p node) →
+      StepKeeps c w t hook (Phase.Closes (ClosePhase.FreesNode file p node))
+  frees_node file p node e =
+      let f : CloseFits c t (held_of (w.views t)) (ClosePhase.FreesNode file p node) =
+      fits_now c within w good t lt hook (ClosePhase.FreesNode file p node) refl e in
+      let own : has_open (w.views t) file ≡ true = has_now c within w good t lt hook (ClosePhase.FreesNode file p node) refl e in
+      let is : tree_roles w t ≡ Freeing file node = role_now c within w good t lt hook (ClosePhase.FreesNode file p node) refl e in
+      close_kept c within w good t lt hook (ClosePhase.FreesNode file p node) refl e
+      (elim (cases_Bool (w.words.node file == word_of node)) [ inl h ↦ rw h (own, λ r one. f.2) | inr h ↦ rw h tt ])
+      (close_frees (tree_bounds c) (tree_within c within) (is_sealed w.words) (is_bare_at w.words) w.words (tree_roles w) (good Tree) t lt
+      file p node is (closer_unread c within w good t lt f.2 (freeing_removed c within w good t lt file node f.0 is))
+      (frees_alone c within w good t lt file node f.0 is own))
+
+  pub refunds_blocks : (p blocks : ℕ) → IsHere (ClosePhase.RefundsBlocks p blocks) → StepKeeps c w t hook (Phase.Closes (ClosePhase.RefundsBlocks p blocks))
+  refunds_blocks p blocks e =
+      let f : CloseFits c t (held_of (w.views t)) (ClosePhase.RefundsBlocks p blocks) =
+      fits_now c within w good t lt hook (ClosePhase.RefundsBlocks p blocks) refl e in
+      let is : tree_roles w t ≡ Dropped blocks = role_now c within w good t lt hook (ClosePhase.RefundsBlocks p blocks) refl e in
+      close_kept c within w good t lt hook (ClosePhase.RefundsBlocks p blocks) refl e tt
+      (close_drops (tree_bounds c) (tree_within c within) (is_sealed w.words) (is_bare_at w.words) w.words (tree_roles w) (good Tree) t lt
+      p blocks is (closer_unread c within w good t lt f.1 (dropped_removed c within w good t lt blocks is)))
+
+  pub uncounts : (p : ℕ) → IsHere (ClosePhase.Uncounts p) → StepKeeps c w t hook (Phase.Closes (ClosePhase.Uncounts p))
+  uncounts p e =
+      close_kept c within w good t lt hook (ClosePhase.Uncounts p) refl e tt
+      (close_uncounts (tree_bounds c) (tree_within c within) (is_sealed w.words) (is_bare_at w.words) w.words (tree_roles w) (good Tree) t lt
+      p (role_now c within w good t lt hook (ClosePhase.Uncounts p) refl e))

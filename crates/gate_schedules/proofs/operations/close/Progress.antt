@@ -1,0 +1,76 @@
+-- A close runs out, a last one where level 3 is open.
+use Rattle.std.proofs.{Common.{◌≡◌, ℕ, ◌+◌, ◌≤◌, true, false, refl, sym, ◌∙◌, inl, inr, arith, true≢false}, lemmas.Bool.{cases_Bool, ne_eqb, Decides.eqb_tells}}
+use Rattle.std.specs.Prelude.{◌==◌, ◌&&◌, Option, Some, None, Ok, Err}
+use Rattle.access_model.specs.declared.{actions.Kind.Kind, replies.Next.Next}
+use Rattle.cpu_words.specs.{Touches.{left, found_by}, Words.{Words, read, put}}
+use Rattle.node_words.specs.Nodes.{word_of, is_stray, node_of, opens_in, as_any_file}
+use Rattle.node_words.specs.Phases.{after_look}
+use Rattle.node_words.specs.declared.nodes.NodeWord.{NodeWord}
+use Rattle.percpu_rwsem.specs.{Readers.down_read_after, declared.readers.DownRead.DownRead}
+use Rattle.compounds.specs.file_closes.Phases.{closed_from, then_frees, next as close_next, after as close_after}
+use Rattle.compounds.specs.declared.file_closes.phases.{ClosePhase.ClosePhase, Closing.Closing}
+use Rattle.gate_world.specs.{Courses.CloseMayFind, Worlds.{words_after, found_at}, declared.{config.Config.Config, work.Phase.Phase}}
+use Rattle.gate_schedules.proofs.{frames.MayHolds.events_may_be, operations.{deadlocks.Falls.falls_as, readers.Progress.{read_block, read_falls}}}
+use Rattle.gate_schedules.specs.operations.{Ranks.{rank, read_rank, close_rank}, Ways.{IsFree, ReadIsFree, CloseIsFree, Falls, PhaseEnds}}
+
+module _ (after : Words) where
+  -- after an event at the level: inside it, the node is freed
+  frees_falls : (f : ℕ) (node : NodeWord) (p n : ℕ) (next : Next DownRead) →
+      Falls (λ (y : DownRead). read_rank y.wait y.step) (ReadIsFree after) n next →
+      Falls close_rank (CloseIsFree after) (n + 4) (then_frees f node p next)
+  frees_falls f node p n (Next.Go r) h = (omega (arith, h.0), h.1)
+  frees_falls f node p n (Next.Wait r) h = (omega (arith, h.0), h.1)
+  frees_falls f node p n (Next.Done (Ok reply)) h = (omega arith, tt)
+  frees_falls f node p n (Next.Done (Err refusal)) h = tt
+
+  -- where its file was found, and some task has it open
+  from_falls : (x : Closing) (node : NodeWord) → (node.opens == 0) ≡ false →
+      (x.wait ≡ true → (node.removed && (node.opens == 1)) ≡ true → after.block 3 ≡ 0) →
+      (close_rank (closed_from x node) ≤ 9) × CloseIsFree after (closed_from x node)
+  from_falls x node some free =
+      elim (cases_Bool (node.removed && (node.opens == 1))) [
+        | inl q ↦ rw (some, q) (omega arith, λ e a. free e q)
+        | inr q ↦ rw (some, q) (omega arith, tt)
+      ]
+
+  kind_falls : (x : Closing) (node : NodeWord) → (node.opens == 0) ≡ false →
+      (x.wait ≡ true → (node.removed && (node.opens == 1)) ≡ true → after.block 3 ≡ 0) → (kind : Option Kind) →
+      Falls close_rank (CloseIsFree after) 10 (after_look (ClosePhase.LoadsFile x) (closed_from x) (Some (as_any_file node kind)))
+  kind_falls x node some free None = tt
+  kind_falls x node some free (Some Kind.File) = (omega (arith, (from_falls x node some free).0), (from_falls x node some free).1)
+  kind_falls x node some free (Some Kind.Dir) = tt
+
+-- each event of a close
+close_falls : (w : Words) (x : ClosePhase) → CloseIsFree w x → CloseMayFind x (read w (close_next x).0) →
+    let after : Words = put w (close_next x).0 (left (close_next x).1 (read w (close_next x).0)) in
+    Falls close_rank (CloseIsFree after) (close_rank x) (close_after x (found_by (close_next x).1 (read w (close_next x).0))).0
+close_falls w (ClosePhase.LoadsFile x) free h =
+    let after : Words = put w (close_next (ClosePhase.LoadsFile x)).0
+    (left (close_next (ClosePhase.LoadsFile x)).1 (read w (close_next (ClosePhase.LoadsFile x)).0)) in
+    elim (cases_Bool (is_stray (w.node x.file))) [
+      | inl q ↦ absurd (true≢false (sym h.0 ∙ rw q refl))
+      | inr q ↦
+          let node : NodeWord = node_of (w.node x.file) in
+          rw q (kind_falls after x node (ne_eqb (opens_in (w.node x.file)) 0 (λ z. omega (arith, z, h.1))) free node.kind)
+    ]
+close_falls w (ClosePhase.LowersCount x node) free h =
+    elim (eqb_tells (w.node x.file) (word_of node)) [ inl q ↦ rw q.0 tt | inr q ↦ rw q.0 tt ]
+close_falls w (ClosePhase.Enters f node r) free h =
+    let after : Words = put w (close_next (ClosePhase.Enters f node r)).0
+    (left (close_next (ClosePhase.Enters f node r)).1 (read w (close_next (ClosePhase.Enters f node r)).0)) in
+    frees_falls after f node r.cpu (read_rank r.wait r.step)
+    (down_read_after r r.step (found_by (close_next (ClosePhase.Enters f node r)).1 (read w (close_next (ClosePhase.Enters f node r)).0))).0
+    (read_falls w r after r.step h (λ e a. read_block w r r.step ∙ free e a) free)
+close_falls w (ClosePhase.FreesNode f p node) free h =
+    elim (eqb_tells (w.node f) (word_of node)) [ inl q ↦ rw q.0 (omega arith, tt) | inr q ↦ absurd (q.1 h) ]
+close_falls w (ClosePhase.RefundsBlocks p blocks) free h = (omega arith, tt)
+close_falls w (ClosePhase.Uncounts p) free h = (omega arith, tt)
+close_falls w (ClosePhase.Leaves p) free h = tt
+
+pub close_ends : (c : Config) (x : ClosePhase) → PhaseEnds c (Phase.Closes x)
+close_ends c x = record {
+  falls = λ lim w good t lt hook at free.
+      let after : Words = words_after w.words (Phase.Closes x) hook in
+      falls_as Phase.Closes (rank after) (IsFree c after) (close_rank x) (close_after x (found_at w.words (Phase.Closes x) hook)).0
+      (close_falls w.words x free (events_may_be c lim w good t lt (Phase.Closes x) hook at));
+}

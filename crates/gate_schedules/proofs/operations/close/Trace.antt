@@ -1,0 +1,189 @@
+-- Traces of a close: that of its down-read of level 3, where it is a last one, between its own events.
+use Rattle.std.proofs.{Common.{◌≡◌, ℕ, ◌≤◌, Bool, true, false, refl, sym, ap, ◌∙◌, subst, inl, inr, arith}, lemmas.Bool.{eq-eqb, cases_Bool, Decides.eqb_tells}}
+use Rattle.std.specs.Prelude.{◌==◌, ◌&&◌, Option, Some, None, Result, Ok, Err, List, [], ◌∷◌, length, is_some}
+use Rattle.access_model.specs.{Replies.map_next, declared.{actions.{Action.Action, Gate.Gate}, errors.GateError.GateError, replies.Next.Next}}
+use Rattle.cpu_words.specs.{Hooks.HookAnswer, Touches.{event_of, found_by}}
+use Rattle.node_words.specs.Nodes.{any_file_in, as_any_file, opens_in, unpacked, word_of}
+use Rattle.node_words.specs.Phases.{after_look}
+use Rattle.node_words.specs.declared.nodes.NodeWord.{NodeWord}
+use Rattle.percpu_rwsem.specs.{Readers.{down_read_next, down_read_after}, declared.readers.{DownRead.DownRead, DownReadStep.DownReadStep}}
+use Rattle.compounds.specs.{file_closes.Phases.{closed_from, then_frees}, declared.file_closes.phases.ClosePhase.ClosePhase}
+use Rattle.gate_world.specs.{Courses.{CloseMayFind, MayFind, MayHold}, Found.found_dropped, Operations.first_close, Traces.{IsShort, most_events}}
+use Rattle.gate_world.specs.{Views.{with_hook, actions_after}, Work.next_of}
+use Rattle.gate_world.specs.declared.{config.Config.Config, operations.Op.Op, views.Traced.Traced, work.Phase.Phase}
+use Rattle.gate_schedules.proofs.{frames.Keeps.OpKeeps, operations.{calls.Trace.made_some, close.{Beginning.close_op_from, Causes.open_is_file}}}
+use Rattle.gate_schedules.proofs.operations.{close.Fits.found_node, readers.Trace.{read_at, events_before, ReadSays, ReadNext, read_event}}
+use Rattle.gate_schedules.proofs.traces.Says.{KeptWell, Says, SaysAfter, event_at, tells_well, is_short_well}
+
+-- an event of a down-read isn't on `removed`
+read_dropped : (r : DownRead) (s : DownReadStep) (value : ℕ) (hook : HookAnswer) (earlier : List Traced) →
+    found_dropped (with_hook (event_of (down_read_next r s).0 (down_read_next r s).1 value) hook ∷ earlier) ≡ found_dropped earlier
+read_dropped r DownReadStep.EntersSection value hook earlier = refl
+read_dropped r other value hook earlier = refl
+
+within_five : (s : DownReadStep) → events_before s ≤ 5
+within_five DownReadStep.EntersSection = omega arith
+within_five s = omega arith
+
+-- what a last close has added inside level 3: its grant, and then its action, too
+abbrev entered : List Action
+entered = Action.Grant (Gate.Level 3) ∷ []
+
+abbrev freed : ℕ → List Action
+freed file = Action.Close file ∷ entered
+
+module _ (file p t : ℕ) (wait : Bool) where
+  -- What a trace says of what was added, whether an event was on `removed`, and how many events there are at most, where the close doesn't
+  -- wait.
+  abbrev Stands : List Action → Bool → ℕ → List Traced → List Action → Type 0
+  Stands actions dropped most trace added =
+      (added ≡ actions) × (found_dropped trace ≡ dropped) × (wait ≡ false → length trace ≤ most)
+
+  -- What a trace says, by where the close stands. Inside level 3 it has one event and those of a down-read, at most five, before it frees
+  -- its file.
+  abbrev CloseSays : ClosePhase → List Traced → List Action → Type 0
+  CloseSays (ClosePhase.LoadsFile x) trace added = (x ≡ first_close file p t wait) × (trace ≡ []) × (added ≡ [])
+  CloseSays (ClosePhase.LowersCount x node) trace added = (x ≡ first_close file p t wait) × Stands [] false 1 trace added
+  CloseSays (ClosePhase.Enters f node r) trace added =
+      (f ≡ file) × ((s : DownReadStep) × (r ≡ read_at 3 p t wait s) × ReadSays 1 3 wait s trace added) × (found_dropped trace ≡ false)
+  CloseSays (ClosePhase.FreesNode f q node) trace added = (f ≡ file) × Stands entered false 6 trace added
+  CloseSays (ClosePhase.RefundsBlocks q blocks) trace added = Stands (freed file) false 7 trace added
+  CloseSays (ClosePhase.Uncounts q) trace added = Stands (freed file) false 8 trace added
+  CloseSays (ClosePhase.Leaves q) trace added = Stands (freed file) true 9 trace added
+
+  -- what it says at a phase
+  abbrev CloseAt : List Traced → Phase → List Action → Type 0
+  CloseAt trace phase added = (x : ClosePhase) × (phase ≡ Phase.Closes x) × CloseSays x trace added
+
+-- a short trace of a close
+close_short : (c : Config) (file p : ℕ) (wait : Bool) (trace : List Traced) → (wait ≡ false → length trace ≤ 10) →
+    IsShort (most_events c (Op.Close file p wait)) trace
+close_short c file p true trace h = tt
+close_short c file p false trace h = h refl
+
+-- so is one that says where its close stands
+says_short : (c : Config) (file p t : ℕ) (wait : Bool) (x : ClosePhase) (trace : List Traced) (added : List Action) →
+    CloseSays file p t wait x trace added → wait ≡ false → length trace ≤ 10
+says_short c file p t wait (ClosePhase.LoadsFile x) trace added h q = omega (arith, ap length h.1)
+says_short c file p t wait (ClosePhase.LowersCount x node) trace added h q = omega (arith, h.1.2 q)
+says_short c file p t wait (ClosePhase.Enters f node r) trace added h q = omega (arith, h.1.2.1 q, within_five h.1.0)
+says_short c file p t wait (ClosePhase.FreesNode f r node) trace added h q = omega (arith, h.1.2 q)
+says_short c file p t wait other trace added h q = omega (arith, h.2 q)
+
+module _ (c : Config) (file p t : ℕ) (wait : Bool) where
+  -- what a trace says by what comes
+  abbrev Comes : List Traced → Next ClosePhase → List Action → Type 0
+  Comes trace n added = Says (CloseAt file p t wait) c (Op.Close file p wait) trace (map_next Phase.Closes n) added
+
+  -- what the trace says after an event at level 3
+  entered_says : (node : NodeWord) (e : Traced) (earlier : List Traced) (added : List Action) (n : Next DownRead) →
+      ReadNext 1 3 p t wait (e ∷ earlier) added n → found_dropped (e ∷ earlier) ≡ false → Comes (e ∷ earlier) (then_frees file node p n) added
+  entered_says node e earlier added (Next.Go r) h none = (ClosePhase.Enters file node r, refl, (refl, h, none))
+  entered_says node e earlier added (Next.Wait r) h none = ((ClosePhase.Enters file node r, refl, (refl, h.0, none)), (h.1, h.2))
+  entered_says node e earlier added (Next.Done (Ok reply)) h none = (ClosePhase.FreesNode file p node, refl, (refl, (h.0, none, λ q. omega (arith, h.1 q))))
+  entered_says node e earlier added (Next.Done (Err GateError.Again)) h none =
+      ((h.0, inr h.1), close_short c file p wait (e ∷ earlier) (λ q. omega (arith, h.2 q)))
+  entered_says node e earlier added (Next.Done (Err refusal)) h none = absurd h
+
+module _ (c : Config) (file p t : ℕ) (wait : Bool) (value : ℕ) (hook : HookAnswer) where
+  -- what the trace says after the event of a phase
+  abbrev After : ClosePhase → List Traced → List Action → Type 0
+  After x earlier added = SaysAfter (CloseAt file p t wait) c (Op.Close file p wait) (Phase.Closes x) value hook earlier added
+
+  -- the close as it begins, and the load of its file
+  abbrev looks : ClosePhase
+  looks = ClosePhase.LoadsFile (first_close file p t wait)
+
+  abbrev loaded : Traced
+  loaded = with_hook (event_at (Phase.Closes looks) value hook) hook
+
+  -- what comes after its file was found: some task has it open, so it isn't loaded again
+  found_says : (node : NodeWord) → (node.opens ≡ 0 → ⊥) →
+      Comes c file p t wait (loaded ∷ []) (Next.Go (closed_from (first_close file p t wait) node)) []
+  found_says node some = elim (eqb_tells node.opens 0) [
+    | inl z ↦ absurd (some z.1)
+    | inr z ↦
+        elim (cases_Bool (node.removed && (node.opens == 1))) [
+          | inl last ↦
+              rw (z.0, last) (
+                ClosePhase.Enters file node (read_at 3 p t wait DownReadStep.EntersSection),
+                refl,
+                (refl, (DownReadStep.EntersSection, refl, (refl, λ q. omega arith, tt)), refl),
+              )
+          | inr more ↦
+              rw (z.0, more) (ClosePhase.LowersCount (first_close file p t wait) node, refl, (refl, (refl, refl, λ q. omega arith)))
+        ]
+  ]
+
+  looked_says : (r : Option (Result NodeWord GateError)) → any_file_in value ≡ r → is_some r ≡ true → 1 ≤ opens_in value →
+      Comes c file p t wait (loaded ∷ []) (after_look looks (closed_from (first_close file p t wait)) r) []
+  looked_says None e some opens = absurd cc
+  looked_says (Some (Ok node)) e some opens =
+      let same : opens_in value ≡ node.opens = ap (λ (x : NodeWord). x.opens) (found_node value node e).2 in
+      found_says node (λ z. omega (arith, same, opens, z))
+  looked_says (Some (Err refusal)) e some opens = absurd (open_is_file value refusal opens e)
+
+  loads_event : CloseMayFind looks value → After looks [] []
+  loads_event may =
+      looked_says (any_file_in value) refl (made_some (λ node. as_any_file node node.kind) (unpacked value) may.0) may.1
+
+  module _ (earlier : List Traced) (added : List Action) where
+    -- the count is lowered, or has changed
+    lowers_event : (node : NodeWord) → Stands file p t wait [] false 1 earlier added →
+        After (ClosePhase.LowersCount (first_close file p t wait) node) earlier added
+    lowers_event node h = elim (cases_Bool (value == word_of node)) [
+      | inl same ↦
+          rw (same, h.1)
+          ((ap (λ (l : List Action). Action.Close file ∷ l) h.0, refl), close_short c file p wait _ (λ q. omega (arith, h.2 q)))
+      | inr other ↦ rw other ((h.0, inl (rw other refl)), close_short c file p wait _ (λ q. omega (arith, h.2 q)))
+    ]
+
+    -- an event at level 3
+    enters_event : (node : NodeWord) (s : DownReadStep) → MayHold (down_read_next (read_at 3 p t wait s) s).0 value →
+        ReadSays 1 3 wait s earlier added → found_dropped earlier ≡ false → After (ClosePhase.Enters file node (read_at 3 p t wait s)) earlier added
+    enters_event node s may h none =
+        let r : DownRead = read_at 3 p t wait s in
+        let found : ℕ = found_by (down_read_next r s).1 value in
+        entered_says c file p t wait node (with_hook (event_of (down_read_next r s).0 (down_read_next r s).1 value) hook) earlier
+        (actions_after (down_read_after r s found).1 added) (down_read_after r s found).0
+        (read_event 1 3 p t value hook earlier added wait s may h) (read_dropped r s value hook earlier ∙ none)
+
+    close_event : (x : ClosePhase) → CloseMayFind x value → CloseSays file p t wait x earlier added → After x earlier added
+    close_event (ClosePhase.LoadsFile x) may h =
+        let start : After looks earlier added =
+        subst (λ l. After looks l added) (sym h.1) (subst (λ l. After looks [] l) (sym h.2) (loads_event may)) in
+        subst (λ y. After (ClosePhase.LoadsFile y) earlier added) (sym h.0) start
+    close_event (ClosePhase.LowersCount x node) may h = subst (λ y. After (ClosePhase.LowersCount y node) earlier added) (sym h.0) (lowers_event node h.1)
+    close_event (ClosePhase.Enters f node r) may h =
+        subst (λ y. After (ClosePhase.Enters y node r) earlier added) (sym h.0)
+        (subst (λ (y : DownRead). MayHold (down_read_next y y.step).0 value → After (ClosePhase.Enters file node y) earlier added) (sym h.1.1)
+        (λ holds. enters_event node h.1.0 holds h.1.2 h.2) may)
+    close_event (ClosePhase.FreesNode f q node) may h =
+        subst (λ y. After (ClosePhase.FreesNode y q node) earlier added) (sym h.0)
+        (
+        rw (eq-eqb value (word_of node) may)
+        (ClosePhase.RefundsBlocks q node.size, refl, (ap (λ (l : List Action). Action.Close file ∷ l) h.1.0, h.1.1, λ r. omega (arith, h.1.2 r)))
+        )
+    close_event (ClosePhase.RefundsBlocks q blocks) may h = (ClosePhase.Uncounts q, refl, (h.0, h.1, λ r. omega (arith, h.2 r)))
+    close_event (ClosePhase.Uncounts q) may h = (ClosePhase.Leaves q, refl, (h.0, refl, λ r. omega (arith, h.2 r)))
+    close_event (ClosePhase.Leaves q) may h = (
+      (rw h.1 (ap (λ (l : List Action). Action.Return (Gate.Level 3) ∷ l) h.0), refl),
+      close_short c file p wait _ (λ r. omega (arith, h.2 r)),
+    )
+
+pub close_kept : (c : Config) (file p t : ℕ) (wait : Bool) → KeptWell (CloseAt file p t wait) c t (Op.Close file p wait)
+close_kept c file p t wait = record {
+  first = (ClosePhase.LoadsFile (first_close file p t wait), refl, (refl, refl, refl));
+  more = λ phase value hook earlier added may here.
+      subst (λ (x : Phase). MayFind x (next_of x hook).0 value → SaysAfter (CloseAt file p t wait) c (Op.Close file p wait) x value hook
+      earlier added)
+      (sym here.1) (λ holds. close_event c file p t wait value hook earlier added here.0 holds here.2) may;
+  short = λ trace phase added here.
+      close_short c file p wait trace (says_short c file p t wait here.0 trace added here.2);
+}
+
+pub close_op : (c : Config) (file p : ℕ) (wait : Bool) → OpKeeps c (Op.Close file p wait)
+close_op c file p wait =
+    close_op_from c file p wait
+    (λ lim t trace h. tells_well (CloseAt file p t wait) c t (Op.Close file p wait) (close_kept c file p t wait) trace h)
+    (λ lim t trace h. is_short_well (CloseAt file p t wait) c t (Op.Close file p wait) (close_kept c file p t wait) trace h)

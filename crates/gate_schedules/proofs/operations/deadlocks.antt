@@ -1,0 +1,11 @@
+pub mod Falls
+pub mod Bounds
+pub mod Leaves
+pub mod Movers
+pub mod Freezing
+pub mod Whole
+pub mod Plain
+pub mod KeptStarts
+pub mod KeptCloses
+pub mod KeptStays
+pub mod Settles

@@ -1,0 +1,45 @@
+-- A start or a last close that is kept stays so by its own events, which leave the words that others are kept by.
+use Rattle.std.proofs.{Common.{◌≡◌, Bool, true, false, refl, sym, ap, ◌∙◌, arith, true≢false}, lemmas.Bool.ne_eqb}
+use Rattle.std.specs.Prelude.{◌==◌}
+use Rattle.access_model.specs.declared.replies.Next.{Next, TheVariants.{Go, Wait, Done}}
+use Rattle.cpu_words.specs.{Touches.found_by, Words.{Words, read}}
+use Rattle.percpu_rwsem.specs.{Readers.{down_read_next, down_read_after, step_found, left_blocked}, SyncWords.unpack, declared.readers.DownRead.DownRead}
+use Rattle.percpu_rwsem.specs.declared.readers.DownReadStep.{DownReadStep, TheVariants.{EntersSection, LoadsSync, CountsUpFast, CountsUpSlow, LoadsBlock}}
+use Rattle.percpu_rwsem.specs.declared.readers.DownReadStep.TheVariants.{CountsDown, LeavesAdmitted, LeavesBlocked}
+use Rattle.gate_schedules.specs.operations.Progress.{is_admitted}
+use Rattle.gate_schedules.proofs.operations.deadlocks.Falls.{after_event}
+
+-- what comes after an event of a start that is kept is that start, which waits and isn't admitted
+abbrev pub StaysKept : DownRead → Next DownRead → Type 0
+StaysKept r (Go next) = (next.wait ≡ true) × (is_admitted next.step ≡ false) × (next.level ≡ r.level)
+StaysKept r (Wait next) = (next.wait ≡ true) × (is_admitted next.step ≡ false) × (next.level ≡ r.level)
+StaysKept r (Done answer) = ⊥
+
+blocked_stays : (r : DownRead) → r.wait ≡ true → (b : Bool) → r.wait ≡ b → StaysKept r (left_blocked r b)
+blocked_stays r wait true e = (wait, refl, refl)
+blocked_stays r wait false e = absurd (true≢false (sym wait ∙ e))
+
+-- each event of a start that waits at a closed level, where readers are slow
+pub start_stays : (w : Words) (r : DownRead) → r.wait ≡ true → w.block r.level ≡ 1 → step_found (unpack (w.sync r.level)) ≡ CountsUpSlow →
+    (s : DownReadStep) → is_admitted s ≡ false →
+    StaysKept r (down_read_after r s (found_by (down_read_next r s).1 (read w (down_read_next r s).0))).0
+start_stays w r wait set slow EntersSection not = (wait, refl, refl)
+start_stays w r wait set slow LoadsSync not = (wait, ap is_admitted slow, refl)
+start_stays w r wait set slow CountsUpFast not = absurd (true≢false not)
+start_stays w r wait set slow CountsUpSlow not = (wait, refl, refl)
+start_stays w r wait set slow LoadsBlock not =
+    let e : (w.block r.level == 0) ≡ false = ne_eqb (w.block r.level) 0 (λ z. omega (arith, z, set)) in rw e (wait, refl, refl)
+start_stays w r wait set slow CountsDown not = (wait, refl, refl)
+start_stays w r wait set slow LeavesAdmitted not = absurd (true≢false not)
+start_stays w r wait set slow LeavesBlocked not = blocked_stays r wait r.wait refl
+
+-- a down-read leaves the nodes
+pub read_nodes : (w : Words) (r : DownRead) (s : DownReadStep) → (after_event w (down_read_next r s)).node ≡ w.node
+read_nodes w r EntersSection = refl
+read_nodes w r LoadsSync = refl
+read_nodes w r CountsUpFast = refl
+read_nodes w r CountsUpSlow = refl
+read_nodes w r LoadsBlock = refl
+read_nodes w r CountsDown = refl
+read_nodes w r LeavesAdmitted = refl
+read_nodes w r LeavesBlocked = refl

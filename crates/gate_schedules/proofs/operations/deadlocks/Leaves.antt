@@ -1,0 +1,231 @@
+-- Who is inside a read-side section leaves it by a few events of its own, so where a reply is near once nobody is inside one, it is near.
+use Rattle.std.proofs.{Common.{◌≡◌, ℕ, zero, suc, ◌+◌, ◌*◌, ◌<◌, ◌≤◌, Bool, true, false, refl, sym, ap, ◌∙◌, inl, inr, arith}, lemmas.Bool.Decides.eqb_tells}
+use Rattle.std.specs.Prelude.{◌⊎◌, Option, Some, None, Ok, Err}
+use Rattle.finite_sums.specs.Sums.{total}
+use Rattle.finite_sums.proofs.Totals.{total_updated, total_place, HasPlace}
+use Rattle.access_model.specs.{Replies.map_next, declared.replies.Next.{Next, TheVariants.{Go, Wait, Done}}}
+use Rattle.cpu_words.specs.{Hooks.HookAnswer, Touches.found_by, Words.{Words, read}}
+use Rattle.percpu_rwsem.specs.{Readers.{down_read_next, down_read_after, step_in, step_found, left_blocked}, SyncWords.unpack}
+use Rattle.percpu_rwsem.specs.declared.readers.{DownRead.DownRead, DownReadStep.{DownReadStep, TheVariants.{EntersSection, LoadsSync, CountsUpFast}}}
+use Rattle.percpu_rwsem.specs.declared.readers.DownReadStep.TheVariants.{CountsUpSlow, LoadsBlock, CountsDown, LeavesAdmitted, LeavesBlocked}
+use Rattle.percpu_rwsem.specs.declared.sync_word.{GpState.{GpState, TheVariants.{Idle, Enter, Passed, Exit, Replay}}, SyncWord.SyncWord}
+use Rattle.freeze_laws.specs.levels.Operations.{down_read_inside}
+use Rattle.compounds.specs.{write_access.Phases.then_wants, declared.write_access.phases.WritePhase.TheVariants.Takes}
+use Rattle.compounds.specs.{file_closes.Phases.then_frees, declared.file_closes.phases.ClosePhase.TheVariants.Enters as EntersLevel}
+use Rattle.node_words.specs.declared.nodes.NodeWord.{NodeWord}
+use Rattle.gate_world.specs.{Configs.IsWithin, Courses.{MayHold, MayFind}, Levels.inside, Rules.IsGood, Views.{phase_after, view_after}, Work.next_of}
+use Rattle.gate_world.specs.{Work.after_of, Worlds.{World, after_step, words_after, value_at, found_at}, declared.{config.Config.Config, views.View.View}}
+use Rattle.gate_world.specs.declared.work.Phase.{Phase, TheVariants.{DownReads, Writes, Closes as FileCloses}}
+use Rattle.gate_schedules.proofs.{frames.MayHolds.events_may_be, operations.deadlocks.Falls.{after_event, stands_after, no_further, near_after}}
+use Rattle.gate_schedules.proofs.operations.readers.Progress.{found_rank}
+use Rattle.gate_schedules.specs.operations.{Progress.{EventsKeepRule, HasReply, ReplyWithin}, Ranks.read_rank}
+
+-- how many events may still come after the next one, until it is outside
+abbrev pub leave_rank : Phase → ℕ
+leave_rank (DownReads r) = read_rank false r.step
+leave_rank (Writes (Takes m r)) = read_rank false r.step
+leave_rank (FileCloses (EntersLevel f node r)) = read_rank false r.step
+leave_rank phase = 0
+
+-- what comes after an event inside a section is outside, or inside and nearer to its end, or the reply
+abbrev pub Leaves : {P : Type 0} → (P → ℕ) → (P → ℕ) → ℕ → Next P → Type 0
+Leaves is_inside rank_of n (Go q) = (is_inside q ≡ 0) ⊎ ((is_inside q ≡ 1) × (rank_of q < n))
+Leaves is_inside rank_of n (Wait q) = (is_inside q ≡ 0) ⊎ ((is_inside q ≡ 1) × (rank_of q < n))
+Leaves is_inside rank_of n (Done answer) = Unit {0}
+
+-- of a down-read
+abbrev pub ReadLeaves : ℕ → Next DownRead → Type 0
+ReadLeaves n next = Leaves (λ (y : DownRead). down_read_inside y.step) (λ (y : DownRead). read_rank false y.step) n next
+
+-- of any phase
+abbrev pub PhaseLeaves : ℕ → Next Phase → Type 0
+PhaseLeaves n next = Leaves (λ (q : Phase). inside (Some q)) leave_rank n next
+
+in_inside : (s : GpState) → down_read_inside (step_in s) ≡ 1
+in_inside Idle = refl
+in_inside Enter = refl
+in_inside Passed = refl
+in_inside Exit = refl
+in_inside Replay = refl
+
+found_inside : (o : Option SyncWord) → down_read_inside (step_found o) ≡ 1
+found_inside None = refl
+found_inside (Some word) = in_inside word.state
+
+left_leaves : (r : DownRead) (b : Bool) → ReadLeaves 0 (left_blocked r b)
+left_leaves r true = inl refl
+left_leaves r false = tt
+
+-- each event of a down-read inside its section, whose sync word is one
+read_leaves : (w : Words) (r : DownRead) (s : DownReadStep) → MayHold (down_read_next r s).0 (read w (down_read_next r s).0) →
+    down_read_inside s ≡ 1 →
+    ReadLeaves (read_rank false s) (down_read_after r s (found_by (down_read_next r s).1 (read w (down_read_next r s).0))).0
+read_leaves w r EntersSection may h = absurd (omega (arith, h))
+read_leaves w r LoadsSync may h =
+    inr (found_inside (unpack (w.sync r.level)), omega (arith, found_rank false (unpack (w.sync r.level)) may))
+read_leaves w r CountsUpFast may h = inr (refl, omega arith)
+read_leaves w r CountsUpSlow may h = inr (refl, omega arith)
+read_leaves w r LoadsBlock may h =
+    elim (eqb_tells (w.block r.level) 0) [ inl q ↦ rw q.0 (inr (refl, omega arith)) | inr q ↦ rw q.0 (inr (refl, omega arith)) ]
+read_leaves w r CountsDown may h = inr (refl, omega arith)
+read_leaves w r LeavesAdmitted may h = tt
+read_leaves w r LeavesBlocked may h = left_leaves r r.wait
+
+as_read : (n : ℕ) (next : Next DownRead) → ReadLeaves n next → PhaseLeaves n (map_next DownReads next)
+as_read n (Go r) h = h
+as_read n (Wait r) h = h
+as_read n (Done answer) h = tt
+
+as_write : (m p n : ℕ) (next : Next DownRead) → ReadLeaves n next → PhaseLeaves n (map_next Writes (then_wants m p next))
+as_write m p n (Go r) h = h
+as_write m p n (Wait r) h = h
+as_write m p n (Done (Ok reply)) h = inl refl
+as_write m p n (Done (Err refusal)) h = tt
+
+as_close : (f : ℕ) (node : NodeWord) (p n : ℕ) (next : Next DownRead) → ReadLeaves n next →
+    PhaseLeaves n (map_next FileCloses (then_frees f node p next))
+as_close f node p n (Go r) h = h
+as_close f node p n (Wait r) h = h
+as_close f node p n (Done (Ok reply)) h = inl refl
+as_close f node p n (Done (Err refusal)) h = tt
+
+-- each event of a phase inside a section
+pub phase_leaves : (w : Words) (phase : Phase) (hook : HookAnswer) → MayFind phase (next_of phase hook).0 (value_at w phase hook) →
+    inside (Some phase) ≡ 1 → PhaseLeaves (leave_rank phase) (after_of phase (found_at w phase hook) hook).0
+phase_leaves w (DownReads r) hook may h = as_read (read_rank false r.step) _ (read_leaves w r r.step may h)
+phase_leaves w (Writes (Takes m r)) hook may h = as_write m r.cpu (read_rank false r.step) _ (read_leaves w r r.step may h)
+phase_leaves w (FileCloses (EntersLevel f node r)) hook may h =
+    as_close f node r.cpu (read_rank false r.step) _ (read_leaves w r r.step may h)
+phase_leaves w phase hook may h = absurd (omega (arith, h))
+
+-- what an event inside a section leaves of the words that a freeze looks at
+pub record StaysBeside (w next : Words) : Type 0 where
+  pub umount_same : next.umount ≡ w.umount
+  pub stage_same : next.stage ≡ w.stage
+  pub sb_same : next.sb ≡ w.sb
+
+pub read_beside : (w : Words) (r : DownRead) (s : DownReadStep) → StaysBeside w (after_event w (down_read_next r s))
+read_beside w r EntersSection = record { umount_same = refl; stage_same = refl; sb_same = refl }
+read_beside w r LoadsSync = record { umount_same = refl; stage_same = refl; sb_same = refl }
+read_beside w r CountsUpFast = record { umount_same = refl; stage_same = refl; sb_same = refl }
+read_beside w r CountsUpSlow = record { umount_same = refl; stage_same = refl; sb_same = refl }
+read_beside w r LoadsBlock = record { umount_same = refl; stage_same = refl; sb_same = refl }
+read_beside w r CountsDown = record { umount_same = refl; stage_same = refl; sb_same = refl }
+read_beside w r LeavesAdmitted = record { umount_same = refl; stage_same = refl; sb_same = refl }
+read_beside w r LeavesBlocked = record { umount_same = refl; stage_same = refl; sb_same = refl }
+
+pub phase_beside : (w : Words) (phase : Phase) (hook : HookAnswer) → inside (Some phase) ≡ 1 → StaysBeside w (words_after w phase hook)
+phase_beside w (DownReads r) hook h = read_beside w r r.step
+phase_beside w (Writes (Takes m r)) hook h = read_beside w r r.step
+phase_beside w (FileCloses (EntersLevel f node r)) hook h = read_beside w r r.step
+phase_beside w phase hook h = absurd (omega (arith, h))
+
+-- a down-read has few steps inside its section
+read_small : (s : DownReadStep) → down_read_inside s ≡ 1 → read_rank false s < 5
+read_small EntersSection h = absurd (omega (arith, h))
+read_small s h = omega arith
+
+leave_small : (phase : Phase) → inside (Some phase) ≡ 1 → leave_rank phase < 5
+leave_small (DownReads r) h = read_small r.step h
+leave_small (Writes (Takes m r)) h = read_small r.step h
+leave_small (FileCloses (EntersLevel f node r)) h = read_small r.step h
+leave_small phase h = omega arith
+
+down_inside_le : (s : DownReadStep) → down_read_inside s ≤ 1
+down_inside_le EntersSection = omega arith
+down_inside_le s = omega arith
+
+-- a task is inside one section at most
+pub inside_le : (p : Option Phase) → inside p ≤ 1
+inside_le None = omega arith
+inside_le (Some (DownReads r)) = down_inside_le r.step
+inside_le (Some (Writes (Takes m r))) = down_inside_le r.step
+inside_le (Some (Writes x)) = omega arith
+inside_le (Some (FileCloses (EntersLevel f node r))) = down_inside_le r.step
+inside_le (Some phase) = omega arith
+
+-- how many tasks are inside one
+abbrev pub all_within : Config → World → ℕ
+all_within c w = total c.tasks (λ y. inside (w.views y).phase)
+
+-- a task that is inside one is at a phase
+pub phase_inside : (p : Option Phase) → inside p ≡ 1 → (phase : Phase) × (p ≡ Some phase)
+phase_inside None h = absurd (omega (arith, h))
+phase_inside (Some phase) h = (phase, refl)
+
+module _ (c : Config) (lim : IsWithin c)
+    (keeps : EventsKeepRule c)
+    (Cond : World → Type 0)
+    (stays : (w : World) → (z : ℕ) → z < c.tasks → (phase : Phase) → (w.views z).phase ≡ Some phase → inside (Some phase) ≡ 1 →
+    (hook : HookAnswer) → (q : Phase) → ((after_step w z phase hook).views z).phase ≡ Some q → Cond w → Cond (after_step w z phase hook))
+    (n : ℕ) (base : (w : World) → IsGood c w → Cond w → all_within c w ≡ 0 → ReplyWithin c n w) where
+  -- an event changes how many are inside by its own task
+  within_after : (w : World) (z : ℕ) → z < c.tasks → (phase : Phase) → (w.views z).phase ≡ Some phase → (hook : HookAnswer) (q : Phase) →
+      ((after_step w z phase hook).views z).phase ≡ Some q →
+      all_within c (after_step w z phase hook) + inside (Some phase) ≡ all_within c w + inside (Some q)
+  within_after w z lz phase at hook q is =
+      let v : View = view_after (w.views z) phase (value_at w.words phase hook) hook in
+      let e : all_within c (after_step w z phase hook) + inside (w.views z).phase ≡ all_within c w + inside v.phase =
+      total_updated (λ (u : View). inside u.phase) c.tasks z w.views v lz in
+      let k : inside v.phase ≡ inside (Some q) = ap inside (sym (stands_after c w z lz hook phase at) ∙ is) in
+      omega (arith, e, k, ap inside at)
+
+  -- what comes after an event of a task inside
+  then_leaves : (m k : ℕ) (w : World) → IsGood c w → Cond w → (z : ℕ) → z < c.tasks → (phase : Phase) → (w.views z).phase ≡ Some phase →
+      inside (Some phase) ≡ 1 → (hook : HookAnswer) → leave_rank phase ≤ m → all_within c w ≤ suc k →
+      ((next : World) → IsGood c next → Cond next → all_within c next ≤ k → ReplyWithin c (n + 5 * k) next) →
+      ((next : World) → IsGood c next → Cond next → (q : Phase) → (next.views z).phase ≡ Some q → inside (Some q) ≡ 1 →
+      leave_rank q < m → all_within c next ≤ suc k → ReplyWithin c (n + 5 * k + m) next) →
+      (coming : Next Phase) → ((after_step w z phase hook).views z).phase ≡ phase_after coming → PhaseLeaves (leave_rank phase) coming →
+      HasReply (after_step w z phase hook) z ⊎ ReplyWithin c (n + 5 * k + m) (after_step w z phase hook)
+  then_leaves m k w good cond z lz phase at within hook le few rest again (Done answer) is h = inl is
+  then_leaves m k w good cond z lz phase at within hook le few rest again (Go q) is h =
+      let next : World = after_step w z phase hook in
+      let after : IsGood c next = keeps w good z lz hook phase at in
+      let cond' : Cond next = stays w z lz phase at within hook q is cond in
+      let count : all_within c next + inside (Some phase) ≡ all_within c w + inside (Some q) = within_after w z lz phase at hook q is in
+      elim h [
+        | inl out ↦ inr (no_further c (n + 5 * k) (n + 5 * k + m) next (omega arith)
+            (rest next after cond' (omega (arith, count, out, within, few))))
+        | inr on ↦ inr (again next after cond' q is on.0 (omega (arith, on.1, le)) (omega (arith, count, on.0, within, few)))
+      ]
+  then_leaves m k w good cond z lz phase at within hook le few rest again (Wait q) is h =
+      let next : World = after_step w z phase hook in
+      let after : IsGood c next = keeps w good z lz hook phase at in
+      let cond' : Cond next = stays w z lz phase at within hook q is cond in
+      let count : all_within c next + inside (Some phase) ≡ all_within c w + inside (Some q) = within_after w z lz phase at hook q is in
+      elim h [
+        | inl out ↦ inr (no_further c (n + 5 * k) (n + 5 * k + m) next (omega arith)
+            (rest next after cond' (omega (arith, count, out, within, few))))
+        | inr on ↦ inr (again next after cond' q is on.0 (omega (arith, on.1, le)) (omega (arith, count, on.0, within, few)))
+      ]
+
+  -- one task leaves its section
+  one_leaves : (m k : ℕ) (w : World) → IsGood c w → Cond w → (z : ℕ) → z < c.tasks → (phase : Phase) → (w.views z).phase ≡ Some phase →
+      inside (Some phase) ≡ 1 → leave_rank phase < m → all_within c w ≤ suc k →
+      ((next : World) → IsGood c next → Cond next → all_within c next ≤ k → ReplyWithin c (n + 5 * k) next) →
+      ReplyWithin c (n + 5 * k + m) w
+  one_leaves zero k w good cond z lz phase at within le few rest = absurd (omega (arith, le))
+  one_leaves (suc m) k w good cond z lz phase at within le few rest =
+      no_further c (suc (n + 5 * k + m)) (n + 5 * k + suc m) w (omega arith)
+      (near_after c (n + 5 * k + m) w z lz phase at (λ hook.
+      then_leaves m k w good cond z lz phase at within hook (omega (arith, le)) few rest
+      (λ next after cond' q is on le' few'. one_leaves m k next after cond' z lz q is on le' few' rest)
+      (after_of phase (found_at w.words phase hook) hook).0 (stands_after c w z lz hook phase at)
+      (phase_leaves w.words phase hook (events_may_be c lim w good z lz phase hook at) within)))
+
+  -- all of them do
+  pub all_leave : (k : ℕ) (w : World) → IsGood c w → Cond w → all_within c w ≤ k → ReplyWithin c (n + 5 * k) w
+  all_leave zero w good cond few = no_further c n (n + 5 * 0) w (omega arith) (base w good cond (omega (arith, few)))
+  all_leave (suc k) w good cond few =
+      elim (eqb_tells (all_within c w) 0) [
+        | inl none ↦ no_further c n (n + 5 * suc k) w (omega arith) (base w good cond none.1)
+        | inr some ↦
+            let place : HasPlace c.tasks (λ y. inside (w.views y).phase) = total_place c.tasks (λ y. inside (w.views y).phase) some.1 in
+            let z : ℕ = place.0 in
+            let is : inside (w.views z).phase ≡ 1 = omega (arith, place.2, inside_le (w.views z).phase) in
+            let at : (phase : Phase) × ((w.views z).phase ≡ Some phase) = phase_inside (w.views z).phase is in
+            no_further c (n + 5 * k + 5) (n + 5 * suc k) w (omega arith)
+            (one_leaves 5 k w good cond z place.1 at.0 at.1 (sym (ap inside at.1) ∙ is) (leave_small at.0 (sym (ap inside at.1) ∙ is)) few
+            (λ next after cond' few'. all_leave k next after cond' few'))
+      ]

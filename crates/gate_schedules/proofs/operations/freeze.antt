@@ -1,0 +1,11 @@
+pub mod Sums
+pub mod Trace
+pub mod Fits
+pub mod Stages
+pub mod Closes
+pub mod Events
+pub mod Runs
+pub mod Causes
+pub mod Waits
+pub mod Progress
+pub mod Laws

@@ -1,0 +1,326 @@
+-- The events of a freeze on the words of a level that it closes.
+use Rattle.gate_schedules.proofs.frames.{Accesses.holdings_of_after, ByPhase.freeze_owner, Keeps.by_bool, Stages.{IsStageEvent, stages_in}}
+use Rattle.gate_schedules.proofs.levels.DownWrite.{down_write_levels, entered_by_nobody, passes_finds_nobody, swap_finds_clear}
+use Rattle.gate_schedules.proofs.{levels.Standing.{LevelsHold, Stands, left_world, stand_after_closing}, operations.freeze.Fits.freeze_goes}
+use Rattle.gate_schedules.proofs.operations.freeze.Stages.{FitsHere, IsHere, Keeps, freeze_stands, here_fits, here_stands, here_tree, here_writes}
+use Rattle.gate_schedules.proofs.{trees.worlds.Trees.shown_clean, writers.Parts.{AsksWhere, LeavesRest, WriterLaw, down_write_comes, freeze_comes}}
+use Rattle.gate_schedules.proofs.writers.Stages.{none_leaves, stays_there, still_plays}
+use Rattle.gate_schedules.proofs.writers.Words.{down_write_adds, down_write_counts_none, down_write_words, pass_leaves, tree_begins, tree_beside}
+use Rattle.gate_schedules.proofs.writers.Words.{writer_at_level}
+use Rattle.access_model.specs.{Replies.map_next, declared.{actions.Action.Action, replies.{Next.Next, Reply.Reply}}}
+use Rattle.cpu_words.specs.{Hooks.HookAnswer, Sums.sum_taking, Touches.{found_by, left}, Words.{Words, put, read}, declared.sums.{Sum.Sum, Taken.Taken}}
+use Rattle.finite_sums.proofs.Totals.{total_at}
+use Rattle.finite_sums.specs.Sums.{total, update}
+use Rattle.freeze_levels.specs.{Freezes.{after_closing, at_freeze, level_closed}, declared.freezes.{Freeze.Freeze, FreezeStep.FreezeStep}}
+use Rattle.gate_world.specs.{Configs.{IsWithin, model_limits}, Fits.Fits, Holdings.{Holdings, holdings_of}, Levels.{level_added_by, level_taken_by}}
+use Rattle.gate_world.specs.{Roles.{closed_to, freeze_holder_role, freeze_stage_role, freeze_tree_role, place_of}, Rules.{Holds, IsGood, Tree, ViewFits}}
+use Rattle.gate_world.specs.{Rules.{holder_role_of, marks_of, owns, stage_role_of}, Shown.shown, Trees.{tree_role_of, tree_roles}, Views.actions_after}
+use Rattle.gate_world.specs.{Views.{added_by, held_of, holds_level, phase_after, taken_by, view_with}, Worlds.World, declared.config.Config.Config}
+use Rattle.gate_world.specs.declared.{views.View.View, work.Phase.Phase}
+use Rattle.node_words.proofs.ClearedMarks.{directory_clean}
+use Rattle.node_words.specs.Nodes.{IsNode}
+use Rattle.gated_tree.specs.Roles.{Clearing, Out as OffTree}
+use Rattle.freeze_levels.specs.holder_laws.Roles.{Apart}
+use Rattle.percpu_rwsem.specs.{Graces.looked, SyncWords.{is_passed, on_callback, on_enter, unpack}, Transitions.transition_after, Writers.at_down_write}
+use Rattle.percpu_rwsem.specs.Writers.{callback_step, down_write_after, down_write_next, down_write_summed, enter_step, passed_awaited, sections_awaited}
+use Rattle.percpu_rwsem.specs.{Writers.sum_begun, declared.{grace.GraceNext.GraceNext, sync_word.{GpState.GpState, SyncWord.SyncWord}}}
+use Rattle.percpu_rwsem.specs.declared.{transitions.{Transition.Transition, TransitionNext.TransitionNext}, writers.DownWrite.DownWrite}
+use Rattle.percpu_rwsem.specs.declared.writers.DownWriteStep.{DownWriteStep}
+use Rattle.freeze_laws.proofs.stages.Facts.{at_level}
+use Rattle.freeze_laws.specs.stages.{Events.{Happens, Passes, SetsBlock as SetsBlockStage, StageEvent, Stays, action_of as stage_action_of, playing}, Roles.Before}
+use Rattle.freeze_laws.specs.stages.{Roles.{CleanBelow, Closing, Freezing, HasPassed, Place, bit, has_position, owns as stage_owns}, Shown.state_after}
+use Rattle.std.proofs.Common.{Bool, ap, arith, false, inl, inr, nat_lt, refl, subst, sym, true, true≢false, ℕ, ◌<◌, ◌∙◌, ◌≡◌, ◌≤◌, ◌⊎◌}
+use Rattle.std.proofs.lemmas.Bool.{cases_Bool, eq-eqb, Decides.eqb_tells}
+use Rattle.std.specs.Prelude.{None, Ok, Option, Some, if◌then◌else◌, ◌==◌}
+
+-- once level 2 is passed the clearing of marks begins at node 1
+abbrev clean_from : ℕ → ℕ
+clean_from level = if level == 2 then 1 else 0
+
+-- what comes after an event of a down-write is the same one, at a step of this place
+abbrev IsAtPlace : DownWrite → Place → Next DownWrite → Type 0
+IsAtPlace d p (Next.Go x) = (x.level ≡ d.level) × (place_of x.step ≡ p)
+IsAtPlace d p (Next.Wait x) = (x.level ≡ d.level) × (place_of x.step ≡ p)
+IsAtPlace d p (Next.Done answer) = ⊥
+
+-- until its swap it is before that
+enter_place : (tasks : ℕ) (n : TransitionNext) → place_of (enter_step tasks n) ≡ Before
+enter_place tasks (TransitionNext.More transition) = refl
+enter_place tasks (TransitionNext.Made GpState.Idle) = refl
+enter_place tasks other = refl
+
+callback_place : (n : TransitionNext) → place_of (callback_step n) ≡ Before
+callback_place (TransitionNext.More transition) = refl
+callback_place other = refl
+
+sections_place : (d : DownWrite) (n : GraceNext) → IsAtPlace d Before (sections_awaited d n)
+sections_place d (GraceNext.More grace) = (refl, refl)
+sections_place d other = (refl, refl)
+
+passed_place : (d : DownWrite) (o : Option SyncWord) → IsAtPlace d Before (passed_awaited d o)
+passed_place d None = (refl, refl)
+passed_place d (Some word) =
+    by_bool (is_passed word.state)
+    (λ b. IsAtPlace d Before (if b then Next.Go (at_down_write d DownWriteStep.SetsBlock) else Next.Wait (at_down_write d DownWriteStep.AwaitsPassed)))
+    (refl, refl)
+    (refl, refl)
+
+-- what a freeze does with the stage at such a place
+place_role : (x : Freeze) (d : DownWrite) (p : Place) (n : Next DownWrite) → IsAtPlace d p n →
+    stage_role_of (phase_after (map_next Phase.Freezes (after_closing x d.level n))) ≡ Freezing d.level p (nat_lt 1 d.level)
+place_role x d p (Next.Go y) h = λ j. Freezing (h.0 j) (h.1 j) (nat_lt 1 (h.0 j))
+place_role x d p (Next.Wait y) h = λ j. Freezing (h.0 j) (h.1 j) (nat_lt 1 (h.0 j))
+place_role x d p (Next.Done answer) h = absurd h
+
+-- and once the level is closed
+closed_role : (x : Freeze) (level : ℕ) → 1 ≤ level → level ≤ 3 →
+    freeze_stage_role x.nodes (level_closed level x.nodes) ≡ Freezing level (HasPassed (clean_from level)) (nat_lt 1 level)
+closed_role x level = at_level
+    (λ i. freeze_stage_role x.nodes (level_closed i x.nodes) ≡ Freezing i (HasPassed (clean_from i)) (nat_lt 1 i)) (refl, refl, refl) level
+
+-- a clearing of marks begins once level 2 is closed
+closed_tree : (nodes level : ℕ) → (freeze_tree_role nodes (level_closed level nodes) ≡ OffTree) ⊎
+    (freeze_tree_role nodes (level_closed level nodes) ≡ Clearing 1)
+closed_tree nodes level =
+    elim (eqb_tells level 1) [
+      | inl q ↦ rw q.0 (inl refl)
+      | inr q ↦ elim (eqb_tells level 2) [ inl p ↦ rw (q.0, p.0) (inr refl) | inr p ↦ rw (q.0, p.0) (inl refl) ]
+    ]
+
+-- how it stands with the levels then
+closed_stands : (x : Freeze) (level : ℕ) → 1 ≤ level → level ≤ 3 →
+    Stands (Some (Phase.Freezes (at_freeze x (level_closed level x.nodes)))) (Some (closed_to level))
+closed_stands x level = at_level (λ i. Stands (Some (Phase.Freezes (at_freeze x (level_closed i x.nodes)))) (Some (closed_to i))) (
+  freeze_stands (at_freeze x (level_closed 1 x.nodes)),
+  freeze_stands (at_freeze x (level_closed 2 x.nodes)),
+  freeze_stands (at_freeze x (level_closed 3 x.nodes)),
+) level
+
+-- `block` is set where the swap found it clear
+swapped_role : (x : Freeze) (d : DownWrite) (b : Bool) → b ≡ true →
+    stage_role_of (phase_after (map_next Phase.Freezes (after_closing x d.level
+    (if b then Next.Go (at_down_write d sum_begun) else Next.Wait (at_down_write d DownWriteStep.SetsBlock))))) ≡ Freezing d.level Closing (nat_lt 1 d.level)
+swapped_role x d true h = refl
+swapped_role x d false h = absurd (true≢false (sym h))
+
+-- the event of the stage that comes with a word more of the sum: with the last one of a sum of 0 the level is passed
+abbrev sum_kind : DownWrite → Taken → StageEvent
+sum_kind d (Taken.More sum) = Stays
+sum_kind d (Taken.Total total) = if total == 0 then Passes d.level (clean_from d.level) (nat_lt 1 d.level) else Stays
+
+closed_apart : (level nodes : ℕ) → freeze_holder_role (level_closed level nodes) ≡ Apart
+closed_apart level nodes =
+    elim (eqb_tells level 1) [
+      | inl h ↦ rw h.0 refl
+      | inr h ↦ elim (eqb_tells level 2) [ inl k ↦ rw (h.0, k.0) refl | inr k ↦ rw (h.0, k.0) refl ]
+    ]
+
+module _ (c : Config) (lim : IsWithin c) (w : World) (good : IsGood c w) (t : ℕ) (lt : t < c.tasks) (x : Freeze) (hook : HookAnswer) where
+  root_clean : (level : ℕ) → 1 ≤ level → level ≤ 3 → CleanBelow (clean_from level) (marks_of w.words)
+  root_clean level low high m l =
+      let at_most : clean_from level ≤ 1 = at_level (λ i. clean_from i ≤ 1) (omega arith, omega arith, omega arith) level low high in
+      let zero_is : m ≡ 0 = omega (arith, l, at_most) in
+      let there : IsNode (w.words.node 0) = (good Tree).words 0 (omega (arith, lim.some_node)) in
+      ap (marks_of w.words) zero_is ∙
+      shown_clean (w.words.node 0) there.packed.free (directory_clean (w.words.node 0) there (good Tree).root)
+
+  -- what the last load of a sum is of the stage
+  sum_happens : (d : DownWrite) → stage_role_of (w.views t).phase ≡ Freezing d.level Closing (nat_lt 1 d.level) → 1 ≤ d.level →
+      d.level ≤ 3 → (n : Taken) →
+      Happens c.tasks c.nodes t (stages_in w) (playing (stages_in w) t
+      (stage_role_of (phase_after (map_next Phase.Freezes (after_closing x d.level (down_write_summed d n).0))))) (sum_kind d n)
+  sum_happens d role low high (Taken.More sum) = still_plays c w good t lt (sym role)
+  sum_happens d role low high (Taken.Total sum) =
+      by_bool (sum == 0) (λ b. Happens c.tasks c.nodes t (stages_in w) (playing (stages_in w) t
+      (stage_role_of (phase_after (map_next Phase.Freezes (after_closing x d.level
+      (if b then Next.Done (Ok Reply.Unit) else Next.Wait (at_down_write d sum_begun)))))))
+      (if b then Passes d.level (clean_from d.level) (nat_lt 1 d.level) else Stays))
+      (role, root_clean d.level low high, ap (playing (stages_in w) t) (closed_role x d.level low high))
+      (still_plays c w good t lt (sym role))
+
+  sum_adds : (d : DownWrite) (n : Taken) → stage_action_of (sum_kind d n) (stages_in w) ≡ (down_write_summed d n).1
+  sum_adds d (Taken.More sum) = refl
+  sum_adds d (Taken.Total sum) =
+      by_bool (sum == 0) (λ b. stage_action_of (if b then Passes d.level (clean_from d.level) (nat_lt 1 d.level) else Stays) (stages_in w) ≡
+      (if b then Some (Action.Pass d.level) else None)) refl refl
+
+  sum_asks : (d : DownWrite) (n : Taken) →
+      ((j : ℕ) → (down_write_summed d n).1 ≡ Some (Action.Pass j) → (y : ℕ) → y < c.tasks → holds_level (w.views y) d.level ≡ false) →
+      AsksWhere (model_limits c) (shown c w) (down_write_summed d n).1
+  sum_asks d (Taken.More sum) h = tt
+  sum_asks d (Taken.Total sum) h =
+      by_bool (sum == 0) (λ b. ((j : ℕ) → (if b then Some (Action.Pass d.level) else None) ≡ Some (Action.Pass j) → (y : ℕ) → y < c.tasks →
+      holds_level (w.views y) d.level ≡ false) → AsksWhere (model_limits c) (shown c w) (if b then Some (Action.Pass d.level) else None))
+      (λ g. g d.level refl) (λ g. tt) h
+
+  module _ (d : DownWrite) (e : IsHere c lim w good t lt x (FreezeStep.Closes d)) where
+    -- the words after its event
+    abbrev words_then : Words
+    words_then = put w.words (down_write_next d d.step).0 (left (down_write_next d d.step).1 (read w.words (down_write_next d d.step).0))
+
+    -- what it found
+    abbrev found_here : ℕ
+    found_here = found_by (down_write_next d d.step).1 (read w.words (down_write_next d d.step).0)
+
+    -- what comes after it
+    abbrev next_here : Next DownWrite
+    next_here = (down_write_after d d.step found_here).0
+
+    -- what it adds
+    abbrev adds_here : Option Action
+    adds_here = (down_write_after d d.step found_here).1
+
+    -- and its task's view then
+    abbrev view_then : View
+    view_then = view_with (w.views t) (down_write_next d d.step) (read w.words (down_write_next d d.step).0) hook
+        (map_next Phase.Freezes (after_closing x d.level next_here), adds_here)
+
+    -- its step fits before it
+    fits_now : FitsHere c lim w good t lt x (FreezeStep.Closes d)
+    fits_now = here_fits c lim w good t lt x (FreezeStep.Closes d) e
+
+    holdings_stay : held_of view_then ≡ held_of (w.views t)
+    holdings_stay =
+        down_write_adds d (λ a. holdings_of (actions_after a (w.views t).actions) ≡ held_of (w.views t)) refl refl d.step found_here
+
+    fits_then : ViewFits c t view_then
+    fits_then =
+        subst (λ h. Fits c t h view_then.phase) (sym (holdings_of_after adds_here (w.views t).actions))
+        (freeze_goes c lim t (held_of (w.views t)) x (FreezeStep.Closes d) found_here hook fits_now)
+
+    owns_then : owns view_then.phase ≡ bit (nat_lt 1 d.level)
+    owns_then =
+        down_write_comes d (λ n. owns (phase_after (map_next Phase.Freezes (after_closing x d.level n))) ≡ bit (nat_lt 1 d.level))
+        (λ s. refl) (λ s. refl) (sym (freeze_owner x.nodes (level_closed d.level x.nodes)) ∙
+        ap stage_owns (closed_role x d.level fits_now.5.0 fits_now.5.1)) d.step found_here
+
+    -- how it stands with the levels
+    pub stands_then : Stands view_then.phase (stand_after_closing d.level next_here)
+    stands_then =
+        down_write_comes d (λ n. Stands (phase_after (map_next Phase.Freezes (after_closing x d.level n))) (stand_after_closing d.level n))
+        (λ s. freeze_stands (at_freeze x (FreezeStep.Closes (at_down_write d s)))) (λ s. freeze_stands (at_freeze x (FreezeStep.Closes (at_down_write d s))))
+        (closed_stands x d.level fits_now.5.0 fits_now.5.1) d.step found_here
+
+    -- what is left of the levels
+    levels_then : LevelsHold c (left_world w t words_then view_then)
+    levels_then =
+        down_write_levels c lim w good t lt d view_then
+        (record {
+          held_same = ap (λ (h : Holdings). h.levels) holdings_stay;
+          added_same = (down_write_counts_none d d.step (level_added_by (w.views t).events)).2;
+          taken_same = (down_write_counts_none d d.step (level_taken_by (w.views t).events)).3;
+        })
+        fits_now.5 (here_stands c lim w good t lt x (FreezeStep.Closes d) e) stands_then
+        (entered_by_nobody c w good t lt (ap (λ p. has_position (stage_role_of p)) e) d.level)
+
+    -- what it does at the tree: nothing, or it begins to clear marks
+    tree_role_then : (tree_role_of view_then.trace view_then.phase ≡ OffTree) ⊎ (tree_role_of view_then.trace view_then.phase ≡ Clearing 1)
+    tree_role_then =
+        down_write_comes d (λ n. let p : Option Phase = phase_after (map_next Phase.Freezes (after_closing x d.level n)) in
+        (tree_role_of view_then.trace p ≡ OffTree) ⊎ (tree_role_of view_then.trace p ≡ Clearing 1))
+        (λ s. inl refl) (λ s. inl refl) (closed_tree x.nodes d.level) d.step found_here
+
+    -- what is left of the tree
+    tree_left : Holds c (left_world w t words_then view_then) Tree
+    tree_left =
+        let was : tree_roles w t ≡ OffTree = here_tree c lim w good t lt x (FreezeStep.Closes d) e in
+        elim tree_role_then [
+          | inl now ↦ tree_beside c w good t lt words_then view_then (down_write_words w.words d d.step) (now ∙ sym was)
+          | inr now ↦ tree_begins c w good t lt words_then view_then lim (down_write_words w.words d d.step) was now
+        ]
+
+    -- so its event keeps the rule, where it is this event of the stage
+    closing_law : (kind : StageEvent) → IsStageEvent c w good t lt words_then view_then kind →
+        stage_action_of kind (stages_in w) ≡ adds_here → AsksWhere (model_limits c) (shown c w) adds_here →
+        WriterLaw c w t words_then view_then adds_here
+    closing_law kind happens adds asks =
+        writer_at_level c w good t lt words_then view_then adds_here kind (here_writes c lim w good t lt x (FreezeStep.Closes d) e)
+        (freeze_comes (after_closing x d.level next_here)) (down_write_words w.words d d.step)
+        (record {
+          held_same = holdings_stay;
+          added_same = (down_write_counts_none d d.step (added_by (w.views t).events)).0;
+          taken_same = (down_write_counts_none d d.step (taken_by (w.views t).events)).1;
+        })
+        fits_then (owns_then ∙ sym (ap owns e)) levels_then tree_left happens adds asks
+        (down_write_adds d (λ a. LeavesRest (shown c w) (state_after (shown c w) t a) (shown c w).tree (shown c w).holders)
+        (none_leaves c w good t lt) (pass_leaves (shown c w) t d.level) d.step found_here)
+        (down_write_comes d (λ n. holder_role_of (phase_after (map_next Phase.Freezes (after_closing x d.level n))) ≡ Apart) (λ s. refl) (λ s. refl)
+        (closed_apart d.level x.nodes) d.step found_here ∙ sym (ap holder_role_of e))
+
+    closing_stays : (words_then.block ≡ w.words.block) → (p : Place) → place_of d.step ≡ p → IsAtPlace d p next_here →
+        IsStageEvent c w good t lt words_then view_then Stays
+    closing_stays block p was now =
+        stays_there c w good t lt words_then view_then (record {
+          stage_same = λ j. (down_write_words w.words d d.step j).stage;
+          sb_same = λ j. (down_write_words w.words d d.step j).sb;
+          remount_same = λ j. (down_write_words w.words d d.step j).remount;
+          block_same = block;
+          node_same = λ j. (down_write_words w.words d d.step j).node;
+        })
+        (place_role x d p next_here now ∙ sym (ap stage_role_of e ∙ ap (λ q. Freezing d.level q (nat_lt 1 d.level)) was))
+
+    nobody_inside : (j : ℕ) → adds_here ≡ Some (Action.Pass j) → (y : ℕ) → y < c.tasks → holds_level (w.views y) d.level ≡ false
+    nobody_inside j is y ly =
+        let none : total c.tasks (λ z. if holds_level (w.views z) d.level then 1 else 0) ≡ 0 =
+        passes_finds_nobody c lim w good t lt d fits_now.5 (here_stands c lim w good t lt x (FreezeStep.Closes d) e) j is in
+        elim (cases_Bool (holds_level (w.views y) d.level)) [
+          | inl h ↦
+              let one : ◌≡◌ {A = ℕ} (if holds_level (w.views y) d.level then 1 else 0) 1 = rw h refl in
+              absurd (omega (arith, one, none, total_at c.tasks y (λ z. if holds_level (w.views z) d.level then 1 else 0) ly))
+          | inr h ↦ h
+        ]
+
+  -- the swap, which finds `block` clear
+  sets_block : (d : DownWrite) → IsHere c lim w good t lt x (FreezeStep.Closes (at_down_write d DownWriteStep.SetsBlock)) →
+      Keeps c lim w good t lt x hook (FreezeStep.Closes (at_down_write d DownWriteStep.SetsBlock))
+  sets_block d e =
+      let y : DownWrite = at_down_write d DownWriteStep.SetsBlock in
+      let f : FitsHere c lim w good t lt x (FreezeStep.Closes y) = here_fits c lim w good t lt x (FreezeStep.Closes y) e in
+      let clear : w.words.block d.level ≡ 0 =
+      swap_finds_clear c lim w good t lt d f.5.0 f.5.1 (here_stands c lim w good t lt x (FreezeStep.Closes y) e) in
+      let role : stage_role_of (view_then y e).phase ≡ Freezing d.level Closing (nat_lt 1 d.level) =
+      swapped_role x y (w.words.block d.level == 0) (eq-eqb (w.words.block d.level) 0 clear) in
+      closing_law y e (SetsBlockStage d.level (nat_lt 1 d.level))
+      (ap stage_role_of e, ap (playing (record (stages_in w) { block = update w.words.block d.level 1 }) t) role) refl tt
+
+  -- a load of a count of the level
+  sums_level : (d : DownWrite) (sum : Sum) → IsHere c lim w good t lt x (FreezeStep.Closes (at_down_write d (DownWriteStep.Sums sum))) →
+      Keeps c lim w good t lt x hook (FreezeStep.Closes (at_down_write d (DownWriteStep.Sums sum)))
+  sums_level d sum e =
+      let y : DownWrite = at_down_write d (DownWriteStep.Sums sum) in
+      let n : Taken = sum_taking sum (w.words.level d.level sum.words) d.processors in
+      let f : FitsHere c lim w good t lt x (FreezeStep.Closes y) = here_fits c lim w good t lt x (FreezeStep.Closes y) e in
+      closing_law y e (sum_kind y n)
+      (sum_happens y (ap stage_role_of e) f.5.0 f.5.1 n)
+      (sum_adds y n)
+      (sum_asks y n (nobody_inside y e))
+
+  -- each event of the closing of a level
+  pub closes : (d : DownWrite) (s : DownWriteStep) → IsHere c lim w good t lt x (FreezeStep.Closes (at_down_write d s)) →
+      Keeps c lim w good t lt x hook (FreezeStep.Closes (at_down_write d s))
+  closes d (DownWriteStep.Enters Transition.Loads) e =
+      let y : DownWrite = at_down_write d (DownWriteStep.Enters Transition.Loads) in
+      closing_law y e Stays
+      (closing_stays y e refl Before refl (refl, enter_place d.tasks (transition_after on_enter Transition.Loads (w.words.sync d.level)))) refl tt
+  closes d (DownWriteStep.Enters (Transition.Exchanges from to)) e =
+      let y : DownWrite = at_down_write d (DownWriteStep.Enters (Transition.Exchanges from to)) in
+      closing_law y e Stays
+      (closing_stays y e refl Before refl
+      (refl, enter_place d.tasks (transition_after on_enter (Transition.Exchanges from to) (w.words.sync d.level)))) refl tt
+  closes d (DownWriteStep.AwaitsSections grace) e =
+      let y : DownWrite = at_down_write d (DownWriteStep.AwaitsSections grace) in
+      closing_law y e Stays (closing_stays y e refl Before refl (sections_place y (looked grace (w.words.section grace.task)))) refl tt
+  closes d (DownWriteStep.CallsBack Transition.Loads) e =
+      let y : DownWrite = at_down_write d (DownWriteStep.CallsBack Transition.Loads) in
+      closing_law y e Stays
+      (closing_stays y e refl Before refl (refl, callback_place (transition_after on_callback Transition.Loads (w.words.sync d.level)))) refl tt
+  closes d (DownWriteStep.CallsBack (Transition.Exchanges from to)) e =
+      let y : DownWrite = at_down_write d (DownWriteStep.CallsBack (Transition.Exchanges from to)) in
+      closing_law y e Stays
+      (closing_stays y e refl Before refl (refl, callback_place (transition_after on_callback (Transition.Exchanges from to) (w.words.sync d.level))))
+      refl tt
+  closes d DownWriteStep.AwaitsPassed e =
+      let y : DownWrite = at_down_write d DownWriteStep.AwaitsPassed in
+      closing_law y e Stays (closing_stays y e refl Before refl (passed_place y (unpack (w.words.sync d.level)))) refl tt
+  closes d DownWriteStep.SetsBlock e = sets_block d e
+  closes d (DownWriteStep.Sums sum) e = sums_level d sum e

@@ -1,0 +1,281 @@
+-- What fits after an event of a freeze, of the closing of a level and of its reopening.
+use Rattle.std.proofs.Common.{◌≡◌, ℕ, ◌+◌, ◌-◌, ◌%◌, ◌<◌, ◌≤◌, Bool, true, false, refl, sym, subst, inl, inr, arith}
+use Rattle.std.proofs.lemmas.Bool.{cases_Bool, ltb-true, Decides.eqb_tells}
+use Rattle.std.specs.Prelude.{◌==◌, ◌&&◌, nat_lt, if◌then◌else◌, Option, Some, None, Ok, Err}
+use Rattle.access_model.specs.{Holders.{nobody, held_by}, Replies.map_next}
+use Rattle.access_model.specs.declared.{actions.{Action.Action, Holder.Holder, Holders.Holders}, errors.GateError.GateError, replies.{Next.Next, Reply.Reply}}
+use Rattle.cpu_words.specs.{Hooks.HookAnswer, Names.IsWord, Sums.sum_taking, Touches.wrap_add, declared.sums.Sum.Sum}
+use Rattle.node_words.specs.Nodes.{dirty_in}
+use Rattle.node_words.specs.Phases.{clear_after}
+use Rattle.node_words.specs.declared.marks.ClearMarks.{ClearMarks}
+use Rattle.percpu_rwsem.specs.{Graces.{is_first, passed_on, looked}, SyncWords.{unpack, is_passed, on_enter, on_exit, on_callback}}
+use Rattle.percpu_rwsem.specs.Transitions.{transition_after}
+use Rattle.percpu_rwsem.specs.Writers.{down_write_next, down_write_after, at_down_write, enter_step, callback_step, sections_awaited, passed_awaited, sum_begun}
+use Rattle.percpu_rwsem.specs.Writers.{down_write_summed, up_write_next, up_write_after, exit_made}
+use Rattle.percpu_rwsem.specs.declared.{grace.Grace.Grace, sync_word.{GpState.GpState, SyncWord.SyncWord}}
+use Rattle.percpu_rwsem.specs.declared.transitions.{Transition.Transition, TransitionNext.TransitionNext}
+use Rattle.percpu_rwsem.specs.declared.writers.{DownWrite.DownWrite, DownWriteStep.DownWriteStep, UpWrite.UpWrite, UpWriteStep.UpWriteStep}
+use Rattle.freeze_levels.specs.Freezes.{found_holders, freeze_next, freeze_after, at_freeze, freeze_locked, freeze_closes, level_closed, after_closing}
+use Rattle.freeze_levels.specs.Freezes.{after_clearing, freeze_fails, after_reopening}
+use Rattle.freeze_levels.specs.{Holders.holders_in, declared.freezes.{Freeze.Freeze, FreezeStep.FreezeStep}}
+use Rattle.freeze_laws.proofs.levels.{Exchanges.exchanges_make_transitions, Operations.{enter_knows, callback_knows}}
+use Rattle.freeze_laws.specs.levels.{Exchanges.Shows, Operations.{HoldsOfNext, KnowsDownWrite, KnowsUpWrite}}
+use Rattle.freeze_levels.proofs.holder_laws.Words.{none_held}
+use Rattle.gate_world.specs.Configs.{IsWithin, extents_of}
+use Rattle.gate_world.specs.{Fits.{DownWriteStepFits, DownWriteFits, UpWriteFits, FreezeFits, PhaseFits, Fits, ActionFits}, Holdings.{Holdings, held_after}}
+use Rattle.gate_world.specs.{Operations.holds_none, Views.phase_after, declared.{config.Config.Config, work.Phase.Phase}}
+use Rattle.gate_schedules.proofs.frames.{Cases.both, Keeps.by_bool}
+
+-- the word of each event of a down-write is there
+down_write_word : (c : Config) (d : DownWrite) (s : DownWriteStep) → 1 ≤ d.level → d.level ≤ 3 → DownWriteStepFits c s →
+    IsWord (extents_of c) (down_write_next d s).0
+down_write_word c d (DownWriteStep.Enters Transition.Loads) l1 l3 f = (l1, l3)
+down_write_word c d (DownWriteStep.AwaitsSections grace) l1 l3 f = f.1
+down_write_word c d (DownWriteStep.CallsBack Transition.Loads) l1 l3 f = (l1, l3)
+down_write_word c d (DownWriteStep.Sums sum) l1 l3 f = (l1, l3, f)
+down_write_word c d other l1 l3 f = (l1, l3)
+
+-- and of each event of an up-write
+pub up_write_word : (c : Config) (u : UpWrite) (s : UpWriteStep) → 1 ≤ u.level → u.level ≤ 3 → IsWord (extents_of c) (up_write_next u s).0
+up_write_word c u UpWriteStep.ClearsBlock l1 l3 = (l1, l3)
+up_write_word c u (UpWriteStep.Exits Transition.Loads) l1 l3 = (l1, l3)
+up_write_word c u (UpWriteStep.Exits (Transition.Exchanges from to)) l1 l3 = (l1, l3)
+
+-- so it is of each event of a freeze
+pub freeze_word : (c : Config) (x : Freeze) (s : FreezeStep) (hook : HookAnswer) → FreezeFits c x.holder s →
+    IsWord (extents_of c) (freeze_next x s hook).0
+freeze_word c x (FreezeStep.Closes d) hook f = down_write_word c d d.step f.0 f.1 f.4
+freeze_word c x (FreezeStep.Cleans marks) hook f = f.2
+freeze_word c x FreezeStep.SetsFs (Ok answer) f = tt
+freeze_word c x FreezeStep.SetsFs (Err code) f = tt
+freeze_word c x FreezeStep.SetsComplete (Ok answer) f = tt
+freeze_word c x FreezeStep.SetsComplete (Err code) f = tt
+freeze_word c x (FreezeStep.Reopens u code) hook f = up_write_word c u u.step f.0 f.1
+freeze_word c x other hook f = tt
+
+-- What comes after a look at who holds a freeze: a refusal, where its own holder does, or else the store with it.
+pub found_cases : (x : Freeze) (held : Holders) (P : FreezeStep → Type 0) → (held_by held x.holder ≡ true → P (FreezeStep.Releases (Err GateError.Busy))) →
+    (held_by held x.holder ≡ false → P (FreezeStep.Holds held)) → P (found_holders x held)
+found_cases x held P own other = both (held_by held x.holder) (λ b. P (if b then FreezeStep.Releases (Err GateError.Busy) else FreezeStep.Holds held)) own other
+
+-- an action with which a task holds what it held
+abbrev MovesNone : Option Action → Type 0
+MovesNone a = (held : Holdings) → ActionFits held a × (held_after a held ≡ held)
+
+if_moves : (b : Bool) (a : Action) → MovesNone (Some a) → MovesNone (if b then Some a else None)
+if_moves true a h held = h held
+if_moves false a h held = (tt, refl)
+
+summed_moves : (d : DownWrite) (sum : Sum) (found : ℕ) → MovesNone (down_write_summed d (sum_taking sum found d.processors)).1
+summed_moves d sum found held =
+    elim (cases_Bool (nat_lt (sum.words + 1) d.processors)) [
+      | inl h ↦ rw h (tt, refl)
+      | inr h ↦ rw h (if_moves (wrap_add sum.total found == 0) (Action.Pass d.level) (λ f. (tt, refl)) held)
+    ]
+
+down_write_moves : (d : DownWrite) (s : DownWriteStep) (found : ℕ) → MovesNone (down_write_after d s found).1
+down_write_moves d (DownWriteStep.Sums sum) found held = summed_moves d sum found held
+down_write_moves d other found held = (tt, refl)
+
+-- none of an up-write
+up_write_moves : (u : UpWrite) (s : UpWriteStep) (found : ℕ) → MovesNone (up_write_after u s found).1
+up_write_moves u UpWriteStep.ClearsBlock found held = (tt, refl)
+up_write_moves u (UpWriteStep.Exits transition) found held = (tt, refl)
+
+-- and none of a freeze
+freeze_moves : (x : Freeze) (s : FreezeStep) (found : ℕ) (hook : HookAnswer) → MovesNone (freeze_after x s found hook).1
+freeze_moves x (FreezeStep.Closes d) found hook held = down_write_moves d d.step found held
+freeze_moves x (FreezeStep.Cleans marks) found hook held =
+    if_moves (dirty_in found == 1) (Action.Clean marks.node) (λ f. (tt, refl)) held
+freeze_moves x FreezeStep.SetsFs found (Ok answer) held = (tt, refl)
+freeze_moves x FreezeStep.SetsFs found (Err code) held = (tt, refl)
+freeze_moves x FreezeStep.SetsComplete found (Ok answer) held = (tt, refl)
+freeze_moves x FreezeStep.SetsComplete found (Err code) held = (tt, refl)
+freeze_moves x (FreezeStep.Reopens u code) found hook held = up_write_moves u u.step found held
+freeze_moves x other found hook held = (tt, refl)
+
+-- its action can be done
+pub freeze_acts : (x : Freeze) (s : FreezeStep) (held : Holdings) (found : ℕ) (hook : HookAnswer) →
+    ActionFits held (freeze_after x s found hook).1
+freeze_acts x s held found hook = (freeze_moves x s found hook held).0
+
+module _ (c : Config) (within : IsWithin c) where
+  -- the step after its enter fits: a grace period that begins has all tasks before it
+  enter_fits : (tasks : ℕ) → tasks ≡ c.tasks → (n : TransitionNext) → DownWriteStepFits c (enter_step tasks n)
+  enter_fits tasks same (TransitionNext.Made GpState.Idle) = (same, within.some_task)
+  enter_fits tasks same other = tt
+
+  callback_fits : (n : TransitionNext) → DownWriteStepFits c (callback_step n)
+  callback_fits (TransitionNext.More transition) = tt
+  callback_fits other = tt
+
+  module _ (d : DownWrite) (l1 : 1 ≤ d.level) (l3 : d.level ≤ 3) (same : d.tasks ≡ c.tasks) (processors : d.processors ≡ c.processors) where
+    -- what comes after an event of a down-write fits
+    abbrev Goes : Next DownWrite → Type 0
+    Goes n = HoldsOfNext (DownWriteFits c) n
+
+    passed_goes : (g : Grace) → g.tasks ≡ c.tasks → Goes (sections_awaited d (passed_on g))
+    passed_goes g all =
+        elim (cases_Bool (nat_lt (g.task + 1) g.tasks)) [
+          | inl h ↦ rw h (l1, l3, same, processors, (all, omega (arith, all, ltb-true (g.task + 1) g.tasks h)), tt)
+          | inr h ↦ rw h (l1, l3, same, processors, tt, tt)
+        ]
+
+    looked_goes : (g : Grace) (found : ℕ) → g.tasks ≡ c.tasks → g.task < c.tasks → Goes (sections_awaited d (looked g found))
+    looked_goes g found all more =
+        elim (cases_Bool ((found % 2 == 1) && is_first g.first found)) [
+          | inl h ↦ rw h (l1, l3, same, processors, (all, more), tt)
+          | inr h ↦ rw h (passed_goes g all)
+        ]
+
+    passed_found_goes : (o : Option SyncWord) → Goes (passed_awaited d o)
+    passed_found_goes None = (l1, l3, same, processors, tt, tt)
+    passed_found_goes (Some word) =
+        by_bool (is_passed word.state)
+        (λ b. Goes (if b then Next.Go (at_down_write d DownWriteStep.SetsBlock) else Next.Wait (at_down_write d DownWriteStep.AwaitsPassed)))
+        (l1, l3, same, processors, tt, tt) (l1, l3, same, processors, tt, tt)
+
+    summed_goes : (sum : Sum) (found : ℕ) → Goes (down_write_summed d (sum_taking sum found d.processors)).0
+    summed_goes sum found =
+        elim (cases_Bool (nat_lt (sum.words + 1) d.processors)) [
+          | inl h ↦
+              rw h (l1, l3, same, processors, omega (arith, ltb-true (sum.words + 1) d.processors h, processors), tt)
+          | inr h ↦ elim (cases_Bool (wrap_add sum.total found == 0)) [
+            | inl z ↦ rw (h, z) tt
+            | inr z ↦ rw (h, z) (l1, l3, same, processors, within.some_processor, tt)
+          ]
+        ]
+
+    down_write_goes : (s : DownWriteStep) (found : ℕ) → DownWriteStepFits c s → KnowsDownWrite s → Goes (down_write_after d s found).0
+    down_write_goes (DownWriteStep.Enters transition) found f k =
+        let shows = exchanges_make_transitions on_enter d.level found transition k in (
+          l1,
+          l3,
+          same,
+          processors,
+          enter_fits d.tasks same (transition_after on_enter transition found),
+          enter_knows d.tasks found _ (transition_after on_enter transition found) shows,
+        )
+    down_write_goes (DownWriteStep.AwaitsSections grace) found f k = looked_goes grace found f.0 f.1
+    down_write_goes (DownWriteStep.CallsBack transition) found f k =
+        let shows = exchanges_make_transitions on_callback d.level found transition k in (
+          l1,
+          l3,
+          same,
+          processors,
+          callback_fits (transition_after on_callback transition found),
+          callback_knows found _ (transition_after on_callback transition found) shows,
+        )
+    down_write_goes DownWriteStep.AwaitsPassed found f k = passed_found_goes (unpack found)
+    down_write_goes DownWriteStep.SetsBlock found f k =
+        by_bool (found == 0) (λ b. Goes (if b then Next.Go (at_down_write d sum_begun) else Next.Wait (at_down_write d DownWriteStep.SetsBlock)))
+        (l1, l3, same, processors, within.some_processor, tt) (l1, l3, same, processors, tt, tt)
+    down_write_goes (DownWriteStep.Sums sum) found f k = summed_goes sum found
+
+  -- what comes after an event of the transition of an up-write fits
+  exits_goes : (u : UpWrite) (found v : ℕ) → 1 ≤ u.level → u.level ≤ 3 → (n : TransitionNext) → Shows on_exit found v n →
+      HoldsOfNext UpWriteFits (exit_made u n)
+  exits_goes u found v l1 l3 (TransitionNext.More transition) h = (l1, l3, h.1)
+  exits_goes u found v l1 l3 TransitionNext.Undefined h = (l1, l3, tt)
+  exits_goes u found v l1 l3 (TransitionNext.Made state) h = tt
+
+  -- so it is after each event of an up-write
+  up_write_goes : (u : UpWrite) (s : UpWriteStep) (found : ℕ) → 1 ≤ u.level → u.level ≤ 3 → KnowsUpWrite s →
+      HoldsOfNext UpWriteFits (up_write_after u s found).0
+  up_write_goes u UpWriteStep.ClearsBlock found l1 l3 k = (l1, l3, tt)
+  up_write_goes u (UpWriteStep.Exits transition) found l1 l3 k =
+      exits_goes u found _ l1 l3 (transition_after on_exit transition found)
+      (exchanges_make_transitions on_exit u.level found transition k)
+
+  -- a level whose closing begins
+  closes_fits : (x : Freeze) (level : ℕ) → x.tasks ≡ c.tasks → x.processors ≡ c.processors → 1 ≤ level → level ≤ 3 →
+      FreezeFits c x.holder (freeze_closes x level)
+  closes_fits x level all processors l1 l3 = (l1, l3, all, processors, tt, tt)
+
+  closed_fits : (holder : Holder) (level nodes : ℕ) → nodes ≡ c.nodes → FreezeFits c holder (level_closed level nodes)
+  closed_fits holder level nodes same =
+      elim (cases_Bool (level == 1)) [
+        | inl h ↦ rw h tt
+        | inr h ↦ elim (cases_Bool (level == 2)) [
+          | inl k ↦ rw (h, k) (same, omega arith, within.some_node)
+          | inr k ↦ rw (h, k) tt
+        ]
+      ]
+
+  -- the levels that are still to be reopened
+  fails_fits : (holder : Holder) (level code : ℕ) → level ≤ 3 → FreezeFits c holder (freeze_fails level code)
+  fails_fits holder level code l3 =
+      elim (eqb_tells level 0) [ inl h ↦ rw h.0 tt | inr h ↦ rw h.0 (omega (arith, h.1), l3, tt) ]
+
+  module _ (t : ℕ) (held : Holdings) (x : Freeze) (task : x.task ≡ t) (all : x.tasks ≡ c.tasks)
+      (processors : x.processors ≡ c.processors) (nodes : x.nodes ≡ c.nodes) (none : holds_none held.levels ≡ true) where
+    -- what comes after an event fits these accesses
+    abbrev NextFits : Next Freeze → Type 0
+    NextFits next = Fits c t held (phase_after (map_next Phase.Freezes next))
+
+    goes_to : (s : FreezeStep) → FreezeFits c x.holder s → NextFits (Next.Go (at_freeze x s))
+    goes_to s f = (task, all, processors, nodes, none, f)
+
+    closing_fits : (level : ℕ) (n : Next DownWrite) → HoldsOfNext (DownWriteFits c) n → NextFits (after_closing x level n)
+    closing_fits level (Next.Go d) h = goes_to (FreezeStep.Closes d) h
+    closing_fits level (Next.Wait d) h = goes_to (FreezeStep.Closes d) h
+    closing_fits level (Next.Done answer) h = goes_to (level_closed level x.nodes) (closed_fits x.holder level x.nodes nodes)
+
+    reopening_fits : (level code : ℕ) → level ≤ 3 → (n : Next UpWrite) → HoldsOfNext UpWriteFits n →
+        NextFits (after_reopening x level code n)
+    reopening_fits level code l3 (Next.Go u) h = goes_to (FreezeStep.Reopens u code) h
+    reopening_fits level code l3 (Next.Wait u) h = goes_to (FreezeStep.Reopens u code) h
+    reopening_fits level code l3 (Next.Done answer) h = goes_to (freeze_fails (level - 1) code) (fails_fits x.holder (level - 1) code (omega (arith, l3)))
+
+    clearing_fits : (marks : ClearMarks) (found : ℕ) → marks.nodes ≡ c.nodes → NextFits (after_clearing x (clear_after marks found).0)
+    clearing_fits marks found same =
+        elim (cases_Bool (nat_lt (marks.node + 1) marks.nodes)) [
+          | inl h ↦ rw h (goes_to (FreezeStep.Cleans (record marks { node = marks.node + 1 }))
+              (same, omega arith, omega (arith, same, ltb-true (marks.node + 1) marks.nodes h)))
+          | inr h ↦ rw h (goes_to FreezeStep.SetsFs tt)
+        ]
+
+    -- where the lock is tried for
+    locked_fits : (again s : FreezeStep) (found : ℕ) → FreezeFits c x.holder again → FreezeFits c x.holder s → NextFits (freeze_locked x again found s)
+    locked_fits again s found f g =
+        by_bool (found == 0) (λ b. NextFits (if b then Next.Go (at_freeze x s) else Next.Wait (at_freeze x again))) (goes_to s g) (goes_to again f)
+
+    next_fits : (s : FreezeStep) (found : ℕ) (hook : HookAnswer) → FreezeFits c x.holder s → NextFits (freeze_after x s found hook).0
+    next_fits FreezeStep.Locks found hook f = locked_fits FreezeStep.Locks FreezeStep.LoadsStage found tt tt
+    next_fits FreezeStep.LoadsStage found hook f =
+        elim (cases_Bool (found == 0)) [
+          | inl h ↦ rw h (goes_to FreezeStep.LoadsSuperblock tt)
+          | inr h ↦ elim (cases_Bool (found == 4)) [
+            | inl k ↦ rw (h, k) (goes_to FreezeStep.LoadsHolders tt)
+            | inr k ↦ rw (h, k) (goes_to (FreezeStep.Releases (Err GateError.Busy)) tt)
+          ]
+        ]
+    next_fits FreezeStep.LoadsHolders found hook f =
+        found_cases x (holders_in found) (λ s. NextFits (Next.Go (at_freeze x s))) (λ own. goes_to (FreezeStep.Releases (Err GateError.Busy)) tt)
+        (λ other. goes_to (FreezeStep.Holds (holders_in found)) other)
+    next_fits (FreezeStep.Holds beside) found hook f = goes_to (FreezeStep.Releases (Ok Reply.Unit)) tt
+    next_fits FreezeStep.LoadsSuperblock found hook f =
+        elim (cases_Bool (found == 0)) [ inl h ↦ rw h (goes_to FreezeStep.SetsWrite tt) | inr h ↦ rw h (goes_to FreezeStep.CompletesReadOnly tt) ]
+    next_fits FreezeStep.CompletesReadOnly found hook f = goes_to (FreezeStep.Holds nobody) (none_held x.holder)
+    next_fits FreezeStep.SetsWrite found hook f = goes_to FreezeStep.Unlocks tt
+    next_fits FreezeStep.Unlocks found hook f = goes_to (freeze_closes x 1) (closes_fits x 1 all processors (omega arith) (omega arith))
+    next_fits (FreezeStep.Closes d) found hook f =
+        closing_fits d.level (down_write_after d d.step found).0 (down_write_goes d f.0 f.1 f.2 f.3 d.step found f.4 f.5)
+    next_fits FreezeStep.LocksAgain found hook f = locked_fits FreezeStep.LocksAgain FreezeStep.SetsPageFault found tt tt
+    next_fits FreezeStep.SetsPageFault found hook f = goes_to (freeze_closes x 2) (closes_fits x 2 all processors (omega arith) (omega arith))
+    next_fits (FreezeStep.Cleans marks) found hook f = clearing_fits marks found f.0
+    next_fits FreezeStep.SetsFs found (Ok answer) f = goes_to (freeze_closes x 3) (closes_fits x 3 all processors (omega arith) (omega arith))
+    next_fits FreezeStep.SetsFs found (Err code) f = goes_to (freeze_fails 2 code) (fails_fits x.holder 2 code (omega arith))
+    next_fits FreezeStep.SetsComplete found (Ok answer) f = goes_to (FreezeStep.Holds nobody) (none_held x.holder)
+    next_fits FreezeStep.SetsComplete found (Err code) f = goes_to (freeze_fails 3 code) (fails_fits x.holder 3 code (omega arith))
+    next_fits (FreezeStep.Reopens u code) found hook f =
+        reopening_fits u.level code f.1 (up_write_after u u.step found).0 (up_write_goes u u.step found f.0 f.1 f.2)
+    next_fits (FreezeStep.Releases answer) found hook f = tt
+
+  -- what comes after each event of a freeze fits what its action leaves
+  pub freeze_goes : (t : ℕ) (held : Holdings) (x : Freeze) (s : FreezeStep) (found : ℕ) (hook : HookAnswer) →
+      PhaseFits c t held (Phase.Freezes (at_freeze x s)) →
+      Fits c t (held_after (freeze_after x s found hook).1 held) (phase_after (map_next Phase.Freezes (freeze_after x s found hook).0))
+  freeze_goes t held x s found hook f =
+      subst (λ k. Fits c t k (phase_after (map_next Phase.Freezes (freeze_after x s found hook).0))) (sym (freeze_moves x s found hook held).1)
+      (next_fits t held x f.0 f.1 f.2 f.3 f.4 s found hook f.5)

@@ -1,0 +1,168 @@
+-- A freeze runs out where it finds `umount` free at its locks, nobody inside a section, and nothing counted at the levels that it has to pass.
+use Rattle.access_model.specs.{Holders.held_by, declared.replies.Next.Next}
+use Rattle.cpu_words.specs.{Hooks.HookAnswer, Touches.found_by, Words.{Words, read}, declared.names.WordName.WordName}
+use Rattle.finite_sums.proofs.Totals.{update_same}
+use Rattle.finite_sums.specs.Sums.{total}
+use Rattle.freeze_levels.specs.{Freezes.{after_clearing, after_closing, after_reopening, freeze_after, freeze_next}, Holders.holders_in}
+use Rattle.freeze_levels.specs.declared.freezes.{Freeze.Freeze, FreezeStep.FreezeStep}
+use Rattle.gate_schedules.proofs.{frames.Words.load_same, operations.{calls.Progress.clear_falls, deadlocks.Falls.{after_event, falls_as}}}
+use Rattle.gate_schedules.proofs.writers.Progress.{DownFalls, down_falls, up_falls}
+use Rattle.gate_world.specs.{Fits.{Fits, FreezeFits, PhaseFits}, Levels.sync_role_of, Roles.{freeze_stand, stand_sync, sync_beside}, Rules.{Fitting, IsGood}}
+use Rattle.gate_world.specs.{Views.held_of, Worlds.{World, found_at, words_after}, declared.{config.Config.Config, work.Phase.Phase}}
+use Rattle.node_words.specs.Phases.{clear_after, clear_next}
+use Rattle.node_words.specs.declared.marks.ClearMarks.{ClearMarks}
+use Rattle.freeze_laws.specs.levels.Operations.{down_write_role, up_write_role}
+use Rattle.percpu_rwsem.specs.{Writers.{down_write_after, down_write_next, up_write_after, up_write_next}, declared.transitions.Transition.Transition}
+use Rattle.percpu_rwsem.specs.declared.writers.{DownWrite.DownWrite, DownWriteStep.DownWriteStep, UpWrite.UpWrite, UpWriteStep.UpWriteStep}
+use Rattle.gate_schedules.specs.operations.Ranks.{closed_rank, closing_rank, down_rank, freeze_rank, rank, reopens_rank, up_rank}
+use Rattle.gate_schedules.specs.operations.Ways.{Falls, FreezeIsFree, IsFree, LevelsAreFree, NobodyInside, NothingCounted, PhaseEnds}
+use Rattle.std.proofs.{Common.{ap, arith, inl, inr, refl, subst, sym, ℕ, ◌+◌, ◌<◌, ◌∙◌, ◌≡◌, ◌≤◌}, lemmas.Bool.{cases_Bool, eq-eqb, Decides.eqb_tells}}
+use Rattle.std.specs.Prelude.{Err, Ok, nat_lt, ◌%◌, ◌*◌, ◌-◌}
+
+module _ (w : Words) (d : DownWrite) where
+  down_sections : (s : DownWriteStep) → (after_event w (down_write_next d s)).section ≡ w.section
+  down_sections (DownWriteStep.Enters Transition.Loads) = refl
+  down_sections (DownWriteStep.Enters (Transition.Exchanges from to)) = refl
+  down_sections (DownWriteStep.AwaitsSections g) = update_same w.section g.task
+  down_sections (DownWriteStep.CallsBack Transition.Loads) = refl
+  down_sections (DownWriteStep.CallsBack (Transition.Exchanges from to)) = refl
+  down_sections other = refl
+
+  down_umount : (s : DownWriteStep) → (after_event w (down_write_next d s)).umount ≡ w.umount
+  down_umount (DownWriteStep.Enters Transition.Loads) = refl
+  down_umount (DownWriteStep.Enters (Transition.Exchanges from to)) = refl
+  down_umount (DownWriteStep.CallsBack Transition.Loads) = refl
+  down_umount (DownWriteStep.CallsBack (Transition.Exchanges from to)) = refl
+  down_umount other = refl
+
+  down_counts : (s : DownWriteStep) → (after_event w (down_write_next d s)).level ≡ w.level
+  down_counts (DownWriteStep.Enters Transition.Loads) = refl
+  down_counts (DownWriteStep.Enters (Transition.Exchanges from to)) = refl
+  down_counts (DownWriteStep.CallsBack Transition.Loads) = refl
+  down_counts (DownWriteStep.CallsBack (Transition.Exchanges from to)) = refl
+  down_counts (DownWriteStep.Sums sum) = ap (λ (ws : Words). ws.level) (load_same w (WordName.LevelCount d.level sum.words))
+  down_counts other = refl
+
+up_sections : (w : Words) (u : UpWrite) (s : UpWriteStep) → (after_event w (up_write_next u s)).section ≡ w.section
+up_sections w u UpWriteStep.ClearsBlock = refl
+up_sections w u (UpWriteStep.Exits Transition.Loads) = refl
+up_sections w u (UpWriteStep.Exits (Transition.Exchanges from to)) = refl
+
+none_left : (c : Config) (w : Words) (i : ℕ) → 4 ≤ i → i ≤ 3 → NothingCounted c w i
+none_left c w i low high = absurd (omega (arith, low, high))
+
+-- what comes after an event of a freeze, with these words
+abbrev FreezeFalls : Config → Words → ℕ → Next Freeze → Type 0
+FreezeFalls c after n next = Falls (λ (y : Freeze). freeze_rank after y y.step) (λ (y : Freeze). FreezeIsFree c after y.step) n next
+
+module _ (c : Config) (after : Words) (x : Freeze) (even : NobodyInside c after) where
+  -- after an event of the closing of a level
+  closes_falls : (d : DownWrite) (n : ℕ) (next : Next DownWrite) → (d.level ≡ 1 → after.umount ≡ 0) → LevelsAreFree c after (FreezeStep.Closes d) →
+      DownFalls after d n next → FreezeFalls c after (n + closed_rank x d.level + 1) (after_closing x d.level next)
+  closes_falls d n (Next.Go e) lock levels h = (
+    omega (arith, h.0, ap (closed_rank x) h.1),
+    (even, λ q. lock (sym h.1 ∙ q), λ i low high. levels i (omega (arith, h.1, low)) high),
+  )
+  closes_falls d n (Next.Wait e) lock levels h = (
+    omega (arith, h.0, ap (closed_rank x) h.1),
+    (even, λ q. lock (sym h.1 ∙ q), λ i low high. levels i (omega (arith, h.1, low)) high),
+  )
+  closes_falls d n (Next.Done answer) lock levels h =
+      elim (eqb_tells d.level 1) [
+        | inl z ↦ rw z.0 (omega arith, (even, lock z.1, λ i low high. levels i (omega (arith, z.1, low)) high))
+        | inr z ↦ elim (eqb_tells d.level 2) [
+          | inl y ↦ rw (z.0, y.0) (omega arith, (even, tt, λ i low high. levels i (omega (arith, y.1, low)) high))
+          | inr y ↦ rw (z.0, y.0) (omega arith, (even, tt, none_left c after))
+        ]
+      ]
+
+  cleans_falls : (n : ℕ) (next : Next ClearMarks) → 1 ≤ n → ((i : ℕ) → 3 ≤ i → i ≤ 3 → NothingCounted c after i) →
+      Falls (λ (y : ClearMarks). y.nodes - y.node) (λ (y : ClearMarks). Unit {0}) n next →
+      FreezeFalls c after (closing_rank x + n + 11) (after_clearing x next)
+  cleans_falls n (Next.Go marks) some levels h = (omega (arith, h.0), (even, tt, levels))
+  cleans_falls n (Next.Wait marks) some levels h = (omega (arith, h.0), (even, tt, levels))
+  cleans_falls n (Next.Done answer) some levels h = (omega (arith, some), (even, tt, levels))
+
+  -- after an event of the reopening of a level
+  reopens_falls : (level r code : ℕ) (next : Next UpWrite) →
+      Falls (reopens_rank after) (λ (y : UpWrite). Unit {0}) (r + 3 * (level - 1) + 1) next →
+      FreezeFalls c after (r + 3 * (level - 1) + 1) (after_reopening x level code next)
+  reopens_falls level r code (Next.Go u) h = (h.0, (even, tt, none_left c after))
+  reopens_falls level r code (Next.Wait u) h = (h.0, (even, tt, none_left c after))
+  reopens_falls level r code (Next.Done answer) h =
+      elim (eqb_tells (level - 1) 0) [
+        | inl z ↦ rw z.0 (omega arith, (even, tt, none_left c after))
+        | inr z ↦ rw z.0 (omega (arith, z.1), (even, tt, none_left c after))
+      ]
+
+module _ (c : Config) (some : 1 ≤ c.processors) (w : World) (good : IsGood c w) (t : ℕ) (lt : t < c.tasks) (x : Freeze) where
+  freeze_falls : (hook : HookAnswer) (s : FreezeStep) → ((i : ℕ) → sync_role_of i (w.views t).phase ≡ stand_sync i (freeze_stand s)) →
+      FreezeFits c x.holder s → FreezeIsFree c w.words s →
+      FreezeFalls c (after_event w.words (freeze_next x s hook)) (freeze_rank w.words x s)
+      (freeze_after x s (found_by (freeze_next x s hook).1 (read w.words (freeze_next x s hook).0)) hook).0
+  freeze_falls hook FreezeStep.Locks role fits free = rw free.1 (omega arith, (free.0, tt, free.2))
+  freeze_falls hook FreezeStep.LoadsStage role fits free =
+      elim (eqb_tells w.words.stage 0) [
+        | inl h ↦ rw h.0 (omega arith, (free.0, tt, λ i low high. free.2 i (rw h.0 low) high))
+        | inr h ↦ elim (eqb_tells w.words.stage 4) [
+          | inl q ↦ rw (h.0, q.0) (omega arith, (free.0, tt, λ i low high. absurd (omega (arith, low, high))))
+          | inr q ↦ rw (h.0, q.0) (omega arith, (free.0, tt, λ i low high. absurd (omega (arith, low, high))))
+        ]
+      ]
+  freeze_falls hook FreezeStep.LoadsHolders role fits free =
+      elim (cases_Bool (held_by (holders_in w.words.holders) x.holder)) [
+        | inl h ↦ rw h (omega arith, (free.0, tt, λ i low high. absurd (omega (arith, low, high))))
+        | inr h ↦ rw h (omega arith, (free.0, tt, λ i low high. absurd (omega (arith, low, high))))
+      ]
+  freeze_falls hook (FreezeStep.Holds beside) role fits free = (omega arith, (free.0, tt, λ i low high. absurd (omega (arith, low, high))))
+  freeze_falls hook FreezeStep.LoadsSuperblock role fits free =
+      elim (eqb_tells w.words.sb 0) [
+        | inl h ↦ rw h.0 (omega arith, (free.0, tt, λ i low high. free.2 i (rw h.0 low) high))
+        | inr h ↦ rw h.0 (omega arith, (free.0, tt, λ i low high. absurd (omega (arith, low, high))))
+      ]
+  freeze_falls hook FreezeStep.CompletesReadOnly role fits free = (omega arith, (free.0, tt, λ i low high. absurd (omega (arith, low, high))))
+  freeze_falls hook FreezeStep.SetsWrite role fits free = (omega arith, (free.0, tt, free.2))
+  freeze_falls hook FreezeStep.Unlocks role fits free = (omega arith, (free.0, λ q. refl, free.2))
+  freeze_falls hook (FreezeStep.Closes d) role fits free =
+      let after : Words = after_event w.words (down_write_next d d.step) in
+      let here : stand_sync d.level (freeze_stand (FreezeStep.Closes d)) ≡ down_write_role d.step =
+      ap (λ q. sync_beside q (nat_lt d.level d.level) (down_write_role d.step)) (eq-eqb d.level d.level refl) in
+      let even : NobodyInside c after =
+      λ y ly. ap (λ (f : ℕ → ℕ). f y % 2) (down_sections w.words d d.step) ∙ free.0 y ly in
+      let levels : LevelsAreFree c after (FreezeStep.Closes d) =
+      λ i low high. ap (λ (f : ℕ → ℕ → ℕ). total c.processors (f i) % 18446744073709551616) (down_counts w.words d d.step) ∙
+      free.2 i low high in
+      closes_falls c after x even d (down_rank w.words d d.step)
+      (down_write_after d d.step (found_by (down_write_next d d.step).1 (read w.words (down_write_next d d.step).0))).0
+      (λ q. down_umount w.words d d.step ∙ free.1 q) levels
+      (down_falls c w good t lt d fits.0 fits.1 some fits.3 free.0 (free.2 d.level (omega arith) fits.1) d.step (role d.level ∙ here) fits.4)
+  freeze_falls hook FreezeStep.LocksAgain role fits free = rw free.1 (omega arith, (free.0, tt, free.2))
+  freeze_falls hook FreezeStep.SetsPageFault role fits free = (omega arith, (free.0, λ q. absurd (omega (arith, q)), free.2))
+  freeze_falls hook (FreezeStep.Cleans marks) role fits free =
+      cleans_falls c (after_event w.words (clear_next marks)) x free.0 (marks.nodes - marks.node)
+      (clear_after marks (w.words.node marks.node)).0 (omega (arith, fits.0, fits.2)) free.2
+      (clear_falls w.words marks (w.words.node marks.node))
+  freeze_falls (Ok answer) FreezeStep.SetsFs role fits free = (omega arith, (free.0, λ q. absurd (omega (arith, q)), free.2))
+  freeze_falls (Err code) FreezeStep.SetsFs role fits free = (omega arith, (free.0, tt, λ i low high. absurd (omega (arith, low, high))))
+  freeze_falls (Ok answer) FreezeStep.SetsComplete role fits free = (omega arith, (free.0, tt, λ i low high. absurd (omega (arith, low, high))))
+  freeze_falls (Err code) FreezeStep.SetsComplete role fits free = (omega arith, (free.0, tt, λ i low high. absurd (omega (arith, low, high))))
+  freeze_falls hook (FreezeStep.Reopens u code) role fits free =
+      let after : Words = after_event w.words (up_write_next u u.step) in
+      let here : stand_sync u.level (freeze_stand (FreezeStep.Reopens u code)) ≡ up_write_role u.step =
+      ap (λ q. sync_beside q (nat_lt u.level u.level) (up_write_role u.step)) (eq-eqb u.level u.level refl) in
+      let even : NobodyInside c after = λ y ly. ap (λ (f : ℕ → ℕ). f y % 2) (up_sections w.words u u.step) ∙ free.0 y ly in
+      reopens_falls c after x even u.level (up_rank (w.words.sync u.level) u.step) code
+      (up_write_after u u.step (found_by (up_write_next u u.step).1 (read w.words (up_write_next u u.step).0))).0
+      (up_falls c w good t lt u fits.0 fits.1 u.step (role u.level ∙ here))
+  freeze_falls hook (FreezeStep.Releases answer) role fits free = tt
+
+pub freeze_ends : (c : Config) (x : Freeze) → PhaseEnds c (Phase.Freezes x)
+freeze_ends c x = record {
+  falls = λ lim w good t lt hook at free.
+      let f : PhaseFits c t (held_of (w.views t)) (Phase.Freezes x) =
+      subst (Fits c t (held_of (w.views t))) at (good Fitting t lt) in
+      let after : Words = words_after w.words (Phase.Freezes x) hook in
+      falls_as Phase.Freezes (rank after) (IsFree c after) (freeze_rank w.words x x.step)
+      (freeze_after x x.step (found_at w.words (Phase.Freezes x) hook) hook).0
+      (freeze_falls c lim.some_processor w good t lt x hook x.step (λ i. ap (sync_role_of i) at) f.5 free);
+}

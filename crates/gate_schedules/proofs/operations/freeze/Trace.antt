@@ -1,0 +1,388 @@
+-- Traces of a freeze of the superblock.
+use Rattle.std.proofs.Common.{◌≡◌, ℕ, zero, suc, ◌+◌, ◌-◌, Bool, true, false, refl, sym, ap, ◌∙◌, subst, inl, inr, arith}
+use Rattle.std.proofs.lemmas.{Bool.{eq-eqb, ne_eqb, cases_Bool, Decides.eqb_tells}, Nat.Bits.and_pow}
+use Rattle.std.specs.Prelude.{◌==◌, ◌||◌, nat_lt, if◌then◌else◌, Option, Result, Ok, Err, List, [], ◌∷◌, ◌++◌, bit_and}
+use Rattle.access_model.specs.{Holders.nobody, Replies.map_next}
+use Rattle.access_model.specs.declared.{actions.{Action.Action, Holder.Holder}, errors.GateError.GateError, replies.{Next.Next, Reply.Reply}}
+use Rattle.cpu_words.specs.{Hooks.HookAnswer, Touches.{event_of, found_by}, declared.{events.Touch.Touch, names.WordName.WordName}}
+use Rattle.node_words.specs.Nodes.{dirty_in, node_after}
+use Rattle.node_words.specs.Phases.{clears_at}
+use Rattle.node_words.specs.declared.marks.ClearMarks.{ClearMarks}
+use Rattle.mount_counts.specs.Phases.{has_flag}
+use Rattle.percpu_rwsem.specs.{SyncWords.on_exit, Transitions.{transition_next, transition_after}, Writers.{down_write_after, exit_made}}
+use Rattle.percpu_rwsem.specs.declared.transitions.{Transition.Transition, TransitionNext.TransitionNext}
+use Rattle.percpu_rwsem.specs.declared.writers.{DownWrite.DownWrite, DownWriteStep.DownWriteStep, UpWrite.UpWrite, UpWriteStep.UpWriteStep}
+use Rattle.freeze_levels.specs.{Freezes.{after_closing, after_clearing, after_reopening, freeze_fails, level_closed}, Holders.holders_in}
+use Rattle.freeze_levels.specs.declared.freezes.{Freeze.Freeze, FreezeStep.FreezeStep}
+use Rattle.gate_world.specs.{Operations.{two_levels_closed, all_levels_closed}, Configs.IsWithin, Courses.{IsTrace, course_of}}
+use Rattle.gate_world.specs.Found.{found_sealed, found_complete, found_held, stored_stage, cleans, ReadAnswer}
+use Rattle.gate_world.specs.{Traces.{actions_of, IsHonestAnswer, Tells, IsShort, most_events}, Views.{actions_after, with_hook}}
+use Rattle.gate_world.specs.declared.{config.Config.Config, operations.Op.Op, views.Traced.Traced, work.Phase.Phase}
+use Rattle.gate_schedules.proofs.operations.freeze.Fits.{found_cases}
+use Rattle.gate_schedules.proofs.operations.freeze.Sums.{ClosingSays, ClosingNext, Leaves, closing_at, closing_trace, closing_found, closing_leaves}
+use Rattle.gate_schedules.proofs.operations.freeze.Sums.{closing_event}
+use Rattle.gate_schedules.proofs.traces.{Cleans.{LeaveAccesses, cleans_leave}, Says.{Says, SaysAfter, Kept, event_at, tells, is_short}}
+
+-- a freeze of the superblock by a task, at this step
+abbrev pub freeze_of : Config → ℕ → Holder → FreezeStep → Freeze
+freeze_of c t holder step = record {
+  task = t;
+  tasks = c.tasks;
+  processors = c.processors;
+  nodes = c.nodes;
+  holder = holder;
+  step = step;
+}
+
+-- the same as a phase
+abbrev pub freeze_at : Config → ℕ → Holder → FreezeStep → Phase
+freeze_at c t holder step = Phase.Freezes (freeze_of c t holder step)
+
+-- these actions are added, the superblock wasn't found read-only nor frozen, and stage 3 is stored or not
+abbrev HasAdded : List Action → Bool → List Traced → List Action → Type 0
+HasAdded done third trace added =
+    (added ≡ done) × ((found_sealed trace ≡ false) × (found_complete trace ≡ false)) × (stored_stage 3 trace ≡ third)
+
+-- these actions are added before stage 3 is stored or any mark is cleared
+abbrev HasBegun : List Action → List Traced → List Action → Type 0
+HasBegun done trace added = HasAdded done false trace added × (cleans trace ≡ [])
+
+-- what is added before a level is closed: the stage that is stored first, on top of what was added before it
+abbrev IsClosing : ℕ → List Traced → List Action → Type 0
+IsClosing (suc zero) trace added = HasBegun (Action.Stage 1 ∷ []) trace added
+IsClosing (suc (suc zero)) trace added = HasBegun (Action.Stage 2 ∷ (Action.Pass 1 ∷ (Action.Stage 1 ∷ []))) trace added
+IsClosing (suc (suc (suc zero))) trace added = HasAdded (Action.Stage 3 ∷ two_levels_closed trace) true trace added
+IsClosing i trace added = ⊥
+
+-- what a freeze whose hook failed has added where two levels are still closed
+abbrev two_left : List Traced → List Action
+two_left trace =
+    if stored_stage 3 trace
+    then Action.Reopen 3 ∷ (Action.Stage 0 ∷ all_levels_closed trace)
+    else Action.Stage 0 ∷ two_levels_closed trace
+
+-- the same where the levels up to this one are closed
+abbrev AreLeft : ℕ → List Traced → List Action → Type 0
+AreLeft zero trace added = added ≡ Action.Reopen 1 ∷ (Action.Reopen 2 ∷ two_left trace)
+AreLeft (suc zero) trace added = added ≡ Action.Reopen 2 ∷ two_left trace
+AreLeft (suc (suc zero)) trace added = added ≡ two_left trace
+AreLeft (suc (suc (suc zero))) trace added = (added ≡ Action.Stage 0 ∷ all_levels_closed trace) × (stored_stage 3 trace ≡ true)
+AreLeft i trace added = ⊥
+
+-- while a level is reopened, it is closed until its first event
+abbrev IsReopening : ℕ → UpWriteStep → List Traced → List Action → Type 0
+IsReopening (suc i) UpWriteStep.ClearsBlock trace added = AreLeft (suc i) trace added
+IsReopening (suc i) (UpWriteStep.Exits transition) trace added = AreLeft i trace added
+IsReopening zero s trace added = ⊥
+
+-- what is answered is told already
+-- what is added where all is frozen: nothing, where it was found so; or stage 4, with the levels closed of a writable superblock
+abbrev frozen_adds : List Traced → List Action
+frozen_adds trace = if found_complete trace then [] else Action.Stage 4 ∷ (if found_sealed trace then [] else all_levels_closed trace)
+
+abbrev Answers : Config → Holder → Result Reply GateError → List Traced → List Action → Type 0
+Answers c holder answer trace added = (added ≡ actions_of (Op.Freeze holder) answer trace) × IsHonestAnswer c (Op.Freeze holder) answer trace
+
+-- a level is closed, and the trace says what it is to say at that step
+abbrev ClosesSay : Config → DownWrite → List Traced → List Action → Type 0
+ClosesSay c d trace added =
+    (i : ℕ) × (s : DownWriteStep) × (d ≡ closing_at c i s) × IsClosing i trace added × ClosingSays c i s trace
+
+-- a level is reopened, as a hook failed with this code
+abbrev ReopensSay : UpWrite → ℕ → List Traced → List Action → Type 0
+ReopensSay u code trace added =
+    (i : ℕ) × (s : UpWriteStep) × (u ≡ record { level = i; step = s }) × IsReopening i s trace added × ReadAnswer WordName.Stage (Err code) trace
+
+-- what a trace says at a step: what was found, stored, cleared and added
+abbrev StepSays : Config → Holder → FreezeStep → List Traced → List Action → Type 0
+StepSays c holder FreezeStep.LoadsHolders trace added = (added ≡ []) × (found_complete trace ≡ true)
+StepSays c holder (FreezeStep.Holds beside) trace added = added ≡ frozen_adds trace
+StepSays c holder FreezeStep.CompletesReadOnly trace added = (added ≡ []) × (found_sealed trace ≡ true) × (found_complete trace ≡ false)
+StepSays c holder FreezeStep.Unlocks trace added = HasBegun (Action.Stage 1 ∷ []) trace added
+StepSays c holder (FreezeStep.Closes d) trace added = ClosesSay c d trace added
+StepSays c holder FreezeStep.LocksAgain trace added = HasBegun (Action.Pass 1 ∷ (Action.Stage 1 ∷ [])) trace added
+StepSays c holder FreezeStep.SetsPageFault trace added = HasBegun (Action.Pass 1 ∷ (Action.Stage 1 ∷ [])) trace added
+StepSays c holder (FreezeStep.Cleans marks) trace added = HasAdded (two_levels_closed trace) false trace added
+StepSays c holder FreezeStep.SetsFs trace added = HasAdded (two_levels_closed trace) false trace added
+StepSays c holder FreezeStep.SetsComplete trace added = HasAdded (all_levels_closed trace) true trace added
+StepSays c holder (FreezeStep.Reopens u code) trace added = ReopensSay u code trace added
+StepSays c holder (FreezeStep.Releases answer) trace added = Answers c holder answer trace added
+StepSays c holder other trace added = HasBegun [] trace added
+
+-- what a freeze's trace says at a phase
+abbrev pub FreezeAt : Config → ℕ → Holder → List Traced → Phase → List Action → Type 0
+FreezeAt c t holder trace phase added = (step : FreezeStep) × (phase ≡ freeze_at c t holder step) × StepSays c holder step trace added
+
+mark_bit : (word : ℕ) → (dirty_in word == 1) ≡ has_flag word 4
+mark_bit word =
+    elim (eqb_tells (dirty_in word) 1) [
+      | inl q ↦ q.0 ∙ sym (eq-eqb (bit_and word 4) 4 (omega (arith, q.1, and_pow word 2)))
+      | inr q ↦ q.0 ∙ sym (ne_eqb (bit_and word 4) 4 (λ e. q.1 (omega (arith, e, and_pow word 2))))
+    ]
+
+-- what is added before a level is closed stays so while the trace leaves what it speaks of
+closing_stays : (i : ℕ) (trace earlier : List Traced) (added : List Action) → Leaves trace earlier → IsClosing i earlier added →
+    IsClosing i trace added
+closing_stays zero trace earlier added l h = absurd h
+closing_stays (suc zero) trace earlier added l h = ((h.0.0, (l.0 ∙ h.0.1.0, l.3 ∙ h.0.1.1), l.1 ∙ h.0.2), l.2 ∙ h.1)
+closing_stays (suc (suc zero)) trace earlier added l h = ((h.0.0, (l.0 ∙ h.0.1.0, l.3 ∙ h.0.1.1), l.1 ∙ h.0.2), l.2 ∙ h.1)
+closing_stays (suc (suc (suc zero))) trace earlier added l h = (
+  h.0 ∙ ap (λ (marks : List Action). Action.Stage 3 ∷ (marks ++ (Action.Pass 2 ∷ (Action.Stage 2 ∷ (Action.Pass 1 ∷ (Action.Stage 1 ∷ [])))))) (sym l.2),
+  (l.0 ∙ h.1.0, l.3 ∙ h.1.1),
+  l.1 ∙ h.2,
+)
+closing_stays (suc (suc (suc (suc i)))) trace earlier added l h = absurd h
+
+-- a level is passed, and the next step of the freeze comes
+level_passed : (c : Config) (holder : Holder) (i : ℕ) (trace : List Traced) (added : List Action) → IsClosing i trace added →
+    StepSays c holder (level_closed i c.nodes) trace (Action.Pass i ∷ added)
+level_passed c holder zero trace added h = absurd h
+level_passed c holder (suc zero) trace added h = ((ap (λ (l : List Action). Action.Pass 1 ∷ l) h.0.0, h.0.1, h.0.2), h.1)
+level_passed c holder (suc (suc zero)) trace added h = (rw h.1 (ap (λ (l : List Action). Action.Pass 2 ∷ l) h.0.0), h.0.1, h.0.2)
+level_passed c holder (suc (suc (suc zero))) trace added h = (ap (λ (l : List Action). Action.Pass 3 ∷ l) h.0, h.1, h.2)
+level_passed c holder (suc (suc (suc (suc i)))) trace added h = absurd h
+
+-- what is said of the closing of a level is said of a freeze, by what comes next
+closing_says : (c : Config) (t : ℕ) (holder : Holder) (i : ℕ) (s : DownWriteStep) (e : Traced) (earlier : List Traced) (added : List Action)
+    (n : Next DownWrite)
+    (action : Option Action) → IsClosing i (e ∷ earlier) added → ClosingNext c i (e ∷ earlier) n action →
+    Says (FreezeAt c t holder) c (Op.Freeze holder) (e ∷ earlier)
+    (map_next Phase.Freezes (after_closing (freeze_of c t holder (FreezeStep.Closes (closing_at c i s))) i n)) (actions_after action added)
+closing_says c t holder i s e earlier added (Next.Go d) action level h =
+    rw h.1 (FreezeStep.Closes d, refl, (i, h.0.0, h.0.1, level, h.0.2))
+closing_says c t holder i s e earlier added (Next.Wait d) action level h =
+    rw h.1 ((FreezeStep.Closes d, refl, (i, h.0.0, h.0.1, level, h.0.2)), inr h.2)
+closing_says c t holder i s e earlier added (Next.Done answer) action level h =
+    rw h (level_closed i c.nodes, refl, level_passed c holder i (e ∷ earlier) added level)
+
+-- where no level is left closed, the failed freeze gives `umount` back, and else it reopens the highest
+fails_says : (c : Config) (holder : Holder) (i code : ℕ) (trace : List Traced) (added : List Action) → AreLeft i trace added →
+    ReadAnswer WordName.Stage (Err code) trace → StepSays c holder (freeze_fails i code) trace added
+fails_says c holder zero code trace added h said = (h, said)
+fails_says c holder (suc zero) code trace added h said = (1, UpWriteStep.ClearsBlock, refl, h, said)
+fails_says c holder (suc (suc zero)) code trace added h said = (2, UpWriteStep.ClearsBlock, refl, h, said)
+fails_says c holder (suc (suc (suc zero))) code trace added h said = (3, UpWriteStep.ClearsBlock, refl, h, said)
+fails_says c holder (suc (suc (suc (suc i)))) code trace added h said = absurd h
+
+below_next : (i : ℕ) → suc i - 1 ≡ i
+below_next i = omega arith
+
+-- an event that gives `umount` back leaves what is told
+lock_leaves : (c : Config) (holder : Holder) (answer : Result Reply GateError) (value : ℕ) (hook : HookAnswer) (earlier : List Traced)
+    (added : List Action) → Answers c holder answer earlier added →
+    Answers c holder answer (with_hook (event_of WordName.Umount (Touch.Store 0) value) hook ∷ earlier) added
+lock_leaves c holder (Err (GateError.Hook code)) value hook earlier added h = (h.0, inr h.1)
+lock_leaves c holder answer value hook earlier added h = h
+
+module _ (c : Config) (lim : IsWithin c) (t : ℕ) (holder : Holder) (value : ℕ) (earlier : List Traced) (added : List Action) where
+  -- the trace after the event of a step
+  abbrev longer : HookAnswer → FreezeStep → List Traced
+  longer hook step = with_hook (event_at (freeze_at c t holder step) value hook) hook ∷ earlier
+
+  -- what the trace says after the event of a step
+  abbrev After : HookAnswer → FreezeStep → Type 0
+  After hook step = SaysAfter (FreezeAt c t holder) c (Op.Freeze holder) (freeze_at c t holder step) value hook earlier added
+
+  -- `umount` is tried
+  locks : (hook : HookAnswer) → StepSays c holder FreezeStep.Locks earlier added → After hook FreezeStep.Locks
+  locks hook h =
+      elim (cases_Bool (value == 0)) [
+        | inl f ↦ rw f (FreezeStep.LoadsStage, refl, h)
+        | inr f ↦ rw f ((FreezeStep.Locks, refl, h), inl (rw f refl))
+      ]
+
+  -- and again, with level 1 closed
+  locks_again : (hook : HookAnswer) → StepSays c holder FreezeStep.LocksAgain earlier added → After hook FreezeStep.LocksAgain
+  locks_again hook h =
+      elim (cases_Bool (value == 0)) [
+        | inl f ↦ rw f (FreezeStep.SetsPageFault, refl, h)
+        | inr f ↦ rw f ((FreezeStep.LocksAgain, refl, h), inl (rw f refl))
+      ]
+
+  loads_stage : (hook : HookAnswer) → StepSays c holder FreezeStep.LoadsStage earlier added → After hook FreezeStep.LoadsStage
+  loads_stage hook h =
+      elim (eqb_tells value 0) [
+        | inl f ↦ rw f.0 (
+          FreezeStep.LoadsSuperblock,
+          refl,
+          ((h.0.0, (h.0.1.0, ap (λ v. (v == 4) || found_complete earlier) f.1 ∙ h.0.1.1), h.0.2), h.1),
+        )
+        | inr f ↦ elim (eqb_tells value 4) [
+          | inl g ↦ rw (f.0, g.0) (FreezeStep.LoadsHolders, refl, (h.0.0, rw g.0 refl))
+          | inr g ↦ rw (f.0, g.0) (FreezeStep.Releases (Err GateError.Busy), refl, (h.0.0, inl (rw (f.0, g.0) refl)))
+        ]
+      ]
+
+  loads_holders : (hook : HookAnswer) → StepSays c holder FreezeStep.LoadsHolders earlier added → After hook FreezeStep.LoadsHolders
+  loads_holders hook h =
+      found_cases (freeze_of c t holder FreezeStep.LoadsHolders) (holders_in value)
+      (λ s. FreezeAt c t holder (longer hook FreezeStep.LoadsHolders) (freeze_at c t holder s) added)
+      (λ own. (FreezeStep.Releases (Err GateError.Busy), refl, (h.0, inr (ap (λ b. b || found_held holder earlier) own))))
+      (λ other. (FreezeStep.Holds (holders_in value), refl, rw h.1 h.0))
+
+  loads_superblock : (hook : HookAnswer) → StepSays c holder FreezeStep.LoadsSuperblock earlier added → After hook FreezeStep.LoadsSuperblock
+  loads_superblock hook h =
+      elim (cases_Bool (value == 0)) [
+        | inl f ↦ rw f (FreezeStep.SetsWrite, refl, ((h.0.0, (rw f h.0.1.0, h.0.1.1), h.0.2), h.1))
+        | inr f ↦ rw f (FreezeStep.CompletesReadOnly, refl, (h.0.0, rw f refl, h.0.1.1))
+      ]
+
+  -- an event of the closing of a level
+  closes : (hook : HookAnswer) (d : DownWrite) → ClosesSay c d earlier added → After hook (FreezeStep.Closes d)
+  closes hook d h =
+      let i : ℕ = h.0 in
+      let s : DownWriteStep = h.1 in
+      subst (λ (x : DownWrite). After hook (FreezeStep.Closes x)) (sym h.2) (
+      let closing : DownWrite = closing_at c i s in
+      let found : ℕ = closing_found c lim i value hook earlier s in
+      closing_says c t holder i s (with_hook (event_at (freeze_at c t holder (FreezeStep.Closes closing)) value hook) hook) earlier added
+      (down_write_after closing s found).0 (down_write_after closing s found).1
+      (closing_stays i (closing_trace c lim i value hook earlier s) earlier added (closing_leaves c lim i value hook earlier s) h.3)
+      (closing_event c lim i value hook earlier s h.4)
+      )
+
+  node_says : (marks : ClearMarks) (trace : List Traced) (actions : List Action) →
+      HasAdded (two_levels_closed trace) false trace actions →
+      Says (FreezeAt c t holder) c (Op.Freeze holder) trace
+      (map_next Phase.Freezes (after_clearing (freeze_of c t holder (FreezeStep.Cleans marks)) (clears_at marks (node_after marks.node marks.nodes)))) actions
+  node_says marks trace actions h =
+      elim (cases_Bool (nat_lt (marks.node + 1) marks.nodes)) [
+        | inl f ↦ rw f (FreezeStep.Cleans (record marks { node = marks.node + 1 }), refl, h)
+        | inr f ↦ rw f (FreezeStep.SetsFs, refl, h)
+      ]
+
+  -- a mark was found set, or clear
+  clears : (hook : HookAnswer) (marks : ClearMarks) → StepSays c holder (FreezeStep.Cleans marks) earlier added → After hook (FreezeStep.Cleans marks)
+  clears hook marks h =
+      let trace : List Traced = longer hook (FreezeStep.Cleans marks) in
+      elim (cases_Bool (has_flag value 4)) [
+        | inl f ↦ rw (mark_bit value ∙ f) (
+            node_says marks trace (Action.Clean marks.node ∷ added)
+            (rw f (ap (λ (l : List Action). Action.Clean marks.node ∷ l) h.0), h.1, h.2)
+            )
+        | inr f ↦ rw (mark_bit value ∙ f) (node_says marks trace added (rw f h.0, h.1, h.2))
+      ]
+
+  sets_fs : (hook : HookAnswer) → StepSays c holder FreezeStep.SetsFs earlier added → After hook FreezeStep.SetsFs
+  sets_fs (Ok answer) h = (
+    FreezeStep.Closes (closing_at c 3 (DownWriteStep.Enters Transition.Loads)),
+    refl,
+    (3, DownWriteStep.Enters Transition.Loads, refl, (ap (λ (l : List Action). Action.Stage 3 ∷ l) h.0, h.1, refl), tt),
+  )
+  sets_fs (Err code) h = (
+    freeze_fails 2 code,
+    refl,
+    fails_says c holder 2 code (longer (Err code) FreezeStep.SetsFs) (Action.Stage 0 ∷ added)
+        (rw h.2 (ap (λ (l : List Action). Action.Stage 0 ∷ l) h.0)) (inl (refl, refl, refl)),
+  )
+
+  sets_complete : (hook : HookAnswer) → StepSays c holder FreezeStep.SetsComplete earlier added → After hook FreezeStep.SetsComplete
+  sets_complete (Ok answer) h = (FreezeStep.Holds nobody, refl, rw (h.1.1, h.1.0) (ap (λ (l : List Action). Action.Stage 4 ∷ l) h.0))
+  sets_complete (Err code) h = (
+    freeze_fails 3 code,
+    refl,
+    fails_says c holder 3 code (longer (Err code) FreezeStep.SetsComplete) (Action.Stage 0 ∷ added)
+        (ap (λ (l : List Action). Action.Stage 0 ∷ l) h.0, h.2) (inl (refl, refl, refl)),
+  )
+
+  -- a level is being left, or it is left and the level below it comes
+  leaves_on : (i code : ℕ) (from : Transition) (trace : List Traced) (n : TransitionNext) → AreLeft i trace added →
+      ReadAnswer WordName.Stage (Err code) trace →
+      Says (FreezeAt c t holder) c (Op.Freeze holder) trace
+      (map_next Phase.Freezes
+      (after_reopening (freeze_of c t holder (FreezeStep.Reopens (record { level = suc i; step = UpWriteStep.Exits from }) code)) (suc i) code
+      (exit_made (record { level = suc i; step = UpWriteStep.Exits from }) n)))
+      added
+  leaves_on i code from trace (TransitionNext.More transition) h said =
+      (FreezeStep.Reopens (record { level = suc i; step = UpWriteStep.Exits transition }) code, refl, (suc i, UpWriteStep.Exits transition, refl, h, said))
+  leaves_on i code from trace TransitionNext.Undefined h said = (
+    FreezeStep.Reopens (record { level = suc i; step = UpWriteStep.Exits Transition.Loads }) code,
+    refl,
+    (suc i, UpWriteStep.Exits Transition.Loads, refl, h, said),
+  )
+  leaves_on i code from trace (TransitionNext.Made state) h said = rw (below_next i) (freeze_fails i code, refl, fails_says c holder i code trace added h said)
+
+  -- an event on a level's words leaves what is left
+  still_left : (hook : HookAnswer) (i n : ℕ) (transition : Transition) → AreLeft n earlier added →
+      AreLeft n (with_hook (event_of (transition_next i transition).0 (transition_next i transition).1 value) hook ∷ earlier) added
+  still_left hook i zero Transition.Loads h = h
+  still_left hook i zero (Transition.Exchanges from to) h = h
+  still_left hook i (suc zero) Transition.Loads h = h
+  still_left hook i (suc zero) (Transition.Exchanges from to) h = h
+  still_left hook i (suc (suc zero)) Transition.Loads h = h
+  still_left hook i (suc (suc zero)) (Transition.Exchanges from to) h = h
+  still_left hook i (suc (suc (suc zero))) Transition.Loads h = h
+  still_left hook i (suc (suc (suc zero))) (Transition.Exchanges from to) h = h
+  still_left hook i (suc (suc (suc (suc n)))) transition h = absurd h
+
+  -- a level is reopened
+  reopens : (hook : HookAnswer) (i : ℕ) → AreLeft (suc i) earlier added →
+      AreLeft i (with_hook (event_of (WordName.Block (suc i)) (Touch.Store 0) value) hook ∷ earlier) (Action.Reopen (suc i) ∷ added)
+  reopens hook zero h = ap (λ (l : List Action). Action.Reopen 1 ∷ l) h
+  reopens hook (suc zero) h = ap (λ (l : List Action). Action.Reopen 2 ∷ l) h
+  reopens hook (suc (suc zero)) h = rw h.1 (ap (λ (l : List Action). Action.Reopen 3 ∷ l) h.0)
+  reopens hook (suc (suc (suc i))) h = absurd h
+
+  reopening_event : (hook : HookAnswer) (code i : ℕ) (s : UpWriteStep) → IsReopening i s earlier added →
+      ReadAnswer WordName.Stage (Err code) earlier → After hook (FreezeStep.Reopens (record { level = i; step = s }) code)
+  reopening_event hook code zero s h said = absurd h
+  reopening_event hook code (suc i) (UpWriteStep.Exits transition) h said =
+      leaves_on i code transition (longer hook (FreezeStep.Reopens (record { level = suc i; step = UpWriteStep.Exits transition }) code))
+      (transition_after on_exit transition (found_by (transition_next (suc i) transition).1 value))
+      (still_left hook (suc i) i transition h) (inr said)
+  reopening_event hook code (suc i) UpWriteStep.ClearsBlock h said = (
+    FreezeStep.Reopens (record { level = suc i; step = UpWriteStep.Exits Transition.Loads }) code,
+    refl,
+    (suc i, UpWriteStep.Exits Transition.Loads, refl, reopens hook i h, inr said),
+  )
+
+  freeze_event : (hook : HookAnswer) (step : FreezeStep) → StepSays c holder step earlier added → After hook step
+  freeze_event hook FreezeStep.Locks h = locks hook h
+  freeze_event hook FreezeStep.LoadsStage h = loads_stage hook h
+  freeze_event hook FreezeStep.LoadsSuperblock h = loads_superblock hook h
+  freeze_event hook FreezeStep.LoadsHolders h = loads_holders hook h
+  freeze_event hook (FreezeStep.Holds beside) h = (FreezeStep.Releases (Ok Reply.Unit), refl, (ap (λ (l : List Action). Action.Hold holder ∷ l) h, tt))
+  freeze_event hook FreezeStep.CompletesReadOnly h = (FreezeStep.Holds nobody, refl, rw (h.2, h.1) (ap (λ (l : List Action). Action.Stage 4 ∷ l) h.0))
+  freeze_event hook FreezeStep.SetsWrite h = (FreezeStep.Unlocks, refl, ((ap (λ (l : List Action). Action.Stage 1 ∷ l) h.0.0, h.0.1, h.0.2), h.1))
+  freeze_event hook FreezeStep.Unlocks h =
+      (FreezeStep.Closes (closing_at c 1 (DownWriteStep.Enters Transition.Loads)), refl, (1, DownWriteStep.Enters Transition.Loads, refl, h, tt))
+  freeze_event hook (FreezeStep.Closes d) h = closes hook d h
+  freeze_event hook FreezeStep.LocksAgain h = locks_again hook h
+  freeze_event hook FreezeStep.SetsPageFault h = (
+    FreezeStep.Closes (closing_at c 2 (DownWriteStep.Enters Transition.Loads)),
+    refl,
+    (2, DownWriteStep.Enters Transition.Loads, refl, ((ap (λ (l : List Action). Action.Stage 2 ∷ l) h.0.0, h.0.1, h.0.2), h.1), tt),
+  )
+  freeze_event hook (FreezeStep.Cleans marks) h = clears hook marks h
+  freeze_event hook FreezeStep.SetsFs h = sets_fs hook h
+  freeze_event hook FreezeStep.SetsComplete h = sets_complete hook h
+  freeze_event hook (FreezeStep.Reopens u code) h =
+      subst (λ (x : UpWrite). After hook (FreezeStep.Reopens x code)) (sym h.2) (reopening_event hook code h.0 h.1 h.3 h.4)
+  freeze_event hook (FreezeStep.Releases answer) h = (lock_leaves c holder answer value hook earlier added h, tt)
+
+pub freeze_kept : (c : Config) → IsWithin c → (t : ℕ) (holder : Holder) → Kept (FreezeAt c t holder) c t (Op.Freeze holder)
+freeze_kept c lim t holder = record {
+  first = (FreezeStep.Locks, refl, ((refl, (refl, refl), refl), refl));
+  more = λ phase value hook earlier added here.
+      subst (λ (x : Phase). SaysAfter (FreezeAt c t holder) c (Op.Freeze holder) x value hook earlier added) (sym here.1)
+      (freeze_event c lim t holder value earlier added hook here.0 here.2);
+  short = λ trace phase added here. tt;
+}
+
+-- every trace of a freeze tells what is to be told
+pub freeze_tells : (c : Config) (holder : Holder) → IsWithin c → (t : ℕ) (trace : List Traced) → IsTrace c t (Op.Freeze holder) trace →
+    Tells c (Op.Freeze holder) trace (course_of c t (Op.Freeze holder) trace).comes (course_of c t (Op.Freeze holder) trace).added
+freeze_tells c holder lim t trace h = tells (FreezeAt c t holder) c t (Op.Freeze holder) (freeze_kept c lim t holder) trace h
+
+pub freeze_short : (c : Config) (holder : Holder) → IsWithin c → (t : ℕ) (trace : List Traced) → IsTrace c t (Op.Freeze holder) trace →
+    IsShort (most_events c (Op.Freeze holder)) trace
+freeze_short c holder lim t trace h = is_short (FreezeAt c t holder) c t (Op.Freeze holder) (freeze_kept c lim t holder) trace h
+
+-- what a freeze has added where it is refused leaves what its task held
+pub freeze_restores : (holder : Holder) (refusal : GateError) (trace : List Traced) (before : List Action) →
+    LeaveAccesses (actions_of (Op.Freeze holder) (Err refusal) trace) before
+freeze_restores holder (GateError.Hook code) trace before =
+    let closed : LeaveAccesses (two_levels_closed trace) before =
+    cleans_leave trace (Action.Pass 2 ∷ (Action.Stage 2 ∷ (Action.Pass 1 ∷ (Action.Stage 1 ∷ [])))) before refl in
+    elim (cases_Bool (stored_stage 3 trace)) [ inl f ↦ rw f closed | inr f ↦ rw f closed ]
+freeze_restores holder refusal trace before = refl

@@ -1,0 +1,10 @@
+pub mod Levels
+pub mod Events
+pub mod EndEvents
+pub mod Trace
+pub mod Fits
+pub mod Causes
+pub mod Waits
+pub mod Runs
+pub mod Progress
+pub mod Laws

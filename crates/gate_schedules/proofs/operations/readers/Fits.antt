@@ -1,0 +1,252 @@
+-- What fits after an event of a down-read, an up-read and a callback.
+use Rattle.std.proofs.Common.{◌≡◌, ℕ, ◌+◌, ◌%◌, ◌<◌, ◌≤◌, Bool, true, false, refl, sym, subst, ◌∙◌, inl, inr, arith}
+use Rattle.std.specs.Prelude.{◌==◌, ◌&&◌, nat_lt, if◌then◌else◌, Some, None, Ok, Err}
+use Rattle.std.proofs.lemmas.Bool.{cases_Bool, ltb-true}
+use Rattle.finite_sums.proofs.Totals.{update_at}
+use Rattle.access_model.specs.declared.actions.Action.TheVariants.{Grant}
+use Rattle.access_model.specs.declared.actions.Gate.TheVariants.{Level}
+use Rattle.access_model.specs.declared.replies.Next.{Next}
+use Rattle.access_model.specs.declared.replies.Next.TheVariants.{Go, Wait, Done}
+use Rattle.access_model.specs.Replies.{map_next}
+use Rattle.cpu_words.specs.Names.{IsWord}
+use Rattle.percpu_rwsem.specs.declared.readers.DownRead.{DownRead}
+use Rattle.percpu_rwsem.specs.declared.readers.DownReadStep.{DownReadStep}
+use Rattle.percpu_rwsem.specs.declared.readers.DownReadStep.TheVariants.{EntersSection, LoadsSync, CountsUpFast, CountsUpSlow, LoadsBlock, CountsDown, LeavesAdmitted, LeavesBlocked}
+use Rattle.percpu_rwsem.specs.declared.grace.Grace.{Grace}
+use Rattle.percpu_rwsem.specs.declared.transitions.Transition.TheVariants.{Loads, Exchanges}
+use Rattle.percpu_rwsem.specs.declared.transitions.TransitionNext.{TransitionNext}
+use Rattle.percpu_rwsem.specs.declared.transitions.TransitionNext.TheVariants.{More, Undefined, Made}
+use Rattle.percpu_rwsem.specs.declared.grace.GraceNext.{GraceNext}
+use Rattle.percpu_rwsem.specs.declared.grace.GraceNext.TheVariants.{More as MoreSections}
+use Rattle.percpu_rwsem.specs.declared.callbacks.Callback.{Callback}
+use Rattle.percpu_rwsem.specs.declared.callbacks.CallbackStep.{CallbackStep}
+use Rattle.percpu_rwsem.specs.declared.callbacks.CallbackStep.TheVariants.{Claims, AwaitsSections, CallsBack}
+use Rattle.percpu_rwsem.specs.SyncWords.{unpack, on_claim, on_callback}
+use Rattle.percpu_rwsem.specs.Graces.{passed_on, looked, is_first}
+use Rattle.percpu_rwsem.specs.Transitions.{transition_after}
+use Rattle.percpu_rwsem.specs.Readers.{down_read_next, down_read_after, at_down_read, left_blocked}
+use Rattle.percpu_rwsem.specs.Callbacks.{callback_next, callback_after, at_callback, claimed, callback_looked, called_back}
+use Rattle.freeze_laws.specs.levels.Events.{SyncLevel}
+use Rattle.cpu_words.specs.Touches.{found_by}
+use Rattle.freeze_laws.specs.levels.Operations.{value_at, KnowsCallback, HoldsOfNext, callback_role}
+use Rattle.freeze_laws.proofs.levels.Operations.{callbacks_are_there}
+use Rattle.gate_world.specs.declared.config.Config.{Config}
+use Rattle.gate_world.specs.declared.work.Phase.TheVariants.{DownReads, Callbacks}
+use Rattle.gate_world.specs.Configs.{IsWithin, extents_of}
+use Rattle.gate_world.specs.Views.{phase_after}
+use Rattle.gate_world.specs.Operations.{holds_none_from, is_level_number}
+use Rattle.gate_world.specs.{Fits.{ReadStepFits, ReadFits, GraceFits, PhaseFits, Fits, ActionFits}, Holdings.{Holdings, held_after}}
+use Rattle.gate_schedules.proofs.{frames.Keeps.by_bool, operations.readers.Trace.by_word}
+
+-- each is true where both are
+pub both_true : (a b : Bool) → (a && b) ≡ true → (a ≡ true) × (b ≡ true)
+both_true true true e = (refl, refl)
+both_true true false e = (refl, e)
+both_true false b e = absurd (cc)
+
+-- a number that is a level's
+pub level_there : (i : ℕ) → is_level_number i ≡ true → (1 ≤ i) × (i ≤ 3)
+level_there i h =
+    let l : (nat_lt 0 i ≡ true) × (nat_lt i 4 ≡ true) = both_true (nat_lt 0 i) (nat_lt i 4) h in
+    (omega (arith, ltb-true 0 i l.0), omega (arith, ltb-true i 4 l.1))
+
+module _ (h k : ℕ → Bool) (levels : (i : ℕ) → 1 ≤ i → i ≤ 3 → h i ≡ k i) where
+  -- accesses that agree at each level hold none from a level up alike
+  pub none_from_agree : (i : ℕ) → holds_none_from i h ≡ holds_none_from i k
+  none_from_agree i = rw (levels 1 (omega arith) (omega arith), levels 2 (omega arith) (omega arith), levels 3 (omega arith) (omega arith))
+
+  -- and a step of a down-read fits them alike
+  pub read_step_agrees : (i : ℕ) (s : DownReadStep) → 1 ≤ i → i ≤ 3 → ReadStepFits i h s → ReadStepFits i k s
+  read_step_agrees i LeavesAdmitted l1 l3 f = sym (levels i l1 l3) ∙ f
+  read_step_agrees i s l1 l3 f = sym (none_from_agree i) ∙ f
+
+-- the word of each event of a down-read is there
+pub read_there : (c : Config) (t : ℕ) → t < c.tasks → (r : DownRead) (s : DownReadStep) → 1 ≤ r.level → r.level ≤ 3 →
+    r.cpu < c.processors → r.task ≡ t → IsWord (extents_of c) (down_read_next r s).0
+read_there c t lt r LoadsSync l1 l3 p same = (l1, l3)
+read_there c t lt r CountsUpFast l1 l3 p same = (l1, l3, p)
+read_there c t lt r CountsUpSlow l1 l3 p same = (l1, l3, p)
+read_there c t lt r LoadsBlock l1 l3 p same = (l1, l3)
+read_there c t lt r CountsDown l1 l3 p same = (l1, l3, p)
+read_there c t lt r other l1 l3 p same = omega (arith, same, lt)
+
+-- its action can be done
+pub read_acts : (held : Holdings) (r : DownRead) (s : DownReadStep) (found : ℕ) → 1 ≤ r.level → r.level ≤ 3 →
+    ActionFits held (down_read_after r s found).1
+read_acts held r CountsUpFast found l1 l3 = (l1, l3)
+read_acts held r LoadsBlock found l1 l3 =
+    by_bool (found == 0) (λ b. ActionFits held (if b then Some (Grant (Level r.level)) else None)) (l1, l3) tt
+read_acts held r s found l1 l3 = tt
+
+-- it moves no access at a mount
+pub read_mounts : (held : Holdings) (r : DownRead) (s : DownReadStep) (found : ℕ) →
+    (held_after (down_read_after r s found).1 held).mounts ≡ held.mounts
+read_mounts held r LoadsBlock found =
+    by_bool (found == 0) (λ b. (held_after (if b then Some (Grant (Level r.level)) else None) held).mounts ≡ held.mounts) refl refl
+read_mounts held r s found = refl
+
+-- What comes after an event of a down-read at this level, on this processor, fits these accesses; and where it ends well, the level is
+-- held. So an operation that goes on inside the level knows that it is.
+abbrev pub ReadGoes : Config → ℕ → ℕ → ℕ → Holdings → Next DownRead → Type 0
+ReadGoes c t i p held (Go r) = ReadFits c t held r × (r.level ≡ i) × (r.cpu ≡ p)
+ReadGoes c t i p held (Wait r) = ReadFits c t held r × (r.level ≡ i) × (r.cpu ≡ p)
+ReadGoes c t i p held (Done (Ok reply)) = held.levels i ≡ true
+ReadGoes c t i p held (Done (Err refusal)) = Unit {0}
+
+module _ (c : Config) (t : ℕ) (r : DownRead) (l1 : 1 ≤ r.level) (l3 : r.level ≤ 3) (p : r.cpu < c.processors) (same : r.task ≡ t) where
+  -- the next step fits these accesses
+  goes_on : (held : Holdings) (s : DownReadStep) → ReadStepFits r.level held.levels s →
+      ReadGoes c t r.level r.cpu held (Go (at_down_read r s))
+  goes_on held s h = ((l1, l3, p, same, h), refl, refl)
+
+  -- so it is after each event
+  pub read_goes : (held : Holdings) (s : DownReadStep) (found : ℕ) → ReadStepFits r.level held.levels s →
+      ReadGoes c t r.level r.cpu (held_after (down_read_after r s found).1 held) (down_read_after r s found).0
+  read_goes held EntersSection found h = goes_on held LoadsSync h
+  read_goes held LoadsSync found h =
+      by_word (λ s. ReadGoes c t r.level r.cpu held (Go (at_down_read r s))) (goes_on held LoadsSync h)
+      (goes_on held CountsUpFast h) (goes_on held CountsUpSlow h) (unpack found)
+  read_goes held CountsUpFast found h = goes_on (held_after (Some (Grant (Level r.level))) held) LeavesAdmitted (update_at held.levels r.level true)
+  read_goes held CountsUpSlow found h = goes_on held LoadsBlock h
+  read_goes held LoadsBlock found h =
+      elim (cases_Bool (found == 0)) [
+        | inl f ↦ rw f (goes_on (held_after (Some (Grant (Level r.level))) held) LeavesAdmitted (update_at held.levels r.level true))
+        | inr f ↦ rw f (goes_on held CountsDown h)
+      ]
+  read_goes held CountsDown found h = goes_on held LeavesBlocked h
+  read_goes held LeavesAdmitted found h = h
+  read_goes held LeavesBlocked found h =
+      by_bool r.wait (λ b. ReadGoes c t r.level r.cpu held (left_blocked r b)) (goes_on held EntersSection h) tt
+
+-- what comes after an event of a down-read that stands alone fits
+pub read_fits : (c : Config) (t i p : ℕ) (held : Holdings) (n : Next DownRead) → ReadGoes c t i p held n →
+    Fits c t held (phase_after (map_next DownReads n))
+read_fits c t i p held (Go r) h = h.0
+read_fits c t i p held (Wait r) h = h.0
+read_fits c t i p held (Done answer) h = tt
+
+-- the word of each event of a callback is there
+pub callback_there : (c : Config) (b : Callback) (s : CallbackStep) → 1 ≤ b.level → b.level ≤ 3 → GraceFits c.tasks s →
+    IsWord (extents_of c) (callback_next b s).0
+callback_there c b (Claims Loads) l1 l3 f = (l1, l3)
+callback_there c b (AwaitsSections grace) l1 l3 f = f.1
+callback_there c b (CallsBack Loads) l1 l3 f = (l1, l3)
+callback_there c b other l1 l3 f = (l1, l3)
+
+-- no event of a callback adds an action
+pub callback_acts_none : (b : Callback) (s : CallbackStep) (found : ℕ) → (callback_after b s found).1 ≡ None
+callback_acts_none b (Claims transition) found = refl
+callback_acts_none b other found = refl
+
+-- the grace period of a callback that comes next is of all tasks, and has a task more to look at
+abbrev NextGraceFits : ℕ → Next Callback → Type 0
+NextGraceFits tasks next = HoldsOfNext (λ (x : Callback). GraceFits tasks x.step) next
+
+-- so it is after an event of the claim
+claim_grace : (b : Callback) (n : TransitionNext) → 0 < b.tasks → NextGraceFits b.tasks (claimed b n)
+claim_grace b (More transition) some = tt
+claim_grace b Undefined some = tt
+claim_grace b (Made state) some = (refl, some)
+
+-- after an event of its own transition
+call_grace : (b : Callback) (n : TransitionNext) → NextGraceFits b.tasks (called_back b n)
+call_grace b (More transition) = tt
+call_grace b other = tt
+
+-- where a task is passed
+passed_grace : (b : Callback) (g : Grace) → g.tasks ≡ b.tasks → NextGraceFits b.tasks (callback_looked b (passed_on g))
+passed_grace b g same =
+    elim (cases_Bool (nat_lt (g.task + 1) g.tasks)) [
+      | inl f ↦ rw f (same, omega (arith, same, ltb-true (g.task + 1) g.tasks f))
+      | inr f ↦ rw f tt
+    ]
+
+-- and after a load of a section word
+looked_grace : (b : Callback) (g : Grace) (found : ℕ) → g.tasks ≡ b.tasks → g.task < b.tasks →
+    NextGraceFits b.tasks (callback_looked b (looked g found))
+looked_grace b g found same more =
+    elim (cases_Bool ((found % 2 == 1) && is_first g.first found)) [
+      | inl f ↦ rw f (same, more)
+      | inr f ↦ rw f (passed_grace b g same)
+    ]
+
+-- so its grace period fits after each event of a callback
+grace_goes : (b : Callback) (s : CallbackStep) (found : ℕ) → 0 < b.tasks → GraceFits b.tasks s →
+    NextGraceFits b.tasks (callback_after b s found).0
+grace_goes b (Claims transition) found some f = claim_grace b (transition_after on_claim transition found) some
+grace_goes b (AwaitsSections grace) found some f = looked_grace b grace found f.0 f.1
+grace_goes b (CallsBack transition) found some f = call_grace b (transition_after on_callback transition found)
+
+-- a level at which each word that a callback reads has this value
+abbrev level_with : ℕ → CallbackStep → SyncLevel
+level_with found s = record {
+  sync = found;
+  block = 0;
+  full = 0;
+  section = λ x. found;
+  inside = λ x. 0;
+  at = λ x. callback_role s;
+}
+
+-- what comes next knows the words of its exchange, and is of as many tasks
+abbrev KnowsNext : Callback → Next Callback → Type 0
+KnowsNext b next = HoldsOfNext (λ (x : Callback). (x.tasks ≡ b.tasks) × KnowsCallback x.step) next
+
+-- so it is after an event that found this, whatever it is
+knows_there : (b : Callback) (found : ℕ) → 0 < b.tasks → KnowsCallback b.step →
+    KnowsNext b (callback_after b b.step (found_by (callback_next b b.step).1
+    (value_at (level_with found b.step) found (callback_next b b.step).0))).0
+knows_there b found some k = (callbacks_are_there 0 found (level_with found b.step) b some refl k).1
+
+-- and so at each step
+knows_next : (b : Callback) (s : CallbackStep) (found : ℕ) → 0 < b.tasks → KnowsCallback s → KnowsNext b (callback_after b s found).0
+knows_next b (Claims Loads) found some k = knows_there (at_callback b (Claims Loads)) found some k
+knows_next b (Claims (Exchanges from to)) found some k = knows_there (at_callback b (Claims (Exchanges from to))) found some k
+knows_next b (AwaitsSections grace) found some k = knows_there (at_callback b (AwaitsSections grace)) found some k
+knows_next b (CallsBack Loads) found some k = knows_there (at_callback b (CallsBack Loads)) found some k
+knows_next b (CallsBack (Exchanges from to)) found some k = knows_there (at_callback b (CallsBack (Exchanges from to))) found some k
+
+-- and it is at the same level
+abbrev AtLevelOf : Callback → Next Callback → Type 0
+AtLevelOf b next = HoldsOfNext (λ (x : Callback). x.level ≡ b.level) next
+
+-- after an event of the claim
+claim_level : (b : Callback) (n : TransitionNext) → AtLevelOf b (claimed b n)
+claim_level b (More transition) = refl
+claim_level b Undefined = tt
+claim_level b (Made state) = refl
+
+-- of its own transition
+call_level : (b : Callback) (n : TransitionNext) → AtLevelOf b (called_back b n)
+call_level b (More transition) = refl
+call_level b Undefined = refl
+call_level b (Made state) = tt
+
+-- and after a load of a section word
+looked_level : (b : Callback) (n : GraceNext) → AtLevelOf b (callback_looked b n)
+looked_level b (MoreSections grace) = refl
+looked_level b other = refl
+
+-- so after each event
+same_level : (b : Callback) (s : CallbackStep) (found : ℕ) → AtLevelOf b (callback_after b s found).0
+same_level b (Claims transition) found = claim_level b (transition_after on_claim transition found)
+same_level b (AwaitsSections grace) found = looked_level b (looked grace found)
+same_level b (CallsBack transition) found = call_level b (transition_after on_callback transition found)
+
+module _ (c : Config) (within : IsWithin c) (t : ℕ) (held : Holdings) (b : Callback) where
+  -- all this together says that what comes next fits
+  all_fit : 1 ≤ b.level → b.level ≤ 3 → b.tasks ≡ c.tasks → (n : Next Callback) → AtLevelOf b n → NextGraceFits b.tasks n →
+      KnowsNext b n → Fits c t held (phase_after (map_next Callbacks n))
+  all_fit l1 l3 same (Go x) l g k =
+      (omega (arith, l, l1), omega (arith, l, l3), k.0 ∙ same, subst (λ n. GraceFits n x.step) same g, k.1)
+  all_fit l1 l3 same (Wait x) l g k =
+      (omega (arith, l, l1), omega (arith, l, l3), k.0 ∙ same, subst (λ n. GraceFits n x.step) same g, k.1)
+  all_fit l1 l3 same (Done answer) l g k = tt
+
+  -- what comes after each event of a callback fits
+  pub callback_goes : (s : CallbackStep) (found : ℕ) → PhaseFits c t held (Callbacks (at_callback b s)) →
+      Fits c t held (phase_after (map_next Callbacks (callback_after b s found).0))
+  callback_goes s found f =
+      let some : 0 < b.tasks = omega (arith, f.2, within.some_task) in
+      all_fit f.0 f.1 f.2 (callback_after b s found).0 (same_level b s found)
+      (grace_goes b s found some (subst (λ n. GraceFits n s) (sym f.2) f.3)) (knows_next b s found some f.4)

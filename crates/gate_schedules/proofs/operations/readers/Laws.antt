@@ -1,0 +1,99 @@
+-- All that is proved of a start and of an end.
+use Rattle.gate_schedules.proofs.frames.{Frames.{count_none, sync_none}, Keeps.{IsSmall, OpKeeps, PhaseKeeps, by_bool}, Snapshots.completes_none}
+use Rattle.gate_schedules.proofs.operations.readers.{Causes.{asks_next, next_cause, read_not_closed, read_own, read_stays}, EndEvents.end_keeps}
+use Rattle.gate_schedules.proofs.operations.readers.Events.{read_keeps}
+use Rattle.gate_schedules.proofs.operations.readers.Fits.{both_true, level_there, none_from_agree, read_acts, read_fits, read_goes, read_step_agrees}
+use Rattle.gate_schedules.proofs.operations.readers.Fits.{read_there}
+use Rattle.gate_schedules.proofs.operations.readers.{Runs.{end_runs, read_runs}, Trace.{EndAt, StartAt, end_kept, start_kept}, Waits.{read_waits, start_waits}}
+use Rattle.gate_schedules.proofs.traces.Says.{is_short, is_short_well, tells, tells_well}
+use Rattle.gate_world.specs.{Alike.no_roles, Causes.asks_level, Fits.Fits, Holdings.held_after, Levels.sync_role_of, Operations.is_level_number}
+use Rattle.gate_world.specs.{Rules.Fitting, Traces.most_events, Views.held_of, Worlds.{World, after_step, found_at}, declared.config.Config.Config}
+use Rattle.gate_world.specs.declared.{operations.Op.TheVariants.{End, Start}, work.Phase.TheVariants.{DownReads, UpReads}}
+use Rattle.freeze_laws.specs.levels.Roles.{closed}
+use Rattle.percpu_rwsem.specs.{Readers.down_read_after, declared.readers.{DownRead.DownRead, UpRead.UpRead}}
+use Rattle.std.proofs.{Common.{Bool, ap, arith, refl, subst, sym, true, ℕ, ◌+◌, ◌-◌, ◌<◌, ◌∙◌, ◌≡◌, ◌≤◌}, lemmas.Bool.ltb-true}
+use Rattle.std.specs.Prelude.{Some, nat_lt, ◌&&◌}
+
+-- of each phase of a start
+pub read_phase : (c : Config) (r : DownRead) → PhaseKeeps c (DownReads r)
+read_phase c r = record {
+  step = λ within w good t lt hook e. read_keeps c within w good t lt hook r e;
+  runs = λ within w good t lt hook e i one three. read_runs c w good t lt hook r e i;
+  completes = λ within w good t lt hook e. completes_none c w t hook (DownReads r) (λ trace found. refl);
+  word = λ n le t lt held hook f. read_there (record c { tasks = n; nodes = 64 + (c.nodes - 64) }) t lt r r.step f.0 f.1 f.2 f.3;
+  acts = λ within t held found hook f. read_acts held r r.step found f.0 f.1;
+  goes = λ within t held found hook f.
+      read_fits c t r.level r.cpu (held_after (down_read_after r r.step found).1 held) (down_read_after r r.step found).0
+      (read_goes c t r f.0 f.1 f.2 f.3 held r.step found f.4);
+  agrees = λ t held seen same fits.
+      (fits.0, fits.1, fits.2, fits.3, read_step_agrees held.levels seen.levels same.levels r.level r.step fits.0 fits.1 fits.4);
+  stays = λ w next earlier good t f e was quiet h. read_stays c t w next earlier r.level r.step (ap asks_level e) h;
+  causes = λ w earlier good t lt hook e after is h.
+      let f : Fits c t (held_of (w.views t)) (Some (DownReads r)) =
+      subst (Fits c t (held_of (w.views t))) e (good Fitting t lt) in
+      let next : World = after_step w t (DownReads r) hook in
+      next_cause c t w next earlier (down_read_after r r.step (found_at w.words (DownReads r) hook)).0
+      (read_own c t w next earlier good r f.0 f.1 hook r.step (ap asks_level e)
+      (ap (λ p. closed (sync_role_of r.level p)) e ∙ read_not_closed r.level r.level r.step) h
+      (asks_next c t w next earlier (down_read_after r r.step (found_at w.words (DownReads r) hook)).0 is));
+  reasons = λ within w earlier good t lt hook e cause.
+      start_waits c w earlier t r (down_read_after r r.step (found_at w.words (DownReads r) hook)).0
+      (read_waits c w earlier t r r.step (found_at w.words (DownReads r) hook) cause);
+}
+
+-- of the one phase of an end
+pub end_phase : (c : Config) (u : UpRead) → PhaseKeeps c (UpReads u)
+end_phase c u = record {
+  step = λ within w good t lt hook e. end_keeps c within w good t lt hook u e;
+  runs = λ within w good t lt hook e i one three. end_runs c w t lt hook u e i;
+  completes = λ within w good t lt hook e. completes_none c w t hook (UpReads u) (λ trace found. refl);
+  word = λ n le t lt held hook f. (f.0, f.1, f.2);
+  acts = λ within t held found hook f. (f.0, f.1);
+  goes = λ within t held found hook f. tt;
+  agrees = λ t held seen same fits. (fits.0, fits.1, fits.2, sym (same.levels u.level fits.0 fits.1) ∙ fits.3);
+  stays = λ w next earlier good t f e was quiet h. tt;
+  causes = λ w earlier good t lt hook e after is h. tt;
+  reasons = λ within w earlier good t lt hook e cause. tt;
+}
+
+-- a level and a processor that are in range
+in_level : (c : Config) (i p : ℕ) → (is_level_number i && nat_lt p c.processors) ≡ true → (1 ≤ i) × (i ≤ 3) × (p < c.processors)
+in_level c i p there =
+    let at : (is_level_number i ≡ true) × (nat_lt p c.processors ≡ true) =
+    both_true (is_level_number i) (nat_lt p c.processors) there in
+    let l : (1 ≤ i) × (i ≤ 3) = level_there i at.0 in
+    (l.0, l.1, ltb-true p c.processors at.1)
+
+-- of the beginning and the trace of a start
+pub start_op : (c : Config) (i p : ℕ) (wait : Bool) → OpKeeps c (Start i p wait)
+start_op c i p wait = record {
+  fits = λ t held there order room.
+      let l : (1 ≤ i) × (i ≤ 3) × (p < c.processors) = in_level c i p there in
+      (l.0, l.1, l.2, refl, order);
+  starts_aside = λ t k. record no_roles { count = λ j. count_none j i k; sync = λ j. sync_none j i k };
+  cause = λ t w earlier. tt;
+  order_agrees = λ held seen same there. none_from_agree held.levels seen.levels same.levels i;
+  room_agrees = λ held seen same there. refl;
+  restores = λ refusal trace before order. refl;
+  file = λ t held order room. tt;
+  tells = λ within t trace h. tells_well (StartAt i p t wait) c t (Start i p wait) (start_kept c t i p wait) trace h;
+  short = λ within t trace h. is_short_well (StartAt i p t wait) c t (Start i p wait) (start_kept c t i p wait) trace h;
+  most_small = λ within. by_bool wait (λ b. IsSmall (most_events c (Start i p b))) tt (omega arith);
+}
+
+-- of those of an end
+pub end_op : (c : Config) (i p : ℕ) → OpKeeps c (End i p)
+end_op c i p = record {
+  fits = λ t held there order room.
+      let l : (1 ≤ i) × (i ≤ 3) × (p < c.processors) = in_level c i p there in
+      (l.0, l.1, l.2, order);
+  starts_aside = λ t. refl;
+  cause = λ t w earlier. tt;
+  order_agrees = λ held seen same there. same.levels i (in_level c i p there).0 (in_level c i p there).1;
+  room_agrees = λ held seen same there. refl;
+  restores = λ refusal trace before order. refl;
+  file = λ t held order room. tt;
+  tells = λ within t trace h. tells (EndAt i p) c t (End i p) (end_kept c t i p) trace h;
+  short = λ within t trace h. is_short (EndAt i p) c t (End i p) (end_kept c t i p) trace h;
+  most_small = λ within. omega arith;
+}

@@ -1,0 +1,153 @@
+-- A start whose level is open, or that doesn't wait, an end, and a write access whose level and mount are open run out.
+use Rattle.std.proofs.{Common.{◌≡◌, ℕ, ◌+◌, ◌≤◌, Bool, true, false, refl, ap, ◌∙◌, inl, inr, arith, true≢false}, lemmas.Bool.Decides.eqb_tells}
+use Rattle.std.specs.Prelude.{Option, Some, None, Ok, Err, is_some}
+use Rattle.finite_sums.proofs.Totals.{update_same}
+use Rattle.access_model.specs.declared.replies.Next.{Next, TheVariants.{Go, Wait, Done}}
+use Rattle.cpu_words.specs.{Touches.{left, found_by}, Words.{Words, read, put}}
+use Rattle.mount_counts.specs.{Phases.{has_flag, want_after}, declared.phases.Want.Want}
+use Rattle.percpu_rwsem.specs.{Readers.{down_read_next, down_read_after, step_in, step_found, left_blocked}, SyncWords.unpack}
+use Rattle.percpu_rwsem.specs.declared.readers.{DownRead.DownRead, DownReadStep.{DownReadStep, TheVariants.{EntersSection, LoadsSync, CountsUpFast}}}
+use Rattle.percpu_rwsem.specs.declared.readers.{DownReadStep.TheVariants.{CountsUpSlow, LoadsBlock, CountsDown, LeavesAdmitted, LeavesBlocked}, UpRead.UpRead}
+use Rattle.percpu_rwsem.specs.declared.sync_word.{GpState.{GpState, TheVariants.{Idle, Enter, Passed, Exit, Replay}}, SyncWord.SyncWord}
+use Rattle.compounds.specs.{write_access.Phases.{then_wants, then_gives_back, next as write_next, after as write_after}, declared.write_access.phases.WritePhase.WritePhase}
+use Rattle.compounds.specs.declared.write_access.phases.WritePhase.TheVariants.{Takes, Wants as WriteWants, GivesBack, Drops, Ends}
+use Rattle.gate_world.specs.{Courses.MayHold, Worlds.{words_after, found_at}, declared.{config.Config.Config, work.Phase.TheVariants.{DownReads, UpReads}}}
+use Rattle.gate_world.specs.declared.work.Phase.TheVariants.{Writes}
+use Rattle.gate_schedules.proofs.{frames.MayHolds.events_may_be, mounts.Progress.{want_flags, want_falls}, operations.deadlocks.Falls.falls_as}
+use Rattle.gate_schedules.specs.operations.{Progress.is_admitted, Ranks.{rank, want_rank, blocked_rank, read_rank, write_rank}, Ways.{IsFree, HoldIsClear, ReadIsFree}}
+use Rattle.gate_schedules.specs.operations.Ways.{WriteIsFree, Falls, PhaseEnds}
+
+-- the step after the load of a sync word
+in_rank : (wait : Bool) (s : GpState) → read_rank wait (step_in s) ≤ 3
+in_rank wait Idle = omega arith
+in_rank wait Enter = omega arith
+in_rank wait Passed = omega arith
+in_rank wait Exit = omega arith
+in_rank wait Replay = omega arith
+
+pub found_rank : (wait : Bool) (o : Option SyncWord) → is_some o ≡ true → read_rank wait (step_found o) ≤ 3
+found_rank wait None some = absurd cc
+found_rank wait (Some word) some = in_rank wait word.state
+
+-- one that doesn't wait ends once it was blocked
+blocked_small : (wait : Bool) → (wait ≡ true → ⊥) → blocked_rank wait ≡ 0
+blocked_small true h = absurd (h refl)
+blocked_small false h = refl
+
+module _ (w : Words) (r : DownRead) where
+  -- a down-read leaves each `block`
+  pub read_blocks : (s : DownReadStep) →
+      (put w (down_read_next r s).0 (left (down_read_next r s).1 (read w (down_read_next r s).0))).block ≡ w.block
+  read_blocks EntersSection = refl
+  read_blocks LoadsSync = refl
+  read_blocks CountsUpFast = refl
+  read_blocks CountsUpSlow = refl
+  read_blocks LoadsBlock = update_same w.block r.level
+  read_blocks CountsDown = refl
+  read_blocks LeavesAdmitted = refl
+  read_blocks LeavesBlocked = refl
+
+  pub read_block : (s : DownReadStep) →
+      (put w (down_read_next r s).0 (left (down_read_next r s).1 (read w (down_read_next r s).0))).block r.level ≡ w.block r.level
+  read_block s = ap (λ f. f r.level) (read_blocks s)
+
+  -- and all flags
+  pub read_flags : (s : DownReadStep) →
+      (put w (down_read_next r s).0 (left (down_read_next r s).1 (read w (down_read_next r s).0))).flags ≡ w.flags
+  read_flags EntersSection = refl
+  read_flags LoadsSync = refl
+  read_flags CountsUpFast = refl
+  read_flags CountsUpSlow = refl
+  read_flags LoadsBlock = refl
+  read_flags CountsDown = refl
+  read_flags LeavesAdmitted = refl
+  read_flags LeavesBlocked = refl
+
+  -- its end where it was blocked: one that waits begins again
+  left_falls : (after : Words) → (r.wait ≡ true → after.block r.level ≡ 0) → (b : Bool) → r.wait ≡ b →
+      Falls (λ (y : DownRead). read_rank y.wait y.step) (ReadIsFree after) (blocked_rank r.wait)
+      (left_blocked r b)
+  left_falls after stays true e = (omega (arith, ap blocked_rank e), λ q a. stays q)
+  left_falls after stays false e = tt
+
+  -- each event of a down-read, whose sync word is one
+  pub read_falls : (after : Words) → (s : DownReadStep) → MayHold (down_read_next r s).0 (read w (down_read_next r s).0) →
+      (r.wait ≡ true → is_admitted s ≡ false → after.block r.level ≡ 0) →
+      (r.wait ≡ true → is_admitted s ≡ false → w.block r.level ≡ 0) →
+      Falls (λ (y : DownRead). read_rank y.wait y.step) (ReadIsFree after) (read_rank r.wait s)
+      (down_read_after r s (found_by (down_read_next r s).1 (read w (down_read_next r s).0))).0
+  read_falls after EntersSection may stays free = (omega arith, λ e a. stays e refl)
+  read_falls after LoadsSync may stays free = (omega (arith, found_rank r.wait (unpack (w.sync r.level)) may), λ e a. stays e refl)
+  read_falls after CountsUpFast may stays free = (omega arith, λ e a. absurd (true≢false a))
+  read_falls after CountsUpSlow may stays free = (omega arith, λ e a. stays e refl)
+  read_falls after LoadsBlock may stays free =
+      elim (eqb_tells (w.block r.level) 0) [
+        | inl h ↦ rw h.0 (omega arith, λ e a. absurd (true≢false a))
+        | inr h ↦ rw h.0 (omega (arith, blocked_small r.wait (λ e. h.1 (free e refl))), λ e a. stays e refl)
+      ]
+  read_falls after CountsDown may stays free = (omega arith, λ e a. stays e refl)
+  read_falls after LeavesAdmitted may stays free = tt
+  read_falls after LeavesBlocked may stays free = left_falls after (λ e. stays e refl) r.wait refl
+
+-- of each phase of a start
+pub read_ends : (c : Config) (r : DownRead) → PhaseEnds c (DownReads r)
+read_ends c r = record {
+  falls = λ lim w good t lt hook at free.
+      let after : Words = words_after w.words (DownReads r) hook in
+      let stays : r.wait ≡ true → is_admitted r.step ≡ false → after.block r.level ≡ 0 = λ e a. read_block w.words r r.step ∙ free e a in
+      falls_as DownReads (rank after) (IsFree c after) (read_rank r.wait r.step)
+      (down_read_after r r.step (found_at w.words (DownReads r) hook)).0
+      (read_falls w.words r after r.step (events_may_be c lim w good t lt (DownReads r) hook at) stays free);
+}
+
+-- of the one phase of an end
+pub end_ends : (c : Config) (u : UpRead) → PhaseEnds c (UpReads u)
+end_ends c u = record { falls = λ lim w good t lt hook at free. tt }
+
+module _ (after : Words) (m p : ℕ) where
+  -- after an event at the level: inside it, the mount is wanted
+  takes_falls : (n : ℕ) (next : Next DownRead) → HoldIsClear after m →
+      Falls (λ (y : DownRead). read_rank y.wait y.step) (ReadIsFree after) n next →
+      Falls write_rank (WriteIsFree after) (n + 8) (then_wants m p next)
+  takes_falls n (Go r) clear h = (omega (arith, h.0), (h.1, clear))
+  takes_falls n (Wait r) clear h = (omega (arith, h.0), (h.1, clear))
+  takes_falls n (Done (Ok reply)) clear h = (omega arith, clear)
+  takes_falls n (Done (Err refusal)) clear h = tt
+
+  -- after an event at the mount: where it is refused, the level is left
+  gives_falls : (n : ℕ) (next : Next Want) →
+      Falls (λ (y : Want). want_rank y.step) (λ (y : Want). HoldIsClear after y.mount) n next →
+      Falls write_rank (WriteIsFree after) (n + 1) (then_gives_back m p next)
+  gives_falls n (Go x) h = (omega (arith, h.0), h.1)
+  gives_falls n (Wait x) h = (omega (arith, h.0), h.1)
+  gives_falls n (Done (Ok reply)) h = tt
+  gives_falls n (Done (Err refusal)) h = (omega arith, tt)
+
+-- each event of a write access
+write_falls : (w : Words) (x : WritePhase) → WriteIsFree w x → MayHold (write_next x).0 (read w (write_next x).0) →
+    let after : Words = put w (write_next x).0 (left (write_next x).1 (read w (write_next x).0)) in
+    Falls write_rank (WriteIsFree after) (write_rank x) (write_after x (found_by (write_next x).1 (read w (write_next x).0))).0
+write_falls w (Takes m r) free may =
+    let after : Words = put w (write_next (Takes m r)).0 (left (write_next (Takes m r)).1 (read w (write_next (Takes m r)).0)) in
+    takes_falls after m r.cpu (read_rank r.wait r.step)
+    (down_read_after r r.step (found_by (write_next (Takes m r)).1 (read w (write_next (Takes m r)).0))).0
+    (ap (λ f. has_flag (f m) 2) (read_flags w r r.step) ∙ free.1)
+    (read_falls w r after r.step may (λ e a. read_block w r r.step ∙ free.0 e a) free.0)
+write_falls w (WriteWants x) clear may =
+    let after : Words =
+    put w (write_next (WriteWants x)).0 (left (write_next (WriteWants x)).1 (read w (write_next (WriteWants x)).0)) in
+    gives_falls after x.mount x.cpu (want_rank x.step)
+    (want_after x x.step (found_by (write_next (WriteWants x)).1 (read w (write_next (WriteWants x)).0))).0
+    (want_falls w x after (ap (λ f. has_flag f 2) (want_flags w x x.step) ∙ clear) clear x.step)
+write_falls w (GivesBack m p refusal) free may = tt
+write_falls w (Drops m p) free may = (omega arith, tt)
+write_falls w (Ends p) free may = tt
+
+-- of each phase of a write access
+pub write_ends : (c : Config) (x : WritePhase) → PhaseEnds c (Writes x)
+write_ends c x = record {
+  falls = λ lim w good t lt hook at free.
+      let after : Words = words_after w.words (Writes x) hook in
+      falls_as Writes (rank after) (IsFree c after) (write_rank x) (write_after x (found_at w.words (Writes x) hook)).0
+      (write_falls w.words x free (events_may_be c lim w good t lt (Writes x) hook at));
+}

@@ -1,0 +1,168 @@
+-- Traces of a start and of an end. What is said of a down-read is said of it alone, so that an operation that goes through one as a part of
+-- its own has it too, after so many events of its own.
+use Rattle.std.proofs.{Common.{◌≡◌, ℕ, ◌≤◌, Bool, true, false, refl, sym, ap, subst, inl, inr, arith}, lemmas.Bool.{eq-eqb, cases_Bool}}
+use Rattle.std.specs.Prelude.{◌+◌, ◌==◌, Option, Some, None, Ok, Err, List, [], ◌∷◌, length, is_some}
+use Rattle.access_model.specs.{Replies.map_next, declared.actions.{Action.{Action, TheVariants.{Grant, Return}}, Gate.TheVariants.Level}}
+use Rattle.access_model.specs.declared.{errors.GateError.TheVariants.Again, replies.Next.{Next, TheVariants.{Go, Wait, Done}}}
+use Rattle.cpu_words.specs.{Hooks.HookAnswer, Touches.{event_of, found_by}}
+use Rattle.percpu_rwsem.specs.{Readers.{down_read_next, down_read_after, step_in, step_found}, SyncWords.unpack, declared.readers.DownRead.DownRead}
+use Rattle.percpu_rwsem.specs.declared.readers.DownReadStep.{DownReadStep, TheVariants.{EntersSection, LoadsSync, CountsUpFast, CountsUpSlow, LoadsBlock}}
+use Rattle.percpu_rwsem.specs.declared.{readers.DownReadStep.TheVariants.{CountsDown, LeavesAdmitted, LeavesBlocked}, sync_word.GpState.GpState}
+use Rattle.percpu_rwsem.specs.declared.sync_word.{GpState.TheVariants.{Idle, Enter, Passed, Exit, Replay}, SyncWord.SyncWord}
+use Rattle.gate_world.specs.{Courses.{MayHold, MayFind}, Found.{newest, finds_closed, backed_off, left_closed, found_closed}, Traces.{most_events, IsShort}}
+use Rattle.gate_world.specs.{Views.{with_hook, actions_after}, Work.next_of, declared.{config.Config.Config, operations.Op.TheVariants.{Start, End}}}
+use Rattle.gate_world.specs.declared.{views.Traced.Traced, work.Phase.{Phase, TheVariants.{DownReads, UpReads}}}
+use Rattle.gate_schedules.proofs.traces.Says.{Says, SaysAfter, Kept, KeptWell}
+
+-- a down-read of this level, processor, task and wait, at a step
+abbrev pub read_at : ℕ → ℕ → ℕ → Bool → DownReadStep → DownRead
+read_at i p t wait s = record { level = i; cpu = p; task = t; wait = wait; step = s }
+
+-- how many events a down-read that waits for nobody has done before a step, at most
+abbrev pub events_before : DownReadStep → ℕ
+events_before EntersSection = 0
+events_before LoadsSync = 1
+events_before CountsUpFast = 2
+events_before CountsUpSlow = 2
+events_before LoadsBlock = 3
+events_before CountsDown = 4
+events_before LeavesAdmitted = 4
+events_before LeavesBlocked = 5
+
+-- it has added its grant before it leaves its section with it, and nothing before any other step
+abbrev pub read_added : ℕ → DownReadStep → List Action
+read_added i LeavesAdmitted = Grant (Level i) ∷ []
+read_added i s = []
+
+-- one that takes its count back has just found the level closed, and one that leaves its section blocked has just taken it back
+abbrev pub HasFound : ℕ → DownReadStep → List Traced → Type 0
+HasFound i CountsDown trace = (newest (finds_closed i) trace ≡ true) × (found_closed i trace ≡ true)
+HasFound i LeavesBlocked trace = (backed_off i trace ≡ true) × (found_closed i trace ≡ true)
+HasFound i s trace = Unit {0}
+
+-- what the trace says at a step, where the down-read came after so many events
+abbrev pub ReadSays : ℕ → ℕ → Bool → DownReadStep → List Traced → List Action → Type 0
+ReadSays base i wait s trace added =
+    (added ≡ read_added i s) × (wait ≡ false → length trace ≤ base + events_before s) × HasFound i s trace
+
+-- What the trace says by what comes after an event of a down-read, whatever operation it stands in: the next step's, where it waits that it
+-- left the level closed, where it ends well its grant, and where it is refused that it found the level closed and doesn't wait.
+abbrev pub ReadNext : ℕ → ℕ → ℕ → ℕ → Bool → List Traced → List Action → Next DownRead → Type 0
+ReadNext base i p t wait trace added (Go r) = (s : DownReadStep) × (r ≡ read_at i p t wait s) × ReadSays base i wait s trace added
+ReadNext base i p t wait trace added (Wait r) =
+    ((s : DownReadStep) × (r ≡ read_at i p t wait s) × ReadSays base i wait s trace added) × (wait ≡ true) × (left_closed i trace ≡ true)
+ReadNext base i p t wait trace added (Done (Ok reply)) = (added ≡ Grant (Level i) ∷ []) × (wait ≡ false → length trace ≤ base + 5)
+ReadNext base i p t wait trace added (Done (Err Again)) =
+    (added ≡ []) × ((wait ≡ false) × (found_closed i trace ≡ true)) × (wait ≡ false → length trace ≤ base + 6)
+ReadNext base i p t wait trace added (Done (Err refusal)) = ⊥
+
+-- what holds of both additions holds of the one that a state leads to
+by_state : (P : DownReadStep → Type 0) → P CountsUpFast → P CountsUpSlow → (state : GpState) → P (step_in state)
+by_state P fast slow Idle = fast
+by_state P fast slow Enter = slow
+by_state P fast slow Passed = slow
+by_state P fast slow Exit = slow
+by_state P fast slow Replay = slow
+
+-- and of the one that a number which is a sync word leads to
+by_some : (P : DownReadStep → Type 0) → P CountsUpFast → P CountsUpSlow → (word : Option SyncWord) → is_some word ≡ true → P (step_found word)
+by_some P fast slow None some = absurd cc
+by_some P fast slow (Some word) some = by_state P fast slow word.state
+
+-- what holds of another load too holds of the step that any number leads to
+pub by_word : (P : DownReadStep → Type 0) → P LoadsSync → P CountsUpFast → P CountsUpSlow → (word : Option SyncWord) → P (step_found word)
+by_word P again fast slow None = again
+by_word P again fast slow (Some word) = by_state P fast slow word.state
+
+module _ (base i p t : ℕ) (value : ℕ) (hook : HookAnswer) (earlier : List Traced) (added : List Action) where
+  -- what the trace says after the event of a step
+  abbrev pub After : Bool → DownReadStep → Type 0
+  After wait s =
+      let r : DownRead = read_at i p t wait s in
+      let found : ℕ = found_by (down_read_next r s).1 value in
+      ReadNext base i p t wait (with_hook (event_of (down_read_next r s).0 (down_read_next r s).1 value) hook ∷ earlier)
+      (actions_after (down_read_after r s found).1 added) (down_read_after r s found).0
+
+  -- it left its section, blocked
+  blocked : (wait : Bool) → ReadSays base i wait LeavesBlocked earlier added → After wait LeavesBlocked
+  blocked true h = ((EntersSection, refl, (h.0, λ q. absurd (cc), tt)), refl, h.2.0)
+  blocked false h = (h.0, (refl, h.2.1), λ q. omega (arith, h.1 q))
+
+  -- each event of a down-read keeps what its trace says: its sync word is one, so it is loaded once
+  pub read_event : (wait : Bool) (s : DownReadStep) → MayHold (down_read_next (read_at i p t wait s) s).0 value →
+      ReadSays base i wait s earlier added → After wait s
+  read_event wait EntersSection may h = (LoadsSync, refl, (h.0, λ q. omega (arith, h.1 q), tt))
+  read_event wait LoadsSync may h =
+      by_some (λ s. ReadNext base i p t wait
+      (with_hook (event_of (down_read_next (read_at i p t wait LoadsSync) LoadsSync).0
+      (down_read_next (read_at i p t wait LoadsSync) LoadsSync).1 value) hook ∷ earlier)
+      added (Go (read_at i p t wait s)))
+      (CountsUpFast, refl, (h.0, λ q. omega (arith, h.1 q), tt)) (CountsUpSlow, refl, (h.0, λ q. omega (arith, h.1 q), tt)) (unpack value)
+      may
+  read_event wait CountsUpFast may h = (LeavesAdmitted, refl, (ap (λ l. Grant (Level i) ∷ l) h.0, λ q. omega (arith, h.1 q), tt))
+  read_event wait CountsUpSlow may h = (LoadsBlock, refl, (h.0, λ q. omega (arith, h.1 q), tt))
+  read_event wait LoadsBlock may h =
+      elim (cases_Bool (value == 0)) [
+        | inl f ↦ rw f (LeavesAdmitted, refl, (ap (λ l. Grant (Level i) ∷ l) h.0, λ q. omega (arith, h.1 q), tt))
+        | inr f ↦ rw f (CountsDown, refl, (h.0, λ q. omega (arith, h.1 q), (rw (eq-eqb i i refl, f) refl, rw (eq-eqb i i refl, f) refl)))
+      ]
+  read_event wait CountsDown may h = (LeavesBlocked, refl, (h.0, λ q. omega (arith, h.1 q), (rw (eq-eqb i i refl) h.2.0, h.2.1)))
+  read_event wait LeavesAdmitted may h = (h.0, λ q. omega (arith, h.1 q))
+  read_event wait LeavesBlocked may h = blocked wait h
+
+-- what a start's trace says at a phase
+abbrev pub StartAt : ℕ → ℕ → ℕ → Bool → List Traced → Phase → List Action → Type 0
+StartAt i p t wait trace phase added = (s : DownReadStep) × (phase ≡ DownReads (read_at i p t wait s)) × ReadSays 0 i wait s trace added
+
+-- a short trace of a start
+start_short : (c : Config) (i p : ℕ) (wait : Bool) (trace : List Traced) → (wait ≡ false → length trace ≤ 6) →
+    IsShort (most_events c (Start i p wait)) trace
+start_short c i p true trace h = tt
+start_short c i p false trace h = h refl
+
+-- a step comes after at most six events
+within_six : (s : DownReadStep) (n : ℕ) → n ≤ 0 + events_before s → n ≤ 6
+within_six EntersSection n h = omega arith
+within_six s n h = omega arith
+
+-- what is said of a down-read is said of a start, by what comes next
+start_says : (c : Config) (i p t : ℕ) (wait : Bool) (e : Traced) (earlier : List Traced) (added : List Action) (n : Next DownRead) →
+    ReadNext 0 i p t wait (e ∷ earlier) added n →
+    Says (StartAt i p t wait) c (Start i p wait) (e ∷ earlier) (map_next DownReads n) added
+start_says c i p t wait e earlier added (Go r) h = (h.0, ap DownReads h.1, h.2)
+start_says c i p t wait e earlier added (Wait r) h = ((h.0.0, ap DownReads h.0.1, h.0.2), (h.1, h.2))
+start_says c i p t wait e earlier added (Done (Ok reply)) h =
+    ((h.0, tt), start_short c i p wait (e ∷ earlier) (λ q. omega (arith, h.1 q)))
+start_says c i p t wait e earlier added (Done (Err Again)) h = ((h.0, h.1), start_short c i p wait (e ∷ earlier) h.2)
+start_says c i p t wait e earlier added (Done (Err refusal)) h = absurd h
+
+-- so it is kept along every trace of a start
+pub start_kept : (c : Config) (t i p : ℕ) (wait : Bool) → KeptWell (StartAt i p t wait) c t (Start i p wait)
+start_kept c t i p wait = record {
+  first = (EntersSection, refl, (refl, λ q. omega arith, tt));
+  more = λ phase value hook earlier added may here.
+      subst (λ (x : Phase). MayFind x (next_of x hook).0 value → SaysAfter (StartAt i p t wait) c (Start i p wait) x value hook earlier added)
+      (sym here.1)
+      (λ holds.
+      let r : DownRead = read_at i p t wait here.0 in
+      let found : ℕ = found_by (down_read_next r here.0).1 value in
+      start_says c i p t wait (with_hook (event_of (down_read_next r here.0).0 (down_read_next r here.0).1 value) hook) earlier
+      (actions_after (down_read_after r here.0 found).1 added) (down_read_after r here.0 found).0
+      (read_event 0 i p t value hook earlier added wait here.0 holds here.2))
+      may;
+  short = λ trace phase added here. start_short c i p wait trace (λ q. within_six here.0 (length trace) (here.2.1 q));
+}
+
+-- what an end's trace says at a phase
+abbrev pub EndAt : ℕ → ℕ → List Traced → Phase → List Action → Type 0
+EndAt i p trace phase added = (phase ≡ UpReads (record { level = i; cpu = p })) × (trace ≡ []) × (added ≡ [])
+
+-- its one event is its last
+pub end_kept : (c : Config) (t i p : ℕ) → Kept (EndAt i p) c t (End i p)
+end_kept c t i p = record {
+  first = (refl, refl, refl);
+  more = λ phase value hook earlier added here.
+      subst (λ (x : Phase). SaysAfter (EndAt i p) c (End i p) x value hook earlier added) (sym here.0)
+      ((ap (λ (l : List Action). Return (Level i) ∷ l) here.2, tt), omega (arith, ap length here.1));
+  short = λ trace phase added here. omega (arith, ap length here.1);
+}

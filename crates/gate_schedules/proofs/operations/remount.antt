@@ -1,0 +1,11 @@
+pub mod Roles
+pub mod Fits
+pub mod Parts
+pub mod Loop
+pub mod Events
+pub mod Trace
+pub mod Causes
+pub mod Waits
+pub mod Runs
+pub mod Progress
+pub mod Laws

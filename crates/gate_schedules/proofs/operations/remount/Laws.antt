@@ -1,0 +1,41 @@
+-- All that is proved of a remount.
+use Rattle.gate_schedules.proofs.frames.{Agreeing.none_agree, Keeps.{OpKeeps, PhaseKeeps, word_among}, Snapshots.completes_none}
+use Rattle.gate_schedules.proofs.operations.remount.{Causes.{remount_own, remount_stays}, Events.remount_keeps}
+use Rattle.gate_schedules.proofs.operations.remount.{Fits.{remount_acts, remount_goes, remount_there}, Runs.remount_runs}
+use Rattle.gate_schedules.proofs.{operations.remount.{Trace.{RemountAt, remount_kept, remount_restores}, Waits.remount_waits}, traces.Says.{is_short, tells}}
+use Rattle.gate_world.specs.{Fits.Fits, Rules.Fitting, Views.held_of, Worlds.after_step, declared.{config.Config.Config, operations.Op.Op, work.Phase.Phase}}
+use Rattle.mount_counts.specs.declared.remounts.Remount.{Remount}
+use Rattle.std.proofs.Common.{Bool, refl, subst}
+use Rattle.std.specs.Prelude.{Some}
+
+pub remount_phase : (c : Config) (x : Remount) → PhaseKeeps c (Phase.Remounts x)
+remount_phase c x = record {
+  step = λ lim w good t lt hook e. remount_keeps c lim w good t lt hook x e;
+  runs = λ lim w good t lt hook e i l1 l3. remount_runs c w good t lt hook x e i;
+  completes = λ lim w good t lt hook e. completes_none c w t hook (Phase.Remounts x) (λ trace found. refl);
+  word = λ n le t lt held hook f. word_among c n le _ (remount_there c x x.step hook f.5);
+  acts = λ lim t held found hook f. remount_acts c lim t held x x.step found hook;
+  goes = λ lim t held found hook f. remount_goes c lim t held x x.step found hook f;
+  agrees = λ t held seen same fits.
+      (fits.0, fits.1, fits.2, fits.3, rw (← none_agree held.levels seen.levels same.levels) fits.4, fits.5);
+  stays = λ w next earlier after t f e was quiet h. remount_stays c t w next earlier after x x.step f.5 e was quiet.mounts h;
+  causes = λ w earlier good t lt hook e after is h.
+      let f : Fits c t (held_of (w.views t)) (Some (Phase.Remounts x)) =
+      subst (Fits c t (held_of (w.views t))) e (good Fitting t lt) in
+      remount_own c t w (after_step w t (Phase.Remounts x) hook) earlier after x hook x.step f.1 f.5 e refl h is;
+  reasons = λ lim w earlier good t lt hook e cause. remount_waits c w earlier good t lt x hook x.step e cause;
+}
+
+pub remount_op : (c : Config) (ro : Bool) → OpKeeps c (Op.RemountSb ro)
+remount_op c ro = record {
+  fits = λ t held there order room. (refl, refl, refl, refl, order, tt);
+  starts_aside = λ t. refl;
+  cause = λ t w earlier. tt;
+  order_agrees = λ held seen same there. none_agree held.levels seen.levels same.levels;
+  room_agrees = λ held seen same there. refl;
+  restores = λ refusal trace before order. remount_restores ro refusal trace before;
+  file = λ t held order room. tt;
+  tells = λ lim t trace h. tells (RemountAt c t ro) c t (Op.RemountSb ro) (remount_kept c lim t ro) trace h;
+  short = λ lim t trace h. is_short (RemountAt c t ro) c t (Op.RemountSb ro) (remount_kept c lim t ro) trace h;
+  most_small = λ lim. tt;
+}

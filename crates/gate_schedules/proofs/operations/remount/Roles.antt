@@ -1,0 +1,108 @@
+-- The roles of a remount at each mount.
+use Rattle.std.proofs.Common.{Bool, ℕ, nat_lt, ◌≡◌, ◌+◌, false, ◌<◌, ◌==◌, true, arith, inl, eq-eqb, ne_eqb, if◌then◌else◌, ◌∙◌, inr, sym, ltb-true, ap}
+use Rattle.std.proofs.Common.{ltb-false, refl}
+use Rattle.std.proofs.lemmas.Bool.{cases_Bool, Decides.{eqb_tells, nat_tests}}
+use Rattle.cpu_words.specs.declared.sums.Sum.{Sum}
+use Rattle.mount_counts.specs.{Remounts.{let_go, leave_holds, give_up, past_node, past_mount}, Roles.{Out, Summing, Role}, Sets.has_mount}
+use Rattle.mount_counts.specs.declared.{remounts.RemountStep.RemountStep, sets.MountSet.MountSet}
+use Rattle.mount_counts.proofs.laws.{MountLaws.SeeksNone, Sets.none_held}
+use Rattle.gate_world.specs.Remounts.{giving_role, remount_role, loop_role, held_role, summing_role}
+use Rattle.gate_schedules.proofs.frames.Keeps.{by_bool}
+use mathlib.Core.Bool.{true}
+
+loop_seeks : (a b : Bool) → SeeksNone (loop_role a b)
+loop_seeks true b = (refl, refl)
+loop_seeks false true = (refl, refl)
+loop_seeks false false = (refl, refl)
+
+held_seeks : (a : Bool) → SeeksNone (held_role a)
+held_seeks true = (refl, refl)
+held_seeks false = (refl, refl)
+
+summing_seeks : (a : Bool) (sum : Sum) (r : Role) → SeeksNone r → SeeksNone (summing_role a sum r)
+summing_seeks true sum r h = (refl, refl)
+summing_seeks false sum r h = h
+
+giving_seeks : (a b : Bool) → SeeksNone (giving_role a b)
+giving_seeks true true = (refl, refl)
+giving_seeks false true = (refl, refl)
+giving_seeks true false = (refl, refl)
+giving_seeks false false = (refl, refl)
+
+pub remount_seeks : (m : ℕ) (s : RemountStep) → SeeksNone (remount_role m s)
+remount_seeks m (RemountStep.LoadsFlags at held) = loop_seeks (has_mount held m) (nat_lt m at)
+remount_seeks m (RemountStep.SetsHold at held) = loop_seeks (has_mount held m) (nat_lt m at)
+remount_seeks m (RemountStep.Sums at held sum) =
+    summing_seeks (m == at) sum (loop_role (has_mount held m) (nat_lt m at)) (loop_seeks (has_mount held m) (nat_lt m at))
+remount_seeks m (RemountStep.LoadsRemovedAgain held) = loop_seeks (has_mount held m) true
+remount_seeks m (RemountStep.LeavesHolds held) = held_seeks (has_mount held m)
+remount_seeks m (RemountStep.SetsRemount held) = loop_seeks (has_mount held m) true
+remount_seeks m (RemountStep.ClearsHold held) = held_seeks (has_mount held m)
+remount_seeks m (RemountStep.GivesUp at held) = giving_seeks (m == at) (has_mount held m)
+remount_seeks m s = (refl, refl)
+
+pub passed_here : (m : ℕ) → nat_lt m (m + 1) ≡ true
+passed_here m = grind (arith, nat_tests)
+
+pub not_passed : (m : ℕ) → nat_lt m m ≡ false
+not_passed m = grind (arith, nat_tests)
+
+pub passed_there : (m n : ℕ) → (n ≡ m → ⊥) → nat_lt n (m + 1) ≡ nat_lt n m
+passed_there m n ne =
+    elim (cases_Bool (nat_lt n m)) [
+      | inl h ↦ elim (cases_Bool (nat_lt n (m + 1))) [
+        | inl k ↦ k ∙ sym h
+        | inr k ↦ absurd (omega (arith, ltb-true n m h, ltb-false n (m + 1) k))
+      ]
+      | inr h ↦ elim (cases_Bool (nat_lt n (m + 1))) [
+        | inl k ↦ absurd (ne (omega (arith, ltb-true n (m + 1) k, ltb-false n m h)))
+        | inr k ↦ k ∙ sym h
+      ]
+    ]
+
+-- the loop goes on, or has passed each mount
+pub past_mount_role : (mounts at : ℕ) (held : MountSet) (m : ℕ) → m < mounts →
+    remount_role m (past_mount mounts at held) ≡ loop_role (has_mount held m) (nat_lt m (at + 1))
+past_mount_role mounts at held m lm =
+    elim (cases_Bool (nat_lt (at + 1) mounts)) [
+      | inl z ↦ rw z refl
+      | inr z ↦ rw z (ap (loop_role (has_mount held m)) (elim (cases_Bool (nat_lt m (at + 1))) [
+        | inl k ↦ sym k
+        | inr k ↦ absurd (omega (arith, ltb-false (at + 1) mounts z, ltb-false m (at + 1) k, lm))
+      ]))
+    ]
+
+pub let_go_role : (m : ℕ) (held : MountSet) → remount_role m (let_go held) ≡ held_role (has_mount held m)
+let_go_role m held =
+    elim (eqb_tells held.bits 0) [
+      | inl z ↦ rw z.0 (sym (ap held_role (none_held held z.1 m)))
+      | inr z ↦ rw z.0 refl
+    ]
+
+pub leave_holds_role : (m : ℕ) (held : MountSet) → remount_role m (leave_holds held) ≡ held_role (has_mount held m)
+leave_holds_role m held =
+    elim (eqb_tells held.bits 0) [
+      | inl z ↦ rw z.0 (sym (ap held_role (none_held held z.1 m)))
+      | inr z ↦ rw z.0 refl
+    ]
+
+pub no_giving : (a : Bool) → giving_role a false ≡ Out
+no_giving true = refl
+no_giving false = refl
+
+pub give_up_role : (m at : ℕ) (held : MountSet) → remount_role m (give_up at held) ≡ giving_role (m == at) (has_mount held m)
+give_up_role m at held =
+    elim (eqb_tells held.bits 0) [
+      | inl z ↦ rw z.0 (sym (ap (giving_role (m == at)) (none_held held z.1 m) ∙ no_giving (m == at)))
+      | inr z ↦ rw z.0 refl
+    ]
+
+pub summing_here : (m : ℕ) (sum : Sum) (r : Role) → summing_role (m == m) sum r ≡ Summing sum.words sum.total
+summing_here m sum r = rw (eq-eqb m m refl) refl
+
+pub summing_there : (m n : ℕ) (sum : Sum) (r : Role) → (n ≡ m → ⊥) → summing_role (n == m) sum r ≡ r
+summing_there m n sum r ne = rw (ne_eqb n m ne) refl
+
+pub past_node_role : (nodes n m : ℕ) → remount_role m (past_node nodes n) ≡ Out
+past_node_role nodes n m =
+    by_bool (nat_lt (n + 1) nodes) (λ b. remount_role m (if b then RemountStep.ClearsMark (n + 1) else RemountStep.SetsReadOnly) ≡ Out) refl refl

@@ -1,0 +1,36 @@
+-- What the events of a remount make of each freeze level: they leave it.
+use Rattle.std.{proofs.Common.{◌≡◌, ℕ, ◌<◌, refl}, specs.Prelude.{Some, Ok, Err}}
+use Rattle.access_model.specs.{Replies.map_next, declared.replies.Next.Next}
+use Rattle.cpu_words.specs.{Hooks.HookAnswer, Words.Words}
+use Rattle.mount_counts.specs.{Remounts.{at_remount, remount_after}, declared.remounts.{Remount.Remount, RemountStep.RemountStep}}
+use Rattle.freeze_laws.specs.levels.{Events.SyncStep, Roles.Out as IsApart}
+use Rattle.freeze_laws.specs.stages.Roles.{KnowsStage}
+use Rattle.gate_world.specs.{LevelRuns.level_in, Levels.{inside, sync_role_of}, Roles.remount_stage_role, Rules.{IsGood, SameWords, SyncAt}}
+use Rattle.gate_world.specs.{Views.phase_after, Worlds.{World, after_step, found_at, words_after}, declared.{config.Config.Config, work.Phase.Phase}}
+use Rattle.gate_schedules.proofs.{mounts.Runs.apart_run, operations.remount.{Events.not_frozen, Parts.here_knows}}
+
+-- no event of a remount changes what a level reads of the words: the superblock's flags are stored at stage 0, where nothing is frozen
+remount_words : (w : Words) (x : Remount) (hook : HookAnswer) (s : RemountStep) → KnowsStage w.stage w.sb (remount_stage_role x.nodes s) →
+    (i : ℕ) → SameWords w (words_after w (Phase.Remounts (at_remount x s)) hook) (SyncAt i)
+remount_words w x (Ok answer) RemountStep.SetsWritable k i = (refl, refl, refl, not_frozen w w.remount 0 k.0)
+remount_words w x (Err code) RemountStep.SetsWritable k i = (refl, refl, refl, refl)
+remount_words w x (Ok answer) RemountStep.SetsReadOnly k i = (refl, refl, refl, not_frozen w w.remount 1 k.0)
+remount_words w x (Err code) RemountStep.SetsReadOnly k i = (refl, refl, refl, refl)
+remount_words w x hook s k i = (refl, refl, refl, refl)
+
+remount_outside : (next : Next Remount) → inside (phase_after (map_next Phase.Remounts next)) ≡ 0
+remount_outside (Next.Go x) = refl
+remount_outside other = refl
+
+remount_apart : (i : ℕ) (next : Next Remount) → sync_role_of i (phase_after (map_next Phase.Remounts next)) ≡ IsApart
+remount_apart i (Next.Go x) = refl
+remount_apart i other = refl
+
+-- each event of a remount is one at which each level stays
+pub remount_runs : (c : Config) (w : World) → IsGood c w → (t : ℕ) → t < c.tasks → (hook : HookAnswer) (x : Remount) →
+    (w.views t).phase ≡ Some (Phase.Remounts x) → (i : ℕ) → SyncStep c.tasks (level_in w i) (level_in (after_step w t (Phase.Remounts x) hook) i)
+remount_runs c w good t lt hook x e i =
+    apart_run c.tasks w t lt hook (Phase.Remounts x) e i
+    (remount_words w.words x hook x.step (here_knows c w good t lt x x.step e) i) refl refl
+    (remount_outside (remount_after x x.step (found_at w.words (Phase.Remounts x) hook) hook).0)
+    (remount_apart i (remount_after x x.step (found_at w.words (Phase.Remounts x) hook) hook).0)

@@ -1,0 +1,339 @@
+-- Traces of a remount of the superblock.
+use Rattle.std.proofs.Common.{◌≡◌, ℕ, suc, ◌+◌, ◌<◌, ◌≤◌, Bool, true, false, refl, sym, ap, ◌∙◌, subst, inl, inr, add-one, arith}
+use Rattle.std.proofs.lemmas.{Bool.{eq-eqb, ne_eqb, ltb-true, ltb-false, cases_Bool, Decides.eqb_tells}, List.Sums.sum_by-cons}
+use Rattle.std.specs.Prelude.{◌==◌, ◌||◌, not, nat_lt, if◌then◌else◌, Result, Ok, Err, List, [], ◌∷◌, ◌++◌}
+use Rattle.access_model.specs.declared.{actions.Action.Action, errors.GateError.GateError, replies.Reply.Reply}
+use Rattle.cpu_words.specs.{Hooks.HookAnswer, Touches.{wrap_add, event_of}, declared.{events.Touch.Touch, names.WordName.WordName, sums.Sum.Sum}}
+use Rattle.mount_counts.specs.{Phases.has_flag, Remounts.{remount_from, past_mount, let_go, leave_holds, give_up, past_node}}
+use Rattle.mount_counts.specs.{Sets.{no_mounts, with_mount, without_lowest}, declared.{remounts.RemountStep.RemountStep, sets.MountSet.MountSet}}
+use Rattle.gate_world.specs.{Configs.IsWithin, Found.{found_sealed, counts_loaded, sum_loaded, IsEachCount, each_event, finds_taken, cleans}}
+use Rattle.gate_world.specs.{Traces.{actions_of, IsHonestAnswer}, Views.with_hook}
+use Rattle.gate_world.specs.declared.{config.Config.Config, operations.Op.Op, views.Traced.Traced, work.Phase.Phase}
+use Rattle.gate_schedules.proofs.{frames.Keeps.by_bool, traces.{Cleans.{cleans_leave, LeaveAccesses}, Says.{SaysAfter, Kept, event_at}}}
+
+-- a remount of the superblock by a task, at this step
+abbrev remount : Config → ℕ → Bool → RemountStep → Phase
+remount c t ro step = Phase.Remounts (record {
+  read_only = ro;
+  task = t;
+  processors = c.processors;
+  mounts = c.mounts;
+  nodes = c.nodes;
+  step = step;
+})
+
+-- nothing is found yet, loaded, cleaned or added
+abbrev FoundNothing : List Traced → List Action → Type 0
+FoundNothing trace added = (added ≡ []) × (found_sealed trace ≡ false) × (cleans trace ≡ []) × ((m : ℕ) → counts_loaded m trace ≡ [])
+
+-- on its way to read-only, with nothing cleaned or added
+abbrev IsOnItsWay : Bool → List Traced → List Action → Type 0
+IsOnItsWay ro trace added = (added ≡ []) × (ro ≡ true) × (found_sealed trace ≡ false) × (cleans trace ≡ [])
+
+-- `remount` was set, on the way to read-only: what is added since are the marks cleared
+abbrev HasSealed : Bool → List Traced → List Action → Type 0
+HasSealed ro trace added = (added ≡ cleans trace ++ (Action.SbRo ∷ [])) × (ro ≡ true) × (found_sealed trace ≡ false)
+
+-- no counts are loaded of a mount from this one on
+abbrev NoneLoaded : ℕ → List Traced → Type 0
+NoneLoaded m trace = (n : ℕ) → m ≤ n → counts_loaded n trace ≡ []
+
+-- the counts loaded are those that the sum has
+abbrev IsSumOf : Config → ℕ → Sum → List Traced → Type 0
+IsSumOf c m sum trace = (sum.words < c.processors) × IsEachCount sum.words (counts_loaded m trace) ×
+    (sum.total ≡ sum_loaded (counts_loaded m trace))
+
+-- what is answered is told already
+abbrev Answers : Config → Bool → Result Reply GateError → List Traced → List Action → Type 0
+Answers c ro answer trace added = (added ≡ actions_of (Op.RemountSb ro) answer trace) × IsHonestAnswer c (Op.RemountSb ro) answer trace
+
+-- what a trace says at a step: what was found, loaded, cleaned and added
+abbrev StepSays : Config → Bool → RemountStep → List Traced → List Action → Type 0
+StepSays c ro RemountStep.Locks trace added = (each_event finds_taken trace ≡ true) × FoundNothing trace added
+StepSays c ro RemountStep.LoadsStage trace added = FoundNothing trace added
+StepSays c ro RemountStep.LoadsSuperblock trace added = FoundNothing trace added
+StepSays c ro RemountStep.SetsWritable trace added = (added ≡ []) × (ro ≡ false) × (found_sealed trace ≡ true)
+StepSays c ro RemountStep.LoadsRemoved trace added = IsOnItsWay ro trace added × ((m : ℕ) → counts_loaded m trace ≡ [])
+StepSays c ro (RemountStep.LoadsFlags m held) trace added = IsOnItsWay ro trace added × (m < c.mounts) × NoneLoaded m trace
+StepSays c ro (RemountStep.SetsHold m held) trace added = IsOnItsWay ro trace added × (m < c.mounts) × NoneLoaded m trace
+StepSays c ro (RemountStep.Sums m held sum) trace added = IsOnItsWay ro trace added × (m < c.mounts) × NoneLoaded (m + 1) trace × IsSumOf c m sum trace
+StepSays c ro (RemountStep.LoadsRemovedAgain held) trace added = IsOnItsWay ro trace added
+StepSays c ro (RemountStep.LeavesHolds held) trace added = Answers c ro (Err GateError.Busy) trace added
+StepSays c ro (RemountStep.SetsRemount held) trace added = IsOnItsWay ro trace added
+StepSays c ro (RemountStep.GivesUp m held) trace added = Answers c ro (Err GateError.Busy) trace added
+StepSays c ro (RemountStep.Releases answer) trace added = Answers c ro answer trace added
+StepSays c ro other trace added = HasSealed ro trace added
+
+-- what a remount's trace says at a phase
+abbrev pub RemountAt : Config → ℕ → Bool → List Traced → Phase → List Action → Type 0
+RemountAt c t ro trace phase added = (step : RemountStep) × (phase ≡ remount c t ro step) × StepSays c ro step trace added
+
+pub or_false : (b : Bool) → (b || false) ≡ b
+or_false true = refl
+or_false false = refl
+
+busy_adds : (ro : Bool) (trace : List Traced) → actions_of (Op.RemountSb ro) (Err GateError.Busy) trace ≡ []
+busy_adds true trace = refl
+busy_adds false trace = refl
+
+pub sum_more : (k value s : ℕ) (loads : List (ℕ × ℕ)) → s ≡ sum_loaded loads → wrap_add s value ≡ sum_loaded ((k, value) ∷ loads)
+sum_more k value s loads h = omega (arith, h, sum_by-cons (λ (x : ℕ × ℕ). x.1) (k, value) loads)
+
+-- an event that gives `umount` back leaves what is told
+lock_leaves : (c : Config) (ro : Bool) (answer : Result Reply GateError) (value : ℕ) (hook : HookAnswer) (earlier : List Traced)
+    (added : List Action) → Answers c ro answer earlier added →
+    Answers c ro answer (with_hook (event_of WordName.Umount (Touch.Store 0) value) hook ∷ earlier) added
+lock_leaves c true (Err (GateError.Hook code)) value hook earlier added h = (h.0, inr h.1)
+lock_leaves c false (Err (GateError.Hook code)) value hook earlier added h = (h.0, inr h.1)
+lock_leaves c true answer value hook earlier added h = h
+lock_leaves c false answer value hook earlier added h = h
+
+-- the state was found, as it was asked for or not
+state_found : (c : Config) (ro b : Bool) (trace : List Traced) (added : List Action) → added ≡ [] → found_sealed trace ≡ b →
+    cleans trace ≡ [] → ((m : ℕ) → counts_loaded m trace ≡ []) → StepSays c ro (remount_from ro b) trace added
+state_found c true true trace added none e clean loads = (rw e none, tt)
+state_found c true false trace added none e clean loads = ((none, refl, e, clean), loads)
+state_found c false true trace added none e clean loads = (none, refl, e)
+state_found c false false trace added none e clean loads = (rw e none, tt)
+
+-- the loop goes on, or is done
+past_says : (c : Config) (ro : Bool) (m : ℕ) (held : MountSet) (trace : List Traced) (added : List Action) → IsOnItsWay ro trace added →
+    NoneLoaded (m + 1) trace → StepSays c ro (past_mount c.mounts m held) trace added
+past_says c ro m held trace added h none =
+    elim (cases_Bool (nat_lt (m + 1) c.mounts)) [
+      | inl z ↦ rw z (h, ltb-true (m + 1) c.mounts z, none)
+      | inr z ↦ rw z h
+    ]
+
+-- with `remount` set, HOLD is still to be cleared, or no more
+let_go_says : (c : Config) (ro : Bool) (held : MountSet) (trace : List Traced) (added : List Action) → HasSealed ro trace added →
+    StepSays c ro (let_go held) trace added
+let_go_says c ro held trace added h =
+    by_bool (held.bits == 0) (λ b. StepSays c ro (if b then RemountStep.ClearsMark 1 else RemountStep.ClearsHold held) trace added) h h
+
+-- the same where a sum was not 0
+give_up_says : (c : Config) (ro : Bool) (m : ℕ) (held : MountSet) (trace : List Traced) (added : List Action) →
+    Answers c ro (Err GateError.Busy) trace added → StepSays c ro (give_up m held) trace added
+give_up_says c ro m held trace added h =
+    by_bool (held.bits == 0) (λ b. StepSays c ro (if b then RemountStep.Releases (Err GateError.Busy) else RemountStep.GivesUp m held) trace added) h h
+
+-- the same where a file was found removed
+leave_holds_says : (c : Config) (ro : Bool) (held : MountSet) (trace : List Traced) (added : List Action) →
+    Answers c ro (Err GateError.Busy) trace added → StepSays c ro (leave_holds held) trace added
+leave_holds_says c ro held trace added h =
+    by_bool (held.bits == 0) (λ b. StepSays c ro (if b then RemountStep.Releases (Err GateError.Busy) else RemountStep.LeavesHolds held) trace added) h h
+
+-- a mark is still to be cleared, or no more
+past_node_says : (c : Config) (ro : Bool) (n : ℕ) (trace : List Traced) (added : List Action) → HasSealed ro trace added →
+    StepSays c ro (past_node c.nodes n) trace added
+past_node_says c ro n trace added h =
+    by_bool (nat_lt (n + 1) c.nodes) (λ b. StepSays c ro (if b then RemountStep.ClearsMark (n + 1) else RemountStep.SetsReadOnly) trace added) h h
+
+module _ (c : Config) (lim : IsWithin c) (t : ℕ) (ro : Bool) (value : ℕ) (earlier : List Traced) (added : List Action) where
+  -- the trace after the event of a step
+  abbrev longer : HookAnswer → RemountStep → List Traced
+  longer hook step = with_hook (event_at (remount c t ro step) value hook) hook ∷ earlier
+
+  -- what the trace says after the event of a step
+  abbrev After : HookAnswer → RemountStep → Type 0
+  After hook step = SaysAfter (RemountAt c t ro) c (Op.RemountSb ro) (remount c t ro step) value hook earlier added
+
+  locks : (hook : HookAnswer) → StepSays c ro RemountStep.Locks earlier added → After hook RemountStep.Locks
+  locks hook h =
+      elim (cases_Bool (value == 0)) [
+        | inl f ↦ rw f (RemountStep.LoadsStage, refl, h.1)
+        | inr f ↦ rw f ((RemountStep.Locks, refl, (rw f h.0, h.1)), rw f h.0)
+      ]
+
+  loads_stage : (hook : HookAnswer) → StepSays c ro RemountStep.LoadsStage earlier added → After hook RemountStep.LoadsStage
+  loads_stage hook h =
+      elim (cases_Bool (value == 0)) [
+        | inl f ↦ rw f (RemountStep.LoadsSuperblock, refl, h)
+        | inr f ↦ rw f (RemountStep.Releases (Err GateError.Busy), refl, (h.0 ∙ sym (busy_adds ro (longer hook RemountStep.LoadsStage)), inl (rw f refl)))
+      ]
+
+  loads_superblock : (hook : HookAnswer) → StepSays c ro RemountStep.LoadsSuperblock earlier added → After hook RemountStep.LoadsSuperblock
+  loads_superblock hook h = (
+    remount_from ro (not (value == 0)),
+    refl,
+    state_found c ro (not (value == 0)) (longer hook RemountStep.LoadsSuperblock) added h.0 (rw h.1 (or_false (not (value == 0))))
+        h.2 h.3,
+  )
+
+  sets_writable : (hook : HookAnswer) → StepSays c ro RemountStep.SetsWritable earlier added → After hook RemountStep.SetsWritable
+  sets_writable (Ok answer) h = (RemountStep.Releases (Ok Reply.Unit), refl, (rw (h.1, h.2) (ap (λ (l : List Action). Action.SbRw ∷ l) h.0), tt))
+  sets_writable (Err code) h = ((rw h.1 h.0, rw h.1 (inl (refl, refl, refl))), tt)
+
+  -- no file is found removed, or one is
+  loads_removed : (hook : HookAnswer) → StepSays c ro RemountStep.LoadsRemoved earlier added → After hook RemountStep.LoadsRemoved
+  loads_removed hook h =
+      elim (cases_Bool (value == 0)) [
+        | inl f ↦ rw f (RemountStep.LoadsFlags 0 no_mounts, refl, (h.0, lim.some_mount, λ n q. h.1 n))
+        | inr f ↦ rw f (
+          RemountStep.Releases (Err GateError.Busy),
+          refl,
+          (h.0.0 ∙ sym (busy_adds ro (longer hook RemountStep.LoadsRemoved)), inr (inl (rw f refl))),
+        )
+      ]
+
+  -- the same with each mount held or read-only
+  loads_removed_again : (hook : HookAnswer) (held : MountSet) → StepSays c ro (RemountStep.LoadsRemovedAgain held) earlier added →
+      After hook (RemountStep.LoadsRemovedAgain held)
+  loads_removed_again hook held h =
+      elim (cases_Bool (value == 0)) [
+        | inl f ↦ rw f (RemountStep.SetsRemount held, refl, h)
+        | inr f ↦ rw f (
+          leave_holds held,
+          refl,
+          leave_holds_says c ro held (longer hook (RemountStep.LoadsRemovedAgain held)) added
+              (h.0 ∙ sym (busy_adds ro (longer hook (RemountStep.LoadsRemovedAgain held))), inr (inl (rw f refl))),
+        )
+      ]
+
+  -- a mount is found read-only, or writable
+  loads_flags : (hook : HookAnswer) (m : ℕ) (held : MountSet) → StepSays c ro (RemountStep.LoadsFlags m held) earlier added →
+      After hook (RemountStep.LoadsFlags m held)
+  loads_flags hook m held h =
+      elim (cases_Bool (has_flag value 1)) [
+        | inl f ↦ rw f (
+          past_mount c.mounts m held,
+          refl,
+          past_says c ro m held (longer hook (RemountStep.LoadsFlags m held)) added h.0 (λ n q. h.2 n (omega (arith, q))),
+        )
+        | inr f ↦ rw f (RemountStep.SetsHold m held, refl, h)
+      ]
+
+  -- its sum begins with no count loaded
+  sets_hold : (hook : HookAnswer) (m : ℕ) (held : MountSet) → StepSays c ro (RemountStep.SetsHold m held) earlier added →
+      After hook (RemountStep.SetsHold m held)
+  sets_hold hook m held h =
+      let none : counts_loaded m earlier ≡ [] = h.2 m (omega arith) in (
+        RemountStep.Sums m held record { words = 0; total = 0 },
+        refl,
+        (h.0, h.1, λ n q. h.2 n (omega (arith, q)), (lim.some_processor, rw none tt, rw none refl)),
+      )
+
+  -- one count more is loaded
+  count_loaded : (hook : HookAnswer) (m : ℕ) (held : MountSet) (sum : Sum) → IsSumOf c m sum earlier →
+      IsEachCount (suc sum.words) (counts_loaded m (longer hook (RemountStep.Sums m held sum))) ×
+      (wrap_add sum.total value ≡ sum_loaded (counts_loaded m (longer hook (RemountStep.Sums m held sum))))
+  count_loaded hook m held sum h =
+      rw (eq-eqb m m refl) ((refl, h.1), sum_more sum.words value sum.total (counts_loaded m earlier) h.2)
+
+  -- the sum goes on, or it is a sum of all counts: 0, or not
+  sums : (hook : HookAnswer) (m : ℕ) (held : MountSet) (sum : Sum) → StepSays c ro (RemountStep.Sums m held sum) earlier added →
+      After hook (RemountStep.Sums m held sum)
+  sums hook m held sum h =
+      let trace : List Traced = longer hook (RemountStep.Sums m held sum) in
+      let way : IsOnItsWay ro trace added = h.0 in
+      let none : NoneLoaded (m + 1) trace = λ n q. rw (ne_eqb m n (λ z. omega (arith, z, q))) (h.2 n q) in
+      let now : IsEachCount (suc sum.words) (counts_loaded m trace) × (wrap_add sum.total value ≡ sum_loaded (counts_loaded m trace)) =
+      count_loaded hook m held sum h.3 in
+      elim (cases_Bool (nat_lt (sum.words + 1) c.processors)) [
+        | inl f ↦
+            rw f (
+              RemountStep.Sums m held record { words = sum.words + 1; total = wrap_add sum.total value },
+              refl,
+              (way, h.1, none, (ltb-true (sum.words + 1) c.processors f, rw (add-one sum.words) now.0, now.1)),
+            )
+        | inr f ↦
+            let last : suc sum.words ≡ c.processors = omega (arith, ltb-false (sum.words + 1) c.processors f, h.3.0) in
+            elim (eqb_tells (wrap_add sum.total value) 0) [
+              | inl z ↦ rw (f, z.0) (
+                past_mount c.mounts m (with_mount held m),
+                refl,
+                past_says c ro m (with_mount held m) trace added way none,
+              )
+              | inr z ↦ rw (f, z.0) (
+                give_up m (with_mount held m),
+                refl,
+                give_up_says c ro m (with_mount held m) trace added (
+                  h.0.0 ∙ sym (busy_adds ro trace),
+                  inr (inr (m, h.1, (subst (λ n. IsEachCount n (counts_loaded m trace)) last now.0, λ q. z.1 (now.1 ∙ q)))),
+                ),
+              )
+            ]
+      ]
+
+  -- `remount` is set, and `sb ro` is added before any mark is cleared
+  sets_remount : (hook : HookAnswer) (held : MountSet) → StepSays c ro (RemountStep.SetsRemount held) earlier added → After hook (RemountStep.SetsRemount held)
+  sets_remount hook held h = (
+    let_go held,
+    refl,
+    let_go_says c ro held (longer hook (RemountStep.SetsRemount held)) (Action.SbRo ∷ added)
+        (rw h.3 (ap (λ (l : List Action). Action.SbRo ∷ l) h.0), h.1, h.2),
+  )
+
+  clears_mark : (hook : HookAnswer) (n : ℕ) → StepSays c ro (RemountStep.ClearsMark n) earlier added → After hook (RemountStep.ClearsMark n)
+  clears_mark hook n h =
+      elim (cases_Bool (has_flag value 4)) [
+        | inl f ↦ rw f (
+          past_node c.nodes n,
+          refl,
+          past_node_says c ro n (longer hook (RemountStep.ClearsMark n)) (Action.Clean n ∷ added)
+              (rw f (ap (λ (l : List Action). Action.Clean n ∷ l) h.0), h.1, h.2),
+        )
+        | inr f ↦ rw f (
+          past_node c.nodes n,
+          refl,
+          past_node_says c ro n (longer hook (RemountStep.ClearsMark n)) added (rw f h.0, h.1, h.2),
+        )
+      ]
+
+  -- the file system has answered, on the way to read-only
+  sets_read_only : (hook : HookAnswer) → StepSays c ro RemountStep.SetsReadOnly earlier added → After hook RemountStep.SetsReadOnly
+  sets_read_only (Ok answer) h = (RemountStep.ClearsRemount, refl, h)
+  sets_read_only (Err code) h = (
+    RemountStep.Releases (Err (GateError.Hook code)),
+    refl,
+    (rw h.1 (ap (λ (l : List Action). Action.SbRw ∷ l) h.0), rw h.1 (inl (refl, refl, refl))),
+  )
+
+  remount_event : (hook : HookAnswer) (step : RemountStep) → StepSays c ro step earlier added → After hook step
+  remount_event hook RemountStep.Locks h = locks hook h
+  remount_event hook RemountStep.LoadsStage h = loads_stage hook h
+  remount_event hook RemountStep.LoadsSuperblock h = loads_superblock hook h
+  remount_event hook RemountStep.SetsWritable h = sets_writable hook h
+  remount_event hook RemountStep.LoadsRemoved h = loads_removed hook h
+  remount_event hook (RemountStep.LoadsFlags m held) h = loads_flags hook m held h
+  remount_event hook (RemountStep.SetsHold m held) h = sets_hold hook m held h
+  remount_event hook (RemountStep.Sums m held sum) h = sums hook m held sum h
+  remount_event hook (RemountStep.LoadsRemovedAgain held) h = loads_removed_again hook held h
+  remount_event hook (RemountStep.LeavesHolds held) h = (
+    leave_holds (without_lowest held),
+    refl,
+    leave_holds_says c ro (without_lowest held) (longer hook (RemountStep.LeavesHolds held)) added
+        (h.0 ∙ busy_adds ro earlier ∙ sym (busy_adds ro (longer hook (RemountStep.LeavesHolds held))), h.1),
+  )
+  remount_event hook (RemountStep.SetsRemount held) h = sets_remount hook held h
+  remount_event hook (RemountStep.ClearsHold held) h = (
+    let_go (without_lowest held),
+    refl,
+    let_go_says c ro (without_lowest held) (longer hook (RemountStep.ClearsHold held)) added h,
+  )
+  remount_event hook (RemountStep.GivesUp m held) h = (
+    give_up m (without_lowest held),
+    refl,
+    give_up_says c ro m (without_lowest held) (longer hook (RemountStep.GivesUp m held)) added
+        (h.0 ∙ busy_adds ro earlier ∙ sym (busy_adds ro (longer hook (RemountStep.GivesUp m held))), h.1),
+  )
+  remount_event hook (RemountStep.ClearsMark n) h = clears_mark hook n h
+  remount_event hook RemountStep.SetsReadOnly h = sets_read_only hook h
+  remount_event hook RemountStep.ClearsRemount h = (RemountStep.Releases (Ok Reply.Unit), refl, (rw (h.1, h.2) h.0, tt))
+  remount_event hook (RemountStep.Releases answer) h = (lock_leaves c ro answer value hook earlier added h, tt)
+
+pub remount_kept : (c : Config) → IsWithin c → (t : ℕ) (ro : Bool) → Kept (RemountAt c t ro) c t (Op.RemountSb ro)
+remount_kept c lim t ro = record {
+  first = (RemountStep.Locks, refl, (refl, (refl, refl, refl, λ m. refl)));
+  more = λ phase value hook earlier added here.
+      subst (λ (x : Phase). SaysAfter (RemountAt c t ro) c (Op.RemountSb ro) x value hook earlier added) (sym here.1)
+      (remount_event c lim t ro value earlier added hook here.0 here.2);
+  short = λ trace phase added here. tt;
+}
+
+-- what a remount has added where it is refused leaves what its task held
+pub remount_restores : (ro : Bool) (refusal : GateError) (trace : List Traced) (before : List Action) →
+    LeaveAccesses (actions_of (Op.RemountSb ro) (Err refusal) trace) before
+remount_restores true (GateError.Hook code) trace before = cleans_leave trace (Action.SbRo ∷ []) before refl
+remount_restores true refusal trace before = refl
+remount_restores false refusal trace before = refl

@@ -1,0 +1,31 @@
+-- A remount waits only where another task has `umount`, and is refused only for its cause.
+use Rattle.std.{proofs.{Common.{◌≡◌, ℕ, ◌<◌, ap, inl, inr, refl}, lemmas.Bool.{cases_Bool, Decides.eqb_tells}}, specs.Prelude.{Some, Ok, Err, List}}
+use Rattle.access_model.specs.declared.errors.GateError.{GateError}
+use Rattle.cpu_words.specs.Hooks.{HookAnswer}
+use Rattle.mount_counts.specs.{Phases.has_flag, Remounts.at_remount, declared.remounts.{Remount.Remount, RemountStep.RemountStep}}
+use Rattle.gate_world.specs.{KeptCauses.RemountCause, Rules.{owns, IsGood}, Waits.HasReason, Work.after_of, Worlds.{World, found_at}}
+use Rattle.gate_world.specs.declared.{config.Config.Config, work.Phase.Phase}
+use Rattle.gate_schedules.proofs.frames.Owners.{umount_taken}
+
+module _ (c : Config) (w : World) (earlier : List World) (good : IsGood c w) (t : ℕ) (lt : t < c.tasks) (x : Remount) where
+  pub remount_waits : (hook : HookAnswer) (s : RemountStep) → (w.views t).phase ≡ Some (Phase.Remounts (at_remount x s)) →
+      RemountCause c t w earlier s →
+      HasReason c w earlier t (Phase.Remounts (at_remount x s))
+      (after_of (Phase.Remounts (at_remount x s)) (found_at w.words (Phase.Remounts (at_remount x s)) hook) hook).0
+  remount_waits hook RemountStep.Locks e cause =
+      elim (eqb_tells w.words.umount 0) [
+        | inl h ↦ rw h.0 tt
+        | inr h ↦ rw h.0 (umount_taken c w good t lt (Phase.Remounts (at_remount x RemountStep.Locks)) (λ y own. own) h.1 (ap owns e))
+      ]
+  remount_waits hook RemountStep.LoadsStage e cause = elim (eqb_tells w.words.stage 0) [ inl h ↦ rw h.0 tt | inr h ↦ rw h.0 tt ]
+  remount_waits (Ok answer) RemountStep.SetsWritable e cause = tt
+  remount_waits (Err code) RemountStep.SetsWritable e cause = tt
+  remount_waits hook (RemountStep.LoadsFlags m held) e cause = elim (cases_Bool (has_flag (w.words.flags m) 1)) [ inl h ↦ rw h tt | inr h ↦ rw h tt ]
+  remount_waits hook RemountStep.LoadsRemoved e cause = elim (eqb_tells w.words.removed 0) [ inl h ↦ rw h.0 tt | inr h ↦ rw h.0 tt ]
+  remount_waits hook (RemountStep.LoadsRemovedAgain held) e cause = elim (eqb_tells w.words.removed 0) [ inl h ↦ rw h.0 tt | inr h ↦ rw h.0 tt ]
+  remount_waits (Ok answer) RemountStep.SetsReadOnly e cause = tt
+  remount_waits (Err code) RemountStep.SetsReadOnly e cause = tt
+  remount_waits hook (RemountStep.Releases (Ok reply)) e cause = tt
+  remount_waits hook (RemountStep.Releases (Err GateError.Busy)) e cause = cause refl
+  remount_waits hook (RemountStep.Releases (Err refusal)) e cause = tt
+  remount_waits hook other e cause = tt

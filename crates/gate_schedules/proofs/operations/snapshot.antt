@@ -1,0 +1,4 @@
+pub mod Noted
+pub mod Completes
+pub mod Events
+pub mod Trace

@@ -1,0 +1,162 @@
+-- Traces of a snapshot.
+use Rattle.std.proofs.Common.{◌≡◌, ℕ, ◌+◌, ◌*◌, ◌<◌, ◌≤◌, Bool, true, false, refl, sym, subst, inl, inr, arith}
+use Rattle.std.proofs.lemmas.Bool.{cases_Bool, cases_lt, lt-ltb, le-ltb}
+use Rattle.std.specs.Prelude.{◌==◌, Ok, Err, List, [], ◌∷◌, length}
+use Rattle.access_model.specs.declared.{actions.Action.Action, errors.GateError.GateError, replies.{Next.Next, Reply.Reply}}
+use Rattle.cpu_words.specs.{Hooks.HookAnswer, Touches.found_by, declared.events.Event.Event}
+use Rattle.node_words.specs.Nodes.{node_after}
+use Rattle.gated_tree.specs.Phases.{at_snapshot, kids_step, node_step, snapshot_after, snapshot_locked_out, snapshot_next}
+use Rattle.gated_tree.specs.{Refusals.SnapshotHonest, declared.{phases.TreePhase.TreePhase, snapshots.{Snapshot.Snapshot, SnapshotStep.SnapshotStep}}}
+use Rattle.gate_schedules.{proofs.trees.Ends.snapshot_ends, specs.trees.Ends.{IsReply, SnapshotKnows}}
+use Rattle.gate_world.specs.{Configs.IsWithin, Courses.{IsTrace, MayHold, MayFind, course_of}, Found.{SeenIn, each_event, finds_taken}}
+use Rattle.gate_world.specs.{Operations.first_snapshot, Traces.{IsHonest, IsShort, Tells, most_events}, Views.with_hook, Work.next_of}
+use Rattle.gate_world.specs.declared.{config.Config.Config, operations.Op.Op, views.Traced.Traced, work.Phase.Phase}
+use Rattle.gate_schedules.proofs.operations.calls.Trace.{Answers, CallAt, Stays, call_says, sees}
+use Rattle.gate_schedules.proofs.traces.Says.{KeptWell, SaysAfter, event_at, tells_well, is_short_well}
+
+-- before `umount` is taken, each event has found it taken; after that, the node whose words a snapshot loads is one of the tree's
+abbrev IsThere : Config → List Traced → SnapshotStep → Type 0
+IsThere c trace SnapshotStep.Locks = each_event finds_taken trace ≡ true
+IsThere c trace (SnapshotStep.LoadsNode node) = node < c.nodes
+IsThere c trace (SnapshotStep.LoadsKids node) = node < c.nodes
+IsThere c trace step = Unit {0}
+
+-- how many events a snapshot that doesn't wait has done before a step, at most
+abbrev events_before : Config → SnapshotStep → ℕ
+events_before c SnapshotStep.Locks = 0
+events_before c SnapshotStep.LoadsStage = 1
+events_before c SnapshotStep.LoadsUsed = 2
+events_before c (SnapshotStep.LoadsNode node) = node + 3
+events_before c (SnapshotStep.LoadsKids node) = c.nodes + node + 3
+events_before c (SnapshotStep.Releases answer) = 2 * c.nodes + 3
+
+-- what a snapshot knows at its step
+abbrev Knows : ((Event → Bool) → Type 0) → Snapshot → Type 0
+Knows seen x = SnapshotKnows seen x x.step
+
+-- it adds nothing
+abbrev so_far : Snapshot → List Action
+so_far x = []
+
+most_short : (c : Config) (wait : Bool) (trace : List Traced) → (wait ≡ false → length trace ≤ 2 * c.nodes + 4) →
+    IsShort (most_events c (Op.Snapshot wait)) trace
+most_short c true trace h = tt
+most_short c false trace h = h refl
+
+module _ (c : Config) (t : ℕ) (wait : Bool) where
+  -- the snapshot at a step
+  abbrev snapshot_of : SnapshotStep → Snapshot
+  snapshot_of s = at_snapshot (first_snapshot c t wait) s
+
+  -- the trace after the event of a step, on a word that held this value
+  abbrev longer : List Traced → ℕ → HookAnswer → SnapshotStep → List Traced
+  longer earlier value hook s = with_hook (event_at (Phase.Trees (TreePhase.Snapshot (snapshot_of s))) value hook) hook ∷ earlier
+
+  -- what its trace says at a phase
+  abbrev SnapshotAt : List Traced → Phase → List Action → Type 0
+  SnapshotAt = CallAt Snapshot SnapshotStep TreePhase.Snapshot snapshot_of Knows so_far (IsThere c) (events_before c) (2 * c.nodes + 4) wait c
+      (Op.Snapshot wait)
+
+  -- what comes after so many events
+  abbrev Comes : List Traced → ℕ → Next Snapshot → Type 0
+  Comes = Stays Snapshot SnapshotStep TreePhase.Snapshot snapshot_of Knows so_far (IsThere c) (events_before c) (2 * c.nodes + 4) wait c
+      (Op.Snapshot wait)
+
+  -- `umount` was found taken, as it was before: a snapshot waits, or is refused
+  taken : (waits : Bool) → wait ≡ waits → (trace : List Traced) → each_event finds_taken trace ≡ true →
+      Comes trace 0 (snapshot_locked_out (snapshot_of SnapshotStep.Locks) waits)
+  taken true is trace each = (SnapshotStep.Locks, refl, each, is, (is, each))
+  taken false is trace each = λ q. omega arith
+
+  -- the next node is loaded, or the children of the first
+  next_node : (trace : List Traced) (node : ℕ) → node < c.nodes →
+      Comes trace (node + 3) (Next.Go (snapshot_of (node_step (node_after node c.nodes))))
+  next_node trace node lt = elim (cases_lt (node + 1) c.nodes) [
+    | inl l ↦ rw (lt-ltb (node + 1) c.nodes l) (SnapshotStep.LoadsNode (node + 1), refl, l, λ q. omega arith)
+    | inr l ↦ rw (le-ltb (node + 1) c.nodes l) (SnapshotStep.LoadsKids 0, refl, omega (arith, lt), λ q. omega (arith, lt))
+  ]
+
+  -- the children of the next node are loaded, or all words are
+  next_kids : (trace : List Traced) (node : ℕ) → node < c.nodes →
+      Comes trace (c.nodes + node + 3) (Next.Go (snapshot_of (kids_step (node_after node c.nodes))))
+  next_kids trace node lt = elim (cases_lt (node + 1) c.nodes) [
+    | inl l ↦ rw (lt-ltb (node + 1) c.nodes l) (SnapshotStep.LoadsKids (node + 1), refl, l, λ q. omega arith)
+    | inr l ↦ rw (le-ltb (node + 1) c.nodes l) (SnapshotStep.Releases (Ok Reply.Tree), refl, tt, λ q. omega (arith, lt))
+  ]
+
+  -- each event of a snapshot is followed by a later step of it, or by its end
+  snapshot_goes : IsWithin c → (earlier : List Traced) (s : SnapshotStep) (value : ℕ) (hook : HookAnswer) → IsThere c earlier s →
+      MayHold (snapshot_next (snapshot_of s) s).0 value →
+      Comes (longer earlier value hook s) (events_before c s)
+      (snapshot_after (snapshot_of s) s (found_by (snapshot_next (snapshot_of s) s).1 value)).0
+  snapshot_goes lim earlier SnapshotStep.Locks value hook there may = elim (cases_Bool (value == 0)) [
+    | inl e ↦ rw e (SnapshotStep.LoadsStage, refl, tt, λ q. omega arith)
+    | inr e ↦
+        let each : each_event finds_taken (longer earlier value hook SnapshotStep.Locks) ≡ true = rw e there in
+        rw e (taken wait refl (longer earlier value hook SnapshotStep.Locks) each)
+  ]
+  snapshot_goes lim earlier SnapshotStep.LoadsStage value hook there may = elim (cases_Bool (value == 4)) [
+    | inl e ↦ rw e (SnapshotStep.LoadsUsed, refl, tt, λ q. omega arith)
+    | inr e ↦ rw e (SnapshotStep.Releases (Err GateError.Invalid), refl, tt, λ q. omega arith)
+  ]
+  snapshot_goes lim earlier SnapshotStep.LoadsUsed value hook there may = (SnapshotStep.LoadsNode 0, refl, omega (arith, lim.some_node), λ q. omega arith)
+  snapshot_goes lim earlier (SnapshotStep.LoadsNode node) value hook there may =
+      rw may (next_node (longer earlier value hook (SnapshotStep.LoadsNode node)) node there)
+  snapshot_goes lim earlier (SnapshotStep.LoadsKids node) value hook there may = next_kids (longer earlier value hook (SnapshotStep.LoadsKids node)) node there
+  snapshot_goes lim earlier (SnapshotStep.Releases answer) value hook there may = λ q. omega arith
+
+  -- why a snapshot is refused doesn't depend on its step or its task
+  snapshot_cause : (s : SnapshotStep) (trace : List Traced) (refusal : GateError) → SnapshotHonest (SeenIn trace) (snapshot_of s) refusal →
+      IsHonest c (Op.Snapshot wait) refusal trace
+  snapshot_cause s trace GateError.Again h = h
+  snapshot_cause s trace GateError.Invalid h = h
+  snapshot_cause s trace refusal h = absurd h
+
+  -- so the trace of a snapshot says what its row asks for
+  snapshot_answers : (s : SnapshotStep) (trace : List Traced) →
+      Answers Snapshot SnapshotStep TreePhase.Snapshot snapshot_of Knows so_far (IsThere c) (events_before c) (2 * c.nodes + 4) wait c
+      (Op.Snapshot wait) (IsReply Reply.Tree) (SnapshotHonest (SeenIn trace) (snapshot_of s)) (λ answer. []) trace
+  snapshot_answers s trace = record {
+    told = λ reply h. h;
+    honest = snapshot_cause s trace;
+    actions = λ answer. refl;
+    short = most_short c wait trace;
+  }
+
+  -- a step comes after at most that many events
+  snapshot_within : (s : SnapshotStep) (trace : List Traced) → IsThere c trace s → length trace ≤ events_before c s →
+      length trace ≤ 2 * c.nodes + 4
+  snapshot_within (SnapshotStep.LoadsNode node) trace there h = omega (arith, there, h)
+  snapshot_within (SnapshotStep.LoadsKids node) trace there h = omega (arith, there, h)
+  snapshot_within s trace there h = omega (arith, h)
+
+  -- and keeps it along
+  snapshot_kept : IsWithin c → KeptWell SnapshotAt c t (Op.Snapshot wait)
+  snapshot_kept lim = record {
+    first = (SnapshotStep.Locks, refl, (refl, tt, refl, λ q. omega arith));
+    more = λ phase value hook earlier added may here.
+        let s : SnapshotStep = here.0 in
+        let x : Phase = Phase.Trees (TreePhase.Snapshot (snapshot_of s)) in
+        let e : Traced = with_hook (event_at x value hook) hook in
+        subst (λ (p : Phase). MayFind p (next_of p hook).0 value → SaysAfter SnapshotAt c (Op.Snapshot wait) p value hook earlier added)
+        (sym here.1)
+        (λ holds.
+        call_says Snapshot SnapshotStep TreePhase.Snapshot snapshot_of Knows so_far (IsThere c) (events_before c) (2 * c.nodes + 4) wait c
+        (Op.Snapshot wait) (IsReply Reply.Tree) (SnapshotHonest (SeenIn (e ∷ earlier)) (snapshot_of s)) (λ answer. []) e earlier
+        (snapshot_answers s (e ∷ earlier)) (events_before c s) here.2.3
+        (snapshot_after (snapshot_of s) s (found_by (snapshot_next (snapshot_of s) s).1 value)).0
+        (snapshot_after (snapshot_of s) s (found_by (snapshot_next (snapshot_of s) s).1 value)).1 [] added here.2.2
+        (snapshot_ends (SeenIn earlier) (SeenIn (e ∷ earlier)) (snapshot_of s) s value here.2.1 (sees e earlier))
+        (snapshot_goes lim earlier s value hook here.2.0 holds))
+        may;
+    short = λ trace phase added here. most_short c wait trace (λ q. snapshot_within here.0 trace here.2.0 (here.2.3 q));
+  }
+
+-- so a snapshot's trace tells what it is to tell, and is short where it doesn't wait
+pub snapshot_tells : (wait : Bool) (c : Config) → IsWithin c → (t : ℕ) (trace : List Traced) → IsTrace c t (Op.Snapshot wait) trace →
+    Tells c (Op.Snapshot wait) trace (course_of c t (Op.Snapshot wait) trace).comes (course_of c t (Op.Snapshot wait) trace).added
+snapshot_tells wait c lim t trace h = tells_well (SnapshotAt c t wait) c t (Op.Snapshot wait) (snapshot_kept c t wait lim) trace h
+
+pub snapshot_short : (wait : Bool) (c : Config) → IsWithin c → (t : ℕ) (trace : List Traced) → IsTrace c t (Op.Snapshot wait) trace →
+    IsShort (most_events c (Op.Snapshot wait)) trace
+snapshot_short wait c lim t trace h = is_short_well (SnapshotAt c t wait) c t (Op.Snapshot wait) (snapshot_kept c t wait lim) trace h

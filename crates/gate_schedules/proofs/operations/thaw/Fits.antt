@@ -1,0 +1,110 @@
+-- What fits after an event of a thaw.
+use Rattle.std.proofs.{Common.{false, ◌≡◌, ℕ, ◌≤◌, true, arith, inl, inr}, lemmas.Bool.Decides.eqb_tells}
+use Rattle.std.specs.Prelude.{◌-◌, ◌==◌, if◌then◌else◌, Ok, Err}
+use Rattle.access_model.specs.{Holders.{held_by, with_holder, is_unheld}, Replies.map_next}
+use Rattle.access_model.specs.declared.{actions.{Holder.Holder, Holders.Holders}, errors.GateError.GateError, replies.Next.Next}
+use Rattle.cpu_words.specs.{Hooks.HookAnswer, Names.IsWord, Touches.left}
+use Rattle.percpu_rwsem.specs.{SyncWords.on_exit, Transitions.{transition_next, transition_after}, Writers.exit_made}
+use Rattle.percpu_rwsem.specs.declared.{transitions.{Transition.Transition, TransitionNext.TransitionNext}, writers.UpWriteStep.UpWriteStep}
+use Rattle.freeze_levels.specs.{Holders.holders_in, Thaws.{thaw_next, thaw_after, at_thaw, thaw_opens, thaw_finds, after_opening}}
+use Rattle.freeze_levels.specs.declared.thaws.{Thaw.Thaw, ThawStep.ThawStep}
+use Rattle.freeze_laws.{proofs.levels.Exchanges.exchanges_make_transitions, specs.levels.Exchanges.{Shows, KnowsWords}}
+use Rattle.gate_world.specs.{Configs.extents_of, Fits.{UpWriteFits, ThawFits, PhaseFits, Fits, ActionFits}}
+use Rattle.gate_world.specs.{Holdings.{Holdings, held_after}, Operations.holds_none}
+use Rattle.gate_world.specs.{Views.phase_after, declared.{config.Config.Config, work.Phase.Phase}}
+use Rattle.gate_schedules.proofs.{frames.{Cases.both, Keeps.by_bool}, operations.freeze.Fits.up_write_word}
+
+-- What comes after a look at who holds a freeze: a refusal, where its own holder doesn't; the superblock's flag, where it alone does; or
+-- else the store without it.
+pub finds_cases : (x : Thaw) (held : Holders) (P : ThawStep → Type 0) →
+    (held_by held x.holder ≡ false → P (ThawStep.Releases (Err GateError.Invalid))) →
+    (held_by held x.holder ≡ true → is_unheld (with_holder x.holder false held) ≡ true → P ThawStep.LoadsSuperblock) →
+    (held_by held x.holder ≡ true → is_unheld (with_holder x.holder false held) ≡ false → P (ThawStep.Leaves held)) → P (thaw_finds x held)
+finds_cases x held P refused alone shared =
+    both (held_by held x.holder)
+    (λ b. P (if b then (if is_unheld (with_holder x.holder false held) then ThawStep.LoadsSuperblock else ThawStep.Leaves held)
+    else ThawStep.Releases (Err GateError.Invalid)))
+    (λ own. both (is_unheld (with_holder x.holder false held)) (λ b. P (if b then ThawStep.LoadsSuperblock else ThawStep.Leaves held)) (alone own) (shared own))
+    refused
+
+-- the word of each event of a thaw is there
+pub thaw_there : (c : Config) (x : Thaw) (s : ThawStep) (hook : HookAnswer) → ThawFits x.holder s → IsWord (extents_of c) (thaw_next x s hook).0
+thaw_there c x ThawStep.LeavesLast (Ok answer) f = tt
+thaw_there c x ThawStep.LeavesLast (Err code) f = tt
+thaw_there c x (ThawStep.Reopens u) hook f = up_write_word c u u.step f.0 f.1
+thaw_there c x other hook f = tt
+
+-- the action of an event of a level's reopening can be done
+reopening_acts : (held : Holdings) (x : Thaw) (level : ℕ) (s : UpWriteStep) (found : ℕ) (hook : HookAnswer) →
+    ActionFits held (thaw_after x (ThawStep.Reopens (record { level = level; step = s })) found hook).1
+reopening_acts held x level UpWriteStep.ClearsBlock found hook = tt
+reopening_acts held x level (UpWriteStep.Exits transition) found hook = tt
+
+pub thaw_acts : (held : Holdings) (x : Thaw) (s : ThawStep) (found : ℕ) (hook : HookAnswer) → ActionFits held (thaw_after x s found hook).1
+thaw_acts held x ThawStep.LeavesLast found (Ok answer) = tt
+thaw_acts held x ThawStep.LeavesLast found (Err code) = tt
+thaw_acts held x (ThawStep.Reopens u) found hook = reopening_acts held x u.level u.step found hook
+thaw_acts held x s found hook = tt
+
+-- a level is still to be reopened, or no more
+opens_fit : (holder : Holder) (level : ℕ) → level ≤ 3 → ThawFits holder (thaw_opens level)
+opens_fit holder level l3 = elim (eqb_tells level 0) [ inl z ↦ rw z.0 tt | inr z ↦ rw z.0 (omega (arith, z.1), l3, tt) ]
+
+module _ (c : Config) (t : ℕ) (held : Holdings) (x : Thaw) (same : x.task ≡ t) (none : holds_none held.levels ≡ true) where
+  -- what comes after an event fits
+  abbrev NextFits : Next Thaw → Type 0
+  NextFits next = Fits c t held (phase_after (map_next Phase.Thaws next))
+
+  -- an up-write that goes on knows the words of its exchange
+  exit_fits : (level found leaves : ℕ) (s : UpWriteStep) (n : TransitionNext) → 1 ≤ level → level ≤ 3 → Shows on_exit found leaves n →
+      NextFits (after_opening x level (exit_made (record { level = level; step = s }) n))
+  exit_fits level found leaves s (TransitionNext.More transition) l1 l3 shows = (same, none, (l1, l3, shows.1))
+  exit_fits level found leaves s TransitionNext.Undefined l1 l3 shows = (same, none, (l1, l3, tt))
+  exit_fits level found leaves s (TransitionNext.Made state) l1 l3 shows = (same, none, opens_fit x.holder (level - 1) (omega (arith, l3)))
+
+  -- so it is after an event of its transition
+  exit_goes : (level : ℕ) (transition : Transition) (found : ℕ) → 1 ≤ level → level ≤ 3 → KnowsWords on_exit transition →
+      NextFits (after_opening x level
+      (exit_made (record { level = level; step = UpWriteStep.Exits transition }) (transition_after on_exit transition found)))
+  exit_goes level transition found l1 l3 knows =
+      exit_fits level found (left (transition_next level transition).1 found) (UpWriteStep.Exits transition) (transition_after on_exit transition found)
+      l1 l3 (exchanges_make_transitions on_exit level found transition knows)
+
+  -- after an event of a thaw, what comes fits the accesses that its action leaves
+  abbrev GoesOn : ThawStep → ℕ → HookAnswer → Type 0
+  GoesOn s found hook =
+      Fits c t (held_after (thaw_after x s found hook).1 held)
+      (phase_after (map_next Phase.Thaws (thaw_after x s found hook).0))
+
+  reopening_goes : (level : ℕ) (s : UpWriteStep) (found : ℕ) (hook : HookAnswer) → UpWriteFits (record { level = level; step = s }) →
+      GoesOn (ThawStep.Reopens (record { level = level; step = s })) found hook
+  reopening_goes level UpWriteStep.ClearsBlock found hook f = (same, none, (f.0, f.1, tt))
+  reopening_goes level (UpWriteStep.Exits transition) found hook f = exit_goes level transition found f.0 f.1 f.2
+
+  step_goes : (s : ThawStep) (found : ℕ) (hook : HookAnswer) → ThawFits x.holder s → GoesOn s found hook
+  step_goes ThawStep.Locks found hook f =
+      by_bool (found == 0) (λ b. NextFits (if b then Next.Go (at_thaw x ThawStep.LoadsStage) else Next.Wait (at_thaw x ThawStep.Locks)))
+      (same, none, tt) (same, none, tt)
+  step_goes ThawStep.LoadsStage found hook f =
+      by_bool (found == 4)
+      (λ b. NextFits (if b then Next.Go (at_thaw x ThawStep.LoadsHolders) else Next.Go (at_thaw x (ThawStep.Releases (Err GateError.Invalid)))))
+      (same, none, tt) (same, none, tt)
+  step_goes ThawStep.LoadsHolders found hook f =
+      finds_cases x (holders_in found) (λ s. NextFits (Next.Go (at_thaw x s))) (λ other. (same, none, tt)) (λ own alone. (same, none, tt))
+      (λ own shared. (same, none, (own, shared)))
+  step_goes ThawStep.LoadsSuperblock found hook f =
+      by_bool (found == 0) (λ b. NextFits (if b then Next.Go (at_thaw x ThawStep.LeavesLast) else Next.Go (at_thaw x ThawStep.LeavesReadOnly)))
+      (same, none, tt) (same, none, tt)
+  step_goes ThawStep.LeavesLast found (Ok answer) f = (same, none, tt)
+  step_goes ThawStep.LeavesLast found (Err code) f = tt
+  step_goes ThawStep.SetsUnfrozen found hook f = (same, none, (omega arith, omega arith, tt))
+  step_goes (ThawStep.Reopens u) found hook f = reopening_goes u.level u.step found hook f
+  step_goes (ThawStep.Releases answer) found hook f = tt
+  step_goes other found hook f = (same, none, tt)
+
+-- what comes after each event of a thaw fits
+pub thaw_goes : (c : Config) (t : ℕ) (held : Holdings) (x : Thaw) (s : ThawStep) (found : ℕ) (hook : HookAnswer) →
+    PhaseFits c t held (Phase.Thaws (at_thaw x s)) →
+    Fits c t (held_after (thaw_after x s found hook).1 held)
+    (phase_after (map_next Phase.Thaws (thaw_after x s found hook).0))
+thaw_goes c t held x s found hook f = step_goes c t held x f.0 f.1 s found hook f.2

@@ -1,0 +1,36 @@
+-- All that is proved of a thaw.
+use Rattle.access_model.specs.declared.actions.Holder.{Holder}
+use Rattle.freeze_levels.specs.declared.thaws.Thaw.{Thaw}
+use Rattle.gate_schedules.proofs.frames.{Agreeing.none_agree, Keeps.{OpKeeps, PhaseKeeps, word_among}, Snapshots.completes_none}
+use Rattle.gate_schedules.proofs.operations.thaw.{Causes.{thaw_own, thaw_stays}, Events.thaw_keeps, Fits.{thaw_acts, thaw_goes, thaw_there}, Runs.thaw_runs}
+use Rattle.gate_schedules.proofs.{operations.thaw.{Trace.{ThawAt, thaw_kept}, Waits.thaw_waits}, traces.Says.{is_short, tells}}
+use Rattle.gate_world.specs.{Worlds.after_step, declared.{config.Config.Config, operations.Op.Op, work.Phase.Phase}}
+use Rattle.std.proofs.Common.{refl}
+
+pub thaw_phase : (c : Config) (x : Thaw) → PhaseKeeps c (Phase.Thaws x)
+thaw_phase c x = record {
+  step = λ lim w good t lt hook e. thaw_keeps c lim w good t lt hook x e;
+  runs = λ lim w good t lt hook e. thaw_runs c lim w good t lt hook x e;
+  completes = λ lim w good t lt hook e. completes_none c w t hook (Phase.Thaws x) (λ trace found. refl);
+  word = λ n le t lt held hook f. word_among c n le _ (thaw_there c x x.step hook f.2);
+  acts = λ lim t held found hook f. thaw_acts held x x.step found hook;
+  goes = λ lim t held found hook f. thaw_goes c t held x x.step found hook f;
+  agrees = λ t held seen same fits. (fits.0, rw (← none_agree held.levels seen.levels same.levels) fits.1, fits.2);
+  stays = λ w next earlier after t f e was quiet h. thaw_stays c t w next earlier x x.step e h;
+  causes = λ w earlier good t lt hook e after is h. thaw_own c t w (after_step w t (Phase.Thaws x) hook) earlier x hook x.step e is;
+  reasons = λ lim w earlier good t lt hook e cause. thaw_waits c w earlier t good lt x hook x.step e cause;
+}
+
+pub thaw_op : (c : Config) (holder : Holder) → OpKeeps c (Op.Thaw holder)
+thaw_op c holder = record {
+  fits = λ t held there order room. (refl, order, tt);
+  starts_aside = λ t. refl;
+  cause = λ t w earlier. tt;
+  order_agrees = λ held seen same there. none_agree held.levels seen.levels same.levels;
+  room_agrees = λ held seen same there. refl;
+  restores = λ refusal trace before order. refl;
+  file = λ t held order room. tt;
+  tells = λ lim t trace h. tells (ThawAt c t holder) c t (Op.Thaw holder) (thaw_kept c t holder) trace h;
+  short = λ lim t trace h. is_short (ThawAt c t holder) c t (Op.Thaw holder) (thaw_kept c t holder) trace h;
+  most_small = λ lim. tt;
+}

@@ -1,0 +1,171 @@
+-- Traces of a thaw.
+use Rattle.std.proofs.{Common.{◌≡◌, ℕ, zero, suc, ◌≤◌, true, false, refl, sym, ap, ◌∙◌, subst, inl, inr, arith}, lemmas.Bool.{cases_Bool, Decides.eqb_tells}}
+use Rattle.std.specs.Prelude.{◌-◌, ◌==◌, ◌||◌, not, Result, Ok, Err, List, [], ◌∷◌}
+use Rattle.access_model.specs.Replies.{map_next}
+use Rattle.access_model.specs.declared.{actions.{Action.Action, Holder.Holder}, errors.GateError.GateError, replies.Reply.Reply}
+use Rattle.cpu_words.specs.{Hooks.HookAnswer, Touches.event_of, declared.{events.Touch.Touch, names.WordName.WordName}}
+use Rattle.percpu_rwsem.specs.{SyncWords.on_exit, Transitions.transition_after, Writers.exit_made}
+use Rattle.percpu_rwsem.specs.declared.{transitions.{Transition.Transition, TransitionNext.TransitionNext}, writers.UpWriteStep.UpWriteStep}
+use Rattle.freeze_levels.specs.{Holders.holders_in, Levels.reopening, Thaws.{thaw_opens, after_opening}, declared.thaws.{Thaw.Thaw, ThawStep.ThawStep}}
+use Rattle.gate_world.specs.{Found.{found_sealed, found_shared, found_unheld, each_event, finds_taken}, Traces.{actions_of, IsHonestAnswer}, Views.with_hook}
+use Rattle.gate_world.specs.declared.{config.Config.Config, operations.Op.Op, views.Traced.Traced, work.Phase.Phase}
+use Rattle.gate_schedules.proofs.{operations.thaw.Fits.finds_cases, traces.Says.{Says, SaysAfter, Kept, event_at}}
+
+-- a thaw by a task, at this step
+abbrev thaw_of : ℕ → Holder → ThawStep → Thaw
+thaw_of t holder step = record { task = t; holder = holder; step = step }
+
+-- nothing is added yet, and neither was the superblock found read-only nor another holder
+abbrev FoundNothing : Holder → List Traced → List Action → Type 0
+FoundNothing holder trace added = (added ≡ []) × (found_sealed trace ≡ false) × (found_shared holder trace ≡ false)
+
+-- what is added with the levels from 3 down to this one still closed: that its holder left, stage 0, and the levels above it reopened, the
+-- highest first
+abbrev opened_to : Holder → ℕ → List Action
+opened_to holder zero = Action.Reopen 1 ∷ (Action.Reopen 2 ∷ (Action.Reopen 3 ∷ (Action.Stage 0 ∷ (Action.Leave holder ∷ []))))
+opened_to holder (suc zero) = Action.Reopen 2 ∷ (Action.Reopen 3 ∷ (Action.Stage 0 ∷ (Action.Leave holder ∷ [])))
+opened_to holder (suc (suc zero)) = Action.Reopen 3 ∷ (Action.Stage 0 ∷ (Action.Leave holder ∷ []))
+opened_to holder (suc (suc (suc n))) = Action.Stage 0 ∷ (Action.Leave holder ∷ [])
+
+-- a level is reopened by the first event of its up-write
+abbrev opened : Holder → ℕ → UpWriteStep → List Action
+opened holder level UpWriteStep.ClearsBlock = opened_to holder level
+opened holder level (UpWriteStep.Exits transition) = opened_to holder (level - 1)
+
+-- with a level reopened, those from it up are
+opens_one : (holder : Holder) (level : ℕ) → 1 ≤ level → level ≤ 3 → Action.Reopen level ∷ opened_to holder level ≡ opened_to holder (level - 1)
+opens_one holder zero l1 l3 = absurd (omega (arith, l1))
+opens_one holder (suc (suc (suc (suc n)))) l1 l3 = absurd (omega (arith, l3))
+opens_one holder other l1 l3 = refl
+
+-- what is answered is told already
+abbrev Answers : Config → Holder → Result Reply GateError → List Traced → List Action → Type 0
+Answers c holder answer trace added = (added ≡ actions_of (Op.Thaw holder) answer trace) × IsHonestAnswer c (Op.Thaw holder) answer trace
+
+-- what a trace says at a step: what was found and added
+abbrev StepSays : Config → Holder → ThawStep → List Traced → List Action → Type 0
+StepSays c holder ThawStep.Locks trace added = (each_event finds_taken trace ≡ true) × FoundNothing holder trace added
+StepSays c holder (ThawStep.Leaves held) trace added = (added ≡ []) × (found_shared holder trace ≡ true)
+StepSays c holder ThawStep.LeavesReadOnly trace added = (added ≡ []) × (found_sealed trace ≡ true) × (found_shared holder trace ≡ false)
+StepSays c holder ThawStep.UnfreezesReadOnly trace added =
+    (added ≡ Action.Leave holder ∷ []) × (found_sealed trace ≡ true) × (found_shared holder trace ≡ false)
+StepSays c holder ThawStep.SetsUnfrozen trace added =
+    (added ≡ Action.Leave holder ∷ []) × (found_sealed trace ≡ false) × (found_shared holder trace ≡ false)
+StepSays c holder (ThawStep.Reopens u) trace added =
+    (added ≡ opened holder u.level u.step) × ((found_sealed trace ≡ false) × (found_shared holder trace ≡ false)) × (1 ≤ u.level) × (u.level ≤ 3)
+StepSays c holder (ThawStep.Releases answer) trace added = Answers c holder answer trace added
+StepSays c holder other trace added = FoundNothing holder trace added
+
+-- what a thaw's trace says at a phase
+abbrev pub ThawAt : Config → ℕ → Holder → List Traced → Phase → List Action → Type 0
+ThawAt c t holder trace phase added = (step : ThawStep) × (phase ≡ Phase.Thaws (thaw_of t holder step)) × StepSays c holder step trace added
+
+-- an event that gives `umount` back leaves what is told
+lock_leaves : (c : Config) (holder : Holder) (answer : Result Reply GateError) (value : ℕ) (hook : HookAnswer) (earlier : List Traced) (added : List Action) →
+    Answers c holder answer earlier added → Answers c holder answer (with_hook (event_of WordName.Umount (Touch.Store 0) value) hook ∷ earlier) added
+lock_leaves c holder (Err (GateError.Hook code)) value hook earlier added h = (h.0, inr h.1)
+lock_leaves c holder answer value hook earlier added h = h
+
+-- a level is still to be reopened, or no more
+opens_says : (c : Config) (holder : Holder) (level : ℕ) (trace : List Traced) (added : List Action) → level ≤ 3 →
+    added ≡ opened_to holder level → (found_sealed trace ≡ false) × (found_shared holder trace ≡ false) →
+    StepSays c holder (thaw_opens level) trace added
+opens_says c holder level trace added l3 h none =
+    elim (eqb_tells level 0) [
+      | inl z ↦ rw (z.0, none.1, none.0) (h ∙ ap (opened_to holder) z.1, tt)
+      | inr z ↦ rw z.0 (h, none, omega (arith, z.1), l3)
+    ]
+
+module _ (c : Config) (t : ℕ) (holder : Holder) (value : ℕ) (earlier : List Traced) (added : List Action) where
+  -- the trace after the event of a step
+  abbrev longer : HookAnswer → ThawStep → List Traced
+  longer hook step = with_hook (event_at (Phase.Thaws (thaw_of t holder step)) value hook) hook ∷ earlier
+
+  -- what the trace says after the event of a step
+  abbrev After : HookAnswer → ThawStep → Type 0
+  After hook step = SaysAfter (ThawAt c t holder) c (Op.Thaw holder) (Phase.Thaws (thaw_of t holder step)) value hook earlier added
+
+  locks : (hook : HookAnswer) → StepSays c holder ThawStep.Locks earlier added → After hook ThawStep.Locks
+  locks hook h =
+      elim (cases_Bool (value == 0)) [
+        | inl f ↦ rw f (ThawStep.LoadsStage, refl, h.1)
+        | inr f ↦ rw f ((ThawStep.Locks, refl, (rw f h.0, h.1)), rw f h.0)
+      ]
+
+  loads_stage : (hook : HookAnswer) → StepSays c holder ThawStep.LoadsStage earlier added → After hook ThawStep.LoadsStage
+  loads_stage hook h =
+      elim (cases_Bool (value == 4)) [
+        | inl f ↦ rw f (ThawStep.LoadsHolders, refl, h)
+        | inr f ↦ rw f (ThawStep.Releases (Err GateError.Invalid), refl, (h.0, inl (rw f refl)))
+      ]
+
+  loads_holders : (hook : HookAnswer) → StepSays c holder ThawStep.LoadsHolders earlier added → After hook ThawStep.LoadsHolders
+  loads_holders hook h =
+      finds_cases (thaw_of t holder ThawStep.LoadsHolders) (holders_in value)
+      (λ s. ThawAt c t holder (longer hook ThawStep.LoadsHolders) (Phase.Thaws (thaw_of t holder s)) added)
+      (λ other. (ThawStep.Releases (Err GateError.Invalid), refl, (h.0, inr (ap (λ b. not b || found_unheld holder earlier) other))))
+      (λ own alone. (ThawStep.LoadsSuperblock, refl, (h.0, h.1, ap (λ b. not b || found_shared holder earlier) alone ∙ h.2)))
+      (λ own shared. (ThawStep.Leaves (holders_in value), refl, (h.0, ap (λ b. not b || found_shared holder earlier) shared)))
+
+  loads_superblock : (hook : HookAnswer) → StepSays c holder ThawStep.LoadsSuperblock earlier added → After hook ThawStep.LoadsSuperblock
+  loads_superblock hook h =
+      elim (cases_Bool (value == 0)) [
+        | inl f ↦ rw f (ThawStep.LeavesLast, refl, (h.0, rw f h.1, h.2))
+        | inr f ↦ rw f (ThawStep.LeavesReadOnly, refl, (h.0, rw f refl, h.2))
+      ]
+
+  leaves_last : (hook : HookAnswer) → StepSays c holder ThawStep.LeavesLast earlier added → After hook ThawStep.LeavesLast
+  leaves_last (Ok answer) h = (ThawStep.SetsUnfrozen, refl, (ap (λ (l : List Action). Action.Leave holder ∷ l) h.0, h.1, h.2))
+  leaves_last (Err code) h = ((h.0, inl (refl, refl, refl)), tt)
+
+  exit_says : (level : ℕ) (s : UpWriteStep) (n : TransitionNext) (trace : List Traced) → level ≤ 3 → 1 ≤ level →
+      added ≡ opened_to holder (level - 1) → (found_sealed trace ≡ false) × (found_shared holder trace ≡ false) →
+      Says (ThawAt c t holder) c (Op.Thaw holder) trace
+      (map_next Phase.Thaws (after_opening (thaw_of t holder (ThawStep.Reopens (record { level = level; step = s }))) level
+      (exit_made (record { level = level; step = s }) n))) added
+  exit_says level s (TransitionNext.More transition) trace l3 l1 h none =
+      (ThawStep.Reopens (record { level = level; step = UpWriteStep.Exits transition }), refl, (h, none, l1, l3))
+  exit_says level s TransitionNext.Undefined trace l3 l1 h none =
+      (ThawStep.Reopens (record { level = level; step = UpWriteStep.Exits Transition.Loads }), refl, (h, none, l1, l3))
+  exit_says level s (TransitionNext.Made state) trace l3 l1 h none =
+      (thaw_opens (level - 1), refl, opens_says c holder (level - 1) trace added (omega (arith, l3)) h none)
+
+  -- each event of an up-write
+  reopens : (hook : HookAnswer) (level : ℕ) (s : UpWriteStep) → StepSays c holder (ThawStep.Reopens (record { level = level; step = s })) earlier added →
+      After hook (ThawStep.Reopens (record { level = level; step = s }))
+  reopens hook level UpWriteStep.ClearsBlock h = (
+    ThawStep.Reopens (record { level = level; step = UpWriteStep.Exits Transition.Loads }),
+    refl,
+    (ap (λ (l : List Action). Action.Reopen level ∷ l) h.0 ∙ opens_one holder level h.2 h.3, h.1, h.2, h.3),
+  )
+  reopens hook level (UpWriteStep.Exits Transition.Loads) h =
+      exit_says level (UpWriteStep.Exits Transition.Loads) (transition_after on_exit Transition.Loads value)
+      (longer hook (ThawStep.Reopens (record { level = level; step = UpWriteStep.Exits Transition.Loads }))) h.3 h.2 h.0 h.1
+  reopens hook level (UpWriteStep.Exits (Transition.Exchanges from to)) h =
+      exit_says level (UpWriteStep.Exits (Transition.Exchanges from to)) (transition_after on_exit (Transition.Exchanges from to) value)
+      (longer hook (ThawStep.Reopens (record { level = level; step = UpWriteStep.Exits (Transition.Exchanges from to) }))) h.3 h.2 h.0 h.1
+
+  thaw_event : (hook : HookAnswer) (step : ThawStep) → StepSays c holder step earlier added → After hook step
+  thaw_event hook ThawStep.Locks h = locks hook h
+  thaw_event hook ThawStep.LoadsStage h = loads_stage hook h
+  thaw_event hook ThawStep.LoadsHolders h = loads_holders hook h
+  thaw_event hook (ThawStep.Leaves held) h =
+      (ThawStep.Releases (Ok Reply.Unit), refl, (rw h.1 (ap (λ (l : List Action). Action.Leave holder ∷ l) h.0), tt))
+  thaw_event hook ThawStep.LoadsSuperblock h = loads_superblock hook h
+  thaw_event hook ThawStep.LeavesReadOnly h = (ThawStep.UnfreezesReadOnly, refl, (ap (λ (l : List Action). Action.Leave holder ∷ l) h.0, h.1, h.2))
+  thaw_event hook ThawStep.UnfreezesReadOnly h =
+      (ThawStep.Releases (Ok Reply.Unit), refl, (rw (h.2, h.1) (ap (λ (l : List Action). Action.Stage 0 ∷ l) h.0), tt))
+  thaw_event hook ThawStep.LeavesLast h = leaves_last hook h
+  thaw_event hook ThawStep.SetsUnfrozen h =
+      (ThawStep.Reopens (reopening 3), refl, (ap (λ (l : List Action). Action.Stage 0 ∷ l) h.0, (h.1, h.2), omega arith, omega arith))
+  thaw_event hook (ThawStep.Reopens u) h = reopens hook u.level u.step h
+  thaw_event hook (ThawStep.Releases answer) h = (lock_leaves c holder answer value hook earlier added h, tt)
+
+pub thaw_kept : (c : Config) (t : ℕ) (holder : Holder) → Kept (ThawAt c t holder) c t (Op.Thaw holder)
+thaw_kept c t holder = record {
+  first = (ThawStep.Locks, refl, (refl, (refl, refl, refl)));
+  more = λ phase value hook earlier added here.
+      subst (λ (x : Phase). SaysAfter (ThawAt c t holder) c (Op.Thaw holder) x value hook earlier added) (sym here.1)
+      (thaw_event c t holder value earlier added hook here.0 here.2);
+  short = λ trace phase added here. tt;
+}

@@ -1,0 +1,189 @@
+-- Traces of a want and of a drop. A want may stand in a longer operation, which has done something before it.
+use Rattle.std.proofs.{Common.{◌≡◌, ℕ, ◌≤◌, Bool, true, false, refl, sym, ap, subst, inl, inr, arith}, lemmas.Bool.{eq-eqb, cases_Bool}}
+use Rattle.std.specs.Prelude.{◌+◌, ◌&&◌, ◌||◌, ◌==◌, ◌⊎◌, Ok, Err, List, [], ◌∷◌, length}
+use Rattle.access_model.specs.{Replies.map_next, declared.{actions.{Action.Action, Gate.Gate}, errors.GateError.GateError, replies.Next.Next}}
+use Rattle.cpu_words.specs.{Hooks.HookAnswer, Touches.{event_of, found_by}, declared.events.Event.Event}
+use Rattle.mount_counts.specs.{Phases.{has_flag, want_next, want_after}, declared.phases.{MountPhase.MountPhase, Want.Want, WantStep.WantStep}}
+use Rattle.gate_world.specs.{Found.{each_but_first, finds_hold, looks_again, holds_since, adds_to, newest}, Traces.{IsHonest, most_events, IsShort}}
+use Rattle.gate_world.specs.{Views.{with_hook, actions_after}, declared.{config.Config.Config, operations.Op.Op, views.Traced.Traced, work.Phase.Phase}}
+use Rattle.gate_schedules.proofs.{operations.calls.Trace.or_other, traces.Says.{Says, SaysAfter, Kept, event_at}}
+
+-- a want of this mount, processor and way to wait, at this step
+abbrev pub want_at : ℕ → ℕ → Bool → WantStep → Want
+want_at m p wait step = record { mount = m; cpu = p; wait = wait; step = step }
+
+-- the same as a phase of its own operation
+abbrev pub want : ℕ → ℕ → Bool → WantStep → Phase
+want m p wait step = Phase.Mounts (MountPhase.Want (want_at m p wait step))
+
+-- how many events a want that waits for nobody has done before a step, at most
+abbrev events_before : WantStep → ℕ
+events_before WantStep.CountsUp = 0
+events_before WantStep.LoadsHold = 1
+events_before WantStep.LoadsRemount = 2
+events_before WantStep.LoadsReadOnly = 3
+events_before WantStep.LoadsSuperblock = 4
+events_before (WantStep.CountsDown refusal) = 5
+
+-- the events on top of these are an addition to the mount's count, and after it loads that found HOLD
+abbrev HeldSince : ℕ → List Traced → List Traced → Type 0
+HeldSince m below [] = ⊥
+HeldSince m below (e ∷ earlier) =
+    ((adds_to m e.event.word e.event.touch ≡ true) × (earlier ≡ below)) ⊎ ((finds_hold m e.event ≡ true) × HeldSince m below earlier)
+
+and_true : (a b : Bool) → a ≡ true → b ≡ true → (a && b) ≡ true
+and_true a b h k = rw (h, k) refl
+
+-- so the newest of them is the addition, or has found HOLD as has each before it back to the addition
+began : (m : ℕ) (below trace : List Traced) → HeldSince m below trace →
+    (newest (λ d. adds_to m d.word d.touch) trace || holds_since m trace) ≡ true
+began m below [] h = absurd h
+began m below (e ∷ earlier) (inl h) = rw h.0 refl
+began m below (e ∷ earlier) (inr h) =
+    or_other (adds_to m e.event.word e.event.touch) (holds_since m (e ∷ earlier))
+    (and_true (finds_hold m e.event) (newest (λ d. adds_to m d.word d.touch) earlier || holds_since m earlier) h.0
+    (began m below earlier h.1))
+
+-- and where nothing is below them, each but the oldest has found HOLD
+alone : (m : ℕ) (trace : List Traced) → HeldSince m [] trace → each_but_first (finds_hold m) trace ≡ true
+alone m [] h = absurd h
+alone m (e ∷ []) h = refl
+alone m (e ∷ (d ∷ earlier)) (inl h) = absurd (cc)
+alone m (e ∷ (d ∷ earlier)) (inr h) =
+    and_true (finds_hold m e.event) (each_but_first (finds_hold m) (d ∷ earlier)) h.0 (alone m (d ∷ earlier) h.1)
+
+-- a want that adds has done nothing on top of what came before it, one that looks for HOLD has found nothing but HOLD since its addition,
+-- and one that takes its count back has the cause of its refusal in its trace
+abbrev HasFound : Config → ℕ → ℕ → Bool → List Traced → WantStep → List Traced → Type 0
+HasFound c m p wait below WantStep.CountsUp trace = trace ≡ below
+HasFound c m p wait below WantStep.LoadsHold trace = HeldSince m below trace
+HasFound c m p wait below (WantStep.CountsDown refusal) trace = IsHonest c (Op.Want m p wait) refusal trace
+HasFound c m p wait below step trace = Unit {0}
+
+-- what a trace says at a step of a want that began on top of these actions and events: it has added nothing yet
+abbrev pub WantSays : Config → ℕ → ℕ → Bool → List Action → List Traced → WantStep → List Traced → List Action → Type 0
+WantSays c m p wait base below step trace added =
+    (added ≡ base) × (wait ≡ false → length trace ≤ length below + events_before step) × HasFound c m p wait below step trace
+
+-- the same of what comes after an event, which is at some step
+abbrev WantGoes : Config → ℕ → ℕ → Bool → List Action → List Traced → List Traced → List Action → Want → Type 0
+WantGoes c m p wait base below trace added x =
+    (step : WantStep) × (x ≡ want_at m p wait step) × WantSays c m p wait base below step trace added
+
+-- what a trace says by what comes after an event of a want, whatever operation the want stands in
+abbrev pub WantNext : Config → ℕ → ℕ → Bool → List Action → List Traced → List Traced → List Action → Next Want → Type 0
+WantNext c m p wait base below trace added (Next.Go x) = WantGoes c m p wait base below trace added x
+WantNext c m p wait base below trace added (Next.Wait x) =
+    WantGoes c m p wait base below trace added x × (wait ≡ true) × (holds_since m trace ≡ true) ×
+    (below ≡ [] → looks_again (finds_hold m) trace ≡ true)
+WantNext c m p wait base below trace added (Next.Done (Ok reply)) =
+    (added ≡ Action.Grant (Gate.Mount m) ∷ base) × (wait ≡ false → length trace ≤ length below + 6)
+WantNext c m p wait base below trace added (Next.Done (Err refusal)) =
+    (added ≡ base) × IsHonest c (Op.Want m p wait) refusal trace × (wait ≡ false → length trace ≤ length below + 6)
+
+-- what the trace of a want's own operation says at a phase
+abbrev pub WantAt : Config → ℕ → ℕ → Bool → List Traced → Phase → List Action → Type 0
+WantAt c m p wait trace phase added =
+    (step : WantStep) × (phase ≡ want m p wait step) × WantSays c m p wait [] [] step trace added
+
+within_six : (step : WantStep) (n : ℕ) → n ≤ 0 + events_before step → n ≤ 6
+within_six WantStep.CountsUp n h = omega (arith, h)
+within_six step n h = omega (arith, h)
+
+want_short : (c : Config) (m p : ℕ) (wait : Bool) (trace : List Traced) → (wait ≡ false → length trace ≤ 6) →
+    IsShort (most_events c (Op.Want m p wait)) trace
+want_short c m p true trace h = tt
+want_short c m p false trace h = h refl
+
+-- the last event of a refused want leaves its cause
+cause_stays : (c : Config) (m p : ℕ) (wait : Bool) (refusal : GateError) (value : ℕ) (hook : HookAnswer) (earlier : List Traced) →
+    IsHonest c (Op.Want m p wait) refusal earlier → IsHonest c (Op.Want m p wait) refusal
+    (with_hook (event_at (want m p wait (WantStep.CountsDown refusal)) value hook) hook ∷ earlier)
+cause_stays c m p wait GateError.ReadOnly value hook earlier h = h
+cause_stays c m p wait GateError.Again value hook earlier h = h
+cause_stays c m p wait refusal value hook earlier h = h
+
+module _ (c : Config) (m p : ℕ) (base : List Action) (below : List Traced) (value : ℕ) (hook : HookAnswer) (earlier : List Traced)
+    (added : List Action) where
+  -- what the trace says after the event of a step
+  abbrev pub AfterWant : Bool → WantStep → Type 0
+  AfterWant wait step =
+      let x : Want = want_at m p wait step in
+      let found : ℕ = found_by (want_next x step).1 value in
+      WantNext c m p wait base below (with_hook (event_of (want_next x step).0 (want_next x step).1 value) hook ∷ earlier)
+      (actions_after (want_after x step found).1 added) (want_after x step found).0
+
+  hold_found : (wait : Bool) → WantSays c m p wait base below WantStep.LoadsHold earlier added → has_flag value 2 ≡ true → AfterWant wait WantStep.LoadsHold
+  hold_found true h f =
+      let e : Event = event_at (want m p true WantStep.LoadsHold) value hook in
+      let finds : finds_hold m e ≡ true = rw (eq-eqb m m refl, f) refl in
+      rw f (
+        (WantStep.LoadsHold, refl, (h.0, λ q. absurd (cc), inr (finds, h.2))),
+        refl,
+        and_true (finds_hold m e) (newest (λ d. adds_to m d.word d.touch) earlier || holds_since m earlier) finds
+            (began m below earlier h.2),
+        λ none. and_true (finds_hold m e) (each_but_first (finds_hold m) earlier) finds
+            (alone m earlier (subst (λ l. HeldSince m l earlier) none h.2)),
+      )
+  hold_found false h f = rw f (WantStep.CountsDown GateError.Again, refl, (h.0, λ q. omega (arith, h.1 q), (refl, rw (eq-eqb m m refl, f) refl)))
+
+  -- each event of a want keeps what its trace says, whatever operation the want stands in
+  pub want_event : (wait : Bool) (step : WantStep) → WantSays c m p wait base below step earlier added → AfterWant wait step
+  want_event wait WantStep.CountsUp h = (WantStep.LoadsHold, refl, (h.0, λ q. omega (arith, h.1 q), inl (eq-eqb m m refl, h.2)))
+  want_event wait WantStep.LoadsHold h =
+      elim (cases_Bool (has_flag value 2)) [
+        | inl f ↦ hold_found wait h f
+        | inr f ↦ rw f (WantStep.LoadsRemount, refl, (h.0, λ q. omega (arith, h.1 q), tt))
+      ]
+  want_event wait WantStep.LoadsRemount h =
+      elim (cases_Bool (value == 0)) [
+        | inl f ↦ rw f (WantStep.LoadsReadOnly, refl, (h.0, λ q. omega (arith, h.1 q), tt))
+        | inr f ↦ rw f (WantStep.CountsDown GateError.ReadOnly, refl, (h.0, λ q. omega (arith, h.1 q), rw f refl))
+      ]
+  want_event wait WantStep.LoadsReadOnly h =
+      elim (cases_Bool (has_flag value 1)) [
+        | inl f ↦ rw f (WantStep.CountsDown GateError.ReadOnly, refl, (h.0, λ q. omega (arith, h.1 q), rw (eq-eqb m m refl, f) refl))
+        | inr f ↦ rw f (WantStep.LoadsSuperblock, refl, (h.0, λ q. omega (arith, h.1 q), tt))
+      ]
+  want_event wait WantStep.LoadsSuperblock h =
+      elim (cases_Bool (value == 0)) [
+        | inl f ↦ rw f (ap (λ (l : List Action). Action.Grant (Gate.Mount m) ∷ l) h.0, λ q. omega (arith, h.1 q))
+        | inr f ↦ rw f (WantStep.CountsDown GateError.ReadOnly, refl, (h.0, λ q. omega (arith, h.1 q), rw f refl))
+      ]
+  want_event wait (WantStep.CountsDown refusal) h =
+      (h.0, cause_stays c m p wait refusal value hook earlier h.2, λ q. omega (arith, h.1 q))
+
+-- what comes after an event of a want that stands alone
+want_says : (c : Config) (m p : ℕ) (wait : Bool) (e : Traced) (earlier : List Traced) (added : List Action) (n : Next Want) →
+    WantNext c m p wait [] [] (e ∷ earlier) added n →
+    Says (WantAt c m p wait) c (Op.Want m p wait) (e ∷ earlier) (map_next Phase.Mounts (map_next MountPhase.Want n)) added
+want_says c m p wait e earlier added (Next.Go x) h = (h.0, ap (λ y. Phase.Mounts (MountPhase.Want y)) h.1, h.2)
+want_says c m p wait e earlier added (Next.Wait x) h = ((h.0.0, ap (λ y. Phase.Mounts (MountPhase.Want y)) h.0.1, h.0.2), (h.1, h.3 refl))
+want_says c m p wait e earlier added (Next.Done (Ok reply)) h = ((h.0, tt), want_short c m p wait (e ∷ earlier) h.1)
+want_says c m p wait e earlier added (Next.Done (Err refusal)) h = ((h.0, h.1), want_short c m p wait (e ∷ earlier) h.2)
+
+pub want_kept : (c : Config) (t m p : ℕ) (wait : Bool) → Kept (WantAt c m p wait) c t (Op.Want m p wait)
+want_kept c t m p wait = record {
+  first = (WantStep.CountsUp, refl, (refl, λ q. omega arith, refl));
+  more = λ phase value hook earlier added here.
+      let x : Want = want_at m p wait here.0 in
+      let found : ℕ = found_by (want_next x here.0).1 value in
+      subst (λ (y : Phase). SaysAfter (WantAt c m p wait) c (Op.Want m p wait) y value hook earlier added) (sym here.1)
+      (want_says c m p wait (with_hook (event_of (want_next x here.0).0 (want_next x here.0).1 value) hook) earlier
+      (actions_after (want_after x here.0 found).1 added) (want_after x here.0 found).0
+      (want_event c m p [] [] value hook earlier added wait here.0 here.2));
+  short = λ trace phase added here. want_short c m p wait trace (λ q. within_six here.0 (length trace) (here.2.1 q));
+}
+
+-- what a drop's trace says at a phase
+abbrev pub DropAt : ℕ → ℕ → List Traced → Phase → List Action → Type 0
+DropAt m p trace phase added = (phase ≡ Phase.Mounts (MountPhase.Drop m p)) × (trace ≡ []) × (added ≡ [])
+
+pub drop_kept : (c : Config) (t m p : ℕ) → Kept (DropAt m p) c t (Op.DropMount m p)
+drop_kept c t m p = record {
+  first = (refl, refl, refl);
+  more = λ phase value hook earlier added here.
+      subst (λ (x : Phase). SaysAfter (DropAt m p) c (Op.DropMount m p) x value hook earlier added) (sym here.0)
+      ((ap (λ (l : List Action). Action.Return (Gate.Mount m) ∷ l) here.2, tt), omega (arith, ap length here.1));
+  short = λ trace phase added here. omega (arith, ap length here.1);
+}

@@ -1,0 +1,55 @@
+-- A want waits only where another task has HOLD set at its mount, and is refused only for its cause, whether it is an operation of its own
+-- or stands in a longer one.
+use Rattle.std.{proofs.{Common.{◌≡◌, ℕ, ◌<◌, Bool, true, false, ap, inl, inr}, lemmas.Bool.{cases_Bool, Decides.eqb_tells}}, specs.Prelude.{List, Ok, Err, ◌∷◌}}
+use Rattle.access_model.specs.{Replies.map_next, declared.replies.Next.Next}
+use Rattle.cpu_words.specs.{Touches.found_by, Words.read}
+use Rattle.mount_counts.specs.{Phases.{has_flag, want_next, want_after, hold_found}, Roles.has_hold}
+use Rattle.mount_counts.specs.declared.phases.{MountPhase.MountPhase, Want.Want, WantStep.WantStep}
+use Rattle.mount_counts.proofs.laws.Bits.{hold_set}
+use Rattle.gate_world.specs.{Causes.{WantRefused, last_question}, KeptCauses.WantCause, Roles.want_role, Rules.{role_of, IsGood, AtMount}, Waits.HasCulprit}
+use Rattle.gate_world.specs.{Waits.HasReason, Worlds.World, declared.{config.Config.Config, work.Phase.Phase}}
+use Rattle.gate_schedules.proofs.frames.Owners.{who_holds}
+
+module _ (c : Config) (w : World) (earlier : List World) (good : IsGood c w) (t : ℕ) (lt : t < c.tasks) (x : Want) where
+  -- where this comes after an event of the want, it is no wait, or another task has HOLD set; a refusal has its cause
+  abbrev pub NextWaits : Next Want → Type 0
+  NextWaits (Next.Go y) = Unit {0}
+  NextWaits (Next.Wait y) = HasCulprit c w t (Phase.Mounts (MountPhase.Want x))
+  NextWaits (Next.Done (Ok reply)) = Unit {0}
+  NextWaits (Next.Done (Err refusal)) = WantRefused c t x.mount (last_question t (w ∷ earlier)) refusal
+
+  -- HOLD was found set, and this task has not set it
+  holder : x.mount < c.mounts → has_hold (role_of x.mount (w.views t).phase) ≡ 0 → has_flag (w.words.flags x.mount) 2 ≡ true →
+      HasCulprit c w t (Phase.Mounts (MountPhase.Want x))
+  holder there mine h =
+      let who : (y : ℕ) × (y < c.tasks) × (y ≡ t → ⊥) × (has_hold (role_of x.mount (w.views y).phase) ≡ 1) =
+      who_holds c w good t lt x.mount there (hold_set (w.words.flags x.mount) (good (AtMount x.mount) there).bits h) mine in
+      record { task = who.0; there = who.1; other = who.2; stands = who.3 }
+
+  -- so, where the want waits, another task has it set
+  hold_waits : (b : Bool) → x.mount < c.mounts → has_hold (role_of x.mount (w.views t).phase) ≡ 0 →
+      has_flag (w.words.flags x.mount) 2 ≡ true → NextWaits (hold_found x b)
+  hold_waits true there mine h = holder there mine h
+  hold_waits false there mine h = tt
+
+  -- each step of a want
+  pub want_waits : (s : WantStep) → x.mount < c.mounts → role_of x.mount (w.views t).phase ≡ want_role x.cpu s →
+      WantCause c t w earlier x.mount s → NextWaits (want_after x s (found_by (want_next x s).1 (read w.words (want_next x s).0))).0
+  want_waits WantStep.CountsUp there e cause = tt
+  want_waits WantStep.LoadsHold there e cause =
+      elim (cases_Bool (has_flag (w.words.flags x.mount) 2)) [
+        | inl h ↦ rw h (hold_waits x.wait there (ap has_hold e) h)
+        | inr h ↦ rw h tt
+      ]
+  want_waits WantStep.LoadsRemount there e cause = elim (eqb_tells w.words.remount 0) [ inl h ↦ rw h.0 tt | inr h ↦ rw h.0 tt ]
+  want_waits WantStep.LoadsReadOnly there e cause = elim (cases_Bool (has_flag (w.words.flags x.mount) 1)) [ inl h ↦ rw h tt | inr h ↦ rw h tt ]
+  want_waits WantStep.LoadsSuperblock there e cause = elim (eqb_tells w.words.sb 0) [ inl h ↦ rw h.0 tt | inr h ↦ rw h.0 tt ]
+  want_waits (WantStep.CountsDown refusal) there e cause = cause
+
+  -- so it is of a want's own operation
+  pub next_waits : (n : Next Want) → NextWaits n →
+      HasReason c w earlier t (Phase.Mounts (MountPhase.Want x)) (map_next Phase.Mounts (map_next MountPhase.Want n))
+  next_waits (Next.Go y) h = tt
+  next_waits (Next.Wait y) h = h
+  next_waits (Next.Done (Ok reply)) h = tt
+  next_waits (Next.Done (Err refusal)) h = h

@@ -1,0 +1,5 @@
+pub mod Alike
+pub mod Events
+pub mod Trace
+pub mod Causes
+pub mod Laws

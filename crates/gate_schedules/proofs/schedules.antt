@@ -1,0 +1,14 @@
+pub mod Beginnings
+pub mod Phases
+pub mod Entries
+pub mod Schedule
+pub mod Lists
+pub mod Snapshots
+pub mod Rests
+pub mod Between
+pub mod Standing
+pub mod Leads
+pub mod Whole
+pub mod Runs
+pub mod LevelRuns
+pub mod Deadlocks

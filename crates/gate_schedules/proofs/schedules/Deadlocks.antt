@@ -1,0 +1,27 @@
+-- Of every schedule: a reply is near, or each operation under way is kept; and all that is under way settles.
+use Rattle.std.specs.Prelude.{List}
+use Rattle.gate_world.specs.{Configs.IsWithin, Headline.world_after, declared.config.Config.Config}
+use Rattle.gate_world.specs.declared.entries.Entry.{Entry}
+use Rattle.gate_schedules.proofs.operations.{Layers.{phase_ends, phase_keeps}, deadlocks.{KeptStays.kept_stays, Plain.world_replies, Settles.world_settles}}
+use Rattle.gate_schedules.proofs.{operations.deadlocks.Whole.world_goes, schedules.Whole.whole_rule}
+use Rattle.gate_schedules.specs.operations.Progress.{EventsKeepRule, EventsMoveModel, EverybodySettles, KeptStaysKept, NobodyIsDeadlocked, RepliesOrIsFrozen}
+use Rattle.gate_schedules.specs.operations.Ranks.{most_events_to_reply, most_events_to_settle}
+
+module _ (c : Config) (lim : IsWithin c) where
+  events_keep_rule : EventsKeepRule c
+  events_keep_rule w good t lt hook phase at = ((phase_keeps c phase).step lim w good t lt hook at).0
+
+  pub whole_progress : (es : List Entry) → NobodyIsDeadlocked c (most_events_to_reply c) es
+  whole_progress es = world_goes c lim events_keep_rule (phase_ends c) (world_after c es) (whole_rule c lim es)
+
+  pub whole_settles : (es : List Entry) → EverybodySettles c (most_events_to_settle c) es
+  whole_settles es = world_settles c lim events_keep_rule (world_after c es) (whole_rule c lim es)
+
+  pub whole_replies : (es : List Entry) → RepliesOrIsFrozen c (most_events_to_reply c) es
+  whole_replies es = world_replies c lim events_keep_rule (world_after c es) (whole_rule c lim es)
+
+  events_move_model : EventsMoveModel c
+  events_move_model w good t lt hook phase at = ((phase_keeps c phase).step lim w good t lt hook at).1
+
+  pub whole_kept : (es : List Entry) → KeptStaysKept c es
+  whole_kept es = kept_stays c events_move_model (world_after c es) (whole_rule c lim es)

@@ -1,0 +1,106 @@
+-- Each entry, and so each schedule, keeps what is said of the causes of refusals.
+use Rattle.std.proofs.{Common.{◌≡◌, ℕ, ◌<◌, refl, sym, ap, subst, inl, inr, arith}, lemmas.Bool.{ltb-true, cases_Bool, Decides.eqb_tells}}
+use Rattle.std.specs.Prelude.{nat_lt, Option, Some, None, List, [], ◌∷◌}
+use Rattle.finite_sums.proofs.Totals.{update_at, update_off}
+use Rattle.access_model.specs.declared.errors.GateError.{GateError}
+use Rattle.cpu_words.specs.{Hooks.HookAnswer, Names.IsWord, Touches.left}
+use Rattle.gate_world.specs.{Beginnings.{first_phase, view_refusal}, Causes.{trail, since_begun}, Fits.Fits, KeptCauses.{CauseOf, Causes}}
+use Rattle.gate_world.specs.{Rules.{IsGood, Fitting}, Views.{begun_view, view_after, held_of}, Work.next_of}
+use Rattle.gate_world.specs.Worlds.{World, after_begin, begin_of, after_step, step_of, value_at, happens, run}
+use Rattle.gate_world.specs.declared.entries.Entry.{Entry, TheVariants.{Begins, Steps}}
+use Rattle.gate_world.specs.declared.{config.Config.Config, operations.Op.Op, views.View.View, work.Phase.Phase}
+use Rattle.gate_schedules.proofs.frames.{Keeps.{IsQuiet, extents_touched}, Quiet.write_quiet}
+use Rattle.gate_schedules.proofs.operations.Layers.{phase_keeps, op_keeps}
+
+-- a task that is at an operation had begun it, so its worlds go on
+pub begun_on : (t : ℕ) (w : World) (earlier : List World) (phase : Phase) → (w.views t).phase ≡ Some phase →
+    since_begun t (w ∷ earlier) ≡ w ∷ since_begun t earlier
+begun_on t w earlier phase e = rw e refl
+
+module _ (c : Config) (w : World) (earlier : List World) (good : IsGood c w) (holds : Causes c w earlier) where
+  -- a task that another entry leaves alone
+  module _ (next : World) (after : IsGood c next) (t : ℕ) (lt : t < c.tasks) (quiet : IsQuiet c w next) where
+    kept : (p : Option Phase) → Fits c t (held_of (w.views t)) p → (next.views t).phase ≡ p →
+        (w.views t).phase ≡ p → CauseOf c t w (since_begun t earlier) p → CauseOf c t next (since_begun t (w ∷ earlier)) p
+    kept None f e was h = tt
+    kept (Some phase) f e was h =
+        subst (λ (ws : List World). CauseOf c t next ws (Some phase)) (sym (begun_on t w earlier phase was))
+        ((phase_keeps c phase).stays w next (since_begun t earlier) after t f e was quiet h)
+
+    pub alone : next.views t ≡ w.views t → CauseOf c t next (since_begun t (w ∷ earlier)) (next.views t).phase
+    alone same = kept (next.views t).phase
+        (subst (λ (v : View). Fits c t (held_of (w.views t)) v.phase) (sym same) (good Fitting t lt)) refl
+        (ap (λ (v : View). v.phase) (sym same))
+        (subst (λ (v : View). CauseOf c t w (since_begun t earlier) v.phase) (sym same) (holds t lt))
+
+  same_causes : Causes c w (w ∷ earlier)
+  same_causes t lt = alone w good t lt (record { mounts = λ m a b. refl; levels = λ i a b. refl }) refl
+
+  step_causes : (u : ℕ) → u < c.tasks → (hook : HookAnswer) (p : Option Phase) → (w.views u).phase ≡ p → IsGood c (step_of w u hook p) →
+      Causes c (step_of w u hook p) (w ∷ earlier)
+  step_causes u lu hook None e after t lt = same_causes t lt
+  step_causes u lu hook (Some phase) e after t lt =
+      let next : World = after_step w u phase hook in
+      let v : View = view_after (w.views u) phase (value_at w.words phase hook) hook in
+      elim (eqb_tells t u) [
+        | inl h ↦
+            let is : next.views u ≡ v = update_at w.views u v in
+            let own : CauseOf c u next (w ∷ since_begun u earlier) (next.views u).phase =
+            subst (CauseOf c u next (w ∷ since_begun u earlier)) (sym (ap (λ (x : View). x.phase) is))
+            ((phase_keeps c phase).causes w (since_begun u earlier) good u lu hook e after (ap (λ (x : View). x.phase) is)
+            (subst (CauseOf c u w (since_begun u earlier)) e (holds u lu))) in
+            let there : CauseOf c u next (since_begun u (w ∷ earlier)) (next.views u).phase =
+            subst (λ (ws : List World). CauseOf c u next ws (next.views u).phase) (sym (begun_on u w earlier phase e)) own in
+            subst (λ y. CauseOf c y next (since_begun y (w ∷ earlier)) (next.views y).phase) (sym h.1) there
+        | inr h ↦
+            let fits : Fits c u (held_of (w.views u)) (Some phase) =
+            subst (Fits c u (held_of (w.views u))) e (good Fitting u lu) in
+            let there : IsWord (extents_touched c.tasks c) (next_of phase hook).0 =
+            (phase_keeps c phase).word c.tasks (omega arith) u lu (held_of (w.views u)) hook fits in
+            alone next after t lt
+            (write_quiet c w good next.views (left (next_of phase hook).1 (value_at w.words phase hook)) (next_of phase hook).0 there after)
+            (update_off w.views u v t h.1)
+      ]
+
+  first_causes : (u : ℕ) (op : Op) (next : World) → CauseOf c u next (since_begun u (w ∷ earlier)) (Some (first_phase c u op))
+  first_causes u op next = (op_keeps c op).cause u next (since_begun u (w ∷ earlier))
+
+  begin_causes : (u : ℕ) (op : Op) (r : Option GateError) → IsGood c (begin_of c w u op r) → Causes c (begin_of c w u op r) (w ∷ earlier)
+  begin_causes u op (Some refused) after t lt = same_causes t lt
+  begin_causes u op None after t lt =
+      let next : World = after_begin c w u op in
+      let v : View = begun_view (w.views u) op (first_phase c u op) in
+      elim (eqb_tells t u) [
+        | inl h ↦
+            let is : next.views u ≡ v = update_at w.views u v in
+            let there : CauseOf c u next (since_begun u (w ∷ earlier)) (next.views u).phase =
+            subst (CauseOf c u next (since_begun u (w ∷ earlier))) (sym (ap (λ (x : View). x.phase) is)) (first_causes u op next) in
+            subst (λ y. CauseOf c y next (since_begun y (w ∷ earlier)) (next.views y).phase) (sym h.1) there
+        | inr h ↦ alone next after t lt (record { mounts = λ m a b. refl; levels = λ i a b. refl }) (update_off w.views u v t h.1)
+      ]
+
+  pub happens_causes : (e : Entry) → IsGood c (happens c w e) → Causes c (happens c w e) (w ∷ earlier)
+  happens_causes (Begins t op) after =
+      elim (cases_Bool (nat_lt t c.tasks)) [
+        | inl h ↦ rw h (begin_causes t op (view_refusal c (w.views t) op) (rw h at after))
+        | inr h ↦ rw h same_causes
+      ]
+  happens_causes (Steps t hook) after =
+      elim (cases_Bool (nat_lt t c.tasks)) [
+        | inl h ↦ rw h (step_causes t (ltb-true t c.tasks h) hook (w.views t).phase refl (rw h at after))
+        | inr h ↦ rw h same_causes
+      ]
+
+-- along a schedule whose entries keep the rule
+module _ (c : Config) (keeps : (w : World) → IsGood c w → (e : Entry) → IsGood c (happens c w e)) where
+  pub record TrailHolds (w : World) (earlier : List World) (es : List Entry) : Type 0 where
+    pub rest : List World
+    pub is : trail c earlier w es ≡ run c w es ∷ rest
+    pub causes : Causes c (run c w es) rest
+
+  pub trail_holds : (es : List Entry) (w : World) (earlier : List World) → IsGood c w → Causes c w earlier → TrailHolds w earlier es
+  trail_holds [] w earlier good h = record { rest = earlier; is = refl; causes = h }
+  trail_holds (e ∷ es) w earlier good h =
+      let t : TrailHolds (happens c w e) (w ∷ earlier) es = trail_holds es (happens c w e) (w ∷ earlier) (keeps w good e)
+      (happens_causes c w earlier good h e (keeps w good e)) in
+      record { rest = t.rest; is = t.is; causes = t.causes }

@@ -1,0 +1,37 @@
+-- A phase that fits: the word of its next event is there and has a place, the action of the event can be done, and the phase that comes
+-- fits.
+use Rattle.std.{proofs.Common.{ℕ, ◌<◌, arith}, specs.Prelude.{Option, Some, None}}
+use Rattle.cpu_words.{proofs.Places.place_small, specs.{Hooks.HookAnswer, Names.{IsWord, place, words_in_all}}}
+use Rattle.gate_world.specs.{Configs.{IsWithin, extents_kept, extents_among}, Fits.{PhaseFits, Fits, ActionFits}}
+use Rattle.gate_world.specs.{Holdings.{Holdings, Agree, held_after}, Views.phase_after, Work.{next_of, after_of}}
+use Rattle.gate_world.specs.declared.{config.Config.Config, work.Phase.Phase}
+use Rattle.gate_schedules.proofs.frames.{Keeps.word_kept, Places.few_among}
+use Rattle.gate_schedules.proofs.operations.Layers.{phase_keeps}
+
+module _ (c : Config) (within : IsWithin c) (t : ℕ) (held : Holdings) where
+  -- the word of its next event is there
+  pub word_there : t < c.tasks → (phase : Phase) (hook : HookAnswer) → PhaseFits c t held phase →
+      IsWord (extents_kept c) (next_of phase hook).0
+  word_there lt phase hook f = word_kept c within c.tasks _ ((phase_keeps c phase).word c.tasks (omega arith) t lt held hook f)
+
+  -- and has a place, whatever number within the limits the task has
+  pub word_placed : t < 64 → (phase : Phase) (hook : HookAnswer) → PhaseFits c t held phase →
+      place (next_of phase hook).0 < words_in_all
+  word_placed lt phase hook f =
+      place_small (extents_among 64 c) (few_among c within) (next_of phase hook).0
+      (word_kept c within 64 _ ((phase_keeps c phase).word 64 within.tasks t lt held hook f))
+
+  -- the action of the event can be done
+  pub action_fits : (phase : Phase) (found : ℕ) (hook : HookAnswer) → PhaseFits c t held phase →
+      ActionFits held (after_of phase found hook).1
+  action_fits phase found hook f = (phase_keeps c phase).acts within t held found hook f
+
+  -- and the phase that comes fits what it leaves
+  pub fits_after : (phase : Phase) (found : ℕ) (hook : HookAnswer) → PhaseFits c t held phase →
+      Fits c t (held_after (after_of phase found hook).1 held) (phase_after (after_of phase found hook).0)
+  fits_after phase found hook f = (phase_keeps c phase).goes within t held found hook f
+
+-- whatever the phase, holdings that agree fit alike
+pub fits_agree : (c : Config) (t : ℕ) (held seen : Holdings) → Agree c held seen → (phase : Option Phase) → Fits c t held phase → Fits c t seen phase
+fits_agree c t held seen same None fits = tt
+fits_agree c t held seen same (Some phase) fits = (phase_keeps c phase).agrees t held seen same fits

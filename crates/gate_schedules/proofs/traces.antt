@@ -1,0 +1,4 @@
+pub mod Moments
+pub mod Says
+pub mod Traced
+pub mod Cleans

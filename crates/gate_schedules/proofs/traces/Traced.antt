@@ -1,0 +1,94 @@
+-- Each view follows its operation, after every schedule.
+use Rattle.std.proofs.Common.{◌≡◌, ℕ, refl, sym, ap, ◌∙◌, subst, inl, inr, Bool, false, is_some, true≢false, ◌<◌}
+use Rattle.std.proofs.lemmas.Bool.{cases_Bool, cases_lt, lt-ltb, le-ltb}
+use Rattle.std.specs.Prelude.{true, false, Option, Some, None, nat_lt, List, ◌∷◌, ◌++◌}
+use Rattle.finite_sums.proofs.Totals.{each_updated}
+use Rattle.access_model.specs.declared.{actions.Action.Action, errors.GateError.GateError, replies.Next.Next}
+use Rattle.cpu_words.specs.{Hooks.HookAnswer, Touches.found_by}
+use Rattle.gate_world.specs.Beginnings.{first_phase, view_refusal, refusal}
+use Rattle.gate_world.specs.Courses.{course_with, course_after, course_of, IsEventOf, IsNext, IsTraced, MayFind, AllTraced, EventsMayBe}
+use Rattle.gate_world.specs.{Views.{phase_after, actions_after, with_hook, view_after, begun_view, held_of}, Work.{next_of, after_of}}
+use Rattle.gate_world.specs.Worlds.{World, begin_refusal, begin_of, value_at, step_of, happens, opening}
+use Rattle.gate_world.specs.declared.entries.Entry.{Entry, TheVariants.{Begins, Steps}}
+use Rattle.gate_world.specs.declared.{config.Config.Config, operations.Op.Op, views.{Traced.Traced, View.View}, work.Phase.Phase}
+use Rattle.gate_schedules.proofs.traces.Says.{event_at}
+
+-- where an operation stands at this phase, its event is the next, and what comes after it is the course after it
+stands_at : (comes : Next Phase) (added : List Action) (phase : Phase) (e : Traced) → phase_after comes ≡ Some phase → IsEventOf phase e →
+    IsNext comes e × (course_after comes added e ≡ course_with added (after_of phase e.event.found e.hook))
+stands_at (Next.Go there) added phase e h next =
+    let same : there ≡ phase = cc in
+    (subst (λ x. IsEventOf x e) (sym same) next, ap (λ x. course_with added (after_of x e.event.found e.hook)) same)
+stands_at (Next.Wait there) added phase e h next =
+    let same : there ≡ phase = cc in
+    (subst (λ x. IsEventOf x e) (sym same) next, ap (λ x. course_with added (after_of x e.event.found e.hook)) same)
+stands_at (Next.Done answer) added phase e h next = absurd (cc)
+
+-- an action more goes before the earlier ones
+newest : (action : Option Action) (actions added before : List Action) → actions ≡ added ++ before →
+    actions_after action actions ≡ actions_after action added ++ before
+newest None actions added before h = h
+newest (Some a) actions added before h = ap (λ l. a ∷ l) h
+
+-- the next event of a view that follows its operation
+step_follows : (c : Config) (t : ℕ) (v : View) (op : Option Op) (phase : Phase) (value : ℕ) (hook : HookAnswer) → v.phase ≡ Some phase →
+    MayFind phase (next_of phase hook).0 value → IsTraced c t v op → IsTraced c t (view_after v phase value hook) op
+step_follows c t v None phase value hook e may h = absurd (cc)
+step_follows c t v (Some op) phase value hook e may h =
+    let event : Traced = with_hook (event_at phase value hook) hook in
+    let s : IsNext (course_of c t op v.trace).comes event × (course_after (course_of c t op v.trace).comes
+    (course_of c t op v.trace).added event ≡ course_with (course_of c t op v.trace).added
+    (after_of phase (found_by (next_of phase hook).1 value) hook)) =
+    stands_at (course_of c t op v.trace).comes (course_of c t op v.trace).added phase event (sym h.phase ∙ e) (value, refl, may) in
+    record {
+      trace = (s.0, h.trace);
+      phase = ap (λ x. phase_after x.comes) (sym s.1);
+      actions = newest (after_of phase (found_by (next_of phase hook).1 value) hook).1 v.actions
+          (course_of c t op v.trace).added v.before h.actions ∙ ap (λ x. x.added ++ v.before) (sym s.1);
+      begins = h.begins;
+    }
+
+-- why an operation can't begin, where another is under way or none is
+abbrev unless_under_way : Config → View → Op → Bool → Option GateError
+unless_under_way c v op under_way = refusal c under_way (held_of v) op
+
+-- an operation that begins finds none under way
+idle_refusal : (c : Config) (v : View) (op : Op) (under_way : Bool) → unless_under_way c v op under_way ≡ None →
+    unless_under_way c v op false ≡ None
+idle_refusal c v op true h = absurd (true≢false (ap is_some h))
+idle_refusal c v op false h = h
+
+-- a beginning empties the trace, and notes the actions so far
+begin_keeps : (c : Config) (w : World) (t : ℕ) (op : Op) (refused : Option GateError) → view_refusal c (w.views t) op ≡ refused →
+    AllTraced c w →
+    AllTraced c (begin_of c w t op refused)
+begin_keeps c w t op (Some refused) e h x = h x
+begin_keeps c w t op None e h x =
+    each_updated (λ y (v : View). IsTraced c y v v.op) w.views t (begun_view (w.views t) op (first_phase c t op)) x
+    (record { trace = tt; phase = refl; actions = refl; begins = idle_refusal c (w.views t) op (is_some (w.views t).phase) e }) (λ ne. h x)
+
+begin_entry : (c : Config) (w : World) (t : ℕ) (op : Op) → AllTraced c w → AllTraced c (begin_of c w t op (begin_refusal c w t op))
+begin_entry c w t op h =
+    elim (cases_Bool (nat_lt t c.tasks)) [
+      | inl f ↦ rw f (begin_keeps c w t op (view_refusal c (w.views t) op) refl h)
+      | inr f ↦ rw f h
+    ]
+
+-- a step adds the event that the phase wants, on a word that holds what it may
+step_keeps : (c : Config) (w : World) (t : ℕ) (hook : HookAnswer) (phase : Option Phase) → (w.views t).phase ≡ phase → t < c.tasks →
+    EventsMayBe c w → AllTraced c w → AllTraced c (step_of w t hook phase)
+step_keeps c w t hook None e lt may h x = h x
+step_keeps c w t hook (Some phase) e lt may h x =
+    each_updated (λ y (v : View). IsTraced c y v v.op) w.views t (view_after (w.views t) phase (value_at w.words phase hook) hook) x
+    (step_follows c t (w.views t) (w.views t).op phase (value_at w.words phase hook) hook e (may t lt phase hook e) (h t)) (λ ne. h x)
+
+pub entry_keeps : (c : Config) (w : World) (e : Entry) → EventsMayBe c w → AllTraced c w → AllTraced c (happens c w e)
+entry_keeps c w (Begins t op) may h = begin_entry c w t op h
+entry_keeps c w (Steps t hook) may h =
+    elim (cases_lt t c.tasks) [
+      | inl l ↦ rw (lt-ltb t c.tasks l) (step_keeps c w t hook (w.views t).phase refl l may h)
+      | inr l ↦ rw (le-ltb t c.tasks l) h
+    ]
+
+pub opening_traced : (c : Config) → AllTraced c opening
+opening_traced c t = (refl, refl, refl)

@@ -1,0 +1,149 @@
+-- The law of one event of a call at the tree that is no snapshot: the rule holds after it, and it moves the shown model by its action.
+use Rattle.std.{proofs.Common.{◌≡◌, ℕ, ◌<◌, ◌∙◌, refl, sym, arith, true, false, true≢false, ap}, specs.Prelude.{Option, Some, List}}
+use Rattle.access_model.specs.{Replies.map_next, declared.replies.Next.Next}
+use Rattle.cpu_words.specs.{Hooks.HookAnswer, Touches.left, Words.{Words, read, put}, declared.names.WordName.WordName}
+use Rattle.gated_tree.specs.Calls.{phase_role, role_after}
+use Rattle.node_words.specs.Phases.{clear_after}
+use Rattle.gated_tree.specs.Phases.{after, create_after, remove_after, grow_after, move_after, mark_after, open_after}
+use Rattle.gated_tree.specs.declared.phases.TreePhase.{TreePhase}
+use Rattle.gate_schedules.specs.trees.Steps.{Notes}
+use Rattle.freeze_laws.specs.levels.Events.{SyncStep}
+use Rattle.freeze_laws.specs.stages.Roles.{Aside}
+use Rattle.gate_world.specs.{Configs.IsWithin, LevelRuns.level_in, Owners.is_owned, Roles.nodes_noted, Rules.{Files, Fitting, Holds, IsGood, Known, Owner}}
+use Rattle.gate_world.specs.{Rules.{Part, Stages, StepKeeps, SyncAt, Tree, owns, stage_role_of}, Snapshots.values_noted, Trees.tree_role_of}
+use Rattle.gate_world.specs.{Views.phase_after, Work.{next_of, after_of}, Worlds.{World, after_step, found_at, words_after}, declared.config.Config.Config}
+use Rattle.gate_world.specs.declared.{views.Traced.Traced, work.Phase.Phase}
+use Rattle.gate_schedules.proofs.{frames.{Frames.{left_alone, unwritten}, Known.{IsOwnersWork, known_after}}, mounts.Runs.apart_run}
+use Rattle.gate_schedules.proofs.trees.worlds.Parts.{call_files, is_node_word, is_snapshot, node_word, IsBesideTree, call_view, call_found, call_next}
+use Rattle.gate_schedules.proofs.trees.worlds.Parts.{gate_parts, roles_still, call_fitting, TreeKeeps, call_keeps, call_moves, IsAtTree, words_then, view_then}
+use Rattle.gate_schedules.proofs.trees.worlds.Parts.{beside_then, call_at, gate_words, touch_beside}
+
+-- a phase that owns nothing, has to do with no stage, and of which nothing is noted
+pub record IsPlain (p : Option Phase) : Type 0 where
+  pub aside : stage_role_of p ≡ Aside
+  pub owns_none : owns p ≡ 0
+
+-- a call that is no snapshot is one
+plain_call : (x : TreePhase) → is_snapshot x ≡ false → IsPlain (Some (Phase.Trees x))
+plain_call (TreePhase.Snapshot x) other = absurd (true≢false other)
+plain_call x other = record { aside = refl; owns_none = refl }
+
+-- nor does anything come after it that is one
+abbrev IsOther : Next TreePhase → Type 0
+IsOther (Next.Go x) = is_snapshot x ≡ false
+IsOther (Next.Wait x) = is_snapshot x ≡ false
+IsOther (Next.Done answer) = Unit {0}
+
+-- what comes after an event of a call is of the same call
+stays_other : {P : Type 0} (to : P → TreePhase) → ((y : P) → is_snapshot (to y) ≡ false) → (n : Next P) → IsOther (map_next to n)
+stays_other to other (Next.Go y) = other y
+stays_other to other (Next.Wait y) = other y
+stays_other to other (Next.Done answer) = tt
+
+-- so none that is no snapshot becomes one
+other_after : (x : TreePhase) (found : ℕ) (hook : HookAnswer) → is_snapshot x ≡ false → IsOther (after x found hook).0
+other_after (TreePhase.Create x) found hook other = stays_other TreePhase.Create (λ y. refl) (create_after x x.step found).0
+other_after (TreePhase.Remove x) found hook other = stays_other TreePhase.Remove (λ y. refl) (remove_after x x.step found).0
+other_after (TreePhase.Grow x) found hook other = stays_other TreePhase.Grow (λ y. refl) (grow_after x x.step found).0
+other_after (TreePhase.MoveTo x) found hook other = stays_other TreePhase.MoveTo (λ y. refl) (move_after x x.step found).0
+other_after (TreePhase.Mark x) found hook other = stays_other TreePhase.Mark (λ y. refl) (mark_after x x.step found).0
+other_after (TreePhase.OpenFile x) found hook other = stays_other TreePhase.OpenFile (λ y. refl) (open_after x x.step found).0
+other_after (TreePhase.Snapshot x) found hook other = absurd (true≢false other)
+other_after (TreePhase.ClearMarks x) found hook other = stays_other TreePhase.ClearMarks (λ y. refl) (clear_after x found).0
+
+-- and what comes after it is plain
+plain_after : (n : Next TreePhase) → IsOther n → IsPlain (phase_after (map_next Phase.Trees n))
+plain_after (Next.Go x) other = plain_call x other
+plain_after (Next.Wait x) other = plain_call x other
+plain_after (Next.Done answer) other = record { aside = refl; owns_none = refl }
+
+-- its role at the tree is the same whatever was noted
+role_same : (x : TreePhase) (noted other : ℕ → ℕ) → is_snapshot x ≡ false → phase_role noted x ≡ phase_role other x
+role_same (TreePhase.Snapshot x) noted values other = absurd (true≢false other)
+role_same x noted values other = refl
+
+role_comes : (n : Next TreePhase) (noted : ℕ → ℕ) (trace : List Traced) → IsOther n →
+    role_after (phase_role noted) n ≡ tree_role_of trace (phase_after (map_next Phase.Trees n))
+role_comes (Next.Go x) noted trace other = role_same x noted (values_noted (nodes_noted x) trace) other
+role_comes (Next.Wait x) noted trace other = role_same x noted (values_noted (nodes_noted x) trace) other
+role_comes (Next.Done answer) noted trace other = refl
+
+notes_nothing : (x : TreePhase) (values noted : ℕ → ℕ) (found : ℕ) → is_snapshot x ≡ false → Notes x values noted found
+notes_nothing (TreePhase.Snapshot x) values noted found other = absurd (true≢false other)
+notes_nothing x values noted found other = tt
+
+-- a write of a word of the tree leaves `umount`
+pub umount_same : (w : Words) (word : WordName) (n : ℕ) → is_node_word word ≡ true → (put w word n).umount ≡ w.umount
+umount_same w WordName.Used n h = refl
+umount_same w WordName.Removed n h = refl
+umount_same w (WordName.Node x) n h = refl
+umount_same w (WordName.Kids d) n h = refl
+umount_same w word n h = absurd (true≢false (sym h))
+
+-- and is none that only the owner changes
+pub not_owned : (word : WordName) → is_node_word word ≡ true → is_owned word ≡ false
+not_owned WordName.Used h = refl
+not_owned WordName.Removed h = refl
+not_owned (WordName.Node x) h = refl
+not_owned (WordName.Kids d) h = refl
+not_owned word h = absurd (true≢false (sym h))
+
+-- each level stays at an event at the tree
+pub tree_run : (tasks : ℕ) (w : World) (t : ℕ) → t < tasks → (phase : Phase) (hook : HookAnswer) → (w.views t).phase ≡ Some phase →
+    IsAtTree w phase hook → (i : ℕ) → SyncStep tasks (level_in w i) (level_in (after_step w t phase hook) i)
+tree_run tasks w t lt phase hook e at i =
+    apart_run tasks w t lt hook phase e i
+    (gate_words (SyncAt i) refl w.words (words_after w.words phase hook) (touch_beside w.words (next_of phase hook) at.touches))
+    (λ j. (at.off.roles j).inside) (λ j. (at.off.roles j).sync i) (λ j. (at.off_then.roles j).inside) (λ j. (at.off_then.roles j).sync i)
+
+-- The parts of the rule after an event at the tree before and after which the task is plain.
+module _ (c : Config) (w : World) (good : IsGood c w) (t : ℕ) (lt : t < c.tasks) (phase : Phase) (hook : HookAnswer)
+    (e : (w.views t).phase ≡ Some phase) (at : IsAtTree w phase hook) (word : is_node_word (next_of phase hook).0 ≡ true)
+    (was : IsPlain (Some phase)) (now : IsPlain (phase_after (after_of phase (found_at w.words phase hook) hook).0)) where
+  plain_work : IsOwnersWork w phase hook
+  plain_work = record {
+    changes = λ h. absurd (true≢false (sym h ∙ not_owned (next_of phase hook).0 word));
+    comes_to_own = λ h. absurd (omega (arith, h, now.owns_none));
+  }
+
+  pub plain_parts : Holds c (after_step w t phase hook) Fitting → Holds c (after_step w t phase hook) Tree →
+      Holds c (after_step w t phase hook) Files → (part : Part) → Holds c (after_step w t phase hook) part
+  plain_parts fitting tree files Owner =
+      left_alone c w t lt Owner (words_then c w good t lt phase hook e at) (view_then c w good t lt phase hook e at) (
+        umount_same w.words (next_of phase hook).0 (left (next_of phase hook).1 (read w.words (next_of phase hook).0)) word,
+        λ j. (beside_then c w good t lt phase hook e at j).remount,
+      )
+      (now.owns_none ∙ sym (ap owns e ∙ was.owns_none), λ j. (roles_still c w good t lt phase hook e at j).remounts) (good Owner)
+  plain_parts fitting tree files Stages =
+      let beside : IsBesideTree w.words (words_then c w good t lt phase hook e at) = beside_then c w good t lt phase hook e at in
+      left_alone c w t lt Stages (words_then c w good t lt phase hook e at) (view_then c w good t lt phase hook e at)
+      (unwritten beside Stages) (now.aside ∙ sym (ap stage_role_of e ∙ was.aside)) (good Stages)
+  plain_parts fitting tree files Fitting = fitting
+  plain_parts fitting tree files Known = known_after c w t phase hook good lt e plain_work
+  plain_parts fitting tree files Tree = tree
+  plain_parts fitting tree files Files = files
+  plain_parts fitting tree files part = gate_parts c w good t lt phase hook e at part refl
+
+module _ (c : Config) (within : IsWithin c) (w : World) (good : IsGood c w) (t : ℕ) (lt : t < c.tasks) (hook : HookAnswer) (x : TreePhase)
+    (other : is_snapshot x ≡ false) (e : (w.views t).phase ≡ Some (Phase.Trees x)) where
+  next_other : IsOther (call_next c within w good t lt x hook e)
+  next_other = other_after x (call_found c within w good t lt x hook e) hook other
+
+  tree_kept : TreeKeeps c within w good t lt x hook e
+  tree_kept =
+      let values : ℕ → ℕ = values_noted (nodes_noted x) (w.views t).trace in
+      call_keeps c within w good t lt x hook e values (notes_nothing x values values (call_found c within w good t lt x hook e) other)
+      (role_comes (call_next c within w good t lt x hook e) values (call_view c within w good t lt x hook e).trace next_other)
+
+  tree_keeps : StepKeeps c w t hook (Phase.Trees x)
+  tree_keeps = (
+    plain_parts c w good t lt (Phase.Trees x) hook e (call_at w x hook) (node_word x hook other) (plain_call x other)
+        (plain_after (call_next c within w good t lt x hook e) next_other) (call_fitting c within w good t lt x hook e) tree_kept.0
+        (call_files c within w good t lt x hook e tree_kept),
+    call_moves c within w good t lt x hook e tree_kept,
+  )
+
+-- The law of one event of each call at the tree but a snapshot.
+pub tree_step : (c : Config) → IsWithin c → (w : World) → IsGood c w → (t : ℕ) → t < c.tasks → (hook : HookAnswer) (x : TreePhase) →
+    is_snapshot x ≡ false → (w.views t).phase ≡ Some (Phase.Trees x) → StepKeeps c w t hook (Phase.Trees x)
+tree_step c within w good t lt hook x other e = tree_keeps c within w good t lt hook x other e

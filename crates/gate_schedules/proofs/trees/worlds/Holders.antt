@@ -1,0 +1,171 @@
+-- Who is at a level with an access at some mount: nobody has shut what it came through.
+use Rattle.finite_sums.proofs.Totals.{total_at}
+use Rattle.finite_sums.specs.Sums.{total}
+use Rattle.freeze_levels.specs.declared.{freezes.FreezeStep.FreezeStep, thaws.ThawStep.ThawStep}
+use Rattle.cpu_words.proofs.gate_counts.LevelLaws.{none_frozen, none_passed}
+use Rattle.cpu_words.specs.gate_counts.{Gates.past, Levels.{LevelRole, Passed}}
+use Rattle.gate_schedules.proofs.{frames.Stages.{stages_in, stages_right}, levels.Stands.below}
+use Rattle.gate_world.specs.{Levels.{at_level, is_frozen_whole, level_role_of}, Operations.{is_writer, some_mount}, Roles.{count_beside, down_count_role}}
+use Rattle.gate_world.specs.Roles.{freeze_stage_role, freeze_stand, place_of, remount_stage_role, reopening_role, snapshot_stage_role, stand_count}
+use Rattle.gate_world.specs.{Roles.{thaw_stage_role, thaw_stand, tree_stage_role, up_count_role}, Rules.{AtLevel, AtMount, IsGood, MountHoldsIn, Owner, Stages}}
+use Rattle.gate_world.specs.{Rules.{at_mount, stage_role_of, stage_roles}, Views.{held_at, held_of, holds_level}, Worlds.World}
+use Rattle.gate_world.specs.declared.{config.Config.Config, work.Phase.Phase}
+use Rattle.gated_tree.specs.declared.{phases.TreePhase.TreePhase, snapshots.SnapshotStep.SnapshotStep}
+use Rattle.mount_counts.specs.{Roles.{mount_as_gate, ro_bit}, declared.remounts.RemountStep.RemountStep}
+use Rattle.percpu_rwsem.specs.declared.writers.{DownWriteStep.DownWriteStep, UpWriteStep.UpWriteStep}
+use Rattle.freeze_laws.proofs.stages.Whole.{freeze_is_under_way}
+use Rattle.freeze_laws.specs.stages.Roles.{Before, Freezing, Place, passed_by}
+use Rattle.std.proofs.{Common.{Bool, ap, arith, false, inl, inr, refl, suc, sym, true, true≢false, zero, ℕ, ◌<◌, ◌≡◌, ◌≤◌, ◌⊎◌}, lemmas.Bool.cases_Bool}
+use Rattle.std.proofs.lemmas.Bool.{cases_lt, ltb-true, ne_eqb, Decides.eqb_tells}
+use Rattle.std.specs.Prelude.{Option, Some, nat_lt, ◌&&◌, ◌==◌}
+
+pub both_true : (a b : Bool) → (a && b) ≡ true → (a ≡ true) × (b ≡ true)
+both_true true b h = (refl, h)
+both_true false b h = absurd (true≢false (sym h))
+
+pub mount_there : (n : ℕ) (held : ℕ → ℕ) → some_mount n held ≡ true → (m : ℕ) × (m < n) × (0 < held m)
+mount_there zero held h = absurd (true≢false (sym h))
+mount_there (suc n) held h =
+    elim (cases_Bool (some_mount n held)) [
+      | inl e ↦ let p : (m : ℕ) × (m < n) × (0 < held m) = mount_there n held e in (p.0, omega (arith, p.1), p.2)
+      | inr e ↦ (n, omega arith, ltb-true 0 (held n) (rw e at h))
+    ]
+
+below_stand : (i level : ℕ) (r : LevelRole) → i < level → count_beside (i == level) (nat_lt i level) r ≡ Passed
+below_stand i level r lt = rw (ne_eqb i level (λ e. omega (arith, e, lt)), below i level lt) refl
+
+up_to_stand : (i level : ℕ) (r : LevelRole) → i ≤ level → r ≡ Passed → count_beside (i == level) (nat_lt i level) r ≡ Passed
+up_to_stand i level r le is =
+    elim (eqb_tells i level) [
+      | inl q ↦ rw q.0 is
+      | inr q ↦ rw (q.0, below i level (omega (arith, le, q.1))) refl
+    ]
+
+place_passed : (stage : ℕ) (place : Place) (owner : Bool) → stage ≤ suc (passed_by (Freezing stage place owner))
+place_passed stage Before owner = omega arith
+place_passed stage other owner = omega arith
+
+-- a level that is being closed isn't passed
+closing_passed : (i level : ℕ) (s : DownWriteStep) (owner : Bool) → 1 ≤ i → i ≤ passed_by (Freezing level (place_of s) owner) → i < level
+closing_passed i level (DownWriteStep.Sums sum) owner low le = omega (arith, low, le)
+closing_passed i level s owner low le = omega (arith, low, le)
+
+-- one that is being opened is passed until its store
+reopening_passed : (i level : ℕ) (s : UpWriteStep) → 1 ≤ i → i ≤ passed_by (reopening_role level s) →
+    count_beside (i == level) (nat_lt i level) (up_count_role s) ≡ Passed
+reopening_passed i level UpWriteStep.ClearsBlock low le = up_to_stand i level Passed le refl
+reopening_passed i level (UpWriteStep.Exits transition) low le = below_stand i level (up_count_role (UpWriteStep.Exits transition)) (omega (arith, low, le))
+
+-- a level that a freeze has passed, it has passed at the level's counts
+freeze_passed : (nodes i : ℕ) (s : FreezeStep) → 1 ≤ i → i ≤ passed_by (freeze_stage_role nodes s) →
+    stand_count i (freeze_stand s) ≡ Passed
+freeze_passed nodes i (FreezeStep.Closes d) low le =
+    below_stand i d.level (down_count_role d.step) (closing_passed i d.level d.step (nat_lt 1 d.level) low le)
+freeze_passed nodes i FreezeStep.LocksAgain low le = up_to_stand i 1 Passed le refl
+freeze_passed nodes i FreezeStep.SetsPageFault low le = up_to_stand i 1 Passed le refl
+freeze_passed nodes i (FreezeStep.Cleans marks) low le = up_to_stand i 2 Passed le refl
+freeze_passed nodes i FreezeStep.SetsFs low le = up_to_stand i 2 Passed le refl
+freeze_passed nodes i FreezeStep.SetsComplete low le = up_to_stand i 3 Passed le refl
+freeze_passed nodes i (FreezeStep.Reopens u code) low le = reopening_passed i u.level u.step low le
+freeze_passed nodes i s low le = absurd (omega (arith, low, le))
+
+thaw_passed : (i : ℕ) (s : ThawStep) → 1 ≤ i → i ≤ passed_by (thaw_stage_role s) → stand_count i (thaw_stand s) ≡ Passed
+thaw_passed i (ThawStep.Reopens u) low le = reopening_passed i u.level u.step low le
+thaw_passed i s low le = absurd (omega (arith, low, le))
+
+remount_passed : (nodes : ℕ) (s : RemountStep) → passed_by (remount_stage_role nodes s) ≡ 0
+remount_passed nodes (RemountStep.ClearsHold held) = refl
+remount_passed nodes s = refl
+
+snapshot_passed : (s : SnapshotStep) → passed_by (snapshot_stage_role s) ≡ 0
+snapshot_passed SnapshotStep.Locks = refl
+snapshot_passed s = refl
+
+tree_passed : (x : TreePhase) → passed_by (tree_stage_role x) ≡ 0
+tree_passed (TreePhase.Snapshot x) = snapshot_passed x.step
+tree_passed x = refl
+
+pub passed_there : (i : ℕ) → 1 ≤ i → (p : Option Phase) → i ≤ passed_by (stage_role_of p) → level_role_of i p ≡ Passed
+passed_there i low (Some (Phase.Remounts x)) le = absurd (omega (arith, low, le, remount_passed x.nodes x.step))
+passed_there i low (Some (Phase.Freezes x)) le = freeze_passed x.nodes i x.step low le
+passed_there i low (Some (Phase.Thaws x)) le = thaw_passed i x.step low le
+passed_there i low (Some (Phase.Trees x)) le = absurd (omega (arith, low, le, tree_passed x))
+passed_there i low p le = absurd (omega (arith, low, le))
+
+-- What nobody has shut: the superblock is writable and no remount has set `remount`, the stage is below 3, and no task has passed this
+-- level.
+pub record IsOpen (w : World) (tasks i : ℕ) : Type 0 where
+  pub writable : w.words.sb ≡ 0
+  pub unset : w.words.remount ≡ 0
+  pub unfrozen : w.words.stage < 3
+  pub unpassed : (y : ℕ) → y < tasks → passed_by (stage_roles w y) < i
+
+module _ (c : Config) (w : World) (good : IsGood c w) (t : ℕ) (lt : t < c.tasks) where
+  -- where something shuts a mount, the task holds no access there
+  pub none_past : (m : ℕ) → m < c.mounts → (k : ℕ) →
+      total c.tasks (λ x. past k (mount_as_gate (at_mount m (w.views x)))) ≡ 0 → held_at (w.views t) m ≡ 0
+  none_past m lm k none =
+      omega (arith, none, total_at c.tasks t (λ x. past k (mount_as_gate (at_mount m (w.views x)))) lt)
+
+  -- at a mount of which the task holds an access, the superblock is writable and no remount has set `remount`
+  pub mount_open : (m : ℕ) → m < c.mounts → 0 < held_at (w.views t) m → (w.words.sb ≡ 0) × (w.words.remount ≡ 0)
+  mount_open m lm some =
+      let h : MountHoldsIn c w m = good (AtMount m) lm in
+      let not_read_only : w.words.sb ≡ 1 → ⊥ = λ e. omega (arith, some, none_past m lm 3 (h.gate.open_to 3 e)) in
+      let writable : w.words.sb ≡ 0 = omega (arith, not_read_only, (good Stages).superblock) in
+      let not_marked : ro_bit (w.words.flags m) ≡ 1 → ⊥ = λ e. omega (arith, some, none_past m lm 2 (h.gate.open_to 2 e)) in
+      let unmarked : ro_bit (w.words.flags m) ≡ 0 = omega (arith, not_marked) in
+      let not_set : w.words.remount ≡ 1 → ⊥ =
+      λ e. omega (arith, some, none_past m lm 1 (h.gate.open_to 1 (e, writable, unmarked))) in
+      (writable, omega (arith, not_set, (good Owner).bit))
+
+  level_held : (i : ℕ) → holds_level (w.views t) i ≡ true → total c.tasks (λ x. (at_level i (w.views x)).held) ≡ 0 → ⊥
+  level_held i inside none =
+      let one : (at_level i (w.views t)).held ≡ 1 = rw inside refl in
+      omega (arith, one, none, total_at c.tasks t (λ x. (at_level i (w.views x)).held) lt)
+
+  -- nobody has passed a level inside which the task is
+  pub level_unpassed : (i : ℕ) → 1 ≤ i → i ≤ 3 → holds_level (w.views t) i ≡ true → (y : ℕ) → y < c.tasks →
+      passed_by (stage_roles w y) < i
+  level_unpassed i low high inside y ly =
+      elim (cases_lt (passed_by (stage_roles w y)) i) [
+        | inl l ↦ l
+        | inr l ↦
+            absurd (level_held i inside (none_passed (good (AtLevel i) low high) y ly (passed_there i low (w.views y).phase l)))
+      ]
+
+  pub level_thawed : (i : ℕ) → 1 ≤ i → i ≤ 3 → holds_level (w.views t) i ≡ true → is_frozen_whole w.words ≡ 1 → ⊥
+  level_thawed i low high inside whole = level_held i inside (none_frozen (good (AtLevel i) low high) whole)
+
+  stage_three : w.words.stage ≡ 3 → (y : ℕ) × (y < c.tasks) × (2 ≤ passed_by (stage_roles w y))
+  stage_three e =
+      let f : (y : ℕ) × (y < c.tasks) × (place : Place) × (owner : Bool) × (stage_roles w y ≡ Freezing w.words.stage place owner) =
+      freeze_is_under_way c.tasks c.nodes (stages_in w) (stages_right c w good) (omega (arith, e)) (omega (arith, e)) in
+      (f.0, f.1, omega (arith, e, ap passed_by f.4, place_passed w.words.stage f.2 f.3))
+
+  -- A task inside level 1 or 2 with an access at some mount: nobody has shut what it came through.
+  pub writer_apart : (i : ℕ) → (i ≡ 1) ⊎ (i ≡ 2) → holds_level (w.views t) i ≡ true → some_mount c.mounts (held_at (w.views t)) ≡ true →
+      IsOpen w c.tasks i
+  writer_apart i which inside some =
+      let bounds : (1 ≤ i) × (i ≤ 2) = elim which [
+        | inl e ↦ (omega (arith, e), omega (arith, e))
+        | inr e ↦ (omega (arith, e), omega (arith, e))
+      ] in
+      let m : (m : ℕ) × (m < c.mounts) × (0 < held_at (w.views t) m) = mount_there c.mounts (held_at (w.views t)) some in
+      let open_there : (w.words.sb ≡ 0) × (w.words.remount ≡ 0) = mount_open m.0 m.1 m.2 in
+      let high : i ≤ 3 = omega (arith, bounds.1) in
+      let not_four : w.words.stage ≡ 4 → ⊥ = λ e. level_thawed i bounds.0 high inside (rw (e, open_there.0) refl) in
+      let not_three : w.words.stage ≡ 3 → ⊥ = λ e.
+      let p : (y : ℕ) × (y < c.tasks) × (2 ≤ passed_by (stage_roles w y)) = stage_three e in
+      omega (arith, p.2, bounds.1, level_unpassed i bounds.0 high inside p.0 p.1) in
+      record {
+        writable = open_there.0;
+        unset = open_there.1;
+        unfrozen = omega (arith, not_three, not_four, (good Stages).stages);
+        unpassed = level_unpassed i bounds.0 high inside;
+      }
+
+  pub writer_not_frozen : is_writer c (held_of (w.views t)) ≡ true → w.words.stage ≡ 4 → ⊥
+  writer_not_frozen writes frozen =
+      let both : (holds_level (w.views t) 1 ≡ true) × (some_mount c.mounts (held_at (w.views t)) ≡ true) = both_true _ _ writes in
+      omega (arith, frozen, (writer_apart 1 (inl refl) both.0 both.1).unfrozen)

@@ -1,0 +1,543 @@
+-- An event of a call at the tree: it leaves the mounts, the levels and the sections alone, and all of the shown model but the tree. A
+-- snapshot is such a call, too.
+use Rattle.gate_schedules.proofs.frames.{Accesses.holdings_of_after, Agreeing.access_agrees}
+use Rattle.gate_schedules.proofs.frames.{Frames.{added_load, left_alone, level_view_as, shown_as, taken_load, unwritten, view_as}, Keeps.by_bool}
+use Rattle.gate_schedules.proofs.{frames.Openers.most_tasks_is, mounts.Parts.{level_added_load, level_taken_load, load_left}}
+use Rattle.gate_schedules.proofs.trees.worlds.{MayTree.{LeaveFor, call_fits, leave, may_step}, OpenFiles.{file_then, files_counted, same_counts}}
+use Rattle.gate_schedules.proofs.trees.worlds.Trees.{tree_holds, tree_within}
+use Rattle.access_model.specs.{Replies.map_next, States.openers, declared.{actions.Action.Action, errors.GateError.GateError, replies.Next.Next}}
+use Rattle.access_model.specs.declared.replies.Reply.{Reply}
+use Rattle.cpu_words.specs.{Hooks.HookAnswer, Touches.left, Words.{Words, put, read}, declared.{events.Touch.Touch, names.WordName.WordName}}
+use Rattle.finite_sums.proofs.Totals.{each_updated, update_map, update_same}
+use Rattle.finite_sums.specs.Sums.{update}
+use Rattle.freeze_levels.specs.Holders.{holders_in}
+use Rattle.gate_world.specs.{Configs.{IsWithin, model_limits}, Fits.{Fits, HasFile, TreeAccess, file_of}, Found.is_load, Holdings.{Holdings, held_after}}
+use Rattle.gate_world.specs.{Alike.{Roles, no_roles, roles_of}, Levels.{level_added_after, level_added_by, level_taken_after, level_taken_by}}
+use Rattle.gate_world.specs.{Roles.{nodes_noted}, Rules.{AtLevel, AtMount, Files, Fitting, Holding, Holds}}
+use Rattle.gate_world.specs.{Rules.{IsGood, Moves as ModelMoves, Part, SameView, SameWords, Sections, SyncAt, Tree, ViewFits}, Shown.{closing, shown}}
+use Rattle.gate_world.specs.{Snapshots.values_noted, Trees.{is_bare_at, is_sealed, tree_bounds, tree_role_of, tree_roles}, Views.{added_after, added_by}}
+use Rattle.gate_world.specs.{Views.{has_open, held_at, held_of, holds_level, phase_after, taken_after, taken_by, view_after}, Work.{after_of, next_of}}
+use Rattle.gate_world.specs.{Worlds.{World, after_step, found_at, value_at, words_after}, declared.{config.Config.Config, views.View.View, work.Phase.Phase}}
+use Rattle.node_words.specs.Nodes.{dirty_in, file_in, node_shown, word_of}
+use Rattle.gated_tree.specs.Calls.{NextFits, TreePhaseFits, phase_role, role_after}
+use Rattle.gated_tree.specs.Phases.{after}
+use Rattle.node_words.specs.Phases.{after_look, clear_after}
+use Rattle.gated_tree.specs.Phases.{at_mark, create_after, create_next, grow_after, grow_next, mark_after, mark_done, mark_next}
+use Rattle.gated_tree.specs.Phases.{move_after, move_next, next, open_after, open_next, remove_after, remove_next, snapshot_after, snapshot_next}
+use Rattle.gated_tree.specs.{Roles.{Role, TreeHolds}, declared.changes.{Create.Create, CreateStep.CreateStep, MoveStep.MoveStep, MoveTo.MoveTo}}
+use Rattle.node_words.specs.declared.marks.ClearMarks.{ClearMarks}
+use Rattle.gated_tree.specs.declared.changes.Remove.{Remove}
+use Rattle.gated_tree.specs.declared.changes.RemoveStep.{RemoveStep}
+use Rattle.gated_tree.specs.declared.growth.Grow.{Grow}
+use Rattle.gated_tree.specs.declared.growth.GrowStep.{GrowStep}
+use Rattle.gated_tree.specs.declared.{marks.{Mark.Mark, MarkStep.MarkStep}, opens.{OpenFile.OpenFile, OpenStep.OpenStep}, phases.TreePhase.TreePhase}
+use Rattle.gated_tree.specs.declared.snapshots.{Snapshot.Snapshot, SnapshotStep.SnapshotStep}
+use Rattle.mount_counts.specs.Roles.{ro_bit}
+use Rattle.freeze_laws.specs.stages.Roles.{Aside}
+use Rattle.std.proofs.Common.{Bool, ap, arith, false, inl, inr, refl, subst, sym, true, true≢false, ℕ, ◌<◌, ◌∙◌, ◌≡◌, ◌⊎◌}
+use Rattle.std.specs.Prelude.{Err, None, Ok, Option, Result, Some, if◌then◌else◌, ◌==◌, ◌||◌}
+use Rattle.gate_schedules.proofs.trees.{Allowed.{may_do, tree_alone}, Fitting.fits_after, Phases.each_phase}
+use Rattle.gate_schedules.specs.trees.{Events.{MovesBy, opens_shown}, Steps.{Notes, StepKeeps, tree_in}}
+
+-- the words of the tree
+abbrev pub is_node_word : WordName → Bool
+is_node_word WordName.Used = true
+is_node_word WordName.Removed = true
+is_node_word (WordName.Node n) = true
+is_node_word (WordName.Kids d) = true
+is_node_word word = false
+
+-- the words that calls at the tree write: those, and a snapshot `umount`
+abbrev pub is_call_word : WordName → Bool
+is_call_word WordName.Umount = true
+is_call_word WordName.Used = true
+is_call_word WordName.Removed = true
+is_call_word (WordName.Node n) = true
+is_call_word (WordName.Kids d) = true
+is_call_word word = false
+
+pub node_call : (word : WordName) → is_node_word word ≡ true → is_call_word word ≡ true
+node_call word h = grind (arith, h)
+
+-- each event of a call but a snapshot is on a word of the tree
+create_word : (x : Create) (s : CreateStep) → is_node_word (create_next x s).0 ≡ true
+create_word x CreateStep.LoadsDirectory = refl
+create_word x other = refl
+
+remove_word : (x : Remove) (s : RemoveStep) → is_node_word (remove_next x s).0 ≡ true
+remove_word x RemoveStep.LoadsFile = refl
+remove_word x other = refl
+
+grow_word : (x : Grow) (s : GrowStep) → is_node_word (grow_next x s).0 ≡ true
+grow_word x GrowStep.LoadsFile = refl
+grow_word x other = refl
+
+move_word : (x : MoveTo) (s : MoveStep) → is_node_word (move_next x s).0 ≡ true
+move_word x MoveStep.LoadsFile = refl
+move_word x other = refl
+
+mark_word : (x : Mark) (s : MarkStep) → is_node_word (mark_next x s).0 ≡ true
+mark_word x MarkStep.LoadsFile = refl
+mark_word x (MarkStep.MarksFile file) = refl
+
+open_word : (x : OpenFile) (s : OpenStep) → is_node_word (open_next x s).0 ≡ true
+open_word x OpenStep.LoadsFile = refl
+open_word x (OpenStep.OpensFile file) = refl
+
+-- the call is a snapshot
+abbrev pub is_snapshot : TreePhase → Bool
+is_snapshot (TreePhase.Snapshot x) = true
+is_snapshot x = false
+
+pub node_word : (x : TreePhase) (hook : HookAnswer) → is_snapshot x ≡ false → is_node_word (next x hook).0 ≡ true
+node_word (TreePhase.Create x) hook other = create_word x x.step
+node_word (TreePhase.Remove x) hook other = remove_word x x.step
+node_word (TreePhase.Grow x) hook other = grow_word x x.step
+node_word (TreePhase.MoveTo x) hook other = move_word x x.step
+node_word (TreePhase.Mark x) hook other = mark_word x x.step
+node_word (TreePhase.OpenFile x) hook other = open_word x x.step
+node_word (TreePhase.Snapshot x) hook other = absurd (true≢false other)
+node_word (TreePhase.ClearMarks x) hook other = refl
+
+-- the event of this touch on this word is a load, or the word is one that calls write
+abbrev pub IsCallTouch : WordName × Touch → Type 0
+IsCallTouch x = (is_load x.1 ≡ true) ⊎ (is_call_word x.0 ≡ true)
+
+snapshot_touch : (x : Snapshot) (s : SnapshotStep) → IsCallTouch (snapshot_next x s)
+snapshot_touch x SnapshotStep.Locks = inr refl
+snapshot_touch x (SnapshotStep.Releases answer) = inr refl
+snapshot_touch x other = inl refl
+
+pub call_touch : (x : TreePhase) (hook : HookAnswer) → IsCallTouch (next x hook)
+call_touch (TreePhase.Snapshot x) hook = snapshot_touch x x.step
+call_touch x hook = inr (node_call (next x hook).0 (node_word x hook refl))
+
+-- the words that no call at the tree writes
+abbrev pub beside_calls : Words → Words
+beside_calls w = record w { umount = 0; used = 0; removed = 0; node = λ n. 0; kids = λ d. 0 }
+
+-- are as they were
+abbrev pub IsBesideTree : Words → Words → Type 0
+IsBesideTree old new = beside_calls new ≡ beside_calls old
+
+-- where such a word is written
+pub write_beside : (w : Words) (word : WordName) (n : ℕ) → is_call_word word ≡ true → IsBesideTree w (put w word n)
+write_beside w WordName.Umount n h = refl
+write_beside w WordName.Used n h = refl
+write_beside w WordName.Removed n h = refl
+write_beside w (WordName.Node x) n h = refl
+write_beside w (WordName.Kids d) n h = refl
+write_beside w word n h = absurd (true≢false (sym h))
+
+-- so they are after each event that loads a word, or writes such a one
+pub touch_beside : (w : Words) (x : WordName × Touch) → IsCallTouch x → IsBesideTree w (put w x.0 (left x.1 (read w x.0)))
+touch_beside w x touches =
+    elim touches [
+      | inl h ↦ ap beside_calls (load_left w x.0 x.1 h)
+      | inr h ↦ write_beside w x.0 (left x.1 (read w x.0)) h
+    ]
+
+pub sealed_beside : (old new : Words) → IsBesideTree old new → is_sealed new ≡ is_sealed old
+sealed_beside old new same = λ j. is_sealed (same j)
+
+pub bare_beside : (old new : Words) → IsBesideTree old new → is_bare_at new ≡ is_bare_at old
+bare_beside old new same = λ j. is_bare_at (same j)
+
+-- a write of such a word counts at no mount and at no level
+added_call : (word : WordName) (touch : Touch) (added : ℕ → ℕ → ℕ) → is_call_word word ≡ true → added_after word touch added ≡ added
+added_call (WordName.MountCount m p) touch added h = absurd (true≢false (sym h))
+added_call word touch added h = refl
+
+taken_call : (word : WordName) (touch : Touch) (taken : ℕ → ℕ → ℕ) → is_call_word word ≡ true → taken_after word touch taken ≡ taken
+taken_call (WordName.MountCount m p) touch taken h = absurd (true≢false (sym h))
+taken_call word touch taken h = refl
+
+level_added_call : (word : WordName) (touch : Touch) (added : ℕ → ℕ → ℕ) → is_call_word word ≡ true →
+    level_added_after word touch added ≡ added
+level_added_call (WordName.LevelCount i p) touch added h = absurd (true≢false (sym h))
+level_added_call word touch added h = refl
+
+level_taken_call : (word : WordName) (touch : Touch) (taken : ℕ → ℕ → ℕ) → is_call_word word ≡ true →
+    level_taken_after word touch taken ≡ taken
+level_taken_call (WordName.LevelCount i p) touch taken h = absurd (true≢false (sym h))
+level_taken_call word touch taken h = refl
+
+-- nor does a load
+added_loaded : (word : WordName) (touch : Touch) (added : ℕ → ℕ → ℕ) → is_load touch ≡ true → added_after word touch added ≡ added
+added_loaded word Touch.Load added h = added_load word added
+added_loaded word touch added h = absurd (true≢false (sym h))
+
+taken_loaded : (word : WordName) (touch : Touch) (taken : ℕ → ℕ → ℕ) → is_load touch ≡ true → taken_after word touch taken ≡ taken
+taken_loaded word Touch.Load taken h = taken_load word taken
+taken_loaded word touch taken h = absurd (true≢false (sym h))
+
+-- so no event of a call counts anywhere
+pub record CountsNowhere (x : WordName × Touch) : Type 0 where
+  pub added : (a : ℕ → ℕ → ℕ) → added_after x.0 x.1 a ≡ a
+  pub taken : (a : ℕ → ℕ → ℕ) → taken_after x.0 x.1 a ≡ a
+  pub level_added : (a : ℕ → ℕ → ℕ) → level_added_after x.0 x.1 a ≡ a
+  pub level_taken : (a : ℕ → ℕ → ℕ) → level_taken_after x.0 x.1 a ≡ a
+
+pub counts_nowhere : (x : WordName × Touch) → IsCallTouch x → CountsNowhere x
+counts_nowhere x touches = elim touches [
+  | inl h ↦ record {
+    added = λ a. added_loaded x.0 x.1 a h;
+    taken = λ a. taken_loaded x.0 x.1 a h;
+    level_added = λ a. level_added_load x.0 x.1 a h;
+    level_taken = λ a. level_taken_load x.0 x.1 a h;
+  }
+  | inr h ↦ record {
+    added = λ a. added_call x.0 x.1 a h;
+    taken = λ a. taken_call x.0 x.1 a h;
+    level_added = λ a. level_added_call x.0 x.1 a h;
+    level_taken = λ a. level_taken_call x.0 x.1 a h;
+  }
+]
+
+-- an action, if there is one, leaves its task's accesses at mounts and levels
+pub record LeavesAccesses (action : Option Action) : Type 0 where
+  pub mounts : (held : Holdings) → (held_after action held).mounts ≡ held.mounts
+  pub levels : (held : Holdings) → (held_after action held).levels ≡ held.levels
+
+pub leaves_none : LeavesAccesses None
+leaves_none = record { mounts = λ held. refl; levels = λ held. refl }
+
+pub leaves_if : (b : Bool) (action : Action) → LeavesAccesses (Some action) → LeavesAccesses (if b then Some action else None)
+leaves_if true action h = h
+leaves_if false action h = leaves_none
+
+create_leaves : (x : Create) (s : CreateStep) (found : ℕ) → LeavesAccesses (create_after x s found).1
+create_leaves x (CreateStep.TakesNode n) found = leaves_if (found == 0) _ (record { mounts = λ held. refl; levels = λ held. refl })
+create_leaves x other found = leaves_none
+
+remove_leaves : (x : Remove) (s : RemoveStep) (found : ℕ) → LeavesAccesses (remove_after x s found).1
+remove_leaves x (RemoveStep.FreesNode file) found = leaves_if (found == word_of file) _ (record { mounts = λ held. refl; levels = λ held. refl })
+remove_leaves x (RemoveStep.MarksRemoved file) found = leaves_if (found == word_of file) _ (record { mounts = λ held. refl; levels = λ held. refl })
+remove_leaves x other found = leaves_none
+
+grow_leaves : (x : Grow) (s : GrowStep) (found : ℕ) → LeavesAccesses (grow_after x s found).1
+grow_leaves x (GrowStep.GrowsFile file) found = leaves_if (found == word_of file) _ (record { mounts = λ held. refl; levels = λ held. refl })
+grow_leaves x other found = leaves_none
+
+move_leaves : (x : MoveTo) (s : MoveStep) (found : ℕ) → LeavesAccesses (move_after x s found).1
+move_leaves x (MoveStep.MovesFile file) found = leaves_if (found == word_of file) _ (record { mounts = λ held. refl; levels = λ held. refl })
+move_leaves x other found = leaves_none
+
+done_leaves : (dirty : Bool) (file : ℕ) → LeavesAccesses (Some (mark_done dirty file))
+done_leaves true file = record { mounts = λ held. refl; levels = λ held. refl }
+done_leaves false file = record { mounts = λ held. refl; levels = λ held. refl }
+
+mark_leaves : (x : Mark) (s : MarkStep) (found : ℕ) → LeavesAccesses (mark_after x s found).1
+mark_leaves x MarkStep.LoadsFile found = leaves_none
+mark_leaves x (MarkStep.MarksFile file) found = leaves_if (found == word_of file) _ (done_leaves x.dirty x.file)
+
+open_leaves : (x : OpenFile) (s : OpenStep) (found : ℕ) → LeavesAccesses (open_after x s found).1
+open_leaves x OpenStep.LoadsFile found = leaves_none
+open_leaves x (OpenStep.OpensFile file) found = leaves_if (found == word_of file) _ (record { mounts = λ held. refl; levels = λ held. refl })
+
+snapshot_leaves : (x : Snapshot) (s : SnapshotStep) (found : ℕ) → LeavesAccesses (snapshot_after x s found).1
+snapshot_leaves x SnapshotStep.Locks found = leaves_none
+snapshot_leaves x other found = leaves_none
+
+clear_leaves : (x : ClearMarks) (found : ℕ) → LeavesAccesses (clear_after x found).1
+clear_leaves x found = leaves_if (dirty_in found == 1) _ (record { mounts = λ held. refl; levels = λ held. refl })
+
+pub call_leaves : (x : TreePhase) (found : ℕ) (hook : HookAnswer) → LeavesAccesses (after x found hook).1
+call_leaves (TreePhase.Create x) found hook = create_leaves x x.step found
+call_leaves (TreePhase.Remove x) found hook = remove_leaves x x.step found
+call_leaves (TreePhase.Grow x) found hook = grow_leaves x x.step found
+call_leaves (TreePhase.MoveTo x) found hook = move_leaves x x.step found
+call_leaves (TreePhase.Mark x) found hook = mark_leaves x x.step found
+call_leaves (TreePhase.OpenFile x) found hook = open_leaves x x.step found
+call_leaves (TreePhase.Snapshot x) found hook = snapshot_leaves x x.step found
+call_leaves (TreePhase.ClearMarks x) found hook = clear_leaves x found
+
+module _ (c : Config) (held : Holdings) where
+  -- what comes after an event is a call at which its task may be
+  abbrev pub AccessAfter : Next TreePhase → Type 0
+  AccessAfter (Next.Go x) = TreeAccess c held x
+  AccessAfter (Next.Wait x) = TreeAccess c held x
+  AccessAfter (Next.Done answer) = Unit {0}
+
+  comes_with : {P : Type 0} (to : P → TreePhase) → ((y : P) → TreeAccess c held (to y)) → (n : Next P) → AccessAfter (map_next to n)
+  comes_with to may (Next.Go y) = may y
+  comes_with to may (Next.Wait y) = may y
+  comes_with to may (Next.Done answer) = tt
+
+  -- after a look at a file
+  looked_with : {A : Type 0} (again : Mark) (from : A → Mark) → TreeAccess c held (TreePhase.Mark again) →
+      ((a : A) → TreeAccess c held (TreePhase.Mark (from a))) → (r : Option (Result A GateError)) →
+      AccessAfter (map_next TreePhase.Mark (after_look again from r))
+  looked_with again from may more None = may
+  looked_with again from may more (Some (Ok a)) = more a
+  looked_with again from may more (Some (Err refusal)) = tt
+
+  -- after an event of a page fault or a write-back
+  mark_access : (x : Mark) (s : MarkStep) (found : ℕ) → TreeAccess c held (TreePhase.Mark x) →
+      AccessAfter (map_next TreePhase.Mark (mark_after x s found).0)
+  mark_access x MarkStep.LoadsFile found may =
+      looked_with (at_mark x MarkStep.LoadsFile) (λ file. at_mark x (MarkStep.MarksFile file)) may (λ file. may) (file_in found)
+  mark_access x (MarkStep.MarksFile file) found may =
+      by_bool (found == word_of file)
+      (λ b. AccessAfter (map_next TreePhase.Mark (if b then Next.Done (Ok Reply.Unit) else Next.Done (Err GateError.Again)))) tt tt
+
+  -- a call keeps its task's accesses
+  pub access_after : (x : TreePhase) (found : ℕ) (hook : HookAnswer) → TreeAccess c held x → AccessAfter (after x found hook).0
+  access_after (TreePhase.Create x) found hook may = comes_with TreePhase.Create (λ y. may) (create_after x x.step found).0
+  access_after (TreePhase.Remove x) found hook may = comes_with TreePhase.Remove (λ y. may) (remove_after x x.step found).0
+  access_after (TreePhase.Grow x) found hook may = comes_with TreePhase.Grow (λ y. may) (grow_after x x.step found).0
+  access_after (TreePhase.MoveTo x) found hook may = comes_with TreePhase.MoveTo (λ y. may) (move_after x x.step found).0
+  access_after (TreePhase.Mark x) found hook may = mark_access x x.step found may
+  access_after (TreePhase.OpenFile x) found hook may = comes_with TreePhase.OpenFile (λ y. tt) (open_after x x.step found).0
+  access_after (TreePhase.Snapshot x) found hook may = comes_with TreePhase.Snapshot (λ y. may) (snapshot_after x x.step found).0
+  access_after (TreePhase.ClearMarks x) found hook may = absurd may
+
+  -- so what comes after it fits
+  next_fits : (t : ℕ) (n : Next TreePhase) → NextFits (tree_bounds c) t n → AccessAfter n →
+      Fits c t held (phase_after (map_next Phase.Trees n))
+  next_fits t (Next.Go x) fits may = (fits, may)
+  next_fits t (Next.Wait x) fits may = (fits, may)
+  next_fits t (Next.Done answer) fits may = tt
+
+  call_goes_on : IsWithin c → (t : ℕ) (x : TreePhase) (found : ℕ) (hook : HookAnswer) →
+      TreePhaseFits (tree_bounds c) t x × TreeAccess c held x →
+      Fits c t held (phase_after (map_next Phase.Trees (after x found hook).0))
+  call_goes_on within t x found hook fits =
+      next_fits t (after x found hook).0 (fits_after (tree_bounds c) (tree_within c within) t x found hook fits.0)
+      (access_after x found hook fits.1)
+
+-- and its task's accesses are the same
+pub call_goes : (c : Config) (held : Holdings) → IsWithin c → (t : ℕ) (x : TreePhase) (found : ℕ) (hook : HookAnswer) →
+    TreePhaseFits (tree_bounds c) t x × TreeAccess c held x →
+    Fits c t (held_after (after x found hook).1 held) (phase_after (map_next Phase.Trees (after x found hook).0))
+call_goes c held within t x found hook fits =
+    let left : Holdings = held_after (after x found hook).1 held in
+    let leaves : LeavesAccesses (after x found hook).1 = call_leaves x found hook in
+    call_goes_on c left within t x found hook (
+      fits.0,
+      access_agrees c held left (λ m lm. ap (λ f. f m) (sym (leaves.mounts held)))
+          (λ i one three. ap (λ f. f i) (sym (leaves.levels held))) x fits.1,
+    )
+
+-- these roles but for those of calls at the tree
+abbrev pub off_calls : Roles → Roles
+off_calls r = record r { stage = Aside; tree = no_roles.tree; owns = 0; file = None }
+
+-- a phase that has no other role, and closes no level
+pub record IsOffGates (p : Option Phase) : Type 0 where
+  pub roles : off_calls (roles_of p) ≡ no_roles
+  pub closing_none : (i : ℕ) → closing i p ≡ 0
+
+pub idle_off : IsOffGates None
+idle_off = record { roles = refl; closing_none = λ i. refl }
+
+pub call_off : (x : TreePhase) → IsOffGates (Some (Phase.Trees x))
+call_off x = record { roles = refl; closing_none = λ i. refl }
+
+pub next_off : (n : Next TreePhase) → IsOffGates (phase_after (map_next Phase.Trees n))
+next_off (Next.Go x) = call_off x
+next_off (Next.Wait x) = call_off x
+next_off (Next.Done answer) = idle_off
+
+-- the parts that no event of a call touches
+abbrev pub is_gate_part : Part → Bool
+is_gate_part Holding = true
+is_gate_part (AtMount m) = true
+is_gate_part (AtLevel i) = true
+is_gate_part (SyncAt i) = true
+is_gate_part Sections = true
+is_gate_part part = false
+
+pub gate_words : (part : Part) → is_gate_part part ≡ true → (old new : Words) → IsBesideTree old new → SameWords old new part
+gate_words Holding h old new same = unwritten same Holding
+gate_words (AtMount m) h old new same = unwritten same (AtMount m)
+gate_words (AtLevel i) h old new same = unwritten same (AtLevel i)
+gate_words (SyncAt i) h old new same = unwritten same (SyncAt i)
+gate_words Sections h old new same = unwritten same Sections
+gate_words part h old new same = absurd (true≢false (sym h))
+
+-- an event at the tree, of whatever operation: it writes no other word but `umount`, and leaves its task's accesses
+pub record IsAtTree (w : World) (phase : Phase) (hook : HookAnswer) : Type 0 where
+  pub touches : IsCallTouch (next_of phase hook)
+  pub leaves : LeavesAccesses (after_of phase (found_at w.words phase hook) hook).1
+  pub off : IsOffGates (Some phase)
+  pub off_then : IsOffGates (phase_after (after_of phase (found_at w.words phase hook) hook).0)
+
+module _ (c : Config) (w : World) (good : IsGood c w) (t : ℕ) (lt : t < c.tasks) (phase : Phase) (hook : HookAnswer)
+    (e : (w.views t).phase ≡ Some phase) (at : IsAtTree w phase hook) where
+  -- the words and the task's view after it, and its action
+  abbrev pub words_then : Words
+  words_then = words_after w.words phase hook
+
+  abbrev pub view_then : View
+  view_then = view_after (w.views t) phase (value_at w.words phase hook) hook
+
+  abbrev pub action_then : Option Action
+  action_then = (after_of phase (found_at w.words phase hook) hook).1
+
+  pub beside_then : IsBesideTree w.words words_then
+  beside_then = touch_beside w.words (next_of phase hook) at.touches
+
+  held_then : held_of view_then ≡ held_after action_then (held_of (w.views t))
+  held_then = holdings_of_after action_then (w.views t).actions
+
+  held_still : held_at view_then ≡ held_at (w.views t)
+  held_still = ap (λ (h : Holdings). h.mounts) held_then ∙ at.leaves.mounts (held_of (w.views t))
+
+  levels_still : holds_level view_then ≡ holds_level (w.views t)
+  levels_still = ap (λ (h : Holdings). h.levels) held_then ∙ at.leaves.levels (held_of (w.views t))
+
+  was_off : IsOffGates (w.views t).phase
+  was_off = subst IsOffGates (sym e) at.off
+
+  -- the roles that no call has are the same
+  pub roles_still : off_calls (roles_of view_then.phase) ≡ off_calls (roles_of (w.views t).phase)
+  roles_still = at.off_then.roles ∙ sym was_off.roles
+
+  -- what the parts of mounts, levels and sections read of the task's view is the same
+  gate_view : (part : Part) → is_gate_part part ≡ true → SameView (w.views t) view_then part
+  gate_view Holding h = λ j. (roles_still j).holder
+  gate_view (AtMount m) h =
+      let none : CountsNowhere (next_of phase hook) = counts_nowhere (next_of phase hook) at.touches in
+      view_as (ap (λ f. f m) held_still) (ap (λ f. f m) (none.added (added_by (w.views t).events)))
+      (ap (λ f. f m) (none.taken (taken_by (w.views t).events))) (λ j. (roles_still j).mount m)
+  gate_view (AtLevel i) h =
+      let none : CountsNowhere (next_of phase hook) = counts_nowhere (next_of phase hook) at.touches in
+      level_view_as (ap (λ (f : ℕ → Bool). if f i then 1 else 0) levels_still)
+      (ap (λ f. f i) (none.level_added (level_added_by (w.views t).events)))
+      (ap (λ f. f i) (none.level_taken (level_taken_by (w.views t).events)))
+      (λ j. (roles_still j).count i)
+  gate_view (SyncAt i) h = λ j. (roles_still j).sync i
+  gate_view Sections h = λ j. (roles_still j).inside
+  gate_view part h = absurd (true≢false (sym h))
+
+  pub gate_parts : (part : Part) → is_gate_part part ≡ true → Holds c (after_step w t phase hook) part
+  gate_parts part h = left_alone c w t lt part words_then view_then (gate_words part h w.words words_then beside_then) (gate_view part h) (good part)
+
+  -- what comes after the event fits the accesses that it leaves
+  pub fitting_then : Fits c t (held_after action_then (held_of (w.views t))) view_then.phase →
+      Holds c (after_step w t phase hook) Fitting
+  fitting_then fits y ly =
+      each_updated (λ z (u : View). ViewFits c z u) w.views t view_then y
+      (subst (λ k. Fits c t k view_then.phase) (sym held_then) fits) (λ ne. good Fitting y ly)
+
+  -- the shown model is as it was but for the tree and the task's open files
+  shown_then : shown c (after_step w t phase hook) ≡ record (shown c w) {
+    opens = update (shown c w).opens t (held_after action_then (held_of (w.views t))).files;
+    tree = λ n. node_shown (words_then.node n);
+  }
+  shown_then =
+      let same : IsBesideTree w.words words_then = beside_then in
+      shown_as c w t lt words_then view_then (λ j. (same j).block) (λ i. at.off_then.closing_none i ∙ sym (was_off.closing_none i)) ∙
+      (λ j. record (shown c w) {
+        mounts = (ap (update (λ y. held_at (w.views y)) t) held_still ∙ update_same (λ y. held_at (w.views y)) t) j;
+        levels = (ap (update (λ y. holds_level (w.views y)) t) levels_still ∙ update_same (λ y. holds_level (w.views y)) t) j;
+        opens = ap (λ (h : Holdings). update (λ y. has_open (w.views y)) t h.files) held_then j;
+        mount_ro = λ m. ro_bit ((same j).flags m) == 1;
+        sb_ro = (same j).remount == 1 || (same j).sb == 1;
+        stage = (same j).stage;
+        holders = holders_in (same j).holders;
+        tree = λ n. node_shown (words_then.node n);
+      })
+
+  -- so where the nodes that are shown move by the event's action, the model does
+  pub shown_moves : (action : Option Action) → action_then ≡ action → LeaveFor c w good t lt action →
+      MovesBy (tree_bounds c) w.words.node words_then.node action →
+      ModelMoves c (shown c w) t action (shown c (after_step w t phase hook))
+  shown_moves None is leave moves =
+      shown_then ∙
+      (λ j. record (shown c w) {
+        opens = (ap (λ a. update (shown c w).opens t (held_after a (held_of (w.views t))).files) is ∙ update_same (shown c w).opens t) j;
+        tree = moves.0 j;
+      })
+  shown_moves (Some action) is leave moves = (
+    (lt, may_do (model_limits c) (shown c w) t action leave moves.allowed),
+    shown_then ∙
+        (λ j. record (shown c w) {
+          opens = ap (λ a. update (shown c w).opens t (held_after a (held_of (w.views t))).files) is j;
+          tree = (moves.effect ∙ same_counts (tree_bounds c) (opens_shown w.words.node) (openers (shown c w).opens) (shown c w).tree action
+              moves.allowed (λ n ln. (good Files).counted n ln)) j;
+        }) ∙ sym (tree_alone (model_limits c) (shown c w) t action leave),
+  )
+
+  -- the files of the world then: as many tasks have each open as its word says
+  pub files_then : IsWithin c → LeaveFor c w good t lt action_then → MovesBy (tree_bounds c) w.words.node words_then.node action_then →
+      HasFile (held_after action_then (held_of (w.views t))).files (file_of view_then.phase) → Holds c (after_step w t phase hook) Files
+  files_then within leave moves has = record {
+    counted = λ n ln.
+        files_counted (model_limits c) (shown c w) t (omega (arith, lt, within.tasks, most_tasks_is)) w.words.node words_then.node action_then
+        leave moves (good Files).counted n ln ∙
+        sym (ap (λ f. openers f n) (update_map has_open w.views t view_then ∙
+        ap (λ (h : Holdings). update (λ y. has_open (w.views y)) t h.files) held_then));
+    own = λ y ly. each_updated (λ z (u : View). HasFile (has_open u) (file_of u.phase)) w.views t view_then y
+        (subst (λ (h : Holdings). HasFile h.files (file_of view_then.phase)) (sym held_then) has)
+        (λ ne. (good Files).own y ly);
+  }
+
+  -- what holds of the tree with the task's new role, by its words then
+  pub tree_then : (role : Role) → role ≡ tree_role_of view_then.trace view_then.phase →
+      TreeHolds (tree_bounds c) (tree_in (is_sealed w.words) (is_bare_at w.words) words_then (update (tree_roles w) t role)) →
+      Holds c (after_step w t phase hook) Tree
+  tree_then role is kept =
+      let now_roles : ℕ → Role = update (tree_roles w) t (tree_role_of view_then.trace view_then.phase) in
+      tree_holds c w good t lt words_then view_then
+      (subst (λ s. TreeHolds (tree_bounds c) (tree_in s (is_bare_at words_then) words_then now_roles))
+      (sym (sealed_beside w.words words_then beside_then))
+      (subst (λ b. TreeHolds (tree_bounds c) (tree_in (is_sealed w.words) b words_then now_roles))
+      (sym (bare_beside w.words words_then beside_then))
+      (subst (λ r. TreeHolds (tree_bounds c) (tree_in (is_sealed w.words) (is_bare_at w.words) words_then (update (tree_roles w) t r))) is kept)))
+
+-- a call at the tree has such events alone
+pub call_at : (w : World) (x : TreePhase) (hook : HookAnswer) → IsAtTree w (Phase.Trees x) hook
+call_at w x hook = record {
+  touches = call_touch x hook;
+  leaves = call_leaves x (found_at w.words (Phase.Trees x) hook) hook;
+  off = call_off x;
+  off_then = next_off (after x (found_at w.words (Phase.Trees x) hook) hook).0;
+}
+
+module _ (c : Config) (within : IsWithin c) (w : World) (good : IsGood c w) (t : ℕ) (lt : t < c.tasks) (x : TreePhase) (hook : HookAnswer)
+    (e : (w.views t).phase ≡ Some (Phase.Trees x)) where
+  -- what the event finds, and what comes after it
+  abbrev pub call_found : ℕ
+  call_found = found_at w.words (Phase.Trees x) hook
+
+  abbrev pub call_next : Next TreePhase
+  call_next = (after x call_found hook).0
+
+  abbrev pub call_words : Words
+  call_words = words_after w.words (Phase.Trees x) hook
+
+  abbrev pub call_view : View
+  call_view = view_after (w.views t) (Phase.Trees x) (value_at w.words (Phase.Trees x) hook) hook
+
+  pub call_parts : (part : Part) → is_gate_part part ≡ true → Holds c (after_step w t (Phase.Trees x) hook) part
+  call_parts = gate_parts c w good t lt (Phase.Trees x) hook e (call_at w x hook)
+
+  pub call_fitting : Holds c (after_step w t (Phase.Trees x) hook) Fitting
+  call_fitting =
+      fitting_then c w good t lt (Phase.Trees x) hook e (call_at w x hook)
+      (call_goes c (held_of (w.views t)) within t x call_found hook (call_fits c w good t lt x e))
+
+  -- what the tree's own law says of the event, where a snapshot has noted this after it
+  abbrev pub TreeKeeps : Type 0
+  TreeKeeps =
+      Holds c (after_step w t (Phase.Trees x) hook) Tree × MovesBy (tree_bounds c) w.words.node call_words.node (after x call_found hook).1
+
+  pub call_keeps : (noted : ℕ → ℕ) → Notes x (values_noted (nodes_noted x) (w.views t).trace) noted call_found →
+      role_after (phase_role noted) call_next ≡ tree_role_of call_view.trace call_view.phase → TreeKeeps
+  call_keeps noted notes role =
+      let kept : StepKeeps (tree_bounds c) (is_sealed w.words) (is_bare_at w.words) w.words (tree_roles w) t x noted hook =
+      each_phase (tree_bounds c) (tree_within c within) (is_sealed w.words) (is_bare_at w.words) w.words (tree_roles w) (good Tree) t lt x
+      (values_noted (nodes_noted x) (w.views t).trace) noted hook (ap (tree_role_of (w.views t).trace) e) (call_fits c w good t lt x e).0
+      (may_step c w good t lt x e) notes in
+      (tree_then c w good t lt (Phase.Trees x) hook e (call_at w x hook) (role_after (phase_role noted) call_next) role kept.0, kept.1)
+
+  pub call_files : TreeKeeps → Holds c (after_step w t (Phase.Trees x) hook) Files
+  call_files kept =
+      files_then c w good t lt (Phase.Trees x) hook e (call_at w x hook) within (leave c w good t lt x call_found hook e) kept.1
+      (file_then (held_of (w.views t)) x call_found hook (subst (λ p. HasFile (has_open (w.views t)) (file_of p)) e ((good Files).own t lt)))
+
+  pub call_moves : TreeKeeps → ModelMoves c (shown c w) t (after x call_found hook).1 (shown c (after_step w t (Phase.Trees x) hook))
+  call_moves kept =
+      shown_moves c w good t lt (Phase.Trees x) hook e (call_at w x hook) (after x call_found hook).1 refl (leave c w good t lt x call_found hook e) kept.1

@@ -1,0 +1,201 @@
+-- The tree of a world, as the laws of the tree have it: what an event of a task leaves of it, and what it shows.
+use Rattle.access_model.specs.{States.{IsDirectory, is_dirty}, declared.actions.{Action.Action, Holder.Holder}}
+use Rattle.cpu_words.specs.Words.{Words}
+use Rattle.finite_sums.proofs.Totals.{total_none, update_map}
+use Rattle.finite_sums.specs.Sums.{update}
+use Rattle.freeze_levels.specs.declared.{freezes.FreezeStep.{FreezeStep, TheVariants.Closes}, thaws.ThawStep.ThawStep}
+use Rattle.gate_schedules.proofs.trees.worlds.Roles.{call_plain, close_apart, freeze_apart, remount_apart}
+use Rattle.gate_world.specs.{Configs.IsWithin, Fits.{Fits, FreezeFits, PhaseFits}, Remounts.RemountFits, Roles.{freeze_stage_role, freeze_tree_role}}
+use Rattle.gate_world.specs.Roles.{nodes_noted, place_of, remount_stage_role, remount_tree_role, reopening_role, snapshot_stage_role, thaw_stage_role}
+use Rattle.gate_world.specs.{Roles.tree_stage_role, Rules.{Fitting, Holds, IsGood, Stages, Tree, marks_of, stage_role_of, stage_roles}}
+use Rattle.gate_world.specs.{Snapshots.values_noted, Trees.{is_bare_at, is_sealed, tree_bounds, tree_of, tree_role_of, tree_roles}, Views.held_of}
+use Rattle.gate_world.specs.{Worlds.World, declared.{config.Config.Config, views.{Traced.Traced, View.View}, work.Phase.{Phase, TheVariants.Closes}}}
+use Rattle.node_words.specs.Nodes.{dirty_in, kind_in, node_shown}
+use Rattle.gated_tree.specs.Calls.{phase_role, snapshot_role}
+use Rattle.gated_tree.specs.Roles.{AreWithin, Clearing, NobodyReads, RoleHolds}
+use Rattle.gated_tree.specs.{Roles.{TreeHolds, TreeState, sealed_by, words_read}, declared.{phases.TreePhase.TreePhase, snapshots.Snapshot.Snapshot}}
+use Rattle.gated_tree.specs.declared.snapshots.SnapshotStep.{SnapshotStep}
+use Rattle.mount_counts.specs.declared.remounts.RemountStep.{RemountStep}
+use Rattle.percpu_rwsem.specs.declared.writers.{DownWriteStep.DownWriteStep, UpWriteStep.UpWriteStep}
+use Rattle.freeze_laws.specs.stages.Roles.{CleanBelow, Freezing, KnowsStage, MarksHold, clean_by}
+use Rattle.std.proofs.{Common.{Bool, ap, arith, inl, inr, refl, subst, suc, sym, true≢false, zero, ℕ, ◌<◌, ◌∙◌, ◌≡◌, ◌≤◌}, lemmas.Bool.le-leb}
+use Rattle.std.proofs.lemmas.Bool.Decides.{eqb_tells}
+use Rattle.std.specs.Prelude.{Err, List, None, Ok, Option, Some, false, nat_lt}
+use Rattle.gate_schedules.proofs.trees.Each.{each_event}
+use Rattle.gate_schedules.specs.trees.Events.{Event}
+
+pub tree_within : (c : Config) → IsWithin c → AreWithin (tree_bounds c)
+tree_within c within = record { tasks = within.tasks; some_node = within.some_node; nodes = within.nodes; capacity = within.capacity }
+
+pub sealed_frozen : (sb stage : ℕ) → 3 ≤ stage → sealed_by sb stage ≡ 1
+sealed_frozen sb stage h = elim (eqb_tells sb 1) [ inl e ↦ rw e.0 refl | inr e ↦ rw (e.0, le-leb 3 stage h) refl ]
+
+pub sealed_read_only : (sb stage : ℕ) → sb ≡ 1 → sealed_by sb stage ≡ 1
+sealed_read_only sb stage e = rw e refl
+
+free_shown : (word : ℕ) → kind_in word ≡ 0 → node_shown word ≡ None
+free_shown word free = rw free refl
+
+dirty_small : (word : ℕ) → dirty_in word < 2
+dirty_small word = omega arith
+
+pub shown_clean : (word : ℕ) → (kind_in word ≡ 0 → word ≡ 0) → is_dirty (node_shown word) ≡ false → dirty_in word ≡ 0
+shown_clean word free clean = elim (eqb_tells (kind_in word) 0) [
+  | inl q ↦ ap dirty_in (free q.1)
+  | inr q ↦
+      elim (eqb_tells (dirty_in word) 1) [
+        | inl d ↦ absurd (true≢false (sym (rw (q.0, d.0) refl) ∙ clean))
+        | inr d ↦ omega (arith, d.1, dirty_small word)
+      ]
+]
+
+module _ (c : Config) (w : World) (good : IsGood c w) (t : ℕ) (lt : t < c.tasks) (ws : Words) (v : View) where
+  -- the tree of the world after an event of this task
+  abbrev pub tree_then : TreeState
+  tree_then = record {
+    sealed = is_sealed ws;
+    bare = is_bare_at ws;
+    used = ws.used;
+    removed = ws.removed;
+    node = ws.node;
+    kids = ws.kids;
+    at = update (tree_roles w) t (tree_role_of v.trace v.phase);
+  }
+
+  pub tree_moves : tree_of (record { words = ws; views = update w.views t v }) ≡ tree_then
+  tree_moves = λ i. record {
+    sealed = is_sealed ws;
+    bare = is_bare_at ws;
+    used = ws.used;
+    removed = ws.removed;
+    node = ws.node;
+    kids = ws.kids;
+    at = update_map (λ (u : View). tree_role_of u.trace u.phase) w.views t v i;
+  }
+
+  pub tree_holds : TreeHolds (tree_bounds c) tree_then → Holds c (record { words = ws; views = update w.views t v }) Tree
+  tree_holds h = subst (TreeHolds (tree_bounds c)) (sym tree_moves) h
+
+  -- where the event is one of the tree's, all holds of it again, and the nodes that are shown move by its action
+  pub tree_after : IsWithin c → (action : Option Action) → Event (tree_bounds c) (tree_of w) t tree_then action →
+      Holds c (record { words = ws; views = update w.views t v }) Tree
+  tree_after within action event =
+      tree_holds (each_event (tree_bounds c) (tree_within c within) (tree_of w) (good Tree) t lt tree_then action event).0
+
+-- what a task is at says of its accesses
+module _ (c : Config) (w : World) (good : IsGood c w) where
+  root_there : kind_in (w.words.node 0) ≡ 0 → ⊥
+  root_there free = subst IsDirectory (free_shown (w.words.node 0) free) (good Tree).root
+
+  cleared_clean : (n : ℕ) → n ≤ c.nodes → (t : ℕ) → t < c.tasks → tree_roles w t ≡ Clearing n → CleanBelow n (marks_of w.words)
+  cleared_clean n le t lt is m lm =
+      let h : RoleHolds (tree_bounds c) w.words.used w.words.removed w.words.node w.words.kids (Clearing n) =
+      subst (RoleHolds (tree_bounds c) w.words.used w.words.removed w.words.node w.words.kids) is ((good Tree).roles t lt) in
+      shown_clean (w.words.node m) ((good Tree).words m (omega (arith, lm, le))).packed.free (h m lm)
+
+  -- the root has none, once a clearing has begun
+  first_clean : (t : ℕ) → t < c.tasks → tree_roles w t ≡ Clearing 1 → CleanBelow 1 (marks_of w.words)
+  first_clean t lt is m lm =
+      let h : RoleHolds (tree_bounds c) w.words.used w.words.removed w.words.node w.words.kids (Clearing 1) =
+      subst (RoleHolds (tree_bounds c) w.words.used w.words.removed w.words.node w.words.kids) is ((good Tree).roles t lt) in
+      let zero_is : m ≡ 0 = omega (arith, lm) in
+      shown_clean (w.words.node m) (λ e. absurd (root_there (subst (λ n. kind_in (w.words.node n) ≡ 0) zero_is e))) (h m lm)
+
+  all_clean : is_sealed w.words ≡ 1 → CleanBelow c.nodes (marks_of w.words)
+  all_clean sealed m lm = shown_clean (w.words.node m) ((good Tree).words m lm).packed.free ((good Tree).clean sealed m lm)
+
+  none_clean : CleanBelow 0 (marks_of w.words)
+  none_clean m lm = absurd (omega (arith, lm))
+
+  closing_clean : (level : ℕ) (s : DownWriteStep) (owner : Bool) →
+      CleanBelow (clean_by (Freezing level (place_of s) owner)) (marks_of w.words)
+  closing_clean zero s owner = none_clean
+  closing_clean (suc zero) s owner = none_clean
+  closing_clean (suc (suc level)) (DownWriteStep.Sums sum) owner = none_clean
+  closing_clean (suc (suc level)) s owner = none_clean
+
+  reopening_clean : (level : ℕ) (s : UpWriteStep) → CleanBelow (clean_by (reopening_role level s)) (marks_of w.words)
+  reopening_clean level UpWriteStep.ClearsBlock = none_clean
+  reopening_clean level (UpWriteStep.Exits transition) = none_clean
+
+  snapshot_clean : (s : SnapshotStep) → CleanBelow (clean_by (snapshot_stage_role s)) (marks_of w.words)
+  snapshot_clean SnapshotStep.Locks = none_clean
+  snapshot_clean s = none_clean
+
+  -- those that a remount has cleared
+  remount_clean : (nodes : ℕ) (s : RemountStep) (t : ℕ) → t < c.tasks → nodes ≡ c.nodes → RemountFits c s →
+      tree_roles w t ≡ remount_tree_role nodes s → KnowsStage w.words.stage w.words.sb (remount_stage_role nodes s) →
+      CleanBelow (clean_by (remount_stage_role nodes s)) (marks_of w.words)
+  remount_clean nodes (RemountStep.ClearsHold held) t lt same fits is knows = first_clean t lt is
+  remount_clean nodes (RemountStep.ClearsMark n) t lt same fits is knows = cleared_clean n (omega (arith, fits.1)) t lt is
+  remount_clean nodes RemountStep.SetsReadOnly t lt same fits is knows = cleared_clean nodes (omega (arith, same)) t lt is
+  remount_clean nodes RemountStep.ClearsRemount t lt same fits is knows =
+      subst (λ n. CleanBelow n (marks_of w.words)) (sym same) (all_clean (sealed_read_only w.words.sb w.words.stage knows.1))
+  remount_clean nodes s t lt same fits is knows = none_clean
+
+  -- those that a freeze has cleared
+  freeze_clean : (nodes : ℕ) (holder : Holder) (s : FreezeStep) (t : ℕ) → t < c.tasks → nodes ≡ c.nodes → FreezeFits c holder s →
+      tree_roles w t ≡ freeze_tree_role nodes s → CleanBelow (clean_by (freeze_stage_role nodes s)) (marks_of w.words)
+  freeze_clean nodes holder (Closes d) t lt same fits is = closing_clean d.level d.step (nat_lt 1 d.level)
+  freeze_clean nodes holder (FreezeStep.Cleans marks) t lt same fits is = cleared_clean marks.node (omega (arith, fits.2)) t lt is
+  freeze_clean nodes holder FreezeStep.SetsFs t lt same fits is = cleared_clean nodes (omega (arith, same)) t lt is
+  freeze_clean nodes holder (FreezeStep.Reopens u code) t lt same fits is = reopening_clean u.level u.step
+  freeze_clean nodes holder s t lt same fits is = none_clean
+
+  thaw_clean : (s : ThawStep) → CleanBelow (clean_by (thaw_stage_role s)) (marks_of w.words)
+  thaw_clean (ThawStep.Reopens u) = reopening_clean u.level u.step
+  thaw_clean s = none_clean
+
+  tree_clean : (x : TreePhase) → CleanBelow (clean_by (tree_stage_role x)) (marks_of w.words)
+  tree_clean (TreePhase.Snapshot x) = snapshot_clean x.step
+  tree_clean x = none_clean
+
+  -- those that what a task is at has cleared
+  phase_clean : (t : ℕ) → t < c.tasks → (p : Option Phase) → (w.views t).phase ≡ p →
+      CleanBelow (clean_by (stage_role_of p)) (marks_of w.words)
+  phase_clean t lt (Some (Phase.Remounts x)) is =
+      let fits : PhaseFits c t (held_of (w.views t)) (Phase.Remounts x) =
+      subst (Fits c t (held_of (w.views t))) is (good Fitting t lt) in
+      remount_clean x.nodes x.step t lt fits.3 fits.5 (ap (tree_role_of (w.views t).trace) is)
+      (subst (λ p. KnowsStage w.words.stage w.words.sb (stage_role_of p)) is ((good Stages).knows t lt))
+  phase_clean t lt (Some (Phase.Freezes x)) is =
+      let fits : PhaseFits c t (held_of (w.views t)) (Phase.Freezes x) =
+      subst (Fits c t (held_of (w.views t))) is (good Fitting t lt) in
+      freeze_clean x.nodes x.holder x.step t lt fits.3 fits.5 (ap (tree_role_of (w.views t).trace) is)
+  phase_clean t lt (Some (Phase.Thaws x)) is = thaw_clean x.step
+  phase_clean t lt (Some (Phase.Trees x)) is = tree_clean x
+  phase_clean t lt other is = none_clean
+
+  pub marks_right : MarksHold c.tasks c.nodes w.words.stage w.words.sb (marks_of w.words) (stage_roles w)
+  marks_right = record {
+    frozen = λ h. all_clean (sealed_frozen w.words.sb w.words.stage h);
+    read_only = λ e. all_clean (sealed_read_only w.words.sb w.words.stage e);
+    cleared = λ t lt. phase_clean t lt (w.views t).phase refl;
+  }
+
+  -- where the stage isn't 4, a snapshot has loaded no word
+  snapshot_unread : (x : Snapshot) (s : SnapshotStep) (values : ℕ → ℕ) → (w.words.stage ≡ 4 → ⊥) →
+      KnowsStage w.words.stage w.words.sb (snapshot_stage_role s) → words_read (snapshot_role x.nodes values s) ≡ 0
+  snapshot_unread x (SnapshotStep.LoadsNode n) values apart knows = absurd (apart knows.0)
+  snapshot_unread x (SnapshotStep.LoadsKids n) values apart knows = absurd (apart knows.0)
+  snapshot_unread x (SnapshotStep.Releases (Ok reply)) values apart knows = absurd (apart knows.0)
+  snapshot_unread x (SnapshotStep.Releases (Err refusal)) values apart knows = refl
+  snapshot_unread x other values apart knows = refl
+
+  tree_unread : (x : TreePhase) (values : ℕ → ℕ) → (w.words.stage ≡ 4 → ⊥) →
+      KnowsStage w.words.stage w.words.sb (tree_stage_role x) → words_read (phase_role values x) ≡ 0
+  tree_unread (TreePhase.Snapshot x) values apart knows = snapshot_unread x x.step values apart knows
+  tree_unread (TreePhase.ClearMarks x) values apart knows = refl
+  tree_unread x values apart knows = (call_plain values x refl).read_none
+
+  phase_unread : (trace : List Traced) (p : Option Phase) → (w.words.stage ≡ 4 → ⊥) →
+      KnowsStage w.words.stage w.words.sb (stage_role_of p) → words_read (tree_role_of trace p) ≡ 0
+  phase_unread trace (Some (Phase.Remounts x)) apart knows = (remount_apart x.nodes x.step).0
+  phase_unread trace (Some (Phase.Freezes x)) apart knows = (freeze_apart x.nodes x.step).1
+  phase_unread trace (Some (Phase.Trees x)) apart knows = tree_unread x (values_noted (nodes_noted x) trace) apart knows
+  phase_unread trace (Some (Closes x)) apart knows = (close_apart x).2
+  phase_unread trace p apart knows = refl
+
+  pub nobody_reads : (w.words.stage ≡ 4 → ⊥) → NobodyReads (tree_bounds c) (tree_of w)
+  nobody_reads apart = total_none c.tasks (λ t. words_read (tree_roles w t)) (λ t lt.
+      phase_unread (w.views t).trace (w.views t).phase apart ((good Stages).knows t lt))

@@ -1,0 +1,270 @@
+-- What an event of a freeze or a thaw may leave: each part of the rule, and the shown model.
+use Rattle.access_model.specs.{Replies.map_next, States.{Limits, State, openers}, declared.actions.{Action.Action, Holders.Holders, NodeInfo.NodeInfo}}
+use Rattle.access_model.specs.declared.replies.{Next.Next, Reply.Reply}
+use Rattle.cpu_words.specs.{Hooks.HookAnswer, Sums.sum_taking, Touches.{event_of, found_by}, Words.Words, declared.sums.Taken.Taken}
+use Rattle.finite_sums.proofs.Totals.{each_updated}
+use Rattle.finite_sums.specs.Sums.{update}
+use Rattle.freeze_levels.specs.{Freezes.{after_closing, freeze_after, freeze_next, level_closed}, Holders.holders_in, Thaws.{thaw_after, thaw_next}}
+use Rattle.freeze_levels.specs.declared.{freezes.{Freeze.Freeze, FreezeStep.FreezeStep}, thaws.{Thaw.Thaw, ThawStep.ThawStep}}
+use Rattle.gate_schedules.proofs.frames.{Frames.{left_alone, opens_left, view_as}, Keeps.by_bool, Known.{IsOwnersWork, known_after}}
+use Rattle.gate_schedules.proofs.frames.Stages.{IsStageEvent, shown_by, stage_action, stage_effect, stages_after, stages_in}
+use Rattle.gate_schedules.proofs.{levels.Standing.{LevelsHold, left_world}, mounts.Parts.{is_known_part, known_is}}
+use Rattle.gate_world.specs.{Configs.model_limits, Fits.{FreezeFits, HasFile, file_of}, Found.is_load, Holdings.Holdings, Owners.{is_owned, takes_lock}}
+use Rattle.gate_world.specs.{Alike.{Roles, no_roles, roles_of}, Roles.{freeze_owns, thaw_owns}, Rules.{AtLevel, AtMount, Files}}
+use Rattle.gate_world.specs.Rules.{Fitting, Holding, Holds, IsGood, Known, Moves, Owner, OwnerHolds, Part, Sections, Stages, StepKeeps, SyncAt, Tree, ViewFits}
+use Rattle.gate_world.specs.{Rules.{owns, stage_role_of, stage_roles}, Shown.shown, Views.{added_by, has_open, held_of, phase_after, taken_by}, Worlds.World}
+use Rattle.gate_world.specs.{Worlds.{after_step, phase_action, value_at}, declared.{config.Config.Config, views.View.View, work.Phase.Phase}}
+use Rattle.node_words.specs.Nodes.{node_shown, opens_in}
+use Rattle.percpu_rwsem.specs.{Graces.looked, SyncWords.{is_passed, on_callback, on_enter, unpack}, Transitions.transition_after, Writers.at_down_write}
+use Rattle.percpu_rwsem.specs.Writers.{callback_step, down_write_after, down_write_next, down_write_summed, enter_step, passed_awaited, sections_awaited}
+use Rattle.percpu_rwsem.specs.{Writers.sum_begun, declared.{grace.GraceNext.GraceNext, sync_word.SyncWord.SyncWord, transitions.Transition.Transition}}
+use Rattle.percpu_rwsem.specs.declared.writers.{DownWrite.DownWrite, DownWriteStep.DownWriteStep}
+use Rattle.freeze_laws.specs.stages.{Events.{StageEvent, action_of as stage_action_of}, Roles.bit, Shown.{AsksOthers, ShowsStages, state_after}}
+use Rattle.std.proofs.{Common.{ap, arith, false, inl, inr, nat_lt, refl, subst, sym, true, true≢false, ℕ, ◌<◌, ◌∙◌, ◌≡◌, ◌≤◌, ◌⊎◌}, lemmas.Bool.cases_Bool}
+use Rattle.std.proofs.lemmas.Bool.{lt-ltb, Decides.eqb_tells}
+use Rattle.std.specs.Prelude.{None, Ok, Option, Some, if◌then◌else◌, ◌==◌}
+
+-- of these roles those that no freeze and no thaw has
+abbrev pub off_writers : Roles → Roles
+off_writers r = record no_roles { mount = r.mount; remounts = r.remounts; file = r.file }
+
+-- a phase of one, or none: it has none of them
+abbrev pub IsWriter : Option Phase → Type 0
+IsWriter p = off_writers (roles_of p) ≡ no_roles
+
+pub idle_writes : IsWriter None
+idle_writes = refl
+
+pub freezes_write : (x : Freeze) → IsWriter (Some (Phase.Freezes x))
+freezes_write x = refl
+
+pub thaws_write : (x : Thaw) → IsWriter (Some (Phase.Thaws x))
+thaws_write x = refl
+
+pub freeze_comes : (n : Next Freeze) → IsWriter (phase_after (map_next Phase.Freezes n))
+freeze_comes (Next.Go x) = freezes_write x
+freeze_comes (Next.Wait x) = freezes_write x
+freeze_comes (Next.Done answer) = idle_writes
+
+pub thaw_comes : (n : Next Thaw) → IsWriter (phase_after (map_next Phase.Thaws n))
+thaw_comes (Next.Go x) = thaws_write x
+thaw_comes (Next.Wait x) = thaws_write x
+thaw_comes (Next.Done answer) = idle_writes
+
+-- the words that no freeze and no thaw writes are as they were
+pub record IsBeside (old new : Words) : Type 0 where
+  pub flags_same : new.flags ≡ old.flags
+  pub count_same : new.count ≡ old.count
+  pub remount_same : new.remount ≡ old.remount
+  pub sb_same : new.sb ≡ old.sb
+
+-- the view counts what it counted at mounts, and holds what it held
+pub record SameAtMounts (old new : View) : Type 0 where
+  pub held_same : held_of new ≡ held_of old
+  pub added_same : added_by new.events ≡ added_by old.events
+  pub taken_same : taken_by new.events ≡ taken_by old.events
+
+-- what a state shows of the accesses, the mounts, the tree and the holders: these accesses and mounts, this tree and these holders
+pub record LeavesRest (old new : State) (tree : ℕ → Option NodeInfo) (held : Holders) : Type 0 where
+  pub mounts_same : new.mounts ≡ old.mounts
+  pub levels_same : new.levels ≡ old.levels
+  pub opens_same : new.opens ≡ old.opens
+  pub ro_same : new.mount_ro ≡ old.mount_ro
+  pub tree_same : new.tree ≡ tree
+  pub holders_same : new.holders ≡ held
+
+-- what an action, if there is one, asks of other parts than the stage
+abbrev pub AsksWhere : Limits → State → Option Action → Type 0
+AsksWhere l s None = Unit {0}
+AsksWhere l s (Some a) = AsksOthers l s a
+
+module _ (c : Config) (w : World) (good : IsGood c w) (t : ℕ) (lt : t < c.tasks) (ws : Words) (v : View) (action : Option Action)
+    (kind : StageEvent) where
+  -- All that is to be known of an event of a freeze or a thaw: what it leaves of the words and of its task's view, which event of the
+  -- stage it is, and what it adds.
+  pub record WriterEvent : Type 0 where
+    pub words : IsBeside w.words ws
+    pub counts : SameAtMounts (w.views t) v
+    pub was : IsWriter (w.views t).phase
+    pub now : IsWriter v.phase
+    pub owner : OwnerHolds c.tasks ws.umount ws.remount (λ y. (update w.views t v y).phase)
+    pub levels : LevelsHold c (left_world w t ws v)
+    pub tree : Holds c (left_world w t ws v) Tree
+    pub opens : (n : ℕ) → opens_in (ws.node n) ≡ opens_in (w.words.node n)
+    pub fits : ViewFits c t v
+    pub holding : Holds c (left_world w t ws v) Holding
+    pub happens : IsStageEvent c w good t lt ws v kind
+    pub adds : stage_action_of kind (stages_in w) ≡ action
+    pub asks : AsksWhere (model_limits c) (shown c w) action
+    pub rest : LeavesRest (shown c w) (state_after (shown c w) t action) (λ n. node_shown (ws.node n)) (holders_in ws.holders)
+
+  -- each part but what the owner knows
+  abbrev pub PartsHold : Type 0
+  PartsHold = (part : Part) → is_known_part part ≡ false → Holds c (left_world w t ws v) part
+
+  pub writer_parts : WriterEvent → PartsHold
+  writer_parts h Owner k = h.owner
+  writer_parts h Stages k = stages_after c w good t lt ws v kind h.happens
+  writer_parts h Holding k = h.holding
+  writer_parts h Fitting k = λ y ly. each_updated (λ z (u : View). ViewFits c z u) w.views t v y h.fits (λ ne. good Fitting y ly)
+  writer_parts h Known k = absurd (true≢false k)
+  writer_parts h Tree k = h.tree
+  writer_parts h Files k = record {
+    counted = λ n ln. h.opens n ∙ (good Files).counted n ln ∙
+        sym (ap (λ f. openers f n) (opens_left c w t lt v (ap (λ (k : Holdings). k.files) h.counts.held_same)));
+    own = λ x lx. each_updated (λ y (u : View). HasFile (has_open u) (file_of u.phase)) w.views t v x
+        (subst (HasFile (has_open v)) (sym (λ j. (h.now j).file)) tt) (λ ne. (good Files).own x lx);
+  }
+  writer_parts h (AtMount m) k =
+      left_alone c w t lt (AtMount m) ws v
+      (ap (λ f. f m) h.words.flags_same, h.words.remount_same, h.words.sb_same, ap (λ f. f m) h.words.count_same)
+      (view_as (ap (λ (k : Holdings). k.mounts m) h.counts.held_same) (ap (λ f. f m) h.counts.added_same) (ap (λ f. f m) h.counts.taken_same)
+      ((λ j. (h.now j).mount m) ∙ sym (λ j. (h.was j).mount m))) (good (AtMount m))
+  writer_parts h (AtLevel i) k = h.levels.0 i
+  writer_parts h (SyncAt i) k = h.levels.1 i
+  writer_parts h Sections k = h.levels.2
+
+  effect_shown : WriterEvent → shown c (left_world w t ws v) ≡ state_after (shown c w) t action
+  effect_shown h =
+      shown_by c w good t lt ws v h.words.flags_same h.counts.held_same (state_after (shown c w) t action)
+      (subst (λ a. ShowsStages c.tasks ws.stage ws.sb ws.remount ws.block (update (stage_roles w) t (stage_role_of v.phase))
+      (state_after (shown c w) t a)) h.adds (stage_effect c w good t lt ws v kind h.happens))
+      h.rest.mounts_same h.rest.levels_same h.rest.opens_same h.rest.ro_same h.rest.holders_same h.rest.tree_same
+
+writer_moves : (c : Config) (w : World) (good : IsGood c w) (t : ℕ) (lt : t < c.tasks) (ws : Words) (v : View) (action : Option Action)
+    (kind : StageEvent) → WriterEvent c w good t lt ws v action kind → Moves c (shown c w) t action (shown c (left_world w t ws v))
+writer_moves c w good t lt ws v None kind h = effect_shown c w good t lt ws v None kind h
+writer_moves c w good t lt ws v (Some a) kind h =
+    (stage_action c w good t lt ws v kind h.happens a h.adds h.asks, effect_shown c w good t lt ws v (Some a) kind h)
+
+-- the law of an event: each part but what the owner knows, and the shown model
+abbrev pub WriterLaw : Config → World → ℕ → Words → View → Option Action → Type 0
+WriterLaw c w t ws v action =
+    ((part : Part) → is_known_part part ≡ false → Holds c (left_world w t ws v) part) ×
+    Moves c (shown c w) t action (shown c (left_world w t ws v))
+
+-- so it is of such an event
+pub writer_law : (c : Config) (w : World) (good : IsGood c w) (t : ℕ) (lt : t < c.tasks) (ws : Words) (v : View) (action : Option Action)
+    (kind : StageEvent) → WriterEvent c w good t lt ws v action kind → WriterLaw c w t ws v action
+writer_law c w good t lt ws v action kind h =
+    (writer_parts c w good t lt ws v action kind h, writer_moves c w good t lt ws v action kind h)
+
+-- the law of the next event of a phase, as this
+abbrev pub WriterKeeps : Config → World → ℕ → HookAnswer → Phase → Type 0
+WriterKeeps c w t hook phase =
+    ((part : Part) → is_known_part part ≡ false → Holds c (after_step w t phase hook) part) ×
+    Moves c (shown c w) t (phase_action w hook (Some phase)) (shown c (after_step w t phase hook))
+
+-- what the owner knows moves with its trace
+pub whole_writer : (c : Config) (w : World) (t : ℕ) → t < c.tasks → IsGood c w → (hook : HookAnswer) (phase : Phase) →
+    (w.views t).phase ≡ Some phase → IsOwnersWork w phase hook → WriterKeeps c w t hook phase → StepKeeps c w t hook phase
+whole_writer c w t lt good hook phase e work keeps = (
+  λ part. elim (cases_Bool (is_known_part part)) [
+    | inl h ↦ subst (Holds c (after_step w t phase hook)) (sym (known_is part h)) (known_after c w t phase hook good lt e work)
+    | inr h ↦ keeps.0 part h
+  ],
+  keeps.1,
+)
+
+-- What comes after an event of a down-write is the same one with another step, or it is done.
+module _ (d : DownWrite) (P : Next DownWrite → Type 0) (go : (s : DownWriteStep) → P (Next.Go (at_down_write d s)))
+    (wait : (s : DownWriteStep) → P (Next.Wait (at_down_write d s))) (done : P (Next.Done (Ok Reply.Unit))) where
+  sections_come : (n : GraceNext) → P (sections_awaited d n)
+  sections_come (GraceNext.More grace) = go (DownWriteStep.AwaitsSections grace)
+  sections_come (GraceNext.Wait grace) = wait (DownWriteStep.AwaitsSections grace)
+  sections_come GraceNext.Ended = go (DownWriteStep.CallsBack Transition.Loads)
+
+  passed_comes : (o : Option SyncWord) → P (passed_awaited d o)
+  passed_comes None = go DownWriteStep.AwaitsPassed
+  passed_comes (Some word) =
+      by_bool (is_passed word.state)
+      (λ b. P (if b then Next.Go (at_down_write d DownWriteStep.SetsBlock) else Next.Wait (at_down_write d DownWriteStep.AwaitsPassed)))
+      (go DownWriteStep.SetsBlock) (wait DownWriteStep.AwaitsPassed)
+
+  summed_comes : (n : Taken) → P (down_write_summed d n).0
+  summed_comes (Taken.More sum) = go (DownWriteStep.Sums sum)
+  summed_comes (Taken.Total total) =
+      by_bool (total == 0) (λ b. P (if b then Next.Done (Ok Reply.Unit) else Next.Wait (at_down_write d sum_begun))) done (wait sum_begun)
+
+  pub down_write_comes : (s : DownWriteStep) (found : ℕ) → P (down_write_after d s found).0
+  down_write_comes (DownWriteStep.Enters transition) found = go (enter_step d.tasks (transition_after on_enter transition found))
+  down_write_comes (DownWriteStep.AwaitsSections grace) found = sections_come (looked grace found)
+  down_write_comes (DownWriteStep.CallsBack transition) found = go (callback_step (transition_after on_callback transition found))
+  down_write_comes DownWriteStep.AwaitsPassed found = passed_comes (unpack found)
+  down_write_comes DownWriteStep.SetsBlock found =
+      by_bool (found == 0) (λ b. P (if b then Next.Go (at_down_write d sum_begun) else Next.Wait (at_down_write d DownWriteStep.SetsBlock)))
+      (go sum_begun) (wait DownWriteStep.SetsBlock)
+  down_write_comes (DownWriteStep.Sums sum) found = summed_comes (sum_taking sum found d.processors)
+
+-- a down-write changes no word that only the owner changes
+down_write_off : (d : DownWrite) (s : DownWriteStep) → is_owned (down_write_next d s).0 ≡ false
+down_write_off d (DownWriteStep.Enters Transition.Loads) = refl
+down_write_off d (DownWriteStep.CallsBack Transition.Loads) = refl
+down_write_off d other = refl
+
+freeze_changes : (x : Freeze) (s : FreezeStep) (hook : HookAnswer) → is_owned (freeze_next x s hook).0 ≡ true →
+    (is_load (freeze_next x s hook).1 ≡ true) ⊎ (freeze_owns s ≡ 1)
+freeze_changes x FreezeStep.Locks hook h = absurd (true≢false (sym h))
+freeze_changes x (FreezeStep.Closes d) hook h = absurd (true≢false (sym h ∙ down_write_off d d.step))
+freeze_changes x FreezeStep.LocksAgain hook h = absurd (true≢false (sym h))
+freeze_changes x s hook h = inr refl
+
+-- a level that is closed is closed by the owner as before, but for level 1, after which `umount` is to be taken again
+closed_comes : (x : Freeze) (level : ℕ) → 1 ≤ level → freeze_owns (level_closed level x.nodes) ≡ 1 →
+    bit (nat_lt 1 level) ≡ 1
+closed_comes x level low h =
+    elim (eqb_tells level 1) [
+      | inl q ↦ absurd (omega (arith, rw q.0 at h))
+      | inr q ↦ rw (lt-ltb 1 level (omega (arith, low, q.1))) refl
+    ]
+
+-- and comes to own `umount` by taking it
+freeze_comes_to : (c : Config) (x : Freeze) (s : FreezeStep) (hook : HookAnswer) (value : ℕ) → FreezeFits c x.holder s →
+    owns (phase_after (map_next Phase.Freezes (freeze_after x s (found_by (freeze_next x s hook).1 value) hook).0)) ≡ 1 →
+    (freeze_owns s ≡ 1) ⊎ (takes_lock (event_of (freeze_next x s hook).0 (freeze_next x s hook).1 value) ≡ true)
+freeze_comes_to c x FreezeStep.Locks hook value f h =
+    elim (cases_Bool (value == 0)) [
+      | inl z ↦ inr z
+      | inr z ↦ absurd (omega (arith, rw z at h))
+    ]
+freeze_comes_to c x FreezeStep.LocksAgain hook value f h =
+    elim (cases_Bool (value == 0)) [
+      | inl z ↦ inr z
+      | inr z ↦ absurd (omega (arith, rw z at h))
+    ]
+freeze_comes_to c x (FreezeStep.Closes d) hook value f h =
+    let found : ℕ = found_by (down_write_next d d.step).1 value in
+    let own : bit (nat_lt 1 d.level) ≡ 1 =
+    down_write_comes d (λ n. owns (phase_after (map_next Phase.Freezes (after_closing x d.level n))) ≡ 1 → bit (nat_lt 1 d.level) ≡ 1)
+    (λ s q. q) (λ s q. q) (closed_comes x d.level f.0) d.step found h in
+    inl own
+freeze_comes_to c x s hook value f h = inl refl
+
+pub freeze_work : (c : Config) (w : World) (x : Freeze) (hook : HookAnswer) → FreezeFits c x.holder x.step → IsOwnersWork w (Phase.Freezes x) hook
+freeze_work c w x hook f = record {
+  changes = freeze_changes x x.step hook;
+  comes_to_own = freeze_comes_to c x x.step hook (value_at w.words (Phase.Freezes x) hook) f;
+}
+
+-- a thaw changes an owned word as the owner
+thaw_changes : (x : Thaw) (s : ThawStep) (hook : HookAnswer) → is_owned (thaw_next x s hook).0 ≡ true →
+    (is_load (thaw_next x s hook).1 ≡ true) ⊎ (thaw_owns s ≡ 1)
+thaw_changes x ThawStep.Locks hook h = absurd (true≢false (sym h))
+thaw_changes x s hook h = inr refl
+
+-- and comes to own `umount` by taking it
+thaw_comes_to : (x : Thaw) (s : ThawStep) (hook : HookAnswer) (value : ℕ) →
+    owns (phase_after (map_next Phase.Thaws (thaw_after x s (found_by (thaw_next x s hook).1 value) hook).0)) ≡ 1 →
+    (thaw_owns s ≡ 1) ⊎ (takes_lock (event_of (thaw_next x s hook).0 (thaw_next x s hook).1 value) ≡ true)
+thaw_comes_to x ThawStep.Locks hook value h =
+    elim (cases_Bool (value == 0)) [
+      | inl z ↦ inr z
+      | inr z ↦ absurd (omega (arith, rw z at h))
+    ]
+thaw_comes_to x s hook value h = inl refl
+
+pub thaw_work : (w : World) (x : Thaw) (hook : HookAnswer) → IsOwnersWork w (Phase.Thaws x) hook
+thaw_work w x hook = record {
+  changes = thaw_changes x x.step hook;
+  comes_to_own = thaw_comes_to x x.step hook (value_at w.words (Phase.Thaws x) hook);
+}

@@ -1,0 +1,155 @@
+-- Events of a down-write and of an up-write: the words that they leave, the counts, and what they add.
+use Rattle.std.{proofs.Common.{◌≡◌, ℕ, ◌<◌, refl, sym, ◌∙◌, subst}, specs.Prelude.{Ok, ◌==◌, if◌then◌else◌, Option, Some, None}}
+use Rattle.finite_sums.specs.Sums.{update}
+use Rattle.access_model.specs.{Actions.after_action, States.State, declared.{actions.Action.Action, replies.{Next.Next, Reply.Reply}}}
+use Rattle.cpu_words.specs.{Sums.sum_taking, Touches.left, Words.{Words, read, put}, declared.sums.Taken.Taken}
+use Rattle.node_words.specs.Nodes.{node_shown, opens_in}
+use Rattle.gated_tree.specs.Roles.{Out, Clearing}
+use Rattle.gate_schedules.specs.trees.Events.{Event, turned, BeginsClearing}
+use Rattle.percpu_rwsem.specs.{SyncWords.on_exit, Transitions.transition_after}
+use Rattle.percpu_rwsem.specs.Writers.{exit_made, down_write_next, down_write_after, down_write_summed, up_write_next, up_write_after}
+use Rattle.percpu_rwsem.specs.declared.transitions.{Transition.Transition, TransitionNext.TransitionNext}
+use Rattle.percpu_rwsem.specs.declared.writers.{DownWrite.DownWrite, DownWriteStep.DownWriteStep, UpWrite.UpWrite, UpWriteStep.UpWriteStep}
+use Rattle.freeze_levels.specs.Holders.{holders_in}
+use Rattle.freeze_laws.specs.stages.{Events.{StageEvent, action_of as stage_action_of}, Shown.state_after}
+use Rattle.gate_world.specs.{Configs.{IsWithin, model_limits}, Levels.{level_added_after, level_taken_after}, Rules.{Holds, IsGood, Tree, ViewFits}}
+use Rattle.gate_world.specs.{Rules.{holder_role_of, owns}, Shown.shown, Trees.{is_bare_at, is_sealed, tree_bounds, tree_of, tree_role_of, tree_roles}}
+use Rattle.gate_world.specs.Views.{added_after}
+use Rattle.gate_world.specs.{Views.taken_after, Worlds.World, declared.{config.Config.Config, views.View.View}}
+use Rattle.gate_schedules.proofs.frames.{Frames.{unwritten, left_alone}, Holders.holders_stay, Keeps.by_bool, Stages.{IsStageEvent, stages_in}}
+use Rattle.gate_schedules.proofs.{levels.Standing.{LevelsHold, left_world}, trees.worlds.Trees.{tree_then, tree_after}, writers.Owner.owner_stays}
+use Rattle.gate_schedules.proofs.writers.Parts.{IsWriter, SameAtMounts, LeavesRest, AsksWhere, WriterLaw, writer_law}
+
+-- the words that are no level's own
+abbrev pub off_level_words : Words → Words
+off_level_words w = record w { block = λ i. 0; sync = λ i. 0; level = λ i p. 0; section = λ t. 0 }
+
+-- are as they were
+abbrev pub IsAtLevels : Words → Words → Type 0
+IsAtLevels old new = off_level_words new ≡ off_level_words old
+
+pub down_write_words : (w : Words) (d : DownWrite) (s : DownWriteStep) →
+    IsAtLevels w (put w (down_write_next d s).0 (left (down_write_next d s).1 (read w (down_write_next d s).0)))
+down_write_words w d (DownWriteStep.Enters Transition.Loads) = refl
+down_write_words w d (DownWriteStep.CallsBack Transition.Loads) = refl
+down_write_words w d other = refl
+
+pub up_write_words : (w : Words) (u : UpWrite) (s : UpWriteStep) →
+    IsAtLevels w (put w (up_write_next u s).0 (left (up_write_next u s).1 (read w (up_write_next u s).0)))
+up_write_words w u UpWriteStep.ClearsBlock = refl
+up_write_words w u (UpWriteStep.Exits Transition.Loads) = refl
+up_write_words w u (UpWriteStep.Exits (Transition.Exchanges from to)) = refl
+
+-- a down-write counts nothing, at mounts or at levels
+pub down_write_counts_none : (d : DownWrite) (s : DownWriteStep) (f : ℕ → ℕ → ℕ) →
+    (added_after (down_write_next d s).0 (down_write_next d s).1 f ≡ f) ×
+    (taken_after (down_write_next d s).0 (down_write_next d s).1 f ≡ f) ×
+    (level_added_after (down_write_next d s).0 (down_write_next d s).1 f ≡ f) ×
+    (level_taken_after (down_write_next d s).0 (down_write_next d s).1 f ≡ f)
+down_write_counts_none d (DownWriteStep.Enters Transition.Loads) f = (refl, refl, refl, refl)
+down_write_counts_none d (DownWriteStep.CallsBack Transition.Loads) f = (refl, refl, refl, refl)
+down_write_counts_none d other f = (refl, refl, refl, refl)
+
+pub up_write_counts_none : (u : UpWrite) (s : UpWriteStep) (f : ℕ → ℕ → ℕ) →
+    (added_after (up_write_next u s).0 (up_write_next u s).1 f ≡ f) × (taken_after (up_write_next u s).0 (up_write_next u s).1 f ≡ f) ×
+    (level_added_after (up_write_next u s).0 (up_write_next u s).1 f ≡ f) ×
+    (level_taken_after (up_write_next u s).0 (up_write_next u s).1 f ≡ f)
+up_write_counts_none u UpWriteStep.ClearsBlock f = (refl, refl, refl, refl)
+up_write_counts_none u (UpWriteStep.Exits Transition.Loads) f = (refl, refl, refl, refl)
+up_write_counts_none u (UpWriteStep.Exits (Transition.Exchanges from to)) f = (refl, refl, refl, refl)
+
+-- What an event of a down-write adds: nothing, or that its level is passed.
+module _ (d : DownWrite) (P : Option Action → Type 0) (none : P None) (pass : P (Some (Action.Pass d.level))) where
+  summed_adds : (n : Taken) → P (down_write_summed d n).1
+  summed_adds (Taken.More sum) = none
+  summed_adds (Taken.Total total) = by_bool (total == 0) (λ b. P (if b then Some (Action.Pass d.level) else None)) pass none
+
+  -- each event
+  pub down_write_adds : (s : DownWriteStep) (found : ℕ) → P (down_write_after d s found).1
+  down_write_adds (DownWriteStep.Sums sum) found = summed_adds (sum_taking sum found d.processors)
+  down_write_adds s found = none
+
+-- and what one of an up-write adds: nothing, or that its level is reopened
+pub up_write_adds : (u : UpWrite) (P : Option Action → Type 0) → P None → P (Some (Action.Reopen u.level)) → (s : UpWriteStep) (found : ℕ) →
+    P (up_write_after u s found).1
+up_write_adds u P none opens UpWriteStep.ClearsBlock found = opens
+up_write_adds u P none opens (UpWriteStep.Exits transition) found = none
+
+-- What comes after an event of an up-write is the same one, past its store, or it is done.
+module _ (u : UpWrite) (P : Next UpWrite → Type 0) (go : (s : UpWriteStep) → P (Next.Go (record u { step = s })))
+    (done : P (Next.Done (Ok Reply.Unit))) where
+  exit_comes : (n : TransitionNext) → P (exit_made u n)
+  exit_comes (TransitionNext.More transition) = go (UpWriteStep.Exits transition)
+  exit_comes TransitionNext.Undefined = go (UpWriteStep.Exits Transition.Loads)
+  exit_comes (TransitionNext.Made state) = done
+
+  pub up_write_comes : (s : UpWriteStep) (found : ℕ) → P (up_write_after u s found).0
+  up_write_comes UpWriteStep.ClearsBlock found = go (UpWriteStep.Exits Transition.Loads)
+  up_write_comes (UpWriteStep.Exits transition) found = exit_comes (transition_after on_exit transition found)
+
+pub pass_leaves : (s : State) (t i : ℕ) → LeavesRest s (after_action s t (Action.Pass i)) s.tree s.holders
+pass_leaves s t i = record { mounts_same = refl; levels_same = refl; opens_same = refl; ro_same = refl; tree_same = refl; holders_same = refl }
+
+pub reopen_leaves : (s : State) (t i : ℕ) → LeavesRest s (after_action s t (Action.Reopen i)) s.tree s.holders
+reopen_leaves s t i = record { mounts_same = refl; levels_same = refl; opens_same = refl; ro_same = refl; tree_same = refl; holders_same = refl }
+
+-- the tree is left, where its task does there what it did
+pub tree_beside : (c : Config) (w : World) → IsGood c w → (t : ℕ) → t < c.tasks → (ws : Words) (v : View) → IsAtLevels w.words ws →
+    tree_role_of v.trace v.phase ≡ tree_role_of (w.views t).trace (w.views t).phase → Holds c (left_world w t ws v) Tree
+tree_beside c w good t lt ws v words same =
+    left_alone c w t lt Tree ws v (unwritten words Tree) same (good Tree)
+
+-- and where a clearing of marks begins
+pub tree_begins : (c : Config) (w : World) → IsGood c w → (t : ℕ) → t < c.tasks → (ws : Words) (v : View) → IsWithin c →
+    IsAtLevels w.words ws → tree_role_of (w.views t).trace (w.views t).phase ≡ Out → tree_role_of v.trace v.phase ≡ Clearing 1 →
+    Holds c (left_world w t ws v) Tree
+tree_begins c w good t lt ws v within words was now =
+    let same : tree_then c w good t lt ws v ≡ turned (tree_of w) t (Clearing 1) =
+    λ j. record {
+      sealed = is_sealed (words j);
+      bare = is_bare_at (words j);
+      used = (words j).used;
+      removed = (words j).removed;
+      node = (words j).node;
+      kids = (words j).kids;
+      at = update (tree_roles w) t (now j);
+    } in
+    tree_after c w good t lt ws v within None (subst (λ s. Event (tree_bounds c) (tree_of w) t s None) (sym same) (BeginsClearing was))
+
+-- the law of an event of a freeze or a thaw on a word of a level, which leaves who owns `umount`
+pub writer_at_level : (c : Config) (w : World) (good : IsGood c w) (t : ℕ) (lt : t < c.tasks) (ws : Words) (v : View)
+    (action : Option Action) (kind : StageEvent) → IsWriter (w.views t).phase → IsWriter v.phase → IsAtLevels w.words ws →
+    SameAtMounts (w.views t) v → ViewFits c t v → owns v.phase ≡ owns (w.views t).phase → LevelsHold c (left_world w t ws v) →
+    Holds c (left_world w t ws v) Tree → IsStageEvent c w good t lt ws v kind → stage_action_of kind (stages_in w) ≡ action →
+    AsksWhere (model_limits c) (shown c w) action →
+    LeavesRest (shown c w) (state_after (shown c w) t action) (shown c w).tree (shown c w).holders →
+    holder_role_of v.phase ≡ holder_role_of (w.views t).phase → WriterLaw c w t ws v action
+writer_at_level c w good t lt ws v action kind was now words mounts fits own levels tree happens adds asks rest holder =
+    writer_law c w good t lt ws v action kind (record {
+      words = record {
+        flags_same = λ j. (words j).flags;
+        count_same = λ j. (words j).count;
+        remount_same = λ j. (words j).remount;
+        sb_same = λ j. (words j).sb;
+      };
+      counts = mounts;
+      was = was;
+      now = now;
+      owner = owner_stays c w good t lt v was now ws (λ j. (words j).umount) (λ j. (words j).remount) own;
+      levels = levels;
+      tree = tree;
+      opens = λ n j. opens_in ((words j).node n);
+      fits = fits;
+      holding = holders_stay c w good t lt ws v (λ j. (words j).stage) (λ j. (words j).holders) holder;
+      happens = happens;
+      adds = adds;
+      asks = asks;
+      rest = record {
+        mounts_same = rest.mounts_same;
+        levels_same = rest.levels_same;
+        opens_same = rest.opens_same;
+        ro_same = rest.ro_same;
+        tree_same = rest.tree_same ∙ sym (λ j n. node_shown ((words j).node n));
+        holders_same = rest.holders_same ∙ sym (λ j. holders_in (words j).holders);
+      };
+    })
