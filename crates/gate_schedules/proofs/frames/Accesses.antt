@@ -1,5 +1,6 @@
 -- What an action makes of what a task holds, and of its lists at run time.
 use Rattle.std.proofs.Common.{◌≡◌, ℕ, ◌+◌, ◌-◌, ◌<◌, true, false, length, refl, sym, ap, ◌∙◌, inl, inr, arith, get_or-set_same, get_or-set_other}
+use Rattle.std.proofs.lemmas.Grind.{common_steps}
 use Rattle.std.proofs.{Math.ListN.length-set, lemmas.Bool.Decides.eqb_tells}
 use Rattle.std.specs.Prelude.{List, Option, Some, None, slice_index, slice_index_or, slice_set}
 use Rattle.finite_sums.{proofs.Totals.{update_at, update_off}, specs.Sums.update}
@@ -12,23 +13,13 @@ holdings_of_after None actions = refl
 holdings_of_after (Some a) actions = refl
 
 pub long_after : (held : Accesses) (a : Option Action) → length (accesses_after held a).mounts ≡ length held.mounts
-long_after held None = refl
-long_after held (Some (Action.Grant (Gate.Mount m))) = length-set held.mounts m (slice_index held.mounts m + 1)
-long_after held (Some (Action.Return (Gate.Mount m))) = length-set held.mounts m (slice_index held.mounts m - 1)
-long_after held (Some a) = refl
+long_after held a1 = grind (arith, common_steps)
 
 pub wide_after : (held : Accesses) (a : Option Action) → length (accesses_after held a).levels ≡ length held.levels
-wide_after held None = refl
-wide_after held (Some (Action.Grant (Gate.Level i))) = length-set held.levels i true
-wide_after held (Some (Action.Return (Gate.Level i))) = length-set held.levels i false
-wide_after held (Some a) = refl
+wide_after held a1 = grind (arith, common_steps)
 
 pub deep_after : (held : Accesses) (a : Option Action) → length (accesses_after held a).files ≡ length held.files
-deep_after held (Some (Action.Grant (Gate.Mount m))) = refl
-deep_after held (Some (Action.Return (Gate.Mount m))) = refl
-deep_after held (Some (Action.Open n)) = length-set held.files n true
-deep_after held (Some (Action.Close n)) = length-set held.files n false
-deep_after held other = refl
+deep_after held other = grind (arith, common_steps)
 
 -- one slot of a list is written as it is in what it agrees with
 slot_set : {A : Type 0} (xs : List A) (d : A) (seen : ℕ → A) (n : ℕ) (v u : A) → n < length xs → (i : ℕ) → (i ≡ n → v ≡ u) →

@@ -57,16 +57,10 @@ summing_is i level (DownWriteStep.Sums sum) owner = refl
 summing_is i level s owner = refl
 
 freeze_closing_is : (i nodes : ℕ) (s : FreezeStep) → freeze_closing i s ≡ sums i (freeze_stage_role nodes s)
-freeze_closing_is i nodes (FreezeStep.Closes d) = summing_is i d.level d.step (nat_lt 1 d.level)
-freeze_closing_is i nodes (FreezeStep.Reopens u code) = apart_sums i (reopening_role u.level u.step) (reopening_apart u.level u.step)
-freeze_closing_is i nodes s = refl
+freeze_closing_is i nodes s = grind arith
 
 pub closing_is : (i : ℕ) (p : Option Phase) → closing i p ≡ sums i (stage_role_of p)
-closing_is i (Some (Phase.Remounts x)) = apart_sums i (remount_stage_role x.nodes x.step) (remount_apart x.nodes x.step)
-closing_is i (Some (Phase.Freezes x)) = freeze_closing_is i x.nodes x.step
-closing_is i (Some (Phase.Thaws x)) = apart_sums i (thaw_stage_role x.step) (thaw_apart x.step)
-closing_is i (Some (Phase.Trees (TreePhase.Snapshot x))) = apart_sums i (snapshot_stage_role x.step) (snapshot_apart x.step)
-closing_is i p = refl
+closing_is i p = grind arith
 
 -- so who has the same role closes the same
 pub closing_as : (p q : Option Phase) → stage_role_of q ≡ stage_role_of p → (i : ℕ) → closing i q ≡ closing i p
@@ -94,8 +88,4 @@ freeze_stored nodes s = refl
 
 -- is the one that it stored last by its phase
 pub freezing_is : (p : Option Phase) → freezing_at p ≡ stage_of (stage_role_of p)
-freezing_is (Some (Phase.Remounts x)) = sym (apart_stage (remount_stage_role x.nodes x.step) (remount_apart x.nodes x.step))
-freezing_is (Some (Phase.Freezes x)) = freeze_stored x.nodes x.step
-freezing_is (Some (Phase.Thaws x)) = sym (apart_stage (thaw_stage_role x.step) (thaw_apart x.step))
-freezing_is (Some (Phase.Trees (TreePhase.Snapshot x))) = sym (apart_stage (snapshot_stage_role x.step) (snapshot_apart x.step))
-freezing_is p = refl
+freezing_is p = grind arith

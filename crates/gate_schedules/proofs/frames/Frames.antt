@@ -88,15 +88,7 @@ sync_as {tasks} en eb ef es ea h = subst (λ X. X) (sym (λ i. SyncNumberHolds t
 
 -- words are as they were, to each part
 pub same_words : (w : Words) (part : Part) → SameWords w w part
-same_words w Owner = (refl, refl)
-same_words w Holding = (refl, refl)
-same_words w Fitting = tt
-same_words w Known = (refl, refl, refl, refl, refl)
-same_words w Tree = (refl, refl, refl, refl, refl, refl)
-same_words w Files = refl
-same_words w (AtLevel i) = (refl, refl, refl)
-same_words w Sections = refl
-same_words w other = (refl, refl, refl, refl)
+same_words w other = grind arith
 
 -- so are words that differ in some alone, to each part that doesn't read these: there its two sides compute to the words themselves
 pub unwritten : {old new : Words} → new ≡ old → (part : Part) → SameWords old new part

@@ -12,18 +12,14 @@ use Rattle.gate_schedules.proofs.frames.Owners.{owns_le}
 
 -- who relies on the holders owns `umount`
 freeze_minds : (s : FreezeStep) → minds (freeze_holder_role s) ≤ freeze_owns s
-freeze_minds (FreezeStep.Holds beside) =
-    elim (cases_Bool (is_unheld beside)) [ inl h ↦ rw h (omega arith) | inr h ↦ rw h (omega arith) ]
-freeze_minds s = omega arith
+freeze_minds s = grind arith
 
 thaw_minds : (holder : Holder) (s : ThawStep) → minds (thaw_holder_role holder s) ≤ thaw_owns s
 thaw_minds holder (ThawStep.Leaves held) = omega arith
 thaw_minds holder s = omega arith
 
 pub holder_owner : (p : Option Phase) → minds (holder_role_of p) ≤ owns p
-holder_owner (Some (Phase.Freezes x)) = freeze_minds x.step
-holder_owner (Some (Phase.Thaws x)) = thaw_minds x.holder x.step
-holder_owner other = omega arith
+holder_owner other = grind arith
 
 -- the holders of a world
 abbrev pub holders_at : World → HolderMoment

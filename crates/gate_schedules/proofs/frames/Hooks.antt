@@ -1,5 +1,6 @@
 -- An event that reads no hook's answer is the same whatever a hook answers.
 use Rattle.std.proofs.Common.{ℕ, ◌≡◌, None, ap, true≢false, is_some, refl}
+use Rattle.std.proofs.Common.{arith}
 use Rattle.access_model.specs.Replies.{map_next}
 use Rattle.cpu_words.specs.Hooks.{HookAnswer}
 use Rattle.gated_tree.specs.{Phases.{next as tree_next, after as tree_after}, declared.phases.TreePhase.TreePhase}
@@ -15,15 +16,11 @@ mount_ignores other a b found = (refl, refl)
 
 remount_ignores : (x : Remount) (s : RemountStep) → remount_hook s ≡ None → (a b : HookAnswer) (found : ℕ) →
     (remount_next x s a ≡ remount_next x s b) × (remount_after x s found a ≡ remount_after x s found b)
-remount_ignores x RemountStep.SetsWritable h a b found = absurd (true≢false (ap is_some h))
-remount_ignores x RemountStep.SetsReadOnly h a b found = absurd (true≢false (ap is_some h))
-remount_ignores x s h a b found = (refl, refl)
+remount_ignores x s h a b found = grind arith
 
 freeze_ignores : (x : Freeze) (s : FreezeStep) → freeze_hook s ≡ None → (a b : HookAnswer) (found : ℕ) →
     (freeze_next x s a ≡ freeze_next x s b) × (freeze_after x s found a ≡ freeze_after x s found b)
-freeze_ignores x FreezeStep.SetsFs h a b found = absurd (true≢false (ap is_some h))
-freeze_ignores x FreezeStep.SetsComplete h a b found = absurd (true≢false (ap is_some h))
-freeze_ignores x s h a b found = (refl, refl)
+freeze_ignores x s h a b found = grind arith
 
 thaw_ignores : (x : Thaw) (s : ThawStep) → thaw_hook s ≡ None → (a b : HookAnswer) (found : ℕ) →
     (thaw_next x s a ≡ thaw_next x s b) × (thaw_after x s found a ≡ thaw_after x s found b)
@@ -35,22 +32,4 @@ tree_ignores (TreePhase.Create x) a b found = (refl, refl)
 tree_ignores other a b found = (refl, refl)
 
 pub ignores : (phase : Phase) → IgnoresAnswer phase (hook_of phase)
-ignores (Phase.Mounts x) h a b found =
-    let e : (next x a ≡ next x b) × (after x found a ≡ after x found b) = mount_ignores x a b found in
-    (e.0, ap (λ y. (map_next Phase.Mounts y.0, y.1)) e.1)
-ignores (Phase.Remounts x) h a b found =
-    let e : (remount_next x x.step a ≡ remount_next x x.step b) × (remount_after x x.step found a ≡ remount_after x x.step found b) =
-    remount_ignores x x.step h a b found in
-    (e.0, ap (λ y. (map_next Phase.Remounts y.0, y.1)) e.1)
-ignores (Phase.Freezes x) h a b found =
-    let e : (freeze_next x x.step a ≡ freeze_next x x.step b) × (freeze_after x x.step found a ≡ freeze_after x x.step found b) =
-    freeze_ignores x x.step h a b found in
-    (e.0, ap (λ y. (map_next Phase.Freezes y.0, y.1)) e.1)
-ignores (Phase.Thaws x) h a b found =
-    let e : (thaw_next x x.step a ≡ thaw_next x x.step b) × (thaw_after x x.step found a ≡ thaw_after x x.step found b) =
-    thaw_ignores x x.step h a b found in
-    (e.0, ap (λ y. (map_next Phase.Thaws y.0, y.1)) e.1)
-ignores (Phase.Trees x) h a b found =
-    let e : (tree_next x a ≡ tree_next x b) × (tree_after x found a ≡ tree_after x found b) = tree_ignores x a b found in
-    (e.0, ap (λ y. (map_next Phase.Trees y.0, y.1)) e.1)
-ignores other h a b found = (refl, refl)
+ignores other h a b found = grind arith

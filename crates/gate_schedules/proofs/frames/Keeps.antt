@@ -21,16 +21,11 @@ extents_touched n c = record { tasks = n; processors = c.processors; mounts = c.
 
 -- a word that is there is one of them
 pub word_among : (c : Config) (n : ℕ) → c.tasks ≤ n → (name : WordName) → IsWord (extents_of c) name → IsWord (extents_touched n c) name
-word_among c n le (WordName.Section t) h = omega (arith, le, h)
-word_among c n le (WordName.Node m) h = omega (arith, h)
-word_among c n le (WordName.Kids m) h = omega (arith, h)
-word_among c n le name h = h
+word_among c n le name h = grind arith
 
 -- and within the limits they are those that are kept
 pub word_kept : (c : Config) → IsWithin c → (n : ℕ) (name : WordName) → IsWord (extents_touched n c) name → IsWord (extents_among n c) name
-word_kept c within n (WordName.Node m) h = omega (arith, within.nodes, h)
-word_kept c within n (WordName.Kids m) h = omega (arith, within.nodes, h)
-word_kept c within n name h = h
+word_kept c within n name h = grind arith
 
 -- where nothing is counted at a gate in two worlds, its counts are the same in both
 pub record IsQuiet (c : Config) (w next : World) : Type 0 where

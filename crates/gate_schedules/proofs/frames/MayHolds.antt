@@ -63,12 +63,7 @@ module _ (c : Config) where
   change_word x other = tt
 
   remount_word : (x : Remount) (s : RemountStep) (hook : HookAnswer) → RemountFits c s → IsThere c (remount_next x s hook).0
-  remount_word x SetsWritable (Ok answer) fits = tt
-  remount_word x SetsWritable (Err code) fits = tt
-  remount_word x (ClearsMark n) hook fits = fits.1
-  remount_word x RSetsReadOnly (Ok answer) fits = tt
-  remount_word x RSetsReadOnly (Err code) fits = tt
-  remount_word x other hook fits = tt
+  remount_word x other hook fits = grind arith
 
   transition_word : (level : ℕ) (x : Transition) → 1 ≤ level → level ≤ 3 → IsThere c (transition_next level x).0
   transition_word level Loads l1 l3 = (l1, l3)
@@ -79,65 +74,35 @@ module _ (c : Config) where
   read_word x other l1 l3 = tt
 
   callback_word : (x : Callback) (s : CallbackStep) → 1 ≤ x.level → x.level ≤ 3 → IsThere c (callback_next x s).0
-  callback_word x (Claims transition) l1 l3 = transition_word x.level transition l1 l3
-  callback_word x (CAwaitsSections grace) l1 l3 = tt
-  callback_word x (CCallsBack transition) l1 l3 = transition_word x.level transition l1 l3
+  callback_word x a1 l1 l3 = grind arith
 
   down_write_word : (x : DownWrite) (s : DownWriteStep) → 1 ≤ x.level → x.level ≤ 3 → IsThere c (down_write_next x s).0
-  down_write_word x (Enters transition) l1 l3 = transition_word x.level transition l1 l3
-  down_write_word x AwaitsPassed l1 l3 = (l1, l3)
-  down_write_word x (WCallsBack transition) l1 l3 = transition_word x.level transition l1 l3
-  down_write_word x other l1 l3 = tt
+  down_write_word x other l1 l3 = grind arith
 
   up_write_word : (x : UpWrite) (s : UpWriteStep) → 1 ≤ x.level → x.level ≤ 3 → IsThere c (up_write_next x s).0
   up_write_word x ClearsBlock l1 l3 = tt
   up_write_word x (Exits transition) l1 l3 = transition_word x.level transition l1 l3
 
   write_word : (t : ℕ) (held : Holdings) (x : WritePhase) → WriteFits c t held x → IsThere c (write_next x).0
-  write_word t held (Takes m r) fits = read_word r r.step fits.0.0 fits.0.1
-  write_word t held (WWants w) fits = want_word w w.step
-  write_word t held other fits = tt
+  write_word t held other fits = grind arith
 
   freeze_word : (x : Freeze) (s : FreezeStep) (hook : HookAnswer) → FreezeFits c x.holder s → IsThere c (freeze_next x s hook).0
-  freeze_word x (Closes d) hook fits = down_write_word d d.step fits.0 fits.1
-  freeze_word x (Cleans marks) hook fits = fits.2
-  freeze_word x SetsFs (Ok answer) fits = tt
-  freeze_word x SetsFs (Err code) fits = tt
-  freeze_word x SetsComplete (Ok answer) fits = tt
-  freeze_word x SetsComplete (Err code) fits = tt
-  freeze_word x (FReopens u code) hook fits = up_write_word u u.step fits.0 fits.1
-  freeze_word x other hook fits = tt
+  freeze_word x other hook fits = grind arith
 
   thaw_word : (x : Thaw) (s : ThawStep) (hook : HookAnswer) → ThawFits x.holder s → IsThere c (thaw_next x s hook).0
-  thaw_word x LeavesLast (Ok answer) fits = tt
-  thaw_word x LeavesLast (Err code) fits = tt
-  thaw_word x (TReopens u) hook fits = up_write_word u u.step fits.0 fits.1
-  thaw_word x other hook fits = tt
+  thaw_word x other hook fits = grind arith
 
   create_word : (x : Create) (s : CreateStep) → x.dir < c.nodes → CreateStepFits (tree_bounds c) s → IsThere c (create_next x s).0
-  create_word x LoadsDirectory lt fits = lt
-  create_word x (LoadsNode n) lt fits = fits
-  create_word x (ChargesChild n) lt fits = tt
-  create_word x (TakesNode n) lt fits = fits
-  create_word x RefundsChild lt fits = tt
+  create_word x a1 lt fits = grind arith
 
   remove_word : (x : Remove) (s : RemoveStep) → x.file < c.nodes → IsThere c (remove_next x s).0
-  remove_word x LoadsFileToRemove lt = lt
-  remove_word x (FreesNode file) lt = lt
-  remove_word x (MarksRemoved file) lt = lt
-  remove_word x other lt = tt
+  remove_word x other lt = grind arith
 
   grow_word : (x : Grow) (s : GrowStep) → x.file < c.nodes → IsThere c (grow_next x s).0
-  grow_word x LoadsFileToGrow lt = lt
-  grow_word x (GrowsFile file) lt = lt
-  grow_word x other lt = tt
+  grow_word x other lt = grind arith
 
   move_word : (x : MoveTo) (s : MoveStep) → x.file < c.nodes → x.dir < c.nodes → IsThere c (move_next x s).0
-  move_word x LoadsFileToMove lt ld = lt
-  move_word x (LoadsTarget file) lt ld = ld
-  move_word x (ChargesTarget file) lt ld = tt
-  move_word x (MovesFile file) lt ld = lt
-  move_word x (RefundsOne dir answer) lt ld = tt
+  move_word x a1 lt ld = grind arith
 
   mark_word : (x : Mark) (s : MarkStep) → x.file < c.nodes → IsThere c (mark_next x s).0
   mark_word x LoadsFileToMark lt = lt
@@ -152,36 +117,15 @@ module _ (c : Config) where
   open_word x (OpensFile file) lt = lt
 
   close_word : (t : ℕ) (held : Holdings) (x : ClosePhase) → CloseFits c t held x → IsThere c (close_next x).0
-  close_word t held (CloseLoadsFile x) fits = fits.0
-  close_word t held (LowersCount x node) fits = fits.0.0
-  close_word t held (EntersLevel f node r) fits = read_word r r.step fits.2.0 fits.2.1
-  close_word t held (ClosesNode f p node) fits = fits.0
-  close_word t held other fits = tt
+  close_word t held other fits = grind arith
 
   tree_word : (t : ℕ) (x : TreePhase) (hook : HookAnswer) → TreePhaseFits (tree_bounds c) t x → IsThere c (tree_next x hook).0
-  tree_word t (Creates x) hook fits = create_word x x.step fits.0 fits.2
-  tree_word t (Removes x) hook fits = remove_word x x.step fits.0
-  tree_word t (Grows x) hook fits = grow_word x x.step fits.0
-  tree_word t (Moves x) hook fits = move_word x x.step fits.0 fits.1
-  tree_word t (TreeMarks x) hook fits = mark_word x x.step fits
-  tree_word t (OpensOne x) hook fits = open_word x x.step fits.0
-  tree_word t (Snapshots x) hook fits = snapshot_word x x.step fits.2
-  tree_word t (TreeClears x) hook fits = fits.0
+  tree_word t a1 hook fits = grind arith
 
   -- the word of each phase's next event
   phase_word : (t : ℕ) (held : Holdings) (phase : Phase) (hook : HookAnswer) → PhaseFits c t held phase →
       IsThere c (next_of phase hook).0
-  phase_word t held (Mounts (MWants x)) hook fits = want_word x x.step
-  phase_word t held (Mounts (MChanges x)) hook fits = change_word x x.step
-  phase_word t held (Remounts x) hook fits = remount_word x x.step hook fits.5
-  phase_word t held (DownReads r) hook fits = read_word r r.step fits.0 fits.1
-  phase_word t held (Callbacks b) hook fits = callback_word b b.step fits.0 fits.1
-  phase_word t held (Writes x) hook fits = write_word t held x fits
-  phase_word t held (Freezes x) hook fits = freeze_word x x.step hook fits.5
-  phase_word t held (Thaws x) hook fits = thaw_word x x.step hook fits.2
-  phase_word t held (Trees x) hook fits = tree_word t x hook fits.0
-  phase_word t held (Closes x) hook fits = close_word t held x fits
-  phase_word t held other hook fits = tt
+  phase_word t held other hook fits = grind arith
 
   -- the words of a good world hold what they may
   held_well : (w : World) → IsGood c w → (word : WordName) → IsThere c word → MayHold word (read w.words word)

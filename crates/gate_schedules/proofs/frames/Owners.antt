@@ -27,10 +27,7 @@ remount_owns_le RemountStep.Locks = omega arith
 remount_owns_le step = omega arith
 
 freeze_owns_le : (s : FreezeStep) → freeze_owns s ≤ 1
-freeze_owns_le FreezeStep.Locks = omega arith
-freeze_owns_le (FreezeStep.Closes d) = bit_le (nat_lt 1 d.level)
-freeze_owns_le FreezeStep.LocksAgain = omega arith
-freeze_owns_le step = omega arith
+freeze_owns_le step = grind arith
 
 thaw_owns_le : (s : ThawStep) → thaw_owns s ≤ 1
 thaw_owns_le ThawStep.Locks = omega arith
@@ -45,12 +42,7 @@ tree_owns_le (TreePhase.Snapshot x) = snapshot_owns_le x.step
 tree_owns_le x = omega arith
 
 pub owns_le : (p : Option Phase) → owns p ≤ 1
-owns_le (Some (Phase.Mounts (MountPhase.Change x))) = change_owns_le x.step
-owns_le (Some (Phase.Remounts x)) = remount_owns_le x.step
-owns_le (Some (Phase.Freezes x)) = freeze_owns_le x.step
-owns_le (Some (Phase.Thaws x)) = thaw_owns_le x.step
-owns_le (Some (Phase.Trees x)) = tree_owns_le x
-owns_le other = omega arith
+owns_le other = grind arith
 
 want_hold : (p : ℕ) (s : WantStep) → has_hold (want_role p s) + skips (want_role p s) ≡ 0
 want_hold p WantStep.CountsUp = refl
@@ -58,10 +50,7 @@ want_hold p step = refl
 
 -- a change has one set only while it owns
 change_hold : (s : ChangeStep) → has_hold (change_role s) + skips (change_role s) ≤ change_owns s
-change_hold ChangeStep.Locks = omega arith
-change_hold (ChangeStep.ClearsHold (Ok answer)) = omega arith
-change_hold (ChangeStep.ClearsHold (Err refusal)) = omega arith
-change_hold step = omega arith
+change_hold step = grind arith
 
 hold_if : (b : Bool) (r : Role) → has_hold (role_if b r) + skips (role_if b r) ≤ has_hold r + skips r
 hold_if true r = omega arith
@@ -90,17 +79,7 @@ giving_hold false false = omega arith
 
 -- a remount has one set, or skips, only while it owns
 remount_hold : (m : ℕ) (s : RemountStep) → has_hold (remount_role m s) + skips (remount_role m s) ≤ remount_owns s
-remount_hold m (RemountStep.LoadsFlags at held) = loop_hold (has_mount held m) (nat_lt m at)
-remount_hold m (RemountStep.SetsHold at held) = loop_hold (has_mount held m) (nat_lt m at)
-remount_hold m (RemountStep.Sums at held sum) =
-    summing_hold (m == at) sum (loop_role (has_mount held m) (nat_lt m at)) (loop_hold (has_mount held m) (nat_lt m at))
-remount_hold m (RemountStep.LoadsRemovedAgain held) = loop_hold (has_mount held m) true
-remount_hold m (RemountStep.LeavesHolds held) = held_hold (has_mount held m)
-remount_hold m (RemountStep.SetsRemount held) = loop_hold (has_mount held m) true
-remount_hold m (RemountStep.ClearsHold held) = held_hold (has_mount held m)
-remount_hold m (RemountStep.GivesUp at held) = giving_hold (m == at) (has_mount held m)
-remount_hold m RemountStep.Locks = omega arith
-remount_hold m step = omega arith
+remount_hold m step = grind arith
 
 write_hold : (m : ℕ) (x : WritePhase) → has_hold (write_role m x) + skips (write_role m x) ≡ 0
 write_hold m (WritePhase.Wants x) = omega (arith, hold_if (m == x.mount) (want_role x.cpu x.step), want_hold x.cpu x.step)
@@ -108,11 +87,7 @@ write_hold m x = refl
 
 -- only the owner of `umount` has a hold flag set, or counts on a mount's staying read-only
 pub hold_owns : (m : ℕ) (p : Option Phase) → has_hold (role_of m p) + skips (role_of m p) ≤ owns p
-hold_owns m (Some (Phase.Mounts (MountPhase.Want x))) = omega (arith, hold_if (m == x.mount) (want_role x.cpu x.step), want_hold x.cpu x.step)
-hold_owns m (Some (Phase.Mounts (MountPhase.Change x))) = omega (arith, hold_if (m == x.mount) (change_role x.step), change_hold x.step)
-hold_owns m (Some (Phase.Remounts x)) = remount_hold m x.step
-hold_owns m (Some (Phase.Writes x)) = omega (arith, write_hold m x)
-hold_owns m other = omega arith
+hold_owns m other = grind arith
 
 remount_sets_owns : (s : RemountStep) → remount_sets s ≤ remount_owns s
 remount_sets_owns RemountStep.Locks = omega arith

@@ -42,11 +42,7 @@ remount_owner nodes RemountStep.Locks = omega arith
 remount_owner nodes s = omega arith
 
 pub stage_owner : (p : Option Phase) → stage_owns (stage_role_of p) ≤ owns p
-stage_owner (Some (Phase.Remounts x)) = remount_owner x.nodes x.step
-stage_owner (Some (Phase.Freezes x)) = omega (arith, freeze_owner x.nodes x.step)
-stage_owner (Some (Phase.Thaws x)) = omega (arith, thaw_owner x.step)
-stage_owner (Some (Phase.Trees (TreePhase.Snapshot x))) = omega (arith, snapshot_owner x.step)
-stage_owner other = omega arith
+stage_owner other = grind arith
 
 clean_shown : (word : ℕ) → dirty_in word ≡ 0 → is_dirty (node_shown word) ≡ false
 clean_shown word e = elim (eqb_tells (word % 4) 0) [

@@ -1,6 +1,7 @@
 -- What each event of a down-write leaves of the levels: it enters the rcu_sync of its level, sets `block`, and sums the counts until nobody
 -- is counted.
 use Rattle.std.proofs.Common.{◌≡◌, ℕ, suc, ◌+◌, ◌<◌, ◌≤◌, refl, sym, ap, ◌∙◌, subst, inl, inr, arith, true≢false}
+use Rattle.std.proofs.lemmas.Grind.{common_steps}
 use Rattle.std.proofs.lemmas.{Bool.{eq-eqb, lt-ltb, le-ltb, cases_lt, Decides.eqb_tells}, Option.none-some}
 use Rattle.std.specs.Prelude.{Option, Some, None, Ok, Bool, true, false, ◌==◌, if◌then◌else◌}
 use Rattle.finite_sums.{proofs.Totals.{update_at, update_map, update_same}, specs.Sums.{update, total}}
@@ -34,19 +35,12 @@ use Rattle.gate_schedules.proofs.levels.Worlds.{level_right, found_level, IsEven
 
 -- each event of a down-write is one of its level, and changes no section word
 pub down_write_event : (d : DownWrite) (s : DownWriteStep) → IsEventAt d.level (down_write_next d s).0 (down_write_next d s).1
-down_write_event d (DownWriteStep.Enters Transition.Loads) = refl
-down_write_event d (DownWriteStep.AwaitsSections g) = tt
-down_write_event d (DownWriteStep.CallsBack Transition.Loads) = refl
-down_write_event d other = refl
+down_write_event d other = grind arith
 
 -- it leaves the counts
 pub down_write_counts : (w : Words) (d : DownWrite) (s : DownWriteStep) →
     (put w (down_write_next d s).0 (left (down_write_next d s).1 (read w (down_write_next d s).0))).level ≡ w.level
-down_write_counts w d (DownWriteStep.Enters Transition.Loads) = refl
-down_write_counts w d (DownWriteStep.CallsBack Transition.Loads) = refl
-down_write_counts w d (DownWriteStep.Sums sum) =
-    ap (update w.level d.level) (update_same (w.level d.level) sum.words) ∙ update_same w.level d.level
-down_write_counts w d other = refl
+down_write_counts w d other = grind arith
 
 -- what comes after an event is at this level
 abbrev AtTheLevel : ℕ → Next DownWrite → Type 0
@@ -82,26 +76,17 @@ summed_level d (Taken.More sum) = refl
 summed_level d (Taken.Total n) = total_level d (n == 0)
 
 pub down_write_level : (d : DownWrite) (s : DownWriteStep) (found : ℕ) → AtTheLevel d.level (down_write_after d s found).0
-down_write_level d (DownWriteStep.Enters x) found = refl
-down_write_level d (DownWriteStep.AwaitsSections g) found = grace_level d (looked g found)
-down_write_level d (DownWriteStep.CallsBack x) found = refl
-down_write_level d DownWriteStep.AwaitsPassed found = passed_level d (unpack found)
-down_write_level d DownWriteStep.SetsBlock found = swap_level d (found == 0)
-down_write_level d (DownWriteStep.Sums sum) found = summed_level d (sum_taking sum found d.processors)
+down_write_level d a1 found = grind arith
 
 -- what comes after its event says what it said of the other levels
 closing_beside : (level : ℕ) (s : Stand) → s.level ≡ level → (n : Next DownWrite) → AtTheLevel level n →
     SayBeside level (Some s) (stand_after_closing level n)
-closing_beside level s e (Next.Go x) h = beside_each level s (closing_stand x) e h
-closing_beside level s e (Next.Wait x) h = beside_each level s (closing_stand x) e h
-closing_beside level s e (Next.Done answer) h = beside_each level s (closed_to level) e refl
+closing_beside level s e a3 h = grind (arith, common_steps)
 
 -- and of its own what its step is doing there
 closing_sync : (level : ℕ) (n : Next DownWrite) → AtTheLevel level n →
     by_next (λ (x : DownWrite). down_write_role x.step) Closed n ≡ stand_sync level (stand_after_closing level n)
-closing_sync level (Next.Go x) h = sym (sync_at level (closing_stand x) (sym h))
-closing_sync level (Next.Wait x) h = sym (sync_at level (closing_stand x) (sym h))
-closing_sync level (Next.Done answer) h = sym (sync_at level (closed_to level) refl)
+closing_sync level a1 h = grind arith
 
 counts_as : (d : DownWrite) (s : DownWriteStep) → stand_count d.level (Some (closing_stand (at_down_write d s))) ≡ down_count_role s
 counts_as d s = count_at d.level (closing_stand (at_down_write d s)) refl
@@ -113,9 +98,7 @@ entered_counts tasks other = refl
 
 -- nor has it while it enters
 enter_counts : (tasks : ℕ) (n : TransitionNext) → down_count_role (enter_step tasks n) ≡ CountsNot
-enter_counts tasks (TransitionNext.More x) = refl
-enter_counts tasks TransitionNext.Undefined = refl
-enter_counts tasks (TransitionNext.Made state) = entered_counts tasks state
+enter_counts tasks a1 = grind arith
 
 -- or ends its grace period
 call_counts : (n : TransitionNext) → down_count_role (callback_step n) ≡ CountsNot
@@ -125,9 +108,7 @@ call_counts other = refl
 -- or is in it
 grace_counts : (d : DownWrite) (n : GraceNext) →
     stand_count d.level (stand_after_closing d.level (sections_awaited d n)) ≡ CountsNot
-grace_counts d (GraceNext.More g) = counts_as d (DownWriteStep.AwaitsSections g)
-grace_counts d (GraceNext.Wait g) = counts_as d (DownWriteStep.AwaitsSections g)
-grace_counts d GraceNext.Ended = counts_as d (DownWriteStep.CallsBack Transition.Loads)
+grace_counts d a1 = grind arith
 
 -- or has loaded for GP_PASSED
 state_counts : (d : DownWrite) (b : Bool) → stand_count d.level (stand_after_closing d.level
@@ -193,9 +174,7 @@ taken_passes d j (Taken.More sum) e = absurd (none-some (Action.Pass j) e)
 taken_passes d j (Taken.Total n) e = ap total_role (total_passes d.level j (n == 0) e)
 
 pub queued_passed : (s : GpState) → is_queued s ≡ true → is_passed s ≡ true
-queued_passed GpState.Exit e = refl
-queued_passed GpState.Replay e = refl
-queued_passed s e = absurd (true≢false (sym e))
+queued_passed s e = grind arith
 
 module _ (c : Config) (lim : IsWithin c) (w : World) (good : IsGood c w) (t : ℕ) (lt : t < c.tasks) where
   -- the counts of a level whose writer goes from one role to another
@@ -411,29 +390,13 @@ reopening_position level UpWriteStep.ClearsBlock = refl
 reopening_position level (UpWriteStep.Exits transition) = refl
 
 freeze_enters : (i nodes : ℕ) (s : FreezeStep) → entered (stand_sync i (freeze_stand s)) ≤ has_position (freeze_stage_role nodes s)
-freeze_enters i nodes (Closes d) = entered_le (stand_sync i (freeze_stand (Closes d)))
-freeze_enters i nodes FreezeStep.LocksAgain = entered_le (stand_sync i (freeze_stand FreezeStep.LocksAgain))
-freeze_enters i nodes FreezeStep.SetsPageFault = entered_le (stand_sync i (freeze_stand FreezeStep.SetsPageFault))
-freeze_enters i nodes (FreezeStep.Cleans marks) = entered_le (stand_sync i (freeze_stand (FreezeStep.Cleans marks)))
-freeze_enters i nodes FreezeStep.SetsFs = entered_le (stand_sync i (freeze_stand FreezeStep.SetsFs))
-freeze_enters i nodes FreezeStep.SetsComplete = entered_le (stand_sync i (freeze_stand FreezeStep.SetsComplete))
-freeze_enters i nodes (FreezeStep.Reopens u code) =
-    omega (arith, entered_le (stand_sync i (freeze_stand (FreezeStep.Reopens u code))), reopening_position u.level u.step)
-freeze_enters i nodes s = omega arith
+freeze_enters i nodes s = grind arith
 
 thaw_enters : (i : ℕ) (s : ThawStep) → entered (stand_sync i (thaw_stand s)) ≤ has_position (thaw_stage_role s)
-thaw_enters i (ThawStep.Reopens u) =
-    omega (arith, entered_le (stand_sync i (thaw_stand (ThawStep.Reopens u))), reopening_position u.level u.step)
-thaw_enters i s = omega arith
+thaw_enters i s = grind arith
 
 pub entered_position : (i : ℕ) (p : Option Phase) → entered (sync_role_of i p) ≤ has_position (stage_role_of p)
-entered_position i (Some (Phase.DownReads r)) = omega (arith, read_enters (i == r.level) r.step)
-entered_position i (Some (Phase.Callbacks b)) = omega (arith, callback_enters (i == b.level) b.step)
-entered_position i (Some (Phase.Writes (WritePhase.Takes m r))) = omega (arith, read_enters (i == r.level) r.step)
-entered_position i (Some (Phase.Freezes x)) = freeze_enters i x.nodes x.step
-entered_position i (Some (Phase.Thaws x)) = thaw_enters i x.step
-entered_position i (Some (Closes (ClosePhase.Enters f node r))) = omega (arith, read_enters (i == r.level) r.step)
-entered_position i other = omega arith
+entered_position i other = grind arith
 
 -- where a task with a position has not entered a level, nobody has, and the file system isn't frozen as a whole
 pub entered_by_nobody : (c : Config) (w : World) → IsGood c w → (t : ℕ) → t < c.tasks →

@@ -24,13 +24,7 @@ levels_stay_runs c w t lt ws v s words was now i one three =
 
 put_level : (w : World) (i : ℕ) (name : WordName) (touch : Touch) → IsEventAt i name touch → (n : ℕ) →
     put_at (level_in w i) name n ≡ level_in (record { words = put w.words name n; views = w.views }) i
-put_level w i (WordName.Sync j) touch e n =
-    λ q. record (level_in w i) { sync = (sym (update_at w.words.sync j n) ∙ ap (update w.words.sync j n) e) q }
-put_level w i (WordName.Block j) touch e n =
-    λ q. record (level_in w i) { block = (sym (update_at w.words.block j n) ∙ ap (update w.words.block j n) e) q }
-put_level w i (WordName.LevelCount j p) touch e n = refl
-put_level w i (WordName.Section u) touch e n = refl
-put_level w i name touch e n = absurd e
+put_level w i name touch e n = grind arith
 
 module _ (c : Config) (w : World) (t : ℕ) (lt : t < c.tasks) (v : View) (s z : Option Stand) (was : Stands (w.views t).phase s)
     (now : Stands v.phase z) (i : ℕ) (name : WordName) (touch : Touch) (is : IsEventAt i name touch) where

@@ -166,29 +166,17 @@ still_sync (suc (suc n)) one =
 -- an event at a level leaves `block` of the others
 pub touched_block : (w : Words) (i j : ℕ) → (j ≡ i → ⊥) → (name : WordName) (touch : Touch) → IsEventAt i name touch →
     (put w name (left touch (read w name))).block j ≡ w.block j
-touched_block w i j ne (WordName.Sync k) touch e = refl
-touched_block w i j ne (WordName.Block k) touch e = update_off w.block k _ j (λ q. ne (q ∙ e))
-touched_block w i j ne (WordName.LevelCount k p) touch e = refl
-touched_block w i j ne (WordName.Section u) Touch.Load e = refl
-touched_block w i j ne name touch e = absurd e
+touched_block w i j ne name touch e = grind arith
 
 -- and whether the file system is frozen as a whole
 pub touched_whole : (w : Words) (i : ℕ) (name : WordName) (touch : Touch) → IsEventAt i name touch →
     is_frozen_whole (put w name (left touch (read w name))) ≡ is_frozen_whole w
-touched_whole w i (WordName.Sync k) touch e = refl
-touched_whole w i (WordName.Block k) touch e = refl
-touched_whole w i (WordName.LevelCount k p) touch e = refl
-touched_whole w i (WordName.Section u) Touch.Load e = refl
-touched_whole w i name touch e = absurd e
+touched_whole w i name touch e = grind arith
 
 -- and the sync words of the others
 pub touched_sync : (w : Words) (i j : ℕ) → (j ≡ i → ⊥) → (name : WordName) (touch : Touch) → IsEventAt i name touch →
     (put w name (left touch (read w name))).sync j ≡ w.sync j
-touched_sync w i j ne (WordName.Sync k) touch e = update_off w.sync k _ j (λ q. ne (q ∙ e))
-touched_sync w i j ne (WordName.Block k) touch e = refl
-touched_sync w i j ne (WordName.LevelCount k p) touch e = refl
-touched_sync w i j ne (WordName.Section u) Touch.Load e = refl
-touched_sync w i j ne name touch e = absurd e
+touched_sync w i j ne name touch e = grind arith
 
 pub put_inside : (l : SyncLevel) (name : WordName) (n : ℕ) → (put_at l name n).inside ≡ l.inside
 put_inside l (WordName.Sync i) n = refl

@@ -20,14 +20,7 @@ beside_slow false true r h = refl
 beside_slow false false r h = refl
 
 pub freeze_slow : (i : ℕ) (s : FreezeStep) → fast (stand_sync i (freeze_stand s)) ≡ 0
-freeze_slow i (FreezeStep.Closes d) = beside_slow (i == d.level) (nat_lt i d.level) (down_write_role d.step) (down_write_slow d.step)
-freeze_slow i FreezeStep.LocksAgain = beside_slow (i == 1) (nat_lt i 1) Closed refl
-freeze_slow i FreezeStep.SetsPageFault = beside_slow (i == 1) (nat_lt i 1) Closed refl
-freeze_slow i (FreezeStep.Cleans marks) = beside_slow (i == 2) (nat_lt i 2) Closed refl
-freeze_slow i FreezeStep.SetsFs = beside_slow (i == 2) (nat_lt i 2) Closed refl
-freeze_slow i FreezeStep.SetsComplete = beside_slow (i == 3) (nat_lt i 3) Closed refl
-freeze_slow i (FreezeStep.Reopens u code) = beside_slow (i == u.level) (nat_lt i u.level) (up_write_role u.step) (up_write_slow u.step)
-freeze_slow i s = refl
+freeze_slow i s = grind arith
 
 pub thaw_slow : (i : ℕ) (s : ThawStep) → fast (stand_sync i (thaw_stand s)) ≡ 0
 thaw_slow i (ThawStep.Reopens u) = beside_slow (i == u.level) (nat_lt i u.level) (up_write_role u.step) (up_write_slow u.step)

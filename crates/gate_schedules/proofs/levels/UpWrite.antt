@@ -1,5 +1,6 @@
 -- What each event of an up-write leaves of the levels: its store opens its level, and its exchange leaves the rcu_sync.
 use Rattle.std.{proofs.Common.{◌≡◌, ℕ, ◌<◌, ◌≤◌, refl, sym, ◌∙◌, subst}, specs.Prelude.Some}
+use Rattle.std.proofs.Common.{arith}
 use Rattle.finite_sums.proofs.Totals.{update_at}
 use Rattle.access_model.specs.declared.replies.Next.{Next}
 use Rattle.cpu_words.specs.{Touches.{found_by, left}, Words.{Words, read, put}, declared.{events.Touch.Touch, names.WordName.WordName}}
@@ -21,19 +22,13 @@ abbrev pub opening_at : UpWrite → UpWriteStep → UpWrite
 opening_at u s = record u { step = s }
 
 pub up_write_event : (u : UpWrite) (s : UpWriteStep) → IsEventAt u.level (up_write_next u s).0 (up_write_next u s).1
-up_write_event u UpWriteStep.ClearsBlock = refl
-up_write_event u (UpWriteStep.Exits Transition.Loads) = refl
-up_write_event u (UpWriteStep.Exits (Transition.Exchanges from to)) = refl
+up_write_event u a1 = grind arith
 
 up_write_counts : (w : Words) (u : UpWrite) (s : UpWriteStep) (n : ℕ) → (put w (up_write_next u s).0 n).level ≡ w.level
-up_write_counts w u UpWriteStep.ClearsBlock n = refl
-up_write_counts w u (UpWriteStep.Exits Transition.Loads) n = refl
-up_write_counts w u (UpWriteStep.Exits (Transition.Exchanges from to)) n = refl
+up_write_counts w u a2 n = grind arith
 
 exit_level : (u : UpWrite) (n : TransitionNext) → HoldsOfNext (λ (x : UpWrite). x.level ≡ u.level) (exit_made u n)
-exit_level u (TransitionNext.More x) = refl
-exit_level u TransitionNext.Undefined = refl
-exit_level u (TransitionNext.Made state) = tt
+exit_level u a1 = grind arith
 
 -- after each of its events
 pub up_write_level : (u : UpWrite) (s : UpWriteStep) (found : ℕ) →
@@ -44,23 +39,17 @@ up_write_level u (UpWriteStep.Exits x) found = exit_level u (transition_after on
 -- what comes after its event says what it said of the other levels
 opening_beside : (level : ℕ) (s : Stand) → 1 ≤ level → s.level ≡ level → (n : Next UpWrite) →
     HoldsOfNext (λ (x : UpWrite). x.level ≡ level) n → SayBeside level (Some s) (stand_after_opening level n)
-opening_beside level s one e (Next.Go x) h = beside_each level s (opening_stand x) e h
-opening_beside level s one e (Next.Wait x) h = beside_each level s (opening_stand x) e h
-opening_beside level s one e (Next.Done answer) h = beside_still level s one e
+opening_beside level s one e a4 h = grind arith
 
 -- and of its own what its step is doing there
 opening_sync : (level : ℕ) → 1 ≤ level → (n : Next UpWrite) → HoldsOfNext (λ (x : UpWrite). x.level ≡ level) n →
     by_next (λ (x : UpWrite). up_write_role x.step) IsApart n ≡ stand_sync level (stand_after_opening level n)
-opening_sync level one (Next.Go x) h = sym (sync_at level (opening_stand x) (sym h))
-opening_sync level one (Next.Wait x) h = sym (sync_at level (opening_stand x) (sym h))
-opening_sync level one (Next.Done answer) h = sym (still_sync level one)
+opening_sync level one a2 h = grind arith
 
 -- with its store made, it has no part in the counts
 exit_counts : (u : UpWrite) → 1 ≤ u.level → (n : TransitionNext) →
     stand_count u.level (stand_after_opening u.level (exit_made u n)) ≡ CountsNot
-exit_counts u one (TransitionNext.More x) = count_at u.level (opening_stand (at_up_write u x)) refl
-exit_counts u one TransitionNext.Undefined = count_at u.level (opening_stand (at_up_write u Transition.Loads)) refl
-exit_counts u one (TransitionNext.Made state) = still_count u.level one
+exit_counts u one a2 = grind arith
 
 module _ (c : Config) (lim : IsWithin c) (w : World) (good : IsGood c w) (t : ℕ) (lt : t < c.tasks) (u : UpWrite) where
   -- the words after its event at this step

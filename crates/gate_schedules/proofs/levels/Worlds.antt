@@ -1,5 +1,6 @@
 -- One level of a world, as the laws of a level have it: what holds there, and what an event of a task leaves of it.
 use Rattle.std.proofs.{Common.{◌≡◌, ℕ, zero, suc, ◌-◌, ◌<◌, ◌≤◌, refl, sym, ap, ◌∙◌, subst, arith}, lemmas.Bool.{eq-eqb, ne_eqb}}
+use Rattle.std.proofs.lemmas.Grind.{common_steps}
 use Rattle.std.specs.Prelude.{Option, Some, Bool, true, false, ◌==◌, ◌&&◌, if◌then◌else◌}
 use Rattle.finite_sums.{proofs.Totals.{total_le, update_map, update_same, update_at, update_off}, specs.Sums.{update, total}}
 use Rattle.cpu_words.specs.{Touches.{wrap_add, left}, Words.{Words, put, read}, declared.{events.Touch.Touch, names.WordName.WordName}}
@@ -28,13 +29,7 @@ callback_slow true (CallbackStep.CallsBack transition) = refl
 callback_slow false s = refl
 
 pub fast_in_section : (i : ℕ) (p : Option Phase) → fast (sync_role_of i p) ≤ inside p
-fast_in_section i (Some (Phase.DownReads r)) = read_fast (i == r.level) r.step
-fast_in_section i (Some (Phase.Callbacks b)) = omega (arith, callback_slow (i == b.level) b.step)
-fast_in_section i (Some (Phase.Writes (WritePhase.Takes m r))) = read_fast (i == r.level) r.step
-fast_in_section i (Some (Phase.Freezes x)) = omega (arith, freeze_slow i x.step)
-fast_in_section i (Some (Phase.Thaws x)) = omega (arith, thaw_slow i x.step)
-fast_in_section i (Some (Phase.Closes (ClosePhase.Enters f node r))) = read_fast (i == r.level) r.step
-fast_in_section i other = omega arith
+fast_in_section i other = grind arith
 
 pub read_opens : (b : Bool) (s : DownReadStep) → closed (sync_role_if b (down_read_role s)) ≡ 0
 read_opens true DownReadStep.EntersSection = refl
@@ -48,13 +43,7 @@ callback_opens true (CallbackStep.CallsBack transition) = refl
 callback_opens false s = refl
 
 pub closed_below : (i j : ℕ) (p : Option Phase) → 1 ≤ i → i ≤ j → closed (sync_role_of j p) ≤ closed (sync_role_of i p)
-closed_below i j (Some (Phase.DownReads r)) one le = omega (arith, read_opens (j == r.level) r.step)
-closed_below i j (Some (Phase.Callbacks b)) one le = omega (arith, callback_opens (j == b.level) b.step)
-closed_below i j (Some (Phase.Writes (WritePhase.Takes m r))) one le = omega (arith, read_opens (j == r.level) r.step)
-closed_below i j (Some (Phase.Freezes x)) one le = stand_below i j (freeze_stand x.step) le
-closed_below i j (Some (Phase.Thaws x)) one le = stand_below i j (thaw_stand x.step) le
-closed_below i j (Some (Phase.Closes (ClosePhase.Enters f node r))) one le = omega (arith, read_opens (j == r.level) r.step)
-closed_below i j other one le = omega arith
+closed_below i j other one le = grind (arith, common_steps)
 
 pub sync_on : (i : ℕ) (r : SyncRole) → sync_role_if (i == i) r ≡ r
 sync_on i r = rw (eq-eqb i i refl)
@@ -79,47 +68,26 @@ IsEventAt i (WordName.Section u) Touch.Load = Unit {0}
 IsEventAt i name touch = ⊥
 
 pub event_word : (i : ℕ) (name : WordName) (touch : Touch) → IsEventAt i name touch → IsOfLevel i name
-event_word i (WordName.Sync j) touch e = e
-event_word i (WordName.Block j) touch e = e
-event_word i (WordName.LevelCount j p) touch e = e
-event_word i (WordName.Section u) touch e = tt
-event_word i name touch e = absurd e
+event_word i name touch e = grind arith
 
 put_level : (w : World) (i : ℕ) (name : WordName) → IsOfLevel i name → (n : ℕ) →
     put_at (level_in w i) name n ≡ level_in (record { words = put w.words name n; views = w.views }) i
-put_level w i (WordName.Sync j) e n = λ q. record (level_in w i) { sync = (sym (update_at w.words.sync j n) ∙ ap (update w.words.sync j n) e) q }
-put_level w i (WordName.Block j) e n =
-    λ q. record (level_in w i) { block = (sym (update_at w.words.block j n) ∙ ap (update w.words.block j n) e) q }
-put_level w i (WordName.LevelCount j p) e n = refl
-put_level w i (WordName.Section u) e n = refl
-put_level w i name e n = absurd e
+put_level w i name e n = grind arith
 
 -- the level finds in its word what the world has there
 pub found_level : (w : World) (i : ℕ) (name : WordName) → IsOfLevel i name →
     value_at (level_in w i) (read w.words name) name ≡ read w.words name
-found_level w i (WordName.Sync j) e = ap w.words.sync (sym e)
-found_level w i (WordName.Block j) e = ap w.words.block (sym e)
-found_level w i (WordName.LevelCount j p) e = refl
-found_level w i (WordName.Section u) e = refl
-found_level w i name e = absurd e
+found_level w i name e = grind arith
 
 -- such an event leaves the sections
 pub section_kept : (w : Words) (i : ℕ) (name : WordName) (touch : Touch) → IsEventAt i name touch →
     (put w name (left touch (read w name))).section ≡ w.section
-section_kept w i (WordName.Sync j) touch e = refl
-section_kept w i (WordName.Block j) touch e = refl
-section_kept w i (WordName.LevelCount j p) touch e = refl
-section_kept w i (WordName.Section u) Touch.Load e = update_same w.section u
-section_kept w i name touch e = absurd e
+section_kept w i name touch e = grind arith
 
 -- and what the rcu_sync of another level reads
 other_words : (w : Words) (i j : ℕ) → (j ≡ i → ⊥) → (name : WordName) (touch : Touch) → IsEventAt i name touch →
     SameWords w (put w name (left touch (read w name))) (SyncAt j)
-other_words w i j ne (WordName.Sync k) touch e = (update_off w.sync k _ j (λ q. ne (q ∙ e)), refl, refl, refl)
-other_words w i j ne (WordName.Block k) touch e = (refl, update_off w.block k _ j (λ q. ne (q ∙ e)), refl, refl)
-other_words w i j ne (WordName.LevelCount k p) touch e = (refl, refl, refl, refl)
-other_words w i j ne (WordName.Section u) Touch.Load e = (refl, refl, update_same w.section u, refl)
-other_words w i j ne name touch e = absurd e
+other_words w i j ne name touch e = grind arith
 
 passed_blocked : (c : Config) (w : World) (i : ℕ) → w.words.block i ≡ 0 → is_passed c w i ≡ 0
 passed_blocked c w i e = rw e refl

@@ -26,20 +26,13 @@ abbrev pub IsGateTouch : WordName × Touch → Type 0
 IsGateTouch x = (is_load x.1 ≡ true) ⊎ (is_gate_word x.0 ≡ true)
 
 want_touches : (x : Want) (s : WantStep) → IsGateTouch (want_next x s)
-want_touches x WantStep.CountsUp = inr refl
-want_touches x (WantStep.CountsDown refusal) = inr refl
-want_touches x s = inl refl
+want_touches x s = grind arith
 
 change_touches : (x : Change) (s : ChangeStep) → IsGateTouch (change_next x s)
-change_touches x ChangeStep.Locks = inr refl
-change_touches x ChangeStep.LoadsSuperblock = inl refl
-change_touches x (ChangeStep.Sums sum) = inl refl
-change_touches x s = inr refl
+change_touches x s = grind arith
 
 mounts_touch : (x : MountPhase) (hook : HookAnswer) → IsGateTouch (next x hook)
-mounts_touch (MountPhase.Want x) hook = want_touches x x.step
-mounts_touch (MountPhase.Change x) hook = change_touches x x.step
-mounts_touch x hook = or_cases _ _ refl
+mounts_touch x hook = grind arith
 
 -- the part of what an owner knows, which each event's own trace moves
 abbrev pub is_known_part : Part → Bool
@@ -55,10 +48,7 @@ abbrev pub off_gates : Words → Words
 off_gates w = record w { umount = 0; flags = λ m. 0; count = λ m p. 0 }
 
 gate_written : (w : Words) (word : WordName) (n : ℕ) → is_gate_word word ≡ true → off_gates (put w word n) ≡ off_gates w
-gate_written w WordName.Umount n q = refl
-gate_written w (WordName.MountFlags m) n q = refl
-gate_written w (WordName.MountCount m p) n q = refl
-gate_written w word n q = absurd (true≢false (sym q))
+gate_written w word n q = grind arith
 
 -- a load leaves all words
 pub load_left : (w : Words) (word : WordName) (touch : Touch) → is_load touch ≡ true → put w word (left touch (read w word)) ≡ w
@@ -75,10 +65,7 @@ gate_words_left w x touches = elim touches [
 -- and the parts of the stage, the holders, the tree, the files and the levels read none of these
 unread : (part : Part) → at_gates part ≡ false → is_known_part part ≡ false → (old new : Words) → off_gates new ≡ off_gates old →
     SameWords old new part
-unread Owner h k old new same = absurd (true≢false h)
-unread (AtMount m) h k old new same = absurd (true≢false h)
-unread Known h k old new same = absurd (true≢false k)
-unread part h k old new same = unwritten same part
+unread part h k old new same = grind arith
 
 -- these roles but for those of want, drop and change
 abbrev pub off_mounts : Roles → Roles
@@ -115,15 +102,11 @@ level_taken_gate word q touch taken = refl
 
 pub level_added_load : (word : WordName) (touch : Touch) (added : ℕ → ℕ → ℕ) → is_load touch ≡ true →
     level_added_after word touch added ≡ added
-level_added_load WordName.Umount Touch.Load added h = refl
-level_added_load word Touch.Load added h = refl
-level_added_load word touch added h = absurd (true≢false (sym h))
+level_added_load word touch added h = grind arith
 
 pub level_taken_load : (word : WordName) (touch : Touch) (taken : ℕ → ℕ → ℕ) → is_load touch ≡ true →
     level_taken_after word touch taken ≡ taken
-level_taken_load WordName.Umount Touch.Load taken h = refl
-level_taken_load word Touch.Load taken h = refl
-level_taken_load word touch taken h = absurd (true≢false (sym h))
+level_taken_load word touch taken h = grind arith
 
 -- want, drop and change have no role but at mounts, and own `umount` or not
 pub mounts_roles : (next : Next MountPhase) → off_mounts (roles_of (phase_after (map_next Phase.Mounts next))) ≡ no_roles
@@ -142,12 +125,7 @@ failed_owns x false = refl
 change_comes : (x : Change) (s : ChangeStep) (value : ℕ) →
     owns (phase_after (map_next Phase.Mounts (map_next MountPhase.Change (change_after x s (found_by (change_next x s).1 value)).0))) ≡ 1 →
     (change_owns s ≡ 1) ⊎ (takes_lock (event_of (change_next x s).0 (change_next x s).1 value) ≡ true)
-change_comes x ChangeStep.Locks value h =
-    elim (cases_Bool (value == 0)) [
-      | inl f ↦ inr f
-      | inr f ↦ absurd (omega (arith, failed_owns x x.wait, rw f at h))
-    ]
-change_comes x s value h = inl refl
+change_comes x s value h = grind arith
 
 -- it changes an owned word only as the owner
 change_changes : (x : Change) (s : ChangeStep) → is_owned (change_next x s).0 ≡ true →
@@ -157,21 +135,11 @@ change_changes x s h = inr refl
 
 -- a want changes no owned word
 want_changes : (x : Want) (s : WantStep) → is_owned (want_next x s).0 ≡ true → (is_load (want_next x s).1 ≡ true)
-want_changes x WantStep.CountsUp h = absurd (true≢false (sym h))
-want_changes x (WantStep.CountsDown refusal) h = absurd (true≢false (sym h))
-want_changes x s h = refl
+want_changes x s h = grind arith
 
 -- so owned words change only under `umount`
 mounts_work : (w : World) (x : MountPhase) (hook : HookAnswer) → IsOwnersWork w (Phase.Mounts x) hook
-mounts_work w (MountPhase.Want x) hook = record {
-  changes = λ h. inl (want_changes x x.step h);
-  comes_to_own = λ h. absurd (omega (arith, want_owns (want_after x x.step (found_at w.words (Phase.Mounts (MountPhase.Want x)) hook)).0, h));
-}
-mounts_work w (MountPhase.Change x) hook = record {
-  changes = change_changes x x.step;
-  comes_to_own = change_comes x x.step (value_at w.words (Phase.Mounts (MountPhase.Change x)) hook);
-}
-mounts_work w x hook = record { changes = λ h. inl (cc); comes_to_own = λ h. absurd (omega (arith, h)) }
+mounts_work w x hook = grind arith
 
 -- they add no action at a level
 want_levels : (x : Want) (s : WantStep) (found : ℕ) (actions : List Action) →
@@ -186,9 +154,7 @@ change_levels x s found actions = refl
 
 mounts_levels : (x : MountPhase) (found : ℕ) (hook : HookAnswer) (actions : List Action) →
     levels_of (actions_after (after x found hook).1 actions) ≡ levels_of actions
-mounts_levels (MountPhase.Want x) found hook actions = want_levels x x.step found actions
-mounts_levels (MountPhase.Change x) found hook actions = change_levels x x.step found actions
-mounts_levels x found hook actions = refl
+mounts_levels x found hook actions = grind arith
 
 -- nor of a file
 want_opens : (x : Want) (s : WantStep) (found : ℕ) (actions : List Action) →
@@ -203,9 +169,7 @@ change_opens x s found actions = refl
 
 mounts_opens : (x : MountPhase) (found : ℕ) (hook : HookAnswer) (actions : List Action) →
     opens_of (actions_after (after x found hook).1 actions) ≡ opens_of actions
-mounts_opens (MountPhase.Want x) found hook actions = want_opens x x.step found actions
-mounts_opens (MountPhase.Change x) found hook actions = change_opens x x.step found actions
-mounts_opens x found hook actions = refl
+mounts_opens x found hook actions = grind arith
 
 -- so their events are unseen at the levels
 mounts_unseen : (v : View) (x : MountPhase) (value : ℕ) (hook : HookAnswer) → v.phase ≡ Some (Phase.Mounts x) →

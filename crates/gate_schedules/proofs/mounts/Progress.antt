@@ -13,23 +13,13 @@ use Rattle.gate_schedules.specs.operations.{Ranks.{rank, mount_rank, want_rank, 
 module _ (w : Words) (x : Want) where
   pub want_flags : (s : WantStep) →
       (put w (want_next x s).0 (left (want_next x s).1 (read w (want_next x s).0))).flags x.mount ≡ w.flags x.mount
-  want_flags WantStep.LoadsHold = ap (λ f. f x.mount) (update_same w.flags x.mount)
-  want_flags WantStep.LoadsReadOnly = ap (λ f. f x.mount) (update_same w.flags x.mount)
-  want_flags other = refl
+  want_flags other = grind arith
 
   -- each event of a want: with these words after it, that leave the mount free
   pub want_falls : (after : Words) → HoldIsClear after x.mount → HoldIsClear w x.mount → (s : WantStep) →
       Falls (λ (y : Want). want_rank y.step) (λ (y : Want). HoldIsClear after y.mount) (want_rank s)
       (want_after x s (found_by (want_next x s).1 (read w (want_next x s).0))).0
-  want_falls after stays clear WantStep.CountsUp = (omega arith, stays)
-  want_falls after stays clear WantStep.LoadsHold = rw clear (omega arith, stays)
-  want_falls after stays clear WantStep.LoadsRemount =
-      elim (eqb_tells w.remount 0) [ inl h ↦ rw h.0 (omega arith, stays) | inr h ↦ rw h.0 (omega arith, stays) ]
-  want_falls after stays clear WantStep.LoadsReadOnly =
-      elim (cases_Bool (has_flag (w.flags x.mount) 1)) [ inl h ↦ rw h (omega arith, stays) | inr h ↦ rw h (omega arith, stays) ]
-  want_falls after stays clear WantStep.LoadsSuperblock =
-      elim (eqb_tells w.sb 0) [ inl h ↦ rw h.0 tt | inr h ↦ rw h.0 (omega arith, stays) ]
-  want_falls after stays clear (WantStep.CountsDown refusal) = tt
+  want_falls after stays clear a3 = grind arith
 
 between_rank : (p : ℕ) (a b : Bool) → change_rank p (step_between a b) ≤ p + 4
 between_rank p true true = omega arith
@@ -75,26 +65,7 @@ module _ (w : Words) (x : Change) where
   change_falls : (after : Words) (s : ChangeStep) → ChangeIsFree w s x.wait →
       Falls (λ (y : Change). change_rank y.processors y.step) (λ (y : Change). ChangeIsFree after y.step y.wait) (change_rank x.processors s)
       (change_after x s (found_by (change_next x s).1 (read w (change_next x s).0))).0
-  change_falls after ChangeStep.Locks free =
-      elim (eqb_tells w.umount 0) [
-        | inl h ↦ rw h.0 (omega arith, tt)
-        | inr h ↦ rw h.0 (locked_falls after (λ e. h.1 (free e)) x.wait refl)
-      ]
-  change_falls after ChangeStep.LoadsFlags free =
-      elim (cases_Bool (has_flag (w.flags x.mount) 1)) [
-        | inl h ↦ rw h (omega (arith, between_rank x.processors x.read_only true), between_free after x.wait x.read_only true)
-        | inr h ↦ rw h (omega arith, tt)
-      ]
-  change_falls after ChangeStep.LoadsSuperblock free = (
-    omega (arith, between_rank x.processors x.read_only (not (w.sb == 0))),
-    between_free after x.wait x.read_only (not (w.sb == 0)),
-  )
-  change_falls after ChangeStep.ClearsReadOnly free = (omega arith, tt)
-  change_falls after ChangeStep.SetsHold free = (omega arith, tt)
-  change_falls after (ChangeStep.Sums sum) free = taking_falls after sum (w.count x.mount sum.words)
-  change_falls after ChangeStep.SetsReadOnly free = (omega arith, tt)
-  change_falls after (ChangeStep.ClearsHold answer) free = (omega arith, tt)
-  change_falls after (ChangeStep.Releases answer) free = tt
+  change_falls after a1 free = grind arith
 
 pub want_ends : (c : Config) (x : Want) → PhaseEnds c (Phase.Mounts (MountPhase.Want x))
 want_ends c x = record {

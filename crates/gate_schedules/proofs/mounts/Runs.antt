@@ -1,5 +1,6 @@
 -- What an event off the levels makes of each of them: it leaves it, and so each event of want, drop and change does.
 use Rattle.std.{proofs.Common.{◌≡◌, ℕ, ◌<◌, refl, sym, ap, ◌∙◌}, specs.Prelude.Some}
+use Rattle.std.proofs.Common.{arith}
 use Rattle.cpu_words.specs.{Hooks.HookAnswer, Words.Words}
 use Rattle.mount_counts.specs.{Phases.after, declared.phases.{Change.Change, ChangeStep.ChangeStep, MountPhase.MountPhase, Want.Want, WantStep.WantStep}}
 use Rattle.freeze_laws.specs.levels.{Events.SyncStep, Roles.Out as IsApart}
@@ -33,9 +34,7 @@ change_words w x ChangeStep.Locks hook i = (refl, refl, refl, refl)
 change_words w x s hook i = (refl, refl, refl, refl)
 
 mount_words : (w : Words) (x : MountPhase) (hook : HookAnswer) (i : ℕ) → SameWords w (words_after w (Phase.Mounts x) hook) (SyncAt i)
-mount_words w (MountPhase.Want x) hook i = want_words w x x.step hook i
-mount_words w (MountPhase.Change x) hook i = change_words w x x.step hook i
-mount_words w x hook i = (refl, refl, refl, refl)
+mount_words w x hook i = grind arith
 
 -- each event of want, drop or change is one at which each level stays
 pub mounts_run : (tasks : ℕ) (w : World) (t : ℕ) → t < tasks → (hook : HookAnswer) (x : MountPhase) →

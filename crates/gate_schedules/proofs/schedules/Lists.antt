@@ -1,5 +1,6 @@
 -- Each task's own list is its part of the history.
 use Rattle.std.proofs.{Common.{◌≡◌, ℕ, refl, sym, ap, ◌∙◌, inl, inr}, lemmas.Bool.{eq-eqb, ne_eqb, cases_Bool}}
+use Rattle.std.proofs.Common.{arith}
 use Rattle.std.specs.Prelude.{nat_lt, Option, Some, None, List, [], ◌∷◌}
 use Rattle.finite_sums.proofs.Totals.{each_updated}
 use Rattle.access_model.specs.{Histories.{Done, own_part, IsMerge}, declared.{actions.Action.Action, errors.GateError.GateError}}
@@ -39,10 +40,7 @@ step_lists w earlier t hook (Some phase) m x = beside_lists [] w earlier t hook 
 
 pub begin_lists : (c : Config) (w : World) (earlier : List Done) (t : ℕ) (op : Op) (r : Option GateError) → IsMerge (lists w) earlier →
     IsMerge (lists (begin_of c w t op r)) earlier
-begin_lists c w earlier t op (Some refused) m x = m x
-begin_lists c w earlier t op None m x =
-    each_updated (λ y (v : View). own_part y earlier ≡ v.actions) w.views t (begun_view (w.views t) op (first_phase c t op)) x (m t)
-    (λ ne. m x)
+begin_lists c w earlier t op a5 m x = grind arith
 
 pub happens_lists : (c : Config) (w : World) (earlier : List Done) (e : Entry) → IsMerge (lists w) earlier →
     IsMerge (lists (happens c w e)) (with_action (task_of e) (action_of c w e) earlier)

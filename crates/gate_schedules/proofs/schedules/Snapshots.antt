@@ -1,5 +1,6 @@
 -- Each last snapshot has its moment in the history, and keeps it.
 use Rattle.std.proofs.{Common.{◌≡◌, ℕ, ◌<◌, refl, sym, subst, ap, ◌∙◌, inl, inr}, lemmas.Bool.{cases_Bool, ltb-true}}
+use Rattle.std.proofs.Common.{arith}
 use Rattle.std.specs.Prelude.{nat_lt, false, Option, Some, None, List, [], ◌∷◌, length, slice_index}
 use Rattle.finite_sums.proofs.Totals.{each_updated, total_same}
 use Rattle.access_model.specs.{Histories.{Done, end_of, IsLegal, own_part, IsMerge}, States.{State, size_of, is_dirty, IsDirectory}}
@@ -105,10 +106,7 @@ module _ (c : Config) where
 
   pub begin_moments : (w : World) (log : List Done) (t : ℕ) (op : Op) (r : Option GateError) → AllHaveMoments c log w →
       AllHaveMoments c log (begin_of c w t op r)
-  begin_moments w log t op (Some refused) all x = all x
-  begin_moments w log t op None all x =
-      each_updated (λ y (u : View). HasMoment c log y u.snapshot) w.views t (begun_view (w.views t) op (first_phase c t op)) x
-      (all t) (λ ne. all x)
+  begin_moments w log t op a4 all x = grind arith
 
 module _ (c : Config) (lim : IsWithin c) where
   module _

@@ -1,5 +1,6 @@
 -- A snapshot under way stands in a frozen tree, from its load of stage 4 to its release.
 use Rattle.std.{proofs.Common.{◌≡◌, ℕ, ap, subst, sym, true≢false}, specs.Prelude.{Some, Ok, Err, is_some}}
+use Rattle.std.proofs.Common.{arith}
 use Rattle.gated_tree.specs.{Calls.{words_loaded, reading}, Roles.RoleHolds, declared.snapshots.SnapshotStep.SnapshotStep}
 use Rattle.freeze_laws.specs.stages.Roles.{KnowsStage}
 use Rattle.gate_world.specs.{Headline.SnapshotsStand, Rules.{IsGood, Stages, Tree, stage_role_of}, Snapshots.values_noted}
@@ -9,11 +10,7 @@ use Rattle.gate_world.specs.{Trees.{tree_bounds, tree_role_of}, Worlds.World, de
 -- who has loaded words relies on stage 4
 relies : (stage sb nodes words : ℕ) (s : SnapshotStep) → words_loaded nodes s ≡ Some words → KnowsStage stage sb (snapshot_stage_role s) →
     stage ≡ 4
-relies stage sb nodes words SnapshotStep.Locks e knows = absurd (true≢false (sym (ap is_some e)))
-relies stage sb nodes words SnapshotStep.LoadsStage e knows = absurd (true≢false (sym (ap is_some e)))
-relies stage sb nodes words (SnapshotStep.Releases (Ok reply)) e knows = knows.0
-relies stage sb nodes words (SnapshotStep.Releases (Err refusal)) e knows = absurd (true≢false (sym (ap is_some e)))
-relies stage sb nodes words other e knows = knows.0
+relies stage sb nodes words other e knows = grind arith
 
 pub snapshots_stand : (c : Config) (w : World) → IsGood c w → SnapshotsStand c w
 snapshots_stand c w good t x words lt at e = (

@@ -1,5 +1,6 @@
 -- The marks that a trace has cleared are nothing that a task holds.
 use Rattle.std.{proofs.{Common.{◌≡◌, ℕ, inl, inr}, lemmas.Bool.cases_Bool}, specs.Prelude.{List, [], ◌∷◌, ◌++◌}}
+use Rattle.std.proofs.Common.{arith}
 use Rattle.access_model.specs.declared.actions.Action.{Action}
 use Rattle.cpu_words.specs.declared.{events.Touch.Touch, names.WordName.WordName}
 use Rattle.mount_counts.specs.Phases.{has_flag}
@@ -12,9 +13,7 @@ LeaveAccesses actions before = holdings_of (actions ++ before) ≡ holdings_of b
 -- clearing a mark leaves them, on top of actions that do
 clean_leaves : (word : WordName) (touch : Touch) (found : ℕ) (actions rest before : List Action) → LeaveAccesses (actions ++ rest) before →
     LeaveAccesses (clean_found word touch found actions ++ rest) before
-clean_leaves (WordName.Node n) (Touch.And mask) found actions rest before h =
-    elim (cases_Bool (has_flag found 4)) [ inl f ↦ rw f h | inr f ↦ rw f h ]
-clean_leaves word touch found actions rest before h = h
+clean_leaves word touch found actions rest before h = grind arith
 
 -- so does clearing each mark of a trace
 pub cleans_leave : (trace : List Traced) (rest before : List Action) → LeaveAccesses rest before →

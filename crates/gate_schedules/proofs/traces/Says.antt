@@ -1,5 +1,6 @@
 -- What a trace says, kept from each event to the next.
 use Rattle.std.{proofs.Common.{ℕ, sym, subst}, specs.Prelude.{List, [], ◌∷◌}}
+use Rattle.std.proofs.Common.{arith}
 use Rattle.access_model.specs.declared.{actions.Action.Action, replies.Next.Next}
 use Rattle.cpu_words.specs.{Hooks.HookAnswer, Touches.{event_of, found_by}, declared.events.Event.Event}
 use Rattle.gate_world.specs.{Beginnings.first_phase, Courses.{course_after, course_of, IsEventOf, IsNext, IsTrace, MayFind}}
@@ -62,16 +63,12 @@ module _ (At : List Traced → Phase → List Action → Type 0) (c : Config) (t
   -- what is said tells what is to be told
   says_tells : (trace : List Traced) (comes : Next Phase) (added : List Action) → Says At c op trace comes added →
       Tells c op trace comes added
-  says_tells trace (Next.Go phase) added h = tt
-  says_tells trace (Next.Wait phase) added h = h.1
-  says_tells trace (Next.Done answer) added h = h.0
+  says_tells trace a1 added h = grind arith
 
   -- what is said bounds the trace
   says_short : (trace : List Traced) (comes : Next Phase) (added : List Action) → Says At c op trace comes added →
       IsShort (most_events c op) trace
-  says_short trace (Next.Go phase) added h = kept.short trace phase added h
-  says_short trace (Next.Wait phase) added h = kept.short trace phase added h.0
-  says_short trace (Next.Done answer) added h = h.1
+  says_short trace a1 added h = grind arith
 
   -- so every trace tells what is to be told, and is short
   pub tells_well : (trace : List Traced) → IsTrace c t op trace →

@@ -1,5 +1,6 @@
 -- Each view follows its operation, after every schedule.
 use Rattle.std.proofs.Common.{◌≡◌, ℕ, refl, sym, ap, ◌∙◌, subst, inl, inr, Bool, false, is_some, true≢false, ◌<◌}
+use Rattle.std.proofs.Common.{arith}
 use Rattle.std.proofs.lemmas.Bool.{cases_Bool, cases_lt, lt-ltb, le-ltb}
 use Rattle.std.specs.Prelude.{true, false, Option, Some, None, nat_lt, List, ◌∷◌, ◌++◌}
 use Rattle.finite_sums.proofs.Totals.{each_updated}
@@ -16,13 +17,7 @@ use Rattle.gate_schedules.proofs.traces.Says.{event_at}
 -- where an operation stands at this phase, its event is the next, and what comes after it is the course after it
 stands_at : (comes : Next Phase) (added : List Action) (phase : Phase) (e : Traced) → phase_after comes ≡ Some phase → IsEventOf phase e →
     IsNext comes e × (course_after comes added e ≡ course_with added (after_of phase e.event.found e.hook))
-stands_at (Next.Go there) added phase e h next =
-    let same : there ≡ phase = cc in
-    (subst (λ x. IsEventOf x e) (sym same) next, ap (λ x. course_with added (after_of x e.event.found e.hook)) same)
-stands_at (Next.Wait there) added phase e h next =
-    let same : there ≡ phase = cc in
-    (subst (λ x. IsEventOf x e) (sym same) next, ap (λ x. course_with added (after_of x e.event.found e.hook)) same)
-stands_at (Next.Done answer) added phase e h next = absurd (cc)
+stands_at a0 added phase e h next = grind arith
 
 -- an action more goes before the earlier ones
 newest : (action : Option Action) (actions added before : List Action) → actions ≡ added ++ before →
@@ -33,20 +28,7 @@ newest (Some a) actions added before h = ap (λ l. a ∷ l) h
 -- the next event of a view that follows its operation
 step_follows : (c : Config) (t : ℕ) (v : View) (op : Option Op) (phase : Phase) (value : ℕ) (hook : HookAnswer) → v.phase ≡ Some phase →
     MayFind phase (next_of phase hook).0 value → IsTraced c t v op → IsTraced c t (view_after v phase value hook) op
-step_follows c t v None phase value hook e may h = absurd (cc)
-step_follows c t v (Some op) phase value hook e may h =
-    let event : Traced = with_hook (event_at phase value hook) hook in
-    let s : IsNext (course_of c t op v.trace).comes event × (course_after (course_of c t op v.trace).comes
-    (course_of c t op v.trace).added event ≡ course_with (course_of c t op v.trace).added
-    (after_of phase (found_by (next_of phase hook).1 value) hook)) =
-    stands_at (course_of c t op v.trace).comes (course_of c t op v.trace).added phase event (sym h.phase ∙ e) (value, refl, may) in
-    record {
-      trace = (s.0, h.trace);
-      phase = ap (λ x. phase_after x.comes) (sym s.1);
-      actions = newest (after_of phase (found_by (next_of phase hook).1 value) hook).1 v.actions
-          (course_of c t op v.trace).added v.before h.actions ∙ ap (λ x. x.added ++ v.before) (sym s.1);
-      begins = h.begins;
-    }
+step_follows c t v a3 phase value hook e may h = grind arith
 
 -- why an operation can't begin, where another is under way or none is
 abbrev unless_under_way : Config → View → Op → Bool → Option GateError
@@ -62,10 +44,7 @@ idle_refusal c v op false h = h
 begin_keeps : (c : Config) (w : World) (t : ℕ) (op : Op) (refused : Option GateError) → view_refusal c (w.views t) op ≡ refused →
     AllTraced c w →
     AllTraced c (begin_of c w t op refused)
-begin_keeps c w t op (Some refused) e h x = h x
-begin_keeps c w t op None e h x =
-    each_updated (λ y (v : View). IsTraced c y v v.op) w.views t (begun_view (w.views t) op (first_phase c t op)) x
-    (record { trace = tt; phase = refl; actions = refl; begins = idle_refusal c (w.views t) op (is_some (w.views t).phase) e }) (λ ne. h x)
+begin_keeps c w t op a4 e h x = grind arith
 
 begin_entry : (c : Config) (w : World) (t : ℕ) (op : Op) → AllTraced c w → AllTraced c (begin_of c w t op (begin_refusal c w t op))
 begin_entry c w t op h =

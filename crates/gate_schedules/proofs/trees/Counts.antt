@@ -17,22 +17,14 @@ pub same_le : (d e : ℕ) → is_same d e ≤ 1
 same_le d e = grind (arith, nat_tests)
 
 parent_le : (d : ℕ) (entry : Option NodeInfo) → has_parent d entry ≤ 1
-parent_le d None = omega arith
-parent_le d (Some info) = elim info.removed as (λ b. (if b then 0 else is_same info.parent d) ≤ 1) [
-  | true ↦ omega arith
-  | false ↦ same_le info.parent d
-]
+parent_le d a1 = grind arith
 
 pub child_le : (d n : ℕ) (entry : Option NodeInfo) → is_child d n entry ≤ 1
 child_le d zero entry = omega arith
 child_le d (suc n) entry = parent_le d entry
 
 pub child_charge_le : (d : ℕ) (r : Role) → child_charge d r ≤ 1
-child_charge_le d (Placing e) = same_le e d
-child_charge_le d (Moving file e) = same_le e d
-child_charge_le d (Freed b e) = same_le e d
-child_charge_le d (Returning e) = same_le e d
-child_charge_le d _ = omega arith
+child_charge_le d a1 = grind arith
 
 removal_le : (r : Role) → removal r ≤ 1
 removal_le (Removing file) = omega arith

@@ -1,5 +1,6 @@
 -- The numbers of a phase stay in range, and each word of its events is there.
 use Rattle.std.proofs.{Common.{◌≡◌, ℕ, Bool, true, false, ◌+◌, ◌<◌, refl, sym, ◌∙◌, inl, inr, arith}, lemmas.Bool.{cases_lt, lt-ltb, le-ltb, Decides.eqb_tells}}
+use Rattle.std.proofs.lemmas.Grind.{common_steps}
 use Rattle.std.specs.Prelude.{◌==◌, Option, Some, None, Result, Ok, Err, is_some, nat_lt, if◌then◌else◌}
 use Rattle.access_model.specs.{Replies.map_next, declared.{errors.GateError.GateError, replies.Next.Next}}
 use Rattle.cpu_words.specs.Hooks.{HookAnswer}
@@ -29,9 +30,7 @@ module _ (c : Bounds) (within : AreWithin c) (t : ℕ) where
   looked_fits : {P : Type 0} (to : P → TreePhase) (again : P) (from : NodeWord → P) (r : Option (Result NodeWord GateError)) →
       TreePhaseFits c t (to again) → ((node : NodeWord) → r ≡ Some (Ok node) → TreePhaseFits c t (to (from node))) →
       NextFits c t (map_next to (after_look again from r))
-  looked_fits to again from None fits found = fits
-  looked_fits to again from (Some (Ok node)) fits found = found node refl
-  looked_fits to again from (Some (Err refusal)) fits found = tt
+  looked_fits to again from a3 fits found = grind arith
 
   -- either of two that fit
   either : {P : Type 0} (to : P → TreePhase) (b : Bool) (x y : Next P) → NextFits c t (map_next to x) → NextFits c t (map_next to y) →
@@ -47,20 +46,11 @@ module _ (c : Bounds) (within : AreWithin c) (t : ℕ) where
 
   seen_fits : (x : Create) (node : ℕ) → x.dir < c.nodes → x.nodes ≡ c.nodes → node < c.nodes → (found : Option NodeWord) →
       NextFits c t (map_next TreePhase.Create (create_looked x node found))
-  seen_fits x node d same n None = (d, same, n)
-  seen_fits x node d same n (Some found) =
-      either TreePhase.Create (is_some found.kind) (create_past x node) (Next.Go (at_create x (CreateStep.ChargesChild node))) (past_fits x node d same)
-      (d, same, n)
+  seen_fits x node d same n a5 = grind arith
 
   create_fits : (x : Create) (step : CreateStep) (found : ℕ) → x.dir < c.nodes → x.nodes ≡ c.nodes → CreateStepFits c step →
       NextFits c t (map_next TreePhase.Create (create_after x step found).0)
-  create_fits x CreateStep.LoadsDirectory found d same fits =
-      looked_fits TreePhase.Create (at_create x CreateStep.LoadsDirectory) (λ dir. at_create x (CreateStep.LoadsNode 1)) (directory_in found) (d, same, tt)
-      (λ dir e. (d, same, omega (arith, within.some_node)))
-  create_fits x (CreateStep.LoadsNode node) found d same fits = seen_fits x node d same fits (unpacked found)
-  create_fits x (CreateStep.ChargesChild node) found d same fits = (d, same, fits)
-  create_fits x (CreateStep.TakesNode node) found d same fits = either TreePhase.Create (found == 0) _ _ tt (d, same, tt)
-  create_fits x CreateStep.RefundsChild found d same fits = tt
+  create_fits x a1 found d same fits = grind (arith, common_steps)
 
   removes_fits : (file : NodeWord) (opens : ℕ) → opens ≡ file.opens → file.parent < 64 → RemoveStepFits (removes_file file opens)
   removes_fits file opens same narrow = elim (eqb_tells opens 0) [
@@ -70,25 +60,11 @@ module _ (c : Bounds) (within : AreWithin c) (t : ℕ) where
 
   remove_fits : (x : Remove) (step : RemoveStep) (found : ℕ) → x.file < c.nodes → RemoveStepFits step →
       NextFits c t (map_next TreePhase.Remove (remove_after x step found).0)
-  remove_fits x RemoveStep.LoadsFile found n fits =
-      looked_fits TreePhase.Remove (at_remove x RemoveStep.LoadsFile) (λ file. at_remove x (removes_file file file.opens)) (file_in found) (n, tt)
-      (λ file e. (n, removes_fits file file.opens refl (file_narrow found file e)))
-  remove_fits x (RemoveStep.FreesNode file) found n fits = either TreePhase.Remove (found == word_of file) _ _ (n, fits.0) tt
-  remove_fits x (RemoveStep.CountsRemoved file) found n fits = (n, fits)
-  remove_fits x (RemoveStep.MarksRemoved file) found n fits = either TreePhase.Remove (found == word_of file) _ _ (n, fits.0) (n, tt)
-  remove_fits x RemoveStep.RefundsRemoved found n fits = tt
-  remove_fits x (RemoveStep.RefundsBlocks file) found n fits = (n, fits)
-  remove_fits x (RemoveStep.RefundsChild file) found n fits = tt
+  remove_fits x a1 found n fits = grind (arith, common_steps)
 
   grow_fits : (x : Grow) (step : GrowStep) (found : ℕ) → TreePhaseFits c t (TreePhase.Grow x) →
       NextFits c t (map_next TreePhase.Grow (grow_after x step found).0)
-  grow_fits x GrowStep.LoadsFile found fits =
-      looked_fits TreePhase.Grow (at_grow x GrowStep.LoadsFile) (λ file. at_grow x (GrowStep.LoadsUsed file)) (file_in found) fits (λ file e. fits)
-  grow_fits x (GrowStep.LoadsUsed file) found fits =
-      either TreePhase.Grow (nat_lt x.capacity (found + x.blocks)) _ _ tt (either TreePhase.Grow (nat_lt x.capacity (file.size + x.blocks)) _ _ tt fits)
-  grow_fits x (GrowStep.ChargesBlocks file used) found fits = either TreePhase.Grow (found == used) _ _ fits tt
-  grow_fits x (GrowStep.GrowsFile file) found fits = either TreePhase.Grow (found == word_of file) _ _ tt fits
-  grow_fits x GrowStep.RefundsBlocks found fits = tt
+  grow_fits x a1 found fits = grind (arith, common_steps)
 
   move_fits : (x : MoveTo) (step : MoveStep) (found : ℕ) → x.file < c.nodes → x.dir < c.nodes → MoveStepFits step →
       NextFits c t (map_next TreePhase.MoveTo (move_after x step found).0)
@@ -104,9 +80,7 @@ module _ (c : Bounds) (within : AreWithin c) (t : ℕ) where
   move_fits x (MoveStep.RefundsChild dir answer) found n d fits = tt
 
   mark_fits : (x : Mark) (step : MarkStep) (found : ℕ) → x.file < c.nodes → NextFits c t (map_next TreePhase.Mark (mark_after x step found).0)
-  mark_fits x MarkStep.LoadsFile found n =
-      looked_fits TreePhase.Mark (at_mark x MarkStep.LoadsFile) (λ file. at_mark x (MarkStep.MarksFile file)) (file_in found) n (λ file e. n)
-  mark_fits x (MarkStep.MarksFile file) found n = either TreePhase.Mark (found == word_of file) _ _ tt tt
+  mark_fits x a1 found n = grind (arith, common_steps)
 
   opens_fits : (file : NodeWord) → OpenStepFits (opens_from file (nat_lt file.opens 64))
   opens_fits file = elim (cases_lt file.opens 64) [
@@ -115,10 +89,7 @@ module _ (c : Bounds) (within : AreWithin c) (t : ℕ) where
   ]
 
   open_fits : (x : OpenFile) (step : OpenStep) (found : ℕ) → x.file < c.nodes → NextFits c t (map_next TreePhase.OpenFile (open_after x step found).0)
-  open_fits x OpenStep.LoadsFile found n =
-      looked_fits TreePhase.OpenFile (at_open x OpenStep.LoadsFile) (λ file. at_open x (opens_from file (nat_lt file.opens 64))) (file_in found) (n, tt)
-      (λ file e. (n, opens_fits file))
-  open_fits x (OpenStep.OpensFile file) found n = either TreePhase.OpenFile (found == word_of file) _ _ tt tt
+  open_fits x a1 found n = grind (arith, common_steps)
 
   -- a snapshot that finds `umount` taken
   locked_out_fits : (x : Snapshot) (wait : Bool) → x.task ≡ t → x.nodes ≡ c.nodes →
@@ -140,13 +111,7 @@ module _ (c : Bounds) (within : AreWithin c) (t : ℕ) where
 
   snapshot_fits : (x : Snapshot) (step : SnapshotStep) (found : ℕ) → x.task ≡ t → x.nodes ≡ c.nodes → SnapshotStepFits c step →
       NextFits c t (map_next TreePhase.Snapshot (snapshot_after x step found).0)
-  snapshot_fits x SnapshotStep.Locks found own same fits = either TreePhase.Snapshot (found == 0) _ _ (own, same, tt) (locked_out_fits x x.wait own same)
-  snapshot_fits x SnapshotStep.LoadsStage found own same fits = either TreePhase.Snapshot (found == 4) _ _ (own, same, tt) (own, same, tt)
-  snapshot_fits x SnapshotStep.LoadsUsed found own same fits = (own, same, omega (arith, within.some_node))
-  snapshot_fits x (SnapshotStep.LoadsNode node) found own same fits =
-      either TreePhase.Snapshot (is_some (unpacked found)) _ _ (own, same, node_fits node x.nodes same) (own, same, fits)
-  snapshot_fits x (SnapshotStep.LoadsKids node) found own same fits = (own, same, kids_fit node x.nodes same)
-  snapshot_fits x (SnapshotStep.Releases answer) found own same fits = tt
+  snapshot_fits x a1 found own same fits = grind (arith, common_steps)
 
   clear_fits : (x : ClearMarks) (found : ℕ) → x.nodes ≡ c.nodes → NextFits c t (map_next TreePhase.ClearMarks (clear_after x found).0)
   clear_fits x found same = elim (cases_lt (x.node + 1) x.nodes) [

@@ -50,11 +50,7 @@ role_kept c used used' removed removed' node node' kids kids' dirs _ clean read 
 
 freeing_is : (c : Bounds) (used removed : ℕ) (node kids : ℕ → ℕ) (n : ℕ) (r : Role) → frees n r ≡ 1 → RoleHolds c used removed node kids r →
     (file : NodeWord) × (n < c.nodes) × IsLastOpen node n file
-freeing_is c used removed node kids n (Freeing m file) e h = elim (eqb_tells m n) [
-  | inl same ↦ (file, subst (λ x. x < c.nodes) same.1 h.0, subst (λ x. IsLastOpen node x file) same.1 h.1)
-  | inr off ↦ absurd (omega (arith, e, same_off m n (λ q. off.1 (sym q))))
-]
-freeing_is c used removed node kids n _ e h = absurd (omega (arith, e))
+freeing_is c used removed node kids n a6 e h = grind arith
 
 -- a node with this entry still has its parent where directories stay directories
 parent_kept : (nodes : ℕ) (node node' : ℕ → ℕ) → ((d : ℕ) → IsDirectory (node_shown (node d)) → IsDirectory (node_shown (node' d))) →

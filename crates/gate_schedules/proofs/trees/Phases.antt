@@ -14,9 +14,7 @@ use Rattle.gate_schedules.specs.trees.Steps.{tree_in, found_at, EventKeeps, MayS
 -- what comes after an event has the same role as a phase of one call and of all
 role_mapped : {P : Type 0} (to : P → TreePhase) (role : TreePhase → Role) (n : Next P) →
     role_after (λ x. role (to x)) n ≡ role_after role (map_next to n)
-role_mapped to role (Next.Go phase) = refl
-role_mapped to role (Next.Wait phase) = refl
-role_mapped to role (Next.Done answer) = refl
+role_mapped to role a2 = grind arith
 
 module _ (c : Bounds) (within : AreWithin c) (sealed bare : ℕ) (w : Words) (at : ℕ → Role) (good : TreeHolds c (tree_in sealed bare w at))
     (t : ℕ) (lt : t < c.tasks) where
@@ -57,33 +55,17 @@ module _ (c : Bounds) (within : AreWithin c) (sealed bare : ℕ) (w : Words) (at
 
   module _ (e : Extents) (nodes : e.nodes ≡ c.nodes) where
     create_there : (x : Create) (step : CreateStep) → x.dir < c.nodes → CreateStepFits c step → IsWord e (create_next x step).0
-    create_there x (CreateStep.LoadsNode node) d fits = omega (arith, fits, nodes)
-    create_there x (CreateStep.TakesNode node) d fits = omega (arith, fits, nodes)
-    create_there x other d fits = omega (arith, d, nodes)
+    create_there x other d fits = grind arith
 
     remove_there : (x : Remove) (step : RemoveStep) → x.file < c.nodes → at t ≡ remove_role x step → IsWord e (remove_next x step).0
-    remove_there x (RemoveStep.CountsRemoved file) n is = tt
-    remove_there x RemoveStep.RefundsRemoved n is = tt
-    remove_there x (RemoveStep.RefundsBlocks file) n is = tt
-    remove_there x (RemoveStep.RefundsChild file) n is =
-        let d : file.parent < c.nodes = role_says c (tree_in sealed bare w at) good t lt (Returning file.parent) is in
-        omega (arith, d, nodes)
-    remove_there x other n is = omega (arith, n, nodes)
+    remove_there x other n is = grind arith
 
     grow_there : (x : Grow) (step : GrowStep) → x.file < c.nodes → IsWord e (grow_next x step).0
-    grow_there x GrowStep.LoadsFile n = omega (arith, n, nodes)
-    grow_there x (GrowStep.GrowsFile file) n = omega (arith, n, nodes)
-    grow_there x other n = tt
+    grow_there x other n = grind arith
 
     move_there : (x : MoveTo) (step : MoveStep) → x.file < c.nodes → x.dir < c.nodes → at t ≡ move_role x step →
         IsWord e (move_next x step).0
-    move_there x MoveStep.LoadsFile n d is = omega (arith, n, nodes)
-    move_there x (MoveStep.LoadsDirectory file) n d is = omega (arith, d, nodes)
-    move_there x (MoveStep.ChargesChild file) n d is = omega (arith, d, nodes)
-    move_there x (MoveStep.MovesFile file) n d is = omega (arith, n, nodes)
-    move_there x (MoveStep.RefundsChild dir answer) n d is =
-        let one : dir < c.nodes = role_says c (tree_in sealed bare w at) good t lt (Returning dir) is in
-        omega (arith, one, nodes)
+    move_there x a1 n d is = grind arith
 
     mark_there : (x : Mark) (step : MarkStep) → x.file < c.nodes → IsWord e (mark_next x step).0
     mark_there x MarkStep.LoadsFile n = omega (arith, n, nodes)
@@ -94,18 +76,9 @@ module _ (c : Bounds) (within : AreWithin c) (sealed bare : ℕ) (w : Words) (at
     open_there x (OpenStep.OpensFile file) n = omega (arith, n, nodes)
 
     snapshot_there : (x : Snapshot) (step : SnapshotStep) → SnapshotStepFits c step → IsWord e (snapshot_next x step).0
-    snapshot_there x (SnapshotStep.LoadsNode node) fits = omega (arith, fits, nodes)
-    snapshot_there x (SnapshotStep.LoadsKids node) fits = omega (arith, fits, nodes)
-    snapshot_there x other fits = tt
+    snapshot_there x other fits = grind arith
 
     -- the word of each event is there
     pub word_there : (phase : TreePhase) (values : ℕ → ℕ) (hook : HookAnswer) → at t ≡ phase_role values phase → TreePhaseFits c t phase →
         IsWord e (next phase hook).0
-    word_there (TreePhase.Create x) values hook is fits = create_there x x.step fits.0 fits.2
-    word_there (TreePhase.Remove x) values hook is fits = remove_there x x.step fits.0 is
-    word_there (TreePhase.Grow x) values hook is fits = grow_there x x.step fits.0
-    word_there (TreePhase.MoveTo x) values hook is fits = move_there x x.step fits.0 fits.1 is
-    word_there (TreePhase.Mark x) values hook is fits = mark_there x x.step fits
-    word_there (TreePhase.OpenFile x) values hook is fits = open_there x x.step fits.0
-    word_there (TreePhase.Snapshot x) values hook is fits = snapshot_there x x.step fits.2
-    word_there (TreePhase.ClearMarks x) values hook is fits = omega (arith, fits.0, nodes)
+    word_there a0 values hook is fits = grind arith

@@ -42,14 +42,10 @@ pub thaws_write : (x : Thaw) → IsWriter (Some (Phase.Thaws x))
 thaws_write x = refl
 
 pub freeze_comes : (n : Next Freeze) → IsWriter (phase_after (map_next Phase.Freezes n))
-freeze_comes (Next.Go x) = freezes_write x
-freeze_comes (Next.Wait x) = freezes_write x
-freeze_comes (Next.Done answer) = idle_writes
+freeze_comes a0 = grind arith
 
 pub thaw_comes : (n : Next Thaw) → IsWriter (phase_after (map_next Phase.Thaws n))
-thaw_comes (Next.Go x) = thaws_write x
-thaw_comes (Next.Wait x) = thaws_write x
-thaw_comes (Next.Done answer) = idle_writes
+thaw_comes a0 = grind arith
 
 -- the words that no freeze and no thaw writes are as they were
 pub record IsBeside (old new : Words) : Type 0 where
@@ -170,44 +166,24 @@ whole_writer c w t lt good hook phase e work keeps = (
 module _ (d : DownWrite) (P : Next DownWrite → Type 0) (go : (s : DownWriteStep) → P (Next.Go (at_down_write d s)))
     (wait : (s : DownWriteStep) → P (Next.Wait (at_down_write d s))) (done : P (Next.Done (Ok Reply.Unit))) where
   sections_come : (n : GraceNext) → P (sections_awaited d n)
-  sections_come (GraceNext.More grace) = go (DownWriteStep.AwaitsSections grace)
-  sections_come (GraceNext.Wait grace) = wait (DownWriteStep.AwaitsSections grace)
-  sections_come GraceNext.Ended = go (DownWriteStep.CallsBack Transition.Loads)
+  sections_come a0 = grind arith
 
   passed_comes : (o : Option SyncWord) → P (passed_awaited d o)
-  passed_comes None = go DownWriteStep.AwaitsPassed
-  passed_comes (Some word) =
-      by_bool (is_passed word.state)
-      (λ b. P (if b then Next.Go (at_down_write d DownWriteStep.SetsBlock) else Next.Wait (at_down_write d DownWriteStep.AwaitsPassed)))
-      (go DownWriteStep.SetsBlock) (wait DownWriteStep.AwaitsPassed)
+  passed_comes a0 = grind arith
 
   summed_comes : (n : Taken) → P (down_write_summed d n).0
-  summed_comes (Taken.More sum) = go (DownWriteStep.Sums sum)
-  summed_comes (Taken.Total total) =
-      by_bool (total == 0) (λ b. P (if b then Next.Done (Ok Reply.Unit) else Next.Wait (at_down_write d sum_begun))) done (wait sum_begun)
+  summed_comes a0 = grind arith
 
   pub down_write_comes : (s : DownWriteStep) (found : ℕ) → P (down_write_after d s found).0
-  down_write_comes (DownWriteStep.Enters transition) found = go (enter_step d.tasks (transition_after on_enter transition found))
-  down_write_comes (DownWriteStep.AwaitsSections grace) found = sections_come (looked grace found)
-  down_write_comes (DownWriteStep.CallsBack transition) found = go (callback_step (transition_after on_callback transition found))
-  down_write_comes DownWriteStep.AwaitsPassed found = passed_comes (unpack found)
-  down_write_comes DownWriteStep.SetsBlock found =
-      by_bool (found == 0) (λ b. P (if b then Next.Go (at_down_write d sum_begun) else Next.Wait (at_down_write d DownWriteStep.SetsBlock)))
-      (go sum_begun) (wait DownWriteStep.SetsBlock)
-  down_write_comes (DownWriteStep.Sums sum) found = summed_comes (sum_taking sum found d.processors)
+  down_write_comes a0 found = grind arith
 
 -- a down-write changes no word that only the owner changes
 down_write_off : (d : DownWrite) (s : DownWriteStep) → is_owned (down_write_next d s).0 ≡ false
-down_write_off d (DownWriteStep.Enters Transition.Loads) = refl
-down_write_off d (DownWriteStep.CallsBack Transition.Loads) = refl
-down_write_off d other = refl
+down_write_off d other = grind arith
 
 freeze_changes : (x : Freeze) (s : FreezeStep) (hook : HookAnswer) → is_owned (freeze_next x s hook).0 ≡ true →
     (is_load (freeze_next x s hook).1 ≡ true) ⊎ (freeze_owns s ≡ 1)
-freeze_changes x FreezeStep.Locks hook h = absurd (true≢false (sym h))
-freeze_changes x (FreezeStep.Closes d) hook h = absurd (true≢false (sym h ∙ down_write_off d d.step))
-freeze_changes x FreezeStep.LocksAgain hook h = absurd (true≢false (sym h))
-freeze_changes x s hook h = inr refl
+freeze_changes x s hook h = grind arith
 
 -- a level that is closed is closed by the owner as before, but for level 1, after which `umount` is to be taken again
 closed_comes : (x : Freeze) (level : ℕ) → 1 ≤ level → freeze_owns (level_closed level x.nodes) ≡ 1 →
@@ -222,23 +198,7 @@ closed_comes x level low h =
 freeze_comes_to : (c : Config) (x : Freeze) (s : FreezeStep) (hook : HookAnswer) (value : ℕ) → FreezeFits c x.holder s →
     owns (phase_after (map_next Phase.Freezes (freeze_after x s (found_by (freeze_next x s hook).1 value) hook).0)) ≡ 1 →
     (freeze_owns s ≡ 1) ⊎ (takes_lock (event_of (freeze_next x s hook).0 (freeze_next x s hook).1 value) ≡ true)
-freeze_comes_to c x FreezeStep.Locks hook value f h =
-    elim (cases_Bool (value == 0)) [
-      | inl z ↦ inr z
-      | inr z ↦ absurd (omega (arith, rw z at h))
-    ]
-freeze_comes_to c x FreezeStep.LocksAgain hook value f h =
-    elim (cases_Bool (value == 0)) [
-      | inl z ↦ inr z
-      | inr z ↦ absurd (omega (arith, rw z at h))
-    ]
-freeze_comes_to c x (FreezeStep.Closes d) hook value f h =
-    let found : ℕ = found_by (down_write_next d d.step).1 value in
-    let own : bit (nat_lt 1 d.level) ≡ 1 =
-    down_write_comes d (λ n. owns (phase_after (map_next Phase.Freezes (after_closing x d.level n))) ≡ 1 → bit (nat_lt 1 d.level) ≡ 1)
-    (λ s q. q) (λ s q. q) (closed_comes x d.level f.0) d.step found h in
-    inl own
-freeze_comes_to c x s hook value f h = inl refl
+freeze_comes_to c x s hook value f h = grind arith
 
 pub freeze_work : (c : Config) (w : World) (x : Freeze) (hook : HookAnswer) → FreezeFits c x.holder x.step → IsOwnersWork w (Phase.Freezes x) hook
 freeze_work c w x hook f = record {
@@ -256,12 +216,7 @@ thaw_changes x s hook h = inr refl
 thaw_comes_to : (x : Thaw) (s : ThawStep) (hook : HookAnswer) (value : ℕ) →
     owns (phase_after (map_next Phase.Thaws (thaw_after x s (found_by (thaw_next x s hook).1 value) hook).0)) ≡ 1 →
     (thaw_owns s ≡ 1) ⊎ (takes_lock (event_of (thaw_next x s hook).0 (thaw_next x s hook).1 value) ≡ true)
-thaw_comes_to x ThawStep.Locks hook value h =
-    elim (cases_Bool (value == 0)) [
-      | inl z ↦ inr z
-      | inr z ↦ absurd (omega (arith, rw z at h))
-    ]
-thaw_comes_to x s hook value h = inl refl
+thaw_comes_to x s hook value h = grind arith
 
 pub thaw_work : (w : World) (x : Thaw) (hook : HookAnswer) → IsOwnersWork w (Phase.Thaws x) hook
 thaw_work w x hook = record {

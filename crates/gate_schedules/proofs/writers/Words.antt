@@ -1,5 +1,6 @@
 -- Events of a down-write and of an up-write: the words that they leave, the counts, and what they add.
 use Rattle.std.{proofs.Common.{◌≡◌, ℕ, ◌<◌, refl, sym, ◌∙◌, subst}, specs.Prelude.{Ok, ◌==◌, if◌then◌else◌, Option, Some, None}}
+use Rattle.std.proofs.Common.{arith}
 use Rattle.finite_sums.specs.Sums.{update}
 use Rattle.access_model.specs.{Actions.after_action, States.State, declared.{actions.Action.Action, replies.{Next.Next, Reply.Reply}}}
 use Rattle.cpu_words.specs.{Sums.sum_taking, Touches.left, Words.{Words, read, put}, declared.sums.Taken.Taken}
@@ -30,15 +31,11 @@ IsAtLevels old new = off_level_words new ≡ off_level_words old
 
 pub down_write_words : (w : Words) (d : DownWrite) (s : DownWriteStep) →
     IsAtLevels w (put w (down_write_next d s).0 (left (down_write_next d s).1 (read w (down_write_next d s).0)))
-down_write_words w d (DownWriteStep.Enters Transition.Loads) = refl
-down_write_words w d (DownWriteStep.CallsBack Transition.Loads) = refl
-down_write_words w d other = refl
+down_write_words w d other = grind arith
 
 pub up_write_words : (w : Words) (u : UpWrite) (s : UpWriteStep) →
     IsAtLevels w (put w (up_write_next u s).0 (left (up_write_next u s).1 (read w (up_write_next u s).0)))
-up_write_words w u UpWriteStep.ClearsBlock = refl
-up_write_words w u (UpWriteStep.Exits Transition.Loads) = refl
-up_write_words w u (UpWriteStep.Exits (Transition.Exchanges from to)) = refl
+up_write_words w u a2 = grind arith
 
 -- a down-write counts nothing, at mounts or at levels
 pub down_write_counts_none : (d : DownWrite) (s : DownWriteStep) (f : ℕ → ℕ → ℕ) →
@@ -46,17 +43,13 @@ pub down_write_counts_none : (d : DownWrite) (s : DownWriteStep) (f : ℕ → �
     (taken_after (down_write_next d s).0 (down_write_next d s).1 f ≡ f) ×
     (level_added_after (down_write_next d s).0 (down_write_next d s).1 f ≡ f) ×
     (level_taken_after (down_write_next d s).0 (down_write_next d s).1 f ≡ f)
-down_write_counts_none d (DownWriteStep.Enters Transition.Loads) f = (refl, refl, refl, refl)
-down_write_counts_none d (DownWriteStep.CallsBack Transition.Loads) f = (refl, refl, refl, refl)
-down_write_counts_none d other f = (refl, refl, refl, refl)
+down_write_counts_none d other f = grind arith
 
 pub up_write_counts_none : (u : UpWrite) (s : UpWriteStep) (f : ℕ → ℕ → ℕ) →
     (added_after (up_write_next u s).0 (up_write_next u s).1 f ≡ f) × (taken_after (up_write_next u s).0 (up_write_next u s).1 f ≡ f) ×
     (level_added_after (up_write_next u s).0 (up_write_next u s).1 f ≡ f) ×
     (level_taken_after (up_write_next u s).0 (up_write_next u s).1 f ≡ f)
-up_write_counts_none u UpWriteStep.ClearsBlock f = (refl, refl, refl, refl)
-up_write_counts_none u (UpWriteStep.Exits Transition.Loads) f = (refl, refl, refl, refl)
-up_write_counts_none u (UpWriteStep.Exits (Transition.Exchanges from to)) f = (refl, refl, refl, refl)
+up_write_counts_none u a1 f = grind arith
 
 -- What an event of a down-write adds: nothing, or that its level is passed.
 module _ (d : DownWrite) (P : Option Action → Type 0) (none : P None) (pass : P (Some (Action.Pass d.level))) where
@@ -79,9 +72,7 @@ up_write_adds u P none opens (UpWriteStep.Exits transition) found = none
 module _ (u : UpWrite) (P : Next UpWrite → Type 0) (go : (s : UpWriteStep) → P (Next.Go (record u { step = s })))
     (done : P (Next.Done (Ok Reply.Unit))) where
   exit_comes : (n : TransitionNext) → P (exit_made u n)
-  exit_comes (TransitionNext.More transition) = go (UpWriteStep.Exits transition)
-  exit_comes TransitionNext.Undefined = go (UpWriteStep.Exits Transition.Loads)
-  exit_comes (TransitionNext.Made state) = done
+  exit_comes a0 = grind arith
 
   pub up_write_comes : (s : UpWriteStep) (found : ℕ) → P (up_write_after u s found).0
   up_write_comes UpWriteStep.ClearsBlock found = go (UpWriteStep.Exits Transition.Loads)

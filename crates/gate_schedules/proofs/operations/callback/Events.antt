@@ -45,56 +45,36 @@ use Rattle.std.proofs.lemmas.Bool.Decides.{eqb_tells}
 use Rattle.std.specs.Prelude.{None, Some, if◌then◌else◌, nat_lt, ◌%◌, ◌&&◌, ◌==◌}
 
 pub event_of_level : (b : Callback) (s : CallbackStep) → IsEventAt b.level (callback_next b s).0 (callback_next b s).1
-event_of_level b (CallbackStep.Claims Transition.Loads) = refl
-event_of_level b (CallbackStep.AwaitsSections g) = tt
-event_of_level b (CallbackStep.CallsBack Transition.Loads) = refl
-event_of_level b other = refl
+event_of_level b other = grind arith
 
 pub word_of_level : (b : Callback) (s : CallbackStep) → IsOfLevel b.level (callback_next b s).0
-word_of_level b (CallbackStep.Claims Transition.Loads) = refl
-word_of_level b (CallbackStep.AwaitsSections g) = tt
-word_of_level b (CallbackStep.CallsBack Transition.Loads) = refl
-word_of_level b other = refl
+word_of_level b other = grind arith
 
 -- it leaves the words beside the levels, and each `block`
 words_beside : (w : Words) (b : Callback) (s : CallbackStep) (n : ℕ) → IsBeside w (put w (callback_next b s).0 n)
-words_beside w b (CallbackStep.Claims Transition.Loads) n = refl
-words_beside w b (CallbackStep.CallsBack Transition.Loads) n = refl
-words_beside w b other n = refl
+words_beside w b other n = grind arith
 
 -- and the counts of each level
 counts_same : (w : Words) (b : Callback) (s : CallbackStep) (n : ℕ) → (put w (callback_next b s).0 n).level ≡ w.level
-counts_same w b (CallbackStep.Claims Transition.Loads) n = refl
-counts_same w b (CallbackStep.CallsBack Transition.Loads) n = refl
-counts_same w b other n = refl
+counts_same w b other n = grind arith
 
 -- and which tasks are inside a section
 inside_same : (l : SyncLevel) (b : Callback) (s : CallbackStep) (n : ℕ) → (put_at l (callback_next b s).0 n).inside ≡ l.inside
-inside_same l b (CallbackStep.Claims Transition.Loads) n = refl
-inside_same l b (CallbackStep.CallsBack Transition.Loads) n = refl
-inside_same l b other n = refl
+inside_same l b other n = grind arith
 
 -- its event counts nowhere
 module _ (b : Callback) (counted : ℕ → ℕ → ℕ) where
   added_same : (s : CallbackStep) → added_after (callback_next b s).0 (callback_next b s).1 counted ≡ counted
-  added_same (CallbackStep.Claims Transition.Loads) = refl
-  added_same (CallbackStep.CallsBack Transition.Loads) = refl
-  added_same other = refl
+  added_same other = grind arith
 
   taken_same : (s : CallbackStep) → taken_after (callback_next b s).0 (callback_next b s).1 counted ≡ counted
-  taken_same (CallbackStep.Claims Transition.Loads) = refl
-  taken_same (CallbackStep.CallsBack Transition.Loads) = refl
-  taken_same other = refl
+  taken_same other = grind arith
 
   level_added_same : (s : CallbackStep) → level_added_after (callback_next b s).0 (callback_next b s).1 counted ≡ counted
-  level_added_same (CallbackStep.Claims Transition.Loads) = refl
-  level_added_same (CallbackStep.CallsBack Transition.Loads) = refl
-  level_added_same other = refl
+  level_added_same other = grind arith
 
   level_taken_same : (s : CallbackStep) → level_taken_after (callback_next b s).0 (callback_next b s).1 counted ≡ counted
-  level_taken_same (CallbackStep.Claims Transition.Loads) = refl
-  level_taken_same (CallbackStep.CallsBack Transition.Loads) = refl
-  level_taken_same other = refl
+  level_taken_same other = grind arith
 
 no_action : (b : Callback) (s : CallbackStep) (found : ℕ) → (callback_after b s found).1 ≡ None
 no_action b (CallbackStep.Claims x) found = refl
@@ -135,36 +115,26 @@ looked_stays b g e lt found =
     ]
 
 claim_stays : (b : Callback) → 0 < b.tasks → (n : TransitionNext) → HoldsOfNext (Stays b.level b.tasks) (claimed b n)
-claim_stays b some (TransitionNext.More x) = (refl, refl, tt)
-claim_stays b some TransitionNext.Undefined = tt
-claim_stays b some (TransitionNext.Made state) = (refl, refl, (refl, some))
+claim_stays b some a2 = grind arith
 
 -- an event of its own transition
 call_stays : (b : Callback) (n : TransitionNext) → HoldsOfNext (Stays b.level b.tasks) (called_back b n)
-call_stays b (TransitionNext.More x) = (refl, refl, tt)
-call_stays b TransitionNext.Undefined = (refl, refl, tt)
-call_stays b (TransitionNext.Made state) = tt
+call_stays b a1 = grind arith
 
 -- so each event leaves it
 stays_after : (b : Callback) → 0 < b.tasks → (s : CallbackStep) → GraceFits b.tasks s → (found : ℕ) →
     HoldsOfNext (Stays b.level b.tasks) (callback_after b s found).0
-stays_after b some (CallbackStep.Claims x) f found = claim_stays b some (transition_after on_claim x found)
-stays_after b some (CallbackStep.AwaitsSections g) f found = looked_stays b g f.0 f.1 found
-stays_after b some (CallbackStep.CallsBack x) f found = call_stays b (transition_after on_callback x found)
+stays_after b some a2 f found = grind arith
 
 -- at its level, the role of what comes after an event is the one of its step
 role_next : (i tasks : ℕ) (n : Next Callback) → HoldsOfNext (Stays i tasks) n →
     by_next (λ (x : Callback). callback_role x.step) IsApart n ≡ sync_role_of i (phase_after (map_next Phase.Callbacks n))
-role_next i tasks (Next.Go x) h = sym (ap (λ k. sync_role_if (i == k) (callback_role x.step)) h.0 ∙ sync_on i (callback_role x.step))
-role_next i tasks (Next.Wait x) h = sym (ap (λ k. sync_role_if (i == k) (callback_role x.step)) h.0 ∙ sync_on i (callback_role x.step))
-role_next i tasks (Next.Done answer) h = refl
+role_next i tasks a2 h = grind arith
 
 -- at another level there is none
 role_elsewhere : (i j tasks : ℕ) → (j ≡ i → ⊥) → (n : Next Callback) → HoldsOfNext (Stays i tasks) n →
     sync_role_of j (phase_after (map_next Phase.Callbacks n)) ≡ IsApart
-role_elsewhere i j tasks ne (Next.Go x) h = sync_off j x.level (callback_role x.step) (λ q. ne (q ∙ h.0))
-role_elsewhere i j tasks ne (Next.Wait x) h = sync_off j x.level (callback_role x.step) (λ q. ne (q ∙ h.0))
-role_elsewhere i j tasks ne (Next.Done answer) h = refl
+role_elsewhere i j tasks ne a4 h = grind arith
 
 -- one callback of a level and of all tasks that knows what is to come fits
 one_fits : (c : Config) (t level tasks : ℕ) (held : Holdings) → 1 ≤ level → level ≤ 3 → tasks ≡ c.tasks → (x : Callback) →
@@ -182,11 +152,7 @@ next_fits : (c : Config) (t level tasks : ℕ) (held : Holdings) → 1 ≤ level
     (n : Next Callback) → HoldsOfNext (Stays level tasks) n →
     HoldsOfNext (λ (x : Callback). (x.tasks ≡ tasks) × KnowsCallback x.step) n →
     Fits c t held (phase_after (map_next Phase.Callbacks n))
-next_fits c t level tasks held one three all (Next.Go x) stays knows =
-    one_fits c t level tasks held one three all x stays knows.1
-next_fits c t level tasks held one three all (Next.Wait x) stays knows =
-    one_fits c t level tasks held one three all x stays knows.1
-next_fits c t level tasks held one three all (Next.Done answer) stays knows = tt
+next_fits c t level tasks held one three all a8 stays knows = grind arith
 
 module _ (c : Config) (w : World) (good : IsGood c w) (t : ℕ) (lt : t < c.tasks) (hook : HookAnswer) (b : Callback) (s : CallbackStep)
     (e : (w.views t).phase ≡ Some (Phase.Callbacks (at_callback b s))) where

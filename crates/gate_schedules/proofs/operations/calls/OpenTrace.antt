@@ -1,5 +1,6 @@
 -- Traces of an open.
 use Rattle.std.proofs.{Common.{◌≡◌, ℕ, ◌<◌, ◌≤◌, Bool, true, false, refl, sym, ap, subst, inl, inr, arith}, lemmas.Bool.{cases_Bool, lt-ltb}}
+use Rattle.std.proofs.lemmas.Grind.{common_steps}
 use Rattle.std.specs.Prelude.{◌==◌, Option, Some, None, Result, Ok, Err, List, [], ◌∷◌, length, nat_lt, is_some}
 use Rattle.access_model.specs.declared.{actions.Action.Action, errors.GateError.GateError, replies.{Next.Next, Reply.Reply}}
 use Rattle.cpu_words.specs.{Touches.found_by, declared.events.Event.Event}
@@ -52,12 +53,7 @@ module _ (c : Config) (file : ℕ) where
   look_goes : (value : ℕ) (trace : List Traced) (r : Option (Result NodeWord GateError)) → file_in value ≡ r → is_some r ≡ true →
       opens_in value < 64 →
       Comes trace 0 (after_look (open_of OpenStep.LoadsFile) (λ node. open_of (opens_from node (nat_lt node.opens 64))) r)
-  look_goes value trace None e some room = absurd cc
-  look_goes value trace (Some (Ok node)) e some room =
-      let same : opens_in value ≡ node.opens = ap (λ (x : NodeWord). x.opens) (size_loaded value node e) in
-      let fits : nat_lt node.opens 64 ≡ true = lt-ltb node.opens 64 (omega (arith, same, room)) in
-      rw fits (OpenStep.OpensFile node, refl, tt, λ q. omega arith)
-  look_goes value trace (Some (Err refusal)) e some room = λ q. omega arith
+  look_goes value trace a2 e some room = grind (arith, common_steps)
 
   -- each event is followed by a later step of the open, or by its end
   open_goes : (s : OpenStep) (value : ℕ) (trace : List Traced) → OpenMayFind s value →

@@ -1,5 +1,6 @@
 -- The calls at the tree run out, a snapshot where it finds `umount` free.
 use Rattle.std.proofs.Common.{◌≡◌, ℕ, ◌+◌, ◌<◌, Bool, true, false, refl, sym, ◌∙◌, inl, inr, arith, true≢false}
+use Rattle.std.proofs.lemmas.Grind.{common_steps}
 use Rattle.std.proofs.lemmas.Bool.{cases_Bool, ltb-true, lt-ltb, Decides.eqb_tells}
 use Rattle.std.specs.Prelude.{◌-◌, nat_lt, is_some, option_map, Option, Some, None, Result, Ok, Err}
 use Rattle.access_model.specs.declared.{actions.Kind.Kind, errors.GateError.GateError}
@@ -42,29 +43,12 @@ module _ (w : Words) where
     create_looked_falls : (node : ℕ) (o : Option NodeWord) → is_some o ≡ true →
         Falls (λ (y : Create). create_rank y.nodes y.step) (λ (y : Create). Unit {0}) (create_rank c.nodes (CreateStep.LoadsNode node))
         (create_looked c node o)
-    create_looked_falls node None h = absurd (true≢false (sym h))
-    create_looked_falls node (Some found) h =
-        elim (cases_Bool (is_some found.kind)) [
-          | inl k ↦ rw k (
-              elim (cases_Bool (nat_lt (node + 1) c.nodes)) [
-                | inl q ↦ rw q (omega (arith, ltb-true (node + 1) c.nodes q), tt)
-                | inr q ↦ rw q tt
-              ]
-              )
-          | inr k ↦ rw k (omega arith, tt)
-        ]
+    create_looked_falls node a1 h = grind arith
 
     create_falls : (s : CreateStep) → MayHold (create_next c s).0 (read w (create_next c s).0) →
         Falls (λ (y : Create). create_rank y.nodes y.step) (λ (y : Create). Unit {0}) (create_rank c.nodes s)
         (create_after c s (found_by (create_next c s).1 (read w (create_next c s).0))).0
-    create_falls CreateStep.LoadsDirectory h =
-        look_falls (λ (y : Create). create_rank y.nodes y.step) (λ (y : Create). Unit {0}) (create_rank c.nodes CreateStep.LoadsDirectory) _ _
-        (λ a. (omega arith, tt)) (λ node. as_directory node node.kind) (unpacked (w.node c.dir)) h
-    create_falls (CreateStep.LoadsNode node) h = create_looked_falls node (unpacked (w.node node)) h
-    create_falls (CreateStep.ChargesChild node) h = (omega arith, tt)
-    create_falls (CreateStep.TakesNode node) h =
-        elim (eqb_tells (w.node node) 0) [ inl q ↦ rw q.0 tt | inr q ↦ rw q.0 (omega arith, tt) ]
-    create_falls CreateStep.RefundsChild h = tt
+    create_falls a0 h = grind (arith, common_steps)
 
   remove_falls : (r : Remove) (s : RemoveStep) → MayHold (remove_next r s).0 (read w (remove_next r s).0) →
       Falls (λ (y : Remove). remove_rank y.step) (λ (y : Remove). Unit {0}) (remove_rank s)
@@ -117,32 +101,19 @@ module _ (w : Words) where
   mark_falls : (m : Mark) (s : MarkStep) → MayHold (mark_next m s).0 (read w (mark_next m s).0) →
       Falls (λ (y : Mark). mark_rank y.step) (λ (y : Mark). Unit {0}) (mark_rank s)
       (mark_after m s (found_by (mark_next m s).1 (read w (mark_next m s).0))).0
-  mark_falls m MarkStep.LoadsFile h =
-      look_falls (λ (y : Mark). mark_rank y.step) (λ (y : Mark). Unit {0}) 1 _ _
-      (λ a. (omega arith, tt)) (λ node. as_file node node.removed node.kind) (unpacked (w.node m.file)) h
-  mark_falls m (MarkStep.MarksFile file) h = elim (eqb_tells (w.node m.file) (word_of file)) [ inl q ↦ rw q.0 tt | inr q ↦ rw q.0 tt ]
+  mark_falls m a1 h = grind (arith, common_steps)
 
   -- an open finds room, so it loads its file once
   open_kind_falls : (o : OpenFile) (node : NodeWord) → (nat_lt node.opens 64) ≡ true → (removed : Bool) (kind : Option Kind) →
       Falls (λ (y : OpenFile). open_rank y.step) (λ (y : OpenFile). Unit {0}) 1
       (after_look (at_open o OpenStep.LoadsFile) (λ file. at_open o (opens_from file (nat_lt file.opens 64)))
       (Some (as_file node removed kind)))
-  open_kind_falls o node room removed None = tt
-  open_kind_falls o node room true (Some Kind.File) = tt
-  open_kind_falls o node room false (Some Kind.File) = rw room (omega arith, tt)
-  open_kind_falls o node room removed (Some Kind.Dir) = tt
+  open_kind_falls o node room removed a4 = grind arith
 
   open_falls : (o : OpenFile) (s : OpenStep) → OpenMayFind s (read w (open_next o s).0) →
       Falls (λ (y : OpenFile). open_rank y.step) (λ (y : OpenFile). Unit {0}) (open_rank s)
       (open_after o s (found_by (open_next o s).1 (read w (open_next o s).0))).0
-  open_falls o OpenStep.LoadsFile h =
-      elim (cases_Bool (is_stray (w.node o.file))) [
-        | inl q ↦ absurd (true≢false (sym h.0 ∙ rw q refl))
-        | inr q ↦
-            let node : NodeWord = node_of (w.node o.file) in
-            rw q (open_kind_falls o node (lt-ltb (opens_in (w.node o.file)) 64 h.1) node.removed node.kind)
-      ]
-  open_falls o (OpenStep.OpensFile file) h = elim (eqb_tells (w.node o.file) (word_of file)) [ inl q ↦ rw q.0 tt | inr q ↦ rw q.0 tt ]
+  open_falls o a1 h = grind (arith, common_steps)
 
   -- a snapshot that finds `umount` free
   locked_falls : (after : Words) (x : Snapshot) → (x.wait ≡ true → ⊥) → (b : Bool) → x.wait ≡ b →
@@ -155,27 +126,7 @@ module _ (w : Words) where
       MayHold (snapshot_next x s).0 (read w (snapshot_next x s).0) →
       Falls (λ (y : Snapshot). snapshot_rank y.nodes y.step) (λ (y : Snapshot). SnapshotIsFree after y.step y.wait) (snapshot_rank x.nodes s)
       (snapshot_after x s (found_by (snapshot_next x s).1 (read w (snapshot_next x s).0))).0
-  snapshot_falls after x SnapshotStep.Locks free h =
-      elim (eqb_tells w.umount 0) [
-        | inl q ↦ rw q.0 (omega arith, tt)
-        | inr q ↦ rw q.0 (locked_falls after x (λ e. q.1 (free e)) x.wait refl)
-      ]
-  snapshot_falls after x SnapshotStep.LoadsStage free h =
-      elim (eqb_tells w.stage 4) [ inl q ↦ rw q.0 (omega arith, tt) | inr q ↦ rw q.0 (omega arith, tt) ]
-  snapshot_falls after x SnapshotStep.LoadsUsed free h = (omega arith, tt)
-  snapshot_falls after x (SnapshotStep.LoadsNode node) free h =
-      rw h (
-      elim (cases_Bool (nat_lt (node + 1) x.nodes)) [
-        | inl q ↦ rw q (omega (arith, ltb-true (node + 1) x.nodes q), tt)
-        | inr q ↦ rw q (omega arith, tt)
-      ]
-      )
-  snapshot_falls after x (SnapshotStep.LoadsKids node) free h =
-      elim (cases_Bool (nat_lt (node + 1) x.nodes)) [
-        | inl q ↦ rw q (omega (arith, ltb-true (node + 1) x.nodes q), tt)
-        | inr q ↦ rw q (omega arith, tt)
-      ]
-  snapshot_falls after x (SnapshotStep.Releases answer) free h = tt
+  snapshot_falls after x a2 free h = grind arith
 
   pub clear_falls : (x : ClearMarks) (found : ℕ) →
       Falls (λ (y : ClearMarks). y.nodes - y.node) (λ (y : ClearMarks). Unit {0}) (x.nodes - x.node) (clear_after x found).0

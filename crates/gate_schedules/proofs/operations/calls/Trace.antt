@@ -34,9 +34,7 @@ made_some f (Some a) h = refl
 -- A look at a word that may be there goes on or is refused: it is never done again.
 pub looked : {A P : Type 0} (Holds : Next P → Type 0) (again : P) (to : A → P) (r : Option (Result A GateError)) → is_some r ≡ true →
     ((a : A) → Holds (Next.Go (to a))) → ((refusal : GateError) → Holds (Next.Done (Err refusal))) → Holds (after_look again to r)
-looked Holds again to None h goes refused = absurd (cc)
-looked Holds again to (Some (Ok a)) h goes refused = goes a
-looked Holds again to (Some (Err refusal)) h goes refused = refused refusal
+looked a0 again to a3 h goes refused = grind arith
 
 -- A kind of call: its steps and what it is at each, as a phase of the tree; what it knows and has added there, what its trace says
 -- besides, and after how many events it is there at most; how many events it has at most where it doesn't wait; its operation.
@@ -71,22 +69,7 @@ module _ (P S : Type 0) (to : P → TreePhase) (at : S → P) (Knows : ((Event �
     -- what is known and what comes say what the trace says after an event
     next_says : (next : Next P) (added : List Action) → EndsWell (Knows (SeenIn (e ∷ earlier))) so_far IsOne Honest adds next added →
         Stays (e ∷ earlier) n next → Says CallAt c op (e ∷ earlier) (map_next Phase.Trees (map_next to next)) added
-    next_says (Next.Go y) added h stays =
-        let k : Knows (SeenIn (e ∷ earlier)) (at stays.0) × (added ≡ so_far (at stays.0)) =
-        subst (λ x. Knows (SeenIn (e ∷ earlier)) x × (added ≡ so_far x)) stays.1 h in
-        (stays.0, ap (λ x. Phase.Trees (to x)) stays.1, (stays.2, k.0, k.1, λ q. omega (arith, within q, stays.3 q)))
-    next_says (Next.Wait y) added h stays =
-        let k : Knows (SeenIn (e ∷ earlier)) (at stays.0) × (added ≡ so_far (at stays.0)) =
-        subst (λ x. Knows (SeenIn (e ∷ earlier)) x × (added ≡ so_far x)) stays.1 h in
-        ((stays.0, ap (λ x. Phase.Trees (to x)) stays.1, (stays.2, k.0, k.1, λ q. absurd (cc))), stays.4)
-    next_says (Next.Done (Ok reply)) added h stays = (
-      (h.1 ∙ answers.actions (Ok reply), answers.told reply h.0),
-      answers.short (λ q. omega (arith, within q, stays q)),
-    )
-    next_says (Next.Done (Err refusal)) added h stays = (
-      (h.1 ∙ answers.actions (Err refusal), answers.honest refusal h.0),
-      answers.short (λ q. omega (arith, within q, stays q)),
-    )
+    next_says a0 added h stays = grind arith
 
     -- the same, of what the event added on top of what was added before
     pub call_says : (next : Next P) (action : Option Action) (before added : List Action) → added ≡ before →

@@ -1,5 +1,7 @@
 -- Of the calls at the tree only a snapshot waits, and only where another task has `umount`; each is refused only for its cause.
 use Rattle.std.proofs.{Common.{◌≡◌, ℕ, ◌<◌, ap, inl, inr, refl}, lemmas.Bool.Decides.eqb_tells}
+use Rattle.std.proofs.lemmas.Grind.{common_steps}
+use Rattle.std.proofs.Common.{arith}
 use Rattle.std.specs.Prelude.{Some, None, Ok, Err, List, Option, Result, ◌==◌, if◌then◌else◌, Bool, true, false, is_some, nat_lt, ◌+◌, ◌∷◌}
 use Rattle.access_model.specs.{Replies.map_next, declared.{errors.GateError.GateError, replies.Next.Next}}
 use Rattle.cpu_words.specs.Hooks.{HookAnswer}
@@ -36,9 +38,7 @@ either true n m h k = h
 either false n m h k = k
 
 look_goes : {A : Type 0} {P : Type 0} (again : P) (to : A → P) (r : Option (Result A GateError)) → GoesOn (after_look again to r)
-look_goes again to None = tt
-look_goes again to (Some (Ok a)) = tt
-look_goes again to (Some (Err refusal)) = tt
+look_goes again to a2 = grind arith
 
 -- a create goes on to the next node, or there is none
 create_at : (x : Create) (o : Option ℕ) → GoesOn (create_looks_at x o)
@@ -47,38 +47,20 @@ create_at x (Some node) = tt
 
 -- or it has looked at a node
 create_seen : (x : Create) (node : ℕ) (found : Option NodeWord) → GoesOn (create_looked x node found)
-create_seen x node None = tt
-create_seen x node (Some found) =
-    either (is_some found.kind) (create_past x node) (Next.Go (at_create x (CreateStep.ChargesChild node))) (create_at x (node_after node x.nodes)) tt
+create_seen x node a2 = grind arith
 
 -- so it never waits
 create_goes_on : (x : Create) (s : CreateStep) (found : ℕ) → GoesOn (create_after x s found).0
-create_goes_on x CreateStep.LoadsDirectory found = look_goes _ _ (directory_in found)
-create_goes_on x (CreateStep.LoadsNode node) found = create_seen x node (unpacked found)
-create_goes_on x (CreateStep.ChargesChild node) found = tt
-create_goes_on x (CreateStep.TakesNode node) found = either (found == 0) _ _ tt tt
-create_goes_on x CreateStep.RefundsChild found = tt
+create_goes_on x a1 found = grind (arith, common_steps)
 
 remove_goes_on : (x : Remove) (s : RemoveStep) (found : ℕ) → GoesOn (remove_after x s found).0
-remove_goes_on x RemoveStep.LoadsFile found = look_goes _ _ (file_in found)
-remove_goes_on x (RemoveStep.FreesNode file) found = either (found == word_of file) _ _ tt tt
-remove_goes_on x (RemoveStep.MarksRemoved file) found = either (found == word_of file) _ _ tt tt
-remove_goes_on x other found = tt
+remove_goes_on x other found = grind (arith, common_steps)
 
 grow_goes_on : (x : Grow) (s : GrowStep) (found : ℕ) → GoesOn (grow_after x s found).0
-grow_goes_on x GrowStep.LoadsFile found = look_goes _ _ (file_in found)
-grow_goes_on x (GrowStep.LoadsUsed file) found =
-    either (nat_lt x.capacity (found + x.blocks)) _ _ tt (either (nat_lt x.capacity (file.size + x.blocks)) _ _ tt tt)
-grow_goes_on x (GrowStep.ChargesBlocks file used) found = either (found == used) _ _ tt tt
-grow_goes_on x (GrowStep.GrowsFile file) found = either (found == word_of file) _ _ tt tt
-grow_goes_on x GrowStep.RefundsBlocks found = tt
+grow_goes_on x a1 found = grind (arith, common_steps)
 
 move_goes_on : (x : MoveTo) (s : MoveStep) (found : ℕ) → GoesOn (move_after x s found).0
-move_goes_on x MoveStep.LoadsFile found = look_goes _ _ (file_in found)
-move_goes_on x (MoveStep.LoadsDirectory file) found = look_goes _ _ (directory_in found)
-move_goes_on x (MoveStep.ChargesChild file) found = tt
-move_goes_on x (MoveStep.MovesFile file) found = either (found == word_of file) _ _ tt tt
-move_goes_on x (MoveStep.RefundsChild dir answer) found = tt
+move_goes_on x a1 found = grind (arith, common_steps)
 
 mark_goes_on : (x : Mark) (s : MarkStep) (found : ℕ) → GoesOn (mark_after x s found).0
 mark_goes_on x MarkStep.LoadsFile found = look_goes _ _ (file_in found)

@@ -19,29 +19,17 @@ module _ (c : Config) (n t : ℕ) where
   -- the word of each event of a create is one
   create_there : (x : Create) (s : CreateStep) → x.dir < c.nodes → CreateStepFits (tree_bounds c) s →
       IsWord (extents_touched n c) (create_next x s).0
-  create_there x (CreateStep.LoadsNode node) d f = touched node f
-  create_there x (CreateStep.TakesNode node) d f = touched node f
-  create_there x other d f = touched x.dir d
+  create_there x other d f = grind arith
 
   remove_there : (x : Remove) (s : RemoveStep) → x.file < c.nodes → RemoveStepFits s → IsWord (extents_touched n c) (remove_next x s).0
-  remove_there x RemoveStep.LoadsFile d f = touched x.file d
-  remove_there x (RemoveStep.FreesNode file) d f = touched x.file d
-  remove_there x (RemoveStep.MarksRemoved file) d f = touched x.file d
-  remove_there x (RemoveStep.RefundsChild file) d f = named file.parent f
-  remove_there x other d f = tt
+  remove_there x other d f = grind arith
 
   grow_there : (x : Grow) (s : GrowStep) → x.file < c.nodes → IsWord (extents_touched n c) (grow_next x s).0
-  grow_there x GrowStep.LoadsFile d = touched x.file d
-  grow_there x (GrowStep.GrowsFile file) d = touched x.file d
-  grow_there x other d = tt
+  grow_there x other d = grind arith
 
   move_there : (x : MoveTo) (s : MoveStep) → x.file < c.nodes → x.dir < c.nodes → MoveStepFits s →
       IsWord (extents_touched n c) (move_next x s).0
-  move_there x MoveStep.LoadsFile l d f = touched x.file l
-  move_there x (MoveStep.LoadsDirectory file) l d f = touched x.dir d
-  move_there x (MoveStep.ChargesChild file) l d f = touched x.dir d
-  move_there x (MoveStep.MovesFile file) l d f = touched x.file l
-  move_there x (MoveStep.RefundsChild dir answer) l d f = named dir f.0
+  move_there x a1 l d f = grind arith
 
   mark_there : (x : Mark) (s : MarkStep) → x.file < c.nodes → IsWord (extents_touched n c) (mark_next x s).0
   mark_there x MarkStep.LoadsFile d = touched x.file d
@@ -53,16 +41,7 @@ module _ (c : Config) (n t : ℕ) where
 
   snapshot_there : (x : Snapshot) (s : SnapshotStep) → SnapshotStepFits (tree_bounds c) s →
       IsWord (extents_touched n c) (snapshot_next x s).0
-  snapshot_there x (SnapshotStep.LoadsNode node) f = touched node f
-  snapshot_there x (SnapshotStep.LoadsKids node) f = touched node f
-  snapshot_there x other f = tt
+  snapshot_there x other f = grind arith
 
   pub tree_there : (x : TreePhase) (hook : HookAnswer) → TreePhaseFits (tree_bounds c) t x → IsWord (extents_touched n c) (tree_next x hook).0
-  tree_there (TreePhase.Create x) hook f = create_there x x.step f.0 f.2
-  tree_there (TreePhase.Remove x) hook f = remove_there x x.step f.0 f.1
-  tree_there (TreePhase.Grow x) hook f = grow_there x x.step f.0
-  tree_there (TreePhase.MoveTo x) hook f = move_there x x.step f.0 f.1 f.2
-  tree_there (TreePhase.Mark x) hook f = mark_there x x.step f
-  tree_there (TreePhase.OpenFile x) hook f = open_there x x.step f.0
-  tree_there (TreePhase.Snapshot x) hook f = snapshot_there x x.step f.2
-  tree_there (TreePhase.ClearMarks x) hook f = touched x.node f.0
+  tree_there a0 hook f = grind arith

@@ -10,11 +10,7 @@ use Rattle.gate_world.specs.declared.{config.Config.Config, work.Phase.Phase}
 use Rattle.gate_schedules.proofs.frames.Keeps.{by_bool}
 
 pub change_there : (c : Config) (x : Change) (step : ChangeStep) → x.mount < c.mounts → SumFits c step → IsWord (extents_of c) (change_next x step).0
-change_there c x ChangeStep.Locks m f = tt
-change_there c x ChangeStep.LoadsSuperblock m f = tt
-change_there c x (ChangeStep.Sums sum) m f = (m, f)
-change_there c x (ChangeStep.Releases answer) m f = tt
-change_there c x step m f = m
+change_there c x step m f = grind arith
 
 module _ (c : Config) (within : IsWithin c) (t : ℕ) (held : Holdings) where
   pub change_acts : (x : Change) (step : ChangeStep) (found : ℕ) → ActionFits held (change_after x step found).1
@@ -43,14 +39,4 @@ module _ (c : Config) (within : IsWithin c) (t : ℕ) (held : Holdings) where
   pub change_goes : (x : Change) (step : ChangeStep) (found : ℕ) → MountFits c t held (MountPhase.Change record x { step = step }) →
       Fits c t (held_after (change_after x step found).1 held)
       (phase_after (map_next Phase.Mounts (map_next MountPhase.Change (change_after x step found).0)))
-  change_goes x ChangeStep.Locks found f =
-      by_bool (found == 0) (λ b. NextFits (if b then Next.Go (at_change x ChangeStep.LoadsFlags) else lock_failed x x.wait)) f
-      (by_bool x.wait (λ b. NextFits (lock_failed x b)) f tt)
-  change_goes x ChangeStep.LoadsFlags found f =
-      by_bool (has_flag found 1) (λ b. NextFits (if b then Next.Go (at_change x (change_from x true)) else Next.Go (at_change x ChangeStep.LoadsSuperblock)))
-      (f.0, f.1, f.2, f.3, between x.read_only true) f
-  change_goes x ChangeStep.LoadsSuperblock found f = (f.0, f.1, f.2, f.3, between x.read_only (not (found == 0)))
-  change_goes x ChangeStep.SetsHold found f = (f.0, f.1, f.2, f.3, omega (arith, within.some_processor))
-  change_goes x (ChangeStep.Sums sum) found f = (f.0, f.1, f.2, f.3, summed x sum found f.2)
-  change_goes x (ChangeStep.Releases answer) found f = tt
-  change_goes x other found f = f
+  change_goes x other found f = grind arith

@@ -1,5 +1,6 @@
 -- The causes and the waits of a close: those of a down-read of level 3, where it is a last one.
 use Rattle.std.proofs.{Common.{◌≡◌, ℕ, ◌≤◌, ◌%◌, false, true, ap, arith, inl, inr, refl}, lemmas.Bool.{cases_Bool, Decides.nat_tests}}
+use Rattle.std.proofs.lemmas.Grind.{common_steps}
 use Rattle.std.specs.Prelude.{◌==◌, ◌&&◌, Option, Some, None, Result, Ok, Err, List, ◌∷◌, is_some}
 use Rattle.access_model.specs.{Replies.map_next, declared.{errors.GateError.GateError, replies.Next.Next}}
 use Rattle.node_words.proofs.Refused.{any_file_refused}
@@ -41,26 +42,18 @@ module _ (c : Config) (t : ℕ) (w next : World) (earlier : List World) (file p 
   -- after an event at level 3 the task asks where a down-read does
   pub enters_asks : (n : Next DownRead) → (next.views t).phase ≡ phase_after (map_next Phase.Closes (then_frees file node p n)) →
       AsksNext c t w next earlier n
-  enters_asks (Next.Go r) e = ap asks_level e
-  enters_asks (Next.Wait r) e = ap asks_level e
-  enters_asks (Next.Done answer) e = tt
+  enters_asks a0 e = grind arith
 
   -- and what comes then has its cause
   pub enters_cause : (n : Next DownRead) → HasNextCause c t w next earlier n →
       CauseOf c t next (w ∷ earlier) (phase_after (map_next Phase.Closes (then_frees file node p n)))
-  enters_cause (Next.Go r) h = h
-  enters_cause (Next.Wait r) h = h
-  enters_cause (Next.Done (Ok reply)) h = tt
-  enters_cause (Next.Done (Err refusal)) h = tt
+  enters_cause a0 h = grind arith
 
 module _ (c : Config) (t : ℕ) (w : World) (earlier : List World) where
   pub enters_waits : (file p : ℕ) (node : NodeWord) (r : DownRead) (n : Next DownRead) →
       WhereRefused (WasClosed c t r.level (last_asked t (w ∷ earlier))) n →
       HasReason c w earlier t (Phase.Closes (ClosePhase.Enters file node r)) (map_next Phase.Closes (then_frees file node p n))
-  enters_waits file p node r (Next.Go x) h = tt
-  enters_waits file p node r (Next.Wait x) h = h
-  enters_waits file p node r (Next.Done (Ok reply)) h = tt
-  enters_waits file p node r (Next.Done (Err refusal)) h = read_refused c t (w ∷ earlier) r.level refusal h
+  enters_waits file p node r a4 h = grind arith
 
   -- what comes after its file was found has no cause yet
   found_cause : (x : Closing) (file : NodeWord) → CauseOf c t w earlier (Some (Phase.Closes (closed_from x file)))
@@ -72,12 +65,8 @@ module _ (c : Config) (t : ℕ) (w : World) (earlier : List World) where
 
   pub looked_cause : (x : Closing) (r : Option (Result NodeWord GateError)) →
       CauseOf c t w earlier (phase_after (map_next Phase.Closes (after_look (ClosePhase.LoadsFile x) (closed_from x) r)))
-  looked_cause x None = tt
-  looked_cause x (Some (Ok file)) = found_cause x file
-  looked_cause x (Some (Err refusal)) = tt
+  looked_cause x a1 = grind arith
 
   pub looked_waits : (x : Closing) (word : ℕ) → 1 ≤ opens_in word → (r : Option (Result NodeWord GateError)) → any_file_in word ≡ r →
       HasReason c w earlier t (Phase.Closes (ClosePhase.LoadsFile x)) (map_next Phase.Closes (after_look (ClosePhase.LoadsFile x) (closed_from x) r))
-  looked_waits x word opens None e = tt
-  looked_waits x word opens (Some (Ok file)) e = tt
-  looked_waits x word opens (Some (Err refusal)) e = absurd (open_is_file word refusal opens e)
+  looked_waits x word opens a3 e = grind (arith, common_steps)

@@ -96,21 +96,13 @@ module _ (n : ℕ) where
   ]
 
   tree_frees : (values : ℕ → ℕ) (x : TreePhase) → frees n (phase_role values x) ≡ 0
-  tree_frees values (TreePhase.Snapshot x) = (snapshot_apart x.nodes values x.step).2 n
-  tree_frees values (TreePhase.ClearMarks x) = refl
-  tree_frees values x = (call_plain values x refl).frees_none n
+  tree_frees values x = grind arith
 
   close_file_is : (x : ClosePhase) → frees n (close_tree_role x) ≡ 1 → file_of (Some (Phase.Closes x)) ≡ Some (n, true)
-  close_file_is (ClosePhase.Enters f node r) e = ap (λ m. Some (m, true)) (same_is f node e)
-  close_file_is (ClosePhase.FreesNode f p node) e = ap (λ m. Some (m, true)) (same_is f node e)
-  close_file_is other e = absurd (omega (arith, e))
+  close_file_is other e = grind arith
 
   freer_file : (trace : List Traced) (p : Option Phase) → frees n (tree_role_of trace p) ≡ 1 → file_of p ≡ Some (n, true)
-  freer_file trace (Some (Phase.Remounts x)) e = absurd (omega (arith, e, (remount_apart x.nodes x.step).1 n))
-  freer_file trace (Some (Phase.Freezes x)) e = absurd (omega (arith, e, (freeze_apart x.nodes x.step).2 n))
-  freer_file trace (Some (Phase.Trees x)) e = absurd (omega (arith, e, tree_frees (values_noted (nodes_noted x) trace) x))
-  freer_file trace (Some (Phase.Closes x)) e = close_file_is x e
-  freer_file trace p e = absurd (omega (arith, e))
+  freer_file trace p e = grind arith
 
 frees_le : (n : ℕ) (r : Role) → frees n r ≤ 1
 frees_le n (Freeing m file) = same_le m n

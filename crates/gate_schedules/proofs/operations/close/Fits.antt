@@ -1,5 +1,6 @@
 -- What fits after an event of a close.
 use Rattle.std.proofs.Common.{◌≡◌, ℕ, ◌<◌, ◌≤◌, ◌⊎◌, Bool, true, false, refl, sym, ap, ◌∙◌, subst, inl, inr, arith, true≢false}
+use Rattle.std.proofs.lemmas.Grind.{common_steps}
 use Rattle.std.proofs.lemmas.Bool.{cases_Bool, Decides.{eqb_tells, nat_tests}}
 use Rattle.std.specs.Prelude.{◌==◌, ◌&&◌, Option, Some, None, Result, Ok, Err, if◌then◌else◌}
 use Rattle.access_model.specs.{Replies.map_next, declared.{actions.{Action.Action, Kind.Kind}, errors.GateError.GateError, replies.Next.Next}}
@@ -18,9 +19,7 @@ some_is : {A : Type 0} (a b : A) → Some a ≡ Some b → a ≡ b
 some_is a b e = cc
 
 taken_is : (node file : NodeWord) (kind : Option Kind) → as_any_file node kind ≡ Ok file → (kind ≡ Some Kind.File) × (node ≡ file)
-taken_is node file None e = absurd cc
-taken_is node file (Some Kind.File) e = (refl, cc)
-taken_is node file (Some Kind.Dir) e = absurd cc
+taken_is node file a2 e = grind arith
 
 -- what a load of any word found to be a file says what a word can say
 lawful_file : (word : ℕ) → is_stray word ≡ false → kind_of (kind_in word) ≡ Some Kind.File → IsLawful (node_of word)
@@ -79,16 +78,11 @@ module _ (c : Config) (t : ℕ) (held : Holdings) where
 
   looked_fits : (x : Closing) (word : ℕ) → ClosingFits c t held x → (r : Option (Result NodeWord GateError)) → any_file_in word ≡ r →
       Fits c t held (phase_after (map_next Phase.Closes (after_look (ClosePhase.LoadsFile x) (closed_from x) r)))
-  looked_fits x word f None e = f
-  looked_fits x word f (Some (Ok file)) e = found_fits x file f (found_file word file e)
-  looked_fits x word f (Some (Err refusal)) e = tt
+  looked_fits x word f a3 e = grind (arith, common_steps)
 
   pub enters_goes : (file p i : ℕ) (node : NodeWord) (n : Next DownRead) → file < c.nodes → p < c.processors → i ≡ 3 →
       ReadGoes c t i p held n → Fits c t held (phase_after (map_next Phase.Closes (then_frees file node p n)))
-  enters_goes file p i node (Next.Go r) there cpu three h = (there, h.1 ∙ three, h.0)
-  enters_goes file p i node (Next.Wait r) there cpu three h = (there, h.1 ∙ three, h.0)
-  enters_goes file p i node (Next.Done (Ok reply)) there cpu three h = (there, cpu, subst (λ j. held.levels j ≡ true) three h)
-  enters_goes file p i node (Next.Done (Err refusal)) there cpu three h = tt
+  enters_goes file p i node a4 there cpu three h = grind arith
 
 pub enters_fits : (c : Config) (t : ℕ) (held : Holdings) (file : ℕ) (node : NodeWord) (r : DownRead) (found : ℕ) →
     CloseFits c t held (ClosePhase.Enters file node r) → Fits c t (held_after (down_read_after r r.step found).1 held)
@@ -100,46 +94,18 @@ enters_fits c t held file node r found f =
 -- what comes after each event fits
 pub close_goes : (c : Config) (t : ℕ) (held : Holdings) (x : ClosePhase) (found : ℕ) → CloseFits c t held x →
     Fits c t (held_after (after x found).1 held) (phase_after (map_next Phase.Closes (after x found).0))
-close_goes c t held (ClosePhase.LoadsFile x) found f = looked_fits c t held x found f (any_file_in found) refl
-close_goes c t held (ClosePhase.LowersCount x node) found f =
-    elim (cases_Bool (found == word_of node)) [ inl h ↦ rw h tt | inr h ↦ rw h tt ]
-close_goes c t held (ClosePhase.Enters file node r) found f = enters_fits c t held file node r found f
-close_goes c t held (ClosePhase.FreesNode file p node) found f =
-    elim (cases_Bool (found == word_of node)) [ inl h ↦ rw h (f.1, f.2) | inr h ↦ rw h f ]
-close_goes c t held (ClosePhase.RefundsBlocks p blocks) found f = f
-close_goes c t held (ClosePhase.Uncounts p) found f = f
-close_goes c t held (ClosePhase.Leaves p) found f = tt
+close_goes c t held a3 found f = grind (arith, common_steps)
 
 -- the word of each event is there
 pub close_there : (c : Config) (n : ℕ) → c.tasks ≤ n → (t : ℕ) → t < n → (held : Holdings) (hook : HookAnswer)
     (x : ClosePhase) → CloseFits c t held x → IsWord (extents_touched n c) (next x).0
-close_there c n le t lt held hook (ClosePhase.LoadsFile x) f = omega (arith, f.0)
-close_there c n le t lt held hook (ClosePhase.LowersCount x node) f = omega (arith, f.0.0)
-close_there c n le t lt held hook (ClosePhase.Enters file node r) f = (read_phase c r).word n le t lt held hook f.2
-close_there c n le t lt held hook (ClosePhase.FreesNode file p node) f = omega (arith, f.0)
-close_there c n le t lt held hook (ClosePhase.RefundsBlocks p blocks) f = tt
-close_there c n le t lt held hook (ClosePhase.Uncounts p) f = tt
-close_there c n le t lt held hook (ClosePhase.Leaves p) f =
-    (end_phase c (leaves_on p)).word n le t lt held hook (omega arith, omega arith, f.0, f.1)
+close_there c n le t lt held hook a7 f = grind arith
 
 -- and its action can be done
 pub close_acts : (c : Config) → IsWithin c → (t : ℕ) (held : Holdings) (x : ClosePhase) (found : ℕ) →
     CloseFits c t held x → ActionFits held (after x found).1
-close_acts c lim t held (ClosePhase.LowersCount x node) found f =
-    by_bool (found == word_of node) (λ b. ActionFits held (if b then Some (Action.Close x.file) else None)) (omega (arith, f.0.0, lim.nodes)) tt
-close_acts c lim t held (ClosePhase.Enters file node r) found f = read_acts held r r.step found f.2.0 f.2.1
-close_acts c lim t held (ClosePhase.FreesNode file p node) found f =
-    by_bool (found == word_of node) (λ b. ActionFits held (if b then Some (Action.Close file) else None)) (omega (arith, f.0, lim.nodes)) tt
-close_acts c lim t held (ClosePhase.Leaves p) found f = (omega arith, omega arith)
-close_acts c lim t held other found f = tt
+close_acts c lim t held other found f = grind arith
 
 -- it fits holdings that agree
 pub close_agrees : (c : Config) (t : ℕ) (held seen : Holdings) → Agree c held seen → (x : ClosePhase) → CloseFits c t held x → CloseFits c t seen x
-close_agrees c t held seen same (ClosePhase.LoadsFile x) fits =
-    (fits.0, fits.1, fits.2, sym (none_from_agree held.levels seen.levels same.levels 3) ∙ fits.3)
-close_agrees c t held seen same (ClosePhase.LowersCount x node) fits =
-    ((fits.0.0, fits.0.1, fits.0.2, sym (none_from_agree held.levels seen.levels same.levels 3) ∙ fits.0.3), fits.1)
-close_agrees c t held seen same (ClosePhase.Enters file node r) fits = (fits.0, fits.1, (read_phase c r).agrees t held seen same fits.2)
-close_agrees c t held seen same (ClosePhase.FreesNode file p node) fits =
-    (fits.0, fits.1, sym (same.levels 3 (omega arith) (omega arith)) ∙ fits.2)
-close_agrees c t held seen same other fits = (fits.0, sym (same.levels 3 (omega arith) (omega arith)) ∙ fits.1)
+close_agrees c t held seen same other fits = grind arith

@@ -1,6 +1,7 @@
 -- An event of a close at the tree: it leaves the mounts, the levels and the sections alone, and all of the shown model but the tree and its
 -- task's open files.
 use Rattle.access_model.specs.{Replies.map_next, States.is_removed, declared.{actions.Action.Action, errors.GateError.GateError, replies.Next.Next}}
+use Rattle.std.proofs.lemmas.Grind.{common_steps}
 use Rattle.cpu_words.specs.Hooks.{HookAnswer}
 use Rattle.compounds.specs.{file_closes.Phases.{after, closed_from, enters, next}, declared.file_closes.phases.{ClosePhase.ClosePhase, Closing.Closing}}
 use Rattle.gate_schedules.proofs.frames.Frames.{count_none, sync_none}
@@ -34,23 +35,13 @@ is_at_tree (ClosePhase.Leaves p) = false
 is_at_tree x = true
 
 close_word : (x : ClosePhase) → is_at_tree x ≡ true → is_node_word (next x).0 ≡ true
-close_word (ClosePhase.Enters file node r) h = absurd (true≢false (sym h))
-close_word (ClosePhase.Leaves p) h = absurd (true≢false (sym h))
-close_word other h = refl
+close_word other h = grind arith
 
 close_leaves : (x : ClosePhase) → is_at_tree x ≡ true → (found : ℕ) → LeavesAccesses (after x found).1
-close_leaves (ClosePhase.LowersCount x node) h found =
-    leaves_if (found == word_of node) _ (record { mounts = λ held. refl; levels = λ held. refl })
-close_leaves (ClosePhase.FreesNode file p node) h found =
-    leaves_if (found == word_of node) _ (record { mounts = λ held. refl; levels = λ held. refl })
-close_leaves (ClosePhase.Enters file node r) h found = absurd (true≢false (sym h))
-close_leaves (ClosePhase.Leaves p) h found = absurd (true≢false (sym h))
-close_leaves other h found = leaves_none
+close_leaves other h found = grind arith
 
 off_close : (x : ClosePhase) → is_at_tree x ≡ true → IsOffGates (Some (Phase.Closes x))
-off_close (ClosePhase.Enters file node r) h = absurd (true≢false (sym h))
-off_close (ClosePhase.Leaves p) h = absurd (true≢false (sym h))
-off_close other h = record { roles = refl; closing_none = λ i. refl }
+off_close other h = grind arith
 
 off_leaves : (p : ℕ) → IsOffGates (Some (Phase.Closes (ClosePhase.Leaves p)))
 off_leaves p = record { roles = refl; closing_none = λ i. refl }
@@ -74,9 +65,7 @@ off_found x file =
 
 off_looked : (x : Closing) (r : Option (Result NodeWord GateError)) →
     IsOffGates (phase_after (map_next Phase.Closes (after_look (ClosePhase.LoadsFile x) (closed_from x) r)))
-off_looked x None = off_close (ClosePhase.LoadsFile x) refl
-off_looked x (Some (Ok file)) = off_found x file
-off_looked x (Some (Err refusal)) = idle_off
+off_looked x a1 = grind arith
 
 off_next : (x : ClosePhase) → is_at_tree x ≡ true → (found : ℕ) → IsOffGates (phase_after (map_next Phase.Closes (after x found).0))
 off_next (ClosePhase.LoadsFile x) h found = off_looked x (any_file_in found)
@@ -113,21 +102,11 @@ found_has files x file own =
 
 looked_has : (files : ℕ → Bool) (x : Closing) (r : Option (Result NodeWord GateError)) → files x.file ≡ true →
     HasFile files (file_of (phase_after (map_next Phase.Closes (after_look (ClosePhase.LoadsFile x) (closed_from x) r))))
-looked_has files x None own = own
-looked_has files x (Some (Ok file)) own = found_has files x file own
-looked_has files x (Some (Err refusal)) own = tt
+looked_has files x a2 own = grind arith
 
 file_then : (held : Holdings) (x : ClosePhase) → is_at_tree x ≡ true → (found : ℕ) → HasFile held.files (file_of (Some (Phase.Closes x))) →
     HasFile (held_after (after x found).1 held).files (file_of (phase_after (map_next Phase.Closes (after x found).0)))
-file_then held (ClosePhase.LoadsFile x) h found own = looked_has held.files x (any_file_in found) own
-file_then held (ClosePhase.LowersCount x node) h found own =
-    elim (cases_Bool (found == word_of node)) [ inl e ↦ rw e tt | inr e ↦ rw e tt ]
-file_then held (ClosePhase.FreesNode file p node) h found own =
-    elim (cases_Bool (found == word_of node)) [ inl e ↦ rw e tt | inr e ↦ rw e own ]
-file_then held (ClosePhase.RefundsBlocks p blocks) h found own = tt
-file_then held (ClosePhase.Uncounts p) h found own = tt
-file_then held (ClosePhase.Enters file node r) h found own = absurd (true≢false (sym h))
-file_then held (ClosePhase.Leaves p) h found own = absurd (true≢false (sym h))
+file_then held a1 h found own = grind (arith, common_steps)
 
 close_at : (w : World) (x : ClosePhase) (hook : HookAnswer) → is_at_tree x ≡ true → IsAtTree w (Phase.Closes x) hook
 close_at w x hook at = record {

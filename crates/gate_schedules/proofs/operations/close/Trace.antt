@@ -1,5 +1,6 @@
 -- Traces of a close: that of its down-read of level 3, where it is a last one, between its own events.
 use Rattle.std.proofs.{Common.{◌≡◌, ℕ, ◌≤◌, Bool, true, false, refl, sym, ap, ◌∙◌, subst, inl, inr, arith}, lemmas.Bool.{eq-eqb, cases_Bool, Decides.eqb_tells}}
+use Rattle.std.proofs.lemmas.Grind.{common_steps}
 use Rattle.std.specs.Prelude.{◌==◌, ◌&&◌, Option, Some, None, Result, Ok, Err, List, [], ◌∷◌, length, is_some}
 use Rattle.access_model.specs.{Replies.map_next, declared.{actions.{Action.Action, Gate.Gate}, errors.GateError.GateError, replies.Next.Next}}
 use Rattle.cpu_words.specs.{Hooks.HookAnswer, Touches.{event_of, found_by}}
@@ -64,11 +65,7 @@ close_short c file p false trace h = h refl
 -- so is one that says where its close stands
 says_short : (c : Config) (file p t : ℕ) (wait : Bool) (x : ClosePhase) (trace : List Traced) (added : List Action) →
     CloseSays file p t wait x trace added → wait ≡ false → length trace ≤ 10
-says_short c file p t wait (ClosePhase.LoadsFile x) trace added h q = omega (arith, ap length h.1)
-says_short c file p t wait (ClosePhase.LowersCount x node) trace added h q = omega (arith, h.1.2 q)
-says_short c file p t wait (ClosePhase.Enters f node r) trace added h q = omega (arith, h.1.2.1 q, within_five h.1.0)
-says_short c file p t wait (ClosePhase.FreesNode f r node) trace added h q = omega (arith, h.1.2 q)
-says_short c file p t wait other trace added h q = omega (arith, h.2 q)
+says_short c file p t wait other trace added h q = grind arith
 
 module _ (c : Config) (file p t : ℕ) (wait : Bool) where
   -- what a trace says by what comes
@@ -78,12 +75,7 @@ module _ (c : Config) (file p t : ℕ) (wait : Bool) where
   -- what the trace says after an event at level 3
   entered_says : (node : NodeWord) (e : Traced) (earlier : List Traced) (added : List Action) (n : Next DownRead) →
       ReadNext 1 3 p t wait (e ∷ earlier) added n → found_dropped (e ∷ earlier) ≡ false → Comes (e ∷ earlier) (then_frees file node p n) added
-  entered_says node e earlier added (Next.Go r) h none = (ClosePhase.Enters file node r, refl, (refl, h, none))
-  entered_says node e earlier added (Next.Wait r) h none = ((ClosePhase.Enters file node r, refl, (refl, h.0, none)), (h.1, h.2))
-  entered_says node e earlier added (Next.Done (Ok reply)) h none = (ClosePhase.FreesNode file p node, refl, (refl, (h.0, none, λ q. omega (arith, h.1 q))))
-  entered_says node e earlier added (Next.Done (Err GateError.Again)) h none =
-      ((h.0, inr h.1), close_short c file p wait (e ∷ earlier) (λ q. omega (arith, h.2 q)))
-  entered_says node e earlier added (Next.Done (Err refusal)) h none = absurd h
+  entered_says node e earlier added a4 h none = grind arith
 
 module _ (c : Config) (file p t : ℕ) (wait : Bool) (value : ℕ) (hook : HookAnswer) where
   -- what the trace says after the event of a phase
@@ -117,11 +109,7 @@ module _ (c : Config) (file p t : ℕ) (wait : Bool) (value : ℕ) (hook : HookA
 
   looked_says : (r : Option (Result NodeWord GateError)) → any_file_in value ≡ r → is_some r ≡ true → 1 ≤ opens_in value →
       Comes c file p t wait (loaded ∷ []) (after_look looks (closed_from (first_close file p t wait)) r) []
-  looked_says None e some opens = absurd cc
-  looked_says (Some (Ok node)) e some opens =
-      let same : opens_in value ≡ node.opens = ap (λ (x : NodeWord). x.opens) (found_node value node e).2 in
-      found_says node (λ z. omega (arith, same, opens, z))
-  looked_says (Some (Err refusal)) e some opens = absurd (open_is_file value refusal opens e)
+  looked_says a0 e some opens = grind (arith, common_steps)
 
   loads_event : CloseMayFind looks value → After looks [] []
   loads_event may =

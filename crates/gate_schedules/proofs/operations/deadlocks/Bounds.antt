@@ -50,9 +50,7 @@ module _ (c : Config) (lim : IsWithin c) where
   remount_small p mounts nodes s fits e = omega arith
 
   exchange_small : (sync : ℕ) (x : Transition) → exchange_rank sync x < 3
-  exchange_small sync Transition.Loads = omega arith
-  exchange_small sync (Transition.Exchanges from to) =
-      elim (eqb_tells sync (pack from)) [ inl h ↦ rw h.0 (omega arith) | inr h ↦ rw h.0 (omega arith) ]
+  exchange_small sync a1 = grind arith
 
   read_small : (wait : Bool) (s : DownReadStep) → read_rank wait s < 8
   read_small true DownReadStep.EntersSection = omega arith
@@ -61,9 +59,7 @@ module _ (c : Config) (lim : IsWithin c) where
   read_small false s = omega arith
 
   callback_small : (tasks sync : ℕ) (s : CallbackStep) → GraceFits tasks s → callback_rank tasks sync s < tasks + 6
-  callback_small tasks sync (CallbackStep.Claims x) fits = omega (arith, exchange_small sync x)
-  callback_small tasks sync (CallbackStep.AwaitsSections g) fits = omega (arith, fits.0)
-  callback_small tasks sync (CallbackStep.CallsBack x) fits = omega (arith, exchange_small sync x)
+  callback_small tasks sync a2 fits = grind arith
 
   sum_small : (p : ℕ) (count : ℕ → ℕ) (sum : Sum) → sum.words < p → sum_rank p count sum < p + p
   sum_small p count sum lt =
@@ -72,12 +68,7 @@ module _ (c : Config) (lim : IsWithin c) where
   -- a sum that began before may take as long as two
   down_small : (w : Words) (d : DownWrite) (s : DownWriteStep) → DownWriteStepFits c s → d.tasks ≡ c.tasks → d.processors ≡ c.processors →
       (down_rank w d s < d.processors + d.tasks + 6) ⊎ (down_rank w d s < d.processors + d.processors)
-  down_small w d (DownWriteStep.Enters x) fits e p = inl (omega (arith, exchange_small (w.sync d.level) x))
-  down_small w d (DownWriteStep.AwaitsSections g) fits e p = inl (omega (arith, fits.0, e))
-  down_small w d (DownWriteStep.CallsBack x) fits e p = inl (omega (arith, exchange_small (w.sync d.level) x))
-  down_small w d DownWriteStep.AwaitsPassed fits e p = inl (omega arith)
-  down_small w d DownWriteStep.SetsBlock fits e p = inl (omega arith)
-  down_small w d (DownWriteStep.Sums sum) fits e p = inr (sum_small d.processors (w.level d.level) sum (omega (arith, fits, p)))
+  down_small w d a2 fits e p = grind arith
 
   up_small : (sync : ℕ) (s : UpWriteStep) → up_rank sync s < 3
   up_small sync UpWriteStep.ClearsBlock = omega arith
@@ -130,14 +121,10 @@ open_small OpenStep.LoadsFile = omega arith
 open_small (OpenStep.OpensFile file) = omega arith
 
 snapshot_small : (n : ℕ) (s : SnapshotStep) → snapshot_rank n s < n + n + 7
-snapshot_small n (SnapshotStep.LoadsNode node) = omega arith
-snapshot_small n (SnapshotStep.LoadsKids node) = omega arith
-snapshot_small n s = omega arith
+snapshot_small n s = grind arith
 
 write_small : (c : Config) (lim : IsWithin c) (x : WritePhase) → write_rank x < 20
-write_small c lim (WritePhase.Takes m r) = omega (arith, read_small c lim r.wait r.step)
-write_small c lim (WritePhase.Wants x) = omega (arith, want_small x.step)
-write_small c lim other = omega arith
+write_small c lim other = grind arith
 
 close_small : (c : Config) (lim : IsWithin c) (x : ClosePhase) → close_rank x < 20
 close_small c lim (ClosePhase.Enters f node r) = omega (arith, read_small c lim r.wait r.step)
@@ -162,26 +149,7 @@ is_beside phase = true
 
 pub beside_small : (c : Config) → IsWithin c → (w : Words) (t : ℕ) (held : Holdings) (phase : Phase) →
     PhaseFits c t held phase → is_beside phase ≡ true → rank w phase < most_beside c
-beside_small c lim w t held (Phase.Mounts (MountPhase.Want x)) f b = omega (arith, want_small x.step)
-beside_small c lim w t held (Phase.Mounts (MountPhase.Change x)) f b = omega (arith, change_small x.processors x.step, f.2)
-beside_small c lim w t held (Phase.Remounts x) f b = absurd (true≢false (sym b))
-beside_small c lim w t held (Phase.DownReads r) f b = omega (arith, read_small c lim r.wait r.step)
-beside_small c lim w t held (Phase.Callbacks q) f b =
-    let k : GraceFits q.tasks q.step = subst (λ n. GraceFits n q.step) (sym f.2) f.3 in
-    omega (arith, callback_small c lim q.tasks (w.sync q.level) q.step k, f.2)
-beside_small c lim w t held (Phase.Writes x) f b = omega (arith, write_small c lim x)
-beside_small c lim w t held (Phase.Freezes x) f b = freeze_small c lim w x x.step f.5 f.2 f.1 f.3
-beside_small c lim w t held (Phase.Thaws x) f b = omega (arith, thaw_small c lim w x.holder x.step f.2)
-beside_small c lim w t held (Phase.Trees (TreePhase.Create x)) f b = omega (arith, create_small x.nodes x.step, f.0.1)
-beside_small c lim w t held (Phase.Trees (TreePhase.Remove x)) f b = omega (arith, remove_small x.step)
-beside_small c lim w t held (Phase.Trees (TreePhase.Grow x)) f b = omega (arith, grow_small x.step)
-beside_small c lim w t held (Phase.Trees (TreePhase.MoveTo x)) f b = omega (arith, move_small x.step)
-beside_small c lim w t held (Phase.Trees (TreePhase.Mark x)) f b = omega (arith, mark_small x.step)
-beside_small c lim w t held (Phase.Trees (TreePhase.OpenFile x)) f b = omega (arith, open_small x.step)
-beside_small c lim w t held (Phase.Trees (TreePhase.Snapshot x)) f b = absurd (true≢false (sym b))
-beside_small c lim w t held (Phase.Trees (TreePhase.ClearMarks x)) f b = absurd f.1
-beside_small c lim w t held (Phase.Closes x) f b = omega (arith, close_small c lim x)
-beside_small c lim w t held phase f b = omega arith
+beside_small c lim w t held phase f b = grind arith
 
 pub rank_small : (c : Config) → IsWithin c → (w : Words) (t : ℕ) (held : Holdings) (phase : Phase) →
     PhaseFits c t held phase → rank w phase < most_alone c

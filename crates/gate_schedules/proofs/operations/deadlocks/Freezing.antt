@@ -131,18 +131,11 @@ if_some true = omega arith
 if_some false = omega arith
 
 next_some : (c : Config) (holder : Holder) (w : Words) (s : FreezeStep) → FreezeFits c holder s → 1 ≤ next_level w s
-next_some c holder w FreezeStep.Locks f = if_some (w.stage == 0 && w.sb == 0)
-next_some c holder w FreezeStep.LoadsStage f = if_some (w.stage == 0 && w.sb == 0)
-next_some c holder w FreezeStep.LoadsSuperblock f = if_some (w.sb == 0)
-next_some c holder w (FreezeStep.Closes d) f = f.0
-next_some c holder w s f = omega arith
+next_some c holder w s f = grind arith
 
 -- the levels that a freeze has to pass are the same with the same stage and superblock
 pub next_same : (w next : Words) (s : FreezeStep) → next.stage ≡ w.stage → next.sb ≡ w.sb → next_level next s ≡ next_level w s
-next_same w next FreezeStep.Locks e f = rw (e, f) refl
-next_same w next FreezeStep.LoadsStage e f = rw (e, f) refl
-next_same w next FreezeStep.LoadsSuperblock e f = rw f refl
-next_same w next s e f = refl
+next_same w next s e f = grind arith
 
 first_same : (w next : Words) (s : FreezeStep) → next.umount ≡ w.umount → FirstFree w s → FirstFree next s
 first_same w next FreezeStep.Locks e f = e ∙ f

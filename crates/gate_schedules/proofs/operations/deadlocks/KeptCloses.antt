@@ -1,5 +1,6 @@
 -- The closing of a level leaves the words that others are kept by, and ends only by passing the level.
 use Rattle.std.{proofs.{Common.{◌≡◌, ℕ, refl, inl, inr}, lemmas.Bool.{cases_Bool, Decides.eqb_tells}}, specs.Prelude.{Option, Some, None}}
+use Rattle.std.proofs.Common.{arith}
 use Rattle.finite_sums.proofs.Totals.{each_updated}
 use Rattle.access_model.specs.declared.{actions.Action.Action, replies.Next.Next}
 use Rattle.cpu_words.specs.{Sums.sum_taking, Words.Words, declared.sums.Taken.Taken}
@@ -16,9 +17,7 @@ StaysAtLevel d (Next.Wait next) action = next.level ≡ d.level
 StaysAtLevel d (Next.Done answer) action = action ≡ Some (Action.Pass d.level)
 
 sections_stay : (d : DownWrite) (next : GraceNext) → StaysAtLevel d (sections_awaited d next) None
-sections_stay d (GraceNext.More g) = refl
-sections_stay d (GraceNext.Wait g) = refl
-sections_stay d GraceNext.Ended = refl
+sections_stay d a1 = grind arith
 
 passed_stay : (d : DownWrite) (o : Option SyncWord) → StaysAtLevel d (passed_awaited d o) None
 passed_stay d None = refl
@@ -30,32 +29,14 @@ summed_stays d (Taken.Total total) = elim (eqb_tells total 0) [ inl h ↦ rw h.0
 
 pub down_stays : (d : DownWrite) (s : DownWriteStep) (found : ℕ) →
     StaysAtLevel d (down_write_after d s found).0 (down_write_after d s found).1
-down_stays d (DownWriteStep.Enters transition) found = refl
-down_stays d (DownWriteStep.AwaitsSections g) found = sections_stay d (looked g found)
-down_stays d (DownWriteStep.CallsBack transition) found = refl
-down_stays d DownWriteStep.AwaitsPassed found = passed_stay d (unpack found)
-down_stays d DownWriteStep.SetsBlock found = elim (eqb_tells found 0) [ inl h ↦ rw h.0 refl | inr h ↦ rw h.0 refl ]
-down_stays d (DownWriteStep.Sums sum) found = summed_stays d (sum_taking sum found d.processors)
+down_stays d a1 found = grind arith
 
 module _ (w : Words) (d : DownWrite) where
   pub down_beside : (s : DownWriteStep) → StaysBeside w (after_event w (down_write_next d s))
-  down_beside (DownWriteStep.Enters Transition.Loads) = record { umount_same = refl; stage_same = refl; sb_same = refl }
-  down_beside (DownWriteStep.Enters (Transition.Exchanges from to)) = record { umount_same = refl; stage_same = refl; sb_same = refl }
-  down_beside (DownWriteStep.CallsBack Transition.Loads) = record { umount_same = refl; stage_same = refl; sb_same = refl }
-  down_beside (DownWriteStep.CallsBack (Transition.Exchanges from to)) = record { umount_same = refl; stage_same = refl; sb_same = refl }
-  down_beside other = record { umount_same = refl; stage_same = refl; sb_same = refl }
+  down_beside other = grind arith
 
   pub down_nodes : (s : DownWriteStep) → (after_event w (down_write_next d s)).node ≡ w.node
-  down_nodes (DownWriteStep.Enters Transition.Loads) = refl
-  down_nodes (DownWriteStep.Enters (Transition.Exchanges from to)) = refl
-  down_nodes (DownWriteStep.CallsBack Transition.Loads) = refl
-  down_nodes (DownWriteStep.CallsBack (Transition.Exchanges from to)) = refl
-  down_nodes other = refl
+  down_nodes other = grind arith
 
   pub down_blocks : (s : DownWriteStep) (i : ℕ) → w.block i ≡ 1 → (after_event w (down_write_next d s)).block i ≡ 1
-  down_blocks (DownWriteStep.Enters Transition.Loads) i h = h
-  down_blocks (DownWriteStep.Enters (Transition.Exchanges from to)) i h = h
-  down_blocks (DownWriteStep.CallsBack Transition.Loads) i h = h
-  down_blocks (DownWriteStep.CallsBack (Transition.Exchanges from to)) i h = h
-  down_blocks DownWriteStep.SetsBlock i h = each_updated (λ y n. n ≡ 1) w.block d.level 1 i refl (λ ne. h)
-  down_blocks other i h = h
+  down_blocks other i h = grind arith

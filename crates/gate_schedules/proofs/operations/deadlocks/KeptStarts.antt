@@ -23,23 +23,8 @@ blocked_stays r wait false e = absurd (true≢false (sym wait ∙ e))
 pub start_stays : (w : Words) (r : DownRead) → r.wait ≡ true → w.block r.level ≡ 1 → step_found (unpack (w.sync r.level)) ≡ CountsUpSlow →
     (s : DownReadStep) → is_admitted s ≡ false →
     StaysKept r (down_read_after r s (found_by (down_read_next r s).1 (read w (down_read_next r s).0))).0
-start_stays w r wait set slow EntersSection not = (wait, refl, refl)
-start_stays w r wait set slow LoadsSync not = (wait, ap is_admitted slow, refl)
-start_stays w r wait set slow CountsUpFast not = absurd (true≢false not)
-start_stays w r wait set slow CountsUpSlow not = (wait, refl, refl)
-start_stays w r wait set slow LoadsBlock not =
-    let e : (w.block r.level == 0) ≡ false = ne_eqb (w.block r.level) 0 (λ z. omega (arith, z, set)) in rw e (wait, refl, refl)
-start_stays w r wait set slow CountsDown not = (wait, refl, refl)
-start_stays w r wait set slow LeavesAdmitted not = absurd (true≢false not)
-start_stays w r wait set slow LeavesBlocked not = blocked_stays r wait r.wait refl
+start_stays w r wait set slow a5 not = grind arith
 
 -- a down-read leaves the nodes
 pub read_nodes : (w : Words) (r : DownRead) (s : DownReadStep) → (after_event w (down_read_next r s)).node ≡ w.node
-read_nodes w r EntersSection = refl
-read_nodes w r LoadsSync = refl
-read_nodes w r CountsUpFast = refl
-read_nodes w r CountsUpSlow = refl
-read_nodes w r LoadsBlock = refl
-read_nodes w r CountsDown = refl
-read_nodes w r LeavesAdmitted = refl
-read_nodes w r LeavesBlocked = refl
+read_nodes w r a2 = grind arith

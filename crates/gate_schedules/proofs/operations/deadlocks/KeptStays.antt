@@ -46,18 +46,12 @@ if_far true h = absurd (omega (arith, h))
 if_far false h = omega arith
 
 far_same : (w next : Words) (s : FreezeStep) → 2 ≤ next_level w s → next_level w s ≤ 3 → next_level next s ≡ next_level w s
-far_same w next FreezeLocks two three = absurd (omega (arith, if_far (w.stage == 0 && w.sb == 0) two, three))
-far_same w next LoadsStage two three = absurd (omega (arith, if_far (w.stage == 0 && w.sb == 0) two, three))
-far_same w next LoadsSuperblock two three = absurd (omega (arith, if_far (w.sb == 0) two, three))
-far_same w next s two three = refl
+far_same w next s two three = grind arith
 
 -- nor does one that isn't at its first lock and doesn't own `umount`
 apart_same : (w next : Words) (s : FreezeStep) → freeze_owns s ≡ 0 → is_first_lock s ≡ false →
     next_level next s ≡ next_level w s
-apart_same w next FreezeLocks none later = absurd (true≢false later)
-apart_same w next LoadsStage none later = absurd (omega (arith, none))
-apart_same w next LoadsSuperblock none later = absurd (omega (arith, none))
-apart_same w next s none later = refl
+apart_same w next s none later = grind arith
 
 later_kept : (c : Config) (v : World) (s : FreezeStep) → is_first_lock s ≡ false → FreezeIsKept c v s → IsKept c v s
 later_kept c v FreezeLocks later h = absurd (true≢false later)

@@ -42,11 +42,7 @@ abbrev pub PhaseLeaves : ℕ → Next Phase → Type 0
 PhaseLeaves n next = Leaves (λ (q : Phase). inside (Some q)) leave_rank n next
 
 in_inside : (s : GpState) → down_read_inside (step_in s) ≡ 1
-in_inside Idle = refl
-in_inside Enter = refl
-in_inside Passed = refl
-in_inside Exit = refl
-in_inside Replay = refl
+in_inside a0 = grind arith
 
 found_inside : (o : Option SyncWord) → down_read_inside (step_found o) ≡ 1
 found_inside None = refl
@@ -60,43 +56,22 @@ left_leaves r false = tt
 read_leaves : (w : Words) (r : DownRead) (s : DownReadStep) → MayHold (down_read_next r s).0 (read w (down_read_next r s).0) →
     down_read_inside s ≡ 1 →
     ReadLeaves (read_rank false s) (down_read_after r s (found_by (down_read_next r s).1 (read w (down_read_next r s).0))).0
-read_leaves w r EntersSection may h = absurd (omega (arith, h))
-read_leaves w r LoadsSync may h =
-    inr (found_inside (unpack (w.sync r.level)), omega (arith, found_rank false (unpack (w.sync r.level)) may))
-read_leaves w r CountsUpFast may h = inr (refl, omega arith)
-read_leaves w r CountsUpSlow may h = inr (refl, omega arith)
-read_leaves w r LoadsBlock may h =
-    elim (eqb_tells (w.block r.level) 0) [ inl q ↦ rw q.0 (inr (refl, omega arith)) | inr q ↦ rw q.0 (inr (refl, omega arith)) ]
-read_leaves w r CountsDown may h = inr (refl, omega arith)
-read_leaves w r LeavesAdmitted may h = tt
-read_leaves w r LeavesBlocked may h = left_leaves r r.wait
+read_leaves w r a2 may h = grind arith
 
 as_read : (n : ℕ) (next : Next DownRead) → ReadLeaves n next → PhaseLeaves n (map_next DownReads next)
-as_read n (Go r) h = h
-as_read n (Wait r) h = h
-as_read n (Done answer) h = tt
+as_read n a1 h = grind arith
 
 as_write : (m p n : ℕ) (next : Next DownRead) → ReadLeaves n next → PhaseLeaves n (map_next Writes (then_wants m p next))
-as_write m p n (Go r) h = h
-as_write m p n (Wait r) h = h
-as_write m p n (Done (Ok reply)) h = inl refl
-as_write m p n (Done (Err refusal)) h = tt
+as_write m p n a3 h = grind arith
 
 as_close : (f : ℕ) (node : NodeWord) (p n : ℕ) (next : Next DownRead) → ReadLeaves n next →
     PhaseLeaves n (map_next FileCloses (then_frees f node p next))
-as_close f node p n (Go r) h = h
-as_close f node p n (Wait r) h = h
-as_close f node p n (Done (Ok reply)) h = inl refl
-as_close f node p n (Done (Err refusal)) h = tt
+as_close f node p n a4 h = grind arith
 
 -- each event of a phase inside a section
 pub phase_leaves : (w : Words) (phase : Phase) (hook : HookAnswer) → MayFind phase (next_of phase hook).0 (value_at w phase hook) →
     inside (Some phase) ≡ 1 → PhaseLeaves (leave_rank phase) (after_of phase (found_at w phase hook) hook).0
-phase_leaves w (DownReads r) hook may h = as_read (read_rank false r.step) _ (read_leaves w r r.step may h)
-phase_leaves w (Writes (Takes m r)) hook may h = as_write m r.cpu (read_rank false r.step) _ (read_leaves w r r.step may h)
-phase_leaves w (FileCloses (EntersLevel f node r)) hook may h =
-    as_close f node r.cpu (read_rank false r.step) _ (read_leaves w r r.step may h)
-phase_leaves w phase hook may h = absurd (omega (arith, h))
+phase_leaves w phase hook may h = grind arith
 
 -- what an event inside a section leaves of the words that a freeze looks at
 pub record StaysBeside (w next : Words) : Type 0 where
@@ -105,20 +80,10 @@ pub record StaysBeside (w next : Words) : Type 0 where
   pub sb_same : next.sb ≡ w.sb
 
 pub read_beside : (w : Words) (r : DownRead) (s : DownReadStep) → StaysBeside w (after_event w (down_read_next r s))
-read_beside w r EntersSection = record { umount_same = refl; stage_same = refl; sb_same = refl }
-read_beside w r LoadsSync = record { umount_same = refl; stage_same = refl; sb_same = refl }
-read_beside w r CountsUpFast = record { umount_same = refl; stage_same = refl; sb_same = refl }
-read_beside w r CountsUpSlow = record { umount_same = refl; stage_same = refl; sb_same = refl }
-read_beside w r LoadsBlock = record { umount_same = refl; stage_same = refl; sb_same = refl }
-read_beside w r CountsDown = record { umount_same = refl; stage_same = refl; sb_same = refl }
-read_beside w r LeavesAdmitted = record { umount_same = refl; stage_same = refl; sb_same = refl }
-read_beside w r LeavesBlocked = record { umount_same = refl; stage_same = refl; sb_same = refl }
+read_beside w r a2 = grind arith
 
 pub phase_beside : (w : Words) (phase : Phase) (hook : HookAnswer) → inside (Some phase) ≡ 1 → StaysBeside w (words_after w phase hook)
-phase_beside w (DownReads r) hook h = read_beside w r r.step
-phase_beside w (Writes (Takes m r)) hook h = read_beside w r r.step
-phase_beside w (FileCloses (EntersLevel f node r)) hook h = read_beside w r r.step
-phase_beside w phase hook h = absurd (omega (arith, h))
+phase_beside w phase hook h = grind arith
 
 -- a down-read has few steps inside its section
 read_small : (s : DownReadStep) → down_read_inside s ≡ 1 → read_rank false s < 5
@@ -126,10 +91,7 @@ read_small EntersSection h = absurd (omega (arith, h))
 read_small s h = omega arith
 
 leave_small : (phase : Phase) → inside (Some phase) ≡ 1 → leave_rank phase < 5
-leave_small (DownReads r) h = read_small r.step h
-leave_small (Writes (Takes m r)) h = read_small r.step h
-leave_small (FileCloses (EntersLevel f node r)) h = read_small r.step h
-leave_small phase h = omega arith
+leave_small phase h = grind arith
 
 down_inside_le : (s : DownReadStep) → down_read_inside s ≤ 1
 down_inside_le EntersSection = omega arith
@@ -137,12 +99,7 @@ down_inside_le s = omega arith
 
 -- a task is inside one section at most
 pub inside_le : (p : Option Phase) → inside p ≤ 1
-inside_le None = omega arith
-inside_le (Some (DownReads r)) = down_inside_le r.step
-inside_le (Some (Writes (Takes m r))) = down_inside_le r.step
-inside_le (Some (Writes x)) = omega arith
-inside_le (Some (FileCloses (EntersLevel f node r))) = down_inside_le r.step
-inside_le (Some phase) = omega arith
+inside_le a0 = grind arith
 
 -- how many tasks are inside one
 abbrev pub all_within : Config → World → ℕ

@@ -1,6 +1,7 @@
 -- Who can move: a task whose way is free, who has HOLD set at a mount, and an owner of `umount` that is no freeze; and what the rule says of who
 -- holds a level.
 use Rattle.gate_world.specs.Roles.{snapshot_owns, thaw_owns}
+use Rattle.std.proofs.lemmas.Grind.{common_steps}
 use Rattle.cpu_words.specs.Words.{Words}
 use Rattle.compounds.specs.declared.file_closes.phases.ClosePhase.{ClosePhase}
 use Rattle.finite_sums.proofs.Totals.{total_at, total_none}
@@ -45,12 +46,7 @@ snapshot_owner w wait SnapshotStep.Locks h = absurd (omega (arith, h))
 snapshot_owner w wait s h = tt
 
 pub owner_free : (c : Config) (w : Words) (phase : Phase) → owns (Some phase) ≡ 1 → IsFree c w phase ⊎ ((x : Freeze) × (phase ≡ Phase.Freezes x))
-owner_free c w (Phase.Mounts (MountPhase.Change x)) h = inl (change_owner w x.wait x.step h)
-owner_free c w (Phase.Remounts x) h = inl (remount_owner w x.step h)
-owner_free c w (Phase.Freezes x) h = inr (x, refl)
-owner_free c w (Phase.Thaws x) h = inl (thaw_owner w x.step h)
-owner_free c w (Phase.Trees (TreePhase.Snapshot x)) h = inl (snapshot_owner w x.wait x.step h)
-owner_free c w phase h = absurd (omega (arith, h))
+owner_free c w phase h = grind arith
 
 phase_owns : (p : Option Phase) → owns p ≡ 1 → (phase : Phase) × (p ≡ Some phase)
 phase_owns None h = absurd (omega (arith, h))
@@ -169,24 +165,10 @@ holds_below levels (suc (suc (suc zero))) j h one three is = below_or 3 j (level
 holds_below levels (suc (suc (suc (suc n)))) j h one three is = absurd (omega arith)
 
 stand_passed : (i j : ℕ) (s : Option Stand) → i < j → 1 ≤ closed (stand_sync j s) → stand_count i s ≡ Passed
-stand_passed i j None lt h = absurd (omega (arith, h))
-stand_passed i j (Some s) lt h =
-    elim (cases_lt s.level j) [
-      | inl l ↦
-          let z : stand_sync j (Some s) ≡ IsApart =
-          rw (ne_eqb j s.level (λ e. omega (arith, e, l)), le-ltb j s.level (omega (arith, l))) refl in
-          absurd (omega (arith, h, ap closed z))
-      | inr l ↦ rw (ne_eqb i s.level (λ e. omega (arith, e, l, lt)), lt-ltb i s.level (omega (arith, l, lt))) refl
-    ]
+stand_passed i j a2 lt h = grind arith
 
 closed_passes : (i j : ℕ) (p : Option Phase) → i < j → 1 ≤ closed (sync_role_of j p) → level_role_of i p ≡ Passed
-closed_passes i j (Some (Phase.DownReads r)) lt h = absurd (omega (arith, h, read_opens (j == r.level) r.step))
-closed_passes i j (Some (Phase.Callbacks b)) lt h = absurd (omega (arith, h, callback_opens (j == b.level) b.step))
-closed_passes i j (Some (Phase.Writes (WritePhase.Takes m r))) lt h = absurd (omega (arith, h, read_opens (j == r.level) r.step))
-closed_passes i j (Some (Phase.Freezes x)) lt h = stand_passed i j (freeze_stand x.step) lt h
-closed_passes i j (Some (Phase.Thaws x)) lt h = stand_passed i j (thaw_stand x.step) lt h
-closed_passes i j (Some (Phase.Closes (ClosePhase.Enters f node r))) lt h = absurd (omega (arith, h, read_opens (j == r.level) r.step))
-closed_passes i j p lt h = absurd (omega (arith, h))
+closed_passes i j p lt h = grind (arith, common_steps)
 
 read_out : (b : Bool) (p : ℕ) (s : DownReadStep) → down_read_inside s ≡ 0 → processor_of (count_role_if b (read_count_role p s)) ≡ 0
 read_out true p DownReadStep.EntersSection h = refl
@@ -207,26 +189,14 @@ sides_out false true r h = refl
 sides_out false false r h = refl
 
 freeze_out : (i : ℕ) (s : FreezeStep) → processor_of (stand_count i (freeze_stand s)) ≡ 0
-freeze_out i (FreezeStep.Closes d) = sides_out (i == d.level) (nat_lt i d.level) (down_count_role d.step) (down_out d.step)
-freeze_out i FreezeStep.LocksAgain = sides_out (i == 1) (nat_lt i 1) Passed refl
-freeze_out i FreezeStep.SetsPageFault = sides_out (i == 1) (nat_lt i 1) Passed refl
-freeze_out i (FreezeStep.Cleans marks) = sides_out (i == 2) (nat_lt i 2) Passed refl
-freeze_out i FreezeStep.SetsFs = sides_out (i == 2) (nat_lt i 2) Passed refl
-freeze_out i FreezeStep.SetsComplete = sides_out (i == 3) (nat_lt i 3) Passed refl
-freeze_out i (FreezeStep.Reopens u code) = sides_out (i == u.level) (nat_lt i u.level) (up_count_role u.step) (up_out u.step)
-freeze_out i s = refl
+freeze_out i s = grind arith
 
 thaw_out : (i : ℕ) (s : ThawStep) → processor_of (stand_count i (thaw_stand s)) ≡ 0
 thaw_out i (ThawStep.Reopens u) = sides_out (i == u.level) (nat_lt i u.level) (up_count_role u.step) (up_out u.step)
 thaw_out i s = refl
 
 pub seeks_nothing : (i : ℕ) (p : Option Phase) → inside p ≡ 0 → processor_of (level_role_of i p) ≡ 0
-seeks_nothing i (Some (Phase.DownReads r)) h = read_out (i == r.level) r.cpu r.step h
-seeks_nothing i (Some (Phase.Writes (WritePhase.Takes m r))) h = read_out (i == r.level) r.cpu r.step h
-seeks_nothing i (Some (Phase.Freezes x)) h = freeze_out i x.step
-seeks_nothing i (Some (Phase.Thaws x)) h = thaw_out i x.step
-seeks_nothing i (Some (Phase.Closes (ClosePhase.Enters f node r))) h = read_out (i == r.level) r.cpu r.step h
-seeks_nothing i p h = refl
+seeks_nothing i p h = grind arith
 
 -- 1 for a level held
 abbrev held_bit : Bool → ℕ

@@ -101,9 +101,7 @@ module _ (c : Config) (w : World) (good : IsGood c w)
 
   freeze_tells : (t : ℕ) → t < c.tasks → (x : Freeze) → (w.views t).phase ≡ Some (Phase.Freezes x) → (s : FreezeStep) → x.step ≡ s →
       FreezeIsKept c w s → AFreezeIsKept c w
-  freeze_tells t lt x at FreezeStep.Locks e (inl k) = lock_tells k
-  freeze_tells t lt x at FreezeStep.Locks e (inr k) = (t, lt, x, at, subst (IsKept c w) (sym e) k.2)
-  freeze_tells t lt x at s e k = (t, lt, x, at, subst (IsKept c w) (sym e) k)
+  freeze_tells t lt x at s e k = grind arith
 
   -- each operation that is kept
   kept_tells : (t : ℕ) → t < c.tasks → (phase : Phase) → (w.views t).phase ≡ Some phase →

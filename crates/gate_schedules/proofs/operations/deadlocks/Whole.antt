@@ -26,21 +26,11 @@ use Rattle.compounds.specs.declared.write_access.phases.WritePhase.{WritePhase}
 -- a lock is free, or not, and then the task stands before it
 change_either : (w : Words) (s : ChangeStep) (wait : Bool) →
     ChangeIsFree w s wait ⊎ ((wait ≡ true) × (w.umount ≡ 0 → ⊥) × (s ≡ ChangeStep.Locks))
-change_either w ChangeStep.Locks wait =
-    elim (eqb_tells w.umount 0) [
-      | inl z ↦ inl (λ e. z.1)
-      | inr z ↦ elim (cases_Bool wait) [ inl e ↦ inr (e, z.1, refl) | inr e ↦ inl (λ q. absurd (true≢false (sym q ∙ e))) ]
-    ]
-change_either w s wait = inl tt
+change_either w s wait = grind arith
 
 snapshot_either : (w : Words) (s : SnapshotStep) (wait : Bool) →
     SnapshotIsFree w s wait ⊎ ((wait ≡ true) × (w.umount ≡ 0 → ⊥) × (s ≡ SnapshotStep.Locks))
-snapshot_either w SnapshotStep.Locks wait =
-    elim (eqb_tells w.umount 0) [
-      | inl z ↦ inl (λ e. z.1)
-      | inr z ↦ elim (cases_Bool wait) [ inl e ↦ inr (e, z.1, refl) | inr e ↦ inl (λ q. absurd (true≢false (sym q ∙ e))) ]
-    ]
-snapshot_either w s wait = inl tt
+snapshot_either w s wait = grind arith
 
 remount_either : (w : Words) (s : RemountStep) → RemountIsFree w s ⊎ ((w.umount ≡ 0 → ⊥) × (s ≡ RemountStep.Locks))
 remount_either w RemountStep.Locks = elim (eqb_tells w.umount 0) [ inl z ↦ inl z.1 | inr z ↦ inr (z.1, refl) ]

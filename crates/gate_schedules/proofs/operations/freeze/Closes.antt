@@ -45,9 +45,7 @@ IsAtPlace d p (Next.Done answer) = ⊥
 
 -- until its swap it is before that
 enter_place : (tasks : ℕ) (n : TransitionNext) → place_of (enter_step tasks n) ≡ Before
-enter_place tasks (TransitionNext.More transition) = refl
-enter_place tasks (TransitionNext.Made GpState.Idle) = refl
-enter_place tasks other = refl
+enter_place tasks other = grind arith
 
 callback_place : (n : TransitionNext) → place_of (callback_step n) ≡ Before
 callback_place (TransitionNext.More transition) = refl
@@ -58,19 +56,12 @@ sections_place d (GraceNext.More grace) = (refl, refl)
 sections_place d other = (refl, refl)
 
 passed_place : (d : DownWrite) (o : Option SyncWord) → IsAtPlace d Before (passed_awaited d o)
-passed_place d None = (refl, refl)
-passed_place d (Some word) =
-    by_bool (is_passed word.state)
-    (λ b. IsAtPlace d Before (if b then Next.Go (at_down_write d DownWriteStep.SetsBlock) else Next.Wait (at_down_write d DownWriteStep.AwaitsPassed)))
-    (refl, refl)
-    (refl, refl)
+passed_place d a1 = grind arith
 
 -- what a freeze does with the stage at such a place
 place_role : (x : Freeze) (d : DownWrite) (p : Place) (n : Next DownWrite) → IsAtPlace d p n →
     stage_role_of (phase_after (map_next Phase.Freezes (after_closing x d.level n))) ≡ Freezing d.level p (nat_lt 1 d.level)
-place_role x d p (Next.Go y) h = λ j. Freezing (h.0 j) (h.1 j) (nat_lt 1 (h.0 j))
-place_role x d p (Next.Wait y) h = λ j. Freezing (h.0 j) (h.1 j) (nat_lt 1 (h.0 j))
-place_role x d p (Next.Done answer) h = absurd h
+place_role x d p a3 h = grind arith
 
 -- and once the level is closed
 closed_role : (x : Freeze) (level : ℕ) → 1 ≤ level → level ≤ 3 →
@@ -139,19 +130,12 @@ module _ (c : Config) (lim : IsWithin c) (w : World) (good : IsGood c w) (t : �
       (still_plays c w good t lt (sym role))
 
   sum_adds : (d : DownWrite) (n : Taken) → stage_action_of (sum_kind d n) (stages_in w) ≡ (down_write_summed d n).1
-  sum_adds d (Taken.More sum) = refl
-  sum_adds d (Taken.Total sum) =
-      by_bool (sum == 0) (λ b. stage_action_of (if b then Passes d.level (clean_from d.level) (nat_lt 1 d.level) else Stays) (stages_in w) ≡
-      (if b then Some (Action.Pass d.level) else None)) refl refl
+  sum_adds d a1 = grind arith
 
   sum_asks : (d : DownWrite) (n : Taken) →
       ((j : ℕ) → (down_write_summed d n).1 ≡ Some (Action.Pass j) → (y : ℕ) → y < c.tasks → holds_level (w.views y) d.level ≡ false) →
       AsksWhere (model_limits c) (shown c w) (down_write_summed d n).1
-  sum_asks d (Taken.More sum) h = tt
-  sum_asks d (Taken.Total sum) h =
-      by_bool (sum == 0) (λ b. ((j : ℕ) → (if b then Some (Action.Pass d.level) else None) ≡ Some (Action.Pass j) → (y : ℕ) → y < c.tasks →
-      holds_level (w.views y) d.level ≡ false) → AsksWhere (model_limits c) (shown c w) (if b then Some (Action.Pass d.level) else None))
-      (λ g. g d.level refl) (λ g. tt) h
+  sum_asks d a1 h = grind arith
 
   module _ (d : DownWrite) (e : IsHere c lim w good t lt x (FreezeStep.Closes d)) where
     -- the words after its event

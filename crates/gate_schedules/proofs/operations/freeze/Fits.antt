@@ -29,29 +29,16 @@ use Rattle.gate_schedules.proofs.frames.{Cases.both, Keeps.by_bool}
 -- the word of each event of a down-write is there
 down_write_word : (c : Config) (d : DownWrite) (s : DownWriteStep) → 1 ≤ d.level → d.level ≤ 3 → DownWriteStepFits c s →
     IsWord (extents_of c) (down_write_next d s).0
-down_write_word c d (DownWriteStep.Enters Transition.Loads) l1 l3 f = (l1, l3)
-down_write_word c d (DownWriteStep.AwaitsSections grace) l1 l3 f = f.1
-down_write_word c d (DownWriteStep.CallsBack Transition.Loads) l1 l3 f = (l1, l3)
-down_write_word c d (DownWriteStep.Sums sum) l1 l3 f = (l1, l3, f)
-down_write_word c d other l1 l3 f = (l1, l3)
+down_write_word c d other l1 l3 f = grind arith
 
 -- and of each event of an up-write
 pub up_write_word : (c : Config) (u : UpWrite) (s : UpWriteStep) → 1 ≤ u.level → u.level ≤ 3 → IsWord (extents_of c) (up_write_next u s).0
-up_write_word c u UpWriteStep.ClearsBlock l1 l3 = (l1, l3)
-up_write_word c u (UpWriteStep.Exits Transition.Loads) l1 l3 = (l1, l3)
-up_write_word c u (UpWriteStep.Exits (Transition.Exchanges from to)) l1 l3 = (l1, l3)
+up_write_word c u a2 l1 l3 = grind arith
 
 -- so it is of each event of a freeze
 pub freeze_word : (c : Config) (x : Freeze) (s : FreezeStep) (hook : HookAnswer) → FreezeFits c x.holder s →
     IsWord (extents_of c) (freeze_next x s hook).0
-freeze_word c x (FreezeStep.Closes d) hook f = down_write_word c d d.step f.0 f.1 f.4
-freeze_word c x (FreezeStep.Cleans marks) hook f = f.2
-freeze_word c x FreezeStep.SetsFs (Ok answer) f = tt
-freeze_word c x FreezeStep.SetsFs (Err code) f = tt
-freeze_word c x FreezeStep.SetsComplete (Ok answer) f = tt
-freeze_word c x FreezeStep.SetsComplete (Err code) f = tt
-freeze_word c x (FreezeStep.Reopens u code) hook f = up_write_word c u u.step f.0 f.1
-freeze_word c x other hook f = tt
+freeze_word c x other hook f = grind arith
 
 -- What comes after a look at who holds a freeze: a refusal, where its own holder does, or else the store with it.
 pub found_cases : (x : Freeze) (held : Holders) (P : FreezeStep → Type 0) → (held_by held x.holder ≡ true → P (FreezeStep.Releases (Err GateError.Busy))) →
@@ -84,15 +71,7 @@ up_write_moves u (UpWriteStep.Exits transition) found held = (tt, refl)
 
 -- and none of a freeze
 freeze_moves : (x : Freeze) (s : FreezeStep) (found : ℕ) (hook : HookAnswer) → MovesNone (freeze_after x s found hook).1
-freeze_moves x (FreezeStep.Closes d) found hook held = down_write_moves d d.step found held
-freeze_moves x (FreezeStep.Cleans marks) found hook held =
-    if_moves (dirty_in found == 1) (Action.Clean marks.node) (λ f. (tt, refl)) held
-freeze_moves x FreezeStep.SetsFs found (Ok answer) held = (tt, refl)
-freeze_moves x FreezeStep.SetsFs found (Err code) held = (tt, refl)
-freeze_moves x FreezeStep.SetsComplete found (Ok answer) held = (tt, refl)
-freeze_moves x FreezeStep.SetsComplete found (Err code) held = (tt, refl)
-freeze_moves x (FreezeStep.Reopens u code) found hook held = up_write_moves u u.step found held
-freeze_moves x other found hook held = (tt, refl)
+freeze_moves x other found hook held = grind arith
 
 -- its action can be done
 pub freeze_acts : (x : Freeze) (s : FreezeStep) (held : Holdings) (found : ℕ) (hook : HookAnswer) →
@@ -129,11 +108,7 @@ module _ (c : Config) (within : IsWithin c) where
         ]
 
     passed_found_goes : (o : Option SyncWord) → Goes (passed_awaited d o)
-    passed_found_goes None = (l1, l3, same, processors, tt, tt)
-    passed_found_goes (Some word) =
-        by_bool (is_passed word.state)
-        (λ b. Goes (if b then Next.Go (at_down_write d DownWriteStep.SetsBlock) else Next.Wait (at_down_write d DownWriteStep.AwaitsPassed)))
-        (l1, l3, same, processors, tt, tt) (l1, l3, same, processors, tt, tt)
+    passed_found_goes a0 = grind arith
 
     summed_goes : (sum : Sum) (found : ℕ) → Goes (down_write_summed d (sum_taking sum found d.processors)).0
     summed_goes sum found =
@@ -175,17 +150,12 @@ module _ (c : Config) (within : IsWithin c) where
   -- what comes after an event of the transition of an up-write fits
   exits_goes : (u : UpWrite) (found v : ℕ) → 1 ≤ u.level → u.level ≤ 3 → (n : TransitionNext) → Shows on_exit found v n →
       HoldsOfNext UpWriteFits (exit_made u n)
-  exits_goes u found v l1 l3 (TransitionNext.More transition) h = (l1, l3, h.1)
-  exits_goes u found v l1 l3 TransitionNext.Undefined h = (l1, l3, tt)
-  exits_goes u found v l1 l3 (TransitionNext.Made state) h = tt
+  exits_goes u found v l1 l3 a5 h = grind arith
 
   -- so it is after each event of an up-write
   up_write_goes : (u : UpWrite) (s : UpWriteStep) (found : ℕ) → 1 ≤ u.level → u.level ≤ 3 → KnowsUpWrite s →
       HoldsOfNext UpWriteFits (up_write_after u s found).0
-  up_write_goes u UpWriteStep.ClearsBlock found l1 l3 k = (l1, l3, tt)
-  up_write_goes u (UpWriteStep.Exits transition) found l1 l3 k =
-      exits_goes u found _ l1 l3 (transition_after on_exit transition found)
-      (exchanges_make_transitions on_exit u.level found transition k)
+  up_write_goes u a1 found l1 l3 k = grind arith
 
   -- a level whose closing begins
   closes_fits : (x : Freeze) (level : ℕ) → x.tasks ≡ c.tasks → x.processors ≡ c.processors → 1 ≤ level → level ≤ 3 →
@@ -217,15 +187,11 @@ module _ (c : Config) (within : IsWithin c) where
     goes_to s f = (task, all, processors, nodes, none, f)
 
     closing_fits : (level : ℕ) (n : Next DownWrite) → HoldsOfNext (DownWriteFits c) n → NextFits (after_closing x level n)
-    closing_fits level (Next.Go d) h = goes_to (FreezeStep.Closes d) h
-    closing_fits level (Next.Wait d) h = goes_to (FreezeStep.Closes d) h
-    closing_fits level (Next.Done answer) h = goes_to (level_closed level x.nodes) (closed_fits x.holder level x.nodes nodes)
+    closing_fits level a1 h = grind arith
 
     reopening_fits : (level code : ℕ) → level ≤ 3 → (n : Next UpWrite) → HoldsOfNext UpWriteFits n →
         NextFits (after_reopening x level code n)
-    reopening_fits level code l3 (Next.Go u) h = goes_to (FreezeStep.Reopens u code) h
-    reopening_fits level code l3 (Next.Wait u) h = goes_to (FreezeStep.Reopens u code) h
-    reopening_fits level code l3 (Next.Done answer) h = goes_to (freeze_fails (level - 1) code) (fails_fits x.holder (level - 1) code (omega (arith, l3)))
+    reopening_fits level code l3 a3 h = grind arith
 
     clearing_fits : (marks : ClearMarks) (found : ℕ) → marks.nodes ≡ c.nodes → NextFits (after_clearing x (clear_after marks found).0)
     clearing_fits marks found same =

@@ -21,32 +21,16 @@ use Rattle.std.specs.Prelude.{Err, Ok, nat_lt, ◌%◌, ◌*◌, ◌-◌}
 
 module _ (w : Words) (d : DownWrite) where
   down_sections : (s : DownWriteStep) → (after_event w (down_write_next d s)).section ≡ w.section
-  down_sections (DownWriteStep.Enters Transition.Loads) = refl
-  down_sections (DownWriteStep.Enters (Transition.Exchanges from to)) = refl
-  down_sections (DownWriteStep.AwaitsSections g) = update_same w.section g.task
-  down_sections (DownWriteStep.CallsBack Transition.Loads) = refl
-  down_sections (DownWriteStep.CallsBack (Transition.Exchanges from to)) = refl
-  down_sections other = refl
+  down_sections other = grind arith
 
   down_umount : (s : DownWriteStep) → (after_event w (down_write_next d s)).umount ≡ w.umount
-  down_umount (DownWriteStep.Enters Transition.Loads) = refl
-  down_umount (DownWriteStep.Enters (Transition.Exchanges from to)) = refl
-  down_umount (DownWriteStep.CallsBack Transition.Loads) = refl
-  down_umount (DownWriteStep.CallsBack (Transition.Exchanges from to)) = refl
-  down_umount other = refl
+  down_umount other = grind arith
 
   down_counts : (s : DownWriteStep) → (after_event w (down_write_next d s)).level ≡ w.level
-  down_counts (DownWriteStep.Enters Transition.Loads) = refl
-  down_counts (DownWriteStep.Enters (Transition.Exchanges from to)) = refl
-  down_counts (DownWriteStep.CallsBack Transition.Loads) = refl
-  down_counts (DownWriteStep.CallsBack (Transition.Exchanges from to)) = refl
-  down_counts (DownWriteStep.Sums sum) = ap (λ (ws : Words). ws.level) (load_same w (WordName.LevelCount d.level sum.words))
-  down_counts other = refl
+  down_counts other = grind arith
 
 up_sections : (w : Words) (u : UpWrite) (s : UpWriteStep) → (after_event w (up_write_next u s)).section ≡ w.section
-up_sections w u UpWriteStep.ClearsBlock = refl
-up_sections w u (UpWriteStep.Exits Transition.Loads) = refl
-up_sections w u (UpWriteStep.Exits (Transition.Exchanges from to)) = refl
+up_sections w u a2 = grind arith
 
 none_left : (c : Config) (w : Words) (i : ℕ) → 4 ≤ i → i ≤ 3 → NothingCounted c w i
 none_left c w i low high = absurd (omega (arith, low, high))
@@ -59,41 +43,18 @@ module _ (c : Config) (after : Words) (x : Freeze) (even : NobodyInside c after)
   -- after an event of the closing of a level
   closes_falls : (d : DownWrite) (n : ℕ) (next : Next DownWrite) → (d.level ≡ 1 → after.umount ≡ 0) → LevelsAreFree c after (FreezeStep.Closes d) →
       DownFalls after d n next → FreezeFalls c after (n + closed_rank x d.level + 1) (after_closing x d.level next)
-  closes_falls d n (Next.Go e) lock levels h = (
-    omega (arith, h.0, ap (closed_rank x) h.1),
-    (even, λ q. lock (sym h.1 ∙ q), λ i low high. levels i (omega (arith, h.1, low)) high),
-  )
-  closes_falls d n (Next.Wait e) lock levels h = (
-    omega (arith, h.0, ap (closed_rank x) h.1),
-    (even, λ q. lock (sym h.1 ∙ q), λ i low high. levels i (omega (arith, h.1, low)) high),
-  )
-  closes_falls d n (Next.Done answer) lock levels h =
-      elim (eqb_tells d.level 1) [
-        | inl z ↦ rw z.0 (omega arith, (even, lock z.1, λ i low high. levels i (omega (arith, z.1, low)) high))
-        | inr z ↦ elim (eqb_tells d.level 2) [
-          | inl y ↦ rw (z.0, y.0) (omega arith, (even, tt, λ i low high. levels i (omega (arith, y.1, low)) high))
-          | inr y ↦ rw (z.0, y.0) (omega arith, (even, tt, none_left c after))
-        ]
-      ]
+  closes_falls d n a2 lock levels h = grind arith
 
   cleans_falls : (n : ℕ) (next : Next ClearMarks) → 1 ≤ n → ((i : ℕ) → 3 ≤ i → i ≤ 3 → NothingCounted c after i) →
       Falls (λ (y : ClearMarks). y.nodes - y.node) (λ (y : ClearMarks). Unit {0}) n next →
       FreezeFalls c after (closing_rank x + n + 11) (after_clearing x next)
-  cleans_falls n (Next.Go marks) some levels h = (omega (arith, h.0), (even, tt, levels))
-  cleans_falls n (Next.Wait marks) some levels h = (omega (arith, h.0), (even, tt, levels))
-  cleans_falls n (Next.Done answer) some levels h = (omega (arith, some), (even, tt, levels))
+  cleans_falls n a1 some levels h = grind arith
 
   -- after an event of the reopening of a level
   reopens_falls : (level r code : ℕ) (next : Next UpWrite) →
       Falls (reopens_rank after) (λ (y : UpWrite). Unit {0}) (r + 3 * (level - 1) + 1) next →
       FreezeFalls c after (r + 3 * (level - 1) + 1) (after_reopening x level code next)
-  reopens_falls level r code (Next.Go u) h = (h.0, (even, tt, none_left c after))
-  reopens_falls level r code (Next.Wait u) h = (h.0, (even, tt, none_left c after))
-  reopens_falls level r code (Next.Done answer) h =
-      elim (eqb_tells (level - 1) 0) [
-        | inl z ↦ rw z.0 (omega arith, (even, tt, none_left c after))
-        | inr z ↦ rw z.0 (omega (arith, z.1), (even, tt, none_left c after))
-      ]
+  reopens_falls level r code a3 h = grind arith
 
 module _ (c : Config) (some : 1 ≤ c.processors) (w : World) (good : IsGood c w) (t : ℕ) (lt : t < c.tasks) (x : Freeze) where
   freeze_falls : (hook : HookAnswer) (s : FreezeStep) → ((i : ℕ) → sync_role_of i (w.views t).phase ≡ stand_sync i (freeze_stand s)) →

@@ -55,9 +55,7 @@ module _ (c : Config) (lim : IsWithin c) (i value : ℕ) (hook : HookAnswer) (ea
   closing_found s = found_by (down_write_next (closing_at c i s) s).1 value
 
   pub closing_leaves : (s : DownWriteStep) → Leaves (closing_trace s) earlier
-  closing_leaves (DownWriteStep.Enters Transition.Loads) = (refl, refl, refl, refl)
-  closing_leaves (DownWriteStep.CallsBack Transition.Loads) = (refl, refl, refl, refl)
-  closing_leaves other = (refl, refl, refl, refl)
+  closing_leaves other = grind arith
 
   -- what the trace says after the event of a step
   abbrev AfterClosing : DownWriteStep → Type 0
@@ -67,19 +65,13 @@ module _ (c : Config) (lim : IsWithin c) (i value : ℕ) (hook : HookAnswer) (ea
 
   -- a step with no sum comes, whatever state was left
   state_goes : (trace : List Traced) (state : GpState) → ClosingGoes c i trace (closing_at c i (entered_from c.tasks state))
-  state_goes trace GpState.Idle = (entered_from c.tasks GpState.Idle, refl, tt)
-  state_goes trace GpState.Enter = (DownWriteStep.AwaitsPassed, refl, tt)
-  state_goes trace other = (DownWriteStep.SetsBlock, refl, tt)
+  state_goes trace other = grind arith
 
   enter_goes : (trace : List Traced) (n : TransitionNext) → ClosingGoes c i trace (closing_at c i (enter_step c.tasks n))
-  enter_goes trace (TransitionNext.More transition) = (DownWriteStep.Enters transition, refl, tt)
-  enter_goes trace TransitionNext.Undefined = (DownWriteStep.Enters Transition.Loads, refl, tt)
-  enter_goes trace (TransitionNext.Made state) = state_goes trace state
+  enter_goes trace a1 = grind arith
 
   callback_goes : (trace : List Traced) (n : TransitionNext) → ClosingGoes c i trace (closing_at c i (callback_step n))
-  callback_goes trace (TransitionNext.More transition) = (DownWriteStep.CallsBack transition, refl, tt)
-  callback_goes trace TransitionNext.Undefined = (DownWriteStep.CallsBack Transition.Loads, refl, tt)
-  callback_goes trace (TransitionNext.Made state) = (DownWriteStep.SetsBlock, refl, tt)
+  callback_goes trace a1 = grind arith
 
   -- a task is passed
   passed_goes : (trace : List Traced) (g : Grace) →
@@ -108,12 +100,7 @@ module _ (c : Config) (lim : IsWithin c) (i value : ℕ) (hook : HookAnswer) (ea
   -- the sync word was found past GP_ENTER, or a writer in its grace period
   looks_at_sync : (o : Option SyncWord) → unpack value ≡ o →
       ClosingNext c i (closing_trace DownWriteStep.AwaitsPassed) (passed_awaited (closing_at c i DownWriteStep.AwaitsPassed) o) None
-  looks_at_sync None e = ((DownWriteStep.AwaitsPassed, refl, tt), refl)
-  looks_at_sync (Some word) e =
-      elim (cases_Bool (is_passed word.state)) [
-        | inl f ↦ rw f ((DownWriteStep.SetsBlock, refl, tt), refl)
-        | inr f ↦ rw f ((DownWriteStep.AwaitsPassed, refl, tt), refl, inl (rw (e, f) refl))
-      ]
+  looks_at_sync a0 e = grind arith
 
   sum_begins : (trace : List Traced) → ClosingGoes c i trace (closing_at c i sum_begun)
   sum_begins trace = (sum_begun, refl, (lim.some_processor, tt, refl))

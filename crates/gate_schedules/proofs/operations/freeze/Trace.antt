@@ -148,12 +148,7 @@ closing_says : (c : Config) (t : ℕ) (holder : Holder) (i : ℕ) (s : DownWrite
     (action : Option Action) → IsClosing i (e ∷ earlier) added → ClosingNext c i (e ∷ earlier) n action →
     Says (FreezeAt c t holder) c (Op.Freeze holder) (e ∷ earlier)
     (map_next Phase.Freezes (after_closing (freeze_of c t holder (FreezeStep.Closes (closing_at c i s))) i n)) (actions_after action added)
-closing_says c t holder i s e earlier added (Next.Go d) action level h =
-    rw h.1 (FreezeStep.Closes d, refl, (i, h.0.0, h.0.1, level, h.0.2))
-closing_says c t holder i s e earlier added (Next.Wait d) action level h =
-    rw h.1 ((FreezeStep.Closes d, refl, (i, h.0.0, h.0.1, level, h.0.2)), inr h.2)
-closing_says c t holder i s e earlier added (Next.Done answer) action level h =
-    rw h (level_closed i c.nodes, refl, level_passed c holder i (e ∷ earlier) added level)
+closing_says c t holder i s e earlier added a8 action level h = grind arith
 
 -- where no level is left closed, the failed freeze gives `umount` back, and else it reopens the highest
 fails_says : (c : Config) (holder : Holder) (i code : ℕ) (trace : List Traced) (added : List Action) → AreLeft i trace added →
@@ -264,26 +259,10 @@ module _ (c : Config) (lim : IsWithin c) (t : ℕ) (holder : Holder) (value : �
       ]
 
   sets_fs : (hook : HookAnswer) → StepSays c holder FreezeStep.SetsFs earlier added → After hook FreezeStep.SetsFs
-  sets_fs (Ok answer) h = (
-    FreezeStep.Closes (closing_at c 3 (DownWriteStep.Enters Transition.Loads)),
-    refl,
-    (3, DownWriteStep.Enters Transition.Loads, refl, (ap (λ (l : List Action). Action.Stage 3 ∷ l) h.0, h.1, refl), tt),
-  )
-  sets_fs (Err code) h = (
-    freeze_fails 2 code,
-    refl,
-    fails_says c holder 2 code (longer (Err code) FreezeStep.SetsFs) (Action.Stage 0 ∷ added)
-        (rw h.2 (ap (λ (l : List Action). Action.Stage 0 ∷ l) h.0)) (inl (refl, refl, refl)),
-  )
+  sets_fs a0 h = grind arith
 
   sets_complete : (hook : HookAnswer) → StepSays c holder FreezeStep.SetsComplete earlier added → After hook FreezeStep.SetsComplete
-  sets_complete (Ok answer) h = (FreezeStep.Holds nobody, refl, rw (h.1.1, h.1.0) (ap (λ (l : List Action). Action.Stage 4 ∷ l) h.0))
-  sets_complete (Err code) h = (
-    freeze_fails 3 code,
-    refl,
-    fails_says c holder 3 code (longer (Err code) FreezeStep.SetsComplete) (Action.Stage 0 ∷ added)
-        (ap (λ (l : List Action). Action.Stage 0 ∷ l) h.0, h.2) (inl (refl, refl, refl)),
-  )
+  sets_complete a0 h = grind arith
 
   -- a level is being left, or it is left and the level below it comes
   leaves_on : (i code : ℕ) (from : Transition) (trace : List Traced) (n : TransitionNext) → AreLeft i trace added →
@@ -293,14 +272,7 @@ module _ (c : Config) (lim : IsWithin c) (t : ℕ) (holder : Holder) (value : �
       (after_reopening (freeze_of c t holder (FreezeStep.Reopens (record { level = suc i; step = UpWriteStep.Exits from }) code)) (suc i) code
       (exit_made (record { level = suc i; step = UpWriteStep.Exits from }) n)))
       added
-  leaves_on i code from trace (TransitionNext.More transition) h said =
-      (FreezeStep.Reopens (record { level = suc i; step = UpWriteStep.Exits transition }) code, refl, (suc i, UpWriteStep.Exits transition, refl, h, said))
-  leaves_on i code from trace TransitionNext.Undefined h said = (
-    FreezeStep.Reopens (record { level = suc i; step = UpWriteStep.Exits Transition.Loads }) code,
-    refl,
-    (suc i, UpWriteStep.Exits Transition.Loads, refl, h, said),
-  )
-  leaves_on i code from trace (TransitionNext.Made state) h said = rw (below_next i) (freeze_fails i code, refl, fails_says c holder i code trace added h said)
+  leaves_on i code from trace a4 h said = grind arith
 
   -- an event on a level's words leaves what is left
   still_left : (hook : HookAnswer) (i n : ℕ) (transition : Transition) → AreLeft n earlier added →

@@ -76,9 +76,7 @@ module _ (c : Config) (t : ℕ) (w next : World) (earlier : List World) where
   -- a task whose view another entry leaves alone
   pub read_stays : (i : ℕ) (s : DownReadStep) → asks_level (next.views t).phase ≡ read_asks s → ReadCause c t w earlier i s →
       ReadCause c t next (w ∷ earlier) i s
-  read_stays i CountsDown e h = cause_skips i e h
-  read_stays i LeavesBlocked e h = cause_skips i e h
-  read_stays i s e h = tt
+  read_stays i s e h = grind arith
 
   -- in the next world the task asks where this comes next and asks
   abbrev pub AsksNext : Next DownRead → Type 0
@@ -121,12 +119,8 @@ module _ (c : Config) (t : ℕ) (w next : World) (earlier : List World) where
 
   -- of a down-read that stands alone: whether its next phase asks
   pub asks_next : (n : Next DownRead) → (next.views t).phase ≡ phase_after (map_next DownReads n) → AsksNext n
-  asks_next (Go r) e = ap asks_level e
-  asks_next (Wait r) e = ap asks_level e
-  asks_next (Done answer) e = tt
+  asks_next a0 e = grind arith
 
   -- and what is kept of it
   pub next_cause : (n : Next DownRead) → HasNextCause n → CauseOf c t next (w ∷ earlier) (phase_after (map_next DownReads n))
-  next_cause (Go r) h = h
-  next_cause (Wait r) h = h
-  next_cause (Done answer) h = tt
+  next_cause a0 h = grind arith

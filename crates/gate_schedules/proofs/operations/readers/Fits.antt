@@ -63,27 +63,17 @@ module _ (h k : ℕ → Bool) (levels : (i : ℕ) → 1 ≤ i → i ≤ 3 → h 
 -- the word of each event of a down-read is there
 pub read_there : (c : Config) (t : ℕ) → t < c.tasks → (r : DownRead) (s : DownReadStep) → 1 ≤ r.level → r.level ≤ 3 →
     r.cpu < c.processors → r.task ≡ t → IsWord (extents_of c) (down_read_next r s).0
-read_there c t lt r LoadsSync l1 l3 p same = (l1, l3)
-read_there c t lt r CountsUpFast l1 l3 p same = (l1, l3, p)
-read_there c t lt r CountsUpSlow l1 l3 p same = (l1, l3, p)
-read_there c t lt r LoadsBlock l1 l3 p same = (l1, l3)
-read_there c t lt r CountsDown l1 l3 p same = (l1, l3, p)
-read_there c t lt r other l1 l3 p same = omega (arith, same, lt)
+read_there c t lt r other l1 l3 p same = grind arith
 
 -- its action can be done
 pub read_acts : (held : Holdings) (r : DownRead) (s : DownReadStep) (found : ℕ) → 1 ≤ r.level → r.level ≤ 3 →
     ActionFits held (down_read_after r s found).1
-read_acts held r CountsUpFast found l1 l3 = (l1, l3)
-read_acts held r LoadsBlock found l1 l3 =
-    by_bool (found == 0) (λ b. ActionFits held (if b then Some (Grant (Level r.level)) else None)) (l1, l3) tt
-read_acts held r s found l1 l3 = tt
+read_acts held r s found l1 l3 = grind arith
 
 -- it moves no access at a mount
 pub read_mounts : (held : Holdings) (r : DownRead) (s : DownReadStep) (found : ℕ) →
     (held_after (down_read_after r s found).1 held).mounts ≡ held.mounts
-read_mounts held r LoadsBlock found =
-    by_bool (found == 0) (λ b. (held_after (if b then Some (Grant (Level r.level)) else None) held).mounts ≡ held.mounts) refl refl
-read_mounts held r s found = refl
+read_mounts held r s found = grind arith
 
 -- What comes after an event of a down-read at this level, on this processor, fits these accesses; and where it ends well, the level is
 -- held. So an operation that goes on inside the level knows that it is.
@@ -121,17 +111,12 @@ module _ (c : Config) (t : ℕ) (r : DownRead) (l1 : 1 ≤ r.level) (l3 : r.leve
 -- what comes after an event of a down-read that stands alone fits
 pub read_fits : (c : Config) (t i p : ℕ) (held : Holdings) (n : Next DownRead) → ReadGoes c t i p held n →
     Fits c t held (phase_after (map_next DownReads n))
-read_fits c t i p held (Go r) h = h.0
-read_fits c t i p held (Wait r) h = h.0
-read_fits c t i p held (Done answer) h = tt
+read_fits c t i p held a5 h = grind arith
 
 -- the word of each event of a callback is there
 pub callback_there : (c : Config) (b : Callback) (s : CallbackStep) → 1 ≤ b.level → b.level ≤ 3 → GraceFits c.tasks s →
     IsWord (extents_of c) (callback_next b s).0
-callback_there c b (Claims Loads) l1 l3 f = (l1, l3)
-callback_there c b (AwaitsSections grace) l1 l3 f = f.1
-callback_there c b (CallsBack Loads) l1 l3 f = (l1, l3)
-callback_there c b other l1 l3 f = (l1, l3)
+callback_there c b other l1 l3 f = grind arith
 
 -- no event of a callback adds an action
 pub callback_acts_none : (b : Callback) (s : CallbackStep) (found : ℕ) → (callback_after b s found).1 ≡ None
@@ -144,9 +129,7 @@ NextGraceFits tasks next = HoldsOfNext (λ (x : Callback). GraceFits tasks x.ste
 
 -- so it is after an event of the claim
 claim_grace : (b : Callback) (n : TransitionNext) → 0 < b.tasks → NextGraceFits b.tasks (claimed b n)
-claim_grace b (More transition) some = tt
-claim_grace b Undefined some = tt
-claim_grace b (Made state) some = (refl, some)
+claim_grace b a1 some = grind arith
 
 -- after an event of its own transition
 call_grace : (b : Callback) (n : TransitionNext) → NextGraceFits b.tasks (called_back b n)
@@ -173,9 +156,7 @@ looked_grace b g found same more =
 -- so its grace period fits after each event of a callback
 grace_goes : (b : Callback) (s : CallbackStep) (found : ℕ) → 0 < b.tasks → GraceFits b.tasks s →
     NextGraceFits b.tasks (callback_after b s found).0
-grace_goes b (Claims transition) found some f = claim_grace b (transition_after on_claim transition found) some
-grace_goes b (AwaitsSections grace) found some f = looked_grace b grace found f.0 f.1
-grace_goes b (CallsBack transition) found some f = call_grace b (transition_after on_callback transition found)
+grace_goes b a1 found some f = grind arith
 
 -- a level at which each word that a callback reads has this value
 abbrev level_with : ℕ → CallbackStep → SyncLevel
@@ -200,11 +181,7 @@ knows_there b found some k = (callbacks_are_there 0 found (level_with found b.st
 
 -- and so at each step
 knows_next : (b : Callback) (s : CallbackStep) (found : ℕ) → 0 < b.tasks → KnowsCallback s → KnowsNext b (callback_after b s found).0
-knows_next b (Claims Loads) found some k = knows_there (at_callback b (Claims Loads)) found some k
-knows_next b (Claims (Exchanges from to)) found some k = knows_there (at_callback b (Claims (Exchanges from to))) found some k
-knows_next b (AwaitsSections grace) found some k = knows_there (at_callback b (AwaitsSections grace)) found some k
-knows_next b (CallsBack Loads) found some k = knows_there (at_callback b (CallsBack Loads)) found some k
-knows_next b (CallsBack (Exchanges from to)) found some k = knows_there (at_callback b (CallsBack (Exchanges from to))) found some k
+knows_next b a1 found some k = grind arith
 
 -- and it is at the same level
 abbrev AtLevelOf : Callback → Next Callback → Type 0
@@ -212,15 +189,11 @@ AtLevelOf b next = HoldsOfNext (λ (x : Callback). x.level ≡ b.level) next
 
 -- after an event of the claim
 claim_level : (b : Callback) (n : TransitionNext) → AtLevelOf b (claimed b n)
-claim_level b (More transition) = refl
-claim_level b Undefined = tt
-claim_level b (Made state) = refl
+claim_level b a1 = grind arith
 
 -- of its own transition
 call_level : (b : Callback) (n : TransitionNext) → AtLevelOf b (called_back b n)
-call_level b (More transition) = refl
-call_level b Undefined = refl
-call_level b (Made state) = tt
+call_level b a1 = grind arith
 
 -- and after a load of a section word
 looked_level : (b : Callback) (n : GraceNext) → AtLevelOf b (callback_looked b n)
@@ -229,19 +202,13 @@ looked_level b other = refl
 
 -- so after each event
 same_level : (b : Callback) (s : CallbackStep) (found : ℕ) → AtLevelOf b (callback_after b s found).0
-same_level b (Claims transition) found = claim_level b (transition_after on_claim transition found)
-same_level b (AwaitsSections grace) found = looked_level b (looked grace found)
-same_level b (CallsBack transition) found = call_level b (transition_after on_callback transition found)
+same_level b a1 found = grind arith
 
 module _ (c : Config) (within : IsWithin c) (t : ℕ) (held : Holdings) (b : Callback) where
   -- all this together says that what comes next fits
   all_fit : 1 ≤ b.level → b.level ≤ 3 → b.tasks ≡ c.tasks → (n : Next Callback) → AtLevelOf b n → NextGraceFits b.tasks n →
       KnowsNext b n → Fits c t held (phase_after (map_next Callbacks n))
-  all_fit l1 l3 same (Go x) l g k =
-      (omega (arith, l, l1), omega (arith, l, l3), k.0 ∙ same, subst (λ n. GraceFits n x.step) same g, k.1)
-  all_fit l1 l3 same (Wait x) l g k =
-      (omega (arith, l, l1), omega (arith, l, l3), k.0 ∙ same, subst (λ n. GraceFits n x.step) same g, k.1)
-  all_fit l1 l3 same (Done answer) l g k = tt
+  all_fit l1 l3 same a3 l g k = grind arith
 
   -- what comes after each event of a callback fits
   pub callback_goes : (s : CallbackStep) (found : ℕ) → PhaseFits c t held (Callbacks (at_callback b s)) →

@@ -1,5 +1,6 @@
 -- Events of a down-read leave the rcu_sync of each level, and the sections.
 use Rattle.std.proofs.{Common.{◌≡◌, ℕ, ◌-◌, ◌<◌, ◌≤◌, refl, sym, ap, ◌∙◌, subst, inl, inr}, lemmas.Bool.Decides.eqb_tells}
+use Rattle.std.proofs.Common.{arith}
 use Rattle.std.specs.Prelude.{Some, Bool, true, false, ◌==◌, if◌then◌else◌}
 use Rattle.finite_sums.specs.Sums.{update}
 use Rattle.access_model.specs.{Replies.map_next, declared.replies.Next.{Next, TheVariants.{Go, Wait, Done}}}
@@ -39,24 +40,17 @@ block_level r false = refl
 -- a down-read stays at its level
 pub keeps_level : (r : DownRead) (s : DownReadStep) (found : ℕ) →
     HoldsOfNext (λ (x : DownRead). x.level ≡ r.level) (down_read_after r s found).0
-keeps_level r LoadsBlock found = block_level r (found == 0)
-keeps_level r LeavesAdmitted found = tt
-keeps_level r LeavesBlocked found = left_level r r.wait
-keeps_level r s found = refl
+keeps_level r s found = grind arith
 
 -- at its level, the role of what comes after an event is the one of its step
 role_next : (i : ℕ) (n : Next DownRead) → HoldsOfNext (λ (x : DownRead). x.level ≡ i) n →
     by_next (λ (x : DownRead). down_read_role x.step) IsApart n ≡ sync_role_of i (phase_after (map_next DownReads n))
-role_next i (Go x) h = sym (ap (λ k. sync_role_if (i == k) (down_read_role x.step)) h ∙ sync_on i (down_read_role x.step))
-role_next i (Wait x) h = sym (ap (λ k. sync_role_if (i == k) (down_read_role x.step)) h ∙ sync_on i (down_read_role x.step))
-role_next i (Done answer) h = refl
+role_next i a1 h = grind arith
 
 -- at another level there is none
 pub role_elsewhere : (i j : ℕ) → (j ≡ i → ⊥) → (n : Next DownRead) → HoldsOfNext (λ (x : DownRead). x.level ≡ i) n →
     sync_role_of j (phase_after (map_next DownReads n)) ≡ IsApart
-role_elsewhere i j ne (Go x) h = sync_off j x.level (down_read_role x.step) (λ q. ne (q ∙ h))
-role_elsewhere i j ne (Wait x) h = sync_off j x.level (down_read_role x.step) (λ q. ne (q ∙ h))
-role_elsewhere i j ne (Done answer) h = refl
+role_elsewhere i j ne a3 h = grind arith
 
 -- and whether it is inside a section is what its step says
 pub inside_next : (n : Next DownRead) →
@@ -66,10 +60,7 @@ inside_next other = refl
 
 -- each event of a down-read is of a word of its level
 pub word_of_level : (r : DownRead) (s : DownReadStep) → IsOfLevel r.level (down_read_next r s).0
-word_of_level r EntersSection = tt
-word_of_level r LeavesAdmitted = tt
-word_of_level r LeavesBlocked = tt
-word_of_level r other = refl
+word_of_level r other = grind arith
 
 -- a blocked down-read is apart from every rcu_sync
 pub blocked_apart : (r : DownRead) (b : Bool) (i : ℕ) → sync_role_of i (phase_after (map_next DownReads (left_blocked r b))) ≡ IsApart

@@ -19,11 +19,7 @@ use Rattle.gate_schedules.specs.operations.Ways.{WriteIsFree, Falls, PhaseEnds}
 
 -- the step after the load of a sync word
 in_rank : (wait : Bool) (s : GpState) → read_rank wait (step_in s) ≤ 3
-in_rank wait Idle = omega arith
-in_rank wait Enter = omega arith
-in_rank wait Passed = omega arith
-in_rank wait Exit = omega arith
-in_rank wait Replay = omega arith
+in_rank wait a1 = grind arith
 
 pub found_rank : (wait : Bool) (o : Option SyncWord) → is_some o ≡ true → read_rank wait (step_found o) ≤ 3
 found_rank wait None some = absurd cc
@@ -38,14 +34,7 @@ module _ (w : Words) (r : DownRead) where
   -- a down-read leaves each `block`
   pub read_blocks : (s : DownReadStep) →
       (put w (down_read_next r s).0 (left (down_read_next r s).1 (read w (down_read_next r s).0))).block ≡ w.block
-  read_blocks EntersSection = refl
-  read_blocks LoadsSync = refl
-  read_blocks CountsUpFast = refl
-  read_blocks CountsUpSlow = refl
-  read_blocks LoadsBlock = update_same w.block r.level
-  read_blocks CountsDown = refl
-  read_blocks LeavesAdmitted = refl
-  read_blocks LeavesBlocked = refl
+  read_blocks a0 = grind arith
 
   pub read_block : (s : DownReadStep) →
       (put w (down_read_next r s).0 (left (down_read_next r s).1 (read w (down_read_next r s).0))).block r.level ≡ w.block r.level
@@ -54,14 +43,7 @@ module _ (w : Words) (r : DownRead) where
   -- and all flags
   pub read_flags : (s : DownReadStep) →
       (put w (down_read_next r s).0 (left (down_read_next r s).1 (read w (down_read_next r s).0))).flags ≡ w.flags
-  read_flags EntersSection = refl
-  read_flags LoadsSync = refl
-  read_flags CountsUpFast = refl
-  read_flags CountsUpSlow = refl
-  read_flags LoadsBlock = refl
-  read_flags CountsDown = refl
-  read_flags LeavesAdmitted = refl
-  read_flags LeavesBlocked = refl
+  read_flags a0 = grind arith
 
   -- its end where it was blocked: one that waits begins again
   left_falls : (after : Words) → (r.wait ≡ true → after.block r.level ≡ 0) → (b : Bool) → r.wait ≡ b →
@@ -76,18 +58,7 @@ module _ (w : Words) (r : DownRead) where
       (r.wait ≡ true → is_admitted s ≡ false → w.block r.level ≡ 0) →
       Falls (λ (y : DownRead). read_rank y.wait y.step) (ReadIsFree after) (read_rank r.wait s)
       (down_read_after r s (found_by (down_read_next r s).1 (read w (down_read_next r s).0))).0
-  read_falls after EntersSection may stays free = (omega arith, λ e a. stays e refl)
-  read_falls after LoadsSync may stays free = (omega (arith, found_rank r.wait (unpack (w.sync r.level)) may), λ e a. stays e refl)
-  read_falls after CountsUpFast may stays free = (omega arith, λ e a. absurd (true≢false a))
-  read_falls after CountsUpSlow may stays free = (omega arith, λ e a. stays e refl)
-  read_falls after LoadsBlock may stays free =
-      elim (eqb_tells (w.block r.level) 0) [
-        | inl h ↦ rw h.0 (omega arith, λ e a. absurd (true≢false a))
-        | inr h ↦ rw h.0 (omega (arith, blocked_small r.wait (λ e. h.1 (free e refl))), λ e a. stays e refl)
-      ]
-  read_falls after CountsDown may stays free = (omega arith, λ e a. stays e refl)
-  read_falls after LeavesAdmitted may stays free = tt
-  read_falls after LeavesBlocked may stays free = left_falls after (λ e. stays e refl) r.wait refl
+  read_falls after a1 may stays free = grind arith
 
 -- of each phase of a start
 pub read_ends : (c : Config) (r : DownRead) → PhaseEnds c (DownReads r)
@@ -109,39 +80,19 @@ module _ (after : Words) (m p : ℕ) where
   takes_falls : (n : ℕ) (next : Next DownRead) → HoldIsClear after m →
       Falls (λ (y : DownRead). read_rank y.wait y.step) (ReadIsFree after) n next →
       Falls write_rank (WriteIsFree after) (n + 8) (then_wants m p next)
-  takes_falls n (Go r) clear h = (omega (arith, h.0), (h.1, clear))
-  takes_falls n (Wait r) clear h = (omega (arith, h.0), (h.1, clear))
-  takes_falls n (Done (Ok reply)) clear h = (omega arith, clear)
-  takes_falls n (Done (Err refusal)) clear h = tt
+  takes_falls n a1 clear h = grind arith
 
   -- after an event at the mount: where it is refused, the level is left
   gives_falls : (n : ℕ) (next : Next Want) →
       Falls (λ (y : Want). want_rank y.step) (λ (y : Want). HoldIsClear after y.mount) n next →
       Falls write_rank (WriteIsFree after) (n + 1) (then_gives_back m p next)
-  gives_falls n (Go x) h = (omega (arith, h.0), h.1)
-  gives_falls n (Wait x) h = (omega (arith, h.0), h.1)
-  gives_falls n (Done (Ok reply)) h = tt
-  gives_falls n (Done (Err refusal)) h = (omega arith, tt)
+  gives_falls n a1 h = grind arith
 
 -- each event of a write access
 write_falls : (w : Words) (x : WritePhase) → WriteIsFree w x → MayHold (write_next x).0 (read w (write_next x).0) →
     let after : Words = put w (write_next x).0 (left (write_next x).1 (read w (write_next x).0)) in
     Falls write_rank (WriteIsFree after) (write_rank x) (write_after x (found_by (write_next x).1 (read w (write_next x).0))).0
-write_falls w (Takes m r) free may =
-    let after : Words = put w (write_next (Takes m r)).0 (left (write_next (Takes m r)).1 (read w (write_next (Takes m r)).0)) in
-    takes_falls after m r.cpu (read_rank r.wait r.step)
-    (down_read_after r r.step (found_by (write_next (Takes m r)).1 (read w (write_next (Takes m r)).0))).0
-    (ap (λ f. has_flag (f m) 2) (read_flags w r r.step) ∙ free.1)
-    (read_falls w r after r.step may (λ e a. read_block w r r.step ∙ free.0 e a) free.0)
-write_falls w (WriteWants x) clear may =
-    let after : Words =
-    put w (write_next (WriteWants x)).0 (left (write_next (WriteWants x)).1 (read w (write_next (WriteWants x)).0)) in
-    gives_falls after x.mount x.cpu (want_rank x.step)
-    (want_after x x.step (found_by (write_next (WriteWants x)).1 (read w (write_next (WriteWants x)).0))).0
-    (want_falls w x after (ap (λ f. has_flag f 2) (want_flags w x x.step) ∙ clear) clear x.step)
-write_falls w (GivesBack m p refusal) free may = tt
-write_falls w (Drops m p) free may = (omega arith, tt)
-write_falls w (Ends p) free may = tt
+write_falls w a1 free may = grind arith
 
 -- of each phase of a write access
 pub write_ends : (c : Config) (x : WritePhase) → PhaseEnds c (Writes x)

@@ -1,5 +1,6 @@
 -- Each event of a down-read, of an up-read and of a callback is one of each level's kinds of event.
 use Rattle.access_model.specs.{Replies.map_next, declared.replies.Next.TheVariants.Go}
+use Rattle.std.proofs.Common.{arith}
 use Rattle.cpu_words.specs.{Hooks.HookAnswer, Touches.{found_by, left, wrap_add}, Words.{put, read}, declared.events.Touch.{Touch, TheVariants.Load}}
 use Rattle.cpu_words.specs.declared.names.WordName.{WordName, TheVariants.{Block, LevelCount, Section, Sync}}
 use Rattle.finite_sums.proofs.Totals.{update_at, update_off, update_same}
@@ -27,22 +28,7 @@ module _ (w : World) (t : ℕ) (v : View) where
       (record (left_by (level_in w i) t (name, touch) (read w.words name) (sync_role_of i v.phase)) {
         inside = update (level_in w i).inside t (inside v.phase);
       }) ≡ level_in (record { words = put w.words name (left touch (read w.words name)); views = update w.views t v }) i
-  put_there i (Sync j) e touch =
-      let n : ℕ = left touch (w.words.sync j) in
-      (λ q. record (left_by (level_in w i) t (Sync j, touch) (w.words.sync j) (sync_role_of i v.phase)) {
-        sync = (sym (update_at w.words.sync j n) ∙ ap (update w.words.sync j n) e) q;
-        inside = update (level_in w i).inside t (inside v.phase);
-      }) ∙ sym (level_moved w t i (put w.words (Sync j) n) v)
-  put_there i (Block j) e touch =
-      let n : ℕ = left touch (w.words.block j) in
-      (λ q. record (left_by (level_in w i) t (Block j, touch) (w.words.block j) (sync_role_of i v.phase)) {
-        block = (sym (update_at w.words.block j n) ∙ ap (update w.words.block j n) e) q;
-        inside = update (level_in w i).inside t (inside v.phase);
-      }) ∙ sym (level_moved w t i (put w.words (Block j) n) v)
-  put_there i (LevelCount j p) e touch =
-      sym (level_moved w t i (put w.words (LevelCount j p) (left touch (w.words.level j p))) v)
-  put_there i (Section u) e touch = sym (level_moved w t i (put w.words (Section u) (left touch (w.words.section u))) v)
-  put_there i name e touch = absurd e
+  put_there i name e touch = grind arith
 
   -- an event at one level leaves another one, where the task's part in that is the same
   stays_there : (i j : ℕ) → (j ≡ i → ⊥) → (name : WordName) (touch : Touch) → IsEventAt i name touch →
@@ -111,12 +97,7 @@ block_inside r false = refl
 -- an event of a down-read that changes no section word leaves it inside its section
 stays_inside : (r : DownRead) (s : DownReadStep) (found : ℕ) → IsEventAt r.level (down_read_next r s).0 (down_read_next r s).1 →
     inside (phase_after (map_next DownReads (down_read_after r s found).0)) ≡ down_read_inside s
-stays_inside r LoadsSync found is = by_word (λ s. down_read_inside s ≡ 1) refl refl refl (unpack found)
-stays_inside r CountsUpFast found is = refl
-stays_inside r CountsUpSlow found is = refl
-stays_inside r LoadsBlock found is = block_inside r (found == 0)
-stays_inside r CountsDown found is = refl
-stays_inside r other found is = absurd is
+stays_inside r other found is = grind arith
 
 module _ (c : Config) (w : World) (good : IsGood c w) (hook : HookAnswer) (r : DownRead) (lt : r.task < c.tasks) (one : 1 ≤ r.level)
     (three : r.level ≤ 3) where

@@ -58,11 +58,7 @@ ReadNext base i p t wait trace added (Done (Err refusal)) = ⊥
 
 -- what holds of both additions holds of the one that a state leads to
 by_state : (P : DownReadStep → Type 0) → P CountsUpFast → P CountsUpSlow → (state : GpState) → P (step_in state)
-by_state P fast slow Idle = fast
-by_state P fast slow Enter = slow
-by_state P fast slow Passed = slow
-by_state P fast slow Exit = slow
-by_state P fast slow Replay = slow
+by_state a0 fast slow a3 = grind arith
 
 -- and of the one that a number which is a sync word leads to
 by_some : (P : DownReadStep → Type 0) → P CountsUpFast → P CountsUpSlow → (word : Option SyncWord) → is_some word ≡ true → P (step_found word)
@@ -91,24 +87,7 @@ module _ (base i p t : ℕ) (value : ℕ) (hook : HookAnswer) (earlier : List Tr
   -- each event of a down-read keeps what its trace says: its sync word is one, so it is loaded once
   pub read_event : (wait : Bool) (s : DownReadStep) → MayHold (down_read_next (read_at i p t wait s) s).0 value →
       ReadSays base i wait s earlier added → After wait s
-  read_event wait EntersSection may h = (LoadsSync, refl, (h.0, λ q. omega (arith, h.1 q), tt))
-  read_event wait LoadsSync may h =
-      by_some (λ s. ReadNext base i p t wait
-      (with_hook (event_of (down_read_next (read_at i p t wait LoadsSync) LoadsSync).0
-      (down_read_next (read_at i p t wait LoadsSync) LoadsSync).1 value) hook ∷ earlier)
-      added (Go (read_at i p t wait s)))
-      (CountsUpFast, refl, (h.0, λ q. omega (arith, h.1 q), tt)) (CountsUpSlow, refl, (h.0, λ q. omega (arith, h.1 q), tt)) (unpack value)
-      may
-  read_event wait CountsUpFast may h = (LeavesAdmitted, refl, (ap (λ l. Grant (Level i) ∷ l) h.0, λ q. omega (arith, h.1 q), tt))
-  read_event wait CountsUpSlow may h = (LoadsBlock, refl, (h.0, λ q. omega (arith, h.1 q), tt))
-  read_event wait LoadsBlock may h =
-      elim (cases_Bool (value == 0)) [
-        | inl f ↦ rw f (LeavesAdmitted, refl, (ap (λ l. Grant (Level i) ∷ l) h.0, λ q. omega (arith, h.1 q), tt))
-        | inr f ↦ rw f (CountsDown, refl, (h.0, λ q. omega (arith, h.1 q), (rw (eq-eqb i i refl, f) refl, rw (eq-eqb i i refl, f) refl)))
-      ]
-  read_event wait CountsDown may h = (LeavesBlocked, refl, (h.0, λ q. omega (arith, h.1 q), (rw (eq-eqb i i refl) h.2.0, h.2.1)))
-  read_event wait LeavesAdmitted may h = (h.0, λ q. omega (arith, h.1 q))
-  read_event wait LeavesBlocked may h = blocked wait h
+  read_event wait a1 may h = grind arith
 
 -- what a start's trace says at a phase
 abbrev pub StartAt : ℕ → ℕ → ℕ → Bool → List Traced → Phase → List Action → Type 0
@@ -129,12 +108,7 @@ within_six s n h = omega arith
 start_says : (c : Config) (i p t : ℕ) (wait : Bool) (e : Traced) (earlier : List Traced) (added : List Action) (n : Next DownRead) →
     ReadNext 0 i p t wait (e ∷ earlier) added n →
     Says (StartAt i p t wait) c (Start i p wait) (e ∷ earlier) (map_next DownReads n) added
-start_says c i p t wait e earlier added (Go r) h = (h.0, ap DownReads h.1, h.2)
-start_says c i p t wait e earlier added (Wait r) h = ((h.0.0, ap DownReads h.0.1, h.0.2), (h.1, h.2))
-start_says c i p t wait e earlier added (Done (Ok reply)) h =
-    ((h.0, tt), start_short c i p wait (e ∷ earlier) (λ q. omega (arith, h.1 q)))
-start_says c i p t wait e earlier added (Done (Err Again)) h = ((h.0, h.1), start_short c i p wait (e ∷ earlier) h.2)
-start_says c i p t wait e earlier added (Done (Err refusal)) h = absurd h
+start_says c i p t wait e earlier added a8 h = grind arith
 
 -- so it is kept along every trace of a start
 pub start_kept : (c : Config) (t i p : ℕ) (wait : Bool) → KeptWell (StartAt i p t wait) c t (Start i p wait)

@@ -32,23 +32,12 @@ module _ (c : Config) (w : World) (earlier : List World) (t : ℕ) where
   -- where an event of a down-read is a wait or a refusal, the level was closed when the task last asked: the cause that is kept says so
   pub read_waits : (r : DownRead) (s : DownReadStep) (found : ℕ) → ReadCause c t w earlier r.level s →
       WhereRefused (WasClosed c t r.level (last_asked t (w ∷ earlier))) (down_read_after r s found).0
-  read_waits r EntersSection found h = tt
-  read_waits r LoadsSync found h =
-      by_word (λ s. WhereRefused (WasClosed c t r.level (last_asked t (w ∷ earlier))) (Go (at_down_read r s))) tt tt tt (unpack found)
-  read_waits r CountsUpFast found h = tt
-  read_waits r CountsUpSlow found h = tt
-  read_waits r LoadsBlock found h = elim (cases_Bool (found == 0)) [ inl f ↦ rw f tt | inr f ↦ rw f tt ]
-  read_waits r LeavesBlocked found h =
-      by_bool r.wait (λ b. WhereRefused (WasClosed c t r.level (last_asked t (w ∷ earlier))) (left_blocked r b)) h h
-  read_waits r other found h = tt
+  read_waits r other found h = grind arith
 
   -- so a down-read that stands alone waits for another task
   pub start_waits : (r : DownRead) (n : Next DownRead) → WhereRefused (WasClosed c t r.level (last_asked t (w ∷ earlier))) n →
       HasReason c w earlier t (DownReads r) (map_next DownReads n)
-  start_waits r (Go x) h = tt
-  start_waits r (Wait x) h = h
-  start_waits r (Done (Ok reply)) h = tt
-  start_waits r (Done (Err refusal)) h = read_refused c t (w ∷ earlier) r.level refusal h
+  start_waits r a1 h = grind arith
 
   module _ (good : IsGood c w) (b : Callback) where
     -- what is said of the wait of a callback that is at this step

@@ -97,13 +97,7 @@ module _ (c : Config) where
 
     module _ (t : ℕ) (held : Holdings) where
       pub remount_acts : (x : Remount) (s : RemountStep) (found : ℕ) (hook : HookAnswer) → ActionFits held (remount_after x s found hook).1
-      remount_acts x RemountStep.SetsWritable found (Ok answer) = tt
-      remount_acts x RemountStep.SetsWritable found (Err code) = tt
-      remount_acts x RemountStep.SetsReadOnly found (Ok answer) = tt
-      remount_acts x RemountStep.SetsReadOnly found (Err code) = tt
-      remount_acts x (RemountStep.ClearsMark n) found hook =
-          by_bool (has_flag found 4) (λ b. ActionFits held (if b then Some (Action.Clean n) else None)) tt tt
-      remount_acts x s found hook = tt
+      remount_acts x s found hook = grind arith
 
       -- what comes after an event fits
       abbrev NextFits : Next Remount → Type 0

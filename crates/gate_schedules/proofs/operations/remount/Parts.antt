@@ -38,12 +38,7 @@ remount_changes x s hook h = inr refl
 remount_comes : (x : Remount) (s : RemountStep) (hook : HookAnswer) (value : ℕ) →
     owns (phase_after (map_next Phase.Remounts (remount_after x s (found_by (remount_next x s hook).1 value) hook).0)) ≡ 1 →
     (remount_owns s ≡ 1) ⊎ (takes_lock (event_of (remount_next x s hook).0 (remount_next x s hook).1 value) ≡ true)
-remount_comes x RemountStep.Locks hook value h =
-    elim (cases_Bool (value == 0)) [
-      | inl f ↦ inr f
-      | inr f ↦ absurd (omega (arith, rw f at h))
-    ]
-remount_comes x s hook value h = inl refl
+remount_comes x s hook value h = grind arith
 
 remount_work : (w : World) (x : Remount) (hook : HookAnswer) → IsOwnersWork w (Phase.Remounts x) hook
 remount_work w x hook = record {

@@ -30,16 +30,7 @@ giving_seeks true false = (refl, refl)
 giving_seeks false false = (refl, refl)
 
 pub remount_seeks : (m : ℕ) (s : RemountStep) → SeeksNone (remount_role m s)
-remount_seeks m (RemountStep.LoadsFlags at held) = loop_seeks (has_mount held m) (nat_lt m at)
-remount_seeks m (RemountStep.SetsHold at held) = loop_seeks (has_mount held m) (nat_lt m at)
-remount_seeks m (RemountStep.Sums at held sum) =
-    summing_seeks (m == at) sum (loop_role (has_mount held m) (nat_lt m at)) (loop_seeks (has_mount held m) (nat_lt m at))
-remount_seeks m (RemountStep.LoadsRemovedAgain held) = loop_seeks (has_mount held m) true
-remount_seeks m (RemountStep.LeavesHolds held) = held_seeks (has_mount held m)
-remount_seeks m (RemountStep.SetsRemount held) = loop_seeks (has_mount held m) true
-remount_seeks m (RemountStep.ClearsHold held) = held_seeks (has_mount held m)
-remount_seeks m (RemountStep.GivesUp at held) = giving_seeks (m == at) (has_mount held m)
-remount_seeks m s = (refl, refl)
+remount_seeks m s = grind arith
 
 pub passed_here : (m : ℕ) → nat_lt m (m + 1) ≡ true
 passed_here m = grind (arith, nat_tests)

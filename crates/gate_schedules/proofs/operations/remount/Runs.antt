@@ -1,5 +1,6 @@
 -- What the events of a remount make of each freeze level: they leave it.
 use Rattle.std.{proofs.Common.{◌≡◌, ℕ, ◌<◌, refl}, specs.Prelude.{Some, Ok, Err}}
+use Rattle.std.proofs.Common.{arith}
 use Rattle.access_model.specs.{Replies.map_next, declared.replies.Next.Next}
 use Rattle.cpu_words.specs.{Hooks.HookAnswer, Words.Words}
 use Rattle.mount_counts.specs.{Remounts.{at_remount, remount_after}, declared.remounts.{Remount.Remount, RemountStep.RemountStep}}
@@ -12,11 +13,7 @@ use Rattle.gate_schedules.proofs.{mounts.Runs.apart_run, operations.remount.{Eve
 -- no event of a remount changes what a level reads of the words: the superblock's flags are stored at stage 0, where nothing is frozen
 remount_words : (w : Words) (x : Remount) (hook : HookAnswer) (s : RemountStep) → KnowsStage w.stage w.sb (remount_stage_role x.nodes s) →
     (i : ℕ) → SameWords w (words_after w (Phase.Remounts (at_remount x s)) hook) (SyncAt i)
-remount_words w x (Ok answer) RemountStep.SetsWritable k i = (refl, refl, refl, not_frozen w w.remount 0 k.0)
-remount_words w x (Err code) RemountStep.SetsWritable k i = (refl, refl, refl, refl)
-remount_words w x (Ok answer) RemountStep.SetsReadOnly k i = (refl, refl, refl, not_frozen w w.remount 1 k.0)
-remount_words w x (Err code) RemountStep.SetsReadOnly k i = (refl, refl, refl, refl)
-remount_words w x hook s k i = (refl, refl, refl, refl)
+remount_words w x hook s k i = grind arith
 
 remount_outside : (next : Next Remount) → inside (phase_after (map_next Phase.Remounts next)) ≡ 0
 remount_outside (Next.Go x) = refl

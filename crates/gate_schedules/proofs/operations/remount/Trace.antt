@@ -282,12 +282,7 @@ module _ (c : Config) (lim : IsWithin c) (t : ℕ) (ro : Bool) (value : ℕ) (ea
 
   -- the file system has answered, on the way to read-only
   sets_read_only : (hook : HookAnswer) → StepSays c ro RemountStep.SetsReadOnly earlier added → After hook RemountStep.SetsReadOnly
-  sets_read_only (Ok answer) h = (RemountStep.ClearsRemount, refl, h)
-  sets_read_only (Err code) h = (
-    RemountStep.Releases (Err (GateError.Hook code)),
-    refl,
-    (rw h.1 (ap (λ (l : List Action). Action.SbRw ∷ l) h.0), rw h.1 (inl (refl, refl, refl))),
-  )
+  sets_read_only a0 h = grind arith
 
   remount_event : (hook : HookAnswer) (step : RemountStep) → StepSays c ro step earlier added → After hook step
   remount_event hook RemountStep.Locks h = locks hook h

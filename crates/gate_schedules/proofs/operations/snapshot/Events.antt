@@ -31,12 +31,7 @@ off_umount w = record w { umount = 0 }
 
 -- are as they were after each event of a snapshot
 event_beside : (w : Words) (x : Snapshot) (s : SnapshotStep) → off_umount (words_left w (snapshot_next x s)) ≡ off_umount w
-event_beside w x SnapshotStep.Locks = refl
-event_beside w x SnapshotStep.LoadsStage = ap off_umount (load_same w WordName.Stage)
-event_beside w x SnapshotStep.LoadsUsed = ap off_umount (load_same w WordName.Used)
-event_beside w x (SnapshotStep.LoadsNode n) = ap off_umount (load_same w (WordName.Node n))
-event_beside w x (SnapshotStep.LoadsKids n) = ap off_umount (load_same w (WordName.Kids n))
-event_beside w x (SnapshotStep.Releases answer) = refl
+event_beside w x a2 = grind arith
 
 -- What comes after it is the same snapshot at another step, or it is done.
 module _ (x : Snapshot) (P : Next Snapshot → Type 0) (go : (s : SnapshotStep) → P (Next.Go (at_snapshot x s)))
@@ -98,20 +93,13 @@ later_owns x s found =
 -- it changes a word that only the owner changes as the owner
 snapshot_changes : (x : Snapshot) (s : SnapshotStep) → is_owned (snapshot_next x s).0 ≡ true →
     (is_load (snapshot_next x s).1 ≡ true) ⊎ (snapshot_owns s ≡ 1)
-snapshot_changes x SnapshotStep.Locks h = absurd (true≢false (sym h))
-snapshot_changes x (SnapshotStep.Releases answer) h = absurd (true≢false (sym h))
-snapshot_changes x s h = inl refl
+snapshot_changes x s h = grind arith
 
 -- and comes to own `umount` by taking it
 snapshot_comes_to : (x : Snapshot) (s : SnapshotStep) (value : ℕ) →
     owns (later (snapshot_after x s (found_by (snapshot_next x s).1 value)).0) ≡ 1 →
     (snapshot_owns s ≡ 1) ⊎ (takes_lock (event_of (snapshot_next x s).0 (snapshot_next x s).1 value) ≡ true)
-snapshot_comes_to x SnapshotStep.Locks value h =
-    elim (cases_Bool (value == 0)) [
-      | inl z ↦ inr z
-      | inr z ↦ absurd (omega (arith, locked_out_owns x x.wait, rw z at h))
-    ]
-snapshot_comes_to x s value h = inl refl
+snapshot_comes_to x s value h = grind arith
 
 module _ (c : Config) (within : IsWithin c) (w : World) (good : IsGood c w) (t : ℕ) (lt : t < c.tasks) (hook : HookAnswer)
     (x : Snapshot) where

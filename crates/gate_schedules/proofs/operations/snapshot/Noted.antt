@@ -1,5 +1,6 @@
 -- What the loads of a trace have noted of the tree, and what a snapshot's next load adds.
 use Rattle.std.proofs.Common.{◌≡◌, ℕ, zero, suc, ◌+◌, ◌-◌, ◌<◌, ◌≤◌, List, [], ◌∷◌, length, refl, sym, ap, ◌∙◌, subst, inl, inr, arith, get_or-set_same}
+use Rattle.std.proofs.lemmas.Grind.{common_steps}
 use Rattle.std.proofs.Common.{get_or-set_other}
 use Rattle.std.proofs.{Math.ListN.length-set, lemmas.{Bool.{cases_Bool, lt-ltb, le-ltb, cases_lt, Decides.eqb_tells}, List.length-replicate}}
 use Rattle.std.specs.Prelude.{slice_index}
@@ -20,9 +21,7 @@ IsLong nodes words = (length words.nodes ≡ nodes) × (length words.kids ≡ no
 -- a load keeps the room
 pub loaded_long : (nodes : ℕ) (words : TreeWords) (name : WordName) (value : ℕ) → IsLong nodes words →
     IsLong nodes (loaded words name value)
-loaded_long nodes words (WordName.Node n) value long = (length-set words.nodes n value ∙ long.0, long.1)
-loaded_long nodes words (WordName.Kids n) value long = (long.0, length-set words.kids n value ∙ long.1)
-loaded_long nodes words name value long = long
+loaded_long nodes words name value long = grind (arith, common_steps)
 
 pub noted_long : (nodes : ℕ) (trace : List Traced) → IsLong nodes (loads_noted nodes trace)
 noted_long nodes [] = (length-replicate {A = ℕ} nodes 0, length-replicate {A = ℕ} nodes 0)

@@ -89,28 +89,12 @@ module _ (c : Config) (t : ℕ) (wait : Bool) where
       MayHold (snapshot_next (snapshot_of s) s).0 value →
       Comes (longer earlier value hook s) (events_before c s)
       (snapshot_after (snapshot_of s) s (found_by (snapshot_next (snapshot_of s) s).1 value)).0
-  snapshot_goes lim earlier SnapshotStep.Locks value hook there may = elim (cases_Bool (value == 0)) [
-    | inl e ↦ rw e (SnapshotStep.LoadsStage, refl, tt, λ q. omega arith)
-    | inr e ↦
-        let each : each_event finds_taken (longer earlier value hook SnapshotStep.Locks) ≡ true = rw e there in
-        rw e (taken wait refl (longer earlier value hook SnapshotStep.Locks) each)
-  ]
-  snapshot_goes lim earlier SnapshotStep.LoadsStage value hook there may = elim (cases_Bool (value == 4)) [
-    | inl e ↦ rw e (SnapshotStep.LoadsUsed, refl, tt, λ q. omega arith)
-    | inr e ↦ rw e (SnapshotStep.Releases (Err GateError.Invalid), refl, tt, λ q. omega arith)
-  ]
-  snapshot_goes lim earlier SnapshotStep.LoadsUsed value hook there may = (SnapshotStep.LoadsNode 0, refl, omega (arith, lim.some_node), λ q. omega arith)
-  snapshot_goes lim earlier (SnapshotStep.LoadsNode node) value hook there may =
-      rw may (next_node (longer earlier value hook (SnapshotStep.LoadsNode node)) node there)
-  snapshot_goes lim earlier (SnapshotStep.LoadsKids node) value hook there may = next_kids (longer earlier value hook (SnapshotStep.LoadsKids node)) node there
-  snapshot_goes lim earlier (SnapshotStep.Releases answer) value hook there may = λ q. omega arith
+  snapshot_goes lim earlier a2 value hook there may = grind arith
 
   -- why a snapshot is refused doesn't depend on its step or its task
   snapshot_cause : (s : SnapshotStep) (trace : List Traced) (refusal : GateError) → SnapshotHonest (SeenIn trace) (snapshot_of s) refusal →
       IsHonest c (Op.Snapshot wait) refusal trace
-  snapshot_cause s trace GateError.Again h = h
-  snapshot_cause s trace GateError.Invalid h = h
-  snapshot_cause s trace refusal h = absurd h
+  snapshot_cause s trace refusal h = grind arith
 
   -- so the trace of a snapshot says what its row asks for
   snapshot_answers : (s : SnapshotStep) (trace : List Traced) →
@@ -126,9 +110,7 @@ module _ (c : Config) (t : ℕ) (wait : Bool) where
   -- a step comes after at most that many events
   snapshot_within : (s : SnapshotStep) (trace : List Traced) → IsThere c trace s → length trace ≤ events_before c s →
       length trace ≤ 2 * c.nodes + 4
-  snapshot_within (SnapshotStep.LoadsNode node) trace there h = omega (arith, there, h)
-  snapshot_within (SnapshotStep.LoadsKids node) trace there h = omega (arith, there, h)
-  snapshot_within s trace there h = omega (arith, h)
+  snapshot_within s trace there h = grind arith
 
   -- and keeps it along
   snapshot_kept : IsWithin c → KeptWell SnapshotAt c t (Op.Snapshot wait)

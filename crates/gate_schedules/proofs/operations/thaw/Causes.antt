@@ -1,5 +1,6 @@
 -- The causes of a thaw's refusals, along a schedule, and the counts, which a thaw leaves.
 use Rattle.std.proofs.{Common.{◌≡◌, ℕ, refl, ap, ◌∙◌, inl, inr}, lemmas.Bool.{ne_eqb, Decides.eqb_tells}}
+use Rattle.std.proofs.Common.{arith}
 use Rattle.std.specs.Prelude.{Option, Some, Ok, Err, List, ◌∷◌, ◌-◌, ◌==◌, ◌||◌, not, Bool, true, false}
 use Rattle.access_model.specs.{Holders.held_by, Replies.map_next, declared.{errors.GateError.GateError, replies.Reply.Reply}}
 use Rattle.cpu_words.specs.Hooks.{HookAnswer}
@@ -13,9 +14,7 @@ use Rattle.gate_schedules.proofs.{operations.thaw.Fits.finds_cases, traces.Momen
 -- a task whose view another entry leaves alone: the cause of each step stays
 pub thaw_stays : (c : Config) (t : ℕ) (w next : World) (earlier : List World) (x : Thaw) (s : ThawStep) →
     (next.views t).phase ≡ Some (Phase.Thaws (at_thaw x s)) → ThawCause c t w earlier x.holder s → ThawCause c t next (w ∷ earlier) x.holder s
-thaw_stays c t w next earlier x (ThawStep.Releases answer) e h =
-    λ r. ap (was_unheld c x.holder) (look_skips t next (w ∷ earlier) (ap looks_at_stage e)) ∙ h r
-thaw_stays c t w next earlier x s e h = tt
+thaw_stays c t w next earlier x s e h = grind arith
 
 or_true : (b : Bool) → b || true ≡ true
 or_true true = refl
@@ -38,9 +37,7 @@ module _ (c : Config) (t : ℕ) (w next : World) (earlier : List World) (x : Tha
   -- nor does an event of an up-write's transition say anything
   exit_own : (level : ℕ) (u : UpWrite) (n : TransitionNext) →
       CauseOf c t next (w ∷ earlier) (phase_after (map_next Phase.Thaws (after_opening x level (exit_made u n))))
-  exit_own level u (TransitionNext.More transition) = tt
-  exit_own level u TransitionNext.Undefined = tt
-  exit_own level u (TransitionNext.Made state) = opens_own (level - 1)
+  exit_own level u a2 = grind arith
 
   -- or any other of its events
   reopening_own : (u : UpWrite) (s : UpWriteStep) (found : ℕ) →
@@ -67,16 +64,4 @@ module _ (c : Config) (t : ℕ) (w next : World) (earlier : List World) (x : Tha
       let comes : Option Phase =
       phase_after (after_of (Phase.Thaws (at_thaw x s)) (found_at w.words (Phase.Thaws (at_thaw x s)) hook) hook).0 in
       (next.views t).phase ≡ comes → CauseOf c t next (w ∷ earlier) comes
-  thaw_own hook ThawStep.Locks e e' = elim (eqb_tells w.words.umount 0) [ inl z ↦ rw z.0 tt | inr z ↦ rw z.0 tt ]
-  thaw_own hook ThawStep.LoadsStage e e' =
-      elim (eqb_tells w.words.stage 4) [ inl z ↦ rw z.0 tt | inr z ↦ rw z.0 (stage_own e z.1 (rw z.0 at e')) ]
-  thaw_own hook ThawStep.LoadsHolders e e' =
-      finds_cases x (holders_in w.words.holders) (λ s. (next.views t).phase ≡ Some (Phase.Thaws (at_thaw x s)) →
-      CauseOf c t next (w ∷ earlier) (Some (Phase.Thaws (at_thaw x s)))) (λ other. holder_own e other) (λ own alone is. tt) (λ own shared is. tt) e'
-  thaw_own hook (ThawStep.Leaves held) e e' = done_own
-  thaw_own hook ThawStep.LoadsSuperblock e e' = elim (eqb_tells w.words.sb 0) [ inl z ↦ rw z.0 tt | inr z ↦ rw z.0 tt ]
-  thaw_own hook ThawStep.UnfreezesReadOnly e e' = done_own
-  thaw_own (Ok answer) ThawStep.LeavesLast e e' = tt
-  thaw_own (Err code) ThawStep.LeavesLast e e' = tt
-  thaw_own hook (ThawStep.Reopens u) e e' = reopening_own u u.step (found_at w.words (Phase.Thaws (at_thaw x (ThawStep.Reopens u))) hook)
-  thaw_own hook other e e' = tt
+  thaw_own hook other e e' = grind arith

@@ -61,9 +61,7 @@ module _ (x : Thaw) where
   -- it stands so with the levels
   pub opening_stands : (level : ℕ) (n : Next UpWrite) →
       Stands (phase_after (map_next Phase.Thaws (after_opening x level n))) (stand_after_opening level n)
-  opening_stands level (Next.Go u) = thaw_stands (at_thaw x (ThawStep.Reopens u))
-  opening_stands level (Next.Wait u) = thaw_stands (at_thaw x (ThawStep.Reopens u))
-  opening_stands level (Next.Done answer) = opens_stand (level - 1)
+  opening_stands level a1 = grind arith
 
   -- it owns `umount`, with the levels up to one still closed
   opens_own : (level : ℕ) → thaw_owns (thaw_opens level) ≡ 1
@@ -72,20 +70,14 @@ module _ (x : Thaw) where
       refl refl
 
   opening_owns : (level : ℕ) (n : Next UpWrite) → owns (phase_after (map_next Phase.Thaws (after_opening x level n))) ≡ 1
-  opening_owns level (Next.Go u) = refl
-  opening_owns level (Next.Wait u) = refl
-  opening_owns level (Next.Done answer) = opens_own (level - 1)
+  opening_owns level a1 = grind arith
 
 role_owns : {stage sb : Option ℕ} (s : ThawStep) → thaw_stage_role s ≡ Owning stage sb → thaw_owns s ≡ 1
 role_owns s role = sym (thaw_owner s) ∙ ap stage_owns role
 
 -- a level's reopening has nothing to do with the holders, nor what comes after it
 opening_apart : (x : Thaw) (level : ℕ) (n : Next UpWrite) → holder_role_of (phase_after (map_next Phase.Thaws (after_opening x level n))) ≡ Apart
-opening_apart x level (Next.Go u) = refl
-opening_apart x level (Next.Wait u) = refl
-opening_apart x level (Next.Done answer) =
-    by_bool (level - 1 == 0)
-    (λ b. thaw_holder_role x.holder (if b then ThawStep.Releases (Ok Reply.Unit) else ThawStep.Reopens (reopening (level - 1))) ≡ Apart) refl refl
+opening_apart x level a2 = grind arith
 
 -- a thaw does nothing at the tree, whatever comes after an event of it
 tree_comes : (trace : List Traced) (n : Next Thaw) → tree_role_of trace (phase_after (map_next Phase.Thaws n)) ≡ OffTree
@@ -111,9 +103,7 @@ opens_on (suc n) stage sb dirty l3 z =
 exit_on : (x : Thaw) (level : ℕ) (s : UpWriteStep) (n : TransitionNext) (stage sb : ℕ) (dirty : ℕ → ℕ) → level ≤ 3 → stage ≡ 0 →
     GoesOn (Reopening (level - 1)) stage sb dirty
     (stage_role_of (phase_after (map_next Phase.Thaws (after_opening x level (exit_made (record { level = level; step = s }) n)))))
-exit_on x level s (TransitionNext.More transition) stage sb dirty l3 z = (alike_same (Reopening (level - 1)), (z, omega (arith, l3)), none_below dirty)
-exit_on x level s TransitionNext.Undefined stage sb dirty l3 z = (alike_same (Reopening (level - 1)), (z, omega (arith, l3)), none_below dirty)
-exit_on x level s (TransitionNext.Made state) stage sb dirty l3 z = opens_on (level - 1) stage sb dirty (omega (arith, l3)) z
+exit_on x level s a3 stage sb dirty l3 z = grind arith
 
 module _ (c : Config) (lim : IsWithin c) (w : World) (good : IsGood c w) (t : ℕ) (lt : t < c.tasks) (x : Thaw) where
   -- the task is at this step of the thaw

@@ -29,10 +29,7 @@ finds_cases x held P refused alone shared =
 
 -- the word of each event of a thaw is there
 pub thaw_there : (c : Config) (x : Thaw) (s : ThawStep) (hook : HookAnswer) → ThawFits x.holder s → IsWord (extents_of c) (thaw_next x s hook).0
-thaw_there c x ThawStep.LeavesLast (Ok answer) f = tt
-thaw_there c x ThawStep.LeavesLast (Err code) f = tt
-thaw_there c x (ThawStep.Reopens u) hook f = up_write_word c u u.step f.0 f.1
-thaw_there c x other hook f = tt
+thaw_there c x other hook f = grind arith
 
 -- the action of an event of a level's reopening can be done
 reopening_acts : (held : Holdings) (x : Thaw) (level : ℕ) (s : UpWriteStep) (found : ℕ) (hook : HookAnswer) →
@@ -41,10 +38,7 @@ reopening_acts held x level UpWriteStep.ClearsBlock found hook = tt
 reopening_acts held x level (UpWriteStep.Exits transition) found hook = tt
 
 pub thaw_acts : (held : Holdings) (x : Thaw) (s : ThawStep) (found : ℕ) (hook : HookAnswer) → ActionFits held (thaw_after x s found hook).1
-thaw_acts held x ThawStep.LeavesLast found (Ok answer) = tt
-thaw_acts held x ThawStep.LeavesLast found (Err code) = tt
-thaw_acts held x (ThawStep.Reopens u) found hook = reopening_acts held x u.level u.step found hook
-thaw_acts held x s found hook = tt
+thaw_acts held x s found hook = grind arith
 
 -- a level is still to be reopened, or no more
 opens_fit : (holder : Holder) (level : ℕ) → level ≤ 3 → ThawFits holder (thaw_opens level)
@@ -58,9 +52,7 @@ module _ (c : Config) (t : ℕ) (held : Holdings) (x : Thaw) (same : x.task ≡ 
   -- an up-write that goes on knows the words of its exchange
   exit_fits : (level found leaves : ℕ) (s : UpWriteStep) (n : TransitionNext) → 1 ≤ level → level ≤ 3 → Shows on_exit found leaves n →
       NextFits (after_opening x level (exit_made (record { level = level; step = s }) n))
-  exit_fits level found leaves s (TransitionNext.More transition) l1 l3 shows = (same, none, (l1, l3, shows.1))
-  exit_fits level found leaves s TransitionNext.Undefined l1 l3 shows = (same, none, (l1, l3, tt))
-  exit_fits level found leaves s (TransitionNext.Made state) l1 l3 shows = (same, none, opens_fit x.holder (level - 1) (omega (arith, l3)))
+  exit_fits level found leaves s a4 l1 l3 shows = grind arith
 
   -- so it is after an event of its transition
   exit_goes : (level : ℕ) (transition : Transition) (found : ℕ) → 1 ≤ level → level ≤ 3 → KnowsWords on_exit transition →
@@ -82,25 +74,7 @@ module _ (c : Config) (t : ℕ) (held : Holdings) (x : Thaw) (same : x.task ≡ 
   reopening_goes level (UpWriteStep.Exits transition) found hook f = exit_goes level transition found f.0 f.1 f.2
 
   step_goes : (s : ThawStep) (found : ℕ) (hook : HookAnswer) → ThawFits x.holder s → GoesOn s found hook
-  step_goes ThawStep.Locks found hook f =
-      by_bool (found == 0) (λ b. NextFits (if b then Next.Go (at_thaw x ThawStep.LoadsStage) else Next.Wait (at_thaw x ThawStep.Locks)))
-      (same, none, tt) (same, none, tt)
-  step_goes ThawStep.LoadsStage found hook f =
-      by_bool (found == 4)
-      (λ b. NextFits (if b then Next.Go (at_thaw x ThawStep.LoadsHolders) else Next.Go (at_thaw x (ThawStep.Releases (Err GateError.Invalid)))))
-      (same, none, tt) (same, none, tt)
-  step_goes ThawStep.LoadsHolders found hook f =
-      finds_cases x (holders_in found) (λ s. NextFits (Next.Go (at_thaw x s))) (λ other. (same, none, tt)) (λ own alone. (same, none, tt))
-      (λ own shared. (same, none, (own, shared)))
-  step_goes ThawStep.LoadsSuperblock found hook f =
-      by_bool (found == 0) (λ b. NextFits (if b then Next.Go (at_thaw x ThawStep.LeavesLast) else Next.Go (at_thaw x ThawStep.LeavesReadOnly)))
-      (same, none, tt) (same, none, tt)
-  step_goes ThawStep.LeavesLast found (Ok answer) f = (same, none, tt)
-  step_goes ThawStep.LeavesLast found (Err code) f = tt
-  step_goes ThawStep.SetsUnfrozen found hook f = (same, none, (omega arith, omega arith, tt))
-  step_goes (ThawStep.Reopens u) found hook f = reopening_goes u.level u.step found hook f
-  step_goes (ThawStep.Releases answer) found hook f = tt
-  step_goes other found hook f = (same, none, tt)
+  step_goes other found hook f = grind arith
 
 -- what comes after each event of a thaw fits
 pub thaw_goes : (c : Config) (t : ℕ) (held : Holdings) (x : Thaw) (s : ThawStep) (found : ℕ) (hook : HookAnswer) →

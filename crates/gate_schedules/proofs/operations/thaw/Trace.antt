@@ -123,43 +123,15 @@ module _ (c : Config) (t : ℕ) (holder : Holder) (value : ℕ) (earlier : List 
       Says (ThawAt c t holder) c (Op.Thaw holder) trace
       (map_next Phase.Thaws (after_opening (thaw_of t holder (ThawStep.Reopens (record { level = level; step = s }))) level
       (exit_made (record { level = level; step = s }) n))) added
-  exit_says level s (TransitionNext.More transition) trace l3 l1 h none =
-      (ThawStep.Reopens (record { level = level; step = UpWriteStep.Exits transition }), refl, (h, none, l1, l3))
-  exit_says level s TransitionNext.Undefined trace l3 l1 h none =
-      (ThawStep.Reopens (record { level = level; step = UpWriteStep.Exits Transition.Loads }), refl, (h, none, l1, l3))
-  exit_says level s (TransitionNext.Made state) trace l3 l1 h none =
-      (thaw_opens (level - 1), refl, opens_says c holder (level - 1) trace added (omega (arith, l3)) h none)
+  exit_says level s a2 trace l3 l1 h none = grind arith
 
   -- each event of an up-write
   reopens : (hook : HookAnswer) (level : ℕ) (s : UpWriteStep) → StepSays c holder (ThawStep.Reopens (record { level = level; step = s })) earlier added →
       After hook (ThawStep.Reopens (record { level = level; step = s }))
-  reopens hook level UpWriteStep.ClearsBlock h = (
-    ThawStep.Reopens (record { level = level; step = UpWriteStep.Exits Transition.Loads }),
-    refl,
-    (ap (λ (l : List Action). Action.Reopen level ∷ l) h.0 ∙ opens_one holder level h.2 h.3, h.1, h.2, h.3),
-  )
-  reopens hook level (UpWriteStep.Exits Transition.Loads) h =
-      exit_says level (UpWriteStep.Exits Transition.Loads) (transition_after on_exit Transition.Loads value)
-      (longer hook (ThawStep.Reopens (record { level = level; step = UpWriteStep.Exits Transition.Loads }))) h.3 h.2 h.0 h.1
-  reopens hook level (UpWriteStep.Exits (Transition.Exchanges from to)) h =
-      exit_says level (UpWriteStep.Exits (Transition.Exchanges from to)) (transition_after on_exit (Transition.Exchanges from to) value)
-      (longer hook (ThawStep.Reopens (record { level = level; step = UpWriteStep.Exits (Transition.Exchanges from to) }))) h.3 h.2 h.0 h.1
+  reopens hook level a2 h = grind arith
 
   thaw_event : (hook : HookAnswer) (step : ThawStep) → StepSays c holder step earlier added → After hook step
-  thaw_event hook ThawStep.Locks h = locks hook h
-  thaw_event hook ThawStep.LoadsStage h = loads_stage hook h
-  thaw_event hook ThawStep.LoadsHolders h = loads_holders hook h
-  thaw_event hook (ThawStep.Leaves held) h =
-      (ThawStep.Releases (Ok Reply.Unit), refl, (rw h.1 (ap (λ (l : List Action). Action.Leave holder ∷ l) h.0), tt))
-  thaw_event hook ThawStep.LoadsSuperblock h = loads_superblock hook h
-  thaw_event hook ThawStep.LeavesReadOnly h = (ThawStep.UnfreezesReadOnly, refl, (ap (λ (l : List Action). Action.Leave holder ∷ l) h.0, h.1, h.2))
-  thaw_event hook ThawStep.UnfreezesReadOnly h =
-      (ThawStep.Releases (Ok Reply.Unit), refl, (rw (h.2, h.1) (ap (λ (l : List Action). Action.Stage 0 ∷ l) h.0), tt))
-  thaw_event hook ThawStep.LeavesLast h = leaves_last hook h
-  thaw_event hook ThawStep.SetsUnfrozen h =
-      (ThawStep.Reopens (reopening 3), refl, (ap (λ (l : List Action). Action.Stage 0 ∷ l) h.0, (h.1, h.2), omega arith, omega arith))
-  thaw_event hook (ThawStep.Reopens u) h = reopens hook u.level u.step h
-  thaw_event hook (ThawStep.Releases answer) h = (lock_leaves c holder answer value hook earlier added h, tt)
+  thaw_event hook a1 h = grind arith
 
 pub thaw_kept : (c : Config) (t : ℕ) (holder : Holder) → Kept (ThawAt c t holder) c t (Op.Thaw holder)
 thaw_kept c t holder = record {

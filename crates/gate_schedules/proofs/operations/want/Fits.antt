@@ -1,5 +1,6 @@
 -- What fits after an event of a want.
 use Rattle.std.{proofs.Common.{◌≡◌, refl, ℕ, ◌<◌, Bool}, specs.Prelude.{◌==◌, if◌then◌else◌, Some, None, Ok}}
+use Rattle.std.proofs.Common.{arith}
 use Rattle.access_model.specs.{Replies.map_next, declared.{actions.{Action.Action, Gate.Gate}, errors.GateError.GateError, replies.{Next.Next, Reply.Reply}}}
 use Rattle.cpu_words.specs.Names.{IsWord}
 use Rattle.mount_counts.specs.Phases.{has_flag, at_want, hold_found, want_next, want_after, next}
@@ -10,18 +11,11 @@ use Rattle.gate_schedules.proofs.frames.Keeps.{by_bool}
 
 -- the word of each event of a want is there
 pub want_there : (c : Config) (w : Want) (step : WantStep) → w.mount < c.mounts → w.cpu < c.processors → IsWord (extents_of c) (want_next w step).0
-want_there c w WantStep.CountsUp m p = (m, p)
-want_there c w WantStep.LoadsHold m p = m
-want_there c w WantStep.LoadsRemount m p = tt
-want_there c w WantStep.LoadsReadOnly m p = m
-want_there c w WantStep.LoadsSuperblock m p = tt
-want_there c w (WantStep.CountsDown refusal) m p = (m, p)
+want_there c w a2 m p = grind arith
 
 module _ (c : Config) (within : IsWithin c) (t : ℕ) (held : Holdings) where
   pub want_acts : (w : Want) (step : WantStep) (found : ℕ) → w.mount < 8 → held.mounts w.mount < 1024 → ActionFits held (want_after w step found).1
-  want_acts w WantStep.LoadsSuperblock found m room = by_bool (found == 0) (λ b. ActionFits held (if b then Some (Action.Grant (Gate.Mount w.mount)) else None))
-      (m, room) tt
-  want_acts w step found m room = tt
+  want_acts w step found m room = grind arith
 
   -- what comes after an event that adds nothing fits
   abbrev NextFits : Next Want → Type 0
@@ -38,20 +32,7 @@ module _ (c : Config) (within : IsWithin c) (t : ℕ) (held : Holdings) where
   pub want_goes : (w : Want) (step : WantStep) (found : ℕ) → MountFits c t held (MountPhase.Want w) →
       Fits c t (held_after (want_after w step found).1 held)
       (phase_after (map_next Phase.Mounts (map_next MountPhase.Want (want_after w step found).0)))
-  want_goes w WantStep.CountsUp found f = f
-  want_goes w WantStep.LoadsHold found f =
-      by_bool (has_flag found 2) (λ b. NextFits (if b then hold_found w w.wait else Next.Go (at_want w WantStep.LoadsRemount)))
-      (by_bool w.wait (λ b. NextFits (hold_found w b)) f f) f
-  want_goes w WantStep.LoadsRemount found f =
-      by_bool (found == 0)
-      (λ b. NextFits (if b then Next.Go (at_want w WantStep.LoadsReadOnly) else Next.Go (at_want w (WantStep.CountsDown GateError.ReadOnly)))) f f
-  want_goes w WantStep.LoadsReadOnly found f =
-      by_bool (has_flag found 1)
-      (λ b. NextFits (if b then Next.Go (at_want w (WantStep.CountsDown GateError.ReadOnly)) else Next.Go (at_want w WantStep.LoadsSuperblock))) f f
-  want_goes w WantStep.LoadsSuperblock found f = by_bool (found == 0) (AnsweredFits w) tt f
-  want_goes w (WantStep.CountsDown refusal) found f = tt
+  want_goes w a1 found f = grind arith
 
 pub want_leaves : (w : Want) (step : WantStep) (found : ℕ) (held : Holdings) → (held_after (want_after w step found).1 held).levels ≡ held.levels
-want_leaves w WantStep.LoadsSuperblock found held =
-    by_bool (found == 0) (λ b. (held_after (if b then Some (Action.Grant (Gate.Mount w.mount)) else None) held).levels ≡ held.levels) refl refl
-want_leaves w step found held = refl
+want_leaves w step found held = grind arith

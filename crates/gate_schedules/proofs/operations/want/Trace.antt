@@ -99,9 +99,7 @@ want_short c m p false trace h = h refl
 cause_stays : (c : Config) (m p : ℕ) (wait : Bool) (refusal : GateError) (value : ℕ) (hook : HookAnswer) (earlier : List Traced) →
     IsHonest c (Op.Want m p wait) refusal earlier → IsHonest c (Op.Want m p wait) refusal
     (with_hook (event_at (want m p wait (WantStep.CountsDown refusal)) value hook) hook ∷ earlier)
-cause_stays c m p wait GateError.ReadOnly value hook earlier h = h
-cause_stays c m p wait GateError.Again value hook earlier h = h
-cause_stays c m p wait refusal value hook earlier h = h
+cause_stays c m p wait refusal value hook earlier h = grind arith
 
 module _ (c : Config) (m p : ℕ) (base : List Action) (below : List Traced) (value : ℕ) (hook : HookAnswer) (earlier : List Traced)
     (added : List Action) where
@@ -157,10 +155,7 @@ module _ (c : Config) (m p : ℕ) (base : List Action) (below : List Traced) (va
 want_says : (c : Config) (m p : ℕ) (wait : Bool) (e : Traced) (earlier : List Traced) (added : List Action) (n : Next Want) →
     WantNext c m p wait [] [] (e ∷ earlier) added n →
     Says (WantAt c m p wait) c (Op.Want m p wait) (e ∷ earlier) (map_next Phase.Mounts (map_next MountPhase.Want n)) added
-want_says c m p wait e earlier added (Next.Go x) h = (h.0, ap (λ y. Phase.Mounts (MountPhase.Want y)) h.1, h.2)
-want_says c m p wait e earlier added (Next.Wait x) h = ((h.0.0, ap (λ y. Phase.Mounts (MountPhase.Want y)) h.0.1, h.0.2), (h.1, h.3 refl))
-want_says c m p wait e earlier added (Next.Done (Ok reply)) h = ((h.0, tt), want_short c m p wait (e ∷ earlier) h.1)
-want_says c m p wait e earlier added (Next.Done (Err refusal)) h = ((h.0, h.1), want_short c m p wait (e ∷ earlier) h.2)
+want_says c m p wait e earlier added a7 h = grind arith
 
 pub want_kept : (c : Config) (t m p : ℕ) (wait : Bool) → Kept (WantAt c m p wait) c t (Op.Want m p wait)
 want_kept c t m p wait = record {

@@ -1,6 +1,7 @@
 -- A want waits only where another task has HOLD set at its mount, and is refused only for its cause, whether it is an operation of its own
 -- or stands in a longer one.
 use Rattle.std.{proofs.{Common.{◌≡◌, ℕ, ◌<◌, Bool, true, false, ap, inl, inr}, lemmas.Bool.{cases_Bool, Decides.eqb_tells}}, specs.Prelude.{List, Ok, Err, ◌∷◌}}
+use Rattle.std.proofs.Common.{arith}
 use Rattle.access_model.specs.{Replies.map_next, declared.replies.Next.Next}
 use Rattle.cpu_words.specs.{Touches.found_by, Words.read}
 use Rattle.mount_counts.specs.{Phases.{has_flag, want_next, want_after, hold_found}, Roles.has_hold}
@@ -49,7 +50,4 @@ module _ (c : Config) (w : World) (earlier : List World) (good : IsGood c w) (t 
   -- so it is of a want's own operation
   pub next_waits : (n : Next Want) → NextWaits n →
       HasReason c w earlier t (Phase.Mounts (MountPhase.Want x)) (map_next Phase.Mounts (map_next MountPhase.Want n))
-  next_waits (Next.Go y) h = tt
-  next_waits (Next.Wait y) h = h
-  next_waits (Next.Done (Ok reply)) h = tt
-  next_waits (Next.Done (Err refusal)) h = h
+  next_waits a0 h = grind arith

@@ -1,6 +1,7 @@
 -- Each phase of a write access is alike to the phase of its gate, before an event and after it; and what fits then, and what is said of
 -- causes and of waits.
 use Rattle.access_model.specs.{Replies.map_next, declared.replies.Next.Next}
+use Rattle.std.proofs.Common.{arith}
 use Rattle.gate_schedules.proofs.{frames.Frames.role_none, operations.readers.Fits.ReadGoes}
 use Rattle.gate_world.specs.{Alike.{IsAlike, no_roles}, Fits.Fits, Holdings.Holdings, Views.phase_after, Work.plain, declared.config.Config.Config}
 use Rattle.gate_world.specs.declared.work.Phase.{Phase}
@@ -23,23 +24,15 @@ alike_takes m p other = refl
 -- and so is what comes after an event at the mount: an end of level 1 has no role
 pub alike_wants : (m p : ℕ) (n : Next Want) →
     IsAlike (phase_after (map_next Phase.Mounts (map_next MountPhase.Want n))) (phase_after (map_next Phase.Writes (then_gives_back m p n)))
-alike_wants m p (Next.Go x) = refl
-alike_wants m p (Next.Done (Ok reply)) = refl
-alike_wants m p other = refl
+alike_wants m p other = grind arith
 
 module _ (c : Config) (t : ℕ) (held : Holdings) (m p : ℕ) (there : m < c.mounts) (cpu : p < c.processors) where
   -- level 1 is taken with room for the mount's access, which is wanted with the level held
   pub takes_goes : (i : ℕ) (n : Next DownRead) → i ≡ 1 → held.mounts m < 1024 → ReadGoes c t i p held n →
       Fits c t held (phase_after (map_next Phase.Writes (then_wants m p n)))
-  takes_goes i (Next.Go r) one room h = (h.0, h.1 ∙ one, there, room)
-  takes_goes i (Next.Wait r) one room h = (h.0, h.1 ∙ one, there, room)
-  takes_goes i (Next.Done (Ok reply)) one room h = ((there, cpu, room), subst (λ j. held.levels j ≡ true) one h)
-  takes_goes i (Next.Done (Err refusal)) one room h = tt
+  takes_goes i a1 one room h = grind arith
 
   -- the level is held while the mount is wanted, and where it is left
   pub wants_goes : (n : Next Want) → held.levels 1 ≡ true → Fits c t held (phase_after (map_next Phase.Mounts (map_next MountPhase.Want n))) →
       Fits c t held (phase_after (map_next Phase.Writes (then_gives_back m p n)))
-  wants_goes (Next.Go x) one h = (h, one)
-  wants_goes (Next.Wait x) one h = (h, one)
-  wants_goes (Next.Done (Ok reply)) one h = tt
-  wants_goes (Next.Done (Err refusal)) one h = (there, cpu, one)
+  wants_goes a0 one h = grind arith

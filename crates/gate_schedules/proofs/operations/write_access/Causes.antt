@@ -1,5 +1,6 @@
 -- The causes and the waits of a write access: those of its gate, whichever it is at.
 use Rattle.std.{proofs.Common.{◌≡◌, ℕ, ◌<◌, refl, sym, ap, subst}, specs.Prelude.{Ok, Err, List, ◌∷◌}}
+use Rattle.std.proofs.Common.{arith}
 use Rattle.access_model.specs.{Replies.map_next, declared.replies.Next.Next}
 use Rattle.mount_counts.specs.declared.phases.Want.{Want}
 use Rattle.percpu_rwsem.specs.declared.readers.DownRead.{DownRead}
@@ -13,44 +14,28 @@ module _ (c : Config) (t : ℕ) (w next : World) (earlier : List World) (m p : �
   -- after an event at level 1 the task asks where a down-read does
   pub takes_asks : (n : Next DownRead) → (next.views t).phase ≡ phase_after (map_next Phase.Writes (then_wants m p n)) →
       AsksNext c t w next earlier n
-  takes_asks (Next.Go r) e = ap asks_level e
-  takes_asks (Next.Wait r) e = ap asks_level e
-  takes_asks (Next.Done answer) e = tt
+  takes_asks a0 e = grind arith
 
   -- and what comes then has its cause
   pub takes_cause : (n : Next DownRead) → HasNextCause c t w next earlier n →
       CauseOf c t next (w ∷ earlier) (phase_after (map_next Phase.Writes (then_wants m p n)))
-  takes_cause (Next.Go r) h = h
-  takes_cause (Next.Wait r) h = h
-  takes_cause (Next.Done (Ok reply)) h = tt
-  takes_cause (Next.Done (Err refusal)) h = tt
+  takes_cause a0 h = grind arith
 
 module _ (c : Config) (t : ℕ) (w : World) (earlier : List World) (m p : ℕ) where
   -- after an event at the mount the task asks where a want does
   pub wants_asked : (n : Next Want) → asks (phase_after (map_next Phase.Writes (then_gives_back m p n))) ≡ next_asks n
-  wants_asked (Next.Go x) = refl
-  wants_asked (Next.Done (Ok reply)) = refl
-  wants_asked other = refl
+  wants_asked other = grind arith
 
   -- and what comes then has its cause, which the mount's refusal has while the level is left
   pub wants_cause : (n : Next Want) → NextCause c t w earlier m n →
       CauseOf c t w earlier (phase_after (map_next Phase.Writes (then_gives_back m p n)))
-  wants_cause (Next.Go x) h = subst (λ y. WantCause c t w earlier y x.step) (sym h.0) h.1
-  wants_cause (Next.Wait x) h = subst (λ y. WantCause c t w earlier y x.step) (sym h.0) h.1
-  wants_cause (Next.Done (Ok reply)) h = tt
-  wants_cause (Next.Done (Err refusal)) h = h
+  wants_cause a0 h = grind arith
 
   pub takes_waits : (r : DownRead) (n : Next DownRead) → WhereRefused (WasClosed c t r.level (last_asked t (w ∷ earlier))) n →
       HasReason c w earlier t (Phase.Writes (WritePhase.Takes m r)) (map_next Phase.Writes (then_wants m p n))
-  takes_waits r (Next.Go x) h = tt
-  takes_waits r (Next.Wait x) h = h
-  takes_waits r (Next.Done (Ok reply)) h = tt
-  takes_waits r (Next.Done (Err refusal)) h = read_refused c t (w ∷ earlier) r.level refusal h
+  takes_waits r a1 h = grind arith
 
   -- a wait at the mount is one for who has HOLD set
   pub wants_waits : (good : IsGood c w) (lt : t < c.tasks) (x : Want) (n : Next Want) → NextWaits c w earlier good t lt x n →
       HasReason c w earlier t (Phase.Writes (WritePhase.Wants x)) (map_next Phase.Writes (then_gives_back m p n))
-  wants_waits good lt x (Next.Go y) h = tt
-  wants_waits good lt x (Next.Wait y) h = h
-  wants_waits good lt x (Next.Done (Ok reply)) h = tt
-  wants_waits good lt x other h = tt
+  wants_waits good lt x other h = grind arith

@@ -42,17 +42,12 @@ module _ (c : Config) (m p t : ℕ) (e : Traced) (earlier : List Traced) (added 
   -- a want that waits is refused as read-only alone
   honest_write : (refusal : GateError) → IsHonest c (Op.Want m p true) refusal (e ∷ earlier) →
       IsHonest c (Op.WantWrite m p) refusal (e ∷ earlier)
-  honest_write GateError.ReadOnly h = h
-  honest_write GateError.Again h = absurd (cc)
-  honest_write refusal h = absurd h
+  honest_write refusal h = grind arith
 
   -- what the trace says after an event at the mount
   wanted_says : (below : List Traced) (n : Next Want) → WantNext c m p true level_taken below (e ∷ earlier) added n →
       Says (WriteAt c m p t) c (Op.WantWrite m p) (e ∷ earlier) (map_next Phase.Writes (then_gives_back m p n)) added
-  wanted_says below (Next.Go x) h = (WritePhase.Wants x, refl, (below, h.0, h.1, h.2))
-  wanted_says below (Next.Wait x) h = ((WritePhase.Wants x, refl, (below, h.0.0, h.0.1, h.0.2)), inr h.2)
-  wanted_says below (Next.Done (Ok reply)) h = ((h.0, tt), tt)
-  wanted_says below (Next.Done (Err refusal)) h = (WritePhase.GivesBack m p refusal, refl, (h.0, honest_write refusal h.1))
+  wanted_says below a1 h = grind arith
 
 module _ (c : Config) (m p t : ℕ) (value : ℕ) (hook : HookAnswer) (earlier : List Traced) (added : List Action) where
   -- what the trace says after the event of a phase
@@ -118,16 +113,10 @@ module _ (c : Config) (m p : ℕ) (value : ℕ) (hook : HookAnswer) (earlier : L
   -- each event of a return keeps what its trace says
   drop_event : (x : WritePhase) → DropSays m p x earlier added →
       SaysAfter (DropAt m p) c (Op.DropWrite m p) (Phase.Writes x) value hook earlier added
-  drop_event (WritePhase.Drops n q) h =
-      subst (λ y. SaysAfter (DropAt m p) c (Op.DropWrite m p) (Phase.Writes (WritePhase.Drops y q)) value hook earlier added) (sym h.0)
-      (WritePhase.Ends q, refl, (omega (arith, ap length h.1), ap (λ (l : List Action). Action.Return (Gate.Mount m) ∷ l) h.2))
-  drop_event (WritePhase.Ends q) h = ((ap (λ (l : List Action). Action.Return (Gate.Level 1) ∷ l) h.1, tt), omega (arith, h.0))
-  drop_event other h = absurd h
+  drop_event other h = grind arith
 
 drop_short : (m p : ℕ) (x : WritePhase) (trace : List Traced) (added : List Action) → DropSays m p x trace added → length trace ≤ 2
-drop_short m p (WritePhase.Drops n q) trace added h = omega (arith, ap length h.1)
-drop_short m p (WritePhase.Ends q) trace added h = omega (arith, h.0)
-drop_short m p other trace added h = absurd h
+drop_short m p other trace added h = grind arith
 
 pub drop_kept : (c : Config) (t m p : ℕ) → Kept (DropAt m p) c t (Op.DropWrite m p)
 drop_kept c t m p = record {

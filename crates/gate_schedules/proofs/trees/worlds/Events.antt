@@ -36,26 +36,15 @@ IsOther (Next.Done answer) = Unit {0}
 
 -- what comes after an event of a call is of the same call
 stays_other : {P : Type 0} (to : P → TreePhase) → ((y : P) → is_snapshot (to y) ≡ false) → (n : Next P) → IsOther (map_next to n)
-stays_other to other (Next.Go y) = other y
-stays_other to other (Next.Wait y) = other y
-stays_other to other (Next.Done answer) = tt
+stays_other to other a2 = grind arith
 
 -- so none that is no snapshot becomes one
 other_after : (x : TreePhase) (found : ℕ) (hook : HookAnswer) → is_snapshot x ≡ false → IsOther (after x found hook).0
-other_after (TreePhase.Create x) found hook other = stays_other TreePhase.Create (λ y. refl) (create_after x x.step found).0
-other_after (TreePhase.Remove x) found hook other = stays_other TreePhase.Remove (λ y. refl) (remove_after x x.step found).0
-other_after (TreePhase.Grow x) found hook other = stays_other TreePhase.Grow (λ y. refl) (grow_after x x.step found).0
-other_after (TreePhase.MoveTo x) found hook other = stays_other TreePhase.MoveTo (λ y. refl) (move_after x x.step found).0
-other_after (TreePhase.Mark x) found hook other = stays_other TreePhase.Mark (λ y. refl) (mark_after x x.step found).0
-other_after (TreePhase.OpenFile x) found hook other = stays_other TreePhase.OpenFile (λ y. refl) (open_after x x.step found).0
-other_after (TreePhase.Snapshot x) found hook other = absurd (true≢false other)
-other_after (TreePhase.ClearMarks x) found hook other = stays_other TreePhase.ClearMarks (λ y. refl) (clear_after x found).0
+other_after a0 found hook other = grind arith
 
 -- and what comes after it is plain
 plain_after : (n : Next TreePhase) → IsOther n → IsPlain (phase_after (map_next Phase.Trees n))
-plain_after (Next.Go x) other = plain_call x other
-plain_after (Next.Wait x) other = plain_call x other
-plain_after (Next.Done answer) other = record { aside = refl; owns_none = refl }
+plain_after a0 other = grind arith
 
 -- its role at the tree is the same whatever was noted
 role_same : (x : TreePhase) (noted other : ℕ → ℕ) → is_snapshot x ≡ false → phase_role noted x ≡ phase_role other x
@@ -64,9 +53,7 @@ role_same x noted values other = refl
 
 role_comes : (n : Next TreePhase) (noted : ℕ → ℕ) (trace : List Traced) → IsOther n →
     role_after (phase_role noted) n ≡ tree_role_of trace (phase_after (map_next Phase.Trees n))
-role_comes (Next.Go x) noted trace other = role_same x noted (values_noted (nodes_noted x) trace) other
-role_comes (Next.Wait x) noted trace other = role_same x noted (values_noted (nodes_noted x) trace) other
-role_comes (Next.Done answer) noted trace other = refl
+role_comes a0 noted trace other = grind arith
 
 notes_nothing : (x : TreePhase) (values noted : ℕ → ℕ) (found : ℕ) → is_snapshot x ≡ false → Notes x values noted found
 notes_nothing (TreePhase.Snapshot x) values noted found other = absurd (true≢false other)
@@ -74,19 +61,11 @@ notes_nothing x values noted found other = tt
 
 -- a write of a word of the tree leaves `umount`
 pub umount_same : (w : Words) (word : WordName) (n : ℕ) → is_node_word word ≡ true → (put w word n).umount ≡ w.umount
-umount_same w WordName.Used n h = refl
-umount_same w WordName.Removed n h = refl
-umount_same w (WordName.Node x) n h = refl
-umount_same w (WordName.Kids d) n h = refl
-umount_same w word n h = absurd (true≢false (sym h))
+umount_same w word n h = grind arith
 
 -- and is none that only the owner changes
 pub not_owned : (word : WordName) → is_node_word word ≡ true → is_owned word ≡ false
-not_owned WordName.Used h = refl
-not_owned WordName.Removed h = refl
-not_owned (WordName.Node x) h = refl
-not_owned (WordName.Kids d) h = refl
-not_owned word h = absurd (true≢false (sym h))
+not_owned word h = grind arith
 
 -- each level stays at an event at the tree
 pub tree_run : (tasks : ℕ) (w : World) (t : ℕ) → t < tasks → (phase : Phase) (hook : HookAnswer) → (w.views t).phase ≡ Some phase →

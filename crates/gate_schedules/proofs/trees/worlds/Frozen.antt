@@ -14,9 +14,7 @@ use Rattle.std.specs.Prelude.{Err, List, None, Ok, Option, Some, true}
 use Rattle.gate_schedules.proofs.trees.Clearings.{exact}
 
 pub snapshot_charges_none : (nodes : ℕ) (values : ℕ → ℕ) (s : SnapshotStep) → HasNoCharge (snapshot_role nodes values s)
-snapshot_charges_none nodes values (SnapshotStep.Releases (Ok reply)) = record { blocks = refl; removed = refl; children = λ d. refl }
-snapshot_charges_none nodes values (SnapshotStep.Releases (Err refusal)) = record { blocks = refl; removed = refl; children = λ d. refl }
-snapshot_charges_none nodes values other = record { blocks = refl; removed = refl; children = λ d. refl }
+snapshot_charges_none nodes values other = grind arith
 
 mark_charges_none : (x : Mark) (s : MarkStep) → HasNoCharge (mark_role x s)
 mark_charges_none x MarkStep.LoadsFile = record { blocks = refl; removed = refl; children = λ d. refl }
@@ -27,9 +25,7 @@ remount_charges_none nodes (RemountStep.SetsRemount held) = record { blocks = re
 remount_charges_none nodes s = record { blocks = refl; removed = refl; children = λ d. refl }
 
 freeze_charges_none : (nodes : ℕ) (s : FreezeStep) → HasNoCharge (freeze_tree_role nodes s)
-freeze_charges_none nodes (FreezeStep.Cleans marks) = record { blocks = refl; removed = refl; children = λ d. refl }
-freeze_charges_none nodes FreezeStep.SetsFs = record { blocks = refl; removed = refl; children = λ d. refl }
-freeze_charges_none nodes s = record { blocks = refl; removed = refl; children = λ d. refl }
+freeze_charges_none nodes s = grind arith
 
 open_charges_none : (x : OpenFile) (s : OpenStep) → HasNoCharge (open_role x s)
 open_charges_none x OpenStep.LoadsFile = record { blocks = refl; removed = refl; children = λ d. refl }
@@ -38,28 +34,13 @@ open_charges_none x (OpenStep.OpensFile file) = record { blocks = refl; removed 
 -- a close has, inside level 3, once it has freed its node: while it counts a removed file
 close_charges_none : (c : Config) (t : ℕ) (held : Holdings) (x : ClosePhase) → CloseFits c t held x →
     (held.levels 3 ≡ true → removal (close_tree_role x) ≡ 1 → ⊥) → HasNoCharge (close_tree_role x)
-close_charges_none c t held (ClosePhase.RefundsBlocks p blocks) fits shut = absurd (shut fits.1 refl)
-close_charges_none c t held (ClosePhase.Uncounts p) fits shut = absurd (shut fits.1 refl)
-close_charges_none c t held other fits shut = record { blocks = refl; removed = refl; children = λ d. refl }
+close_charges_none c t held other fits shut = grind arith
 
 -- so only a writer, or a close inside level 3, has charged anything
 phase_charges_none : (c : Config) (trace : List Traced) (t : ℕ) (held : Holdings) (p : Option Phase) →
     Fits c t held p → (is_writer c held ≡ true → ⊥) → (held.levels 3 ≡ true → removal (tree_role_of trace p) ≡ 1 → ⊥) →
     HasNoCharge (tree_role_of trace p)
-phase_charges_none c trace t held (Some (Phase.Remounts x)) fits none shut = remount_charges_none x.nodes x.step
-phase_charges_none c trace t held (Some (Phase.Freezes x)) fits none shut = freeze_charges_none x.nodes x.step
-phase_charges_none c trace t held (Some (Phase.Trees (TreePhase.Create x))) fits none shut = absurd (none fits.1)
-phase_charges_none c trace t held (Some (Phase.Trees (TreePhase.Remove x))) fits none shut = absurd (none fits.1)
-phase_charges_none c trace t held (Some (Phase.Trees (TreePhase.Grow x))) fits none shut = absurd (none fits.1)
-phase_charges_none c trace t held (Some (Phase.Trees (TreePhase.MoveTo x))) fits none shut = absurd (none fits.1)
-phase_charges_none c trace t held (Some (Phase.Trees (TreePhase.Mark x))) fits none shut = mark_charges_none x x.step
-phase_charges_none c trace t held (Some (Phase.Trees (TreePhase.OpenFile x))) fits none shut = open_charges_none x x.step
-phase_charges_none c trace t held (Some (Phase.Closes x)) fits none shut = close_charges_none c t held x fits shut
-phase_charges_none c trace t held (Some (Phase.Trees (TreePhase.Snapshot x))) fits none shut =
-    snapshot_charges_none x.nodes (values_noted x.nodes trace) x.step
-phase_charges_none c trace t held (Some (Phase.Trees (TreePhase.ClearMarks x))) fits none shut =
-    record { blocks = refl; removed = refl; children = λ d. refl }
-phase_charges_none c trace t held p fits none shut = record { blocks = refl; removed = refl; children = λ d. refl }
+phase_charges_none c trace t held p fits none shut = grind arith
 
 -- and at stage 4 nobody has
 pub frozen_quiet : (c : Config) → IsWithin c → (w : World) → IsGood c w → w.words.stage ≡ 4 → (t : ℕ) → t < c.tasks → HasNoCharge (tree_roles w t)

@@ -34,28 +34,18 @@ open_unsealed sb stage writable low =
     ]
 
 remount_clears : (nodes : ℕ) (s : RemountStep) → remount_sets s ≡ 0 → cleared (remount_tree_role nodes s) ≡ 0
-remount_clears nodes (RemountStep.SetsRemount held) h = refl
-remount_clears nodes (RemountStep.ClearsHold held) h = absurd (omega (arith, h))
-remount_clears nodes (RemountStep.ClearsMark n) h = absurd (omega (arith, h))
-remount_clears nodes RemountStep.SetsReadOnly h = absurd (omega (arith, h))
-remount_clears nodes s h = refl
+remount_clears nodes s h = grind arith
 
 freeze_clears : (nodes : ℕ) (s : FreezeStep) → passed_by (freeze_stage_role nodes s) < 2 → cleared (freeze_tree_role nodes s) ≡ 0
-freeze_clears nodes (FreezeStep.Cleans marks) h = absurd (omega (arith, h))
-freeze_clears nodes FreezeStep.SetsFs h = absurd (omega (arith, h))
-freeze_clears nodes s h = refl
+freeze_clears nodes s h = grind arith
 
 -- a clearing on its own there is not
 tree_clears : (c : Config) (held : Holdings) (values : ℕ → ℕ) (x : TreePhase) → TreeAccess c held x →
     cleared (phase_role values x) ≡ 0
-tree_clears c held values (TreePhase.Snapshot x) may = (snapshot_apart x.nodes values x.step).0
-tree_clears c held values (TreePhase.ClearMarks x) may = absurd may
-tree_clears c held values x may = (call_plain values x refl).cleared_none
+tree_clears c held values x may = grind arith
 
 tree_bares : (values : ℕ → ℕ) (x : TreePhase) → is_bare (phase_role values x) ≡ 0
-tree_bares values (TreePhase.Snapshot x) = (snapshot_apart x.nodes values x.step).1
-tree_bares values (TreePhase.ClearMarks x) = refl
-tree_bares values x = (call_plain values x refl).bare_none
+tree_bares values x = grind arith
 
 module _ (c : Config) (w : World) (good : IsGood c w) (t : ℕ) (lt : t < c.tasks) (m : ℕ) (lm : m < c.mounts)
     (some : 0 < held_at (w.views t) m) (y : ℕ) (ly : y < c.tasks) where
@@ -84,12 +74,7 @@ module _ (c : Config) (w : World) (good : IsGood c w) (t : ℕ) (lt : t < c.task
 -- so nothing that a task is at clears a mark, where no remount is beginning and the task hasn't passed level 2
 phase_clears : (c : Config) (t : ℕ) (held : Holdings) (trace : List Traced) (p : Option Phase) → Fits c t held p →
     remounts p ≡ 0 → passed_by (stage_role_of p) < 2 → cleared (tree_role_of trace p) ≡ 0
-phase_clears c t held trace (Some (Phase.Remounts x)) fits unset unpassed = remount_clears x.nodes x.step unset
-phase_clears c t held trace (Some (Phase.Freezes x)) fits unset unpassed = freeze_clears x.nodes x.step unpassed
-phase_clears c t held trace (Some (Phase.Trees x)) fits unset unpassed =
-    tree_clears c held (values_noted (nodes_noted x) trace) x fits.1
-phase_clears c t held trace (Some (Phase.Closes x)) fits unset unpassed = (close_apart x).0
-phase_clears c t held trace p fits unset unpassed = refl
+phase_clears c t held trace p fits unset unpassed = grind arith
 
 module _ (c : Config) (w : World) (good : IsGood c w) where
   -- where nobody has shut the levels and mounts, a file may get dirty
@@ -183,9 +168,7 @@ module _ (c : Config) (w : World) (good : IsGood c w) where
     create_leave x other found leave = tt
 
     remove_leave : (x : Remove) (s : RemoveStep) (found : ℕ) → IsWriter (model_limits c) (shown c w) t → LeaveFor (remove_after x s found).1
-    remove_leave x (RemoveStep.FreesNode file) found leave = leave_if (found == word_of file) _ leave
-    remove_leave x (RemoveStep.MarksRemoved file) found leave = leave_if (found == word_of file) _ leave
-    remove_leave x other found leave = tt
+    remove_leave x other found leave = grind arith
 
     grow_leave : (x : Grow) (s : GrowStep) (found : ℕ) → IsWriter (model_limits c) (shown c w) t → LeaveFor (grow_after x s found).1
     grow_leave x (GrowStep.GrowsFile file) found leave = leave_if (found == word_of file) _ leave

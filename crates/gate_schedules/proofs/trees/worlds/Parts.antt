@@ -1,6 +1,7 @@
 -- An event of a call at the tree: it leaves the mounts, the levels and the sections alone, and all of the shown model but the tree. A
 -- snapshot is such a call, too.
 use Rattle.gate_schedules.proofs.frames.{Accesses.holdings_of_after, Agreeing.access_agrees}
+use Rattle.std.proofs.lemmas.Grind.{common_steps}
 use Rattle.gate_schedules.proofs.frames.{Frames.{added_load, left_alone, level_view_as, shown_as, taken_load, unwritten, view_as}, Keeps.by_bool}
 use Rattle.gate_schedules.proofs.{frames.Openers.most_tasks_is, mounts.Parts.{level_added_load, level_taken_load, load_left}}
 use Rattle.gate_schedules.proofs.trees.worlds.{MayTree.{LeaveFor, call_fits, leave, may_step}, OpenFiles.{file_then, files_counted, same_counts}}
@@ -90,23 +91,14 @@ is_snapshot (TreePhase.Snapshot x) = true
 is_snapshot x = false
 
 pub node_word : (x : TreePhase) (hook : HookAnswer) → is_snapshot x ≡ false → is_node_word (next x hook).0 ≡ true
-node_word (TreePhase.Create x) hook other = create_word x x.step
-node_word (TreePhase.Remove x) hook other = remove_word x x.step
-node_word (TreePhase.Grow x) hook other = grow_word x x.step
-node_word (TreePhase.MoveTo x) hook other = move_word x x.step
-node_word (TreePhase.Mark x) hook other = mark_word x x.step
-node_word (TreePhase.OpenFile x) hook other = open_word x x.step
-node_word (TreePhase.Snapshot x) hook other = absurd (true≢false other)
-node_word (TreePhase.ClearMarks x) hook other = refl
+node_word a0 hook other = grind arith
 
 -- the event of this touch on this word is a load, or the word is one that calls write
 abbrev pub IsCallTouch : WordName × Touch → Type 0
 IsCallTouch x = (is_load x.1 ≡ true) ⊎ (is_call_word x.0 ≡ true)
 
 snapshot_touch : (x : Snapshot) (s : SnapshotStep) → IsCallTouch (snapshot_next x s)
-snapshot_touch x SnapshotStep.Locks = inr refl
-snapshot_touch x (SnapshotStep.Releases answer) = inr refl
-snapshot_touch x other = inl refl
+snapshot_touch x other = grind arith
 
 pub call_touch : (x : TreePhase) (hook : HookAnswer) → IsCallTouch (next x hook)
 call_touch (TreePhase.Snapshot x) hook = snapshot_touch x x.step
@@ -122,12 +114,7 @@ IsBesideTree old new = beside_calls new ≡ beside_calls old
 
 -- where such a word is written
 pub write_beside : (w : Words) (word : WordName) (n : ℕ) → is_call_word word ≡ true → IsBesideTree w (put w word n)
-write_beside w WordName.Umount n h = refl
-write_beside w WordName.Used n h = refl
-write_beside w WordName.Removed n h = refl
-write_beside w (WordName.Node x) n h = refl
-write_beside w (WordName.Kids d) n h = refl
-write_beside w word n h = absurd (true≢false (sym h))
+write_beside w word n h = grind arith
 
 -- so they are after each event that loads a word, or writes such a one
 pub touch_beside : (w : Words) (x : WordName × Touch) → IsCallTouch x → IsBesideTree w (put w x.0 (left x.1 (read w x.0)))
@@ -211,9 +198,7 @@ create_leaves x (CreateStep.TakesNode n) found = leaves_if (found == 0) _ (recor
 create_leaves x other found = leaves_none
 
 remove_leaves : (x : Remove) (s : RemoveStep) (found : ℕ) → LeavesAccesses (remove_after x s found).1
-remove_leaves x (RemoveStep.FreesNode file) found = leaves_if (found == word_of file) _ (record { mounts = λ held. refl; levels = λ held. refl })
-remove_leaves x (RemoveStep.MarksRemoved file) found = leaves_if (found == word_of file) _ (record { mounts = λ held. refl; levels = λ held. refl })
-remove_leaves x other found = leaves_none
+remove_leaves x other found = grind arith
 
 grow_leaves : (x : Grow) (s : GrowStep) (found : ℕ) → LeavesAccesses (grow_after x s found).1
 grow_leaves x (GrowStep.GrowsFile file) found = leaves_if (found == word_of file) _ (record { mounts = λ held. refl; levels = λ held. refl })
@@ -243,14 +228,7 @@ clear_leaves : (x : ClearMarks) (found : ℕ) → LeavesAccesses (clear_after x 
 clear_leaves x found = leaves_if (dirty_in found == 1) _ (record { mounts = λ held. refl; levels = λ held. refl })
 
 pub call_leaves : (x : TreePhase) (found : ℕ) (hook : HookAnswer) → LeavesAccesses (after x found hook).1
-call_leaves (TreePhase.Create x) found hook = create_leaves x x.step found
-call_leaves (TreePhase.Remove x) found hook = remove_leaves x x.step found
-call_leaves (TreePhase.Grow x) found hook = grow_leaves x x.step found
-call_leaves (TreePhase.MoveTo x) found hook = move_leaves x x.step found
-call_leaves (TreePhase.Mark x) found hook = mark_leaves x x.step found
-call_leaves (TreePhase.OpenFile x) found hook = open_leaves x x.step found
-call_leaves (TreePhase.Snapshot x) found hook = snapshot_leaves x x.step found
-call_leaves (TreePhase.ClearMarks x) found hook = clear_leaves x found
+call_leaves a0 found hook = grind (arith, common_steps)
 
 module _ (c : Config) (held : Holdings) where
   -- what comes after an event is a call at which its task may be
@@ -260,26 +238,18 @@ module _ (c : Config) (held : Holdings) where
   AccessAfter (Next.Done answer) = Unit {0}
 
   comes_with : {P : Type 0} (to : P → TreePhase) → ((y : P) → TreeAccess c held (to y)) → (n : Next P) → AccessAfter (map_next to n)
-  comes_with to may (Next.Go y) = may y
-  comes_with to may (Next.Wait y) = may y
-  comes_with to may (Next.Done answer) = tt
+  comes_with to may a2 = grind arith
 
   -- after a look at a file
   looked_with : {A : Type 0} (again : Mark) (from : A → Mark) → TreeAccess c held (TreePhase.Mark again) →
       ((a : A) → TreeAccess c held (TreePhase.Mark (from a))) → (r : Option (Result A GateError)) →
       AccessAfter (map_next TreePhase.Mark (after_look again from r))
-  looked_with again from may more None = may
-  looked_with again from may more (Some (Ok a)) = more a
-  looked_with again from may more (Some (Err refusal)) = tt
+  looked_with again from may more a4 = grind arith
 
   -- after an event of a page fault or a write-back
   mark_access : (x : Mark) (s : MarkStep) (found : ℕ) → TreeAccess c held (TreePhase.Mark x) →
       AccessAfter (map_next TreePhase.Mark (mark_after x s found).0)
-  mark_access x MarkStep.LoadsFile found may =
-      looked_with (at_mark x MarkStep.LoadsFile) (λ file. at_mark x (MarkStep.MarksFile file)) may (λ file. may) (file_in found)
-  mark_access x (MarkStep.MarksFile file) found may =
-      by_bool (found == word_of file)
-      (λ b. AccessAfter (map_next TreePhase.Mark (if b then Next.Done (Ok Reply.Unit) else Next.Done (Err GateError.Again)))) tt tt
+  mark_access x a1 found may = grind (arith, common_steps)
 
   -- a call keeps its task's accesses
   pub access_after : (x : TreePhase) (found : ℕ) (hook : HookAnswer) → TreeAccess c held x → AccessAfter (after x found hook).0
@@ -295,9 +265,7 @@ module _ (c : Config) (held : Holdings) where
   -- so what comes after it fits
   next_fits : (t : ℕ) (n : Next TreePhase) → NextFits (tree_bounds c) t n → AccessAfter n →
       Fits c t held (phase_after (map_next Phase.Trees n))
-  next_fits t (Next.Go x) fits may = (fits, may)
-  next_fits t (Next.Wait x) fits may = (fits, may)
-  next_fits t (Next.Done answer) fits may = tt
+  next_fits t a1 fits may = grind arith
 
   call_goes_on : IsWithin c → (t : ℕ) (x : TreePhase) (found : ℕ) (hook : HookAnswer) →
       TreePhaseFits (tree_bounds c) t x × TreeAccess c held x →
@@ -335,9 +303,7 @@ pub call_off : (x : TreePhase) → IsOffGates (Some (Phase.Trees x))
 call_off x = record { roles = refl; closing_none = λ i. refl }
 
 pub next_off : (n : Next TreePhase) → IsOffGates (phase_after (map_next Phase.Trees n))
-next_off (Next.Go x) = call_off x
-next_off (Next.Wait x) = call_off x
-next_off (Next.Done answer) = idle_off
+next_off a0 = grind arith
 
 -- the parts that no event of a call touches
 abbrev pub is_gate_part : Part → Bool
@@ -349,12 +315,7 @@ is_gate_part Sections = true
 is_gate_part part = false
 
 pub gate_words : (part : Part) → is_gate_part part ≡ true → (old new : Words) → IsBesideTree old new → SameWords old new part
-gate_words Holding h old new same = unwritten same Holding
-gate_words (AtMount m) h old new same = unwritten same (AtMount m)
-gate_words (AtLevel i) h old new same = unwritten same (AtLevel i)
-gate_words (SyncAt i) h old new same = unwritten same (SyncAt i)
-gate_words Sections h old new same = unwritten same Sections
-gate_words part h old new same = absurd (true≢false (sym h))
+gate_words part h old new same = grind arith
 
 -- an event at the tree, of whatever operation: it writes no other word but `umount`, and leaves its task's accesses
 pub record IsAtTree (w : World) (phase : Phase) (hook : HookAnswer) : Type 0 where

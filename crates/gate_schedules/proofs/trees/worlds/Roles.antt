@@ -1,5 +1,6 @@
 -- What the phases of each operation are not at the tree.
 use Rattle.std.{proofs.Common.{◌≡◌, ℕ, refl, sym, Bool, true, false, true≢false}, specs.Prelude.{Ok, Err}}
+use Rattle.std.proofs.Common.{arith}
 use Rattle.gated_tree.specs.Calls.{phase_role, create_role, remove_role, grow_role, move_role, mark_role, open_role, snapshot_role}
 use Rattle.gated_tree.specs.Roles.{Role, cleared, is_bare, words_read, frees}
 use Rattle.gated_tree.specs.declared.changes.{Create.Create, CreateStep.CreateStep, MoveStep.MoveStep, MoveTo.MoveTo, Remove.Remove, RemoveStep.RemoveStep}
@@ -48,21 +49,13 @@ is_plain (TreePhase.ClearMarks x) = false
 is_plain x = true
 
 pub call_plain : (values : ℕ → ℕ) (x : TreePhase) → is_plain x ≡ true → IsPlainRole (phase_role values x)
-call_plain values (TreePhase.Create x) plain = create_plain x x.step
-call_plain values (TreePhase.Remove x) plain = remove_plain x x.step
-call_plain values (TreePhase.Grow x) plain = grow_plain x x.step
-call_plain values (TreePhase.MoveTo x) plain = move_plain x x.step
-call_plain values (TreePhase.Mark x) plain = mark_plain x x.step
-call_plain values (TreePhase.OpenFile x) plain = open_plain x x.step
-call_plain values x plain = absurd (true≢false (sym plain))
+call_plain values x plain = grind arith
 
 -- of a snapshot, but that it has loaded words
 pub snapshot_apart : (nodes : ℕ) (values : ℕ → ℕ) (s : SnapshotStep) →
     (cleared (snapshot_role nodes values s) ≡ 0) × (is_bare (snapshot_role nodes values s) ≡ 0) ×
     ((n : ℕ) → frees n (snapshot_role nodes values s) ≡ 0)
-snapshot_apart nodes values (SnapshotStep.Releases (Ok reply)) = (refl, refl, λ n. refl)
-snapshot_apart nodes values (SnapshotStep.Releases (Err refusal)) = (refl, refl, λ n. refl)
-snapshot_apart nodes values other = (refl, refl, λ n. refl)
+snapshot_apart nodes values other = grind arith
 
 -- of a close, but that it frees its node
 pub close_apart : (x : ClosePhase) → (cleared (close_tree_role x) ≡ 0) × (is_bare (close_tree_role x) ≡ 0) × (words_read (close_tree_role x) ≡ 0)
@@ -72,9 +65,7 @@ close_apart other = (refl, refl, refl)
 -- of a freeze, but that it clears marks
 pub freeze_apart : (nodes : ℕ) (s : FreezeStep) →
     (is_bare (freeze_tree_role nodes s) ≡ 0) × (words_read (freeze_tree_role nodes s) ≡ 0) × ((n : ℕ) → frees n (freeze_tree_role nodes s) ≡ 0)
-freeze_apart nodes (FreezeStep.Cleans marks) = (refl, refl, λ n. refl)
-freeze_apart nodes FreezeStep.SetsFs = (refl, refl, λ n. refl)
-freeze_apart nodes s = (refl, refl, λ n. refl)
+freeze_apart nodes s = grind arith
 
 -- and of a remount, but that it does that, and relies on that no file is removed
 pub remount_apart : (nodes : ℕ) (s : RemountStep) →

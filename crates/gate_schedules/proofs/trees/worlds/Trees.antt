@@ -176,25 +176,15 @@ module _ (c : Config) (w : World) (good : IsGood c w) where
   -- where the stage isn't 4, a snapshot has loaded no word
   snapshot_unread : (x : Snapshot) (s : SnapshotStep) (values : ℕ → ℕ) → (w.words.stage ≡ 4 → ⊥) →
       KnowsStage w.words.stage w.words.sb (snapshot_stage_role s) → words_read (snapshot_role x.nodes values s) ≡ 0
-  snapshot_unread x (SnapshotStep.LoadsNode n) values apart knows = absurd (apart knows.0)
-  snapshot_unread x (SnapshotStep.LoadsKids n) values apart knows = absurd (apart knows.0)
-  snapshot_unread x (SnapshotStep.Releases (Ok reply)) values apart knows = absurd (apart knows.0)
-  snapshot_unread x (SnapshotStep.Releases (Err refusal)) values apart knows = refl
-  snapshot_unread x other values apart knows = refl
+  snapshot_unread x other values apart knows = grind arith
 
   tree_unread : (x : TreePhase) (values : ℕ → ℕ) → (w.words.stage ≡ 4 → ⊥) →
       KnowsStage w.words.stage w.words.sb (tree_stage_role x) → words_read (phase_role values x) ≡ 0
-  tree_unread (TreePhase.Snapshot x) values apart knows = snapshot_unread x x.step values apart knows
-  tree_unread (TreePhase.ClearMarks x) values apart knows = refl
-  tree_unread x values apart knows = (call_plain values x refl).read_none
+  tree_unread x values apart knows = grind arith
 
   phase_unread : (trace : List Traced) (p : Option Phase) → (w.words.stage ≡ 4 → ⊥) →
       KnowsStage w.words.stage w.words.sb (stage_role_of p) → words_read (tree_role_of trace p) ≡ 0
-  phase_unread trace (Some (Phase.Remounts x)) apart knows = (remount_apart x.nodes x.step).0
-  phase_unread trace (Some (Phase.Freezes x)) apart knows = (freeze_apart x.nodes x.step).1
-  phase_unread trace (Some (Phase.Trees x)) apart knows = tree_unread x (values_noted (nodes_noted x) trace) apart knows
-  phase_unread trace (Some (Closes x)) apart knows = (close_apart x).2
-  phase_unread trace p apart knows = refl
+  phase_unread trace p apart knows = grind arith
 
   pub nobody_reads : (w.words.stage ≡ 4 → ⊥) → NobodyReads (tree_bounds c) (tree_of w)
   nobody_reads apart = total_none c.tasks (λ t. words_read (tree_roles w t)) (λ t lt.
