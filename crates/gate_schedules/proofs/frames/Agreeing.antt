@@ -9,11 +9,7 @@ pub agree_self : {c : Config} {held : Holdings} → Agree c held held
 agree_self = record { mounts = λ m lm. refl; levels = λ i one three. refl; files = λ n. refl }
 
 pub agree_sym : {c : Config} {held seen : Holdings} → Agree c held seen → Agree c seen held
-agree_sym same = record {
-  mounts = λ m lm. sym (same.mounts m lm);
-  levels = λ i one three. sym (same.levels i one three);
-  files = λ n. sym (same.files n);
-}
+agree_sym same = grind arith
 
 -- accesses that agree at each mount agree whether there is one
 some_agree : (f g : ℕ → ℕ) (n mounts : ℕ) → n ≤ mounts → ((m : ℕ) → m < mounts → f m ≡ g m) → some_mount n f ≡ some_mount n g

@@ -1,8 +1,9 @@
 -- An operation that stands at a phase of another one, and relies on something at the tree meanwhile, as a last close does inside level 3:
 -- the law of the other's event is the law of its event, but for the tree and the open files, which the event leaves alone.
 use Rattle.access_model.specs.declared.{actions.Action.Action, replies.Next.Next}
+use Rattle.std.proofs.Common.{arith}
 use Rattle.cpu_words.specs.{Hooks.HookAnswer, Touches.left, Words.{put, read}, declared.{events.Touch.Touch, names.WordName.WordName}}
-use Rattle.finite_sums.proofs.Totals.{each_updated, update_at, update_off}
+use Rattle.finite_sums.proofs.Totals.{each_updated, update_at}
 use Rattle.finite_sums.specs.Sums.{update}
 use Rattle.gate_schedules.proofs.frames.{Accesses.holdings_of_after, ByPhase.closing_as, Frames.{left_alone, same_words, shown_still}}
 use Rattle.gate_schedules.proofs.levels.Steps.{level_kept}
@@ -12,8 +13,7 @@ use Rattle.gate_world.specs.{Rules.{IsGood, Known, Moves, Owner, Part, SameView,
 use Rattle.gate_world.specs.{Views.{held_of, phase_after, taken_by, view_with}, Worlds.World, declared.{config.Config.Config, views.View.View}}
 use Rattle.gate_world.specs.declared.work.Phase.{Phase}
 use Rattle.freeze_laws.specs.levels.Events.{SyncStep}
-use Rattle.std.proofs.{Common.{Bool, ap, false, inl, inr, refl, subst, sym, true, true≢false, ℕ, ◌<◌, ◌∙◌, ◌≡◌}, Math.Path.fun_ext}
-use Rattle.std.proofs.lemmas.Bool.Decides.{eqb_tells}
+use Rattle.std.proofs.{Common.{Bool, ap, false, refl, subst, sym, true, true≢false, ℕ, ◌<◌, ◌∙◌, ◌≡◌}}
 use Rattle.std.specs.Prelude.{Option, if◌then◌else◌}
 
 pub beside_of : {p q : Option Phase} {r : Roles} → p ≡ q → r ≡ off_tree (roles_of q) → r ≡ off_tree (roles_of p)
@@ -100,11 +100,7 @@ beside_level w t q same i =
     level_kept w t i w.words (at_phase (w.views t) q) refl refl refl refl (λ j. (same j).inside) (λ j. (same j).sync i)
 
 pub update_twice : {A : Type 0} (f : ℕ → A) (t : ℕ) (u v : A) → update (update f t u) t v ≡ update f t v
-update_twice f t u v =
-    fun_ext (λ x. elim (eqb_tells x t) [
-      | inl h ↦ rw (h.0, update)
-      | inr h ↦ update_off (update f t u) t v x h.1 ∙ (update_off f t u x h.1 ∙ sym (update_off f t v x h.1))
-    ])
+update_twice f t u v = grind arith
 
 -- the world after an event of this word and touch, after which this comes
 abbrev pub made : World → ℕ → WordName × Touch → HookAnswer → Next Phase → Option Action → World

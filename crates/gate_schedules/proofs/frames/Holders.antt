@@ -1,8 +1,8 @@
 -- Who holds a freeze, as the laws of the holders have it: what holds of it in a world, and what an event of a task leaves of it.
-use Rattle.std.proofs.{Common.{◌≡◌, ℕ, ◌<◌, ◌≤◌, sym, ap, ◌∙◌, subst, inl, inr, arith}, lemmas.Bool.{cases_Bool, Decides.eqb_tells}}
-use Rattle.std.specs.Prelude.{Option, Some}
+use Rattle.std.proofs.{Common.{◌≡◌, ℕ, ◌<◌, ◌≤◌, sym, ap, ◌∙◌, subst, inl, inr, arith}, lemmas.Bool.{Decides.eqb_tells}}
+use Rattle.std.specs.Prelude.{Option}
 use Rattle.finite_sums.{proofs.Totals.{total_none, update_map, update_same}, specs.Sums.{update, total}}
-use Rattle.access_model.specs.{Holders.is_unheld, declared.actions.Holder.Holder}
+use Rattle.access_model.specs.{declared.actions.Holder.Holder}
 use Rattle.cpu_words.specs.Words.{Words}
 use Rattle.freeze_levels.specs.declared.{freezes.FreezeStep.FreezeStep, thaws.ThawStep.ThawStep}
 use Rattle.freeze_levels.{proofs.holder_laws.HolderLaws.events_keep, specs.holder_laws.{Events.{HolderMoment, HolderEvent, Happens, Moves, Stays}, Roles.{HoldersHold, minds}}}

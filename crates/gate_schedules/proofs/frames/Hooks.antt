@@ -1,7 +1,6 @@
 -- An event that reads no hook's answer is the same whatever a hook answers.
 use Rattle.std.proofs.Common.{ℕ, ◌≡◌, None, ap, true≢false, is_some, refl}
 use Rattle.std.proofs.Common.{arith}
-use Rattle.access_model.specs.Replies.{map_next}
 use Rattle.cpu_words.specs.Hooks.{HookAnswer}
 use Rattle.gated_tree.specs.{Phases.{next as tree_next, after as tree_after}, declared.phases.TreePhase.TreePhase}
 use Rattle.mount_counts.specs.{Phases.{next, after}, Remounts.{remount_next, remount_after}}

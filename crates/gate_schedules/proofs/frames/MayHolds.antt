@@ -1,42 +1,37 @@
 -- The next event of each task is on a word that holds what it may: the word of a node of the tree is a node's, and the sync word of a level
 -- is one.
 use Rattle.std.proofs.Common.{◌≡◌, ℕ, ◌<◌, ◌≤◌, ◌*◌, subst, ap, true, false, arith}
-use Rattle.std.specs.Prelude.{Ok, Err, Some, is_some}
-use Rattle.mount_counts.specs.{Phases.{want_next, change_next}, Remounts.remount_next, declared.phases.MountPhase.TheVariants.Want as MWants}
-use Rattle.mount_counts.specs.declared.phases.{MountPhase.TheVariants.{Change as MChanges}, WantStep.TheVariants.CountsUp}
+use Rattle.std.specs.Prelude.{Some, is_some}
+use Rattle.mount_counts.specs.{Phases.{want_next, change_next}, Remounts.remount_next}
+use Rattle.mount_counts.specs.declared.phases.{WantStep.TheVariants.CountsUp}
 use Rattle.mount_counts.specs.declared.phases.{ChangeStep.{TheVariants.Locks, ChangeStep}, Want.Want, Change.Change, WantStep.WantStep}
-use Rattle.mount_counts.specs.declared.remounts.{RemountStep.TheVariants.{SetsWritable, ClearsMark, SetsReadOnly as RSetsReadOnly}, Remount.Remount}
+use Rattle.mount_counts.specs.declared.remounts.{Remount.Remount}
 use Rattle.mount_counts.specs.declared.remounts.RemountStep.{RemountStep}
 use Rattle.percpu_rwsem.specs.{Callbacks.callback_next, Readers.down_read_next, Transitions.transition_next, Writers.{down_write_next, up_write_next}}
-use Rattle.percpu_rwsem.specs.declared.callbacks.CallbackStep.TheVariants.{Claims, AwaitsSections as CAwaitsSections, CallsBack as CCallsBack}
 use Rattle.percpu_rwsem.specs.declared.{callbacks.{Callback.Callback, CallbackStep.CallbackStep}, readers.DownReadStep.TheVariants.LoadsSync}
 use Rattle.percpu_rwsem.specs.declared.{readers.{DownRead.DownRead, DownReadStep.DownReadStep}, transitions.Transition.TheVariants.{Loads, Exchanges}}
-use Rattle.percpu_rwsem.specs.declared.{transitions.Transition.Transition, writers.DownWriteStep.TheVariants.{Enters, AwaitsPassed, CallsBack as WCallsBack}}
+use Rattle.percpu_rwsem.specs.declared.{transitions.Transition.Transition}
 use Rattle.percpu_rwsem.specs.declared.writers.{UpWriteStep.TheVariants.{ClearsBlock, Exits}, DownWrite.DownWrite, UpWrite.UpWrite}
 use Rattle.percpu_rwsem.specs.declared.writers.{DownWriteStep.DownWriteStep, UpWriteStep.UpWriteStep}
-use Rattle.compounds.specs.{write_access.Phases.next as write_next, declared.write_access.phases.WritePhase.{TheVariants.{Takes, Wants as WWants}, WritePhase}}
-use Rattle.freeze_levels.specs.{Freezes.freeze_next, Thaws.thaw_next, declared.freezes.FreezeStep.TheVariants.{Closes, Cleans, SetsFs, SetsComplete}}
-use Rattle.freeze_levels.specs.declared.freezes.{FreezeStep.{TheVariants.Reopens as FReopens, FreezeStep}, Freeze.Freeze}
-use Rattle.freeze_levels.specs.declared.thaws.{ThawStep.{TheVariants.{LeavesLast, Reopens as TReopens}, ThawStep}, Thaw.Thaw}
+use Rattle.compounds.specs.{write_access.Phases.next as write_next, declared.write_access.phases.WritePhase.{WritePhase}}
+use Rattle.freeze_levels.specs.{Freezes.freeze_next, Thaws.thaw_next, declared.freezes.FreezeStep.TheVariants.{Closes}}
+use Rattle.freeze_levels.specs.declared.freezes.{FreezeStep.{FreezeStep}, Freeze.Freeze}
+use Rattle.freeze_levels.specs.declared.thaws.{ThawStep.{ThawStep}, Thaw.Thaw}
 use Rattle.node_words.specs.Nodes.{unpacked, opens_in}
 use Rattle.gated_tree.specs.Calls.{CreateStepFits, SnapshotStepFits, TreePhaseFits}
 use Rattle.gated_tree.specs.Phases.{next as tree_next, remove_next}
 use Rattle.gated_tree.specs.{Phases.{grow_next, move_next, mark_next, create_next, snapshot_next, open_next}, Roles.RoleHolds}
-use Rattle.gated_tree.specs.declared.changes.CreateStep.TheVariants.{LoadsDirectory, LoadsNode, ChargesChild, TakesNode, RefundsChild}
-use Rattle.gated_tree.specs.declared.changes.RemoveStep.TheVariants.{LoadsFile as LoadsFileToRemove, FreesNode, MarksRemoved}
-use Rattle.gated_tree.specs.declared.changes.MoveStep.TheVariants.{LoadsFile as LoadsFileToMove, LoadsDirectory as LoadsTarget, ChargesChild as ChargesTarget}
-use Rattle.gated_tree.specs.declared.changes.{MoveStep.TheVariants.{MovesFile, RefundsChild as RefundsOne}, Create.Create, Remove.Remove, MoveTo.MoveTo}
+use Rattle.gated_tree.specs.declared.changes.{Create.Create, Remove.Remove, MoveTo.MoveTo}
 use Rattle.gated_tree.specs.declared.changes.{CreateStep.CreateStep, RemoveStep.RemoveStep, MoveStep.MoveStep}
-use Rattle.gated_tree.specs.declared.growth.{GrowStep.{TheVariants.{LoadsFile as LoadsFileToGrow, GrowsFile}, GrowStep}, Grow.Grow}
+use Rattle.gated_tree.specs.declared.growth.{GrowStep.{GrowStep}, Grow.Grow}
 use Rattle.gated_tree.specs.declared.{marks.{MarkStep.{TheVariants.{LoadsFile as LoadsFileToMark, MarksFile}, MarkStep}, Mark.Mark}, opens.OpenFile.OpenFile}
 use Rattle.gated_tree.specs.declared.opens.OpenStep.{OpenStep, TheVariants.{LoadsFile as LoadsFileToOpen, OpensFile}}
-use Rattle.gated_tree.specs.declared.phases.TreePhase.TheVariants.{Create as Creates, Remove as Removes, Grow as Grows, MoveTo as Moves, Mark as TreeMarks}
-use Rattle.gated_tree.specs.declared.phases.TreePhase.{TheVariants.{OpenFile as OpensOne, Snapshot as Snapshots, ClearMarks as TreeClears}, TreePhase}
+use Rattle.gated_tree.specs.declared.phases.TreePhase.{TheVariants.{OpenFile as OpensOne}, TreePhase}
 use Rattle.gated_tree.specs.declared.snapshots.{SnapshotStep.{TheVariants.LoadsNode as SLoadsNode, SnapshotStep}, Snapshot.Snapshot}
 use Rattle.gate_world.specs.{Configs.IsWithin, Courses.{MayHold, MayFind, CloseMayFind, OpenMayFind, EventsMayBe}, Fits.{FreezeFits, ThawFits, WriteFits}}
 use Rattle.gate_world.specs.{Fits.{PhaseFits, CloseFits, HasFile, file_of, Fits}, Holdings.Holdings, Remounts.RemountFits, Rules.{IsGood, Tree, Files}}
 use Rattle.gate_world.specs.{Rules.{Fitting, SyncAt, SyncHoldsIn}, Trees.{tree_bounds, tree_role_of}, Views.{held_of, has_open}, Work.next_of, Worlds.World}
-use Rattle.gate_world.specs.declared.{config.Config.Config, work.Phase.TheVariants.{Mounts, Remounts, DownReads, Callbacks, Writes, Freezes, Thaws}}
+use Rattle.gate_world.specs.declared.{config.Config.Config}
 use Rattle.gate_world.specs.declared.work.Phase.{TheVariants.{Trees, Closes}, Phase}
 use Rattle.node_words.proofs.Packing.{packed_unpacks}
 use Rattle.cpu_words.specs.{Hooks.HookAnswer, Words.read, declared.names.WordName.{TheVariants.{Node, Sync}, WordName}}

@@ -9,13 +9,12 @@ use Rattle.gate_world.specs.Roles.{change_owns, change_role, freeze_owns, role_i
 use Rattle.gate_world.specs.{Rules.{AtMount, GatesHold, IsGood, IsSteady, Owner, OwnerHolds, ViewFits, at_mount, owns, remounts, role_of}, Shown.closing}
 use Rattle.gate_world.specs.{Shown.shown, Views.{added_by, held_of, taken_by}, Waits.{HasCulprit, IsWaitedFor}, Worlds.World, declared.config.Config.Config}
 use Rattle.gate_world.specs.declared.{views.View.View, work.Phase.Phase}
-use Rattle.mount_counts.specs.{Roles.{Role, has_hold, hold_bit, ro_bit, skips}, Sets.has_mount, declared.phases.ChangeStep.ChangeStep}
-use Rattle.mount_counts.specs.declared.{phases.{MountPhase.MountPhase, WantStep.WantStep}, remounts.RemountStep.RemountStep}
+use Rattle.mount_counts.specs.{Roles.{Role, has_hold, hold_bit, ro_bit, skips}, declared.phases.ChangeStep.ChangeStep}
+use Rattle.mount_counts.specs.declared.{phases.{WantStep.WantStep}, remounts.RemountStep.RemountStep}
 use Rattle.freeze_levels.specs.declared.{freezes.FreezeStep.FreezeStep, thaws.ThawStep.ThawStep}
 use Rattle.gated_tree.specs.declared.{phases.TreePhase.TreePhase, snapshots.SnapshotStep.SnapshotStep}
-use Rattle.freeze_laws.proofs.stages.Facts.{bit_le}
-use Rattle.std.proofs.{Common.{Bool, ap, arith, false, inl, inr, nat_lt, refl, suc, true, ℕ, ◌+◌, ◌<◌, ◌∙◌, ◌≡◌, ◌≤◌}, lemmas.Bool.Decides.eqb_tells}
-use Rattle.std.specs.Prelude.{Err, Ok, Option, Some, ◌-◌, ◌==◌}
+use Rattle.std.proofs.{Common.{Bool, ap, arith, false, inl, inr, refl, suc, true, ℕ, ◌+◌, ◌<◌, ◌∙◌, ◌≡◌, ◌≤◌}, lemmas.Bool.Decides.eqb_tells}
+use Rattle.std.specs.Prelude.{Option, Some, ◌-◌, ◌==◌}
 use Rattle.compounds.specs.declared.write_access.phases.WritePhase.{WritePhase}
 
 change_owns_le : (s : ChangeStep) → change_owns s ≤ 1

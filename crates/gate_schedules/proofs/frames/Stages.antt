@@ -5,17 +5,16 @@ use Rattle.cpu_words.specs.Words.{Words}
 use Rattle.finite_sums.proofs.Totals.{total_none, update_map, update_same}
 use Rattle.finite_sums.specs.Sums.{total, update}
 use Rattle.freeze_levels.specs.Holders.{holders_in}
-use Rattle.gate_schedules.proofs.{frames.{ByPhase.{freeze_owner, shown_passed, snapshot_owner, thaw_owner}, Owners.owns_le}, trees.worlds.Trees.marks_right}
+use Rattle.gate_schedules.proofs.{frames.{ByPhase.{shown_passed}, Owners.owns_le}, trees.worlds.Trees.marks_right}
 use Rattle.gate_world.specs.{Configs.model_limits, Holdings.Holdings, Remounts.remount_owns, Roles.remount_stage_role, Rules.{Holds, IsGood, Owner, Stages}}
 use Rattle.gate_world.specs.{Rules.{marks_of, owns, stage_role_of, stage_roles}, Shown.shown, Views.{has_open, held_at, held_of, holds_level}, Worlds.World}
 use Rattle.gate_world.specs.declared.{config.Config.Config, views.View.View, work.Phase.Phase}
 use Rattle.node_words.specs.Nodes.{dirty_in, node_shown}
-use Rattle.gated_tree.specs.declared.phases.TreePhase.{TreePhase}
 use Rattle.mount_counts.specs.{Roles.ro_bit, declared.remounts.RemountStep.RemountStep}
 use Rattle.freeze_laws.proofs.stages.Whole.{actions_are_allowed, actions_have_their_effect, events_keep}
 use Rattle.freeze_laws.specs.stages.{Events.{Happens, Holds as StageHolds, IsAlike, Shows, StageEvent, Stages as StageMoment, action_of}, Roles.{Owning, StageRole}}
 use Rattle.freeze_laws.specs.stages.{Roles.owns as stage_owns, Shown.{AsksOthers, ShowsStages, passed_shown, state_after}}
-use Rattle.std.proofs.{Common.{Bool, ap, arith, inl, inr, refl, subst, sym, ℕ, ◌%◌, ◌<◌, ◌∙◌, ◌≡◌, ◌≤◌}, lemmas.Bool.Decides.eqb_tells}
+use Rattle.std.proofs.{Common.{Bool, ap, arith, refl, subst, sym, ℕ, ◌<◌, ◌∙◌, ◌≡◌, ◌≤◌}}
 use Rattle.std.specs.Prelude.{Option, Some, false, ◌==◌}
 
 -- owners that rely on one thing or another are alike
@@ -45,10 +44,7 @@ pub stage_owner : (p : Option Phase) → stage_owns (stage_role_of p) ≤ owns p
 stage_owner other = grind arith
 
 clean_shown : (word : ℕ) → dirty_in word ≡ 0 → is_dirty (node_shown word) ≡ false
-clean_shown word e = elim (eqb_tells (word % 4) 0) [
-  | inl q ↦ rw q.0 refl
-  | inr q ↦ rw (q.0, e) refl
-]
+clean_shown word e = grind arith
 
 module _ (c : Config) (w : World) (good : IsGood c w) where
   pub stages_right : StageHolds c.tasks c.nodes (stages_in w)

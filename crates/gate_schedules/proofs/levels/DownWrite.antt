@@ -16,20 +16,18 @@ use Rattle.percpu_rwsem.specs.Writers.{passed_awaited, sum_begun, down_write_sum
 use Rattle.percpu_rwsem.specs.declared.{callbacks.CallbackStep.CallbackStep, grace.GraceNext.GraceNext, readers.DownReadStep.DownReadStep}
 use Rattle.percpu_rwsem.specs.declared.{sync_word.{GpState.GpState, SyncWord.SyncWord}, transitions.{Transition.Transition, TransitionNext.TransitionNext}}
 use Rattle.percpu_rwsem.specs.declared.writers.{DownWrite.DownWrite, DownWriteStep.DownWriteStep, UpWriteStep.UpWriteStep}
-use Rattle.freeze_levels.specs.declared.{freezes.FreezeStep.{FreezeStep, TheVariants.Closes}, thaws.ThawStep.ThawStep}
+use Rattle.freeze_levels.specs.declared.{freezes.FreezeStep.{FreezeStep}, thaws.ThawStep.ThawStep}
 use Rattle.freeze_laws.proofs.levels.{EventLaws.swap_keeps, Operations.down_writes_are_there}
 use Rattle.freeze_laws.specs.levels.Events.{SyncLevelHolds, SyncStep}
 use Rattle.freeze_laws.specs.levels.Operations.{down_read_role, callback_role, down_write_role, value_at, left_by, by_next, HoldsOfNext}
 use Rattle.freeze_laws.specs.levels.Roles.{SyncRole, Waiting, Out as IsApart, Closed, entered}
 use Rattle.freeze_laws.{proofs.stages.{Facts.total_alone, Positions.{other_position, not_full}}, specs.stages.Roles.has_position}
-use Rattle.compounds.specs.declared.write_access.phases.WritePhase.{WritePhase}
-use Rattle.compounds.specs.declared.file_closes.phases.ClosePhase.{ClosePhase}
 use Rattle.gate_world.specs.{Configs.IsWithin, Fits.DownWriteFits, LevelRuns.level_in, Levels.{sync_role_of, at_level, is_frozen_whole, level_role_of}}
 use Rattle.gate_world.specs.Roles.{sync_role_if, freeze_stand, thaw_stand, Stand, stand_count, stand_sync, closed_to, down_count_role, freeze_stage_role}
 use Rattle.gate_world.specs.{Roles.{reopening_role, thaw_stage_role}, Rules.{AtLevel, Holds, IsGood, Stages, stage_role_of, stage_roles}}
-use Rattle.gate_world.specs.{Views.holds_level, Worlds.World, declared.{config.Config.Config, views.View.View, work.Phase.{Phase, TheVariants.Closes}}}
+use Rattle.gate_world.specs.{Views.holds_level, Worlds.World, declared.{config.Config.Config, views.View.View, work.Phase.{Phase}}}
 use Rattle.gate_schedules.proofs.frames.Frames.{SameLevelCounts}
-use Rattle.gate_schedules.proofs.levels.StandRoles.{count_at, sync_at, SayBeside, beside_each, counts_left, counts_become, levels_move}
+use Rattle.gate_schedules.proofs.levels.StandRoles.{count_at, sync_at, SayBeside, counts_left, counts_become, levels_move}
 use Rattle.gate_schedules.proofs.levels.Standing.{Stands, closing_stand, stand_after_closing, LevelsHold, left_world}
 use Rattle.gate_schedules.proofs.levels.Worlds.{level_right, found_level, IsEventAt, event_word}
 

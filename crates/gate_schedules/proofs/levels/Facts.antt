@@ -1,6 +1,6 @@
 -- What the rule says of a level's sync word where a writer or a callback makes a transition of it: the transition is defined.
 use Rattle.std.proofs.Common.{◌≡◌, ℕ, zero, suc, ◌<◌, ◌≤◌, Bool, true, false, refl, sym, ap, ◌∙◌, inl, inr, arith, true≢false}
-use Rattle.std.proofs.lemmas.Bool.{lt-ltb, ne_eqb, eq-eqb, eqb-true, and_parts, Decides.eqb_tells}
+use Rattle.std.proofs.lemmas.Bool.{lt-ltb, eq-eqb, eqb-true, and_parts, Decides.eqb_tells}
 use Rattle.std.specs.Prelude.{◌==◌, not, nat_lt, Option, Some, None}
 use Rattle.finite_sums.{proofs.Totals.{total_at, total_none}, specs.Sums.total}
 use Rattle.cpu_words.specs.Touches.{left, found_by}
@@ -70,9 +70,7 @@ awaited_taken other true count h some = absurd (true≢false (sym h))
 module _ (tasks : ℕ) (word : SyncWord) (block full : ℕ) (section : ℕ → ℕ) (at : ℕ → SyncRole)
     (h : SyncHolds tasks word block full section at) (t : ℕ) (lt : t < tasks) where
   pub enter_defined : on_enter word ≡ None → ⊥
-  enter_defined e =
-      let few : (word.count == 65535) ≡ false = ne_eqb word.count 65535 (λ q. omega (arith, q, h.once)) in
-      not_none _ (rw few at e)
+  enter_defined e = grind arith
 
   module _ (own : entered (at t) ≡ 1) where
     -- a writer that has entered is the only one

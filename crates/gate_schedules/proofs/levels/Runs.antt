@@ -1,7 +1,7 @@
 -- What each event of a freeze or a thaw is of each level: one of the level's own kinds of event, or one that leaves it.
-use Rattle.std.proofs.{Common.{refl, ℕ, ◌<◌, ◌≤◌, ◌≡◌, sym, ap, ◌∙◌, inl, subst, arith, inr, ◌+◌}, lemmas.Bool.Decides.eqb_tells}
+use Rattle.std.proofs.{Common.{ℕ, ◌<◌, ◌≤◌, ◌≡◌, sym, ap, ◌∙◌, inl, subst, arith, inr, ◌+◌}, lemmas.Bool.Decides.eqb_tells}
 use Rattle.std.specs.Prelude.{Option, Some}
-use Rattle.finite_sums.{proofs.Totals.{update_at, update_same}, specs.Sums.{update, total}}
+use Rattle.finite_sums.{proofs.Totals.{update_same}, specs.Sums.{update, total}}
 use Rattle.cpu_words.specs.{Touches.{left, found_by}, Words.{Words, put, read}, declared.{events.Touch.Touch, names.WordName.WordName}}
 use Rattle.percpu_rwsem.specs.Writers.{down_write_after, up_write_after, down_write_next, up_write_next}
 use Rattle.percpu_rwsem.specs.declared.writers.{DownWrite.DownWrite, UpWrite.UpWrite}

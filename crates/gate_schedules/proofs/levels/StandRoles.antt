@@ -1,8 +1,8 @@
 -- What who stands at a level has there, below it and above it; which stands say the same; and what an event of such a task leaves.
 use Rattle.std.proofs.Common.{◌≡◌, ℕ, zero, suc, ◌-◌, ◌<◌, ◌≤◌, refl, sym, ap, ◌∙◌, inl, inr, arith, subst}
 use Rattle.std.proofs.lemmas.Bool.{eq-eqb, ne_eqb, lt-ltb, le-ltb, cases_lt, Decides.eqb_tells}
-use Rattle.std.specs.Prelude.{Option, Some, None, Bool, if◌then◌else◌}
-use Rattle.finite_sums.{proofs.Totals.{update_map, update_off, update_same}, specs.Sums.update}
+use Rattle.std.specs.Prelude.{Option, Some, None}
+use Rattle.finite_sums.{proofs.Totals.{update_map, update_same}, specs.Sums.update}
 use Rattle.cpu_words.specs.{Touches.left, Words.{Words, put, read}, declared.{events.Touch.Touch, names.WordName.WordName}}
 use Rattle.cpu_words.specs.gate_counts.Levels.{LevelRole, LevelHolds, Out as CountsNot, Passed as CountsPassed}
 use Rattle.freeze_levels.specs.Levels.{closing}
@@ -10,7 +10,7 @@ use Rattle.freeze_laws.specs.levels.{Events.{SyncLevel, SyncStep}, Operations.{p
 use Rattle.gate_world.specs.{LevelRuns.level_in, Levels.{at_level, level_role_of, inside, is_frozen_whole}}
 use Rattle.gate_world.specs.Roles.{Stand, stand_count, stand_sync, closed_to}
 use Rattle.gate_world.specs.{Rules.{IsGood, Holds, AtLevel, SyncAt, Sections}, Worlds.World, declared.{config.Config.Config, views.View.View, work.Phase.Phase}}
-use Rattle.gate_schedules.proofs.frames.Frames.{left_alone, level_as, level_view_as, SameLevelWords, SameLevelCounts}
+use Rattle.gate_schedules.proofs.frames.Frames.{left_alone, level_as, SameLevelWords, SameLevelCounts}
 use Rattle.gate_schedules.proofs.levels.Standing.{LevelsHold, left_world, closing_stand, still_closed, Stands}
 use Rattle.gate_schedules.proofs.levels.Worlds.{IsEventAt, sync_there, sync_elsewhere, sections_stay}
 
@@ -34,17 +34,11 @@ sync_above i s lt = rw (ne_eqb i s.level (λ e. omega (arith, e, lt)), le-ltb i 
 
 -- with the levels up to this one closed, each of them is passed
 pub count_closed : (i n : ℕ) → i ≤ n → stand_count i (Some (closed_to n)) ≡ CountsPassed
-count_closed i n le = elim (eqb_tells i n) [
-  | inl q ↦ count_at i (closed_to n) q.1
-  | inr q ↦ count_below i (closed_to n) (omega (arith, q.1, le))
-]
+count_closed i n le = grind arith
 
 -- and its rcu_sync is closed
 pub sync_closed : (i n : ℕ) → i ≤ n → stand_sync i (Some (closed_to n)) ≡ Closed
-sync_closed i n le = elim (eqb_tells i n) [
-  | inl q ↦ sync_at i (closed_to n) q.1
-  | inr q ↦ sync_below i (closed_to n) (omega (arith, q.1, le))
-]
+sync_closed i n le = grind arith
 
 -- Both say the same of the three levels.
 pub record SaySame (s z : Option Stand) : Type 0 where
@@ -57,11 +51,7 @@ say_back s z h = record { counts = λ i one three. sym (h.counts i one three); s
 
 -- so a phase that stands as the one says stands as the other does
 pub stands_so : (p : Option Phase) (s z : Option Stand) → SaySame s z → Stands p s → Stands p z
-stands_so p s z h is = record {
-  counts = λ i one three. is.counts i one three ∙ sym (h.counts i one three);
-  syncs = λ i one three. is.syncs i one three ∙ sym (h.syncs i one three);
-  outside = is.outside;
-}
+stands_so p s z h is = grind arith
 
 -- Both say the same of each level but this one.
 pub record SayBeside (level : ℕ) (s z : Option Stand) : Type 0 where
@@ -129,9 +119,7 @@ still_up n = rw (ne_eqb (suc n) 0 (λ e. omega (arith, e))) refl
 
 -- before a level that isn't the first, the one below it is the last that is closed
 pub still_before : (n : ℕ) → still_closed (suc (suc n) - 1) ≡ Some (closed_to (suc n))
-still_before n =
-    let down : suc (suc n) - 1 ≡ suc n = omega arith in
-    ap (λ k. still_closed k) down ∙ still_up n
+still_before n = grind arith
 
 -- who stands at a level says the same as where just those below it are still closed: of each level but its own
 pub beside_still : (level : ℕ) (s : Stand) → 1 ≤ level → s.level ≡ level → SayBeside level (Some s) (still_closed (level - 1))
@@ -187,9 +175,7 @@ module _ (c : Config) (w : World) (good : IsGood c w) (t : ℕ) (lt : t < c.task
     (was : Stands (w.views t).phase s) (now : Stands v.phase z) (counts : SameLevelCounts (w.views t) v) where
   seen_counts : (i : ℕ) → 1 ≤ i → i ≤ 3 → (r : LevelRole) → stand_count i z ≡ r →
       at_level i v ≡ record (at_level i (w.views t)) { role = r }
-  seen_counts i one three r e =
-      level_view_as (ap (λ (f : ℕ → Bool). if f i then 1 else 0) counts.held_same) (ap (λ f. f i) counts.added_same)
-      (ap (λ f. f i) counts.taken_same) (now.counts i one three ∙ e)
+  seen_counts i one three r e = grind arith
 
   -- a level's counts where neither what they read of the words nor its role there changes
   pub counts_left : (ws : Words) (i : ℕ) → ws.block i ≡ w.words.block i → ws.level i ≡ w.words.level i →

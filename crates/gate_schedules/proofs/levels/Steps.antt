@@ -1,6 +1,7 @@
 -- Events as steps of a level.
 use Rattle.std.proofs.Common.{◌≡◌, ℕ, ◌<◌, ap, ◌∙◌}
-use Rattle.finite_sums.{proofs.Totals.{update_map, update_same}, specs.Sums.update}
+use Rattle.std.proofs.Common.{arith}
+use Rattle.finite_sums.{proofs.Totals.{update_same}, specs.Sums.update}
 use Rattle.cpu_words.specs.Words.{Words}
 use Rattle.freeze_laws.specs.levels.Events.{SyncLevel, SyncStep, Stays}
 use Rattle.gate_world.specs.{LevelRuns.level_in, Levels.{inside, sync_role_of, is_frozen_whole}, Worlds.World, declared.views.View.View}
@@ -18,14 +19,7 @@ pub level_moved : (w : World) (t i : ℕ) (ws : Words) (v : View) → level_in (
       inside = update (λ x. inside (w.views x).phase) t (inside v.phase);
       at = update (λ x. sync_role_of i (w.views x).phase) t (sync_role_of i v.phase);
     }
-level_moved w t i ws v = λ j. record {
-  sync = ws.sync i;
-  block = ws.block i;
-  full = is_frozen_whole ws;
-  section = ws.section;
-  inside = update_map (λ (u : View). inside u.phase) w.views t v j;
-  at = update_map (λ (u : View). sync_role_of i u.phase) w.views t v j;
-}
+level_moved w t i ws v = grind arith
 
 -- an event that leaves what a level reads of the words, and the task's part in it, leaves the level
 pub level_kept : (w : World) (t i : ℕ) (ws : Words) (v : View) → ws.sync i ≡ w.words.sync i → ws.block i ≡ w.words.block i →

@@ -12,7 +12,7 @@ use Rattle.freeze_laws.specs.levels.{Events.SyncStep, Operations.{up_write_role,
 use Rattle.gate_world.specs.{Configs.IsWithin, Fits.UpWriteFits, LevelRuns.level_in, Levels.is_frozen_whole, Roles.{Stand, stand_count, stand_sync}}
 use Rattle.gate_world.specs.{Rules.{IsGood, Holds, AtLevel}, Worlds.World, declared.{config.Config.Config, views.View.View}}
 use Rattle.gate_schedules.proofs.frames.Frames.{SameLevelCounts}
-use Rattle.gate_schedules.proofs.levels.StandRoles.{count_at, sync_at, still_count, still_sync, SayBeside, beside_each, beside_still, counts_left}
+use Rattle.gate_schedules.proofs.levels.StandRoles.{count_at, sync_at, SayBeside, counts_left}
 use Rattle.gate_schedules.proofs.levels.StandRoles.{counts_become, levels_move}
 use Rattle.gate_schedules.proofs.levels.Standing.{Stands, opening_stand, stand_after_opening, LevelsHold, left_world}
 use Rattle.gate_schedules.proofs.levels.Worlds.{found_level, IsEventAt, event_word}

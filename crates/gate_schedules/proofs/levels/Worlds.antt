@@ -1,20 +1,18 @@
 -- One level of a world, as the laws of a level have it: what holds there, and what an event of a task leaves of it.
 use Rattle.std.proofs.{Common.{◌≡◌, ℕ, zero, suc, ◌-◌, ◌<◌, ◌≤◌, refl, sym, ap, ◌∙◌, subst, arith}, lemmas.Bool.{eq-eqb, ne_eqb}}
 use Rattle.std.proofs.lemmas.Grind.{common_steps}
-use Rattle.std.specs.Prelude.{Option, Some, Bool, true, false, ◌==◌, ◌&&◌, if◌then◌else◌}
-use Rattle.finite_sums.{proofs.Totals.{total_le, update_map, update_same, update_at, update_off}, specs.Sums.{update, total}}
+use Rattle.std.specs.Prelude.{Option, Bool, true, false, ◌==◌, ◌&&◌, if◌then◌else◌}
+use Rattle.finite_sums.{proofs.Totals.{total_le, update_map, update_same}, specs.Sums.{update, total}}
 use Rattle.cpu_words.specs.{Touches.{wrap_add, left}, Words.{Words, put, read}, declared.{events.Touch.Touch, names.WordName.WordName}}
 use Rattle.percpu_rwsem.specs.declared.{callbacks.CallbackStep.CallbackStep, readers.DownReadStep.DownReadStep}
 use Rattle.freeze_laws.proofs.levels.Whole.{events_keep, fast_finds_open as level_is_open}
 use Rattle.freeze_laws.specs.levels.Events.{SyncLevelHolds, SyncStep, TurnsSection}
 use Rattle.freeze_laws.specs.levels.Operations.{down_read_role, callback_role, down_read_inside, put_at, value_at, left_by}
 use Rattle.freeze_laws.specs.levels.Roles.{SyncRole, Out as IsApart, Fast, fast, closed}
-use Rattle.compounds.specs.declared.write_access.phases.WritePhase.{WritePhase}
-use Rattle.compounds.specs.declared.file_closes.phases.ClosePhase.{ClosePhase}
-use Rattle.gate_world.specs.{LevelRuns.level_in, Levels.{inside, sync_role_of}, Roles.{freeze_stand, sync_role_if, thaw_stand}, Rules.{Holds, IsGood}}
+use Rattle.gate_world.specs.{LevelRuns.level_in, Levels.{inside, sync_role_of}, Roles.{sync_role_if}, Rules.{Holds, IsGood}}
 use Rattle.gate_world.specs.{Rules.{SameWords, Sections, SyncAt}, Shown.{closing, is_passed, shown}, Worlds.World, declared.config.Config.Config}
 use Rattle.gate_world.specs.declared.{views.View.View, work.Phase.Phase}
-use Rattle.gate_schedules.proofs.{frames.Frames.left_alone, levels.Stands.{freeze_slow, stand_below, thaw_slow}}
+use Rattle.gate_schedules.proofs.{frames.Frames.left_alone}
 
 read_fast : (b : Bool) (s : DownReadStep) → fast (sync_role_if b (down_read_role s)) ≤ down_read_inside s
 read_fast true DownReadStep.EntersSection = omega arith

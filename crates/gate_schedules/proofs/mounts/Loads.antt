@@ -1,5 +1,6 @@
 -- Loads of a task at a mount: they leave the words and the shown model.
 use Rattle.access_model.specs.declared.replies.Next.{Next}
+use Rattle.std.proofs.Common.{arith}
 use Rattle.cpu_words.specs.{Hooks.HookAnswer, Words.{put, read}, declared.{events.Touch.Touch, names.WordName.WordName}}
 use Rattle.finite_sums.proofs.Totals.{update_same}
 use Rattle.finite_sums.specs.Sums.{update}
@@ -13,12 +14,7 @@ use Rattle.std.proofs.Common.{ap, refl, subst, sym, ℕ, ◌<◌, ◌∙◌, ◌
 use Rattle.std.specs.Prelude.{None, Option, Some}
 
 pub steady : {p q r : Option Phase} → p ≡ r → IsSteady r q → IsSteady p q
-steady e s = record {
-  owns_same = s.owns_same ∙ sym (ap owns e);
-  remounts_same = s.remounts_same ∙ sym (ap remounts e);
-  closing_same =
-      λ i. s.closing_same i ∙ sym (ap (closing i) e);
-}
+steady e s = grind arith
 
 -- events of a layer that closes no level and sets no `remount`
 pub as_owner : {p q : Option Phase} (phase : MountPhase) → p ≡ Some (Phase.Mounts phase) → owns q ≡ mount_owns phase → remounts q ≡ 0 →

@@ -1,18 +1,18 @@
 -- What the events of want, drop and change touch: the rest of the rule stays.
-use Rattle.std.proofs.{Common.{Bool, arith, inl, inr, refl, sym, true, true≢false, ◌≡◌, ◌<◌, ◌⊎◌, subst, ℕ, ◌∙◌, ap, List}, lemmas.Bool.{cases_Bool, or_cases}}
-use Rattle.std.specs.Prelude.{Some, false, sum, ◌==◌, if◌then◌else◌}
+use Rattle.std.proofs.{Common.{Bool, arith, inl, inr, refl, sym, true, true≢false, ◌≡◌, ◌<◌, ◌⊎◌, subst, ℕ, ◌∙◌, ap, List}, lemmas.Bool.{cases_Bool}}
+use Rattle.std.specs.Prelude.{Some, false, ◌==◌, if◌then◌else◌}
 use Rattle.access_model.specs.{Histories.{levels_of, opens_of}, Replies.map_next, declared.{actions.Action.Action, replies.Next.Next}}
 use Rattle.cpu_words.specs.{Hooks.HookAnswer, Touches.{event_of, found_by, left}, Words.{Words, put, read}}
 use Rattle.cpu_words.specs.declared.{events.Touch.Touch, names.WordName.WordName}
 use Rattle.mount_counts.specs.Phases.{change_after, change_next, lock_failed, want_after, want_next, next, after}
 use Rattle.mount_counts.specs.declared.phases.{Change.Change, ChangeStep.ChangeStep, MountPhase.MountPhase, Want.Want, WantStep.WantStep}
 use Rattle.gate_world.specs.{Found.is_load, Levels.{at_level, level_added_after, level_taken_after, level_added_by, level_taken_by}, Owners.is_owned}
-use Rattle.gate_world.specs.{Alike.{Roles, no_roles, roles_of}, Owners.takes_lock, Roles.change_owns, Rules.{AtMount, Holds, IsGood, Known, Owner, Part}}
+use Rattle.gate_world.specs.{Alike.{Roles, no_roles, roles_of}, Owners.takes_lock, Roles.change_owns, Rules.{Holds, IsGood, Known, Part}}
 use Rattle.gate_world.specs.Rules.{SameView}
 use Rattle.gate_world.specs.Rules.{SameWords, Stages, Holding, StepKeeps, at_gates, owns, GateStepKeeps, Tree, AtLevel, SyncAt, Sections, Files}
-use Rattle.gate_world.specs.{Trees.tree_role_of, Views.{phase_after, view_after, actions_after, has_open}, Worlds.{World, after_step, found_at, value_at}}
+use Rattle.gate_world.specs.{Trees.tree_role_of, Views.{phase_after, view_after, actions_after, has_open}, Worlds.{World, after_step, value_at}}
 use Rattle.gate_world.specs.{Worlds.words_after, declared.{config.Config.Config, views.View.View, work.Phase.Phase}}
-use Rattle.gate_schedules.proofs.frames.{Frames.{unwritten, left_alone, level_view_as}, Known.{IsOwnersWork, known_after}, Words.load_same}
+use Rattle.gate_schedules.proofs.frames.{Frames.{left_alone, level_view_as}, Known.{IsOwnersWork, known_after}, Words.load_same}
 
 -- the words that want, drop and change write
 abbrev pub is_gate_word : WordName → Bool
@@ -57,10 +57,7 @@ load_left w word touch h = absurd (true≢false (sym h))
 
 -- so they are as they were
 gate_words_left : (w : Words) (x : WordName × Touch) → IsGateTouch x → off_gates (put w x.0 (left x.1 (read w x.0))) ≡ off_gates w
-gate_words_left w x touches = elim touches [
-  | inl h ↦ ap off_gates (load_left w x.0 x.1 h)
-  | inr h ↦ gate_written w x.0 (left x.1 (read w x.0)) h
-]
+gate_words_left w x touches = grind arith
 
 -- and the parts of the stage, the holders, the tree, the files and the levels read none of these
 unread : (part : Part) → at_gates part ≡ false → is_known_part part ≡ false → (old new : Words) → off_gates new ≡ off_gates old →

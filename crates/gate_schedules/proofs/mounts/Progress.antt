@@ -1,7 +1,6 @@
 -- A want whose mount is not held, a drop, and a change that finds `umount` free run out.
-use Rattle.std.proofs.{Common.{◌≡◌, ℕ, ◌+◌, ◌≤◌, Bool, true, false, refl, ap, ◌∙◌, inl, inr, arith}, lemmas.Bool.{cases_Bool, ltb-true, Decides.eqb_tells}}
-use Rattle.std.specs.Prelude.{◌%◌, ◌==◌, not, nat_lt}
-use Rattle.finite_sums.proofs.Totals.{update_same}
+use Rattle.std.proofs.{Common.{◌≡◌, ℕ, ◌+◌, ◌≤◌, Bool, true, false, ap, ◌∙◌, inl, inr, arith}, lemmas.Bool.{cases_Bool, ltb-true, Decides.eqb_tells}}
+use Rattle.std.specs.Prelude.{◌%◌, nat_lt}
 use Rattle.access_model.specs.Replies.{map_next}
 use Rattle.cpu_words.specs.{Touches.{left, found_by}, Words.{Words, read, put}, declared.sums.{Sum.Sum, Taken.Taken}}
 use Rattle.mount_counts.specs.Phases.{has_flag, want_next, want_after, change_next, change_after, step_between, step_summed, lock_failed}

@@ -2,12 +2,11 @@
 use Rattle.access_model.specs.{Holders.with_holder, Replies.map_next, declared.{errors.GateError.GateError, replies.Next.Next}}
 use Rattle.cpu_words.specs.{Hooks.HookAnswer, Touches.{event_of, left}, Words.{Words, put, read}, declared.{events.Touch.Touch, names.WordName.WordName}}
 use Rattle.finite_sums.proofs.Totals.{each_updated, total_updated}
-use Rattle.freeze_levels.specs.{Freezes.{freeze_after, freeze_next}, Holders.word_of, Thaws.{thaw_after, thaw_next}, declared.freezes.Freeze.Freeze}
+use Rattle.freeze_levels.specs.{Freezes.{freeze_after, freeze_next}, Holders.word_of, Thaws.{thaw_next}, declared.freezes.Freeze.Freeze}
 use Rattle.freeze_levels.specs.declared.{freezes.FreezeStep.{FreezeStep, TheVariants.Closes}, thaws.{Thaw.Thaw, ThawStep.ThawStep}}
-use Rattle.gate_schedules.proofs.operations.Layers.{op_keeps}
 use Rattle.gate_schedules.proofs.frames.Holders.{holders_at}
-use Rattle.gate_world.specs.{Beginnings.first_phase, Fits.Fits, Found.stores_stage, Headline.{HoldersAreTold, is_between, stores_nobody}, Rules.Fitting}
-use Rattle.gate_world.specs.{Rules.{Holding, IsGood, Known, holder_role_of}, Views.{begun_view, held_of, phase_after, view_after, with_hook}}
+use Rattle.gate_world.specs.{Fits.Fits, Found.stores_stage, Headline.{HoldersAreTold, is_between, stores_nobody}, Rules.Fitting}
+use Rattle.gate_world.specs.{Rules.{Holding, IsGood, Known, holder_role_of}, Views.{held_of, phase_after, view_after, with_hook}}
 use Rattle.gate_world.specs.{Work.{after_of, next_of}, Worlds.{World, after_step, begin_of, begin_refusal, found_at, happens, opening}}
 use Rattle.gate_world.specs.declared.entries.Entry.{Entry, TheVariants.{Begins, Steps}}
 use Rattle.gate_world.specs.{Worlds.{step_of, value_at, words_after}, declared.{config.Config.Config, operations.Op.Op, views.{Traced.Traced, View.View}}}
@@ -100,10 +99,7 @@ module _ (c : Config) (w : World) (good : IsGood c w) (t : ℕ) (lt : t < c.task
 
   thaw_spares : (x : Thaw) (hook : HookAnswer) → (w.views t).phase ≡ Some (Phase.Thaws x) → IsGood c (after_step w t (Phase.Thaws x) hook) →
       Spares w.words (thaw_next x x.step hook) → between (holder_role_of (Some (Phase.Thaws x))) ≡ 0 → IsToldAfter (Phase.Thaws x) hook
-  thaw_spares x hook e after spares apart =
-      thaw_unstored (thaw_after x x.step (found_at w.words (Phase.Thaws x) hook) hook).0
-      (with_hook (event_of (thaw_next x x.step hook).0 (thaw_next x x.step hook).1 (value_at w.words (Phase.Thaws x) hook)) hook)
-      (w.views t).trace spares.3 (stays (Phase.Thaws x) hook e after spares ∙ apart)
+  thaw_spares x hook e after spares apart = grind arith
 
   -- each event of a freeze
   freeze_told : (x : Freeze) (s : FreezeStep) (hook : HookAnswer) → (w.views t).phase ≡ Some (Phase.Freezes (record x { step = s })) →

@@ -1,15 +1,14 @@
 -- Each task's own list is its part of the history.
-use Rattle.std.proofs.{Common.{◌≡◌, ℕ, refl, sym, ap, ◌∙◌, inl, inr}, lemmas.Bool.{eq-eqb, ne_eqb, cases_Bool}}
+use Rattle.std.proofs.{Common.{◌≡◌, ℕ, refl, sym, inl, inr}, lemmas.Bool.{eq-eqb, ne_eqb, cases_Bool}}
 use Rattle.std.proofs.Common.{arith}
 use Rattle.std.specs.Prelude.{nat_lt, Option, Some, None, List, [], ◌∷◌}
-use Rattle.finite_sums.proofs.Totals.{each_updated}
 use Rattle.access_model.specs.{Histories.{Done, own_part, IsMerge}, declared.{actions.Action.Action, errors.GateError.GateError}}
 use Rattle.cpu_words.specs.Hooks.{HookAnswer}
-use Rattle.gate_world.specs.{Beginnings.{first_phase, view_refusal}, Views.{actions_after, begun_view, view_after_beside}}
+use Rattle.gate_world.specs.{Beginnings.{view_refusal}, Views.{actions_after}}
 use Rattle.gate_world.specs.Worlds.{World, begin_of, after_step_beside, step_of, happens, phase_action, action_of, task_of, with_action}
 use Rattle.gate_world.specs.declared.entries.Entry.{Entry, TheVariants.{Begins, Steps}}
-use Rattle.gate_world.specs.Worlds.{value_at, run, history}
-use Rattle.gate_world.specs.declared.{config.Config.Config, operations.Op.Op, views.View.View, work.Phase.Phase}
+use Rattle.gate_world.specs.Worlds.{run, history}
+use Rattle.gate_world.specs.declared.{config.Config.Config, operations.Op.Op, work.Phase.Phase}
 
 -- the lists of a world
 abbrev pub lists : World → ℕ → List Action
@@ -27,11 +26,7 @@ part_there x t (Some a) earlier ne = rw (ne_eqb t x (λ q. ne (sym q)))
 pub beside_lists : (others : List (ℕ × ℕ)) (w : World) (earlier : List Done) (t : ℕ) (hook : HookAnswer) (phase : Phase) →
     IsMerge (lists w) earlier →
     IsMerge (lists (after_step_beside others w t phase hook)) (with_action t (phase_action w hook (Some phase)) earlier)
-beside_lists others w earlier t hook phase m x =
-    let a : Option Action = phase_action w hook (Some phase) in
-    let v : View = view_after_beside others (w.views t) phase (value_at w.words phase hook) hook in
-    each_updated (λ y (u : View). own_part y (with_action t a earlier) ≡ u.actions) w.views t v x
-    (part_here t a earlier ∙ ap (actions_after a) (m t)) (λ ne. part_there x t a earlier ne ∙ m x)
+beside_lists others w earlier t hook phase m x = grind arith
 
 step_lists : (w : World) (earlier : List Done) (t : ℕ) (hook : HookAnswer) (p : Option Phase) → IsMerge (lists w) earlier →
     IsMerge (lists (step_of w t hook p)) (with_action t (phase_action w hook p) earlier)

@@ -8,9 +8,9 @@ use Rattle.access_model.specs.declared.{actions.{Action.Action, NodeInfo.NodeInf
 use Rattle.freeze_laws.{proofs.moments.Moments.{is_now, stays}, specs.moments.Moments.HaveDone}
 use Rattle.cpu_words.specs.Hooks.{HookAnswer}
 use Rattle.gated_tree.specs.{Trees.{node_at, is_child, HasDirectory, IsSound, IsClean, LoadedSound, LoadedClean}, declared.trees.TreeWords.TreeWords}
-use Rattle.gate_world.specs.{Beginnings.{first_phase, view_refusal}, Configs.{IsWithin, model_limits}, Headline.FrozenTreeIsWhole}
+use Rattle.gate_world.specs.{Beginnings.{view_refusal}, Configs.{IsWithin, model_limits}, Headline.FrozenTreeIsWhole}
 use Rattle.gate_world.specs.{Moments.{HasMoment, AllHaveMoments, IsPresentTree, CompletesNow}, Rules.{IsGood, Moves}, Shown.shown}
-use Rattle.gate_world.specs.{Snapshots.{completes, last_snapshot}, Views.{view_after_beside, begun_view}}
+use Rattle.gate_world.specs.{Snapshots.{completes, last_snapshot}, Views.{view_after_beside}}
 use Rattle.gate_world.specs.Worlds.{World, begin_of, after_step_beside, step_of, happens, phase_action, action_of, task_of, with_action}
 use Rattle.gate_world.specs.declared.entries.Entry.{Entry, TheVariants.{Begins, Steps}}
 use Rattle.gate_world.specs.Worlds.{found_at, value_at, run, history}
@@ -62,9 +62,7 @@ module _ (c : Config) where
         loaded_same present.kids (tree present.frozen).0)
 
     loaded_clean : LoadedClean loaded
-    loaded_clean =
-        subst (λ nodes. IsClean nodes (node_at loaded)) (sym present.whole)
-        (clean_as c.nodes (shown c w).tree (node_at loaded) loaded_same (tree present.frozen).1)
+    loaded_clean = grind arith
 
   -- a history that leads to the present has the moment of a snapshot of the present tree
   module _ (w : World) (tree : FrozenTreeIsWhole c w) (log : List Done) (ends : end_of log ≡ shown c w) where

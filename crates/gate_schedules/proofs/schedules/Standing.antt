@@ -1,5 +1,5 @@
 -- A snapshot under way stands in a frozen tree, from its load of stage 4 to its release.
-use Rattle.std.{proofs.Common.{◌≡◌, ℕ, ap, subst, sym, true≢false}, specs.Prelude.{Some, Ok, Err, is_some}}
+use Rattle.std.{proofs.Common.{◌≡◌, ℕ, subst}, specs.Prelude.{Some}}
 use Rattle.std.proofs.Common.{arith}
 use Rattle.gated_tree.specs.{Calls.{words_loaded, reading}, Roles.RoleHolds, declared.snapshots.SnapshotStep.SnapshotStep}
 use Rattle.freeze_laws.specs.stages.Roles.{KnowsStage}

@@ -1,9 +1,8 @@
 -- The marks that a trace has cleared are nothing that a task holds.
-use Rattle.std.{proofs.{Common.{◌≡◌, ℕ, inl, inr}, lemmas.Bool.cases_Bool}, specs.Prelude.{List, [], ◌∷◌, ◌++◌}}
+use Rattle.std.{proofs.{Common.{◌≡◌, ℕ}}, specs.Prelude.{List, [], ◌∷◌, ◌++◌}}
 use Rattle.std.proofs.Common.{arith}
 use Rattle.access_model.specs.declared.actions.Action.{Action}
 use Rattle.cpu_words.specs.declared.{events.Touch.Touch, names.WordName.WordName}
-use Rattle.mount_counts.specs.Phases.{has_flag}
 use Rattle.gate_world.specs.{Found.{clean_found, cleans}, Holdings.holdings_of, declared.views.Traced.Traced}
 
 -- these actions leave what the task holds as it was

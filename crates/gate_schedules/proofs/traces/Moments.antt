@@ -1,6 +1,6 @@
 -- Moments of a schedule: the last question, the last look at the stage, the moments of a sum, and what was counted.
-use Rattle.std.proofs.{Common.{◌≡◌, ℕ, ◌<◌, Bool, true, false, refl, inl, inr, arith, ◌%◌, true≢false}, lemmas.Bool.{ne_eqb, ltb-false, cases_Bool}}
-use Rattle.std.specs.Prelude.{nat_lt, Some, List, ◌∷◌, ◌||◌, None, []}
+use Rattle.std.proofs.{Common.{◌≡◌, ℕ, ◌<◌, Bool, true, false, refl, arith, ◌%◌}, lemmas.Bool.{ne_eqb}}
+use Rattle.std.specs.Prelude.{Some, List, ◌∷◌, ◌||◌, None, []}
 use Rattle.finite_sums.specs.Sums.{total}
 use Rattle.cpu_words.specs.Sums.{lead, ahead}
 use Rattle.cpu_words.proofs.gate_counts.{Events.words_sum, Numbers.ahead_none}
@@ -48,8 +48,4 @@ fresh_lead c w good m lm none =
 -- nothing was counted in any of these worlds
 pub none_counted : (c : Config) (m : ℕ) (w : World) (earlier : List World) → was_counted c m (w ∷ earlier) ≡ false →
     (all_counted c m w ≡ 0) × (was_counted c m earlier ≡ false)
-none_counted c m w earlier h =
-    elim (cases_Bool (nat_lt 0 (all_counted c m w))) [
-      | inl a ↦ absurd (true≢false (rw a at h))
-      | inr a ↦ (omega (arith, ltb-false 0 (all_counted c m w) a), rw a at h)
-    ]
+none_counted c m w earlier h = grind arith

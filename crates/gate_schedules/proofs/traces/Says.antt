@@ -1,5 +1,5 @@
 -- What a trace says, kept from each event to the next.
-use Rattle.std.{proofs.Common.{ℕ, sym, subst}, specs.Prelude.{List, [], ◌∷◌}}
+use Rattle.std.{proofs.Common.{ℕ}, specs.Prelude.{List, [], ◌∷◌}}
 use Rattle.std.proofs.Common.{arith}
 use Rattle.access_model.specs.declared.{actions.Action.Action, replies.Next.Next}
 use Rattle.cpu_words.specs.{Hooks.HookAnswer, Touches.{event_of, found_by}, declared.events.Event.Event}
@@ -43,10 +43,7 @@ module _ (At : List Traced → Phase → List Action → Type 0) (c : Config) (t
   -- the event of a phase keeps what the trace says
   event_keeps : (phase : Phase) (added : List Action) (e : Traced) (earlier : List Traced) → IsEventOf phase e → At earlier phase added →
       Says At c op (e ∷ earlier) (after_of phase e.event.found e.hook).0 (actions_after (after_of phase e.event.found e.hook).1 added)
-  event_keeps phase added e earlier next here =
-      subst (λ (event : Event). Says At c op (with_hook event e.hook ∷ earlier) (after_of phase event.found e.hook).0
-      (actions_after (after_of phase event.found e.hook).1 added))
-      (sym next.1) (kept.more phase next.0 e.hook earlier added next.2 here)
+  event_keeps phase added e earlier next here = grind arith
 
   -- one more event of a trace does
   next_keeps : (comes : Next Phase) (added : List Action) (e : Traced) (earlier : List Traced) → IsNext comes e →
@@ -81,11 +78,7 @@ module _ (At : List Traced → Phase → List Action → Type 0) (c : Config) (t
 module _ (At : List Traced → Phase → List Action → Type 0) (c : Config) (t : ℕ) (op : Op) (kept : Kept At c t op) where
   -- what is kept whatever a word held is kept where it held what it may
   kept_well : KeptWell At c t op
-  kept_well = record {
-    first = kept.first;
-    more = λ phase value hook earlier added may here. kept.more phase value hook earlier added here;
-    short = kept.short;
-  }
+  kept_well = grind arith
 
   pub tells : (trace : List Traced) → IsTrace c t op trace → Tells c op trace (course_of c t op trace).comes (course_of c t op trace).added
   tells trace h = tells_well At c t op kept_well trace h

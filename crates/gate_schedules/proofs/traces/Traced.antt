@@ -1,18 +1,17 @@
 -- Each view follows its operation, after every schedule.
-use Rattle.std.proofs.Common.{◌≡◌, ℕ, refl, sym, ap, ◌∙◌, subst, inl, inr, Bool, false, is_some, true≢false, ◌<◌}
+use Rattle.std.proofs.Common.{◌≡◌, ℕ, refl, ap, inl, inr, Bool, false, is_some, true≢false, ◌<◌}
 use Rattle.std.proofs.Common.{arith}
 use Rattle.std.proofs.lemmas.Bool.{cases_Bool, cases_lt, lt-ltb, le-ltb}
 use Rattle.std.specs.Prelude.{true, false, Option, Some, None, nat_lt, List, ◌∷◌, ◌++◌}
 use Rattle.finite_sums.proofs.Totals.{each_updated}
 use Rattle.access_model.specs.declared.{actions.Action.Action, errors.GateError.GateError, replies.Next.Next}
-use Rattle.cpu_words.specs.{Hooks.HookAnswer, Touches.found_by}
-use Rattle.gate_world.specs.Beginnings.{first_phase, view_refusal, refusal}
-use Rattle.gate_world.specs.Courses.{course_with, course_after, course_of, IsEventOf, IsNext, IsTraced, MayFind, AllTraced, EventsMayBe}
-use Rattle.gate_world.specs.{Views.{phase_after, actions_after, with_hook, view_after, begun_view, held_of}, Work.{next_of, after_of}}
+use Rattle.cpu_words.specs.{Hooks.HookAnswer}
+use Rattle.gate_world.specs.Beginnings.{view_refusal, refusal}
+use Rattle.gate_world.specs.Courses.{course_with, course_after, IsEventOf, IsNext, IsTraced, MayFind, AllTraced, EventsMayBe}
+use Rattle.gate_world.specs.{Views.{phase_after, actions_after, view_after, held_of}, Work.{next_of, after_of}}
 use Rattle.gate_world.specs.Worlds.{World, begin_refusal, begin_of, value_at, step_of, happens, opening}
 use Rattle.gate_world.specs.declared.entries.Entry.{Entry, TheVariants.{Begins, Steps}}
 use Rattle.gate_world.specs.declared.{config.Config.Config, operations.Op.Op, views.{Traced.Traced, View.View}, work.Phase.Phase}
-use Rattle.gate_schedules.proofs.traces.Says.{event_at}
 
 -- where an operation stands at this phase, its event is the next, and what comes after it is the course after it
 stands_at : (comes : Next Phase) (added : List Action) (phase : Phase) (e : Traced) → phase_after comes ≡ Some phase → IsEventOf phase e →

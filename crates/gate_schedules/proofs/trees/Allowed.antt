@@ -1,7 +1,7 @@
 -- What the tree allows, with the accesses that the task holds, is what the model allows.
-use Rattle.std.proofs.Common.{◌≡◌, ℕ, refl, sym}
+use Rattle.std.proofs.Common.{◌≡◌, ℕ}
 use Rattle.std.proofs.Common.{arith}
-use Rattle.finite_sums.{proofs.Totals.update_same, specs.Sums.update}
+use Rattle.finite_sums.{specs.Sums.update}
 use Rattle.access_model.specs.{Actions.{MayDo, after_action, opens_after, tree_after}, States.{Limits, State, openers}, declared.actions.Action.Action}
 use Rattle.gate_schedules.specs.trees.Events.{TreeAllows, HasLeave, bounds_of}
 

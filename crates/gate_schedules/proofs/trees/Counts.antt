@@ -1,6 +1,6 @@
 -- Loads, and the events at `used` and at the counts of children. None of them changes a node word, so the shown tree stays.
-use Rattle.std.proofs.{Common.{◌≡◌, ℕ, Bool, zero, suc, ◌+◌, ◌<◌, ◌≤◌, refl, sym, ap, ◌∙◌, subst, arith}, lemmas.Bool.Decides.nat_tests}
-use Rattle.std.specs.Prelude.{Option, Some, None, Ok, true, false, if◌then◌else◌}
+use Rattle.std.proofs.{Common.{◌≡◌, ℕ, Bool, zero, suc, ◌+◌, ◌<◌, ◌≤◌, refl, sym, ap, ◌∙◌, arith}, lemmas.Bool.Decides.nat_tests}
+use Rattle.std.specs.Prelude.{Option, Some, Ok, true, false}
 use Rattle.finite_sums.{proofs.Totals.{each_updated, total_bound, total_at}, specs.Sums.{update, total}}
 use Rattle.access_model.specs.{States.{is_removed, one_if}, declared.actions.{Kind.Kind, NodeInfo.NodeInfo}}
 use Rattle.cpu_words.specs.Touches.{wrap_add, wrap_sub}
@@ -37,9 +37,7 @@ one_le false = omega arith
 -- what the tree says of the parent of a file that was loaded
 file_parent : (c : Bounds) (node : ℕ → ℕ) (word : ℕ) (file : NodeWord) → node_shown word ≡ info_of file → file.kind ≡ Some Kind.File →
     HasParent c.nodes node (node_shown word) → IsDirectoryAt c.nodes node file.parent
-file_parent c node word file shows kind h =
-    let made : HasParent c.nodes node (info_of file) = subst (HasParent c.nodes node) shows h in
-    subst (λ k. HasParent c.nodes node (info_of (record file { kind = k }))) kind made
+file_parent c node word file shows kind h = grind arith
 
 module _ (c : Bounds) (s : TreeState) (good : TreeHolds c s) (t : ℕ) (lt : t < c.tasks) where
   pub looks : TreeHolds c (turned s t (s.at t))

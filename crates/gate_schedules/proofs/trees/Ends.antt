@@ -91,10 +91,7 @@ module _ (Seen More : (Event → Bool) → Type 0) where
   -- a remove that is to free its file, or to mark it
   removes_end : (x : Remove) (file : NodeWord) (opens : ℕ) →
       RemoveKnows More x (removes_file file opens) × ([] ≡ remove_added x (removes_file file opens))
-  removes_end x file opens = elim (eqb_tells opens 0) [
-    | inl e ↦ rw e.0 (tt, refl)
-    | inr e ↦ rw e.0 (tt, refl)
-  ]
+  removes_end x file opens = grind arith
 
   pub remove_ends : (x : Remove) (step : RemoveStep) (value : ℕ) → RemoveKnows Seen x step →
       SeesMore Seen More (event_of (remove_next x step).0 (remove_next x step).1 value) →

@@ -1,15 +1,15 @@
 -- The numbers of a phase stay in range, and each word of its events is there.
-use Rattle.std.proofs.{Common.{◌≡◌, ℕ, Bool, true, false, ◌+◌, ◌<◌, refl, sym, ◌∙◌, inl, inr, arith}, lemmas.Bool.{cases_lt, lt-ltb, le-ltb, Decides.eqb_tells}}
+use Rattle.std.proofs.{Common.{◌≡◌, ℕ, Bool, true, false, ◌<◌, arith}}
 use Rattle.std.proofs.lemmas.Grind.{common_steps}
-use Rattle.std.specs.Prelude.{◌==◌, Option, Some, None, Result, Ok, Err, is_some, nat_lt, if◌then◌else◌}
+use Rattle.std.specs.Prelude.{◌==◌, Option, Some, Result, Ok, nat_lt, if◌then◌else◌}
 use Rattle.access_model.specs.{Replies.map_next, declared.{errors.GateError.GateError, replies.Next.Next}}
 use Rattle.cpu_words.specs.Hooks.{HookAnswer}
 use Rattle.node_words.proofs.Words.{file_narrow}
 use Rattle.gated_tree.specs.Calls.{CreateStepFits, RemoveStepFits, MoveStepFits, OpenStepFits, SnapshotStepFits, TreePhaseFits, NextFits}
-use Rattle.node_words.specs.Nodes.{word_of, unpacked, file_in, directory_in, node_after}
+use Rattle.node_words.specs.Nodes.{word_of, file_in, directory_in, node_after}
 use Rattle.node_words.specs.Phases.{after_look}
-use Rattle.gated_tree.specs.Phases.{after, create_looked, create_past, create_after, at_create, remove_after, removes_file, at_remove, grow_after}
-use Rattle.gated_tree.specs.Phases.{at_grow, move_after, at_move, mark_after, at_mark, open_after, at_open, opens_from, snapshot_after, snapshot_locked_out}
+use Rattle.gated_tree.specs.Phases.{after, create_looked, create_past, create_after, remove_after, removes_file, grow_after}
+use Rattle.gated_tree.specs.Phases.{move_after, at_move, mark_after, open_after, opens_from, snapshot_after, snapshot_locked_out}
 use Rattle.node_words.specs.Phases.{clear_after}
 use Rattle.gated_tree.specs.Phases.{node_step, kids_step}
 use Rattle.gated_tree.specs.Roles.{Bounds, AreWithin}
@@ -39,10 +39,7 @@ module _ (c : Bounds) (within : AreWithin c) (t : ℕ) where
   either to false x y f g = g
 
   past_fits : (x : Create) (node : ℕ) → x.dir < c.nodes → x.nodes ≡ c.nodes → NextFits c t (map_next TreePhase.Create (create_past x node))
-  past_fits x node d same = elim (cases_lt (node + 1) x.nodes) [
-    | inl l ↦ rw (lt-ltb (node + 1) x.nodes l) (d, same, omega (arith, l, same))
-    | inr l ↦ rw (le-ltb (node + 1) x.nodes l) tt
-  ]
+  past_fits x node d same = grind arith
 
   seen_fits : (x : Create) (node : ℕ) → x.dir < c.nodes → x.nodes ≡ c.nodes → node < c.nodes → (found : Option NodeWord) →
       NextFits c t (map_next TreePhase.Create (create_looked x node found))
@@ -53,10 +50,7 @@ module _ (c : Bounds) (within : AreWithin c) (t : ℕ) where
   create_fits x a1 found d same fits = grind (arith, common_steps)
 
   removes_fits : (file : NodeWord) (opens : ℕ) → opens ≡ file.opens → file.parent < 64 → RemoveStepFits (removes_file file opens)
-  removes_fits file opens same narrow = elim (eqb_tells opens 0) [
-    | inl e ↦ rw e.0 (narrow, sym same ∙ e.1)
-    | inr e ↦ rw e.0 (narrow, omega (arith, same, e.1))
-  ]
+  removes_fits file opens same narrow = grind arith
 
   remove_fits : (x : Remove) (step : RemoveStep) (found : ℕ) → x.file < c.nodes → RemoveStepFits step →
       NextFits c t (map_next TreePhase.Remove (remove_after x step found).0)
@@ -83,10 +77,7 @@ module _ (c : Bounds) (within : AreWithin c) (t : ℕ) where
   mark_fits x a1 found n = grind (arith, common_steps)
 
   opens_fits : (file : NodeWord) → OpenStepFits (opens_from file (nat_lt file.opens 64))
-  opens_fits file = elim (cases_lt file.opens 64) [
-    | inl l ↦ rw (lt-ltb file.opens 64 l) l
-    | inr l ↦ rw (le-ltb file.opens 64 l) tt
-  ]
+  opens_fits file = grind arith
 
   open_fits : (x : OpenFile) (step : OpenStep) (found : ℕ) → x.file < c.nodes → NextFits c t (map_next TreePhase.OpenFile (open_after x step found).0)
   open_fits x a1 found n = grind (arith, common_steps)
@@ -98,26 +89,17 @@ module _ (c : Bounds) (within : AreWithin c) (t : ℕ) where
   locked_out_fits x false own same = tt
 
   node_fits : (node nodes : ℕ) → nodes ≡ c.nodes → SnapshotStepFits c (node_step (node_after node nodes))
-  node_fits node nodes same = elim (cases_lt (node + 1) nodes) [
-    | inl l ↦ rw (lt-ltb (node + 1) nodes l) (omega (arith, l, same))
-    | inr l ↦ rw (le-ltb (node + 1) nodes l) (omega (arith, within.some_node))
-  ]
+  node_fits node nodes same = grind arith
 
   kids_fit : (node nodes : ℕ) → nodes ≡ c.nodes → SnapshotStepFits c (kids_step (node_after node nodes))
-  kids_fit node nodes same = elim (cases_lt (node + 1) nodes) [
-    | inl l ↦ rw (lt-ltb (node + 1) nodes l) (omega (arith, l, same))
-    | inr l ↦ rw (le-ltb (node + 1) nodes l) tt
-  ]
+  kids_fit node nodes same = grind arith
 
   snapshot_fits : (x : Snapshot) (step : SnapshotStep) (found : ℕ) → x.task ≡ t → x.nodes ≡ c.nodes → SnapshotStepFits c step →
       NextFits c t (map_next TreePhase.Snapshot (snapshot_after x step found).0)
   snapshot_fits x a1 found own same fits = grind (arith, common_steps)
 
   clear_fits : (x : ClearMarks) (found : ℕ) → x.nodes ≡ c.nodes → NextFits c t (map_next TreePhase.ClearMarks (clear_after x found).0)
-  clear_fits x found same = elim (cases_lt (x.node + 1) x.nodes) [
-    | inl l ↦ rw (lt-ltb (x.node + 1) x.nodes l) (omega (arith, l, same), same)
-    | inr l ↦ rw (le-ltb (x.node + 1) x.nodes l) tt
-  ]
+  clear_fits x found same = grind arith
 
   -- what comes after an event of a phase that fits, whatever it found, fits
   pub fits_after : (phase : TreePhase) (found : ℕ) (hook : HookAnswer) → TreePhaseFits c t phase → NextFits c t (after phase found hook).0

@@ -1,6 +1,6 @@
 -- Any event at the tree: a role changes with the counts, or with one node word.
 use Rattle.std.proofs.Common.{◌≡◌, ℕ, zero, suc, ◌+◌, ◌<◌, ◌≤◌, true, false, refl, sym, ap, ◌∙◌, subst, inl, inr, arith}
-use Rattle.std.proofs.lemmas.Bool.{cases_Bool, cases_lt, eq-eqb, ne_eqb, Decides.eqb_tells}
+use Rattle.std.proofs.lemmas.Bool.{cases_Bool, cases_lt, eq-eqb, ne_eqb}
 use Rattle.std.specs.Prelude.{◌⊎◌, Option, Some, None, nat_lt}
 use Rattle.finite_sums.{proofs.Totals.{each_updated, total_updated, total_changed_by, total_at}, specs.Sums.{update, total}}
 use Rattle.access_model.specs.{States.{size_of, is_dirty, is_removed, one_if, IsDirectory}, declared.actions.{Kind.Kind, NodeInfo.NodeInfo}}

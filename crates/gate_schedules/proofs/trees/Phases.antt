@@ -1,14 +1,14 @@
 -- The events of all calls at the tree, by their phases.
-use Rattle.std.{proofs.Common.{◌≡◌, ℕ, ◌<◌, refl, subst, arith}, specs.Prelude.Option}
+use Rattle.std.{proofs.Common.{◌≡◌, ℕ, ◌<◌, subst, arith}, specs.Prelude.Option}
 use Rattle.access_model.specs.{Replies.map_next, declared.{actions.Action.Action, replies.Next.Next}}
 use Rattle.cpu_words.specs.{Hooks.HookAnswer, Names.{Extents, IsWord}, Words.Words, declared.{events.Touch.Touch, names.WordName.WordName}}
 use Rattle.gated_tree.specs.Calls.{phase_role, remove_role, move_role, role_after, CreateStepFits, SnapshotStepFits, TreePhaseFits}
 use Rattle.gated_tree.specs.Phases.{next, create_next, remove_next, grow_next, move_next, mark_next, open_next, snapshot_next}
-use Rattle.gated_tree.specs.Roles.{Role, Returning, Bounds, AreWithin, TreeHolds}
+use Rattle.gated_tree.specs.Roles.{Role, Bounds, AreWithin, TreeHolds}
 use Rattle.gated_tree.specs.declared.changes.{Create.Create, CreateStep.CreateStep, MoveStep.MoveStep, MoveTo.MoveTo, Remove.Remove, RemoveStep.RemoveStep}
 use Rattle.gated_tree.specs.declared.{growth.{Grow.Grow, GrowStep.GrowStep}, marks.{Mark.Mark, MarkStep.MarkStep}, opens.{OpenFile.OpenFile, OpenStep.OpenStep}}
 use Rattle.gated_tree.specs.declared.{phases.TreePhase.TreePhase, snapshots.{Snapshot.Snapshot, SnapshotStep.SnapshotStep}}
-use Rattle.gate_schedules.proofs.trees.{Laws.role_says, Steps.{create_step, remove_step, grow_step, move_step, mark_step, open_step}, Sweeps.{clear_step, snapshot_step}}
+use Rattle.gate_schedules.proofs.trees.{Steps.{create_step, remove_step, grow_step, move_step, mark_step, open_step}, Sweeps.{clear_step, snapshot_step}}
 use Rattle.gate_schedules.specs.trees.Steps.{tree_in, found_at, EventKeeps, MayStep, Notes, StepKeeps}
 
 -- what comes after an event has the same role as a phase of one call and of all

@@ -2,7 +2,7 @@
 use Rattle.std.proofs.Common.{◌≡◌, ℕ, Bool, true, false, ◌+◌, ◌<◌, ◌≤◌, refl, sym, ap, ◌∙◌, subst, inl, inr, arith}
 use Rattle.std.proofs.lemmas.Bool.{cases_lt, lt-ltb, le-ltb, Decides.eqb_tells}
 use Rattle.std.specs.Prelude.{◌==◌, Option, Some, None, Result, Ok, Err, is_some, nat_lt, if◌then◌else◌}
-use Rattle.finite_sums.{proofs.Totals.update_same, specs.Sums.update}
+use Rattle.finite_sums.{specs.Sums.update}
 use Rattle.access_model.specs.declared.{actions.{Action.Action, Kind.Kind}, errors.GateError.GateError, replies.{Next.Next, Reply.Reply}}
 use Rattle.cpu_words.specs.{Words.{Words, read, put}, declared.{events.Touch.Touch, names.WordName.WordName}}
 use Rattle.gated_tree.specs.Calls.{create_role, remove_role, grow_role, move_role, mark_role, open_role, role_after, CreateStepFits, RemoveStepFits}

@@ -1,8 +1,8 @@
 -- Each event of a clearing of the dirty marks and of a snapshot is an event of the tree.
-use Rattle.std.proofs.{Common.{◌≡◌, ℕ, suc, Bool, true, false, ◌+◌, ◌-◌, ◌<◌, refl, sym, ap, ◌∙◌, subst, inl, inr, arith}, Math.Path.fun_ext}
+use Rattle.std.proofs.{Common.{◌≡◌, ℕ, suc, Bool, true, false, ◌+◌, ◌-◌, ◌<◌, refl, sym, ap, ◌∙◌, subst, inl, inr, arith}}
 use Rattle.std.proofs.lemmas.Bool.{cases_lt, lt-ltb, le-ltb, Decides.eqb_tells}
 use Rattle.std.specs.Prelude.{is_some, Ok, Err}
-use Rattle.finite_sums.{proofs.Totals.{update_at, update_off}, specs.Sums.update}
+use Rattle.finite_sums.{proofs.Totals.{update_at}, specs.Sums.update}
 use Rattle.cpu_words.specs.{Words.Words, declared.names.WordName.WordName}
 use Rattle.node_words.proofs.Packing.{packed_unpacks}
 use Rattle.node_words.specs.Nodes.{dirty_in, unpacked}
@@ -17,10 +17,7 @@ use Rattle.gate_schedules.proofs.trees.{Clearings.{clears, passes, snapshot_begi
 use Rattle.gate_schedules.specs.trees.{Events.{turned, MayClean}, Steps.{tree_in, words_left, found_at, EventKeeps, NotesLoad}}
 
 update_twice : {A : Type 0} (f : ℕ → A) (t : ℕ) (a b : A) → update (update f t a) t b ≡ update f t b
-update_twice f t a b = fun_ext (λ x. elim (eqb_tells x t) [
-  | inl h ↦ rw (h.0, update) refl
-  | inr h ↦ update_off (update f t a) t b x h.1 ∙ update_off f t a x h.1 ∙ sym (update_off f t b x h.1)
-])
+update_twice f t a b = grind arith
 
 module _ (c : Bounds) (within : AreWithin c) (sealed bare : ℕ) (w : Words) (at : ℕ → Role) (good : TreeHolds c (tree_in sealed bare w at))
     (t : ℕ) (lt : t < c.tasks) where

@@ -1,12 +1,12 @@
 -- What an event of a freeze or a thaw may leave: each part of the rule, and the shown model.
 use Rattle.access_model.specs.{Replies.map_next, States.{Limits, State, openers}, declared.actions.{Action.Action, Holders.Holders, NodeInfo.NodeInfo}}
 use Rattle.access_model.specs.declared.replies.{Next.Next, Reply.Reply}
-use Rattle.cpu_words.specs.{Hooks.HookAnswer, Sums.sum_taking, Touches.{event_of, found_by}, Words.Words, declared.sums.Taken.Taken}
+use Rattle.cpu_words.specs.{Hooks.HookAnswer, Touches.{event_of, found_by}, Words.Words, declared.sums.Taken.Taken}
 use Rattle.finite_sums.proofs.Totals.{each_updated}
 use Rattle.finite_sums.specs.Sums.{update}
-use Rattle.freeze_levels.specs.{Freezes.{after_closing, freeze_after, freeze_next, level_closed}, Holders.holders_in, Thaws.{thaw_after, thaw_next}}
+use Rattle.freeze_levels.specs.{Freezes.{freeze_after, freeze_next, level_closed}, Holders.holders_in, Thaws.{thaw_after, thaw_next}}
 use Rattle.freeze_levels.specs.declared.{freezes.{Freeze.Freeze, FreezeStep.FreezeStep}, thaws.{Thaw.Thaw, ThawStep.ThawStep}}
-use Rattle.gate_schedules.proofs.frames.{Frames.{left_alone, opens_left, view_as}, Keeps.by_bool, Known.{IsOwnersWork, known_after}}
+use Rattle.gate_schedules.proofs.frames.{Frames.{left_alone, opens_left, view_as}, Known.{IsOwnersWork, known_after}}
 use Rattle.gate_schedules.proofs.frames.Stages.{IsStageEvent, shown_by, stage_action, stage_effect, stages_after, stages_in}
 use Rattle.gate_schedules.proofs.{levels.Standing.{LevelsHold, left_world}, mounts.Parts.{is_known_part, known_is}}
 use Rattle.gate_world.specs.{Configs.model_limits, Fits.{FreezeFits, HasFile, file_of}, Found.is_load, Holdings.Holdings, Owners.{is_owned, takes_lock}}
@@ -15,14 +15,13 @@ use Rattle.gate_world.specs.Rules.{Fitting, Holding, Holds, IsGood, Known, Moves
 use Rattle.gate_world.specs.{Rules.{owns, stage_role_of, stage_roles}, Shown.shown, Views.{added_by, has_open, held_of, phase_after, taken_by}, Worlds.World}
 use Rattle.gate_world.specs.{Worlds.{after_step, phase_action, value_at}, declared.{config.Config.Config, views.View.View, work.Phase.Phase}}
 use Rattle.node_words.specs.Nodes.{node_shown, opens_in}
-use Rattle.percpu_rwsem.specs.{Graces.looked, SyncWords.{is_passed, on_callback, on_enter, unpack}, Transitions.transition_after, Writers.at_down_write}
-use Rattle.percpu_rwsem.specs.Writers.{callback_step, down_write_after, down_write_next, down_write_summed, enter_step, passed_awaited, sections_awaited}
-use Rattle.percpu_rwsem.specs.{Writers.sum_begun, declared.{grace.GraceNext.GraceNext, sync_word.SyncWord.SyncWord, transitions.Transition.Transition}}
+use Rattle.percpu_rwsem.specs.{Writers.at_down_write}
+use Rattle.percpu_rwsem.specs.Writers.{down_write_after, down_write_next, down_write_summed, passed_awaited, sections_awaited}
+use Rattle.percpu_rwsem.specs.{declared.{grace.GraceNext.GraceNext, sync_word.SyncWord.SyncWord}}
 use Rattle.percpu_rwsem.specs.declared.writers.{DownWrite.DownWrite, DownWriteStep.DownWriteStep}
 use Rattle.freeze_laws.specs.stages.{Events.{StageEvent, action_of as stage_action_of}, Roles.bit, Shown.{AsksOthers, ShowsStages, state_after}}
 use Rattle.std.proofs.{Common.{ap, arith, false, inl, inr, nat_lt, refl, subst, sym, true, true≢false, ℕ, ◌<◌, ◌∙◌, ◌≡◌, ◌≤◌, ◌⊎◌}, lemmas.Bool.cases_Bool}
-use Rattle.std.proofs.lemmas.Bool.{lt-ltb, Decides.eqb_tells}
-use Rattle.std.specs.Prelude.{None, Ok, Option, Some, if◌then◌else◌, ◌==◌}
+use Rattle.std.specs.Prelude.{None, Ok, Option, Some}
 
 -- of these roles those that no freeze and no thaw has
 abbrev pub off_writers : Roles → Roles
@@ -188,11 +187,7 @@ freeze_changes x s hook h = grind arith
 -- a level that is closed is closed by the owner as before, but for level 1, after which `umount` is to be taken again
 closed_comes : (x : Freeze) (level : ℕ) → 1 ≤ level → freeze_owns (level_closed level x.nodes) ≡ 1 →
     bit (nat_lt 1 level) ≡ 1
-closed_comes x level low h =
-    elim (eqb_tells level 1) [
-      | inl q ↦ absurd (omega (arith, rw q.0 at h))
-      | inr q ↦ rw (lt-ltb 1 level (omega (arith, low, q.1))) refl
-    ]
+closed_comes x level low h = grind arith
 
 -- and comes to own `umount` by taking it
 freeze_comes_to : (c : Config) (x : Freeze) (s : FreezeStep) (hook : HookAnswer) (value : ℕ) → FreezeFits c x.holder s →
@@ -219,7 +214,4 @@ thaw_comes_to : (x : Thaw) (s : ThawStep) (hook : HookAnswer) (value : ℕ) →
 thaw_comes_to x s hook value h = grind arith
 
 pub thaw_work : (w : World) (x : Thaw) (hook : HookAnswer) → IsOwnersWork w (Phase.Thaws x) hook
-thaw_work w x hook = record {
-  changes = thaw_changes x x.step hook;
-  comes_to_own = thaw_comes_to x x.step hook (value_at w.words (Phase.Thaws x) hook);
-}
+thaw_work w x hook = grind arith

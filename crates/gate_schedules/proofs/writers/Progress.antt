@@ -5,7 +5,7 @@ use Rattle.std.specs.Prelude.{◌-◌, ◌*◌, ◌%◌, ◌==◌, nat_lt, Some,
 use Rattle.finite_sums.{proofs.Totals.update_at, specs.Sums.total}
 use Rattle.access_model.specs.declared.replies.Next.{Next}
 use Rattle.cpu_words.specs.{Sums.{ahead, lead}, Touches.{left, found_by, wrap_add}, Words.{Words, read}, declared.{names.WordName.WordName, sums.Sum.Sum}}
-use Rattle.cpu_words.proofs.gate_counts.Numbers.{ahead_none, ahead_past, ahead_step}
+use Rattle.cpu_words.proofs.gate_counts.Numbers.{ahead_past, ahead_step}
 use Rattle.percpu_rwsem.specs.{Graces.looked, SyncWords.{unpack, is_passed, on_enter, on_exit, on_callback}, Transitions.{transition_next, transition_after}}
 use Rattle.percpu_rwsem.specs.Writers.{down_write_next, down_write_after, at_down_write, entered_from, enter_step, callback_step, sections_awaited}
 use Rattle.percpu_rwsem.specs.Writers.{up_write_next, up_write_after, exit_made}
@@ -36,9 +36,7 @@ lead_last processors count k sum lt le =
 -- where nothing is counted, a sum that begins comes to 0
 begun_rank : (processors : ℕ) (count : ℕ → ℕ) → total processors count % 18446744073709551616 ≡ 0 →
     sum_rank processors count (record { words = 0; total = 0 }) ≤ processors - 1
-begun_rank processors count none =
-    let z : lead processors count 0 0 ≡ 0 = omega (arith, ahead_none processors count, none) in
-    rw (eq-eqb (lead processors count 0 0) 0 z) (omega arith)
+begun_rank processors count none = grind arith
 
 entered_rank : (w : Words) (d : DownWrite) (s : GpState) → down_rank w d (entered_from d.tasks s) ≤ d.processors + d.tasks + 2
 entered_rank w d GpState.Idle = omega arith

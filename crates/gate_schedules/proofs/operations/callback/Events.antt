@@ -1,5 +1,5 @@
 -- Events of a callback: each keeps the rule, and leaves the shown model.
-use Rattle.access_model.specs.Histories.{levels_of, mounts_of, opens_of}
+use Rattle.access_model.specs.Histories.{levels_of}
 use Rattle.access_model.specs.Replies.{map_next}
 use Rattle.access_model.specs.declared.replies.Next.{Next}
 use Rattle.cpu_words.specs.Hooks.{HookAnswer}
@@ -18,10 +18,9 @@ use Rattle.gate_world.specs.Fits.{Fits, GraceFits, PhaseFits}
 use Rattle.gate_world.specs.Holdings.{Holdings}
 use Rattle.gate_world.specs.LevelRuns.{level_in}
 use Rattle.gate_world.specs.Levels.{inside, level_added_after, level_added_by, level_role_of, level_taken_after, level_taken_by, sync_role_of}
-use Rattle.gate_world.specs.Roles.{sync_role_if}
 use Rattle.gate_world.specs.Rules.{AtLevel, Fitting, Holds, IsGood, Moves, StepKeeps, SyncAt, ViewFits}
 use Rattle.gate_world.specs.Shown.{shown}
-use Rattle.gate_world.specs.Views.{actions_after, added_after, added_by, held_of, phase_after, taken_after, taken_by, view_after}
+use Rattle.gate_world.specs.Views.{actions_after, added_after, held_of, phase_after, taken_after, view_after}
 use Rattle.gate_world.specs.Worlds.{World}
 use Rattle.gate_world.specs.declared.config.Config.{Config}
 use Rattle.gate_world.specs.declared.views.View.{View}
@@ -31,18 +30,14 @@ use Rattle.freeze_laws.specs.levels.Events.{SyncLevel, SyncLevelHolds, SyncStep}
 use Rattle.freeze_laws.specs.levels.Operations.{CallbackIsThere, HoldsOfNext, KnowsCallback, by_next, callback_role, left_by, put_at, value_at}
 use Rattle.freeze_laws.specs.levels.Roles.{Out as IsApart}
 use Rattle.percpu_rwsem.specs.Callbacks.{at_callback, callback_after, callback_looked, callback_next, called_back, claimed}
-use Rattle.percpu_rwsem.specs.Graces.{is_first, looked, passed_on}
-use Rattle.percpu_rwsem.specs.SyncWords.{on_callback, on_claim}
-use Rattle.percpu_rwsem.specs.Transitions.{transition_after}
+use Rattle.percpu_rwsem.specs.Graces.{looked, passed_on}
 use Rattle.percpu_rwsem.specs.declared.callbacks.Callback.{Callback}
 use Rattle.percpu_rwsem.specs.declared.callbacks.CallbackStep.{CallbackStep}
 use Rattle.percpu_rwsem.specs.declared.grace.Grace.{Grace}
-use Rattle.percpu_rwsem.specs.declared.transitions.Transition.{Transition}
 use Rattle.percpu_rwsem.specs.declared.transitions.TransitionNext.{TransitionNext}
-use Rattle.std.proofs.Common.{ap, arith, inl, inr, refl, subst, sym, ℕ, ◌+◌, ◌<◌, ◌∙◌, ◌≡◌, ◌≤◌}
-use Rattle.std.proofs.lemmas.Bool.{cases_Bool, ltb-true}
+use Rattle.std.proofs.Common.{ap, arith, inl, inr, refl, subst, sym, ℕ, ◌<◌, ◌∙◌, ◌≡◌, ◌≤◌}
 use Rattle.std.proofs.lemmas.Bool.Decides.{eqb_tells}
-use Rattle.std.specs.Prelude.{None, Some, if◌then◌else◌, nat_lt, ◌%◌, ◌&&◌, ◌==◌}
+use Rattle.std.specs.Prelude.{None, Some, if◌then◌else◌}
 
 pub event_of_level : (b : Callback) (s : CallbackStep) → IsEventAt b.level (callback_next b s).0 (callback_next b s).1
 event_of_level b other = grind arith
@@ -99,20 +94,12 @@ Stays level tasks x = (x.level ≡ level) × (x.tasks ≡ tasks) × GraceFits ta
 -- a task number is passed, and another one is next or none is left
 passed_stays : (b : Callback) (g : Grace) → g.tasks ≡ b.tasks →
     HoldsOfNext (Stays b.level b.tasks) (callback_looked b (passed_on g))
-passed_stays b g e =
-    elim (cases_Bool (nat_lt (g.task + 1) g.tasks)) [
-      | inl h ↦ rw h (refl, refl, (e, omega (arith, ltb-true (g.task + 1) g.tasks h, e)))
-      | inr h ↦ rw h (refl, refl, tt)
-    ]
+passed_stays b g e = grind arith
 
 -- a load of a section word
 looked_stays : (b : Callback) (g : Grace) → g.tasks ≡ b.tasks → g.task < b.tasks → (found : ℕ) →
     HoldsOfNext (Stays b.level b.tasks) (callback_looked b (looked g found))
-looked_stays b g e lt found =
-    elim (cases_Bool ((found % 2 == 1) && is_first g.first found)) [
-      | inl h ↦ rw h (refl, refl, (e, lt))
-      | inr h ↦ rw h (passed_stays b g e)
-    ]
+looked_stays b g e lt found = grind arith
 
 claim_stays : (b : Callback) → 0 < b.tasks → (n : TransitionNext) → HoldsOfNext (Stays b.level b.tasks) (claimed b n)
 claim_stays b some a2 = grind arith
@@ -139,13 +126,7 @@ role_elsewhere i j tasks ne a4 h = grind arith
 -- one callback of a level and of all tasks that knows what is to come fits
 one_fits : (c : Config) (t level tasks : ℕ) (held : Holdings) → 1 ≤ level → level ≤ 3 → tasks ≡ c.tasks → (x : Callback) →
     Stays level tasks x → KnowsCallback x.step → PhaseFits c t held (Phase.Callbacks x)
-one_fits c t level tasks held one three all x stays knows = (
-  omega (arith, one, stays.0),
-  omega (arith, three, stays.0),
-  stays.1 ∙ all,
-  subst (λ k. GraceFits k x.step) all stays.2,
-  knows,
-)
+one_fits c t level tasks held one three all x stays knows = grind arith
 
 -- so what comes after an event does
 next_fits : (c : Config) (t level tasks : ℕ) (held : Holdings) → 1 ≤ level → level ≤ 3 → tasks ≡ c.tasks →
@@ -249,12 +230,7 @@ module _ (c : Config) (w : World) (good : IsGood c w) (t : ℕ) (lt : t < c.task
   same_actions = ap (λ a. actions_after a (w.views t).actions) (no_action b s (found_by touch (read w.words name)))
 
   same_at_mounts : SameAtMounts (w.views t) seen_after
-  same_at_mounts = record {
-    held_same = ap mounts_of same_actions;
-    added_same = added_same b (added_by (w.views t).events) s;
-    taken_same = taken_same b (taken_by (w.views t).events) s;
-    open_same = ap opens_of same_actions;
-  }
+  same_at_mounts = grind arith
 
   level_counts : (i : ℕ) → Holds c then_world (AtLevel i)
   level_counts i =

@@ -11,8 +11,8 @@ use Rattle.percpu_rwsem.specs.{SyncWords.on_claim, Transitions.{transition_after
 use Rattle.percpu_rwsem.specs.declared.{callbacks.CallbackStep.CallbackStep, grace.{Grace.Grace, GraceNext.GraceNext}, transitions.Transition.Transition}
 use Rattle.percpu_rwsem.specs.declared.transitions.TransitionNext.{TransitionNext}
 use Rattle.gate_schedules.specs.operations.{Ranks.{callback_rank, exchange_rank, grace_rank, rank}, Ways.{Falls, IsFree, NobodyInside, PhaseEnds}}
-use Rattle.std.proofs.{Common.{ap, arith, inl, inr, refl, subst, sym, ℕ, ◌+◌, ◌<◌, ◌∙◌, ◌≡◌, ◌≤◌}, lemmas.Bool.{cases_Bool, eq-eqb, ltb-true}}
-use Rattle.std.specs.Prelude.{None, nat_lt, ◌%◌, ◌==◌}
+use Rattle.std.proofs.{Common.{ap, arith, refl, subst, sym, ℕ, ◌+◌, ◌<◌, ◌∙◌, ◌≡◌, ◌≤◌}, lemmas.Bool.{eq-eqb}}
+use Rattle.std.specs.Prelude.{None, ◌%◌, ◌==◌}
 
 -- what comes after a look at a section word that is even
 abbrev pub GraceFalls : ℕ → GraceNext → Type 0
@@ -21,13 +21,7 @@ GraceFalls n (GraceNext.Wait g) = ⊥
 GraceFalls n GraceNext.Ended = Unit {0}
 
 pub look_falls : (g : Grace) (found : ℕ) → found % 2 ≡ 0 → GraceFalls (grace_rank g) (looked g found)
-look_falls g found even =
-    rw even (
-    elim (cases_Bool (nat_lt (g.task + 1) g.tasks)) [
-      | inl h ↦ rw h (omega (arith, ltb-true (g.task + 1) g.tasks h))
-      | inr h ↦ rw h tt
-    ]
-    )
+look_falls g found even = grind arith
 
 module _ (b : Callback) (sync : ℕ → ℕ) (free : Callback → Type 0) (is : (y : Callback) → free y) where
   claims_falls : (n : ℕ) (undefined : Type 0) (next : TransitionNext) → ExchangeFalls (sync b.level) n undefined next →

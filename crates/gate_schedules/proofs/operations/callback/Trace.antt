@@ -1,11 +1,11 @@
 -- Traces of a callback.
-use Rattle.std.proofs.{Common.{◌≡◌, ℕ, suc, ◌+◌, ◌%◌, refl, sym, ap, subst, inl, inr}, lemmas.Bool.{eq-eqb, cases_Bool}}
+use Rattle.std.proofs.{Common.{◌≡◌, ℕ, refl, sym, subst}}
 use Rattle.std.proofs.Common.{arith}
-use Rattle.std.specs.Prelude.{◌==◌, nat_lt, Option, Some, None, List, [], ◌∷◌}
+use Rattle.std.specs.Prelude.{Option, List, [], ◌∷◌}
 use Rattle.access_model.specs.{Replies.map_next, declared.{actions.Action.Action, replies.Next.Next}}
 use Rattle.cpu_words.specs.Hooks.{HookAnswer}
-use Rattle.percpu_rwsem.specs.{Callbacks.{claimed, callback_looked, called_back}, Graces.{started, is_first, passed_on}}
-use Rattle.percpu_rwsem.specs.{SyncWords.{pack, unpack, on_claim, on_callback}, Transitions.{exchange_for, word_loaded}}
+use Rattle.percpu_rwsem.specs.{Callbacks.{claimed, callback_looked, called_back}, Graces.{passed_on}}
+use Rattle.percpu_rwsem.specs.{SyncWords.{unpack, on_claim, on_callback}, Transitions.{word_loaded}}
 use Rattle.percpu_rwsem.specs.declared.{callbacks.{Callback.Callback, CallbackStep.CallbackStep}, grace.Grace.Grace, sync_word.SyncWord.SyncWord}
 use Rattle.percpu_rwsem.specs.declared.transitions.Transition.{Transition}
 use Rattle.gate_world.specs.{Found.transitions_made, Views.with_hook, declared.{config.Config.Config, operations.Op.Op, views.Traced.Traced, work.Phase.Phase}}
@@ -50,11 +50,7 @@ module _ (c : Config) (i tasks value : ℕ) (hook : HookAnswer) (earlier : List 
 
   passed : (g : Grace) → transitions_made i earlier ≡ 1 →
       SaysNow (CallbackStep.AwaitsSections g) (callback_looked (callback_on i tasks (CallbackStep.AwaitsSections g)) (passed_on g))
-  passed g h =
-      elim (cases_Bool (nat_lt (g.task + 1) g.tasks)) [
-        | inl f ↦ rw f (CallbackStep.AwaitsSections (record { tasks = g.tasks; task = g.task + 1; first = None }), refl, none, h)
-        | inr f ↦ rw f (CallbackStep.CallsBack Transition.Loads, refl, none, h)
-      ]
+  passed g h = grind arith
 
   callback_event : (s : CallbackStep) → transitions_made i earlier ≡ made_before s → After s
   callback_event a0 h = grind arith

@@ -1,18 +1,16 @@
 -- The causes of the refusals of the calls at the tree, along a schedule: a snapshot keeps one, as a thaw does, and no other call does.
-use Rattle.std.proofs.{Common.{◌≡◌, ℕ, ap, ◌∙◌, inl, inr}, lemmas.Bool.{ne_eqb, Decides.eqb_tells}}
+use Rattle.std.proofs.{Common.{◌≡◌, ℕ}}
 use Rattle.std.proofs.lemmas.Grind.{common_steps}
 use Rattle.std.proofs.Common.{arith}
-use Rattle.std.specs.Prelude.{Option, Some, None, Err, List, ◌∷◌, not, Bool, true, false, if◌then◌else◌, is_some, ◌==◌}
+use Rattle.std.specs.Prelude.{Option, Some, None, Err, List, ◌∷◌, Bool, true, false, if◌then◌else◌}
 use Rattle.access_model.specs.{Replies.map_next, declared.{errors.GateError.GateError, replies.Next.Next}}
 use Rattle.cpu_words.specs.Hooks.{HookAnswer}
-use Rattle.node_words.specs.Nodes.{unpacked, node_after}
 use Rattle.node_words.specs.Phases.{clear_after}
 use Rattle.gated_tree.specs.Phases.{create_after, remove_after, grow_after, move_after, mark_after, open_after, snapshot_locked_out, at_snapshot}
 use Rattle.gated_tree.specs.Phases.{kids_step, node_step}
 use Rattle.gated_tree.specs.declared.{phases.TreePhase.TreePhase, snapshots.{Snapshot.Snapshot, SnapshotStep.SnapshotStep}}
-use Rattle.gate_world.specs.{Causes.{looks_at_stage, was_incomplete}, KeptCauses.{SnapshotCause, TreeCause, CauseOf}, Views.phase_after, Work.after_of}
+use Rattle.gate_world.specs.{KeptCauses.{SnapshotCause, TreeCause, CauseOf}, Views.phase_after, Work.after_of}
 use Rattle.gate_world.specs.{Worlds.{World, found_at}, declared.{config.Config.Config, work.Phase.Phase}}
-use Rattle.gate_schedules.proofs.traces.Moments.{look_skips, look_stands}
 
 -- a snapshot whose view another entry leaves alone: the cause of each step stays
 snapshot_stays : (c : Config) (t : ℕ) (w next : World) (earlier : List World) (x : Snapshot) (s : SnapshotStep) →
@@ -57,9 +55,7 @@ module _ (c : Config) (t : ℕ) (w next : World) (earlier : List World) where
   stage_own : (x : Snapshot) → (w.views t).phase ≡ Some (Phase.Trees (TreePhase.Snapshot (at_snapshot x SnapshotStep.LoadsStage))) → (w.words.stage ≡ 4 → ⊥) →
       (next.views t).phase ≡ Some (Phase.Trees (TreePhase.Snapshot (at_snapshot x (SnapshotStep.Releases (Err GateError.Invalid))))) →
       SnapshotCause c t next (w ∷ earlier) (SnapshotStep.Releases (Err GateError.Invalid))
-  stage_own x e other e' =
-      ap (was_incomplete c) (look_skips t next (w ∷ earlier) (ap looks_at_stage e') ∙ look_stands t w earlier (ap looks_at_stage e)) ∙
-      ap not (ne_eqb w.words.stage 4 other)
+  stage_own x e other e' = grind arith
 
   snapshot_own : (hook : HookAnswer) (x : Snapshot) (s : SnapshotStep) → (w.views t).phase ≡ Some (Phase.Trees (TreePhase.Snapshot (at_snapshot x s))) →
       let comes : Option Phase = phase_after

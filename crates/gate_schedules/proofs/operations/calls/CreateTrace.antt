@@ -1,6 +1,6 @@
 -- Traces of a create.
-use Rattle.std.proofs.{Common.{◌≡◌, ℕ, ◌+◌, ◌<◌, ◌≤◌, Bool, true, false, refl, sym, subst, inl, inr, arith}, lemmas.Bool.{cases_Bool, cases_lt, lt-ltb, le-ltb}}
-use Rattle.std.specs.Prelude.{◌==◌, Option, Some, None, Result, Ok, List, [], ◌∷◌, length, is_some}
+use Rattle.std.proofs.{Common.{◌≡◌, ℕ, ◌+◌, ◌<◌, ◌≤◌, Bool, true, false, refl, sym, subst, inl, inr, arith}, lemmas.Bool.{cases_Bool}}
+use Rattle.std.specs.Prelude.{◌==◌, Option, Result, Ok, List, [], ◌∷◌, length, is_some}
 use Rattle.access_model.specs.declared.{actions.{Action.Action, Kind.Kind}, errors.GateError.GateError, replies.{Next.Next, Reply.Reply}}
 use Rattle.cpu_words.specs.{Touches.found_by, declared.events.Event.Event}
 use Rattle.node_words.specs.Nodes.{as_directory, unpacked, directory_in}
@@ -97,12 +97,7 @@ module _ (c : Config) (d : ℕ) (kind : Kind) where
   create_answers : (s : CreateStep) (trace : List Traced) →
       Answers Create CreateStep TreePhase.Create create_of Knows so_far (IsThere c) (events_before c) (c.nodes + 3) false c (Op.Create d kind)
       IsNodeReply (CreateHonest (SeenIn trace) (create_of s)) (create_adds (create_of s)) trace
-  create_answers s trace = record {
-    told = create_told trace;
-    honest = create_cause s trace;
-    actions = create_actions s trace;
-    short = λ h. h refl;
-  }
+  create_answers s trace = grind arith
 
   -- and keeps it along
   create_kept : IsWithin c → (t : ℕ) → KeptWell CreateAt c t (Op.Create d kind)

@@ -3,7 +3,7 @@ use Rattle.std.proofs.Common.{ℕ, ◌<◌, Bool, true, false, arith}
 use Rattle.std.specs.Prelude.{Some, None, if◌then◌else◌, ◌==◌}
 use Rattle.access_model.specs.declared.actions.Action.{Action}
 use Rattle.cpu_words.specs.Hooks.{HookAnswer}
-use Rattle.node_words.specs.Nodes.{dirty_in, word_of}
+use Rattle.node_words.specs.Nodes.{word_of}
 use Rattle.gated_tree.specs.Phases.{create_after, remove_after, grow_after, move_after, mark_after, open_after, mark_done, snapshot_after}
 use Rattle.gated_tree.specs.declared.changes.{Create.Create, CreateStep.CreateStep, MoveStep.MoveStep, MoveTo.MoveTo, Remove.Remove, RemoveStep.RemoveStep}
 use Rattle.gated_tree.specs.declared.{growth.{Grow.Grow, GrowStep.GrowStep}, marks.{Mark.Mark, MarkStep.MarkStep}, opens.{OpenFile.OpenFile, OpenStep.OpenStep}}

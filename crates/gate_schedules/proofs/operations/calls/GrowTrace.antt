@@ -1,9 +1,8 @@
 -- Traces of a grow.
-use Rattle.std.proofs.{Common.{◌≡◌, ℕ, ◌≤◌, Bool, false, refl, sym, subst, inl, inr, arith}, lemmas.Bool.cases_Bool}
-use Rattle.std.specs.Prelude.{◌+◌, nat_lt, ◌==◌, Result, Ok, Err, List, [], ◌∷◌, length}
+use Rattle.std.proofs.{Common.{◌≡◌, ℕ, ◌≤◌, Bool, false, refl, sym, subst, arith}}
+use Rattle.std.specs.Prelude.{Result, Ok, Err, List, [], ◌∷◌, length}
 use Rattle.access_model.specs.declared.{actions.Action.Action, errors.GateError.GateError, replies.{Next.Next, Reply.Reply}}
 use Rattle.cpu_words.specs.{Touches.found_by, declared.events.Event.Event}
-use Rattle.node_words.specs.Nodes.{word_of, as_file, unpacked, file_in}
 use Rattle.gated_tree.specs.Phases.{at_grow, grow_after, grow_next}
 use Rattle.gated_tree.specs.Refusals.{GrowHonest}
 use Rattle.gated_tree.specs.declared.{growth.{Grow.Grow, GrowStep.GrowStep}, phases.TreePhase.TreePhase}
@@ -11,7 +10,7 @@ use Rattle.gate_schedules.{proofs.trees.Ends.grow_ends, specs.trees.Ends.{GrowKn
 use Rattle.gate_world.specs.{Configs.IsWithin, Courses.{IsTrace, MayHold, MayFind, course_of}, Found.SeenIn, Operations.first_grow}
 use Rattle.gate_world.specs.{Traces.{actions_of, IsHonest, IsShort, Tells, most_events}, Views.with_hook, Work.next_of}
 use Rattle.gate_world.specs.declared.{config.Config.Config, operations.Op.Op, views.Traced.Traced, work.Phase.Phase}
-use Rattle.gate_schedules.proofs.operations.calls.Trace.{Answers, CallAt, Stays, call_says, looked, made_some, sees}
+use Rattle.gate_schedules.proofs.operations.calls.Trace.{Answers, CallAt, Stays, call_says, sees}
 use Rattle.gate_schedules.proofs.traces.Says.{KeptWell, SaysAfter, event_at, tells_well, is_short_well}
 
 -- how many events a grow has done before a step

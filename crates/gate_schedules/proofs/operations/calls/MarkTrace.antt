@@ -94,12 +94,7 @@ module _ (c : Config) (file : ℕ) (dirty : Bool) where
   mark_answers : (trace : List Traced) →
       Answers Mark MarkStep TreePhase.Mark mark_of Knows so_far IsThere events_before 2 false c (mark_op file dirty)
       (IsReply Reply.Unit) (FileHonest (SeenIn trace) file) (where_done (mark_done dirty file)) trace
-  mark_answers trace = record {
-    told = mark_told file dirty trace;
-    honest = mark_cause c file dirty trace;
-    actions = mark_actions file dirty trace;
-    short = λ h. mark_short c file dirty trace (h refl);
-  }
+  mark_answers trace = grind arith
 
   -- a step comes after at most that many events
   mark_within : (s : MarkStep) (trace : List Traced) → length trace ≤ events_before s → length trace ≤ 2

@@ -78,12 +78,7 @@ module _ (c : Config) (file dir : ℕ) where
   move_answers : (s : MoveStep) (trace : List Traced) →
       Answers MoveTo MoveStep TreePhase.MoveTo move_of Knows so_far IsThere events_before 5 false c (Op.MoveTo file dir)
       (IsReply Reply.Unit) (MoveHonest (SeenIn trace) (move_of s)) (where_done (Action.MoveTo file dir)) trace
-  move_answers s trace = record {
-    told = λ reply h. h;
-    honest = move_cause s trace;
-    actions = move_actions trace;
-    short = λ h. h refl;
-  }
+  move_answers s trace = grind arith
 
   -- a step comes after at most that many events
   move_within : (s : MoveStep) (trace : List Traced) → length trace ≤ events_before s → length trace ≤ 5

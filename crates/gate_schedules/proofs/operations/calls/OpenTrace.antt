@@ -1,10 +1,9 @@
 -- Traces of an open.
-use Rattle.std.proofs.{Common.{◌≡◌, ℕ, ◌<◌, ◌≤◌, Bool, true, false, refl, sym, ap, subst, inl, inr, arith}, lemmas.Bool.{cases_Bool, lt-ltb}}
+use Rattle.std.proofs.{Common.{◌≡◌, ℕ, ◌<◌, ◌≤◌, Bool, true, false, refl, sym, subst, inl, inr, arith}, lemmas.Bool.{cases_Bool}}
 use Rattle.std.proofs.lemmas.Grind.{common_steps}
-use Rattle.std.specs.Prelude.{◌==◌, Option, Some, None, Result, Ok, Err, List, [], ◌∷◌, length, nat_lt, is_some}
+use Rattle.std.specs.Prelude.{◌==◌, Option, Result, Ok, Err, List, [], ◌∷◌, length, nat_lt, is_some}
 use Rattle.access_model.specs.declared.{actions.Action.Action, errors.GateError.GateError, replies.{Next.Next, Reply.Reply}}
 use Rattle.cpu_words.specs.{Touches.found_by, declared.events.Event.Event}
-use Rattle.node_words.proofs.Refused.{size_loaded}
 use Rattle.node_words.specs.Nodes.{word_of, opens_in, as_file, unpacked, file_in}
 use Rattle.node_words.specs.Phases.{after_look}
 use Rattle.gated_tree.specs.Phases.{at_open, opens_from, open_after, open_next}
@@ -75,12 +74,7 @@ module _ (c : Config) (file : ℕ) where
   open_answers : (trace : List Traced) →
       Answers OpenFile OpenStep TreePhase.OpenFile open_of Knows so_far IsThere events_before 2 false c (Op.Open file)
       (IsReply Reply.Unit) (FileHonest (SeenIn trace) file) (where_done (Action.Open file)) trace
-  open_answers trace = record {
-    told = λ reply h. h;
-    honest = λ refusal h. h;
-    actions = open_actions trace;
-    short = λ h. h refl;
-  }
+  open_answers trace = grind arith
 
   -- a step comes after at most that many events
   open_within : (s : OpenStep) (trace : List Traced) → length trace ≤ events_before s → length trace ≤ 2

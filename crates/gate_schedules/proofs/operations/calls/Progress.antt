@@ -1,11 +1,11 @@
 -- The calls at the tree run out, a snapshot where it finds `umount` free.
-use Rattle.std.proofs.Common.{◌≡◌, ℕ, ◌+◌, ◌<◌, Bool, true, false, refl, sym, ◌∙◌, inl, inr, arith, true≢false}
+use Rattle.std.proofs.Common.{◌≡◌, ℕ, ◌+◌, ◌<◌, Bool, true, false, sym, inl, inr, arith, true≢false}
 use Rattle.std.proofs.lemmas.Grind.{common_steps}
-use Rattle.std.proofs.lemmas.Bool.{cases_Bool, ltb-true, lt-ltb, Decides.eqb_tells}
+use Rattle.std.proofs.lemmas.Bool.{cases_Bool, ltb-true, Decides.eqb_tells}
 use Rattle.std.specs.Prelude.{◌-◌, nat_lt, is_some, option_map, Option, Some, None, Result, Ok, Err}
 use Rattle.access_model.specs.declared.{actions.Kind.Kind, errors.GateError.GateError}
 use Rattle.cpu_words.specs.{Hooks.HookAnswer, Touches.found_by, Words.{Words, read}}
-use Rattle.node_words.specs.Nodes.{word_of, is_stray, node_of, opens_in, unpacked, as_file, as_directory}
+use Rattle.node_words.specs.Nodes.{word_of, unpacked, as_file, as_directory}
 use Rattle.node_words.specs.Phases.{after_look}
 use Rattle.gated_tree.specs.Phases.{next as tree_next, after as tree_after, at_open, opens_from, create_next, create_after, create_looked}
 use Rattle.gated_tree.specs.Phases.{remove_next, remove_after, grow_next, grow_after, move_next, move_after, mark_next, mark_after, open_next, open_after}

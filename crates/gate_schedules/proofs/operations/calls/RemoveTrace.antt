@@ -84,12 +84,7 @@ module _ (c : Config) (file : ℕ) where
   remove_answers : (trace : List Traced) →
       Answers Remove RemoveStep TreePhase.Remove remove_of Knows so_far IsThere events_before 4 false c (Op.Remove file)
       (IsReply Reply.Unit) (FileHonest (SeenIn trace) file) (where_done (Action.Remove file)) trace
-  remove_answers trace = record {
-    told = λ reply h. h;
-    honest = λ refusal h. h;
-    actions = remove_actions trace;
-    short = λ h. h refl;
-  }
+  remove_answers trace = grind arith
 
   -- a step comes after at most that many events
   remove_within : (s : RemoveStep) (trace : List Traced) → length trace ≤ events_before s → length trace ≤ 4

@@ -1,6 +1,6 @@
 -- What the trace of a call at the tree says, kept from each event to the next, whichever call it is.
 use Rattle.std.proofs.Common.{◌≡◌, ℕ, ◌<◌, ◌≤◌, Bool, true, false, refl, sym, ap, ◌∙◌, subst, arith}
-use Rattle.std.specs.Prelude.{◌||◌, Option, Some, None, Result, Ok, Err, List, ◌∷◌, length, is_some, option_map}
+use Rattle.std.specs.Prelude.{◌||◌, Option, Some, None, Result, Err, List, ◌∷◌, length, is_some, option_map}
 use Rattle.access_model.specs.{Replies.map_next, declared.{actions.Action.Action, errors.GateError.GateError, replies.{Next.Next, Reply.Reply}}}
 use Rattle.cpu_words.specs.declared.events.Event.{Event}
 use Rattle.node_words.specs.Phases.{after_look}

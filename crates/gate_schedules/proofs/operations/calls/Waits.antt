@@ -2,13 +2,13 @@
 use Rattle.std.proofs.{Common.{◌≡◌, ℕ, ◌<◌, ap, inl, inr, refl}, lemmas.Bool.Decides.eqb_tells}
 use Rattle.std.proofs.lemmas.Grind.{common_steps}
 use Rattle.std.proofs.Common.{arith}
-use Rattle.std.specs.Prelude.{Some, None, Ok, Err, List, Option, Result, ◌==◌, if◌then◌else◌, Bool, true, false, is_some, nat_lt, ◌+◌, ◌∷◌}
+use Rattle.std.specs.Prelude.{Some, None, Ok, Err, List, Option, Result, ◌==◌, if◌then◌else◌, Bool, true, false, is_some, ◌∷◌}
 use Rattle.access_model.specs.{Replies.map_next, declared.{errors.GateError.GateError, replies.Next.Next}}
 use Rattle.cpu_words.specs.Hooks.{HookAnswer}
-use Rattle.node_words.specs.Nodes.{word_of, unpacked, file_in, directory_in, node_after}
-use Rattle.gated_tree.specs.Phases.{create_after, create_past, create_looks_at, create_looked, remove_after, grow_after, move_after, mark_after, open_after}
+use Rattle.node_words.specs.Nodes.{word_of, unpacked, file_in, node_after}
+use Rattle.gated_tree.specs.Phases.{create_after, create_looks_at, create_looked, remove_after, grow_after, move_after, mark_after, open_after}
 use Rattle.node_words.specs.Phases.{clear_after, after_look, clears_at}
-use Rattle.gated_tree.specs.Phases.{snapshot_locked_out, at_create, at_snapshot, node_step}
+use Rattle.gated_tree.specs.Phases.{snapshot_locked_out, at_snapshot, node_step}
 use Rattle.gated_tree.specs.declared.changes.{Create.Create, CreateStep.CreateStep, MoveStep.MoveStep, MoveTo.MoveTo, Remove.Remove, RemoveStep.RemoveStep}
 use Rattle.node_words.specs.declared.marks.ClearMarks.{ClearMarks}
 use Rattle.gated_tree.specs.declared.growth.Grow.{Grow}

@@ -1,6 +1,6 @@
 -- The causes of a change's refusals, along a schedule.
 use Rattle.std.proofs.{Common.{◌∙◌, ◌≡◌, ℕ, suc, ◌+◌, ◌<◌, Bool, true, false, ap, inl, inr, arith}, lemmas.Bool.{ltb-false, cases_Bool, Decides.eqb_tells}}
-use Rattle.std.specs.Prelude.{nat_lt, Some, List, ◌∷◌, ◌==◌, not, Ok, Err, Result, None}
+use Rattle.std.specs.Prelude.{nat_lt, Some, List, ◌∷◌, ◌==◌, not, Err, Result, None}
 use Rattle.access_model.specs.declared.{errors.GateError.GateError, replies.Reply.Reply}
 use Rattle.cpu_words.specs.{Hooks.HookAnswer, Touches.wrap_add, Words.Words, declared.{names.WordName.WordName, sums.Sum.Sum}}
 use Rattle.mount_counts.specs.{Phases.{has_flag, step_between}, declared.phases.ChangeStep.ChangeStep}

@@ -1,14 +1,14 @@
 -- Traces of a change of a mount's read-only flag.
-use Rattle.std.proofs.Common.{◌≡◌, ℕ, suc, ◌+◌, ◌<◌, ◌≤◌, Bool, true, false, refl, sym, ap, ◌∙◌, subst, inl, inr, add-one, arith}
+use Rattle.std.proofs.Common.{◌≡◌, ℕ, suc, ◌+◌, ◌<◌, ◌≤◌, Bool, true, false, refl, sym, ◌∙◌, subst, inl, inr, add-one, arith}
 use Rattle.std.proofs.lemmas.Bool.{eq-eqb, ltb-true, ltb-false, cases_Bool, Decides.eqb_tells}
-use Rattle.std.specs.Prelude.{◌==◌, not, nat_lt, Result, Ok, Err, List, [], ◌∷◌, length}
+use Rattle.std.specs.Prelude.{◌==◌, nat_lt, Result, Err, List, [], ◌∷◌, length}
 use Rattle.access_model.specs.declared.{actions.Action.Action, errors.GateError.GateError, replies.Reply.Reply}
 use Rattle.cpu_words.specs.{Hooks.HookAnswer, Touches.wrap_add, declared.sums.Sum.Sum}
 use Rattle.mount_counts.specs.{Phases.{has_flag, step_between}, declared.phases.{ChangeStep.ChangeStep, MountPhase.MountPhase}}
 use Rattle.gate_world.specs.{Configs.IsWithin, Found.{found_read_only, counts_loaded, sum_loaded, IsEachCount, each_event, finds_taken}}
 use Rattle.gate_world.specs.{Traces.{actions_of, IsHonestAnswer, most_events, IsShort}, Views.with_hook}
 use Rattle.gate_world.specs.declared.{config.Config.Config, operations.Op.Op, views.Traced.Traced, work.Phase.Phase}
-use Rattle.gate_schedules.proofs.{operations.remount.Trace.{or_false, sum_more}, traces.Says.{SaysAfter, Kept, event_at}}
+use Rattle.gate_schedules.proofs.{operations.remount.Trace.{sum_more}, traces.Says.{SaysAfter, Kept, event_at}}
 
 abbrev pub change : Config → ℕ → ℕ → Bool → Bool → ChangeStep → Phase
 change c t m ro wait step = Phase.Mounts (MountPhase.Change (record {
@@ -114,11 +114,7 @@ module _ (c : Config) (lim : IsWithin c) (t m : ℕ) (ro : Bool) (value : ℕ) (
   lock_taken false h f = rw f ((h.1.1.0, (refl, rw f refl)), omega (arith, h.0 refl))
 
   locks : (wait : Bool) → ChangeSays c m ro wait ChangeStep.Locks earlier added → After wait ChangeStep.Locks
-  locks wait h =
-      elim (cases_Bool (value == 0)) [
-        | inl f ↦ rw f (ChangeStep.LoadsFlags, refl, (λ q. omega (arith, h.0 q), h.1.1))
-        | inr f ↦ lock_taken wait h f
-      ]
+  locks wait h = grind arith
 
   loads_flags : (wait : Bool) → ChangeSays c m ro wait ChangeStep.LoadsFlags earlier added → After wait ChangeStep.LoadsFlags
   loads_flags wait h =
@@ -133,31 +129,15 @@ module _ (c : Config) (lim : IsWithin c) (t m : ℕ) (ro : Bool) (value : ℕ) (
       ]
 
   loads_superblock : (wait : Bool) → ChangeSays c m ro wait ChangeStep.LoadsSuperblock earlier added → After wait ChangeStep.LoadsSuperblock
-  loads_superblock wait h = (
-    step_between ro (not (value == 0)),
-    refl,
-    state_found c m ro wait (not (value == 0)) (longer wait ChangeStep.LoadsSuperblock) added (λ q. omega (arith, h.0 q)) h.1.0
-        (rw h.1.1 (or_false (not (value == 0)))) h.1.2,
-  )
+  loads_superblock wait h = grind arith
 
   -- a change to writable, of a mount that was found read-only, is done
   clears_read_only : (wait : Bool) → ChangeSays c m ro wait ChangeStep.ClearsReadOnly earlier added → After wait ChangeStep.ClearsReadOnly
-  clears_read_only wait h = (
-    ChangeStep.Releases (Ok Reply.Unit),
-    refl,
-    (
-      λ q. omega (arith, h.0 q),
-      (rw (h.1.1, h.1.2) (ap (λ (l : List Action). Action.MountRw m ∷ l) h.1.0), tt),
-    ),
-  )
+  clears_read_only wait h = grind arith
 
   -- the sum begins with no count loaded
   sets_hold : (wait : Bool) → ChangeSays c m ro wait ChangeStep.SetsHold earlier added → After wait ChangeStep.SetsHold
-  sets_hold wait h = (
-    ChangeStep.Sums record { words = 0; total = 0 },
-    refl,
-    (λ q. omega (arith, h.0 q), (h.1.1.0, h.1.0, h.1.1.1, (lim.some_processor, rw h.1.1.2 tt, rw h.1.1.2 refl))),
-  )
+  sets_hold wait h = grind arith
 
   -- one count more is loaded
   count_loaded : (wait : Bool) (sum : Sum) → IsSumOf c m sum earlier →
@@ -211,14 +191,7 @@ module _ (c : Config) (lim : IsWithin c) (t m : ℕ) (ro : Bool) (value : ℕ) (
 
   -- a change to read-only, of a mount that was found writable, is done
   sets_read_only : (wait : Bool) → ChangeSays c m ro wait ChangeStep.SetsReadOnly earlier added → After wait ChangeStep.SetsReadOnly
-  sets_read_only wait h = (
-    ChangeStep.ClearsHold (Ok Reply.Unit),
-    refl,
-    (
-      λ q. omega (arith, h.0 q),
-      (rw (h.1.1, h.1.2) (ap (λ (l : List Action). Action.MountRo m ∷ l) h.1.0), tt),
-    ),
-  )
+  sets_read_only wait h = grind arith
 
   change_event : (wait : Bool) (step : ChangeStep) → ChangeSays c m ro wait step earlier added → After wait step
   change_event wait ChangeStep.Locks h = locks wait h

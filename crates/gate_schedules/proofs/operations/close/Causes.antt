@@ -1,35 +1,25 @@
 -- The causes and the waits of a close: those of a down-read of level 3, where it is a last one.
-use Rattle.std.proofs.{Common.{◌≡◌, ℕ, ◌≤◌, ◌%◌, false, true, ap, arith, inl, inr, refl}, lemmas.Bool.{cases_Bool, Decides.nat_tests}}
+use Rattle.std.proofs.{Common.{◌≡◌, ℕ, ◌≤◌, true, ap, arith, inl, inr}}
 use Rattle.std.proofs.lemmas.Grind.{common_steps}
-use Rattle.std.specs.Prelude.{◌==◌, ◌&&◌, Option, Some, None, Result, Ok, Err, List, ◌∷◌, is_some}
+use Rattle.std.specs.Prelude.{Option, Some, Result, Err, List, ◌∷◌, is_some}
 use Rattle.access_model.specs.{Replies.map_next, declared.{errors.GateError.GateError, replies.Next.Next}}
 use Rattle.node_words.proofs.Refused.{any_file_refused}
-use Rattle.node_words.specs.Nodes.{any_file_in, is_stray, kind_in, opens_in, unpacked}
+use Rattle.node_words.specs.Nodes.{any_file_in, kind_in, opens_in, unpacked}
 use Rattle.node_words.specs.Phases.{after_look}
 use Rattle.node_words.specs.declared.nodes.NodeWord.{NodeWord}
 use Rattle.percpu_rwsem.specs.declared.readers.DownRead.{DownRead}
 use Rattle.compounds.specs.{file_closes.Phases.{then_frees, closed_from}, declared.file_closes.phases.{ClosePhase.ClosePhase, Closing.Closing}}
-use Rattle.gate_world.specs.{Causes.{asks_level, last_asked, WasClosed}, KeptCauses.CauseOf, Views.phase_after, Waits.HasReason, Worlds.World}
+use Rattle.gate_world.specs.{Causes.{last_asked, WasClosed}, KeptCauses.CauseOf, Views.phase_after, Waits.HasReason, Worlds.World}
 use Rattle.gate_world.specs.declared.{config.Config.Config, work.Phase.Phase}
-use Rattle.gate_schedules.proofs.operations.readers.{Causes.{AsksNext, HasNextCause}, Waits.{WhereRefused, read_refused}}
+use Rattle.gate_schedules.proofs.operations.readers.{Causes.{AsksNext, HasNextCause}, Waits.{WhereRefused}}
 
 -- what was looked at as a file, or not as one, is a node's word
 looked_some : (word : ℕ) (refusal : GateError) → any_file_in word ≡ Some (Err refusal) → is_some (unpacked word) ≡ true
-looked_some word refusal e = elim (cases_Bool (is_stray word)) [
-  | inl stray ↦
-      let none : any_file_in word ≡ None = rw stray refl in
-      absurd cc
-  | inr plain ↦ rw plain refl
-]
+looked_some word refusal e = grind arith
 
 -- a directory is open nowhere
 closed_directory : (word : ℕ) → is_some (unpacked word) ≡ true → kind_in word ≡ 2 → opens_in word ≡ 0
-closed_directory word some dir = elim (cases_Bool (is_stray word)) [
-  | inl stray ↦
-      let none : is_some (unpacked word) ≡ false = rw stray refl in
-      absurd cc
-  | inr plain ↦ let two : word % 4 ≡ 2 = dir in grind (arith, nat_tests)
-]
+closed_directory word some dir = grind arith
 
 -- so a node that some task has open is a file
 pub open_is_file : (word : ℕ) (refusal : GateError) → 1 ≤ opens_in word → any_file_in word ≡ Some (Err refusal) → ⊥
@@ -57,11 +47,7 @@ module _ (c : Config) (t : ℕ) (w : World) (earlier : List World) where
 
   -- what comes after its file was found has no cause yet
   found_cause : (x : Closing) (file : NodeWord) → CauseOf c t w earlier (Some (Phase.Closes (closed_from x file)))
-  found_cause x file =
-      elim (cases_Bool (file.opens == 0)) [
-        | inl z ↦ rw z tt
-        | inr z ↦ elim (cases_Bool (file.removed && (file.opens == 1))) [ inl h ↦ rw (z, h) tt | inr h ↦ rw (z, h) tt ]
-      ]
+  found_cause x file = grind arith
 
   pub looked_cause : (x : Closing) (r : Option (Result NodeWord GateError)) →
       CauseOf c t w earlier (phase_after (map_next Phase.Closes (after_look (ClosePhase.LoadsFile x) (closed_from x) r)))

@@ -5,7 +5,7 @@ use Rattle.std.specs.Prelude.{◌==◌, ◌&&◌, Option, Some, None, Result, Ok
 use Rattle.finite_sums.{proofs.Totals.{total_at, total_updated, update_off}, specs.Sums.{update, total}}
 use Rattle.access_model.specs.{States.{one_if, is_removed, most_tasks, openers}, declared.errors.GateError.GateError}
 use Rattle.gate_schedules.proofs.{frames.Openers.most_tasks_is, trees.worlds.Holders.level_thawed}
-use Rattle.gate_schedules.proofs.trees.worlds.{Roles.{call_plain, remount_apart, snapshot_apart, freeze_apart}, Trees.nobody_reads}
+use Rattle.gate_schedules.proofs.trees.worlds.{Trees.nobody_reads}
 use Rattle.cpu_words.specs.{Words.Words, declared.names.WordName.WordName}
 use Rattle.node_words.proofs.Words.{word_opens, word_shows}
 use Rattle.node_words.specs.Nodes.{word_of, any_file_in, opens_in, node_shown, info_of}
@@ -15,11 +15,11 @@ use Rattle.gated_tree.specs.Roles.{Role, Out, Freeing, Dropped, Uncounting, free
 use Rattle.gated_tree.specs.Roles.{NobodyElseFrees, IsLastOpen}
 use Rattle.node_words.specs.declared.nodes.NodeWord.{NodeWord}
 use Rattle.gated_tree.specs.declared.phases.TreePhase.{TreePhase}
-use Rattle.gate_schedules.proofs.trees.{Counts.{finds_last, same_le}, Each.each_event, Laws.{role_says, same_off}, Steps.{leaves_word, as_event, stays_at}}
+use Rattle.gate_schedules.proofs.trees.{Counts.{finds_last, same_le}, Each.each_event, Laws.{role_says}, Steps.{leaves_word, as_event, stays_at}}
 use Rattle.gate_schedules.specs.trees.{Events.{turned, ClosesFile, FreesFile, DropsBlocks, Uncounts}, Steps.{tree_in, EventKeeps}}
 use Rattle.compounds.specs.{file_closes.Phases.{next, after, enters, closed_from}, declared.file_closes.phases.{ClosePhase.ClosePhase, Closing.Closing}}
-use Rattle.gate_world.specs.{Configs.IsWithin, Fits.{MayLower, HasFile, file_of}, Roles.{close_tree_role, nodes_noted}, Rules.{IsGood, Tree, Files, Stages}}
-use Rattle.gate_world.specs.{Snapshots.values_noted, Trees.{tree_bounds, tree_of, tree_roles, tree_role_of, is_bare_at}, Views.{has_open, holds_level}}
+use Rattle.gate_world.specs.{Configs.IsWithin, Fits.{MayLower, HasFile, file_of}, Roles.{close_tree_role}, Rules.{IsGood, Tree, Files, Stages}}
+use Rattle.gate_world.specs.{Trees.{tree_bounds, tree_of, tree_roles, tree_role_of, is_bare_at}, Views.{has_open, holds_level}}
 use Rattle.gate_world.specs.{Worlds.World, declared.{config.Config.Config, views.Traced.Traced, work.Phase.Phase}}
 
 -- each event of a close on a word of the tree, where its task holds what it may
@@ -90,10 +90,7 @@ module _ (c : Bounds) (within : AreWithin c) (sealed bare : ℕ) (w : Words) (at
 -- who relies on the word of a node has its file open: no other phase does
 module _ (n : ℕ) where
   same_is : (m : ℕ) (file : NodeWord) → frees n (Freeing m file) ≡ 1 → m ≡ n
-  same_is m file e = elim (eqb_tells m n) [
-    | inl h ↦ h.1
-    | inr h ↦ absurd (omega (arith, e, same_off m n (λ q. h.1 (sym q))))
-  ]
+  same_is m file e = grind arith
 
   tree_frees : (values : ℕ → ℕ) (x : TreePhase) → frees n (phase_role values x) ≡ 0
   tree_frees values x = grind arith

@@ -2,18 +2,17 @@
 use Rattle.std.proofs.Common.{◌≡◌, ℕ, ◌<◌, ◌≤◌, ◌⊎◌, Bool, true, false, refl, sym, ap, ◌∙◌, subst, inl, inr, arith, true≢false}
 use Rattle.std.proofs.lemmas.Grind.{common_steps}
 use Rattle.std.proofs.lemmas.Bool.{cases_Bool, Decides.{eqb_tells, nat_tests}}
-use Rattle.std.specs.Prelude.{◌==◌, ◌&&◌, Option, Some, None, Result, Ok, Err, if◌then◌else◌}
-use Rattle.access_model.specs.{Replies.map_next, declared.{actions.{Action.Action, Kind.Kind}, errors.GateError.GateError, replies.Next.Next}}
+use Rattle.std.specs.Prelude.{◌==◌, ◌&&◌, Option, Some, None, Result, Ok}
+use Rattle.access_model.specs.{Replies.map_next, declared.{actions.{Kind.Kind}, errors.GateError.GateError, replies.Next.Next}}
 use Rattle.cpu_words.specs.{Hooks.HookAnswer, Names.IsWord}
-use Rattle.node_words.specs.Nodes.{any_file_in, as_any_file, is_stray, node_of, kind_in, kind_of, dirty_in, removed_in, opens_in, IsLawful, word_of}
+use Rattle.node_words.specs.Nodes.{any_file_in, as_any_file, is_stray, node_of, kind_in, kind_of, dirty_in, removed_in, opens_in, IsLawful}
 use Rattle.node_words.specs.Phases.{after_look}
 use Rattle.node_words.specs.declared.nodes.NodeWord.{NodeWord}
 use Rattle.percpu_rwsem.specs.{Readers.down_read_after, declared.readers.DownRead.DownRead}
-use Rattle.compounds.specs.{file_closes.Phases.{next, after, closed_from, then_frees, leaves_on}, declared.file_closes.phases.{ClosePhase.ClosePhase, Closing.Closing}}
+use Rattle.compounds.specs.{file_closes.Phases.{next, after, closed_from, then_frees}, declared.file_closes.phases.{ClosePhase.ClosePhase, Closing.Closing}}
 use Rattle.gate_world.specs.{Holdings.{Holdings, held_after, Agree}, Configs.IsWithin, Fits.{Fits, CloseFits, ClosingFits, ActionFits}, Views.phase_after}
 use Rattle.gate_world.specs.declared.{config.Config.Config, work.Phase.Phase}
-use Rattle.gate_schedules.proofs.{frames.Keeps.{by_bool, extents_touched}, operations.readers.Fits.{ReadGoes, read_goes, none_from_agree, read_acts}}
-use Rattle.gate_schedules.proofs.operations.readers.Laws.{read_phase, end_phase}
+use Rattle.gate_schedules.proofs.{frames.Keeps.{extents_touched}, operations.readers.Fits.{ReadGoes, read_goes}}
 
 some_is : {A : Type 0} (a b : A) → Some a ≡ Some b → a ≡ b
 some_is a b e = cc

@@ -4,15 +4,14 @@ use Rattle.access_model.specs.{Replies.map_next, States.is_removed, declared.{ac
 use Rattle.std.proofs.lemmas.Grind.{common_steps}
 use Rattle.cpu_words.specs.Hooks.{HookAnswer}
 use Rattle.compounds.specs.{file_closes.Phases.{after, closed_from, enters, next}, declared.file_closes.phases.{ClosePhase.ClosePhase, Closing.Closing}}
-use Rattle.gate_schedules.proofs.frames.Frames.{count_none, sync_none}
 use Rattle.gate_schedules.proofs.operations.close.Events.{close_drops, close_frees, close_loads, close_lowers, close_uncounts, closer_unread, dropped_removed}
 use Rattle.gate_schedules.proofs.operations.close.Events.{freeing_removed, frees_alone}
 use Rattle.gate_schedules.proofs.{operations.close.Fits.close_goes, trees.worlds.{Events.{IsPlain, plain_parts, tree_run}, MayTree.LeaveFor}}
-use Rattle.gate_schedules.proofs.trees.worlds.Parts.{IsAtTree, IsOffGates, LeavesAccesses, files_then, fitting_then, idle_off, is_node_word, leaves_if}
-use Rattle.gate_schedules.proofs.trees.worlds.Parts.{leaves_none, node_call, shown_moves, tree_then}
+use Rattle.gate_schedules.proofs.trees.worlds.Parts.{IsAtTree, IsOffGates, LeavesAccesses, files_then, fitting_then, idle_off, is_node_word}
+use Rattle.gate_schedules.proofs.trees.worlds.Parts.{node_call, shown_moves, tree_then}
 use Rattle.gate_schedules.proofs.trees.worlds.Trees.{tree_within}
 use Rattle.gate_world.specs.{Configs.{IsWithin, model_limits}, Fits.{CloseFits, Fits, HasFile, MayLower, file_of}, Holdings.{Holdings, held_after}}
-use Rattle.gate_world.specs.{Alike.no_roles, LevelRuns.level_in, Roles.close_tree_role, Rules.{Files, Fitting, IsGood, StepKeeps, Tree}, Shown.shown}
+use Rattle.gate_world.specs.{LevelRuns.level_in, Roles.close_tree_role, Rules.{Files, Fitting, IsGood, StepKeeps, Tree}, Shown.shown}
 use Rattle.gate_world.specs.{Trees.{is_bare_at, is_sealed, tree_bounds, tree_role_of, tree_roles}, Views.{has_open, held_of, phase_after, view_after}}
 use Rattle.gate_world.specs.{Worlds.{World, after_step, found_at, value_at}, declared.{config.Config.Config, views.{Traced.Traced, View.View}}}
 use Rattle.gate_world.specs.declared.work.Phase.{Phase}
@@ -25,7 +24,7 @@ use Rattle.node_words.specs.declared.nodes.NodeWord.{NodeWord}
 use Rattle.freeze_laws.specs.levels.Events.{SyncStep}
 use Rattle.std.proofs.{Common.{Bool, ap, arith, false, inl, inr, refl, subst, sym, true, true≢false, ℕ, ◌<◌, ◌∙◌, ◌≡◌}, lemmas.Bool.cases_Bool}
 use Rattle.std.proofs.lemmas.Bool.Decides.{eqb_tells}
-use Rattle.std.specs.Prelude.{Err, List, None, Ok, Option, Result, Some, ◌&&◌, ◌==◌}
+use Rattle.std.specs.Prelude.{List, Option, Result, Some, ◌==◌}
 use Rattle.gate_schedules.specs.trees.{Events.HasLeave, Steps.EventKeeps}
 
 -- the events at the tree
@@ -47,21 +46,10 @@ off_leaves : (p : ℕ) → IsOffGates (Some (Phase.Closes (ClosePhase.Leaves p))
 off_leaves p = record { roles = refl; closing_none = λ i. refl }
 
 off_enters : (x : Closing) (file : NodeWord) → IsOffGates (Some (Phase.Closes (enters x file)))
-off_enters x file = record {
-  roles = λ k. record no_roles { count = λ i. count_none i 3 k; sync = λ i. sync_none i 3 k };
-  closing_none = λ i. refl;
-}
+off_enters x file = grind arith
 
 off_found : (x : Closing) (file : NodeWord) → IsOffGates (Some (Phase.Closes (closed_from x file)))
-off_found x file =
-    elim (cases_Bool (file.opens == 0)) [
-      | inl z ↦ rw z (off_close (ClosePhase.LoadsFile x) refl)
-      | inr z ↦
-          elim (cases_Bool (file.removed && (file.opens == 1))) [
-            | inl h ↦ rw (z, h) (off_enters x file)
-            | inr h ↦ rw (z, h) (off_close (ClosePhase.LowersCount x file) refl)
-          ]
-    ]
+off_found x file = grind arith
 
 off_looked : (x : Closing) (r : Option (Result NodeWord GateError)) →
     IsOffGates (phase_after (map_next Phase.Closes (after_look (ClosePhase.LoadsFile x) (closed_from x) r)))
@@ -94,11 +82,7 @@ role_comes other trace = refl
 
 -- its task has its file open until it has closed it
 found_has : (files : ℕ → Bool) (x : Closing) (file : NodeWord) → files x.file ≡ true → HasFile files (file_of (Some (Phase.Closes (closed_from x file))))
-found_has files x file own =
-    elim (cases_Bool (file.opens == 0)) [
-      | inl z ↦ rw z own
-      | inr z ↦ elim (cases_Bool (file.removed && (file.opens == 1))) [ inl h ↦ rw (z, h) own | inr h ↦ rw (z, h) own ]
-    ]
+found_has files x file own = grind arith
 
 looked_has : (files : ℕ → Bool) (x : Closing) (r : Option (Result NodeWord GateError)) → files x.file ≡ true →
     HasFile files (file_of (phase_after (map_next Phase.Closes (after_look (ClosePhase.LoadsFile x) (closed_from x) r))))

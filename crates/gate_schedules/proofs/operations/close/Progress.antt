@@ -1,6 +1,6 @@
 -- A close runs out, a last one where level 3 is open.
 use Rattle.std.proofs.{Common.{◌≡◌, ℕ, ◌+◌, ◌≤◌, true, false, refl, sym, ◌∙◌, inl, inr, arith, true≢false}, lemmas.Bool.{cases_Bool, ne_eqb, Decides.eqb_tells}}
-use Rattle.std.specs.Prelude.{◌==◌, ◌&&◌, Option, Some, None, Ok, Err}
+use Rattle.std.specs.Prelude.{◌==◌, ◌&&◌, Option, Some}
 use Rattle.access_model.specs.declared.{actions.Kind.Kind, replies.Next.Next}
 use Rattle.cpu_words.specs.{Touches.{left, found_by}, Words.{Words, read, put}}
 use Rattle.node_words.specs.Nodes.{word_of, is_stray, node_of, opens_in, as_any_file}
@@ -24,11 +24,7 @@ module _ (after : Words) where
   from_falls : (x : Closing) (node : NodeWord) → (node.opens == 0) ≡ false →
       (x.wait ≡ true → (node.removed && (node.opens == 1)) ≡ true → after.block 3 ≡ 0) →
       (close_rank (closed_from x node) ≤ 9) × CloseIsFree after (closed_from x node)
-  from_falls x node some free =
-      elim (cases_Bool (node.removed && (node.opens == 1))) [
-        | inl q ↦ rw (some, q) (omega arith, λ e a. free e q)
-        | inr q ↦ rw (some, q) (omega arith, tt)
-      ]
+  from_falls x node some free = grind arith
 
   kind_falls : (x : Closing) (node : NodeWord) → (node.opens == 0) ≡ false →
       (x.wait ≡ true → (node.removed && (node.opens == 1)) ≡ true → after.block 3 ≡ 0) → (kind : Option Kind) →

@@ -1,7 +1,7 @@
 -- Traces of a close: that of its down-read of level 3, where it is a last one, between its own events.
 use Rattle.std.proofs.{Common.{◌≡◌, ℕ, ◌≤◌, Bool, true, false, refl, sym, ap, ◌∙◌, subst, inl, inr, arith}, lemmas.Bool.{eq-eqb, cases_Bool, Decides.eqb_tells}}
 use Rattle.std.proofs.lemmas.Grind.{common_steps}
-use Rattle.std.specs.Prelude.{◌==◌, ◌&&◌, Option, Some, None, Result, Ok, Err, List, [], ◌∷◌, length, is_some}
+use Rattle.std.specs.Prelude.{◌==◌, ◌&&◌, Option, Result, List, [], ◌∷◌, length, is_some}
 use Rattle.access_model.specs.{Replies.map_next, declared.{actions.{Action.Action, Gate.Gate}, errors.GateError.GateError, replies.Next.Next}}
 use Rattle.cpu_words.specs.{Hooks.HookAnswer, Touches.{event_of, found_by}}
 use Rattle.node_words.specs.Nodes.{any_file_in, as_any_file, opens_in, unpacked, word_of}
@@ -12,8 +12,8 @@ use Rattle.compounds.specs.{file_closes.Phases.{closed_from, then_frees}, declar
 use Rattle.gate_world.specs.{Courses.{CloseMayFind, MayFind, MayHold}, Found.found_dropped, Operations.first_close, Traces.{IsShort, most_events}}
 use Rattle.gate_world.specs.{Views.{with_hook, actions_after}, Work.next_of}
 use Rattle.gate_world.specs.declared.{config.Config.Config, operations.Op.Op, views.Traced.Traced, work.Phase.Phase}
-use Rattle.gate_schedules.proofs.{frames.Keeps.OpKeeps, operations.{calls.Trace.made_some, close.{Beginning.close_op_from, Causes.open_is_file}}}
-use Rattle.gate_schedules.proofs.operations.{close.Fits.found_node, readers.Trace.{read_at, events_before, ReadSays, ReadNext, read_event}}
+use Rattle.gate_schedules.proofs.{frames.Keeps.OpKeeps, operations.{calls.Trace.made_some, close.{Beginning.close_op_from}}}
+use Rattle.gate_schedules.proofs.operations.{readers.Trace.{read_at, events_before, ReadSays, ReadNext, read_event}}
 use Rattle.gate_schedules.proofs.traces.Says.{KeptWell, Says, SaysAfter, event_at, tells_well, is_short_well}
 
 -- an event of a down-read isn't on `removed`

@@ -1,13 +1,12 @@
 -- The rank of a phase that fits is small.
-use Rattle.std.proofs.Common.{◌≡◌, ℕ, zero, suc, ◌+◌, ◌*◌, ◌<◌, ◌≤◌, Bool, true, false, refl, sym, ap, ◌∙◌, subst, inl, inr, arith, true≢false}
+use Rattle.std.proofs.Common.{◌≡◌, ℕ, zero, suc, ◌+◌, ◌*◌, ◌<◌, ◌≤◌, Bool, true, false, refl, sym, ap, ◌∙◌, inl, inr, arith}
 use Rattle.std.proofs.{Math.Nat.{suc-mul, zero-mul, le-max_left, le-max_right, max-le}, lemmas.Bool.{cases_lt, Decides.eqb_tells}}
 use Rattle.std.specs.Prelude.{◌-◌, ◌⊎◌, max}
 use Rattle.access_model.specs.declared.actions.Holder.{Holder}
 use Rattle.cpu_words.specs.{Sums.lead, Words.Words, declared.sums.Sum.Sum}
 use Rattle.gated_tree.specs.declared.{changes.{CreateStep.CreateStep, MoveStep.MoveStep, RemoveStep.RemoveStep}, growth.GrowStep.GrowStep}
 use Rattle.gated_tree.specs.declared.{marks.MarkStep.MarkStep, opens.OpenStep.OpenStep, phases.TreePhase.TreePhase, snapshots.SnapshotStep.SnapshotStep}
-use Rattle.mount_counts.specs.declared.{phases.{ChangeStep.ChangeStep, MountPhase.MountPhase, WantStep.WantStep}, remounts.RemountStep.RemountStep}
-use Rattle.percpu_rwsem.specs.SyncWords.{pack}
+use Rattle.mount_counts.specs.declared.{phases.{ChangeStep.ChangeStep, WantStep.WantStep}, remounts.RemountStep.RemountStep}
 use Rattle.percpu_rwsem.specs.declared.{callbacks.CallbackStep.CallbackStep, readers.DownReadStep.DownReadStep, transitions.Transition.Transition}
 use Rattle.percpu_rwsem.specs.declared.writers.{DownWrite.DownWrite, DownWriteStep.DownWriteStep, UpWriteStep.UpWriteStep}
 use Rattle.freeze_levels.specs.declared.{freezes.{Freeze.Freeze, FreezeStep.FreezeStep}, thaws.ThawStep.ThawStep}

@@ -1,5 +1,5 @@
 -- A phase whose way is free runs out: each of its events lowers its rank and leaves its way free, so alone it comes to its reply.
-use Rattle.std.{proofs.{Common.{◌≡◌, ℕ, zero, suc, ◌<◌, ◌≤◌, sym, ap, subst, inl, inr, arith}, lemmas.Bool.lt-ltb}, specs.Prelude.{◌⊎◌, Some, []}}
+use Rattle.std.{proofs.{Common.{◌≡◌, ℕ, zero, suc, ◌<◌, ◌≤◌, ap, inl, inr, arith}, lemmas.Bool.lt-ltb}, specs.Prelude.{◌⊎◌, Some, []}}
 use Rattle.finite_sums.proofs.Totals.{update_at}
 use Rattle.access_model.specs.{Replies.map_next, declared.replies.Next.Next}
 use Rattle.cpu_words.specs.{Hooks.HookAnswer, Touches.left, Words.{Words, read, put}, declared.{events.Touch.Touch, names.WordName.WordName}}
@@ -42,12 +42,7 @@ no_further c (suc n) (suc m) w le h = (
 -- an event of a task after which, whatever the hook answers, it has its reply or a reply is near
 pub near_after : (c : Config) (n : ℕ) (w : World) (t : ℕ) → t < c.tasks → (phase : Phase) → (w.views t).phase ≡ Some phase →
     ((hook : HookAnswer) → HasReply (after_step w t phase hook) t ⊎ ReplyWithin c n (after_step w t phase hook)) → ReplyWithin c (suc n) w
-near_after c n w t lt phase at h = (
-  t,
-  lt,
-  (phase, at),
-  λ hook. subst (λ (next : World). HasReply next t ⊎ ReplyWithin c n next) (sym (happens_is c w t lt hook phase at)) (h hook),
-)
+near_after c n w t lt phase at h = grind arith
 
 -- the same, with another number
 pub near_by : (c : Config) (n m : ℕ) → n < m → (w : World) (t : ℕ) → t < c.tasks → (phase : Phase) → (w.views t).phase ≡ Some phase →

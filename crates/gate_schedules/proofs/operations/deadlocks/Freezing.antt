@@ -24,7 +24,7 @@ use Rattle.freeze_laws.proofs.stages.Facts.{other_zero}
 use Rattle.freeze_laws.specs.stages.Roles.{Freezing, HasPassed, KnowsStage, Place, freezes, owns as stage_owns, under_way}
 use Rattle.std.proofs.Common.{Bool, ap, arith, false, inl, inr, refl, subst, suc, sym, true, true≢false, zero, ℕ, ◌<◌, ◌∙◌, ◌≡◌, ◌≤◌}
 use Rattle.std.proofs.lemmas.Bool.{cases_Bool, cases_lt, ne_eqb, Decides.eqb_tells}
-use Rattle.std.specs.Prelude.{None, Option, Some, if◌then◌else◌, is_some, nat_lt, ◌&&◌, ◌*◌, ◌+◌, ◌-◌, ◌==◌, ◌⊎◌}
+use Rattle.std.specs.Prelude.{None, Option, Some, if◌then◌else◌, is_some, nat_lt, ◌*◌, ◌+◌, ◌-◌, ◌==◌, ◌⊎◌}
 use Rattle.compounds.specs.declared.write_access.phases.WritePhase.{WritePhase}
 
 -- one of the two for each number below a bound: the first for some, or the second for all

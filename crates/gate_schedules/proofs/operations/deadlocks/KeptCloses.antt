@@ -1,12 +1,11 @@
 -- The closing of a level leaves the words that others are kept by, and ends only by passing the level.
 use Rattle.std.{proofs.{Common.{◌≡◌, ℕ, refl, inl, inr}, lemmas.Bool.{cases_Bool, Decides.eqb_tells}}, specs.Prelude.{Option, Some, None}}
 use Rattle.std.proofs.Common.{arith}
-use Rattle.finite_sums.proofs.Totals.{each_updated}
 use Rattle.access_model.specs.declared.{actions.Action.Action, replies.Next.Next}
-use Rattle.cpu_words.specs.{Sums.sum_taking, Words.Words, declared.sums.Taken.Taken}
-use Rattle.percpu_rwsem.specs.{Graces.looked, SyncWords.{unpack, is_passed}}
+use Rattle.cpu_words.specs.{Words.Words, declared.sums.Taken.Taken}
+use Rattle.percpu_rwsem.specs.{SyncWords.{is_passed}}
 use Rattle.percpu_rwsem.specs.Writers.{down_write_next, down_write_after, sections_awaited, passed_awaited, down_write_summed}
-use Rattle.percpu_rwsem.specs.declared.{grace.GraceNext.GraceNext, sync_word.SyncWord.SyncWord, transitions.Transition.Transition}
+use Rattle.percpu_rwsem.specs.declared.{grace.GraceNext.GraceNext, sync_word.SyncWord.SyncWord}
 use Rattle.percpu_rwsem.specs.declared.writers.{DownWrite.DownWrite, DownWriteStep.DownWriteStep}
 use Rattle.gate_schedules.proofs.operations.deadlocks.{Falls.after_event, Leaves.StaysBeside}
 

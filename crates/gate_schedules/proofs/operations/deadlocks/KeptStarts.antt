@@ -1,11 +1,9 @@
 -- A start or a last close that is kept stays so by its own events, which leave the words that others are kept by.
-use Rattle.std.proofs.{Common.{◌≡◌, Bool, true, false, refl, sym, ap, ◌∙◌, arith, true≢false}, lemmas.Bool.ne_eqb}
-use Rattle.std.specs.Prelude.{◌==◌}
+use Rattle.std.proofs.{Common.{◌≡◌, Bool, true, false, refl, sym, ◌∙◌, arith, true≢false}}
 use Rattle.access_model.specs.declared.replies.Next.{Next, TheVariants.{Go, Wait, Done}}
 use Rattle.cpu_words.specs.{Touches.found_by, Words.{Words, read}}
 use Rattle.percpu_rwsem.specs.{Readers.{down_read_next, down_read_after, step_found, left_blocked}, SyncWords.unpack, declared.readers.DownRead.DownRead}
-use Rattle.percpu_rwsem.specs.declared.readers.DownReadStep.{DownReadStep, TheVariants.{EntersSection, LoadsSync, CountsUpFast, CountsUpSlow, LoadsBlock}}
-use Rattle.percpu_rwsem.specs.declared.readers.DownReadStep.TheVariants.{CountsDown, LeavesAdmitted, LeavesBlocked}
+use Rattle.percpu_rwsem.specs.declared.readers.DownReadStep.{DownReadStep, TheVariants.{CountsUpSlow}}
 use Rattle.gate_schedules.specs.operations.Progress.{is_admitted}
 use Rattle.gate_schedules.proofs.operations.deadlocks.Falls.{after_event}
 

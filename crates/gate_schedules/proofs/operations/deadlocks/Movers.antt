@@ -3,31 +3,29 @@
 use Rattle.gate_world.specs.Roles.{snapshot_owns, thaw_owns}
 use Rattle.std.proofs.lemmas.Grind.{common_steps}
 use Rattle.cpu_words.specs.Words.{Words}
-use Rattle.compounds.specs.declared.file_closes.phases.ClosePhase.{ClosePhase}
 use Rattle.finite_sums.proofs.Totals.{total_at, total_none}
 use Rattle.finite_sums.specs.Sums.{total}
 use Rattle.freeze_levels.specs.declared.{freezes.{Freeze.Freeze, FreezeStep.FreezeStep}, thaws.ThawStep.ThawStep}
 use Rattle.cpu_words.proofs.gate_counts.Events.{words_sum}
 use Rattle.cpu_words.specs.gate_counts.{Gates.{BarringHolds, admitted, below, counted, unread}, Levels.{LevelRole, Passed, barring_of, level_as_gate, processor_of}}
-use Rattle.gate_schedules.proofs.{frames.Owners.{hold_owns, owns_le, who_holds}, levels.Worlds.{callback_opens, read_opens}}
+use Rattle.gate_schedules.proofs.{frames.Owners.{hold_owns, owns_le, who_holds}}
 use Rattle.gate_schedules.proofs.operations.deadlocks.{Bounds.{beside_small, is_beside, rank_small}, Falls.runs_out}
 use Rattle.gate_world.specs.{Configs.IsWithin, Fits.{Fits, PhaseFits}, Levels.{at_level, inside, is_frozen_whole, level_role_of, sync_role_of}}
 use Rattle.gate_world.specs.{Operations.{holds_none, holds_none_from}, Remounts.remount_owns, Roles.{Stand, change_owns, count_beside, count_role_if}}
 use Rattle.gate_world.specs.Roles.{down_count_role, freeze_stand, read_count_role, stand_count, stand_sync, thaw_stand}
 use Rattle.gate_world.specs.{Roles.up_count_role, Rules.{AtLevel, AtMount, Fitting, IsGood, LevelHoldsIn, Owner, SyncAt, SyncHoldsIn, owns, role_of}}
 use Rattle.gate_world.specs.{Views.{held_of, holds_level}, Worlds.World, declared.{config.Config.Config, work.Phase.Phase}}
-use Rattle.gated_tree.specs.declared.{phases.TreePhase.TreePhase, snapshots.SnapshotStep.SnapshotStep}
-use Rattle.freeze_laws.specs.levels.{Operations.down_read_inside, Roles.{Out as IsApart, closed}}
-use Rattle.mount_counts.specs.{Phases.has_flag, Roles.has_hold, declared.phases.{ChangeStep.ChangeStep, MountPhase.MountPhase}}
+use Rattle.gated_tree.specs.declared.{snapshots.SnapshotStep.SnapshotStep}
+use Rattle.freeze_laws.specs.levels.{Operations.down_read_inside, Roles.{closed}}
+use Rattle.mount_counts.specs.{Phases.has_flag, Roles.has_hold, declared.phases.{ChangeStep.ChangeStep}}
 use Rattle.mount_counts.specs.declared.remounts.RemountStep.{RemountStep}
 use Rattle.mount_counts.proofs.laws.Bits.{hold_set}
 use Rattle.percpu_rwsem.specs.declared.{readers.DownReadStep.DownReadStep, writers.{DownWriteStep.DownWriteStep, UpWriteStep.UpWriteStep}}
 use Rattle.gate_schedules.specs.operations.{Progress.{EventsKeepRule, ReplyWithin}, Ranks.{most_alone, most_beside}, Ways.{ChangeIsFree, HoldIsClear, IsFree}}
 use Rattle.gate_schedules.specs.operations.Ways.{NothingCounted, PhaseEnds, RemountIsFree, SnapshotIsFree, ThawIsFree}
 use Rattle.std.proofs.Common.{Bool, ap, arith, false, inl, inr, refl, subst, suc, sym, true, true≢false, zero, ℕ, ◌<◌, ◌∙◌, ◌≡◌, ◌≤◌}
-use Rattle.std.proofs.lemmas.Bool.{and_parts, cases_Bool, cases_lt, le-ltb, lt-ltb, ltb-true, ne_eqb, not-true, or_cases}
+use Rattle.std.proofs.lemmas.Bool.{and_parts, cases_Bool, ltb-true, not-true, or_cases}
 use Rattle.std.specs.Prelude.{None, Option, Some, if◌then◌else◌, nat_lt, not, ◌&&◌, ◌-◌, ◌==◌, ◌||◌, ◌⊎◌}
-use Rattle.compounds.specs.declared.write_access.phases.WritePhase.{WritePhase}
 
 change_owner : (w : Words) (wait : Bool) (s : ChangeStep) → change_owns s ≡ 1 → ChangeIsFree w s wait
 change_owner w wait ChangeStep.Locks h = absurd (omega (arith, h))

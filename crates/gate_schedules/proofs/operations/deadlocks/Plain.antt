@@ -11,7 +11,7 @@ use Rattle.gate_schedules.proofs.operations.{Layers.phase_ends, deadlocks.{Mover
 use Rattle.gate_schedules.specs.operations.Progress.{AFreezeIsKept, ChangeIsKept, EventsKeepRule, FreezeIsKept, IsKept, IsKeptAt, KeptIfFreeze, LockIsKept, Progresses}
 use Rattle.gate_schedules.specs.operations.{Progress.{RemountIsKept, ReplyOrFrozen, SnapshotIsKept, ThawIsKept, TreeIsKept}, Ranks.most_events_to_reply}
 use Rattle.freeze_laws.specs.stages.Roles.{bit, closed_by, closes, up_to}
-use Rattle.std.proofs.{Common.{Bool, ap, arith, false, inl, inr, refl, subst, sym, true, ℕ, ◌<◌, ◌∙◌, ◌≡◌, ◌≤◌}, lemmas.Bool.lt-leb}
+use Rattle.std.proofs.{Common.{Bool, ap, arith, false, inl, inr, refl, true, ℕ, ◌<◌, ◌∙◌, ◌≡◌, ◌≤◌}, lemmas.Bool.lt-leb}
 use Rattle.std.specs.Prelude.{None, Option, Some, ◌&&◌, ◌==◌, ◌⊎◌}
 use Rattle.compounds.specs.declared.write_access.phases.WritePhase.{WritePhase}
 

@@ -19,7 +19,7 @@ use Rattle.gate_schedules.specs.operations.Progress.{ReplyWithin, SnapshotIsKept
 use Rattle.gate_schedules.specs.operations.{Ranks.{most_alone, most_settled}, Ways.{ChangeIsFree, IsFree, PhaseEnds, RemountIsFree, SnapshotIsFree, ThawIsFree}}
 use Rattle.freeze_laws.specs.stages.Roles.{KnowsStage, bit}
 use Rattle.std.proofs.{Common.{Bool, ap, arith, false, inl, inr, refl, subst, sym, true, true≢false, ℕ, ◌+◌, ◌<◌, ◌∙◌, ◌≡◌, ◌≤◌}, lemmas.Bool.cases_Bool}
-use Rattle.std.proofs.lemmas.Bool.{cases_lt, le-ltb, ne_eqb, Decides.eqb_tells}
+use Rattle.std.proofs.lemmas.Bool.{cases_lt, le-ltb, Decides.eqb_tells}
 use Rattle.std.specs.Prelude.{None, Option, Some, nat_lt, ◌==◌, ◌⊎◌}
 use Rattle.compounds.specs.declared.write_access.phases.WritePhase.{WritePhase}
 
@@ -80,14 +80,7 @@ first_at p h = absurd (true≢false (sym h))
 
 -- where a freeze at its first lock has a level to pass, the stage is 0 and the superblock writable
 pub first_finds : (w : Words) (i : ℕ) → next_level w FreezeStep.Locks ≤ i → i ≤ 3 → ((w.stage == 0) ≡ true) × ((w.sb == 0) ≡ true)
-first_finds w i low high =
-    elim (cases_Bool (w.stage == 0)) [
-      | inl z ↦ elim (cases_Bool (w.sb == 0)) [
-        | inl b ↦ (z, b)
-        | inr b ↦ let l : 4 ≤ i = rw (z, b) at low in absurd (omega (arith, l, high))
-      ]
-      | inr z ↦ let l : 4 ≤ i = rw z at low in absurd (omega (arith, l, high))
-    ]
+first_finds w i low high = grind arith
 
 abbrev pub or_phase : Phase → Option Phase → Phase
 or_phase other None = other
@@ -227,9 +220,7 @@ module _ (c : Config) (lim : IsWithin c)
 
       -- at stage 1 a freeze at its first lock has no level to pass
       apart_at_one : (v : World) → v.words.stage ≡ 1 → IdleApart c v FreezeStep.Locks
-      apart_at_one v one i low high =
-          let q : (v.words.stage == 0) ≡ false = ne_eqb v.words.stage 0 (λ z. omega (arith, z, one)) in
-          let l : 4 ≤ i = rw q at low in absurd (omega (arith, l, high))
+      apart_at_one v one i low high = grind arith
 
       -- so it has a reply near there
       freeze_waits : (x : Freeze) → x.step ≡ FreezeStep.Locks → Waits t (Phase.Freezes x)

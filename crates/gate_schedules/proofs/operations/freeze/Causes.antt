@@ -1,7 +1,7 @@
 -- The causes of a freeze's refusal and of the sums of its levels, along a schedule.
-use Rattle.std.proofs.Common.{◌≡◌, ℕ, suc, ◌+◌, ◌-◌, ◌%◌, ◌<◌, ◌≤◌, true, false, refl, sym, ap, ◌∙◌, inl, inr, arith, add-one, true≢false}
-use Rattle.std.proofs.lemmas.Bool.{ltb-false, ne_eqb, cases_Bool, Decides.eqb_tells}
-use Rattle.std.specs.Prelude.{nat_lt, Option, Some, None, Ok, Err, List, [], ◌∷◌, ◌==◌, ◌&&◌, ◌||◌, not}
+use Rattle.std.proofs.Common.{◌≡◌, ℕ, suc, ◌+◌, ◌%◌, ◌<◌, ◌≤◌, true, false, refl, sym, ap, ◌∙◌, inl, inr, arith, add-one}
+use Rattle.std.proofs.lemmas.Bool.{cases_Bool, Decides.eqb_tells}
+use Rattle.std.specs.Prelude.{nat_lt, Option, Some, None, Ok, Err, List, [], ◌∷◌, ◌==◌}
 use Rattle.finite_sums.specs.Sums.{total}
 use Rattle.access_model.specs.{Holders.held_by, Replies.map_next, declared.{errors.GateError.GateError, replies.Next.Next}}
 use Rattle.cpu_words.specs.{Hooks.HookAnswer, Sums.{lead, ahead}, Touches.wrap_add, Words.Words, declared.{names.WordName.WordName, sums.Sum.Sum}}
@@ -10,7 +10,7 @@ use Rattle.node_words.specs.Phases.{clear_after}
 use Rattle.node_words.specs.declared.marks.ClearMarks.{ClearMarks}
 use Rattle.percpu_rwsem.specs.{Graces.looked, SyncWords.{unpack, is_passed, on_enter, on_callback}, Transitions.transition_after}
 use Rattle.percpu_rwsem.specs.Writers.{down_write_after, at_down_write, enter_step, callback_step, sections_awaited, passed_awaited, up_write_after}
-use Rattle.percpu_rwsem.specs.declared.{grace.GraceNext.GraceNext, sync_word.{GpState.GpState, SyncWord.SyncWord}, transitions.TransitionNext.TransitionNext}
+use Rattle.percpu_rwsem.specs.declared.{grace.GraceNext.GraceNext, sync_word.{SyncWord.SyncWord}, transitions.TransitionNext.TransitionNext}
 use Rattle.percpu_rwsem.specs.declared.writers.{DownWrite.DownWrite, DownWriteStep.DownWriteStep, UpWrite.UpWrite}
 use Rattle.freeze_levels.specs.{Freezes.{at_freeze, level_closed, after_closing, after_clearing, freeze_fails, after_reopening}, Holders.holders_in}
 use Rattle.freeze_levels.specs.declared.freezes.{Freeze.Freeze, FreezeStep.FreezeStep}
@@ -18,7 +18,7 @@ use Rattle.gate_world.specs.{Causes.{all_inside, was_inside, words_read, moments
 use Rattle.gate_world.specs.{KeptCauses.{DownWriteCause, FreezeCause, CauseOf}, Rules.{IsGood, AtLevel, LevelHoldsIn}, Views.phase_after, Work.after_of}
 use Rattle.gate_world.specs.{Worlds.{words_after, World, found_at}, declared.{config.Config.Config, work.Phase.Phase}}
 use Rattle.gate_schedules.proofs.{frames.{Keeps.IsQuiet, Words.load_same}, operations.freeze.Fits.found_cases}
-use Rattle.gate_schedules.proofs.traces.Moments.{look_skips, look_stands, sum_begins, sum_goes}
+use Rattle.gate_schedules.proofs.traces.Moments.{look_skips, sum_begins, sum_goes}
 
 -- where nothing is counted at a level, a sum that begins leads by 0
 fresh_level : (c : Config) (w : World) → IsGood c w → (i : ℕ) → 1 ≤ i → i ≤ 3 → all_inside c i w ≡ 0 →
@@ -34,11 +34,7 @@ fresh_level c w good i one three none =
 -- nothing was counted at the level in any of these worlds
 none_inside : (c : Config) (i : ℕ) (w : World) (earlier : List World) → was_inside c i (w ∷ earlier) ≡ false →
     (all_inside c i w ≡ 0) × (was_inside c i earlier ≡ false)
-none_inside c i w earlier h =
-    elim (cases_Bool (nat_lt 0 (all_inside c i w))) [
-      | inl a ↦ absurd (true≢false (rw a at h))
-      | inr a ↦ (omega (arith, ltb-false 0 (all_inside c i w) a), rw a at h)
-    ]
+none_inside c i w earlier h = grind arith
 
 module _ (c : Config) (t i : ℕ) where
   -- in this world and the earlier ones
@@ -134,11 +130,7 @@ module _ (c : Config) (t : ℕ) (w next : World) (earlier : List World) (after :
       CauseOf c t next (w ∷ earlier) (phase_after (map_next Phase.Freezes n))
 
   closed_own : (level : ℕ) → Own (Next.Go (at_freeze x (level_closed level x.nodes)))
-  closed_own level e =
-      elim (cases_Bool (level == 1)) [
-        | inl h ↦ rw h tt
-        | inr h ↦ elim (cases_Bool (level == 2)) [ inl k ↦ rw (h, k) tt | inr k ↦ rw (h, k) tt ]
-      ]
+  closed_own level e = grind arith
 
   fails_own : (level code : ℕ) → Own (Next.Go (at_freeze x (freeze_fails level code)))
   fails_own level code e = elim (cases_Bool (level == 0)) [ inl h ↦ rw h (λ r. absurd (cc)) | inr h ↦ rw h tt ]
@@ -208,16 +200,11 @@ module _ (c : Config) (t : ℕ) (w next : World) (earlier : List World) (after :
   -- where a freeze was found under way, it was so when the freeze looked
   stage_own : (w.views t).phase ≡ Some (Phase.Freezes (at_freeze x FreezeStep.LoadsStage)) → (w.words.stage ≡ 0 → ⊥) → (w.words.stage ≡ 4 → ⊥) →
       Own (Next.Go (at_freeze x (FreezeStep.Releases (Err GateError.Busy))))
-  stage_own e started unfinished e' r =
-      ap (was_busy c x.holder) (look_skips t next (w ∷ earlier) (ap looks_at_stage e') ∙ look_stands t w earlier (ap looks_at_stage e)) ∙
-      (λ j. not (ne_eqb w.words.stage 0 started j) &&
-      (not (ne_eqb w.words.stage 4 unfinished j) || held_by (holders_in w.words.holders) x.holder))
+  stage_own e started unfinished e' r = grind arith
 
   holder_own : (w.views t).phase ≡ Some (Phase.Freezes (at_freeze x FreezeStep.LoadsHolders)) → w.words.stage ≡ 4 →
       held_by (holders_in w.words.holders) x.holder ≡ true → Own (Next.Go (at_freeze x (FreezeStep.Releases (Err GateError.Busy))))
-  holder_own e four own e' r =
-      ap (was_busy c x.holder) (look_skips t next (w ∷ earlier) (ap looks_at_stage e') ∙ look_stands t w earlier (ap looks_at_stage e)) ∙
-      (λ j. not (four j == 0) && (not (four j == 4) || own j))
+  holder_own e four own e' r = grind arith
 
   -- what comes after an event has its cause
   pub freeze_own : (hook : HookAnswer) (s : FreezeStep) → FreezeFits c x.holder s → (s ≡ FreezeStep.LoadsHolders → w.words.stage ≡ 4) →

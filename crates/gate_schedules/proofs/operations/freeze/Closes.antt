@@ -21,17 +21,17 @@ use Rattle.node_words.proofs.ClearedMarks.{directory_clean}
 use Rattle.node_words.specs.Nodes.{IsNode}
 use Rattle.gated_tree.specs.Roles.{Clearing, Out as OffTree}
 use Rattle.freeze_levels.specs.holder_laws.Roles.{Apart}
-use Rattle.percpu_rwsem.specs.{Graces.looked, SyncWords.{is_passed, on_callback, on_enter, unpack}, Transitions.transition_after, Writers.at_down_write}
+use Rattle.percpu_rwsem.specs.{Graces.looked, SyncWords.{on_callback, on_enter, unpack}, Transitions.transition_after, Writers.at_down_write}
 use Rattle.percpu_rwsem.specs.Writers.{callback_step, down_write_after, down_write_next, down_write_summed, enter_step, passed_awaited, sections_awaited}
-use Rattle.percpu_rwsem.specs.{Writers.sum_begun, declared.{grace.GraceNext.GraceNext, sync_word.{GpState.GpState, SyncWord.SyncWord}}}
+use Rattle.percpu_rwsem.specs.{Writers.sum_begun, declared.{grace.GraceNext.GraceNext, sync_word.{SyncWord.SyncWord}}}
 use Rattle.percpu_rwsem.specs.declared.{transitions.{Transition.Transition, TransitionNext.TransitionNext}, writers.DownWrite.DownWrite}
 use Rattle.percpu_rwsem.specs.declared.writers.DownWriteStep.{DownWriteStep}
 use Rattle.freeze_laws.proofs.stages.Facts.{at_level}
 use Rattle.freeze_laws.specs.stages.{Events.{Happens, Passes, SetsBlock as SetsBlockStage, StageEvent, Stays, action_of as stage_action_of, playing}, Roles.Before}
 use Rattle.freeze_laws.specs.stages.{Roles.{CleanBelow, Closing, Freezing, HasPassed, Place, bit, has_position, owns as stage_owns}, Shown.state_after}
 use Rattle.std.proofs.Common.{Bool, ap, arith, false, inl, inr, nat_lt, refl, subst, sym, true, true≢false, ℕ, ◌<◌, ◌∙◌, ◌≡◌, ◌≤◌, ◌⊎◌}
-use Rattle.std.proofs.lemmas.Bool.{cases_Bool, eq-eqb, Decides.eqb_tells}
-use Rattle.std.specs.Prelude.{None, Ok, Option, Some, if◌then◌else◌, ◌==◌}
+use Rattle.std.proofs.lemmas.Bool.{cases_Bool, eq-eqb}
+use Rattle.std.specs.Prelude.{Ok, Option, Some, if◌then◌else◌, ◌==◌}
 
 -- once level 2 is passed the clearing of marks begins at node 1
 abbrev clean_from : ℕ → ℕ
@@ -72,20 +72,12 @@ closed_role x level = at_level
 -- a clearing of marks begins once level 2 is closed
 closed_tree : (nodes level : ℕ) → (freeze_tree_role nodes (level_closed level nodes) ≡ OffTree) ⊎
     (freeze_tree_role nodes (level_closed level nodes) ≡ Clearing 1)
-closed_tree nodes level =
-    elim (eqb_tells level 1) [
-      | inl q ↦ rw q.0 (inl refl)
-      | inr q ↦ elim (eqb_tells level 2) [ inl p ↦ rw (q.0, p.0) (inr refl) | inr p ↦ rw (q.0, p.0) (inl refl) ]
-    ]
+closed_tree nodes level = grind arith
 
 -- how it stands with the levels then
 closed_stands : (x : Freeze) (level : ℕ) → 1 ≤ level → level ≤ 3 →
     Stands (Some (Phase.Freezes (at_freeze x (level_closed level x.nodes)))) (Some (closed_to level))
-closed_stands x level = at_level (λ i. Stands (Some (Phase.Freezes (at_freeze x (level_closed i x.nodes)))) (Some (closed_to i))) (
-  freeze_stands (at_freeze x (level_closed 1 x.nodes)),
-  freeze_stands (at_freeze x (level_closed 2 x.nodes)),
-  freeze_stands (at_freeze x (level_closed 3 x.nodes)),
-) level
+closed_stands x level = grind arith
 
 -- `block` is set where the swap found it clear
 swapped_role : (x : Freeze) (d : DownWrite) (b : Bool) → b ≡ true →
@@ -100,11 +92,7 @@ sum_kind d (Taken.More sum) = Stays
 sum_kind d (Taken.Total total) = if total == 0 then Passes d.level (clean_from d.level) (nat_lt 1 d.level) else Stays
 
 closed_apart : (level nodes : ℕ) → freeze_holder_role (level_closed level nodes) ≡ Apart
-closed_apart level nodes =
-    elim (eqb_tells level 1) [
-      | inl h ↦ rw h.0 refl
-      | inr h ↦ elim (eqb_tells level 2) [ inl k ↦ rw (h.0, k.0) refl | inr k ↦ rw (h.0, k.0) refl ]
-    ]
+closed_apart level nodes = grind arith
 
 module _ (c : Config) (lim : IsWithin c) (w : World) (good : IsGood c w) (t : ℕ) (lt : t < c.tasks) (x : Freeze) (hook : HookAnswer) where
   root_clean : (level : ℕ) → 1 ≤ level → level ≤ 3 → CleanBelow (clean_from level) (marks_of w.words)
@@ -199,10 +187,7 @@ module _ (c : Config) (lim : IsWithin c) (w : World) (good : IsGood c w) (t : �
 
     -- what it does at the tree: nothing, or it begins to clear marks
     tree_role_then : (tree_role_of view_then.trace view_then.phase ≡ OffTree) ⊎ (tree_role_of view_then.trace view_then.phase ≡ Clearing 1)
-    tree_role_then =
-        down_write_comes d (λ n. let p : Option Phase = phase_after (map_next Phase.Freezes (after_closing x d.level n)) in
-        (tree_role_of view_then.trace p ≡ OffTree) ⊎ (tree_role_of view_then.trace p ≡ Clearing 1))
-        (λ s. inl refl) (λ s. inl refl) (closed_tree x.nodes d.level) d.step found_here
+    tree_role_then = grind arith
 
     -- what is left of the tree
     tree_left : Holds c (left_world w t words_then view_then) Tree

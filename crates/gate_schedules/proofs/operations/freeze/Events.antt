@@ -7,13 +7,12 @@ use Rattle.gate_schedules.proofs.operations.freeze.Stages.{here_stands, here_tre
 use Rattle.gate_schedules.proofs.operations.freeze.Stages.{locks_again, releases, sets_complete, sets_fs, sets_page_fault, sets_write, unlocks, view_at}
 use Rattle.gate_schedules.proofs.{operations.thaw.Events.thaw_keeps, trees.worlds.Trees.{nobody_reads, tree_after}, writers.Owner.owner_stays}
 use Rattle.gate_schedules.proofs.writers.Parts.{AsksWhere, IsWriter, LeavesRest, SameAtMounts, WriterLaw, freeze_work, freezes_write, whole_writer, writer_law}
-use Rattle.gate_schedules.proofs.writers.Words.{up_write_comes}
-use Rattle.access_model.specs.{Actions.marked, Replies.map_next, States.IsFile, declared.{actions.Action.Action, errors.GateError.GateError}}
+use Rattle.access_model.specs.{Actions.marked, Replies.map_next, States.IsFile, declared.{actions.Action.Action}}
 use Rattle.access_model.specs.declared.replies.Next.{Next}
 use Rattle.cpu_words.specs.{Hooks.HookAnswer, Touches.found_by, Words.{Words, read}, declared.{events.Touch.Touch, names.WordName.WordName}}
 use Rattle.finite_sums.proofs.Totals.{each_updated, update_map, update_same}
 use Rattle.finite_sums.specs.Sums.{update}
-use Rattle.freeze_levels.specs.{Freezes.{after_reopening, at_freeze, freeze_fails}, Levels.reopening, Thaws.{after_opening, thaw_opens}}
+use Rattle.freeze_levels.specs.{Freezes.{after_reopening, at_freeze, freeze_fails}, Thaws.{after_opening, thaw_opens}}
 use Rattle.freeze_levels.specs.declared.{freezes.{Freeze.Freeze, FreezeStep.FreezeStep}, thaws.{Thaw.Thaw, ThawStep.ThawStep}}
 use Rattle.gate_world.specs.{Alike.{IsAlike, rephased}, Configs.{IsWithin, model_limits}, Fits.FreezeFits, Holdings.Holdings, Roles.closed_to}
 use Rattle.gate_world.specs.{Roles.{freeze_holder_role, freeze_stage_role, freeze_stand, freeze_tree_role}, Rules.{Holds, IsGood, StepKeeps, Tree, ViewFits}}
@@ -26,26 +25,20 @@ use Rattle.gated_tree.specs.Roles.{Clearing, TreeState}
 use Rattle.freeze_levels.specs.holder_laws.Roles.{Apart}
 use Rattle.percpu_rwsem.specs.{Writers.{up_write_after, up_write_next}, declared.writers.UpWrite.UpWrite}
 use Rattle.freeze_laws.specs.stages.{Events.{ClearsMark as ClearsMarkStage, cleaned}, Roles.{Freezing, HasPassed, owns as stage_owns}, Shown.state_after}
-use Rattle.std.proofs.{Common.{ap, arith, false, inl, inr, nat_lt, refl, subst, suc, sym, true, ℕ, ◌+◌, ◌-◌, ◌<◌, ◌∙◌, ◌≡◌}, lemmas.Bool.cases_Bool}
+use Rattle.std.proofs.{Common.{ap, arith, false, inl, inr, nat_lt, refl, subst, suc, sym, true, ℕ, ◌+◌, ◌<◌, ◌∙◌, ◌≡◌}, lemmas.Bool.cases_Bool}
 use Rattle.std.proofs.lemmas.Bool.{ltb-false, ltb-true, Decides.eqb_tells}
-use Rattle.std.specs.Prelude.{Err, None, Option, Some, option_map, ◌==◌}
+use Rattle.std.specs.Prelude.{None, Option, Some, option_map, ◌==◌}
 use Rattle.gate_schedules.specs.trees.Events.{Clears, Event, Passes, with_node}
 
 -- how a freeze that failed stands with the levels that are still to be reopened
 fails_stands : (x : Freeze) (level code : ℕ) → Stands (Some (Phase.Freezes (at_freeze x (freeze_fails level code)))) (still_closed level)
-fails_stands x level code =
-    elim (eqb_tells level 0) [
-      | inl q ↦ rw q.0 (freeze_stands (at_freeze x (FreezeStep.Releases (Err (GateError.Hook code)))))
-      | inr q ↦ rw q.0 (freeze_stands (at_freeze x (FreezeStep.Reopens (reopening level) code)))
-    ]
+fails_stands x level code = grind arith
 
 -- and after each event of a reopening
 pub stands_then : (x : Freeze) (u : UpWrite) (code found : ℕ) →
     let n : Next UpWrite = (up_write_after u u.step found).0 in
     Stands (phase_after (map_next Phase.Freezes (after_reopening x u.level code n))) (stand_after_opening u.level n)
-stands_then x u code found =
-    up_write_comes u (λ n. Stands (phase_after (map_next Phase.Freezes (after_reopening x u.level code n))) (stand_after_opening u.level n))
-    (λ s. freeze_stands (at_freeze x (FreezeStep.Reopens (record u { step = s }) code))) (fails_stands x (u.level - 1) code) u.step found
+stands_then x u code found = grind arith
 
 -- Where a freeze failed, its levels are reopened as by a thaw: a thaw at this step stands with all parts of the rule as the freeze does.
 abbrev as_thaw : Freeze → ThawStep → Thaw

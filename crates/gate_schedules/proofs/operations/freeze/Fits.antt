@@ -1,19 +1,18 @@
 -- What fits after an event of a freeze, of the closing of a level and of its reopening.
-use Rattle.std.proofs.Common.{◌≡◌, ℕ, ◌+◌, ◌-◌, ◌%◌, ◌<◌, ◌≤◌, Bool, true, false, refl, sym, subst, inl, inr, arith}
-use Rattle.std.proofs.lemmas.Bool.{cases_Bool, ltb-true, Decides.eqb_tells}
-use Rattle.std.specs.Prelude.{◌==◌, ◌&&◌, nat_lt, if◌then◌else◌, Option, Some, None, Ok, Err}
+use Rattle.std.proofs.Common.{◌≡◌, ℕ, ◌<◌, ◌≤◌, Bool, true, false, refl, sym, subst, inl, inr, arith}
+use Rattle.std.proofs.lemmas.Bool.{cases_Bool, Decides.eqb_tells}
+use Rattle.std.specs.Prelude.{◌==◌, if◌then◌else◌, Option, Some, None, Ok, Err}
 use Rattle.access_model.specs.{Holders.{nobody, held_by}, Replies.map_next}
 use Rattle.access_model.specs.declared.{actions.{Action.Action, Holder.Holder, Holders.Holders}, errors.GateError.GateError, replies.{Next.Next, Reply.Reply}}
-use Rattle.cpu_words.specs.{Hooks.HookAnswer, Names.IsWord, Sums.sum_taking, Touches.wrap_add, declared.sums.Sum.Sum}
-use Rattle.node_words.specs.Nodes.{dirty_in}
+use Rattle.cpu_words.specs.{Hooks.HookAnswer, Names.IsWord, Sums.sum_taking, declared.sums.Sum.Sum}
 use Rattle.node_words.specs.Phases.{clear_after}
 use Rattle.node_words.specs.declared.marks.ClearMarks.{ClearMarks}
-use Rattle.percpu_rwsem.specs.{Graces.{is_first, passed_on, looked}, SyncWords.{unpack, is_passed, on_enter, on_exit, on_callback}}
+use Rattle.percpu_rwsem.specs.{Graces.{passed_on, looked}, SyncWords.{unpack, on_enter, on_exit, on_callback}}
 use Rattle.percpu_rwsem.specs.Transitions.{transition_after}
 use Rattle.percpu_rwsem.specs.Writers.{down_write_next, down_write_after, at_down_write, enter_step, callback_step, sections_awaited, passed_awaited, sum_begun}
 use Rattle.percpu_rwsem.specs.Writers.{down_write_summed, up_write_next, up_write_after, exit_made}
 use Rattle.percpu_rwsem.specs.declared.{grace.Grace.Grace, sync_word.{GpState.GpState, SyncWord.SyncWord}}
-use Rattle.percpu_rwsem.specs.declared.transitions.{Transition.Transition, TransitionNext.TransitionNext}
+use Rattle.percpu_rwsem.specs.declared.transitions.{TransitionNext.TransitionNext}
 use Rattle.percpu_rwsem.specs.declared.writers.{DownWrite.DownWrite, DownWriteStep.DownWriteStep, UpWrite.UpWrite, UpWriteStep.UpWriteStep}
 use Rattle.freeze_levels.specs.Freezes.{found_holders, freeze_next, freeze_after, at_freeze, freeze_locked, freeze_closes, level_closed, after_closing}
 use Rattle.freeze_levels.specs.Freezes.{after_clearing, freeze_fails, after_reopening}
@@ -54,11 +53,7 @@ if_moves true a h held = h held
 if_moves false a h held = (tt, refl)
 
 summed_moves : (d : DownWrite) (sum : Sum) (found : ℕ) → MovesNone (down_write_summed d (sum_taking sum found d.processors)).1
-summed_moves d sum found held =
-    elim (cases_Bool (nat_lt (sum.words + 1) d.processors)) [
-      | inl h ↦ rw h (tt, refl)
-      | inr h ↦ rw h (if_moves (wrap_add sum.total found == 0) (Action.Pass d.level) (λ f. (tt, refl)) held)
-    ]
+summed_moves d sum found held = grind arith
 
 down_write_moves : (d : DownWrite) (s : DownWriteStep) (found : ℕ) → MovesNone (down_write_after d s found).1
 down_write_moves d (DownWriteStep.Sums sum) found held = summed_moves d sum found held
@@ -94,32 +89,16 @@ module _ (c : Config) (within : IsWithin c) where
     Goes n = HoldsOfNext (DownWriteFits c) n
 
     passed_goes : (g : Grace) → g.tasks ≡ c.tasks → Goes (sections_awaited d (passed_on g))
-    passed_goes g all =
-        elim (cases_Bool (nat_lt (g.task + 1) g.tasks)) [
-          | inl h ↦ rw h (l1, l3, same, processors, (all, omega (arith, all, ltb-true (g.task + 1) g.tasks h)), tt)
-          | inr h ↦ rw h (l1, l3, same, processors, tt, tt)
-        ]
+    passed_goes g all = grind arith
 
     looked_goes : (g : Grace) (found : ℕ) → g.tasks ≡ c.tasks → g.task < c.tasks → Goes (sections_awaited d (looked g found))
-    looked_goes g found all more =
-        elim (cases_Bool ((found % 2 == 1) && is_first g.first found)) [
-          | inl h ↦ rw h (l1, l3, same, processors, (all, more), tt)
-          | inr h ↦ rw h (passed_goes g all)
-        ]
+    looked_goes g found all more = grind arith
 
     passed_found_goes : (o : Option SyncWord) → Goes (passed_awaited d o)
     passed_found_goes a0 = grind arith
 
     summed_goes : (sum : Sum) (found : ℕ) → Goes (down_write_summed d (sum_taking sum found d.processors)).0
-    summed_goes sum found =
-        elim (cases_Bool (nat_lt (sum.words + 1) d.processors)) [
-          | inl h ↦
-              rw h (l1, l3, same, processors, omega (arith, ltb-true (sum.words + 1) d.processors h, processors), tt)
-          | inr h ↦ elim (cases_Bool (wrap_add sum.total found == 0)) [
-            | inl z ↦ rw (h, z) tt
-            | inr z ↦ rw (h, z) (l1, l3, same, processors, within.some_processor, tt)
-          ]
-        ]
+    summed_goes sum found = grind arith
 
     down_write_goes : (s : DownWriteStep) (found : ℕ) → DownWriteStepFits c s → KnowsDownWrite s → Goes (down_write_after d s found).0
     down_write_goes (DownWriteStep.Enters transition) found f k =
@@ -163,14 +142,7 @@ module _ (c : Config) (within : IsWithin c) where
   closes_fits x level all processors l1 l3 = (l1, l3, all, processors, tt, tt)
 
   closed_fits : (holder : Holder) (level nodes : ℕ) → nodes ≡ c.nodes → FreezeFits c holder (level_closed level nodes)
-  closed_fits holder level nodes same =
-      elim (cases_Bool (level == 1)) [
-        | inl h ↦ rw h tt
-        | inr h ↦ elim (cases_Bool (level == 2)) [
-          | inl k ↦ rw (h, k) (same, omega arith, within.some_node)
-          | inr k ↦ rw (h, k) tt
-        ]
-      ]
+  closed_fits holder level nodes same = grind arith
 
   -- the levels that are still to be reopened
   fails_fits : (holder : Holder) (level code : ℕ) → level ≤ 3 → FreezeFits c holder (freeze_fails level code)
@@ -194,12 +166,7 @@ module _ (c : Config) (within : IsWithin c) where
     reopening_fits level code l3 a3 h = grind arith
 
     clearing_fits : (marks : ClearMarks) (found : ℕ) → marks.nodes ≡ c.nodes → NextFits (after_clearing x (clear_after marks found).0)
-    clearing_fits marks found same =
-        elim (cases_Bool (nat_lt (marks.node + 1) marks.nodes)) [
-          | inl h ↦ rw h (goes_to (FreezeStep.Cleans (record marks { node = marks.node + 1 }))
-              (same, omega arith, omega (arith, same, ltb-true (marks.node + 1) marks.nodes h)))
-          | inr h ↦ rw h (goes_to FreezeStep.SetsFs tt)
-        ]
+    clearing_fits marks found same = grind arith
 
     -- where the lock is tried for
     locked_fits : (again s : FreezeStep) (found : ℕ) → FreezeFits c x.holder again → FreezeFits c x.holder s → NextFits (freeze_locked x again found s)

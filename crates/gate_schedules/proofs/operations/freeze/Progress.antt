@@ -1,22 +1,21 @@
 -- A freeze runs out where it finds `umount` free at its locks, nobody inside a section, and nothing counted at the levels that it has to pass.
 use Rattle.access_model.specs.{Holders.held_by, declared.replies.Next.Next}
-use Rattle.cpu_words.specs.{Hooks.HookAnswer, Touches.found_by, Words.{Words, read}, declared.names.WordName.WordName}
-use Rattle.finite_sums.proofs.Totals.{update_same}
+use Rattle.cpu_words.specs.{Hooks.HookAnswer, Touches.found_by, Words.{Words, read}}
 use Rattle.finite_sums.specs.Sums.{total}
 use Rattle.freeze_levels.specs.{Freezes.{after_clearing, after_closing, after_reopening, freeze_after, freeze_next}, Holders.holders_in}
 use Rattle.freeze_levels.specs.declared.freezes.{Freeze.Freeze, FreezeStep.FreezeStep}
-use Rattle.gate_schedules.proofs.{frames.Words.load_same, operations.{calls.Progress.clear_falls, deadlocks.Falls.{after_event, falls_as}}}
+use Rattle.gate_schedules.proofs.{operations.{calls.Progress.clear_falls, deadlocks.Falls.{after_event, falls_as}}}
 use Rattle.gate_schedules.proofs.writers.Progress.{DownFalls, down_falls, up_falls}
 use Rattle.gate_world.specs.{Fits.{Fits, FreezeFits, PhaseFits}, Levels.sync_role_of, Roles.{freeze_stand, stand_sync, sync_beside}, Rules.{Fitting, IsGood}}
 use Rattle.gate_world.specs.{Views.held_of, Worlds.{World, found_at, words_after}, declared.{config.Config.Config, work.Phase.Phase}}
 use Rattle.node_words.specs.Phases.{clear_after, clear_next}
 use Rattle.node_words.specs.declared.marks.ClearMarks.{ClearMarks}
 use Rattle.freeze_laws.specs.levels.Operations.{down_write_role, up_write_role}
-use Rattle.percpu_rwsem.specs.{Writers.{down_write_after, down_write_next, up_write_after, up_write_next}, declared.transitions.Transition.Transition}
+use Rattle.percpu_rwsem.specs.{Writers.{down_write_after, down_write_next, up_write_after, up_write_next}}
 use Rattle.percpu_rwsem.specs.declared.writers.{DownWrite.DownWrite, DownWriteStep.DownWriteStep, UpWrite.UpWrite, UpWriteStep.UpWriteStep}
 use Rattle.gate_schedules.specs.operations.Ranks.{closed_rank, closing_rank, down_rank, freeze_rank, rank, reopens_rank, up_rank}
 use Rattle.gate_schedules.specs.operations.Ways.{Falls, FreezeIsFree, IsFree, LevelsAreFree, NobodyInside, NothingCounted, PhaseEnds}
-use Rattle.std.proofs.{Common.{ap, arith, inl, inr, refl, subst, sym, ℕ, ◌+◌, ◌<◌, ◌∙◌, ◌≡◌, ◌≤◌}, lemmas.Bool.{cases_Bool, eq-eqb, Decides.eqb_tells}}
+use Rattle.std.proofs.{Common.{ap, arith, inl, inr, refl, subst, ℕ, ◌+◌, ◌<◌, ◌∙◌, ◌≡◌, ◌≤◌}, lemmas.Bool.{cases_Bool, eq-eqb, Decides.eqb_tells}}
 use Rattle.std.specs.Prelude.{Err, Ok, nat_lt, ◌%◌, ◌*◌, ◌-◌}
 
 module _ (w : Words) (d : DownWrite) where

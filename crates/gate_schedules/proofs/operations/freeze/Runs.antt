@@ -26,17 +26,13 @@ cleared_stands x marks None = freeze_stands (at_freeze x FreezeStep.SetsFs)
 locked_stands : (x : Freeze) (again step : FreezeStep) (found : ℕ) (stand : Option Stand) →
     Stands (Some (Phase.Freezes (at_freeze x again))) stand → Stands (Some (Phase.Freezes (at_freeze x step))) stand →
     Stands (phase_after (map_next Phase.Freezes (freeze_locked x again found step))) stand
-locked_stands x again step found stand vain won =
-    by_bool (found == 0)
-    (λ b. Stands (phase_after (map_next Phase.Freezes (if b then Next.Go (at_freeze x step) else Next.Wait (at_freeze x again)))) stand) won vain
+locked_stands x again step found stand vain won = grind arith
 
 -- so does a load, of which two steps may come
 found_stands : (x : Freeze) (some other : FreezeStep) (found : ℕ) (stand : Option Stand) →
     Stands (Some (Phase.Freezes (at_freeze x some))) stand → Stands (Some (Phase.Freezes (at_freeze x other))) stand →
     Stands (phase_after (map_next Phase.Freezes (if found == 0 then Next.Go (at_freeze x some) else Next.Go (at_freeze x other)))) stand
-found_stands x some other found stand first second =
-    by_bool (found == 0)
-    (λ b. Stands (phase_after (map_next Phase.Freezes (if b then Next.Go (at_freeze x some) else Next.Go (at_freeze x other)))) stand) first second
+found_stands x some other found stand first second = grind arith
 
 module _ (c : Config) (lim : IsWithin c) (w : World) (good : IsGood c w) (t : ℕ) (lt : t < c.tasks) (x : Freeze) where
   -- the event of this step is one of each level

@@ -4,10 +4,10 @@ use Rattle.std.proofs.lemmas.Bool.{ltb-true, ltb-false, cases_Bool, Decides.eqb_
 use Rattle.std.specs.Prelude.{◌==◌, nat_lt, Option, Some, None, List, ◌∷◌}
 use Rattle.access_model.specs.declared.{actions.Action.Action, replies.Next.Next}
 use Rattle.cpu_words.specs.{Hooks.HookAnswer, Touches.{wrap_add, event_of, found_by}, declared.sums.Sum.Sum}
-use Rattle.percpu_rwsem.specs.{Graces.{is_first, passed_on}, SyncWords.{unpack, is_passed, on_enter, on_callback}, Transitions.transition_after}
+use Rattle.percpu_rwsem.specs.{Graces.{is_first, passed_on}, SyncWords.{unpack, on_enter, on_callback}, Transitions.transition_after}
 use Rattle.percpu_rwsem.specs.Writers.{down_write_next, down_write_after, entered_from, enter_step, callback_step, sections_awaited, passed_awaited, sum_begun}
 use Rattle.percpu_rwsem.specs.declared.{grace.Grace.Grace, sync_word.{GpState.GpState, SyncWord.SyncWord}}
-use Rattle.percpu_rwsem.specs.declared.transitions.{Transition.Transition, TransitionNext.TransitionNext}
+use Rattle.percpu_rwsem.specs.declared.transitions.{TransitionNext.TransitionNext}
 use Rattle.percpu_rwsem.specs.declared.writers.{DownWrite.DownWrite, DownWriteStep.DownWriteStep}
 use Rattle.gate_world.specs.Configs.{IsWithin}
 use Rattle.gate_world.specs.Found.{found_sealed, found_complete, stored_stage, cleans, newest, finds_readers, IsLevelSum, sum_of_newest, FoundInside}
@@ -76,11 +76,7 @@ module _ (c : Config) (lim : IsWithin c) (i value : ℕ) (hook : HookAnswer) (ea
   -- a task is passed
   passed_goes : (trace : List Traced) (g : Grace) →
       ClosingNext c i trace (sections_awaited (closing_at c i (DownWriteStep.AwaitsSections g)) (passed_on g)) None
-  passed_goes trace g =
-      elim (cases_Bool (nat_lt (g.task + 1) g.tasks)) [
-        | inl f ↦ rw f ((DownWriteStep.AwaitsSections (record { tasks = g.tasks; task = g.task + 1; first = None }), refl, tt), refl)
-        | inr f ↦ rw f ((DownWriteStep.CallsBack Transition.Loads, refl, tt), refl)
-      ]
+  passed_goes trace g = grind arith
 
   -- a task is passed, or it is still inside its section
   looks_at_section : (g : Grace) → AfterClosing (DownWriteStep.AwaitsSections g)
@@ -106,11 +102,7 @@ module _ (c : Config) (lim : IsWithin c) (i value : ℕ) (hook : HookAnswer) (ea
   sum_begins trace = (sum_begun, refl, (lim.some_processor, tt, refl))
 
   sets_block : AfterClosing DownWriteStep.SetsBlock
-  sets_block =
-      elim (cases_Bool (value == 0)) [
-        | inl f ↦ rw f (sum_begins (closing_trace DownWriteStep.SetsBlock), refl)
-        | inr f ↦ rw f ((DownWriteStep.SetsBlock, refl, tt), refl, inl (rw f refl))
-      ]
+  sets_block = grind arith
 
   sums_on : (sum : Sum) → ClosingSays c i (DownWriteStep.Sums sum) earlier → AfterClosing (DownWriteStep.Sums sum)
   sums_on sum h =

@@ -1,7 +1,7 @@
 -- Traces of a freeze of the superblock.
-use Rattle.std.proofs.Common.{◌≡◌, ℕ, zero, suc, ◌+◌, ◌-◌, Bool, true, false, refl, sym, ap, ◌∙◌, subst, inl, inr, arith}
+use Rattle.std.proofs.Common.{◌≡◌, ℕ, zero, suc, ◌-◌, Bool, true, false, refl, sym, ap, ◌∙◌, subst, inl, inr, arith}
 use Rattle.std.proofs.lemmas.{Bool.{eq-eqb, ne_eqb, cases_Bool, Decides.eqb_tells}, Nat.Bits.and_pow}
-use Rattle.std.specs.Prelude.{◌==◌, ◌||◌, nat_lt, if◌then◌else◌, Option, Result, Ok, Err, List, [], ◌∷◌, ◌++◌, bit_and}
+use Rattle.std.specs.Prelude.{◌==◌, ◌||◌, if◌then◌else◌, Option, Result, Ok, Err, List, [], ◌∷◌, ◌++◌, bit_and}
 use Rattle.access_model.specs.{Holders.nobody, Replies.map_next}
 use Rattle.access_model.specs.declared.{actions.{Action.Action, Holder.Holder}, errors.GateError.GateError, replies.{Next.Next, Reply.Reply}}
 use Rattle.cpu_words.specs.{Hooks.HookAnswer, Touches.{event_of, found_by}, declared.{events.Touch.Touch, names.WordName.WordName}}
@@ -12,13 +12,12 @@ use Rattle.mount_counts.specs.Phases.{has_flag}
 use Rattle.percpu_rwsem.specs.{SyncWords.on_exit, Transitions.{transition_next, transition_after}, Writers.{down_write_after, exit_made}}
 use Rattle.percpu_rwsem.specs.declared.transitions.{Transition.Transition, TransitionNext.TransitionNext}
 use Rattle.percpu_rwsem.specs.declared.writers.{DownWrite.DownWrite, DownWriteStep.DownWriteStep, UpWrite.UpWrite, UpWriteStep.UpWriteStep}
-use Rattle.freeze_levels.specs.{Freezes.{after_closing, after_clearing, after_reopening, freeze_fails, level_closed}, Holders.holders_in}
+use Rattle.freeze_levels.specs.{Freezes.{after_closing, after_clearing, after_reopening, freeze_fails, level_closed}}
 use Rattle.freeze_levels.specs.declared.freezes.{Freeze.Freeze, FreezeStep.FreezeStep}
 use Rattle.gate_world.specs.{Operations.{two_levels_closed, all_levels_closed}, Configs.IsWithin, Courses.{IsTrace, course_of}}
-use Rattle.gate_world.specs.Found.{found_sealed, found_complete, found_held, stored_stage, cleans, ReadAnswer}
+use Rattle.gate_world.specs.Found.{found_sealed, found_complete, stored_stage, cleans, ReadAnswer}
 use Rattle.gate_world.specs.{Traces.{actions_of, IsHonestAnswer, Tells, IsShort, most_events}, Views.{actions_after, with_hook}}
 use Rattle.gate_world.specs.declared.{config.Config.Config, operations.Op.Op, views.Traced.Traced, work.Phase.Phase}
-use Rattle.gate_schedules.proofs.operations.freeze.Fits.{found_cases}
 use Rattle.gate_schedules.proofs.operations.freeze.Sums.{ClosingSays, ClosingNext, Leaves, closing_at, closing_trace, closing_found, closing_leaves}
 use Rattle.gate_schedules.proofs.operations.freeze.Sums.{closing_event}
 use Rattle.gate_schedules.proofs.traces.{Cleans.{LeaveAccesses, cleans_leave}, Says.{Says, SaysAfter, Kept, event_at, tells, is_short}}
@@ -180,19 +179,11 @@ module _ (c : Config) (lim : IsWithin c) (t : ℕ) (holder : Holder) (value : �
 
   -- `umount` is tried
   locks : (hook : HookAnswer) → StepSays c holder FreezeStep.Locks earlier added → After hook FreezeStep.Locks
-  locks hook h =
-      elim (cases_Bool (value == 0)) [
-        | inl f ↦ rw f (FreezeStep.LoadsStage, refl, h)
-        | inr f ↦ rw f ((FreezeStep.Locks, refl, h), inl (rw f refl))
-      ]
+  locks hook h = grind arith
 
   -- and again, with level 1 closed
   locks_again : (hook : HookAnswer) → StepSays c holder FreezeStep.LocksAgain earlier added → After hook FreezeStep.LocksAgain
-  locks_again hook h =
-      elim (cases_Bool (value == 0)) [
-        | inl f ↦ rw f (FreezeStep.SetsPageFault, refl, h)
-        | inr f ↦ rw f ((FreezeStep.LocksAgain, refl, h), inl (rw f refl))
-      ]
+  locks_again hook h = grind arith
 
   loads_stage : (hook : HookAnswer) → StepSays c holder FreezeStep.LoadsStage earlier added → After hook FreezeStep.LoadsStage
   loads_stage hook h =
@@ -209,18 +200,10 @@ module _ (c : Config) (lim : IsWithin c) (t : ℕ) (holder : Holder) (value : �
       ]
 
   loads_holders : (hook : HookAnswer) → StepSays c holder FreezeStep.LoadsHolders earlier added → After hook FreezeStep.LoadsHolders
-  loads_holders hook h =
-      found_cases (freeze_of c t holder FreezeStep.LoadsHolders) (holders_in value)
-      (λ s. FreezeAt c t holder (longer hook FreezeStep.LoadsHolders) (freeze_at c t holder s) added)
-      (λ own. (FreezeStep.Releases (Err GateError.Busy), refl, (h.0, inr (ap (λ b. b || found_held holder earlier) own))))
-      (λ other. (FreezeStep.Holds (holders_in value), refl, rw h.1 h.0))
+  loads_holders hook h = grind arith
 
   loads_superblock : (hook : HookAnswer) → StepSays c holder FreezeStep.LoadsSuperblock earlier added → After hook FreezeStep.LoadsSuperblock
-  loads_superblock hook h =
-      elim (cases_Bool (value == 0)) [
-        | inl f ↦ rw f (FreezeStep.SetsWrite, refl, ((h.0.0, (rw f h.0.1.0, h.0.1.1), h.0.2), h.1))
-        | inr f ↦ rw f (FreezeStep.CompletesReadOnly, refl, (h.0.0, rw f refl, h.0.1.1))
-      ]
+  loads_superblock hook h = grind arith
 
   -- an event of the closing of a level
   closes : (hook : HookAnswer) (d : DownWrite) → ClosesSay c d earlier added → After hook (FreezeStep.Closes d)
@@ -240,11 +223,7 @@ module _ (c : Config) (lim : IsWithin c) (t : ℕ) (holder : Holder) (value : �
       HasAdded (two_levels_closed trace) false trace actions →
       Says (FreezeAt c t holder) c (Op.Freeze holder) trace
       (map_next Phase.Freezes (after_clearing (freeze_of c t holder (FreezeStep.Cleans marks)) (clears_at marks (node_after marks.node marks.nodes)))) actions
-  node_says marks trace actions h =
-      elim (cases_Bool (nat_lt (marks.node + 1) marks.nodes)) [
-        | inl f ↦ rw f (FreezeStep.Cleans (record marks { node = marks.node + 1 }), refl, h)
-        | inr f ↦ rw f (FreezeStep.SetsFs, refl, h)
-      ]
+  node_says marks trace actions h = grind arith
 
   -- a mark was found set, or clear
   clears : (hook : HookAnswer) (marks : ClearMarks) → StepSays c holder (FreezeStep.Cleans marks) earlier added → After hook (FreezeStep.Cleans marks)

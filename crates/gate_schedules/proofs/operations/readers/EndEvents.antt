@@ -1,12 +1,13 @@
 -- The event of an end.
 use Rattle.std.{proofs.Common.{◌≡◌, ℕ, ◌<◌, false, refl, sym, ap, subst}, specs.Prelude.{Option, Some, Ok}}
-use Rattle.finite_sums.{proofs.Totals.{update_off, update_at}, specs.Sums.update}
+use Rattle.std.proofs.Common.{arith}
+use Rattle.finite_sums.{proofs.Totals.{update_at}, specs.Sums.update}
 use Rattle.access_model.specs.declared.{actions.{Action.Action, Gate.Gate}, replies.{Next.Next, Reply.Reply}}
 use Rattle.cpu_words.specs.{Hooks.HookAnswer, Words.Words}
 use Rattle.percpu_rwsem.specs.declared.readers.UpRead.{UpRead}
 use Rattle.gate_world.specs.{Configs.IsWithin, Fits.{PhaseFits, Fits}, Levels.{level_role_of, sync_role_of, inside}, Rules.{IsGood, StepKeeps, Fitting}}
 use Rattle.gate_world.specs.{Views.{held_of, holds_level}, Worlds.World, declared.{config.Config.Config, views.View.View, work.Phase.Phase}}
-use Rattle.gate_schedules.proofs.levels.Counts.{SameElsewhere, words_down, view_down, down_beside, held_bit, leaves}
+use Rattle.gate_schedules.proofs.levels.Counts.{SameElsewhere, words_down, view_down, down_beside, leaves}
 use Rattle.gate_schedules.proofs.levels.Parts.{IsBeside, IsAtLevels, SameAtMounts, end_at_levels, reads_at_levels, level_parts, level_shown, sync_left_at}
 use Rattle.gate_schedules.proofs.levels.Parts.{sections_left_at}
 
@@ -40,10 +41,7 @@ module _ (c : Config) (lim : IsWithin c) (w : World) (good : IsGood c w) (t : �
   end_mounts = record { held_same = refl; added_same = refl; taken_same = refl; open_same = refl }
 
   end_elsewhere : SameElsewhere u.level (w.views t) end_view
-  end_elsewhere = record {
-    held_same = λ j ne. ap held_bit (update_off (holds_level (w.views t)) u.level false j ne);
-    role_same = λ j ne. sym (ap (level_role_of j) e);
-  }
+  end_elsewhere = grind arith
 
   end_good : IsGood c (record { words = end_words; views = update w.views t end_view })
   end_good =

@@ -3,7 +3,7 @@ use Rattle.access_model.specs.{Actions.IsAllowed, Replies.map_next, declared.act
 use Rattle.access_model.specs.declared.replies.{Next.{Next, TheVariants.{Done, Go}}, Reply.TheVariants.Unit as UnitReply}
 use Rattle.cpu_words.specs.{Hooks.HookAnswer, Touches.wrap_add, Words.{Words, put, read}, declared.events.Touch.{Touch, TheVariants.{Add, Load, Sub}}}
 use Rattle.cpu_words.specs.declared.names.WordName.{WordName, TheVariants.{Block, LevelCount, Section, Sync}}
-use Rattle.finite_sums.proofs.Totals.{update_at, update_off, update_same}
+use Rattle.finite_sums.proofs.Totals.{update_at, update_same}
 use Rattle.finite_sums.specs.Sums.{update}
 use Rattle.cpu_words.proofs.gate_counts.LevelLaws.{is_granted, is_refused}
 use Rattle.cpu_words.specs.gate_counts.Levels.{Out as CountsNot}
@@ -212,18 +212,12 @@ module _ (c : Config) (lim : IsWithin c) (w : World) (good : IsGood c w) (t : �
   -- at other levels it counts nowhere before and after an event that leaves what the task holds
   same_elsewhere : (s s' : DownReadStep) → IsAt s → (v : View) → v.phase ≡ Some (DownReads (at_down_read r s')) →
       holds_level v ≡ holds_level (w.views t) → SameElsewhere r.level (w.views t) v
-  same_elsewhere s s' e v q held = record {
-    held_same = λ j ne. ap (λ f. held_bit (f j)) held;
-    role_same = λ j ne. counts_there s' q j ne ∙ sym (counts_there s e j ne);
-  }
+  same_elsewhere s s' e v q held = grind arith
 
   -- nor after a grant of its level
   granted_elsewhere : (s s' : DownReadStep) → IsAt s → (v : View) → v.phase ≡ Some (DownReads (at_down_read r s')) →
       holds_level v ≡ update (holds_level (w.views t)) r.level true → SameElsewhere r.level (w.views t) v
-  granted_elsewhere s s' e v q held = record {
-    held_same = λ j ne. ap (λ f. held_bit (f j)) held ∙ ap held_bit (update_off (holds_level (w.views t)) r.level true j ne);
-    role_same = λ j ne. counts_there s' q j ne ∙ sym (counts_there s e j ne);
-  }
+  granted_elsewhere s s' e v q held = grind arith
 
   -- an addition on the slow path
   counts_up_slow : IsAt CountsUpSlow → StepKeeps c w t hook (DownReads (at_down_read r CountsUpSlow))

@@ -2,7 +2,7 @@
 use Rattle.gate_schedules.proofs.frames.{Frames.{count_none, sync_none}, Keeps.{IsSmall, OpKeeps, PhaseKeeps, by_bool}, Snapshots.completes_none}
 use Rattle.gate_schedules.proofs.operations.readers.{Causes.{asks_next, next_cause, read_not_closed, read_own, read_stays}, EndEvents.end_keeps}
 use Rattle.gate_schedules.proofs.operations.readers.Events.{read_keeps}
-use Rattle.gate_schedules.proofs.operations.readers.Fits.{both_true, level_there, none_from_agree, read_acts, read_fits, read_goes, read_step_agrees}
+use Rattle.gate_schedules.proofs.operations.readers.Fits.{none_from_agree, read_acts, read_fits, read_goes, read_step_agrees}
 use Rattle.gate_schedules.proofs.operations.readers.Fits.{read_there}
 use Rattle.gate_schedules.proofs.operations.readers.{Runs.{end_runs, read_runs}, Trace.{EndAt, StartAt, end_kept, start_kept}, Waits.{read_waits, start_waits}}
 use Rattle.gate_schedules.proofs.traces.Says.{is_short, is_short_well, tells, tells_well}
@@ -11,7 +11,7 @@ use Rattle.gate_world.specs.{Rules.Fitting, Traces.most_events, Views.held_of, W
 use Rattle.gate_world.specs.declared.{operations.Op.TheVariants.{End, Start}, work.Phase.TheVariants.{DownReads, UpReads}}
 use Rattle.freeze_laws.specs.levels.Roles.{closed}
 use Rattle.percpu_rwsem.specs.{Readers.down_read_after, declared.readers.{DownRead.DownRead, UpRead.UpRead}}
-use Rattle.std.proofs.{Common.{Bool, ap, arith, refl, subst, sym, true, ℕ, ◌+◌, ◌-◌, ◌<◌, ◌∙◌, ◌≡◌, ◌≤◌}, lemmas.Bool.ltb-true}
+use Rattle.std.proofs.{Common.{Bool, ap, arith, refl, subst, sym, true, ℕ, ◌+◌, ◌-◌, ◌<◌, ◌∙◌, ◌≡◌, ◌≤◌}}
 use Rattle.std.specs.Prelude.{Some, nat_lt, ◌&&◌}
 
 -- of each phase of a start
@@ -58,11 +58,7 @@ end_phase c u = record {
 
 -- a level and a processor that are in range
 in_level : (c : Config) (i p : ℕ) → (is_level_number i && nat_lt p c.processors) ≡ true → (1 ≤ i) × (i ≤ 3) × (p < c.processors)
-in_level c i p there =
-    let at : (is_level_number i ≡ true) × (nat_lt p c.processors ≡ true) =
-    both_true (is_level_number i) (nat_lt p c.processors) there in
-    let l : (1 ≤ i) × (i ≤ 3) = level_there i at.0 in
-    (l.0, l.1, ltb-true p c.processors at.1)
+in_level c i p there = grind arith
 
 -- of the beginning and the trace of a start
 pub start_op : (c : Config) (i p : ℕ) (wait : Bool) → OpKeeps c (Start i p wait)

@@ -1,19 +1,17 @@
 -- A start whose level is open, or that doesn't wait, an end, and a write access whose level and mount are open run out.
-use Rattle.std.proofs.{Common.{◌≡◌, ℕ, ◌+◌, ◌≤◌, Bool, true, false, refl, ap, ◌∙◌, inl, inr, arith, true≢false}, lemmas.Bool.Decides.eqb_tells}
-use Rattle.std.specs.Prelude.{Option, Some, None, Ok, Err, is_some}
-use Rattle.finite_sums.proofs.Totals.{update_same}
-use Rattle.access_model.specs.declared.replies.Next.{Next, TheVariants.{Go, Wait, Done}}
+use Rattle.std.proofs.{Common.{◌≡◌, ℕ, ◌+◌, ◌≤◌, Bool, true, false, refl, ap, ◌∙◌, arith}}
+use Rattle.std.specs.Prelude.{Option, Some, None, is_some}
+use Rattle.access_model.specs.declared.replies.Next.{Next}
 use Rattle.cpu_words.specs.{Touches.{left, found_by}, Words.{Words, read, put}}
-use Rattle.mount_counts.specs.{Phases.{has_flag, want_after}, declared.phases.Want.Want}
-use Rattle.percpu_rwsem.specs.{Readers.{down_read_next, down_read_after, step_in, step_found, left_blocked}, SyncWords.unpack}
-use Rattle.percpu_rwsem.specs.declared.readers.{DownRead.DownRead, DownReadStep.{DownReadStep, TheVariants.{EntersSection, LoadsSync, CountsUpFast}}}
-use Rattle.percpu_rwsem.specs.declared.readers.{DownReadStep.TheVariants.{CountsUpSlow, LoadsBlock, CountsDown, LeavesAdmitted, LeavesBlocked}, UpRead.UpRead}
-use Rattle.percpu_rwsem.specs.declared.sync_word.{GpState.{GpState, TheVariants.{Idle, Enter, Passed, Exit, Replay}}, SyncWord.SyncWord}
+use Rattle.mount_counts.specs.{declared.phases.Want.Want}
+use Rattle.percpu_rwsem.specs.{Readers.{down_read_next, down_read_after, step_in, step_found, left_blocked}}
+use Rattle.percpu_rwsem.specs.declared.readers.{DownRead.DownRead, DownReadStep.{DownReadStep}}
+use Rattle.percpu_rwsem.specs.declared.readers.{UpRead.UpRead}
+use Rattle.percpu_rwsem.specs.declared.sync_word.{GpState.{GpState}, SyncWord.SyncWord}
 use Rattle.compounds.specs.{write_access.Phases.{then_wants, then_gives_back, next as write_next, after as write_after}, declared.write_access.phases.WritePhase.WritePhase}
-use Rattle.compounds.specs.declared.write_access.phases.WritePhase.TheVariants.{Takes, Wants as WriteWants, GivesBack, Drops, Ends}
 use Rattle.gate_world.specs.{Courses.MayHold, Worlds.{words_after, found_at}, declared.{config.Config.Config, work.Phase.TheVariants.{DownReads, UpReads}}}
 use Rattle.gate_world.specs.declared.work.Phase.TheVariants.{Writes}
-use Rattle.gate_schedules.proofs.{frames.MayHolds.events_may_be, mounts.Progress.{want_flags, want_falls}, operations.deadlocks.Falls.falls_as}
+use Rattle.gate_schedules.proofs.{frames.MayHolds.events_may_be, operations.deadlocks.Falls.falls_as}
 use Rattle.gate_schedules.specs.operations.{Progress.is_admitted, Ranks.{rank, want_rank, blocked_rank, read_rank, write_rank}, Ways.{IsFree, HoldIsClear, ReadIsFree}}
 use Rattle.gate_schedules.specs.operations.Ways.{WriteIsFree, Falls, PhaseEnds}
 

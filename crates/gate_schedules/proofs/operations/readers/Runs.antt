@@ -3,19 +3,18 @@ use Rattle.access_model.specs.{Replies.map_next, declared.replies.Next.TheVarian
 use Rattle.std.proofs.Common.{arith}
 use Rattle.cpu_words.specs.{Hooks.HookAnswer, Touches.{found_by, left, wrap_add}, Words.{put, read}, declared.events.Touch.{Touch, TheVariants.Load}}
 use Rattle.cpu_words.specs.declared.names.WordName.{WordName, TheVariants.{Block, LevelCount, Section, Sync}}
-use Rattle.finite_sums.proofs.Totals.{update_at, update_off, update_same}
+use Rattle.finite_sums.proofs.Totals.{update_off, update_same}
 use Rattle.finite_sums.specs.Sums.{update}
 use Rattle.gate_schedules.proofs.levels.{Steps.{level_kept, level_moved, level_stays}, Worlds.{IsEventAt, IsOfLevel, sync_off}}
 use Rattle.gate_schedules.proofs.operations.callback.Events.{event_of_level, seen_after as callback_seen, stays_apart, stays_outside}
 use Rattle.gate_schedules.proofs.operations.callback.Events.{steps_there as callback_steps, word_of_level as callback_word}
 use Rattle.gate_schedules.proofs.operations.readers.Levels.{apart_if, blocked_apart, blocked_outside, keeps_level, role_elsewhere, seen_after, steps_there}
 use Rattle.gate_schedules.proofs.operations.readers.Levels.{word_of_level}
-use Rattle.gate_schedules.proofs.operations.readers.Trace.{by_word}
 use Rattle.gate_world.specs.{Fits.Fits, LevelRuns.level_in, Levels.{inside, is_frozen_whole, sync_role_of}, Roles.sync_role_if, Rules.{Fitting, IsGood}}
 use Rattle.gate_world.specs.{Views.{held_of, phase_after, view_after}, Worlds.{World, after_step}, declared.{config.Config.Config, views.View.View}}
 use Rattle.gate_world.specs.declared.work.Phase.TheVariants.{Callbacks, DownReads, UpReads}
 use Rattle.freeze_laws.specs.levels.{Events.{SyncStep, TurnsSection}, Operations.{down_read_inside, down_read_role, left_by}, Roles.{Out as IsApart, fast}}
-use Rattle.percpu_rwsem.specs.{Callbacks.callback_next, Readers.{at_down_read, down_read_after, down_read_next}, SyncWords.unpack}
+use Rattle.percpu_rwsem.specs.{Callbacks.callback_next, Readers.{at_down_read, down_read_after, down_read_next}}
 use Rattle.percpu_rwsem.specs.declared.{callbacks.Callback.Callback, readers.{DownRead.DownRead, DownReadStep.{DownReadStep, TheVariants.CountsDown}}}
 use Rattle.percpu_rwsem.specs.declared.readers.DownReadStep.TheVariants.{CountsUpFast, CountsUpSlow, EntersSection, LeavesAdmitted, LeavesBlocked, LoadsBlock}
 use Rattle.percpu_rwsem.specs.declared.readers.{DownReadStep.TheVariants.LoadsSync, UpRead.UpRead}

@@ -1,14 +1,14 @@
 -- Traces of a start and of an end. What is said of a down-read is said of it alone, so that an operation that goes through one as a part of
 -- its own has it too, after so many events of its own.
-use Rattle.std.proofs.{Common.{◌≡◌, ℕ, ◌≤◌, Bool, true, false, refl, sym, ap, subst, inl, inr, arith}, lemmas.Bool.{eq-eqb, cases_Bool}}
-use Rattle.std.specs.Prelude.{◌+◌, ◌==◌, Option, Some, None, Ok, Err, List, [], ◌∷◌, length, is_some}
+use Rattle.std.proofs.{Common.{◌≡◌, ℕ, ◌≤◌, Bool, true, false, refl, sym, ap, subst, arith}}
+use Rattle.std.specs.Prelude.{◌+◌, Option, Some, None, Ok, Err, List, [], ◌∷◌, length, is_some}
 use Rattle.access_model.specs.{Replies.map_next, declared.actions.{Action.{Action, TheVariants.{Grant, Return}}, Gate.TheVariants.Level}}
 use Rattle.access_model.specs.declared.{errors.GateError.TheVariants.Again, replies.Next.{Next, TheVariants.{Go, Wait, Done}}}
 use Rattle.cpu_words.specs.{Hooks.HookAnswer, Touches.{event_of, found_by}}
-use Rattle.percpu_rwsem.specs.{Readers.{down_read_next, down_read_after, step_in, step_found}, SyncWords.unpack, declared.readers.DownRead.DownRead}
+use Rattle.percpu_rwsem.specs.{Readers.{down_read_next, down_read_after, step_in, step_found}, declared.readers.DownRead.DownRead}
 use Rattle.percpu_rwsem.specs.declared.readers.DownReadStep.{DownReadStep, TheVariants.{EntersSection, LoadsSync, CountsUpFast, CountsUpSlow, LoadsBlock}}
 use Rattle.percpu_rwsem.specs.declared.{readers.DownReadStep.TheVariants.{CountsDown, LeavesAdmitted, LeavesBlocked}, sync_word.GpState.GpState}
-use Rattle.percpu_rwsem.specs.declared.sync_word.{GpState.TheVariants.{Idle, Enter, Passed, Exit, Replay}, SyncWord.SyncWord}
+use Rattle.percpu_rwsem.specs.declared.sync_word.{SyncWord.SyncWord}
 use Rattle.gate_world.specs.{Courses.{MayHold, MayFind}, Found.{newest, finds_closed, backed_off, left_closed, found_closed}, Traces.{most_events, IsShort}}
 use Rattle.gate_world.specs.{Views.{with_hook, actions_after}, Work.next_of, declared.{config.Config.Config, operations.Op.TheVariants.{Start, End}}}
 use Rattle.gate_world.specs.declared.{views.Traced.Traced, work.Phase.{Phase, TheVariants.{DownReads, UpReads}}}

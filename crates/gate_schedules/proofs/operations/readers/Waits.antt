@@ -2,18 +2,16 @@
 use Rattle.access_model.specs.{Replies.map_next, declared.{errors.GateError.{TheVariants.Again, GateError}, replies.Next.{Next, TheVariants.{Go, Wait}}}}
 use Rattle.access_model.specs.declared.replies.Next.TheVariants.{Done}
 use Rattle.std.proofs.{Common.{◌≡◌, ℕ, ◌+◌, ◌%◌, ◌<◌, sym, ap, ◌∙◌, inl, inr, arith}, lemmas.Bool.{cases_Bool, Decides.eqb_tells}}
-use Rattle.std.specs.Prelude.{◌==◌, nat_lt, Some, List, ◌∷◌, Ok, Err}
+use Rattle.std.specs.Prelude.{nat_lt, Some, List, ◌∷◌, Ok, Err}
 use Rattle.cpu_words.specs.Hooks.{HookAnswer}
 use Rattle.percpu_rwsem.specs.{Callbacks.{at_callback, claimed, callback_looked, called_back}, Graces.{is_first, passed_on}, Readers.down_read_after}
-use Rattle.percpu_rwsem.specs.{Readers.{at_down_read, left_blocked}, SyncWords.{unpack, on_claim, on_callback}, Transitions.transition_after}
+use Rattle.percpu_rwsem.specs.{SyncWords.{on_claim, on_callback}, Transitions.transition_after}
 use Rattle.percpu_rwsem.specs.declared.callbacks.{Callback.Callback, CallbackStep.{CallbackStep, TheVariants.{Claims, AwaitsSections, CallsBack}}}
-use Rattle.percpu_rwsem.specs.declared.{grace.Grace.Grace, readers.{DownRead.DownRead, DownReadStep.{DownReadStep, TheVariants.{LoadsSync, LoadsBlock}}}}
-use Rattle.percpu_rwsem.specs.declared.readers.DownReadStep.TheVariants.{LeavesBlocked, EntersSection, CountsUpFast, CountsUpSlow}
+use Rattle.percpu_rwsem.specs.declared.{grace.Grace.Grace, readers.{DownRead.DownRead, DownReadStep.{DownReadStep}}}
 use Rattle.percpu_rwsem.specs.declared.transitions.TransitionNext.{TransitionNext, TheVariants.More}
 use Rattle.gate_world.specs.{Causes.{last_asked, WasClosed, ReadRefused}, Fits.GraceFits, KeptCauses.ReadCause, Levels.inside, Rules.{IsGood, Sections}}
 use Rattle.gate_world.specs.{Waits.{HasCulprit, HasReason}, Work.after_of, Worlds.{World, found_at}, declared.config.Config.Config}
 use Rattle.gate_world.specs.declared.work.Phase.TheVariants.{DownReads, Callbacks}
-use Rattle.gate_schedules.proofs.{frames.Keeps.by_bool, operations.readers.Trace.by_word}
 
 -- this, where a wait or a refusal comes next
 abbrev pub WhereRefused : Type 0 → Next DownRead → Type 0

@@ -6,12 +6,12 @@ use Rattle.access_model.specs.declared.{errors.GateError.GateError, replies.Repl
 use Rattle.cpu_words.specs.{Hooks.HookAnswer, Touches.wrap_add, Words.Words, declared.{names.WordName.WordName, sums.Sum.Sum}}
 use Rattle.mount_counts.specs.{Phases.has_flag, Remounts.{at_remount, remount_from, past_mount, let_go, leave_holds, give_up, remount_summed, past_node}}
 use Rattle.mount_counts.specs.{Sets.{with_mount, without_lowest}, declared.{remounts.{Remount.Remount, RemountStep.RemountStep}, sets.MountSet.MountSet}}
-use Rattle.gate_world.specs.Causes.{all_counted, words_read, mount_summed, moments_of_sum, AreOfMount, looks_at_stage, was_frozen, SomeWasCounted, was_removed}
+use Rattle.gate_world.specs.Causes.{all_counted, words_read, mount_summed, moments_of_sum, AreOfMount, SomeWasCounted, was_removed}
 use Rattle.gate_world.specs.Causes.{last_removed, looks_at_removed}
 use Rattle.gate_world.specs.{KeptCauses.{RemountAnswerCause, RemountCause, CauseOf}, Remounts.RemountFits, Rules.IsGood, Views.phase_after, Work.after_of}
 use Rattle.gate_world.specs.{Worlds.{words_after, World, found_at}, declared.{config.Config.Config, work.Phase.Phase}}
 use Rattle.gate_schedules.proofs.{frames.{Keeps.by_bool, Words.load_same}, mounts.SumCauses.{counted_stays, sum_starts, sum_stays, sum_takes, sum_ends}}
-use Rattle.gate_schedules.proofs.traces.Moments.{look_skips, look_stands, sum_skips, sum_begins, sum_goes}
+use Rattle.gate_schedules.proofs.traces.Moments.{sum_skips, sum_begins}
 
 -- a task whose next event is a load of `removed` looks at it, any other doesn't
 removed_skips : (t : ℕ) (w : World) (earlier : List World) → looks_at_removed (w.views t).phase ≡ false →
@@ -35,25 +35,13 @@ of_mount_begins t m w earlier e at = subst (AreOfMount t m) (sym (sum_begins t w
 
 of_mount_goes : (t m k : ℕ) (w : World) (earlier : List World) → words_read (w.views t).phase ≡ Some k →
     mount_summed (w.views t).phase ≡ Some m → AreOfMount t m (moments_of_sum t earlier) → AreOfMount t m (moments_of_sum t (w ∷ earlier))
-of_mount_goes t m k w earlier e at h =
-    elim (eqb_tells k 0) [
-      | inl z ↦ of_mount_begins t m w earlier (e ∙ ap Some z.1) at
-      | inr z ↦ subst (AreOfMount t m) (sym (sum_goes t w earlier k e z.1)) (at, h)
-    ]
+of_mount_goes t m k w earlier e at h = grind arith
 
 -- a task whose view another entry leaves alone
 module _ (c : Config) (t : ℕ) (w next : World) (earlier : List World) (good : IsGood c next) (x : Remount) where
   answer_stays : (answer : Result Reply GateError) → (next.views t).phase ≡ Some (Phase.Remounts (at_remount x (RemountStep.Releases answer))) →
       RemountAnswerCause c t w earlier answer → RemountAnswerCause c t next (w ∷ earlier) answer
-  answer_stays answer e h r =
-      elim (h r) [
-        | inl frozen ↦ inl (ap (was_frozen c) (look_skips t next (w ∷ earlier) (ap looks_at_stage e)) ∙ frozen)
-        | inr more ↦
-            elim more [
-              | inl gone ↦ inr (inl (ap was_removed (removed_skips t next (w ∷ earlier) (ap looks_at_removed e)) ∙ gone))
-              | inr busy ↦ inr (inr (some_stays c t next (w ∷ earlier) (ap words_read e) busy))
-            ]
-      ]
+  answer_stays answer e h r = grind arith
 
   pub remount_stays : (s : RemountStep) → RemountFits c s → (next.views t).phase ≡ Some (Phase.Remounts (at_remount x s)) →
       (w.views t).phase ≡ Some (Phase.Remounts (at_remount x s)) →
@@ -100,20 +88,12 @@ module _ (c : Config) (t : ℕ) (w next : World) (earlier : List World) (after :
   -- a remount that gives up loads no word of a sum, so what was counted stays so
   give_up_own : (m : ℕ) (held : MountSet) → (next.views t).phase ≡ Some (Phase.Remounts (at_remount x (give_up m held))) →
       SomeWasCounted c t (w ∷ earlier) → CauseAfter (give_up m held)
-  give_up_own m held e h =
-      elim (eqb_tells held.bits 0) [
-        | inl z ↦ rw z.0 (λ r. inr (inr (some_stays c t next (w ∷ earlier) (ap words_read (rw z.0 at e)) h)))
-        | inr z ↦ rw z.0 (some_stays c t next (w ∷ earlier) (ap words_read (rw z.0 at e)) h)
-      ]
+  give_up_own m held e h = grind arith
 
   -- nor does one that leaves its holds look at `removed` again
   leave_holds_own : (held : MountSet) → (next.views t).phase ≡ Some (Phase.Remounts (at_remount x (leave_holds held))) →
       was_removed (last_removed t (w ∷ earlier)) ≡ true → CauseAfter (leave_holds held)
-  leave_holds_own held e h =
-      elim (eqb_tells held.bits 0) [
-        | inl z ↦ rw z.0 (λ r. inr (inl (ap was_removed (removed_skips t next (w ∷ earlier) (ap looks_at_removed (rw z.0 at e))) ∙ h)))
-        | inr z ↦ rw z.0 (ap was_removed (removed_skips t next (w ∷ earlier) (ap looks_at_removed (rw z.0 at e))) ∙ h)
-      ]
+  leave_holds_own held e h = grind arith
 
   -- where a removed file was found, there was one when the remount looked
   removed_was : (s : RemountStep) → (w.views t).phase ≡ Some (Phase.Remounts (at_remount x s)) →
@@ -149,9 +129,7 @@ module _ (c : Config) (t : ℕ) (w next : World) (earlier : List World) (after :
   stage_own : (w.views t).phase ≡ Some (Phase.Remounts (at_remount x RemountStep.LoadsStage)) → (w.words.stage ≡ 0 → ⊥) →
       (next.views t).phase ≡ Some (Phase.Remounts (at_remount x (RemountStep.Releases (Err GateError.Busy)))) →
       CauseAfter (RemountStep.Releases (Err GateError.Busy))
-  stage_own e frozen e' r =
-      inl (ap (was_frozen c) (look_skips t next (w ∷ earlier) (ap looks_at_stage e') ∙ look_stands t w earlier (ap looks_at_stage e)) ∙
-      ap not (ne_eqb w.words.stage 0 frozen))
+  stage_own e frozen e' r = grind arith
 
   -- what comes after an event has its cause
   pub remount_own : (hook : HookAnswer) (s : RemountStep) → x.processors ≡ c.processors → RemountFits c s →

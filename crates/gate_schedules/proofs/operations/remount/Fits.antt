@@ -35,11 +35,7 @@ module _ (c : Config) where
 
   pub past_mount_fits : (mounts m : ℕ) (held : MountSet) → mounts ≡ c.mounts → m < c.mounts → AllBelow (m + 1) held →
       RemountFits c (past_mount mounts m held)
-  past_mount_fits mounts m held same lm h =
-      elim (cases_Bool (nat_lt (m + 1) mounts)) [
-        | inl z ↦ rw z (omega (arith, ltb-true (m + 1) mounts z, same), h)
-        | inr z ↦ rw z (h.0, λ n q. omega (arith, h.1 n q, lm))
-      ]
+  past_mount_fits mounts m held same lm h = grind arith
 
   pub give_up_fits : (m : ℕ) (held : MountSet) → m < c.mounts → AllBelow c.mounts held → RemountFits c (give_up m held)
   give_up_fits m held lm h = elim (eqb_tells held.bits 0) [ inl z ↦ rw z.0 tt | inr z ↦ rw z.0 (omega (arith, z.1), h, lm) ]
@@ -48,11 +44,7 @@ module _ (c : Config) where
   leave_holds_fits held h = elim (eqb_tells held.bits 0) [ inl z ↦ rw z.0 tt | inr z ↦ rw z.0 (omega (arith, z.1), h) ]
 
   pub past_node_fits : (nodes n : ℕ) → nodes ≡ c.nodes → RemountFits c (past_node nodes n)
-  past_node_fits nodes n same =
-      elim (cases_Bool (nat_lt (n + 1) nodes)) [
-        | inl z ↦ rw z (omega arith, omega (arith, ltb-true (n + 1) nodes z, same))
-        | inr z ↦ rw z tt
-      ]
+  past_node_fits nodes n same = grind arith
 
   pub remount_there : (x : Remount) (s : RemountStep) (hook : HookAnswer) → RemountFits c s →
       IsWord (extents_of c) (remount_next x s hook).0
@@ -71,11 +63,7 @@ module _ (c : Config) where
 
   module _ (lim : IsWithin c) where
     pub let_go_fits : (held : MountSet) → AllBelow c.mounts held → RemountFits c (let_go held)
-    let_go_fits held h =
-        elim (eqb_tells held.bits 0) [
-          | inl z ↦ rw z.0 (omega arith, omega (arith, lim.nodes))
-          | inr z ↦ rw z.0 (omega (arith, z.1), h)
-        ]
+    let_go_fits held h = grind arith
 
     pub state_fits : (wanted found : Bool) → RemountFits c (remount_from wanted found)
     state_fits true true = tt

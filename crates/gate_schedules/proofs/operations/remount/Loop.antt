@@ -1,8 +1,8 @@
 -- Events of a remount's loop over the mounts.
-use Rattle.access_model.specs.declared.{errors.GateError.GateError, replies.Next.Next}
+use Rattle.access_model.specs.declared.{replies.Next.Next}
 use Rattle.cpu_words.specs.{Hooks.HookAnswer, Touches.wrap_add, declared.{events.Touch.Touch, names.WordName.WordName, sums.Sum.Sum}}
 use Rattle.gate_schedules.proofs.{frames.{Keeps.by_bool, Owners.no_hold}, operations.remount.Fits.{give_up_fits, joins_below, past_mount_fits}}
-use Rattle.gate_schedules.proofs.operations.remount.Parts.{GoesOn, Mount, RemountKeeps, Stays, alike_same, flags_change, here_fits, here_knows, in_loop}
+use Rattle.gate_schedules.proofs.operations.remount.Parts.{GoesOn, Mount, RemountKeeps, Stays, flags_change, here_fits, here_knows, in_loop}
 use Rattle.gate_schedules.proofs.operations.remount.Parts.{load_event, mount_stays, owner_on, role_was}
 use Rattle.gate_schedules.proofs.operations.remount.Roles.{give_up_role, not_passed, passed_here, passed_there, past_mount_role, remount_seeks, summing_here}
 use Rattle.gate_schedules.proofs.operations.remount.Roles.{summing_there}
@@ -16,38 +16,24 @@ use Rattle.mount_counts.specs.declared.sets.MountSet.{MountSet}
 use Rattle.mount_counts.proofs.laws.{Bits.{or_hold, read_only_set}, MountLaws.{SeeksNone, is_left, is_skipped, sets_hold as mount_sets_hold, sums_on, sums_to_none}}
 use Rattle.mount_counts.proofs.laws.{MountLaws.sums_to_some, Sets.{joins_here, joins_there}}
 use Rattle.freeze_laws.specs.stages.{Events.IsAlike, Roles.{CleanBelow, Remounting}}
-use Rattle.std.proofs.Common.{Bool, Err, None, Some, add-one, ap, arith, bit_or, eq-eqb, false, if◌then◌else◌, inl, inr, ltb-false, ltb-true, nat_lt, ne_eqb}
+use Rattle.std.proofs.Common.{Bool, None, Some, add-one, ap, arith, bit_or, eq-eqb, false, if◌then◌else◌, inl, inr, ltb-false, ltb-true, nat_lt, ne_eqb}
 use Rattle.std.proofs.{Common.{refl, subst, suc, sym, true, ℕ, ◌+◌, ◌<◌, ◌==◌, ◌∙◌, ◌≡◌, ◌⊎◌}, lemmas.Bool.{cases_Bool, Decides.eqb_tells}}
 
 -- what stays where the loop goes on, where holds are to be cleared, and where marks are
 past_mount_stays : (nodes mounts m : ℕ) (held : MountSet) → Stays nodes (past_mount mounts m held) 0 OffTree
-past_mount_stays nodes mounts m held =
-    by_bool (nat_lt (m + 1) mounts) (λ z. Stays nodes (if z then RemountStep.LoadsFlags (m + 1) held else RemountStep.LoadsRemovedAgain held) 0 OffTree)
-    (refl, refl, refl) (refl, refl, refl)
+past_mount_stays nodes mounts m held = grind arith
 
 pub leave_holds_stays : (nodes : ℕ) (held : MountSet) → Stays nodes (leave_holds held) 0 OffTree
-leave_holds_stays nodes held =
-    by_bool (held.bits == 0) (λ z. Stays nodes (if z then RemountStep.Releases (Err GateError.Busy) else RemountStep.LeavesHolds held) 0 OffTree)
-    (refl, refl, refl) (refl, refl, refl)
+leave_holds_stays nodes held = grind arith
 
 pub let_go_stays : (nodes : ℕ) (held : MountSet) → Stays nodes (let_go held) 1 (Clearing 1)
-let_go_stays nodes held =
-    by_bool (held.bits == 0) (λ z. Stays nodes (if z then RemountStep.ClearsMark 1 else RemountStep.ClearsHold held) 1 (Clearing 1))
-    (refl, refl, refl) (refl, refl, refl)
+let_go_stays nodes held = grind arith
 
 pub give_up_stays : (nodes m : ℕ) (held : MountSet) → Stays nodes (give_up m held) 0 OffTree
-give_up_stays nodes m held =
-    by_bool (held.bits == 0) (λ z. Stays nodes (if z then RemountStep.Releases (Err GateError.Busy) else RemountStep.GivesUp m held) 0 OffTree)
-    (refl, refl, refl) (refl, refl, refl)
+give_up_stays nodes m held = grind arith
 
 pub past_node_stays : (nodes n : ℕ) → n < nodes → Stays nodes (past_node nodes n) 1 (Clearing (suc n))
-past_node_stays nodes n there =
-    elim (cases_Bool (nat_lt (n + 1) nodes)) [
-      | inl z ↦ rw z (refl, refl, ap (λ k. Clearing k) (add-one n))
-      | inr z ↦
-          let last : nodes ≡ suc n = omega (arith, ltb-false (n + 1) nodes z, there) in
-          rw z (refl, refl, ap (λ k. Clearing k) last)
-    ]
+past_node_stays nodes n there = grind arith
 
 -- the role at the stage where holds are to be cleared under `remount`, and where the mark of a node was
 pub let_go_stage : (nodes : ℕ) (held : MountSet) → remount_stage_role nodes (let_go held) ≡ Remounting 0 1
@@ -55,13 +41,7 @@ let_go_stage nodes held =
     by_bool (held.bits == 0) (λ z. remount_stage_role nodes (if z then RemountStep.ClearsMark 1 else RemountStep.ClearsHold held) ≡ Remounting 0 1) refl refl
 
 pub past_node_stage : (nodes n : ℕ) → n < nodes → remount_stage_role nodes (past_node nodes n) ≡ Remounting 0 (suc n)
-past_node_stage nodes n there =
-    elim (cases_Bool (nat_lt (n + 1) nodes)) [
-      | inl z ↦ rw z (ap (λ k. Remounting 0 k) (add-one n))
-      | inr z ↦
-          let last : nodes ≡ suc n = omega (arith, ltb-false (n + 1) nodes z, there) in
-          rw z (ap (λ k. Remounting 0 k) last)
-    ]
+past_node_stage nodes n there = grind arith
 
 -- a remount in its loop, or at the end of one, goes on at stage 0 of a writable superblock
 module _ (nodes stage sb : ℕ) (dirty : ℕ → ℕ) (a : stage ≡ 0) (b : sb ≡ 0) where
@@ -69,27 +49,16 @@ module _ (nodes stage sb : ℕ) (dirty : ℕ → ℕ) (a : stage ≡ 0) (b : sb 
   loop_on = owner_on (Some 0) (Some 0) (Some 0) (Some 0) stage sb dirty a b
 
   past_mount_on : (mounts m : ℕ) (held : MountSet) → GoesOn in_loop nodes (past_mount mounts m held) stage sb dirty
-  past_mount_on mounts m held =
-      by_bool (nat_lt (m + 1) mounts)
-      (λ z. GoesOn in_loop nodes (if z then RemountStep.LoadsFlags (m + 1) held else RemountStep.LoadsRemovedAgain held) stage sb dirty)
-      loop_on loop_on
+  past_mount_on mounts m held = grind arith
 
   pub give_up_on : (m : ℕ) (held : MountSet) → GoesOn in_loop nodes (give_up m held) stage sb dirty
-  give_up_on m held =
-      by_bool (held.bits == 0) (λ z. GoesOn in_loop nodes (if z then RemountStep.Releases (Err GateError.Busy) else RemountStep.GivesUp m held) stage sb dirty)
-      (owner_on (Some 0) (Some 0) None None stage sb dirty tt tt) loop_on
+  give_up_on m held = grind arith
 
   pub leave_holds_on : (held : MountSet) → GoesOn in_loop nodes (leave_holds held) stage sb dirty
-  leave_holds_on held =
-      by_bool (held.bits == 0)
-      (λ z. GoesOn in_loop nodes (if z then RemountStep.Releases (Err GateError.Busy) else RemountStep.LeavesHolds held) stage sb dirty)
-      (owner_on (Some 0) (Some 0) None None stage sb dirty tt tt) loop_on
+  leave_holds_on held = grind arith
 
   pub let_go_on : (held : MountSet) → CleanBelow 1 dirty → GoesOn (Remounting 0 1) nodes (let_go held) stage sb dirty
-  let_go_on held clean =
-      let there : IsAlike (Remounting 0 1) (Remounting 0 1) × ((stage ≡ 0) × (sb ≡ 0)) × CleanBelow 1 dirty = (alike_same, (a, b), clean) in
-      by_bool (held.bits == 0)
-      (λ z. GoesOn (Remounting 0 1) nodes (if z then RemountStep.ClearsMark 1 else RemountStep.ClearsHold held) stage sb dirty) there there
+  let_go_on held clean = grind arith
 
 -- a mount that is held is empty before and after a sum that was not 0, but that of the sum; one that isn't held is left
 giving_or_left : (a b : Bool) → (giving_role false a ≡ loop_role a b) ⊎

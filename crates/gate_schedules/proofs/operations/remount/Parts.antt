@@ -7,7 +7,7 @@ use Rattle.freeze_levels.specs.Holders.{holders_in}
 use Rattle.gate_schedules.proofs.frames.Frames.{IsOffLevels, SameLevelCounts, SameLevelWords, added_load, holds_as, left_alone, level_left, opens_left}
 use Rattle.gate_schedules.proofs.frames.Frames.{owner_same, sections_left, shown_held, shown_still, sync_left, taken_load, view_as}
 use Rattle.gate_schedules.proofs.frames.{Holders.holders_stay, Known.{IsOwnersWork, known_after}, Owners.remount_stored}
-use Rattle.gate_schedules.proofs.{frames.{Stages.{IsStageEvent, stages_after, stages_in}, Words.load_same}, mounts.Loads.{after_load, steady}}
+use Rattle.gate_schedules.proofs.{frames.{Stages.{IsStageEvent, stages_after, stages_in}, Words.load_same}, mounts.Loads.{after_load}}
 use Rattle.gate_schedules.proofs.mounts.Parts.{is_known_part, known_is, level_added_load, level_taken_load}
 use Rattle.gate_schedules.proofs.trees.worlds.Trees.{marks_right, tree_after, tree_holds, tree_then, tree_within}
 use Rattle.gate_world.specs.{Configs.IsWithin, Fits.{Fits, HasFile, PhaseFits, file_of}, Found.is_load, Holdings.Holdings, Levels.is_frozen_whole}
@@ -16,7 +16,7 @@ use Rattle.gate_world.specs.{Remounts.remount_sets, Roles.{remount_stage_role, r
 use Rattle.gate_world.specs.Rules.{IsGood, IsSteady, Known, Moves, Owner, OwnerHolds, Part, Sections, Stages, StepKeeps, SyncAt, Tree, ViewFits, at_mount}
 use Rattle.gate_world.specs.{Rules.{holder_role_of, marks_of, owns, remounts, role_of, stage_role_of}, Shown.{closing, shown}, Trees.{is_bare_at, is_sealed}}
 use Rattle.gate_world.specs.{Trees.{tree_bounds, tree_of, tree_role_of, tree_roles}, Views.{added_by, has_open, held_of, phase_after, taken_by, view_with}}
-use Rattle.gate_world.specs.{Worlds.{World, after_step, phase_action, value_at}, declared.{config.Config.Config, views.View.View, work.Phase.Phase}}
+use Rattle.gate_world.specs.{Worlds.{World, after_step, phase_action}, declared.{config.Config.Config, views.View.View, work.Phase.Phase}}
 use Rattle.node_words.specs.Nodes.{node_shown, opens_in}
 use Rattle.gated_tree.specs.Roles.{Role as TreeRole, TreeState}
 use Rattle.freeze_levels.specs.holder_laws.Roles.{Apart}
@@ -41,10 +41,7 @@ remount_comes : (x : Remount) (s : RemountStep) (hook : HookAnswer) (value : ℕ
 remount_comes x s hook value h = grind arith
 
 remount_work : (w : World) (x : Remount) (hook : HookAnswer) → IsOwnersWork w (Phase.Remounts x) hook
-remount_work w x hook = record {
-  changes = remount_changes x x.step hook;
-  comes_to_own = remount_comes x x.step hook (value_at w.words (Phase.Remounts x) hook);
-}
+remount_work w x hook = grind arith
 
 -- the law of an event of a remount: each part but what the owner knows, and the shown model
 abbrev pub RemountKeeps : Config → World → ℕ → HookAnswer → Phase → Type 0
@@ -85,11 +82,7 @@ alike_same {r} = record { owns_same = refl; freezes_same = refl; remounts_same =
 -- an owner goes on as an owner, where what it relies on then is so
 pub owner_on : (old_stage old_sb new_stage new_sb : Option ℕ) (stage sb : ℕ) (dirty : ℕ → ℕ) → IsKnown new_stage stage → IsKnown new_sb sb →
     IsAlike (Owning old_stage old_sb) (Owning new_stage new_sb) × (IsKnown new_stage stage × IsKnown new_sb sb) × CleanBelow 0 dirty
-owner_on old_stage old_sb new_stage new_sb stage sb dirty a b = (
-  record { owns_same = refl; freezes_same = refl; remounts_same = refl; closed_same = refl; passed_same = refl },
-  (a, b),
-  λ m below. absurd (omega (arith, below)),
-)
+owner_on old_stage old_sb new_stage new_sb stage sb dirty a b = grind arith
 
 module _ (c : Config) (w : World) (good : IsGood c w) (t : ℕ) (lt : t < c.tasks) (x : Remount) (s : RemountStep)
     (e : (w.views t).phase ≡ Some (Phase.Remounts (at_remount x s))) where
@@ -259,11 +252,7 @@ module _ (c : Config) (w : World) (good : IsGood c w) (t : ℕ) (lt : t < c.task
     closes_same i = ap (closing i) is ∙ sym (ap (closing i) e)
 
     steady_to : remount_owns s' ≡ 1 → remount_sets s' ≡ remount_sets s → IsSteady (w.views t).phase v.phase
-    steady_to o' q = steady e (record {
-      owns_same = ap owns is ∙ (o' ∙ sym o);
-      remounts_same = ap remounts is ∙ q;
-      closing_same = λ i. ap (closing i) is;
-    })
+    steady_to o' q = grind arith
 
     tree_now : tree_role_of v.trace v.phase ≡ remount_tree_role x.nodes s'
     tree_now = ap (tree_role_of v.trace) is

@@ -1,11 +1,11 @@
 -- The roles of a remount at each mount.
-use Rattle.std.proofs.Common.{Bool, ℕ, nat_lt, ◌≡◌, ◌+◌, false, ◌<◌, ◌==◌, true, arith, inl, eq-eqb, ne_eqb, if◌then◌else◌, ◌∙◌, inr, sym, ltb-true, ap}
+use Rattle.std.proofs.Common.{Bool, ℕ, nat_lt, ◌≡◌, ◌+◌, false, ◌<◌, ◌==◌, true, arith, inl, eq-eqb, ne_eqb, if◌then◌else◌, ◌∙◌, inr, sym, ltb-true}
 use Rattle.std.proofs.Common.{ltb-false, refl}
-use Rattle.std.proofs.lemmas.Bool.{cases_Bool, Decides.{eqb_tells, nat_tests}}
+use Rattle.std.proofs.lemmas.Bool.{cases_Bool, Decides.{nat_tests}}
 use Rattle.cpu_words.specs.declared.sums.Sum.{Sum}
 use Rattle.mount_counts.specs.{Remounts.{let_go, leave_holds, give_up, past_node, past_mount}, Roles.{Out, Summing, Role}, Sets.has_mount}
 use Rattle.mount_counts.specs.declared.{remounts.RemountStep.RemountStep, sets.MountSet.MountSet}
-use Rattle.mount_counts.proofs.laws.{MountLaws.SeeksNone, Sets.none_held}
+use Rattle.mount_counts.proofs.laws.{MountLaws.SeeksNone}
 use Rattle.gate_world.specs.Remounts.{giving_role, remount_role, loop_role, held_role, summing_role}
 use Rattle.gate_schedules.proofs.frames.Keeps.{by_bool}
 use mathlib.Core.Bool.{true}
@@ -54,39 +54,20 @@ passed_there m n ne =
 -- the loop goes on, or has passed each mount
 pub past_mount_role : (mounts at : ℕ) (held : MountSet) (m : ℕ) → m < mounts →
     remount_role m (past_mount mounts at held) ≡ loop_role (has_mount held m) (nat_lt m (at + 1))
-past_mount_role mounts at held m lm =
-    elim (cases_Bool (nat_lt (at + 1) mounts)) [
-      | inl z ↦ rw z refl
-      | inr z ↦ rw z (ap (loop_role (has_mount held m)) (elim (cases_Bool (nat_lt m (at + 1))) [
-        | inl k ↦ sym k
-        | inr k ↦ absurd (omega (arith, ltb-false (at + 1) mounts z, ltb-false m (at + 1) k, lm))
-      ]))
-    ]
+past_mount_role mounts at held m lm = grind arith
 
 pub let_go_role : (m : ℕ) (held : MountSet) → remount_role m (let_go held) ≡ held_role (has_mount held m)
-let_go_role m held =
-    elim (eqb_tells held.bits 0) [
-      | inl z ↦ rw z.0 (sym (ap held_role (none_held held z.1 m)))
-      | inr z ↦ rw z.0 refl
-    ]
+let_go_role m held = grind arith
 
 pub leave_holds_role : (m : ℕ) (held : MountSet) → remount_role m (leave_holds held) ≡ held_role (has_mount held m)
-leave_holds_role m held =
-    elim (eqb_tells held.bits 0) [
-      | inl z ↦ rw z.0 (sym (ap held_role (none_held held z.1 m)))
-      | inr z ↦ rw z.0 refl
-    ]
+leave_holds_role m held = grind arith
 
 pub no_giving : (a : Bool) → giving_role a false ≡ Out
 no_giving true = refl
 no_giving false = refl
 
 pub give_up_role : (m at : ℕ) (held : MountSet) → remount_role m (give_up at held) ≡ giving_role (m == at) (has_mount held m)
-give_up_role m at held =
-    elim (eqb_tells held.bits 0) [
-      | inl z ↦ rw z.0 (sym (ap (giving_role (m == at)) (none_held held z.1 m) ∙ no_giving (m == at)))
-      | inr z ↦ rw z.0 refl
-    ]
+give_up_role m at held = grind arith
 
 pub summing_here : (m : ℕ) (sum : Sum) (r : Role) → summing_role (m == m) sum r ≡ Summing sum.words sum.total
 summing_here m sum r = rw (eq-eqb m m refl) refl

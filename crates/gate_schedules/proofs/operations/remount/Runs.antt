@@ -1,5 +1,5 @@
 -- What the events of a remount make of each freeze level: they leave it.
-use Rattle.std.{proofs.Common.{◌≡◌, ℕ, ◌<◌, refl}, specs.Prelude.{Some, Ok, Err}}
+use Rattle.std.{proofs.Common.{◌≡◌, ℕ, ◌<◌, refl}, specs.Prelude.{Some}}
 use Rattle.std.proofs.Common.{arith}
 use Rattle.access_model.specs.{Replies.map_next, declared.replies.Next.Next}
 use Rattle.cpu_words.specs.{Hooks.HookAnswer, Words.Words}
@@ -8,7 +8,7 @@ use Rattle.freeze_laws.specs.levels.{Events.SyncStep, Roles.Out as IsApart}
 use Rattle.freeze_laws.specs.stages.Roles.{KnowsStage}
 use Rattle.gate_world.specs.{LevelRuns.level_in, Levels.{inside, sync_role_of}, Roles.remount_stage_role, Rules.{IsGood, SameWords, SyncAt}}
 use Rattle.gate_world.specs.{Views.phase_after, Worlds.{World, after_step, found_at, words_after}, declared.{config.Config.Config, work.Phase.Phase}}
-use Rattle.gate_schedules.proofs.{mounts.Runs.apart_run, operations.remount.{Events.not_frozen, Parts.here_knows}}
+use Rattle.gate_schedules.proofs.{mounts.Runs.apart_run, operations.remount.{Parts.here_knows}}
 
 -- no event of a remount changes what a level reads of the words: the superblock's flags are stored at stage 0, where nothing is frozen
 remount_words : (w : Words) (x : Remount) (hook : HookAnswer) (s : RemountStep) → KnowsStage w.stage w.sb (remount_stage_role x.nodes s) →

@@ -1,11 +1,11 @@
 -- Traces of a remount of the superblock.
 use Rattle.std.proofs.Common.{◌≡◌, ℕ, suc, ◌+◌, ◌<◌, ◌≤◌, Bool, true, false, refl, sym, ap, ◌∙◌, subst, inl, inr, add-one, arith}
 use Rattle.std.proofs.lemmas.{Bool.{eq-eqb, ne_eqb, ltb-true, ltb-false, cases_Bool, Decides.eqb_tells}, List.Sums.sum_by-cons}
-use Rattle.std.specs.Prelude.{◌==◌, ◌||◌, not, nat_lt, if◌then◌else◌, Result, Ok, Err, List, [], ◌∷◌, ◌++◌}
+use Rattle.std.specs.Prelude.{◌==◌, ◌||◌, nat_lt, if◌then◌else◌, Result, Ok, Err, List, [], ◌∷◌, ◌++◌}
 use Rattle.access_model.specs.declared.{actions.Action.Action, errors.GateError.GateError, replies.Reply.Reply}
 use Rattle.cpu_words.specs.{Hooks.HookAnswer, Touches.{wrap_add, event_of}, declared.{events.Touch.Touch, names.WordName.WordName, sums.Sum.Sum}}
 use Rattle.mount_counts.specs.{Phases.has_flag, Remounts.{remount_from, past_mount, let_go, leave_holds, give_up, past_node}}
-use Rattle.mount_counts.specs.{Sets.{no_mounts, with_mount, without_lowest}, declared.{remounts.RemountStep.RemountStep, sets.MountSet.MountSet}}
+use Rattle.mount_counts.specs.{Sets.{with_mount, without_lowest}, declared.{remounts.RemountStep.RemountStep, sets.MountSet.MountSet}}
 use Rattle.gate_world.specs.{Configs.IsWithin, Found.{found_sealed, counts_loaded, sum_loaded, IsEachCount, each_event, finds_taken, cleans}}
 use Rattle.gate_world.specs.{Traces.{actions_of, IsHonestAnswer}, Views.with_hook}
 use Rattle.gate_world.specs.declared.{config.Config.Config, operations.Op.Op, views.Traced.Traced, work.Phase.Phase}
@@ -99,11 +99,7 @@ state_found c false false trace added none e clean loads = (rw e none, tt)
 -- the loop goes on, or is done
 past_says : (c : Config) (ro : Bool) (m : ℕ) (held : MountSet) (trace : List Traced) (added : List Action) → IsOnItsWay ro trace added →
     NoneLoaded (m + 1) trace → StepSays c ro (past_mount c.mounts m held) trace added
-past_says c ro m held trace added h none =
-    elim (cases_Bool (nat_lt (m + 1) c.mounts)) [
-      | inl z ↦ rw z (h, ltb-true (m + 1) c.mounts z, none)
-      | inr z ↦ rw z h
-    ]
+past_says c ro m held trace added h none = grind arith
 
 -- with `remount` set, HOLD is still to be cleared, or no more
 let_go_says : (c : Config) (ro : Bool) (held : MountSet) (trace : List Traced) (added : List Action) → HasSealed ro trace added →
@@ -139,26 +135,13 @@ module _ (c : Config) (lim : IsWithin c) (t : ℕ) (ro : Bool) (value : ℕ) (ea
   After hook step = SaysAfter (RemountAt c t ro) c (Op.RemountSb ro) (remount c t ro step) value hook earlier added
 
   locks : (hook : HookAnswer) → StepSays c ro RemountStep.Locks earlier added → After hook RemountStep.Locks
-  locks hook h =
-      elim (cases_Bool (value == 0)) [
-        | inl f ↦ rw f (RemountStep.LoadsStage, refl, h.1)
-        | inr f ↦ rw f ((RemountStep.Locks, refl, (rw f h.0, h.1)), rw f h.0)
-      ]
+  locks hook h = grind arith
 
   loads_stage : (hook : HookAnswer) → StepSays c ro RemountStep.LoadsStage earlier added → After hook RemountStep.LoadsStage
-  loads_stage hook h =
-      elim (cases_Bool (value == 0)) [
-        | inl f ↦ rw f (RemountStep.LoadsSuperblock, refl, h)
-        | inr f ↦ rw f (RemountStep.Releases (Err GateError.Busy), refl, (h.0 ∙ sym (busy_adds ro (longer hook RemountStep.LoadsStage)), inl (rw f refl)))
-      ]
+  loads_stage hook h = grind arith
 
   loads_superblock : (hook : HookAnswer) → StepSays c ro RemountStep.LoadsSuperblock earlier added → After hook RemountStep.LoadsSuperblock
-  loads_superblock hook h = (
-    remount_from ro (not (value == 0)),
-    refl,
-    state_found c ro (not (value == 0)) (longer hook RemountStep.LoadsSuperblock) added h.0 (rw h.1 (or_false (not (value == 0))))
-        h.2 h.3,
-  )
+  loads_superblock hook h = grind arith
 
   sets_writable : (hook : HookAnswer) → StepSays c ro RemountStep.SetsWritable earlier added → After hook RemountStep.SetsWritable
   sets_writable (Ok answer) h = (RemountStep.Releases (Ok Reply.Unit), refl, (rw (h.1, h.2) (ap (λ (l : List Action). Action.SbRw ∷ l) h.0), tt))
@@ -166,15 +149,7 @@ module _ (c : Config) (lim : IsWithin c) (t : ℕ) (ro : Bool) (value : ℕ) (ea
 
   -- no file is found removed, or one is
   loads_removed : (hook : HookAnswer) → StepSays c ro RemountStep.LoadsRemoved earlier added → After hook RemountStep.LoadsRemoved
-  loads_removed hook h =
-      elim (cases_Bool (value == 0)) [
-        | inl f ↦ rw f (RemountStep.LoadsFlags 0 no_mounts, refl, (h.0, lim.some_mount, λ n q. h.1 n))
-        | inr f ↦ rw f (
-          RemountStep.Releases (Err GateError.Busy),
-          refl,
-          (h.0.0 ∙ sym (busy_adds ro (longer hook RemountStep.LoadsRemoved)), inr (inl (rw f refl))),
-        )
-      ]
+  loads_removed hook h = grind arith
 
   -- the same with each mount held or read-only
   loads_removed_again : (hook : HookAnswer) (held : MountSet) → StepSays c ro (RemountStep.LoadsRemovedAgain held) earlier added →
@@ -193,25 +168,12 @@ module _ (c : Config) (lim : IsWithin c) (t : ℕ) (ro : Bool) (value : ℕ) (ea
   -- a mount is found read-only, or writable
   loads_flags : (hook : HookAnswer) (m : ℕ) (held : MountSet) → StepSays c ro (RemountStep.LoadsFlags m held) earlier added →
       After hook (RemountStep.LoadsFlags m held)
-  loads_flags hook m held h =
-      elim (cases_Bool (has_flag value 1)) [
-        | inl f ↦ rw f (
-          past_mount c.mounts m held,
-          refl,
-          past_says c ro m held (longer hook (RemountStep.LoadsFlags m held)) added h.0 (λ n q. h.2 n (omega (arith, q))),
-        )
-        | inr f ↦ rw f (RemountStep.SetsHold m held, refl, h)
-      ]
+  loads_flags hook m held h = grind arith
 
   -- its sum begins with no count loaded
   sets_hold : (hook : HookAnswer) (m : ℕ) (held : MountSet) → StepSays c ro (RemountStep.SetsHold m held) earlier added →
       After hook (RemountStep.SetsHold m held)
-  sets_hold hook m held h =
-      let none : counts_loaded m earlier ≡ [] = h.2 m (omega arith) in (
-        RemountStep.Sums m held record { words = 0; total = 0 },
-        refl,
-        (h.0, h.1, λ n q. h.2 n (omega (arith, q)), (lim.some_processor, rw none tt, rw none refl)),
-      )
+  sets_hold hook m held h = grind arith
 
   -- one count more is loaded
   count_loaded : (hook : HookAnswer) (m : ℕ) (held : MountSet) (sum : Sum) → IsSumOf c m sum earlier →
@@ -257,12 +219,7 @@ module _ (c : Config) (lim : IsWithin c) (t : ℕ) (ro : Bool) (value : ℕ) (ea
 
   -- `remount` is set, and `sb ro` is added before any mark is cleared
   sets_remount : (hook : HookAnswer) (held : MountSet) → StepSays c ro (RemountStep.SetsRemount held) earlier added → After hook (RemountStep.SetsRemount held)
-  sets_remount hook held h = (
-    let_go held,
-    refl,
-    let_go_says c ro held (longer hook (RemountStep.SetsRemount held)) (Action.SbRo ∷ added)
-        (rw h.3 (ap (λ (l : List Action). Action.SbRo ∷ l) h.0), h.1, h.2),
-  )
+  sets_remount hook held h = grind arith
 
   clears_mark : (hook : HookAnswer) (n : ℕ) → StepSays c ro (RemountStep.ClearsMark n) earlier added → After hook (RemountStep.ClearsMark n)
   clears_mark hook n h =

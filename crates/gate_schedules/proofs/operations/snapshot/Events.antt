@@ -20,8 +20,8 @@ use Rattle.gated_tree.specs.{Phases.{snapshot_after, snapshot_locked_out, snapsh
 use Rattle.gated_tree.specs.declared.snapshots.SnapshotStep.{SnapshotStep}
 use Rattle.freeze_laws.specs.stages.Events.{IsAlike, Locks as LocksStage, Recalls, Releases as ReleasesStage, Stages as StageMoment, playing}
 use Rattle.freeze_laws.specs.stages.Roles.{Aside, KnowsStage, Owning, StageRole, clean_by, owns as stage_owns}
-use Rattle.std.proofs.Common.{Bool, List, ap, arith, false, inl, inr, refl, subst, suc, sym, true, true≢false, ℕ, ◌<◌, ◌∙◌, ◌≡◌, ◌⊎◌}
-use Rattle.std.proofs.lemmas.Bool.{cases_Bool, Decides.eqb_tells}
+use Rattle.std.proofs.Common.{Bool, List, ap, arith, false, inl, inr, refl, subst, suc, sym, true, ℕ, ◌<◌, ◌∙◌, ◌≡◌, ◌⊎◌}
+use Rattle.std.proofs.lemmas.Bool.{Decides.eqb_tells}
 use Rattle.std.specs.Prelude.{Err, None, Option, Result, Some, if◌then◌else◌, is_some, ◌==◌}
 use Rattle.gate_schedules.specs.trees.Steps.{words_left}
 
@@ -78,11 +78,7 @@ locked_out_owns x false = refl
 
 -- the role after a load of a node, whatever it found
 node_role : (x : Snapshot) (n found : ℕ) → stage_role_of (later (snapshot_after x (SnapshotStep.LoadsNode n) found).0) ≡ Owning (Some 4) None
-node_role x n found =
-    by_bool (is_some (unpacked found))
-    (λ b. stage_role_of (later (if b then Next.Go (at_snapshot x (node_step (node_after n x.nodes))) else Next.Go (at_snapshot x (SnapshotStep.LoadsNode n)))) ≡
-    Owning (Some 4) None)
-    (node_step_role (node_after n x.nodes)) refl
+node_role x n found = grind arith
 
 -- who owns by its stage owns
 later_owns : (x : Snapshot) (s : SnapshotStep) (found : ℕ) →
@@ -248,10 +244,7 @@ module _ (c : Config) (within : IsWithin c) (w : World) (good : IsGood c w) (t :
       (later_role x x.step (found_here c within w good t lt hook x x.step) trace)
 
   owners_work : IsOwnersWork w (Phase.Trees (TreePhase.Snapshot x)) hook
-  owners_work = record {
-    changes = snapshot_changes x x.step;
-    comes_to_own = snapshot_comes_to x x.step (read w.words (snapshot_next x x.step).0);
-  }
+  owners_work = grind arith
 
   each_part : (part : Part) → Holds c (after_step w t (Phase.Trees (TreePhase.Snapshot x)) hook) part
   each_part Owner =

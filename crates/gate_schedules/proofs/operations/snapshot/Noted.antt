@@ -2,7 +2,7 @@
 use Rattle.std.proofs.Common.{◌≡◌, ℕ, zero, suc, ◌+◌, ◌-◌, ◌<◌, ◌≤◌, List, [], ◌∷◌, length, refl, sym, ap, ◌∙◌, subst, inl, inr, arith, get_or-set_same}
 use Rattle.std.proofs.lemmas.Grind.{common_steps}
 use Rattle.std.proofs.Common.{get_or-set_other}
-use Rattle.std.proofs.{Math.ListN.length-set, lemmas.{Bool.{cases_Bool, lt-ltb, le-ltb, cases_lt, Decides.eqb_tells}, List.length-replicate}}
+use Rattle.std.proofs.{lemmas.{Bool.{cases_Bool, lt-ltb, le-ltb, cases_lt, Decides.eqb_tells}, List.length-replicate}}
 use Rattle.std.specs.Prelude.{slice_index}
 use Rattle.cpu_words.specs.{Hooks.HookAnswer, Touches.{event_of, found_by}, declared.names.WordName.WordName}
 use Rattle.node_words.specs.Nodes.{node_shown}

@@ -1,7 +1,6 @@
 -- Traces of a snapshot.
-use Rattle.std.proofs.Common.{◌≡◌, ℕ, ◌+◌, ◌*◌, ◌<◌, ◌≤◌, Bool, true, false, refl, sym, subst, inl, inr, arith}
-use Rattle.std.proofs.lemmas.Bool.{cases_Bool, cases_lt, lt-ltb, le-ltb}
-use Rattle.std.specs.Prelude.{◌==◌, Ok, Err, List, [], ◌∷◌, length}
+use Rattle.std.proofs.Common.{◌≡◌, ℕ, ◌+◌, ◌*◌, ◌<◌, ◌≤◌, Bool, true, false, refl, sym, subst, arith}
+use Rattle.std.specs.Prelude.{List, [], ◌∷◌, length}
 use Rattle.access_model.specs.declared.{actions.Action.Action, errors.GateError.GateError, replies.{Next.Next, Reply.Reply}}
 use Rattle.cpu_words.specs.{Hooks.HookAnswer, Touches.found_by, declared.events.Event.Event}
 use Rattle.node_words.specs.Nodes.{node_after}
@@ -71,18 +70,12 @@ module _ (c : Config) (t : ℕ) (wait : Bool) where
   -- the next node is loaded, or the children of the first
   next_node : (trace : List Traced) (node : ℕ) → node < c.nodes →
       Comes trace (node + 3) (Next.Go (snapshot_of (node_step (node_after node c.nodes))))
-  next_node trace node lt = elim (cases_lt (node + 1) c.nodes) [
-    | inl l ↦ rw (lt-ltb (node + 1) c.nodes l) (SnapshotStep.LoadsNode (node + 1), refl, l, λ q. omega arith)
-    | inr l ↦ rw (le-ltb (node + 1) c.nodes l) (SnapshotStep.LoadsKids 0, refl, omega (arith, lt), λ q. omega (arith, lt))
-  ]
+  next_node trace node lt = grind arith
 
   -- the children of the next node are loaded, or all words are
   next_kids : (trace : List Traced) (node : ℕ) → node < c.nodes →
       Comes trace (c.nodes + node + 3) (Next.Go (snapshot_of (kids_step (node_after node c.nodes))))
-  next_kids trace node lt = elim (cases_lt (node + 1) c.nodes) [
-    | inl l ↦ rw (lt-ltb (node + 1) c.nodes l) (SnapshotStep.LoadsKids (node + 1), refl, l, λ q. omega arith)
-    | inr l ↦ rw (le-ltb (node + 1) c.nodes l) (SnapshotStep.Releases (Ok Reply.Tree), refl, tt, λ q. omega (arith, lt))
-  ]
+  next_kids trace node lt = grind arith
 
   -- each event of a snapshot is followed by a later step of it, or by its end
   snapshot_goes : IsWithin c → (earlier : List Traced) (s : SnapshotStep) (value : ℕ) (hook : HookAnswer) → IsThere c earlier s →
@@ -100,12 +93,7 @@ module _ (c : Config) (t : ℕ) (wait : Bool) where
   snapshot_answers : (s : SnapshotStep) (trace : List Traced) →
       Answers Snapshot SnapshotStep TreePhase.Snapshot snapshot_of Knows so_far (IsThere c) (events_before c) (2 * c.nodes + 4) wait c
       (Op.Snapshot wait) (IsReply Reply.Tree) (SnapshotHonest (SeenIn trace) (snapshot_of s)) (λ answer. []) trace
-  snapshot_answers s trace = record {
-    told = λ reply h. h;
-    honest = snapshot_cause s trace;
-    actions = λ answer. refl;
-    short = most_short c wait trace;
-  }
+  snapshot_answers s trace = grind arith
 
   -- a step comes after at most that many events
   snapshot_within : (s : SnapshotStep) (trace : List Traced) → IsThere c trace s → length trace ≤ events_before c s →

@@ -1,15 +1,14 @@
 -- The causes of a thaw's refusals, along a schedule, and the counts, which a thaw leaves.
-use Rattle.std.proofs.{Common.{◌≡◌, ℕ, refl, ap, ◌∙◌, inl, inr}, lemmas.Bool.{ne_eqb, Decides.eqb_tells}}
+use Rattle.std.proofs.{Common.{◌≡◌, ℕ, refl, inl, inr}, lemmas.Bool.{Decides.eqb_tells}}
 use Rattle.std.proofs.Common.{arith}
-use Rattle.std.specs.Prelude.{Option, Some, Ok, Err, List, ◌∷◌, ◌-◌, ◌==◌, ◌||◌, not, Bool, true, false}
+use Rattle.std.specs.Prelude.{Option, Some, Ok, Err, List, ◌∷◌, ◌||◌, Bool, true, false}
 use Rattle.access_model.specs.{Holders.held_by, Replies.map_next, declared.{errors.GateError.GateError, replies.Reply.Reply}}
 use Rattle.cpu_words.specs.Hooks.{HookAnswer}
 use Rattle.percpu_rwsem.specs.{SyncWords.on_exit, Transitions.transition_after, Writers.{exit_made, up_write_after}}
 use Rattle.percpu_rwsem.specs.declared.{transitions.TransitionNext.TransitionNext, writers.{UpWrite.UpWrite, UpWriteStep.UpWriteStep}}
 use Rattle.freeze_levels.specs.{Holders.holders_in, Thaws.{at_thaw, thaw_opens, after_opening}, declared.thaws.{Thaw.Thaw, ThawStep.ThawStep}}
-use Rattle.gate_world.specs.{Causes.{looks_at_stage, was_unheld}, KeptCauses.{ThawCause, CauseOf}, Views.phase_after, Work.after_of, Worlds.{World, found_at}}
+use Rattle.gate_world.specs.{KeptCauses.{ThawCause, CauseOf}, Views.phase_after, Work.after_of, Worlds.{World, found_at}}
 use Rattle.gate_world.specs.declared.{config.Config.Config, work.Phase.Phase}
-use Rattle.gate_schedules.proofs.{operations.thaw.Fits.finds_cases, traces.Moments.{look_skips, look_stands}}
 
 -- a task whose view another entry leaves alone: the cause of each step stays
 pub thaw_stays : (c : Config) (t : ℕ) (w next : World) (earlier : List World) (x : Thaw) (s : ThawStep) →
@@ -48,16 +47,12 @@ module _ (c : Config) (t : ℕ) (w next : World) (earlier : List World) (x : Tha
   -- where the stage was found other than 4, it was so when the thaw looked
   stage_own : (w.views t).phase ≡ Some (Phase.Thaws (at_thaw x ThawStep.LoadsStage)) → (w.words.stage ≡ 4 → ⊥) →
       (next.views t).phase ≡ Some (Phase.Thaws (at_thaw x (ThawStep.Releases (Err GateError.Invalid)))) → CauseAfter (ThawStep.Releases (Err GateError.Invalid))
-  stage_own e other e' r =
-      ap (was_unheld c x.holder) (look_skips t next (w ∷ earlier) (ap looks_at_stage e') ∙ look_stands t w earlier (ap looks_at_stage e)) ∙
-      ap (λ b. not b || not (held_by (holders_in w.words.holders) x.holder)) (ne_eqb w.words.stage 4 other)
+  stage_own e other e' r = grind arith
 
   -- where its holder was found to hold none, it was so then
   holder_own : (w.views t).phase ≡ Some (Phase.Thaws (at_thaw x ThawStep.LoadsHolders)) → held_by (holders_in w.words.holders) x.holder ≡ false →
       (next.views t).phase ≡ Some (Phase.Thaws (at_thaw x (ThawStep.Releases (Err GateError.Invalid)))) → CauseAfter (ThawStep.Releases (Err GateError.Invalid))
-  holder_own e other e' r =
-      ap (was_unheld c x.holder) (look_skips t next (w ∷ earlier) (ap looks_at_stage e') ∙ look_stands t w earlier (ap looks_at_stage e)) ∙
-      ap (λ b. not (w.words.stage == 4) || not b) other ∙ or_true (not (w.words.stage == 4))
+  holder_own e other e' r = grind arith
 
   -- what comes after an event has its cause
   pub thaw_own : (hook : HookAnswer) (s : ThawStep) → (w.views t).phase ≡ Some (Phase.Thaws (at_thaw x s)) →

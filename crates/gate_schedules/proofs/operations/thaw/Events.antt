@@ -1,7 +1,7 @@
 -- The law of each event of a thaw.
 use Rattle.gate_world.specs.Roles.{thaw_owns}
 use Rattle.gate_schedules.proofs.frames.{Accesses.holdings_of_after, ByPhase.thaw_owner, Frames.{added_load, taken_load}}
-use Rattle.gate_schedules.proofs.frames.{Holders.{holders_after, holders_at, holders_stay, nobody_minds}, Keeps.by_bool}
+use Rattle.gate_schedules.proofs.frames.{Holders.{holders_after, holders_at, holders_stay, nobody_minds}}
 use Rattle.gate_schedules.proofs.frames.Stages.{IsStageEvent, alike_same, nobody_owns, owners_alike, stages_in}
 use Rattle.gate_schedules.proofs.levels.{Standing.{LevelsHold, Stands, left_world, stand_after_opening, still_closed}, UpWrite.up_write_levels, Whole.thaws_all}
 use Rattle.gate_schedules.proofs.{mounts.Parts.{level_added_load, level_taken_load}, operations.thaw.Fits.{finds_cases, thaw_goes}}
@@ -19,7 +19,7 @@ use Rattle.finite_sums.specs.Sums.{total, update}
 use Rattle.freeze_levels.specs.{Holders.{holders_in, word_of}, Levels.reopening, Thaws.{after_opening, at_thaw, thaw_opens}, declared.thaws.Thaw.Thaw}
 use Rattle.freeze_levels.specs.declared.thaws.ThawStep.{ThawStep}
 use Rattle.gate_world.specs.{Configs.{IsWithin, model_limits}, Fits.{Fits, PhaseFits, ThawFits}, Holdings.{Holdings, holdings_of}, Levels.is_frozen_whole}
-use Rattle.gate_world.specs.{Levels.{level_added_after, level_added_by, level_taken_after, level_taken_by}, Roles.{closed_to, thaw_holder_role}}
+use Rattle.gate_world.specs.{Levels.{level_added_after, level_added_by, level_taken_after, level_taken_by}, Roles.{thaw_holder_role}}
 use Rattle.gate_world.specs.{Roles.{thaw_stage_role, thaw_stand}, Rules.{Fitting, Holding, Holds, IsGood, OwnerHolds, Stages, StepKeeps, ViewFits}}
 use Rattle.gate_world.specs.{Rules.{holder_role_of, holder_roles, marks_of, owns, stage_role_of, stage_roles}, Shown.shown, Trees.tree_role_of}
 use Rattle.gate_world.specs.Views.{actions_after}
@@ -37,7 +37,7 @@ use Rattle.freeze_laws.specs.stages.Events.{ClearsBlock as ClearsBlockOf, IsAlik
 use Rattle.freeze_laws.specs.stages.{Events.{Stays, Thaws as StoresThaw, ThawsAtOnce, action_of as stage_action_of, playing}, Roles.{CleanBelow, KnowsStage, Owning}}
 use Rattle.freeze_laws.specs.stages.{Roles.{Reopening, StageRole, clean_by, is_full, owns as stage_owns}, Shown.state_after}
 use Rattle.std.proofs.{Common.{ap, arith, inl, inr, refl, subst, suc, sym, zero, ℕ, ◌+◌, ◌-◌, ◌<◌, ◌∙◌, ◌≡◌, ◌≤◌}, lemmas.Bool.{ne_eqb, Decides.eqb_tells}}
-use Rattle.std.specs.Prelude.{Err, List, None, Ok, Option, Result, Some, false, if◌then◌else◌, true, ◌==◌, ◌∷◌}
+use Rattle.std.specs.Prelude.{Err, List, None, Ok, Option, Result, Some, false, true, ◌∷◌}
 
 none_below : (dirty : ℕ → ℕ) → CleanBelow 0 dirty
 none_below dirty n below = absurd (omega (arith, below))
@@ -52,11 +52,7 @@ idle_stands = record { counts = λ i one three. refl; syncs = λ i one three. re
 module _ (x : Thaw) where
   -- with the levels up to one still closed
   opens_stand : (level : ℕ) → Stands (Some (Phase.Thaws (at_thaw x (thaw_opens level)))) (still_closed level)
-  opens_stand level =
-      by_bool (level == 0)
-      (λ b. Stands (Some (Phase.Thaws (at_thaw x (if b then ThawStep.Releases (Ok Reply.Unit) else ThawStep.Reopens (reopening level)))))
-      (if b then None else Some (closed_to level)))
-      (thaw_stands (at_thaw x (ThawStep.Releases (Ok Reply.Unit)))) (thaw_stands (at_thaw x (ThawStep.Reopens (reopening level))))
+  opens_stand level = grind arith
 
   -- it stands so with the levels
   pub opening_stands : (level : ℕ) (n : Next UpWrite) →
@@ -65,9 +61,7 @@ module _ (x : Thaw) where
 
   -- it owns `umount`, with the levels up to one still closed
   opens_own : (level : ℕ) → thaw_owns (thaw_opens level) ≡ 1
-  opens_own level =
-      by_bool (level == 0) (λ b. thaw_owns (if b then ThawStep.Releases (Ok Reply.Unit) else ThawStep.Reopens (reopening level)) ≡ 1)
-      refl refl
+  opens_own level = grind arith
 
   opening_owns : (level : ℕ) (n : Next UpWrite) → owns (phase_after (map_next Phase.Thaws (after_opening x level n))) ≡ 1
   opening_owns level a1 = grind arith

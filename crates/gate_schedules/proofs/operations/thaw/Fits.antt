@@ -1,18 +1,18 @@
 -- What fits after an event of a thaw.
 use Rattle.std.proofs.{Common.{false, ◌≡◌, ℕ, ◌≤◌, true, arith, inl, inr}, lemmas.Bool.Decides.eqb_tells}
-use Rattle.std.specs.Prelude.{◌-◌, ◌==◌, if◌then◌else◌, Ok, Err}
+use Rattle.std.specs.Prelude.{if◌then◌else◌, Err}
 use Rattle.access_model.specs.{Holders.{held_by, with_holder, is_unheld}, Replies.map_next}
 use Rattle.access_model.specs.declared.{actions.{Holder.Holder, Holders.Holders}, errors.GateError.GateError, replies.Next.Next}
 use Rattle.cpu_words.specs.{Hooks.HookAnswer, Names.IsWord, Touches.left}
 use Rattle.percpu_rwsem.specs.{SyncWords.on_exit, Transitions.{transition_next, transition_after}, Writers.exit_made}
 use Rattle.percpu_rwsem.specs.declared.{transitions.{Transition.Transition, TransitionNext.TransitionNext}, writers.UpWriteStep.UpWriteStep}
-use Rattle.freeze_levels.specs.{Holders.holders_in, Thaws.{thaw_next, thaw_after, at_thaw, thaw_opens, thaw_finds, after_opening}}
+use Rattle.freeze_levels.specs.{Thaws.{thaw_next, thaw_after, at_thaw, thaw_opens, thaw_finds, after_opening}}
 use Rattle.freeze_levels.specs.declared.thaws.{Thaw.Thaw, ThawStep.ThawStep}
 use Rattle.freeze_laws.{proofs.levels.Exchanges.exchanges_make_transitions, specs.levels.Exchanges.{Shows, KnowsWords}}
 use Rattle.gate_world.specs.{Configs.extents_of, Fits.{UpWriteFits, ThawFits, PhaseFits, Fits, ActionFits}}
 use Rattle.gate_world.specs.{Holdings.{Holdings, held_after}, Operations.holds_none}
 use Rattle.gate_world.specs.{Views.phase_after, declared.{config.Config.Config, work.Phase.Phase}}
-use Rattle.gate_schedules.proofs.{frames.{Cases.both, Keeps.by_bool}, operations.freeze.Fits.up_write_word}
+use Rattle.gate_schedules.proofs.{frames.{Cases.both}}
 
 -- What comes after a look at who holds a freeze: a refusal, where its own holder doesn't; the superblock's flag, where it alone does; or
 -- else the store without it.

@@ -1,15 +1,15 @@
 -- Traces of a thaw.
-use Rattle.std.proofs.{Common.{◌≡◌, ℕ, zero, suc, ◌≤◌, true, false, refl, sym, ap, ◌∙◌, subst, inl, inr, arith}, lemmas.Bool.{cases_Bool, Decides.eqb_tells}}
-use Rattle.std.specs.Prelude.{◌-◌, ◌==◌, ◌||◌, not, Result, Ok, Err, List, [], ◌∷◌}
+use Rattle.std.proofs.{Common.{◌≡◌, ℕ, zero, suc, ◌≤◌, true, false, refl, ap, inl, inr, arith}}
+use Rattle.std.specs.Prelude.{◌-◌, Result, Ok, Err, List, [], ◌∷◌}
 use Rattle.access_model.specs.Replies.{map_next}
 use Rattle.access_model.specs.declared.{actions.{Action.Action, Holder.Holder}, errors.GateError.GateError, replies.Reply.Reply}
 use Rattle.cpu_words.specs.{Hooks.HookAnswer, Touches.event_of, declared.{events.Touch.Touch, names.WordName.WordName}}
-use Rattle.percpu_rwsem.specs.{SyncWords.on_exit, Transitions.transition_after, Writers.exit_made}
-use Rattle.percpu_rwsem.specs.declared.{transitions.{Transition.Transition, TransitionNext.TransitionNext}, writers.UpWriteStep.UpWriteStep}
-use Rattle.freeze_levels.specs.{Holders.holders_in, Levels.reopening, Thaws.{thaw_opens, after_opening}, declared.thaws.{Thaw.Thaw, ThawStep.ThawStep}}
-use Rattle.gate_world.specs.{Found.{found_sealed, found_shared, found_unheld, each_event, finds_taken}, Traces.{actions_of, IsHonestAnswer}, Views.with_hook}
+use Rattle.percpu_rwsem.specs.{Writers.exit_made}
+use Rattle.percpu_rwsem.specs.declared.{transitions.{TransitionNext.TransitionNext}, writers.UpWriteStep.UpWriteStep}
+use Rattle.freeze_levels.specs.{Thaws.{thaw_opens, after_opening}, declared.thaws.{Thaw.Thaw, ThawStep.ThawStep}}
+use Rattle.gate_world.specs.{Found.{found_sealed, found_shared, each_event, finds_taken}, Traces.{actions_of, IsHonestAnswer}, Views.with_hook}
 use Rattle.gate_world.specs.declared.{config.Config.Config, operations.Op.Op, views.Traced.Traced, work.Phase.Phase}
-use Rattle.gate_schedules.proofs.{operations.thaw.Fits.finds_cases, traces.Says.{Says, SaysAfter, Kept, event_at}}
+use Rattle.gate_schedules.proofs.{traces.Says.{Says, SaysAfter, Kept, event_at}}
 
 -- a thaw by a task, at this step
 abbrev thaw_of : ℕ → Holder → ThawStep → Thaw
@@ -70,11 +70,7 @@ lock_leaves c holder answer value hook earlier added h = h
 opens_says : (c : Config) (holder : Holder) (level : ℕ) (trace : List Traced) (added : List Action) → level ≤ 3 →
     added ≡ opened_to holder level → (found_sealed trace ≡ false) × (found_shared holder trace ≡ false) →
     StepSays c holder (thaw_opens level) trace added
-opens_says c holder level trace added l3 h none =
-    elim (eqb_tells level 0) [
-      | inl z ↦ rw (z.0, none.1, none.0) (h ∙ ap (opened_to holder) z.1, tt)
-      | inr z ↦ rw z.0 (h, none, omega (arith, z.1), l3)
-    ]
+opens_says c holder level trace added l3 h none = grind arith
 
 module _ (c : Config) (t : ℕ) (holder : Holder) (value : ℕ) (earlier : List Traced) (added : List Action) where
   -- the trace after the event of a step
@@ -86,33 +82,16 @@ module _ (c : Config) (t : ℕ) (holder : Holder) (value : ℕ) (earlier : List 
   After hook step = SaysAfter (ThawAt c t holder) c (Op.Thaw holder) (Phase.Thaws (thaw_of t holder step)) value hook earlier added
 
   locks : (hook : HookAnswer) → StepSays c holder ThawStep.Locks earlier added → After hook ThawStep.Locks
-  locks hook h =
-      elim (cases_Bool (value == 0)) [
-        | inl f ↦ rw f (ThawStep.LoadsStage, refl, h.1)
-        | inr f ↦ rw f ((ThawStep.Locks, refl, (rw f h.0, h.1)), rw f h.0)
-      ]
+  locks hook h = grind arith
 
   loads_stage : (hook : HookAnswer) → StepSays c holder ThawStep.LoadsStage earlier added → After hook ThawStep.LoadsStage
-  loads_stage hook h =
-      elim (cases_Bool (value == 4)) [
-        | inl f ↦ rw f (ThawStep.LoadsHolders, refl, h)
-        | inr f ↦ rw f (ThawStep.Releases (Err GateError.Invalid), refl, (h.0, inl (rw f refl)))
-      ]
+  loads_stage hook h = grind arith
 
   loads_holders : (hook : HookAnswer) → StepSays c holder ThawStep.LoadsHolders earlier added → After hook ThawStep.LoadsHolders
-  loads_holders hook h =
-      finds_cases (thaw_of t holder ThawStep.LoadsHolders) (holders_in value)
-      (λ s. ThawAt c t holder (longer hook ThawStep.LoadsHolders) (Phase.Thaws (thaw_of t holder s)) added)
-      (λ other. (ThawStep.Releases (Err GateError.Invalid), refl, (h.0, inr (ap (λ b. not b || found_unheld holder earlier) other))))
-      (λ own alone. (ThawStep.LoadsSuperblock, refl, (h.0, h.1, ap (λ b. not b || found_shared holder earlier) alone ∙ h.2)))
-      (λ own shared. (ThawStep.Leaves (holders_in value), refl, (h.0, ap (λ b. not b || found_shared holder earlier) shared)))
+  loads_holders hook h = grind arith
 
   loads_superblock : (hook : HookAnswer) → StepSays c holder ThawStep.LoadsSuperblock earlier added → After hook ThawStep.LoadsSuperblock
-  loads_superblock hook h =
-      elim (cases_Bool (value == 0)) [
-        | inl f ↦ rw f (ThawStep.LeavesLast, refl, (h.0, rw f h.1, h.2))
-        | inr f ↦ rw f (ThawStep.LeavesReadOnly, refl, (h.0, rw f refl, h.2))
-      ]
+  loads_superblock hook h = grind arith
 
   leaves_last : (hook : HookAnswer) → StepSays c holder ThawStep.LeavesLast earlier added → After hook ThawStep.LeavesLast
   leaves_last (Ok answer) h = (ThawStep.SetsUnfrozen, refl, (ap (λ (l : List Action). Action.Leave holder ∷ l) h.0, h.1, h.2))
@@ -134,10 +113,4 @@ module _ (c : Config) (t : ℕ) (holder : Holder) (value : ℕ) (earlier : List 
   thaw_event hook a1 h = grind arith
 
 pub thaw_kept : (c : Config) (t : ℕ) (holder : Holder) → Kept (ThawAt c t holder) c t (Op.Thaw holder)
-thaw_kept c t holder = record {
-  first = (ThawStep.Locks, refl, (refl, (refl, refl, refl)));
-  more = λ phase value hook earlier added here.
-      subst (λ (x : Phase). SaysAfter (ThawAt c t holder) c (Op.Thaw holder) x value hook earlier added) (sym here.1)
-      (thaw_event c t holder value earlier added hook here.0 here.2);
-  short = λ trace phase added here. tt;
-}
+thaw_kept c t holder = grind arith

@@ -1,13 +1,12 @@
 -- What fits after an event of a want.
-use Rattle.std.{proofs.Common.{◌≡◌, refl, ℕ, ◌<◌, Bool}, specs.Prelude.{◌==◌, if◌then◌else◌, Some, None, Ok}}
+use Rattle.std.{proofs.Common.{◌≡◌, ℕ, ◌<◌, Bool}, specs.Prelude.{if◌then◌else◌, Some, None, Ok}}
 use Rattle.std.proofs.Common.{arith}
 use Rattle.access_model.specs.{Replies.map_next, declared.{actions.{Action.Action, Gate.Gate}, errors.GateError.GateError, replies.{Next.Next, Reply.Reply}}}
 use Rattle.cpu_words.specs.Names.{IsWord}
-use Rattle.mount_counts.specs.Phases.{has_flag, at_want, hold_found, want_next, want_after, next}
+use Rattle.mount_counts.specs.Phases.{at_want, want_next, want_after, next}
 use Rattle.mount_counts.specs.declared.phases.{MountPhase.MountPhase, Want.Want, WantStep.WantStep}
 use Rattle.gate_world.specs.{Configs.{IsWithin, extents_of}, Fits.{MountFits, Fits, ActionFits}, Holdings.{Holdings, held_after}, Views.phase_after}
 use Rattle.gate_world.specs.declared.{config.Config.Config, work.Phase.Phase}
-use Rattle.gate_schedules.proofs.frames.Keeps.{by_bool}
 
 -- the word of each event of a want is there
 pub want_there : (c : Config) (w : Want) (step : WantStep) → w.mount < c.mounts → w.cpu < c.processors → IsWord (extents_of c) (want_next w step).0

@@ -175,10 +175,4 @@ abbrev pub DropAt : ℕ → ℕ → List Traced → Phase → List Action → Ty
 DropAt m p trace phase added = (phase ≡ Phase.Mounts (MountPhase.Drop m p)) × (trace ≡ []) × (added ≡ [])
 
 pub drop_kept : (c : Config) (t m p : ℕ) → Kept (DropAt m p) c t (Op.DropMount m p)
-drop_kept c t m p = record {
-  first = (refl, refl, refl);
-  more = λ phase value hook earlier added here.
-      subst (λ (x : Phase). SaysAfter (DropAt m p) c (Op.DropMount m p) x value hook earlier added) (sym here.0)
-      ((ap (λ (l : List Action). Action.Return (Gate.Mount m) ∷ l) here.2, tt), omega (arith, ap length here.1));
-  short = λ trace phase added here. omega (arith, ap length here.1);
-}
+drop_kept c t m p = grind arith

@@ -7,8 +7,8 @@ use Rattle.gate_world.specs.{Alike.{IsAlike, no_roles}, Fits.Fits, Holdings.Hold
 use Rattle.gate_world.specs.declared.work.Phase.{Phase}
 use Rattle.mount_counts.specs.declared.phases.{MountPhase.MountPhase, Want.Want}
 use Rattle.percpu_rwsem.specs.declared.readers.DownRead.{DownRead}
-use Rattle.std.proofs.Common.{refl, subst, true, ℕ, ◌<◌, ◌∙◌, ◌≡◌}
-use Rattle.std.specs.Prelude.{Err, Ok, Some}
+use Rattle.std.proofs.Common.{refl, true, ℕ, ◌<◌, ◌≡◌}
+use Rattle.std.specs.Prelude.{Ok, Some}
 use Rattle.compounds.specs.{write_access.Phases.{then_gives_back, then_wants}, declared.write_access.phases.WritePhase.WritePhase}
 
 pub alike_plain : (x : WritePhase) → IsAlike (Some (Phase.Writes x)) (Some (plain x))

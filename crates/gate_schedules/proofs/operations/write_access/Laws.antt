@@ -5,9 +5,9 @@ use Rattle.finite_sums.proofs.Totals.{update_same}
 use Rattle.finite_sums.specs.Sums.{update}
 use Rattle.gate_schedules.proofs.frames.{Agreeing.none_agree, Beside.update_twice, Frames.{count_none, role_on, sync_none}, Keeps.{OpKeeps, PhaseKeeps}}
 use Rattle.gate_schedules.proofs.{frames.Snapshots.completes_none, operations.readers.Causes.{read_not_closed, read_own, read_stays}}
-use Rattle.gate_schedules.proofs.operations.readers.{Fits.{read_goes, read_mounts}, Laws.{end_phase, read_phase}, Waits.read_waits}
-use Rattle.gate_schedules.proofs.operations.want.{Causes.{want_kept, want_own}, Fits.want_leaves, Laws.{drop_phase, want_phase}, Waits.want_waits}
-use Rattle.gate_schedules.proofs.operations.write_access.Alike.{alike_takes, alike_wants, takes_goes, wants_goes}
+use Rattle.gate_schedules.proofs.operations.readers.{Laws.{end_phase, read_phase}, Waits.read_waits}
+use Rattle.gate_schedules.proofs.operations.want.{Causes.{want_kept, want_own}, Laws.{drop_phase, want_phase}, Waits.want_waits}
+use Rattle.gate_schedules.proofs.operations.write_access.Alike.{alike_takes, alike_wants}
 use Rattle.gate_schedules.proofs.operations.write_access.Causes.{takes_asks, takes_cause, takes_waits, wants_asked, wants_cause, wants_waits}
 use Rattle.gate_schedules.proofs.operations.write_access.Events.{first_world, write_fits_now, write_runs, write_step}
 use Rattle.gate_schedules.proofs.operations.write_access.Trace.{DropAt, WriteAt, drop_kept, write_kept}
@@ -18,7 +18,7 @@ use Rattle.gate_world.specs.{Worlds.{World, after_step, found_at}, declared.{con
 use Rattle.freeze_laws.specs.levels.{Events.SyncStep, Roles.closed}
 use Rattle.mount_counts.specs.{Phases.want_after, declared.phases.{MountPhase.MountPhase, Want.Want, WantStep.WantStep}}
 use Rattle.percpu_rwsem.specs.{Readers.down_read_after, declared.readers.DownRead.DownRead}
-use Rattle.std.proofs.{Common.{Bool, ap, arith, false, refl, subst, sym, true, true≢false, ℕ, ◌<◌, ◌∙◌, ◌≡◌, ◌≤◌}, lemmas.Bool.ltb-true}
+use Rattle.std.proofs.{Common.{Bool, ap, arith, false, refl, sym, true, true≢false, ℕ, ◌<◌, ◌∙◌, ◌≡◌, ◌≤◌}, lemmas.Bool.ltb-true}
 use Rattle.std.specs.Prelude.{Err, Ok, Some, nat_lt, not, ◌&&◌, ◌∷◌}
 use Rattle.compounds.specs.{write_access.Phases.{leaves_on, then_gives_back, then_wants}, declared.write_access.phases.WritePhase.WritePhase}
 
@@ -26,17 +26,12 @@ use Rattle.compounds.specs.{write_access.Phases.{leaves_on, then_gives_back, the
 takes_fits : (c : Config) (t : ℕ) (held : Holdings) (m : ℕ) (r : DownRead) (found : ℕ) →
     WriteFits c t held (WritePhase.Takes m r) → Fits c t (held_after (down_read_after r r.step found).1 held)
     (phase_after (map_next Phase.Writes (then_wants m r.cpu (down_read_after r r.step found).0)))
-takes_fits c t held m r found f =
-    takes_goes c t (held_after (down_read_after r r.step found).1 held) m r.cpu f.2 f.0.2 r.level (down_read_after r r.step found).0 f.1
-    (subst (λ g. g m < 1024) (sym (read_mounts held r r.step found)) f.3) (read_goes c t r f.0.0 f.0.1 f.0.2 f.0.3 held r.step found f.0.4)
+takes_fits c t held m r found f = grind arith
 
 wants_fits : (c : Config) → IsWithin c → (t : ℕ) (held : Holdings) (x : Want) (found : ℕ) (hook : HookAnswer) →
     WriteFits c t held (WritePhase.Wants x) → Fits c t (held_after (want_after x x.step found).1 held)
     (phase_after (map_next Phase.Writes (then_gives_back x.mount x.cpu (want_after x x.step found).0)))
-wants_fits c lim t held x found hook f =
-    wants_goes c t (held_after (want_after x x.step found).1 held) x.mount x.cpu
-    f.0.0 f.0.1 (want_after x x.step found).0 (ap (λ g. g 1) (want_leaves x x.step found held) ∙ f.1)
-    ((want_phase c x).goes lim t held found hook f.0)
+wants_fits c lim t held x found hook f = grind arith
 
 -- each event keeps the rule, and moves the shown model by its action or not at all, as its gate's does
 pub write_keeps : (c : Config) → IsWithin c → (w : World) → IsGood c w → (t : ℕ) → t < c.tasks → (hook : HookAnswer) → (x : WritePhase) →
@@ -203,9 +198,7 @@ level_restored : (levels : ℕ → Bool) → levels 1 ≡ false → update (upda
 level_restored levels free = update_twice levels 1 true false ∙ (ap (update levels 1) (sym free) ∙ update_same levels 1)
 
 in_mount : (c : Config) (m p : ℕ) → (nat_lt m c.mounts && nat_lt p c.processors) ≡ true → (m < c.mounts) × (p < c.processors)
-in_mount c m p there =
-    let at : (nat_lt m c.mounts ≡ true) × (nat_lt p c.processors ≡ true) = both_true (nat_lt m c.mounts) (nat_lt p c.processors) there in
-    (ltb-true m c.mounts at.0, ltb-true p c.processors at.1)
+in_mount c m p there = grind arith
 
 pub want_write_op : (c : Config) (m p : ℕ) → OpKeeps c (Op.WantWrite m p)
 want_write_op c m p = record {

@@ -1,5 +1,5 @@
 -- Traces of a taking and of a return of write access: those of their gates, one after the other.
-use Rattle.std.{proofs.Common.{◌≡◌, ℕ, ◌≤◌, true, refl, sym, ap, subst, inl, inr, arith}, specs.Prelude.{Ok, Err, List, [], ◌∷◌, length}}
+use Rattle.std.{proofs.Common.{◌≡◌, ℕ, ◌≤◌, true, refl, sym, ap, subst, inl, arith}, specs.Prelude.{Ok, Err, List, [], ◌∷◌, length}}
 use Rattle.access_model.specs.{Replies.map_next, declared.{actions.{Action.Action, Gate.Gate}, errors.GateError.GateError, replies.Next.Next}}
 use Rattle.cpu_words.specs.{Hooks.HookAnswer, Touches.{event_of, found_by}}
 use Rattle.mount_counts.specs.{Phases.{want_next, want_after}, declared.phases.{Want.Want, WantStep.WantStep}}
@@ -119,10 +119,4 @@ drop_short : (m p : ℕ) (x : WritePhase) (trace : List Traced) (added : List Ac
 drop_short m p other trace added h = grind arith
 
 pub drop_kept : (c : Config) (t m p : ℕ) → Kept (DropAt m p) c t (Op.DropWrite m p)
-drop_kept c t m p = record {
-  first = (WritePhase.Drops m p, refl, (refl, refl, refl));
-  more = λ phase value hook earlier added here.
-      subst (λ (x : Phase). SaysAfter (DropAt m p) c (Op.DropWrite m p) x value hook earlier added) (sym here.1)
-      (drop_event c m p value hook earlier added here.0 here.2);
-  short = λ trace phase added here. drop_short m p here.0 trace added here.2;
-}
+drop_kept c t m p = grind arith

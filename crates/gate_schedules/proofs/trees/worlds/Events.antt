@@ -3,8 +3,7 @@ use Rattle.std.{proofs.Common.{◌≡◌, ℕ, ◌<◌, ◌∙◌, refl, sym, ar
 use Rattle.access_model.specs.{Replies.map_next, declared.replies.Next.Next}
 use Rattle.cpu_words.specs.{Hooks.HookAnswer, Touches.left, Words.{Words, read, put}, declared.names.WordName.WordName}
 use Rattle.gated_tree.specs.Calls.{phase_role, role_after}
-use Rattle.node_words.specs.Phases.{clear_after}
-use Rattle.gated_tree.specs.Phases.{after, create_after, remove_after, grow_after, move_after, mark_after, open_after}
+use Rattle.gated_tree.specs.Phases.{after}
 use Rattle.gated_tree.specs.declared.phases.TreePhase.{TreePhase}
 use Rattle.gate_schedules.specs.trees.Steps.{Notes}
 use Rattle.freeze_laws.specs.levels.Events.{SyncStep}

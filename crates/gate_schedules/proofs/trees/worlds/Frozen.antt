@@ -3,14 +3,14 @@ use Rattle.compounds.specs.declared.file_closes.phases.ClosePhase.{ClosePhase}
 use Rattle.freeze_levels.specs.declared.freezes.FreezeStep.{FreezeStep}
 use Rattle.gate_schedules.proofs.{operations.close.Events.{closer_thawed, removal_counted}, trees.worlds.{Holders.writer_not_frozen, Trees.sealed_frozen}}
 use Rattle.gate_world.specs.{Configs.IsWithin, Fits.{CloseFits, Fits}, Headline.{FrozenTreeIsWhole, TreeIsSound}, Holdings.Holdings, Operations.is_writer}
-use Rattle.gate_world.specs.{Roles.{close_tree_role, freeze_tree_role, remount_tree_role}, Rules.{Fitting, IsGood, Tree}, Snapshots.values_noted}
+use Rattle.gate_world.specs.{Roles.{close_tree_role, freeze_tree_role, remount_tree_role}, Rules.{Fitting, IsGood, Tree}}
 use Rattle.gate_world.specs.{Trees.{tree_bounds, tree_of, tree_role_of, tree_roles}, Views.held_of, Worlds.World, declared.config.Config.Config}
 use Rattle.gate_world.specs.declared.{views.Traced.Traced, work.Phase.Phase}
 use Rattle.gated_tree.specs.{Calls.{mark_role, open_role, snapshot_role}, Roles.{HasNoCharge, removal}, declared.marks.{Mark.Mark, MarkStep.MarkStep}}
-use Rattle.gated_tree.specs.declared.{opens.{OpenFile.OpenFile, OpenStep.OpenStep}, phases.TreePhase.TreePhase, snapshots.SnapshotStep.SnapshotStep}
+use Rattle.gated_tree.specs.declared.{opens.{OpenFile.OpenFile, OpenStep.OpenStep}, snapshots.SnapshotStep.SnapshotStep}
 use Rattle.mount_counts.specs.declared.remounts.RemountStep.{RemountStep}
 use Rattle.std.proofs.Common.{arith, refl, subst, sym, ℕ, ◌<◌, ◌≡◌}
-use Rattle.std.specs.Prelude.{Err, List, None, Ok, Option, Some, true}
+use Rattle.std.specs.Prelude.{List, None, Option, true}
 use Rattle.gate_schedules.proofs.trees.Clearings.{exact}
 
 pub snapshot_charges_none : (nodes : ℕ) (values : ℕ → ℕ) (s : SnapshotStep) → HasNoCharge (snapshot_role nodes values s)

@@ -16,7 +16,7 @@ use Rattle.percpu_rwsem.specs.declared.writers.{DownWriteStep.DownWriteStep, UpW
 use Rattle.freeze_laws.proofs.stages.Whole.{freeze_is_under_way}
 use Rattle.freeze_laws.specs.stages.Roles.{Before, Freezing, Place, passed_by}
 use Rattle.std.proofs.{Common.{Bool, ap, arith, false, inl, inr, refl, suc, sym, true, true≢false, zero, ℕ, ◌<◌, ◌≡◌, ◌≤◌, ◌⊎◌}, lemmas.Bool.cases_Bool}
-use Rattle.std.proofs.lemmas.Bool.{cases_lt, ltb-true, ne_eqb, Decides.eqb_tells}
+use Rattle.std.proofs.lemmas.Bool.{cases_lt, ltb-true, ne_eqb}
 use Rattle.std.specs.Prelude.{Option, Some, nat_lt, ◌&&◌, ◌==◌}
 
 pub both_true : (a b : Bool) → (a && b) ≡ true → (a ≡ true) × (b ≡ true)
@@ -35,11 +35,7 @@ below_stand : (i level : ℕ) (r : LevelRole) → i < level → count_beside (i 
 below_stand i level r lt = rw (ne_eqb i level (λ e. omega (arith, e, lt)), below i level lt) refl
 
 up_to_stand : (i level : ℕ) (r : LevelRole) → i ≤ level → r ≡ Passed → count_beside (i == level) (nat_lt i level) r ≡ Passed
-up_to_stand i level r le is =
-    elim (eqb_tells i level) [
-      | inl q ↦ rw q.0 is
-      | inr q ↦ rw (q.0, below i level (omega (arith, le, q.1))) refl
-    ]
+up_to_stand i level r le is = grind arith
 
 place_passed : (stage : ℕ) (place : Place) (owner : Bool) → stage ≤ suc (passed_by (Freezing stage place owner))
 place_passed stage Before owner = omega arith

@@ -6,7 +6,7 @@ use Rattle.finite_sums.specs.Sums.{total}
 use Rattle.freeze_levels.specs.declared.freezes.FreezeStep.{FreezeStep}
 use Rattle.cpu_words.specs.gate_counts.Gates.{BarringHolds, admitted, unread}
 use Rattle.gate_schedules.proofs.trees.worlds.Holders.{IsOpen, both_true, mount_there, none_past, writer_apart}
-use Rattle.gate_schedules.proofs.trees.worlds.{Roles.{call_plain, close_apart, freeze_apart, snapshot_apart}, Trees.{nobody_reads, sealed_frozen}}
+use Rattle.gate_schedules.proofs.trees.worlds.{Roles.{close_apart, freeze_apart}, Trees.{nobody_reads, sealed_frozen}}
 use Rattle.gate_world.specs.{Configs.model_limits, Fits.{Fits, HasFile, PhaseFits, TreeAccess, file_of}, Holdings.Holdings, Operations.is_faulter}
 use Rattle.gate_world.specs.{Operations.{is_writer, may_mark, some_mount}, Remounts.{loop_role, remount_role, remount_sets}, Roles.freeze_stage_role}
 use Rattle.gate_world.specs.{Roles.{freeze_tree_role, nodes_noted, remount_tree_role}, Rules.{AtMount, Files, Fitting, IsGood, Owner, at_mount, remounts}}

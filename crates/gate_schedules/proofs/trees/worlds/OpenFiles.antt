@@ -1,5 +1,5 @@
 -- How many tasks have each file open, after an action of one of them.
-use Rattle.std.proofs.{Common.{◌≡◌, ℕ, ◌+◌, ◌-◌, ◌<◌, Bool, true, false, refl, sym, ap, ◌∙◌, subst, inl, inr, arith}, lemmas.Bool.Decides.eqb_tells}
+use Rattle.std.proofs.{Common.{◌≡◌, ℕ, ◌+◌, ◌-◌, ◌<◌, Bool, true, false, refl, sym, ap, ◌∙◌, inl, inr, arith}, lemmas.Bool.Decides.eqb_tells}
 use Rattle.std.specs.Prelude.{Option, Some, None, Result, Ok, Err, nat_lt}
 use Rattle.finite_sums.{proofs.Totals.{update_at, update_off, update_same, total_updated}, specs.Sums.update}
 use Rattle.access_model.specs.{Actions.{tree_after, after_remove, after_close}, Replies.map_next, States.{Limits, State, one_if, most_tasks, openers}}

@@ -1,5 +1,5 @@
 -- What the phases of each operation are not at the tree.
-use Rattle.std.{proofs.Common.{◌≡◌, ℕ, refl, sym, Bool, true, false, true≢false}, specs.Prelude.{Ok, Err}}
+use Rattle.std.{proofs.Common.{◌≡◌, ℕ, refl, Bool, true, false}}
 use Rattle.std.proofs.Common.{arith}
 use Rattle.gated_tree.specs.Calls.{phase_role, create_role, remove_role, grow_role, move_role, mark_role, open_role, snapshot_role}
 use Rattle.gated_tree.specs.Roles.{Role, cleared, is_bare, words_read, frees}

@@ -1,14 +1,13 @@
 -- The tree of a world, as the laws of the tree have it: what an event of a task leaves of it, and what it shows.
 use Rattle.access_model.specs.{States.{IsDirectory, is_dirty}, declared.actions.{Action.Action, Holder.Holder}}
 use Rattle.cpu_words.specs.Words.{Words}
-use Rattle.finite_sums.proofs.Totals.{total_none, update_map}
+use Rattle.finite_sums.proofs.Totals.{total_none}
 use Rattle.finite_sums.specs.Sums.{update}
 use Rattle.freeze_levels.specs.declared.{freezes.FreezeStep.{FreezeStep, TheVariants.Closes}, thaws.ThawStep.ThawStep}
-use Rattle.gate_schedules.proofs.trees.worlds.Roles.{call_plain, close_apart, freeze_apart, remount_apart}
 use Rattle.gate_world.specs.{Configs.IsWithin, Fits.{Fits, FreezeFits, PhaseFits}, Remounts.RemountFits, Roles.{freeze_stage_role, freeze_tree_role}}
-use Rattle.gate_world.specs.Roles.{nodes_noted, place_of, remount_stage_role, remount_tree_role, reopening_role, snapshot_stage_role, thaw_stage_role}
+use Rattle.gate_world.specs.Roles.{place_of, remount_stage_role, remount_tree_role, reopening_role, snapshot_stage_role, thaw_stage_role}
 use Rattle.gate_world.specs.{Roles.tree_stage_role, Rules.{Fitting, Holds, IsGood, Stages, Tree, marks_of, stage_role_of, stage_roles}}
-use Rattle.gate_world.specs.{Snapshots.values_noted, Trees.{is_bare_at, is_sealed, tree_bounds, tree_of, tree_role_of, tree_roles}, Views.held_of}
+use Rattle.gate_world.specs.{Trees.{is_bare_at, is_sealed, tree_bounds, tree_of, tree_role_of, tree_roles}, Views.held_of}
 use Rattle.gate_world.specs.{Worlds.World, declared.{config.Config.Config, views.{Traced.Traced, View.View}, work.Phase.{Phase, TheVariants.Closes}}}
 use Rattle.node_words.specs.Nodes.{dirty_in, kind_in, node_shown}
 use Rattle.gated_tree.specs.Calls.{phase_role, snapshot_role}
@@ -18,9 +17,9 @@ use Rattle.gated_tree.specs.declared.snapshots.SnapshotStep.{SnapshotStep}
 use Rattle.mount_counts.specs.declared.remounts.RemountStep.{RemountStep}
 use Rattle.percpu_rwsem.specs.declared.writers.{DownWriteStep.DownWriteStep, UpWriteStep.UpWriteStep}
 use Rattle.freeze_laws.specs.stages.Roles.{CleanBelow, Freezing, KnowsStage, MarksHold, clean_by}
-use Rattle.std.proofs.{Common.{Bool, ap, arith, inl, inr, refl, subst, suc, sym, true≢false, zero, ℕ, ◌<◌, ◌∙◌, ◌≡◌, ◌≤◌}, lemmas.Bool.le-leb}
+use Rattle.std.proofs.{Common.{Bool, ap, arith, inl, inr, refl, subst, suc, sym, zero, ℕ, ◌<◌, ◌≡◌, ◌≤◌}, lemmas.Bool.le-leb}
 use Rattle.std.proofs.lemmas.Bool.Decides.{eqb_tells}
-use Rattle.std.specs.Prelude.{Err, List, None, Ok, Option, Some, false, nat_lt}
+use Rattle.std.specs.Prelude.{List, None, Option, Some, false, nat_lt}
 use Rattle.gate_schedules.proofs.trees.Each.{each_event}
 use Rattle.gate_schedules.specs.trees.Events.{Event}
 
@@ -40,14 +39,7 @@ dirty_small : (word : ℕ) → dirty_in word < 2
 dirty_small word = omega arith
 
 pub shown_clean : (word : ℕ) → (kind_in word ≡ 0 → word ≡ 0) → is_dirty (node_shown word) ≡ false → dirty_in word ≡ 0
-shown_clean word free clean = elim (eqb_tells (kind_in word) 0) [
-  | inl q ↦ ap dirty_in (free q.1)
-  | inr q ↦
-      elim (eqb_tells (dirty_in word) 1) [
-        | inl d ↦ absurd (true≢false (sym (rw (q.0, d.0) refl) ∙ clean))
-        | inr d ↦ omega (arith, d.1, dirty_small word)
-      ]
-]
+shown_clean word free clean = grind arith
 
 module _ (c : Config) (w : World) (good : IsGood c w) (t : ℕ) (lt : t < c.tasks) (ws : Words) (v : View) where
   -- the tree of the world after an event of this task
@@ -63,15 +55,7 @@ module _ (c : Config) (w : World) (good : IsGood c w) (t : ℕ) (lt : t < c.task
   }
 
   pub tree_moves : tree_of (record { words = ws; views = update w.views t v }) ≡ tree_then
-  tree_moves = λ i. record {
-    sealed = is_sealed ws;
-    bare = is_bare_at ws;
-    used = ws.used;
-    removed = ws.removed;
-    node = ws.node;
-    kids = ws.kids;
-    at = update_map (λ (u : View). tree_role_of u.trace u.phase) w.views t v i;
-  }
+  tree_moves = grind arith
 
   pub tree_holds : TreeHolds (tree_bounds c) tree_then → Holds c (record { words = ws; views = update w.views t v }) Tree
   tree_holds h = subst (TreeHolds (tree_bounds c)) (sym tree_moves) h
