@@ -1,16 +1,16 @@
 -- What the theorem says of a phase by its steps is what its role with the stage says: whether it closes a level, which stage it stored last in
 -- a freeze, and whether it owns `umount`.
-use Rattle.std.proofs.Common.{◌≡◌, ℕ, refl, sym, ap, ◌∙◌, Bool, arith}
+use Rattle.std.proofs.Common.{◌≡◌, ℕ, refl, sym, ap, ◌∙◌, arith}
 use Rattle.std.specs.Prelude.{Option, Some, None, ◌==◌, ◌&&◌, ◌+◌, if◌then◌else◌}
 use Rattle.finite_sums.specs.Sums.{total}
 use Rattle.gated_tree.specs.declared.{snapshots.SnapshotStep.SnapshotStep}
 use Rattle.mount_counts.specs.declared.remounts.RemountStep.{RemountStep}
-use Rattle.percpu_rwsem.specs.declared.writers.{DownWriteStep.DownWriteStep, UpWriteStep.UpWriteStep}
+use Rattle.percpu_rwsem.specs.declared.writers.{UpWriteStep.UpWriteStep}
 use Rattle.freeze_levels.specs.declared.{freezes.FreezeStep.FreezeStep, thaws.ThawStep.ThawStep}
 use Rattle.freeze_laws.specs.stages.{Roles.{Freezing, StageRole, freezes, sums, owns as stage_owns}, Shown.{is_passed as passed_at_level, passed_shown}}
-use Rattle.gate_world.specs.Roles.{freeze_owns, freeze_stage_role, place_of, remount_stage_role, reopening_role, snapshot_owns, snapshot_stage_role}
-use Rattle.gate_world.specs.{Roles.{thaw_owns, thaw_stage_role}, Rules.{stage_role_of, stage_roles}, Shown.{closing, freeze_closing, is_passed, is_summing, shown}}
-use Rattle.gate_world.specs.{Headline.{freezing_at, stage_stored}, Worlds.World, declared.{config.Config.Config, work.Phase.Phase}}
+use Rattle.gate_world.specs.Roles.{freeze_owns, freeze_stage_role, remount_stage_role, reopening_role, snapshot_owns, snapshot_stage_role}
+use Rattle.gate_world.specs.{Roles.{thaw_owns, thaw_stage_role}, Rules.{stage_role_of, stage_roles}, Shown.{closing, is_passed, shown}}
+use Rattle.gate_world.specs.{Headline.{freezing_at}, Worlds.World, declared.{config.Config.Config, work.Phase.Phase}}
 
 reopening_owner : (level : ℕ) (s : UpWriteStep) → stage_owns (reopening_role level s) ≡ 1
 reopening_owner level UpWriteStep.ClearsBlock = refl
@@ -29,35 +29,13 @@ pub snapshot_owner : (s : SnapshotStep) → stage_owns (snapshot_stage_role s) �
 snapshot_owner SnapshotStep.Locks = refl
 snapshot_owner s = refl
 
--- none of these is in a freeze
-reopening_apart : (level : ℕ) (s : UpWriteStep) → freezes (reopening_role level s) ≡ 0
-reopening_apart level UpWriteStep.ClearsBlock = refl
-reopening_apart level (UpWriteStep.Exits transition) = refl
-
 remount_apart : (nodes : ℕ) (s : RemountStep) → freezes (remount_stage_role nodes s) ≡ 0
 remount_apart nodes RemountStep.Locks = refl
 remount_apart nodes s = refl
 
-thaw_apart : (s : ThawStep) → freezes (thaw_stage_role s) ≡ 0
-thaw_apart (ThawStep.Reopens u) = reopening_apart u.level u.step
-thaw_apart s = refl
-
 snapshot_apart : (s : SnapshotStep) → freezes (snapshot_stage_role s) ≡ 0
 snapshot_apart SnapshotStep.Locks = refl
 snapshot_apart s = refl
-
--- so none closes a level
-apart_sums : (i : ℕ) (r : StageRole) → freezes r ≡ 0 → 0 ≡ sums i r
-apart_sums i (Freezing stage place owner) none = absurd (omega (arith, none))
-apart_sums i r none = refl
-
--- and who closes one does so by its role with the stage
-summing_is : (i level : ℕ) (s : DownWriteStep) (owner : Bool) → is_summing i level s ≡ sums i (Freezing level (place_of s) owner)
-summing_is i level (DownWriteStep.Sums sum) owner = refl
-summing_is i level s owner = refl
-
-freeze_closing_is : (i nodes : ℕ) (s : FreezeStep) → freeze_closing i s ≡ sums i (freeze_stage_role nodes s)
-freeze_closing_is i nodes s = grind arith
 
 pub closing_is : (i : ℕ) (p : Option Phase) → closing i p ≡ sums i (stage_role_of p)
 closing_is i p = grind arith
@@ -81,10 +59,6 @@ stage_of r = None
 pub apart_stage : (r : StageRole) → freezes r ≡ 0 → stage_of r ≡ None
 apart_stage (Freezing stage place owner) none = absurd (omega (arith, none))
 apart_stage r none = refl
-
-freeze_stored : (nodes : ℕ) (s : FreezeStep) → stage_stored s ≡ stage_of (freeze_stage_role nodes s)
-freeze_stored nodes (FreezeStep.Reopens u code) = sym (apart_stage (reopening_role u.level u.step) (reopening_apart u.level u.step))
-freeze_stored nodes s = refl
 
 -- is the one that it stored last by its phase
 pub freezing_is : (p : Option Phase) → freezing_at p ≡ stage_of (stage_role_of p)

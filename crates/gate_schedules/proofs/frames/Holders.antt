@@ -2,21 +2,11 @@
 use Rattle.std.proofs.{Common.{◌≡◌, ℕ, ◌<◌, ◌≤◌, sym, ap, ◌∙◌, subst, inl, inr, arith}, lemmas.Bool.{Decides.eqb_tells}}
 use Rattle.std.specs.Prelude.{Option}
 use Rattle.finite_sums.{proofs.Totals.{total_none, update_map, update_same}, specs.Sums.{update, total}}
-use Rattle.access_model.specs.{declared.actions.Holder.Holder}
 use Rattle.cpu_words.specs.Words.{Words}
-use Rattle.freeze_levels.specs.declared.{freezes.FreezeStep.FreezeStep, thaws.ThawStep.ThawStep}
 use Rattle.freeze_levels.{proofs.holder_laws.HolderLaws.events_keep, specs.holder_laws.{Events.{HolderMoment, HolderEvent, Happens, Moves, Stays}, Roles.{HoldersHold, minds}}}
-use Rattle.gate_world.specs.{Roles.{freeze_holder_role, freeze_owns, thaw_holder_role, thaw_owns}, Rules.{Holding, Holds, IsGood, Owner}}
+use Rattle.gate_world.specs.{Rules.{Holding, Holds, IsGood, Owner}}
 use Rattle.gate_world.specs.{Rules.{holder_role_of, holder_roles, owns}, Worlds.World, declared.{config.Config.Config, views.View.View, work.Phase.Phase}}
 use Rattle.gate_schedules.proofs.frames.Owners.{owns_le}
-
--- who relies on the holders owns `umount`
-freeze_minds : (s : FreezeStep) → minds (freeze_holder_role s) ≤ freeze_owns s
-freeze_minds s = grind arith
-
-thaw_minds : (holder : Holder) (s : ThawStep) → minds (thaw_holder_role holder s) ≤ thaw_owns s
-thaw_minds holder (ThawStep.Leaves held) = omega arith
-thaw_minds holder s = omega arith
 
 pub holder_owner : (p : Option Phase) → minds (holder_role_of p) ≤ owns p
 holder_owner other = grind arith

@@ -1,88 +1,20 @@
 -- What every owner of `umount` may rely on, and its events: under the lock, on the word `umount`, and on a mount's flags.
-use Rattle.cpu_words.specs.{Words.Words, declared.sums.Sum.Sum}
+use Rattle.cpu_words.specs.{Words.Words}
 use Rattle.finite_sums.proofs.Totals.{HasPlace, each_updated, total_at, total_none, total_place, total_updated, update_at, update_map, update_off}
 use Rattle.finite_sums.proofs.Totals.{update_same}
 use Rattle.finite_sums.specs.Sums.{total, update}
 use Rattle.gate_schedules.proofs.frames.Frames.{MountHoldsAfter, gates_after, holds_as, owner_same, shown_held, shown_still, view_as}
-use Rattle.gate_world.specs.{Holdings.Holdings, Remounts.{giving_role, held_role, loop_role, remount_owns, remount_role, remount_sets, summing_role}}
-use Rattle.gate_world.specs.Roles.{change_owns, change_role, freeze_owns, role_if, snapshot_owns, thaw_owns, tree_owns, want_role, write_role}
+use Rattle.gate_world.specs.{Holdings.Holdings, Remounts.{remount_owns, remount_sets}}
 use Rattle.gate_world.specs.{Rules.{AtMount, GatesHold, IsGood, IsSteady, Owner, OwnerHolds, ViewFits, at_mount, owns, remounts, role_of}, Shown.closing}
 use Rattle.gate_world.specs.{Shown.shown, Views.{added_by, held_of, taken_by}, Waits.{HasCulprit, IsWaitedFor}, Worlds.World, declared.config.Config.Config}
 use Rattle.gate_world.specs.declared.{views.View.View, work.Phase.Phase}
-use Rattle.mount_counts.specs.{Roles.{Role, has_hold, hold_bit, ro_bit, skips}, declared.phases.ChangeStep.ChangeStep}
-use Rattle.mount_counts.specs.declared.{phases.{WantStep.WantStep}, remounts.RemountStep.RemountStep}
-use Rattle.freeze_levels.specs.declared.{freezes.FreezeStep.FreezeStep, thaws.ThawStep.ThawStep}
-use Rattle.gated_tree.specs.declared.{phases.TreePhase.TreePhase, snapshots.SnapshotStep.SnapshotStep}
-use Rattle.std.proofs.{Common.{Bool, ap, arith, false, inl, inr, refl, suc, true, ℕ, ◌+◌, ◌<◌, ◌∙◌, ◌≡◌, ◌≤◌}, lemmas.Bool.Decides.eqb_tells}
+use Rattle.mount_counts.specs.{Roles.{Role, has_hold, hold_bit, ro_bit, skips}}
+use Rattle.mount_counts.specs.declared.{remounts.RemountStep.RemountStep}
+use Rattle.std.proofs.{Common.{Bool, ap, arith, inl, inr, refl, suc, ℕ, ◌+◌, ◌<◌, ◌∙◌, ◌≡◌, ◌≤◌}, lemmas.Bool.Decides.eqb_tells}
 use Rattle.std.specs.Prelude.{Option, Some, ◌-◌, ◌==◌}
-use Rattle.compounds.specs.declared.write_access.phases.WritePhase.{WritePhase}
-
-change_owns_le : (s : ChangeStep) → change_owns s ≤ 1
-change_owns_le ChangeStep.Locks = omega arith
-change_owns_le step = omega arith
-
-remount_owns_le : (s : RemountStep) → remount_owns s ≤ 1
-remount_owns_le RemountStep.Locks = omega arith
-remount_owns_le step = omega arith
-
-freeze_owns_le : (s : FreezeStep) → freeze_owns s ≤ 1
-freeze_owns_le step = grind arith
-
-thaw_owns_le : (s : ThawStep) → thaw_owns s ≤ 1
-thaw_owns_le ThawStep.Locks = omega arith
-thaw_owns_le step = omega arith
-
-snapshot_owns_le : (s : SnapshotStep) → snapshot_owns s ≤ 1
-snapshot_owns_le SnapshotStep.Locks = omega arith
-snapshot_owns_le s = omega arith
-
-tree_owns_le : (x : TreePhase) → tree_owns x ≤ 1
-tree_owns_le (TreePhase.Snapshot x) = snapshot_owns_le x.step
-tree_owns_le x = omega arith
 
 pub owns_le : (p : Option Phase) → owns p ≤ 1
 owns_le other = grind arith
-
-want_hold : (p : ℕ) (s : WantStep) → has_hold (want_role p s) + skips (want_role p s) ≡ 0
-want_hold p WantStep.CountsUp = refl
-want_hold p step = refl
-
--- a change has one set only while it owns
-change_hold : (s : ChangeStep) → has_hold (change_role s) + skips (change_role s) ≤ change_owns s
-change_hold step = grind arith
-
-hold_if : (b : Bool) (r : Role) → has_hold (role_if b r) + skips (role_if b r) ≤ has_hold r + skips r
-hold_if true r = omega arith
-hold_if false r = omega arith
-
--- in its loop, and where it lets its mounts go, a remount has at most one of both at a mount
-loop_hold : (a b : Bool) → has_hold (loop_role a b) + skips (loop_role a b) ≤ 1
-loop_hold true b = omega arith
-loop_hold false true = omega arith
-loop_hold false false = omega arith
-
-summing_hold : (a : Bool) (sum : Sum) (r : Role) → has_hold r + skips r ≤ 1 →
-    has_hold (summing_role a sum r) + skips (summing_role a sum r) ≤ 1
-summing_hold true sum r h = omega arith
-summing_hold false sum r h = h
-
-held_hold : (a : Bool) → has_hold (held_role a) + skips (held_role a) ≤ 1
-held_hold true = omega arith
-held_hold false = omega arith
-
-giving_hold : (a b : Bool) → has_hold (giving_role a b) + skips (giving_role a b) ≤ 1
-giving_hold true true = omega arith
-giving_hold false true = omega arith
-giving_hold true false = omega arith
-giving_hold false false = omega arith
-
--- a remount has one set, or skips, only while it owns
-remount_hold : (m : ℕ) (s : RemountStep) → has_hold (remount_role m s) + skips (remount_role m s) ≤ remount_owns s
-remount_hold m step = grind arith
-
-write_hold : (m : ℕ) (x : WritePhase) → has_hold (write_role m x) + skips (write_role m x) ≡ 0
-write_hold m (WritePhase.Wants x) = omega (arith, hold_if (m == x.mount) (want_role x.cpu x.step), want_hold x.cpu x.step)
-write_hold m x = refl
 
 -- only the owner of `umount` has a hold flag set, or counts on a mount's staying read-only
 pub hold_owns : (m : ℕ) (p : Option Phase) → has_hold (role_of m p) + skips (role_of m p) ≤ owns p

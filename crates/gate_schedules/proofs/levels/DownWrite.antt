@@ -11,20 +11,19 @@ use Rattle.cpu_words.specs.declared.{events.Touch.Touch, names.WordName.WordName
 use Rattle.cpu_words.proofs.gate_counts.LevelLaws.{swaps, sums_on, passes, sums_anew, none_passed}
 use Rattle.cpu_words.specs.gate_counts.Levels.{LevelRole, LevelView, LevelHolds, Out as CountsNot, Summing, Passed as CountsPassed}
 use Rattle.percpu_rwsem.specs.{Graces.looked, SyncWords.{unpack, is_passed, is_queued, on_enter, on_callback}, Transitions.transition_after}
-use Rattle.percpu_rwsem.specs.Writers.{down_write_next, down_write_after, at_down_write, entered_from, enter_step, callback_step, sections_awaited}
+use Rattle.percpu_rwsem.specs.Writers.{down_write_next, down_write_after, at_down_write, enter_step, callback_step, sections_awaited}
 use Rattle.percpu_rwsem.specs.Writers.{passed_awaited, sum_begun, down_write_summed}
-use Rattle.percpu_rwsem.specs.declared.{callbacks.CallbackStep.CallbackStep, grace.GraceNext.GraceNext, readers.DownReadStep.DownReadStep}
+use Rattle.percpu_rwsem.specs.declared.{grace.GraceNext.GraceNext}
 use Rattle.percpu_rwsem.specs.declared.{sync_word.{GpState.GpState, SyncWord.SyncWord}, transitions.{Transition.Transition, TransitionNext.TransitionNext}}
-use Rattle.percpu_rwsem.specs.declared.writers.{DownWrite.DownWrite, DownWriteStep.DownWriteStep, UpWriteStep.UpWriteStep}
-use Rattle.freeze_levels.specs.declared.{freezes.FreezeStep.{FreezeStep}, thaws.ThawStep.ThawStep}
+use Rattle.percpu_rwsem.specs.declared.writers.{DownWrite.DownWrite, DownWriteStep.DownWriteStep}
 use Rattle.freeze_laws.proofs.levels.{EventLaws.swap_keeps, Operations.down_writes_are_there}
 use Rattle.freeze_laws.specs.levels.Events.{SyncLevelHolds, SyncStep}
-use Rattle.freeze_laws.specs.levels.Operations.{down_read_role, callback_role, down_write_role, value_at, left_by, by_next, HoldsOfNext}
-use Rattle.freeze_laws.specs.levels.Roles.{SyncRole, Waiting, Out as IsApart, Closed, entered}
+use Rattle.freeze_laws.specs.levels.Operations.{down_write_role, value_at, left_by, by_next, HoldsOfNext}
+use Rattle.freeze_laws.specs.levels.Roles.{Out as IsApart, Closed, entered}
 use Rattle.freeze_laws.{proofs.stages.{Facts.total_alone, Positions.{other_position, not_full}}, specs.stages.Roles.has_position}
 use Rattle.gate_world.specs.{Configs.IsWithin, Fits.DownWriteFits, LevelRuns.level_in, Levels.{sync_role_of, at_level, is_frozen_whole, level_role_of}}
-use Rattle.gate_world.specs.Roles.{sync_role_if, freeze_stand, thaw_stand, Stand, stand_count, stand_sync, closed_to, down_count_role, freeze_stage_role}
-use Rattle.gate_world.specs.{Roles.{reopening_role, thaw_stage_role}, Rules.{AtLevel, Holds, IsGood, Stages, stage_role_of, stage_roles}}
+use Rattle.gate_world.specs.Roles.{Stand, stand_count, stand_sync, closed_to, down_count_role}
+use Rattle.gate_world.specs.{Rules.{AtLevel, Holds, IsGood, Stages, stage_role_of, stage_roles}}
 use Rattle.gate_world.specs.{Views.holds_level, Worlds.World, declared.{config.Config.Config, views.View.View, work.Phase.{Phase}}}
 use Rattle.gate_schedules.proofs.frames.Frames.{SameLevelCounts}
 use Rattle.gate_schedules.proofs.levels.StandRoles.{count_at, sync_at, SayBeside, counts_left, counts_become, levels_move}
@@ -44,11 +43,6 @@ down_write_counts w d other = grind arith
 abbrev AtTheLevel : ℕ → Next DownWrite → Type 0
 AtTheLevel level n = HoldsOfNext (λ (x : DownWrite). x.level ≡ level) n
 
--- a down-write stays at its level
-grace_level : (d : DownWrite) (n : GraceNext) → AtTheLevel d.level (sections_awaited d n)
-grace_level d (GraceNext.More g) = refl
-grace_level d other = refl
-
 -- one that loads for GP_PASSED does
 state_level : (d : DownWrite) (b : Bool) →
     AtTheLevel d.level (if b then Next.Go (at_down_write d DownWriteStep.SetsBlock) else Next.Wait (at_down_write d DownWriteStep.AwaitsPassed))
@@ -59,19 +53,6 @@ state_level d false = refl
 passed_level : (d : DownWrite) (o : Option SyncWord) → AtTheLevel d.level (passed_awaited d o)
 passed_level d None = refl
 passed_level d (Some word) = state_level d (is_passed word.state)
-
-swap_level : (d : DownWrite) (b : Bool) →
-    AtTheLevel d.level (if b then Next.Go (at_down_write d sum_begun) else Next.Wait (at_down_write d DownWriteStep.SetsBlock))
-swap_level d true = refl
-swap_level d false = refl
-
-total_level : (d : DownWrite) (b : Bool) → AtTheLevel d.level (if b then Next.Done (Ok Reply.Unit) else Next.Wait (at_down_write d sum_begun))
-total_level d true = tt
-total_level d false = refl
-
-summed_level : (d : DownWrite) (taken : Taken) → AtTheLevel d.level (down_write_summed d taken).0
-summed_level d (Taken.More sum) = refl
-summed_level d (Taken.Total n) = total_level d (n == 0)
 
 pub down_write_level : (d : DownWrite) (s : DownWriteStep) (found : ℕ) → AtTheLevel d.level (down_write_after d s found).0
 down_write_level d a1 found = grind arith
@@ -88,11 +69,6 @@ closing_sync level a1 h = grind arith
 
 counts_as : (d : DownWrite) (s : DownWriteStep) → stand_count d.level (Some (closing_stand (at_down_write d s))) ≡ down_count_role s
 counts_as d s = count_at d.level (closing_stand (at_down_write d s)) refl
-
--- before its swap it has no part in the counts
-entered_counts : (tasks : ℕ) (s : GpState) → down_count_role (entered_from tasks s) ≡ CountsNot
-entered_counts tasks GpState.Idle = refl
-entered_counts tasks other = refl
 
 -- nor has it while it enters
 enter_counts : (tasks : ℕ) (n : TransitionNext) → down_count_role (enter_step tasks n) ≡ CountsNot
@@ -367,31 +343,6 @@ pub passes_finds_nobody : (c : Config) → IsWithin c → (w : World) → IsGood
     (down_write_after d d.step (found_by (down_write_next d d.step).1 (read w.words (down_write_next d d.step).0))).1 ≡ Some (Action.Pass j) →
     total c.tasks (λ x. if holds_level (w.views x) d.level then 1 else 0) ≡ 0
 passes_finds_nobody c lim w good t lt d fits was j e = passes_nobody c lim w good t lt d d.step fits was j e
-
-entered_le : (r : SyncRole) → entered r ≤ 1
-entered_le (Waiting g) = omega arith
-entered_le r = omega arith
-
-read_enters : (b : Bool) (s : DownReadStep) → entered (sync_role_if b (down_read_role s)) ≡ 0
-read_enters true DownReadStep.CountsUpFast = refl
-read_enters true s = refl
-read_enters false s = refl
-
-callback_enters : (b : Bool) (s : CallbackStep) → entered (sync_role_if b (callback_role s)) ≡ 0
-callback_enters true (CallbackStep.Claims transition) = refl
-callback_enters true (CallbackStep.AwaitsSections grace) = refl
-callback_enters true (CallbackStep.CallsBack transition) = refl
-callback_enters false s = refl
-
-reopening_position : (level : ℕ) (s : UpWriteStep) → has_position (reopening_role level s) ≡ 1
-reopening_position level UpWriteStep.ClearsBlock = refl
-reopening_position level (UpWriteStep.Exits transition) = refl
-
-freeze_enters : (i nodes : ℕ) (s : FreezeStep) → entered (stand_sync i (freeze_stand s)) ≤ has_position (freeze_stage_role nodes s)
-freeze_enters i nodes s = grind arith
-
-thaw_enters : (i : ℕ) (s : ThawStep) → entered (stand_sync i (thaw_stand s)) ≤ has_position (thaw_stage_role s)
-thaw_enters i s = grind arith
 
 pub entered_position : (i : ℕ) (p : Option Phase) → entered (sync_role_of i p) ≤ has_position (stage_role_of p)
 entered_position i other = grind arith

@@ -1,5 +1,5 @@
 -- What who stands at a level has there, below it and above it; which stands say the same; and what an event of such a task leaves.
-use Rattle.std.proofs.Common.{◌≡◌, ℕ, zero, suc, ◌-◌, ◌<◌, ◌≤◌, refl, sym, ap, ◌∙◌, inl, inr, arith, subst}
+use Rattle.std.proofs.Common.{◌≡◌, ℕ, suc, ◌<◌, ◌≤◌, refl, sym, ap, ◌∙◌, inl, inr, arith, subst}
 use Rattle.std.proofs.lemmas.Bool.{eq-eqb, ne_eqb, lt-ltb, le-ltb, cases_lt, Decides.eqb_tells}
 use Rattle.std.specs.Prelude.{Option, Some, None}
 use Rattle.finite_sums.{proofs.Totals.{update_map, update_same}, specs.Sums.update}
@@ -11,7 +11,7 @@ use Rattle.gate_world.specs.{LevelRuns.level_in, Levels.{at_level, level_role_of
 use Rattle.gate_world.specs.Roles.{Stand, stand_count, stand_sync, closed_to}
 use Rattle.gate_world.specs.{Rules.{IsGood, Holds, AtLevel, SyncAt, Sections}, Worlds.World, declared.{config.Config.Config, views.View.View, work.Phase.Phase}}
 use Rattle.gate_schedules.proofs.frames.Frames.{left_alone, level_as, SameLevelWords, SameLevelCounts}
-use Rattle.gate_schedules.proofs.levels.Standing.{LevelsHold, left_world, closing_stand, still_closed, Stands}
+use Rattle.gate_schedules.proofs.levels.Standing.{LevelsHold, left_world, closing_stand, Stands}
 use Rattle.gate_schedules.proofs.levels.Worlds.{IsEventAt, sync_there, sync_elsewhere, sections_stay}
 
 pub count_at : (i : ℕ) (s : Stand) → i ≡ s.level → stand_count i (Some s) ≡ s.count
@@ -58,18 +58,6 @@ pub record SayBeside (level : ℕ) (s z : Option Stand) : Type 0 where
   pub counts : (i : ℕ) → 1 ≤ i → i ≤ 3 → (i ≡ level → ⊥) → stand_count i z ≡ stand_count i s
   pub syncs : (i : ℕ) → 1 ≤ i → i ≤ 3 → (i ≡ level → ⊥) → stand_sync i z ≡ stand_sync i s
 
-pub beside_each : (level : ℕ) (s z : Stand) → s.level ≡ level → z.level ≡ level → SayBeside level (Some s) (Some z)
-beside_each level s z es ez = record {
-  counts = λ i one three ne. elim (cases_lt i level) [
-    | inl l ↦ count_below i z (omega (arith, l, ez)) ∙ sym (count_below i s (omega (arith, l, es)))
-    | inr l ↦ count_above i z (omega (arith, l, ne, ez)) ∙ sym (count_above i s (omega (arith, l, ne, es)))
-  ];
-  syncs = λ i one three ne. elim (cases_lt i level) [
-    | inl l ↦ sync_below i z (omega (arith, l, ez)) ∙ sym (sync_below i s (omega (arith, l, es)))
-    | inr l ↦ sync_above i z (omega (arith, l, ne, ez)) ∙ sym (sync_above i s (omega (arith, l, ne, es)))
-  ];
-}
-
 -- with the levels up to this one closed, a level more is one whose stand has no role there yet
 same_next : (n : ℕ) (z : Stand) → z.level ≡ suc n → z.count ≡ CountsNot → z.sync ≡ IsApart → SaySame (Some (closed_to n)) (Some z)
 same_next n z e count sync = record {
@@ -113,43 +101,6 @@ closing_next p n tasks processors some = stands_so p _ _ (say_back _ _ (closing_
 
 pub closing_first : (p : Option Phase) (tasks processors : ℕ) → Stands p (Some (closing_stand (closing 1 tasks processors))) → Stands p None
 closing_first p tasks processors = stands_so p _ _ (say_back _ _ (closing_says_none tasks processors))
-
-pub still_up : (n : ℕ) → still_closed (suc n) ≡ Some (closed_to (suc n))
-still_up n = rw (ne_eqb (suc n) 0 (λ e. omega (arith, e))) refl
-
--- before a level that isn't the first, the one below it is the last that is closed
-pub still_before : (n : ℕ) → still_closed (suc (suc n) - 1) ≡ Some (closed_to (suc n))
-still_before n = grind arith
-
--- who stands at a level says the same as where just those below it are still closed: of each level but its own
-pub beside_still : (level : ℕ) (s : Stand) → 1 ≤ level → s.level ≡ level → SayBeside level (Some s) (still_closed (level - 1))
-beside_still zero s one e = absurd (omega (arith, one))
-beside_still (suc zero) s one e = record {
-  counts = λ i low three ne. sym (count_above i s (omega (arith, low, ne, e)));
-  syncs = λ i low three ne. sym (sync_above i s (omega (arith, low, ne, e)));
-}
-beside_still (suc (suc n)) s one e = subst (SayBeside (suc (suc n)) (Some s)) (sym (still_before n)) record {
-  counts = λ i low three ne. elim (cases_lt i (suc (suc n))) [
-    | inl l ↦ count_closed i (suc n) (omega (arith, l)) ∙ sym (count_below i s (omega (arith, l, e)))
-    | inr l ↦ count_above i (closed_to (suc n)) (omega (arith, l, ne)) ∙ sym (count_above i s (omega (arith, l, ne, e)))
-  ];
-  syncs = λ i low three ne. elim (cases_lt i (suc (suc n))) [
-    | inl l ↦ sync_closed i (suc n) (omega (arith, l)) ∙ sym (sync_below i s (omega (arith, l, e)))
-    | inr l ↦ sync_above i (closed_to (suc n)) (omega (arith, l, ne)) ∙ sym (sync_above i s (omega (arith, l, ne, e)))
-  ];
-}
-
-pub still_count : (level : ℕ) → 1 ≤ level → stand_count level (still_closed (level - 1)) ≡ CountsNot
-still_count zero one = absurd (omega (arith, one))
-still_count (suc zero) one = refl
-still_count (suc (suc n)) one =
-    ap (stand_count (suc (suc n))) (still_before n) ∙ count_above (suc (suc n)) (closed_to (suc n)) (omega arith)
-
-pub still_sync : (level : ℕ) → 1 ≤ level → stand_sync level (still_closed (level - 1)) ≡ IsApart
-still_sync zero one = absurd (omega (arith, one))
-still_sync (suc zero) one = refl
-still_sync (suc (suc n)) one =
-    ap (stand_sync (suc (suc n))) (still_before n) ∙ sync_above (suc (suc n)) (closed_to (suc n)) (omega arith)
 
 -- an event at a level leaves `block` of the others
 pub touched_block : (w : Words) (i j : ℕ) → (j ≡ i → ⊥) → (name : WordName) (touch : Touch) → IsEventAt i name touch →

@@ -4,27 +4,15 @@ use Rattle.std.proofs.lemmas.Grind.{common_steps}
 use Rattle.std.specs.Prelude.{Option, Bool, true, false, ◌==◌, ◌&&◌, if◌then◌else◌}
 use Rattle.finite_sums.{proofs.Totals.{total_le, update_map, update_same}, specs.Sums.{update, total}}
 use Rattle.cpu_words.specs.{Touches.{wrap_add, left}, Words.{Words, put, read}, declared.{events.Touch.Touch, names.WordName.WordName}}
-use Rattle.percpu_rwsem.specs.declared.{callbacks.CallbackStep.CallbackStep, readers.DownReadStep.DownReadStep}
+use Rattle.percpu_rwsem.specs.declared.{readers.DownReadStep.DownReadStep}
 use Rattle.freeze_laws.proofs.levels.Whole.{events_keep, fast_finds_open as level_is_open}
 use Rattle.freeze_laws.specs.levels.Events.{SyncLevelHolds, SyncStep, TurnsSection}
-use Rattle.freeze_laws.specs.levels.Operations.{down_read_role, callback_role, down_read_inside, put_at, value_at, left_by}
+use Rattle.freeze_laws.specs.levels.Operations.{down_read_role, put_at, value_at, left_by}
 use Rattle.freeze_laws.specs.levels.Roles.{SyncRole, Out as IsApart, Fast, fast, closed}
 use Rattle.gate_world.specs.{LevelRuns.level_in, Levels.{inside, sync_role_of}, Roles.{sync_role_if}, Rules.{Holds, IsGood}}
 use Rattle.gate_world.specs.{Rules.{SameWords, Sections, SyncAt}, Shown.{closing, is_passed, shown}, Worlds.World, declared.config.Config.Config}
 use Rattle.gate_world.specs.declared.{views.View.View, work.Phase.Phase}
 use Rattle.gate_schedules.proofs.{frames.Frames.left_alone}
-
-read_fast : (b : Bool) (s : DownReadStep) → fast (sync_role_if b (down_read_role s)) ≤ down_read_inside s
-read_fast true DownReadStep.EntersSection = omega arith
-read_fast true other = omega arith
-read_fast false s = omega arith
-
--- a callback is never on the fast path
-callback_slow : (b : Bool) (s : CallbackStep) → fast (sync_role_if b (callback_role s)) ≡ 0
-callback_slow true (CallbackStep.Claims transition) = refl
-callback_slow true (CallbackStep.AwaitsSections grace) = refl
-callback_slow true (CallbackStep.CallsBack transition) = refl
-callback_slow false s = refl
 
 pub fast_in_section : (i : ℕ) (p : Option Phase) → fast (sync_role_of i p) ≤ inside p
 fast_in_section i other = grind arith
@@ -33,12 +21,6 @@ pub read_opens : (b : Bool) (s : DownReadStep) → closed (sync_role_if b (down_
 read_opens true DownReadStep.EntersSection = refl
 read_opens true other = refl
 read_opens false s = refl
-
-pub callback_opens : (b : Bool) (s : CallbackStep) → closed (sync_role_if b (callback_role s)) ≡ 0
-callback_opens true (CallbackStep.Claims transition) = refl
-callback_opens true (CallbackStep.AwaitsSections grace) = refl
-callback_opens true (CallbackStep.CallsBack transition) = refl
-callback_opens false s = refl
 
 pub closed_below : (i j : ℕ) (p : Option Phase) → 1 ≤ i → i ≤ j → closed (sync_role_of j p) ≤ closed (sync_role_of i p)
 closed_below i j other one le = grind (arith, common_steps)

@@ -1,15 +1,15 @@
 -- What the events of want, drop and change touch: the rest of the rule stays.
 use Rattle.std.proofs.{Common.{Bool, arith, inl, inr, refl, sym, true, true≢false, ◌≡◌, ◌<◌, ◌⊎◌, subst, ℕ, ◌∙◌, ap, List}, lemmas.Bool.{cases_Bool}}
-use Rattle.std.specs.Prelude.{Some, false, ◌==◌, if◌then◌else◌}
+use Rattle.std.specs.Prelude.{Some, false, if◌then◌else◌}
 use Rattle.access_model.specs.{Histories.{levels_of, opens_of}, Replies.map_next, declared.{actions.Action.Action, replies.Next.Next}}
-use Rattle.cpu_words.specs.{Hooks.HookAnswer, Touches.{event_of, found_by, left}, Words.{Words, put, read}}
+use Rattle.cpu_words.specs.{Hooks.HookAnswer, Touches.{found_by, left}, Words.{Words, put, read}}
 use Rattle.cpu_words.specs.declared.{events.Touch.Touch, names.WordName.WordName}
-use Rattle.mount_counts.specs.Phases.{change_after, change_next, lock_failed, want_after, want_next, next, after}
-use Rattle.mount_counts.specs.declared.phases.{Change.Change, ChangeStep.ChangeStep, MountPhase.MountPhase, Want.Want, WantStep.WantStep}
-use Rattle.gate_world.specs.{Found.is_load, Levels.{at_level, level_added_after, level_taken_after, level_added_by, level_taken_by}, Owners.is_owned}
-use Rattle.gate_world.specs.{Alike.{Roles, no_roles, roles_of}, Owners.takes_lock, Roles.change_owns, Rules.{Holds, IsGood, Known, Part}}
+use Rattle.mount_counts.specs.Phases.{next, after}
+use Rattle.mount_counts.specs.declared.phases.{MountPhase.MountPhase}
+use Rattle.gate_world.specs.{Found.is_load, Levels.{at_level, level_added_after, level_taken_after, level_added_by, level_taken_by}}
+use Rattle.gate_world.specs.{Alike.{Roles, no_roles, roles_of}, Rules.{Holds, IsGood, Known, Part}}
 use Rattle.gate_world.specs.Rules.{SameView}
-use Rattle.gate_world.specs.Rules.{SameWords, Stages, Holding, StepKeeps, at_gates, owns, GateStepKeeps, Tree, AtLevel, SyncAt, Sections, Files}
+use Rattle.gate_world.specs.Rules.{SameWords, Stages, Holding, StepKeeps, at_gates, GateStepKeeps, Tree, AtLevel, SyncAt, Sections, Files}
 use Rattle.gate_world.specs.{Trees.tree_role_of, Views.{phase_after, view_after, actions_after, has_open}, Worlds.{World, after_step, value_at}}
 use Rattle.gate_world.specs.{Worlds.words_after, declared.{config.Config.Config, views.View.View, work.Phase.Phase}}
 use Rattle.gate_schedules.proofs.frames.{Frames.{left_alone, level_view_as}, Known.{IsOwnersWork, known_after}, Words.load_same}
@@ -24,12 +24,6 @@ is_gate_word word = false
 -- the event of this touch on this word is a load, or it is a word of these
 abbrev pub IsGateTouch : WordName × Touch → Type 0
 IsGateTouch x = (is_load x.1 ≡ true) ⊎ (is_gate_word x.0 ≡ true)
-
-want_touches : (x : Want) (s : WantStep) → IsGateTouch (want_next x s)
-want_touches x s = grind arith
-
-change_touches : (x : Change) (s : ChangeStep) → IsGateTouch (change_next x s)
-change_touches x s = grind arith
 
 mounts_touch : (x : MountPhase) (hook : HookAnswer) → IsGateTouch (next x hook)
 mounts_touch x hook = grind arith
@@ -46,9 +40,6 @@ known_is part h = absurd (true≢false (sym h))
 -- the words but for these
 abbrev pub off_gates : Words → Words
 off_gates w = record w { umount = 0; flags = λ m. 0; count = λ m p. 0 }
-
-gate_written : (w : Words) (word : WordName) (n : ℕ) → is_gate_word word ≡ true → off_gates (put w word n) ≡ off_gates w
-gate_written w word n q = grind arith
 
 -- a load leaves all words
 pub load_left : (w : Words) (word : WordName) (touch : Touch) → is_load touch ≡ true → put w word (left touch (read w word)) ≡ w
@@ -110,59 +101,13 @@ pub mounts_roles : (next : Next MountPhase) → off_mounts (roles_of (phase_afte
 mounts_roles (Next.Go x) = refl
 mounts_roles other = refl
 
-want_owns : (next : Next Want) → owns (phase_after (map_next Phase.Mounts (map_next MountPhase.Want next))) ≡ 0
-want_owns (Next.Go x) = refl
-want_owns other = refl
-
-failed_owns : (x : Change) (wait : Bool) → owns (phase_after (map_next Phase.Mounts (map_next MountPhase.Change (lock_failed x wait)))) ≡ 0
-failed_owns x true = refl
-failed_owns x false = refl
-
--- a change comes to own `umount` by taking it
-change_comes : (x : Change) (s : ChangeStep) (value : ℕ) →
-    owns (phase_after (map_next Phase.Mounts (map_next MountPhase.Change (change_after x s (found_by (change_next x s).1 value)).0))) ≡ 1 →
-    (change_owns s ≡ 1) ⊎ (takes_lock (event_of (change_next x s).0 (change_next x s).1 value) ≡ true)
-change_comes x s value h = grind arith
-
--- it changes an owned word only as the owner
-change_changes : (x : Change) (s : ChangeStep) → is_owned (change_next x s).0 ≡ true →
-    (is_load (change_next x s).1 ≡ true) ⊎ (change_owns s ≡ 1)
-change_changes x ChangeStep.Locks h = absurd (true≢false (sym h))
-change_changes x s h = inr refl
-
--- a want changes no owned word
-want_changes : (x : Want) (s : WantStep) → is_owned (want_next x s).0 ≡ true → (is_load (want_next x s).1 ≡ true)
-want_changes x s h = grind arith
-
 -- so owned words change only under `umount`
 mounts_work : (w : World) (x : MountPhase) (hook : HookAnswer) → IsOwnersWork w (Phase.Mounts x) hook
 mounts_work w x hook = grind arith
 
--- they add no action at a level
-want_levels : (x : Want) (s : WantStep) (found : ℕ) (actions : List Action) →
-    levels_of (actions_after (want_after x s found).1 actions) ≡ levels_of actions
-want_levels x WantStep.LoadsSuperblock found actions = elim (cases_Bool (found == 0)) [ inl h ↦ rw h refl | inr h ↦ rw h refl ]
-want_levels x s found actions = refl
-
-change_levels : (x : Change) (s : ChangeStep) (found : ℕ) (actions : List Action) →
-    levels_of (actions_after (change_after x s found).1 actions) ≡ levels_of actions
-change_levels x ChangeStep.Locks found actions = refl
-change_levels x s found actions = refl
-
 mounts_levels : (x : MountPhase) (found : ℕ) (hook : HookAnswer) (actions : List Action) →
     levels_of (actions_after (after x found hook).1 actions) ≡ levels_of actions
 mounts_levels x found hook actions = grind arith
-
--- nor of a file
-want_opens : (x : Want) (s : WantStep) (found : ℕ) (actions : List Action) →
-    opens_of (actions_after (want_after x s found).1 actions) ≡ opens_of actions
-want_opens x WantStep.LoadsSuperblock found actions = elim (cases_Bool (found == 0)) [ inl h ↦ rw h refl | inr h ↦ rw h refl ]
-want_opens x s found actions = refl
-
-change_opens : (x : Change) (s : ChangeStep) (found : ℕ) (actions : List Action) →
-    opens_of (actions_after (change_after x s found).1 actions) ≡ opens_of actions
-change_opens x ChangeStep.Locks found actions = refl
-change_opens x s found actions = refl
 
 mounts_opens : (x : MountPhase) (found : ℕ) (hook : HookAnswer) (actions : List Action) →
     opens_of (actions_after (after x found hook).1 actions) ≡ opens_of actions

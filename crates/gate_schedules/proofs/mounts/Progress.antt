@@ -1,9 +1,8 @@
 -- A want whose mount is not held, a drop, and a change that finds `umount` free run out.
-use Rattle.std.proofs.{Common.{◌≡◌, ℕ, ◌+◌, ◌≤◌, Bool, true, false, ap, ◌∙◌, inl, inr, arith}, lemmas.Bool.{cases_Bool, ltb-true, Decides.eqb_tells}}
-use Rattle.std.specs.Prelude.{◌%◌, nat_lt}
+use Rattle.std.proofs.{Common.{◌≡◌, ℕ, Bool, true, false, ap, ◌∙◌, arith}}
 use Rattle.access_model.specs.Replies.{map_next}
-use Rattle.cpu_words.specs.{Touches.{left, found_by}, Words.{Words, read, put}, declared.sums.{Sum.Sum, Taken.Taken}}
-use Rattle.mount_counts.specs.Phases.{has_flag, want_next, want_after, change_next, change_after, step_between, step_summed, lock_failed}
+use Rattle.cpu_words.specs.{Touches.{left, found_by}, Words.{Words, read, put}}
+use Rattle.mount_counts.specs.Phases.{has_flag, want_next, want_after, change_next, change_after, lock_failed}
 use Rattle.mount_counts.specs.declared.phases.{Change.Change, ChangeStep.ChangeStep, MountPhase.MountPhase, Want.Want, WantStep.WantStep}
 use Rattle.gate_world.specs.{Worlds.{words_after, found_at}, declared.{config.Config.Config, work.Phase.Phase}}
 use Rattle.gate_schedules.proofs.operations.deadlocks.Falls.{falls_as}
@@ -20,39 +19,7 @@ module _ (w : Words) (x : Want) where
       (want_after x s (found_by (want_next x s).1 (read w (want_next x s).0))).0
   want_falls after stays clear a3 = grind arith
 
-between_rank : (p : ℕ) (a b : Bool) → change_rank p (step_between a b) ≤ p + 4
-between_rank p true true = omega arith
-between_rank p true false = omega arith
-between_rank p false true = omega arith
-between_rank p false false = omega arith
-
-between_free : (w : Words) (wait a b : Bool) → ChangeIsFree w (step_between a b) wait
-between_free w wait true true = tt
-between_free w wait true false = tt
-between_free w wait false true = tt
-between_free w wait false false = tt
-
-total_rank : (p total : ℕ) → change_rank p (step_summed (Taken.Total total)) ≤ 2
-total_rank p total = elim (eqb_tells total 0) [ inl h ↦ rw h.0 (omega arith) | inr h ↦ rw h.0 (omega arith) ]
-
-total_free : (w : Words) (wait : Bool) (total : ℕ) → ChangeIsFree w (step_summed (Taken.Total total)) wait
-total_free w wait total = elim (eqb_tells total 0) [ inl h ↦ rw h.0 tt | inr h ↦ rw h.0 tt ]
-
 module _ (w : Words) (x : Change) where
-  -- a sum of a change takes one word more
-  taking_falls : (after : Words) (sum : Sum) (found : ℕ) →
-      Falls (λ (y : Change). change_rank y.processors y.step) (λ (y : Change). ChangeIsFree after y.step y.wait)
-      (change_rank x.processors (ChangeStep.Sums sum)) (change_after x (ChangeStep.Sums sum) found).0
-  taking_falls after sum found =
-      elim (cases_Bool (nat_lt (sum.words + 1) x.processors)) [
-        | inl h ↦ rw h (omega (arith, ltb-true (sum.words + 1) x.processors h), tt)
-        | inr h ↦ rw h (
-          omega (arith, total_rank x.processors ((sum.total + found) % 18446744073709551616)),
-          total_free after x.wait
-              ((sum.total + found) % 18446744073709551616),
-        )
-      ]
-
   -- a change that doesn't wait ends where `umount` was taken
   locked_falls : (after : Words) → (x.wait ≡ true → ⊥) → (b : Bool) → x.wait ≡ b →
       Falls (λ (y : Change). change_rank y.processors y.step) (λ (y : Change). ChangeIsFree after y.step y.wait)

@@ -2,7 +2,7 @@
 use Rattle.std.{proofs.Common.{◌≡◌, ℕ, ◌<◌, refl, sym, ap, ◌∙◌}, specs.Prelude.Some}
 use Rattle.std.proofs.Common.{arith}
 use Rattle.cpu_words.specs.{Hooks.HookAnswer, Words.Words}
-use Rattle.mount_counts.specs.{Phases.after, declared.phases.{Change.Change, ChangeStep.ChangeStep, MountPhase.MountPhase, Want.Want, WantStep.WantStep}}
+use Rattle.mount_counts.specs.{Phases.after, declared.phases.{MountPhase.MountPhase}}
 use Rattle.freeze_laws.specs.levels.{Events.SyncStep, Roles.Out as IsApart}
 use Rattle.gate_world.specs.{Alike.{no_roles, roles_of}, LevelRuns.level_in, Levels.{inside, sync_role_of}, Rules.{SameWords, SyncAt}, Views.phase_after}
 use Rattle.gate_world.specs.{Views.view_after, Work.after_of, Worlds.{World, after_step, found_at, value_at, words_after}, declared.work.Phase.Phase}
@@ -21,17 +21,6 @@ apart_run tasks w t lt hook phase e i same outside apart outside_then apart_then
     level_stays tasks t lt (level_in w i) (level_in (after_step w t phase hook) i)
     (level_kept w t i (words_after w.words phase hook) (view_after (w.views t) phase (value_at w.words phase hook) hook)
     same.0 same.1 same.3 same.2 (outside_then ∙ sym (ap inside e ∙ outside)) (apart_then ∙ sym (ap (sync_role_of i) e ∙ apart)))
-
--- no event of a want changes what a level reads of the words
-want_words : (w : Words) (x : Want) (s : WantStep) (hook : HookAnswer) (i : ℕ) →
-    SameWords w (words_after w (Phase.Mounts (MountPhase.Want (record x { step = s }))) hook) (SyncAt i)
-want_words w x WantStep.CountsUp hook i = (refl, refl, refl, refl)
-want_words w x s hook i = (refl, refl, refl, refl)
-
-change_words : (w : Words) (x : Change) (s : ChangeStep) (hook : HookAnswer) (i : ℕ) →
-    SameWords w (words_after w (Phase.Mounts (MountPhase.Change (record x { step = s }))) hook) (SyncAt i)
-change_words w x ChangeStep.Locks hook i = (refl, refl, refl, refl)
-change_words w x s hook i = (refl, refl, refl, refl)
 
 mount_words : (w : Words) (x : MountPhase) (hook : HookAnswer) (i : ℕ) → SameWords w (words_after w (Phase.Mounts x) hook) (SyncAt i)
 mount_words w x hook i = grind arith

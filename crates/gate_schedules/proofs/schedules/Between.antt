@@ -57,10 +57,6 @@ freeze_unstored : (next : Next Freeze) (e : Traced) (trace : List Traced) → st
     between (holder_role_of (phase_after (map_next Phase.Freezes next))) ≡ 0 → IsTold (phase_after (map_next Phase.Freezes next)) (e ∷ trace)
 freeze_unstored a0 e trace none zero_is = grind arith
 
-thaw_unstored : (next : Next Thaw) (e : Traced) (trace : List Traced) → stores_nobody e.event.word e.event.touch ≡ false →
-    between (holder_role_of (phase_after (map_next Phase.Thaws next))) ≡ 0 → IsTold (phase_after (map_next Phase.Thaws next)) (e ∷ trace)
-thaw_unstored a0 e trace none zero_is = grind arith
-
 not_nobody : (word : ℕ) → is_held word ≡ 1 → (word == 0) ≡ false
 not_nobody word some = elim (eqb_tells word 0) [
   | inl q ↦

@@ -1,10 +1,10 @@
 -- Each task's own list is its part of the history.
-use Rattle.std.proofs.{Common.{◌≡◌, ℕ, refl, sym, inl, inr}, lemmas.Bool.{eq-eqb, ne_eqb, cases_Bool}}
+use Rattle.std.proofs.{Common.{ℕ, inl, inr}, lemmas.Bool.{cases_Bool}}
 use Rattle.std.proofs.Common.{arith}
 use Rattle.std.specs.Prelude.{nat_lt, Option, Some, None, List, [], ◌∷◌}
-use Rattle.access_model.specs.{Histories.{Done, own_part, IsMerge}, declared.{actions.Action.Action, errors.GateError.GateError}}
+use Rattle.access_model.specs.{Histories.{Done, IsMerge}, declared.{actions.Action.Action, errors.GateError.GateError}}
 use Rattle.cpu_words.specs.Hooks.{HookAnswer}
-use Rattle.gate_world.specs.{Beginnings.{view_refusal}, Views.{actions_after}}
+use Rattle.gate_world.specs.{Beginnings.{view_refusal}}
 use Rattle.gate_world.specs.Worlds.{World, begin_of, after_step_beside, step_of, happens, phase_action, action_of, task_of, with_action}
 use Rattle.gate_world.specs.declared.entries.Entry.{Entry, TheVariants.{Begins, Steps}}
 use Rattle.gate_world.specs.Worlds.{run, history}
@@ -13,14 +13,6 @@ use Rattle.gate_world.specs.declared.{config.Config.Config, operations.Op.Op, wo
 -- the lists of a world
 abbrev pub lists : World → ℕ → List Action
 lists w t = (w.views t).actions
-
-part_here : (t : ℕ) (a : Option Action) (earlier : List Done) → own_part t (with_action t a earlier) ≡ actions_after a (own_part t earlier)
-part_here t None earlier = refl
-part_here t (Some a) earlier = rw (eq-eqb t t refl)
-
-part_there : (x t : ℕ) (a : Option Action) (earlier : List Done) → (x ≡ t → ⊥) → own_part x (with_action t a earlier) ≡ own_part x earlier
-part_there x t None earlier ne = refl
-part_there x t (Some a) earlier ne = rw (ne_eqb t x (λ q. ne (sym q)))
 
 -- after an event, also one of a task that has other numbers
 pub beside_lists : (others : List (ℕ × ℕ)) (w : World) (earlier : List Done) (t : ℕ) (hook : HookAnswer) (phase : Phase) →

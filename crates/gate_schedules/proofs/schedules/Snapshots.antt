@@ -1,13 +1,13 @@
 -- Each last snapshot has its moment in the history, and keeps it.
 use Rattle.std.proofs.{Common.{◌≡◌, ℕ, ◌<◌, refl, sym, subst, ap, ◌∙◌, inl, inr}, lemmas.Bool.{cases_Bool, ltb-true}}
 use Rattle.std.proofs.Common.{arith}
-use Rattle.std.specs.Prelude.{nat_lt, false, Option, Some, None, List, [], ◌∷◌, length, slice_index}
+use Rattle.std.specs.Prelude.{nat_lt, Option, Some, None, List, [], ◌∷◌, length, slice_index}
 use Rattle.finite_sums.proofs.Totals.{each_updated, total_same}
-use Rattle.access_model.specs.{Histories.{Done, end_of, IsLegal, own_part, IsMerge}, States.{State, size_of, is_dirty, IsDirectory}}
+use Rattle.access_model.specs.{Histories.{Done, end_of, IsLegal, own_part, IsMerge}, States.{State, size_of, IsDirectory}}
 use Rattle.access_model.specs.declared.{actions.{Action.Action, NodeInfo.NodeInfo}, errors.GateError.GateError}
 use Rattle.freeze_laws.{proofs.moments.Moments.{is_now, stays}, specs.moments.Moments.HaveDone}
 use Rattle.cpu_words.specs.Hooks.{HookAnswer}
-use Rattle.gated_tree.specs.{Trees.{node_at, is_child, HasDirectory, IsSound, IsClean, LoadedSound, LoadedClean}, declared.trees.TreeWords.TreeWords}
+use Rattle.gated_tree.specs.{Trees.{node_at, is_child, HasDirectory, IsSound, LoadedSound, LoadedClean}, declared.trees.TreeWords.TreeWords}
 use Rattle.gate_world.specs.{Beginnings.{view_refusal}, Configs.{IsWithin, model_limits}, Headline.FrozenTreeIsWhole}
 use Rattle.gate_world.specs.{Moments.{HasMoment, AllHaveMoments, IsPresentTree, CompletesNow}, Rules.{IsGood, Moves}, Shown.shown}
 use Rattle.gate_world.specs.{Snapshots.{completes, last_snapshot}, Views.{view_after_beside}}
@@ -33,9 +33,6 @@ sound_as nodes used used' old new kids kids' same_used same same_kids sound = re
   children = λ d ld. sym (same_kids d ld) ∙ sound.children d ld ∙ total_same nodes _ _ (λ n lt. ap (is_child d n) (same n lt));
   parents = λ n lt. subst (HasDirectory nodes new) (same n lt) (directory_as nodes old new same (old n) (sound.parents n lt));
 }
-
-clean_as : (nodes : ℕ) (old new : ℕ → Option NodeInfo) → ((n : ℕ) → n < nodes → old n ≡ new n) → IsClean nodes old → IsClean nodes new
-clean_as nodes old new same clean n lt = subst (λ node. is_dirty node ≡ false) (same n lt) (clean n lt)
 
 module _ (c : Config) where
   -- a moment in the history is one in the longer history

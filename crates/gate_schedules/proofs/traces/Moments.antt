@@ -22,9 +22,6 @@ module _ (t : ℕ) (w : World) (earlier : List World) where
   pub look_skips : looks_at_stage (w.views t).phase ≡ false → last_look t (w ∷ earlier) ≡ last_look t earlier
   look_skips h = rw h refl
 
-  pub look_stands : looks_at_stage (w.views t).phase ≡ true → last_look t (w ∷ earlier) ≡ Some w
-  look_stands h = rw h refl
-
   pub sum_skips : words_read (w.views t).phase ≡ None → moments_of_sum t (w ∷ earlier) ≡ moments_of_sum t earlier
   sum_skips h = rw h refl
 

@@ -1,14 +1,14 @@
 -- Each view follows its operation, after every schedule.
-use Rattle.std.proofs.Common.{◌≡◌, ℕ, refl, ap, inl, inr, Bool, false, is_some, true≢false, ◌<◌}
+use Rattle.std.proofs.Common.{◌≡◌, ℕ, refl, ap, inl, inr, ◌<◌}
 use Rattle.std.proofs.Common.{arith}
 use Rattle.std.proofs.lemmas.Bool.{cases_Bool, cases_lt, lt-ltb, le-ltb}
-use Rattle.std.specs.Prelude.{true, false, Option, Some, None, nat_lt, List, ◌∷◌, ◌++◌}
+use Rattle.std.specs.Prelude.{Option, Some, None, nat_lt, List, ◌∷◌, ◌++◌}
 use Rattle.finite_sums.proofs.Totals.{each_updated}
 use Rattle.access_model.specs.declared.{actions.Action.Action, errors.GateError.GateError, replies.Next.Next}
 use Rattle.cpu_words.specs.{Hooks.HookAnswer}
-use Rattle.gate_world.specs.Beginnings.{view_refusal, refusal}
+use Rattle.gate_world.specs.Beginnings.{view_refusal}
 use Rattle.gate_world.specs.Courses.{course_with, course_after, IsEventOf, IsNext, IsTraced, MayFind, AllTraced, EventsMayBe}
-use Rattle.gate_world.specs.{Views.{phase_after, actions_after, view_after, held_of}, Work.{next_of, after_of}}
+use Rattle.gate_world.specs.{Views.{phase_after, actions_after, view_after}, Work.{next_of, after_of}}
 use Rattle.gate_world.specs.Worlds.{World, begin_refusal, begin_of, value_at, step_of, happens, opening}
 use Rattle.gate_world.specs.declared.entries.Entry.{Entry, TheVariants.{Begins, Steps}}
 use Rattle.gate_world.specs.declared.{config.Config.Config, operations.Op.Op, views.{Traced.Traced, View.View}, work.Phase.Phase}
@@ -28,16 +28,6 @@ newest (Some a) actions added before h = ap (λ l. a ∷ l) h
 step_follows : (c : Config) (t : ℕ) (v : View) (op : Option Op) (phase : Phase) (value : ℕ) (hook : HookAnswer) → v.phase ≡ Some phase →
     MayFind phase (next_of phase hook).0 value → IsTraced c t v op → IsTraced c t (view_after v phase value hook) op
 step_follows c t v a3 phase value hook e may h = grind arith
-
--- why an operation can't begin, where another is under way or none is
-abbrev unless_under_way : Config → View → Op → Bool → Option GateError
-unless_under_way c v op under_way = refusal c under_way (held_of v) op
-
--- an operation that begins finds none under way
-idle_refusal : (c : Config) (v : View) (op : Op) (under_way : Bool) → unless_under_way c v op under_way ≡ None →
-    unless_under_way c v op false ≡ None
-idle_refusal c v op true h = absurd (true≢false (ap is_some h))
-idle_refusal c v op false h = h
 
 -- a beginning empties the trace, and notes the actions so far
 begin_keeps : (c : Config) (w : World) (t : ℕ) (op : Op) (refused : Option GateError) → view_refusal c (w.views t) op ≡ refused →

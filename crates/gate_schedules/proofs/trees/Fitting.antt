@@ -1,17 +1,16 @@
 -- The numbers of a phase stay in range, and each word of its events is there.
 use Rattle.std.proofs.{Common.{◌≡◌, ℕ, Bool, true, false, ◌<◌, arith}}
 use Rattle.std.proofs.lemmas.Grind.{common_steps}
-use Rattle.std.specs.Prelude.{◌==◌, Option, Some, Result, Ok, nat_lt, if◌then◌else◌}
+use Rattle.std.specs.Prelude.{◌==◌, Option, Some, Result, Ok, if◌then◌else◌}
 use Rattle.access_model.specs.{Replies.map_next, declared.{errors.GateError.GateError, replies.Next.Next}}
 use Rattle.cpu_words.specs.Hooks.{HookAnswer}
 use Rattle.node_words.proofs.Words.{file_narrow}
-use Rattle.gated_tree.specs.Calls.{CreateStepFits, RemoveStepFits, MoveStepFits, OpenStepFits, SnapshotStepFits, TreePhaseFits, NextFits}
-use Rattle.node_words.specs.Nodes.{word_of, file_in, directory_in, node_after}
+use Rattle.gated_tree.specs.Calls.{CreateStepFits, RemoveStepFits, MoveStepFits, SnapshotStepFits, TreePhaseFits, NextFits}
+use Rattle.node_words.specs.Nodes.{word_of, file_in, directory_in}
 use Rattle.node_words.specs.Phases.{after_look}
-use Rattle.gated_tree.specs.Phases.{after, create_looked, create_past, create_after, remove_after, removes_file, grow_after}
-use Rattle.gated_tree.specs.Phases.{move_after, at_move, mark_after, open_after, opens_from, snapshot_after, snapshot_locked_out}
+use Rattle.gated_tree.specs.Phases.{after, create_after, remove_after, grow_after}
+use Rattle.gated_tree.specs.Phases.{move_after, at_move, mark_after, open_after, snapshot_after}
 use Rattle.node_words.specs.Phases.{clear_after}
-use Rattle.gated_tree.specs.Phases.{node_step, kids_step}
 use Rattle.gated_tree.specs.Roles.{Bounds, AreWithin}
 use Rattle.gated_tree.specs.declared.changes.{Create.Create, CreateStep.CreateStep, MoveStep.MoveStep, MoveTo.MoveTo, Remove.Remove, RemoveStep.RemoveStep}
 use Rattle.node_words.specs.declared.marks.ClearMarks.{ClearMarks}
@@ -38,19 +37,9 @@ module _ (c : Bounds) (within : AreWithin c) (t : ℕ) where
   either to true x y f g = f
   either to false x y f g = g
 
-  past_fits : (x : Create) (node : ℕ) → x.dir < c.nodes → x.nodes ≡ c.nodes → NextFits c t (map_next TreePhase.Create (create_past x node))
-  past_fits x node d same = grind arith
-
-  seen_fits : (x : Create) (node : ℕ) → x.dir < c.nodes → x.nodes ≡ c.nodes → node < c.nodes → (found : Option NodeWord) →
-      NextFits c t (map_next TreePhase.Create (create_looked x node found))
-  seen_fits x node d same n a5 = grind arith
-
   create_fits : (x : Create) (step : CreateStep) (found : ℕ) → x.dir < c.nodes → x.nodes ≡ c.nodes → CreateStepFits c step →
       NextFits c t (map_next TreePhase.Create (create_after x step found).0)
   create_fits x a1 found d same fits = grind (arith, common_steps)
-
-  removes_fits : (file : NodeWord) (opens : ℕ) → opens ≡ file.opens → file.parent < 64 → RemoveStepFits (removes_file file opens)
-  removes_fits file opens same narrow = grind arith
 
   remove_fits : (x : Remove) (step : RemoveStep) (found : ℕ) → x.file < c.nodes → RemoveStepFits step →
       NextFits c t (map_next TreePhase.Remove (remove_after x step found).0)
@@ -76,23 +65,8 @@ module _ (c : Bounds) (within : AreWithin c) (t : ℕ) where
   mark_fits : (x : Mark) (step : MarkStep) (found : ℕ) → x.file < c.nodes → NextFits c t (map_next TreePhase.Mark (mark_after x step found).0)
   mark_fits x a1 found n = grind (arith, common_steps)
 
-  opens_fits : (file : NodeWord) → OpenStepFits (opens_from file (nat_lt file.opens 64))
-  opens_fits file = grind arith
-
   open_fits : (x : OpenFile) (step : OpenStep) (found : ℕ) → x.file < c.nodes → NextFits c t (map_next TreePhase.OpenFile (open_after x step found).0)
   open_fits x a1 found n = grind (arith, common_steps)
-
-  -- a snapshot that finds `umount` taken
-  locked_out_fits : (x : Snapshot) (wait : Bool) → x.task ≡ t → x.nodes ≡ c.nodes →
-      NextFits c t (map_next TreePhase.Snapshot (snapshot_locked_out x wait))
-  locked_out_fits x true own same = (own, same, tt)
-  locked_out_fits x false own same = tt
-
-  node_fits : (node nodes : ℕ) → nodes ≡ c.nodes → SnapshotStepFits c (node_step (node_after node nodes))
-  node_fits node nodes same = grind arith
-
-  kids_fit : (node nodes : ℕ) → nodes ≡ c.nodes → SnapshotStepFits c (kids_step (node_after node nodes))
-  kids_fit node nodes same = grind arith
 
   snapshot_fits : (x : Snapshot) (step : SnapshotStep) (found : ℕ) → x.task ≡ t → x.nodes ≡ c.nodes → SnapshotStepFits c step →
       NextFits c t (map_next TreePhase.Snapshot (snapshot_after x step found).0)

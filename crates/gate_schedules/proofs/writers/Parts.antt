@@ -1,26 +1,25 @@
 -- What an event of a freeze or a thaw may leave: each part of the rule, and the shown model.
 use Rattle.access_model.specs.{Replies.map_next, States.{Limits, State, openers}, declared.actions.{Action.Action, Holders.Holders, NodeInfo.NodeInfo}}
 use Rattle.access_model.specs.declared.replies.{Next.Next, Reply.Reply}
-use Rattle.cpu_words.specs.{Hooks.HookAnswer, Touches.{event_of, found_by}, Words.Words, declared.sums.Taken.Taken}
+use Rattle.cpu_words.specs.{Hooks.HookAnswer, Touches.{event_of, found_by}, Words.Words}
 use Rattle.finite_sums.proofs.Totals.{each_updated}
 use Rattle.finite_sums.specs.Sums.{update}
-use Rattle.freeze_levels.specs.{Freezes.{freeze_after, freeze_next, level_closed}, Holders.holders_in, Thaws.{thaw_after, thaw_next}}
-use Rattle.freeze_levels.specs.declared.{freezes.{Freeze.Freeze, FreezeStep.FreezeStep}, thaws.{Thaw.Thaw, ThawStep.ThawStep}}
+use Rattle.freeze_levels.specs.{Freezes.{freeze_after, freeze_next}, Holders.holders_in}
+use Rattle.freeze_levels.specs.declared.{freezes.{Freeze.Freeze, FreezeStep.FreezeStep}, thaws.{Thaw.Thaw}}
 use Rattle.gate_schedules.proofs.frames.{Frames.{left_alone, opens_left, view_as}, Known.{IsOwnersWork, known_after}}
 use Rattle.gate_schedules.proofs.frames.Stages.{IsStageEvent, shown_by, stage_action, stage_effect, stages_after, stages_in}
 use Rattle.gate_schedules.proofs.{levels.Standing.{LevelsHold, left_world}, mounts.Parts.{is_known_part, known_is}}
 use Rattle.gate_world.specs.{Configs.model_limits, Fits.{FreezeFits, HasFile, file_of}, Found.is_load, Holdings.Holdings, Owners.{is_owned, takes_lock}}
-use Rattle.gate_world.specs.{Alike.{Roles, no_roles, roles_of}, Roles.{freeze_owns, thaw_owns}, Rules.{AtLevel, AtMount, Files}}
+use Rattle.gate_world.specs.{Alike.{Roles, no_roles, roles_of}, Roles.{freeze_owns}, Rules.{AtLevel, AtMount, Files}}
 use Rattle.gate_world.specs.Rules.{Fitting, Holding, Holds, IsGood, Known, Moves, Owner, OwnerHolds, Part, Sections, Stages, StepKeeps, SyncAt, Tree, ViewFits}
 use Rattle.gate_world.specs.{Rules.{owns, stage_role_of, stage_roles}, Shown.shown, Views.{added_by, has_open, held_of, phase_after, taken_by}, Worlds.World}
 use Rattle.gate_world.specs.{Worlds.{after_step, phase_action, value_at}, declared.{config.Config.Config, views.View.View, work.Phase.Phase}}
 use Rattle.node_words.specs.Nodes.{node_shown, opens_in}
 use Rattle.percpu_rwsem.specs.{Writers.at_down_write}
-use Rattle.percpu_rwsem.specs.Writers.{down_write_after, down_write_next, down_write_summed, passed_awaited, sections_awaited}
-use Rattle.percpu_rwsem.specs.{declared.{grace.GraceNext.GraceNext, sync_word.SyncWord.SyncWord}}
+use Rattle.percpu_rwsem.specs.Writers.{down_write_after, down_write_next}
 use Rattle.percpu_rwsem.specs.declared.writers.{DownWrite.DownWrite, DownWriteStep.DownWriteStep}
-use Rattle.freeze_laws.specs.stages.{Events.{StageEvent, action_of as stage_action_of}, Roles.bit, Shown.{AsksOthers, ShowsStages, state_after}}
-use Rattle.std.proofs.{Common.{ap, arith, false, inl, inr, nat_lt, refl, subst, sym, true, true≢false, ℕ, ◌<◌, ◌∙◌, ◌≡◌, ◌≤◌, ◌⊎◌}, lemmas.Bool.cases_Bool}
+use Rattle.freeze_laws.specs.stages.{Events.{StageEvent, action_of as stage_action_of}, Shown.{AsksOthers, ShowsStages, state_after}}
+use Rattle.std.proofs.{Common.{ap, arith, false, inl, inr, refl, subst, sym, true, true≢false, ℕ, ◌<◌, ◌∙◌, ◌≡◌, ◌⊎◌}, lemmas.Bool.cases_Bool}
 use Rattle.std.specs.Prelude.{None, Ok, Option, Some}
 
 -- of these roles those that no freeze and no thaw has
@@ -164,15 +163,6 @@ whole_writer c w t lt good hook phase e work keeps = (
 -- What comes after an event of a down-write is the same one with another step, or it is done.
 module _ (d : DownWrite) (P : Next DownWrite → Type 0) (go : (s : DownWriteStep) → P (Next.Go (at_down_write d s)))
     (wait : (s : DownWriteStep) → P (Next.Wait (at_down_write d s))) (done : P (Next.Done (Ok Reply.Unit))) where
-  sections_come : (n : GraceNext) → P (sections_awaited d n)
-  sections_come a0 = grind arith
-
-  passed_comes : (o : Option SyncWord) → P (passed_awaited d o)
-  passed_comes a0 = grind arith
-
-  summed_comes : (n : Taken) → P (down_write_summed d n).0
-  summed_comes a0 = grind arith
-
   pub down_write_comes : (s : DownWriteStep) (found : ℕ) → P (down_write_after d s found).0
   down_write_comes a0 found = grind arith
 
@@ -183,11 +173,6 @@ down_write_off d other = grind arith
 freeze_changes : (x : Freeze) (s : FreezeStep) (hook : HookAnswer) → is_owned (freeze_next x s hook).0 ≡ true →
     (is_load (freeze_next x s hook).1 ≡ true) ⊎ (freeze_owns s ≡ 1)
 freeze_changes x s hook h = grind arith
-
--- a level that is closed is closed by the owner as before, but for level 1, after which `umount` is to be taken again
-closed_comes : (x : Freeze) (level : ℕ) → 1 ≤ level → freeze_owns (level_closed level x.nodes) ≡ 1 →
-    bit (nat_lt 1 level) ≡ 1
-closed_comes x level low h = grind arith
 
 -- and comes to own `umount` by taking it
 freeze_comes_to : (c : Config) (x : Freeze) (s : FreezeStep) (hook : HookAnswer) (value : ℕ) → FreezeFits c x.holder s →
@@ -200,18 +185,6 @@ freeze_work c w x hook f = record {
   changes = freeze_changes x x.step hook;
   comes_to_own = freeze_comes_to c x x.step hook (value_at w.words (Phase.Freezes x) hook) f;
 }
-
--- a thaw changes an owned word as the owner
-thaw_changes : (x : Thaw) (s : ThawStep) (hook : HookAnswer) → is_owned (thaw_next x s hook).0 ≡ true →
-    (is_load (thaw_next x s hook).1 ≡ true) ⊎ (thaw_owns s ≡ 1)
-thaw_changes x ThawStep.Locks hook h = absurd (true≢false (sym h))
-thaw_changes x s hook h = inr refl
-
--- and comes to own `umount` by taking it
-thaw_comes_to : (x : Thaw) (s : ThawStep) (hook : HookAnswer) (value : ℕ) →
-    owns (phase_after (map_next Phase.Thaws (thaw_after x s (found_by (thaw_next x s hook).1 value) hook).0)) ≡ 1 →
-    (thaw_owns s ≡ 1) ⊎ (takes_lock (event_of (thaw_next x s hook).0 (thaw_next x s hook).1 value) ≡ true)
-thaw_comes_to x s hook value h = grind arith
 
 pub thaw_work : (w : World) (x : Thaw) (hook : HookAnswer) → IsOwnersWork w (Phase.Thaws x) hook
 thaw_work w x hook = grind arith

@@ -7,9 +7,9 @@ use Rattle.access_model.specs.declared.replies.Next.{Next}
 use Rattle.cpu_words.specs.{Sums.{ahead, lead}, Touches.{left, found_by, wrap_add}, Words.{Words, read}, declared.{names.WordName.WordName, sums.Sum.Sum}}
 use Rattle.cpu_words.proofs.gate_counts.Numbers.{ahead_past, ahead_step}
 use Rattle.percpu_rwsem.specs.{Graces.looked, SyncWords.{unpack, is_passed, on_enter, on_exit, on_callback}, Transitions.{transition_next, transition_after}}
-use Rattle.percpu_rwsem.specs.Writers.{down_write_next, down_write_after, at_down_write, entered_from, enter_step, callback_step, sections_awaited}
+use Rattle.percpu_rwsem.specs.Writers.{down_write_next, down_write_after, at_down_write, enter_step, callback_step, sections_awaited}
 use Rattle.percpu_rwsem.specs.Writers.{up_write_next, up_write_after, exit_made}
-use Rattle.percpu_rwsem.specs.declared.{grace.GraceNext.GraceNext, sync_word.GpState.GpState}
+use Rattle.percpu_rwsem.specs.declared.{grace.GraceNext.GraceNext}
 use Rattle.percpu_rwsem.specs.declared.transitions.{Transition.Transition, TransitionNext.TransitionNext}
 use Rattle.percpu_rwsem.specs.declared.writers.{DownWrite.DownWrite, DownWriteStep.DownWriteStep, UpWrite.UpWrite, UpWriteStep.UpWriteStep}
 use Rattle.freeze_laws.specs.levels.{Operations.{down_write_role, up_write_role}, Roles.{SyncRole, Past, Entered, entering, entered, closed}}
@@ -37,10 +37,6 @@ lead_last processors count k sum lt le =
 begun_rank : (processors : ℕ) (count : ℕ → ℕ) → total processors count % 18446744073709551616 ≡ 0 →
     sum_rank processors count (record { words = 0; total = 0 }) ≤ processors - 1
 begun_rank processors count none = grind arith
-
-entered_rank : (w : Words) (d : DownWrite) (s : GpState) → down_rank w d (entered_from d.tasks s) ≤ d.processors + d.tasks + 2
-entered_rank w d GpState.Idle = omega arith
-entered_rank w d other = omega arith
 
 -- a down-write's next phase is at its level
 abbrev pub DownFalls : Words → DownWrite → ℕ → Next DownWrite → Type 0

@@ -1,15 +1,13 @@
 -- Events of a down-write and of an up-write: the words that they leave, the counts, and what they add.
-use Rattle.std.{proofs.Common.{◌≡◌, ℕ, ◌<◌, refl, sym, ◌∙◌, subst}, specs.Prelude.{Ok, ◌==◌, if◌then◌else◌, Option, Some, None}}
+use Rattle.std.{proofs.Common.{◌≡◌, ℕ, ◌<◌, refl, sym, ◌∙◌, subst}, specs.Prelude.{◌==◌, if◌then◌else◌, Option, Some, None}}
 use Rattle.std.proofs.Common.{arith}
 use Rattle.finite_sums.specs.Sums.{update}
-use Rattle.access_model.specs.{Actions.after_action, States.State, declared.{actions.Action.Action, replies.{Next.Next, Reply.Reply}}}
+use Rattle.access_model.specs.{Actions.after_action, States.State, declared.{actions.Action.Action}}
 use Rattle.cpu_words.specs.{Sums.sum_taking, Touches.left, Words.{Words, read, put}, declared.sums.Taken.Taken}
 use Rattle.node_words.specs.Nodes.{node_shown, opens_in}
 use Rattle.gated_tree.specs.Roles.{Out, Clearing}
 use Rattle.gate_schedules.specs.trees.Events.{Event, turned, BeginsClearing}
-use Rattle.percpu_rwsem.specs.{SyncWords.on_exit, Transitions.transition_after}
-use Rattle.percpu_rwsem.specs.Writers.{exit_made, down_write_next, down_write_after, down_write_summed, up_write_next, up_write_after}
-use Rattle.percpu_rwsem.specs.declared.transitions.{Transition.Transition, TransitionNext.TransitionNext}
+use Rattle.percpu_rwsem.specs.Writers.{down_write_next, down_write_after, down_write_summed, up_write_next, up_write_after}
 use Rattle.percpu_rwsem.specs.declared.writers.{DownWrite.DownWrite, DownWriteStep.DownWriteStep, UpWrite.UpWrite, UpWriteStep.UpWriteStep}
 use Rattle.freeze_levels.specs.Holders.{holders_in}
 use Rattle.freeze_laws.specs.stages.{Events.{StageEvent, action_of as stage_action_of}, Shown.state_after}
@@ -67,16 +65,6 @@ pub up_write_adds : (u : UpWrite) (P : Option Action → Type 0) → P None → 
     P (up_write_after u s found).1
 up_write_adds u P none opens UpWriteStep.ClearsBlock found = opens
 up_write_adds u P none opens (UpWriteStep.Exits transition) found = none
-
--- What comes after an event of an up-write is the same one, past its store, or it is done.
-module _ (u : UpWrite) (P : Next UpWrite → Type 0) (go : (s : UpWriteStep) → P (Next.Go (record u { step = s })))
-    (done : P (Next.Done (Ok Reply.Unit))) where
-  exit_comes : (n : TransitionNext) → P (exit_made u n)
-  exit_comes a0 = grind arith
-
-  pub up_write_comes : (s : UpWriteStep) (found : ℕ) → P (up_write_after u s found).0
-  up_write_comes UpWriteStep.ClearsBlock found = go (UpWriteStep.Exits Transition.Loads)
-  up_write_comes (UpWriteStep.Exits transition) found = exit_comes (transition_after on_exit transition found)
 
 pub pass_leaves : (s : State) (t i : ℕ) → LeavesRest s (after_action s t (Action.Pass i)) s.tree s.holders
 pass_leaves s t i = record { mounts_same = refl; levels_same = refl; opens_same = refl; ro_same = refl; tree_same = refl; holders_same = refl }

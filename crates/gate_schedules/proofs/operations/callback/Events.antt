@@ -29,11 +29,9 @@ use Rattle.freeze_laws.proofs.levels.Operations.{callbacks_are_there}
 use Rattle.freeze_laws.specs.levels.Events.{SyncLevel, SyncLevelHolds, SyncStep}
 use Rattle.freeze_laws.specs.levels.Operations.{CallbackIsThere, HoldsOfNext, KnowsCallback, by_next, callback_role, left_by, put_at, value_at}
 use Rattle.freeze_laws.specs.levels.Roles.{Out as IsApart}
-use Rattle.percpu_rwsem.specs.Callbacks.{at_callback, callback_after, callback_looked, callback_next, called_back, claimed}
-use Rattle.percpu_rwsem.specs.Graces.{looked, passed_on}
+use Rattle.percpu_rwsem.specs.Callbacks.{at_callback, callback_after, callback_next, called_back}
 use Rattle.percpu_rwsem.specs.declared.callbacks.Callback.{Callback}
 use Rattle.percpu_rwsem.specs.declared.callbacks.CallbackStep.{CallbackStep}
-use Rattle.percpu_rwsem.specs.declared.grace.Grace.{Grace}
 use Rattle.percpu_rwsem.specs.declared.transitions.TransitionNext.{TransitionNext}
 use Rattle.std.proofs.Common.{ap, arith, inl, inr, refl, subst, sym, ℕ, ◌<◌, ◌∙◌, ◌≡◌, ◌≤◌}
 use Rattle.std.proofs.lemmas.Bool.Decides.{eqb_tells}
@@ -91,19 +89,6 @@ after_outside other = refl
 abbrev Stays : ℕ → ℕ → Callback → Type 0
 Stays level tasks x = (x.level ≡ level) × (x.tasks ≡ tasks) × GraceFits tasks x.step
 
--- a task number is passed, and another one is next or none is left
-passed_stays : (b : Callback) (g : Grace) → g.tasks ≡ b.tasks →
-    HoldsOfNext (Stays b.level b.tasks) (callback_looked b (passed_on g))
-passed_stays b g e = grind arith
-
--- a load of a section word
-looked_stays : (b : Callback) (g : Grace) → g.tasks ≡ b.tasks → g.task < b.tasks → (found : ℕ) →
-    HoldsOfNext (Stays b.level b.tasks) (callback_looked b (looked g found))
-looked_stays b g e lt found = grind arith
-
-claim_stays : (b : Callback) → 0 < b.tasks → (n : TransitionNext) → HoldsOfNext (Stays b.level b.tasks) (claimed b n)
-claim_stays b some a2 = grind arith
-
 -- an event of its own transition
 call_stays : (b : Callback) (n : TransitionNext) → HoldsOfNext (Stays b.level b.tasks) (called_back b n)
 call_stays b a1 = grind arith
@@ -122,11 +107,6 @@ role_next i tasks a2 h = grind arith
 role_elsewhere : (i j tasks : ℕ) → (j ≡ i → ⊥) → (n : Next Callback) → HoldsOfNext (Stays i tasks) n →
     sync_role_of j (phase_after (map_next Phase.Callbacks n)) ≡ IsApart
 role_elsewhere i j tasks ne a4 h = grind arith
-
--- one callback of a level and of all tasks that knows what is to come fits
-one_fits : (c : Config) (t level tasks : ℕ) (held : Holdings) → 1 ≤ level → level ≤ 3 → tasks ≡ c.tasks → (x : Callback) →
-    Stays level tasks x → KnowsCallback x.step → PhaseFits c t held (Phase.Callbacks x)
-one_fits c t level tasks held one three all x stays knows = grind arith
 
 -- so what comes after an event does
 next_fits : (c : Config) (t level tasks : ℕ) (held : Holdings) → 1 ≤ level → level ≤ 3 → tasks ≡ c.tasks →

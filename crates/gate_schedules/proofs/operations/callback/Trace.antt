@@ -1,12 +1,11 @@
 -- Traces of a callback.
 use Rattle.std.proofs.{Common.{◌≡◌, ℕ, refl, sym, subst}}
 use Rattle.std.proofs.Common.{arith}
-use Rattle.std.specs.Prelude.{Option, List, [], ◌∷◌}
+use Rattle.std.specs.Prelude.{List, [], ◌∷◌}
 use Rattle.access_model.specs.{Replies.map_next, declared.{actions.Action.Action, replies.Next.Next}}
 use Rattle.cpu_words.specs.Hooks.{HookAnswer}
-use Rattle.percpu_rwsem.specs.{Callbacks.{claimed, callback_looked, called_back}, Graces.{passed_on}}
-use Rattle.percpu_rwsem.specs.{SyncWords.{unpack, on_claim, on_callback}, Transitions.{word_loaded}}
-use Rattle.percpu_rwsem.specs.declared.{callbacks.{Callback.Callback, CallbackStep.CallbackStep}, grace.Grace.Grace, sync_word.SyncWord.SyncWord}
+use Rattle.percpu_rwsem.specs.{Callbacks.{callback_looked}, Graces.{passed_on}}
+use Rattle.percpu_rwsem.specs.declared.{callbacks.{Callback.Callback, CallbackStep.CallbackStep}, grace.Grace.Grace}
 use Rattle.percpu_rwsem.specs.declared.transitions.Transition.{Transition}
 use Rattle.gate_world.specs.{Found.transitions_made, Views.with_hook, declared.{config.Config.Config, operations.Op.Op, views.Traced.Traced, work.Phase.Phase}}
 use Rattle.gate_schedules.proofs.traces.Says.{Says, SaysAfter, Kept, event_at}
@@ -32,17 +31,6 @@ module _ (c : Config) (i tasks value : ℕ) (hook : HookAnswer) (earlier : List 
   SaysNow s n =
       Says (CallbackAt i tasks) c (Op.Callback i) (with_hook (event_at (Phase.Callbacks (callback_on i tasks s)) value hook) hook ∷ earlier)
       (map_next Phase.Callbacks n) added
-
-  -- after a load of the sync word that has no callback to take, none ran
-  claim_loaded : transitions_made i earlier ≡ 0 → (o : Option SyncWord) → unpack value ≡ o →
-      SaysNow (CallbackStep.Claims Transition.Loads) (claimed (callback_on i tasks (CallbackStep.Claims Transition.Loads)) (word_loaded on_claim o))
-  claim_loaded h a1 e = grind arith
-
-  -- after one by a callback that is past its grace period, it goes on
-  call_loaded : transitions_made i earlier ≡ 1 → (o : Option SyncWord) →
-      SaysNow (CallbackStep.CallsBack Transition.Loads)
-      (called_back (callback_on i tasks (CallbackStep.CallsBack Transition.Loads)) (word_loaded on_callback o))
-  call_loaded h a1 = grind arith
 
   -- what the trace says after the event of a step
   abbrev After : CallbackStep → Type 0

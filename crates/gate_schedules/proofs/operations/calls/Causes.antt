@@ -2,12 +2,11 @@
 use Rattle.std.proofs.{Common.{◌≡◌, ℕ}}
 use Rattle.std.proofs.lemmas.Grind.{common_steps}
 use Rattle.std.proofs.Common.{arith}
-use Rattle.std.specs.Prelude.{Option, Some, None, Err, List, ◌∷◌, Bool, true, false, if◌then◌else◌}
+use Rattle.std.specs.Prelude.{Option, Some, Err, List, ◌∷◌, Bool, true, false, if◌then◌else◌}
 use Rattle.access_model.specs.{Replies.map_next, declared.{errors.GateError.GateError, replies.Next.Next}}
 use Rattle.cpu_words.specs.Hooks.{HookAnswer}
 use Rattle.node_words.specs.Phases.{clear_after}
-use Rattle.gated_tree.specs.Phases.{create_after, remove_after, grow_after, move_after, mark_after, open_after, snapshot_locked_out, at_snapshot}
-use Rattle.gated_tree.specs.Phases.{kids_step, node_step}
+use Rattle.gated_tree.specs.Phases.{create_after, remove_after, grow_after, move_after, mark_after, open_after, at_snapshot}
 use Rattle.gated_tree.specs.declared.{phases.TreePhase.TreePhase, snapshots.{Snapshot.Snapshot, SnapshotStep.SnapshotStep}}
 use Rattle.gate_world.specs.{KeptCauses.{SnapshotCause, TreeCause, CauseOf}, Views.phase_after, Work.after_of}
 use Rattle.gate_world.specs.{Worlds.{World, found_at}, declared.{config.Config.Config, work.Phase.Phase}}
@@ -38,18 +37,6 @@ module _ (c : Config) (t : ℕ) (w next : World) (earlier : List World) where
   either : (b : Bool) (n m : Next Snapshot) → CauseAfter n → CauseAfter m → CauseAfter (if b then n else m)
   either true n m h k = h
   either false n m h k = k
-
-  locked_out_own : (x : Snapshot) (wait : Bool) → CauseAfter (snapshot_locked_out x wait)
-  locked_out_own x true = tt
-  locked_out_own x false = tt
-
-  node_own : (x : Snapshot) (o : Option ℕ) → CauseAfter (Next.Go (at_snapshot x (node_step o)))
-  node_own x (Some node) = tt
-  node_own x None = tt
-
-  kids_own : (x : Snapshot) (o : Option ℕ) → CauseAfter (Next.Go (at_snapshot x (kids_step o)))
-  kids_own x (Some node) = tt
-  kids_own x None = tt
 
   -- where the stage was found other than 4, it was so when the snapshot looked
   stage_own : (x : Snapshot) → (w.views t).phase ≡ Some (Phase.Trees (TreePhase.Snapshot (at_snapshot x SnapshotStep.LoadsStage))) → (w.words.stage ≡ 4 → ⊥) →

@@ -1,7 +1,7 @@
 -- Traces of a create.
 use Rattle.std.proofs.{Common.{◌≡◌, ℕ, ◌+◌, ◌<◌, ◌≤◌, Bool, true, false, refl, sym, subst, inl, inr, arith}, lemmas.Bool.{cases_Bool}}
-use Rattle.std.specs.Prelude.{◌==◌, Option, Result, Ok, List, [], ◌∷◌, length, is_some}
-use Rattle.access_model.specs.declared.{actions.{Action.Action, Kind.Kind}, errors.GateError.GateError, replies.{Next.Next, Reply.Reply}}
+use Rattle.std.specs.Prelude.{◌==◌, Option, List, [], ◌∷◌, length, is_some}
+use Rattle.access_model.specs.declared.{actions.{Action.Action, Kind.Kind}, replies.{Next.Next}}
 use Rattle.cpu_words.specs.{Touches.found_by, declared.events.Event.Event}
 use Rattle.node_words.specs.Nodes.{as_directory, unpacked, directory_in}
 use Rattle.gated_tree.specs.Phases.{at_create, create_after, create_looked, create_next}
@@ -12,7 +12,7 @@ use Rattle.gated_tree.specs.declared.changes.CreateStep.{CreateStep}
 use Rattle.gated_tree.specs.declared.phases.TreePhase.{TreePhase}
 use Rattle.gate_schedules.{proofs.trees.Ends.create_ends, specs.trees.Ends.{CreateKnows, IsNodeReply, create_adds}}
 use Rattle.gate_world.specs.{Configs.IsWithin, Courses.{IsTrace, MayHold, MayFind, course_of}, Found.SeenIn, Operations.first_create}
-use Rattle.gate_world.specs.{Traces.{actions_of, IsHonest, IsShort, IsTold, Tells, most_events}, Views.with_hook, Work.next_of}
+use Rattle.gate_world.specs.{Traces.{IsShort, Tells, most_events}, Views.with_hook, Work.next_of}
 use Rattle.gate_world.specs.declared.{config.Config.Config, operations.Op.Op, views.Traced.Traced, work.Phase.Phase}
 use Rattle.gate_schedules.proofs.operations.calls.Trace.{Answers, CallAt, Stays, call_says, looked, made_some, sees}
 use Rattle.gate_schedules.proofs.traces.Says.{KeptWell, SaysAfter, event_at, tells_well, is_short_well}
@@ -70,22 +70,6 @@ module _ (c : Config) (d : ℕ) (kind : Kind) where
     | inr e ↦ rw e (CreateStep.RefundsChild, refl, tt, λ q. omega arith)
   ]
   create_goes lim earlier CreateStep.RefundsChild value there trace may = λ q. omega arith
-
-  -- why a create is refused doesn't depend on its step
-  create_cause : (s : CreateStep) (trace : List Traced) (refusal : GateError) → CreateHonest (SeenIn trace) (create_of s) refusal →
-      IsHonest c (Op.Create d kind) refusal trace
-  create_cause s trace refusal h = grind arith
-
-  -- a create that is done answers a node
-  create_told : (trace : List Traced) (reply : Reply) → IsNodeReply reply → IsTold (Op.Create d kind) reply trace
-  create_told trace (Reply.Node n) h = tt
-  create_told trace reply h = absurd h
-
-  -- what it has added, said both ways
-  create_actions : (s : CreateStep) (trace : List Traced) (answer : Result Reply GateError) →
-      create_adds (create_of s) answer ≡ actions_of (Op.Create d kind) answer trace
-  create_actions s trace (Ok (Reply.Node n)) = refl
-  create_actions s trace other = refl
 
   -- a step comes after at most that many events
   create_within : (s : CreateStep) (trace : List Traced) → IsThere c trace s → length trace ≤ events_before c s →

@@ -1,7 +1,7 @@
 -- Traces of a page fault and of a write-back.
 use Rattle.std.proofs.{Common.{◌≡◌, ℕ, ◌≤◌, Bool, true, false, refl, sym, subst, inl, inr, arith}, lemmas.Bool.cases_Bool}
-use Rattle.std.specs.Prelude.{◌==◌, Result, Ok, Err, List, [], ◌∷◌, length}
-use Rattle.access_model.specs.declared.{actions.Action.Action, errors.GateError.GateError, replies.{Next.Next, Reply.Reply}}
+use Rattle.std.specs.Prelude.{◌==◌, List, [], ◌∷◌, length}
+use Rattle.access_model.specs.declared.{actions.Action.Action, replies.{Next.Next, Reply.Reply}}
 use Rattle.cpu_words.specs.{Touches.found_by, declared.events.Event.Event}
 use Rattle.node_words.specs.Nodes.{word_of, as_file, unpacked, file_in}
 use Rattle.gated_tree.specs.Phases.{at_mark, mark_after, mark_done, mark_next}
@@ -9,7 +9,7 @@ use Rattle.gated_tree.specs.Refusals.{FileHonest}
 use Rattle.gated_tree.specs.declared.{marks.{Mark.Mark, MarkStep.MarkStep}, phases.TreePhase.TreePhase}
 use Rattle.gate_schedules.{proofs.trees.Ends.mark_ends, specs.trees.Ends.{IsReply, where_done}}
 use Rattle.gate_world.specs.{Beginnings.first_phase, Configs.IsWithin, Courses.{IsTrace, MayHold, MayFind, course_of}, Found.SeenIn, Operations.first_mark}
-use Rattle.gate_world.specs.{Traces.{actions_of, IsHonest, IsShort, IsTold, Tells, most_events}, Views.with_hook, Work.next_of}
+use Rattle.gate_world.specs.{Traces.{IsShort, Tells, most_events}, Views.with_hook, Work.next_of}
 use Rattle.gate_world.specs.declared.{config.Config.Config, operations.Op.Op, views.Traced.Traced, work.Phase.Phase}
 use Rattle.gate_schedules.proofs.operations.calls.Trace.{Answers, CallAt, Stays, call_says, looked, made_some, sees}
 use Rattle.gate_schedules.proofs.traces.Says.{KeptWell, SaysAfter, event_at, tells_well, is_short_well}
@@ -39,26 +39,6 @@ mark_op file false = Op.Flush file
 mark_first : (c : Config) (t file : ℕ) (dirty : Bool) → first_phase c t (mark_op file dirty) ≡ Phase.Trees (TreePhase.Mark (first_mark dirty file))
 mark_first c t file true = refl
 mark_first c t file false = refl
-
--- it is refused as a mark is
-mark_cause : (c : Config) (file : ℕ) (dirty : Bool) (trace : List Traced) (refusal : GateError) → FileHonest (SeenIn trace) file refusal →
-    IsHonest c (mark_op file dirty) refusal trace
-mark_cause c file true trace refusal h = h
-mark_cause c file false trace refusal h = h
-
--- where it is done, it answers nothing else
-mark_told : (file : ℕ) (dirty : Bool) (trace : List Traced) (reply : Reply) → IsReply Reply.Unit reply →
-    IsTold (mark_op file dirty) reply trace
-mark_told file true trace reply h = h
-mark_told file false trace reply h = h
-
--- what it has added, said both ways
-mark_actions : (file : ℕ) (dirty : Bool) (trace : List Traced) (answer : Result Reply GateError) →
-    where_done (mark_done dirty file) answer ≡ actions_of (mark_op file dirty) answer trace
-mark_actions file true trace (Ok reply) = refl
-mark_actions file true trace (Err refusal) = refl
-mark_actions file false trace (Ok reply) = refl
-mark_actions file false trace (Err refusal) = refl
 
 mark_short : (c : Config) (file : ℕ) (dirty : Bool) (trace : List Traced) → length trace ≤ 2 →
     IsShort (most_events c (mark_op file dirty)) trace

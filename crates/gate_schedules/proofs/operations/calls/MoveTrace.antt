@@ -1,6 +1,6 @@
 -- Traces of a move.
-use Rattle.std.proofs.{Common.{◌≡◌, ℕ, ◌≤◌, Bool, false, refl, sym, subst, inl, inr, arith}, lemmas.Bool.cases_Bool}
-use Rattle.std.specs.Prelude.{◌==◌, Result, Ok, Err, List, ◌∷◌, length}
+use Rattle.std.proofs.{Common.{ℕ, ◌≤◌, Bool, false, refl, sym, subst, inl, inr, arith}, lemmas.Bool.cases_Bool}
+use Rattle.std.specs.Prelude.{◌==◌, Ok, Err, List, ◌∷◌, length}
 use Rattle.access_model.specs.declared.{actions.Action.Action, errors.GateError.GateError, replies.{Next.Next, Reply.Reply}}
 use Rattle.cpu_words.specs.{Touches.found_by, declared.events.Event.Event}
 use Rattle.node_words.specs.Nodes.{word_of, as_file, as_directory, unpacked, file_in, directory_in}
@@ -8,7 +8,7 @@ use Rattle.gated_tree.specs.Phases.{at_move, move_after, move_next}
 use Rattle.gated_tree.specs.{Refusals.MoveHonest, declared.{changes.{MoveStep.MoveStep, MoveTo.MoveTo}, phases.TreePhase.TreePhase}}
 use Rattle.gate_schedules.{proofs.trees.Ends.move_ends, specs.trees.Ends.{IsReply, MoveKnows, move_added, where_done}}
 use Rattle.gate_world.specs.{Configs.IsWithin, Courses.{IsTrace, MayHold, MayFind, course_of}, Found.SeenIn, Operations.first_move}
-use Rattle.gate_world.specs.{Traces.{actions_of, IsHonest, IsShort, Tells, most_events}, Views.with_hook, Work.next_of}
+use Rattle.gate_world.specs.{Traces.{IsShort, Tells, most_events}, Views.with_hook, Work.next_of}
 use Rattle.gate_world.specs.declared.{config.Config.Config, operations.Op.Op, views.Traced.Traced, work.Phase.Phase}
 use Rattle.gate_schedules.proofs.operations.calls.Trace.{Answers, CallAt, Stays, call_says, looked, made_some, sees}
 use Rattle.gate_schedules.proofs.traces.Says.{KeptWell, SaysAfter, event_at, tells_well, is_short_well}
@@ -62,17 +62,6 @@ module _ (c : Config) (file dir : ℕ) where
     | inr e ↦ rw e (MoveStep.RefundsChild dir (Err GateError.Again), refl, tt, λ q. omega arith)
   ]
   move_goes (MoveStep.RefundsChild from answer) value trace may = λ q. omega arith
-
-  -- why a move is refused doesn't depend on its step
-  move_cause : (s : MoveStep) (trace : List Traced) (refusal : GateError) → MoveHonest (SeenIn trace) (move_of s) refusal →
-      IsHonest c (Op.MoveTo file dir) refusal trace
-  move_cause s trace refusal h = grind arith
-
-  -- what it has added, said both ways
-  move_actions : (trace : List Traced) (answer : Result Reply GateError) →
-      where_done (Action.MoveTo file dir) answer ≡ actions_of (Op.MoveTo file dir) answer trace
-  move_actions trace (Ok reply) = refl
-  move_actions trace (Err refusal) = refl
 
   -- so the trace of a move says what its row asks for
   move_answers : (s : MoveStep) (trace : List Traced) →

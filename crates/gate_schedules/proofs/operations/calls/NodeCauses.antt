@@ -8,7 +8,7 @@ use Rattle.node_words.proofs.Packing.{fields_shown}
 use Rattle.gated_tree.specs.Calls.{IsMoveAnswer, MoveStepFits}
 use Rattle.node_words.specs.Nodes.{word_of, unpacked, file_in, directory_in, node_after, node_of, node_shown, info_of, as_file, as_directory, kind_of, kind_in}
 use Rattle.node_words.specs.Nodes.{is_stray}
-use Rattle.gated_tree.specs.Phases.{create_after, create_looks_at, create_looked, remove_after, grow_after, move_after, mark_after, open_after}
+use Rattle.gated_tree.specs.Phases.{create_after, create_looked, remove_after, grow_after, move_after, mark_after, open_after}
 use Rattle.node_words.specs.Phases.{clear_after, after_look, clears_at}
 use Rattle.gated_tree.specs.Phases.{at_open, at_create, at_remove, at_grow, at_move, at_mark}
 use Rattle.gated_tree.specs.declared.changes.{Create.Create, CreateStep.CreateStep, MoveStep.MoveStep, MoveTo.MoveTo, Remove.Remove, RemoveStep.RemoveStep}
@@ -110,10 +110,6 @@ either false n m h k = k
 not_of_node : {A : Type 0} {P : Type 0} (to : P → TreePhase) (n : Next P) → NotOfNode n → (refusal : GateError) →
     map_next Phase.Trees (map_next to n) ≡ Next.Done (Err refusal) → is_of_node refusal ≡ true → A
 not_of_node to other h refusal e is = grind arith
-
-create_past_not : (x : Create) (o : Option ℕ) → NotOfNode (create_looks_at x o)
-create_past_not x None = refl
-create_past_not x (Some node) = tt
 
 create_looked_not : (x : Create) (node : ℕ) (found : Option NodeWord) → NotOfNode (create_looked x node found)
 create_looked_not x node a2 = grind arith

@@ -1,7 +1,7 @@
 -- Traces of an open.
 use Rattle.std.proofs.{Common.{◌≡◌, ℕ, ◌<◌, ◌≤◌, Bool, true, false, refl, sym, subst, inl, inr, arith}, lemmas.Bool.{cases_Bool}}
 use Rattle.std.proofs.lemmas.Grind.{common_steps}
-use Rattle.std.specs.Prelude.{◌==◌, Option, Result, Ok, Err, List, [], ◌∷◌, length, nat_lt, is_some}
+use Rattle.std.specs.Prelude.{◌==◌, Option, Result, List, [], ◌∷◌, length, nat_lt, is_some}
 use Rattle.access_model.specs.declared.{actions.Action.Action, errors.GateError.GateError, replies.{Next.Next, Reply.Reply}}
 use Rattle.cpu_words.specs.{Touches.found_by, declared.events.Event.Event}
 use Rattle.node_words.specs.Nodes.{word_of, opens_in, as_file, unpacked, file_in}
@@ -14,7 +14,7 @@ use Rattle.gated_tree.specs.declared.opens.OpenStep.{OpenStep}
 use Rattle.gated_tree.specs.declared.phases.TreePhase.{TreePhase}
 use Rattle.gate_schedules.{proofs.trees.Ends.open_ends, specs.trees.Ends.{IsReply, where_done}}
 use Rattle.gate_world.specs.{Configs.IsWithin, Courses.{IsTrace, MayFind, OpenMayFind, course_of}, Found.SeenIn, Operations.first_open}
-use Rattle.gate_world.specs.{Traces.{actions_of, IsShort, Tells, most_events}, Views.with_hook, Work.next_of}
+use Rattle.gate_world.specs.{Traces.{IsShort, Tells, most_events}, Views.with_hook, Work.next_of}
 use Rattle.gate_world.specs.declared.{config.Config.Config, operations.Op.Op, views.Traced.Traced, work.Phase.Phase}
 use Rattle.gate_schedules.proofs.operations.calls.Trace.{Answers, CallAt, Stays, call_says, made_some, sees}
 use Rattle.gate_schedules.proofs.traces.Says.{KeptWell, SaysAfter, event_at, tells_well, is_short_well}
@@ -63,12 +63,6 @@ module _ (c : Config) (file : ℕ) where
     | inl e ↦ rw e (λ q. omega arith)
     | inr e ↦ rw e (λ q. omega arith)
   ]
-
-  -- what it has added, said both ways
-  open_actions : (trace : List Traced) (answer : Result Reply GateError) →
-      where_done (Action.Open file) answer ≡ actions_of (Op.Open file) answer trace
-  open_actions trace (Ok reply) = refl
-  open_actions trace (Err refusal) = refl
 
   -- so the trace of an open says what its row asks for
   open_answers : (trace : List Traced) →

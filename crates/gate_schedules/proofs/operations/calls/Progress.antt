@@ -3,11 +3,11 @@ use Rattle.std.proofs.Common.{◌≡◌, ℕ, ◌+◌, ◌<◌, Bool, true, fals
 use Rattle.std.proofs.lemmas.Grind.{common_steps}
 use Rattle.std.proofs.lemmas.Bool.{cases_Bool, ltb-true, Decides.eqb_tells}
 use Rattle.std.specs.Prelude.{◌-◌, nat_lt, is_some, option_map, Option, Some, None, Result, Ok, Err}
-use Rattle.access_model.specs.declared.{actions.Kind.Kind, errors.GateError.GateError}
+use Rattle.access_model.specs.declared.{errors.GateError.GateError}
 use Rattle.cpu_words.specs.{Hooks.HookAnswer, Touches.found_by, Words.{Words, read}}
 use Rattle.node_words.specs.Nodes.{word_of, unpacked, as_file, as_directory}
 use Rattle.node_words.specs.Phases.{after_look}
-use Rattle.gated_tree.specs.Phases.{next as tree_next, after as tree_after, at_open, opens_from, create_next, create_after, create_looked}
+use Rattle.gated_tree.specs.Phases.{next as tree_next, after as tree_after, create_next, create_after, create_looked}
 use Rattle.gated_tree.specs.Phases.{remove_next, remove_after, grow_next, grow_after, move_next, move_after, mark_next, mark_after, open_next, open_after}
 use Rattle.node_words.specs.Phases.{clear_after}
 use Rattle.gated_tree.specs.Phases.{snapshot_next, snapshot_after, snapshot_locked_out}
@@ -102,13 +102,6 @@ module _ (w : Words) where
       Falls (λ (y : Mark). mark_rank y.step) (λ (y : Mark). Unit {0}) (mark_rank s)
       (mark_after m s (found_by (mark_next m s).1 (read w (mark_next m s).0))).0
   mark_falls m a1 h = grind (arith, common_steps)
-
-  -- an open finds room, so it loads its file once
-  open_kind_falls : (o : OpenFile) (node : NodeWord) → (nat_lt node.opens 64) ≡ true → (removed : Bool) (kind : Option Kind) →
-      Falls (λ (y : OpenFile). open_rank y.step) (λ (y : OpenFile). Unit {0}) 1
-      (after_look (at_open o OpenStep.LoadsFile) (λ file. at_open o (opens_from file (nat_lt file.opens 64)))
-      (Some (as_file node removed kind)))
-  open_kind_falls o node room removed a4 = grind arith
 
   open_falls : (o : OpenFile) (s : OpenStep) → OpenMayFind s (read w (open_next o s).0) →
       Falls (λ (y : OpenFile). open_rank y.step) (λ (y : OpenFile). Unit {0}) (open_rank s)

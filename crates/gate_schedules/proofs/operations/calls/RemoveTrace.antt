@@ -1,7 +1,7 @@
 -- Traces of a remove.
-use Rattle.std.proofs.{Common.{◌≡◌, ℕ, ◌<◌, ◌≤◌, Bool, false, refl, sym, subst, inl, inr, arith}, lemmas.Bool.cases_Bool}
-use Rattle.std.specs.Prelude.{◌==◌, Result, Ok, Err, List, ◌∷◌, length}
-use Rattle.access_model.specs.declared.{actions.Action.Action, errors.GateError.GateError, replies.{Next.Next, Reply.Reply}}
+use Rattle.std.proofs.{Common.{ℕ, ◌<◌, ◌≤◌, Bool, false, refl, sym, subst, inl, inr, arith}, lemmas.Bool.cases_Bool}
+use Rattle.std.specs.Prelude.{◌==◌, List, ◌∷◌, length}
+use Rattle.access_model.specs.declared.{actions.Action.Action, replies.{Next.Next, Reply.Reply}}
 use Rattle.cpu_words.specs.{Touches.found_by, declared.events.Event.Event}
 use Rattle.node_words.specs.Nodes.{word_of, as_file, unpacked, file_in}
 use Rattle.gated_tree.specs.Phases.{at_remove, removes_file, remove_after, remove_next}
@@ -12,7 +12,7 @@ use Rattle.gated_tree.specs.declared.changes.RemoveStep.{RemoveStep}
 use Rattle.gated_tree.specs.declared.phases.TreePhase.{TreePhase}
 use Rattle.gate_schedules.{proofs.trees.Ends.remove_ends, specs.trees.Ends.{IsReply, RemoveKnows, remove_added, where_done}}
 use Rattle.gate_world.specs.{Configs.IsWithin, Courses.{IsTrace, MayHold, MayFind, course_of}, Found.SeenIn, Operations.first_remove}
-use Rattle.gate_world.specs.{Traces.{actions_of, IsShort, Tells, most_events}, Views.with_hook, Work.next_of}
+use Rattle.gate_world.specs.{Traces.{IsShort, Tells, most_events}, Views.with_hook, Work.next_of}
 use Rattle.gate_world.specs.declared.{config.Config.Config, operations.Op.Op, views.Traced.Traced, work.Phase.Phase}
 use Rattle.gate_schedules.proofs.operations.calls.Trace.{Answers, CallAt, Stays, call_says, looked, made_some, sees}
 use Rattle.gate_schedules.proofs.traces.Says.{KeptWell, SaysAfter, event_at, tells_well, is_short_well}
@@ -73,12 +73,6 @@ module _ (c : Config) (file : ℕ) where
   remove_goes RemoveStep.RefundsRemoved value trace may = λ q. omega arith
   remove_goes (RemoveStep.RefundsBlocks node) value trace may = (RemoveStep.RefundsChild node, refl, tt, λ q. omega arith)
   remove_goes (RemoveStep.RefundsChild node) value trace may = λ q. omega arith
-
-  -- what it has added, said both ways
-  remove_actions : (trace : List Traced) (answer : Result Reply GateError) →
-      where_done (Action.Remove file) answer ≡ actions_of (Op.Remove file) answer trace
-  remove_actions trace (Ok reply) = refl
-  remove_actions trace (Err refusal) = refl
 
   -- so the trace of a remove says what its row asks for
   remove_answers : (trace : List Traced) →

@@ -6,7 +6,7 @@ use Rattle.std.specs.Prelude.{Some, None, Ok, Err, List, Option, Result, ◌==�
 use Rattle.access_model.specs.{Replies.map_next, declared.{errors.GateError.GateError, replies.Next.Next}}
 use Rattle.cpu_words.specs.Hooks.{HookAnswer}
 use Rattle.node_words.specs.Nodes.{word_of, unpacked, file_in, node_after}
-use Rattle.gated_tree.specs.Phases.{create_after, create_looks_at, create_looked, remove_after, grow_after, move_after, mark_after, open_after}
+use Rattle.gated_tree.specs.Phases.{create_after, create_looked, remove_after, grow_after, move_after, mark_after, open_after}
 use Rattle.node_words.specs.Phases.{clear_after, after_look, clears_at}
 use Rattle.gated_tree.specs.Phases.{snapshot_locked_out, at_snapshot, node_step}
 use Rattle.gated_tree.specs.declared.changes.{Create.Create, CreateStep.CreateStep, MoveStep.MoveStep, MoveTo.MoveTo, Remove.Remove, RemoveStep.RemoveStep}
@@ -39,11 +39,6 @@ either false n m h k = k
 
 look_goes : {A : Type 0} {P : Type 0} (again : P) (to : A → P) (r : Option (Result A GateError)) → GoesOn (after_look again to r)
 look_goes again to a2 = grind arith
-
--- a create goes on to the next node, or there is none
-create_at : (x : Create) (o : Option ℕ) → GoesOn (create_looks_at x o)
-create_at x None = tt
-create_at x (Some node) = tt
 
 -- or it has looked at a node
 create_seen : (x : Create) (node : ℕ) (found : Option NodeWord) → GoesOn (create_looked x node found)

@@ -1,10 +1,9 @@
 -- The causes and the waits of a close: those of a down-read of level 3, where it is a last one.
-use Rattle.std.proofs.{Common.{◌≡◌, ℕ, ◌≤◌, true, ap, arith, inl, inr}}
+use Rattle.std.proofs.{Common.{◌≡◌, ℕ, ◌≤◌, arith}}
 use Rattle.std.proofs.lemmas.Grind.{common_steps}
-use Rattle.std.specs.Prelude.{Option, Some, Result, Err, List, ◌∷◌, is_some}
+use Rattle.std.specs.Prelude.{Option, Result, List, ◌∷◌}
 use Rattle.access_model.specs.{Replies.map_next, declared.{errors.GateError.GateError, replies.Next.Next}}
-use Rattle.node_words.proofs.Refused.{any_file_refused}
-use Rattle.node_words.specs.Nodes.{any_file_in, kind_in, opens_in, unpacked}
+use Rattle.node_words.specs.Nodes.{any_file_in, opens_in}
 use Rattle.node_words.specs.Phases.{after_look}
 use Rattle.node_words.specs.declared.nodes.NodeWord.{NodeWord}
 use Rattle.percpu_rwsem.specs.declared.readers.DownRead.{DownRead}
@@ -12,21 +11,6 @@ use Rattle.compounds.specs.{file_closes.Phases.{then_frees, closed_from}, declar
 use Rattle.gate_world.specs.{Causes.{last_asked, WasClosed}, KeptCauses.CauseOf, Views.phase_after, Waits.HasReason, Worlds.World}
 use Rattle.gate_world.specs.declared.{config.Config.Config, work.Phase.Phase}
 use Rattle.gate_schedules.proofs.operations.readers.{Causes.{AsksNext, HasNextCause}, Waits.{WhereRefused}}
-
--- what was looked at as a file, or not as one, is a node's word
-looked_some : (word : ℕ) (refusal : GateError) → any_file_in word ≡ Some (Err refusal) → is_some (unpacked word) ≡ true
-looked_some word refusal e = grind arith
-
--- a directory is open nowhere
-closed_directory : (word : ℕ) → is_some (unpacked word) ≡ true → kind_in word ≡ 2 → opens_in word ≡ 0
-closed_directory word some dir = grind arith
-
--- so a node that some task has open is a file
-pub open_is_file : (word : ℕ) (refusal : GateError) → 1 ≤ opens_in word → any_file_in word ≡ Some (Err refusal) → ⊥
-open_is_file word refusal opens e = elim (any_file_refused word refusal e) [
-  | inl free ↦ let none : opens_in word ≡ 0 = ap opens_in free.1 in omega (arith, none, opens)
-  | inr dir ↦ omega (arith, closed_directory word (looked_some word refusal e) dir.1, opens)
-]
 
 module _ (c : Config) (t : ℕ) (w next : World) (earlier : List World) (file p : ℕ) (node : NodeWord) where
   -- after an event at level 3 the task asks where a down-read does
@@ -44,10 +28,6 @@ module _ (c : Config) (t : ℕ) (w : World) (earlier : List World) where
       WhereRefused (WasClosed c t r.level (last_asked t (w ∷ earlier))) n →
       HasReason c w earlier t (Phase.Closes (ClosePhase.Enters file node r)) (map_next Phase.Closes (then_frees file node p n))
   enters_waits file p node r a4 h = grind arith
-
-  -- what comes after its file was found has no cause yet
-  found_cause : (x : Closing) (file : NodeWord) → CauseOf c t w earlier (Some (Phase.Closes (closed_from x file)))
-  found_cause x file = grind arith
 
   pub looked_cause : (x : Closing) (r : Option (Result NodeWord GateError)) →
       CauseOf c t w earlier (phase_after (map_next Phase.Closes (after_look (ClosePhase.LoadsFile x) (closed_from x) r)))

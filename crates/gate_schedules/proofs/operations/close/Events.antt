@@ -10,11 +10,10 @@ use Rattle.cpu_words.specs.{Words.Words, declared.names.WordName.WordName}
 use Rattle.node_words.proofs.Words.{word_opens, word_shows}
 use Rattle.node_words.specs.Nodes.{word_of, any_file_in, opens_in, node_shown, info_of}
 use Rattle.node_words.specs.Phases.{after_look}
-use Rattle.gated_tree.specs.Calls.{role_after, phase_role}
+use Rattle.gated_tree.specs.Calls.{role_after}
 use Rattle.gated_tree.specs.Roles.{Role, Out, Freeing, Dropped, Uncounting, frees, removal, Bounds, TreeState, AreWithin, TreeHolds, RoleHolds, NobodyReads}
 use Rattle.gated_tree.specs.Roles.{NobodyElseFrees, IsLastOpen}
 use Rattle.node_words.specs.declared.nodes.NodeWord.{NodeWord}
-use Rattle.gated_tree.specs.declared.phases.TreePhase.{TreePhase}
 use Rattle.gate_schedules.proofs.trees.{Counts.{finds_last, same_le}, Each.each_event, Laws.{role_says}, Steps.{leaves_word, as_event, stays_at}}
 use Rattle.gate_schedules.specs.trees.{Events.{turned, ClosesFile, FreesFile, DropsBlocks, Uncounts}, Steps.{tree_in, EventKeeps}}
 use Rattle.compounds.specs.{file_closes.Phases.{next, after, enters, closed_from}, declared.file_closes.phases.{ClosePhase.ClosePhase, Closing.Closing}}
@@ -89,15 +88,6 @@ module _ (c : Bounds) (within : AreWithin c) (sealed bare : ℕ) (w : Words) (at
 
 -- who relies on the word of a node has its file open: no other phase does
 module _ (n : ℕ) where
-  same_is : (m : ℕ) (file : NodeWord) → frees n (Freeing m file) ≡ 1 → m ≡ n
-  same_is m file e = grind arith
-
-  tree_frees : (values : ℕ → ℕ) (x : TreePhase) → frees n (phase_role values x) ≡ 0
-  tree_frees values x = grind arith
-
-  close_file_is : (x : ClosePhase) → frees n (close_tree_role x) ≡ 1 → file_of (Some (Phase.Closes x)) ≡ Some (n, true)
-  close_file_is other e = grind arith
-
   freer_file : (trace : List Traced) (p : Option Phase) → frees n (tree_role_of trace p) ≡ 1 → file_of p ≡ Some (n, true)
   freer_file trace p e = grind arith
 

@@ -1,11 +1,11 @@
 -- What fits after an event of a close.
-use Rattle.std.proofs.Common.{◌≡◌, ℕ, ◌<◌, ◌≤◌, ◌⊎◌, Bool, true, false, refl, sym, ap, ◌∙◌, subst, inl, inr, arith, true≢false}
+use Rattle.std.proofs.Common.{◌≡◌, ℕ, ◌<◌, ◌≤◌, ◌⊎◌, Bool, true, false, refl, sym, ◌∙◌, inl, inr, arith, true≢false}
 use Rattle.std.proofs.lemmas.Grind.{common_steps}
-use Rattle.std.proofs.lemmas.Bool.{cases_Bool, Decides.{eqb_tells, nat_tests}}
-use Rattle.std.specs.Prelude.{◌==◌, ◌&&◌, Option, Some, None, Result, Ok}
+use Rattle.std.proofs.lemmas.Bool.{Decides.{eqb_tells, nat_tests}}
+use Rattle.std.specs.Prelude.{◌==◌, ◌&&◌, Option, Some, Result}
 use Rattle.access_model.specs.{Replies.map_next, declared.{actions.{Kind.Kind}, errors.GateError.GateError, replies.Next.Next}}
 use Rattle.cpu_words.specs.{Hooks.HookAnswer, Names.IsWord}
-use Rattle.node_words.specs.Nodes.{any_file_in, as_any_file, is_stray, node_of, kind_in, kind_of, dirty_in, removed_in, opens_in, IsLawful}
+use Rattle.node_words.specs.Nodes.{any_file_in, is_stray, node_of, kind_in, kind_of, dirty_in, removed_in, opens_in, IsLawful}
 use Rattle.node_words.specs.Phases.{after_look}
 use Rattle.node_words.specs.declared.nodes.NodeWord.{NodeWord}
 use Rattle.percpu_rwsem.specs.{Readers.down_read_after, declared.readers.DownRead.DownRead}
@@ -16,9 +16,6 @@ use Rattle.gate_schedules.proofs.{frames.Keeps.{extents_touched}, operations.rea
 
 some_is : {A : Type 0} (a b : A) → Some a ≡ Some b → a ≡ b
 some_is a b e = cc
-
-taken_is : (node file : NodeWord) (kind : Option Kind) → as_any_file node kind ≡ Ok file → (kind ≡ Some Kind.File) × (node ≡ file)
-taken_is node file a2 e = grind arith
 
 -- what a load of any word found to be a file says what a word can say
 lawful_file : (word : ℕ) → is_stray word ≡ false → kind_of (kind_in word) ≡ Some Kind.File → IsLawful (node_of word)
@@ -37,24 +34,6 @@ lawful_file word plain kind = record {
       ];
 }
 
-pub found_node : (word : ℕ) (file : NodeWord) → any_file_in word ≡ Some (Ok file) → (is_stray word ≡ false) ×
-    (kind_of (kind_in word) ≡ Some Kind.File) × (node_of word ≡ file)
-found_node word file e = elim (cases_Bool (is_stray word)) [
-  | inl stray ↦
-      let none : any_file_in word ≡ None = rw stray refl in
-      absurd cc
-  | inr plain ↦
-      let is : any_file_in word ≡ Some (as_any_file (node_of word) (kind_of (kind_in word))) = rw plain refl in
-      let same : (kind_of (kind_in word) ≡ Some Kind.File) × (node_of word ≡ file) =
-      taken_is (node_of word) file (kind_of (kind_in word)) (some_is _ _ (sym is ∙ e)) in
-      (plain, same.0, same.1)
-]
-
-pub found_file : (word : ℕ) (file : NodeWord) → any_file_in word ≡ Some (Ok file) → (file.kind ≡ Some Kind.File) × IsLawful file
-found_file word file e =
-    let h = found_node word file e in
-    (sym (ap (λ (node : NodeWord). node.kind) h.2) ∙ h.1, subst IsLawful h.2 (lawful_file word h.0 h.1))
-
 stays_open : (removed : Bool) (n : ℕ) → (n ≡ 0 → ⊥) → (removed && (n == 1)) ≡ false → (removed ≡ false) ⊎ (2 ≤ n)
 stays_open false n some h = inl refl
 stays_open true n some h = elim (eqb_tells n 1) [
@@ -63,18 +42,6 @@ stays_open true n some h = elim (eqb_tells n 1) [
 ]
 
 module _ (c : Config) (t : ℕ) (held : Holdings) where
-  found_fits : (x : Closing) (file : NodeWord) → ClosingFits c t held x → (file.kind ≡ Some Kind.File) × IsLawful file →
-      CloseFits c t held (closed_from x file)
-  found_fits x file f is =
-      elim (eqb_tells file.opens 0) [
-        | inl z ↦ rw z.0 f
-        | inr z ↦
-            elim (cases_Bool (file.removed && (file.opens == 1))) [
-              | inl last ↦ rw (z.0, last) (f.0, refl, (omega arith, omega arith, f.1, f.2, f.3))
-              | inr more ↦ rw (z.0, more) (f, (is.0, is.1, omega (arith, z.1), stays_open file.removed file.opens z.1 more))
-            ]
-      ]
-
   looked_fits : (x : Closing) (word : ℕ) → ClosingFits c t held x → (r : Option (Result NodeWord GateError)) → any_file_in word ≡ r →
       Fits c t held (phase_after (map_next Phase.Closes (after_look (ClosePhase.LoadsFile x) (closed_from x) r)))
   looked_fits x word f a3 e = grind (arith, common_steps)

@@ -3,7 +3,7 @@
 use Rattle.access_model.specs.{Replies.map_next, States.is_removed, declared.{actions.Action.Action, errors.GateError.GateError, replies.Next.Next}}
 use Rattle.std.proofs.lemmas.Grind.{common_steps}
 use Rattle.cpu_words.specs.Hooks.{HookAnswer}
-use Rattle.compounds.specs.{file_closes.Phases.{after, closed_from, enters, next}, declared.file_closes.phases.{ClosePhase.ClosePhase, Closing.Closing}}
+use Rattle.compounds.specs.{file_closes.Phases.{after, closed_from, next}, declared.file_closes.phases.{ClosePhase.ClosePhase, Closing.Closing}}
 use Rattle.gate_schedules.proofs.operations.close.Events.{close_drops, close_frees, close_loads, close_lowers, close_uncounts, closer_unread, dropped_removed}
 use Rattle.gate_schedules.proofs.operations.close.Events.{freeing_removed, frees_alone}
 use Rattle.gate_schedules.proofs.{operations.close.Fits.close_goes, trees.worlds.{Events.{IsPlain, plain_parts, tree_run}, MayTree.LeaveFor}}
@@ -45,12 +45,6 @@ off_close other h = grind arith
 off_leaves : (p : ℕ) → IsOffGates (Some (Phase.Closes (ClosePhase.Leaves p)))
 off_leaves p = record { roles = refl; closing_none = λ i. refl }
 
-off_enters : (x : Closing) (file : NodeWord) → IsOffGates (Some (Phase.Closes (enters x file)))
-off_enters x file = grind arith
-
-off_found : (x : Closing) (file : NodeWord) → IsOffGates (Some (Phase.Closes (closed_from x file)))
-off_found x file = grind arith
-
 off_looked : (x : Closing) (r : Option (Result NodeWord GateError)) →
     IsOffGates (phase_after (map_next Phase.Closes (after_look (ClosePhase.LoadsFile x) (closed_from x) r)))
 off_looked x a1 = grind arith
@@ -79,14 +73,6 @@ plain_next other = record { aside = refl; owns_none = refl }
 role_comes : (n : Next ClosePhase) (trace : List Traced) → role_after close_tree_role n ≡ tree_role_of trace (phase_after (map_next Phase.Closes n))
 role_comes (Next.Go x) trace = refl
 role_comes other trace = refl
-
--- its task has its file open until it has closed it
-found_has : (files : ℕ → Bool) (x : Closing) (file : NodeWord) → files x.file ≡ true → HasFile files (file_of (Some (Phase.Closes (closed_from x file))))
-found_has files x file own = grind arith
-
-looked_has : (files : ℕ → Bool) (x : Closing) (r : Option (Result NodeWord GateError)) → files x.file ≡ true →
-    HasFile files (file_of (phase_after (map_next Phase.Closes (after_look (ClosePhase.LoadsFile x) (closed_from x) r))))
-looked_has files x a2 own = grind arith
 
 file_then : (held : Holdings) (x : ClosePhase) → is_at_tree x ≡ true → (found : ℕ) → HasFile held.files (file_of (Some (Phase.Closes x))) →
     HasFile (held_after (after x found).1 held).files (file_of (phase_after (map_next Phase.Closes (after x found).0)))

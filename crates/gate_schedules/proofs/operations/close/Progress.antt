@@ -1,5 +1,5 @@
 -- A close runs out, a last one where level 3 is open.
-use Rattle.std.proofs.{Common.{◌≡◌, ℕ, ◌+◌, ◌≤◌, true, false, refl, sym, ◌∙◌, inl, inr, arith, true≢false}, lemmas.Bool.{cases_Bool, ne_eqb, Decides.eqb_tells}}
+use Rattle.std.proofs.{Common.{◌≡◌, ℕ, ◌+◌, true, false, refl, sym, ◌∙◌, inl, inr, arith, true≢false}, lemmas.Bool.{cases_Bool, ne_eqb, Decides.eqb_tells}}
 use Rattle.std.specs.Prelude.{◌==◌, ◌&&◌, Option, Some}
 use Rattle.access_model.specs.declared.{actions.Kind.Kind, replies.Next.Next}
 use Rattle.cpu_words.specs.{Touches.{left, found_by}, Words.{Words, read, put}}
@@ -19,12 +19,6 @@ module _ (after : Words) where
       Falls (λ (y : DownRead). read_rank y.wait y.step) (ReadIsFree after) n next →
       Falls close_rank (CloseIsFree after) (n + 4) (then_frees f node p next)
   frees_falls f node p n a4 h = grind arith
-
-  -- where its file was found, and some task has it open
-  from_falls : (x : Closing) (node : NodeWord) → (node.opens == 0) ≡ false →
-      (x.wait ≡ true → (node.removed && (node.opens == 1)) ≡ true → after.block 3 ≡ 0) →
-      (close_rank (closed_from x node) ≤ 9) × CloseIsFree after (closed_from x node)
-  from_falls x node some free = grind arith
 
   kind_falls : (x : Closing) (node : NodeWord) → (node.opens == 0) ≡ false →
       (x.wait ≡ true → (node.removed && (node.opens == 1)) ≡ true → after.block 3 ≡ 0) → (kind : Option Kind) →

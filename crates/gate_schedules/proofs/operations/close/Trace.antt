@@ -1,7 +1,7 @@
 -- Traces of a close: that of its down-read of level 3, where it is a last one, between its own events.
-use Rattle.std.proofs.{Common.{◌≡◌, ℕ, ◌≤◌, Bool, true, false, refl, sym, ap, ◌∙◌, subst, inl, inr, arith}, lemmas.Bool.{eq-eqb, cases_Bool, Decides.eqb_tells}}
+use Rattle.std.proofs.{Common.{◌≡◌, ℕ, ◌≤◌, Bool, true, false, refl, sym, ap, ◌∙◌, subst, inl, inr, arith}, lemmas.Bool.{eq-eqb, cases_Bool}}
 use Rattle.std.proofs.lemmas.Grind.{common_steps}
-use Rattle.std.specs.Prelude.{◌==◌, ◌&&◌, Option, Result, List, [], ◌∷◌, length, is_some}
+use Rattle.std.specs.Prelude.{◌==◌, Option, Result, List, [], ◌∷◌, length, is_some}
 use Rattle.access_model.specs.{Replies.map_next, declared.{actions.{Action.Action, Gate.Gate}, errors.GateError.GateError, replies.Next.Next}}
 use Rattle.cpu_words.specs.{Hooks.HookAnswer, Touches.{event_of, found_by}}
 use Rattle.node_words.specs.Nodes.{any_file_in, as_any_file, opens_in, unpacked, word_of}
@@ -13,7 +13,7 @@ use Rattle.gate_world.specs.{Courses.{CloseMayFind, MayFind, MayHold}, Found.fou
 use Rattle.gate_world.specs.{Views.{with_hook, actions_after}, Work.next_of}
 use Rattle.gate_world.specs.declared.{config.Config.Config, operations.Op.Op, views.Traced.Traced, work.Phase.Phase}
 use Rattle.gate_schedules.proofs.{frames.Keeps.OpKeeps, operations.{calls.Trace.made_some, close.{Beginning.close_op_from}}}
-use Rattle.gate_schedules.proofs.operations.{readers.Trace.{read_at, events_before, ReadSays, ReadNext, read_event}}
+use Rattle.gate_schedules.proofs.operations.{readers.Trace.{read_at, ReadSays, ReadNext, read_event}}
 use Rattle.gate_schedules.proofs.traces.Says.{KeptWell, Says, SaysAfter, event_at, tells_well, is_short_well}
 
 -- an event of a down-read isn't on `removed`
@@ -21,10 +21,6 @@ read_dropped : (r : DownRead) (s : DownReadStep) (value : ℕ) (hook : HookAnswe
     found_dropped (with_hook (event_of (down_read_next r s).0 (down_read_next r s).1 value) hook ∷ earlier) ≡ found_dropped earlier
 read_dropped r DownReadStep.EntersSection value hook earlier = refl
 read_dropped r other value hook earlier = refl
-
-within_five : (s : DownReadStep) → events_before s ≤ 5
-within_five DownReadStep.EntersSection = omega arith
-within_five s = omega arith
 
 -- what a last close has added inside level 3: its grant, and then its action, too
 abbrev entered : List Action
@@ -88,24 +84,6 @@ module _ (c : Config) (file p t : ℕ) (wait : Bool) (value : ℕ) (hook : HookA
 
   abbrev loaded : Traced
   loaded = with_hook (event_at (Phase.Closes looks) value hook) hook
-
-  -- what comes after its file was found: some task has it open, so it isn't loaded again
-  found_says : (node : NodeWord) → (node.opens ≡ 0 → ⊥) →
-      Comes c file p t wait (loaded ∷ []) (Next.Go (closed_from (first_close file p t wait) node)) []
-  found_says node some = elim (eqb_tells node.opens 0) [
-    | inl z ↦ absurd (some z.1)
-    | inr z ↦
-        elim (cases_Bool (node.removed && (node.opens == 1))) [
-          | inl last ↦
-              rw (z.0, last) (
-                ClosePhase.Enters file node (read_at 3 p t wait DownReadStep.EntersSection),
-                refl,
-                (refl, (DownReadStep.EntersSection, refl, (refl, λ q. omega arith, tt)), refl),
-              )
-          | inr more ↦
-              rw (z.0, more) (ClosePhase.LowersCount (first_close file p t wait) node, refl, (refl, (refl, refl, λ q. omega arith)))
-        ]
-  ]
 
   looked_says : (r : Option (Result NodeWord GateError)) → any_file_in value ≡ r → is_some r ≡ true → 1 ≤ opens_in value →
       Comes c file p t wait (loaded ∷ []) (after_look looks (closed_from (first_close file p t wait)) r) []

@@ -24,7 +24,7 @@ use Rattle.freeze_laws.proofs.stages.Facts.{other_zero}
 use Rattle.freeze_laws.specs.stages.Roles.{Freezing, HasPassed, KnowsStage, Place, freezes, owns as stage_owns, under_way}
 use Rattle.std.proofs.Common.{Bool, ap, arith, false, inl, inr, refl, subst, suc, sym, true, true≢false, zero, ℕ, ◌<◌, ◌∙◌, ◌≡◌, ◌≤◌}
 use Rattle.std.proofs.lemmas.Bool.{cases_Bool, cases_lt, ne_eqb, Decides.eqb_tells}
-use Rattle.std.specs.Prelude.{None, Option, Some, if◌then◌else◌, is_some, nat_lt, ◌*◌, ◌+◌, ◌-◌, ◌==◌, ◌⊎◌}
+use Rattle.std.specs.Prelude.{None, Option, Some, is_some, nat_lt, ◌*◌, ◌+◌, ◌-◌, ◌==◌, ◌⊎◌}
 use Rattle.compounds.specs.declared.write_access.phases.WritePhase.{WritePhase}
 
 -- one of the two for each number below a bound: the first for some, or the second for all
@@ -125,10 +125,6 @@ owner_step c w nodes (FreezeStep.Reopens u code) even one k f o =
     absurd (omega (arith, one, reopening_knows w.stage w.sb u.level u.step k))
 owner_step c w nodes (FreezeStep.Releases answer) even one k f o = (even, tt, λ i low high. absurd (omega (arith, low, high)))
 owner_step c w nodes s even one k f o = absurd (omega (arith, f))
-
-if_some : (b : Bool) → 1 ≤ (if b then 1 else 4)
-if_some true = omega arith
-if_some false = omega arith
 
 next_some : (c : Config) (holder : Holder) (w : Words) (s : FreezeStep) → FreezeFits c holder s → 1 ≤ next_level w s
 next_some c holder w s f = grind arith

@@ -1,11 +1,10 @@
 -- The closing of a level leaves the words that others are kept by, and ends only by passing the level.
-use Rattle.std.{proofs.{Common.{◌≡◌, ℕ, refl, inl, inr}, lemmas.Bool.{cases_Bool, Decides.eqb_tells}}, specs.Prelude.{Option, Some, None}}
+use Rattle.std.{proofs.{Common.{◌≡◌, ℕ}}, specs.Prelude.{Option, Some, None}}
 use Rattle.std.proofs.Common.{arith}
 use Rattle.access_model.specs.declared.{actions.Action.Action, replies.Next.Next}
-use Rattle.cpu_words.specs.{Words.Words, declared.sums.Taken.Taken}
-use Rattle.percpu_rwsem.specs.{SyncWords.{is_passed}}
-use Rattle.percpu_rwsem.specs.Writers.{down_write_next, down_write_after, sections_awaited, passed_awaited, down_write_summed}
-use Rattle.percpu_rwsem.specs.declared.{grace.GraceNext.GraceNext, sync_word.SyncWord.SyncWord}
+use Rattle.cpu_words.specs.{Words.Words}
+use Rattle.percpu_rwsem.specs.Writers.{down_write_next, down_write_after, sections_awaited}
+use Rattle.percpu_rwsem.specs.declared.{grace.GraceNext.GraceNext}
 use Rattle.percpu_rwsem.specs.declared.writers.{DownWrite.DownWrite, DownWriteStep.DownWriteStep}
 use Rattle.gate_schedules.proofs.operations.deadlocks.{Falls.after_event, Leaves.StaysBeside}
 
@@ -17,14 +16,6 @@ StaysAtLevel d (Next.Done answer) action = action ≡ Some (Action.Pass d.level)
 
 sections_stay : (d : DownWrite) (next : GraceNext) → StaysAtLevel d (sections_awaited d next) None
 sections_stay d a1 = grind arith
-
-passed_stay : (d : DownWrite) (o : Option SyncWord) → StaysAtLevel d (passed_awaited d o) None
-passed_stay d None = refl
-passed_stay d (Some word) = elim (cases_Bool (is_passed word.state)) [ inl h ↦ rw h refl | inr h ↦ rw h refl ]
-
-summed_stays : (d : DownWrite) (taken : Taken) → StaysAtLevel d (down_write_summed d taken).0 (down_write_summed d taken).1
-summed_stays d (Taken.More sum) = refl
-summed_stays d (Taken.Total total) = elim (eqb_tells total 0) [ inl h ↦ rw h.0 refl | inr h ↦ rw h.0 refl ]
 
 pub down_stays : (d : DownWrite) (s : DownWriteStep) (found : ℕ) →
     StaysAtLevel d (down_write_after d s found).0 (down_write_after d s found).1

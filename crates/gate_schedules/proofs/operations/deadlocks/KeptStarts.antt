@@ -1,8 +1,8 @@
 -- A start or a last close that is kept stays so by its own events, which leave the words that others are kept by.
-use Rattle.std.proofs.{Common.{◌≡◌, Bool, true, false, refl, sym, ◌∙◌, arith, true≢false}}
+use Rattle.std.proofs.{Common.{◌≡◌, true, false, arith}}
 use Rattle.access_model.specs.declared.replies.Next.{Next, TheVariants.{Go, Wait, Done}}
 use Rattle.cpu_words.specs.{Touches.found_by, Words.{Words, read}}
-use Rattle.percpu_rwsem.specs.{Readers.{down_read_next, down_read_after, step_found, left_blocked}, SyncWords.unpack, declared.readers.DownRead.DownRead}
+use Rattle.percpu_rwsem.specs.{Readers.{down_read_next, down_read_after, step_found}, SyncWords.unpack, declared.readers.DownRead.DownRead}
 use Rattle.percpu_rwsem.specs.declared.readers.DownReadStep.{DownReadStep, TheVariants.{CountsUpSlow}}
 use Rattle.gate_schedules.specs.operations.Progress.{is_admitted}
 use Rattle.gate_schedules.proofs.operations.deadlocks.Falls.{after_event}
@@ -12,10 +12,6 @@ abbrev pub StaysKept : DownRead → Next DownRead → Type 0
 StaysKept r (Go next) = (next.wait ≡ true) × (is_admitted next.step ≡ false) × (next.level ≡ r.level)
 StaysKept r (Wait next) = (next.wait ≡ true) × (is_admitted next.step ≡ false) × (next.level ≡ r.level)
 StaysKept r (Done answer) = ⊥
-
-blocked_stays : (r : DownRead) → r.wait ≡ true → (b : Bool) → r.wait ≡ b → StaysKept r (left_blocked r b)
-blocked_stays r wait true e = (wait, refl, refl)
-blocked_stays r wait false e = absurd (true≢false (sym wait ∙ e))
 
 -- each event of a start that waits at a closed level, where readers are slow
 pub start_stays : (w : Words) (r : DownRead) → r.wait ≡ true → w.block r.level ≡ 1 → step_found (unpack (w.sync r.level)) ≡ CountsUpSlow →

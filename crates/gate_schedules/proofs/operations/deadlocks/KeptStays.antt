@@ -40,11 +40,6 @@ use Rattle.std.proofs.lemmas.Bool.{cases_Bool, eqb-true, ne_eqb, Decides.eqb_tel
 use Rattle.std.specs.Prelude.{Err, Ok, Option, Some, if◌then◌else◌, nat_lt, ◌&&◌, ◌+◌, ◌==◌}
 use Rattle.compounds.specs.{write_access.Phases.then_wants, declared.write_access.phases.WritePhase.TheVariants.Takes}
 
--- A freeze that has level 1 behind it reads no word for which levels it has to pass,
-if_far : (b : Bool) → 2 ≤ (if b then 1 else 4) → 4 ≤ (if b then 1 else 4)
-if_far true h = absurd (omega (arith, h))
-if_far false h = omega arith
-
 far_same : (w next : Words) (s : FreezeStep) → 2 ≤ next_level w s → next_level w s ≤ 3 → next_level next s ≡ next_level w s
 far_same w next s two three = grind arith
 

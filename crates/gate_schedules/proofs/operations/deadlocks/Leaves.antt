@@ -1,18 +1,16 @@
 -- Who is inside a read-side section leaves it by a few events of its own, so where a reply is near once nobody is inside one, it is near.
-use Rattle.std.proofs.{Common.{◌≡◌, ℕ, zero, suc, ◌+◌, ◌*◌, ◌<◌, ◌≤◌, Bool, true, false, refl, sym, ap, ◌∙◌, inl, inr, arith}, lemmas.Bool.Decides.eqb_tells}
+use Rattle.std.proofs.{Common.{◌≡◌, ℕ, zero, suc, ◌+◌, ◌*◌, ◌<◌, ◌≤◌, false, refl, sym, ap, ◌∙◌, inl, inr, arith}, lemmas.Bool.Decides.eqb_tells}
 use Rattle.std.specs.Prelude.{◌⊎◌, Option, Some, None}
 use Rattle.finite_sums.specs.Sums.{total}
 use Rattle.finite_sums.proofs.Totals.{total_updated, total_place, HasPlace}
-use Rattle.access_model.specs.{Replies.map_next, declared.replies.Next.{Next, TheVariants.{Go, Wait, Done}}}
-use Rattle.cpu_words.specs.{Hooks.HookAnswer, Touches.found_by, Words.{Words, read}}
-use Rattle.percpu_rwsem.specs.{Readers.{down_read_next, down_read_after, step_in, step_found, left_blocked}}
+use Rattle.access_model.specs.{declared.replies.Next.{Next, TheVariants.{Go, Wait, Done}}}
+use Rattle.cpu_words.specs.{Hooks.HookAnswer, Words.{Words}}
+use Rattle.percpu_rwsem.specs.{Readers.{down_read_next}}
 use Rattle.percpu_rwsem.specs.declared.readers.{DownRead.DownRead, DownReadStep.{DownReadStep, TheVariants.{EntersSection}}}
-use Rattle.percpu_rwsem.specs.declared.sync_word.{GpState.{GpState}, SyncWord.SyncWord}
 use Rattle.freeze_laws.specs.levels.Operations.{down_read_inside}
-use Rattle.compounds.specs.{write_access.Phases.then_wants, declared.write_access.phases.WritePhase.TheVariants.Takes}
-use Rattle.compounds.specs.{file_closes.Phases.then_frees, declared.file_closes.phases.ClosePhase.TheVariants.Enters as EntersLevel}
-use Rattle.node_words.specs.declared.nodes.NodeWord.{NodeWord}
-use Rattle.gate_world.specs.{Configs.IsWithin, Courses.{MayHold, MayFind}, Levels.inside, Rules.IsGood, Views.{phase_after, view_after}, Work.next_of}
+use Rattle.compounds.specs.{declared.write_access.phases.WritePhase.TheVariants.Takes}
+use Rattle.compounds.specs.{declared.file_closes.phases.ClosePhase.TheVariants.Enters as EntersLevel}
+use Rattle.gate_world.specs.{Configs.IsWithin, Courses.{MayFind}, Levels.inside, Rules.IsGood, Views.{phase_after, view_after}, Work.next_of}
 use Rattle.gate_world.specs.{Work.after_of, Worlds.{World, after_step, words_after, value_at, found_at}, declared.{config.Config.Config, views.View.View}}
 use Rattle.gate_world.specs.declared.work.Phase.{Phase, TheVariants.{DownReads, Writes, Closes as FileCloses}}
 use Rattle.gate_schedules.proofs.{frames.MayHolds.events_may_be, operations.deadlocks.Falls.{after_event, stands_after, no_further, near_after}}
@@ -31,40 +29,9 @@ Leaves is_inside rank_of n (Go q) = (is_inside q ≡ 0) ⊎ ((is_inside q ≡ 1)
 Leaves is_inside rank_of n (Wait q) = (is_inside q ≡ 0) ⊎ ((is_inside q ≡ 1) × (rank_of q < n))
 Leaves is_inside rank_of n (Done answer) = Unit {0}
 
--- of a down-read
-abbrev pub ReadLeaves : ℕ → Next DownRead → Type 0
-ReadLeaves n next = Leaves (λ (y : DownRead). down_read_inside y.step) (λ (y : DownRead). read_rank false y.step) n next
-
 -- of any phase
 abbrev pub PhaseLeaves : ℕ → Next Phase → Type 0
 PhaseLeaves n next = Leaves (λ (q : Phase). inside (Some q)) leave_rank n next
-
-in_inside : (s : GpState) → down_read_inside (step_in s) ≡ 1
-in_inside a0 = grind arith
-
-found_inside : (o : Option SyncWord) → down_read_inside (step_found o) ≡ 1
-found_inside None = refl
-found_inside (Some word) = in_inside word.state
-
-left_leaves : (r : DownRead) (b : Bool) → ReadLeaves 0 (left_blocked r b)
-left_leaves r true = inl refl
-left_leaves r false = tt
-
--- each event of a down-read inside its section, whose sync word is one
-read_leaves : (w : Words) (r : DownRead) (s : DownReadStep) → MayHold (down_read_next r s).0 (read w (down_read_next r s).0) →
-    down_read_inside s ≡ 1 →
-    ReadLeaves (read_rank false s) (down_read_after r s (found_by (down_read_next r s).1 (read w (down_read_next r s).0))).0
-read_leaves w r a2 may h = grind arith
-
-as_read : (n : ℕ) (next : Next DownRead) → ReadLeaves n next → PhaseLeaves n (map_next DownReads next)
-as_read n a1 h = grind arith
-
-as_write : (m p n : ℕ) (next : Next DownRead) → ReadLeaves n next → PhaseLeaves n (map_next Writes (then_wants m p next))
-as_write m p n a3 h = grind arith
-
-as_close : (f : ℕ) (node : NodeWord) (p n : ℕ) (next : Next DownRead) → ReadLeaves n next →
-    PhaseLeaves n (map_next FileCloses (then_frees f node p next))
-as_close f node p n a4 h = grind arith
 
 -- each event of a phase inside a section
 pub phase_leaves : (w : Words) (phase : Phase) (hook : HookAnswer) → MayFind phase (next_of phase hook).0 (value_at w phase hook) →
@@ -90,10 +57,6 @@ read_small s h = omega arith
 
 leave_small : (phase : Phase) → inside (Some phase) ≡ 1 → leave_rank phase < 5
 leave_small phase h = grind arith
-
-down_inside_le : (s : DownReadStep) → down_read_inside s ≤ 1
-down_inside_le EntersSection = omega arith
-down_inside_le s = omega arith
 
 -- a task is inside one section at most
 pub inside_le : (p : Option Phase) → inside p ≤ 1

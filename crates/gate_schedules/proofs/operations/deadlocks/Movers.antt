@@ -5,31 +5,25 @@ use Rattle.std.proofs.lemmas.Grind.{common_steps}
 use Rattle.cpu_words.specs.Words.{Words}
 use Rattle.finite_sums.proofs.Totals.{total_at, total_none}
 use Rattle.finite_sums.specs.Sums.{total}
-use Rattle.freeze_levels.specs.declared.{freezes.{Freeze.Freeze, FreezeStep.FreezeStep}, thaws.ThawStep.ThawStep}
+use Rattle.freeze_levels.specs.declared.{freezes.{Freeze.Freeze}, thaws.ThawStep.ThawStep}
 use Rattle.cpu_words.proofs.gate_counts.Events.{words_sum}
-use Rattle.cpu_words.specs.gate_counts.{Gates.{BarringHolds, admitted, below, counted, unread}, Levels.{LevelRole, Passed, barring_of, level_as_gate, processor_of}}
+use Rattle.cpu_words.specs.gate_counts.{Gates.{BarringHolds, admitted, below, counted, unread}, Levels.{Passed, barring_of, level_as_gate, processor_of}}
 use Rattle.gate_schedules.proofs.{frames.Owners.{hold_owns, owns_le, who_holds}}
 use Rattle.gate_schedules.proofs.operations.deadlocks.{Bounds.{beside_small, is_beside, rank_small}, Falls.runs_out}
 use Rattle.gate_world.specs.{Configs.IsWithin, Fits.{Fits, PhaseFits}, Levels.{at_level, inside, is_frozen_whole, level_role_of, sync_role_of}}
-use Rattle.gate_world.specs.{Operations.{holds_none, holds_none_from}, Remounts.remount_owns, Roles.{Stand, change_owns, count_beside, count_role_if}}
-use Rattle.gate_world.specs.Roles.{down_count_role, freeze_stand, read_count_role, stand_count, stand_sync, thaw_stand}
-use Rattle.gate_world.specs.{Roles.up_count_role, Rules.{AtLevel, AtMount, Fitting, IsGood, LevelHoldsIn, Owner, SyncAt, SyncHoldsIn, owns, role_of}}
+use Rattle.gate_world.specs.{Operations.{holds_none, holds_none_from}, Remounts.remount_owns}
+use Rattle.gate_world.specs.{Rules.{AtLevel, AtMount, Fitting, IsGood, LevelHoldsIn, Owner, SyncAt, SyncHoldsIn, owns, role_of}}
 use Rattle.gate_world.specs.{Views.{held_of, holds_level}, Worlds.World, declared.{config.Config.Config, work.Phase.Phase}}
 use Rattle.gated_tree.specs.declared.{snapshots.SnapshotStep.SnapshotStep}
-use Rattle.freeze_laws.specs.levels.{Operations.down_read_inside, Roles.{closed}}
-use Rattle.mount_counts.specs.{Phases.has_flag, Roles.has_hold, declared.phases.{ChangeStep.ChangeStep}}
+use Rattle.freeze_laws.specs.levels.{Roles.{closed}}
+use Rattle.mount_counts.specs.{Phases.has_flag, Roles.has_hold}
 use Rattle.mount_counts.specs.declared.remounts.RemountStep.{RemountStep}
 use Rattle.mount_counts.proofs.laws.Bits.{hold_set}
-use Rattle.percpu_rwsem.specs.declared.{readers.DownReadStep.DownReadStep, writers.{DownWriteStep.DownWriteStep, UpWriteStep.UpWriteStep}}
-use Rattle.gate_schedules.specs.operations.{Progress.{EventsKeepRule, ReplyWithin}, Ranks.{most_alone, most_beside}, Ways.{ChangeIsFree, HoldIsClear, IsFree}}
+use Rattle.gate_schedules.specs.operations.{Progress.{EventsKeepRule, ReplyWithin}, Ranks.{most_alone, most_beside}, Ways.{HoldIsClear, IsFree}}
 use Rattle.gate_schedules.specs.operations.Ways.{NothingCounted, PhaseEnds, RemountIsFree, SnapshotIsFree, ThawIsFree}
 use Rattle.std.proofs.Common.{Bool, ap, arith, false, inl, inr, refl, subst, suc, sym, true, true≢false, zero, ℕ, ◌<◌, ◌∙◌, ◌≡◌, ◌≤◌}
 use Rattle.std.proofs.lemmas.Bool.{and_parts, cases_Bool, ltb-true, not-true, or_cases}
-use Rattle.std.specs.Prelude.{None, Option, Some, if◌then◌else◌, nat_lt, not, ◌&&◌, ◌-◌, ◌==◌, ◌||◌, ◌⊎◌}
-
-change_owner : (w : Words) (wait : Bool) (s : ChangeStep) → change_owns s ≡ 1 → ChangeIsFree w s wait
-change_owner w wait ChangeStep.Locks h = absurd (omega (arith, h))
-change_owner w wait s h = tt
+use Rattle.std.specs.Prelude.{None, Option, Some, if◌then◌else◌, nat_lt, not, ◌&&◌, ◌-◌, ◌||◌, ◌⊎◌}
 
 remount_owner : (w : Words) (s : RemountStep) → remount_owns s ≡ 1 → RemountIsFree w s
 remount_owner w RemountStep.Locks h = absurd (omega (arith, h))
@@ -162,36 +156,8 @@ holds_below levels (suc (suc zero)) j h one three is = below_or 2 j (levels 2) (
 holds_below levels (suc (suc (suc zero))) j h one three is = below_or 3 j (levels 3) (and_parts _ _ (and_parts _ _ h).1).1 is
 holds_below levels (suc (suc (suc (suc n)))) j h one three is = absurd (omega arith)
 
-stand_passed : (i j : ℕ) (s : Option Stand) → i < j → 1 ≤ closed (stand_sync j s) → stand_count i s ≡ Passed
-stand_passed i j a2 lt h = grind arith
-
 closed_passes : (i j : ℕ) (p : Option Phase) → i < j → 1 ≤ closed (sync_role_of j p) → level_role_of i p ≡ Passed
 closed_passes i j p lt h = grind (arith, common_steps)
-
-read_out : (b : Bool) (p : ℕ) (s : DownReadStep) → down_read_inside s ≡ 0 → processor_of (count_role_if b (read_count_role p s)) ≡ 0
-read_out true p DownReadStep.EntersSection h = refl
-read_out false p s h = refl
-read_out true p s h = absurd (omega (arith, h))
-
-down_out : (s : DownWriteStep) → processor_of (down_count_role s) ≡ 0
-down_out (DownWriteStep.Sums sum) = refl
-down_out s = refl
-
-up_out : (s : UpWriteStep) → processor_of (up_count_role s) ≡ 0
-up_out UpWriteStep.ClearsBlock = refl
-up_out (UpWriteStep.Exits x) = refl
-
-sides_out : (here below : Bool) (r : LevelRole) → processor_of r ≡ 0 → processor_of (count_beside here below r) ≡ 0
-sides_out true below r h = h
-sides_out false true r h = refl
-sides_out false false r h = refl
-
-freeze_out : (i : ℕ) (s : FreezeStep) → processor_of (stand_count i (freeze_stand s)) ≡ 0
-freeze_out i s = grind arith
-
-thaw_out : (i : ℕ) (s : ThawStep) → processor_of (stand_count i (thaw_stand s)) ≡ 0
-thaw_out i (ThawStep.Reopens u) = sides_out (i == u.level) (nat_lt i u.level) (up_count_role u.step) (up_out u.step)
-thaw_out i s = refl
 
 pub seeks_nothing : (i : ℕ) (p : Option Phase) → inside p ≡ 0 → processor_of (level_role_of i p) ≡ 0
 seeks_nothing i p h = grind arith

@@ -13,7 +13,7 @@ use Rattle.finite_sums.proofs.Totals.{total_at}
 use Rattle.finite_sums.specs.Sums.{total, update}
 use Rattle.freeze_levels.specs.{Freezes.{after_closing, at_freeze, level_closed}, declared.freezes.{Freeze.Freeze, FreezeStep.FreezeStep}}
 use Rattle.gate_world.specs.{Configs.{IsWithin, model_limits}, Fits.Fits, Holdings.{Holdings, holdings_of}, Levels.{level_added_by, level_taken_by}}
-use Rattle.gate_world.specs.{Roles.{closed_to, freeze_holder_role, freeze_stage_role, freeze_tree_role, place_of}, Rules.{Holds, IsGood, Tree, ViewFits}}
+use Rattle.gate_world.specs.{Roles.{closed_to, freeze_holder_role, freeze_stage_role, place_of}, Rules.{Holds, IsGood, Tree, ViewFits}}
 use Rattle.gate_world.specs.{Rules.{holder_role_of, marks_of, owns, stage_role_of}, Shown.shown, Trees.{tree_role_of, tree_roles}, Views.actions_after}
 use Rattle.gate_world.specs.{Views.{added_by, held_of, holds_level, phase_after, taken_by, view_with}, Worlds.World, declared.config.Config.Config}
 use Rattle.gate_world.specs.declared.{views.View.View, work.Phase.Phase}
@@ -68,11 +68,6 @@ closed_role : (x : Freeze) (level : ℕ) → 1 ≤ level → level ≤ 3 →
     freeze_stage_role x.nodes (level_closed level x.nodes) ≡ Freezing level (HasPassed (clean_from level)) (nat_lt 1 level)
 closed_role x level = at_level
     (λ i. freeze_stage_role x.nodes (level_closed i x.nodes) ≡ Freezing i (HasPassed (clean_from i)) (nat_lt 1 i)) (refl, refl, refl) level
-
--- a clearing of marks begins once level 2 is closed
-closed_tree : (nodes level : ℕ) → (freeze_tree_role nodes (level_closed level nodes) ≡ OffTree) ⊎
-    (freeze_tree_role nodes (level_closed level nodes) ≡ Clearing 1)
-closed_tree nodes level = grind arith
 
 -- how it stands with the levels then
 closed_stands : (x : Freeze) (level : ℕ) → 1 ≤ level → level ≤ 3 →

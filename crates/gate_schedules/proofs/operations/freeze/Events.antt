@@ -1,6 +1,6 @@
 -- The events of a freeze on nodes and on the words of a level that it reopens, and all of its events as one law.
 use Rattle.gate_schedules.proofs.frames.{ByPhase.freeze_owner, Holders.holders_stay, Rephased.{alike_of, made_keeps}, Stages.{IsStageEvent, stages_in}}
-use Rattle.gate_schedules.proofs.levels.{StandRoles.levels_stay, Standing.{Stands, left_world, stand_after_opening, still_closed}}
+use Rattle.gate_schedules.proofs.levels.{StandRoles.levels_stay, Standing.{Stands, left_world, stand_after_opening}}
 use Rattle.gate_schedules.proofs.operations.freeze.{Closes.closes, Fits.freeze_goes}
 use Rattle.gate_schedules.proofs.operations.freeze.Stages.{FitsHere, IsHere, Keeps, completes_read_only, freeze_stands, goes_to, here_fits, here_knows}
 use Rattle.gate_schedules.proofs.operations.freeze.Stages.{here_stands, here_tree, here_writes, holds, loads_holders, loads_stage, loads_superblock, locks}
@@ -12,7 +12,7 @@ use Rattle.access_model.specs.declared.replies.Next.{Next}
 use Rattle.cpu_words.specs.{Hooks.HookAnswer, Touches.found_by, Words.{Words, read}, declared.{events.Touch.Touch, names.WordName.WordName}}
 use Rattle.finite_sums.proofs.Totals.{each_updated, update_map, update_same}
 use Rattle.finite_sums.specs.Sums.{update}
-use Rattle.freeze_levels.specs.{Freezes.{after_reopening, at_freeze, freeze_fails}, Thaws.{after_opening, thaw_opens}}
+use Rattle.freeze_levels.specs.{Freezes.{after_reopening, at_freeze}, Thaws.{after_opening}}
 use Rattle.freeze_levels.specs.declared.{freezes.{Freeze.Freeze, FreezeStep.FreezeStep}, thaws.{Thaw.Thaw, ThawStep.ThawStep}}
 use Rattle.gate_world.specs.{Alike.{IsAlike, rephased}, Configs.{IsWithin, model_limits}, Fits.FreezeFits, Holdings.Holdings, Roles.closed_to}
 use Rattle.gate_world.specs.{Roles.{freeze_holder_role, freeze_stage_role, freeze_stand, freeze_tree_role}, Rules.{Holds, IsGood, StepKeeps, Tree, ViewFits}}
@@ -27,12 +27,8 @@ use Rattle.percpu_rwsem.specs.{Writers.{up_write_after, up_write_next}, declared
 use Rattle.freeze_laws.specs.stages.{Events.{ClearsMark as ClearsMarkStage, cleaned}, Roles.{Freezing, HasPassed, owns as stage_owns}, Shown.state_after}
 use Rattle.std.proofs.{Common.{ap, arith, false, inl, inr, nat_lt, refl, subst, suc, sym, true, ℕ, ◌+◌, ◌<◌, ◌∙◌, ◌≡◌}, lemmas.Bool.cases_Bool}
 use Rattle.std.proofs.lemmas.Bool.{ltb-false, ltb-true, Decides.eqb_tells}
-use Rattle.std.specs.Prelude.{None, Option, Some, option_map, ◌==◌}
+use Rattle.std.specs.Prelude.{None, Option, Some, option_map}
 use Rattle.gate_schedules.specs.trees.Events.{Clears, Event, Passes, with_node}
-
--- how a freeze that failed stands with the levels that are still to be reopened
-fails_stands : (x : Freeze) (level code : ℕ) → Stands (Some (Phase.Freezes (at_freeze x (freeze_fails level code)))) (still_closed level)
-fails_stands x level code = grind arith
 
 -- and after each event of a reopening
 pub stands_then : (x : Freeze) (u : UpWrite) (code found : ℕ) →
@@ -48,11 +44,6 @@ as_thaw x s = record { task = x.task; holder = x.holder; step = s }
 reopens_alike : (x : Freeze) (u : UpWrite) (code : ℕ) →
     IsAlike (Some (Phase.Freezes (at_freeze x (FreezeStep.Reopens u code)))) (Some (Phase.Thaws (as_thaw x (ThawStep.Reopens u))))
 reopens_alike x u code = refl
-
--- after the last one at a level
-fails_alike : (x : Freeze) (level code : ℕ) →
-    IsAlike (Some (Phase.Thaws (as_thaw x (thaw_opens level)))) (Some (Phase.Freezes (at_freeze x (freeze_fails level code))))
-fails_alike x level code = elim (cases_Bool (level == 0)) [ inl h ↦ rw h refl | inr h ↦ rw h refl ]
 
 next_alike : (x : Freeze) (u : UpWrite) (code : ℕ) (n : Next UpWrite) →
     IsAlike (phase_after (map_next Phase.Thaws (after_opening (as_thaw x (ThawStep.Reopens u)) u.level n)))

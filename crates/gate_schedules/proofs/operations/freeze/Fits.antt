@@ -1,24 +1,24 @@
 -- What fits after an event of a freeze, of the closing of a level and of its reopening.
-use Rattle.std.proofs.Common.{◌≡◌, ℕ, ◌<◌, ◌≤◌, Bool, true, false, refl, sym, subst, inl, inr, arith}
+use Rattle.std.proofs.Common.{◌≡◌, ℕ, ◌<◌, ◌≤◌, true, false, sym, subst, inl, inr, arith}
 use Rattle.std.proofs.lemmas.Bool.{cases_Bool, Decides.eqb_tells}
-use Rattle.std.specs.Prelude.{◌==◌, if◌then◌else◌, Option, Some, None, Ok, Err}
+use Rattle.std.specs.Prelude.{◌==◌, if◌then◌else◌, Option, Ok, Err}
 use Rattle.access_model.specs.{Holders.{nobody, held_by}, Replies.map_next}
 use Rattle.access_model.specs.declared.{actions.{Action.Action, Holder.Holder, Holders.Holders}, errors.GateError.GateError, replies.{Next.Next, Reply.Reply}}
 use Rattle.cpu_words.specs.{Hooks.HookAnswer, Names.IsWord, Sums.sum_taking, declared.sums.Sum.Sum}
 use Rattle.node_words.specs.Phases.{clear_after}
 use Rattle.node_words.specs.declared.marks.ClearMarks.{ClearMarks}
-use Rattle.percpu_rwsem.specs.{Graces.{passed_on, looked}, SyncWords.{unpack, on_enter, on_exit, on_callback}}
+use Rattle.percpu_rwsem.specs.{Graces.{passed_on, looked}, SyncWords.{unpack, on_enter, on_callback}}
 use Rattle.percpu_rwsem.specs.Transitions.{transition_after}
 use Rattle.percpu_rwsem.specs.Writers.{down_write_next, down_write_after, at_down_write, enter_step, callback_step, sections_awaited, passed_awaited, sum_begun}
-use Rattle.percpu_rwsem.specs.Writers.{down_write_summed, up_write_next, up_write_after, exit_made}
+use Rattle.percpu_rwsem.specs.Writers.{down_write_summed, up_write_next, up_write_after}
 use Rattle.percpu_rwsem.specs.declared.{grace.Grace.Grace, sync_word.{GpState.GpState, SyncWord.SyncWord}}
 use Rattle.percpu_rwsem.specs.declared.transitions.{TransitionNext.TransitionNext}
 use Rattle.percpu_rwsem.specs.declared.writers.{DownWrite.DownWrite, DownWriteStep.DownWriteStep, UpWrite.UpWrite, UpWriteStep.UpWriteStep}
-use Rattle.freeze_levels.specs.Freezes.{found_holders, freeze_next, freeze_after, at_freeze, freeze_locked, freeze_closes, level_closed, after_closing}
+use Rattle.freeze_levels.specs.Freezes.{found_holders, freeze_next, freeze_after, at_freeze, freeze_locked, freeze_closes, after_closing}
 use Rattle.freeze_levels.specs.Freezes.{after_clearing, freeze_fails, after_reopening}
 use Rattle.freeze_levels.specs.{Holders.holders_in, declared.freezes.{Freeze.Freeze, FreezeStep.FreezeStep}}
 use Rattle.freeze_laws.proofs.levels.{Exchanges.exchanges_make_transitions, Operations.{enter_knows, callback_knows}}
-use Rattle.freeze_laws.specs.levels.{Exchanges.Shows, Operations.{HoldsOfNext, KnowsDownWrite, KnowsUpWrite}}
+use Rattle.freeze_laws.specs.levels.{Operations.{HoldsOfNext, KnowsDownWrite, KnowsUpWrite}}
 use Rattle.freeze_levels.proofs.holder_laws.Words.{none_held}
 use Rattle.gate_world.specs.Configs.{IsWithin, extents_of}
 use Rattle.gate_world.specs.{Fits.{DownWriteStepFits, DownWriteFits, UpWriteFits, FreezeFits, PhaseFits, Fits, ActionFits}, Holdings.{Holdings, held_after}}
@@ -47,22 +47,6 @@ found_cases x held P own other = both (held_by held x.holder) (λ b. P (if b the
 -- an action with which a task holds what it held
 abbrev MovesNone : Option Action → Type 0
 MovesNone a = (held : Holdings) → ActionFits held a × (held_after a held ≡ held)
-
-if_moves : (b : Bool) (a : Action) → MovesNone (Some a) → MovesNone (if b then Some a else None)
-if_moves true a h held = h held
-if_moves false a h held = (tt, refl)
-
-summed_moves : (d : DownWrite) (sum : Sum) (found : ℕ) → MovesNone (down_write_summed d (sum_taking sum found d.processors)).1
-summed_moves d sum found held = grind arith
-
-down_write_moves : (d : DownWrite) (s : DownWriteStep) (found : ℕ) → MovesNone (down_write_after d s found).1
-down_write_moves d (DownWriteStep.Sums sum) found held = summed_moves d sum found held
-down_write_moves d other found held = (tt, refl)
-
--- none of an up-write
-up_write_moves : (u : UpWrite) (s : UpWriteStep) (found : ℕ) → MovesNone (up_write_after u s found).1
-up_write_moves u UpWriteStep.ClearsBlock found held = (tt, refl)
-up_write_moves u (UpWriteStep.Exits transition) found held = (tt, refl)
 
 -- and none of a freeze
 freeze_moves : (x : Freeze) (s : FreezeStep) (found : ℕ) (hook : HookAnswer) → MovesNone (freeze_after x s found hook).1
@@ -126,11 +110,6 @@ module _ (c : Config) (within : IsWithin c) where
         (l1, l3, same, processors, within.some_processor, tt) (l1, l3, same, processors, tt, tt)
     down_write_goes (DownWriteStep.Sums sum) found f k = summed_goes sum found
 
-  -- what comes after an event of the transition of an up-write fits
-  exits_goes : (u : UpWrite) (found v : ℕ) → 1 ≤ u.level → u.level ≤ 3 → (n : TransitionNext) → Shows on_exit found v n →
-      HoldsOfNext UpWriteFits (exit_made u n)
-  exits_goes u found v l1 l3 a5 h = grind arith
-
   -- so it is after each event of an up-write
   up_write_goes : (u : UpWrite) (s : UpWriteStep) (found : ℕ) → 1 ≤ u.level → u.level ≤ 3 → KnowsUpWrite s →
       HoldsOfNext UpWriteFits (up_write_after u s found).0
@@ -140,9 +119,6 @@ module _ (c : Config) (within : IsWithin c) where
   closes_fits : (x : Freeze) (level : ℕ) → x.tasks ≡ c.tasks → x.processors ≡ c.processors → 1 ≤ level → level ≤ 3 →
       FreezeFits c x.holder (freeze_closes x level)
   closes_fits x level all processors l1 l3 = (l1, l3, all, processors, tt, tt)
-
-  closed_fits : (holder : Holder) (level nodes : ℕ) → nodes ≡ c.nodes → FreezeFits c holder (level_closed level nodes)
-  closed_fits holder level nodes same = grind arith
 
   -- the levels that are still to be reopened
   fails_fits : (holder : Holder) (level code : ℕ) → level ≤ 3 → FreezeFits c holder (freeze_fails level code)

@@ -5,8 +5,8 @@ use Rattle.std.specs.Prelude.{◌==◌, nat_lt, Option, Some, None, List, ◌∷
 use Rattle.access_model.specs.declared.{actions.Action.Action, replies.Next.Next}
 use Rattle.cpu_words.specs.{Hooks.HookAnswer, Touches.{wrap_add, event_of, found_by}, declared.sums.Sum.Sum}
 use Rattle.percpu_rwsem.specs.{Graces.{is_first, passed_on}, SyncWords.{unpack, on_enter, on_callback}, Transitions.transition_after}
-use Rattle.percpu_rwsem.specs.Writers.{down_write_next, down_write_after, entered_from, enter_step, callback_step, sections_awaited, passed_awaited, sum_begun}
-use Rattle.percpu_rwsem.specs.declared.{grace.Grace.Grace, sync_word.{GpState.GpState, SyncWord.SyncWord}}
+use Rattle.percpu_rwsem.specs.Writers.{down_write_next, down_write_after, enter_step, callback_step, sections_awaited, passed_awaited, sum_begun}
+use Rattle.percpu_rwsem.specs.declared.{grace.Grace.Grace, sync_word.{SyncWord.SyncWord}}
 use Rattle.percpu_rwsem.specs.declared.transitions.{TransitionNext.TransitionNext}
 use Rattle.percpu_rwsem.specs.declared.writers.{DownWrite.DownWrite, DownWriteStep.DownWriteStep}
 use Rattle.gate_world.specs.Configs.{IsWithin}
@@ -62,10 +62,6 @@ module _ (c : Config) (lim : IsWithin c) (i value : ℕ) (hook : HookAnswer) (ea
   AfterClosing s =
       ClosingNext c i (closing_trace s) (down_write_after (closing_at c i s) s (closing_found s)).0
       (down_write_after (closing_at c i s) s (closing_found s)).1
-
-  -- a step with no sum comes, whatever state was left
-  state_goes : (trace : List Traced) (state : GpState) → ClosingGoes c i trace (closing_at c i (entered_from c.tasks state))
-  state_goes trace other = grind arith
 
   enter_goes : (trace : List Traced) (n : TransitionNext) → ClosingGoes c i trace (closing_at c i (enter_step c.tasks n))
   enter_goes trace a1 = grind arith

@@ -1,5 +1,5 @@
 -- Traces of a freeze of the superblock.
-use Rattle.std.proofs.Common.{◌≡◌, ℕ, zero, suc, ◌-◌, Bool, true, false, refl, sym, ap, ◌∙◌, subst, inl, inr, arith}
+use Rattle.std.proofs.Common.{◌≡◌, ℕ, zero, suc, Bool, true, false, refl, sym, ap, ◌∙◌, subst, inl, inr, arith}
 use Rattle.std.proofs.lemmas.{Bool.{eq-eqb, ne_eqb, cases_Bool, Decides.eqb_tells}, Nat.Bits.and_pow}
 use Rattle.std.specs.Prelude.{◌==◌, ◌||◌, if◌then◌else◌, Option, Result, Ok, Err, List, [], ◌∷◌, ◌++◌, bit_and}
 use Rattle.access_model.specs.{Holders.nobody, Replies.map_next}
@@ -12,7 +12,7 @@ use Rattle.mount_counts.specs.Phases.{has_flag}
 use Rattle.percpu_rwsem.specs.{SyncWords.on_exit, Transitions.{transition_next, transition_after}, Writers.{down_write_after, exit_made}}
 use Rattle.percpu_rwsem.specs.declared.transitions.{Transition.Transition, TransitionNext.TransitionNext}
 use Rattle.percpu_rwsem.specs.declared.writers.{DownWrite.DownWrite, DownWriteStep.DownWriteStep, UpWrite.UpWrite, UpWriteStep.UpWriteStep}
-use Rattle.freeze_levels.specs.{Freezes.{after_closing, after_clearing, after_reopening, freeze_fails, level_closed}}
+use Rattle.freeze_levels.specs.{Freezes.{after_closing, after_clearing, after_reopening}}
 use Rattle.freeze_levels.specs.declared.freezes.{Freeze.Freeze, FreezeStep.FreezeStep}
 use Rattle.gate_world.specs.{Operations.{two_levels_closed, all_levels_closed}, Configs.IsWithin, Courses.{IsTrace, course_of}}
 use Rattle.gate_world.specs.Found.{found_sealed, found_complete, stored_stage, cleans, ReadAnswer}
@@ -132,15 +132,6 @@ closing_stays (suc (suc (suc zero))) trace earlier added l h = (
 )
 closing_stays (suc (suc (suc (suc i)))) trace earlier added l h = absurd h
 
--- a level is passed, and the next step of the freeze comes
-level_passed : (c : Config) (holder : Holder) (i : ℕ) (trace : List Traced) (added : List Action) → IsClosing i trace added →
-    StepSays c holder (level_closed i c.nodes) trace (Action.Pass i ∷ added)
-level_passed c holder zero trace added h = absurd h
-level_passed c holder (suc zero) trace added h = ((ap (λ (l : List Action). Action.Pass 1 ∷ l) h.0.0, h.0.1, h.0.2), h.1)
-level_passed c holder (suc (suc zero)) trace added h = (rw h.1 (ap (λ (l : List Action). Action.Pass 2 ∷ l) h.0.0), h.0.1, h.0.2)
-level_passed c holder (suc (suc (suc zero))) trace added h = (ap (λ (l : List Action). Action.Pass 3 ∷ l) h.0, h.1, h.2)
-level_passed c holder (suc (suc (suc (suc i)))) trace added h = absurd h
-
 -- what is said of the closing of a level is said of a freeze, by what comes next
 closing_says : (c : Config) (t : ℕ) (holder : Holder) (i : ℕ) (s : DownWriteStep) (e : Traced) (earlier : List Traced) (added : List Action)
     (n : Next DownWrite)
@@ -148,18 +139,6 @@ closing_says : (c : Config) (t : ℕ) (holder : Holder) (i : ℕ) (s : DownWrite
     Says (FreezeAt c t holder) c (Op.Freeze holder) (e ∷ earlier)
     (map_next Phase.Freezes (after_closing (freeze_of c t holder (FreezeStep.Closes (closing_at c i s))) i n)) (actions_after action added)
 closing_says c t holder i s e earlier added a8 action level h = grind arith
-
--- where no level is left closed, the failed freeze gives `umount` back, and else it reopens the highest
-fails_says : (c : Config) (holder : Holder) (i code : ℕ) (trace : List Traced) (added : List Action) → AreLeft i trace added →
-    ReadAnswer WordName.Stage (Err code) trace → StepSays c holder (freeze_fails i code) trace added
-fails_says c holder zero code trace added h said = (h, said)
-fails_says c holder (suc zero) code trace added h said = (1, UpWriteStep.ClearsBlock, refl, h, said)
-fails_says c holder (suc (suc zero)) code trace added h said = (2, UpWriteStep.ClearsBlock, refl, h, said)
-fails_says c holder (suc (suc (suc zero))) code trace added h said = (3, UpWriteStep.ClearsBlock, refl, h, said)
-fails_says c holder (suc (suc (suc (suc i)))) code trace added h said = absurd h
-
-below_next : (i : ℕ) → suc i - 1 ≡ i
-below_next i = omega arith
 
 -- an event that gives `umount` back leaves what is told
 lock_leaves : (c : Config) (holder : Holder) (answer : Result Reply GateError) (value : ℕ) (hook : HookAnswer) (earlier : List Traced)

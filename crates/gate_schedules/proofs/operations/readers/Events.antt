@@ -8,7 +8,7 @@ use Rattle.finite_sums.specs.Sums.{update}
 use Rattle.cpu_words.proofs.gate_counts.LevelLaws.{is_granted, is_refused}
 use Rattle.cpu_words.specs.gate_counts.Levels.{Out as CountsNot}
 use Rattle.gate_schedules.proofs.frames.Frames.{count_none, level_view_as}
-use Rattle.gate_schedules.proofs.levels.Counts.{LevelHoldsAfter, SameElsewhere, backs_off, bit_room, count_off, count_on, down_beside, enters_fast, held_bit}
+use Rattle.gate_schedules.proofs.levels.Counts.{LevelHoldsAfter, SameElsewhere, backs_off, bit_room, count_on, down_beside, enters_fast, held_bit}
 use Rattle.gate_schedules.proofs.levels.Counts.{level_follows, seeks, up_beside, words_down, words_up}
 use Rattle.gate_schedules.proofs.levels.Parts.{IsAtLevels, IsBeside, SameAtMounts, beside_levels, counts_left_at, level_parts, level_shown, level_still}
 use Rattle.gate_schedules.proofs.levels.Parts.{reads_at_levels}
@@ -109,11 +109,6 @@ module _ (c : Config) (lim : IsWithin c) (w : World) (good : IsGood c w) (t : �
   counts_here : {q : Option Phase} (s : DownReadStep) → q ≡ Some (DownReads (at_down_read r s)) →
       level_role_of r.level q ≡ read_count_role r.cpu s
   counts_here s e = ap (level_role_of r.level) e ∙ count_on r.level (read_count_role r.cpu s)
-
-  -- and at no other
-  counts_there : {q : Option Phase} (s : DownReadStep) → q ≡ Some (DownReads (at_down_read r s)) →
-      (j : ℕ) → (j ≡ r.level → ⊥) → level_role_of j q ≡ CountsNot
-  counts_there s e j ne = ap (level_role_of j) e ∙ count_off j r.level (read_count_role r.cpu s) ne
 
   -- or at none
   counts_nowhere : {q : Option Phase} (s : DownReadStep) → q ≡ Some (DownReads (at_down_read r s)) → read_count_role r.cpu s ≡ CountsNot →

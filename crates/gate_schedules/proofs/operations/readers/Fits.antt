@@ -1,5 +1,5 @@
 -- What fits after an event of a down-read, an up-read and a callback.
-use Rattle.std.proofs.Common.{◌≡◌, ℕ, ◌+◌, ◌%◌, ◌<◌, ◌≤◌, Bool, true, false, refl, sym, subst, ◌∙◌, inl, inr, arith}
+use Rattle.std.proofs.Common.{◌≡◌, ℕ, ◌<◌, ◌≤◌, Bool, true, false, refl, sym, subst, ◌∙◌, inl, inr, arith}
 use Rattle.std.specs.Prelude.{◌==◌, ◌&&◌, nat_lt, Some, None, Ok, Err}
 use Rattle.std.proofs.lemmas.Bool.{cases_Bool, ltb-true}
 use Rattle.finite_sums.proofs.Totals.{update_at}
@@ -12,22 +12,13 @@ use Rattle.cpu_words.specs.Names.{IsWord}
 use Rattle.percpu_rwsem.specs.declared.readers.DownRead.{DownRead}
 use Rattle.percpu_rwsem.specs.declared.readers.DownReadStep.{DownReadStep}
 use Rattle.percpu_rwsem.specs.declared.readers.DownReadStep.TheVariants.{EntersSection, LoadsSync, CountsUpFast, CountsUpSlow, LoadsBlock, CountsDown, LeavesAdmitted, LeavesBlocked}
-use Rattle.percpu_rwsem.specs.declared.grace.Grace.{Grace}
-use Rattle.percpu_rwsem.specs.declared.transitions.TransitionNext.{TransitionNext}
-use Rattle.percpu_rwsem.specs.declared.transitions.TransitionNext.TheVariants.{More}
-use Rattle.percpu_rwsem.specs.declared.grace.GraceNext.{GraceNext}
-use Rattle.percpu_rwsem.specs.declared.grace.GraceNext.TheVariants.{More as MoreSections}
 use Rattle.percpu_rwsem.specs.declared.callbacks.Callback.{Callback}
 use Rattle.percpu_rwsem.specs.declared.callbacks.CallbackStep.{CallbackStep}
 use Rattle.percpu_rwsem.specs.declared.callbacks.CallbackStep.TheVariants.{Claims}
 use Rattle.percpu_rwsem.specs.SyncWords.{unpack}
-use Rattle.percpu_rwsem.specs.Graces.{passed_on, looked, is_first}
 use Rattle.percpu_rwsem.specs.Readers.{down_read_next, down_read_after, at_down_read, left_blocked}
-use Rattle.percpu_rwsem.specs.Callbacks.{callback_next, callback_after, at_callback, claimed, callback_looked, called_back}
-use Rattle.freeze_laws.specs.levels.Events.{SyncLevel}
-use Rattle.cpu_words.specs.Touches.{found_by}
-use Rattle.freeze_laws.specs.levels.Operations.{value_at, KnowsCallback, HoldsOfNext, callback_role}
-use Rattle.freeze_laws.proofs.levels.Operations.{callbacks_are_there}
+use Rattle.percpu_rwsem.specs.Callbacks.{callback_next, callback_after, at_callback}
+use Rattle.freeze_laws.specs.levels.Operations.{KnowsCallback, HoldsOfNext}
 use Rattle.gate_world.specs.declared.config.Config.{Config}
 use Rattle.gate_world.specs.declared.work.Phase.TheVariants.{DownReads, Callbacks}
 use Rattle.gate_world.specs.Configs.{IsWithin, extents_of}
@@ -67,11 +58,6 @@ read_there c t lt r other l1 l3 p same = grind arith
 pub read_acts : (held : Holdings) (r : DownRead) (s : DownReadStep) (found : ℕ) → 1 ≤ r.level → r.level ≤ 3 →
     ActionFits held (down_read_after r s found).1
 read_acts held r s found l1 l3 = grind arith
-
--- it moves no access at a mount
-pub read_mounts : (held : Holdings) (r : DownRead) (s : DownReadStep) (found : ℕ) →
-    (held_after (down_read_after r s found).1 held).mounts ≡ held.mounts
-read_mounts held r s found = grind arith
 
 -- What comes after an event of a down-read at this level, on this processor, fits these accesses; and where it ends well, the level is
 -- held. So an operation that goes on inside the level knows that it is.
@@ -125,57 +111,14 @@ callback_acts_none b other found = refl
 abbrev NextGraceFits : ℕ → Next Callback → Type 0
 NextGraceFits tasks next = HoldsOfNext (λ (x : Callback). GraceFits tasks x.step) next
 
--- so it is after an event of the claim
-claim_grace : (b : Callback) (n : TransitionNext) → 0 < b.tasks → NextGraceFits b.tasks (claimed b n)
-claim_grace b a1 some = grind arith
-
--- after an event of its own transition
-call_grace : (b : Callback) (n : TransitionNext) → NextGraceFits b.tasks (called_back b n)
-call_grace b (More transition) = tt
-call_grace b other = tt
-
--- where a task is passed
-passed_grace : (b : Callback) (g : Grace) → g.tasks ≡ b.tasks → NextGraceFits b.tasks (callback_looked b (passed_on g))
-passed_grace b g same =
-    elim (cases_Bool (nat_lt (g.task + 1) g.tasks)) [
-      | inl f ↦ rw f (same, omega (arith, same, ltb-true (g.task + 1) g.tasks f))
-      | inr f ↦ rw f tt
-    ]
-
--- and after a load of a section word
-looked_grace : (b : Callback) (g : Grace) (found : ℕ) → g.tasks ≡ b.tasks → g.task < b.tasks →
-    NextGraceFits b.tasks (callback_looked b (looked g found))
-looked_grace b g found same more =
-    elim (cases_Bool ((found % 2 == 1) && is_first g.first found)) [
-      | inl f ↦ rw f (same, more)
-      | inr f ↦ rw f (passed_grace b g same)
-    ]
-
 -- so its grace period fits after each event of a callback
 grace_goes : (b : Callback) (s : CallbackStep) (found : ℕ) → 0 < b.tasks → GraceFits b.tasks s →
     NextGraceFits b.tasks (callback_after b s found).0
 grace_goes b a1 found some f = grind arith
 
--- a level at which each word that a callback reads has this value
-abbrev level_with : ℕ → CallbackStep → SyncLevel
-level_with found s = record {
-  sync = found;
-  block = 0;
-  full = 0;
-  section = λ x. found;
-  inside = λ x. 0;
-  at = λ x. callback_role s;
-}
-
 -- what comes next knows the words of its exchange, and is of as many tasks
 abbrev KnowsNext : Callback → Next Callback → Type 0
 KnowsNext b next = HoldsOfNext (λ (x : Callback). (x.tasks ≡ b.tasks) × KnowsCallback x.step) next
-
--- so it is after an event that found this, whatever it is
-knows_there : (b : Callback) (found : ℕ) → 0 < b.tasks → KnowsCallback b.step →
-    KnowsNext b (callback_after b b.step (found_by (callback_next b b.step).1
-    (value_at (level_with found b.step) found (callback_next b b.step).0))).0
-knows_there b found some k = (callbacks_are_there 0 found (level_with found b.step) b some refl k).1
 
 -- and so at each step
 knows_next : (b : Callback) (s : CallbackStep) (found : ℕ) → 0 < b.tasks → KnowsCallback s → KnowsNext b (callback_after b s found).0
@@ -184,19 +127,6 @@ knows_next b a1 found some k = grind arith
 -- and it is at the same level
 abbrev AtLevelOf : Callback → Next Callback → Type 0
 AtLevelOf b next = HoldsOfNext (λ (x : Callback). x.level ≡ b.level) next
-
--- after an event of the claim
-claim_level : (b : Callback) (n : TransitionNext) → AtLevelOf b (claimed b n)
-claim_level b a1 = grind arith
-
--- of its own transition
-call_level : (b : Callback) (n : TransitionNext) → AtLevelOf b (called_back b n)
-call_level b a1 = grind arith
-
--- and after a load of a section word
-looked_level : (b : Callback) (n : GraceNext) → AtLevelOf b (callback_looked b n)
-looked_level b (MoreSections grace) = refl
-looked_level b other = refl
 
 -- so after each event
 same_level : (b : Callback) (s : CallbackStep) (found : ℕ) → AtLevelOf b (callback_after b s found).0

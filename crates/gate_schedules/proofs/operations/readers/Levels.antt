@@ -1,7 +1,7 @@
 -- Events of a down-read leave the rcu_sync of each level, and the sections.
 use Rattle.std.proofs.{Common.{◌≡◌, ℕ, ◌-◌, ◌<◌, ◌≤◌, refl, sym, ap, ◌∙◌, subst, inl, inr}, lemmas.Bool.Decides.eqb_tells}
 use Rattle.std.proofs.Common.{arith}
-use Rattle.std.specs.Prelude.{Some, Bool, true, false, ◌==◌, if◌then◌else◌}
+use Rattle.std.specs.Prelude.{Some, Bool, true, false, ◌==◌}
 use Rattle.finite_sums.specs.Sums.{update}
 use Rattle.access_model.specs.{Replies.map_next, declared.replies.Next.{Next, TheVariants.{Go}}}
 use Rattle.cpu_words.specs.{Hooks.HookAnswer, Touches.found_by, Words.read, declared.{events.Touch.Touch, names.WordName.WordName}}
@@ -25,17 +25,6 @@ LevelsHold c w = ((i : ℕ) → Holds c w (SyncAt i)) × Holds c w Sections
 pub apart_if : (b : Bool) → sync_role_if b IsApart ≡ IsApart
 apart_if true = refl
 apart_if false = refl
-
--- a blocked down-read that begins again is at the same level
-left_level : (r : DownRead) (b : Bool) → HoldsOfNext (λ (x : DownRead). x.level ≡ r.level) (left_blocked r b)
-left_level r true = refl
-left_level r false = tt
-
--- and so is one that has loaded `block`
-block_level : (r : DownRead) (b : Bool) → HoldsOfNext (λ (x : DownRead). x.level ≡ r.level)
-    (if b then Go (at_down_read r LeavesAdmitted) else Go (at_down_read r CountsDown))
-block_level r true = refl
-block_level r false = refl
 
 -- a down-read stays at its level
 pub keeps_level : (r : DownRead) (s : DownReadStep) (found : ℕ) →

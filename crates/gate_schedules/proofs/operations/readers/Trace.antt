@@ -1,7 +1,7 @@
 -- Traces of a start and of an end. What is said of a down-read is said of it alone, so that an operation that goes through one as a part of
 -- its own has it too, after so many events of its own.
 use Rattle.std.proofs.{Common.{◌≡◌, ℕ, ◌≤◌, Bool, true, false, refl, sym, ap, subst, arith}}
-use Rattle.std.specs.Prelude.{◌+◌, Option, Some, None, Ok, Err, List, [], ◌∷◌, length, is_some}
+use Rattle.std.specs.Prelude.{◌+◌, Option, Some, None, Ok, Err, List, [], ◌∷◌, length}
 use Rattle.access_model.specs.{Replies.map_next, declared.actions.{Action.{Action, TheVariants.{Grant, Return}}, Gate.TheVariants.Level}}
 use Rattle.access_model.specs.declared.{errors.GateError.TheVariants.Again, replies.Next.{Next, TheVariants.{Go, Wait, Done}}}
 use Rattle.cpu_words.specs.{Hooks.HookAnswer, Touches.{event_of, found_by}}
@@ -59,11 +59,6 @@ ReadNext base i p t wait trace added (Done (Err refusal)) = ⊥
 -- what holds of both additions holds of the one that a state leads to
 by_state : (P : DownReadStep → Type 0) → P CountsUpFast → P CountsUpSlow → (state : GpState) → P (step_in state)
 by_state a0 fast slow a3 = grind arith
-
--- and of the one that a number which is a sync word leads to
-by_some : (P : DownReadStep → Type 0) → P CountsUpFast → P CountsUpSlow → (word : Option SyncWord) → is_some word ≡ true → P (step_found word)
-by_some P fast slow None some = absurd cc
-by_some P fast slow (Some word) some = by_state P fast slow word.state
 
 -- what holds of another load too holds of the step that any number leads to
 pub by_word : (P : DownReadStep → Type 0) → P LoadsSync → P CountsUpFast → P CountsUpSlow → (word : Option SyncWord) → P (step_found word)

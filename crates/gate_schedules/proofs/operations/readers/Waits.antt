@@ -1,5 +1,5 @@
 -- A down-read waits only where it found the level closed; a callback only where another task is inside a read-side section.
-use Rattle.access_model.specs.{Replies.map_next, declared.{errors.GateError.{TheVariants.Again, GateError}, replies.Next.{Next, TheVariants.{Go, Wait}}}}
+use Rattle.access_model.specs.{Replies.map_next, declared.{replies.Next.{Next, TheVariants.{Go, Wait}}}}
 use Rattle.access_model.specs.declared.replies.Next.TheVariants.{Done}
 use Rattle.std.proofs.{Common.{◌≡◌, ℕ, ◌+◌, ◌%◌, ◌<◌, sym, ap, ◌∙◌, inl, inr, arith}, lemmas.Bool.{cases_Bool, Decides.eqb_tells}}
 use Rattle.std.specs.Prelude.{nat_lt, Some, List, ◌∷◌, Ok, Err}
@@ -9,7 +9,7 @@ use Rattle.percpu_rwsem.specs.{SyncWords.{on_claim, on_callback}, Transitions.tr
 use Rattle.percpu_rwsem.specs.declared.callbacks.{Callback.Callback, CallbackStep.{CallbackStep, TheVariants.{Claims, AwaitsSections, CallsBack}}}
 use Rattle.percpu_rwsem.specs.declared.{grace.Grace.Grace, readers.{DownRead.DownRead, DownReadStep.{DownReadStep}}}
 use Rattle.percpu_rwsem.specs.declared.transitions.TransitionNext.{TransitionNext, TheVariants.More}
-use Rattle.gate_world.specs.{Causes.{last_asked, WasClosed, ReadRefused}, Fits.GraceFits, KeptCauses.ReadCause, Levels.inside, Rules.{IsGood, Sections}}
+use Rattle.gate_world.specs.{Causes.{last_asked, WasClosed}, Fits.GraceFits, KeptCauses.ReadCause, Levels.inside, Rules.{IsGood, Sections}}
 use Rattle.gate_world.specs.{Waits.{HasCulprit, HasReason}, Work.after_of, Worlds.{World, found_at}, declared.config.Config.Config}
 use Rattle.gate_world.specs.declared.work.Phase.TheVariants.{DownReads, Callbacks}
 
@@ -19,12 +19,6 @@ WhereRefused X (Go r) = Unit {0}
 WhereRefused X (Wait r) = X
 WhereRefused X (Done (Ok reply)) = Unit {0}
 WhereRefused X (Done (Err refusal)) = X
-
--- what is said of a level that was closed is what a refusal there says
-pub read_refused : (c : Config) (t : ℕ) (worlds : List World) (i : ℕ) (refusal : GateError) → WasClosed c t i (last_asked t worlds) →
-    ReadRefused c t worlds i refusal
-read_refused c t worlds i Again h = h
-read_refused c t worlds i refusal h = tt
 
 module _ (c : Config) (w : World) (earlier : List World) (t : ℕ) where
   -- where an event of a down-read is a wait or a refusal, the level was closed when the task last asked: the cause that is kept says so

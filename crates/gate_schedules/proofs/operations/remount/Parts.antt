@@ -1,6 +1,6 @@
 -- What an event of a remount may leave: each part of the rule, and the shown model.
-use Rattle.access_model.specs.{Replies.map_next, States.openers, declared.{actions.Action.Action, replies.Next.Next}}
-use Rattle.cpu_words.specs.{Hooks.HookAnswer, Touches.{event_of, found_by}, Words.{Words, read}, declared.{events.Touch.Touch, names.WordName.WordName}}
+use Rattle.access_model.specs.{States.openers, declared.{actions.Action.Action, replies.Next.Next}}
+use Rattle.cpu_words.specs.{Hooks.HookAnswer, Words.{Words, read}, declared.{events.Touch.Touch, names.WordName.WordName}}
 use Rattle.finite_sums.proofs.Totals.{each_updated, update_at, update_map, update_off, update_same}
 use Rattle.finite_sums.specs.Sums.{update}
 use Rattle.freeze_levels.specs.Holders.{holders_in}
@@ -10,35 +10,24 @@ use Rattle.gate_schedules.proofs.frames.{Holders.holders_stay, Known.{IsOwnersWo
 use Rattle.gate_schedules.proofs.{frames.{Stages.{IsStageEvent, stages_after, stages_in}, Words.load_same}, mounts.Loads.{after_load}}
 use Rattle.gate_schedules.proofs.mounts.Parts.{is_known_part, known_is, level_added_load, level_taken_load}
 use Rattle.gate_schedules.proofs.trees.worlds.Trees.{marks_right, tree_after, tree_holds, tree_then, tree_within}
-use Rattle.gate_world.specs.{Configs.IsWithin, Fits.{Fits, HasFile, PhaseFits, file_of}, Found.is_load, Holdings.Holdings, Levels.is_frozen_whole}
-use Rattle.gate_world.specs.{Levels.{level_added_by, level_taken_by}, Owners.{is_owned, takes_lock}, Remounts.{RemountFits, remount_owns, remount_role}}
+use Rattle.gate_world.specs.{Configs.IsWithin, Fits.{Fits, HasFile, PhaseFits, file_of}, Holdings.Holdings, Levels.is_frozen_whole}
+use Rattle.gate_world.specs.{Levels.{level_added_by, level_taken_by}, Remounts.{RemountFits, remount_owns, remount_role}}
 use Rattle.gate_world.specs.{Remounts.remount_sets, Roles.{remount_stage_role, remount_tree_role}, Rules.{AtLevel, AtMount, Files, Fitting, Holding, Holds}}
 use Rattle.gate_world.specs.Rules.{IsGood, IsSteady, Known, Moves, Owner, OwnerHolds, Part, Sections, Stages, StepKeeps, SyncAt, Tree, ViewFits, at_mount}
 use Rattle.gate_world.specs.{Rules.{holder_role_of, marks_of, owns, remounts, role_of, stage_role_of}, Shown.{closing, shown}, Trees.{is_bare_at, is_sealed}}
-use Rattle.gate_world.specs.{Trees.{tree_bounds, tree_of, tree_role_of, tree_roles}, Views.{added_by, has_open, held_of, phase_after, taken_by, view_with}}
+use Rattle.gate_world.specs.{Trees.{tree_bounds, tree_of, tree_role_of, tree_roles}, Views.{added_by, has_open, held_of, taken_by, view_with}}
 use Rattle.gate_world.specs.{Worlds.{World, after_step, phase_action}, declared.{config.Config.Config, views.View.View, work.Phase.Phase}}
 use Rattle.node_words.specs.Nodes.{node_shown, opens_in}
 use Rattle.gated_tree.specs.Roles.{Role as TreeRole, TreeState}
 use Rattle.freeze_levels.specs.holder_laws.Roles.{Apart}
-use Rattle.mount_counts.specs.{Remounts.{at_remount, remount_after, remount_next}, Roles.{MountHolds, Role, ro_bit}, declared.remounts.Remount.Remount}
+use Rattle.mount_counts.specs.{Remounts.{at_remount}, Roles.{MountHolds, Role, ro_bit}, declared.remounts.Remount.Remount}
 use Rattle.mount_counts.specs.declared.remounts.RemountStep.{RemountStep}
 use Rattle.freeze_laws.specs.stages.Events.{IsAlike, Recalls, StageEvent, playing}
 use Rattle.freeze_laws.specs.stages.Roles.{CleanBelow, IsKnown, KnowsStage, Owning, StageRole, clean_by}
-use Rattle.std.proofs.Common.{Bool, None, Option, Some, ap, arith, false, inl, inr, refl, subst, sym, true, true≢false, ℕ, ◌<◌, ◌==◌, ◌||◌, ◌∙◌, ◌≡◌, ◌⊎◌}
+use Rattle.std.proofs.Common.{Bool, None, Option, Some, ap, arith, false, inl, inr, refl, subst, sym, true≢false, ℕ, ◌<◌, ◌==◌, ◌||◌, ◌∙◌, ◌≡◌}
 use Rattle.std.proofs.lemmas.Bool.{cases_Bool, Decides.eqb_tells}
 use Rattle.gate_schedules.proofs.trees.Each.{each_event}
 use Rattle.gate_schedules.specs.trees.Events.{Event as TreeEvent}
-
--- who changes an owned word is the owner, and a remount comes to own `umount` by taking it
-remount_changes : (x : Remount) (s : RemountStep) (hook : HookAnswer) → is_owned (remount_next x s hook).0 ≡ true →
-    (is_load (remount_next x s hook).1 ≡ true) ⊎ (remount_owns s ≡ 1)
-remount_changes x RemountStep.Locks hook h = absurd (true≢false (sym h))
-remount_changes x s hook h = inr refl
-
-remount_comes : (x : Remount) (s : RemountStep) (hook : HookAnswer) (value : ℕ) →
-    owns (phase_after (map_next Phase.Remounts (remount_after x s (found_by (remount_next x s hook).1 value) hook).0)) ≡ 1 →
-    (remount_owns s ≡ 1) ⊎ (takes_lock (event_of (remount_next x s hook).0 (remount_next x s hook).1 value) ≡ true)
-remount_comes x s hook value h = grind arith
 
 remount_work : (w : World) (x : Remount) (hook : HookAnswer) → IsOwnersWork w (Phase.Remounts x) hook
 remount_work w x hook = grind arith

@@ -10,25 +10,6 @@ use Rattle.gate_world.specs.Remounts.{giving_role, remount_role, loop_role, held
 use Rattle.gate_schedules.proofs.frames.Keeps.{by_bool}
 use mathlib.Core.Bool.{true}
 
-loop_seeks : (a b : Bool) → SeeksNone (loop_role a b)
-loop_seeks true b = (refl, refl)
-loop_seeks false true = (refl, refl)
-loop_seeks false false = (refl, refl)
-
-held_seeks : (a : Bool) → SeeksNone (held_role a)
-held_seeks true = (refl, refl)
-held_seeks false = (refl, refl)
-
-summing_seeks : (a : Bool) (sum : Sum) (r : Role) → SeeksNone r → SeeksNone (summing_role a sum r)
-summing_seeks true sum r h = (refl, refl)
-summing_seeks false sum r h = h
-
-giving_seeks : (a b : Bool) → SeeksNone (giving_role a b)
-giving_seeks true true = (refl, refl)
-giving_seeks false true = (refl, refl)
-giving_seeks true false = (refl, refl)
-giving_seeks false false = (refl, refl)
-
 pub remount_seeks : (m : ℕ) (s : RemountStep) → SeeksNone (remount_role m s)
 remount_seeks m s = grind arith
 

@@ -1,7 +1,7 @@
 -- Traces of a remount of the superblock.
 use Rattle.std.proofs.Common.{◌≡◌, ℕ, suc, ◌+◌, ◌<◌, ◌≤◌, Bool, true, false, refl, sym, ap, ◌∙◌, subst, inl, inr, add-one, arith}
 use Rattle.std.proofs.lemmas.{Bool.{eq-eqb, ne_eqb, ltb-true, ltb-false, cases_Bool, Decides.eqb_tells}, List.Sums.sum_by-cons}
-use Rattle.std.specs.Prelude.{◌==◌, ◌||◌, nat_lt, if◌then◌else◌, Result, Ok, Err, List, [], ◌∷◌, ◌++◌}
+use Rattle.std.specs.Prelude.{◌==◌, nat_lt, if◌then◌else◌, Result, Ok, Err, List, [], ◌∷◌, ◌++◌}
 use Rattle.access_model.specs.declared.{actions.Action.Action, errors.GateError.GateError, replies.Reply.Reply}
 use Rattle.cpu_words.specs.{Hooks.HookAnswer, Touches.{wrap_add, event_of}, declared.{events.Touch.Touch, names.WordName.WordName, sums.Sum.Sum}}
 use Rattle.mount_counts.specs.{Phases.has_flag, Remounts.{remount_from, past_mount, let_go, leave_holds, give_up, past_node}}
@@ -67,10 +67,6 @@ StepSays c ro other trace added = HasSealed ro trace added
 -- what a remount's trace says at a phase
 abbrev pub RemountAt : Config → ℕ → Bool → List Traced → Phase → List Action → Type 0
 RemountAt c t ro trace phase added = (step : RemountStep) × (phase ≡ remount c t ro step) × StepSays c ro step trace added
-
-pub or_false : (b : Bool) → (b || false) ≡ b
-or_false true = refl
-or_false false = refl
 
 busy_adds : (ro : Bool) (trace : List Traced) → actions_of (Op.RemountSb ro) (Err GateError.Busy) trace ≡ []
 busy_adds true trace = refl

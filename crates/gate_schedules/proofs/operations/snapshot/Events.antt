@@ -1,14 +1,13 @@
 -- The law of each event of a snapshot.
-use Rattle.gate_world.specs.Roles.{snapshot_owns}
 use Rattle.gate_schedules.proofs.frames.{ByPhase.snapshot_owner, Frames.left_alone, Keeps.by_bool, Known.{IsOwnersWork, known_after}}
 use Rattle.gate_schedules.proofs.frames.{Owners.{locks_umount, releases_umount}, Snapshots.noted_part}
 use Rattle.gate_schedules.proofs.frames.{Stages.{alike_same, nobody_owns, owners_alike, stages_after, stages_in}, Words.load_same}
 use Rattle.gate_schedules.proofs.operations.snapshot.Noted.{notes_step}
 use Rattle.gate_schedules.proofs.trees.worlds.Parts.{TreeKeeps, call_files, call_fitting, call_keeps, call_moves, call_parts, call_view}
 use Rattle.access_model.specs.{Replies.map_next, declared.{errors.GateError.GateError, replies.{Next.Next, Reply.Reply}}}
-use Rattle.cpu_words.specs.{Hooks.HookAnswer, Touches.{event_of, found_by}, Words.{Words, put, read}, declared.names.WordName.WordName}
+use Rattle.cpu_words.specs.{Hooks.HookAnswer, Touches.{found_by}, Words.{Words, put, read}, declared.names.WordName.WordName}
 use Rattle.finite_sums.specs.Sums.{update}
-use Rattle.gate_world.specs.{Configs.IsWithin, Fits.{Fits, PhaseFits}, Found.is_load, Owners.{is_owned, takes_lock}, Roles.snapshot_stage_role}
+use Rattle.gate_world.specs.{Configs.IsWithin, Fits.{Fits, PhaseFits}, Roles.snapshot_stage_role}
 use Rattle.gate_world.specs.{Roles.stage_at_end, Rules.{AtLevel, AtMount, Files, Fitting, Holding, Holds, IsGood, Known, Owner, Part, Sections, Stages}}
 use Rattle.gate_world.specs.{Rules.{StepKeeps, SyncAt, Tree, marks_of, owns, remounts, stage_role_of, stage_roles}, Snapshots.values_noted}
 use Rattle.gate_world.specs.{Trees.{tree_bounds, tree_role_of}, Views.{held_of, phase_after, view_with}, Worlds.{World, after_step}}
@@ -20,7 +19,7 @@ use Rattle.gated_tree.specs.{Phases.{snapshot_after, snapshot_locked_out, snapsh
 use Rattle.gated_tree.specs.declared.snapshots.SnapshotStep.{SnapshotStep}
 use Rattle.freeze_laws.specs.stages.Events.{IsAlike, Locks as LocksStage, Recalls, Releases as ReleasesStage, Stages as StageMoment, playing}
 use Rattle.freeze_laws.specs.stages.Roles.{Aside, KnowsStage, Owning, StageRole, clean_by, owns as stage_owns}
-use Rattle.std.proofs.Common.{Bool, List, ap, arith, false, inl, inr, refl, subst, suc, sym, true, ℕ, ◌<◌, ◌∙◌, ◌≡◌, ◌⊎◌}
+use Rattle.std.proofs.Common.{Bool, List, ap, arith, false, inl, inr, refl, subst, suc, sym, true, ℕ, ◌<◌, ◌∙◌, ◌≡◌}
 use Rattle.std.proofs.lemmas.Bool.{Decides.eqb_tells}
 use Rattle.std.specs.Prelude.{Err, None, Option, Result, Some, if◌then◌else◌, is_some, ◌==◌}
 use Rattle.gate_schedules.specs.trees.Steps.{words_left}
@@ -60,10 +59,6 @@ module _ (x : Snapshot) (P : Next Snapshot → Type 0) (go : (s : SnapshotStep) 
 abbrev later : Next Snapshot → Option Phase
 later n = phase_after (map_next Phase.Trees (map_next TreePhase.Snapshot n))
 
-node_step_role : (o : Option ℕ) → snapshot_stage_role (node_step o) ≡ Owning (Some 4) None
-node_step_role (Some n) = refl
-node_step_role None = refl
-
 kids_step_role : (o : Option ℕ) → snapshot_stage_role (kids_step o) ≡ Owning (Some 4) None
 kids_step_role (Some n) = refl
 kids_step_role None = refl
@@ -85,17 +80,6 @@ later_owns : (x : Snapshot) (s : SnapshotStep) (found : ℕ) →
     owns (later (snapshot_after x s found).0) ≡ stage_owns (stage_role_of (later (snapshot_after x s found).0))
 later_owns x s found =
     snapshot_comes x (λ n. owns (later n) ≡ stage_owns (stage_role_of (later n))) (λ s'. sym (snapshot_owner s')) refl (λ answer. refl) s found
-
--- it changes a word that only the owner changes as the owner
-snapshot_changes : (x : Snapshot) (s : SnapshotStep) → is_owned (snapshot_next x s).0 ≡ true →
-    (is_load (snapshot_next x s).1 ≡ true) ⊎ (snapshot_owns s ≡ 1)
-snapshot_changes x s h = grind arith
-
--- and comes to own `umount` by taking it
-snapshot_comes_to : (x : Snapshot) (s : SnapshotStep) (value : ℕ) →
-    owns (later (snapshot_after x s (found_by (snapshot_next x s).1 value)).0) ≡ 1 →
-    (snapshot_owns s ≡ 1) ⊎ (takes_lock (event_of (snapshot_next x s).0 (snapshot_next x s).1 value) ≡ true)
-snapshot_comes_to x s value h = grind arith
 
 module _ (c : Config) (within : IsWithin c) (w : World) (good : IsGood c w) (t : ℕ) (lt : t < c.tasks) (hook : HookAnswer)
     (x : Snapshot) where

@@ -1,14 +1,13 @@
 -- Traces of a snapshot.
 use Rattle.std.proofs.Common.{◌≡◌, ℕ, ◌+◌, ◌*◌, ◌<◌, ◌≤◌, Bool, true, false, refl, sym, subst, arith}
 use Rattle.std.specs.Prelude.{List, [], ◌∷◌, length}
-use Rattle.access_model.specs.declared.{actions.Action.Action, errors.GateError.GateError, replies.{Next.Next, Reply.Reply}}
+use Rattle.access_model.specs.declared.{actions.Action.Action, replies.{Next.Next, Reply.Reply}}
 use Rattle.cpu_words.specs.{Hooks.HookAnswer, Touches.found_by, declared.events.Event.Event}
-use Rattle.node_words.specs.Nodes.{node_after}
-use Rattle.gated_tree.specs.Phases.{at_snapshot, kids_step, node_step, snapshot_after, snapshot_locked_out, snapshot_next}
+use Rattle.gated_tree.specs.Phases.{at_snapshot, snapshot_after, snapshot_locked_out, snapshot_next}
 use Rattle.gated_tree.specs.{Refusals.SnapshotHonest, declared.{phases.TreePhase.TreePhase, snapshots.{Snapshot.Snapshot, SnapshotStep.SnapshotStep}}}
 use Rattle.gate_schedules.{proofs.trees.Ends.snapshot_ends, specs.trees.Ends.{IsReply, SnapshotKnows}}
 use Rattle.gate_world.specs.{Configs.IsWithin, Courses.{IsTrace, MayHold, MayFind, course_of}, Found.{SeenIn, each_event, finds_taken}}
-use Rattle.gate_world.specs.{Operations.first_snapshot, Traces.{IsHonest, IsShort, Tells, most_events}, Views.with_hook, Work.next_of}
+use Rattle.gate_world.specs.{Operations.first_snapshot, Traces.{IsShort, Tells, most_events}, Views.with_hook, Work.next_of}
 use Rattle.gate_world.specs.declared.{config.Config.Config, operations.Op.Op, views.Traced.Traced, work.Phase.Phase}
 use Rattle.gate_schedules.proofs.operations.calls.Trace.{Answers, CallAt, Stays, call_says, sees}
 use Rattle.gate_schedules.proofs.traces.Says.{KeptWell, SaysAfter, event_at, tells_well, is_short_well}
@@ -67,27 +66,12 @@ module _ (c : Config) (t : ℕ) (wait : Bool) where
   taken true is trace each = (SnapshotStep.Locks, refl, each, is, (is, each))
   taken false is trace each = λ q. omega arith
 
-  -- the next node is loaded, or the children of the first
-  next_node : (trace : List Traced) (node : ℕ) → node < c.nodes →
-      Comes trace (node + 3) (Next.Go (snapshot_of (node_step (node_after node c.nodes))))
-  next_node trace node lt = grind arith
-
-  -- the children of the next node are loaded, or all words are
-  next_kids : (trace : List Traced) (node : ℕ) → node < c.nodes →
-      Comes trace (c.nodes + node + 3) (Next.Go (snapshot_of (kids_step (node_after node c.nodes))))
-  next_kids trace node lt = grind arith
-
   -- each event of a snapshot is followed by a later step of it, or by its end
   snapshot_goes : IsWithin c → (earlier : List Traced) (s : SnapshotStep) (value : ℕ) (hook : HookAnswer) → IsThere c earlier s →
       MayHold (snapshot_next (snapshot_of s) s).0 value →
       Comes (longer earlier value hook s) (events_before c s)
       (snapshot_after (snapshot_of s) s (found_by (snapshot_next (snapshot_of s) s).1 value)).0
   snapshot_goes lim earlier a2 value hook there may = grind arith
-
-  -- why a snapshot is refused doesn't depend on its step or its task
-  snapshot_cause : (s : SnapshotStep) (trace : List Traced) (refusal : GateError) → SnapshotHonest (SeenIn trace) (snapshot_of s) refusal →
-      IsHonest c (Op.Snapshot wait) refusal trace
-  snapshot_cause s trace refusal h = grind arith
 
   -- so the trace of a snapshot says what its row asks for
   snapshot_answers : (s : SnapshotStep) (trace : List Traced) →

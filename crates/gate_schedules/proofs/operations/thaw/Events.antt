@@ -2,8 +2,8 @@
 use Rattle.gate_world.specs.Roles.{thaw_owns}
 use Rattle.gate_schedules.proofs.frames.{Accesses.holdings_of_after, ByPhase.thaw_owner, Frames.{added_load, taken_load}}
 use Rattle.gate_schedules.proofs.frames.{Holders.{holders_after, holders_at, holders_stay, nobody_minds}}
-use Rattle.gate_schedules.proofs.frames.Stages.{IsStageEvent, alike_same, nobody_owns, owners_alike, stages_in}
-use Rattle.gate_schedules.proofs.levels.{Standing.{LevelsHold, Stands, left_world, stand_after_opening, still_closed}, UpWrite.up_write_levels, Whole.thaws_all}
+use Rattle.gate_schedules.proofs.frames.Stages.{IsStageEvent, nobody_owns, owners_alike, stages_in}
+use Rattle.gate_schedules.proofs.levels.{Standing.{LevelsHold, Stands, left_world, stand_after_opening}, UpWrite.up_write_levels, Whole.thaws_all}
 use Rattle.gate_schedules.proofs.{mounts.Parts.{level_added_load, level_taken_load}, operations.thaw.Fits.{finds_cases, thaw_goes}}
 use Rattle.gate_schedules.proofs.writers.Owner.{lock_given, lock_taken, owner_stays}
 use Rattle.gate_schedules.proofs.writers.Parts.{AsksWhere, IsWriter, LeavesRest, WriterKeeps, WriterLaw, idle_writes, thaw_comes, thaw_work, thaws_write}
@@ -36,7 +36,7 @@ use Rattle.percpu_rwsem.specs.declared.writers.UpWriteStep.{UpWriteStep}
 use Rattle.freeze_laws.specs.stages.Events.{ClearsBlock as ClearsBlockOf, IsAlike, LeavesOne, Locks as LocksStage, Recalls, Releases as ReleasesStage, StageEvent}
 use Rattle.freeze_laws.specs.stages.{Events.{Stays, Thaws as StoresThaw, ThawsAtOnce, action_of as stage_action_of, playing}, Roles.{CleanBelow, KnowsStage, Owning}}
 use Rattle.freeze_laws.specs.stages.{Roles.{Reopening, StageRole, clean_by, is_full, owns as stage_owns}, Shown.state_after}
-use Rattle.std.proofs.{Common.{ap, arith, inl, inr, refl, subst, suc, sym, zero, ℕ, ◌+◌, ◌-◌, ◌<◌, ◌∙◌, ◌≡◌, ◌≤◌}, lemmas.Bool.{ne_eqb, Decides.eqb_tells}}
+use Rattle.std.proofs.{Common.{ap, arith, inl, inr, refl, subst, suc, sym, zero, ℕ, ◌+◌, ◌-◌, ◌<◌, ◌∙◌, ◌≡◌, ◌≤◌}, lemmas.Bool.{Decides.eqb_tells}}
 use Rattle.std.specs.Prelude.{Err, List, None, Ok, Option, Result, Some, false, true, ◌∷◌}
 
 none_below : (dirty : ℕ → ℕ) → CleanBelow 0 dirty
@@ -50,10 +50,6 @@ idle_stands = record { counts = λ i one three. refl; syncs = λ i one three. re
 
 -- What comes after an event of a level's reopening.
 module _ (x : Thaw) where
-  -- with the levels up to one still closed
-  opens_stand : (level : ℕ) → Stands (Some (Phase.Thaws (at_thaw x (thaw_opens level)))) (still_closed level)
-  opens_stand level = grind arith
-
   -- it stands so with the levels
   pub opening_stands : (level : ℕ) (n : Next UpWrite) →
       Stands (phase_after (map_next Phase.Thaws (after_opening x level n))) (stand_after_opening level n)
@@ -81,17 +77,6 @@ tree_comes trace other = refl
 -- a role that is like this one, relies on what is so, and has cleared nodes that are clean
 abbrev GoesOn : StageRole → ℕ → ℕ → (ℕ → ℕ) → StageRole → Type 0
 GoesOn old stage sb dirty r = IsAlike old r × KnowsStage stage sb r × CleanBelow (clean_by r) dirty
-
--- with these levels still closed at stage 0, it goes on to the next of them, or to its release
-opens_on : (level stage sb : ℕ) (dirty : ℕ → ℕ) → level ≤ 3 → stage ≡ 0 →
-    GoesOn (Reopening level) stage sb dirty (thaw_stage_role (thaw_opens level))
-opens_on zero stage sb dirty l3 z = (
-  record { owns_same = refl; freezes_same = refl; remounts_same = refl; closed_same = refl; passed_same = refl },
-  (tt, tt),
-  none_below dirty,
-)
-opens_on (suc n) stage sb dirty l3 z =
-    rw (ne_eqb (suc n) 0 (λ q. omega (arith, q))) (alike_same (Reopening (suc n)), (z, l3), none_below dirty)
 
 -- so it does after an event of the exchange of a level that is open
 exit_on : (x : Thaw) (level : ℕ) (s : UpWriteStep) (n : TransitionNext) (stage sb : ℕ) (dirty : ℕ → ℕ) → level ≤ 3 → stage ≡ 0 →

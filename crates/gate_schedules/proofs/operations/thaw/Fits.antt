@@ -1,15 +1,12 @@
 -- What fits after an event of a thaw.
-use Rattle.std.proofs.{Common.{false, ◌≡◌, ℕ, ◌≤◌, true, arith, inl, inr}, lemmas.Bool.Decides.eqb_tells}
+use Rattle.std.proofs.{Common.{false, ◌≡◌, ℕ, true, arith}}
 use Rattle.std.specs.Prelude.{if◌then◌else◌, Err}
 use Rattle.access_model.specs.{Holders.{held_by, with_holder, is_unheld}, Replies.map_next}
-use Rattle.access_model.specs.declared.{actions.{Holder.Holder, Holders.Holders}, errors.GateError.GateError, replies.Next.Next}
-use Rattle.cpu_words.specs.{Hooks.HookAnswer, Names.IsWord, Touches.left}
-use Rattle.percpu_rwsem.specs.{SyncWords.on_exit, Transitions.{transition_next, transition_after}, Writers.exit_made}
-use Rattle.percpu_rwsem.specs.declared.{transitions.{Transition.Transition, TransitionNext.TransitionNext}, writers.UpWriteStep.UpWriteStep}
-use Rattle.freeze_levels.specs.{Thaws.{thaw_next, thaw_after, at_thaw, thaw_opens, thaw_finds, after_opening}}
+use Rattle.access_model.specs.declared.{actions.{Holders.Holders}, errors.GateError.GateError, replies.Next.Next}
+use Rattle.cpu_words.specs.{Hooks.HookAnswer, Names.IsWord}
+use Rattle.freeze_levels.specs.{Thaws.{thaw_next, thaw_after, at_thaw, thaw_finds}}
 use Rattle.freeze_levels.specs.declared.thaws.{Thaw.Thaw, ThawStep.ThawStep}
-use Rattle.freeze_laws.{proofs.levels.Exchanges.exchanges_make_transitions, specs.levels.Exchanges.{Shows, KnowsWords}}
-use Rattle.gate_world.specs.{Configs.extents_of, Fits.{UpWriteFits, ThawFits, PhaseFits, Fits, ActionFits}}
+use Rattle.gate_world.specs.{Configs.extents_of, Fits.{ThawFits, PhaseFits, Fits, ActionFits}}
 use Rattle.gate_world.specs.{Holdings.{Holdings, held_after}, Operations.holds_none}
 use Rattle.gate_world.specs.{Views.phase_after, declared.{config.Config.Config, work.Phase.Phase}}
 use Rattle.gate_schedules.proofs.{frames.{Cases.both}}
@@ -31,47 +28,19 @@ finds_cases x held P refused alone shared =
 pub thaw_there : (c : Config) (x : Thaw) (s : ThawStep) (hook : HookAnswer) → ThawFits x.holder s → IsWord (extents_of c) (thaw_next x s hook).0
 thaw_there c x other hook f = grind arith
 
--- the action of an event of a level's reopening can be done
-reopening_acts : (held : Holdings) (x : Thaw) (level : ℕ) (s : UpWriteStep) (found : ℕ) (hook : HookAnswer) →
-    ActionFits held (thaw_after x (ThawStep.Reopens (record { level = level; step = s })) found hook).1
-reopening_acts held x level UpWriteStep.ClearsBlock found hook = tt
-reopening_acts held x level (UpWriteStep.Exits transition) found hook = tt
-
 pub thaw_acts : (held : Holdings) (x : Thaw) (s : ThawStep) (found : ℕ) (hook : HookAnswer) → ActionFits held (thaw_after x s found hook).1
 thaw_acts held x s found hook = grind arith
-
--- a level is still to be reopened, or no more
-opens_fit : (holder : Holder) (level : ℕ) → level ≤ 3 → ThawFits holder (thaw_opens level)
-opens_fit holder level l3 = elim (eqb_tells level 0) [ inl z ↦ rw z.0 tt | inr z ↦ rw z.0 (omega (arith, z.1), l3, tt) ]
 
 module _ (c : Config) (t : ℕ) (held : Holdings) (x : Thaw) (same : x.task ≡ t) (none : holds_none held.levels ≡ true) where
   -- what comes after an event fits
   abbrev NextFits : Next Thaw → Type 0
   NextFits next = Fits c t held (phase_after (map_next Phase.Thaws next))
 
-  -- an up-write that goes on knows the words of its exchange
-  exit_fits : (level found leaves : ℕ) (s : UpWriteStep) (n : TransitionNext) → 1 ≤ level → level ≤ 3 → Shows on_exit found leaves n →
-      NextFits (after_opening x level (exit_made (record { level = level; step = s }) n))
-  exit_fits level found leaves s a4 l1 l3 shows = grind arith
-
-  -- so it is after an event of its transition
-  exit_goes : (level : ℕ) (transition : Transition) (found : ℕ) → 1 ≤ level → level ≤ 3 → KnowsWords on_exit transition →
-      NextFits (after_opening x level
-      (exit_made (record { level = level; step = UpWriteStep.Exits transition }) (transition_after on_exit transition found)))
-  exit_goes level transition found l1 l3 knows =
-      exit_fits level found (left (transition_next level transition).1 found) (UpWriteStep.Exits transition) (transition_after on_exit transition found)
-      l1 l3 (exchanges_make_transitions on_exit level found transition knows)
-
   -- after an event of a thaw, what comes fits the accesses that its action leaves
   abbrev GoesOn : ThawStep → ℕ → HookAnswer → Type 0
   GoesOn s found hook =
       Fits c t (held_after (thaw_after x s found hook).1 held)
       (phase_after (map_next Phase.Thaws (thaw_after x s found hook).0))
-
-  reopening_goes : (level : ℕ) (s : UpWriteStep) (found : ℕ) (hook : HookAnswer) → UpWriteFits (record { level = level; step = s }) →
-      GoesOn (ThawStep.Reopens (record { level = level; step = s })) found hook
-  reopening_goes level UpWriteStep.ClearsBlock found hook f = (same, none, (f.0, f.1, tt))
-  reopening_goes level (UpWriteStep.Exits transition) found hook f = exit_goes level transition found f.0 f.1 f.2
 
   step_goes : (s : ThawStep) (found : ℕ) (hook : HookAnswer) → ThawFits x.holder s → GoesOn s found hook
   step_goes other found hook f = grind arith

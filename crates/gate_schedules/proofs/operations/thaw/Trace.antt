@@ -1,15 +1,13 @@
 -- Traces of a thaw.
 use Rattle.std.proofs.{Common.{◌≡◌, ℕ, zero, suc, ◌≤◌, true, false, refl, ap, inl, inr, arith}}
 use Rattle.std.specs.Prelude.{◌-◌, Result, Ok, Err, List, [], ◌∷◌}
-use Rattle.access_model.specs.Replies.{map_next}
 use Rattle.access_model.specs.declared.{actions.{Action.Action, Holder.Holder}, errors.GateError.GateError, replies.Reply.Reply}
 use Rattle.cpu_words.specs.{Hooks.HookAnswer, Touches.event_of, declared.{events.Touch.Touch, names.WordName.WordName}}
-use Rattle.percpu_rwsem.specs.{Writers.exit_made}
-use Rattle.percpu_rwsem.specs.declared.{transitions.{TransitionNext.TransitionNext}, writers.UpWriteStep.UpWriteStep}
-use Rattle.freeze_levels.specs.{Thaws.{thaw_opens, after_opening}, declared.thaws.{Thaw.Thaw, ThawStep.ThawStep}}
+use Rattle.percpu_rwsem.specs.declared.{writers.UpWriteStep.UpWriteStep}
+use Rattle.freeze_levels.specs.{declared.thaws.{Thaw.Thaw, ThawStep.ThawStep}}
 use Rattle.gate_world.specs.{Found.{found_sealed, found_shared, each_event, finds_taken}, Traces.{actions_of, IsHonestAnswer}, Views.with_hook}
 use Rattle.gate_world.specs.declared.{config.Config.Config, operations.Op.Op, views.Traced.Traced, work.Phase.Phase}
-use Rattle.gate_schedules.proofs.{traces.Says.{Says, SaysAfter, Kept, event_at}}
+use Rattle.gate_schedules.proofs.{traces.Says.{SaysAfter, Kept, event_at}}
 
 -- a thaw by a task, at this step
 abbrev thaw_of : ℕ → Holder → ThawStep → Thaw
@@ -31,12 +29,6 @@ opened_to holder (suc (suc (suc n))) = Action.Stage 0 ∷ (Action.Leave holder �
 abbrev opened : Holder → ℕ → UpWriteStep → List Action
 opened holder level UpWriteStep.ClearsBlock = opened_to holder level
 opened holder level (UpWriteStep.Exits transition) = opened_to holder (level - 1)
-
--- with a level reopened, those from it up are
-opens_one : (holder : Holder) (level : ℕ) → 1 ≤ level → level ≤ 3 → Action.Reopen level ∷ opened_to holder level ≡ opened_to holder (level - 1)
-opens_one holder zero l1 l3 = absurd (omega (arith, l1))
-opens_one holder (suc (suc (suc (suc n)))) l1 l3 = absurd (omega (arith, l3))
-opens_one holder other l1 l3 = refl
 
 -- what is answered is told already
 abbrev Answers : Config → Holder → Result Reply GateError → List Traced → List Action → Type 0
@@ -66,12 +58,6 @@ lock_leaves : (c : Config) (holder : Holder) (answer : Result Reply GateError) (
 lock_leaves c holder (Err (GateError.Hook code)) value hook earlier added h = (h.0, inr h.1)
 lock_leaves c holder answer value hook earlier added h = h
 
--- a level is still to be reopened, or no more
-opens_says : (c : Config) (holder : Holder) (level : ℕ) (trace : List Traced) (added : List Action) → level ≤ 3 →
-    added ≡ opened_to holder level → (found_sealed trace ≡ false) × (found_shared holder trace ≡ false) →
-    StepSays c holder (thaw_opens level) trace added
-opens_says c holder level trace added l3 h none = grind arith
-
 module _ (c : Config) (t : ℕ) (holder : Holder) (value : ℕ) (earlier : List Traced) (added : List Action) where
   -- the trace after the event of a step
   abbrev longer : HookAnswer → ThawStep → List Traced
@@ -96,13 +82,6 @@ module _ (c : Config) (t : ℕ) (holder : Holder) (value : ℕ) (earlier : List 
   leaves_last : (hook : HookAnswer) → StepSays c holder ThawStep.LeavesLast earlier added → After hook ThawStep.LeavesLast
   leaves_last (Ok answer) h = (ThawStep.SetsUnfrozen, refl, (ap (λ (l : List Action). Action.Leave holder ∷ l) h.0, h.1, h.2))
   leaves_last (Err code) h = ((h.0, inl (refl, refl, refl)), tt)
-
-  exit_says : (level : ℕ) (s : UpWriteStep) (n : TransitionNext) (trace : List Traced) → level ≤ 3 → 1 ≤ level →
-      added ≡ opened_to holder (level - 1) → (found_sealed trace ≡ false) × (found_shared holder trace ≡ false) →
-      Says (ThawAt c t holder) c (Op.Thaw holder) trace
-      (map_next Phase.Thaws (after_opening (thaw_of t holder (ThawStep.Reopens (record { level = level; step = s }))) level
-      (exit_made (record { level = level; step = s }) n))) added
-  exit_says level s a2 trace l3 l1 h none = grind arith
 
   -- each event of an up-write
   reopens : (hook : HookAnswer) (level : ℕ) (s : UpWriteStep) → StepSays c holder (ThawStep.Reopens (record { level = level; step = s })) earlier added →

@@ -1,9 +1,9 @@
 -- What fits after an event of a want.
-use Rattle.std.{proofs.Common.{◌≡◌, ℕ, ◌<◌, Bool}, specs.Prelude.{if◌then◌else◌, Some, None, Ok}}
+use Rattle.std.{proofs.Common.{ℕ, ◌<◌}}
 use Rattle.std.proofs.Common.{arith}
-use Rattle.access_model.specs.{Replies.map_next, declared.{actions.{Action.Action, Gate.Gate}, errors.GateError.GateError, replies.{Next.Next, Reply.Reply}}}
+use Rattle.access_model.specs.{Replies.map_next, declared.{replies.{Next.Next}}}
 use Rattle.cpu_words.specs.Names.{IsWord}
-use Rattle.mount_counts.specs.Phases.{at_want, want_next, want_after, next}
+use Rattle.mount_counts.specs.Phases.{want_next, want_after, next}
 use Rattle.mount_counts.specs.declared.phases.{MountPhase.MountPhase, Want.Want, WantStep.WantStep}
 use Rattle.gate_world.specs.{Configs.{IsWithin, extents_of}, Fits.{MountFits, Fits, ActionFits}, Holdings.{Holdings, held_after}, Views.phase_after}
 use Rattle.gate_world.specs.declared.{config.Config.Config, work.Phase.Phase}
@@ -20,18 +20,8 @@ module _ (c : Config) (within : IsWithin c) (t : ℕ) (held : Holdings) where
   abbrev NextFits : Next Want → Type 0
   NextFits next = Fits c t held (phase_after (map_next Phase.Mounts (map_next MountPhase.Want next)))
 
-  -- what comes after the last question fits what the want holds then
-  abbrev AnsweredFits : Want → Bool → Type 0
-  AnsweredFits w granted =
-      Fits c t (held_after (if granted then Some (Action.Grant (Gate.Mount w.mount)) else None) held)
-      (phase_after (map_next Phase.Mounts
-      (map_next MountPhase.Want (if granted then Next.Done (Ok Reply.Unit) else Next.Go (at_want w (WantStep.CountsDown GateError.ReadOnly))))))
-
   -- what comes after each event of a want fits
   pub want_goes : (w : Want) (step : WantStep) (found : ℕ) → MountFits c t held (MountPhase.Want w) →
       Fits c t (held_after (want_after w step found).1 held)
       (phase_after (map_next Phase.Mounts (map_next MountPhase.Want (want_after w step found).0)))
   want_goes w a1 found f = grind arith
-
-pub want_leaves : (w : Want) (step : WantStep) (found : ℕ) (held : Holdings) → (held_after (want_after w step found).1 held).levels ≡ held.levels
-want_leaves w step found held = grind arith

@@ -2,12 +2,12 @@
 -- causes and of waits.
 use Rattle.access_model.specs.{Replies.map_next, declared.replies.Next.Next}
 use Rattle.std.proofs.Common.{arith}
-use Rattle.gate_schedules.proofs.{frames.Frames.role_none, operations.readers.Fits.ReadGoes}
-use Rattle.gate_world.specs.{Alike.{IsAlike, no_roles}, Fits.Fits, Holdings.Holdings, Views.phase_after, Work.plain, declared.config.Config.Config}
+use Rattle.gate_schedules.proofs.{frames.Frames.role_none}
+use Rattle.gate_world.specs.{Alike.{IsAlike, no_roles}, Views.phase_after, Work.plain}
 use Rattle.gate_world.specs.declared.work.Phase.{Phase}
 use Rattle.mount_counts.specs.declared.phases.{MountPhase.MountPhase, Want.Want}
 use Rattle.percpu_rwsem.specs.declared.readers.DownRead.{DownRead}
-use Rattle.std.proofs.Common.{refl, true, ℕ, ◌<◌, ◌≡◌}
+use Rattle.std.proofs.Common.{refl, ℕ}
 use Rattle.std.specs.Prelude.{Ok, Some}
 use Rattle.compounds.specs.{write_access.Phases.{then_gives_back, then_wants}, declared.write_access.phases.WritePhase.WritePhase}
 
@@ -25,14 +25,3 @@ alike_takes m p other = refl
 pub alike_wants : (m p : ℕ) (n : Next Want) →
     IsAlike (phase_after (map_next Phase.Mounts (map_next MountPhase.Want n))) (phase_after (map_next Phase.Writes (then_gives_back m p n)))
 alike_wants m p other = grind arith
-
-module _ (c : Config) (t : ℕ) (held : Holdings) (m p : ℕ) (there : m < c.mounts) (cpu : p < c.processors) where
-  -- level 1 is taken with room for the mount's access, which is wanted with the level held
-  pub takes_goes : (i : ℕ) (n : Next DownRead) → i ≡ 1 → held.mounts m < 1024 → ReadGoes c t i p held n →
-      Fits c t held (phase_after (map_next Phase.Writes (then_wants m p n)))
-  takes_goes i a1 one room h = grind arith
-
-  -- the level is held while the mount is wanted, and where it is left
-  pub wants_goes : (n : Next Want) → held.levels 1 ≡ true → Fits c t held (phase_after (map_next Phase.Mounts (map_next MountPhase.Want n))) →
-      Fits c t held (phase_after (map_next Phase.Writes (then_gives_back m p n)))
-  wants_goes a0 one h = grind arith

@@ -39,11 +39,6 @@ module _ (c : Config) (m p t : ℕ) (e : Traced) (earlier : List Traced) (added 
   taken_says (Next.Done (Err GateError.Again)) h = absurd (cc)
   taken_says (Next.Done (Err refusal)) h = absurd h
 
-  -- a want that waits is refused as read-only alone
-  honest_write : (refusal : GateError) → IsHonest c (Op.Want m p true) refusal (e ∷ earlier) →
-      IsHonest c (Op.WantWrite m p) refusal (e ∷ earlier)
-  honest_write refusal h = grind arith
-
   -- what the trace says after an event at the mount
   wanted_says : (below : List Traced) (n : Next Want) → WantNext c m p true level_taken below (e ∷ earlier) added n →
       Says (WriteAt c m p t) c (Op.WantWrite m p) (e ∷ earlier) (map_next Phase.Writes (then_gives_back m p n)) added
@@ -108,15 +103,6 @@ DropSays m p other trace added = ⊥
 -- what it says at a phase
 abbrev pub DropAt : ℕ → ℕ → List Traced → Phase → List Action → Type 0
 DropAt m p trace phase added = (x : WritePhase) × (phase ≡ Phase.Writes x) × DropSays m p x trace added
-
-module _ (c : Config) (m p : ℕ) (value : ℕ) (hook : HookAnswer) (earlier : List Traced) (added : List Action) where
-  -- each event of a return keeps what its trace says
-  drop_event : (x : WritePhase) → DropSays m p x earlier added →
-      SaysAfter (DropAt m p) c (Op.DropWrite m p) (Phase.Writes x) value hook earlier added
-  drop_event other h = grind arith
-
-drop_short : (m p : ℕ) (x : WritePhase) (trace : List Traced) (added : List Action) → DropSays m p x trace added → length trace ≤ 2
-drop_short m p other trace added h = grind arith
 
 pub drop_kept : (c : Config) (t m p : ℕ) → Kept (DropAt m p) c t (Op.DropWrite m p)
 drop_kept c t m p = grind arith

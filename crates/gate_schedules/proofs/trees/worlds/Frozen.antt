@@ -1,40 +1,13 @@
 -- Where the file system is frozen nobody has charged anything, so the tree is sound and clean. It is sound, too, where nobody is at work.
-use Rattle.compounds.specs.declared.file_closes.phases.ClosePhase.{ClosePhase}
-use Rattle.freeze_levels.specs.declared.freezes.FreezeStep.{FreezeStep}
 use Rattle.gate_schedules.proofs.{operations.close.Events.{closer_thawed, removal_counted}, trees.worlds.{Holders.writer_not_frozen, Trees.sealed_frozen}}
-use Rattle.gate_world.specs.{Configs.IsWithin, Fits.{CloseFits, Fits}, Headline.{FrozenTreeIsWhole, TreeIsSound}, Holdings.Holdings, Operations.is_writer}
-use Rattle.gate_world.specs.{Roles.{close_tree_role, freeze_tree_role, remount_tree_role}, Rules.{Fitting, IsGood, Tree}}
+use Rattle.gate_world.specs.{Configs.IsWithin, Fits.{Fits}, Headline.{FrozenTreeIsWhole, TreeIsSound}, Holdings.Holdings, Operations.is_writer}
+use Rattle.gate_world.specs.{Rules.{Fitting, IsGood, Tree}}
 use Rattle.gate_world.specs.{Trees.{tree_bounds, tree_of, tree_role_of, tree_roles}, Views.held_of, Worlds.World, declared.config.Config.Config}
 use Rattle.gate_world.specs.declared.{views.Traced.Traced, work.Phase.Phase}
-use Rattle.gated_tree.specs.{Calls.{mark_role, open_role, snapshot_role}, Roles.{HasNoCharge, removal}, declared.marks.{Mark.Mark, MarkStep.MarkStep}}
-use Rattle.gated_tree.specs.declared.{opens.{OpenFile.OpenFile, OpenStep.OpenStep}, snapshots.SnapshotStep.SnapshotStep}
-use Rattle.mount_counts.specs.declared.remounts.RemountStep.{RemountStep}
+use Rattle.gated_tree.specs.{Roles.{HasNoCharge, removal}}
 use Rattle.std.proofs.Common.{arith, refl, subst, sym, ℕ, ◌<◌, ◌≡◌}
 use Rattle.std.specs.Prelude.{List, None, Option, true}
 use Rattle.gate_schedules.proofs.trees.Clearings.{exact}
-
-pub snapshot_charges_none : (nodes : ℕ) (values : ℕ → ℕ) (s : SnapshotStep) → HasNoCharge (snapshot_role nodes values s)
-snapshot_charges_none nodes values other = grind arith
-
-mark_charges_none : (x : Mark) (s : MarkStep) → HasNoCharge (mark_role x s)
-mark_charges_none x MarkStep.LoadsFile = record { blocks = refl; removed = refl; children = λ d. refl }
-mark_charges_none x (MarkStep.MarksFile file) = record { blocks = refl; removed = refl; children = λ d. refl }
-
-remount_charges_none : (nodes : ℕ) (s : RemountStep) → HasNoCharge (remount_tree_role nodes s)
-remount_charges_none nodes (RemountStep.SetsRemount held) = record { blocks = refl; removed = refl; children = λ d. refl }
-remount_charges_none nodes s = record { blocks = refl; removed = refl; children = λ d. refl }
-
-freeze_charges_none : (nodes : ℕ) (s : FreezeStep) → HasNoCharge (freeze_tree_role nodes s)
-freeze_charges_none nodes s = grind arith
-
-open_charges_none : (x : OpenFile) (s : OpenStep) → HasNoCharge (open_role x s)
-open_charges_none x OpenStep.LoadsFile = record { blocks = refl; removed = refl; children = λ d. refl }
-open_charges_none x (OpenStep.OpensFile file) = record { blocks = refl; removed = refl; children = λ d. refl }
-
--- a close has, inside level 3, once it has freed its node: while it counts a removed file
-close_charges_none : (c : Config) (t : ℕ) (held : Holdings) (x : ClosePhase) → CloseFits c t held x →
-    (held.levels 3 ≡ true → removal (close_tree_role x) ≡ 1 → ⊥) → HasNoCharge (close_tree_role x)
-close_charges_none c t held other fits shut = grind arith
 
 -- so only a writer, or a close inside level 3, has charged anything
 phase_charges_none : (c : Config) (trace : List Traced) (t : ℕ) (held : Holdings) (p : Option Phase) →

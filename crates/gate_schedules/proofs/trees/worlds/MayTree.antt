@@ -3,13 +3,12 @@ use Rattle.access_model.specs.{Actions.IsWriter, declared.actions.Action.Action}
 use Rattle.cpu_words.specs.Hooks.{HookAnswer}
 use Rattle.finite_sums.proofs.Totals.{total_at, total_none}
 use Rattle.finite_sums.specs.Sums.{total}
-use Rattle.freeze_levels.specs.declared.freezes.FreezeStep.{FreezeStep}
 use Rattle.cpu_words.specs.gate_counts.Gates.{BarringHolds, admitted, unread}
 use Rattle.gate_schedules.proofs.trees.worlds.Holders.{IsOpen, both_true, mount_there, none_past, writer_apart}
 use Rattle.gate_schedules.proofs.trees.worlds.{Roles.{close_apart, freeze_apart}, Trees.{nobody_reads, sealed_frozen}}
 use Rattle.gate_world.specs.{Configs.model_limits, Fits.{Fits, HasFile, PhaseFits, TreeAccess, file_of}, Holdings.Holdings, Operations.is_faulter}
-use Rattle.gate_world.specs.{Operations.{is_writer, may_mark, some_mount}, Remounts.{loop_role, remount_role, remount_sets}, Roles.freeze_stage_role}
-use Rattle.gate_world.specs.{Roles.{freeze_tree_role, nodes_noted, remount_tree_role}, Rules.{AtMount, Files, Fitting, IsGood, Owner, at_mount, remounts}}
+use Rattle.gate_world.specs.{Operations.{is_writer, may_mark, some_mount}, Remounts.{loop_role, remount_role}}
+use Rattle.gate_world.specs.{Roles.{nodes_noted, remount_tree_role}, Rules.{AtMount, Files, Fitting, IsGood, Owner, at_mount, remounts}}
 use Rattle.gate_world.specs.{Rules.{role_of, stage_role_of}, Shown.shown, Snapshots.values_noted, Trees.{is_bare_at, tree_bounds, tree_of, tree_role_of}}
 use Rattle.gate_world.specs.{Trees.tree_roles, Views.{has_open, held_at, held_of, holds_level}, Worlds.World, declared.config.Config.Config}
 use Rattle.gate_world.specs.declared.{views.Traced.Traced, work.Phase.Phase}
@@ -32,17 +31,6 @@ open_unsealed sb stage writable low =
       | inl h ↦ absurd (omega (arith, low, leb-true 3 stage h))
       | inr h ↦ rw (writable, h) refl
     ]
-
-remount_clears : (nodes : ℕ) (s : RemountStep) → remount_sets s ≡ 0 → cleared (remount_tree_role nodes s) ≡ 0
-remount_clears nodes s h = grind arith
-
-freeze_clears : (nodes : ℕ) (s : FreezeStep) → passed_by (freeze_stage_role nodes s) < 2 → cleared (freeze_tree_role nodes s) ≡ 0
-freeze_clears nodes s h = grind arith
-
--- a clearing on its own there is not
-tree_clears : (c : Config) (held : Holdings) (values : ℕ → ℕ) (x : TreePhase) → TreeAccess c held x →
-    cleared (phase_role values x) ≡ 0
-tree_clears c held values x may = grind arith
 
 tree_bares : (values : ℕ → ℕ) (x : TreePhase) → is_bare (phase_role values x) ≡ 0
 tree_bares values x = grind arith

@@ -6,7 +6,7 @@ use Rattle.gate_schedules.proofs.frames.{Frames.{added_load, left_alone, level_v
 use Rattle.gate_schedules.proofs.{frames.Openers.most_tasks_is, mounts.Parts.{level_added_load, level_taken_load, load_left}}
 use Rattle.gate_schedules.proofs.trees.worlds.{MayTree.{LeaveFor, call_fits, leave, may_step}, OpenFiles.{file_then, files_counted, same_counts}}
 use Rattle.gate_schedules.proofs.trees.worlds.Trees.{tree_holds, tree_within}
-use Rattle.access_model.specs.{Replies.map_next, States.openers, declared.{actions.Action.Action, errors.GateError.GateError, replies.Next.Next}}
+use Rattle.access_model.specs.{Replies.map_next, States.openers, declared.{actions.Action.Action, replies.Next.Next}}
 use Rattle.cpu_words.specs.{Hooks.HookAnswer, Touches.left, Words.{Words, put, read}, declared.{events.Touch.Touch, names.WordName.WordName}}
 use Rattle.finite_sums.proofs.Totals.{each_updated, update_map, update_same}
 use Rattle.finite_sums.specs.Sums.{update}
@@ -18,14 +18,12 @@ use Rattle.gate_world.specs.{Rules.{IsGood, Moves as ModelMoves, Part, SameView,
 use Rattle.gate_world.specs.{Snapshots.values_noted, Trees.{is_bare_at, is_sealed, tree_bounds, tree_role_of, tree_roles}, Views.{added_after, added_by}}
 use Rattle.gate_world.specs.{Views.{has_open, held_at, held_of, holds_level, phase_after, taken_after, taken_by, view_after}, Work.{after_of, next_of}}
 use Rattle.gate_world.specs.{Worlds.{World, after_step, found_at, value_at, words_after}, declared.{config.Config.Config, views.View.View, work.Phase.Phase}}
-use Rattle.node_words.specs.Nodes.{dirty_in, node_shown, word_of}
+use Rattle.node_words.specs.Nodes.{node_shown}
 use Rattle.gated_tree.specs.Calls.{NextFits, TreePhaseFits, phase_role, role_after}
 use Rattle.gated_tree.specs.Phases.{after}
-use Rattle.node_words.specs.Phases.{after_look, clear_after}
-use Rattle.gated_tree.specs.Phases.{create_after, create_next, grow_after, grow_next, mark_after, mark_done, mark_next}
+use Rattle.gated_tree.specs.Phases.{create_after, create_next, grow_after, grow_next, mark_after, mark_next}
 use Rattle.gated_tree.specs.Phases.{move_after, move_next, next, open_after, open_next, remove_after, remove_next, snapshot_after, snapshot_next}
 use Rattle.gated_tree.specs.{Roles.{Role, TreeHolds}, declared.changes.{Create.Create, CreateStep.CreateStep, MoveStep.MoveStep, MoveTo.MoveTo}}
-use Rattle.node_words.specs.declared.marks.ClearMarks.{ClearMarks}
 use Rattle.gated_tree.specs.declared.changes.Remove.{Remove}
 use Rattle.gated_tree.specs.declared.changes.RemoveStep.{RemoveStep}
 use Rattle.gated_tree.specs.declared.growth.Grow.{Grow}
@@ -35,7 +33,7 @@ use Rattle.gated_tree.specs.declared.snapshots.{Snapshot.Snapshot, SnapshotStep.
 use Rattle.mount_counts.specs.Roles.{ro_bit}
 use Rattle.freeze_laws.specs.stages.Roles.{Aside}
 use Rattle.std.proofs.Common.{Bool, ap, arith, false, inl, inr, refl, subst, sym, true, true≢false, ℕ, ◌<◌, ◌∙◌, ◌≡◌, ◌⊎◌}
-use Rattle.std.specs.Prelude.{None, Option, Result, Some, if◌then◌else◌, ◌==◌, ◌||◌}
+use Rattle.std.specs.Prelude.{None, Option, Some, if◌then◌else◌, ◌==◌, ◌||◌}
 use Rattle.gate_schedules.proofs.trees.{Allowed.{may_do, tree_alone}, Fitting.fits_after, Phases.each_phase}
 use Rattle.gate_schedules.specs.trees.{Events.{MovesBy, opens_shown}, Steps.{Notes, StepKeeps, tree_in}}
 
@@ -188,44 +186,6 @@ pub record LeavesAccesses (action : Option Action) : Type 0 where
 pub leaves_none : LeavesAccesses None
 leaves_none = record { mounts = λ held. refl; levels = λ held. refl }
 
-pub leaves_if : (b : Bool) (action : Action) → LeavesAccesses (Some action) → LeavesAccesses (if b then Some action else None)
-leaves_if true action h = h
-leaves_if false action h = leaves_none
-
-create_leaves : (x : Create) (s : CreateStep) (found : ℕ) → LeavesAccesses (create_after x s found).1
-create_leaves x (CreateStep.TakesNode n) found = leaves_if (found == 0) _ (record { mounts = λ held. refl; levels = λ held. refl })
-create_leaves x other found = leaves_none
-
-remove_leaves : (x : Remove) (s : RemoveStep) (found : ℕ) → LeavesAccesses (remove_after x s found).1
-remove_leaves x other found = grind arith
-
-grow_leaves : (x : Grow) (s : GrowStep) (found : ℕ) → LeavesAccesses (grow_after x s found).1
-grow_leaves x (GrowStep.GrowsFile file) found = leaves_if (found == word_of file) _ (record { mounts = λ held. refl; levels = λ held. refl })
-grow_leaves x other found = leaves_none
-
-move_leaves : (x : MoveTo) (s : MoveStep) (found : ℕ) → LeavesAccesses (move_after x s found).1
-move_leaves x (MoveStep.MovesFile file) found = leaves_if (found == word_of file) _ (record { mounts = λ held. refl; levels = λ held. refl })
-move_leaves x other found = leaves_none
-
-done_leaves : (dirty : Bool) (file : ℕ) → LeavesAccesses (Some (mark_done dirty file))
-done_leaves true file = record { mounts = λ held. refl; levels = λ held. refl }
-done_leaves false file = record { mounts = λ held. refl; levels = λ held. refl }
-
-mark_leaves : (x : Mark) (s : MarkStep) (found : ℕ) → LeavesAccesses (mark_after x s found).1
-mark_leaves x MarkStep.LoadsFile found = leaves_none
-mark_leaves x (MarkStep.MarksFile file) found = leaves_if (found == word_of file) _ (done_leaves x.dirty x.file)
-
-open_leaves : (x : OpenFile) (s : OpenStep) (found : ℕ) → LeavesAccesses (open_after x s found).1
-open_leaves x OpenStep.LoadsFile found = leaves_none
-open_leaves x (OpenStep.OpensFile file) found = leaves_if (found == word_of file) _ (record { mounts = λ held. refl; levels = λ held. refl })
-
-snapshot_leaves : (x : Snapshot) (s : SnapshotStep) (found : ℕ) → LeavesAccesses (snapshot_after x s found).1
-snapshot_leaves x SnapshotStep.Locks found = leaves_none
-snapshot_leaves x other found = leaves_none
-
-clear_leaves : (x : ClearMarks) (found : ℕ) → LeavesAccesses (clear_after x found).1
-clear_leaves x found = leaves_if (dirty_in found == 1) _ (record { mounts = λ held. refl; levels = λ held. refl })
-
 pub call_leaves : (x : TreePhase) (found : ℕ) (hook : HookAnswer) → LeavesAccesses (after x found hook).1
 call_leaves a0 found hook = grind (arith, common_steps)
 
@@ -238,12 +198,6 @@ module _ (c : Config) (held : Holdings) where
 
   comes_with : {P : Type 0} (to : P → TreePhase) → ((y : P) → TreeAccess c held (to y)) → (n : Next P) → AccessAfter (map_next to n)
   comes_with to may a2 = grind arith
-
-  -- after a look at a file
-  looked_with : {A : Type 0} (again : Mark) (from : A → Mark) → TreeAccess c held (TreePhase.Mark again) →
-      ((a : A) → TreeAccess c held (TreePhase.Mark (from a))) → (r : Option (Result A GateError)) →
-      AccessAfter (map_next TreePhase.Mark (after_look again from r))
-  looked_with again from may more a4 = grind arith
 
   -- after an event of a page fault or a write-back
   mark_access : (x : Mark) (s : MarkStep) (found : ℕ) → TreeAccess c held (TreePhase.Mark x) →

@@ -10,9 +10,8 @@ use Rattle.gate_world.specs.{Roles.tree_stage_role, Rules.{Fitting, Holds, IsGoo
 use Rattle.gate_world.specs.{Trees.{is_bare_at, is_sealed, tree_bounds, tree_of, tree_role_of, tree_roles}, Views.held_of}
 use Rattle.gate_world.specs.{Worlds.World, declared.{config.Config.Config, views.{Traced.Traced, View.View}, work.Phase.{Phase, TheVariants.Closes}}}
 use Rattle.node_words.specs.Nodes.{dirty_in, kind_in, node_shown}
-use Rattle.gated_tree.specs.Calls.{phase_role, snapshot_role}
 use Rattle.gated_tree.specs.Roles.{AreWithin, Clearing, NobodyReads, RoleHolds}
-use Rattle.gated_tree.specs.{Roles.{TreeHolds, TreeState, sealed_by, words_read}, declared.{phases.TreePhase.TreePhase, snapshots.Snapshot.Snapshot}}
+use Rattle.gated_tree.specs.{Roles.{TreeHolds, TreeState, sealed_by, words_read}, declared.{phases.TreePhase.TreePhase}}
 use Rattle.gated_tree.specs.declared.snapshots.SnapshotStep.{SnapshotStep}
 use Rattle.mount_counts.specs.declared.remounts.RemountStep.{RemountStep}
 use Rattle.percpu_rwsem.specs.declared.writers.{DownWriteStep.DownWriteStep, UpWriteStep.UpWriteStep}
@@ -34,9 +33,6 @@ sealed_read_only sb stage e = rw e refl
 
 free_shown : (word : ℕ) → kind_in word ≡ 0 → node_shown word ≡ None
 free_shown word free = rw free refl
-
-dirty_small : (word : ℕ) → dirty_in word < 2
-dirty_small word = omega arith
 
 pub shown_clean : (word : ℕ) → (kind_in word ≡ 0 → word ≡ 0) → is_dirty (node_shown word) ≡ false → dirty_in word ≡ 0
 shown_clean word free clean = grind arith
@@ -156,15 +152,6 @@ module _ (c : Config) (w : World) (good : IsGood c w) where
     read_only = λ e. all_clean (sealed_read_only w.words.sb w.words.stage e);
     cleared = λ t lt. phase_clean t lt (w.views t).phase refl;
   }
-
-  -- where the stage isn't 4, a snapshot has loaded no word
-  snapshot_unread : (x : Snapshot) (s : SnapshotStep) (values : ℕ → ℕ) → (w.words.stage ≡ 4 → ⊥) →
-      KnowsStage w.words.stage w.words.sb (snapshot_stage_role s) → words_read (snapshot_role x.nodes values s) ≡ 0
-  snapshot_unread x other values apart knows = grind arith
-
-  tree_unread : (x : TreePhase) (values : ℕ → ℕ) → (w.words.stage ≡ 4 → ⊥) →
-      KnowsStage w.words.stage w.words.sb (tree_stage_role x) → words_read (phase_role values x) ≡ 0
-  tree_unread x values apart knows = grind arith
 
   phase_unread : (trace : List Traced) (p : Option Phase) → (w.words.stage ≡ 4 → ⊥) →
       KnowsStage w.words.stage w.words.sb (stage_role_of p) → words_read (tree_role_of trace p) ≡ 0
