@@ -13,13 +13,13 @@ holdings_of_after None actions = refl
 holdings_of_after (Some a) actions = refl
 
 pub long_after : (held : Accesses) (a : Option Action) → length (accesses_after held a).mounts ≡ length held.mounts
-long_after held a1 = grind (arith, common_steps)
+long_after held a = grind (arith, common_steps)
 
 pub wide_after : (held : Accesses) (a : Option Action) → length (accesses_after held a).levels ≡ length held.levels
-wide_after held a1 = grind (arith, common_steps)
+wide_after held a = grind (arith, common_steps)
 
 pub deep_after : (held : Accesses) (a : Option Action) → length (accesses_after held a).files ≡ length held.files
-deep_after held other = grind (arith, common_steps)
+deep_after held a = grind (arith, common_steps)
 
 -- one slot of a list is written as it is in what it agrees with
 slot_set : {A : Type 0} (xs : List A) (d : A) (seen : ℕ → A) (n : ℕ) (v u : A) → n < length xs → (i : ℕ) → (i ≡ n → v ≡ u) →

@@ -88,7 +88,7 @@ sync_as {tasks} en eb ef es ea h = subst (λ X. X) (sym (λ i. SyncNumberHolds t
 
 -- words are as they were, to each part
 pub same_words : (w : Words) (part : Part) → SameWords w w part
-same_words w other = grind arith
+same_words w part = grind arith
 
 -- so are words that differ in some alone, to each part that doesn't read these: there its two sides compute to the words themselves
 pub unwritten : {old new : Words} → new ≡ old → (part : Part) → SameWords old new part

@@ -9,7 +9,7 @@ use Rattle.gate_world.specs.{Rules.{holder_role_of, holder_roles, owns}, Worlds.
 use Rattle.gate_schedules.proofs.frames.Owners.{owns_le}
 
 pub holder_owner : (p : Option Phase) → minds (holder_role_of p) ≤ owns p
-holder_owner other = grind arith
+holder_owner p = grind arith
 
 -- the holders of a world
 abbrev pub holders_at : World → HolderMoment

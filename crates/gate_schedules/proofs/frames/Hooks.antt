@@ -3,4 +3,4 @@ use Rattle.std.proofs.Common.{arith}
 use Rattle.gate_world.specs.{Work.{IgnoresAnswer, hook_of}, declared.work.Phase.Phase}
 
 pub ignores : (phase : Phase) → IgnoresAnswer phase (hook_of phase)
-ignores other h a b found = grind arith
+ignores phase h a b found = grind arith

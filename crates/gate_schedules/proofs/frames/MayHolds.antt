@@ -58,7 +58,7 @@ module _ (c : Config) where
   change_word x other = tt
 
   remount_word : (x : Remount) (s : RemountStep) (hook : HookAnswer) → RemountFits c s → IsThere c (remount_next x s hook).0
-  remount_word x other hook fits = grind arith
+  remount_word x s hook fits = grind arith
 
   transition_word : (level : ℕ) (x : Transition) → 1 ≤ level → level ≤ 3 → IsThere c (transition_next level x).0
   transition_word level Loads l1 l3 = (l1, l3)
@@ -69,35 +69,35 @@ module _ (c : Config) where
   read_word x other l1 l3 = tt
 
   callback_word : (x : Callback) (s : CallbackStep) → 1 ≤ x.level → x.level ≤ 3 → IsThere c (callback_next x s).0
-  callback_word x a1 l1 l3 = grind arith
+  callback_word x s l1 l3 = grind arith
 
   down_write_word : (x : DownWrite) (s : DownWriteStep) → 1 ≤ x.level → x.level ≤ 3 → IsThere c (down_write_next x s).0
-  down_write_word x other l1 l3 = grind arith
+  down_write_word x s l1 l3 = grind arith
 
   up_write_word : (x : UpWrite) (s : UpWriteStep) → 1 ≤ x.level → x.level ≤ 3 → IsThere c (up_write_next x s).0
   up_write_word x ClearsBlock l1 l3 = tt
   up_write_word x (Exits transition) l1 l3 = transition_word x.level transition l1 l3
 
   write_word : (t : ℕ) (held : Holdings) (x : WritePhase) → WriteFits c t held x → IsThere c (write_next x).0
-  write_word t held other fits = grind arith
+  write_word t held x fits = grind arith
 
   freeze_word : (x : Freeze) (s : FreezeStep) (hook : HookAnswer) → FreezeFits c x.holder s → IsThere c (freeze_next x s hook).0
-  freeze_word x other hook fits = grind arith
+  freeze_word x s hook fits = grind arith
 
   thaw_word : (x : Thaw) (s : ThawStep) (hook : HookAnswer) → ThawFits x.holder s → IsThere c (thaw_next x s hook).0
-  thaw_word x other hook fits = grind arith
+  thaw_word x s hook fits = grind arith
 
   create_word : (x : Create) (s : CreateStep) → x.dir < c.nodes → CreateStepFits (tree_bounds c) s → IsThere c (create_next x s).0
-  create_word x a1 lt fits = grind arith
+  create_word x s lt fits = grind arith
 
   remove_word : (x : Remove) (s : RemoveStep) → x.file < c.nodes → IsThere c (remove_next x s).0
-  remove_word x other lt = grind arith
+  remove_word x s lt = grind arith
 
   grow_word : (x : Grow) (s : GrowStep) → x.file < c.nodes → IsThere c (grow_next x s).0
-  grow_word x other lt = grind arith
+  grow_word x s lt = grind arith
 
   move_word : (x : MoveTo) (s : MoveStep) → x.file < c.nodes → x.dir < c.nodes → IsThere c (move_next x s).0
-  move_word x a1 lt ld = grind arith
+  move_word x s lt ld = grind arith
 
   mark_word : (x : Mark) (s : MarkStep) → x.file < c.nodes → IsThere c (mark_next x s).0
   mark_word x LoadsFileToMark lt = lt
@@ -112,15 +112,15 @@ module _ (c : Config) where
   open_word x (OpensFile file) lt = lt
 
   close_word : (t : ℕ) (held : Holdings) (x : ClosePhase) → CloseFits c t held x → IsThere c (close_next x).0
-  close_word t held other fits = grind arith
+  close_word t held x fits = grind arith
 
   tree_word : (t : ℕ) (x : TreePhase) (hook : HookAnswer) → TreePhaseFits (tree_bounds c) t x → IsThere c (tree_next x hook).0
-  tree_word t a1 hook fits = grind arith
+  tree_word t x hook fits = grind arith
 
   -- the word of each phase's next event
   phase_word : (t : ℕ) (held : Holdings) (phase : Phase) (hook : HookAnswer) → PhaseFits c t held phase →
       IsThere c (next_of phase hook).0
-  phase_word t held other hook fits = grind arith
+  phase_word t held phase hook fits = grind arith
 
   -- the words of a good world hold what they may
   held_well : (w : World) → IsGood c w → (word : WordName) → IsThere c word → MayHold word (read w.words word)

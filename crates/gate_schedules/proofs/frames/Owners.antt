@@ -14,11 +14,11 @@ use Rattle.std.proofs.{Common.{Bool, ap, arith, inl, inr, refl, suc, ℕ, ◌+�
 use Rattle.std.specs.Prelude.{Option, Some, ◌-◌, ◌==◌}
 
 pub owns_le : (p : Option Phase) → owns p ≤ 1
-owns_le other = grind arith
+owns_le p = grind arith
 
 -- only the owner of `umount` has a hold flag set, or counts on a mount's staying read-only
 pub hold_owns : (m : ℕ) (p : Option Phase) → has_hold (role_of m p) + skips (role_of m p) ≤ owns p
-hold_owns m other = grind arith
+hold_owns m p = grind arith
 
 remount_sets_owns : (s : RemountStep) → remount_sets s ≤ remount_owns s
 remount_sets_owns RemountStep.Locks = omega arith

@@ -41,7 +41,7 @@ remount_owner nodes RemountStep.Locks = omega arith
 remount_owner nodes s = omega arith
 
 pub stage_owner : (p : Option Phase) → stage_owns (stage_role_of p) ≤ owns p
-stage_owner other = grind arith
+stage_owner p = grind arith
 
 clean_shown : (word : ℕ) → dirty_in word ≡ 0 → is_dirty (node_shown word) ≡ false
 clean_shown word e = grind arith

@@ -32,12 +32,12 @@ use Rattle.gate_schedules.proofs.levels.Worlds.{level_right, found_level, IsEven
 
 -- each event of a down-write is one of its level, and changes no section word
 pub down_write_event : (d : DownWrite) (s : DownWriteStep) → IsEventAt d.level (down_write_next d s).0 (down_write_next d s).1
-down_write_event d other = grind arith
+down_write_event d s = grind arith
 
 -- it leaves the counts
 pub down_write_counts : (w : Words) (d : DownWrite) (s : DownWriteStep) →
     (put w (down_write_next d s).0 (left (down_write_next d s).1 (read w (down_write_next d s).0))).level ≡ w.level
-down_write_counts w d other = grind arith
+down_write_counts w d s = grind arith
 
 -- what comes after an event is at this level
 abbrev AtTheLevel : ℕ → Next DownWrite → Type 0
@@ -55,24 +55,24 @@ passed_level d None = refl
 passed_level d (Some word) = state_level d (is_passed word.state)
 
 pub down_write_level : (d : DownWrite) (s : DownWriteStep) (found : ℕ) → AtTheLevel d.level (down_write_after d s found).0
-down_write_level d a1 found = grind arith
+down_write_level d s found = grind arith
 
 -- what comes after its event says what it said of the other levels
 closing_beside : (level : ℕ) (s : Stand) → s.level ≡ level → (n : Next DownWrite) → AtTheLevel level n →
     SayBeside level (Some s) (stand_after_closing level n)
-closing_beside level s e a3 h = grind (arith, common_steps)
+closing_beside level s e n h = grind (arith, common_steps)
 
 -- and of its own what its step is doing there
 closing_sync : (level : ℕ) (n : Next DownWrite) → AtTheLevel level n →
     by_next (λ (x : DownWrite). down_write_role x.step) Closed n ≡ stand_sync level (stand_after_closing level n)
-closing_sync level a1 h = grind arith
+closing_sync level n h = grind arith
 
 counts_as : (d : DownWrite) (s : DownWriteStep) → stand_count d.level (Some (closing_stand (at_down_write d s))) ≡ down_count_role s
 counts_as d s = count_at d.level (closing_stand (at_down_write d s)) refl
 
 -- nor has it while it enters
 enter_counts : (tasks : ℕ) (n : TransitionNext) → down_count_role (enter_step tasks n) ≡ CountsNot
-enter_counts tasks a1 = grind arith
+enter_counts tasks n = grind arith
 
 -- or ends its grace period
 call_counts : (n : TransitionNext) → down_count_role (callback_step n) ≡ CountsNot
@@ -82,7 +82,7 @@ call_counts other = refl
 -- or is in it
 grace_counts : (d : DownWrite) (n : GraceNext) →
     stand_count d.level (stand_after_closing d.level (sections_awaited d n)) ≡ CountsNot
-grace_counts d a1 = grind arith
+grace_counts d n = grind arith
 
 -- or has loaded for GP_PASSED
 state_counts : (d : DownWrite) (b : Bool) → stand_count d.level (stand_after_closing d.level
@@ -345,7 +345,7 @@ pub passes_finds_nobody : (c : Config) → IsWithin c → (w : World) → IsGood
 passes_finds_nobody c lim w good t lt d fits was j e = passes_nobody c lim w good t lt d d.step fits was j e
 
 pub entered_position : (i : ℕ) (p : Option Phase) → entered (sync_role_of i p) ≤ has_position (stage_role_of p)
-entered_position i other = grind arith
+entered_position i p = grind arith
 
 -- where a task with a position has not entered a level, nobody has, and the file system isn't frozen as a whole
 pub entered_by_nobody : (c : Config) (w : World) → IsGood c w → (t : ℕ) → t < c.tasks →

@@ -22,13 +22,13 @@ abbrev pub opening_at : UpWrite → UpWriteStep → UpWrite
 opening_at u s = record u { step = s }
 
 pub up_write_event : (u : UpWrite) (s : UpWriteStep) → IsEventAt u.level (up_write_next u s).0 (up_write_next u s).1
-up_write_event u a1 = grind arith
+up_write_event u s = grind arith
 
 up_write_counts : (w : Words) (u : UpWrite) (s : UpWriteStep) (n : ℕ) → (put w (up_write_next u s).0 n).level ≡ w.level
-up_write_counts w u a2 n = grind arith
+up_write_counts w u s n = grind arith
 
 exit_level : (u : UpWrite) (n : TransitionNext) → HoldsOfNext (λ (x : UpWrite). x.level ≡ u.level) (exit_made u n)
-exit_level u a1 = grind arith
+exit_level u n = grind arith
 
 -- after each of its events
 pub up_write_level : (u : UpWrite) (s : UpWriteStep) (found : ℕ) →
@@ -39,17 +39,17 @@ up_write_level u (UpWriteStep.Exits x) found = exit_level u (transition_after on
 -- what comes after its event says what it said of the other levels
 opening_beside : (level : ℕ) (s : Stand) → 1 ≤ level → s.level ≡ level → (n : Next UpWrite) →
     HoldsOfNext (λ (x : UpWrite). x.level ≡ level) n → SayBeside level (Some s) (stand_after_opening level n)
-opening_beside level s one e a4 h = grind arith
+opening_beside level s one e n h = grind arith
 
 -- and of its own what its step is doing there
 opening_sync : (level : ℕ) → 1 ≤ level → (n : Next UpWrite) → HoldsOfNext (λ (x : UpWrite). x.level ≡ level) n →
     by_next (λ (x : UpWrite). up_write_role x.step) IsApart n ≡ stand_sync level (stand_after_opening level n)
-opening_sync level one a2 h = grind arith
+opening_sync level one n h = grind arith
 
 -- with its store made, it has no part in the counts
 exit_counts : (u : UpWrite) → 1 ≤ u.level → (n : TransitionNext) →
     stand_count u.level (stand_after_opening u.level (exit_made u n)) ≡ CountsNot
-exit_counts u one a2 = grind arith
+exit_counts u one n = grind arith
 
 module _ (c : Config) (lim : IsWithin c) (w : World) (good : IsGood c w) (t : ℕ) (lt : t < c.tasks) (u : UpWrite) where
   -- the words after its event at this step

@@ -15,7 +15,7 @@ use Rattle.gate_world.specs.declared.{views.View.View, work.Phase.Phase}
 use Rattle.gate_schedules.proofs.{frames.Frames.left_alone}
 
 pub fast_in_section : (i : ℕ) (p : Option Phase) → fast (sync_role_of i p) ≤ inside p
-fast_in_section i other = grind arith
+fast_in_section i p = grind arith
 
 pub read_opens : (b : Bool) (s : DownReadStep) → closed (sync_role_if b (down_read_role s)) ≡ 0
 read_opens true DownReadStep.EntersSection = refl
@@ -23,7 +23,7 @@ read_opens true other = refl
 read_opens false s = refl
 
 pub closed_below : (i j : ℕ) (p : Option Phase) → 1 ≤ i → i ≤ j → closed (sync_role_of j p) ≤ closed (sync_role_of i p)
-closed_below i j other one le = grind (arith, common_steps)
+closed_below i j p one le = grind (arith, common_steps)
 
 pub sync_on : (i : ℕ) (r : SyncRole) → sync_role_if (i == i) r ≡ r
 sync_on i r = rw (eq-eqb i i refl)

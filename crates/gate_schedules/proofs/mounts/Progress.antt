@@ -11,13 +11,13 @@ use Rattle.gate_schedules.specs.operations.{Ranks.{rank, mount_rank, want_rank, 
 module _ (w : Words) (x : Want) where
   pub want_flags : (s : WantStep) →
       (put w (want_next x s).0 (left (want_next x s).1 (read w (want_next x s).0))).flags x.mount ≡ w.flags x.mount
-  want_flags other = grind arith
+  want_flags s = grind arith
 
   -- each event of a want: with these words after it, that leave the mount free
   pub want_falls : (after : Words) → HoldIsClear after x.mount → HoldIsClear w x.mount → (s : WantStep) →
       Falls (λ (y : Want). want_rank y.step) (λ (y : Want). HoldIsClear after y.mount) (want_rank s)
       (want_after x s (found_by (want_next x s).1 (read w (want_next x s).0))).0
-  want_falls after stays clear a3 = grind arith
+  want_falls after stays clear s = grind arith
 
 module _ (w : Words) (x : Change) where
   -- a change that doesn't wait ends where `umount` was taken
@@ -31,7 +31,7 @@ module _ (w : Words) (x : Change) where
   change_falls : (after : Words) (s : ChangeStep) → ChangeIsFree w s x.wait →
       Falls (λ (y : Change). change_rank y.processors y.step) (λ (y : Change). ChangeIsFree after y.step y.wait) (change_rank x.processors s)
       (change_after x s (found_by (change_next x s).1 (read w (change_next x s).0))).0
-  change_falls after a1 free = grind arith
+  change_falls after s free = grind arith
 
 pub want_ends : (c : Config) (x : Want) → PhaseEnds c (Phase.Mounts (MountPhase.Want x))
 want_ends c x = record {

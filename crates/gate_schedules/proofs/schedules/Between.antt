@@ -33,7 +33,7 @@ AllTold w = (t : ℕ) → IsTold (w.views t).phase (w.views t).trace
 -- an operation that is neither a freeze nor a thaw is never between two stores
 quiet : {A : Type 0} (to : A → Phase) → ((x : A) (trace : List Traced) → IsTold (Some (to x)) trace) → (next : Next A) (trace : List Traced) →
     IsTold (phase_after (map_next to next)) trace
-quiet to each a2 trace = grind arith
+quiet to each next trace = grind arith
 
 -- an event leaves the stage and the holders as they are, and is the first of no two stores
 abbrev Spares : Words → WordName × Touch → Type 0
@@ -46,7 +46,7 @@ transition_spares w level Transition.Loads = (refl, refl, refl, refl)
 transition_spares w level (Transition.Exchanges from to) = (refl, refl, refl, refl)
 
 down_write_spares : (w : Words) (d : DownWrite) (s : DownWriteStep) → Spares w (down_write_next d s)
-down_write_spares w d other = grind arith
+down_write_spares w d s = grind arith
 
 up_write_spares : (w : Words) (u : UpWrite) (s : UpWriteStep) → Spares w (up_write_next u s)
 up_write_spares w u UpWriteStep.ClearsBlock = (refl, refl, refl, refl)
@@ -55,7 +55,7 @@ up_write_spares w u (UpWriteStep.Exits transition) = transition_spares w u.level
 -- a freeze, or a thaw, that is not between two stores after an event that is the first of none
 freeze_unstored : (next : Next Freeze) (e : Traced) (trace : List Traced) → stores_stage 4 e.event.word e.event.touch ≡ false →
     between (holder_role_of (phase_after (map_next Phase.Freezes next))) ≡ 0 → IsTold (phase_after (map_next Phase.Freezes next)) (e ∷ trace)
-freeze_unstored a0 e trace none zero_is = grind arith
+freeze_unstored next e trace none zero_is = grind arith
 
 not_nobody : (word : ℕ) → is_held word ≡ 1 → (word == 0) ≡ false
 not_nobody word some = elim (eqb_tells word 0) [
@@ -160,7 +160,7 @@ none_yet (Phase.Mounts phase) = refl
 none_yet other = refl
 
 begin_told : (c : Config) (w : World) (t : ℕ) (op : Op) (refused : Option GateError) → AllTold w → AllTold (begin_of c w t op refused)
-begin_told c w t op a4 told x = grind arith
+begin_told c w t op refused told x = grind arith
 
 pub entry_told : (c : Config) (w : World) (e : Entry) → IsGood c w → IsGood c (happens c w e) → AllTold w → AllTold (happens c w e)
 entry_told c w (Begins t op) good after told = begin_told c w t op (begin_refusal c w t op) told

@@ -27,7 +27,7 @@ step_lists w earlier t hook (Some phase) m x = beside_lists [] w earlier t hook 
 
 pub begin_lists : (c : Config) (w : World) (earlier : List Done) (t : ℕ) (op : Op) (r : Option GateError) → IsMerge (lists w) earlier →
     IsMerge (lists (begin_of c w t op r)) earlier
-begin_lists c w earlier t op a5 m x = grind arith
+begin_lists c w earlier t op r m x = grind arith
 
 pub happens_lists : (c : Config) (w : World) (earlier : List Done) (e : Entry) → IsMerge (lists w) earlier →
     IsMerge (lists (happens c w e)) (with_action (task_of e) (action_of c w e) earlier)

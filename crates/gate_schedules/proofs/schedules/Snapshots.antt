@@ -101,7 +101,7 @@ module _ (c : Config) where
 
   pub begin_moments : (w : World) (log : List Done) (t : ℕ) (op : Op) (r : Option GateError) → AllHaveMoments c log w →
       AllHaveMoments c log (begin_of c w t op r)
-  begin_moments w log t op a4 all x = grind arith
+  begin_moments w log t op r all x = grind arith
 
 module _ (c : Config) (lim : IsWithin c) where
   module _

@@ -10,7 +10,7 @@ use Rattle.gate_world.specs.{Trees.{tree_bounds, tree_role_of}, Worlds.World, de
 -- who has loaded words relies on stage 4
 relies : (stage sb nodes words : ℕ) (s : SnapshotStep) → words_loaded nodes s ≡ Some words → KnowsStage stage sb (snapshot_stage_role s) →
     stage ≡ 4
-relies stage sb nodes words other e knows = grind arith
+relies stage sb nodes words s e knows = grind arith
 
 pub snapshots_stand : (c : Config) (w : World) → IsGood c w → SnapshotsStand c w
 snapshots_stand c w good t x words lt at e = (

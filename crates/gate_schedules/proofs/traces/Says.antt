@@ -60,12 +60,12 @@ module _ (At : List Traced → Phase → List Action → Type 0) (c : Config) (t
   -- what is said tells what is to be told
   says_tells : (trace : List Traced) (comes : Next Phase) (added : List Action) → Says At c op trace comes added →
       Tells c op trace comes added
-  says_tells trace a1 added h = grind arith
+  says_tells trace comes added h = grind arith
 
   -- what is said bounds the trace
   says_short : (trace : List Traced) (comes : Next Phase) (added : List Action) → Says At c op trace comes added →
       IsShort (most_events c op) trace
-  says_short trace a1 added h = grind arith
+  says_short trace comes added h = grind arith
 
   -- so every trace tells what is to be told, and is short
   pub tells_well : (trace : List Traced) → IsTrace c t op trace →

@@ -16,7 +16,7 @@ use Rattle.gate_world.specs.declared.{config.Config.Config, operations.Op.Op, vi
 -- where an operation stands at this phase, its event is the next, and what comes after it is the course after it
 stands_at : (comes : Next Phase) (added : List Action) (phase : Phase) (e : Traced) → phase_after comes ≡ Some phase → IsEventOf phase e →
     IsNext comes e × (course_after comes added e ≡ course_with added (after_of phase e.event.found e.hook))
-stands_at a0 added phase e h next = grind arith
+stands_at comes added phase e h next = grind arith
 
 -- an action more goes before the earlier ones
 newest : (action : Option Action) (actions added before : List Action) → actions ≡ added ++ before →
@@ -27,13 +27,13 @@ newest (Some a) actions added before h = ap (λ l. a ∷ l) h
 -- the next event of a view that follows its operation
 step_follows : (c : Config) (t : ℕ) (v : View) (op : Option Op) (phase : Phase) (value : ℕ) (hook : HookAnswer) → v.phase ≡ Some phase →
     MayFind phase (next_of phase hook).0 value → IsTraced c t v op → IsTraced c t (view_after v phase value hook) op
-step_follows c t v a3 phase value hook e may h = grind arith
+step_follows c t v op phase value hook e may h = grind arith
 
 -- a beginning empties the trace, and notes the actions so far
 begin_keeps : (c : Config) (w : World) (t : ℕ) (op : Op) (refused : Option GateError) → view_refusal c (w.views t) op ≡ refused →
     AllTraced c w →
     AllTraced c (begin_of c w t op refused)
-begin_keeps c w t op a4 e h x = grind arith
+begin_keeps c w t op refused e h x = grind arith
 
 begin_entry : (c : Config) (w : World) (t : ℕ) (op : Op) → AllTraced c w → AllTraced c (begin_of c w t op (begin_refusal c w t op))
 begin_entry c w t op h =

@@ -8,7 +8,7 @@ use Rattle.gate_schedules.specs.trees.Events.{TreeAllows, HasLeave, bounds_of}
 -- an action that the tree allows, of a task with the accesses that it needs, is one that the model allows
 pub may_do : (l : Limits) (s : State) (t : ℕ) (action : Action) → HasLeave l s t action → TreeAllows (bounds_of l) s.tree action →
     MayDo l s t action
-may_do l s t a3 leave a = grind arith
+may_do l s t action leave a = grind arith
 
 -- and its effect is on the tree and on the task's own open files alone
 pub tree_alone : (l : Limits) (s : State) (t : ℕ) (action : Action) → HasLeave l s t action →
@@ -16,4 +16,4 @@ pub tree_alone : (l : Limits) (s : State) (t : ℕ) (action : Action) → HasLea
       opens = update s.opens t (opens_after action (s.opens t));
       tree = tree_after action (openers s.opens) s.tree;
     }
-tree_alone l s t a3 leave = grind arith
+tree_alone l s t action leave = grind arith

@@ -17,14 +17,14 @@ pub same_le : (d e : ℕ) → is_same d e ≤ 1
 same_le d e = grind (arith, nat_tests)
 
 parent_le : (d : ℕ) (entry : Option NodeInfo) → has_parent d entry ≤ 1
-parent_le d a1 = grind arith
+parent_le d entry = grind arith
 
 pub child_le : (d n : ℕ) (entry : Option NodeInfo) → is_child d n entry ≤ 1
 child_le d zero entry = omega arith
 child_le d (suc n) entry = parent_le d entry
 
 pub child_charge_le : (d : ℕ) (r : Role) → child_charge d r ≤ 1
-child_charge_le d a1 = grind arith
+child_charge_le d r = grind arith
 
 removal_le : (r : Role) → removal r ≤ 1
 removal_le (Removing file) = omega arith

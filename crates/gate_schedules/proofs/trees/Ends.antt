@@ -40,7 +40,7 @@ module _ (Seen More : (Event → Bool) → Type 0) where
       Knows again × (actions ≡ added again) → ((node : NodeWord) → r ≡ Some (Ok node) → Knows (to node) × (actions ≡ added (to node))) →
       ((refusal : GateError) → r ≡ Some (Err refusal) → IsHonest refusal × (actions ≡ adds (Err refusal))) →
       EndsWell Knows added IsOne IsHonest adds (after_look again to r) actions
-  look_ends a0 added a2 a3 adds again to actions a8 stays found refused = grind arith
+  look_ends Knows added IsOne IsHonest adds again to actions r stays found refused = grind arith
 
   create_seen : (x : Create) (node value : ℕ) → CreateKnows Seen x (CreateStep.LoadsNode node) →
       SeesMore Seen More (event_of (create_next x (CreateStep.LoadsNode node)).0 (create_next x (CreateStep.LoadsNode node)).1 value) →
@@ -174,7 +174,7 @@ module _ (Seen More : (Event → Bool) → Type 0) where
   move_answers : (x : MoveTo) (answer : Result Reply GateError) (e : Event) → MoveAnswers Seen answer → SeesMore Seen More e →
       EndsWell (λ (y : MoveTo). MoveKnows More y y.step) (λ y. move_added y y.step) (IsReply Reply.Unit) (MoveHonest More x)
       (where_done (Action.MoveTo x.file x.dir)) (Next.Done answer) (where_done (Action.MoveTo x.file x.dir) answer)
-  move_answers x a1 e knows sees = grind arith
+  move_answers x answer e knows sees = grind arith
 
   pub move_ends : (x : MoveTo) (step : MoveStep) (value : ℕ) → MoveKnows Seen x step →
       SeesMore Seen More (event_of (move_next x step).0 (move_next x step).1 value) →
@@ -266,7 +266,7 @@ module _ (Seen More : (Event → Bool) → Type 0) where
   snapshot_answers : (x : Snapshot) (answer : Result Reply GateError) (e : Event) → SnapshotAnswers Seen answer → SeesMore Seen More e →
       EndsWell (λ (y : Snapshot). SnapshotKnows More y y.step) (λ y. []) (IsReply Reply.Tree) (SnapshotHonest More x) (λ answer. [])
       (Next.Done answer) []
-  snapshot_answers x a1 e knows sees = grind arith
+  snapshot_answers x answer e knows sees = grind arith
 
   node_knows : (x : Snapshot) (next : Option ℕ) → SnapshotKnows More x (node_step next)
   node_knows x (Some node) = tt

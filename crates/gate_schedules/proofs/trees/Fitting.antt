@@ -29,7 +29,7 @@ module _ (c : Bounds) (within : AreWithin c) (t : ℕ) where
   looked_fits : {P : Type 0} (to : P → TreePhase) (again : P) (from : NodeWord → P) (r : Option (Result NodeWord GateError)) →
       TreePhaseFits c t (to again) → ((node : NodeWord) → r ≡ Some (Ok node) → TreePhaseFits c t (to (from node))) →
       NextFits c t (map_next to (after_look again from r))
-  looked_fits to again from a3 fits found = grind arith
+  looked_fits to again from r fits found = grind arith
 
   -- either of two that fit
   either : {P : Type 0} (to : P → TreePhase) (b : Bool) (x y : Next P) → NextFits c t (map_next to x) → NextFits c t (map_next to y) →
@@ -39,15 +39,15 @@ module _ (c : Bounds) (within : AreWithin c) (t : ℕ) where
 
   create_fits : (x : Create) (step : CreateStep) (found : ℕ) → x.dir < c.nodes → x.nodes ≡ c.nodes → CreateStepFits c step →
       NextFits c t (map_next TreePhase.Create (create_after x step found).0)
-  create_fits x a1 found d same fits = grind (arith, common_steps)
+  create_fits x step found d same fits = grind (arith, common_steps)
 
   remove_fits : (x : Remove) (step : RemoveStep) (found : ℕ) → x.file < c.nodes → RemoveStepFits step →
       NextFits c t (map_next TreePhase.Remove (remove_after x step found).0)
-  remove_fits x a1 found n fits = grind (arith, common_steps)
+  remove_fits x step found n fits = grind (arith, common_steps)
 
   grow_fits : (x : Grow) (step : GrowStep) (found : ℕ) → TreePhaseFits c t (TreePhase.Grow x) →
       NextFits c t (map_next TreePhase.Grow (grow_after x step found).0)
-  grow_fits x a1 found fits = grind (arith, common_steps)
+  grow_fits x step found fits = grind (arith, common_steps)
 
   move_fits : (x : MoveTo) (step : MoveStep) (found : ℕ) → x.file < c.nodes → x.dir < c.nodes → MoveStepFits step →
       NextFits c t (map_next TreePhase.MoveTo (move_after x step found).0)
@@ -63,14 +63,14 @@ module _ (c : Bounds) (within : AreWithin c) (t : ℕ) where
   move_fits x (MoveStep.RefundsChild dir answer) found n d fits = tt
 
   mark_fits : (x : Mark) (step : MarkStep) (found : ℕ) → x.file < c.nodes → NextFits c t (map_next TreePhase.Mark (mark_after x step found).0)
-  mark_fits x a1 found n = grind (arith, common_steps)
+  mark_fits x step found n = grind (arith, common_steps)
 
   open_fits : (x : OpenFile) (step : OpenStep) (found : ℕ) → x.file < c.nodes → NextFits c t (map_next TreePhase.OpenFile (open_after x step found).0)
-  open_fits x a1 found n = grind (arith, common_steps)
+  open_fits x step found n = grind (arith, common_steps)
 
   snapshot_fits : (x : Snapshot) (step : SnapshotStep) (found : ℕ) → x.task ≡ t → x.nodes ≡ c.nodes → SnapshotStepFits c step →
       NextFits c t (map_next TreePhase.Snapshot (snapshot_after x step found).0)
-  snapshot_fits x a1 found own same fits = grind (arith, common_steps)
+  snapshot_fits x step found own same fits = grind (arith, common_steps)
 
   clear_fits : (x : ClearMarks) (found : ℕ) → x.nodes ≡ c.nodes → NextFits c t (map_next TreePhase.ClearMarks (clear_after x found).0)
   clear_fits x found same = grind arith

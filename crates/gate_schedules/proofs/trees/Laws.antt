@@ -50,7 +50,7 @@ role_kept c used used' removed removed' node node' kids kids' dirs _ clean read 
 
 freeing_is : (c : Bounds) (used removed : ℕ) (node kids : ℕ → ℕ) (n : ℕ) (r : Role) → frees n r ≡ 1 → RoleHolds c used removed node kids r →
     (file : NodeWord) × (n < c.nodes) × IsLastOpen node n file
-freeing_is c used removed node kids n a6 e h = grind arith
+freeing_is c used removed node kids n r e h = grind arith
 
 -- a node with this entry still has its parent where directories stay directories
 parent_kept : (nodes : ℕ) (node node' : ℕ → ℕ) → ((d : ℕ) → IsDirectory (node_shown (node d)) → IsDirectory (node_shown (node' d))) →

@@ -14,7 +14,7 @@ use Rattle.gate_schedules.specs.trees.Steps.{tree_in, found_at, EventKeeps, MayS
 -- what comes after an event has the same role as a phase of one call and of all
 role_mapped : {P : Type 0} (to : P → TreePhase) (role : TreePhase → Role) (n : Next P) →
     role_after (λ x. role (to x)) n ≡ role_after role (map_next to n)
-role_mapped to role a2 = grind arith
+role_mapped to role n = grind arith
 
 module _ (c : Bounds) (within : AreWithin c) (sealed bare : ℕ) (w : Words) (at : ℕ → Role) (good : TreeHolds c (tree_in sealed bare w at))
     (t : ℕ) (lt : t < c.tasks) where
@@ -55,17 +55,17 @@ module _ (c : Bounds) (within : AreWithin c) (sealed bare : ℕ) (w : Words) (at
 
   module _ (e : Extents) (nodes : e.nodes ≡ c.nodes) where
     create_there : (x : Create) (step : CreateStep) → x.dir < c.nodes → CreateStepFits c step → IsWord e (create_next x step).0
-    create_there x other d fits = grind arith
+    create_there x step d fits = grind arith
 
     remove_there : (x : Remove) (step : RemoveStep) → x.file < c.nodes → at t ≡ remove_role x step → IsWord e (remove_next x step).0
-    remove_there x other n is = grind arith
+    remove_there x step n is = grind arith
 
     grow_there : (x : Grow) (step : GrowStep) → x.file < c.nodes → IsWord e (grow_next x step).0
-    grow_there x other n = grind arith
+    grow_there x step n = grind arith
 
     move_there : (x : MoveTo) (step : MoveStep) → x.file < c.nodes → x.dir < c.nodes → at t ≡ move_role x step →
         IsWord e (move_next x step).0
-    move_there x a1 n d is = grind arith
+    move_there x step n d is = grind arith
 
     mark_there : (x : Mark) (step : MarkStep) → x.file < c.nodes → IsWord e (mark_next x step).0
     mark_there x MarkStep.LoadsFile n = omega (arith, n, nodes)
@@ -76,9 +76,9 @@ module _ (c : Bounds) (within : AreWithin c) (sealed bare : ℕ) (w : Words) (at
     open_there x (OpenStep.OpensFile file) n = omega (arith, n, nodes)
 
     snapshot_there : (x : Snapshot) (step : SnapshotStep) → SnapshotStepFits c step → IsWord e (snapshot_next x step).0
-    snapshot_there x other fits = grind arith
+    snapshot_there x step fits = grind arith
 
     -- the word of each event is there
     pub word_there : (phase : TreePhase) (values : ℕ → ℕ) (hook : HookAnswer) → at t ≡ phase_role values phase → TreePhaseFits c t phase →
         IsWord e (next phase hook).0
-    word_there a0 values hook is fits = grind arith
+    word_there phase values hook is fits = grind arith

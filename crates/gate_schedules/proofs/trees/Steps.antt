@@ -31,7 +31,7 @@ use Rattle.gate_schedules.specs.trees.Steps.{tree_in, words_left, found_at, Even
 
 -- a write of what is there leaves the tree
 same_tree : (sealed bare : ℕ) (w : Words) (at : ℕ → Role) (name : WordName) → tree_in sealed bare (put w name (read w name)) at ≡ tree_in sealed bare w at
-same_tree sealed bare w at other = grind arith
+same_tree sealed bare w at name = grind arith
 
 module _ (c : Bounds) (within : AreWithin c) (sealed bare : ℕ) (w : Words) (at : ℕ → Role) (good : TreeHolds c (tree_in sealed bare w at))
     (t : ℕ) (lt : t < c.tasks) where

@@ -40,10 +40,10 @@ pub thaws_write : (x : Thaw) → IsWriter (Some (Phase.Thaws x))
 thaws_write x = refl
 
 pub freeze_comes : (n : Next Freeze) → IsWriter (phase_after (map_next Phase.Freezes n))
-freeze_comes a0 = grind arith
+freeze_comes n = grind arith
 
 pub thaw_comes : (n : Next Thaw) → IsWriter (phase_after (map_next Phase.Thaws n))
-thaw_comes a0 = grind arith
+thaw_comes n = grind arith
 
 -- the words that no freeze and no thaw writes are as they were
 pub record IsBeside (old new : Words) : Type 0 where
@@ -164,11 +164,11 @@ whole_writer c w t lt good hook phase e work keeps = (
 module _ (d : DownWrite) (P : Next DownWrite → Type 0) (go : (s : DownWriteStep) → P (Next.Go (at_down_write d s)))
     (wait : (s : DownWriteStep) → P (Next.Wait (at_down_write d s))) (done : P (Next.Done (Ok Reply.Unit))) where
   pub down_write_comes : (s : DownWriteStep) (found : ℕ) → P (down_write_after d s found).0
-  down_write_comes a0 found = grind arith
+  down_write_comes s found = grind arith
 
 -- a down-write changes no word that only the owner changes
 down_write_off : (d : DownWrite) (s : DownWriteStep) → is_owned (down_write_next d s).0 ≡ false
-down_write_off d other = grind arith
+down_write_off d s = grind arith
 
 freeze_changes : (x : Freeze) (s : FreezeStep) (hook : HookAnswer) → is_owned (freeze_next x s hook).0 ≡ true →
     (is_load (freeze_next x s hook).1 ≡ true) ⊎ (freeze_owns s ≡ 1)

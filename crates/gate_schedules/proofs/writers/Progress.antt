@@ -45,14 +45,14 @@ DownFalls after d n next = Falls (λ (y : DownWrite). down_rank after y y.step) 
 module _ (after : Words) (d : DownWrite) where
   enters_falls : (n : ℕ) (next : TransitionNext) → ExchangeFalls (after.sync d.level) n ⊥ next →
       DownFalls after d (d.processors + d.tasks + 3 + n) (Next.Go (at_down_write d (enter_step d.tasks next)))
-  enters_falls n a1 h = grind arith
+  enters_falls n next h = grind arith
 
   waits_falls : (n : ℕ) (next : GraceNext) → 1 ≤ n → GraceFalls n next → DownFalls after d (d.processors + n + 2) (sections_awaited d next)
-  waits_falls n a1 some h = grind arith
+  waits_falls n next some h = grind arith
 
   calls_falls : (n : ℕ) (next : TransitionNext) → ExchangeFalls (after.sync d.level) n ⊥ next →
       DownFalls after d (d.processors + 1 + n) (Next.Go (at_down_write d (callback_step next)))
-  calls_falls n a1 h = grind arith
+  calls_falls n next h = grind arith
 
   -- a sum takes one word more
   sums_falls : (sum : Sum) → sum.words < d.processors → total d.processors (after.level d.level) % 18446744073709551616 ≡ 0 →
@@ -161,7 +161,7 @@ module _ (c : Config) (w : World) (good : IsGood c w) (t : ℕ) (lt : t < c.task
   module _ (u : UpWrite) (one : 1 ≤ u.level) (three : u.level ≤ 3) where
     exits_falls : (after : Words) (n : ℕ) (next : TransitionNext) → ExchangeFalls (after.sync u.level) n ⊥ next →
         Falls (reopens_rank after) (λ (y : UpWrite). Unit {0}) (n + 3 * (u.level - 1) + 1) (exit_made u next)
-    exits_falls after n a2 h = grind arith
+    exits_falls after n next h = grind arith
 
     exit_by : sync_role_of u.level (w.views t).phase ≡ Entered → (x : Transition) (sync : ℕ → ℕ) →
         sync u.level ≡ left (transition_next u.level x).1 (w.words.sync u.level) →

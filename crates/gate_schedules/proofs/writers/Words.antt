@@ -29,11 +29,11 @@ IsAtLevels old new = off_level_words new ≡ off_level_words old
 
 pub down_write_words : (w : Words) (d : DownWrite) (s : DownWriteStep) →
     IsAtLevels w (put w (down_write_next d s).0 (left (down_write_next d s).1 (read w (down_write_next d s).0)))
-down_write_words w d other = grind arith
+down_write_words w d s = grind arith
 
 pub up_write_words : (w : Words) (u : UpWrite) (s : UpWriteStep) →
     IsAtLevels w (put w (up_write_next u s).0 (left (up_write_next u s).1 (read w (up_write_next u s).0)))
-up_write_words w u a2 = grind arith
+up_write_words w u s = grind arith
 
 -- a down-write counts nothing, at mounts or at levels
 pub down_write_counts_none : (d : DownWrite) (s : DownWriteStep) (f : ℕ → ℕ → ℕ) →
@@ -41,13 +41,13 @@ pub down_write_counts_none : (d : DownWrite) (s : DownWriteStep) (f : ℕ → �
     (taken_after (down_write_next d s).0 (down_write_next d s).1 f ≡ f) ×
     (level_added_after (down_write_next d s).0 (down_write_next d s).1 f ≡ f) ×
     (level_taken_after (down_write_next d s).0 (down_write_next d s).1 f ≡ f)
-down_write_counts_none d other f = grind arith
+down_write_counts_none d s f = grind arith
 
 pub up_write_counts_none : (u : UpWrite) (s : UpWriteStep) (f : ℕ → ℕ → ℕ) →
     (added_after (up_write_next u s).0 (up_write_next u s).1 f ≡ f) × (taken_after (up_write_next u s).0 (up_write_next u s).1 f ≡ f) ×
     (level_added_after (up_write_next u s).0 (up_write_next u s).1 f ≡ f) ×
     (level_taken_after (up_write_next u s).0 (up_write_next u s).1 f ≡ f)
-up_write_counts_none u a1 f = grind arith
+up_write_counts_none u s f = grind arith
 
 -- What an event of a down-write adds: nothing, or that its level is passed.
 module _ (d : DownWrite) (P : Option Action → Type 0) (none : P None) (pass : P (Some (Action.Pass d.level))) where

@@ -38,36 +38,36 @@ use Rattle.std.proofs.lemmas.Bool.Decides.{eqb_tells}
 use Rattle.std.specs.Prelude.{None, Some, if◌then◌else◌}
 
 pub event_of_level : (b : Callback) (s : CallbackStep) → IsEventAt b.level (callback_next b s).0 (callback_next b s).1
-event_of_level b other = grind arith
+event_of_level b s = grind arith
 
 pub word_of_level : (b : Callback) (s : CallbackStep) → IsOfLevel b.level (callback_next b s).0
-word_of_level b other = grind arith
+word_of_level b s = grind arith
 
 -- it leaves the words beside the levels, and each `block`
 words_beside : (w : Words) (b : Callback) (s : CallbackStep) (n : ℕ) → IsBeside w (put w (callback_next b s).0 n)
-words_beside w b other n = grind arith
+words_beside w b s n = grind arith
 
 -- and the counts of each level
 counts_same : (w : Words) (b : Callback) (s : CallbackStep) (n : ℕ) → (put w (callback_next b s).0 n).level ≡ w.level
-counts_same w b other n = grind arith
+counts_same w b s n = grind arith
 
 -- and which tasks are inside a section
 inside_same : (l : SyncLevel) (b : Callback) (s : CallbackStep) (n : ℕ) → (put_at l (callback_next b s).0 n).inside ≡ l.inside
-inside_same l b other n = grind arith
+inside_same l b s n = grind arith
 
 -- its event counts nowhere
 module _ (b : Callback) (counted : ℕ → ℕ → ℕ) where
   added_same : (s : CallbackStep) → added_after (callback_next b s).0 (callback_next b s).1 counted ≡ counted
-  added_same other = grind arith
+  added_same s = grind arith
 
   taken_same : (s : CallbackStep) → taken_after (callback_next b s).0 (callback_next b s).1 counted ≡ counted
-  taken_same other = grind arith
+  taken_same s = grind arith
 
   level_added_same : (s : CallbackStep) → level_added_after (callback_next b s).0 (callback_next b s).1 counted ≡ counted
-  level_added_same other = grind arith
+  level_added_same s = grind arith
 
   level_taken_same : (s : CallbackStep) → level_taken_after (callback_next b s).0 (callback_next b s).1 counted ≡ counted
-  level_taken_same other = grind arith
+  level_taken_same s = grind arith
 
 no_action : (b : Callback) (s : CallbackStep) (found : ℕ) → (callback_after b s found).1 ≡ None
 no_action b (CallbackStep.Claims x) found = refl
@@ -91,29 +91,29 @@ Stays level tasks x = (x.level ≡ level) × (x.tasks ≡ tasks) × GraceFits ta
 
 -- an event of its own transition
 call_stays : (b : Callback) (n : TransitionNext) → HoldsOfNext (Stays b.level b.tasks) (called_back b n)
-call_stays b a1 = grind arith
+call_stays b n = grind arith
 
 -- so each event leaves it
 stays_after : (b : Callback) → 0 < b.tasks → (s : CallbackStep) → GraceFits b.tasks s → (found : ℕ) →
     HoldsOfNext (Stays b.level b.tasks) (callback_after b s found).0
-stays_after b some a2 f found = grind arith
+stays_after b some s f found = grind arith
 
 -- at its level, the role of what comes after an event is the one of its step
 role_next : (i tasks : ℕ) (n : Next Callback) → HoldsOfNext (Stays i tasks) n →
     by_next (λ (x : Callback). callback_role x.step) IsApart n ≡ sync_role_of i (phase_after (map_next Phase.Callbacks n))
-role_next i tasks a2 h = grind arith
+role_next i tasks n h = grind arith
 
 -- at another level there is none
 role_elsewhere : (i j tasks : ℕ) → (j ≡ i → ⊥) → (n : Next Callback) → HoldsOfNext (Stays i tasks) n →
     sync_role_of j (phase_after (map_next Phase.Callbacks n)) ≡ IsApart
-role_elsewhere i j tasks ne a4 h = grind arith
+role_elsewhere i j tasks ne n h = grind arith
 
 -- so what comes after an event does
 next_fits : (c : Config) (t level tasks : ℕ) (held : Holdings) → 1 ≤ level → level ≤ 3 → tasks ≡ c.tasks →
     (n : Next Callback) → HoldsOfNext (Stays level tasks) n →
     HoldsOfNext (λ (x : Callback). (x.tasks ≡ tasks) × KnowsCallback x.step) n →
     Fits c t held (phase_after (map_next Phase.Callbacks n))
-next_fits c t level tasks held one three all a8 stays knows = grind arith
+next_fits c t level tasks held one three all n stays knows = grind arith
 
 module _ (c : Config) (w : World) (good : IsGood c w) (t : ℕ) (lt : t < c.tasks) (hook : HookAnswer) (b : Callback) (s : CallbackStep)
     (e : (w.views t).phase ≡ Some (Phase.Callbacks (at_callback b s))) where

@@ -26,17 +26,17 @@ look_falls g found even = grind arith
 module _ (b : Callback) (sync : ℕ → ℕ) (free : Callback → Type 0) (is : (y : Callback) → free y) where
   claims_falls : (n : ℕ) (undefined : Type 0) (next : TransitionNext) → ExchangeFalls (sync b.level) n undefined next →
       Falls (λ (y : Callback). callback_rank y.tasks (sync y.level) y.step) free (b.tasks + 3 + n) (claimed b next)
-  claims_falls n undefined a2 h = grind arith
+  claims_falls n undefined next h = grind arith
 
   -- of its grace period
   waits_falls : (n : ℕ) (next : GraceNext) → GraceFalls n next →
       Falls (λ (y : Callback). callback_rank y.tasks (sync y.level) y.step) free (n + 2) (callback_looked b next)
-  waits_falls n a1 h = grind arith
+  waits_falls n next h = grind arith
 
   -- and of its own transition
   calls_falls : (n : ℕ) (next : TransitionNext) → ExchangeFalls (sync b.level) n ⊥ next →
       Falls (λ (y : Callback). callback_rank y.tasks (sync y.level) y.step) free n (called_back b next)
-  calls_falls n a1 h = grind arith
+  calls_falls n next h = grind arith
 
 module _ (c : Config) (w : World) (good : IsGood c w) (t : ℕ) (lt : t < c.tasks) (b : Callback) (one : 1 ≤ b.level) (three : b.level ≤ 3)
     (even : NobodyInside c w.words) where

@@ -41,7 +41,7 @@ module _ (c : Config) (i tasks value : ℕ) (hook : HookAnswer) (earlier : List 
   passed g h = grind arith
 
   callback_event : (s : CallbackStep) → transitions_made i earlier ≡ made_before s → After s
-  callback_event a0 h = grind arith
+  callback_event s h = grind arith
 
 pub callback_kept : (c : Config) (t i : ℕ) → Kept (CallbackAt i c.tasks) c t (Op.Callback i)
 callback_kept c t i = record {

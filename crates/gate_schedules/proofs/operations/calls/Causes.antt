@@ -32,7 +32,7 @@ module _ (c : Config) (t : ℕ) (w next : World) (earlier : List World) where
   -- a call that keeps no cause keeps none
   no_cause : {P : Type 0} (to : P → TreePhase) → ((p : P) → TreeCause c t next (w ∷ earlier) (to p)) → (n : Next P) →
       CauseOf c t next (w ∷ earlier) (phase_after (map_next Phase.Trees (map_next to n)))
-  no_cause to none a2 = grind arith
+  no_cause to none n = grind arith
 
   either : (b : Bool) (n m : Next Snapshot) → CauseAfter n → CauseAfter m → CauseAfter (if b then n else m)
   either true n m h k = h
@@ -48,7 +48,7 @@ module _ (c : Config) (t : ℕ) (w next : World) (earlier : List World) where
       let comes : Option Phase = phase_after
       (after_of (Phase.Trees (TreePhase.Snapshot (at_snapshot x s))) (found_at w.words (Phase.Trees (TreePhase.Snapshot (at_snapshot x s))) hook) hook).0 in
       (next.views t).phase ≡ comes → CauseOf c t next (w ∷ earlier) comes
-  snapshot_own hook x a2 e e' = grind (arith, common_steps)
+  snapshot_own hook x s e e' = grind (arith, common_steps)
 
   pub tree_own : (hook : HookAnswer) (x : TreePhase) → (w.views t).phase ≡ Some (Phase.Trees x) →
       let comes : Option Phase = phase_after (after_of (Phase.Trees x) (found_at w.words (Phase.Trees x) hook) hook).0 in

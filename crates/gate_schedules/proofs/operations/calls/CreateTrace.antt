@@ -53,7 +53,7 @@ module _ (c : Config) (d : ℕ) (kind : Kind) where
 
   node_looked : (trace : List Traced) (node : ℕ) (r : Option NodeWord) → node < c.nodes → is_some r ≡ true →
       Comes trace node (create_looked (create_of (CreateStep.LoadsNode node)) node r)
-  node_looked trace node a2 lt h = grind arith
+  node_looked trace node r lt h = grind arith
 
   -- each event of a create is followed by a later step of it, or by its end
   create_goes : IsWithin c → (earlier : List Traced) (s : CreateStep) (value : ℕ) → IsThere c earlier s →

@@ -8,4 +8,4 @@ use Rattle.gate_world.specs.{Work.after_of, declared.{config.Config.Config, work
 module _ (held : Holdings) where
   pub tree_acts : (c : Config) → IsWithin c → (t : ℕ) (x : TreePhase) (found : ℕ) (hook : HookAnswer) →
       PhaseFits c t held (Phase.Trees x) → ActionFits held (after_of (Phase.Trees x) found hook).1
-  tree_acts c within t a3 found hook f = grind arith
+  tree_acts c within t x found hook f = grind arith

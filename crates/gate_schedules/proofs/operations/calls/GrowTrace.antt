@@ -48,7 +48,7 @@ module _ (c : Config) (file blocks : ℕ) where
   -- each event is followed by a later step of the grow, or by its end
   grow_goes : (s : GrowStep) (value : ℕ) (trace : List Traced) → MayHold (grow_next (grow_of s) s).0 value →
       Comes trace (events_before s) (grow_after (grow_of s) s (found_by (grow_next (grow_of s) s).1 value)).0
-  grow_goes a0 value trace may = grind arith
+  grow_goes s value trace may = grind arith
 
   -- why a grow is refused doesn't depend on its step
   grow_cause : (s : GrowStep) (trace : List Traced) (refusal : GateError) → GrowHonest (SeenIn trace) (grow_of s) refusal →

@@ -47,7 +47,7 @@ file_refused node false (Some Kind.Dir) refusal e =
 -- one that it refuses to take for a directory is free, or a file
 directory_refused : (node : NodeWord) (kind : Option Kind) (refusal : GateError) → as_directory node kind ≡ Err refusal →
     TellsOf (info_of (record node { kind = kind })) refusal
-directory_refused node a1 refusal e = grind arith
+directory_refused node kind refusal e = grind arith
 
 refused_unless : (look : NodeWord → Option Kind → Result NodeWord GateError) (stray : Bool) (node : NodeWord) (refusal : GateError) →
     option_map (λ n. look n n.kind) (if stray then None else Some node) ≡ Some (Err refusal) → look node node.kind ≡ Err refusal
@@ -75,7 +75,7 @@ directory_tells word refusal e =
 -- what comes after a look at a node is a refusal only where the look was refused
 look_refused : {A : Type 0} {P : Type 0} (to : P → TreePhase) (again : P) (from : A → P) (r : Option (Result A GateError))
     (refusal : GateError) → map_next Phase.Trees (map_next to (after_look again from r)) ≡ Next.Done (Err refusal) → r ≡ Some (Err refusal)
-look_refused to again from a3 refusal e = grind arith
+look_refused to again from r refusal e = grind arith
 
 -- a refusal that tells what a node is
 abbrev pub is_of_node : GateError → Bool
@@ -109,13 +109,13 @@ either false n m h k = k
 -- it is none
 not_of_node : {A : Type 0} {P : Type 0} (to : P → TreePhase) (n : Next P) → NotOfNode n → (refusal : GateError) →
     map_next Phase.Trees (map_next to n) ≡ Next.Done (Err refusal) → is_of_node refusal ≡ true → A
-not_of_node to other h refusal e is = grind arith
+not_of_node to n h refusal e is = grind arith
 
 create_looked_not : (x : Create) (node : ℕ) (found : Option NodeWord) → NotOfNode (create_looked x node found)
-create_looked_not x node a2 = grind arith
+create_looked_not x node found = grind arith
 
 answer_not : (answer : Result Reply GateError) → IsMoveAnswer answer → NotOfNode {P = MoveTo} (Next.Done answer)
-answer_not a0 h = grind arith
+answer_not answer h = grind arith
 
 -- a clearing of marks is never refused
 clears_not : (x : ClearMarks) (o : Option ℕ) → NotOfNode (clears_at x o)

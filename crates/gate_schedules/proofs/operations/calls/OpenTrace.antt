@@ -52,7 +52,7 @@ module _ (c : Config) (file : ℕ) where
   look_goes : (value : ℕ) (trace : List Traced) (r : Option (Result NodeWord GateError)) → file_in value ≡ r → is_some r ≡ true →
       opens_in value < 64 →
       Comes trace 0 (after_look (open_of OpenStep.LoadsFile) (λ node. open_of (opens_from node (nat_lt node.opens 64))) r)
-  look_goes value trace a2 e some room = grind (arith, common_steps)
+  look_goes value trace r e some room = grind (arith, common_steps)
 
   -- each event is followed by a later step of the open, or by its end
   open_goes : (s : OpenStep) (value : ℕ) (trace : List Traced) → OpenMayFind s value →

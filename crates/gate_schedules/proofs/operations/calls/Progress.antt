@@ -43,12 +43,12 @@ module _ (w : Words) where
     create_looked_falls : (node : ℕ) (o : Option NodeWord) → is_some o ≡ true →
         Falls (λ (y : Create). create_rank y.nodes y.step) (λ (y : Create). Unit {0}) (create_rank c.nodes (CreateStep.LoadsNode node))
         (create_looked c node o)
-    create_looked_falls node a1 h = grind arith
+    create_looked_falls node o h = grind arith
 
     create_falls : (s : CreateStep) → MayHold (create_next c s).0 (read w (create_next c s).0) →
         Falls (λ (y : Create). create_rank y.nodes y.step) (λ (y : Create). Unit {0}) (create_rank c.nodes s)
         (create_after c s (found_by (create_next c s).1 (read w (create_next c s).0))).0
-    create_falls a0 h = grind (arith, common_steps)
+    create_falls s h = grind (arith, common_steps)
 
   remove_falls : (r : Remove) (s : RemoveStep) → MayHold (remove_next r s).0 (read w (remove_next r s).0) →
       Falls (λ (y : Remove). remove_rank y.step) (λ (y : Remove). Unit {0}) (remove_rank s)
@@ -101,12 +101,12 @@ module _ (w : Words) where
   mark_falls : (m : Mark) (s : MarkStep) → MayHold (mark_next m s).0 (read w (mark_next m s).0) →
       Falls (λ (y : Mark). mark_rank y.step) (λ (y : Mark). Unit {0}) (mark_rank s)
       (mark_after m s (found_by (mark_next m s).1 (read w (mark_next m s).0))).0
-  mark_falls m a1 h = grind (arith, common_steps)
+  mark_falls m s h = grind (arith, common_steps)
 
   open_falls : (o : OpenFile) (s : OpenStep) → OpenMayFind s (read w (open_next o s).0) →
       Falls (λ (y : OpenFile). open_rank y.step) (λ (y : OpenFile). Unit {0}) (open_rank s)
       (open_after o s (found_by (open_next o s).1 (read w (open_next o s).0))).0
-  open_falls o a1 h = grind (arith, common_steps)
+  open_falls o s h = grind (arith, common_steps)
 
   -- a snapshot that finds `umount` free
   locked_falls : (after : Words) (x : Snapshot) → (x.wait ≡ true → ⊥) → (b : Bool) → x.wait ≡ b →
@@ -119,7 +119,7 @@ module _ (w : Words) where
       MayHold (snapshot_next x s).0 (read w (snapshot_next x s).0) →
       Falls (λ (y : Snapshot). snapshot_rank y.nodes y.step) (λ (y : Snapshot). SnapshotIsFree after y.step y.wait) (snapshot_rank x.nodes s)
       (snapshot_after x s (found_by (snapshot_next x s).1 (read w (snapshot_next x s).0))).0
-  snapshot_falls after x a2 free h = grind arith
+  snapshot_falls after x s free h = grind arith
 
   pub clear_falls : (x : ClearMarks) (found : ℕ) →
       Falls (λ (y : ClearMarks). y.nodes - y.node) (λ (y : ClearMarks). Unit {0}) (x.nodes - x.node) (clear_after x found).0

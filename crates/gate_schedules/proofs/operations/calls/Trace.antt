@@ -34,7 +34,7 @@ made_some f (Some a) h = refl
 -- A look at a word that may be there goes on or is refused: it is never done again.
 pub looked : {A P : Type 0} (Holds : Next P → Type 0) (again : P) (to : A → P) (r : Option (Result A GateError)) → is_some r ≡ true →
     ((a : A) → Holds (Next.Go (to a))) → ((refusal : GateError) → Holds (Next.Done (Err refusal))) → Holds (after_look again to r)
-looked a0 again to a3 h goes refused = grind arith
+looked Holds again to r h goes refused = grind arith
 
 -- A kind of call: its steps and what it is at each, as a phase of the tree; what it knows and has added there, what its trace says
 -- besides, and after how many events it is there at most; how many events it has at most where it doesn't wait; its operation.
@@ -69,7 +69,7 @@ module _ (P S : Type 0) (to : P → TreePhase) (at : S → P) (Knows : ((Event �
     -- what is known and what comes say what the trace says after an event
     next_says : (next : Next P) (added : List Action) → EndsWell (Knows (SeenIn (e ∷ earlier))) so_far IsOne Honest adds next added →
         Stays (e ∷ earlier) n next → Says CallAt c op (e ∷ earlier) (map_next Phase.Trees (map_next to next)) added
-    next_says a0 added h stays = grind arith
+    next_says next added h stays = grind arith
 
     -- the same, of what the event added on top of what was added before
     pub call_says : (next : Next P) (action : Option Action) (before added : List Action) → added ≡ before →

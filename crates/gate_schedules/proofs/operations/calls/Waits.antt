@@ -38,24 +38,24 @@ either true n m h k = h
 either false n m h k = k
 
 look_goes : {A : Type 0} {P : Type 0} (again : P) (to : A → P) (r : Option (Result A GateError)) → GoesOn (after_look again to r)
-look_goes again to a2 = grind arith
+look_goes again to r = grind arith
 
 -- or it has looked at a node
 create_seen : (x : Create) (node : ℕ) (found : Option NodeWord) → GoesOn (create_looked x node found)
-create_seen x node a2 = grind arith
+create_seen x node found = grind arith
 
 -- so it never waits
 create_goes_on : (x : Create) (s : CreateStep) (found : ℕ) → GoesOn (create_after x s found).0
-create_goes_on x a1 found = grind (arith, common_steps)
+create_goes_on x s found = grind (arith, common_steps)
 
 remove_goes_on : (x : Remove) (s : RemoveStep) (found : ℕ) → GoesOn (remove_after x s found).0
-remove_goes_on x other found = grind (arith, common_steps)
+remove_goes_on x s found = grind (arith, common_steps)
 
 grow_goes_on : (x : Grow) (s : GrowStep) (found : ℕ) → GoesOn (grow_after x s found).0
-grow_goes_on x a1 found = grind (arith, common_steps)
+grow_goes_on x s found = grind (arith, common_steps)
 
 move_goes_on : (x : MoveTo) (s : MoveStep) (found : ℕ) → GoesOn (move_after x s found).0
-move_goes_on x a1 found = grind (arith, common_steps)
+move_goes_on x s found = grind (arith, common_steps)
 
 mark_goes_on : (x : Mark) (s : MarkStep) (found : ℕ) → GoesOn (mark_after x s found).0
 mark_goes_on x MarkStep.LoadsFile found = look_goes _ _ (file_in found)

@@ -19,17 +19,17 @@ module _ (c : Config) (n t : ℕ) where
   -- the word of each event of a create is one
   create_there : (x : Create) (s : CreateStep) → x.dir < c.nodes → CreateStepFits (tree_bounds c) s →
       IsWord (extents_touched n c) (create_next x s).0
-  create_there x other d f = grind arith
+  create_there x s d f = grind arith
 
   remove_there : (x : Remove) (s : RemoveStep) → x.file < c.nodes → RemoveStepFits s → IsWord (extents_touched n c) (remove_next x s).0
-  remove_there x other d f = grind arith
+  remove_there x s d f = grind arith
 
   grow_there : (x : Grow) (s : GrowStep) → x.file < c.nodes → IsWord (extents_touched n c) (grow_next x s).0
-  grow_there x other d = grind arith
+  grow_there x s d = grind arith
 
   move_there : (x : MoveTo) (s : MoveStep) → x.file < c.nodes → x.dir < c.nodes → MoveStepFits s →
       IsWord (extents_touched n c) (move_next x s).0
-  move_there x a1 l d f = grind arith
+  move_there x s l d f = grind arith
 
   mark_there : (x : Mark) (s : MarkStep) → x.file < c.nodes → IsWord (extents_touched n c) (mark_next x s).0
   mark_there x MarkStep.LoadsFile d = touched x.file d
@@ -41,7 +41,7 @@ module _ (c : Config) (n t : ℕ) where
 
   snapshot_there : (x : Snapshot) (s : SnapshotStep) → SnapshotStepFits (tree_bounds c) s →
       IsWord (extents_touched n c) (snapshot_next x s).0
-  snapshot_there x other f = grind arith
+  snapshot_there x s f = grind arith
 
   pub tree_there : (x : TreePhase) (hook : HookAnswer) → TreePhaseFits (tree_bounds c) t x → IsWord (extents_touched n c) (tree_next x hook).0
-  tree_there a0 hook f = grind arith
+  tree_there x hook f = grind arith

@@ -15,7 +15,7 @@ module _ (c : Config) (t : ℕ) (w next : World) (earlier : List World) where
   -- the cause of an answer stays where no word of a sum is to be loaded
   answer_stays : (m : ℕ) (answer : Result Reply GateError) → words_read (next.views t).phase ≡ None → AnswerCause c t w earlier m answer →
       AnswerCause c t next (w ∷ earlier) m answer
-  answer_stays m a1 e h = grind arith
+  answer_stays m answer e h = grind arith
 
 module _ (c : Config) (t : ℕ) (w next : World) (earlier : List World) (good : IsGood c next) where
   -- the cause of each step stays

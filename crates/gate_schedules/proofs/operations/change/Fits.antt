@@ -32,4 +32,4 @@ module _ (c : Config) (within : IsWithin c) (t : ℕ) (held : Holdings) where
   pub change_goes : (x : Change) (step : ChangeStep) (found : ℕ) → MountFits c t held (MountPhase.Change record x { step = step }) →
       Fits c t (held_after (change_after x step found).1 held)
       (phase_after (map_next Phase.Mounts (map_next MountPhase.Change (change_after x step found).0)))
-  change_goes x other found f = grind arith
+  change_goes x step found f = grind arith

@@ -102,12 +102,12 @@ module _ (c : Config) (lim : IsWithin c) (t m : ℕ) (ro : Bool) (value : ℕ) (
   -- an event that clears HOLD leaves what is told
   hold_leaves : (wait : Bool) (answer : Result Reply GateError) → Answers c m ro wait answer earlier added →
       Answers c m ro wait answer (longer wait (ChangeStep.ClearsHold answer)) added
-  hold_leaves wait other h = grind arith
+  hold_leaves wait answer h = grind arith
 
   -- so does one that gives `umount` back
   lock_leaves : (wait : Bool) (answer : Result Reply GateError) → Answers c m ro wait answer earlier added →
       Answers c m ro wait answer (longer wait (ChangeStep.Releases answer)) added
-  lock_leaves wait other h = grind arith
+  lock_leaves wait answer h = grind arith
 
   lock_taken : (wait : Bool) → ChangeSays c m ro wait ChangeStep.Locks earlier added → (value == 0) ≡ false → After wait ChangeStep.Locks
   lock_taken true h f = rw f ((ChangeStep.Locks, refl, (λ q. absurd (cc), (rw f h.1.0, h.1.1))), (refl, rw f h.1.0))

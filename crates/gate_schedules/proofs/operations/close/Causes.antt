@@ -16,23 +16,23 @@ module _ (c : Config) (t : ℕ) (w next : World) (earlier : List World) (file p 
   -- after an event at level 3 the task asks where a down-read does
   pub enters_asks : (n : Next DownRead) → (next.views t).phase ≡ phase_after (map_next Phase.Closes (then_frees file node p n)) →
       AsksNext c t w next earlier n
-  enters_asks a0 e = grind arith
+  enters_asks n e = grind arith
 
   -- and what comes then has its cause
   pub enters_cause : (n : Next DownRead) → HasNextCause c t w next earlier n →
       CauseOf c t next (w ∷ earlier) (phase_after (map_next Phase.Closes (then_frees file node p n)))
-  enters_cause a0 h = grind arith
+  enters_cause n h = grind arith
 
 module _ (c : Config) (t : ℕ) (w : World) (earlier : List World) where
   pub enters_waits : (file p : ℕ) (node : NodeWord) (r : DownRead) (n : Next DownRead) →
       WhereRefused (WasClosed c t r.level (last_asked t (w ∷ earlier))) n →
       HasReason c w earlier t (Phase.Closes (ClosePhase.Enters file node r)) (map_next Phase.Closes (then_frees file node p n))
-  enters_waits file p node r a4 h = grind arith
+  enters_waits file p node r n h = grind arith
 
   pub looked_cause : (x : Closing) (r : Option (Result NodeWord GateError)) →
       CauseOf c t w earlier (phase_after (map_next Phase.Closes (after_look (ClosePhase.LoadsFile x) (closed_from x) r)))
-  looked_cause x a1 = grind arith
+  looked_cause x r = grind arith
 
   pub looked_waits : (x : Closing) (word : ℕ) → 1 ≤ opens_in word → (r : Option (Result NodeWord GateError)) → any_file_in word ≡ r →
       HasReason c w earlier t (Phase.Closes (ClosePhase.LoadsFile x)) (map_next Phase.Closes (after_look (ClosePhase.LoadsFile x) (closed_from x) r))
-  looked_waits x word opens a3 e = grind (arith, common_steps)
+  looked_waits x word opens r e = grind (arith, common_steps)

@@ -44,11 +44,11 @@ stays_open true n some h = elim (eqb_tells n 1) [
 module _ (c : Config) (t : ℕ) (held : Holdings) where
   looked_fits : (x : Closing) (word : ℕ) → ClosingFits c t held x → (r : Option (Result NodeWord GateError)) → any_file_in word ≡ r →
       Fits c t held (phase_after (map_next Phase.Closes (after_look (ClosePhase.LoadsFile x) (closed_from x) r)))
-  looked_fits x word f a3 e = grind (arith, common_steps)
+  looked_fits x word f r e = grind (arith, common_steps)
 
   pub enters_goes : (file p i : ℕ) (node : NodeWord) (n : Next DownRead) → file < c.nodes → p < c.processors → i ≡ 3 →
       ReadGoes c t i p held n → Fits c t held (phase_after (map_next Phase.Closes (then_frees file node p n)))
-  enters_goes file p i node a4 there cpu three h = grind arith
+  enters_goes file p i node n there cpu three h = grind arith
 
 pub enters_fits : (c : Config) (t : ℕ) (held : Holdings) (file : ℕ) (node : NodeWord) (r : DownRead) (found : ℕ) →
     CloseFits c t held (ClosePhase.Enters file node r) → Fits c t (held_after (down_read_after r r.step found).1 held)
@@ -60,18 +60,18 @@ enters_fits c t held file node r found f =
 -- what comes after each event fits
 pub close_goes : (c : Config) (t : ℕ) (held : Holdings) (x : ClosePhase) (found : ℕ) → CloseFits c t held x →
     Fits c t (held_after (after x found).1 held) (phase_after (map_next Phase.Closes (after x found).0))
-close_goes c t held a3 found f = grind (arith, common_steps)
+close_goes c t held x found f = grind (arith, common_steps)
 
 -- the word of each event is there
 pub close_there : (c : Config) (n : ℕ) → c.tasks ≤ n → (t : ℕ) → t < n → (held : Holdings) (hook : HookAnswer)
     (x : ClosePhase) → CloseFits c t held x → IsWord (extents_touched n c) (next x).0
-close_there c n le t lt held hook a7 f = grind arith
+close_there c n le t lt held hook x f = grind arith
 
 -- and its action can be done
 pub close_acts : (c : Config) → IsWithin c → (t : ℕ) (held : Holdings) (x : ClosePhase) (found : ℕ) →
     CloseFits c t held x → ActionFits held (after x found).1
-close_acts c lim t held other found f = grind arith
+close_acts c lim t held x found f = grind arith
 
 -- it fits holdings that agree
 pub close_agrees : (c : Config) (t : ℕ) (held seen : Holdings) → Agree c held seen → (x : ClosePhase) → CloseFits c t held x → CloseFits c t seen x
-close_agrees c t held seen same other fits = grind arith
+close_agrees c t held seen same x fits = grind arith

@@ -34,20 +34,20 @@ is_at_tree (ClosePhase.Leaves p) = false
 is_at_tree x = true
 
 close_word : (x : ClosePhase) → is_at_tree x ≡ true → is_node_word (next x).0 ≡ true
-close_word other h = grind arith
+close_word x h = grind arith
 
 close_leaves : (x : ClosePhase) → is_at_tree x ≡ true → (found : ℕ) → LeavesAccesses (after x found).1
-close_leaves other h found = grind arith
+close_leaves x h found = grind arith
 
 off_close : (x : ClosePhase) → is_at_tree x ≡ true → IsOffGates (Some (Phase.Closes x))
-off_close other h = grind arith
+off_close x h = grind arith
 
 off_leaves : (p : ℕ) → IsOffGates (Some (Phase.Closes (ClosePhase.Leaves p)))
 off_leaves p = record { roles = refl; closing_none = λ i. refl }
 
 off_looked : (x : Closing) (r : Option (Result NodeWord GateError)) →
     IsOffGates (phase_after (map_next Phase.Closes (after_look (ClosePhase.LoadsFile x) (closed_from x) r)))
-off_looked x a1 = grind arith
+off_looked x r = grind arith
 
 off_next : (x : ClosePhase) → is_at_tree x ≡ true → (found : ℕ) → IsOffGates (phase_after (map_next Phase.Closes (after x found).0))
 off_next (ClosePhase.LoadsFile x) h found = off_looked x (any_file_in found)
@@ -76,7 +76,7 @@ role_comes other trace = refl
 
 file_then : (held : Holdings) (x : ClosePhase) → is_at_tree x ≡ true → (found : ℕ) → HasFile held.files (file_of (Some (Phase.Closes x))) →
     HasFile (held_after (after x found).1 held).files (file_of (phase_after (map_next Phase.Closes (after x found).0)))
-file_then held a1 h found own = grind (arith, common_steps)
+file_then held x h found own = grind (arith, common_steps)
 
 close_at : (w : World) (x : ClosePhase) (hook : HookAnswer) → is_at_tree x ≡ true → IsAtTree w (Phase.Closes x) hook
 close_at w x hook at = record {

@@ -18,12 +18,12 @@ module _ (after : Words) where
   frees_falls : (f : ℕ) (node : NodeWord) (p n : ℕ) (next : Next DownRead) →
       Falls (λ (y : DownRead). read_rank y.wait y.step) (ReadIsFree after) n next →
       Falls close_rank (CloseIsFree after) (n + 4) (then_frees f node p next)
-  frees_falls f node p n a4 h = grind arith
+  frees_falls f node p n next h = grind arith
 
   kind_falls : (x : Closing) (node : NodeWord) → (node.opens == 0) ≡ false →
       (x.wait ≡ true → (node.removed && (node.opens == 1)) ≡ true → after.block 3 ≡ 0) → (kind : Option Kind) →
       Falls close_rank (CloseIsFree after) 10 (after_look (ClosePhase.LoadsFile x) (closed_from x) (Some (as_any_file node kind)))
-  kind_falls x node some free a4 = grind arith
+  kind_falls x node some free kind = grind arith
 
 -- each event of a close
 close_falls : (w : Words) (x : ClosePhase) → CloseIsFree w x → CloseMayFind x (read w (close_next x).0) →

@@ -61,7 +61,7 @@ close_short c file p false trace h = h refl
 -- so is one that says where its close stands
 says_short : (c : Config) (file p t : ℕ) (wait : Bool) (x : ClosePhase) (trace : List Traced) (added : List Action) →
     CloseSays file p t wait x trace added → wait ≡ false → length trace ≤ 10
-says_short c file p t wait other trace added h q = grind arith
+says_short c file p t wait x trace added h q = grind arith
 
 module _ (c : Config) (file p t : ℕ) (wait : Bool) where
   -- what a trace says by what comes
@@ -71,7 +71,7 @@ module _ (c : Config) (file p t : ℕ) (wait : Bool) where
   -- what the trace says after an event at level 3
   entered_says : (node : NodeWord) (e : Traced) (earlier : List Traced) (added : List Action) (n : Next DownRead) →
       ReadNext 1 3 p t wait (e ∷ earlier) added n → found_dropped (e ∷ earlier) ≡ false → Comes (e ∷ earlier) (then_frees file node p n) added
-  entered_says node e earlier added a4 h none = grind arith
+  entered_says node e earlier added n h none = grind arith
 
 module _ (c : Config) (file p t : ℕ) (wait : Bool) (value : ℕ) (hook : HookAnswer) where
   -- what the trace says after the event of a phase
@@ -87,7 +87,7 @@ module _ (c : Config) (file p t : ℕ) (wait : Bool) (value : ℕ) (hook : HookA
 
   looked_says : (r : Option (Result NodeWord GateError)) → any_file_in value ≡ r → is_some r ≡ true → 1 ≤ opens_in value →
       Comes c file p t wait (loaded ∷ []) (after_look looks (closed_from (first_close file p t wait)) r) []
-  looked_says a0 e some opens = grind (arith, common_steps)
+  looked_says r e some opens = grind (arith, common_steps)
 
   loads_event : CloseMayFind looks value → After looks [] []
   loads_event may =

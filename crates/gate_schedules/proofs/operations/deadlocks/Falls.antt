@@ -16,7 +16,7 @@ after_event w event = put w event.0 (left event.1 (read w event.0))
 -- the same of a layer's own phases
 pub falls_as : {A B : Type 0} (to : A → B) (rank_of : B → ℕ) (free : B → Type 0) (n : ℕ) (next : Next A) →
     Falls (λ a. rank_of (to a)) (λ a. free (to a)) n next → Falls rank_of free n (map_next to next)
-falls_as to rank_of free n a4 h = grind arith
+falls_as to rank_of free n next h = grind arith
 
 module _ (c : Config) (w : World) (t : ℕ) (lt : t < c.tasks) (hook : HookAnswer) (phase : Phase) (at : (w.views t).phase ≡ Some phase) where
   pub happens_is : happens c w (Steps t hook) ≡ after_step w t phase hook
@@ -54,7 +54,7 @@ goes_on : (c : Config) (n m : ℕ) (next : World) (t : ℕ) (coming : Next Phase
     Falls (rank next.words) (IsFree c next.words) m coming →
     ((q : Phase) → (next.views t).phase ≡ Some q → IsFree c next.words q → rank next.words q < n → ReplyWithin c n next) →
     HasReply next t ⊎ ReplyWithin c n next
-goes_on c n m next t a5 is le f again = grind arith
+goes_on c n m next t coming is le f again = grind arith
 
 module _ (c : Config) (lim : IsWithin c)
     (keeps : EventsKeepRule c)

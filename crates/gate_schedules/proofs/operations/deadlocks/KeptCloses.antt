@@ -15,18 +15,18 @@ StaysAtLevel d (Next.Wait next) action = next.level ≡ d.level
 StaysAtLevel d (Next.Done answer) action = action ≡ Some (Action.Pass d.level)
 
 sections_stay : (d : DownWrite) (next : GraceNext) → StaysAtLevel d (sections_awaited d next) None
-sections_stay d a1 = grind arith
+sections_stay d next = grind arith
 
 pub down_stays : (d : DownWrite) (s : DownWriteStep) (found : ℕ) →
     StaysAtLevel d (down_write_after d s found).0 (down_write_after d s found).1
-down_stays d a1 found = grind arith
+down_stays d s found = grind arith
 
 module _ (w : Words) (d : DownWrite) where
   pub down_beside : (s : DownWriteStep) → StaysBeside w (after_event w (down_write_next d s))
-  down_beside other = grind arith
+  down_beside s = grind arith
 
   pub down_nodes : (s : DownWriteStep) → (after_event w (down_write_next d s)).node ≡ w.node
-  down_nodes other = grind arith
+  down_nodes s = grind arith
 
   pub down_blocks : (s : DownWriteStep) (i : ℕ) → w.block i ≡ 1 → (after_event w (down_write_next d s)).block i ≡ 1
-  down_blocks other i h = grind arith
+  down_blocks s i h = grind arith

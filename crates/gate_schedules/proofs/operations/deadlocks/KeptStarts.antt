@@ -17,8 +17,8 @@ StaysKept r (Done answer) = ⊥
 pub start_stays : (w : Words) (r : DownRead) → r.wait ≡ true → w.block r.level ≡ 1 → step_found (unpack (w.sync r.level)) ≡ CountsUpSlow →
     (s : DownReadStep) → is_admitted s ≡ false →
     StaysKept r (down_read_after r s (found_by (down_read_next r s).1 (read w (down_read_next r s).0))).0
-start_stays w r wait set slow a5 not = grind arith
+start_stays w r wait set slow s not = grind arith
 
 -- a down-read leaves the nodes
 pub read_nodes : (w : Words) (r : DownRead) (s : DownReadStep) → (after_event w (down_read_next r s)).node ≡ w.node
-read_nodes w r a2 = grind arith
+read_nodes w r s = grind arith

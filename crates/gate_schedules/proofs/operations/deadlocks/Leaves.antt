@@ -45,7 +45,7 @@ pub record StaysBeside (w next : Words) : Type 0 where
   pub sb_same : next.sb ≡ w.sb
 
 pub read_beside : (w : Words) (r : DownRead) (s : DownReadStep) → StaysBeside w (after_event w (down_read_next r s))
-read_beside w r a2 = grind arith
+read_beside w r s = grind arith
 
 pub phase_beside : (w : Words) (phase : Phase) (hook : HookAnswer) → inside (Some phase) ≡ 1 → StaysBeside w (words_after w phase hook)
 phase_beside w phase hook h = grind arith
@@ -60,7 +60,7 @@ leave_small phase h = grind arith
 
 -- a task is inside one section at most
 pub inside_le : (p : Option Phase) → inside p ≤ 1
-inside_le a0 = grind arith
+inside_le p = grind arith
 
 -- how many tasks are inside one
 abbrev pub all_within : Config → World → ℕ

@@ -137,7 +137,7 @@ module _ (c : Config) (t : ℕ) (w next : World) (earlier : List World) (after :
 
   module _ (d : DownWrite) where
     enter_own : (n : TransitionNext) → Own (after_closing x d.level (Next.Go (at_down_write d (enter_step d.tasks n))))
-    enter_own other e = grind arith
+    enter_own n e = grind arith
 
     callback_own : (n : TransitionNext) → Own (after_closing x d.level (Next.Go (at_down_write d (callback_step n))))
     callback_own (TransitionNext.More transition) e = tt
@@ -191,7 +191,7 @@ module _ (c : Config) (t : ℕ) (w next : World) (earlier : List World) (after :
         sum_own sum one three f (ap (λ (ws : Words). ws.level d.level) (same ∙ load_same w.words (WordName.LevelCount d.level sum.words))) h e
 
   reopening_own : (level code : ℕ) (n : Next UpWrite) → Own (after_reopening x level code n)
-  reopening_own level code a2 e = grind arith
+  reopening_own level code n e = grind arith
 
   clearing_own : (n : Next ClearMarks) → Own (after_clearing x n)
   clearing_own (Next.Go marks) e = tt

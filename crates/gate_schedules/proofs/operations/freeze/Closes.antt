@@ -45,7 +45,7 @@ IsAtPlace d p (Next.Done answer) = ⊥
 
 -- until its swap it is before that
 enter_place : (tasks : ℕ) (n : TransitionNext) → place_of (enter_step tasks n) ≡ Before
-enter_place tasks other = grind arith
+enter_place tasks n = grind arith
 
 callback_place : (n : TransitionNext) → place_of (callback_step n) ≡ Before
 callback_place (TransitionNext.More transition) = refl
@@ -56,12 +56,12 @@ sections_place d (GraceNext.More grace) = (refl, refl)
 sections_place d other = (refl, refl)
 
 passed_place : (d : DownWrite) (o : Option SyncWord) → IsAtPlace d Before (passed_awaited d o)
-passed_place d a1 = grind arith
+passed_place d o = grind arith
 
 -- what a freeze does with the stage at such a place
 place_role : (x : Freeze) (d : DownWrite) (p : Place) (n : Next DownWrite) → IsAtPlace d p n →
     stage_role_of (phase_after (map_next Phase.Freezes (after_closing x d.level n))) ≡ Freezing d.level p (nat_lt 1 d.level)
-place_role x d p a3 h = grind arith
+place_role x d p n h = grind arith
 
 -- and once the level is closed
 closed_role : (x : Freeze) (level : ℕ) → 1 ≤ level → level ≤ 3 →
@@ -113,12 +113,12 @@ module _ (c : Config) (lim : IsWithin c) (w : World) (good : IsGood c w) (t : �
       (still_plays c w good t lt (sym role))
 
   sum_adds : (d : DownWrite) (n : Taken) → stage_action_of (sum_kind d n) (stages_in w) ≡ (down_write_summed d n).1
-  sum_adds d a1 = grind arith
+  sum_adds d n = grind arith
 
   sum_asks : (d : DownWrite) (n : Taken) →
       ((j : ℕ) → (down_write_summed d n).1 ≡ Some (Action.Pass j) → (y : ℕ) → y < c.tasks → holds_level (w.views y) d.level ≡ false) →
       AsksWhere (model_limits c) (shown c w) (down_write_summed d n).1
-  sum_asks d a1 h = grind arith
+  sum_asks d n h = grind arith
 
   module _ (d : DownWrite) (e : IsHere c lim w good t lt x (FreezeStep.Closes d)) where
     -- the words after its event

@@ -48,7 +48,7 @@ reopens_alike x u code = refl
 next_alike : (x : Freeze) (u : UpWrite) (code : ℕ) (n : Next UpWrite) →
     IsAlike (phase_after (map_next Phase.Thaws (after_opening (as_thaw x (ThawStep.Reopens u)) u.level n)))
     (phase_after (map_next Phase.Freezes (after_reopening x u.level code n)))
-next_alike x u code a3 = grind arith
+next_alike x u code n = grind arith
 
 module _ (c : Config) (lim : IsWithin c) (w : World) (good : IsGood c w) (t : ℕ) (lt : t < c.tasks) (x : Freeze) (hook : HookAnswer) where
   -- the clearing of a node's mark, after which this step comes

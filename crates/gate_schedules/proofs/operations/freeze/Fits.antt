@@ -28,16 +28,16 @@ use Rattle.gate_schedules.proofs.frames.{Cases.both, Keeps.by_bool}
 -- the word of each event of a down-write is there
 down_write_word : (c : Config) (d : DownWrite) (s : DownWriteStep) → 1 ≤ d.level → d.level ≤ 3 → DownWriteStepFits c s →
     IsWord (extents_of c) (down_write_next d s).0
-down_write_word c d other l1 l3 f = grind arith
+down_write_word c d s l1 l3 f = grind arith
 
 -- and of each event of an up-write
 pub up_write_word : (c : Config) (u : UpWrite) (s : UpWriteStep) → 1 ≤ u.level → u.level ≤ 3 → IsWord (extents_of c) (up_write_next u s).0
-up_write_word c u a2 l1 l3 = grind arith
+up_write_word c u s l1 l3 = grind arith
 
 -- so it is of each event of a freeze
 pub freeze_word : (c : Config) (x : Freeze) (s : FreezeStep) (hook : HookAnswer) → FreezeFits c x.holder s →
     IsWord (extents_of c) (freeze_next x s hook).0
-freeze_word c x other hook f = grind arith
+freeze_word c x s hook f = grind arith
 
 -- What comes after a look at who holds a freeze: a refusal, where its own holder does, or else the store with it.
 pub found_cases : (x : Freeze) (held : Holders) (P : FreezeStep → Type 0) → (held_by held x.holder ≡ true → P (FreezeStep.Releases (Err GateError.Busy))) →
@@ -50,7 +50,7 @@ MovesNone a = (held : Holdings) → ActionFits held a × (held_after a held ≡ 
 
 -- and none of a freeze
 freeze_moves : (x : Freeze) (s : FreezeStep) (found : ℕ) (hook : HookAnswer) → MovesNone (freeze_after x s found hook).1
-freeze_moves x other found hook held = grind arith
+freeze_moves x s found hook held = grind arith
 
 -- its action can be done
 pub freeze_acts : (x : Freeze) (s : FreezeStep) (held : Holdings) (found : ℕ) (hook : HookAnswer) →
@@ -79,7 +79,7 @@ module _ (c : Config) (within : IsWithin c) where
     looked_goes g found all more = grind arith
 
     passed_found_goes : (o : Option SyncWord) → Goes (passed_awaited d o)
-    passed_found_goes a0 = grind arith
+    passed_found_goes o = grind arith
 
     summed_goes : (sum : Sum) (found : ℕ) → Goes (down_write_summed d (sum_taking sum found d.processors)).0
     summed_goes sum found = grind arith
@@ -113,7 +113,7 @@ module _ (c : Config) (within : IsWithin c) where
   -- so it is after each event of an up-write
   up_write_goes : (u : UpWrite) (s : UpWriteStep) (found : ℕ) → 1 ≤ u.level → u.level ≤ 3 → KnowsUpWrite s →
       HoldsOfNext UpWriteFits (up_write_after u s found).0
-  up_write_goes u a1 found l1 l3 k = grind arith
+  up_write_goes u s found l1 l3 k = grind arith
 
   -- a level whose closing begins
   closes_fits : (x : Freeze) (level : ℕ) → x.tasks ≡ c.tasks → x.processors ≡ c.processors → 1 ≤ level → level ≤ 3 →
@@ -135,11 +135,11 @@ module _ (c : Config) (within : IsWithin c) where
     goes_to s f = (task, all, processors, nodes, none, f)
 
     closing_fits : (level : ℕ) (n : Next DownWrite) → HoldsOfNext (DownWriteFits c) n → NextFits (after_closing x level n)
-    closing_fits level a1 h = grind arith
+    closing_fits level n h = grind arith
 
     reopening_fits : (level code : ℕ) → level ≤ 3 → (n : Next UpWrite) → HoldsOfNext UpWriteFits n →
         NextFits (after_reopening x level code n)
-    reopening_fits level code l3 a3 h = grind arith
+    reopening_fits level code l3 n h = grind arith
 
     clearing_fits : (marks : ClearMarks) (found : ℕ) → marks.nodes ≡ c.nodes → NextFits (after_clearing x (clear_after marks found).0)
     clearing_fits marks found same = grind arith

@@ -20,16 +20,16 @@ use Rattle.std.specs.Prelude.{Err, Ok, nat_lt, ◌%◌, ◌*◌, ◌-◌}
 
 module _ (w : Words) (d : DownWrite) where
   down_sections : (s : DownWriteStep) → (after_event w (down_write_next d s)).section ≡ w.section
-  down_sections other = grind arith
+  down_sections s = grind arith
 
   down_umount : (s : DownWriteStep) → (after_event w (down_write_next d s)).umount ≡ w.umount
-  down_umount other = grind arith
+  down_umount s = grind arith
 
   down_counts : (s : DownWriteStep) → (after_event w (down_write_next d s)).level ≡ w.level
-  down_counts other = grind arith
+  down_counts s = grind arith
 
 up_sections : (w : Words) (u : UpWrite) (s : UpWriteStep) → (after_event w (up_write_next u s)).section ≡ w.section
-up_sections w u a2 = grind arith
+up_sections w u s = grind arith
 
 none_left : (c : Config) (w : Words) (i : ℕ) → 4 ≤ i → i ≤ 3 → NothingCounted c w i
 none_left c w i low high = absurd (omega (arith, low, high))
@@ -42,18 +42,18 @@ module _ (c : Config) (after : Words) (x : Freeze) (even : NobodyInside c after)
   -- after an event of the closing of a level
   closes_falls : (d : DownWrite) (n : ℕ) (next : Next DownWrite) → (d.level ≡ 1 → after.umount ≡ 0) → LevelsAreFree c after (FreezeStep.Closes d) →
       DownFalls after d n next → FreezeFalls c after (n + closed_rank x d.level + 1) (after_closing x d.level next)
-  closes_falls d n a2 lock levels h = grind arith
+  closes_falls d n next lock levels h = grind arith
 
   cleans_falls : (n : ℕ) (next : Next ClearMarks) → 1 ≤ n → ((i : ℕ) → 3 ≤ i → i ≤ 3 → NothingCounted c after i) →
       Falls (λ (y : ClearMarks). y.nodes - y.node) (λ (y : ClearMarks). Unit {0}) n next →
       FreezeFalls c after (closing_rank x + n + 11) (after_clearing x next)
-  cleans_falls n a1 some levels h = grind arith
+  cleans_falls n next some levels h = grind arith
 
   -- after an event of the reopening of a level
   reopens_falls : (level r code : ℕ) (next : Next UpWrite) →
       Falls (reopens_rank after) (λ (y : UpWrite). Unit {0}) (r + 3 * (level - 1) + 1) next →
       FreezeFalls c after (r + 3 * (level - 1) + 1) (after_reopening x level code next)
-  reopens_falls level r code a3 h = grind arith
+  reopens_falls level r code next h = grind arith
 
 module _ (c : Config) (some : 1 ≤ c.processors) (w : World) (good : IsGood c w) (t : ℕ) (lt : t < c.tasks) (x : Freeze) where
   freeze_falls : (hook : HookAnswer) (s : FreezeStep) → ((i : ℕ) → sync_role_of i (w.views t).phase ≡ stand_sync i (freeze_stand s)) →

@@ -55,7 +55,7 @@ module _ (c : Config) (lim : IsWithin c) (i value : ℕ) (hook : HookAnswer) (ea
   closing_found s = found_by (down_write_next (closing_at c i s) s).1 value
 
   pub closing_leaves : (s : DownWriteStep) → Leaves (closing_trace s) earlier
-  closing_leaves other = grind arith
+  closing_leaves s = grind arith
 
   -- what the trace says after the event of a step
   abbrev AfterClosing : DownWriteStep → Type 0
@@ -64,10 +64,10 @@ module _ (c : Config) (lim : IsWithin c) (i value : ℕ) (hook : HookAnswer) (ea
       (down_write_after (closing_at c i s) s (closing_found s)).1
 
   enter_goes : (trace : List Traced) (n : TransitionNext) → ClosingGoes c i trace (closing_at c i (enter_step c.tasks n))
-  enter_goes trace a1 = grind arith
+  enter_goes trace n = grind arith
 
   callback_goes : (trace : List Traced) (n : TransitionNext) → ClosingGoes c i trace (closing_at c i (callback_step n))
-  callback_goes trace a1 = grind arith
+  callback_goes trace n = grind arith
 
   -- a task is passed
   passed_goes : (trace : List Traced) (g : Grace) →
@@ -92,7 +92,7 @@ module _ (c : Config) (lim : IsWithin c) (i value : ℕ) (hook : HookAnswer) (ea
   -- the sync word was found past GP_ENTER, or a writer in its grace period
   looks_at_sync : (o : Option SyncWord) → unpack value ≡ o →
       ClosingNext c i (closing_trace DownWriteStep.AwaitsPassed) (passed_awaited (closing_at c i DownWriteStep.AwaitsPassed) o) None
-  looks_at_sync a0 e = grind arith
+  looks_at_sync o e = grind arith
 
   sum_begins : (trace : List Traced) → ClosingGoes c i trace (closing_at c i sum_begun)
   sum_begins trace = (sum_begun, refl, (lim.some_processor, tt, refl))

@@ -138,7 +138,7 @@ closing_says : (c : Config) (t : ℕ) (holder : Holder) (i : ℕ) (s : DownWrite
     (action : Option Action) → IsClosing i (e ∷ earlier) added → ClosingNext c i (e ∷ earlier) n action →
     Says (FreezeAt c t holder) c (Op.Freeze holder) (e ∷ earlier)
     (map_next Phase.Freezes (after_closing (freeze_of c t holder (FreezeStep.Closes (closing_at c i s))) i n)) (actions_after action added)
-closing_says c t holder i s e earlier added a8 action level h = grind arith
+closing_says c t holder i s e earlier added n action level h = grind arith
 
 -- an event that gives `umount` back leaves what is told
 lock_leaves : (c : Config) (holder : Holder) (answer : Result Reply GateError) (value : ℕ) (hook : HookAnswer) (earlier : List Traced)
@@ -217,10 +217,10 @@ module _ (c : Config) (lim : IsWithin c) (t : ℕ) (holder : Holder) (value : �
       ]
 
   sets_fs : (hook : HookAnswer) → StepSays c holder FreezeStep.SetsFs earlier added → After hook FreezeStep.SetsFs
-  sets_fs a0 h = grind arith
+  sets_fs hook h = grind arith
 
   sets_complete : (hook : HookAnswer) → StepSays c holder FreezeStep.SetsComplete earlier added → After hook FreezeStep.SetsComplete
-  sets_complete a0 h = grind arith
+  sets_complete hook h = grind arith
 
   -- a level is being left, or it is left and the level below it comes
   leaves_on : (i code : ℕ) (from : Transition) (trace : List Traced) (n : TransitionNext) → AreLeft i trace added →
@@ -230,7 +230,7 @@ module _ (c : Config) (lim : IsWithin c) (t : ℕ) (holder : Holder) (value : �
       (after_reopening (freeze_of c t holder (FreezeStep.Reopens (record { level = suc i; step = UpWriteStep.Exits from }) code)) (suc i) code
       (exit_made (record { level = suc i; step = UpWriteStep.Exits from }) n)))
       added
-  leaves_on i code from trace a4 h said = grind arith
+  leaves_on i code from trace n h said = grind arith
 
   -- an event on a level's words leaves what is left
   still_left : (hook : HookAnswer) (i n : ℕ) (transition : Transition) → AreLeft n earlier added →

@@ -119,8 +119,8 @@ module _ (c : Config) (t : ℕ) (w next : World) (earlier : List World) where
 
   -- of a down-read that stands alone: whether its next phase asks
   pub asks_next : (n : Next DownRead) → (next.views t).phase ≡ phase_after (map_next DownReads n) → AsksNext n
-  asks_next a0 e = grind arith
+  asks_next n e = grind arith
 
   -- and what is kept of it
   pub next_cause : (n : Next DownRead) → HasNextCause n → CauseOf c t next (w ∷ earlier) (phase_after (map_next DownReads n))
-  next_cause a0 h = grind arith
+  next_cause n h = grind arith

@@ -52,7 +52,7 @@ module _ (h k : ℕ → Bool) (levels : (i : ℕ) → 1 ≤ i → i ≤ 3 → h 
 -- the word of each event of a down-read is there
 pub read_there : (c : Config) (t : ℕ) → t < c.tasks → (r : DownRead) (s : DownReadStep) → 1 ≤ r.level → r.level ≤ 3 →
     r.cpu < c.processors → r.task ≡ t → IsWord (extents_of c) (down_read_next r s).0
-read_there c t lt r other l1 l3 p same = grind arith
+read_there c t lt r s l1 l3 p same = grind arith
 
 -- its action can be done
 pub read_acts : (held : Holdings) (r : DownRead) (s : DownReadStep) (found : ℕ) → 1 ≤ r.level → r.level ≤ 3 →
@@ -95,12 +95,12 @@ module _ (c : Config) (t : ℕ) (r : DownRead) (l1 : 1 ≤ r.level) (l3 : r.leve
 -- what comes after an event of a down-read that stands alone fits
 pub read_fits : (c : Config) (t i p : ℕ) (held : Holdings) (n : Next DownRead) → ReadGoes c t i p held n →
     Fits c t held (phase_after (map_next DownReads n))
-read_fits c t i p held a5 h = grind arith
+read_fits c t i p held n h = grind arith
 
 -- the word of each event of a callback is there
 pub callback_there : (c : Config) (b : Callback) (s : CallbackStep) → 1 ≤ b.level → b.level ≤ 3 → GraceFits c.tasks s →
     IsWord (extents_of c) (callback_next b s).0
-callback_there c b other l1 l3 f = grind arith
+callback_there c b s l1 l3 f = grind arith
 
 -- no event of a callback adds an action
 pub callback_acts_none : (b : Callback) (s : CallbackStep) (found : ℕ) → (callback_after b s found).1 ≡ None
@@ -114,7 +114,7 @@ NextGraceFits tasks next = HoldsOfNext (λ (x : Callback). GraceFits tasks x.ste
 -- so its grace period fits after each event of a callback
 grace_goes : (b : Callback) (s : CallbackStep) (found : ℕ) → 0 < b.tasks → GraceFits b.tasks s →
     NextGraceFits b.tasks (callback_after b s found).0
-grace_goes b a1 found some f = grind arith
+grace_goes b s found some f = grind arith
 
 -- what comes next knows the words of its exchange, and is of as many tasks
 abbrev KnowsNext : Callback → Next Callback → Type 0
@@ -122,7 +122,7 @@ KnowsNext b next = HoldsOfNext (λ (x : Callback). (x.tasks ≡ b.tasks) × Know
 
 -- and so at each step
 knows_next : (b : Callback) (s : CallbackStep) (found : ℕ) → 0 < b.tasks → KnowsCallback s → KnowsNext b (callback_after b s found).0
-knows_next b a1 found some k = grind arith
+knows_next b s found some k = grind arith
 
 -- and it is at the same level
 abbrev AtLevelOf : Callback → Next Callback → Type 0
@@ -130,13 +130,13 @@ AtLevelOf b next = HoldsOfNext (λ (x : Callback). x.level ≡ b.level) next
 
 -- so after each event
 same_level : (b : Callback) (s : CallbackStep) (found : ℕ) → AtLevelOf b (callback_after b s found).0
-same_level b a1 found = grind arith
+same_level b s found = grind arith
 
 module _ (c : Config) (within : IsWithin c) (t : ℕ) (held : Holdings) (b : Callback) where
   -- all this together says that what comes next fits
   all_fit : 1 ≤ b.level → b.level ≤ 3 → b.tasks ≡ c.tasks → (n : Next Callback) → AtLevelOf b n → NextGraceFits b.tasks n →
       KnowsNext b n → Fits c t held (phase_after (map_next Callbacks n))
-  all_fit l1 l3 same a3 l g k = grind arith
+  all_fit l1 l3 same n l g k = grind arith
 
   -- what comes after each event of a callback fits
   pub callback_goes : (s : CallbackStep) (found : ℕ) → PhaseFits c t held (Callbacks (at_callback b s)) →

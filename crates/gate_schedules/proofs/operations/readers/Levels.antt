@@ -34,12 +34,12 @@ keeps_level r s found = grind arith
 -- at its level, the role of what comes after an event is the one of its step
 role_next : (i : ℕ) (n : Next DownRead) → HoldsOfNext (λ (x : DownRead). x.level ≡ i) n →
     by_next (λ (x : DownRead). down_read_role x.step) IsApart n ≡ sync_role_of i (phase_after (map_next DownReads n))
-role_next i a1 h = grind arith
+role_next i n h = grind arith
 
 -- at another level there is none
 pub role_elsewhere : (i j : ℕ) → (j ≡ i → ⊥) → (n : Next DownRead) → HoldsOfNext (λ (x : DownRead). x.level ≡ i) n →
     sync_role_of j (phase_after (map_next DownReads n)) ≡ IsApart
-role_elsewhere i j ne a3 h = grind arith
+role_elsewhere i j ne n h = grind arith
 
 -- and whether it is inside a section is what its step says
 pub inside_next : (n : Next DownRead) →
@@ -49,7 +49,7 @@ inside_next other = refl
 
 -- each event of a down-read is of a word of its level
 pub word_of_level : (r : DownRead) (s : DownReadStep) → IsOfLevel r.level (down_read_next r s).0
-word_of_level r other = grind arith
+word_of_level r s = grind arith
 
 -- a blocked down-read is apart from every rcu_sync
 pub blocked_apart : (r : DownRead) (b : Bool) (i : ℕ) → sync_role_of i (phase_after (map_next DownReads (left_blocked r b))) ≡ IsApart

@@ -15,7 +15,7 @@ module _ (w : Words) (r : DownRead) where
   -- a down-read leaves each `block`
   pub read_blocks : (s : DownReadStep) →
       (put w (down_read_next r s).0 (left (down_read_next r s).1 (read w (down_read_next r s).0))).block ≡ w.block
-  read_blocks a0 = grind arith
+  read_blocks s = grind arith
 
   pub read_block : (s : DownReadStep) →
       (put w (down_read_next r s).0 (left (down_read_next r s).1 (read w (down_read_next r s).0))).block r.level ≡ w.block r.level
@@ -27,7 +27,7 @@ module _ (w : Words) (r : DownRead) where
       (r.wait ≡ true → is_admitted s ≡ false → w.block r.level ≡ 0) →
       Falls (λ (y : DownRead). read_rank y.wait y.step) (ReadIsFree after) (read_rank r.wait s)
       (down_read_after r s (found_by (down_read_next r s).1 (read w (down_read_next r s).0))).0
-  read_falls after a1 may stays free = grind arith
+  read_falls after s may stays free = grind arith
 
 -- of each phase of a start
 pub read_ends : (c : Config) (r : DownRead) → PhaseEnds c (DownReads r)
@@ -48,7 +48,7 @@ end_ends c u = record { falls = λ lim w good t lt hook at free. tt }
 write_falls : (w : Words) (x : WritePhase) → WriteIsFree w x → MayHold (write_next x).0 (read w (write_next x).0) →
     let after : Words = put w (write_next x).0 (left (write_next x).1 (read w (write_next x).0)) in
     Falls write_rank (WriteIsFree after) (write_rank x) (write_after x (found_by (write_next x).1 (read w (write_next x).0))).0
-write_falls w a1 free may = grind arith
+write_falls w x free may = grind arith
 
 -- of each phase of a write access
 pub write_ends : (c : Config) (x : WritePhase) → PhaseEnds c (Writes x)

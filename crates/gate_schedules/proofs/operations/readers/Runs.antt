@@ -96,7 +96,7 @@ block_inside r false = refl
 -- an event of a down-read that changes no section word leaves it inside its section
 stays_inside : (r : DownRead) (s : DownReadStep) (found : ℕ) → IsEventAt r.level (down_read_next r s).0 (down_read_next r s).1 →
     inside (phase_after (map_next DownReads (down_read_after r s found).0)) ≡ down_read_inside s
-stays_inside r other found is = grind arith
+stays_inside r s found is = grind arith
 
 module _ (c : Config) (w : World) (good : IsGood c w) (hook : HookAnswer) (r : DownRead) (lt : r.task < c.tasks) (one : 1 ≤ r.level)
     (three : r.level ≤ 3) where

@@ -58,7 +58,7 @@ ReadNext base i p t wait trace added (Done (Err refusal)) = ⊥
 
 -- what holds of both additions holds of the one that a state leads to
 by_state : (P : DownReadStep → Type 0) → P CountsUpFast → P CountsUpSlow → (state : GpState) → P (step_in state)
-by_state a0 fast slow a3 = grind arith
+by_state P fast slow state = grind arith
 
 -- what holds of another load too holds of the step that any number leads to
 pub by_word : (P : DownReadStep → Type 0) → P LoadsSync → P CountsUpFast → P CountsUpSlow → (word : Option SyncWord) → P (step_found word)
@@ -82,7 +82,7 @@ module _ (base i p t : ℕ) (value : ℕ) (hook : HookAnswer) (earlier : List Tr
   -- each event of a down-read keeps what its trace says: its sync word is one, so it is loaded once
   pub read_event : (wait : Bool) (s : DownReadStep) → MayHold (down_read_next (read_at i p t wait s) s).0 value →
       ReadSays base i wait s earlier added → After wait s
-  read_event wait a1 may h = grind arith
+  read_event wait s may h = grind arith
 
 -- what a start's trace says at a phase
 abbrev pub StartAt : ℕ → ℕ → ℕ → Bool → List Traced → Phase → List Action → Type 0
@@ -103,7 +103,7 @@ within_six s n h = omega arith
 start_says : (c : Config) (i p t : ℕ) (wait : Bool) (e : Traced) (earlier : List Traced) (added : List Action) (n : Next DownRead) →
     ReadNext 0 i p t wait (e ∷ earlier) added n →
     Says (StartAt i p t wait) c (Start i p wait) (e ∷ earlier) (map_next DownReads n) added
-start_says c i p t wait e earlier added a8 h = grind arith
+start_says c i p t wait e earlier added n h = grind arith
 
 -- so it is kept along every trace of a start
 pub start_kept : (c : Config) (t i p : ℕ) (wait : Bool) → KeptWell (StartAt i p t wait) c t (Start i p wait)

@@ -24,12 +24,12 @@ module _ (c : Config) (w : World) (earlier : List World) (t : ℕ) where
   -- where an event of a down-read is a wait or a refusal, the level was closed when the task last asked: the cause that is kept says so
   pub read_waits : (r : DownRead) (s : DownReadStep) (found : ℕ) → ReadCause c t w earlier r.level s →
       WhereRefused (WasClosed c t r.level (last_asked t (w ∷ earlier))) (down_read_after r s found).0
-  read_waits r other found h = grind arith
+  read_waits r s found h = grind arith
 
   -- so a down-read that stands alone waits for another task
   pub start_waits : (r : DownRead) (n : Next DownRead) → WhereRefused (WasClosed c t r.level (last_asked t (w ∷ earlier))) n →
       HasReason c w earlier t (DownReads r) (map_next DownReads n)
-  start_waits r a1 h = grind arith
+  start_waits r n h = grind arith
 
   module _ (good : IsGood c w) (b : Callback) where
     -- what is said of the wait of a callback that is at this step

@@ -235,7 +235,7 @@ module _ (c : Config) (lim : IsWithin c) (t : ℕ) (ro : Bool) (value : ℕ) (ea
 
   -- the file system has answered, on the way to read-only
   sets_read_only : (hook : HookAnswer) → StepSays c ro RemountStep.SetsReadOnly earlier added → After hook RemountStep.SetsReadOnly
-  sets_read_only a0 h = grind arith
+  sets_read_only hook h = grind arith
 
   remount_event : (hook : HookAnswer) (step : RemountStep) → StepSays c ro step earlier added → After hook step
   remount_event hook RemountStep.Locks h = locks hook h

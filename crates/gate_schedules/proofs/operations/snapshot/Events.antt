@@ -30,7 +30,7 @@ off_umount w = record w { umount = 0 }
 
 -- are as they were after each event of a snapshot
 event_beside : (w : Words) (x : Snapshot) (s : SnapshotStep) → off_umount (words_left w (snapshot_next x s)) ≡ off_umount w
-event_beside w x a2 = grind arith
+event_beside w x s = grind arith
 
 -- What comes after it is the same snapshot at another step, or it is done.
 module _ (x : Snapshot) (P : Next Snapshot → Type 0) (go : (s : SnapshotStep) → P (Next.Go (at_snapshot x s)))

@@ -71,7 +71,7 @@ module _ (c : Config) (t : ℕ) (wait : Bool) where
       MayHold (snapshot_next (snapshot_of s) s).0 value →
       Comes (longer earlier value hook s) (events_before c s)
       (snapshot_after (snapshot_of s) s (found_by (snapshot_next (snapshot_of s) s).1 value)).0
-  snapshot_goes lim earlier a2 value hook there may = grind arith
+  snapshot_goes lim earlier s value hook there may = grind arith
 
   -- so the trace of a snapshot says what its row asks for
   snapshot_answers : (s : SnapshotStep) (trace : List Traced) →

@@ -36,7 +36,7 @@ module _ (c : Config) (t : ℕ) (w next : World) (earlier : List World) (x : Tha
   -- nor does an event of an up-write's transition say anything
   exit_own : (level : ℕ) (u : UpWrite) (n : TransitionNext) →
       CauseOf c t next (w ∷ earlier) (phase_after (map_next Phase.Thaws (after_opening x level (exit_made u n))))
-  exit_own level u a2 = grind arith
+  exit_own level u n = grind arith
 
   -- or any other of its events
   reopening_own : (u : UpWrite) (s : UpWriteStep) (found : ℕ) →
@@ -59,4 +59,4 @@ module _ (c : Config) (t : ℕ) (w next : World) (earlier : List World) (x : Tha
       let comes : Option Phase =
       phase_after (after_of (Phase.Thaws (at_thaw x s)) (found_at w.words (Phase.Thaws (at_thaw x s)) hook) hook).0 in
       (next.views t).phase ≡ comes → CauseOf c t next (w ∷ earlier) comes
-  thaw_own hook other e e' = grind arith
+  thaw_own hook s e e' = grind arith

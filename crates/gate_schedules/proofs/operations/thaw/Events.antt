@@ -53,21 +53,21 @@ module _ (x : Thaw) where
   -- it stands so with the levels
   pub opening_stands : (level : ℕ) (n : Next UpWrite) →
       Stands (phase_after (map_next Phase.Thaws (after_opening x level n))) (stand_after_opening level n)
-  opening_stands level a1 = grind arith
+  opening_stands level n = grind arith
 
   -- it owns `umount`, with the levels up to one still closed
   opens_own : (level : ℕ) → thaw_owns (thaw_opens level) ≡ 1
   opens_own level = grind arith
 
   opening_owns : (level : ℕ) (n : Next UpWrite) → owns (phase_after (map_next Phase.Thaws (after_opening x level n))) ≡ 1
-  opening_owns level a1 = grind arith
+  opening_owns level n = grind arith
 
 role_owns : {stage sb : Option ℕ} (s : ThawStep) → thaw_stage_role s ≡ Owning stage sb → thaw_owns s ≡ 1
 role_owns s role = sym (thaw_owner s) ∙ ap stage_owns role
 
 -- a level's reopening has nothing to do with the holders, nor what comes after it
 opening_apart : (x : Thaw) (level : ℕ) (n : Next UpWrite) → holder_role_of (phase_after (map_next Phase.Thaws (after_opening x level n))) ≡ Apart
-opening_apart x level a2 = grind arith
+opening_apart x level n = grind arith
 
 -- a thaw does nothing at the tree, whatever comes after an event of it
 tree_comes : (trace : List Traced) (n : Next Thaw) → tree_role_of trace (phase_after (map_next Phase.Thaws n)) ≡ OffTree
@@ -82,7 +82,7 @@ GoesOn old stage sb dirty r = IsAlike old r × KnowsStage stage sb r × CleanBel
 exit_on : (x : Thaw) (level : ℕ) (s : UpWriteStep) (n : TransitionNext) (stage sb : ℕ) (dirty : ℕ → ℕ) → level ≤ 3 → stage ≡ 0 →
     GoesOn (Reopening (level - 1)) stage sb dirty
     (stage_role_of (phase_after (map_next Phase.Thaws (after_opening x level (exit_made (record { level = level; step = s }) n)))))
-exit_on x level s a3 stage sb dirty l3 z = grind arith
+exit_on x level s n stage sb dirty l3 z = grind arith
 
 module _ (c : Config) (lim : IsWithin c) (w : World) (good : IsGood c w) (t : ℕ) (lt : t < c.tasks) (x : Thaw) where
   -- the task is at this step of the thaw

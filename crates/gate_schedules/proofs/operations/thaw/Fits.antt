@@ -26,7 +26,7 @@ finds_cases x held P refused alone shared =
 
 -- the word of each event of a thaw is there
 pub thaw_there : (c : Config) (x : Thaw) (s : ThawStep) (hook : HookAnswer) → ThawFits x.holder s → IsWord (extents_of c) (thaw_next x s hook).0
-thaw_there c x other hook f = grind arith
+thaw_there c x s hook f = grind arith
 
 pub thaw_acts : (held : Holdings) (x : Thaw) (s : ThawStep) (found : ℕ) (hook : HookAnswer) → ActionFits held (thaw_after x s found hook).1
 thaw_acts held x s found hook = grind arith
@@ -43,7 +43,7 @@ module _ (c : Config) (t : ℕ) (held : Holdings) (x : Thaw) (same : x.task ≡ 
       (phase_after (map_next Phase.Thaws (thaw_after x s found hook).0))
 
   step_goes : (s : ThawStep) (found : ℕ) (hook : HookAnswer) → ThawFits x.holder s → GoesOn s found hook
-  step_goes other found hook f = grind arith
+  step_goes s found hook f = grind arith
 
 -- what comes after each event of a thaw fits
 pub thaw_goes : (c : Config) (t : ℕ) (held : Holdings) (x : Thaw) (s : ThawStep) (found : ℕ) (hook : HookAnswer) →

@@ -16,7 +16,7 @@ opens_falls : (after : Words) (x : Thaw) (level r : ℕ) (next : Next UpWrite) �
     Falls (reopens_rank after) (λ (y : UpWrite). Unit {0}) (r + 3 * (level - 1) + 1) next →
     Falls (λ (y : Thaw). thaw_rank after y.step) (λ (y : Thaw). ThawIsFree after y.step) (r + 3 * (level - 1) + 1)
     (after_opening x level next)
-opens_falls after x level r a4 h = grind arith
+opens_falls after x level r next h = grind arith
 
 module _ (c : Config) (w : World) (good : IsGood c w) (t : ℕ) (lt : t < c.tasks) (x : Thaw) where
   thaw_falls : (hook : HookAnswer) (s : ThawStep) → ((i : ℕ) → sync_role_of i (w.views t).phase ≡ stand_sync i (thaw_stand s)) →

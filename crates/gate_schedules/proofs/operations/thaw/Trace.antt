@@ -86,10 +86,10 @@ module _ (c : Config) (t : ℕ) (holder : Holder) (value : ℕ) (earlier : List 
   -- each event of an up-write
   reopens : (hook : HookAnswer) (level : ℕ) (s : UpWriteStep) → StepSays c holder (ThawStep.Reopens (record { level = level; step = s })) earlier added →
       After hook (ThawStep.Reopens (record { level = level; step = s }))
-  reopens hook level a2 h = grind arith
+  reopens hook level s h = grind arith
 
   thaw_event : (hook : HookAnswer) (step : ThawStep) → StepSays c holder step earlier added → After hook step
-  thaw_event hook a1 h = grind arith
+  thaw_event hook step h = grind arith
 
 pub thaw_kept : (c : Config) (t : ℕ) (holder : Holder) → Kept (ThawAt c t holder) c t (Op.Thaw holder)
 thaw_kept c t holder = grind arith

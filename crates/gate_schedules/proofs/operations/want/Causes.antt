@@ -37,7 +37,7 @@ module _ (c : Config) (t : ℕ) (w : World) (earlier : List World) (m : ℕ) whe
   NextCause (Next.Done (Err refusal)) = WantCause c t w earlier m (WantStep.CountsDown refusal)
 
   pub next_cause : (n : Next Want) → NextCause n → CauseOf c t w earlier (phase_after (map_next Phase.Mounts (map_next MountPhase.Want n)))
-  next_cause a0 h = grind arith
+  next_cause n h = grind arith
 
 -- the task that steps: what comes after its event says, in the world after the event
 module _ (c : Config) (t : ℕ) (lt : t < c.tasks) (w next : World) (earlier : List World) (good : IsGood c w) where

@@ -10,7 +10,7 @@ use Rattle.gate_world.specs.declared.{config.Config.Config, work.Phase.Phase}
 
 -- the word of each event of a want is there
 pub want_there : (c : Config) (w : Want) (step : WantStep) → w.mount < c.mounts → w.cpu < c.processors → IsWord (extents_of c) (want_next w step).0
-want_there c w a2 m p = grind arith
+want_there c w step m p = grind arith
 
 module _ (c : Config) (within : IsWithin c) (t : ℕ) (held : Holdings) where
   pub want_acts : (w : Want) (step : WantStep) (found : ℕ) → w.mount < 8 → held.mounts w.mount < 1024 → ActionFits held (want_after w step found).1
@@ -24,4 +24,4 @@ module _ (c : Config) (within : IsWithin c) (t : ℕ) (held : Holdings) where
   pub want_goes : (w : Want) (step : WantStep) (found : ℕ) → MountFits c t held (MountPhase.Want w) →
       Fits c t (held_after (want_after w step found).1 held)
       (phase_after (map_next Phase.Mounts (map_next MountPhase.Want (want_after w step found).0)))
-  want_goes w a1 found f = grind arith
+  want_goes w step found f = grind arith

@@ -155,7 +155,7 @@ module _ (c : Config) (m p : ℕ) (base : List Action) (below : List Traced) (va
 want_says : (c : Config) (m p : ℕ) (wait : Bool) (e : Traced) (earlier : List Traced) (added : List Action) (n : Next Want) →
     WantNext c m p wait [] [] (e ∷ earlier) added n →
     Says (WantAt c m p wait) c (Op.Want m p wait) (e ∷ earlier) (map_next Phase.Mounts (map_next MountPhase.Want n)) added
-want_says c m p wait e earlier added a7 h = grind arith
+want_says c m p wait e earlier added n h = grind arith
 
 pub want_kept : (c : Config) (t m p : ℕ) (wait : Bool) → Kept (WantAt c m p wait) c t (Op.Want m p wait)
 want_kept c t m p wait = record {

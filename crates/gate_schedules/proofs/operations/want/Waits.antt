@@ -50,4 +50,4 @@ module _ (c : Config) (w : World) (earlier : List World) (good : IsGood c w) (t 
   -- so it is of a want's own operation
   pub next_waits : (n : Next Want) → NextWaits n →
       HasReason c w earlier t (Phase.Mounts (MountPhase.Want x)) (map_next Phase.Mounts (map_next MountPhase.Want n))
-  next_waits a0 h = grind arith
+  next_waits n h = grind arith

@@ -24,4 +24,4 @@ alike_takes m p other = refl
 -- and so is what comes after an event at the mount: an end of level 1 has no role
 pub alike_wants : (m p : ℕ) (n : Next Want) →
     IsAlike (phase_after (map_next Phase.Mounts (map_next MountPhase.Want n))) (phase_after (map_next Phase.Writes (then_gives_back m p n)))
-alike_wants m p other = grind arith
+alike_wants m p n = grind arith

@@ -14,7 +14,7 @@ use Rattle.compounds.specs.declared.write_access.phases.WritePhase.{WritePhase}
 
 -- the phase of its gate fits
 pub plain_fits : (c : Config) (t : ℕ) (held : Holdings) (x : WritePhase) → WriteFits c t held x → PhaseFits c t held (plain x)
-plain_fits c t held other f = grind arith
+plain_fits c t held x f = grind arith
 
 module _ (c : Config) (w : World) (good : IsGood c w) (t : ℕ) (lt : t < c.tasks) (hook : HookAnswer) (x : WritePhase)
     (e : (w.views t).phase ≡ Some (Phase.Writes x)) where

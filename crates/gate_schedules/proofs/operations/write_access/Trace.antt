@@ -42,7 +42,7 @@ module _ (c : Config) (m p t : ℕ) (e : Traced) (earlier : List Traced) (added 
   -- what the trace says after an event at the mount
   wanted_says : (below : List Traced) (n : Next Want) → WantNext c m p true level_taken below (e ∷ earlier) added n →
       Says (WriteAt c m p t) c (Op.WantWrite m p) (e ∷ earlier) (map_next Phase.Writes (then_gives_back m p n)) added
-  wanted_says below a1 h = grind arith
+  wanted_says below n h = grind arith
 
 module _ (c : Config) (m p t : ℕ) (value : ℕ) (hook : HookAnswer) (earlier : List Traced) (added : List Action) where
   -- what the trace says after the event of a phase

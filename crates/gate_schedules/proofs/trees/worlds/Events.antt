@@ -35,15 +35,15 @@ IsOther (Next.Done answer) = Unit {0}
 
 -- what comes after an event of a call is of the same call
 stays_other : {P : Type 0} (to : P → TreePhase) → ((y : P) → is_snapshot (to y) ≡ false) → (n : Next P) → IsOther (map_next to n)
-stays_other to other a2 = grind arith
+stays_other to other n = grind arith
 
 -- so none that is no snapshot becomes one
 other_after : (x : TreePhase) (found : ℕ) (hook : HookAnswer) → is_snapshot x ≡ false → IsOther (after x found hook).0
-other_after a0 found hook other = grind arith
+other_after x found hook other = grind arith
 
 -- and what comes after it is plain
 plain_after : (n : Next TreePhase) → IsOther n → IsPlain (phase_after (map_next Phase.Trees n))
-plain_after a0 other = grind arith
+plain_after n other = grind arith
 
 -- its role at the tree is the same whatever was noted
 role_same : (x : TreePhase) (noted other : ℕ → ℕ) → is_snapshot x ≡ false → phase_role noted x ≡ phase_role other x
@@ -52,7 +52,7 @@ role_same x noted values other = refl
 
 role_comes : (n : Next TreePhase) (noted : ℕ → ℕ) (trace : List Traced) → IsOther n →
     role_after (phase_role noted) n ≡ tree_role_of trace (phase_after (map_next Phase.Trees n))
-role_comes a0 noted trace other = grind arith
+role_comes n noted trace other = grind arith
 
 notes_nothing : (x : TreePhase) (values noted : ℕ → ℕ) (found : ℕ) → is_snapshot x ≡ false → Notes x values noted found
 notes_nothing (TreePhase.Snapshot x) values noted found other = absurd (true≢false other)

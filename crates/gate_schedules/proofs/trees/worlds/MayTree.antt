@@ -156,7 +156,7 @@ module _ (c : Config) (w : World) (good : IsGood c w) where
     create_leave x other found leave = tt
 
     remove_leave : (x : Remove) (s : RemoveStep) (found : ℕ) → IsWriter (model_limits c) (shown c w) t → LeaveFor (remove_after x s found).1
-    remove_leave x other found leave = grind arith
+    remove_leave x s found leave = grind arith
 
     grow_leave : (x : Grow) (s : GrowStep) (found : ℕ) → IsWriter (model_limits c) (shown c w) t → LeaveFor (grow_after x s found).1
     grow_leave x (GrowStep.GrowsFile file) found leave = leave_if (found == word_of file) _ leave

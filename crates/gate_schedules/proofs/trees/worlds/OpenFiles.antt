@@ -121,7 +121,7 @@ module _ (l : Limits) (s : State) (t : ℕ) (lt : t < most_tasks) (node node' : 
 -- a call but an open relies on no file
 no_file : {P : Type 0} (to : P → TreePhase) → ((y : P) → file_of (Some (Phase.Trees (to y))) ≡ None) → (files : ℕ → Bool) (n : Next P) →
     HasFile files (file_of (phase_after (map_next Phase.Trees (map_next to n))))
-no_file to none files a3 = grind arith
+no_file to none files n = grind arith
 
 -- an open relies on that its task doesn't have its file open, until it has
 look_file : (x again : OpenFile) (to : NodeWord → OpenFile) (files : ℕ → Bool) (r : Option (Result NodeWord GateError)) →

@@ -88,14 +88,14 @@ is_snapshot (TreePhase.Snapshot x) = true
 is_snapshot x = false
 
 pub node_word : (x : TreePhase) (hook : HookAnswer) → is_snapshot x ≡ false → is_node_word (next x hook).0 ≡ true
-node_word a0 hook other = grind arith
+node_word x hook other = grind arith
 
 -- the event of this touch on this word is a load, or the word is one that calls write
 abbrev pub IsCallTouch : WordName × Touch → Type 0
 IsCallTouch x = (is_load x.1 ≡ true) ⊎ (is_call_word x.0 ≡ true)
 
 snapshot_touch : (x : Snapshot) (s : SnapshotStep) → IsCallTouch (snapshot_next x s)
-snapshot_touch x other = grind arith
+snapshot_touch x s = grind arith
 
 pub call_touch : (x : TreePhase) (hook : HookAnswer) → IsCallTouch (next x hook)
 call_touch (TreePhase.Snapshot x) hook = snapshot_touch x x.step
@@ -187,7 +187,7 @@ pub leaves_none : LeavesAccesses None
 leaves_none = record { mounts = λ held. refl; levels = λ held. refl }
 
 pub call_leaves : (x : TreePhase) (found : ℕ) (hook : HookAnswer) → LeavesAccesses (after x found hook).1
-call_leaves a0 found hook = grind (arith, common_steps)
+call_leaves x found hook = grind (arith, common_steps)
 
 module _ (c : Config) (held : Holdings) where
   -- what comes after an event is a call at which its task may be
@@ -197,12 +197,12 @@ module _ (c : Config) (held : Holdings) where
   AccessAfter (Next.Done answer) = Unit {0}
 
   comes_with : {P : Type 0} (to : P → TreePhase) → ((y : P) → TreeAccess c held (to y)) → (n : Next P) → AccessAfter (map_next to n)
-  comes_with to may a2 = grind arith
+  comes_with to may n = grind arith
 
   -- after an event of a page fault or a write-back
   mark_access : (x : Mark) (s : MarkStep) (found : ℕ) → TreeAccess c held (TreePhase.Mark x) →
       AccessAfter (map_next TreePhase.Mark (mark_after x s found).0)
-  mark_access x a1 found may = grind (arith, common_steps)
+  mark_access x s found may = grind (arith, common_steps)
 
   -- a call keeps its task's accesses
   pub access_after : (x : TreePhase) (found : ℕ) (hook : HookAnswer) → TreeAccess c held x → AccessAfter (after x found hook).0
@@ -218,7 +218,7 @@ module _ (c : Config) (held : Holdings) where
   -- so what comes after it fits
   next_fits : (t : ℕ) (n : Next TreePhase) → NextFits (tree_bounds c) t n → AccessAfter n →
       Fits c t held (phase_after (map_next Phase.Trees n))
-  next_fits t a1 fits may = grind arith
+  next_fits t n fits may = grind arith
 
   call_goes_on : IsWithin c → (t : ℕ) (x : TreePhase) (found : ℕ) (hook : HookAnswer) →
       TreePhaseFits (tree_bounds c) t x × TreeAccess c held x →
@@ -256,7 +256,7 @@ pub call_off : (x : TreePhase) → IsOffGates (Some (Phase.Trees x))
 call_off x = record { roles = refl; closing_none = λ i. refl }
 
 pub next_off : (n : Next TreePhase) → IsOffGates (phase_after (map_next Phase.Trees n))
-next_off a0 = grind arith
+next_off n = grind arith
 
 -- the parts that no event of a call touches
 abbrev pub is_gate_part : Part → Bool

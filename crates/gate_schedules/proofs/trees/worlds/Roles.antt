@@ -18,7 +18,7 @@ is_plain x = true
 pub snapshot_apart : (nodes : ℕ) (values : ℕ → ℕ) (s : SnapshotStep) →
     (cleared (snapshot_role nodes values s) ≡ 0) × (is_bare (snapshot_role nodes values s) ≡ 0) ×
     ((n : ℕ) → frees n (snapshot_role nodes values s) ≡ 0)
-snapshot_apart nodes values other = grind arith
+snapshot_apart nodes values s = grind arith
 
 -- of a close, but that it frees its node
 pub close_apart : (x : ClosePhase) → (cleared (close_tree_role x) ≡ 0) × (is_bare (close_tree_role x) ≡ 0) × (words_read (close_tree_role x) ≡ 0)
