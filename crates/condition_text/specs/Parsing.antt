@@ -23,7 +23,7 @@ use Rattle.gate_world.specs.declared.config.Config.{Config}
 use Rattle.race_conditions.specs.Conditions.{Formula, Is, Not, And, Or}
 use Rattle.condition_text.specs.Pieces.{end_of, is_next, piece_at, unexpected}
 use Rattle.race_conditions.specs.declared.conditions.CallAnswer.{CallAnswer}
-use Rattle.race_conditions.specs.declared.conditions.CallAnswer.TheVariants.{Done, Refused, RefusedFor}
+use Rattle.race_conditions.specs.declared.conditions.CallAnswer.TheVariants.{Done, Refused, RefusedFor, Skipped}
 use Rattle.race_conditions.specs.declared.conditions.Fact.{Fact}
 use Rattle.race_conditions.specs.declared.conditions.Fact.TheVariants.{Answered, Waits, Holds, HasOpen, Superblock, Mount, Stage, FrozenBy, Node}
 use Rattle.race_conditions.specs.declared.conditions.NodeFact.{NodeFact}
@@ -110,6 +110,7 @@ module _ (text : List ℕ) where
   unfoldable pub answer_at : ℕ → Read CallAnswer
   answer_at at =
       if is_next text at (codes "ok") then Ok (Done, end_of text at) else
+      if is_next text at (codes "skipped") then Ok (Skipped, end_of text at) else
       if is_next text at (codes "refused") then refusal_at (end_of text at) else Err (unexpected text at expect.Answer)
 
   -- behind `TASK . CALL =`

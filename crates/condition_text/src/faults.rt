@@ -62,7 +62,7 @@ impl Expected {
             Expected::DotOrHolds => "'.' or 'holds'",
             Expected::Call => "a call of the task",
             Expected::EqualsOrWaits => "'=' or 'waits'",
-            Expected::Answer => "'ok' or 'refused'",
+            Expected::Answer => "'ok', 'refused' or 'skipped'",
             Expected::Code => "a code",
             Expected::Held => "'mount', 'level' or 'file'",
             Expected::Equals => "'='",

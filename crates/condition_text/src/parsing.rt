@@ -284,6 +284,8 @@ fn answer_at(text: &[u8], at: usize) -> Result<(CallAnswer, usize), Unexpected>
 {
     if is_next(text, at, "ok") {
         Ok((CallAnswer::Done, end_of(text, at)))
+    } else if is_next(text, at, "skipped") {
+        Ok((CallAnswer::Skipped, end_of(text, at)))
     } else if is_next(text, at, "refused") {
         refusal_at(text, end_of(text, at))
     } else {

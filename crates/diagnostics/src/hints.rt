@@ -3,7 +3,7 @@
 use crate::contexts::Context;
 use crate::forms::{ALONE, CHOICES, CONFIG, CONFIGS, HOOKS, LIMITS, TYPED, VERBS, told_of};
 use crate::places::{Place, byte_in, comment_in, empty_word, end_of, word_after, words_from};
-use crate::race_hints::find_in_race;
+use crate::race_hints::{find_in_race, prefix_length};
 use crate::texts::Text;
 use schedule_lines::numbers::{is_digits, number_of};
 use schedule_lines::words::word_count;
@@ -90,7 +90,7 @@ fn find_word<'a>(help: &mut Text, fault: &str, line: &'a [u8], context: Context)
         Context::Schedule(tasks) => find_in_command(help, fault, line, tasks, false),
         Context::Race(tasks) => match find_in_race(help, fault, line) {
             Some(place) => place,
-            None => find_in_command(help, fault, line, tasks, true),
+            None => find_in_call(help, fault, line, tasks),
         },
     }
 }
@@ -140,6 +140,24 @@ fn find_in_command<'a>(
             first
         }
         _ => find_argument(help, fault, line),
+    }
+}
+
+/// Finds what is wrong with a line of a race that may have a prefix before its command.
+fn find_in_call<'a>(help: &mut Text, fault: &str, line: &'a [u8], tasks: u8) -> Place<'a> {
+    let prefix = prefix_length(line);
+    if prefix == 0 || fault == "no such task" {
+        return find_in_command(help, fault, line, tasks, true);
+    }
+    // The last word of the prefix stands where a line without one has its task.
+    let call = words_from(line, prefix);
+    let place = match fault {
+        "unknown command" => find_verb(help, word_after(call.part, 1), true),
+        _ => find_argument(help, fault, call.part),
+    };
+    Place {
+        part: place.part,
+        column: place.column.saturating_add(call.column).saturating_sub(1),
     }
 }
 
@@ -193,10 +211,29 @@ fn tell_near(help: &mut Text, name: &str) {
     help.put("?");
 }
 
+/// Returns what is told of a word that stands where a command has to, and that only a race knows, or only in another place.
+fn misplaced(word: &[u8], is_race: bool) -> Option<&'static str> {
+    let is_hook = word == b"hook".as_slice();
+    let is_prefix = word == b"if".as_slice() || word == b"retry".as_slice();
+    match (is_hook, is_prefix) {
+        (true, _) if is_race => Some(
+            "a line 'hook' speaks of the task's last call, and has no prefix",
+        ),
+        (true, _) => Some(
+            "'hook' stands behind a line 'race'; here 'T run HOOK CODE' lets a hook fail",
+        ),
+        (_, true) if is_race => Some(
+            "a line has 'if ok' or 'if refused' first, then 'retry', then its call",
+        ),
+        (_, true) => Some("'if' and 'retry' stand behind a line 'race'"),
+        _ => None,
+    }
+}
+
 /// Tells what may be meant by a second word that is no command on a task.
 fn find_verb<'a>(help: &mut Text, place: Place<'a>, is_race: bool) -> Place<'a> {
-    if place.part == b"hook".as_slice() {
-        help.put("'hook' stands behind a line 'race'; here 'T run HOOK CODE' lets a hook fail");
+    if let Some(text) = misplaced(place.part, is_race) {
+        help.put(text);
         return place;
     }
     let near = if is_race {

@@ -12,15 +12,55 @@ pub(crate) fn find_in_race<'a>(help: &mut Text, fault: &str, line: &'a [u8]) -> 
         "hook twice" => help.put(
             "one hook of a call may fail: this call has a line 'hook' already",
         ),
-        "call expected" => tell_no_call(help, line),
+        "ok or refused expected" => {
+            help.put("'ok' or 'refused' stands behind 'if', as in '0 if ok thaw'");
+            return Some(word_after(line, 2));
+        }
+        "no call before" => help.put(
+            "'if' asks what the task's last call answered, and this is its first",
+        ),
+        "call expected" => return Some(find_no_call(help, line)),
         _ => return None,
     }
-    let second = word_after(line, 1);
-    if second.part.is_empty() {
-        Some(word_after(line, 0))
+    Some(word_or_first(line, 1))
+}
+
+/// Returns the word of a line with so many before it; the first word, where there is no such one.
+fn word_or_first<'a>(line: &'a [u8], before: usize) -> Place<'a> {
+    let word = word_after(line, before);
+    if word.part.is_empty() {
+        word_after(line, 0)
     } else {
-        Some(second)
+        word
     }
+}
+
+/// Returns how many words stand between the task of a line and its command: `if ok`, `if refused` and `retry`.
+pub(crate) fn prefix_length(line: &[u8]) -> usize {
+    let branch: usize = if is_word_at(line, 1, b"if") { 2 } else { 0 };
+    let next = branch.saturating_add(1);
+    if is_word_at(line, next, b"retry") {
+        next
+    } else {
+        branch
+    }
+}
+
+/// Whether a line has this word behind so many.
+fn is_word_at(line: &[u8], before: usize, word: &[u8]) -> bool {
+    word_after(line, before).part == word
+}
+
+/// Finds what is no call on a line.
+fn find_no_call<'a>(help: &mut Text, line: &'a [u8]) -> Place<'a> {
+    let prefix = prefix_length(line);
+    let before = prefix.saturating_add(1);
+    if prefix > 0 && word_after(line, before).part.is_empty() {
+        help.put("a call stands behind it, as in '0 retry remount ro'");
+        return word_after(line, prefix);
+    }
+    tell_no_call(help, line);
+    word_or_first(line, before)
 }
 
 /// Tells what is wrong with a line that is no call.

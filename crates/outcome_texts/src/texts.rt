@@ -2,15 +2,15 @@
 
 ghost use Rattle.std.specs.Prelude.{◌≡◌, IfOk, slice_get};
 ghost use Rattle.schedule_lines.specs.Printed.{Prints};
-ghost use Rattle.outcome_texts.specs.Texts.{told_answer, course_text, outcome_text};
+ghost use Rattle.outcome_texts.specs.Texts.{answer_part, told_answer, course_text, outcome_text};
 
 use access_model::{GateError, Reply};
-use races::{Course, Race};
+use races::{CALLS, Course, Race};
 use schedule_text::Output;
 use std::alloc::{AllocError, Global};
 
-/// The text of an outcome: what the calls of each task have answered, task by task, and `T waits` for each task that has calls left; all
-/// joined by `; `.
+/// The text of an outcome: what the calls of each task have answered, task by task, `T skipped` for each that was skipped, and `T waits` for
+/// each task that has calls left; all joined by `; `.
 #[tactic(auto, unfolding(crate::specs::Texts::outcome_text))]
 pub fn outcome_text(alloc: Global, race: &Race, courses: &[Course]) -> Result<Vec<u8>, AllocError>
     ensures { IfOk result (λ text. text.items ≡ outcome_text race.now.tasks race.now.calls.items courses.now) }
@@ -33,20 +33,34 @@ fn course_of(courses: &[Course], task: u8) -> Option<Course>
     courses.get(task as usize).copied()
 }
 
-/// Prints the answers of a task, each behind `; `, and that it waits, where it has calls left.
+/// Prints what the calls of a task have answered, or that they were skipped, each behind `; `, and that it waits, where it has calls left.
 #[tactic(auto, unfolding(crate::specs::Texts::course_text))]
 fn print_course(out: &mut Output, race: &Race, task: u8, course: Course)
     ensures { Prints out.old out.new (course_text race.now.calls.items task course) }
 {
-    for turn in 0..8 {
-        if let Some(answer) = course.answers[turn] {
-            out.text(b"; ");
-            out.answer(task, without_blocks(answer), 0);
-        }
+    let behind = usize::from(course.turn).min(CALLS);
+    for turn in 0..behind {
+        print_answer(out, task, course.answers[turn]);
     }
     if let Some(_) = race.call_after(task, course) {
         out.numbered(b"; ", u64::from(task));
         out.text(b" waits");
+    }
+}
+
+/// Prints what a call of a task has answered, or that it was skipped, behind `; `.
+fn print_answer(out: &mut Output, task: u8, answer: Option<Result<Reply, GateError>>)
+    ensures { Prints out.old out.new (answer_part task answer) }
+{
+    match answer {
+        Some(answer) => {
+            out.text(b"; ");
+            out.answer(task, without_blocks(answer), 0);
+        }
+        None => {
+            out.numbered(b"; ", u64::from(task));
+            out.text(b" skipped");
+        }
     }
 }
 

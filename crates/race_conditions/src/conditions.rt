@@ -2,7 +2,7 @@
 
 use access_model::{Gate, GateError, Holder};
 
-/// How a call has answered.
+/// How a call has answered, or that it was skipped.
 #[derive(Clone, Copy)]
 pub enum CallAnswer {
     /// It was done.
@@ -11,6 +11,8 @@ pub enum CallAnswer {
     Refused,
     /// It was refused for this reason.
     RefusedFor(GateError),
+    /// It was skipped.
+    Skipped,
 }
 
 /// What a node of the tree is.

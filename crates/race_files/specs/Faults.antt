@@ -3,7 +3,7 @@ use Rattle.std.specs.Prelude.{◌≡◌, ℕ, ◌+◌, ◌⊎◌, List, codes, O
 use Rattle.access_model.specs.declared.errors.GateError.{GateError}
 use Rattle.access_model.specs.declared.errors.GateError.TheVariants.{NoMemory}
 use Rattle.race_files.specs.declared.faults.RaceFault.{RaceFault}
-use Rattle.race_files.specs.declared.faults.RaceFault.TheVariants.{Schedule, RaceExpected, RaceTwice, UnderWay, CallExpected, TooManyCalls, HookTwice}
+use Rattle.race_files.specs.declared.faults.RaceFault.TheVariants.{Schedule, RaceExpected, RaceTwice, UnderWay, CallExpected, TooManyCalls, HookTwice, BranchExpected, NoCallBefore}
 use Rattle.schedule_lines.specs.declared.bytes.replay_faults.ReplayFault.{ReplayFault}
 use Rattle.schedule_lines.specs.Faults.{text_of, cause_of}
 use Rattle.schedule_lines.specs.declared.faults.Fault.TheVariants.{Refused}
@@ -17,6 +17,8 @@ text_told UnderWay = codes "task under way"
 text_told CallExpected = codes "call expected"
 text_told TooManyCalls = codes "too many calls"
 text_told HookTwice = codes "hook twice"
+text_told BranchExpected = codes "ok or refused expected"
+text_told NoCallBefore = codes "no call before"
 
 -- why a line was refused that was understood
 abbrev pub cause_told : RaceFault → Option GateError

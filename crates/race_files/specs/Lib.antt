@@ -1,5 +1,6 @@
 pub mod Faults
 pub mod Left
+pub mod Prefixes
 pub mod Calls
 pub mod SettingUp
 pub mod Races

@@ -2,7 +2,8 @@
 
 ghost use Rattle.std.specs.Prelude.{◌≡◌, ◌≤◌, ◌⊎◌, is_none, length, Some, Ok, Err, IfOk, IfErr, OnOk};
 ghost use Rattle.std.specs.List.{position};
-ghost use Rattle.race_files.specs.Calls.{no_calls, count_of, with_call, with_failure, added, failing, as_run, hook_line, calls_after};
+ghost use Rattle.race_files.specs.Calls.{no_calls, count_of, is_unconditional, with_call, with_failure, added, failing, as_run, begin_line, hook_line, prefixed_line, calls_after};
+ghost use Rattle.race_files.specs.Prefixes.{without_prefix};
 ghost use Rattle.race_files.specs.Faults.{IsToldOrMemory};
 ghost use Rattle.race_files.specs.Left.{calls_left, left_in};
 ghost use Rattle.schedule_text.specs.Parsing.{parsed};
@@ -12,14 +13,14 @@ ghost use Rattle.access_model.specs.declared.errors.GateError.TheVariants.{NoMem
 
 use crate::faults::RaceFault;
 use crate::lines::{Lines, is_claim, is_race};
-use gate_world::Op;
-use races::{CALLS, Call, Race};
+use crate::prefixes::{Prefix, command_at, has_prefix, print_without_prefix, retries_at, when_at};
+use races::{CALLS, Call, Race, When};
 use schedule_lines::words::{after_word, first_word};
 use schedule_text::{Fault, HookFailure, Line, Output, Request, TaskCommand, parse};
 use std::alloc::{AllocError, Global};
 use transcripts::{no_memory, settled};
 
-/// The line by which a task begins a call, as it stands in the file.
+/// The line by which a task begins a call, as a schedule has it.
 #[derive(Drop)]
 pub struct CallLine {
     pub task: u8,
@@ -98,6 +99,44 @@ impl Calls {
         if first_word(after_word(line)) == b"hook".as_slice() {
             return self.read_hook(alloc, line);
         }
+        if has_prefix(line) {
+            return self.read_prefixed(alloc, line);
+        }
+        self.read_call(alloc, Prefix::none(), line)
+    }
+
+    /// Reads a line that has `if ok`, `if refused` or `retry` before its command.
+    #[tactic(auto, unfolding(crate::specs::Calls::prefixed_line))]
+    fn read_prefixed(&mut self, alloc: Global, line: &[u8]) -> Result<(), RaceFault>
+        ensures tasks { self.new.race.tasks ≡ self.old.race.tasks }
+        ensures read { OnOk result (prefixed_line self.old.race.tasks self.old.race.calls.items line.now ≡ Ok self.new.race.calls.items) }
+        ensures fault { IfErr result (IsToldOrMemory (prefixed_line self.old.race.tasks self.old.race.calls.items line.now)) }
+    {
+        let rest = after_word(line);
+        let Some(when) = when_at(rest) else {
+            return Err(RaceFault::BranchExpected);
+        };
+        if command_at(rest).is_empty() {
+            return Err(RaceFault::CallExpected);
+        }
+        let prefix = Prefix {
+            when,
+            retries: retries_at(rest),
+        };
+        match plain_line(alloc, line) {
+            Ok(plain) => self.read_call(alloc, prefix, plain.as_slice()),
+            Err(refused) => Err(RaceFault::Schedule(no_memory(refused))),
+        }
+    }
+
+    /// Reads a line that begins an operation, as a call with this prefix.
+    fn read_call(&mut self, alloc: Global, prefix: Prefix, line: &[u8]) -> Result<(), RaceFault>
+        ensures tasks { self.new.race.tasks ≡ self.old.race.tasks }
+        ensures read { OnOk result (begin_line self.old.race.calls.items prefix (parsed line.now (Some self.old.race.tasks))
+            ≡ Ok self.new.race.calls.items) }
+        ensures fault { IfErr result (IsToldOrMemory
+            (begin_line self.old.race.calls.items prefix (parsed line.now (Some self.old.race.tasks)))) }
+    {
         match parse(line, Some(self.race.tasks)) {
             Ok(Line::Skipped) => Ok(()),
             Ok(
@@ -107,7 +146,7 @@ impl Calls {
                         command: TaskCommand::Begin(op),
                     },
                 ),
-            ) => self.add(alloc, task, op, line),
+            ) => self.add(alloc, task, prefix.call(op), line),
             Ok(Line::Config(_) | Line::Request(_)) => Err(RaceFault::CallExpected),
             Err(fault) => Err(RaceFault::Schedule(fault)),
         }
@@ -142,16 +181,16 @@ impl Calls {
 
     /// A call more of a task.
     #[tactic(auto, unfolding(crate::specs::Calls::added))]
-    fn add(&mut self, alloc: Global, task: u8, op: Op, line: &[u8]) -> Result<(), RaceFault>
+    fn add(&mut self, alloc: Global, task: u8, call: Call, line: &[u8]) -> Result<(), RaceFault>
         ensures tasks { self.new.race.tasks ≡ self.old.race.tasks }
-        ensures read { OnOk result (added self.old.race.calls.items task op ≡ Ok self.new.race.calls.items) }
-        ensures fault { IfErr result (IsToldOrMemory (added self.old.race.calls.items task op)) }
+        ensures read { OnOk result (added self.old.race.calls.items task call ≡ Ok self.new.race.calls.items) }
+        ensures fault { IfErr result (IsToldOrMemory (added self.old.race.calls.items task call)) }
     {
         let Some(calls) = self.race.calls.get_mut(usize::from(task)) else {
             return Err(RaceFault::Schedule(Fault::NoSuchTask));
         };
         let turn = count_of(calls) as u8;
-        match with_call(*calls, op) {
+        match with_call(*calls, call) {
             Ok(more) => *calls = more,
             Err(fault) => return Err(fault),
         }
@@ -210,15 +249,31 @@ fn count_of(calls: &[Option<Call>]) -> usize
 
 /// The same and a call more.
 #[tactic(auto, unfolding(crate::specs::Calls::with_call))]
-fn with_call(mut calls: [Option<Call>; CALLS], op: Op) -> Result<[Option<Call>; CALLS], RaceFault>
-    ensures { result ≡ with_call calls op }
+fn with_call(
+    mut calls: [Option<Call>; CALLS],
+    call: Call,
+) -> Result<[Option<Call>; CALLS], RaceFault>
+    ensures { result ≡ with_call calls call }
 {
     let count = count_of(&calls);
-    if count < CALLS {
-        calls[count] = Some(Call { op, failure: None });
+    if count >= CALLS {
+        return Err(RaceFault::TooManyCalls);
+    }
+    if count > 0 || is_unconditional(call.when) {
+        calls[count] = Some(call);
         Ok(calls)
     } else {
-        Err(RaceFault::TooManyCalls)
+        Err(RaceFault::NoCallBefore)
+    }
+}
+
+/// Whether a call is made in any case.
+fn is_unconditional(when: When) -> bool
+    ensures { result ≡ is_unconditional when }
+{
+    match when {
+        When::Always => true,
+        When::IfOk | When::IfRefused => false,
     }
 }
 
@@ -242,14 +297,24 @@ fn with_failure(
                 ..
             },
         ) => Err(RaceFault::HookTwice),
-        Some(Call { op, failure: None }) => {
+        Some(call) => {
             calls[count - 1] = Some(Call {
-                op,
                 failure: Some(failure),
+                ..call
             });
             Ok(calls)
         }
     }
+}
+
+/// A line without its prefix.
+fn plain_line(alloc: Global, line: &[u8]) -> Result<Vec<u8>, AllocError>
+    ensures { IfOk result (λ plain. plain.items ≡ without_prefix line.now) }
+{
+    let mut plain = Output::new(alloc);
+    print_without_prefix(line, &mut plain);
+    plain.settled()?;
+    Vec::from_slice(alloc, plain.bytes.as_slice())
 }
 
 /// What a line asks for with `run` in the place of its second word.

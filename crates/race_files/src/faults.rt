@@ -17,12 +17,16 @@ pub enum RaceFault {
     RaceTwice,
     /// An operation is under way at the line `race`.
     UnderWay,
-    /// After `race`: neither a call nor a hook, or a hook of a task that has no call yet.
+    /// After `race`: neither a call nor a hook, a hook of a task that has no call yet, or no call behind `if ok`, `if refused` or `retry`.
     CallExpected,
     /// A ninth call of a task.
     TooManyCalls,
     /// A second hook of one call.
     HookTwice,
+    /// `if` without `ok` or `refused` behind it.
+    BranchExpected,
+    /// `if` before a task's first call.
+    NoCallBefore,
 }
 
 impl RaceFault {
@@ -40,6 +44,8 @@ impl RaceFault {
             RaceFault::CallExpected => "call expected",
             RaceFault::TooManyCalls => "too many calls",
             RaceFault::HookTwice => "hook twice",
+            RaceFault::BranchExpected => "ok or refused expected",
+            RaceFault::NoCallBefore => "no call before",
         }
     }
 

@@ -7,6 +7,7 @@ pub mod calls;
 pub mod faults;
 pub mod files;
 pub mod lines;
+mod prefixes;
 pub mod schedules;
 pub mod setting_up;
 

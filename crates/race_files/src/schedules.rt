@@ -1,14 +1,16 @@
 //! The schedule of an outcome.
 
 use crate::calls::Calls;
+use access_model::{GateError, Reply};
 use gate_core::Core;
-use gate_schedules::Step;
+use gate_schedules::{Progress, Step};
+use races::{Course, Race};
 use schedule_text::Output;
 use std::alloc::{AllocError, Global};
 use transcripts::Session;
 
-/// How many tasks a configuration has at most.
-const TASKS: usize = 64;
+/// What a call answers.
+type Answer = Result<Reply, GateError>;
 
 /// Moves gates that were set up as these movers do, and prints a line for each move, which a replay takes: a beginning as it stands in the
 /// file, `T step`, or `T step CODE` where the hook fails that the event asks. An action that the model forbids, which only a build that isn't
@@ -20,36 +22,41 @@ pub fn print_schedule(
     movers: &[u8],
     out: &mut Output,
 ) -> Result<(), AllocError> {
-    let mut turns = [0u8; TASKS];
+    let mut courses = vec![in alloc; Course::new(); usize::from(calls.race.tasks)]?;
     for task in movers {
         let task = *task;
-        let Some(turn) = turns.get_mut(usize::from(task)) else {
+        let Some(course) = courses.get_mut(usize::from(task)) else {
             continue;
         };
-        print_move(alloc, calls, session, task, *turn, out)?;
-        if !session.gates().is_under_way(task) {
-            *turn = turn.saturating_add(1);
-        }
+        let answer = print_move(calls, session, task, course.turn, out);
+        *course = course_after(&calls.race, task, *course, answer);
     }
     out.settled()
 }
 
-/// Makes the next move of a task, which is in this call of its, or begins it.
+/// How far a task has come whose next move answered this, or nothing.
+fn course_after(race: &Race, task: u8, course: Course, answer: Option<Answer>) -> Course {
+    match (race.calls_of(task), race.call_after(task, course)) {
+        (Some(calls), Some(call)) => course.after(calls, call, answer),
+        _ => course,
+    }
+}
+
+/// Makes the next move of a task, which is in this call of its, or begins it. What it answers, if it does.
 fn print_move(
-    alloc: Global,
     calls: &Calls,
     session: &mut Session<Core>,
     task: u8,
     turn: u8,
     out: &mut Output,
-) -> Result<(), AllocError> {
-    let Some(call) = calls.call(task, turn) else {
-        return Ok(());
-    };
+) -> Option<Answer> {
+    let call = calls.call(task, turn)?;
     if !session.gates().is_under_way(task) {
         out.line(calls.line(task, turn));
-        let begun = session.begin(task, call.op, &mut Output::new(alloc));
-        return begun.or(Err(AllocError));
+        return match session.try_begin(task, call.op) {
+            Ok(()) => None,
+            Err(refusal) => Some(Err(refusal)),
+        };
     }
     let hook = session.hook_answer(task, call.failure);
     print_step(task, hook, out);
@@ -57,7 +64,10 @@ fn print_move(
     if !judged.is_allowed {
         print_forbidden(task, judged.step, out);
     }
-    Ok(())
+    match judged.step.progress {
+        Progress::Done(answer) => Some(answer),
+        _ => None,
+    }
 }
 
 /// Prints, as a comment, that the model forbids the action of a step.
