@@ -1,4 +1,5 @@
 pub mod HandleSteps
 pub mod Results
+pub mod Running
 pub mod Told
 pub mod Unboxing

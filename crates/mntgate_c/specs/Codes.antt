@@ -1,5 +1,5 @@
 -- What a number tells C of an answer.
-use Rattle.std.specs.Prelude.{ℕ, ◌-◌, ◌==◌, Bool, true, false, nat_le, if◌then◌else◌, Option, Some, None, Result, Ok, Err}
+use Rattle.std.specs.Prelude.{ℕ, ◌+◌, ◌-◌, ◌==◌, Bool, true, false, nat_le, if◌then◌else◌, Option, Some, None, Result, Ok, Err}
 use Rattle.access_model.specs.declared.actions.Holder.{Holder}
 use Rattle.access_model.specs.declared.actions.Holder.TheVariants.{Kernel, User}
 use Rattle.access_model.specs.declared.errors.GateError.{GateError}
@@ -13,12 +13,13 @@ use Rattle.gate_schedules.specs.declared.steps.Progress.{Progress}
 use Rattle.gate_schedules.specs.declared.steps.Progress.TheVariants.{Idle, Going, Waiting, Done}
 use Rattle.mntgate_c.specs.declared.codes.Outcome.{Outcome}
 
--- the refusal of an errno; from 65536 on a hook's code is added to that
+-- The refusal of an errno; from 65536 on a hook's code is added to that. Any other number is read as the failure of a hook with a code that
+-- none has: no call is refused so.
 abbrev pub refusal_of : ℕ → GateError
 refusal_of n =
     if nat_le 65536 n then Hook (n - 65536) else if n == 2 then NoEntry else if n == 11 then Again else if n == 12 then NoMemory
     else if n == 16 then Busy else if n == 20 then NotDir else if n == 21 then IsDir else if n == 22 then Invalid
-    else if n == 24 then TooMany else if n == 28 then NoSpace else if n == 30 then ReadOnly else Order
+    else if n == 24 then TooMany else if n == 28 then NoSpace else if n == 30 then ReadOnly else if n == 35 then Order else Hook (65536 + n)
 
 -- what a call answered: 0 is Ok
 abbrev pub answer_of : ℕ → Result (Unit {0}) GateError

@@ -5,4 +5,5 @@ pub mod Follows
 pub mod Handles
 pub mod Opening
 pub mod Operations
+pub mod Runs
 pub mod Trees

@@ -5,6 +5,7 @@ ghost use Rattle.gate_world.specs.Configs.{IsWithin};
 ghost use Rattle.vfs_gates.specs.Held.{Rests};
 ghost use Rattle.vfs_gates.specs.Ended.{HasAll, EndedWith, HasOpeningWords};
 ghost use Rattle.vfs_gates.specs.Parts.{SplitOf};
+ghost use Rattle.mntgate_c.specs.Opening.{SplitIsRefused};
 ghost use Rattle.access_model.specs.declared.errors.GateError.TheVariants.{Invalid, NoMemory, Order};
 
 use std::alloc::Global;
@@ -71,6 +72,7 @@ impl Member {
         ensures made { IfOk result (λ b. SplitOf self.old self.new b.value) }
         ensures rests { IfOk result (λ b. Rests b.value × Rests self.new) }
         ensures order { result ≡ Err Order → self.new ≡ self.old }
+        ensures refused { IfErr result (SplitIsRefused self.old) }
     {
         if !self.task.rests() {
             return Err(GateError::Order);

@@ -1,9 +1,12 @@
 //! Several steps in one call.
 
-ghost use Rattle.std.specs.Prelude.{◌≡◌};
+ghost use Rattle.std.specs.Prelude.{◌≡◌, Some};
+ghost use Rattle.gate_schedules.specs.declared.steps.Progress.TheVariants.{Idle};
 ghost use Rattle.gate_world.specs.declared.operations.Op.{Op as OpType};
+ghost use Rattle.gate_world.specs.declared.work.Phase.{Phase as PhaseType};
 ghost use Rattle.gate_steps.specs.call_events.Runs.{Goes, Told};
-ghost use Rattle.vfs_gates.specs.TaskStates.{TaskState, IsFrom};
+ghost use Rattle.mntgate_c.specs.Runs.{Runs};
+ghost use Rattle.vfs_gates.specs.TaskStates.{TaskState, IsFrom, IsIdle};
 
 use vfs_gates::{Gates, Progress, Task};
 
@@ -13,13 +16,18 @@ pub(crate) fn run(task: &mut Task, gates: &Gates, hook: Result<(), u16>, most: u
     requires { IsFrom task.old gates.now }
     ensures table { task.new.table ≡ task.old.table }
     ensures config { task.new.config ≡ task.old.config }
+    ensures idle { IsIdle task.old → (task.new ≡ task.old) × (result ≡ Idle) }
+    ensures runs { (phase : PhaseType) → task.old.phase ≡ Some phase → Runs phase hook most task.old task.new result }
     ensures told { (op : OpType) (start : TaskState) → Goes op start task.old → Told op start result task.new }
 {
     let mut progress = task.step(gates, hook).progress;
-    for _ in 1..most {
-        if progress != Progress::Going || task.wants_hook().is_some() {
+    for _more in 0..most.saturating_sub(1) {
+        let Progress::Going = progress else {
             return progress;
-        }
+        };
+        let None = task.wants_hook() else {
+            return progress;
+        };
         progress = task.step(gates, Ok(())).progress;
     }
     progress

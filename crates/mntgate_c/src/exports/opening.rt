@@ -1,6 +1,6 @@
 //! Gates opened and closed, and tasks made and joined.
 
-ghost use Rattle.std.specs.Prelude.{◌≡◌, ◌++◌, true, false, Err, OnOk, OnErr, length};
+ghost use Rattle.std.specs.Prelude.{◌≡◌, ◌++◌, true, false, Err, OnOk, OnErr, IfErr, length};
 ghost use Rattle.access_model.specs.declared.errors.GateError.TheVariants.{Busy, Invalid, NoMemory, Order};
 ghost use Rattle.gate_world.specs.Configs.{IsWithin};
 ghost use Rattle.vfs_gates.specs.Ended.{HasAll, HasOpeningWords};
@@ -8,7 +8,7 @@ ghost use Rattle.vfs_gates.specs.Held.{Rests};
 ghost use Rattle.vfs_gates.specs.Parts.{SplitOf};
 ghost use Rattle.mntgate_c.specs.Closings.{ClosedWith};
 ghost use Rattle.mntgate_c.specs.Codes.{answer_of};
-ghost use Rattle.mntgate_c.specs.Opening.{config_of};
+ghost use Rattle.mntgate_c.specs.Opening.{SplitIsRefused, config_of};
 
 use crate::closings::write_values;
 use crate::codes::code;
@@ -84,6 +84,7 @@ pub extern "C" fn mntgate_split(alloc: Global, task: &mut TaskHandle, other: &mu
     ensures rests { OnOk (answer_of result) (Rests task.new.state × Rests other.new.state) }
     ensures refused { OnErr (answer_of result) (other.new.full ≡ false) }
     ensures order { answer_of result ≡ Err Order → task.new.state ≡ task.old.state }
+    ensures why { IfErr (answer_of result) (SplitIsRefused task.old.state) }
 {
     match task.member().split(alloc) {
         Ok(made) => {

@@ -3,6 +3,7 @@
 ghost use Rattle.std.specs.Prelude.{◌≡◌, true, Some, None, Err, OnOk, OnErr};
 ghost use Rattle.access_model.specs.declared.errors.GateError.TheVariants.{Invalid};
 ghost use Rattle.gate_schedules.specs.Answers.{unless_refused, asked_by, idle_step};
+ghost use Rattle.gate_schedules.specs.declared.steps.Progress.TheVariants.{Idle};
 ghost use Rattle.gate_world.specs.declared.operations.Op.{Op as OpType};
 ghost use Rattle.gate_world.specs.declared.work.Phase.{Phase as PhaseType};
 ghost use Rattle.gate_steps.specs.call_events.Runs.{Goes, Told};
@@ -11,6 +12,7 @@ ghost use Rattle.vfs_gates.specs.TaskStates.{TaskState, refusal_at, IsIdle};
 ghost use Rattle.mntgate_c.specs.Codes.{answer_of, hook_answer, hook_at, progress_at};
 ghost use Rattle.mntgate_c.specs.Events.{step_at};
 ghost use Rattle.mntgate_c.specs.Operations.{op_at};
+ghost use Rattle.mntgate_c.specs.Runs.{Runs};
 
 use crate::codes::{Outcome, answer, code, hook_code, tell};
 use crate::events::{StepRecord, record};
@@ -58,6 +60,9 @@ pub extern "C" fn mntgate_step(task: &mut TaskHandle, hook: u16, step: &mut Step
 pub extern "C" fn mntgate_run(task: &mut TaskHandle, hook: u16, most: u32, outcome: &mut Outcome)
     requires { task.old.full ≡ true }
     ensures full { task.new.full ≡ true }
+    ensures idle { IsIdle task.old.state → (task.new.state ≡ task.old.state) × (progress_at outcome.new ≡ Idle) }
+    ensures runs { (phase : PhaseType) → task.old.state.phase ≡ Some phase →
+        Runs phase (hook_answer hook) most task.old.state task.new.state (progress_at outcome.new) }
     ensures told { (op : OpType) (start : TaskState) → Goes op start task.old.state → Told op start (progress_at outcome.new) task.new.state }
 {
     let Member { gates, task } = task.member();

@@ -1,0 +1,35 @@
+-- What a run of steps is.
+use Rattle.std.specs.Prelude.{◌≡◌, ◌⊎◌, ℕ, zero, suc, ◌≤◌, Some, None, Ok}
+use Rattle.cpu_words.specs.Hooks.{HookAnswer}
+use Rattle.gate_schedules.specs.Answers.{asked_by}
+use Rattle.gate_schedules.specs.declared.steps.Progress.{Progress}
+use Rattle.gate_schedules.specs.declared.steps.Progress.TheVariants.{Going}
+use Rattle.gate_schedules.specs.declared.steps.Step.{Step}
+use Rattle.gate_world.specs.declared.work.Phase.{Phase}
+use Rattle.gate_steps.specs.call_events.Stepped.{Stepped}
+use Rattle.vfs_gates.specs.TaskStates.{TaskState}
+
+-- one step that reads no hook, and how the operation stands after it
+pub record StepsOn (old left : TaskState) (progress : Progress) : Type 0 where
+  pub phase : Phase
+  pub at : old.phase ≡ Some phase
+  pub unasked : asked_by old.phase ≡ None
+  pub step : Step
+  pub told : progress ≡ step.progress
+  pub stepped : Stepped phase (Ok tt) old step left
+
+-- so many such steps, one after the other, each but the last of an operation that goes on
+abbrev pub RunsOn : ℕ → TaskState → Progress → TaskState → Progress → Type 0
+RunsOn zero first began left progress = (left ≡ first) × (progress ≡ began)
+RunsOn (suc n) first began left progress = (mid : TaskState) × RunsOn n first began mid Going × StepsOn mid left progress
+
+-- A run of at most so many steps, but one at least: its first reads what a hook answered, if it reads one, and no other reads any. It ends
+-- where the operation doesn't go on, where its next step reads a hook, or with the last step that it may do.
+pub record Runs (phase : Phase) (hook : HookAnswer) (most : ℕ) (old left : TaskState) (progress : Progress) : Type 0 where
+  pub step : Step
+  pub first : TaskState
+  pub stepped : Stepped phase hook old step first
+  pub more : ℕ
+  pub few : (more ≡ 0) ⊎ (suc more ≤ most)
+  pub runs_on : RunsOn more first step.progress left progress
+  pub ends : progress ≡ Going → asked_by left.phase ≡ None → most ≤ suc more
