@@ -3,8 +3,6 @@ use Rattle.std.proofs.Common.{◌≡◌, ◌+◌, ◌∙◌, sym, ap, refl, subs
 use Rattle.std.specs.Prelude.{Option, Some, None}
 use Rattle.access_model.specs.declared.replies.Next.{Next}
 use Rattle.gate_world.specs.declared.work.Phase.{Phase}
-use Rattle.gate_world.specs.Views.{phase_after}
-use Rattle.gate_steps.specs.call_events.Answers.{progress_of}
 use Rattle.vfs_gates.specs.TaskStates.{TaskState, task_state}
 use Rattle.gate_steps.specs.call_events.Turns.{kept_at}
 use Rattle.gate_steps.proofs.call_events.Turning.{tied_at, stepped_there}
