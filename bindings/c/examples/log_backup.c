@@ -20,7 +20,7 @@
 
 #include "mntgate.h"
 
-enum { WRITERS = 2, RECORDS = 20000, BACKUPS = 200, LONGEST = 64, MOUNT = 0 };
+enum { WRITERS = 2, BACKUPS = 200, AHEAD = 100, RECORDS = AHEAD * (BACKUPS + 1), LONGEST = 64, MOUNT = 0 };
 
 struct writer {
 	struct mntgate_task task;
@@ -30,6 +30,7 @@ struct writer {
 
 static bool gated;
 static atomic_uint written[WRITERS];
+static atomic_uint begun; /* how many backups; at each, writers may append AHEAD records more */
 static atomic_bool over;
 
 static void stop(const char *what, mntgate_result result)
@@ -74,7 +75,8 @@ static void *run_writer(void *arg)
 
 	for (record = 0; record < RECORDS && !atomic_load(&over); record++) {
 		/* writer 1 answers writer 0, who waits for the answer */
-		while (!atomic_load(&over) && (writer->number == 1 ? atomic_load(&written[0]) <= record : atomic_load(&written[1]) < record))
+		while (!atomic_load(&over) && (record >= (atomic_load(&begun) + 1) * AHEAD ||
+			(writer->number == 1 ? atomic_load(&written[0]) <= record : atomic_load(&written[1]) < record)))
 			sched_yield();
 		append(writer, record);
 	}
@@ -122,6 +124,15 @@ static uint16_t sync_logs(void *data)
 	return 0;
 }
 
+/* A copy takes its time: until the writers have answered two more records, where they can, or for a while. */
+static void take_time(void)
+{
+	unsigned before = atomic_load(&written[1]), milliseconds;
+
+	for (milliseconds = 0; milliseconds < (gated ? 1 : 5000) && atomic_load(&written[1]) < before + 2; milliseconds++)
+		usleep(1000);
+}
+
 /* One backup; whether it is torn. */
 static bool back_up(struct mntgate_task *task, struct writer *writers)
 {
@@ -130,8 +141,9 @@ static bool back_up(struct mntgate_task *task, struct writer *writers)
 
 	if (gated)
 		check(mntgate_freeze(task, MNTGATE_USER, &hooks), "freeze");
+	atomic_fetch_add(&begun, 1);
 	first = copy(writers[0].file);
-	sched_yield();
+	take_time();
 	second = copy(writers[1].file);
 	if (gated) {
 		check(mntgate_thaw(task, MNTGATE_USER, &hooks), "thaw");
@@ -144,8 +156,10 @@ static unsigned back_up_all(struct mntgate_task *task, struct writer *writers)
 {
 	unsigned torn = 0, backup;
 
-	for (backup = 0; backup < BACKUPS; backup++)
+	for (backup = 0; backup < BACKUPS; backup++) {
 		torn += back_up(task, writers);
+		take_time();
+	}
 	return torn;
 }
 
