@@ -248,7 +248,7 @@ fn judge_claims<W: Watch>(
         schedules,
         style,
     };
-    tell_claims(source, core, asked.limit as usize, form, watch, verdicts)
+    tell_claims(source, core, plan_of(asked).limit, form, watch, verdicts)
 }
 
 /// How the states of a race are searched.
