@@ -156,10 +156,8 @@ static unsigned back_up_all(struct mntgate_task *task, struct writer *writers)
 {
 	unsigned torn = 0, backup;
 
-	for (backup = 0; backup < BACKUPS; backup++) {
+	for (backup = 0; backup < BACKUPS; backup++)
 		torn += back_up(task, writers);
-		take_time();
-	}
 	return torn;
 }
 

@@ -5,6 +5,7 @@
 mod blessings;
 mod checks;
 mod outcomes;
+mod progress;
 mod race_texts;
 
 pub use blessings::run_blessings;

@@ -60,9 +60,9 @@ explain_shape = command_of (codes "explain") (new_rule (codes "CALL") ∷ new_ru
 -- `outcomes`
 abbrev pub outcomes_shape : Shape
 outcomes_shape = command_of (codes "outcomes") (
-    file_rule ∷ flag_rule (codes "schedules") ∷ flag_rule (codes "columns") ∷ flag_rule (codes "model")
+    file_rule ∷ flag_rule (codes "schedules") ∷ flag_rule (codes "columns") ∷ flag_rule (codes "model") ∷ flag_rule (codes "ends")
     ∷ flag_rule (codes "json") ∷ flag_rule (codes "html") ∷ flag_rule (codes "raw") ∷ word_rule (codes "names")
-    ∷ number_rule (codes "limit") 1 4294967295 ∷ [])
+    ∷ word_rule (codes "save") ∷ number_rule (codes "limit") 1 4294967295 ∷ flag_rule (codes "no-reduction") ∷ [])
 
 -- `run`
 abbrev pub run_shape : Shape

@@ -64,10 +64,16 @@ const SCHEDULES: &str = "schedules";
 
 const MODEL: &str = "model";
 
+const ENDS: &str = "ends";
+
+const SAVE: &str = "save";
+
 const LIMIT: &str = "limit";
 
+const NO_REDUCTION: &str = "no-reduction";
+
 /// How many states a race may have, where nothing else is asked for.
-const STATES: u32 = 1_000_000;
+const STATES: u32 = 10_000_000;
 
 /// A command of the program, with its arguments in their order.
 #[derive(Clone, Copy)]
@@ -156,9 +162,19 @@ const SUBCOMMANDS: [Subcommand; 5] = [
         about: "Prints all outcomes of a race: what its calls can answer, whatever their order",
         arguments: &[
             Argument::File("Its file; standard input, where none is named, or '-'"),
-            Argument::Flag(SCHEDULES, "Prints a shortest schedule for each outcome"),
+            Argument::Flag(
+                SCHEDULES,
+                "Prints a schedule for each outcome, with the fewest switches between tasks",
+            ),
             Argument::Flag(COLUMNS, "Prints one too, in a column for each task"),
-            Argument::Flag(MODEL, "Prints the model at the end of each schedule"),
+            Argument::Flag(
+                MODEL,
+                "Prints the final model of each outcome, or how many it has",
+            ),
+            Argument::Flag(
+                ENDS,
+                "Prints a line for each pair of answers and final model",
+            ),
             Argument::Flag(
                 JSON,
                 "Prints a line of JSON for each outcome, and of what else is printed",
@@ -173,13 +189,22 @@ const SUBCOMMANDS: [Subcommand; 5] = [
                 "WHOSE",
                 "Names words as 'schedule' or as 'kernel' does",
             ),
+            Argument::Choice(
+                SAVE,
+                "DIR",
+                "Writes a schedule for each outcome to a file in DIR, behind the set-up",
+            ),
             Argument::Number(
                 LIMIT,
                 "STATES",
                 1,
                 4_294_967_295,
                 false,
-                "How many states it may have at most: 1000000, if not given",
+                "How many states to search at most: 10000000, if not given; past it, the outcomes so far are printed",
+            ),
+            Argument::Flag(
+                NO_REDUCTION,
+                "Searches all states, also those that are not needed for the outcomes",
             ),
         ],
     },
@@ -316,10 +341,16 @@ pub struct Outcomes<'a> {
     pub form: Listing,
     pub style: Style,
     pub schedules: Schedules,
-    /// Whether the model is told.
+    /// Whether the final model is told.
     pub model: bool,
-    /// How many states it may have.
+    /// Whether outcomes with other final models are told apart.
+    pub ends: bool,
+    /// The folder in which a schedule of each is written to a file.
+    pub save: Option<&'a str>,
+    /// How many states are searched at most.
     pub limit: u32,
+    /// Whether states that are not needed for the outcomes may be left out.
+    pub reduction: bool,
 }
 
 /// What the words of a command line ask for.
@@ -640,7 +671,10 @@ fn outcomes_of<'a>(outcomes: &ArgMatches<'a>, form: Listing, style: Style) -> Ou
         style,
         schedules,
         model: outcomes.get_flag(MODEL),
+        ends: outcomes.get_flag(ENDS),
+        save: outcomes.get_str(SAVE),
         limit: outcomes.get_one(LIMIT).unwrap_or(STATES),
+        reduction: !outcomes.get_flag(NO_REDUCTION),
     }
 }
 

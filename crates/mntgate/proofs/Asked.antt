@@ -84,7 +84,7 @@ outcomes_end ending (inr e) = ap is_of_outcomes e
 -- how it ends where outcomes were asked for, unless memory was refused
 pub outcomes_ended : {E : Type 0} (asked : Asked) (race : Outcomes) (input left held holds : Option (List ℕ)) (r : Result Ending E) →
     asked ≡ ask.Outcomes race → IfOk r (λ ending. (ending ≡ Listed) ⊎ (ending ≡ Refused)) →
-    (race.form ≡ Text → IfOk r (EndsTold race input held holds)) → IfOk r (EndsAsked asked input left held holds)
+    (race.form ≡ Text → race.ends ≡ false → IfOk r (EndsTold race input held holds)) → IfOk r (EndsAsked asked input left held holds)
 outcomes_ended asked race input left held holds (Ok ending) is ends told =
     let ended : EndsOutcomes race input held holds ending = record { ends = ends; told = told } in
     subst (λ (a : Asked). EndsAsked a input left held holds ending) (sym is) ended

@@ -1,5 +1,5 @@
 -- What the program does that is asked for something, and how it ends.
-use Rattle.std.specs.Prelude.{◌≡◌, ◌⊎◌, ℕ, suc, List, Option, Some, None, codes, vec_len}
+use Rattle.std.specs.Prelude.{◌≡◌, ◌⊎◌, ℕ, suc, false, List, Option, Some, None, codes, vec_len}
 use Rattle.std.specs.Borrow.{Bor}
 use Rattle.asked_replays.specs.Replays.{EndsReplayed, EndsReplayedFile, EndsReplayedNamed, IsRefusedUnread, done_in, done_of}
 use Rattle.asked_files.specs.Checks.{TellsPassed, count_checked}
@@ -30,10 +30,10 @@ pub record EndsChecks (count : ℕ) (held holds : Option (List ℕ)) (ending : E
   pub ends : (ending ≡ Passed) ⊎ (ending ≡ Refused)
   pub passed : ending ≡ Passed → TellsPassed (count_checked count) held holds
 
--- How it ends where all outcomes of a race were asked for: as text, they are told.
+-- How it ends where the outcomes of a race were asked for: as text, they are told.
 pub record EndsOutcomes (race : Outcomes) (input held holds : Option (List ℕ)) (ending : Ending) : Type 0 where
   pub ends : (ending ≡ Listed) ⊎ (ending ≡ Refused)
-  pub told : race.form ≡ Text → EndsTold race input held holds ending
+  pub told : race.form ≡ Text → race.ends ≡ false → EndsTold race input held holds ending
 
 -- what who watches a run of the program says of a round
 abbrev pub unheld : ℕ → ℕ → Type 0

@@ -87,7 +87,10 @@ fn do_asked<
         Asked::Explain(explain) => {
             Ok(run_explanation(alloc, explain.call, explain.refusal, writer, errors))
         }
-        Asked::Outcomes(asked) => run_outcomes(rt, alloc, *asked, reader, writer, errors),
+        Asked::Outcomes(asked) => {
+            let watched = person.watches;
+            run_outcomes(rt, alloc, *asked, reader, writer, errors, watched)
+        }
         Asked::Run(numbers, tells) => {
             let watched = person.watches;
             Ok(run_threads(rt, alloc, *numbers, *tells, writer, errors, watched))

@@ -4,4 +4,5 @@
 mod listing;
 mod texts;
 
-pub use listing::{Listing, Outcome, list};
+pub use listing::{Listing, Method, Outcome, SearchPlan, list};
+pub use texts::outcome_text;

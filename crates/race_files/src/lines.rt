@@ -88,8 +88,14 @@ impl<'a> Lines<'a> {
     }
 
     /// The next line, which is taken; None where there is none that is whole.
-    pub fn next(&mut self) -> Option<&'a [u8]> {
-        let line = self.line().unwrap_or(None);
+    pub fn next(&mut self) -> Option<&'a [u8]>
+        ensures left { left_in self.new ≡ behind (left_in self.old) }
+        ensures some { IfSome result (λ line. (left_in self.old).lines ≡ line.now ∷ (behind (left_in self.old)).lines) }
+    {
+        let line = match self.line() {
+            Ok(line) => line,
+            Err(_) => None,
+        };
         self.take();
         line
     }

@@ -73,7 +73,7 @@ fn print_move(
 /// Prints, as a comment, that the model forbids the action of a step.
 fn print_forbidden(task: u8, step: Step, out: &mut Output) {
     if let Some(event) = step.event {
-        out.text(b"# the model forbids this action: ");
+        out.text(b"#   the model forbids this action: ");
         out.event_line(task, event, step.action, false);
     }
 }

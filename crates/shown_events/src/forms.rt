@@ -13,6 +13,8 @@ pub enum Form {
     Json,
     /// One picture of all of it, as SVG.
     Picture,
+    /// A comment for each task whose last step has to wait, as `#   0 waiting for section1, task 1`, behind all lines.
+    Waits,
 }
 
 /// By which names words are printed.

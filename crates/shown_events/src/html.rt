@@ -51,13 +51,17 @@ pub fn print_picture(out: &mut Output, picture: &[u8]) {
     out.text(b"</figure>\n");
 }
 
-/// Prints how many states were searched for how many outcomes, of which a list follows.
-pub fn begin_outcomes(out: &mut Output, states: u64, outcomes: u64) {
+/// Prints how many states were searched for how many outcomes, of which a list follows, and whether these are all.
+pub fn begin_outcomes(out: &mut Output, states: u64, outcomes: u64, is_whole: bool) {
     out.numbered(b"<p>", states);
     out.numbered(b" states, ", outcomes);
-    out.text(
-        b" outcomes. The list is complete. Below is a shortest execution for each.</p>\n<ol>\n",
-    );
+    out.text(b" outcomes. ");
+    out.text(if is_whole {
+        b"The list is complete.".as_slice()
+    } else {
+        b"There are more states: the list has the outcomes so far.".as_slice()
+    });
+    out.text(b" Below is an execution for each.</p>\n<ol>\n");
 }
 
 /// Prints an outcome in the list, which leads to its picture.

@@ -38,7 +38,11 @@ enum Printer {
     Columns(Columns),
     Json,
     Picture(Picture),
+    Waits(LastWaits),
 }
+
+/// What the last step of each task waits for, if it has to.
+type LastWaits = [Option<Wait>; TASKS];
 
 /// A form, and what was printed in it.
 #[derive(Drop)]
@@ -61,6 +65,7 @@ impl Screen {
             Form::Columns { width } => Printer::Columns(Columns::new(alloc, width)),
             Form::Json => Printer::Json,
             Form::Picture => Printer::Picture(Picture::new(alloc, look.style)),
+            Form::Waits => Printer::Waits([None; TASKS]),
         };
         let nothing = Seen {
             call: None,
@@ -84,14 +89,16 @@ impl Screen {
         match &mut self.printer {
             Printer::Columns(columns) => columns.begin(tasks, &mut self.page),
             Printer::Picture(picture) => picture.begin(tasks, session.model()),
-            Printer::Events | Printer::Json => {}
+            Printer::Events | Printer::Json | Printer::Waits(_) => {}
         }
     }
 
-    /// Prints what is printed at the end: the picture.
+    /// Prints what is printed at the end: the picture, or who waits.
     pub(crate) fn end(&mut self) {
-        if let Printer::Picture(picture) = &mut self.printer {
-            picture.print(&mut self.page);
+        match &mut self.printer {
+            Printer::Picture(picture) => picture.print(&mut self.page),
+            Printer::Waits(waits) => print_waits(waits, self.style, &mut self.page.out),
+            Printer::Events | Printer::Columns(_) | Printer::Json => {}
         }
     }
 
@@ -141,6 +148,7 @@ impl Screen {
             }
             Printer::Json => json::print_entry(&entry, self.style, &mut self.page),
             Printer::Picture(picture) => self.page.note(picture.add(entry)),
+            Printer::Waits(waits) => waits[usize::from(task)] = entry.wait(),
         }
     }
 
@@ -166,6 +174,7 @@ impl Screen {
                 print_words(words, self.style, &mut self.text);
                 self.page.note(picture.add_listing(listing, &self.text));
             }
+            Printer::Waits(_) => {}
         }
     }
 
@@ -179,6 +188,7 @@ impl Screen {
                 self.page
                     .note(picture.add_listing(Listing::Model, &self.text));
             }
+            Printer::Waits(_) => {}
         }
     }
 
@@ -269,6 +279,18 @@ impl Screen {
             before: word,
         };
         self.show(task, Happening::Steps(taken));
+    }
+}
+
+/// Prints a comment for each task that waits.
+fn print_waits(waits: &LastWaits, style: Style, out: &mut Output) {
+    for task in 0..TASKS {
+        if let Some(wait) = waits[task] {
+            out.numbered(b"#   ", task as u64);
+            out.text(b" ");
+            wait.print(out, style);
+            out.text(b"\n");
+        }
     }
 }
 

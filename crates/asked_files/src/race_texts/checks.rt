@@ -1,12 +1,13 @@
 //! What a schedule prints, compared with what it says of it.
 
-use crate::race_texts::claims::{claims_some, tell_claims};
+use crate::race_texts::claims::{Judged, VerdictForm, claims_some, tell_claims};
+use crate::race_texts::details::{NO_DETAILS, RaceSource};
 use crate::race_texts::playing::{STATES, Source, Stopped, expected_in};
 use diagnostics::{Text, diagnosis};
 use endings::SourceName;
-use exploration::Stop;
+use exploration::{Stop, Unwatched};
 use race_files::setting_up::Watch;
-use race_files::{Lines, read_race};
+use race_files::{Lines, RaceFile, read_race};
 use schedule_text::{LINES, Output};
 use std::alloc::{AllocError, Global};
 
@@ -123,12 +124,11 @@ impl Comparison<'_> {
             Err(fault) => return self.stop(alloc, source, Stopped::Fault(fault)),
         };
         let mut told = Output::new(alloc);
-        let hold = tell_claims(alloc, source.bytes, &file, STATES, true, &mut told);
-        drop(file);
+        let judged = judge_claims(alloc, source.bytes, file, &mut told);
         told.settled()?;
-        match hold {
-            Ok(true) => Ok(()),
-            Ok(false) => {
+        match judged {
+            Ok(Judged::Hold) => Ok(()),
+            Ok(Judged::Broken) => {
                 self.passed = false;
                 if let Some(file) = self.file {
                     self.told.put(file);
@@ -137,6 +137,7 @@ impl Comparison<'_> {
                 self.tell_lines(told.bytes.as_slice());
                 Ok(())
             }
+            Ok(Judged::Unjudged) => self.stop(alloc, source, Stopped::TooMany),
             Err(Stop::TooMany) => self.stop(alloc, source, Stopped::TooMany),
             Err(Stop::NoMemory) => Err(AllocError),
         }
@@ -175,4 +176,29 @@ impl Comparison<'_> {
         }
         Ok(())
     }
+}
+
+/// Judges what a file claims of its race, and tells which claims are broken.
+fn judge_claims(
+    alloc: Global,
+    bytes: &[u8],
+    file: RaceFile,
+    told: &mut Output,
+) -> Result<Judged, Stop> {
+    let RaceFile { core, calls } = file;
+    let source = RaceSource {
+        alloc,
+        bytes,
+        calls: &calls,
+    };
+    let form = VerdictForm {
+        broken_alone: true,
+        records: false,
+        schedules: NO_DETAILS.schedules,
+        style: NO_DETAILS.style,
+    };
+    let judged = tell_claims(source, &core, STATES, form, &mut Unwatched, told);
+    // By a call: to drop all its parts in line costs the proof more.
+    drop(core);
+    judged
 }

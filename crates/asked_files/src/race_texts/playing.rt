@@ -97,11 +97,15 @@ fn print_race(
         return Ok(());
     }
     match tell_briefly(alloc, file, STATES, printed) {
-        Ok(()) => {
+        Ok(true) => {
             if said == Some(OUTCOMES) {
                 leave_counts_out(alloc, printed);
             }
             Ok(())
+        }
+        Ok(false) => {
+            printed.clear();
+            Err(Stopped::TooMany)
         }
         Err(Stop::TooMany) => Err(Stopped::TooMany),
         Err(Stop::NoMemory) => {
