@@ -23,7 +23,7 @@ const REPLAY_USAGE: &str = "replay [OPTIONS] [FILE]";
 const OUTCOMES_USAGE: &str = "outcomes [OPTIONS] [FILE]";
 
 /// The version of the program.
-const VERSION: &str = "1.0.0";
+const VERSION: &str = "1.1.0";
 
 /// The argument that names a schedule's file.
 const FILE: &str = "FILE";

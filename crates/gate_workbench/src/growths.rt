@@ -1,5 +1,5 @@
 //! Each call of the libraries that takes memory. Where one is refused for lack of it, it has to have changed nothing, and to be done when it
-//! is made again. bench/refuse-memory.sh runs them under `rt try --fail-alloc`, which refuses one growth: as many growths are asked for
+//! is made again. tests/refuse-memory.sh runs them under `rt try --fail-alloc`, which refuses one growth: as many growths are asked for
 //! first as the input's line says, so that each growth of each call is the one that is refused in some run.
 
 use crate::schedules::Over;

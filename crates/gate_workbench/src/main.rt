@@ -1,5 +1,5 @@
 //! The workbench of the gates, for the scripts of this repository: by the words of its command line it measures the gates (bench/by-turns.py),
-//! makes each call that takes memory (bench/refuse-memory.sh), or runs a backup beside a writer. The words are few, so a `match` reads them.
+//! makes each call that takes memory (tests/refuse-memory.sh), or runs a backup beside a writer. The words are few, so a `match` reads them.
 #![tactic(auto)]
 
 mod at_gates;

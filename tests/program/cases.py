@@ -1,4 +1,4 @@
-r"""The cases of bench/cases/*.txt, and texts as they are wanted.
+r"""The cases of tests/cases/*.txt, and texts as they are wanted.
 
 In a file of cases an empty line stands behind each case. The marks before its lines are
 
@@ -134,14 +134,14 @@ def read_case(place, lines):
 def read_cases():
     """All cases of all files."""
     cases = []
-    for path in sorted(glob.glob(f"{ROOT}/bench/cases/*.txt")):
+    for path in sorted(glob.glob(f"{ROOT}/tests/cases/*.txt")):
         with open(path, encoding="utf-8") as file:
             lines = f"{file.read()}\n".split("\n")
         ends = [number for number, line in enumerate(lines) if not line]
         for begin, end in zip([0, *(end + 1 for end in ends)], ends):
             cases.append(read_case(f"{os.path.relpath(path, ROOT)}:{begin + 1}", lines[begin:end]))
     if not any(cases):
-        raise Unreadable("bench/cases: there are no cases")
+        raise Unreadable("tests/cases: there are no cases")
     return [case for case in cases if case]
 
 

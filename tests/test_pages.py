@@ -1,7 +1,7 @@
 #!/usr/bin/env -S python3 -B
 """Tests the pages README.md, CONTRIBUTING.md and docs/**/*.md against the repository and the built program.
 
-    bench/test_pages.py [--links] [PROGRAM]
+    tests/test_pages.py [--links] [PROGRAM]
 
 With no PROGRAM it takes crates/mntgate/out/mntgate. With --links it runs no command. Five things are tested:
 
@@ -13,7 +13,7 @@ Commands   A block that begins with ```console is run. A line `$ COMMAND` is a c
            status isn't 0 has to say so: `$ COMMAND; echo $?`.
 Quotes     A block that begins with ```LANGUAGE FILE has lines of that file, in their order and with none left out; their common indent may
            differ. A line `...` stands for any lines of the file. FILE is relative to the repository's top.
-Pictures   Those of the pages are what the program makes (bench/pictures.py), and each that a page shows is there.
+Pictures   Those of the pages are what the program makes (tests/pictures.py), and each that a page shows is there.
 
 And each docs/NAME.md that a file of the repository mentions exists. Prints what is wrong, by page and line; the exit status is 1 then."""
 
@@ -35,7 +35,7 @@ FENCE = re.compile(r"^(\s*)```+(.*)$")
 LINK = re.compile(r"\[(?:[^\]`]|`[^`]*`)*\]\(([^)\s]+)\)")
 CODE = re.compile(r"`([^`]+)`")
 HEADING = re.compile(r"^#{1,6} +(.*?)(?: +#+)?$")
-FOLDERS = ("crates", "bench", "bin", "bindings", "docs", "examples", "man", ".ci")
+FOLDERS = ("crates", "bench", "bin", "bindings", "docs", "examples", "kernel", "man", "tests", ".ci")
 PATH = re.compile(rf"^(?:{'|'.join(map(re.escape, FOLDERS))})/[\w./*-]*$")
 MENTION = re.compile(r"\bdocs/[\w./-]*?\.md\b")
 # How long one command may take, in seconds.

@@ -1,7 +1,7 @@
 #!/usr/bin/env -S python3 -B
 """Prints of each page how long its sentences are, in words: how many there are, their median, and each one above a limit.
 
-    bench/sentences.py [--limit WORDS] [PAGE..]
+    tests/sentences.py [--limit WORDS] [PAGE..]
 
 With no PAGE it takes README.md and docs/**/*.md. Code, tables' rules and headings are left out; a table's cell and a list's item are sentences of
 their own. Text in backticks counts as one word. The limit is 35 words unless another is given. It tests nothing: CI doesn't run it."""

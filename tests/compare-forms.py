@@ -1,7 +1,7 @@
 #!/usr/bin/env -S python3 -B
 """Compares what `mntgate replay` prints of random schedules without a form, with `--events --raw`, and with `--json`.
 
-    bench/compare-forms.py [--schedules N] [--seed N] [PROGRAM]
+    tests/compare-forms.py [--schedules N] [--seed N] [PROGRAM]
 
 A schedule is replayed with `--json`. From its records follow the lines of `--events --raw`, and those of a plain replay in which each `run` is
 written as the steps that it took. Both have to be just what the program prints. With no PROGRAM it is crates/mntgate/out/mntgate, and there are

@@ -2,7 +2,7 @@
 """Compares the section 'The calls' of docs/refusals.md with the table in crates/refusals, which `mntgate explain` prints: each row of the table stands
 there, in its order, and nothing else does.
 
-    bench/test_refusals.py [--write]
+    tests/test_refusals.py [--write]
 
 Prints what differs, and the exit status is 1 then. With --write the section is written anew."""
 

@@ -1,11 +1,11 @@
 #!/usr/bin/env -S python3 -B
 """The pictures of the pages, and two pages with pictures: the program makes them, and they are kept.
 
-    bench/pictures.py [--write] [PROGRAM]
+    tests/pictures.py [--write] [PROGRAM]
 
 Each has to be, byte for byte, what the program prints now. A page has to parse, with each element ended, and must ask for nothing from elsewhere:
 no script, no link to another place. A picture has to parse as XML. With --write they are written anew. With no PROGRAM it is
-crates/mntgate/out/mntgate. Prints what is wrong; the exit status is 1 then. bench/test_pages.py tests the same."""
+crates/mntgate/out/mntgate. Prints what is wrong; the exit status is 1 then. tests/test_pages.py tests the same."""
 
 import os
 import re
@@ -24,8 +24,8 @@ PICTURES = {
 }
 # Each page, with its command line.
 PAGES = {
-    "bench/pages/levels.html": ["replay", "--html", "--names", "kernel", "examples/levels.schedule"],
-    "bench/pages/two-changes.html": ["outcomes", "--html", "--model", "examples/races/two-changes.race"],
+    "tests/pages/levels.html": ["replay", "--html", "--names", "kernel", "examples/levels.schedule"],
+    "tests/pages/two-changes.html": ["outcomes", "--html", "--model", "examples/races/two-changes.race"],
 }
 # Elements without an end.
 VOID = {"meta", "br"}
@@ -88,7 +88,7 @@ def picture_faults(program):
         except OSError:
             kept = b""
         if kept != came:
-            yield f"{path}: the program makes another one: bench/pictures.py --write keeps it"
+            yield f"{path}: the program makes another one: tests/pictures.py --write keeps it"
 
 
 def main(words):

@@ -1,7 +1,7 @@
 #!/usr/bin/env -S python3 -B
 """Tests bin/without, and what docs/steps.md shows of it.
 
-    bench/test_steps.py [--all | WORD..]
+    tests/test_steps.py [--all | WORD..]
 
 A block of the page that begins with ```text and a line `$ bin/without ..` has what this command prints: a line `...` stands for any lines. Each names a
 mutant and a race that exist. Those whose command has one of the words are run; with --all all of them, and each builds its mutant, if that isn't

@@ -1,9 +1,9 @@
 #!/usr/bin/env -S python3 -B
-"""Tests the program as it was built, from outside: that each command line of bench/cases/*.txt ends as it says there, and, by the code below,
+"""Tests the program as it was built, from outside: that each command line of tests/cases/*.txt ends as it says there, and, by the code below,
 what a text can't say: reads and writes that fail or are small, what is answered to whom, the forms of the language, and random schedules.
-How a case is written stands at the head of bench/program/cases.py.
+How a case is written stands at the head of tests/program/cases.py.
 
-    bench/test_program.py [PROGRAM..]
+    tests/test_program.py [PROGRAM..]
 
 With no argument it tests crates/mntgate/out/mntgate and, where it is there, mntgate.by-rattle beside it: the same program as two compilers make
 it. For each it prints how many command lines ended as they should, or which ended otherwise, with what was wanted and what came. The exit
