@@ -3,15 +3,15 @@
 mod calls;
 mod decisions;
 mod failures;
+mod fixtures;
 mod lost;
 mod pairs;
 mod rows;
 mod runs;
-mod scene;
 mod tasks;
 mod teams;
+mod thread_runs;
 mod threads;
-mod turns;
 mod worked;
 
 use std::test::Fail;
