@@ -8,7 +8,7 @@ ghost use Rattle.gate_steps.specs.Rules.{table_index, table_length};
 ghost use Rattle.gate_steps.specs.Seating.{Acts, HasWitness, items_after, Spares, known_kept, known_given, known_both};
 
 use crate::rule::{Given, Gives, Happens, Items, Moment, Rule, TakesBack};
-use atomic_table::{GhostSeat, Shared};
+use atomic_table::{Seat, Shared};
 use cpu_words::{Event, STRIDE, Touch, WordName};
 use gate_events::PendingOp;
 use gate_world::{Config, Op};
@@ -26,7 +26,7 @@ pub fn index_of(word: WordName) -> usize
 #[inline(always)]
 fn touch_at<J: Moment, P: PendingOp>(
     shared: &Shared<(), Items, Config, Rule>,
-    seat: &mut GhostSeat<(), Items>,
+    seat: &mut Seat<(), Items>,
     begins: Option<Op>,
     under_way: P,
     hook: Result<(), u16>,
@@ -73,7 +73,7 @@ fn touch_at<J: Moment, P: PendingOp>(
 #[inline(always)]
 pub fn touch<P: PendingOp>(
     shared: &Shared<(), Items, Config, Rule>,
-    seat: &mut GhostSeat<(), Items>,
+    seat: &mut Seat<(), Items>,
     begins: Option<Op>,
     under_way: P,
     hook: Result<(), u16>,
@@ -100,7 +100,7 @@ pub fn touch<P: PendingOp>(
 #[inline(always)]
 pub fn event<P: PendingOp>(
     shared: &Shared<(), Items, Config, Rule>,
-    seat: &mut GhostSeat<(), Items>,
+    seat: &mut Seat<(), Items>,
     begins: Option<Op>,
     under_way: P,
     hook: Result<(), u16>,
@@ -123,9 +123,9 @@ pub fn event<P: PendingOp>(
 
 fn give_as<J: Given>(
     shared: &Shared<(), Items, Config, Rule>,
-    seat: &mut GhostSeat<(), Items>,
+    seat: &mut Seat<(), Items>,
     number: u8,
-) -> GhostSeat<(), Items>
+) -> Seat<(), Items>
     requires number { number ≡ J.number }
     requires table { seat.old.table_id ≡ shared.now.table_id }
     requires words { shared.now.table_id.words ≡ table_length }
@@ -141,9 +141,9 @@ fn give_as<J: Given>(
 /// A new seat with one of the numbers that the seat has to give. One load.
 pub fn give(
     shared: &Shared<(), Items, Config, Rule>,
-    seat: &mut GhostSeat<(), Items>,
+    seat: &mut Seat<(), Items>,
     number: u8,
-) -> GhostSeat<(), Items>
+) -> Seat<(), Items>
     requires table { seat.old.table_id ≡ shared.now.table_id }
     requires words { shared.now.table_id.words ≡ table_length }
     requires spare { Spares number seat.old.me.0.items }
@@ -158,8 +158,8 @@ pub fn give(
 /// All numbers of the other seat come back. One load.
 pub fn take_back(
     shared: &Shared<(), Items, Config, Rule>,
-    seat: &mut GhostSeat<(), Items>,
-    other: GhostSeat<(), Items>,
+    seat: &mut Seat<(), Items>,
+    other: Seat<(), Items>,
 )
     requires table { (seat.old.table_id ≡ shared.now.table_id) × (other.table_id ≡ shared.now.table_id) }
     requires words { shared.now.table_id.words ≡ table_length }
