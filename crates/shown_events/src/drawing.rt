@@ -352,8 +352,10 @@ impl<'a> Drawing<'a> {
         out: &mut Output,
     ) -> Result<(), AllocError> {
         let y = self.top(row).saturating_add(BASE);
+        let x = self.layout.lane_at(entry.task).saturating_add(INDENT);
+        let text = self.cell_of(entry)?;
         let Happening::Steps(taken) = entry.happens else {
-            self.print_lane(class_of(entry), entry, y, out)?;
+            self.print_rows(class_of(entry), (x, y), &text, out)?;
             return Ok(());
         };
         out.text(b"<g>");
@@ -361,31 +363,13 @@ impl<'a> Drawing<'a> {
         begin_text(out, "dim", 8, y);
         out.number(step);
         out.text(b"</text>\n");
-        let y = self.print_lane("step", entry, y, out)?;
+        let y = self.print_rows("step", (x, y), &text, out)?;
         if let Some(wait) = taken.wait {
-            let x = self.lane_of(entry);
             self.print_rows("wait", (x, y), &self.wait_of(wait)?, out)?;
         }
         self.print_right(row, &taken, out);
         out.text(b"</g>\n");
         Ok(())
-    }
-
-    /// Where the texts of an entry begin.
-    fn lane_of(&self, entry: &Entry) -> u64 {
-        self.layout.lane_at(entry.task).saturating_add(INDENT)
-    }
-
-    /// Prints what stands in the lane of an entry; says where the row behind it begins.
-    fn print_lane(
-        &self,
-        class: &'static str,
-        entry: &Entry,
-        y: u64,
-        out: &mut Output,
-    ) -> Result<u64, AllocError> {
-        let text = self.cell_of(entry)?;
-        self.print_rows(class, (self.lane_of(entry), y), &text, out)
     }
 
     /// Prints what a step does to the model, and the kernel's code for it.

@@ -80,24 +80,18 @@ fn answer_of(alloc: Global, text: &str) -> Record {
     let mut words = text.split(' ');
     record.number("task", number_of(words.next()));
     record.text("answer", words.next().unwrap_or(""));
-    if let Some(word) = words.next() {
-        add_reply(&mut record, word, words.next());
-    }
-    record
-}
-
-/// Adds what an answer has behind `ok` or `refused`, a word and the next one.
-fn add_reply(record: &mut Record, word: &str, next: Option<&str>) {
-    match word {
-        "node" => record.number("node", number_of(next)),
-        "ran" => record.flag("ran", true),
-        "none" => record.flag("ran", false),
-        "hook" => record.number("hook", number_of(next)),
-        errno => {
+    match words.next() {
+        None => {}
+        Some("node") => record.number("node", number_of(words.next())),
+        Some("ran") => record.flag("ran", true),
+        Some("none") => record.flag("ran", false),
+        Some("hook") => record.number("hook", number_of(words.next())),
+        Some(errno) => {
             record.number("errno", number_of(Some(errno)));
-            record.text("name", next.unwrap_or(""));
+            record.text("name", words.next().unwrap_or(""));
         }
     }
+    record
 }
 
 /// The number of a word; 0, where there is none.

@@ -184,13 +184,6 @@ pub(crate) fn action_term(action: Action) -> Term {
         Action::Leave(holder) => Term::new("leave").word("holder", holder_word(holder)),
         Action::Pass(level) => Term::new("pass").index("level", level),
         Action::Reopen(level) => Term::new("reopen").index("level", level),
-        _ => tree_action_term(action),
-    }
-}
-
-/// An action at the tree.
-fn tree_action_term(action: Action) -> Term {
-    match action {
         Action::Create { node, dir, kind } => Term::new("create")
             .index("node", node)
             .index("directory", dir)
@@ -206,7 +199,6 @@ fn tree_action_term(action: Action) -> Term {
         Action::Clean(node) => Term::new("clean").index("node", node),
         Action::Open(node) => Term::new("open").index("node", node),
         Action::Close(node) => Term::new("close").index("node", node),
-        _ => Term::new(""),
     }
 }
 
