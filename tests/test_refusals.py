@@ -17,16 +17,16 @@ CRATE = f"{ROOT}/crates/refusals/src"
 PAGE = f"{ROOT}/docs/refusals.md"
 # The section on the page, from its heading to the next one.
 SECTION = re.compile(r"(?ms)^## The calls\n.*?(?=^## )")
-TEXT = r'"((?:[^"\\]|\\.)*)"'
-ROW = re.compile(r"(?s)Row \{\s+calls: &\[(.*?)\],\s+refusal: GateError::(\w+)(?:\(0\))?,\s+" + r",\s+".join(
-    rf"{field}: {TEXT}" for field in ("when", "means", "state", "next", "never", "system")) + r",\s+\}")
+TEXT = r'(?s:"((?:[^"\\]|\\.)*)")'
+# A row: its calls, its refusal, when it comes, and a line for each text.
+ROW = re.compile(r"(.+?): (\w+)(?:, (.+))?")
 # The parts of the table, with their headings and what stands under them.
 PARTS = (
     ("gates", "Mounts, levels and the superblock", "`drop_mount`, `drop_write`, `end` and `callback` are never refused after their first step."),
     ("trees", "The tree and snapshots", "Of these calls only `close_file` and `snapshot` may wait. A removed file that is open can only be closed."),
     ("tasks", "Tasks, gates and runs", "What is refused before the first step has a table of its own: [below](#before-the-first-step)."),
 )
-LABELS = ("Means", "State now", "Do next", "Never", "In Linux")
+LABELS = ("means", "state now", "do next", "never", "in Linux")
 HEAD = """## The calls
 
 Each refusal has what it means, the state now, what to do next, what never to do, and how a script
@@ -39,10 +39,14 @@ def text_of(path):
         return it.read()
 
 
+def table_of(path):
+    """The text of a table, and its lines apart."""
+    return re.search(TEXT, text_of(f"{CRATE}/{path}.rt"))[1].removeprefix("\\\n").replace('\\"', '"').rstrip("\n")
+
+
 def names_of_calls():
-    """The names of each call, by that of its constant."""
-    found = re.findall(r"const (\w+): Call = &\[(.*?)\];", text_of(f"{CRATE}/calls.rt"), re.S)
-    return {name: re.findall(TEXT, names) for name, names in found}
+    """The first name of each call."""
+    return [line.split()[0] for line in table_of("calls").split("\n")]
 
 
 def errnos():
@@ -52,26 +56,26 @@ def errnos():
     return {name: f"{numbers[name]} `{name}` (`{errno}`)" if errno else f"`{name}(code)`" for name, errno in names}
 
 
-def heading_of(calls, refusal, when, names):
+def heading_of(calls, refusal, when):
     """The heading of a row: its refusal and when it comes; its calls, unless they are too many for one."""
-    of = ", ".join(f"`{names[call][0]}`" for call in calls) if len(calls) < 8 else "all calls"
+    of = ", ".join(f"`{call}`" for call in calls) if len(calls) < 8 else "all calls"
     return f"#### {of}: {refusal}{f', {when}' if when else ''}"
 
 
 def part_of(name, names, numbers):
     """The rows of a part of the table, as the page has them."""
-    source = text_of(f"{CRATE}/table/{name}.rt")
-    rows = ROW.findall(source)
-    if len(rows) != source.count("Row {") :
-        sys.exit(f"test_refusals: {name}.rt has rows that can't be read")
-    for calls, refusal, when, *texts in rows:
-        calls = re.findall(r"\w+", calls)
-        yield heading_of(calls, numbers[refusal], when, names)
+    for row in table_of(f"table/{name}").split("\n\n"):
+        head, *texts = row.split("\n")
+        found = ROW.fullmatch(head)
+        if not found or found[2] not in numbers or not set(found[1].split(" ")) <= set(names):
+            sys.exit(f"test_refusals: {name}.rt has a row of no call or refusal that there is: {head}")
+        yield heading_of(found[1].split(" "), numbers[found[2]], found[3])
         lines = []
-        for label, text in zip(LABELS, texts):
-            if text:
-                told = f"- **{label}:** " + text.replace('\\"', '"')
-                lines += textwrap.wrap(told, 100, subsequent_indent="  ", break_long_words=False, break_on_hyphens=False)
+        for label, text in (text.split(": ", 1) for text in texts):
+            if label not in LABELS:
+                sys.exit(f"test_refusals: {name}.rt has a text behind no label that there is: {label}")
+            told = f"- **{label[0].upper()}{label[1:]}:** {text}"
+            lines += textwrap.wrap(told, 100, subsequent_indent="  ", break_long_words=False, break_on_hyphens=False)
         yield "\n".join(lines)
 
 

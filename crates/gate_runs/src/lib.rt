@@ -1,5 +1,5 @@
 //! Runs over the gates: writers, a remounter and a backup, each in a thread of its own, and what a run tells of its gates once they are
-//! closed. It needs public calls alone, and stands in a crate of its own so that what needs no runs does not wait for their proof.
+//! closed. It needs public calls alone.
 #![tactic(auto)]
 
 pub mod run_parts;

@@ -52,7 +52,6 @@ pub fn run<
 {
     let asked = read_words(alloc, words, errors)?;
     let ended = do_asked(rt, alloc, &asked, reader, writer, errors, person);
-    // By a call: to drop all its parts in line costs the proof more.
     drop(asked);
     ended
 }

@@ -24,6 +24,36 @@ struct Counts {
     failed: u64,
 }
 
+impl Counts {
+    /// Counts a file.
+    fn add(&mut self, blessed: Result<bool, Ending>) {
+        match blessed {
+            Ok(true) => self.written = self.written.saturating_add(1),
+            Ok(false) => self.unchanged = self.unchanged.saturating_add(1),
+            Err(_) => self.failed = self.failed.saturating_add(1),
+        }
+    }
+
+    /// Writes the counts.
+    fn end<W: Write, E: Write>(self, alloc: Global, writer: &mut W, errors: &mut E) -> Ending
+        ensures { (result ≡ Blessed) ⊎ (result ≡ Refused) }
+    {
+        let mut told = Output::new(alloc);
+        told.number(self.written);
+        told.numbered(b" written, ", self.unchanged);
+        told.numbered(b" unchanged, ", self.failed);
+        told.text(b" failed\n");
+        if told.settled().is_err() {
+            return refused(GateError::NoMemory, errors);
+        }
+        match write_out(writer, told.bytes.as_slice()) {
+            Ok(()) if self.failed == 0 => Ending::Blessed,
+            Ok(()) => Ending::Refused,
+            Err(fault) => why_told(fault.text(), errors),
+        }
+    }
+}
+
 /// Writes what the schedules and races of some files print into them, in the place of what they say of it. Writes how many were written, stayed as
 /// they were, and failed; a file that has a fault, or can't be read or written, is told on the writer of faults, and stays as it is.
 pub fn run_blessings<R: Files + Alloc<A = Global>, I: Read, W: Write, E: Write>(
@@ -42,25 +72,9 @@ pub fn run_blessings<R: Files + Alloc<A = Global>, I: Read, W: Write, E: Write>(
         failed: 0,
     };
     for file in files {
-        match bless(rt, alloc, file, reader, errors) {
-            Ok(true) => counts.written = counts.written.saturating_add(1),
-            Ok(false) => counts.unchanged = counts.unchanged.saturating_add(1),
-            Err(_) => counts.failed = counts.failed.saturating_add(1),
-        }
+        counts.add(bless(rt, alloc, file, reader, errors));
     }
-    let mut told = Output::new(alloc);
-    told.number(counts.written);
-    told.numbered(b" written, ", counts.unchanged);
-    told.numbered(b" unchanged, ", counts.failed);
-    told.text(b" failed\n");
-    if told.settled().is_err() {
-        return refused(GateError::NoMemory, errors);
-    }
-    match write_out(writer, told.bytes.as_slice()) {
-        Ok(()) if counts.failed == 0 => Ending::Blessed,
-        Ok(()) => Ending::Refused,
-        Err(fault) => why_told(fault.text(), errors),
-    }
+    counts.end(alloc, writer, errors)
 }
 
 /// Writes what a file prints into it, unless it says so already; whether it was written.
@@ -76,23 +90,42 @@ fn bless<R: Files + Alloc<A = Global>, I: Read, E: Write>(
         file: Some(file),
         bytes: bytes.as_slice(),
     };
-    let lines = match blessed(alloc, source) {
-        Ok(lines) => lines,
-        Err(Stopped::Fault(fault)) => {
-            return Err(tell_faulty(alloc, source.faulty(fault), errors));
-        }
-        Err(Stopped::TooMany) => {
-            return Err(why_told_of(
-                format_args!("more than {STATES} states"),
-                Some(file),
-                errors,
-            ));
-        }
-    };
+    match blessed(alloc, source) {
+        Ok(lines) => write_new(rt, alloc, file, source.bytes, &lines, errors),
+        Err(stopped) => Err(tell_stopped(alloc, source, stopped, errors)),
+    }
+}
+
+/// Tells why a file can't be made to say what it prints.
+fn tell_stopped<E: Write>(
+    alloc: Global,
+    source: Source<'_>,
+    stopped: Stopped,
+    errors: &mut E,
+) -> Ending {
+    match stopped {
+        Stopped::Fault(fault) => tell_faulty(alloc, source.faulty(fault), errors),
+        Stopped::TooMany => why_told_of(
+            format_args!("more than {STATES} states"),
+            source.file,
+            errors,
+        ),
+    }
+}
+
+/// Writes these lines into a file that has others, unless they are the same; whether it was written.
+fn write_new<R: Files, E: Write>(
+    rt: &R,
+    alloc: Global,
+    file: &str,
+    others: &[u8],
+    lines: &Output,
+    errors: &mut E,
+) -> Result<bool, Ending> {
     if lines.settled().is_err() {
         return Err(refused_of(GateError::NoMemory, Some(file), errors));
     }
-    if lines.bytes.as_slice() == bytes.as_slice() {
+    if lines.bytes.as_slice() == others {
         return Ok(false);
     }
     match replace(rt, alloc, file, lines.bytes.as_slice()) {

@@ -3,3 +3,4 @@ pub mod Seen
 pub mod Named
 pub mod Models
 pub mod Laws
+pub mod Claims

@@ -1,5 +1,8 @@
 //! What is claimed of a race.
 
+ghost use Rattle.std.specs.Prelude.{◌≡◌};
+ghost use Rattle.race_conditions.specs.Claims.{passes};
+
 use crate::conditions::Condition;
 
 /// What is claimed of a condition. An end is a state from which no move that can still come changes what has been answered, nor the shown
@@ -14,6 +17,19 @@ pub enum ClaimKind {
     Always,
     /// It holds in each state.
     Invariant,
+}
+
+impl ClaimKind {
+    /// Whether a claim of this kind is so: where a schedule was found that meets it, of `Sometimes`; where none was found that breaks it, of
+    /// the others.
+    pub fn passes(self, is_found: bool) -> bool
+        ensures { result ≡ passes self is_found }
+    {
+        match self {
+            ClaimKind::Sometimes => is_found,
+            ClaimKind::Never | ClaimKind::Always | ClaimKind::Invariant => !is_found,
+        }
+    }
 }
 
 /// A claim about a race.

@@ -1,97 +1,35 @@
 //! The names of the calls.
 
-use crate::rows::Call;
-
-pub(crate) const WANT: Call = &["want", "mnt_want_write"];
-
-pub(crate) const TRY_WANT: Call = &["trywant", "try_want"];
-
-pub(crate) const WANT_WRITE: Call = &["wantwrite", "want_write"];
-
-pub(crate) const DROP: Call = &["drop", "drop_mount", "mnt_drop_write"];
-
-pub(crate) const DROP_WRITE: Call = &["dropwrite", "drop_write"];
-
-pub(crate) const START: Call = &["start", "sb_start_write"];
-
-pub(crate) const TRY_START: Call = &["trystart", "try_start", "sb_start_write_trylock"];
-
-pub(crate) const END: Call = &["end", "sb_end_write"];
-
-pub(crate) const CALLBACK: Call = &["callback"];
-
-pub(crate) const CHANGE: Call = &["change", "change_mount", "mnt_make_readonly"];
-
-pub(crate) const TRY_CHANGE: Call = &["trychange", "try_change_mount"];
-
-pub(crate) const REMOUNT: Call = &["remount", "remount_sb", "reconfigure_super"];
-
-pub(crate) const FREEZE: Call = &["freeze", "freeze_super"];
-
-pub(crate) const THAW: Call = &["thaw", "thaw_super"];
-
-pub(crate) const CREATE: Call = &["create"];
-
-pub(crate) const REMOVE: Call = &["remove"];
-
-pub(crate) const GROW: Call = &["grow"];
-
-pub(crate) const MOVE: Call = &["move", "move_to"];
-
-pub(crate) const FAULT: Call = &["fault"];
-
-pub(crate) const FLUSH: Call = &["flush"];
-
-pub(crate) const OPEN: Call = &["open", "open_file"];
-
-pub(crate) const CLOSE: Call = &["close", "close_file"];
-
-pub(crate) const TRY_CLOSE: Call = &["tryclose", "try_close_file"];
-
-pub(crate) const SNAPSHOT: Call = &["snapshot"];
-
-pub(crate) const TRY_SNAPSHOT: Call = &["trysnapshot", "try_snapshot"];
-
-pub(crate) const NEW: Call = &["Gates::new"];
-
-pub(crate) const SPLIT: Call = &["split", "Task::split"];
-
-pub(crate) const JOIN: Call = &["join", "Task::join"];
-
-pub(crate) const CLOSE_GATES: Call = &["Gates::close"];
-
-pub(crate) const RUN: Call = &["run", "run_with"];
-
-/// All calls.
-pub(crate) static CALLS: [Call; 30] = [
-    WANT,
-    TRY_WANT,
-    WANT_WRITE,
-    DROP,
-    DROP_WRITE,
-    START,
-    TRY_START,
-    END,
-    CALLBACK,
-    CHANGE,
-    TRY_CHANGE,
-    REMOUNT,
-    FREEZE,
-    THAW,
-    CREATE,
-    REMOVE,
-    GROW,
-    MOVE,
-    FAULT,
-    FLUSH,
-    OPEN,
-    CLOSE,
-    TRY_CLOSE,
-    SNAPSHOT,
-    TRY_SNAPSHOT,
-    NEW,
-    SPLIT,
-    JOIN,
-    CLOSE_GATES,
-    RUN,
-];
+/// All calls, on a line each: its names, first that of a schedule's command, then those of the library and of the kernel.
+pub(crate) const CALLS: &str = "\
+want mnt_want_write
+trywant try_want
+wantwrite want_write
+drop drop_mount mnt_drop_write
+dropwrite drop_write
+start sb_start_write
+trystart try_start sb_start_write_trylock
+end sb_end_write
+callback
+change change_mount mnt_make_readonly
+trychange try_change_mount
+remount remount_sb reconfigure_super
+freeze freeze_super
+thaw thaw_super
+create
+remove
+grow
+move move_to
+fault
+flush
+open open_file
+close close_file
+tryclose try_close_file
+snapshot
+trysnapshot try_snapshot
+Gates::new
+split Task::split
+join Task::join
+Gates::close
+run run_with
+";

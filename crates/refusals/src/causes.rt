@@ -60,3 +60,13 @@ pub(crate) static CAUSES: [Cause; 12] = [
         "the file system itself failed, with a code of its own",
     ),
 ];
+
+/// Returns the refusal of this name.
+pub(crate) fn cause_of(name: &str) -> Option<&'static Cause> {
+    for cause in &CAUSES {
+        if cause.0.name() == name {
+            return Some(cause);
+        }
+    }
+    None
+}

@@ -4,8 +4,8 @@ ghost use Rattle.std.specs.Prelude.{◌≡◌, ◌⊎◌};
 ghost use Rattle.exit_status.specs.declared.ends.Ending.TheVariants.{Misused, Refused, Told};
 
 use crate::calls::CALLS;
-use crate::causes::CAUSES;
-use crate::rows::{Call, RefusalRow};
+use crate::causes::{CAUSES, Cause};
+use crate::rows::RefusalRow;
 use crate::table::{gates, tasks, trees};
 use access_model::GateError;
 use diagnostics::Text;
@@ -43,7 +43,7 @@ pub fn run_explanation<W: Write, E: Write>(
     ensures { (result ≡ Told) ⊎ (result ≡ Refused) ⊎ (result ≡ Misused) }
 {
     let asked = match (call, refusal) {
-        (Some(word), None) if !are_named(CALLS.as_slice(), word) && is_any_refusal(word) => Asked {
+        (Some(word), None) if !is_any_call(word) && is_any_refusal(word) => Asked {
             call: None,
             refusal: call,
         },
@@ -71,20 +71,22 @@ pub fn run_explanation<W: Write, E: Write>(
 
 /// Puts each row that is asked for; whether there are some.
 fn put_rows(text: &mut Text, asked: Asked<'_>) -> bool {
-    let is_found = put_part(text, gates::ROWS.as_slice(), asked, false);
-    let is_found = put_part(text, trees::ROWS.as_slice(), asked, is_found);
-    put_part(text, tasks::ROWS.as_slice(), asked, is_found)
+    let is_found = put_part(text, gates::ROWS, asked, false);
+    let is_found = put_part(text, trees::ROWS, asked, is_found);
+    put_part(text, tasks::ROWS, asked, is_found)
 }
 
 /// Puts each of these rows that is asked for, behind others, if some were found; whether there are some now.
-fn put_part(text: &mut Text, rows: &[RefusalRow], asked: Asked<'_>, others: bool) -> bool {
+fn put_part(text: &mut Text, rows: &'static str, asked: Asked<'_>, others: bool) -> bool {
     let mut is_found = others;
-    for row in rows {
-        if is_asked(row, asked) {
+    for row in rows.split("\n\n") {
+        if let Some(row) = RefusalRow::read(row)
+            && is_asked(&row, asked)
+        {
             if is_found {
                 text.put("\n");
             }
-            put_row(text, row);
+            put_row(text, &row);
             is_found = true;
         }
     }
@@ -98,7 +100,7 @@ fn is_asked(row: &RefusalRow, asked: Asked<'_>) -> bool {
         None => true,
     };
     let is_of_refusal = match asked.refusal {
-        Some(word) => is_refusal(row.refusal, word),
+        Some(word) => is_refusal(row.cause, word),
         None => true,
     };
     is_of_call && is_of_refusal
@@ -107,50 +109,43 @@ fn is_asked(row: &RefusalRow, asked: Asked<'_>) -> bool {
 /// Puts a row: its calls, its refusal, and each text behind its label.
 fn put_row(text: &mut Text, row: &RefusalRow) {
     put_head(text, row);
-    put_labelled(text, "means", row.means);
-    put_labelled(text, "state now", row.state);
-    put_labelled(text, "do next", row.next);
-    put_labelled(text, "never", row.never);
-    put_labelled(text, "in Linux", row.system);
+    for line in row.texts.lines() {
+        let (label, told) = line.split_once(": ").unwrap_or(("", line));
+        put_labelled(text, label, told);
+    }
 }
 
 /// Puts the refusal of a row, and its calls.
 fn put_head(text: &mut Text, row: &RefusalRow) {
-    put_refusal(text, row.refusal);
+    put_refusal(text, row.cause);
     if !row.when.is_empty() {
         text.put(", ");
         text.put(row.when);
     }
     text.put("\n");
     let mut calls = Lines::new(text, "of");
-    for call in row.calls {
-        calls.put_word(name_of(*call));
+    for call in row.calls.split(' ') {
+        calls.put_word(call);
     }
     calls.end();
 }
 
 /// Puts a refusal by its number and its names.
-fn put_refusal(text: &mut Text, refusal: GateError) {
+fn put_refusal(text: &mut Text, cause: &Cause) {
+    let (refusal, errno, _) = cause;
     if let GateError::Hook(_) = refusal {
         return text.put("Hook(code)");
     }
     text.put(refusal.number());
     text.put(" ");
     text.put(refusal.name());
-    for (cause, errno, _) in &CAUSES {
-        if *cause == refusal {
-            text.put(" (");
-            text.put(*errno);
-            text.put(")");
-        }
-    }
+    text.put(" (");
+    text.put(*errno);
+    text.put(")");
 }
 
-/// Puts a text behind its label, in lines that end at the margin; nothing if it is empty.
+/// Puts a text behind its label, in lines that end at the margin.
 fn put_labelled(text: &mut Text, label: &str, told: &str) {
-    if told.is_empty() {
-        return;
-    }
     let mut lines = Lines::new(text, label);
     for word in told.split(' ') {
         lines.put_word(word);
@@ -210,8 +205,8 @@ fn put_index(text: &mut Text) {
     }
     text.put("\n'mntgate explain CALL REFUSAL' tells what to do about one. The calls:\n");
     let mut lines = Lines::new(text, "");
-    for call in &CALLS {
-        lines.put_word(name_of(*call));
+    for call in CALLS.lines() {
+        lines.put_word(name_of(call));
     }
     lines.end();
 }
@@ -236,9 +231,7 @@ fn unknown<E: Write>(alloc: Global, asked: Asked<'_>, errors: &mut E) -> Ending
     let mut text = Text::new(alloc);
     text.put("error: ");
     match asked.call {
-        Some(word) if !are_named(CALLS.as_slice(), word) => put_unknown_call(
-            alloc, &mut text, word,
-        ),
+        Some(word) if !is_any_call(word) => put_unknown_call(alloc, &mut text, word),
         call => put_unknown_refusal(&mut text, call, asked.refusal.unwrap_or("")),
     }
     text.put("\n\nUsage: mntgate explain [CALL] [REFUSAL]\n\nFor more information, try '--help'.");
@@ -281,19 +274,22 @@ fn put_unknown_refusal(text: &mut Text, call: Option<&str>, word: &str) {
         call: Some(call),
         refusal: None,
     };
-    put_refusals(text, gates::ROWS.as_slice(), asked);
-    put_refusals(text, trees::ROWS.as_slice(), asked);
-    put_refusals(text, tasks::ROWS.as_slice(), asked);
+    put_refusals(text, gates::ROWS, asked);
+    put_refusals(text, trees::ROWS, asked);
+    put_refusals(text, tasks::ROWS, asked);
 }
 
 /// Puts the refusals of these rows that are asked for, each once.
-fn put_refusals(text: &mut Text, rows: &[RefusalRow], asked: Asked<'_>) {
+fn put_refusals(text: &mut Text, rows: &'static str, asked: Asked<'_>) {
     let mut last = None;
-    for row in rows {
-        if is_asked(row, asked) && last != Some(row.refusal) {
+    for row in rows.split("\n\n") {
+        if let Some(row) = RefusalRow::read(row)
+            && is_asked(&row, asked)
+            && last != Some(row.cause.0)
+        {
             text.put(" ");
-            put_refusal(text, row.refusal);
-            last = Some(row.refusal);
+            put_refusal(text, row.cause);
+            last = Some(row.cause.0);
         }
     }
 }
@@ -302,12 +298,12 @@ fn put_refusals(text: &mut Text, rows: &[RefusalRow], asked: Asked<'_>) {
 fn nearest(alloc: Global, word: &str) -> Option<&'static str> {
     let mut nearest = None;
     let mut least = FAR.saturating_add(1).min(word.len());
-    for call in &CALLS {
-        for name in *call {
+    for call in CALLS.lines() {
+        for name in call.split(' ') {
             if let Ok(distance) = osa_distance(alloc, word, name)
                 && distance < least
             {
-                nearest = Some(*name);
+                nearest = Some(name);
                 least = distance;
             }
         }
@@ -315,43 +311,47 @@ fn nearest(alloc: Global, word: &str) -> Option<&'static str> {
     nearest
 }
 
-/// Whether one of these calls has this name.
-fn are_named(calls: &[Call], word: &str) -> bool {
-    for call in calls {
-        if is_named(*call, word) {
+/// Whether some call has this name.
+fn is_any_call(word: &str) -> bool {
+    CALLS.lines().any(|call| is_named(call, word))
+}
+
+/// Whether one of the calls with these first names has this name.
+fn are_named(calls: &str, word: &str) -> bool {
+    for call in CALLS.lines() {
+        if is_named(call, word) && is_named(calls, name_of(call)) {
             return true;
         }
     }
     false
 }
 
-/// Whether a call has this name.
-fn is_named(call: Call, word: &str) -> bool {
-    call.iter().any(|name| *name == word)
+/// Whether a name is among these.
+fn is_named(names: &str, word: &str) -> bool {
+    names.split(' ').any(|name| name == word)
 }
 
-/// Returns the first name of a call.
-fn name_of(call: Call) -> &'static str {
-    call.first().copied().unwrap_or("")
+/// Returns the first of a call's names.
+fn name_of(call: &'static str) -> &'static str {
+    call.split_once(' ').unwrap_or((call, "")).0
 }
 
 /// Whether some refusal is named so.
 fn is_any_refusal(word: &str) -> bool {
-    CAUSES.iter().any(|(cause, _, _)| is_refusal(*cause, word))
+    CAUSES.iter().any(|cause| is_refusal(cause, word))
 }
 
 /// Whether a refusal is named so: by its number, its name or that in Linux, in capitals or not.
-fn is_refusal(refusal: GateError, word: &str) -> bool {
+fn is_refusal(cause: &Cause, word: &str) -> bool {
+    let (refusal, errno, _) = cause;
     if refusal.name().eq_ignore_ascii_case(word) {
         return true;
     }
     if let GateError::Hook(_) = refusal {
         return false;
     }
-    let is_number = word
-        .parse::<u16>()
-        .is_ok_and(|number| number == refusal.number());
-    is_number
-        || CAUSES.iter().any(|(cause, errno, _)| *cause == refusal
-            && errno.eq_ignore_ascii_case(word))
+    errno.eq_ignore_ascii_case(word)
+        || word
+            .parse::<u16>()
+            .is_ok_and(|number| number == refusal.number())
 }

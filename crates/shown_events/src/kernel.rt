@@ -149,22 +149,39 @@ fn tree_code(call: Option<Op>, event: Event) -> &'static str {
             return SHUT_OUT;
         }
     }
-    match (call, event.word) {
-        (Some(Op::RemountSb { .. }), _) => "fc->ops->reconfigure(fc) writes back",
-        (Some(Op::Freeze { .. }), _) => "sync_filesystem(sb)",
-        (Some(Op::Snapshot { .. }), _) => "the volume manager copies",
-        (Some(Op::Create { .. } | Op::MoveTo { .. } | Op::Remove { .. }), WordName::Node(_))
-            if looks => { "the path walk" }
-        (Some(Op::Create { .. }), WordName::Node(_)) => "d_instantiate",
-        (Some(Op::MoveTo { .. }), WordName::Node(_)) => "d_move",
-        (Some(Op::Remove { .. }), WordName::Node(_)) => "drop_nlink, or evict",
-        (Some(Op::Grow { .. }), WordName::Node(_)) if !looks => "i_size_write; mark_inode_dirty",
-        (Some(Op::Fault { .. }), WordName::Node(_)) if !looks => "folio_mark_dirty",
-        (Some(Op::Flush { .. }), WordName::Node(_)) if !looks => "inode->i_state &= ~I_DIRTY",
-        (Some(Op::Open { .. }), WordName::Node(_)) if !looks => "do_dentry_open: ihold",
-        (Some(Op::Close { .. }), WordName::Node(_)) if !looks => "dput, iput",
-        (_, WordName::Used) => "the file system's count of blocks",
-        (_, WordName::Kids(_)) => "the file system's count of children",
+    match call {
+        Some(Op::RemountSb { .. }) => "fc->ops->reconfigure(fc) writes back",
+        Some(Op::Freeze { .. }) => "sync_filesystem(sb)",
+        Some(Op::Snapshot { .. }) => "the volume manager copies",
+        _ => match event.word {
+            WordName::Used => "the file system's count of blocks",
+            WordName::Kids(_) => "the file system's count of children",
+            WordName::Node(_) if looks => looked_code(call),
+            WordName::Node(_) => node_code(call),
+            _ => "the inode",
+        },
+    }
+}
+
+/// The code of a load of a node.
+fn looked_code(call: Option<Op>) -> &'static str {
+    match call {
+        Some(Op::Create { .. } | Op::MoveTo { .. } | Op::Remove { .. }) => "the path walk",
+        _ => "the inode",
+    }
+}
+
+/// The code of a change of a node.
+fn node_code(call: Option<Op>) -> &'static str {
+    match call {
+        Some(Op::Create { .. }) => "d_instantiate",
+        Some(Op::MoveTo { .. }) => "d_move",
+        Some(Op::Remove { .. }) => "drop_nlink, or evict",
+        Some(Op::Grow { .. }) => "i_size_write; mark_inode_dirty",
+        Some(Op::Fault { .. }) => "folio_mark_dirty",
+        Some(Op::Flush { .. }) => "inode->i_state &= ~I_DIRTY",
+        Some(Op::Open { .. }) => "do_dentry_open: ihold",
+        Some(Op::Close { .. }) => "dput, iput",
         _ => "the inode",
     }
 }

@@ -51,6 +51,16 @@ pub(crate) fn words_of<D: Driver>(
     Ok(listed)
 }
 
+/// The words of the superblock and of its freeze.
+const SUPERBLOCK: [WordName; 6] = [
+    WordName::Umount,
+    WordName::Stage,
+    WordName::Holders,
+    WordName::SbFlags,
+    WordName::Remount,
+    WordName::Removed,
+];
+
 /// The words that were found so far.
 #[derive(Drop)]
 struct Words<'a, D> {
@@ -68,27 +78,34 @@ impl<'a, D: Driver> Words<'a, D> {
     }
 
     fn add_gates(&mut self) -> Result<(), AllocError> {
-        self.add(WordName::Umount)?;
-        self.add(WordName::Stage)?;
-        self.add(WordName::Holders)?;
-        self.add(WordName::SbFlags)?;
-        self.add(WordName::Remount)?;
-        self.add(WordName::Removed)?;
+        for word in &SUPERBLOCK {
+            self.add(*word)?;
+        }
         for mount in 0..8 {
-            self.add(WordName::MountFlags(mount))?;
-            for cpu in 0..64 {
-                self.add(WordName::MountCount(mount, cpu))?;
-            }
+            self.add_mount(mount)?;
         }
         for level in 1..4 {
-            self.add(WordName::Block(level))?;
-            self.add(WordName::Sync(level))?;
-            for cpu in 0..64 {
-                self.add(WordName::LevelCount(level, cpu))?;
-            }
+            self.add_level(level)?;
         }
         for task in 0..self.session.tasks() {
             self.add(WordName::Section(task))?;
+        }
+        Ok(())
+    }
+
+    fn add_mount(&mut self, mount: u8) -> Result<(), AllocError> {
+        self.add(WordName::MountFlags(mount))?;
+        for cpu in 0..64 {
+            self.add(WordName::MountCount(mount, cpu))?;
+        }
+        Ok(())
+    }
+
+    fn add_level(&mut self, level: u8) -> Result<(), AllocError> {
+        self.add(WordName::Block(level))?;
+        self.add(WordName::Sync(level))?;
+        for cpu in 0..64 {
+            self.add(WordName::LevelCount(level, cpu))?;
         }
         Ok(())
     }

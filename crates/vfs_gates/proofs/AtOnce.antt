@@ -18,24 +18,24 @@ use Rattle.gate_steps.specs.call_events.Answers.{unless_refused}
 use Rattle.gate_steps.specs.call_events.Asking.{GoesWith}
 use Rattle.gate_steps.specs.call_events.Led.{LedAsking}
 use Rattle.gate_steps.specs.call_events.Progress.{Progress}
-use Rattle.gate_steps.specs.call_events.Runs.{StepTells}
+use Rattle.gate_steps.specs.call_events.Runs.{ProgressMatches}
 use Rattle.gate_steps.specs.call_events.Waited.{WentWaiting}
 use Rattle.gate_steps.proofs.call_events.Running.{admitted_some, refused_as, refused_none}
 use Rattle.gate_steps.proofs.call_events.Turning.{unasked}
 use Rattle.vfs_gates.specs.AtOnce.{BeginsAtOnce}
-use Rattle.vfs_gates.specs.TaskStates.{TaskState, task_state, refusal_at}
+use Rattle.vfs_gates.specs.TaskStates.{SeatedTask, task_state, refusal_at}
 
 -- an operation went where the steps of a line have led
 pub went_there : {H : Type 0} {answers : HookCall → SeatItems → H → HookAnswer → H → Type 0} {c : Config} {begins : Option Op}
     {accesses : Accesses} {first : Phase} {next : Next Phase} {table table_left : TableId} {me left : Knowledge} {hooks hooks_left : H}
-    (op : Op) (start : TaskState) → LedAsking answers c begins accesses (Go first) table me hooks next table_left left hooks_left →
+    (op : Op) (start : SeatedTask) → LedAsking answers c begins accesses (Go first) table me hooks next table_left left hooks_left →
     GoesWith [] 0 op start (task_state table c begins (Some first) me) →
     WentWaiting 0 op start next (task_state table_left c None (phase_after next) left)
 went_there {next = next} {hooks = hooks} op start led goes =
     let went = led.went op start hooks 0 ([], goes, refl) in unasked op start next _ went.0 0 went.1
 
 -- one whose beginning was refused
-pub refused_at_once : (op : Op) (old : TaskState) (e : GateError) → Err e ≡ unless_refused (refusal_at op old) →
+pub refused_at_once : (op : Op) (old : SeatedTask) (e : GateError) → Err e ≡ unless_refused (refusal_at op old) →
     BeginsAtOnce op old old (Err e)
 refused_at_once op old e is = record {
   table = refl;
@@ -44,10 +44,10 @@ refused_at_once op old e is = record {
   begun = λ at. absurd (refused_none e (refusal_at op old) is at);
 }
 
-module _ (op : Op) (old left : TaskState) (admitted : Ok tt ≡ unless_refused (refusal_at op old)) (table : left.table ≡ old.table)
+module _ (op : Op) (old left : SeatedTask) (admitted : Ok tt ≡ unless_refused (refusal_at op old)) (table : left.table ≡ old.table)
     (config : left.config ≡ old.config) (begun : left.begins ≡ None) where
   -- one that was begun, and so stands
-  pub told_at_once : (progress : Progress) → StepTells op old progress left → BeginsAtOnce op old left (Ok progress)
+  pub told_at_once : (progress : Progress) → ProgressMatches op old progress left → BeginsAtOnce op old left (Ok progress)
   told_at_once progress told = record {
     table = table;
     config = config;

@@ -129,18 +129,23 @@ impl Comparison<'_> {
         match judged {
             Ok(Judged::Hold) => Ok(()),
             Ok(Judged::Broken) => {
-                self.passed = false;
-                if let Some(file) = self.file {
-                    self.told.put(file);
-                    self.told.put(": ");
-                }
-                self.tell_lines(told.bytes.as_slice());
+                self.fail(told.bytes.as_slice());
                 Ok(())
             }
             Ok(Judged::Unjudged) => self.stop(alloc, source, Stopped::TooMany),
             Err(Stop::TooMany) => self.stop(alloc, source, Stopped::TooMany),
             Err(Stop::NoMemory) => Err(AllocError),
         }
+    }
+
+    /// Tells the verdicts on claims that don't hold.
+    fn fail(&mut self, verdicts: &[u8]) {
+        self.passed = false;
+        if let Some(file) = self.file {
+            self.told.put(file);
+            self.told.put(": ");
+        }
+        self.tell_lines(verdicts);
     }
 
     /// Tells lines as they are.

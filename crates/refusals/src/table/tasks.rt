@@ -1,141 +1,60 @@
 //! The refusals before the first step, and those of tasks, gates and runs.
 
-use crate::calls::{
-    CALLBACK, CHANGE, CLOSE, CLOSE_GATES, CREATE, DROP, DROP_WRITE, END, FAULT, FLUSH, FREEZE,
-    GROW, JOIN, MOVE, NEW, OPEN, REMOUNT, REMOVE, RUN, SNAPSHOT, SPLIT, START, THAW, TRY_CHANGE,
-    TRY_CLOSE, TRY_SNAPSHOT, TRY_START, TRY_WANT, WANT, WANT_WRITE,
-};
-use crate::rows::RefusalRow;
-use access_model::GateError;
+pub(crate) const ROWS: &str = "\
+want trywant wantwrite drop dropwrite start trystart end callback change trychange remount freeze thaw create remove grow move fault flush open close tryclose snapshot trysnapshot: Order, before the first step
+means: The task has an operation under way, or lacks or holds what the call doesn't allow. The table \"Before the first step\" tells what each call needs.
+state now: Unchanged: no step was done. So a drop, an end or a close has given nothing back. An operation under way stays under way.
+do next: It is a fault of the program: mend it.
+never: try again: no retry helps.
+in Linux: The kernel has no such error: there it is a deadlock or a count that goes wrong. A kernel built with lockdep reports it in `dmesg`.
 
-pub(crate) static ROWS: [RefusalRow; 10] = [
-    RefusalRow {
-        calls: &[
-            WANT,
-            TRY_WANT,
-            WANT_WRITE,
-            DROP,
-            DROP_WRITE,
-            START,
-            TRY_START,
-            END,
-            CALLBACK,
-            CHANGE,
-            TRY_CHANGE,
-            REMOUNT,
-            FREEZE,
-            THAW,
-            CREATE,
-            REMOVE,
-            GROW,
-            MOVE,
-            FAULT,
-            FLUSH,
-            OPEN,
-            CLOSE,
-            TRY_CLOSE,
-            SNAPSHOT,
-            TRY_SNAPSHOT,
-        ],
-        refusal: GateError::Order,
-        when: "before the first step",
-        means: "The task has an operation under way, or lacks or holds what the call doesn't allow. The table \"Before the first step\" tells what each call needs.",
-        state: "Unchanged: no step was done. So a drop, an end or a close has given nothing back. An operation under way stays under way.",
-        next: "It is a fault of the program: mend it.",
-        never: "try again: no retry helps.",
-        system: "The kernel has no such error: there it is a deadlock or a count that goes wrong. A kernel built with lockdep reports it in `dmesg`.",
-    },
-    RefusalRow {
-        calls: &[
-            WANT, TRY_WANT, WANT_WRITE, DROP, DROP_WRITE, START, TRY_START, END, CALLBACK, CHANGE,
-            TRY_CHANGE, CREATE, REMOVE, GROW, MOVE, FAULT, FLUSH, OPEN, CLOSE, TRY_CLOSE,
-        ],
-        refusal: GateError::Invalid,
-        when: "before the first step",
-        means: "There is no such mount, processor, level or node, or it is a grow by no block.",
-        state: "Unchanged: no step was done. So a drop, an end or a close has given nothing back.",
-        next: "It is a fault of the program: mend it.",
-        never: "try again: no retry helps.",
-        system: "",
-    },
-    RefusalRow {
-        calls: &[WANT, TRY_WANT, WANT_WRITE, OPEN],
-        refusal: GateError::TooMany,
-        when: "before the first step",
-        means: "The task holds 1,024 accesses at the mount, or has the file open already.",
-        state: "Unchanged: no step was done.",
-        next: "Give an access back first, or use the open that you have.",
-        never: "try again: no retry helps.",
-        system: "",
-    },
-    RefusalRow {
-        calls: &[NEW, RUN],
-        refusal: GateError::Invalid,
-        when: "",
-        means: "A number of the configuration, or of the run, is out of its limits.",
-        state: "Nothing was made.",
-        next: "Mend the number.",
-        never: "",
-        system: "",
-    },
-    RefusalRow {
-        calls: &[NEW],
-        refusal: GateError::NoMemory,
-        when: "",
-        means: "A growth of memory was refused.",
-        state: "Nothing was made.",
-        next: "Report it.",
-        never: "",
-        system: "`free -m` tells how much memory is left. A mount that finds none is ENOMEM in the kernel, too.",
-    },
-    RefusalRow {
-        calls: &[SPLIT],
-        refusal: GateError::Order,
-        when: "",
-        means: "The task has an operation under way.",
-        state: "Unchanged.",
-        next: "Step to its end, and split then. Accesses may be held.",
-        never: "",
-        system: "",
-    },
-    RefusalRow {
-        calls: &[SPLIT],
-        refusal: GateError::TooMany,
-        when: "",
-        means: "The task has no number left to give.",
-        state: "Unchanged.",
-        next: "Join a task first, or configure more of them.",
-        never: "",
-        system: "",
-    },
-    RefusalRow {
-        calls: &[SPLIT],
-        refusal: GateError::NoMemory,
-        when: "",
-        means: "A growth of memory was refused.",
-        state: "Unchanged.",
-        next: "Report it.",
-        never: "",
-        system: "",
-    },
-    RefusalRow {
-        calls: &[JOIN, CLOSE_GATES],
-        refusal: GateError::Order,
-        when: "",
-        means: "A task has an operation under way, holds something, or has a file open. A close also needs all numbers joined.",
-        state: "Unchanged: what was handed over is given back.",
-        next: "Give back what is held, join the others, and try again.",
-        never: "drop a task that holds something: its accesses stay counted for ever.",
-        system: "",
-    },
-    RefusalRow {
-        calls: &[RUN],
-        refusal: GateError::NoMemory,
-        when: "",
-        means: "Memory or a thread was refused.",
-        state: "All threads have ended, and the gates are gone.",
-        next: "Report it, or run fewer tasks.",
-        never: "",
-        system: "`ulimit -u` tells how many threads a user may have.",
-    },
-];
+want trywant wantwrite drop dropwrite start trystart end callback change trychange create remove grow move fault flush open close tryclose: Invalid, before the first step
+means: There is no such mount, processor, level or node, or it is a grow by no block.
+state now: Unchanged: no step was done. So a drop, an end or a close has given nothing back.
+do next: It is a fault of the program: mend it.
+never: try again: no retry helps.
+
+want trywant wantwrite open: TooMany, before the first step
+means: The task holds 1,024 accesses at the mount, or has the file open already.
+state now: Unchanged: no step was done.
+do next: Give an access back first, or use the open that you have.
+never: try again: no retry helps.
+
+Gates::new run: Invalid
+means: A number of the configuration, or of the run, is out of its limits.
+state now: Nothing was made.
+do next: Mend the number.
+
+Gates::new: NoMemory
+means: A growth of memory was refused.
+state now: Nothing was made.
+do next: Report it.
+in Linux: `free -m` tells how much memory is left. A mount that finds none is ENOMEM in the kernel, too.
+
+split: Order
+means: The task has an operation under way.
+state now: Unchanged.
+do next: Step to its end, and split then. Accesses may be held.
+
+split: TooMany
+means: The task has no number left to give.
+state now: Unchanged.
+do next: Join a task first, or configure more of them.
+
+split: NoMemory
+means: A growth of memory was refused.
+state now: Unchanged.
+do next: Report it.
+
+join Gates::close: Order
+means: A task has an operation under way, holds something, or has a file open. A close also needs all numbers joined.
+state now: Unchanged: what was handed over is given back.
+do next: Give back what is held, join the others, and try again.
+never: drop a task that holds something: its accesses stay counted for ever.
+
+run: NoMemory
+means: Memory or a thread was refused.
+state now: All threads have ended, and the gates are gone.
+do next: Report it, or run fewer tasks.
+in Linux: `ulimit -u` tells how many threads a user may have.
+";
