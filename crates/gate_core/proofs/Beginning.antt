@@ -21,6 +21,10 @@ module _ (memory : Memory) (sound : IsSound memory) (t : ℕ) (lt : t < memory.c
   same_seat : seat_of memory t ≡ seat
   same_seat = get_or_default memory.seats t no_seat seat (omega (arith, sound.seats)) ∙ sym seat_is
 
+  -- the seat where it is read again
+  pub seat_again : (again : TaskState) → again ≡ get_or memory.seats t again → seat ≡ again
+  seat_again again again_is = seat_is ∙ get_or_default memory.seats t seat again (omega (arith, sound.seats)) ∙ sym again_is
+
   -- why the task can't begin the operation
   abbrev seat_refusal : Option GateError
   seat_refusal = refusal memory.config under_way (seat_held seat) op

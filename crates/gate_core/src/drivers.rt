@@ -38,6 +38,7 @@ impl Driver for Core {
         self.wants_hook(task)
     }
 
+    #[inline(always)]
     fn word(&self, name: WordName) -> Option<u64> {
         if self.config().has_word(name) {
             self.words().get(name.place()).copied()

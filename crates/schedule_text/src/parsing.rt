@@ -1,7 +1,7 @@
 //! From a line to what it asks for.
 
-ghost use Rattle.std.specs.Prelude.{◌≡◌};
-ghost use Rattle.schedule_lines.specs.Words.{word_count};
+ghost use Rattle.std.specs.Prelude.{◌≡◌, ◌≤◌, ◌+◌, List, ℕ, length};
+ghost use Rattle.schedule_lines.specs.Words.{first_word, after_word, word_count};
 ghost use Rattle.schedule_text.specs.Parsing.{parsed, is_skipped, config_line, config_of, command_line, alone, task_line, task_of, arguments_of, want_of, drop_of, start_of, end_of, want_write_of, drop_write_of, change_of, remount_of, callback_of, freeze_of, thaw_of, create_of, remove_of, grow_of, move_of, fault_of, flush_of, open_of, close_of, step_of, run_of, number_at, byte_at, code_at, hook_at, holder_at, holder_given, kind_at, read_only_at, read_only_of};
 
 use crate::commands::{
@@ -82,22 +82,21 @@ fn config_of(rest: &[u8]) -> Result<Config, Fault>
 fn command_line(line: &[u8], tasks: u8) -> Result<Line, Fault>
     ensures { result ≡ command_line line.now tasks }
 {
-    let words = word_count(line);
-    let first = first_word(line);
+    let (first, rest) = split_word(line);
     if is_word(first, "config") {
         Err(Fault::ConfigTwice)
     } else if is_word(first, "words") {
-        alone(words, Request::Words)
+        alone(word_count(line), Request::Words)
     } else if is_word(first, "tree") {
-        alone(words, Request::Tree)
+        alone(word_count(line), Request::Tree)
     } else if is_word(first, "model") {
-        alone(words, Request::Model)
+        alone(word_count(line), Request::Model)
     } else if !is_digits(first) {
         Err(Fault::UnknownCommand)
-    } else if words == 1 {
+    } else if first.len() == line.len() {
         Err(Fault::WrongNumberOfWords)
     } else {
-        task_line(line, words, tasks)
+        task_line(first, rest, tasks)
     }
 }
 
@@ -112,14 +111,14 @@ fn alone(words: usize, request: Request) -> Result<Line, Fault>
     }
 }
 
-/// A line on a task, of so many words: its first word is digits.
+/// A line on a task: its first word, which is digits, and what follows it.
 #[tactic(auto, unfolding(crate::specs::Parsing::task_line))]
-fn task_line(line: &[u8], words: usize, tasks: u8) -> Result<Line, Fault>
-    requires { words ≡ word_count line.now }
-    ensures { result ≡ task_line line.now tasks }
+fn task_line(task: &[u8], rest: &[u8], tasks: u8) -> Result<Line, Fault>
+    ensures { (line : List ℕ) → task.now ≡ first_word line → rest.now ≡ after_word line → word_count line ≡ 1 + word_count rest.now →
+        result ≡ task_line line tasks }
 {
-    let (task, rest) = split_word(line);
     let (verb, arguments) = split_word(rest);
+    let words = 1 + words_of(rest, verb, arguments);
     let verb = Verb::of(verb).ok_or(Fault::UnknownCommand)?;
     if !verb.takes(words) {
         return Err(Fault::WrongNumberOfWords);
@@ -127,6 +126,20 @@ fn task_line(line: &[u8], words: usize, tasks: u8) -> Result<Line, Fault>
     let task = task_of(task, tasks).ok_or(Fault::NoSuchTask)?;
     let command = arguments_of(verb, arguments, words)?;
     Ok(Line::Request(Request::Task { task, command }))
+}
+
+/// How many words a text has, of which the first one is known, and what follows it: mostly that is little, or nothing.
+fn words_of(text: &[u8], first: &[u8], after: &[u8]) -> usize
+    requires first { first.now ≡ first_word text.now }
+    requires after { after.now ≡ after_word text.now }
+    ensures count { result ≡ word_count text.now }
+    ensures few { result ≤ length text.now + 1 }
+{
+    if first.len() == text.len() {
+        1
+    } else {
+        1 + word_count(after)
+    }
 }
 
 /// The task that a word of digits names. Digits that are no number name no task.

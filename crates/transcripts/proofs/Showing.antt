@@ -14,6 +14,7 @@ use Rattle.gate_world.specs.declared.operations.Op.{Op}
 use Rattle.gate_world.specs.Worlds.{World, happens, action_of, with_action, task_of}
 use Rattle.gate_world.specs.declared.entries.Entry.{Entry, TheVariants.{Begins, Steps}}
 use Rattle.gate_schedules.specs.Answers.{step_answer}
+use Rattle.gate_schedules.specs.declared.steps.Progress.{Progress}
 use Rattle.gate_schedules.specs.declared.steps.Step.{Step}
 use Rattle.schedule_lines.specs.declared.faults.Fault.{Fault}
 use Rattle.transcripts.specs.Transcript.{Play, played, after_event}
@@ -97,9 +98,13 @@ yes s = Ok s
 pub same_step : (s answered : Step) → yes s ≡ yes answered → s ≡ answered
 same_step s answered e = cc
 
--- the progress of a step that was answered
-pub step_progress : (s answered : Step) → yes s ≡ yes answered → s.progress ≡ answered.progress
-step_progress s answered e = ap (λ (x : Step). x.progress) (same_step s answered e)
+-- how an operation stands as an answer
+abbrev stands : Progress → Result Progress Fault
+stands progress = Ok progress
+
+-- two answers that are the same are of the same progress
+pub same_progress : (progress answered : Progress) → stands progress ≡ stands answered → progress ≡ answered
+same_progress progress answered e = cc
 
 -- with no session there is no play
 pub no_play : {D : Type 0} (shows : D → Config → World → Type 0) (s : Option (Session D)) (p : Option Play) → ShowsPlayIfAny shows s p → s ≡ None → p ≡ None

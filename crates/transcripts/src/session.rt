@@ -206,6 +206,7 @@ impl<D: Driver> Session<D> {
     /// Does one event, and the action that it adds, if the model allows it. Else the model stays as it was, and the gates have done the event
     /// all the same: so a build that isn't proved can be looked at behind its first wrong step. Gates that are known to show a world add no
     /// such action.
+    #[inline(always)]
     pub fn step_judged(&mut self, task: u8, hook: Result<(), u16>) -> JudgedStep
         ensures step { (p : Play) → ShowsPlay D.shows self.old p → result.step ≡ step_answer p.config p.world task hook }
         ensures allowed { (p : Play) → ShowsPlay D.shows self.old p → result.is_allowed ≡ true }
@@ -219,6 +220,25 @@ impl<D: Driver> Session<D> {
         JudgedStep { step, is_allowed }
     }
 
+    /// Does one event, and the action that it adds. Returns only how the operation stands then, so that a run copies no event.
+    ///
+    /// # Errors
+    ///
+    /// Invalid, if the model doesn't allow the action. Gates that are known to show a world add no such action.
+    #[inline(always)]
+    fn advance(&mut self, task: u8, hook: Result<(), u16>) -> Result<Progress, Fault>
+        ensures answer { (p : Play) → ShowsPlay D.shows self.old p → result ≡ Ok (step_answer p.config p.world task hook).progress }
+        ensures shows { (p : Play) → ShowsPlay D.shows self.old p → ShowsPlay D.shows self.new (played p (Steps task hook)) }
+        ensures refused { IfErr result (λ fault. fault ≡ Refused Invalid) }
+    {
+        let judged = self.step_judged(task, hook);
+        if judged.is_allowed {
+            Ok(judged.step.progress)
+        } else {
+            Err(Fault::Refused(GateError::Invalid))
+        }
+    }
+
     /// Goes on to the reply, or to the first event that finds that the task has to wait, or to the last event that one line
     /// may do. A hook may fail; all others answer Ok.
     fn run(&mut self, task: u8, failure: Option<HookFailure>) -> Result<Ran, Fault>
@@ -229,7 +249,7 @@ impl<D: Driver> Session<D> {
     {
         for events in 0..EVENTS {
             let hook = self.hook_answer(task, failure);
-            let progress = self.step(task, hook)?.progress;
+            let progress = self.advance(task, hook)?;
             match progress {
                 Progress::Going => {}
                 Progress::Idle => return Ok(Ran { events, progress }),
