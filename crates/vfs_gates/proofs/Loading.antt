@@ -31,11 +31,11 @@ use Rattle.gate_world.specs.declared.work.Phase.TheVariants.{Trees}
 use Rattle.gate_steps.specs.Seating.{SeatItems, items_after}
 use Rattle.gate_steps.specs.declared.seating.Knowledge.{Knowledge}
 use Rattle.gate_steps.specs.call_events.Led.{Led}
-use Rattle.gate_steps.specs.call_events.Turns.{IsTied, kept_at}
+use Rattle.gate_steps.specs.call_events.Turns.{StateAgrees, kept_at}
 use Rattle.gate_steps.proofs.call_events.Leading.{led_on, led_to, led_nowhere}
-use Rattle.vfs_gates.specs.declared.rooms.Rooms.{Rooms}
+use Rattle.vfs_gates.specs.declared.buffers.SnapshotBuffers.{SnapshotBuffers}
 use Rattle.vfs_gates.specs.Noted.{Noted, nodes_loaded, taking_at}
-use Rattle.vfs_gates.specs.Room.{RoomTells, noted_in}
+use Rattle.vfs_gates.specs.Buffers.{BuffersMatch, noted_in}
 use Rattle.gate_steps.proofs.call_events.Turning.{unasked}
 use Rattle.vfs_gates.proofs.Calling.{Call, Left, has_asked_none, idle, items_of, not_begun, same}
 use Rattle.vfs_gates.proofs.Noting.{EndsTaking, GoesOn, follows_taking}
@@ -88,66 +88,66 @@ fewer_left node nodes next is = grind arith
 
 -- a task has a number
 numbered : {c : Config} {begins : Option Op} {phase : Phase} {accesses : Accesses} {items : SeatItems} →
-    IsTied c begins (Some phase) accesses items → 1 ≤ length items
+    StateAgrees c begins (Some phase) accesses items → 1 ≤ length items
 numbered {c} {begins} {phase} {accesses} {items} tied =
     has_number tied.number c begins (kept_at (Some phase) accesses) tied.flags items tied.ties
 
 -- what a line of a snapshot has noted
-module _ {c : Config} {begins : Option Op} {accesses : Accesses} {table : TableId} {me : Knowledge} {rooms : Rooms} {left : Knowledge}
-    {table_left : TableId} {rooms_left : Rooms} where
+module _ {c : Config} {begins : Option Op} {accesses : Accesses} {table : TableId} {me : Knowledge} {buffers : SnapshotBuffers} {left : Knowledge}
+    {table_left : TableId} {rooms_left : SnapshotBuffers} where
   -- a load, which was noted
   pub noted_by : (s : Snapshot) (word : WordName) (found : ℕ) (event : Event) → (word, Load) ≡ snapshot_next s s.step →
       event ≡ event_of word Load found →
       Led c begins accesses (Go (Trees (Snapshots s))) table me (after_of (Trees (Snapshots s)) found (Ok tt)).0 table_left left →
       left.items ≡ items_after begins (Trees (Snapshots s)) (Ok tt) found me.items →
-      IsTied c begins (Some (Trees (Snapshots s))) accesses me.items →
-      (loads_last s.nodes s.step ≡ false → GoesOn rooms rooms_left event) → (loads_last s.nodes s.step ≡ true → EndsTaking rooms rooms_left event) →
-      Noted c begins accesses (Go (Trees (Snapshots s))) table me rooms (after_of (Trees (Snapshots s)) found (Ok tt)).0 table_left left rooms_left
+      StateAgrees c begins (Some (Trees (Snapshots s))) accesses me.items →
+      (loads_last s.nodes s.step ≡ false → GoesOn buffers rooms_left event) → (loads_last s.nodes s.step ≡ true → EndsTaking buffers rooms_left event) →
+      Noted c begins accesses (Go (Trees (Snapshots s))) table me buffers (after_of (Trees (Snapshots s)) found (Ok tt)).0 table_left left rooms_left
   noted_by s word found event known is led items tied goes_on ends = record {
     led = led;
     tells = λ h.
         let phase : Phase = Trees (Snapshots s) in
-        let P : ℕ × SeatItems → Type 0 = λ z. RoomTells c.nodes rooms_left None (phase_after (after_of phase z.0 (Ok tt)).0) z.1 in
+        let P : ℕ × SeatItems → Type 0 = λ z. BuffersMatch c.nodes rooms_left None (phase_after (after_of phase z.0 (Ok tt)).0) z.1 in
         subst P (λ i. (ap (λ (e : Event). e.found) is i, sym items i))
-        (follows_taking rooms rooms_left phase s refl event goes_on ends c.nodes begins (Ok tt) found me.items (numbered tied)
+        (follows_taking buffers rooms_left phase s refl event goes_on ends c.nodes begins (Ok tt) found me.items (numbered tied)
         (is ∙ ap (λ (z : WordName × Touch). event_of z.0 z.1 found) known) h);
   }
 
   -- what comes next, said otherwise
-  pub noted_to : {a b d : Next Phase} → b ≡ d → Noted c begins accesses a table me rooms b table_left left rooms_left →
-      Noted c begins accesses a table me rooms d table_left left rooms_left
-  noted_to {a} is noted = subst (λ (n : Next Phase). Noted c begins accesses a table me rooms n table_left left rooms_left) is noted
+  pub noted_to : {a b d : Next Phase} → b ≡ d → Noted c begins accesses a table me buffers b table_left left rooms_left →
+      Noted c begins accesses a table me buffers d table_left left rooms_left
+  noted_to {a} is noted = subst (λ (n : Next Phase). Noted c begins accesses a table me buffers n table_left left rooms_left) is noted
 
   -- one line after the other
-  pub noted_on : {a b d : Next Phase} {td : TableId} {ld : Knowledge} {rd : Rooms} →
-      Noted c begins accesses a table me rooms b table_left left rooms_left → Noted c None accesses b table_left left rooms_left d td ld rd →
-      Noted c begins accesses a table me rooms d td ld rd
+  pub noted_on : {a b d : Next Phase} {td : TableId} {ld : Knowledge} {rd : SnapshotBuffers} →
+      Noted c begins accesses a table me buffers b table_left left rooms_left → Noted c None accesses b table_left left rooms_left d td ld rd →
+      Noted c begins accesses a table me buffers d td ld rd
   noted_on one two = record { led = led_on one.led two.led; tells = λ h. two.tells (one.tells h) }
 
 -- a step that loads no word of the tree leaves the room as it is
-pub unnoted : {c : Config} {begins : Option Op} {accesses : Accesses} {table table_left : TableId} {me left : Knowledge} {rooms : Rooms}
+pub unnoted : {c : Config} {begins : Option Op} {accesses : Accesses} {table table_left : TableId} {me left : Knowledge} {buffers : SnapshotBuffers}
     (s : Snapshot) (found : ℕ) → loads_last s.nodes s.step ≡ false →
-    noted_in (words_of rooms.next) (event_of (snapshot_next s s.step).0 (snapshot_next s s.step).1 found) ≡ words_of rooms.next →
+    noted_in (words_of buffers.next) (event_of (snapshot_next s s.step).0 (snapshot_next s s.step).1 found) ≡ words_of buffers.next →
     phase_after (after_of (Trees (Snapshots s)) (event_of (snapshot_next s s.step).0 (snapshot_next s s.step).1 found).found (Ok tt)).0 ≡
     phase_after (after_of (Trees (Snapshots s)) found (Ok tt)).0 →
     Led c begins accesses (Go (Trees (Snapshots s))) table me (after_of (Trees (Snapshots s)) found (Ok tt)).0 table_left left →
-    left.items ≡ items_after begins (Trees (Snapshots s)) (Ok tt) found me.items → IsTied c begins (Some (Trees (Snapshots s))) accesses me.items →
-    Noted c begins accesses (Go (Trees (Snapshots s))) table me rooms (after_of (Trees (Snapshots s)) found (Ok tt)).0 table_left left rooms
-unnoted {c} {begins} {me = me} {rooms = rooms} s found goes_on stays comes led items tied = record {
+    left.items ≡ items_after begins (Trees (Snapshots s)) (Ok tt) found me.items → StateAgrees c begins (Some (Trees (Snapshots s))) accesses me.items →
+    Noted c begins accesses (Go (Trees (Snapshots s))) table me buffers (after_of (Trees (Snapshots s)) found (Ok tt)).0 table_left left buffers
+unnoted {c} {begins} {me = me} {buffers = buffers} s found goes_on stays comes led items tied = record {
   led = led;
   tells = λ h.
       let phase : Phase = Trees (Snapshots s) in
       let event : Event = event_of (snapshot_next s s.step).0 (snapshot_next s s.step).1 found in
-      let P : Option Phase × SeatItems → Type 0 = λ z. RoomTells c.nodes rooms None z.0 z.1 in
+      let P : Option Phase × SeatItems → Type 0 = λ z. BuffersMatch c.nodes buffers None z.0 z.1 in
       subst P (λ i. (comes i, sym items i))
-      (follows_taking rooms rooms phase s refl event (λ f. (refl, refl, sym stays)) (λ t. absurd (true≢false (sym t ∙ goes_on)))
+      (follows_taking buffers buffers phase s refl event (λ f. (refl, refl, sym stays)) (λ t. absurd (true≢false (sym t ∙ goes_on)))
       c.nodes begins (Ok tt) found me.items (numbered tied) refl h);
 }
 
 -- no step
-pub noted_nowhere : (c : Config) (accesses : Accesses) (a : Next Phase) (table : TableId) (me : Knowledge) (rooms : Rooms) →
-    Noted c None accesses a table me rooms a table me rooms
-noted_nowhere c accesses a table me rooms = record { led = led_nowhere c accesses a table me; tells = λ h. h }
+pub noted_nowhere : (c : Config) (accesses : Accesses) (a : Next Phase) (table : TableId) (me : Knowledge) (buffers : SnapshotBuffers) →
+    Noted c None accesses a table me buffers a table me buffers
+noted_nowhere c accesses a table me buffers = record { led = led_nowhere c accesses a table me; tells = λ h. h }
 
 -- `umount` was free, and the stage is the last
 pub lock_free : (s : Snapshot) (found : ℕ) → found ≡ 0 → (after_of (taking_at s Locks) found (Ok tt)).0 ≡ Go (taking_at s LoadsStage)
@@ -157,7 +157,7 @@ pub is_frozen : (s : Snapshot) (found : ℕ) → found ≡ 4 → (after_of (taki
 is_frozen s found is = subst (λ n. (after_of (taking_at s LoadsStage) n (Ok tt)).0 ≡ Go (taking_at s LoadsUsed)) (sym is) refl
 
 -- a call that takes a snapshot in a line, and what its line has left
-module _ (call : Call) {table : TableId} {known : Knowledge} {begun gone : Rooms} (next : Next Phase)
+module _ (call : Call) {table : TableId} {known : Knowledge} {begun gone : SnapshotBuffers} (next : Next Phase)
     (noted : Noted call.gates (Some call.op) call.task.kept.accesses (Go call.first) call.task.seat.table_id call.task.seat.me.0 begun next table
     known gone) where
   abbrev pub left_by : Left call
@@ -172,14 +172,14 @@ module _ (call : Call) {table : TableId} {known : Knowledge} {begun gone : Rooms
   }
 
   -- its room tells of what comes next
-  pub loaded_room : RoomTells call.task.config.nodes begun (Some call.op) (Some call.first) (items_of call) → (o : Option Phase) →
-      phase_after next ≡ o → RoomTells call.task.config.nodes gone call.task.begins o known.items
+  pub loaded_room : BuffersMatch call.task.config.nodes begun (Some call.op) (Some call.first) (items_of call) → (o : Option Phase) →
+      phase_after next ≡ o → BuffersMatch call.task.config.nodes gone call.task.begins o known.items
   loaded_room h o is =
-      let P : Config × Option Op × Option Phase → Type 0 = λ z. RoomTells z.0.nodes gone z.1 z.2 known.items in
+      let P : Config × Option Op × Option Phase → Type 0 = λ z. BuffersMatch z.0.nodes gone z.1 z.2 known.items in
       subst P (λ i. (sym (same call) i, sym (not_begun call) i, is i))
-      (noted.tells (subst (λ (d : Config). RoomTells d.nodes begun (Some call.op) (Some call.first) (items_of call)) (same call) h))
+      (noted.tells (subst (λ (d : Config). BuffersMatch d.nodes begun (Some call.op) (Some call.first) (items_of call)) (same call) h))
 
   -- or of none, where it was done
-  pub loaded_done : RoomTells call.task.config.nodes begun (Some call.op) (Some call.first) (items_of call) → (answer : Result Reply GateError) →
-      next ≡ Done answer → RoomTells call.task.config.nodes gone call.task.begins call.task.kept.phase known.items
+  pub loaded_done : BuffersMatch call.task.config.nodes begun (Some call.op) (Some call.first) (items_of call) → (answer : Result Reply GateError) →
+      next ≡ Done answer → BuffersMatch call.task.config.nodes gone call.task.begins call.task.kept.phase known.items
   loaded_done h answer is = loaded_room h call.task.kept.phase (ap (λ (n : Next Phase). phase_after n) is ∙ sym (idle call))

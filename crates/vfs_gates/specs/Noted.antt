@@ -16,8 +16,8 @@ use Rattle.gate_world.specs.declared.work.Phase.TheVariants.{Trees}
 use Rattle.gate_world.specs.Views.{phase_after}
 use Rattle.gate_steps.specs.declared.seating.Knowledge.{Knowledge}
 use Rattle.gate_steps.specs.call_events.Led.{Led}
-use Rattle.vfs_gates.specs.declared.rooms.Rooms.{Rooms}
-use Rattle.vfs_gates.specs.Room.{RoomTells}
+use Rattle.vfs_gates.specs.declared.buffers.SnapshotBuffers.{SnapshotBuffers}
+use Rattle.vfs_gates.specs.Buffers.{BuffersMatch}
 
 -- what comes next of a call at the tree, as phases
 abbrev pub of_tree : Next TreePhase → Next Phase
@@ -34,7 +34,7 @@ nodes_loaded s None = taking_at s (LoadsKids 0)
 
 -- Steps have led a snapshot from where it stood to where it stands, and its task has noted in its room what they have loaded: what the room told
 -- of the task's numbers before, it tells of them after.
-pub record Noted (c : Config) (begins : Option Op) (accesses : Accesses) (next : Next Phase) (table : TableId) (me : Knowledge) (rooms : Rooms)
-    (further : Next Phase) (table_left : TableId) (left : Knowledge) (rooms_left : Rooms) : Type 0 where
+pub record Noted (c : Config) (begins : Option Op) (accesses : Accesses) (next : Next Phase) (table : TableId) (me : Knowledge) (buffers : SnapshotBuffers)
+    (further : Next Phase) (table_left : TableId) (left : Knowledge) (rooms_left : SnapshotBuffers) : Type 0 where
   pub led : Led c begins accesses next table me further table_left left
-  pub tells : RoomTells c.nodes rooms begins (phase_after next) me.items → RoomTells c.nodes rooms_left None (phase_after further) left.items
+  pub tells : BuffersMatch c.nodes buffers begins (phase_after next) me.items → BuffersMatch c.nodes rooms_left None (phase_after further) left.items

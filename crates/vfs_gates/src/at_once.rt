@@ -3,13 +3,13 @@
 ghost use Rattle.std.specs.Prelude.{◌≡◌, false};
 ghost use Rattle.vfs_gates.specs.AtOnce.{BeginsAtOnce};
 
-use crate::call_lines::InLine;
+use crate::fast_paths::FastPath;
 use crate::calls::waits;
 use crate::gates::Gates;
 use crate::snapshots::snapshot_first;
 use crate::task::Task;
 use access_model::{GateError, Holder, Next};
-use gate_events::UnderWay;
+use gate_events::PendingOp;
 use gate_steps::call_ends::Waiting;
 use gate_steps::call_events::Progress;
 use gate_world::Op;
@@ -17,7 +17,7 @@ use gate_world::Op;
 impl Task {
     ghost use Rattle.gate_world.specs.Beginnings.{first_phase};
     ghost use Rattle.gate_world.specs.declared.operations.Op.TheVariants.{RemountSb, WantWrite, Callback, Freeze, Snapshot, Thaw};
-    ghost use Rattle.vfs_gates.specs.Room.{is_of_snapshot};
+    ghost use Rattle.vfs_gates.specs.Buffers.{is_of_snapshot};
     ghost use Rattle.vfs_gates.specs.TaskStates.{IsFrom, own_number};
 
     /// Begins an operation that has this first phase, and does its steps in a line, where each hook answers Ok. Where one of them finds
@@ -51,7 +51,7 @@ impl Task {
 
     /// Begins an operation that has this first phase and asks no hook, and does its steps in a line, likewise.
     #[inline(always)]
-    fn take_at_once<P: InLine>(
+    fn take_at_once<P: FastPath>(
         &mut self,
         gates: &Gates,
         op: Op,
@@ -87,10 +87,10 @@ impl Task {
         if let Err(refusal) = self.admit(op) {
             return Err(refusal);
         }
-        self.rooms.begin(op);
+        self.buffers.begin(op);
         let first = self.first_snapshot(wait);
         let (seat, accesses) = (&mut self.seat, &self.kept.accesses);
-        let next = snapshot_first(&gates.words, seat, accesses, &mut self.rooms, op, first);
+        let next = snapshot_first(&gates.words, seat, accesses, &mut self.buffers, op, first);
         self.waited = waits(&next);
         match next {
             Next::Done(answer) => Ok(Progress::Done(answer)),

@@ -9,7 +9,7 @@ ghost use Rattle.vfs_gates.specs.Noted.{taking_at};
 
 use crate::task::Task;
 use access_model::Holder;
-use compounds::WritePhase;
+use composite_ops::WritePhase;
 use freeze_levels::{Freeze, FreezeStep, Thaw, ThawStep};
 use gated_tree::{Snapshot, SnapshotStep};
 use mount_counts::{Remount, RemountStep};

@@ -9,13 +9,13 @@ ghost use Rattle.gate_world.specs.declared.work.Phase.TheVariants.{Trees};
 ghost use Rattle.gated_tree.specs.Phases.{snapshot_next};
 ghost use Rattle.gated_tree.specs.declared.phases.TreePhase.TheVariants.{Snapshot as Snapshots};
 ghost use Rattle.gated_tree.specs.declared.snapshots.SnapshotStep.TheVariants.{LoadsKids, LoadsNode, LoadsUsed, Locks, Releases};
-ghost use Rattle.gate_steps.specs.call_events.Turns.{IsTied};
+ghost use Rattle.gate_steps.specs.call_events.Turns.{StateAgrees};
 ghost use Rattle.vfs_gates.specs.Noted.{Noted, nodes_loaded, of_tree, taking_at};
 
-use crate::rooms::Rooms;
+use crate::buffers::SnapshotBuffers;
 use access_model::{Next, Reply};
 use cpu_words::{Touch, WordName};
-use gate_steps::call_events::{GateWords, Seat, find, find_first};
+use gate_steps::call_events::{GateWords, GhostSeat, find, find_first};
 use gate_world::{Accesses, Op};
 use gated_tree::{NodeWord, Snapshot, SnapshotStep, TreePhase};
 use node_words::following;
@@ -39,22 +39,22 @@ fn leave(snapshot: Snapshot, step: SnapshotStep, found: u64) -> Next<TreePhase>
 #[inline(always)]
 fn find_noting(
     gates: &GateWords,
-    seat: &mut Seat,
+    seat: &mut GhostSeat,
     accesses: &Accesses,
-    rooms: &mut Rooms,
+    buffers: &mut SnapshotBuffers,
     snapshot: Snapshot,
     word: WordName,
 ) -> u64
     requires known { (word, Load) ≡ snapshot_next snapshot snapshot.step }
     requires table { seat.old.table_id ≡ gates.now.table.shared.table_id }
-    requires tied { IsTied gates.now.config None (Some (Trees (Snapshots snapshot))) accesses.now seat.old.me.0.items }
+    requires tied { StateAgrees gates.now.config None (Some (Trees (Snapshots snapshot))) accesses.now seat.old.me.0.items }
     ensures slots { seat.new.me.1 ≡ seat.old.me.1 }
-    ensures noted { Noted gates.now.config None accesses.now (Go (Trees (Snapshots snapshot))) seat.old.table_id seat.old.me.0 rooms.old
-        (after_of (Trees (Snapshots snapshot)) result (Ok tt)).0 seat.new.table_id seat.new.me.0 rooms.new }
+    ensures noted { Noted gates.now.config None accesses.now (Go (Trees (Snapshots snapshot))) seat.old.table_id seat.old.me.0 buffers.old
+        (after_of (Trees (Snapshots snapshot)) result (Ok tt)).0 seat.new.table_id seat.new.me.0 buffers.new }
 {
     let touch = Touch::Load;
     let found = find(gates, seat, accesses, TreePhase::Snapshot(snapshot), word, touch);
-    rooms.note(snapshot, touch.event(word, found));
+    buffers.note(snapshot, touch.event(word, found));
     found
 }
 
@@ -62,22 +62,22 @@ fn find_noting(
 #[inline(never)]
 fn load_nodes(
     gates: &GateWords,
-    seat: &mut Seat,
+    seat: &mut GhostSeat,
     accesses: &Accesses,
-    rooms: &mut Rooms,
+    buffers: &mut SnapshotBuffers,
     snapshot: Snapshot,
 ) -> Option<u8>
     requires table { seat.old.table_id ≡ gates.now.table.shared.table_id }
-    requires tied { IsTied gates.now.config None (Some (taking_at snapshot (LoadsNode 0))) accesses.now seat.old.me.0.items }
+    requires tied { StateAgrees gates.now.config None (Some (taking_at snapshot (LoadsNode 0))) accesses.now seat.old.me.0.items }
     ensures slots { seat.new.me.1 ≡ seat.old.me.1 }
-    ensures noted { Noted gates.now.config None accesses.now (Go (taking_at snapshot (LoadsNode 0))) seat.old.table_id seat.old.me.0 rooms.old
-        (Go (nodes_loaded snapshot result)) seat.new.table_id seat.new.me.0 rooms.new }
+    ensures noted { Noted gates.now.config None accesses.now (Go (taking_at snapshot (LoadsNode 0))) seat.old.table_id seat.old.me.0 buffers.old
+        (Go (nodes_loaded snapshot result)) seat.new.table_id seat.new.me.0 buffers.new }
 {
     let mut node = 0;
     loop {
         let step = SnapshotStep::LoadsNode(node);
         let here = Snapshot { step, ..snapshot };
-        let found = find_noting(gates, seat, accesses, rooms, here, WordName::Node(node));
+        let found = find_noting(gates, seat, accesses, buffers, here, WordName::Node(node));
         let is_node = NodeWord::unpack(found).is_some();
         if !is_node {
             return Some(node);
@@ -93,22 +93,22 @@ fn load_nodes(
 #[inline(never)]
 fn load_kids(
     gates: &GateWords,
-    seat: &mut Seat,
+    seat: &mut GhostSeat,
     accesses: &Accesses,
-    rooms: &mut Rooms,
+    buffers: &mut SnapshotBuffers,
     snapshot: Snapshot,
 )
     requires table { seat.old.table_id ≡ gates.now.table.shared.table_id }
-    requires tied { IsTied gates.now.config None (Some (taking_at snapshot (LoadsKids 0))) accesses.now seat.old.me.0.items }
+    requires tied { StateAgrees gates.now.config None (Some (taking_at snapshot (LoadsKids 0))) accesses.now seat.old.me.0.items }
     ensures slots { seat.new.me.1 ≡ seat.old.me.1 }
-    ensures noted { Noted gates.now.config None accesses.now (Go (taking_at snapshot (LoadsKids 0))) seat.old.table_id seat.old.me.0 rooms.old
-        (Go (taking_at snapshot (Releases (Ok TreeReply)))) seat.new.table_id seat.new.me.0 rooms.new }
+    ensures noted { Noted gates.now.config None accesses.now (Go (taking_at snapshot (LoadsKids 0))) seat.old.table_id seat.old.me.0 buffers.old
+        (Go (taking_at snapshot (Releases (Ok TreeReply)))) seat.new.table_id seat.new.me.0 buffers.new }
 {
     let mut node = 0;
     loop {
         let step = SnapshotStep::LoadsKids(node);
         let here = Snapshot { step, ..snapshot };
-        let _found = find_noting(gates, seat, accesses, rooms, here, WordName::Kids(node));
+        let _found = find_noting(gates, seat, accesses, buffers, here, WordName::Kids(node));
         match following(node, snapshot.nodes) {
             Some(next) => node = next,
             None => return,
@@ -120,25 +120,25 @@ fn load_kids(
 #[inline(always)]
 fn load_tree(
     gates: &GateWords,
-    seat: &mut Seat,
+    seat: &mut GhostSeat,
     accesses: &Accesses,
-    rooms: &mut Rooms,
+    buffers: &mut SnapshotBuffers,
     snapshot: Snapshot,
 ) -> Next<TreePhase>
     requires table { seat.old.table_id ≡ gates.now.table.shared.table_id }
-    requires tied { IsTied gates.now.config None (Some (taking_at snapshot LoadsUsed)) accesses.now seat.old.me.0.items }
+    requires tied { StateAgrees gates.now.config None (Some (taking_at snapshot LoadsUsed)) accesses.now seat.old.me.0.items }
     ensures slots { seat.new.me.1 ≡ seat.old.me.1 }
-    ensures noted { Noted gates.now.config None accesses.now (Go (taking_at snapshot LoadsUsed)) seat.old.table_id seat.old.me.0 rooms.old
-        (of_tree result) seat.new.table_id seat.new.me.0 rooms.new }
+    ensures noted { Noted gates.now.config None accesses.now (Go (taking_at snapshot LoadsUsed)) seat.old.table_id seat.old.me.0 buffers.old
+        (of_tree result) seat.new.table_id seat.new.me.0 buffers.new }
 {
     let step = SnapshotStep::LoadsUsed;
     let here = Snapshot { step, ..snapshot };
-    let _used = find_noting(gates, seat, accesses, rooms, here, WordName::Used);
-    if let Some(node) = load_nodes(gates, seat, accesses, rooms, snapshot) {
+    let _used = find_noting(gates, seat, accesses, buffers, here, WordName::Used);
+    if let Some(node) = load_nodes(gates, seat, accesses, buffers, snapshot) {
         let step = SnapshotStep::LoadsNode(node);
         return Next::Go(TreePhase::Snapshot(Snapshot { step, ..snapshot }));
     }
-    load_kids(gates, seat, accesses, rooms, snapshot);
+    load_kids(gates, seat, accesses, buffers, snapshot);
     let step = SnapshotStep::Releases(Ok(Reply::Tree));
     let here = TreePhase::Snapshot(Snapshot { step, ..snapshot });
     let _freed = find(gates, seat, accesses, here, WordName::Umount, Touch::Store(0));
@@ -149,17 +149,17 @@ fn load_tree(
 #[inline(never)]
 pub(crate) fn snapshot_first(
     gates: &GateWords,
-    seat: &mut Seat,
+    seat: &mut GhostSeat,
     accesses: &Accesses,
-    rooms: &mut Rooms,
+    buffers: &mut SnapshotBuffers,
     op: Op,
     snapshot: Snapshot,
 ) -> Next<TreePhase>
     requires table { seat.old.table_id ≡ gates.now.table.shared.table_id }
-    requires tied { IsTied gates.now.config (Some op) (Some (taking_at snapshot Locks)) accesses.now seat.old.me.0.items }
+    requires tied { StateAgrees gates.now.config (Some op) (Some (taking_at snapshot Locks)) accesses.now seat.old.me.0.items }
     ensures slots { seat.new.me.1 ≡ seat.old.me.1 }
-    ensures noted { Noted gates.now.config (Some op) accesses.now (Go (taking_at snapshot Locks)) seat.old.table_id seat.old.me.0 rooms.old
-        (of_tree result) seat.new.table_id seat.new.me.0 rooms.new }
+    ensures noted { Noted gates.now.config (Some op) accesses.now (Go (taking_at snapshot Locks)) seat.old.table_id seat.old.me.0 buffers.old
+        (of_tree result) seat.new.table_id seat.new.me.0 buffers.new }
 {
     let step = SnapshotStep::Locks;
     let locks = TreePhase::Snapshot(Snapshot { step, ..snapshot });
@@ -175,5 +175,5 @@ pub(crate) fn snapshot_first(
     if stage != FROZEN {
         return leave(snapshot, SnapshotStep::LoadsStage, stage);
     }
-    load_tree(gates, seat, accesses, rooms, snapshot)
+    load_tree(gates, seat, accesses, buffers, snapshot)
 }

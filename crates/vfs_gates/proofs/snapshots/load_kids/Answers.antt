@@ -11,7 +11,7 @@ pub loop-next-init : goal.loop-next-init
 loop-next-init c = record {
   slots = refl;
   noted = noted_nowhere c.args.gates.now.config c.args.accesses.now (Go (taking_at c.args.snapshot (LoadsKids 0))) c.args.seat.now.table_id
-      c.args.seat.now.me.0 c.args.rooms.now;
+      c.args.seat.now.me.0 c.args.buffers.now;
 }
 
 pub find_noting-found-requires-clause-table : goal.find_noting-found-requires-clause-table

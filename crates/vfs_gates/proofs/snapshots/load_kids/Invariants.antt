@@ -9,8 +9,8 @@ use Rattle.vfs_gates.proofs.snapshots.load_kids.Given as goal
 abbrev pub invariant-loop-next : goal.invariant-loop-next
 invariant-loop-next l = record {
   slots : l.seat.me.1 ≡ l.fn.seat.me.1;
-  noted : Noted l.fn.gates.config None l.fn.accesses (Go (taking_at l.fn.snapshot (LoadsKids 0))) l.fn.seat.table_id l.fn.seat.me.0 l.fn.rooms
-      (Go (taking_at l.fn.snapshot (LoadsKids l.node))) l.seat.table_id l.seat.me.0 l.rooms;
+  noted : Noted l.fn.gates.config None l.fn.accesses (Go (taking_at l.fn.snapshot (LoadsKids 0))) l.fn.seat.table_id l.fn.seat.me.0 l.fn.buffers
+      (Go (taking_at l.fn.snapshot (LoadsKids l.node))) l.seat.table_id l.seat.me.0 l.buffers;
 }
 
 abbrev pub decreases-loop-next : goal.decreases-loop-next

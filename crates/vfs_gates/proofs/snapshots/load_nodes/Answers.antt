@@ -16,7 +16,7 @@ pub loop-snapshot-init : goal.loop-snapshot-init
 loop-snapshot-init c = record {
   slots = refl;
   noted = noted_nowhere c.args.gates.now.config c.args.accesses.now (Go (taking_at c.args.snapshot (LoadsNode 0))) c.args.seat.now.table_id
-      c.args.seat.now.me.0 c.args.rooms.now;
+      c.args.seat.now.me.0 c.args.buffers.now;
 }
 
 pub find_noting-found-requires-clause-table : goal.find_noting-found-requires-clause-table

@@ -9,8 +9,8 @@ use Rattle.vfs_gates.proofs.snapshots.load_nodes.Given as goal
 abbrev pub invariant-loop-snapshot : goal.invariant-loop-snapshot
 invariant-loop-snapshot l = record {
   slots : l.seat.me.1 ≡ l.fn.seat.me.1;
-  noted : Noted l.fn.gates.config None l.fn.accesses (Go (taking_at l.fn.snapshot (LoadsNode 0))) l.fn.seat.table_id l.fn.seat.me.0 l.fn.rooms
-      (Go (taking_at l.fn.snapshot (LoadsNode l.node))) l.seat.table_id l.seat.me.0 l.rooms;
+  noted : Noted l.fn.gates.config None l.fn.accesses (Go (taking_at l.fn.snapshot (LoadsNode 0))) l.fn.seat.table_id l.fn.seat.me.0 l.fn.buffers
+      (Go (taking_at l.fn.snapshot (LoadsNode l.node))) l.seat.table_id l.seat.me.0 l.buffers;
 }
 
 abbrev pub decreases-loop-snapshot : goal.decreases-loop-snapshot

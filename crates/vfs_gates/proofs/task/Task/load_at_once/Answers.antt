@@ -8,7 +8,7 @@ use Rattle.gate_world.specs.declared.work.Phase.{Phase}
 use Rattle.gate_world.specs.declared.work.Phase.TheVariants.{Trees}
 use Rattle.gated_tree.specs.declared.snapshots.SnapshotStep.TheVariants.{Locks}
 use Rattle.vfs_gates.specs.Noted.{of_tree, taking_at}
-use Rattle.vfs_gates.specs.Room.{RoomTells}
+use Rattle.vfs_gates.specs.Buffers.{BuffersMatch}
 use Rattle.vfs_gates.proofs.Admitting.{refused_by}
 use Rattle.vfs_gates.proofs.AtOnce.{refused_at_once, told_at_once}
 use Rattle.vfs_gates.proofs.Calling.{Call, Left, call_with, is_tied, items_of, not_begun, ties_at, ties_done, goes_at, ended_at}
@@ -30,7 +30,7 @@ left c = left_by (call c) (of_tree c.snapshot_first-next.result) c.snapshot_firs
 
 -- as the call begins, its room tells of the operation's first phase
 begun : (c : After-snapshot_first-next) →
-    RoomTells (call c).task.config.nodes c.begin.new.rooms (Some (call c).op) (Some (call c).first) (items_of (call c))
+    BuffersMatch (call c).task.config.nodes c.begin.new.buffers (Some (call c).op) (Some (call c).first) (items_of (call c))
 begun c = begun_in (call c) _ (c.begin.ensures c.self.inside.config c.self.inside.begins c.self.inside.kept.phase c.self.inside.seat.me.0.items
     c.self.inside.number c.self.invariant.2)
 
