@@ -390,7 +390,6 @@ pub fn read_words<'a, E: Write>(
     ensures only { IfOk result (λ asked. IsPlainOfInput asked → MayAskPlainly (map string_bytes words.entry.now)) }
 {
     let command = command(alloc)?;
-    // What is dropped is dropped by calls: to drop all its parts in line costs the proof more.
     match command.try_get_matches_from(words) {
         Ok(matches) => {
             let asked = request_of(alloc, &matches, errors);
@@ -696,7 +695,6 @@ fn command<'a>(alloc: Global) -> Result<Command<'a>, AllocError>
         .subcommand_required(true);
     for subcommand in SUBCOMMANDS.iter() {
         let Ok(sub) = subcommand_of(alloc, subcommand) else {
-            // By a call: to drop all its parts in line costs the proof more.
             drop(program);
             return Err(AllocError);
         };

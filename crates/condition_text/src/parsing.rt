@@ -100,7 +100,6 @@ fn condition_at(
             match condition_at(alloc, names, text, depth, Rank::Any, end_of(text, at)) {
                 Ok((other, at)) => Ok((or_of(alloc, one, other)?, at)),
                 Err(fault) => {
-                    // By a call: to drop all its parts in line costs the proof more.
                     drop(one);
                     Err(fault)
                 }

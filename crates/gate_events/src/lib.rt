@@ -1,5 +1,5 @@
-//! The events of an operation under way, in code: what each touches and leaves. The operations themselves, and what is claimed of them, stand in
-//! `gate_world`, so that the proofs over every schedule wait for no code.
+//! The steps of a pending operation, in code: which word each touches and how, and what comes after it. The operations themselves, and what is
+//! claimed of them, stand in `gate_world`.
 #![tactic(auto)]
 
 pub mod pending_ops;

@@ -1,5 +1,5 @@
 //! Runs over the gates: writers, a remounter and a backup, each in a thread of its own, and what a run tells of its gates once they are
-//! closed. It needs public calls alone, and stands in a crate of its own so that what needs no runs does not wait for their proof.
+//! closed. It needs public calls alone.
 #![tactic(auto)]
 
 pub mod run_parts;
@@ -7,6 +7,6 @@ pub mod run_threads;
 mod runs;
 mod told;
 
-pub use run_plans::{Copies, Details, Meeting, Plan, Sizes, Totals, RunObserver, Writes};
+pub use run_plans::{Copies, Details, Meeting, Plan, RunObserver, Sizes, Totals, Writes};
 pub use runs::{run_plan, run_with};
 pub use told::run_told;

@@ -1,6 +1,5 @@
 //! Tests of the gates: each public call as its user makes it, hooks that fail, tasks that are lost, what docs/refusals.md advises, and tasks
-//! in threads; and of the model and the core below. They need public calls alone, and stand in a crate of their own so that they are proved beside
-//! `vfs_gates`. What a contract says of all inputs has no test here.
+//! in threads; and of the model and the core below. They need public calls alone. What a contract says of all inputs has no test here.
 #![tactic(auto)]
 
 #[cfg(test)]

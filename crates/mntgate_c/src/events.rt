@@ -1,6 +1,7 @@
 //! Steps as records of numbers.
 
 ghost use Rattle.std.specs.Prelude.{◌≡◌, Some};
+ghost use Rattle.access_model.specs.declared.actions.Kind.TheVariants.{Dir, File};
 ghost use Rattle.mntgate_c.specs.Events.{action_at, event_at, step_at, touch_at, word_at};
 
 use crate::codes::{Outcome, tell};
@@ -144,6 +145,17 @@ fn numbered(kind: u8, number: u8) -> ActionRecord
     }
 }
 
+/// The number of the creation of a node of this kind.
+fn creation(kind: Kind) -> u8
+    ensures file { kind ≡ File → result ≡ 16 }
+    ensures dir { kind ≡ Dir → result ≡ 17 }
+{
+    match kind {
+        Kind::File => 16,
+        Kind::Dir => 17,
+    }
+}
+
 /// An action, for C.
 fn action(action: Action) -> ActionRecord
     ensures { action_at result ≡ Some action }
@@ -164,21 +176,9 @@ fn action(action: Action) -> ActionRecord
         Action::Leave(Holder::User) => numbered(13, 0),
         Action::Pass(level) => numbered(14, level),
         Action::Reopen(level) => numbered(15, level),
-        Action::Create {
-            node,
+        Action::Create { node, dir, kind } => ActionRecord {
             dir,
-            kind: Kind::File,
-        } => ActionRecord {
-            dir,
-            ..numbered(16, node)
-        },
-        Action::Create {
-            node,
-            dir,
-            kind: Kind::Dir,
-        } => ActionRecord {
-            dir,
-            ..numbered(17, node)
+            ..numbered(creation(kind), node)
         },
         Action::Remove(node) => numbered(18, node),
         Action::Grow { node, blocks } => ActionRecord {

@@ -1,4 +1,4 @@
-//! The gates for C: a static library over `vfs_gates`. A handle is a pointer that C keeps, to a task with the gates that it came from.
+//! The gates for C: a static library. A handle is a pointer that C keeps, to a task of `vfs_gates` with the gates that it came from.
 //! `bindings/c/mntgate.h` is what C includes. Each export says by the library's own clause what it did.
 #![tactic(auto)]
 

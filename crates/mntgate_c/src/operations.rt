@@ -1,6 +1,6 @@
 //! Operations as records of numbers.
 
-ghost use Rattle.std.specs.Prelude.{◌≡◌};
+ghost use Rattle.std.specs.Prelude.{◌≡◌, ◌<◌, ◌≤◌};
 ghost use Rattle.mntgate_c.specs.Operations.{kind_of, op_at};
 
 use crate::codes::holder;
@@ -36,24 +36,26 @@ pub(crate) fn kind(is_dir: bool) -> Kind
 pub(crate) fn operation(named: OpRecord) -> Option<Op>
     ensures { result ≡ op_at named }
 {
-    let OpRecord {
-        kind: which,
-        number,
-        other,
-        choice,
-        wait,
-        blocks,
-    } = named;
-    let op = match which {
+    if named.kind < 11 {
+        gate_operation(named)
+    } else {
+        tree_operation(named)
+    }
+}
+
+/// The operation at a mount, at a level, or of the whole file system.
+fn gate_operation(named: OpRecord) -> Option<Op>
+    requires { named.kind < 11 }
+    ensures { result ≡ op_at named }
+{
+    let (number, cpu, choice, wait) = (named.number, named.other, named.choice, named.wait);
+    let op = match named.kind {
         0 => Op::Want {
             mount: number,
-            cpu: other,
+            cpu,
             wait,
         },
-        1 => Op::DropMount {
-            mount: number,
-            cpu: other,
-        },
+        1 => Op::DropMount { mount: number, cpu },
         2 => Op::ChangeMount {
             mount: number,
             read_only: choice,
@@ -62,36 +64,38 @@ pub(crate) fn operation(named: OpRecord) -> Option<Op>
         3 => Op::RemountSb { read_only: choice },
         4 => Op::Start {
             level: number,
-            cpu: other,
+            cpu,
             wait,
         },
-        5 => Op::End {
-            level: number,
-            cpu: other,
-        },
-        6 => Op::WantWrite {
-            mount: number,
-            cpu: other,
-        },
-        7 => Op::DropWrite {
-            mount: number,
-            cpu: other,
-        },
+        5 => Op::End { level: number, cpu },
+        6 => Op::WantWrite { mount: number, cpu },
+        7 => Op::DropWrite { mount: number, cpu },
         8 => Op::Callback { level: number },
         9 => Op::Freeze {
             holder: holder(choice),
         },
-        10 => Op::Thaw {
+        _ => Op::Thaw {
             holder: holder(choice),
         },
+    };
+    Some(op)
+}
+
+/// The operation at the tree.
+fn tree_operation(named: OpRecord) -> Option<Op>
+    requires { 11 ≤ named.kind }
+    ensures { result ≡ op_at named }
+{
+    let (number, other, wait) = (named.number, named.other, named.wait);
+    let op = match named.kind {
         11 => Op::Create {
             dir: number,
-            kind: kind(choice),
+            kind: kind(named.choice),
         },
         12 => Op::Remove { file: number },
         13 => Op::Grow {
             file: number,
-            blocks,
+            blocks: named.blocks,
         },
         14 => Op::MoveTo {
             file: number,

@@ -1,5 +1,5 @@
 //! What the program does with the races and schedules of files, or of standard input, beyond a replay: checks them, makes them say what they print, and lists all outcomes
-//! of a race. It needs no thread, and is proved beside the gates that threads use.
+//! of a race.
 #![tactic(auto)]
 
 mod blessings;

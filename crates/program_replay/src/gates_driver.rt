@@ -51,7 +51,6 @@ impl GatesDriver {
         ensures memory { IsWithin config → IfErr result (λ e. e ≡ NoMemory) }
     {
         let (gates, first) = Gates::new(alloc, config)?;
-        // What is dropped is dropped by calls: to drop all its parts in line costs the proof more.
         let tasks = match all_tasks(alloc, &gates, first, config.tasks) {
             Ok(tasks) => tasks,
             Err(refusal) => {

@@ -1,5 +1,5 @@
 //! A replay, as the command line asks for it: over the core, or over the gates that threads use, driven by one thread; plain, or shown in another
-//! form; with what a person is told of a fault, its text and what helps. It stands apart from the program, so that it is proved beside the threads of a run.
+//! form; with what a person is told of a fault, its text and what helps.
 #![tactic(auto)]
 
 pub mod gates_driver;

@@ -40,7 +40,6 @@ impl RaceFile {
         match Calls::read(alloc, core.config().tasks, lines) {
             Ok(calls) => Ok(RaceFile { core, calls }),
             Err(fault) => {
-                // By a call: to drop all its parts in line costs the proof more.
                 drop(core);
                 Err(fault)
             }
@@ -74,7 +73,6 @@ fn read_lines(alloc: Global, lines: &mut Lines<'_>) -> Result<RaceFile, RaceFaul
 {
     let session = set_up(alloc, lines)?;
     let file = RaceFile::read(alloc, &session, lines);
-    // By a call: to drop all its parts in line costs the proof more.
     drop(session);
     file
 }

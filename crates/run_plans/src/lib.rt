@@ -1,5 +1,5 @@
 //! A run of writers, a remounter and a backup beside its gates: what it may be asked for, who looks on, what its tasks meet, counted, and how
-//! that is told. It stands apart from the gates and their threads, so that neither waits for the proof of the other.
+//! that is told.
 #![tactic(auto)]
 
 pub mod counts;

@@ -169,20 +169,10 @@ fn arguments_of(verb: Verb, rest: &[u8], words: usize) -> Result<TaskCommand, Fa
         Verb::TryClose => close_of(rest, false),
         Verb::Snapshot => Ok(TaskCommand::Begin(Op::Snapshot { wait: true })),
         Verb::TrySnapshot => Ok(TaskCommand::Begin(Op::Snapshot { wait: false })),
-        Verb::Step => {
-            if words == 2 {
-                Ok(TaskCommand::Step { hook: Ok(()) })
-            } else {
-                step_of(rest)
-            }
-        }
-        Verb::Run => {
-            if words == 2 {
-                Ok(TaskCommand::Run { failure: None })
-            } else {
-                run_of(rest)
-            }
-        }
+        Verb::Step if words == 2 => Ok(TaskCommand::Step { hook: Ok(()) }),
+        Verb::Step => step_of(rest),
+        Verb::Run if words == 2 => Ok(TaskCommand::Run { failure: None }),
+        Verb::Run => run_of(rest),
     }
 }
 

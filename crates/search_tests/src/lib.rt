@@ -1,4 +1,4 @@
-//! Tests of the searches of `exploration`, over a small system that meets all their laws: two counters that three movers raise.
+//! Tests of the search for all states of a system, over a small one that meets all its laws: two counters that three movers raise.
 #![tactic(auto)]
 
 mod counters;

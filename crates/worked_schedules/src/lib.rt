@@ -1,5 +1,5 @@
-//! Worked schedules: what the definitions of the crates below give for schedules that were written out by hand, by computing, and worlds that a
-//! clause of the theorem refuses. They stand in proofs/. No crate stands on it, so none waits for it.
+//! Worked schedules: what the definitions give for schedules that were written out by hand, by computing, and worlds that a clause of the
+//! theorem refuses. They stand in proofs/.
 #![tactic(auto)]
 
 ghost use Rattle.std.specs.Prelude.{◌≡◌};

@@ -63,6 +63,23 @@ impl<'g, W: RunObserver> Promise<Worked> for Home<'g, W> {
 /// A thread that is to be joined.
 type Worker<'g, W> = PromisedHandle<Worked, Home<'g, W>>;
 
+/// Where the threads of a run are started.
+struct Starter<'a, 's, E, R> {
+    scope: &'a Scope<'s, E>,
+    rt: &'s R,
+    alloc: Global,
+}
+
+impl<'a, 's, E, R> Drop for Starter<'a, 's, E, R> {
+    fn drop(self) {
+        let Starter {
+            scope: _,
+            rt: _,
+            alloc: _,
+        } = self;
+    }
+}
+
 /// What a thread does: it remounts, or writes, by its task's number.
 fn work<R: Wait, W: RunObserver>(
     rt: &R,
@@ -91,9 +108,7 @@ fn work<R: Wait, W: RunObserver>(
 
 /// Splits the next task off, and starts its thread. NoMemory where it can't be started, or a growth was refused.
 fn start_worker<'s, E, R: Wait + Sync, W: RunObserver + Sync>(
-    scope: &Scope<'s, E>,
-    rt: &'s R,
-    alloc: Global,
+    starter: &Starter<'_, 's, E, R>,
     gates: &'s Gates,
     plan: Plan,
     watch: &'s W,
@@ -113,7 +128,7 @@ fn start_worker<'s, E, R: Wait + Sync, W: RunObserver + Sync>(
         × (w.promise.number ≡ number)) }
     ensures refused { IfErr result (λ e. e ≡ NoMemory) }
 {
-    let Ok(other) = task.split(alloc, gates) else {
+    let Ok(other) = task.split(starter.alloc, gates) else {
         return Err(GateError::NoMemory);
     };
     let home = Home {
@@ -122,6 +137,7 @@ fn start_worker<'s, E, R: Wait + Sync, W: RunObserver + Sync>(
         watch,
         number,
     };
+    let rt = starter.rt;
     let run = move || -> Worked
         requires from { IsFrom other gates.now }
         requires planned { gates.now.words.config ≡ run_config plan.tasks plan.processors plan.rounds }
@@ -134,7 +150,7 @@ fn start_worker<'s, E, R: Wait + Sync, W: RunObserver + Sync>(
         let met = work(rt, gates, plan, watch, number, &mut task);
         Worked { task, met }
     };
-    match scope.spawn_with(home, run) {
+    match starter.scope.spawn_with(home, run) {
         Ok(worker) => Ok(worker),
         Err(_) => Err(GateError::NoMemory),
     }
@@ -142,9 +158,7 @@ fn start_worker<'s, E, R: Wait + Sync, W: RunObserver + Sync>(
 
 /// Splits off all other tasks, in their order, and starts their threads.
 fn start_workers<'s, E, R: Wait + Sync, W: RunObserver + Sync>(
-    scope: &Scope<'s, E>,
-    rt: &'s R,
-    alloc: Global,
+    starter: &Starter<'_, 's, E, R>,
     gates: &'s Gates,
     plan: Plan,
     watch: &'s W,
@@ -167,7 +181,7 @@ fn start_workers<'s, E, R: Wait + Sync, W: RunObserver + Sync>(
     ensures refused { IfErr result (λ e. e ≡ NoMemory) }
 {
     for number in REMOUNTER..FIRST_WRITER + plan.writers() {
-        let Ok(worker) = start_worker(scope, rt, alloc, gates, plan, watch, number, task) else {
+        let Ok(worker) = start_worker(starter, gates, plan, watch, number, task) else {
             return Err(GateError::NoMemory);
         };
         let Ok(()) = workers.push(worker) else {
@@ -239,9 +253,7 @@ fn join_workers<R: Threads, W: RunObserver>(
 
 /// Creates the files, starts the threads of all other tasks, backs up beside them, and joins them.
 fn run_threads<'s, E, R: Threads + Wait + Sync, W: RunObserver + Sync>(
-    scope: &Scope<'s, E>,
-    rt: &'s R,
-    alloc: Global,
+    starter: &Starter<'_, 's, E, R>,
     gates: &'s Gates,
     plan: Plan,
     watch: &'s W,
@@ -260,8 +272,9 @@ fn run_threads<'s, E, R: Threads + Wait + Sync, W: RunObserver + Sync>(
         plan.freezes) }
     ensures refused { IfErr result (RunRefused gates.now.words.config plan.tasks) }
 {
+    let rt = starter.rt;
     create_files(rt, gates, plan, task)?;
-    start_workers(scope, rt, alloc, gates, plan, watch, task, workers)?;
+    start_workers(starter, gates, plan, watch, task, workers)?;
     let copies = back_up(rt, gates, plan, watch, task, &mut ())?;
     let (remounts, writes) = join_workers(rt, gates, plan, watch, task, workers)?;
     Ok(Details {
@@ -309,16 +322,8 @@ pub fn in_threads<R: Threads + Wait + Sync, W: RunObserver + Sync>(
         {
             let mut task = task;
             let mut workers = Vec::new(alloc);
-            let details = run_threads(
-                scope,
-                rt,
-                alloc,
-                gates,
-                plan,
-                watch,
-                &mut task,
-                &mut workers,
-            );
+            let starter = Starter { scope, rt, alloc };
+            let details = run_threads(&starter, gates, plan, watch, &mut task, &mut workers);
             drop(workers);
             let details = details?;
             Ok((task, details))
