@@ -94,37 +94,37 @@ numbered {c} {begins} {phase} {accesses} {items} tied =
 
 -- what a line of a snapshot has noted
 module _ {c : Config} {begins : Option Op} {accesses : Accesses} {table : TableId} {me : Knowledge} {buffers : SnapshotBuffers} {left : Knowledge}
-    {table_left : TableId} {rooms_left : SnapshotBuffers} where
+    {table_left : TableId} {buffers_left : SnapshotBuffers} where
   -- a load, which was noted
   pub noted_by : (s : Snapshot) (word : WordName) (found : ℕ) (event : Event) → (word, Load) ≡ snapshot_next s s.step →
       event ≡ event_of word Load found →
       Led c begins accesses (Go (Trees (Snapshots s))) table me (after_of (Trees (Snapshots s)) found (Ok tt)).0 table_left left →
       left.items ≡ items_after begins (Trees (Snapshots s)) (Ok tt) found me.items →
       StateAgrees c begins (Some (Trees (Snapshots s))) accesses me.items →
-      (loads_last s.nodes s.step ≡ false → GoesOn buffers rooms_left event) → (loads_last s.nodes s.step ≡ true → EndsTaking buffers rooms_left event) →
-      Noted c begins accesses (Go (Trees (Snapshots s))) table me buffers (after_of (Trees (Snapshots s)) found (Ok tt)).0 table_left left rooms_left
+      (loads_last s.nodes s.step ≡ false → GoesOn buffers buffers_left event) → (loads_last s.nodes s.step ≡ true → EndsTaking buffers buffers_left event) →
+      Noted c begins accesses (Go (Trees (Snapshots s))) table me buffers (after_of (Trees (Snapshots s)) found (Ok tt)).0 table_left left buffers_left
   noted_by s word found event known is led items tied goes_on ends = record {
     led = led;
     tells = λ h.
         let phase : Phase = Trees (Snapshots s) in
-        let P : ℕ × SeatItems → Type 0 = λ z. BuffersMatch c.nodes rooms_left None (phase_after (after_of phase z.0 (Ok tt)).0) z.1 in
+        let P : ℕ × SeatItems → Type 0 = λ z. BuffersMatch c.nodes buffers_left None (phase_after (after_of phase z.0 (Ok tt)).0) z.1 in
         subst P (λ i. (ap (λ (e : Event). e.found) is i, sym items i))
-        (follows_taking buffers rooms_left phase s refl event goes_on ends c.nodes begins (Ok tt) found me.items (numbered tied)
+        (follows_taking buffers buffers_left phase s refl event goes_on ends c.nodes begins (Ok tt) found me.items (numbered tied)
         (is ∙ ap (λ (z : WordName × Touch). event_of z.0 z.1 found) known) h);
   }
 
   -- what comes next, said otherwise
-  pub noted_to : {a b d : Next Phase} → b ≡ d → Noted c begins accesses a table me buffers b table_left left rooms_left →
-      Noted c begins accesses a table me buffers d table_left left rooms_left
-  noted_to {a} is noted = subst (λ (n : Next Phase). Noted c begins accesses a table me buffers n table_left left rooms_left) is noted
+  pub noted_to : {a b d : Next Phase} → b ≡ d → Noted c begins accesses a table me buffers b table_left left buffers_left →
+      Noted c begins accesses a table me buffers d table_left left buffers_left
+  noted_to {a} is noted = subst (λ (n : Next Phase). Noted c begins accesses a table me buffers n table_left left buffers_left) is noted
 
   -- one line after the other
   pub noted_on : {a b d : Next Phase} {td : TableId} {ld : Knowledge} {rd : SnapshotBuffers} →
-      Noted c begins accesses a table me buffers b table_left left rooms_left → Noted c None accesses b table_left left rooms_left d td ld rd →
+      Noted c begins accesses a table me buffers b table_left left buffers_left → Noted c None accesses b table_left left buffers_left d td ld rd →
       Noted c begins accesses a table me buffers d td ld rd
   noted_on one two = record { led = led_on one.led two.led; tells = λ h. two.tells (one.tells h) }
 
--- a step that loads no word of the tree leaves the room as it is
+-- a step that loads no word of the tree leaves the buffers as they are
 pub unnoted : {c : Config} {begins : Option Op} {accesses : Accesses} {table table_left : TableId} {me left : Knowledge} {buffers : SnapshotBuffers}
     (s : Snapshot) (found : ℕ) → loads_last s.nodes s.step ≡ false →
     noted_in (words_of buffers.next) (event_of (snapshot_next s s.step).0 (snapshot_next s s.step).1 found) ≡ words_of buffers.next →
@@ -171,10 +171,10 @@ module _ (call : Call) {table : TableId} {known : Knowledge} {begun gone : Snaps
     went = unasked call.op call.start next _ [] 0 (noted.led.went call.op call.start [] 0 (has_asked_none call));
   }
 
-  -- its room tells of what comes next
-  pub loaded_room : BuffersMatch call.task.config.nodes begun (Some call.op) (Some call.first) (items_of call) → (o : Option Phase) →
+  -- its buffers tell of what comes next
+  pub loaded_buffers : BuffersMatch call.task.config.nodes begun (Some call.op) (Some call.first) (items_of call) → (o : Option Phase) →
       phase_after next ≡ o → BuffersMatch call.task.config.nodes gone call.task.begins o known.items
-  loaded_room h o is =
+  loaded_buffers h o is =
       let P : Config × Option Op × Option Phase → Type 0 = λ z. BuffersMatch z.0.nodes gone z.1 z.2 known.items in
       subst P (λ i. (sym (same call) i, sym (not_begun call) i, is i))
       (noted.tells (subst (λ (d : Config). BuffersMatch d.nodes begun (Some call.op) (Some call.first) (items_of call)) (same call) h))
@@ -182,4 +182,4 @@ module _ (call : Call) {table : TableId} {known : Knowledge} {begun gone : Snaps
   -- or of none, where it was done
   pub loaded_done : BuffersMatch call.task.config.nodes begun (Some call.op) (Some call.first) (items_of call) → (answer : Result Reply GateError) →
       next ≡ Done answer → BuffersMatch call.task.config.nodes gone call.task.begins call.task.kept.phase known.items
-  loaded_done h answer is = loaded_room h call.task.kept.phase (ap (λ (n : Next Phase). phase_after n) is ∙ sym (idle call))
+  loaded_done h answer is = loaded_buffers h call.task.kept.phase (ap (λ (n : Next Phase). phase_after n) is ∙ sym (idle call))

@@ -1,4 +1,4 @@
--- Lines of steps of a snapshot, whose loads its task notes in its room, and where they have led.
+-- Lines of steps of a snapshot, whose loads its task notes in its buffers, and where they have led.
 use Rattle.std.specs.Prelude.{ℕ, Option, Some, None}
 use Rattle.atomic_table.specs.Seated.{TableId}
 use Rattle.access_model.specs.Replies.{map_next}
@@ -32,9 +32,9 @@ abbrev pub nodes_loaded : Snapshot → Option ℕ → Phase
 nodes_loaded s (Some node) = taking_at s (LoadsNode node)
 nodes_loaded s None = taking_at s (LoadsKids 0)
 
--- Steps have led a snapshot from where it stood to where it stands, and its task has noted in its room what they have loaded: what the room told
+-- Steps have led a snapshot from where it stood to where it stands, and its task has noted in its buffers what they have loaded: what these told
 -- of the task's numbers before, it tells of them after.
 pub record Noted (c : Config) (begins : Option Op) (accesses : Accesses) (next : Next Phase) (table : TableId) (me : Knowledge) (buffers : SnapshotBuffers)
-    (further : Next Phase) (table_left : TableId) (left : Knowledge) (rooms_left : SnapshotBuffers) : Type 0 where
+    (further : Next Phase) (table_left : TableId) (left : Knowledge) (buffers_left : SnapshotBuffers) : Type 0 where
   pub led : Led c begins accesses next table me further table_left left
-  pub tells : BuffersMatch c.nodes buffers begins (phase_after next) me.items → BuffersMatch c.nodes rooms_left None (phase_after further) left.items
+  pub tells : BuffersMatch c.nodes buffers begins (phase_after next) me.items → BuffersMatch c.nodes buffers_left None (phase_after further) left.items

@@ -77,7 +77,7 @@ impl Task {
         }
     }
 
-    /// Begins a snapshot, and does its steps in a line, likewise. What they load is noted in the task's room.
+    /// Begins a snapshot, and does its steps in a line, likewise. What they load is noted in the task's buffers.
     #[inline(always)]
     pub(crate) fn load_at_once(&mut self, gates: &Gates, wait: bool) -> Result<Progress, GateError>
         requires { IsFrom self.old gates.now }

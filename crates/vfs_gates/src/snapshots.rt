@@ -1,4 +1,4 @@
-//! The steps of a snapshot, in a line: it loads all words of the tree, and notes each in its task's room.
+//! The steps of a snapshot, in a line: it loads all words of the tree, and notes each in its task's buffers.
 
 ghost use Rattle.std.specs.Prelude.{◌≡◌, Some, None, Ok};
 ghost use Rattle.access_model.specs.declared.replies.Next.TheVariants.{Go};

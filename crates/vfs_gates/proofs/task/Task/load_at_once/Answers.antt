@@ -12,7 +12,7 @@ use Rattle.vfs_gates.specs.Buffers.{BuffersMatch}
 use Rattle.vfs_gates.proofs.Admitting.{refused_by}
 use Rattle.vfs_gates.proofs.AtOnce.{refused_at_once, told_at_once}
 use Rattle.vfs_gates.proofs.Calling.{Call, Left, call_with, is_tied, items_of, not_begun, ties_at, ties_done, goes_at, ended_at}
-use Rattle.vfs_gates.proofs.Loading.{left_by, loaded_done, loaded_room}
+use Rattle.vfs_gates.proofs.Loading.{left_by, loaded_done, loaded_buffers}
 use Rattle.vfs_gates.proofs.Rooming.{begun_in}
 use Rattle.vfs_gates.proofs.Waiting.{left_tells, once}
 use Rattle.vfs_gates.proofs.task.Task.load_at_once.Goals as goal
@@ -28,7 +28,7 @@ call c =
 abbrev left : (c : After-snapshot_first-next) → Left (call c)
 left c = left_by (call c) (of_tree c.snapshot_first-next.result) c.snapshot_first-next.ensures.noted
 
--- as the call begins, its room tells of the operation's first phase
+-- as the call begins, its buffers tell of the operation's first phase
 begun : (c : After-snapshot_first-next) →
     BuffersMatch (call c).task.config.nodes c.begin.new.buffers (Some (call c).op) (Some (call c).first) (items_of (call c))
 begun c = begun_in (call c) _ (c.begin.ensures c.self.inside.config c.self.inside.begins c.self.inside.kept.phase c.self.inside.seat.me.0.items
@@ -56,7 +56,7 @@ invariant_of-self-in-Go c =
     let stands = stands_at Trees c.snapshot_first-next.result c.in-Go.under_way c.in-Go.is ∙ ap (λ (p : Phase). Some p) (sym c.phase.ensures) in (
       ties_at (call d) (left d) _ stands,
       c.snapshot_first-next.ensures.slots ∙ c.self.invariant.1,
-      loaded_room (call d) _ c.snapshot_first-next.ensures.noted (begun d) _ stands,
+      loaded_buffers (call d) _ c.snapshot_first-next.ensures.noted (begun d) _ stands,
       left_tells (call d) (left d) c.waits-self-inside.result (once (of_tree c.snapshot_first-next.result) c.waits-self-inside.result c.waits-self-inside.ensures),
     )
 
