@@ -8,7 +8,7 @@ use Rattle.finite_sums.specs.Sums.{total}
 use Rattle.gate_world.specs.Configs.{extents_of}
 use Rattle.vfs_gates.specs.Ended.{Ending, EndedWith}
 use Rattle.vfs_gates.specs.Sums.{count_word, IsGate}
-use Rattle.vfs_gates.specs.TaskStates.{TaskState}
+use Rattle.vfs_gates.specs.TaskStates.{SeatedTask}
 use Rattle.mntgate_c.specs.Events.{word_at}
 use Rattle.mntgate_c.specs.declared.events.WordRecord.{WordRecord}
 
@@ -33,7 +33,7 @@ pub record IsValue (e : Ending) (asked : WordRecord) (value : ℕ) : Type 0 wher
   pub zero : (gate : Gate) → gate_asked asked ≡ Some gate → value ≡ 0
 
 -- The gates of a task were closed, and of each word that was asked for the value was told.
-pub record ClosedWith (last : TaskState) (asked : List WordRecord) (values : List ℕ) : Type 0 where
+pub record ClosedWith (last : SeatedTask) (asked : List WordRecord) (values : List ℕ) : Type 0 where
   pub ending : Ending
   pub config : ending.config ≡ last.config
   pub ended : EndedWith ending.config ending.words last.items last.seen

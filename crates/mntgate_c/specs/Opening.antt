@@ -4,14 +4,14 @@ use Rattle.access_model.specs.declared.errors.GateError.TheVariants.{NoMemory, O
 use Rattle.gate_world.specs.declared.config.Config.{Config}
 use Rattle.vfs_gates.specs.Held.{Rests}
 use Rattle.vfs_gates.specs.Parts.{GaveAll}
-use Rattle.vfs_gates.specs.TaskStates.{TaskState}
+use Rattle.vfs_gates.specs.TaskStates.{SeatedTask}
 use Rattle.mntgate_c.specs.declared.exports.opening.ConfigRecord.{ConfigRecord}
 
 abbrev pub config_of : ConfigRecord → Config
 config_of r = record { tasks = r.tasks; processors = r.processors; mounts = r.mounts; nodes = r.nodes; capacity = r.capacity }
 
 -- why a task that is to rest is not split
-abbrev pub SplitIsRefused : TaskState → GateError → Type 0
+abbrev pub SplitIsRefused : SeatedTask → GateError → Type 0
 SplitIsRefused s Order = ¬ Rests s
 SplitIsRefused s TooMany = Rests s × GaveAll s
 SplitIsRefused s NoMemory = Rests s

@@ -1,7 +1,7 @@
 //! What C keeps of a task: a pointer.
 
 ghost use Rattle.std.specs.Prelude.{Bool};
-ghost use Rattle.vfs_gates.specs.TaskStates.{TaskState};
+ghost use Rattle.vfs_gates.specs.TaskStates.{SeatedTask};
 ghost use Rattle.mntgate_c.specs.Handles.{holds};
 
 use std::marker::Model;
@@ -12,7 +12,7 @@ use std::marker::Model;
 pub struct TaskHandle {
     pub(crate) at: *mut u8,
     pub ghost full: { Bool },
-    pub ghost state: { TaskState },
+    pub ghost state: { SeatedTask },
 }
 
 impl Model for TaskHandle {

@@ -21,10 +21,10 @@ pub struct Member {
 }
 
 impl Model for Member {
-    ghost use Rattle.vfs_gates.specs.TaskStates.{TaskState, IsFrom};
+    ghost use Rattle.vfs_gates.specs.TaskStates.{SeatedTask, IsFrom};
     ghost use Rattle.std.specs.Arc.{arc_value};
 
-    ghost Value = { TaskState };
+    ghost Value = { SeatedTask };
 
     ghost view = { λ m. m.task };
 

@@ -12,7 +12,7 @@ ghost use Rattle.vfs_gates.specs.Splitting.{AreNumbered, Gives};
 ghost use Rattle.gate_core.specs.Drivers.{listed_word};
 ghost use Rattle.transcripts.specs.Limits.{IsLineNumber};
 ghost use Rattle.vfs_gates.specs.Stepped.{Stepped};
-ghost use Rattle.vfs_gates.specs.TaskStates.{IsFrom, IsIdle, TaskState, own_number, refusal_at};
+ghost use Rattle.vfs_gates.specs.TaskStates.{IsFrom, IsIdle, SeatedTask, own_number, refusal_at};
 
 use access_model::GateError;
 use cpu_words::{Event, WordName};
@@ -111,10 +111,10 @@ impl Driver for GatesDriver {
     ///
     /// Invalid where there is no such task; else as `Task::begin` is. Then nothing is changed.
     fn begin(&mut self, task: u8, op: Op) -> Result<(), GateError>
-        ensures answer { (t : TaskState) → task < vec_len self.old.tasks → result ≡ unless_refused (refusal_at op (task_in self.old task t)) }
+        ensures answer { (t : SeatedTask) → task < vec_len self.old.tasks → result ≡ unless_refused (refusal_at op (task_in self.old task t)) }
         ensures not_there { vec_len self.old.tasks ≤ task → result ≡ Err Invalid }
-        ensures begun { (t : TaskState) → OnOk result (task_in self.new task t ≡ with_begun op (task_in self.old task t)) }
-        ensures refused { (t : TaskState) → OnErr result (task_in self.new task t ≡ task_in self.old task t) }
+        ensures begun { (t : SeatedTask) → OnOk result (task_in self.new task t ≡ with_begun op (task_in self.old task t)) }
+        ensures refused { (t : SeatedTask) → OnErr result (task_in self.new task t ≡ task_in self.old task t) }
         ensures others { AreOthersKept task self.old self.new }
         ensures words { self.new.words ≡ self.old.words }
     {
@@ -127,11 +127,11 @@ impl Driver for GatesDriver {
 
     /// Does the next event of a task's operation, and notes what it left of its word; none of a task that is idle or that there isn't.
     fn step(&mut self, task: u8, hook: Result<(), u16>) -> Step
-        ensures event { (t : TaskState) (phase : Phase) → task < vec_len self.old.tasks → (task_in self.old task t).phase ≡ Some phase →
+        ensures event { (t : SeatedTask) (phase : Phase) → task < vec_len self.old.tasks → (task_in self.old task t).phase ≡ Some phase →
             Stepped phase hook (task_in self.old task t) result (task_in self.new task t) }
-        ensures idle { (t : TaskState) → task < vec_len self.old.tasks → IsIdle (task_in self.old task t) →
+        ensures idle { (t : SeatedTask) → task < vec_len self.old.tasks → IsIdle (task_in self.old task t) →
             (result ≡ idle_step) × (task_in self.new task t ≡ task_in self.old task t) }
-        ensures not_there { (t : TaskState) → vec_len self.old.tasks ≤ task →
+        ensures not_there { (t : SeatedTask) → vec_len self.old.tasks ≤ task →
             (result ≡ idle_step) × (task_in self.new task t ≡ task_in self.old task t) }
         ensures others { AreOthersKept task self.old self.new }
         ensures words { self.new.words.items ≡ words_after result.event self.old.words.items }
@@ -150,7 +150,7 @@ impl Driver for GatesDriver {
     /// The hook whose answer a task's next step reads; None where that is the same whatever a hook answers, and where there is no such
     /// task.
     fn wants_hook(&self, task: u8) -> Option<HookKind>
-        ensures there { (t : TaskState) → task < vec_len self.now.tasks → result ≡ asked_by (task_in self.now task t).phase }
+        ensures there { (t : SeatedTask) → task < vec_len self.now.tasks → result ≡ asked_by (task_in self.now task t).phase }
         ensures not_there { vec_len self.now.tasks ≤ task → result ≡ None }
     {
         match self.tasks.get(task as usize) {

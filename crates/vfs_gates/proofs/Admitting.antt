@@ -6,7 +6,7 @@ use Rattle.gate_world.specs.{Beginnings.{first_phase, refusal, or_refusal, begin
 use Rattle.gate_world.specs.declared.{operations.Op.Op, work.Phase.Phase}
 use Rattle.gate_steps.specs.call_events.{Answers.unless_refused, TaskState.TaskState, Seating.SeatItems, Seats.seat_held, GhostAgrees.GhostAgrees}
 use Rattle.gate_steps.proofs.call_events.Beginnings.{refusal_agree, ok_means, err_means}
-use Rattle.vfs_gates.specs.{TaskStates.{TaskState, task_state, own_number, own_view, refusal_at, beginning_at}, declared.task.Task.TheInside.Inside}
+use Rattle.vfs_gates.specs.{TaskStates.{SeatedTask, task_state, own_number, own_view, refusal_at, beginning_at}, declared.task.Task.TheInside.Inside}
 
 module _ (number : ℕ) (c : Config) (begins : Option Op) (kept : TaskState) (flags : List Bool) where
   -- the configuration of a task is within its limits
@@ -28,7 +28,7 @@ module _ (number : ℕ) (c : Config) (begins : Option Op) (kept : TaskState) (fl
   number_same (x ∷ xs) t = sym t.same_number
 
 -- so the answer that the fields give is the task's
-pub admitted_as : (op : Op) (task : Inside) (start : TaskState) →
+pub admitted_as : (op : Op) (task : Inside) (start : SeatedTask) →
     task_state task.seat.table_id task.config task.begins task.kept.phase task.seat.me.0 ≡ start →
     GhostAgrees task.number task.config task.begins task.kept task.spare task.seat.me.0.items → (under_way : Bool) →
     under_way ≡ is_some task.kept.phase → (answer : Result Phase GateError) →
@@ -45,36 +45,36 @@ admitted_as op task start start_is ties under_way under_way_is answer is =
     ap (beginning_at op) start_is)
 
 -- what was admitted has no refusal
-pub admitted_by : (op : Op) (start : TaskState) (phase : Phase) → Ok phase ≡ beginning_at op start →
+pub admitted_by : (op : Op) (start : SeatedTask) (phase : Phase) → Ok phase ≡ beginning_at op start →
     Ok tt ≡ unless_refused (refusal_at op start)
 admitted_by op start phase is =
     sym (ap unless_refused (ok_means (first_phase start.config (own_number start.items) op) (refusal_at op start) phase is).0)
 
 -- and what was not has this one
-pub refused_by : (op : Op) (start : TaskState) (refused : GateError) →
+pub refused_by : (op : Op) (start : SeatedTask) (refused : GateError) →
     ◌≡◌ {A = Result Phase GateError} (Err refused) (beginning_at op start) →
     ◌≡◌ {A = Result (Unit {0}) GateError} (Err refused) (unless_refused (refusal_at op start))
 refused_by op start refused is =
     sym (ap unless_refused (err_means (first_phase start.config (own_number start.items) op) (refusal_at op start) refused is))
 
 -- so an answer that refuses nothing admitted it
-pub admitted_unless : (op : Op) (start : TaskState) (answer : Result Phase GateError) → answer ≡ beginning_at op start →
+pub admitted_unless : (op : Op) (start : SeatedTask) (answer : Result Phase GateError) → answer ≡ beginning_at op start →
     ((refused : GateError) → answer ≡ Err refused → ⊥) → Ok tt ≡ unless_refused (refusal_at op start)
 admitted_unless op start (Ok phase) is granted = admitted_by op start phase is
 admitted_unless op start (Err refused) is granted = absurd (granted refused refl)
 
 -- what is the first phase as the task's state says is so as its fields say
-pub first_so : (op : Op) (task : Inside) (start : TaskState) →
+pub first_so : (op : Op) (task : Inside) (start : SeatedTask) →
     task_state task.seat.table_id task.config task.begins task.kept.phase task.seat.me.0 ≡ start →
     GhostAgrees task.number task.config task.begins task.kept task.spare task.seat.me.0.items → (phase : Phase) →
     phase ≡ first_phase start.config (own_number start.items) op → phase ≡ first_phase task.config task.number op
 first_so op task start start_is ties phase is =
     is ∙ sym (ap (λ (n : ℕ). first_phase task.config n op)
     (number_same task.number task.config task.begins task.kept task.spare task.seat.me.0.items ties) ∙
-    ap (λ (s : TaskState). first_phase s.config (own_number s.items) op) start_is)
+    ap (λ (s : SeatedTask). first_phase s.config (own_number s.items) op) start_is)
 
 -- the phase that was answered is the operation's first
-pub first_by : (op : Op) (task : Inside) (start : TaskState) →
+pub first_by : (op : Op) (task : Inside) (start : SeatedTask) →
     task_state task.seat.table_id task.config task.begins task.kept.phase task.seat.me.0 ≡ start →
     GhostAgrees task.number task.config task.begins task.kept task.spare task.seat.me.0.items → (phase : Phase) → Ok phase ≡ beginning_at op start →
     phase ≡ first_phase task.config task.number op

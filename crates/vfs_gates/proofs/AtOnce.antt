@@ -25,19 +25,19 @@ use Rattle.gate_steps.specs.call_events.Waited.{WentWaiting}
 use Rattle.gate_steps.proofs.call_events.Running.{admitted_some, refused_as, refused_none}
 use Rattle.gate_steps.proofs.call_events.Turning.{unasked}
 use Rattle.vfs_gates.specs.AtOnce.{BeginsAtOnce}
-use Rattle.vfs_gates.specs.TaskStates.{TaskState, task_state, refusal_at}
+use Rattle.vfs_gates.specs.TaskStates.{SeatedTask, task_state, refusal_at}
 
 -- an operation went where the steps of a line have led
 pub went_there : {H : Type 0} {answers : HookCall → SeatItems → H → HookAnswer → H → Type 0} {c : Config} {begins : Option Op}
     {accesses : Accesses} {first : Phase} {next : Next Phase} {table table_left : TableId} {me left : Knowledge} {hooks hooks_left : H}
-    (op : Op) (start : TaskState) → LedAsking answers c begins accesses (Go first) table me hooks next table_left left hooks_left →
+    (op : Op) (start : SeatedTask) → LedAsking answers c begins accesses (Go first) table me hooks next table_left left hooks_left →
     GoesWith [] 0 op start (task_state table c begins (Some first) me) →
     WentWaiting 0 op start next (task_state table_left c None (phase_after next) left)
 went_there {next = next} {hooks = hooks} op start led goes =
     let went = led.went op start hooks 0 ([], goes, refl) in unasked op start next _ went.0 0 went.1
 
 -- one whose beginning was refused
-pub refused_at_once : (op : Op) (old : TaskState) (e : GateError) → Err e ≡ unless_refused (refusal_at op old) →
+pub refused_at_once : (op : Op) (old : SeatedTask) (e : GateError) → Err e ≡ unless_refused (refusal_at op old) →
     BeginsAtOnce op old old (Err e)
 refused_at_once op old e is = record {
   table = refl;
@@ -46,7 +46,7 @@ refused_at_once op old e is = record {
   begun = λ at. absurd (refused_none e (refusal_at op old) is at);
 }
 
-module _ (op : Op) (old left : TaskState) (admitted : Ok tt ≡ unless_refused (refusal_at op old)) (table : left.table ≡ old.table)
+module _ (op : Op) (old left : SeatedTask) (admitted : Ok tt ≡ unless_refused (refusal_at op old)) (table : left.table ≡ old.table)
     (config : left.config ≡ old.config) (begun : left.begins ≡ None) where
   -- one that was begun, and so stands
   pub told_at_once : (progress : Progress) → StepTells op old progress left → BeginsAtOnce op old left (Ok progress)
@@ -58,7 +58,7 @@ module _ (op : Op) (old left : TaskState) (admitted : Ok tt ≡ unless_refused (
   }
 
 -- what such a call tells: it was begun, and stands so, or was refused and left all as it was
-pub begun_by : (op : Op) (old left : TaskState) (progress : Progress) (o : Option GateError) → refusal_at op old ≡ o →
+pub begun_by : (op : Op) (old left : SeatedTask) (progress : Progress) (o : Option GateError) → refusal_at op old ≡ o →
     BeginsAtOnce op old left (Ok progress) → (Ok tt ≡ unless_refused (refusal_at op old)) × StepTells op old progress left
 begun_by op old left progress (Some e) at begins =
     let is : ◌≡◌ {A = Result Progress GateError} (Ok progress) (Err e) = (begins.refused e at).0 in absurd (let f : ⊥ = cc in f)
@@ -67,7 +67,7 @@ begun_by op old left progress None at begins =
     let same : progress ≡ told.0 = cc in
     (sym (ap (λ o. unless_refused o) at), subst (λ p. StepTells op old p left) (sym same) told.3)
 
-pub refused_so : (op : Op) (old left : TaskState) (e : GateError) (o : Option GateError) → refusal_at op old ≡ o →
+pub refused_so : (op : Op) (old left : SeatedTask) (e : GateError) (o : Option GateError) → refusal_at op old ≡ o →
     BeginsAtOnce op old left (Err e) → (Err e ≡ unless_refused (refusal_at op old)) × (left ≡ old)
 refused_so op old left e (Some r) at begins =
     let refused = begins.refused r at in let is : ◌≡◌ {A = Result Progress GateError} (Err e) (Err r) = refused.0 in let same : e ≡ r = cc in
@@ -76,7 +76,7 @@ refused_so op old left e None at begins =
     let told = begins.begun at in let is : ◌≡◌ {A = Result Progress GateError} (Err e) (Ok told.0) = told.1 in absurd (let f : ⊥ = cc in f)
 
 -- where it has not ended, it goes on
-pub goes_by : (op : Op) (old left : TaskState) (progress : Progress) → ((answer : Result Reply GateError) → progress ≡ Done answer → ⊥) →
+pub goes_by : (op : Op) (old left : SeatedTask) (progress : Progress) → ((answer : Result Reply GateError) → progress ≡ Done answer → ⊥) →
     StepTells op old progress left → Goes op old left
 goes_by op old left Idle not told = absurd told
 goes_by op old left Going not told = told

@@ -10,7 +10,7 @@ use Rattle.gate_steps.specs.declared.seating.Numbered.{Numbered}
 use Rattle.gate_steps.specs.call_events.{Seating.SeatItems, GhostAgrees.{PhaseOk, OwnTies, GhostAgrees}, Turns.{kept_at, StateAgrees, StayTied}, Waited.{GoesWaiting, WentWaiting}}
 use Rattle.gate_steps.proofs.call_events.{Beginnings.{MayBegin, may_begin, first_fits}, Running.{not_refused, starts_asking_none}}
 use Rattle.atomic_table.specs.Seated.{TableId}
-use Rattle.vfs_gates.specs.{TaskStates.{TaskState, task_state, own_number, own_view, refusal_at, beginning_at}, declared.task.Task.TheInside.Inside}
+use Rattle.vfs_gates.specs.{TaskStates.{SeatedTask, task_state, own_number, own_view, refusal_at, beginning_at}, declared.task.Task.TheInside.Inside}
 use Rattle.vfs_gates.proofs.Admitting.{admitted_by, admitted_unless, first_so, first_by}
 use Rattle.cpu_words.specs.Hooks.{HookAnswer}
 use Rattle.freeze_levels.specs.declared.hooks.HookCall.{HookCall}
@@ -26,7 +26,7 @@ pub record Call : Type 0 where
   pub op : Op
   pub task : Inside
   pub gates : Config
-  pub start : TaskState
+  pub start : SeatedTask
   pub start_is : task_state task.seat.table_id task.config task.begins task.kept.phase task.seat.me.0 ≡ start
   pub from : start.config ≡ gates
   pub ties : GhostAgrees task.number task.config task.begins task.kept task.spare task.seat.me.0.items
@@ -35,7 +35,7 @@ pub record Call : Type 0 where
   pub first_is : first ≡ first_phase task.config task.number op
 
 -- of these parts
-abbrev pub call_of : (op : Op) (task : Inside) (gates : Config) (start : TaskState) →
+abbrev pub call_of : (op : Op) (task : Inside) (gates : Config) (start : SeatedTask) →
     task_state task.seat.table_id task.config task.begins task.kept.phase task.seat.me.0 ≡ start → start.config ≡ gates →
     GhostAgrees task.number task.config task.begins task.kept task.spare task.seat.me.0.items → Ok tt ≡ unless_refused (refusal_at op start) →
     (first : Phase) → first ≡ first_phase task.config task.number op → Call
@@ -53,7 +53,7 @@ call_of op task gates start start_is from ties admitted first first_is = record 
 }
 
 -- the call of an operation whose first phase was answered
-abbrev pub admitted_call : (op : Op) (task : Inside) (gates : Config) (start : TaskState) →
+abbrev pub admitted_call : (op : Op) (task : Inside) (gates : Config) (start : SeatedTask) →
     task_state task.seat.table_id task.config task.begins task.kept.phase task.seat.me.0 ≡ start → start.config ≡ gates →
     GhostAgrees task.number task.config task.begins task.kept task.spare task.seat.me.0.items → (first : Phase) → Ok first ≡ beginning_at op start → Call
 admitted_call op task gates start start_is from ties first answered =
@@ -61,7 +61,7 @@ admitted_call op task gates start start_is from ties first answered =
     (first_by op task start start_is ties first answered)
 
 -- the call of an operation that was not refused, and whose first phase is this
-abbrev pub call_with : (op : Op) (task : Inside) (gates : Config) (start : TaskState) →
+abbrev pub call_with : (op : Op) (task : Inside) (gates : Config) (start : SeatedTask) →
     task_state task.seat.table_id task.config task.begins task.kept.phase task.seat.me.0 ≡ start → start.config ≡ gates →
     GhostAgrees task.number task.config task.begins task.kept task.spare task.seat.me.0.items → (answer : Result Phase GateError) →
     answer ≡ beginning_at op start → ((refused : GateError) → answer ≡ Err refused → ⊥) →
@@ -86,7 +86,7 @@ pub record Left (call : Call) : Type 0 where
   pub went : WentWaiting waits call.op call.start next (task_state table call.gates None (phase_after next) known)
 
 -- where a phase comes next, the operation goes on
-goes_on : (op : Op) (start now : TaskState) (next : Next Phase) (phase : Phase) → phase_after next ≡ Some phase → (waits : ℕ) →
+goes_on : (op : Op) (start now : SeatedTask) (next : Next Phase) (phase : Phase) → phase_after next ≡ Some phase → (waits : ℕ) →
     WentWaiting waits op start next now → Goes op start now
 goes_on op start now (Go q) phase is waits went = went.0
 goes_on op start now (Wait q) phase is waits went = went.0
@@ -116,7 +116,7 @@ module _ (call : Call) where
 
   -- the gates name the same configuration
   pub same : c ≡ call.gates
-  same = ap (λ (s : TaskState). s.config) call.start_is ∙ call.from
+  same = ap (λ (s : SeatedTask). s.config) call.start_is ∙ call.from
 
   -- the beginning has no refusal
   none_refused : refusal c (is_some kept.phase) (held_of (own_view (items_of call))) op ≡ None
@@ -195,7 +195,7 @@ module _ (call : Call) where
   begun_state =
       (λ i. task_state call.task.seat.table_id c (Some op) (Some ((call.first_is ∙ ap (λ (n : ℕ). first_phase c n op) (sym own_is)) i))
       call.task.seat.me.0) ∙
-      ap (λ (s : TaskState). record s { begins = Some op; phase = Some (first_phase s.config (own_number s.items) op) }) call.start_is
+      ap (λ (s : SeatedTask). record s { begins = Some op; phase = Some (first_phase s.config (own_number s.items) op) }) call.start_is
 
   -- as the first event finds them
   pub after_begin : GhostAgrees number call.gates (Some op) (kept_at (Some call.first) kept.accesses) flags (items_of call)
@@ -220,7 +220,7 @@ module _ (call : Call) where
   -- after the last event, as it is written down
   module _ (left : Left call) where
     -- the state that the last event left
-    abbrev found : TaskState
+    abbrev found : SeatedTask
     found = task_state left.table call.gates None (phase_after left.next) left.known
 
     -- the fields, where what comes next is this phase or none
@@ -248,7 +248,7 @@ module _ (call : Call) where
         Called op call.start (task_state left.table c call.task.begins kept.phase left.known) answer
     ended_at answer is =
         let stands : phase_after left.next ≡ kept.phase = ap (λ (n : Next Phase). phase_after n) is ∙ sym idle in
-        subst (λ (s : TaskState). Called op call.start s answer) (there_at kept.phase stands)
+        subst (λ (s : SeatedTask). Called op call.start s answer) (there_at kept.phase stands)
         (subst (λ (n : Next Phase). WentWaiting left.waits op call.start n found) is left.went).0
 
     -- with the hooks that it has asked

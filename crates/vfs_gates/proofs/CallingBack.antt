@@ -10,12 +10,12 @@ use Rattle.gate_world.specs.declared.views.Traced.{Traced}
 use Rattle.gate_world.specs.traces.Traces.{IsHonestAnswer}
 use Rattle.gate_steps.proofs.call_events.Running.{ran_told}
 use Rattle.gate_steps.specs.call_events.Runs.{told_as, ran_of, the_reply, Called, IsRanReply, Replies}
-use Rattle.vfs_gates.specs.TaskStates.{TaskState, refusal_at, IsIdle}
+use Rattle.vfs_gates.specs.TaskStates.{SeatedTask, refusal_at, IsIdle}
 use Rattle.vfs_gates.specs.Held.{IsAsBefore}
 use Rattle.vfs_gates.specs.Settled.{Settles, SettlesLevel}
 use Rattle.vfs_gates.proofs.Holding.{keeps, as_before_twice}
 
-module _ (level : ℕ) (old left : TaskState) (low : 1 ≤ level) (high : level ≤ 3) where
+module _ (level : ℕ) (old left : SeatedTask) (low : 1 ≤ level) (high : level ≤ 3) where
   begins : IsIdle old → refusal_at (Callback level) old ≡ None
   begins idle = rw (idle, lt-ltb 0 level (omega arith), lt-ltb level 4 (omega arith)) refl
 
@@ -29,7 +29,7 @@ module _ (level : ℕ) (old left : TaskState) (low : 1 ≤ level) (high : level 
   never_refused refusal idle call = let done = call.done (begins idle) in answered refusal done.0 done.1 done.2
 
 -- after callbacks that left an idle task as it was, so does one more
-pub calls_back : (level : ℕ) (first mid left : TaskState) (outcome : Result Bool GateError) → (IsIdle first → IsAsBefore first mid) →
+pub calls_back : (level : ℕ) (first mid left : SeatedTask) (outcome : Result Bool GateError) → (IsIdle first → IsAsBefore first mid) →
     Replies ran_of (Callback level) mid left outcome → IsIdle first → IsAsBefore first left
 calls_back level first mid left outcome so_far call idle =
     let there = so_far idle in as_before_twice first mid left there (keeps ran_of (Callback level) mid left outcome there.idle call refl)
@@ -40,11 +40,11 @@ is_there None some = absurd (some refl)
 is_there (Some x) some = refl
 
 -- One by a task that isn't idle, after calls that left such a task unchanged.
-module _ (level : ℕ) (first mid left : TaskState) (same : ¬ IsIdle first → mid ≡ first) (busy : ¬ IsIdle first) where
+module _ (level : ℕ) (first mid left : SeatedTask) (same : ¬ IsIdle first → mid ≡ first) (busy : ¬ IsIdle first) where
   -- is refused as Order, and leaves it unchanged
   refused_busy : (outcome : Result Bool GateError) → Replies ran_of (Callback level) mid left outcome → (outcome ≡ Err Order) × (left ≡ mid)
   refused_busy outcome call =
-      let still : ¬ IsIdle mid = subst (λ (s : TaskState). ¬ IsIdle s) (sym (same busy)) busy in
+      let still : ¬ IsIdle mid = subst (λ (s : SeatedTask). ¬ IsIdle s) (sym (same busy)) busy in
       let at : refusal_at (Callback level) mid ≡ Some Order = rw (is_there mid.phase still) refl in call.refused Order at
 
   pub refused_still : (refusal : GateError) → Replies ran_of (Callback level) mid left (Err refusal) → (refusal ≡ Order) × (left ≡ first)
@@ -60,14 +60,14 @@ ran_or_not : (level : ℕ) (c : Config) (trace : List Traced) (answer : Result R
 ran_or_not level c trace (Ok reply) told = ran_told level reply trace told
 ran_or_not level c trace (Err refusal) honest = tt
 
-ran_by : (level : ℕ) (old left : TaskState) (outcome : Result Reply GateError) → Replies the_reply (Callback level) old left outcome →
+ran_by : (level : ℕ) (old left : SeatedTask) (outcome : Result Reply GateError) → Replies the_reply (Callback level) old left outcome →
     (o : Option GateError) → refusal_at (Callback level) old ≡ o → IfOk outcome IsRanReply
 ran_by level old left outcome call (Some refusal) at = subst (λ x. IfOk x IsRanReply) (sym (call.refused refusal at).0) tt
 ran_by level old left outcome call None at =
     let done = call.done at in
     subst (λ x. IfOk x IsRanReply) (sym done.1) (ran_or_not level old.config done.2.trace done.0 done.2.honest)
 
-pub replied_ran : (level : ℕ) (old left : TaskState) (outcome : Result Reply GateError) → Replies the_reply (Callback level) old left outcome →
+pub replied_ran : (level : ℕ) (old left : SeatedTask) (outcome : Result Reply GateError) → Replies the_reply (Callback level) old left outcome →
     IfOk outcome IsRanReply
 replied_ran level old left outcome call = ran_by level old left outcome call (refusal_at (Callback level) old) refl
 
@@ -79,7 +79,7 @@ pub none_err : (refusal : GateError) → ◌≡◌ {A = Result (Unit {0}) GateEr
 none_err refusal is = let f : ⊥ = cc in f
 
 -- the third level, after the other two
-pub settles_then : (first one two last : TaskState) (outcome : Result (Unit {0}) GateError) → SettlesLevel 1 first one → SettlesLevel 2 one two →
+pub settles_then : (first one two last : SeatedTask) (outcome : Result (Unit {0}) GateError) → SettlesLevel 1 first one → SettlesLevel 2 one two →
     OnOk outcome (SettlesLevel 3 two last) → OnOk outcome (Settles first last)
 settles_then first one two last (Ok x) lowest middle highest =
     record { one = one; two = two; lowest = lowest; middle = middle; highest = highest }

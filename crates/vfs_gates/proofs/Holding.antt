@@ -13,7 +13,7 @@ use Rattle.gate_world.specs.declared.operations.Op.{Op, TheVariants.{Want, DropM
 use Rattle.gate_world.specs.declared.{operations.Op.TheVariants.{Freeze, Thaw, Create, Open, Close}, views.Traced.Traced, work.Phase.Phase}
 use Rattle.gate_steps.proofs.call_events.Asked.{either_way}
 use Rattle.gate_steps.specs.call_events.{Runs.{ran_items, IsNextMove, AreMoves, told_as, Called, Replies}, Seating.SeatItems}
-use Rattle.vfs_gates.specs.{Held.{Rests, own_actions, IsAsBefore, takes_nothing}, TaskStates.{TaskState, own_number, own_view, refusal_at, IsIdle}}
+use Rattle.vfs_gates.specs.{Held.{Rests, own_actions, IsAsBefore, takes_nothing}, TaskStates.{SeatedTask, own_number, own_view, refusal_at, IsIdle}}
 
 -- an action that is neither a grant nor a return, and neither opens nor closes a file
 abbrev is_free : Action → Bool
@@ -110,21 +110,21 @@ same_own c op trace [] = refl
 same_own c op trace (x ∷ xs) = refl
 
 -- A whole call has added its actions to the task's list.
-module _ (op : Op) (old left : TaskState) (answer : Result Reply GateError) (k : Called op old left answer) where
+module _ (op : Op) (old left : SeatedTask) (answer : Result Reply GateError) (k : Called op old left answer) where
   pub adds : own_actions left ≡ actions_of op answer k.trace ++ own_actions old
-  adds = ap (λ (s : TaskState). own_actions s) k.after ∙ acted old.config op k.trace answer old.items _ old.seen left.seen k.ends k.moves k.added
+  adds = ap (λ (s : SeatedTask). own_actions s) k.after ∙ acted old.config op k.trace answer old.items _ old.seen left.seen k.ends k.moves k.added
 
   -- its task stays, and is idle
   pub stays : (left.table ≡ old.table) × (left.config ≡ old.config) × (own_number left.items ≡ own_number old.items) × IsIdle left
   stays = (
-    ap (λ (s : TaskState). s.table) k.after,
-    ap (λ (s : TaskState). s.config) k.after,
-    ap (λ (s : TaskState). own_number s.items) k.after ∙ same_own old.config op k.trace old.items,
-    ap (λ (s : TaskState). s.phase) k.after,
+    ap (λ (s : SeatedTask). s.table) k.after,
+    ap (λ (s : SeatedTask). s.config) k.after,
+    ap (λ (s : SeatedTask). own_number s.items) k.after ∙ same_own old.config op k.trace old.items,
+    ap (λ (s : SeatedTask). s.phase) k.after,
   )
 
 -- one that is refused leaves a task as it was
-refused_keeps : (op : Op) (old left : TaskState) (refusal : GateError) → Called op old left (Err refusal) → IsAsBefore old left
+refused_keeps : (op : Op) (old left : SeatedTask) (refusal : GateError) → Called op old left (Err refusal) → IsAsBefore old left
 refused_keeps op old left refusal k =
     let there = stays op old left (Err refusal) k in record {
       table = there.0;
@@ -135,7 +135,7 @@ refused_keeps op old left refusal k =
     }
 
 -- and so does one that takes nothing
-called_keeps : (op : Op) (old left : TaskState) (answer : Result Reply GateError) → takes_nothing op ≡ true →
+called_keeps : (op : Op) (old left : SeatedTask) (answer : Result Reply GateError) → takes_nothing op ≡ true →
     Called op old left answer → IsAsBefore old left
 called_keeps op old left (Ok reply) none k =
     let there = stays op old left (Ok reply) k in
@@ -150,10 +150,10 @@ called_keeps op old left (Ok reply) none k =
 called_keeps op old left (Err refusal) none k = refused_keeps op old left refusal k
 
 -- a task that is idle is as it was
-pub unchanged : (s : TaskState) → IsIdle s → IsAsBefore s s
+pub unchanged : (s : SeatedTask) → IsIdle s → IsAsBefore s s
 unchanged s idle = record { table = refl; config = refl; own = refl; idle = idle; held = refl }
 
-module _ {A : Type 0} (read : Reply → A) (op : Op) (old left : TaskState) (outcome : Result A GateError) (idle : IsIdle old)
+module _ {A : Type 0} (read : Reply → A) (op : Op) (old left : SeatedTask) (outcome : Result A GateError) (idle : IsIdle old)
     (call : Replies read op old left outcome) where
   -- whether its beginning is refused or not
   by_beginning : ((answer : Result Reply GateError) → outcome ≡ told_as read answer → Called op old left answer → IsAsBefore old left) →
@@ -167,20 +167,20 @@ module _ {A : Type 0} (read : Reply → A) (op : Op) (old left : TaskState) (out
   keeps none = by_beginning (λ answer told k. called_keeps op old left answer none k) (refusal_at op old) refl
 
 -- a call that tells a refusal was refused
-refused_answer : {A : Type 0} (read : Reply → A) (op : Op) (old left : TaskState) (refusal : GateError) (answer : Result Reply GateError) →
+refused_answer : {A : Type 0} (read : Reply → A) (op : Op) (old left : SeatedTask) (refusal : GateError) (answer : Result Reply GateError) →
     Err refusal ≡ told_as read answer → Called op old left answer → IsAsBefore old left
 refused_answer read op old left refusal (Ok reply) told k = absurd (let f : ⊥ = cc in f)
 refused_answer read op old left refusal (Err cause) told k = refused_keeps op old left cause k
 
 -- and leaves a task as it was
-pub refused_call_keeps : {A : Type 0} (read : Reply → A) (op : Op) (old left : TaskState) (refusal : GateError) → IsIdle old →
+pub refused_call_keeps : {A : Type 0} (read : Reply → A) (op : Op) (old left : SeatedTask) (refusal : GateError) → IsIdle old →
     Replies read op old left (Err refusal) → IsAsBefore old left
 refused_call_keeps read op old left refusal idle call =
     by_beginning read op old left (Err refusal) idle call (λ answer told k. refused_answer read op old left refusal answer told k)
     (refusal_at op old) refl
 
 -- who is as before holds nothing where it held nothing
-pub rests_on : (before after : TaskState) → Rests before → IsAsBefore before after → Rests after
+pub rests_on : (before after : SeatedTask) → Rests before → IsAsBefore before after → Rests after
 rests_on before after rests same = (
   same.idle,
   (
@@ -191,7 +191,7 @@ rests_on before after rests same = (
 )
 
 -- and as before twice is as before
-pub as_before_twice : (first second third : TaskState) → IsAsBefore first second → IsAsBefore second third → IsAsBefore first third
+pub as_before_twice : (first second third : SeatedTask) → IsAsBefore first second → IsAsBefore second third → IsAsBefore first third
 as_before_twice first second third a b = record {
   table = b.table ∙ a.table;
   config = b.config ∙ a.config;

@@ -19,7 +19,7 @@ use Rattle.gate_steps.specs.Seating.{SeatItems, HaveViews, numbered, times, view
 use Rattle.gate_steps.specs.call_events.GhostAgrees.{GhostAgrees}
 use Rattle.gate_steps.proofs.call_events.Giving.{view_in-at}
 use Rattle.vfs_gates.specs.declared.gates.Gates.{Gates}
-use Rattle.vfs_gates.specs.TaskStates.{TaskState, task_state, own_number, own_view, spare_of, refusal_at, Empty, IsFrom}
+use Rattle.vfs_gates.specs.TaskStates.{SeatedTask, task_state, own_number, own_view, spare_of, refusal_at, Empty, IsFrom}
 use Rattle.gate_world.specs.declared.entries.Entry.{Entry}
 use Rattle.vfs_gates.specs.Ended.{EndedWith}
 use Rattle.vfs_gates.specs.Parts.{SplitOf}
@@ -28,14 +28,14 @@ use Rattle.vfs_gates.proofs.Parting.{rest-at}
 use Rattle.vfs_gates.proofs.Holding.{adds, keeps, refused_call_keeps, rests_on}
 
 -- there is a mount and a processor
-pub some_mount : (s : TaskState) (g : Gates) → IsFrom s g → 0 < s.config.mounts
+pub some_mount : (s : SeatedTask) (g : Gates) → IsFrom s g → 0 < s.config.mounts
 some_mount s g from = subst (λ c. 0 < c.mounts) (sym from.1) g.words.within.some_mount
 
-pub some_processor : (s : TaskState) (g : Gates) → IsFrom s g → 0 < s.config.processors
+pub some_processor : (s : SeatedTask) (g : Gates) → IsFrom s g → 0 < s.config.processors
 some_processor s g from = subst (λ c. 0 < c.processors) (sym from.1) g.words.within.some_processor
 
 -- A change of a mount by a task that rests.
-module _ (m : ℕ) (read_only : Bool) (old left : TaskState) (outcome : Result (Unit {0}) GateError) (rests : Rests old)
+module _ (m : ℕ) (read_only : Bool) (old left : SeatedTask) (outcome : Result (Unit {0}) GateError) (rests : Rests old)
     (does : Performs (ChangeMount m read_only true) old left outcome) where
   -- it rests again
   pub change_rests : Rests left
@@ -66,7 +66,7 @@ module _ (m : ℕ) (read_only : Bool) (old left : TaskState) (outcome : Result (
       (busy_alone change.2.trace change.0 change.2.honest)
 
 -- A want of a task that rests, which was refused.
-module _ (m p : ℕ) (old left : TaskState) (refusal : GateError) (rests : Rests old)
+module _ (m p : ℕ) (old left : SeatedTask) (refusal : GateError) (rests : Rests old)
     (does : Performs (Want m p true) old left (Err refusal)) where
   -- the task rests again
   pub want_rests : Rests left
@@ -79,7 +79,7 @@ module _ (m p : ℕ) (old left : TaskState) (refusal : GateError) (rests : Rests
 
   by_beginning : (o : Option GateError) → refusal_at (Want m p true) old ≡ o → own_actions left ≡ own_actions old
   by_beginning None at = let done = does.done at in adds_nothing done.0 done.1 done.2
-  by_beginning (Some cause) at = ap (λ (s : TaskState). own_actions s) (does.refused cause at).1
+  by_beginning (Some cause) at = ap (λ (s : SeatedTask). own_actions s) (does.refused cause at).1
 
   -- nothing was added to its list
   pub want_adds_nothing : own_actions left ≡ own_actions old
@@ -151,7 +151,7 @@ given_none n from zero = refl
 given_none n from (suc k) = ap (λ (v : View). v.actions) (in_dealt n (suc from) k)
 
 -- so neither the first task of some gates nor the one that is split off it first has done anything
-pub split_done_nothing : (c : Config) (id : TableId) (old left other : TaskState) → old ≡ task_state id c None None (first_known c) →
+pub split_done_nothing : (c : Config) (id : TableId) (old left other : SeatedTask) → old ≡ task_state id c None None (first_known c) →
     SplitOf old left other → (own_actions left ≡ []) × (own_actions other ≡ [])
 split_done_nothing c id old left other is made =
     let split : SplitOf (task_state id c None None (first_known c)) left other = subst (λ s. SplitOf s left other) is made in (

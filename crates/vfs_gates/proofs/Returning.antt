@@ -10,35 +10,35 @@ use Rattle.gate_world.specs.{Holdings.{Holdings, holdings_of, held_after}, trace
 use Rattle.gate_world.specs.declared.{operations.Op.{Op, TheVariants.{Want, DropMount, WantWrite, DropWrite}}, views.Traced.Traced}
 use Rattle.gate_steps.proofs.call_events.Beginnings.{may_begin, MayBegin}
 use Rattle.gate_steps.specs.call_events.Runs.{told_as, unit_of, Called, Performs}
-use Rattle.vfs_gates.specs.{Held.{own_actions, IsAsBefore, IsGivenBack}, TaskStates.{TaskState, own_view, refusal_at, IsIdle}}
+use Rattle.vfs_gates.specs.{Held.{own_actions, IsAsBefore, IsGivenBack}, TaskStates.{SeatedTask, own_view, refusal_at, IsIdle}}
 use Rattle.vfs_gates.proofs.Holding.{adds, stays, unchanged}
 
 -- a call that was done began, and was one whole operation that replied
-pub record WasDone (op : Op) (old left : TaskState) : Type 0 where
+pub record WasDone (op : Op) (old left : SeatedTask) : Type 0 where
   pub began : refusal_at op old ≡ None
   pub reply : Reply
   pub called : Called op old left (Ok reply)
 
-replied : (op : Op) (old left : TaskState) → refusal_at op old ≡ None → (answer : Result Reply GateError) →
+replied : (op : Op) (old left : SeatedTask) → refusal_at op old ≡ None → (answer : Result Reply GateError) →
     ◌≡◌ {A = Result (Unit {0}) GateError} (Ok tt) (told_as unit_of answer) → Called op old left answer → WasDone op old left
 replied op old left began (Ok reply) told k = record { began = began; reply = reply; called = k }
 replied op old left began (Err refusal) told k = absurd (let f : ⊥ = cc in f)
 
-done_by_beginning : (op : Op) (old left : TaskState) → Performs op old left (Ok tt) → (o : Option GateError) → refusal_at op old ≡ o →
+done_by_beginning : (op : Op) (old left : SeatedTask) → Performs op old left (Ok tt) → (o : Option GateError) → refusal_at op old ≡ o →
     WasDone op old left
 done_by_beginning op old left call None at = let done = call.done at in replied op old left at done.0 done.1 done.2
 done_by_beginning op old left call (Some refusal) at =
     let is : ◌≡◌ {A = Result (Unit {0}) GateError} (Ok tt) (Err refusal) = (call.refused refusal at).0 in absurd cc
 
-pub was_done : (op : Op) (old left : TaskState) → Performs op old left (Ok tt) → WasDone op old left
+pub was_done : (op : Op) (old left : SeatedTask) → Performs op old left (Ok tt) → WasDone op old left
 was_done op old left call = done_by_beginning op old left call (refusal_at op old) refl
 
 -- so its task may begin it
-pub may : (op : Op) (old left : TaskState) → WasDone op old left → MayBegin old.config (is_some old.phase) (held_of (own_view old.items)) op
+pub may : (op : Op) (old left : SeatedTask) → WasDone op old left → MayBegin old.config (is_some old.phase) (held_of (own_view old.items)) op
 may op old left was = may_begin old.config (is_some old.phase) (held_of (own_view old.items)) op was.began
 
 -- and is idle after it
-pub done_idle : (op : Op) (old left : TaskState) → Performs op old left (Ok tt) → IsIdle left
+pub done_idle : (op : Op) (old left : SeatedTask) → Performs op old left (Ok tt) → IsIdle left
 done_idle op old left call = let was = was_done op old left call in (stays op old left (Ok was.reply) was.called).3
 
 -- an operation that is never refused once it has begun
@@ -46,7 +46,7 @@ abbrev NeverRefused : Op → Type 0
 NeverRefused op = (c : Config) (refusal : GateError) (trace : List Traced) → IsHonestAnswer c op (Err refusal) trace → ⊥
 
 -- a call of one that begins was done
-never : (op : Op) (old left : TaskState) → NeverRefused op → refusal_at op old ≡ None → (answer : Result Reply GateError)
+never : (op : Op) (old left : SeatedTask) → NeverRefused op → refusal_at op old ≡ None → (answer : Result Reply GateError)
     (outcome : Result (Unit {0}) GateError) → outcome ≡ told_as unit_of answer → Called op old left answer →
     (outcome ≡ Ok tt) × WasDone op old left
 never op old left unrefused began (Ok reply) outcome told k = (told, record { began = began; reply = reply; called = k })
@@ -73,7 +73,7 @@ level_back : (i : ℕ) (held : Holdings) → held.levels i ≡ false →
 level_back i held out = λ j. record held { levels = once_back held.levels i true false (sym out) j }
 
 -- A want that was granted, other calls that left the task as it was, and a drop.
-module _ (m p q : ℕ) (wait : Bool) (old there mid left : TaskState) (outcome : Result (Unit {0}) GateError)
+module _ (m p q : ℕ) (wait : Bool) (old there mid left : SeatedTask) (outcome : Result (Unit {0}) GateError)
     (cpu : q < old.config.processors) (took : Performs (Want m p wait) old there (Ok tt)) (between : IsAsBefore there mid)
     (gives : Performs (DropMount m q) mid left outcome) where
   wanted : WasDone (Want m p wait) old there
@@ -115,7 +115,7 @@ module _ (m p q : ℕ) (wait : Bool) (old there mid left : TaskState) (outcome :
       )
 
 -- a want that was granted, and the drop right after it
-pub dropped : (m p q : ℕ) (wait : Bool) (old there left : TaskState) (outcome : Result (Unit {0}) GateError) → q < old.config.processors →
+pub dropped : (m p q : ℕ) (wait : Bool) (old there left : SeatedTask) (outcome : Result (Unit {0}) GateError) → q < old.config.processors →
     Performs (Want m p wait) old there (Ok tt) → Performs (DropMount m q) there left outcome → IsGivenBack (Mount m) old left outcome
 dropped m p q wait old there left outcome cpu took gives =
     let same = unchanged there (done_idle (Want m p wait) old there took) in
@@ -127,7 +127,7 @@ dropped m p q wait old there left outcome cpu took gives =
     }
 
 -- Write access that was granted, other calls that left the task as it was, and its return.
-module _ (m p q : ℕ) (old there mid left : TaskState) (outcome : Result (Unit {0}) GateError) (cpu : q < old.config.processors)
+module _ (m p q : ℕ) (old there mid left : SeatedTask) (outcome : Result (Unit {0}) GateError) (cpu : q < old.config.processors)
     (took : Performs (WantWrite m p) old there (Ok tt)) (between : IsAsBefore there mid) (gives : Performs (DropWrite m q) mid left outcome)
   where
     written : WasDone (WantWrite m p) old there
@@ -182,7 +182,7 @@ module _ (m p q : ℕ) (old there mid left : TaskState) (outcome : Result (Unit 
         )
 
 -- Write access that was granted, other calls that left the task as it was, and its return on the same processor.
-pub written_back : (m p : ℕ) (old there mid left : TaskState) (outcome : Result (Unit {0}) GateError) →
+pub written_back : (m p : ℕ) (old there mid left : SeatedTask) (outcome : Result (Unit {0}) GateError) →
     Performs (WantWrite m p) old there (Ok tt) → IsAsBefore there mid → Performs (DropWrite m p) mid left outcome →
     (outcome ≡ Ok tt) × IsAsBefore old left
 written_back m p old there mid left outcome took between gives =

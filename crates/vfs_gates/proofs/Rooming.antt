@@ -37,7 +37,7 @@ use Rattle.gate_world.specs.declared.views.Snapshot.{Snapshot as Noted}
 use Rattle.gate_world.specs.traces.TraceStates.{trace_state_after, state_of_trace}
 use Rattle.vfs_gates.specs.declared.buffers.SnapshotBuffers.{SnapshotBuffers}
 use Rattle.vfs_gates.specs.Buffers.{HasSnapshotRoom, LastTells, NextTells, BuffersMatch, is_of_snapshot, last_in, trace_so_far}
-use Rattle.vfs_gates.specs.TaskStates.{TaskState, own_number, own_view, task_state}
+use Rattle.vfs_gates.specs.TaskStates.{SeatedTask, own_number, own_view, task_state}
 use Rattle.gate_steps.specs.call_events.Runs.{Called, Goes, completed_by, items_at, ran_items, ran_snapshot}
 use Rattle.gate_steps.specs.call_events.Stepped.{Stepped}
 use Rattle.gate_steps.specs.call_events.GhostAgrees.{GhostAgrees}
@@ -164,7 +164,7 @@ items_at_other c op items other [] = refl
 items_at_other c op items other (e ∷ earlier) = items_other c op items other (e ∷ earlier)
 
 -- so the room tells of a task whose operation goes on
-goes_room : (nodes : ℕ) (r : SnapshotBuffers) (op : Op) (start now : TaskState) (begins left : Option Op) (phase : Option Phase) →
+goes_room : (nodes : ℕ) (r : SnapshotBuffers) (op : Op) (start now : SeatedTask) (begins left : Option Op) (phase : Option Phase) →
     is_of_snapshot (first_phase start.config (own_number start.items) op) ≡ false → Goes op start now →
     BuffersMatch nodes r begins phase start.items → BuffersMatch nodes r left now.phase now.items
 goes_room nodes r op start now begins left phase other goes h = record {
@@ -177,13 +177,13 @@ goes_room nodes r op start now begins left phase other goes h = record {
 }
 
 -- and of one whose operation was done
-called_room : (nodes : ℕ) (r : SnapshotBuffers) (op : Op) (start now : TaskState) (answer : Result Reply GateError) (begins left : Option Op)
+called_room : (nodes : ℕ) (r : SnapshotBuffers) (op : Op) (start now : SeatedTask) (answer : Result Reply GateError) (begins left : Option Op)
     (phase stands : Option Phase) → is_of_snapshot (first_phase start.config (own_number start.items) op) ≡ false →
     Called op start now answer → stands ≡ None → BuffersMatch nodes r begins phase start.items → BuffersMatch nodes r left stands now.items
 called_room nodes r op start now answer begins left phase stands other called none h = record {
   room = h.room;
   last = subst (LastTells r)
-      (sym (ap (λ (s : TaskState). (own_view s.items).snapshot) called.after ∙
+      (sym (ap (λ (s : SeatedTask). (own_view s.items).snapshot) called.after ∙
       items_other start.config op start.items other called.trace)) h.last;
   next = subst (NextTells r (trace_so_far left (own_view now.items))) (sym none) tt;
 }
@@ -200,11 +200,11 @@ module _ (call : Call) (r : SnapshotBuffers) (other : is_of_snapshot call.first 
     (h : BuffersMatch call.task.config.nodes r call.task.begins call.task.kept.phase call.task.seat.me.0.items) where
   other_start : is_of_snapshot (first_phase call.start.config (own_number call.start.items) call.op) ≡ false
   other_start =
-      sym (ap (λ (s : TaskState). is_of_snapshot (first_phase s.config (own_number s.items) call.op)) call.start_is) ∙
+      sym (ap (λ (s : SeatedTask). is_of_snapshot (first_phase s.config (own_number s.items) call.op)) call.start_is) ∙
       (ap (λ n. is_of_snapshot (first_phase call.task.config n call.op)) (own_is call) ∙ (sym (ap is_of_snapshot call.first_is) ∙ other))
 
   start_room : BuffersMatch call.task.config.nodes r call.task.begins call.task.kept.phase call.start.items
-  start_room = subst (λ (s : TaskState). BuffersMatch call.task.config.nodes r call.task.begins call.task.kept.phase s.items) call.start_is h
+  start_room = subst (λ (s : SeatedTask). BuffersMatch call.task.config.nodes r call.task.begins call.task.kept.phase s.items) call.start_is h
 
   -- it goes on at this phase
   pub room_at : (left : Left call) (phase : Phase) → phase_after left.next ≡ Some phase →
@@ -243,8 +243,8 @@ stepped_room nodes r left begins phase hook table table_left c (x ∷ xs) items_
     ap (λ (s : Step). s.event) stepped.step in
     let is : event ≡ event_of (next_of phase hook).0 (next_of phase hook).1 stepped.found = cc in
     let stands : phase_after next ≡ phase_after (after_of phase event.found hook).0 =
-    ap (λ (s : TaskState). s.phase) stepped.new ∙ ap (λ (e : Event). phase_after (after_of phase e.found hook).0) (sym is) in
-    let there : items_left ≡ items_after begins phase hook stepped.found (x ∷ xs) = ap (λ (s : TaskState). s.items) stepped.new in
+    ap (λ (s : SeatedTask). s.phase) stepped.new ∙ ap (λ (e : Event). phase_after (after_of phase e.found hook).0) (sym is) in
+    let there : items_left ≡ items_after begins phase hook stepped.found (x ∷ xs) = ap (λ (s : SeatedTask). s.items) stepped.new in
     let P : Option Phase × SeatItems → Type 0 = λ z. BuffersMatch nodes left None z.0 z.1 in
     subst P (λ i. (sym stands i, sym there i)) (follows stepped.found (omega arith) is h)
 

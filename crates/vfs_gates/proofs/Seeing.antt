@@ -18,7 +18,7 @@ use Rattle.gated_tree.specs.Trees.{node_at}
 use Rattle.gate_world.specs.Moments.{HasMoment}
 use Rattle.gate_world.specs.traces.TraceStates.{state_of_trace}
 use Rattle.gate_steps.specs.Seating.{SeatItems, HaveHistory, done_by}
-use Rattle.vfs_gates.specs.TaskStates.{TaskState, own_number, own_view, spare_of}
+use Rattle.vfs_gates.specs.TaskStates.{SeatedTask, own_number, own_view, spare_of}
 use Rattle.vfs_gates.specs.Seen.{IsOfAMoment}
 use Rattle.gate_steps.specs.call_events.Runs.{completed_by, ran_snapshot, ran_items, Called}
 
@@ -49,11 +49,11 @@ same_own c op trace [] some_there = absurd (omega arith)
 same_own c op trace (x ∷ xs) some_there = (refl, omega arith, refl)
 
 -- after a whole call
-pub call_saw : (op : Op) (old left : TaskState) (answer : Result Reply GateError) (called : Called op old left answer) (s : Snapshot) →
+pub call_saw : (op : Op) (old left : SeatedTask) (answer : Result Reply GateError) (called : Called op old left answer) (s : Snapshot) →
     1 ≤ length old.items → (own_view left.items).snapshot ≡ Some s → IsOfAMoment old.config (own_number old.items) left.items s
 call_saw op old left answer called s some_there e =
     let c : Config = old.config in
-    let is : left.items ≡ ran_items c op called.trace old.items = ap (λ (t : TaskState). t.items) called.after in
+    let is : left.items ≡ ran_items c op called.trace old.items = ap (λ (t : SeatedTask). t.items) called.after in
     let own = same_own c op called.trace old.items some_there in
     let number : own_number left.items ≡ own_number old.items = ap own_number is ∙ own.0 in
     let there : 1 ≤ length left.items = omega (arith, ap length is, own.1) in
@@ -80,7 +80,7 @@ abbrev pub noted_by : SeatItems → TreeWords → Snapshot
 noted_by before loaded = record { loaded = loaded; done = length (own_view before).actions; others = done_by (spare_of before) }
 
 -- a whole call whose last event but one completed a snapshot, and which had added nothing before it
-pub call_took : (op : Op) (old left : TaskState) (answer : Result Reply GateError) (called : Called op old left answer)
+pub call_took : (op : Op) (old left : SeatedTask) (answer : Result Reply GateError) (called : Called op old left answer)
     (loaded : TreeWords) (release last : Traced) (earlier : List Traced) → 1 ≤ length old.items →
     called.trace ≡ release ∷ last ∷ earlier →
     completed_by (state_of_trace old.config (own_number old.items) op (last ∷ earlier)).comes (last ∷ earlier) release ≡ None →
@@ -95,7 +95,7 @@ call_took op old left answer called loaded release last earlier some_there is no
     let v : View = own_view old.items in
     let own = same_own c op called.trace old.items some_there in
     let seen : (own_view left.items).snapshot ≡ Some (noted_by old.items loaded) =
-    ap (λ (t : TaskState). (own_view t.items).snapshot) called.after ∙
+    ap (λ (t : SeatedTask). (own_view t.items).snapshot) called.after ∙
     (own.2 ∙ (ap (λ l. ran_snapshot c n op others l v) is ∙
     (ran_same c n op others release (last ∷ earlier) v none ∙ ran_taken c n op others last earlier v loaded taken added))) in
     call_saw op old left answer called (noted_by old.items loaded) some_there seen

@@ -9,7 +9,7 @@ use Rattle.gate_steps.specs.Seating.{SeatItems, times, kept_of, given_of, deal, 
 use Rattle.gate_steps.proofs.call_events.Giving.{times-without, times-without_other}
 use Rattle.gate_steps.proofs.call_events.Opening.{times-deal, times-deal_below}
 use Rattle.vfs_gates.specs.Parts.{SplitOf, SplitRefused}
-use Rattle.vfs_gates.specs.TaskStates.{TaskState, IsIdle, own_number, own_view, spare_of}
+use Rattle.vfs_gates.specs.TaskStates.{SeatedTask, IsIdle, own_number, own_view, spare_of}
 use Rattle.vfs_gates.specs.Splitting.{AreNumbered, Gives, HasBegun, HaveDoneNothing}
 
 -- the numbers behind the first of so many
@@ -78,7 +78,7 @@ none_given n [] none = refl
 none_given n (x ∷ xs) none = none_in n xs none
 
 -- the first task has all numbers but its own to give
-pub gives_all : (first : TaskState) (c : Config) → 1 ≤ c.tasks → IsIdle first → first.items ≡ first_items c → Gives first 1 c.tasks
+pub gives_all : (first : SeatedTask) (c : Config) → 1 ≤ c.tasks → IsIdle first → first.items ≡ first_items c → Gives first 1 c.tasks
 gives_all first c some idle all = record {
   there = subst (λ (l : SeatItems). 1 ≤ length l) (sym all) (begins_dealt c.tasks some).0;
   own = ap own_number all ∙ own_dealt c.tasks;
@@ -89,7 +89,7 @@ gives_all first c some idle all = record {
 }
 
 -- the lowest number is the next one
-next_number : (first left other : TaskState) (from count : ℕ) → Gives first from count → from < count →
+next_number : (first left other : SeatedTask) (from count : ℕ) → Gives first from count → from < count →
     (s : SplitOf first left other) → s.number ≡ from
 next_number first left other from count gives below s =
     let there = s.there in
@@ -101,10 +101,10 @@ next_number first left other from count gives below s =
     (λ not_high. omega arith))
 
 -- and it is the new task's
-pub has_next : (first left other : TaskState) (from count : ℕ) → Gives first from count → from < count → SplitOf first left other →
+pub has_next : (first left other : SeatedTask) (from count : ℕ) → Gives first from count → from < count → SplitOf first left other →
     own_number other.items ≡ from
 has_next first left other from count gives below s =
-    ap (λ (t : TaskState). own_number t.items) s.given ∙ own_given s.number first.items s.there
+    ap (λ (t : SeatedTask). own_number t.items) s.given ∙ own_given s.number first.items s.there
     ∙ next_number first left other from count gives below s
 
 -- who is given a number has one
@@ -113,16 +113,16 @@ there_given n [] there = absurd (omega (arith, there))
 there_given n (x ∷ xs) there = omega arith
 
 -- which has done nothing
-pub has_begun : (first left other : TaskState) (from count : ℕ) → Gives first from count → from < count → SplitOf first left other →
+pub has_begun : (first left other : SeatedTask) (from count : ℕ) → Gives first from count → from < count → SplitOf first left other →
     HasBegun from other
 has_begun first left other from count gives below s = record {
-  there = subst (λ (t : TaskState). 1 ≤ length t.items) (sym s.given) (there_given s.number first.items s.there);
+  there = subst (λ (t : SeatedTask). 1 ≤ length t.items) (sym s.given) (there_given s.number first.items s.there);
   own = has_next first left other from count gives below s;
-  nothing = ap (λ (t : TaskState). (own_view t.items).actions) s.given ∙ none_given s.number first.items gives.nothing;
+  nothing = ap (λ (t : SeatedTask). (own_view t.items).actions) s.given ∙ none_given s.number first.items gives.nothing;
 }
 
 -- one more with the next number
-pub numbered_more : (from : ℕ) (ts : List TaskState) (t : TaskState) → AreNumbered from ts → own_number t.items ≡ from + length ts →
+pub numbered_more : (from : ℕ) (ts : List SeatedTask) (t : SeatedTask) → AreNumbered from ts → own_number t.items ≡ from + length ts →
     AreNumbered from (ts ++ t ∷ [])
 numbered_more from [] t are is = (omega (arith, is), _)
 numbered_more from (x ∷ xs) t are is = (are.0, numbered_more (from + 1) xs t are.1 (omega (arith, is)))
@@ -143,17 +143,17 @@ there_kept n [] there = there
 there_kept n (x ∷ xs) there = omega arith
 
 -- after a split the first task has the numbers behind the next to give
-pub gives_on : (first left other : TaskState) (from count : ℕ) → Gives first from count → from < count → SplitOf first left other →
+pub gives_on : (first left other : SeatedTask) (from count : ℕ) → Gives first from count → from < count → SplitOf first left other →
     Gives left (from + 1) count
 gives_on first left other from count gives below s =
     let is = next_number first left other from count gives below s in
-    let kept : left.items ≡ kept_of s.number first.items = ap (λ (t : TaskState). t.items) s.kept in
+    let kept : left.items ≡ kept_of s.number first.items = ap (λ (t : SeatedTask). t.items) s.kept in
     let same = λ (k : ℕ) (ne : k ≢ s.number).
     ap (λ (l : SeatItems). times k (spare_of l)) kept ∙ spare_left s.number first.items k ne in
     record {
       there = subst (λ (l : SeatItems). 1 ≤ length l) (sym kept) (there_kept s.number first.items gives.there);
       own = ap own_number kept ∙ own_kept s.number first.items ∙ gives.own;
-      idle = ap (λ (t : TaskState). t.phase) s.kept ∙ gives.idle;
+      idle = ap (λ (t : SeatedTask). t.phase) s.kept ∙ gives.idle;
       later = λ (k : ℕ) (low : from + 1 ≤ k) (high : k < count).
           let ne : k ≢ s.number = omega arith in same k ne ∙ gives.later k (omega arith) high;
       earlier = λ (k : ℕ) (low : k < from + 1). dite (ℕ_discrete k s.number)
@@ -164,7 +164,7 @@ gives_on first left other from count gives below s =
     }
 
 -- while a number is left, a split is refused for memory alone
-pub refused_for_memory : (first : TaskState) (from count : ℕ) (e : GateError) → Gives first from count → from < count →
+pub refused_for_memory : (first : SeatedTask) (from count : ℕ) (e : GateError) → Gives first from count → from < count →
     SplitRefused first e → e ≡ NoMemory
 refused_for_memory first from count Order gives below h = absurd (h gives.idle)
 refused_for_memory first from count TooMany gives below h =
@@ -175,7 +175,7 @@ refused_for_memory first from count NoMemory gives below h = refl
 refused_for_memory first from count _ gives below h = absurd h
 
 -- the first task that there is begins with number 0
-pub first_begins : (first : TaskState) (c : Config) → 1 ≤ c.tasks → first.items ≡ first_items c → HasBegun 0 first
+pub first_begins : (first : SeatedTask) (c : Config) → 1 ≤ c.tasks → first.items ≡ first_items c → HasBegun 0 first
 first_begins first c some all =
     let dealt = begins_dealt c.tasks some in record {
       there = subst (λ (l : SeatItems). 1 ≤ length l) (sym all) dealt.0;

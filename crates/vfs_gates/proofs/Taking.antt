@@ -28,7 +28,7 @@ use Rattle.gate_world.specs.Views.{actions_after}
 use Rattle.gate_world.specs.traces.TraceStates.{state_of_trace, trace_state_after, IsNext, IsTrace}
 use Rattle.gate_world.specs.traces.Snapshots.{last_snapshot, noted_last, snapshot_completes}
 use Rattle.gate_steps.specs.Seating.{SeatItems, done_by}
-use Rattle.vfs_gates.specs.TaskStates.{TaskState, own_number, own_view, refusal_at, spare_of}
+use Rattle.vfs_gates.specs.TaskStates.{SeatedTask, own_number, own_view, refusal_at, spare_of}
 use Rattle.gate_steps.specs.call_events.Runs.{Called, Performs, completed_by, ran_items, ran_snapshot, told_as, unit_of}
 use Rattle.vfs_gates.specs.Seen.{HasTaken}
 use Rattle.vfs_gates.proofs.Seeing.{call_saw, same_own}
@@ -145,7 +145,7 @@ module _ (c : Config) (t : ℕ) (wait : Bool) (others : List (ℕ × ℕ)) (v : 
   replied_one trace reply h ends = subst (NextInvariant trace) ends (all_come trace h).0
 
 -- a whole call of a snapshot that replied
-pub has_taken : (wait : Bool) (old left : TaskState) (reply : Reply) → 1 ≤ length old.items →
+pub has_taken : (wait : Bool) (old left : SeatedTask) (reply : Reply) → 1 ≤ length old.items →
     Called (SnapshotOp wait) old left (Ok reply) → HasTaken old.config old.items left.items
 has_taken wait old left reply some_there called =
     let c : Config = old.config in
@@ -155,7 +155,7 @@ has_taken wait old left reply some_there called =
     let own = same_own c (SnapshotOp wait) called.trace old.items some_there in
     let noted : Noted = record { loaded = one.0; done = length v.actions; others = others } in
     let shows : (own_view left.items).snapshot ≡ Some noted =
-    ap (λ (s : TaskState). (own_view s.items).snapshot) called.after ∙ (own.2 ∙ one.1) in record {
+    ap (λ (s : SeatedTask). (own_view s.items).snapshot) called.after ∙ (own.2 ∙ one.1) in record {
       seen = noted;
       shows = shows;
       done = refl;
@@ -164,7 +164,7 @@ has_taken wait old left reply some_there called =
     }
 
 -- the last snapshot of a task is sound and clean
-abbrev pub HasWhole : TaskState → Type 0
+abbrev pub HasWhole : SeatedTask → Type 0
 HasWhole left = (s : Noted) × ((own_view left.items).snapshot ≡ Some s) × LoadedSound s.loaded × LoadedClean s.loaded
 
 -- what has run has the numbers that it had
@@ -173,18 +173,18 @@ some_before c op trace [] h = h
 some_before c op trace (x ∷ xs) h = omega arith
 
 -- a call of a snapshot that was done has replied, so it has taken one
-answered_whole : (wait : Bool) (old left : TaskState) → 1 ≤ length left.items → (answer : Result Reply GateError) →
+answered_whole : (wait : Bool) (old left : SeatedTask) → 1 ≤ length left.items → (answer : Result Reply GateError) →
     ◌≡◌ {A = Result (Unit {0}) GateError} (Ok tt) (told_as unit_of answer) → Called (SnapshotOp wait) old left answer → HasWhole left
 answered_whole wait old left some_left (Ok reply) e called =
     let some_ran : 1 ≤ length (ran_items old.config (SnapshotOp wait) called.trace old.items) =
-    subst (λ (s : TaskState). 1 ≤ length s.items) called.after some_left in
+    subst (λ (s : SeatedTask). 1 ≤ length s.items) called.after some_left in
     let some_there = some_before old.config (SnapshotOp wait) called.trace old.items some_ran in
     let taken = has_taken wait old left reply some_there called in
     (taken.seen, taken.shows, taken.moment.moment.sound, taken.moment.moment.clean)
 answered_whole wait old left some_left (Err refusal) e called = absurd cc
 
 -- and it was not refused at its beginning
-begun_whole : (wait : Bool) (old left : TaskState) → 1 ≤ length left.items → Performs (SnapshotOp wait) old left (Ok tt) →
+begun_whole : (wait : Bool) (old left : SeatedTask) → 1 ≤ length left.items → Performs (SnapshotOp wait) old left (Ok tt) →
     (r : Option GateError) → refusal_at (SnapshotOp wait) old ≡ r → HasWhole left
 begun_whole wait old left some_left did None e =
     let done = did.done e in answered_whole wait old left some_left done.0 done.1 done.2
@@ -192,6 +192,6 @@ begun_whole wait old left some_left did (Some refusal) e =
     let is : ◌≡◌ {A = Result (Unit {0}) GateError} (Ok tt) (Err refusal) = (did.refused refusal e).0 in absurd cc
 
 -- so a call of a snapshot that was done has taken one that is sound and clean
-pub took_whole : (wait : Bool) (old left : TaskState) → 1 ≤ length left.items → Performs (SnapshotOp wait) old left (Ok tt) →
+pub took_whole : (wait : Bool) (old left : SeatedTask) → 1 ≤ length left.items → Performs (SnapshotOp wait) old left (Ok tt) →
     HasWhole left
 took_whole wait old left some_left did = begun_whole wait old left some_left did (refusal_at (SnapshotOp wait) old) refl

@@ -24,11 +24,11 @@ use Rattle.gate_steps.specs.call_events.Runs.{completed_by, ran_items, ran_snaps
 use Rattle.gate_steps.specs.call_events.Spans.{AreInOrder, IsTreeDuring, TakesEffect}
 use Rattle.gate_steps.proofs.call_events.{Caused.tree_during, Effects.{call_effect, in_order}}
 use Rattle.vfs_gates.specs.Handed.{ComesAfter}
-use Rattle.vfs_gates.specs.TaskStates.{TaskState, own_number, own_view, spare_of}
+use Rattle.vfs_gates.specs.TaskStates.{SeatedTask, own_number, own_view, spare_of}
 use Rattle.vfs_gates.proofs.{Seeing.same_own, Taking.replied_one}
 
 -- calls of one configuration, of which the later one has seen what the earlier one left
-pub calls_in_order : (one two : Op) (old left begins ends : TaskState) (answer reply : Result Reply GateError)
+pub calls_in_order : (one two : Op) (old left begins ends : SeatedTask) (answer reply : Result Reply GateError)
     (first : Called one old left answer) (second : Called two begins ends reply) → begins.config ≡ old.config →
     StaySeen left.seen begins.seen →
     AreInOrder (own_number old.items) (state_of_trace old.config (own_number old.items) one first.trace).added
@@ -71,7 +71,7 @@ module _ (c : Config) (t : ℕ) (op : Op) (others : List (ℕ × ℕ)) (v : View
       (was_taken earlier s)
 
 -- so a snapshot that replied is of a moment of its call
-pub taken_during : (wait : Bool) (old left : TaskState) (reply : Reply) (s : Noted) → 1 ≤ length old.items →
+pub taken_during : (wait : Bool) (old left : SeatedTask) (reply : Reply) (s : Noted) → 1 ≤ length old.items →
     Called (SnapshotOp wait) old left (Ok reply) → (own_view left.items).snapshot ≡ Some s →
     IsTreeDuring old.config old.items (SnapshotOp wait) old.seen left.seen s.loaded
 taken_during wait old left reply s some_there called shows =
@@ -85,7 +85,7 @@ taken_during wait old left reply s some_there called shows =
     let taken = was_taken c n op others v called.trace noted one.1 in
     let own = same_own c op called.trace old.items some_there in
     let left_so : (own_view left.items).snapshot ≡ Some noted =
-    ap (λ (t : TaskState). (own_view t.items).snapshot) called.after ∙ (own.2 ∙ taken.0) in
+    ap (λ (t : SeatedTask). (own_view t.items).snapshot) called.after ∙ (own.2 ∙ taken.0) in
     let both : Some noted ≡ Some s = sym left_so ∙ shows in
     let same : noted ≡ s = cc in
     let done = taken.1 in
@@ -113,7 +113,7 @@ ran_actions c op trace [] (x ∷ mine) others is there = absurd (let no : ⊥ = 
 ran_actions c op trace (x ∷ items) mine others is there = refl
 
 -- a call of a task to which another was joined
-pub comes_after : (op : Op) (first other joined left : TaskState) (answer : Result Reply GateError) → joined.items ≡ first.items ++ other.items →
+pub comes_after : (op : Op) (first other joined left : SeatedTask) (answer : Result Reply GateError) → joined.items ≡ first.items ++ other.items →
     1 ≤ length first.items → 1 ≤ length other.items → Called op joined left answer → ComesAfter other joined left
 comes_after op first other joined left answer is some_first some_other called =
     let effect : TakesEffect joined.config joined.items op called.trace joined.seen left.seen called.history.history.log =
@@ -124,7 +124,7 @@ comes_after op first other joined left answer is some_first some_other called =
       is = effect.grows;
       behind = other_behind joined.config joined.items first.items other.items (actions_so_far joined.config effect.began) is some_other
           effect.had;
-      adds = ap (λ (s : TaskState). (own_view s.items).actions) called.after ∙
+      adds = ap (λ (s : SeatedTask). (own_view s.items).actions) called.after ∙
           (ran_actions joined.config op called.trace joined.items first.items other.items is some_first ∙
           ap (λ (l : List Action). l ++ (own_view joined.items).actions) (sym effect.added));
     }

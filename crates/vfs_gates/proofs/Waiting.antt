@@ -32,7 +32,7 @@ use Rattle.gate_steps.specs.call_events.Stepped.{Stepped}
 use Rattle.gate_steps.specs.call_events.GhostAgrees.{PhaseOk, GhostAgrees}
 use Rattle.gate_steps.specs.call_events.Turns.{kept_at, step_was}
 use Rattle.gate_steps.specs.call_events.Waited.{GoesWaiting, WentWaiting, waits_by, waits_in}
-use Rattle.vfs_gates.specs.TaskStates.{TaskState, own_number, own_view, task_state}
+use Rattle.vfs_gates.specs.TaskStates.{SeatedTask, own_number, own_view, task_state}
 use Rattle.vfs_gates.specs.Waits.{StandsBy, WaitsTell, counted, is_wait}
 use Rattle.vfs_gates.proofs.Calling.{Call, Left, same}
 
@@ -150,7 +150,7 @@ pub noted_tells : {d c : Config} {seen gone : List (List Entry)} → d ≡ c →
     noted ≡ counted (since begins waited + is_wait next) → WaitsTell d (own_number left) (own_view left) noted
 noted_tells {d} {c} {seen} {gone} config begins phase hook table table_left items left event action next number waited noted accesses flags ties stepped tells is =
     let after : Next Phase = (after_of phase (found_by (next_of phase hook).1 stepped.found) hook).0 in
-    let there : left ≡ items_after begins phase hook stepped.found items = ap (λ (s : TaskState). s.items) stepped.new in
+    let there : left ≡ items_after begins phase hook stepped.found items = ap (λ (s : SeatedTask). s.items) stepped.new in
     let so : is_wait next ≡ is_wait after = same_wait next after (ap (λ (s : Step). s.progress) stepped.step) in
     let noted_so : noted ≡ counted (since begins waited + is_wait after) = is ∙ ap (λ n. counted (since begins waited + n)) so in
     let P : Config × SeatItems × ℕ → Type 0 = λ z. WaitsTell z.0 (own_number z.1) (own_view z.1) z.2 in
@@ -170,7 +170,7 @@ has_ran : (c : Config) (op : Op) (trace : List Traced) (items : SeatItems) → N
 has_ran c op [] items is = absurd (let f : ⊥ = cc in f)
 has_ran c op (e ∷ earlier) items is = refl
 
-goes_tells : (waits : ℕ) (op : Op) (start now : TaskState) → 1 ≤ length start.items → now.begins ≡ None → GoesWaiting waits op start now →
+goes_tells : (waits : ℕ) (op : Op) (start now : SeatedTask) → 1 ≤ length start.items → now.begins ≡ None → GoesWaiting waits op start now →
     WaitsTell start.config (own_number now.items) (own_view now.items) (counted waits)
 goes_tells waits op start now there none goes =
     let at : now.items ≡ ran_items start.config op goes.0.trace start.items =
@@ -178,14 +178,14 @@ goes_tells waits op start now there none goes =
     subst (λ l. WaitsTell start.config (own_number l) (own_view l) (counted waits)) (sym at)
     (ran_tells start.config op goes.0.trace start.items waits there goes.1)
 
-went_tells : (waits : ℕ) (op : Op) (start : TaskState) (next : Next Phase) (now : TaskState) → 1 ≤ length start.items → now.begins ≡ None →
+went_tells : (waits : ℕ) (op : Op) (start : SeatedTask) (next : Next Phase) (now : SeatedTask) → 1 ≤ length start.items → now.begins ≡ None →
     WentWaiting waits op start next now →
     WaitsTell start.config (own_number now.items) (own_view now.items) (counted (waits + is_wait next))
 went_tells waits op start (Go phase) now there none went =
     goes_tells (waits + 0) op start now there none (went.0, went.1 ∙ sym (add-zero waits))
 went_tells waits op start (Wait phase) now there none went = goes_tells (waits + 1) op start now there none went
 went_tells waits op start (Done answer) now there none went =
-    let at : now.items ≡ ran_items start.config op went.0.trace start.items = ap (λ (s : TaskState). s.items) went.0.after in
+    let at : now.items ≡ ran_items start.config op went.0.trace start.items = ap (λ (s : SeatedTask). s.items) went.0.after in
     subst (λ l. WaitsTell start.config (own_number l) (own_view l) (counted (waits + 0))) (sym at)
     (ran_tells start.config op went.0.trace start.items (waits + 0) there (went.1 ∙ sym (add-zero waits)))
 
@@ -200,7 +200,7 @@ pub left_tells : (call : Call) (left : Left call) (waited : ℕ) → waited ≡ 
     WaitsTell call.task.config (own_number left.known.items) (own_view left.known.items) waited
 left_tells call left waited is =
     let task = call.task in
-    let there : 1 ≤ length call.start.items = subst (λ (s : TaskState). 1 ≤ length s.items) call.start_is
+    let there : 1 ≤ length call.start.items = subst (λ (s : SeatedTask). 1 ≤ length s.items) call.start_is
     (has_number task.number task.config task.begins task.kept task.spare task.seat.me.0.items call.ties) in
     let tells = went_tells left.waits call.op call.start left.next (task_state left.table call.gates None (phase_after left.next) left.known) there
     refl left.went in

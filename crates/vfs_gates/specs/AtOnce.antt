@@ -4,10 +4,10 @@ use Rattle.access_model.specs.declared.errors.GateError.{GateError}
 use Rattle.gate_steps.specs.call_events.Progress.{Progress}
 use Rattle.gate_world.specs.declared.operations.Op.{Op}
 use Rattle.gate_steps.specs.call_events.Runs.{StepTells}
-use Rattle.vfs_gates.specs.TaskStates.{TaskState, refusal_at}
+use Rattle.vfs_gates.specs.TaskStates.{SeatedTask, refusal_at}
 
 -- An operation whose beginning is refused changes nothing. Any other has done its first step at least, and goes on, or was done whole.
-pub record BeginsAtOnce (op : Op) (old left : TaskState) (outcome : Result Progress GateError) : Type 0 where
+pub record BeginsAtOnce (op : Op) (old left : SeatedTask) (outcome : Result Progress GateError) : Type 0 where
   pub table : left.table ≡ old.table
   pub config : left.config ≡ old.config
   pub refused : (refusal : GateError) → refusal_at op old ≡ Some refusal → (outcome ≡ Err refusal) × (left ≡ old)

@@ -13,11 +13,11 @@ use Rattle.gate_world.specs.declared.entries.Entry.{Entry}
 use Rattle.gate_steps.specs.Histories.{HasHistory}
 use Rattle.gate_steps.specs.Seating.{SeatItems, HaveViews, HaveSeen, times}
 use Rattle.gate_steps.specs.Rules.{TableShows, Ruled}
-use Rattle.vfs_gates.specs.TaskStates.{TaskState, IsIdle, HoldsNothing}
+use Rattle.vfs_gates.specs.TaskStates.{SeatedTask, IsIdle, HoldsNothing}
 use Rattle.gate_steps.specs.call_events.GhostAgrees.{IsStill}
 
 -- the task rests, and each number is its own or its to give
-abbrev pub HasAll : TaskState → Type 0
+abbrev pub HasAll : SeatedTask → Type 0
 HasAll s = IsIdle s × HoldsNothing s × ((n : ℕ) → n < s.config.tasks → 1 ≤ times n s.items)
 
 -- what callers know of closed gates

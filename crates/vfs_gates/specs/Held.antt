@@ -7,18 +7,18 @@ use Rattle.access_model.specs.declared.errors.GateError.{GateError}
 use Rattle.gate_world.specs.declared.operations.Op.{Op}
 use Rattle.gate_world.specs.declared.operations.Op.TheVariants.{Want, DropMount, Start, End, WantWrite, DropWrite, Open, Close}
 use Rattle.gate_world.specs.Views.{held_of}
-use Rattle.vfs_gates.specs.TaskStates.{TaskState, own_number, own_view, IsIdle, HoldsNothing}
+use Rattle.vfs_gates.specs.TaskStates.{SeatedTask, own_number, own_view, IsIdle, HoldsNothing}
 
 -- no operation is under way, and nothing is held
-abbrev pub Rests : TaskState → Type 0
+abbrev pub Rests : SeatedTask → Type 0
 Rests s = IsIdle s × HoldsNothing s
 
 -- the actions of a task's own number, the newest first
-abbrev pub own_actions : TaskState → List Action
+abbrev pub own_actions : SeatedTask → List Action
 own_actions s = (own_view s.items).actions
 
 -- A task that is between two calls as it was: it came from the same gates, has its own number, and holds what it held.
-pub record IsAsBefore (before after : TaskState) : Type 0 where
+pub record IsAsBefore (before after : SeatedTask) : Type 0 where
   pub table : after.table ≡ before.table
   pub config : after.config ≡ before.config
   pub own : own_number after.items ≡ own_number before.items
@@ -38,7 +38,7 @@ takes_nothing (Close file p wait) = false
 takes_nothing op = true
 
 -- A return that was not refused, of an access that was granted just before: both stand in the task's list, and it is as it was.
-pub record IsGivenBack (gate : Gate) (before after : TaskState) (outcome : Result (Unit {0}) GateError) : Type 0 where
+pub record IsGivenBack (gate : Gate) (before after : SeatedTask) (outcome : Result (Unit {0}) GateError) : Type 0 where
   pub done : outcome ≡ Ok tt
   pub list : own_actions after ≡ Return gate ∷ (Grant gate ∷ own_actions before)
   pub as_before : IsAsBefore before after

@@ -8,35 +8,35 @@ use Rattle.gate_world.specs.declared.operations.Op.TheVariants.{WantWrite, DropW
 use Rattle.gate_steps.specs.call_events.Asking.{PerformsAsking}
 use Rattle.gate_steps.specs.call_events.Runs.{Performs}
 use Rattle.gate_steps.specs.Seating.{SeatItems}
-use Rattle.vfs_gates.specs.TaskStates.{TaskState}
+use Rattle.vfs_gates.specs.TaskStates.{SeatedTask}
 
-module _ {T : Type 0} (between : TaskState → T → TaskState → Type 0) where
+module _ {T : Type 0} (between : SeatedTask → T → SeatedTask → Type 0) where
   -- after a taking of write access that ended so: what comes between and a return, which is not refused; nothing, where it was refused
-  abbrev pub WrittenFrom : ℕ → ℕ → TaskState → Result (Unit {0}) GateError → TaskState → Result T GateError → Type 0
+  abbrev pub WrittenFrom : ℕ → ℕ → SeatedTask → Result (Unit {0}) GateError → SeatedTask → Result T GateError → Type 0
   WrittenFrom m p there (Ok done) left outcome =
-      (mid : TaskState) × (answer : T) × between there answer mid × Performs (DropWrite m p) mid left (Ok tt) × (outcome ≡ Ok answer)
+      (mid : SeatedTask) × (answer : T) × between there answer mid × Performs (DropWrite m p) mid left (Ok tt) × (outcome ≡ Ok answer)
   WrittenFrom m p there (Err refusal) left outcome = (left ≡ there) × (outcome ≡ Err refusal)
 
   -- Write access is taken; what comes between; and it is given back, whatever that answered.
-  pub record WithWrite (m p : ℕ) (old left : TaskState) (outcome : Result T GateError) : Type 0 where
-    pub there : TaskState
+  pub record WithWrite (m p : ℕ) (old left : SeatedTask) (outcome : Result T GateError) : Type 0 where
+    pub there : SeatedTask
     pub took : Result (Unit {0}) GateError
     pub takes : Performs (WantWrite m p) old there took
     pub then : WrittenFrom m p there took left outcome
 
   module _ {H : Type 0} (answers : HookCall → SeatItems → H → HookAnswer → H → Type 0) where
     -- after a freeze that ended so: what comes between and a thaw by the same holder, whose outcome is told; nothing, where it was refused
-    abbrev pub FrozenFrom : Holder → TaskState → Result (Unit {0}) GateError → TaskState → Result (T × Result (Unit {0}) GateError) GateError →
+    abbrev pub FrozenFrom : Holder → SeatedTask → Result (Unit {0}) GateError → SeatedTask → Result (T × Result (Unit {0}) GateError) GateError →
         H → H → Type 0
     FrozenFrom holder there (Ok done) left outcome before hooks =
-        (mid : TaskState) × (answer : T) × (thawed : Result (Unit {0}) GateError) × between there answer mid ×
+        (mid : SeatedTask) × (answer : T) × (thawed : Result (Unit {0}) GateError) × between there answer mid ×
         PerformsAsking answers (Thaw holder) mid left thawed before hooks × (outcome ≡ Ok (answer, thawed))
     FrozenFrom holder there (Err refusal) left outcome before hooks = (left ≡ there) × (outcome ≡ Err refusal) × (hooks ≡ before)
 
     -- All is frozen for a holder; what comes between; and that holder thaws it, whatever that answered.
-    pub record WithFreeze (holder : Holder) (old left : TaskState) (outcome : Result (T × Result (Unit {0}) GateError) GateError)
+    pub record WithFreeze (holder : Holder) (old left : SeatedTask) (outcome : Result (T × Result (Unit {0}) GateError) GateError)
         (before hooks : H) : Type 0 where
-      pub there : TaskState
+      pub there : SeatedTask
       pub took : Result (Unit {0}) GateError
       pub asked : H
       pub takes : PerformsAsking answers (Freeze holder) old there took before asked

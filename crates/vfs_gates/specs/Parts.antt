@@ -3,10 +3,10 @@ use Rattle.std.specs.Prelude.{◌≡◌, ℕ, ◌<◌, ◌≤◌}
 use Rattle.access_model.specs.declared.errors.GateError.{GateError}
 use Rattle.access_model.specs.declared.errors.GateError.TheVariants.{Order, TooMany, NoMemory}
 use Rattle.gate_steps.specs.Seating.{times, kept_of, given_of}
-use Rattle.vfs_gates.specs.TaskStates.{TaskState, IsIdle, spare_of}
+use Rattle.vfs_gates.specs.TaskStates.{SeatedTask, IsIdle, spare_of}
 
 -- the lowest number that is left goes to a task of its own, with its view renewed
-pub record SplitOf (old left other : TaskState) : Type 0 where
+pub record SplitOf (old left other : SeatedTask) : Type 0 where
   pub number : ℕ
   pub idle : IsIdle old
   pub there : 1 ≤ times number (spare_of old.items)
@@ -15,11 +15,11 @@ pub record SplitOf (old left other : TaskState) : Type 0 where
   pub given : other ≡ record old { items = given_of number old.items }
 
 -- no number is left to give
-abbrev pub GaveAll : TaskState → Type 0
+abbrev pub GaveAll : SeatedTask → Type 0
 GaveAll s = (n : ℕ) → times n (spare_of s.items) ≡ 0
 
 -- why there is no new task
-abbrev pub SplitRefused : TaskState → GateError → Type 0
+abbrev pub SplitRefused : SeatedTask → GateError → Type 0
 SplitRefused s Order = ¬ IsIdle s
 SplitRefused s TooMany = IsIdle s × GaveAll s
 SplitRefused s NoMemory = IsIdle s × ¬ GaveAll s

@@ -13,18 +13,18 @@ pub use Rattle.gate_steps.specs.call_events.Runs.{Performs}
 pub use Rattle.vfs_gates.specs.Ended.{Ended, Ending}
 pub use Rattle.vfs_gates.specs.Handed.{ComesAfter}
 pub use Rattle.vfs_gates.specs.Held.{Rests, own_actions}
-pub use Rattle.vfs_gates.specs.TaskStates.{TaskState, IsFrom, own_view, spare_of}
+pub use Rattle.vfs_gates.specs.TaskStates.{SeatedTask, IsFrom, own_view, spare_of}
 
 -- two calls that were done, one right after the other
-abbrev pub BothDone : Op → Op → TaskState → TaskState → Type 0
-BothDone one two first last = (there : TaskState) × Performs one first there (Ok tt) × Performs two there last (Ok tt)
+abbrev pub BothDone : Op → Op → SeatedTask → SeatedTask → Type 0
+BothDone one two first last = (there : SeatedTask) × Performs one first there (Ok tt) × Performs two there last (Ok tt)
 
 -- so many rounds from one state of a task to another, one after the other, with calls between them that were refused
-pub data Rounds (Round : TaskState → TaskState → Type 0) : ℕ → TaskState → TaskState → Type 0 where
-  none : {s : TaskState} → Rounds Round 0 s s
-  refused : {n : ℕ} {first mid last : TaskState} {op : Op} {refusal : GateError} → Rounds Round n first mid →
+pub data Rounds (Round : SeatedTask → SeatedTask → Type 0) : ℕ → SeatedTask → SeatedTask → Type 0 where
+  none : {s : SeatedTask} → Rounds Round 0 s s
+  refused : {n : ℕ} {first mid last : SeatedTask} {op : Op} {refusal : GateError} → Rounds Round n first mid →
       Performs op mid last (Err refusal) → Rounds Round n first last
-  round : {n : ℕ} {first mid last : TaskState} → Rounds Round n first mid → Round mid last → Rounds Round (n + 1) first last
+  round : {n : ℕ} {first mid last : SeatedTask} → Rounds Round n first mid → Round mid last → Rounds Round (n + 1) first last
 
 -- 1 where both are one gate
 abbrev one_gate : Gate → Gate → ℕ
@@ -39,13 +39,13 @@ granted_in gate (Grant other ∷ earlier) = one_gate gate other + granted_in gat
 granted_in gate (a ∷ earlier) = granted_in gate earlier
 
 -- so many accesses at a gate were granted to a task on its way from one state to another
-abbrev pub Granted : Gate → ℕ → TaskState → TaskState → Type 0
+abbrev pub Granted : Gate → ℕ → SeatedTask → SeatedTask → Type 0
 Granted gate n first last = granted_in gate (own_actions last) ≡ n + granted_in gate (own_actions first)
 
 -- a number that has this view in the end is that of a task which had done nothing, and then did this
-pub record Did (view : View) (Does : TaskState → TaskState → Type 0) : Type 0 where
-  pub begins : TaskState
-  pub ends : TaskState
+pub record Did (view : View) (Does : SeatedTask → SeatedTask → Type 0) : Type 0 where
+  pub begins : SeatedTask
+  pub ends : SeatedTask
   pub nothing : own_actions begins ≡ []
   pub does : Does begins ends
   pub last : view ≡ own_view ends.items

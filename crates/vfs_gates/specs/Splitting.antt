@@ -1,10 +1,10 @@
 -- What the first task of some gates has to give while tasks are split off, one after the other.
 use Rattle.std.specs.Prelude.{◌≡◌, ℕ, ◌+◌, ◌<◌, ◌≤◌, List, [], ◌∷◌, length}
 use Rattle.gate_steps.specs.Seating.{SeatItems, times}
-use Rattle.vfs_gates.specs.TaskStates.{TaskState, IsIdle, own_number, own_view, spare_of}
+use Rattle.vfs_gates.specs.TaskStates.{SeatedTask, IsIdle, own_number, own_view, spare_of}
 
 -- these have the numbers from this one on, each the next
-abbrev pub AreNumbered : ℕ → List TaskState → Type 0
+abbrev pub AreNumbered : ℕ → List SeatedTask → Type 0
 AreNumbered from [] = Unit {0}
 AreNumbered from (t ∷ ts) = (own_number t.items ≡ from) × AreNumbered (from + 1) ts
 
@@ -14,14 +14,14 @@ HaveDoneNothing [] = Unit {0}
 HaveDoneNothing (x ∷ xs) = (x.view.actions ≡ []) × HaveDoneNothing xs
 
 -- a task with this number that has done nothing
-pub record HasBegun (number : ℕ) (s : TaskState) : Type 0 where
+pub record HasBegun (number : ℕ) (s : SeatedTask) : Type 0 where
   pub there : 1 ≤ length s.items
   pub own : own_number s.items ≡ number
   pub nothing : (own_view s.items).actions ≡ []
 
 -- it has number 0 and is idle, and has to give each number from this one on, below so many in all, and none below it; none of these has
 -- done anything
-pub record Gives (first : TaskState) (from count : ℕ) : Type 0 where
+pub record Gives (first : SeatedTask) (from count : ℕ) : Type 0 where
   pub there : 1 ≤ length first.items
   pub own : own_number first.items ≡ 0
   pub idle : IsIdle first

@@ -9,14 +9,14 @@ use Rattle.gated_tree.specs.declared.trees.Tree.{Tree}
 use Rattle.gated_tree.specs.Trees.{words_of}
 use Rattle.gate_steps.specs.call_events.Runs.{Performs}
 use Rattle.vfs_gates.specs.contracts.task.Task.{the_row}
-use Rattle.vfs_gates.specs.TaskStates.{TaskState, own_view}
+use Rattle.vfs_gates.specs.TaskStates.{SeatedTask, own_view}
 
 -- the call was done, and the tree is its task's last snapshot; or it was refused so
-abbrev pub TakesTree : TaskState → Result (Bor Tree) GateError → TaskState → Type 0
+abbrev pub TakesTree : SeatedTask → Result (Bor Tree) GateError → SeatedTask → Type 0
 TakesTree old (Ok tree) left = Performs (SnapshotOp true) old left (Ok tt) ×
     ((s : Snapshot) × ((own_view left.items).snapshot ≡ Some s) × (words_of tree.now ≡ s.loaded))
 TakesTree old (Err refusal) left = Performs (SnapshotOp true) old left (Err refusal)
 
 -- so the task ends that has lent its tree
-abbrev pub EndsWithTree : MutBor TaskState → Result (Bor Tree) GateError → Fml
+abbrev pub EndsWithTree : MutBor SeatedTask → Result (Bor Tree) GateError → Fml
 EndsWithTree task outcome = follows_so the_row the_row task.ghost_name none (λ _ _. ⊤) (TakesTree task.now outcome)

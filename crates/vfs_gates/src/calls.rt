@@ -3,7 +3,7 @@
 ghost use Rattle.std.specs.Prelude.{◌≡◌, false};
 ghost use Rattle.access_model.specs.Replies.{map_next};
 ghost use Rattle.gate_world.specs.declared.operations.Op.{Op as OpType};
-ghost use Rattle.vfs_gates.specs.TaskStates.{TaskState};
+ghost use Rattle.vfs_gates.specs.TaskStates.{SeatedTask};
 ghost use Rattle.vfs_gates.specs.Waits.{is_wait};
 ghost use Rattle.gate_steps.specs.call_events.Runs.{told_as, unit_of, Goes};
 
@@ -65,7 +65,7 @@ impl Task {
     pub(crate) fn finish(&mut self, gates: &Gates) -> Result<Reply, GateError>
         requires from { IsFrom self.old gates.now }
         requires trying { IsTrying self.old }
-        ensures { (op : OpType) (start : TaskState) → Goes op start self.old → Called op start self.new result }
+        ensures { (op : OpType) (start : SeatedTask) → Goes op start self.old → Called op start self.new result }
     {
         loop {
             let step = self.step(gates, Ok(()));

@@ -11,7 +11,7 @@ ghost use Rattle.gate_world.specs.declared.views.Traced.{Traced};
 ghost use Rattle.gated_tree.specs.declared.trees.TreeWords.{TreeWords};
 ghost use Rattle.gate_world.specs.traces.TraceStates.{state_of_trace};
 ghost use Rattle.gate_steps.specs.Seating.{SeatItems, done_by};
-ghost use Rattle.vfs_gates.specs.TaskStates.{TaskState, own_number, own_view, spare_of, IsIdle};
+ghost use Rattle.vfs_gates.specs.TaskStates.{SeatedTask, own_number, own_view, spare_of, IsIdle};
 ghost use Rattle.vfs_gates.specs.Held.{Rests, own_actions, IsAsBefore, IsGivenBack, takes_nothing};
 ghost use Rattle.gate_steps.specs.call_events.Caused.{HasItsCause};
 ghost use Rattle.gate_steps.specs.call_events.Runs.{completed_by, Called, Performs};
@@ -26,7 +26,7 @@ pub mod in_time;
 /// After a whole call, the last snapshot of its task is of a moment of the one history that the call leaves. Does nothing: its contract
 /// is the law.
 pub fn a_last_snapshot_is_of_a_moment()
-    ensures { (op : Op) (old left : TaskState) (answer : Result Reply GateError) (called : Called op old left answer) (s : Snapshot) →
+    ensures { (op : Op) (old left : SeatedTask) (answer : Result Reply GateError) (called : Called op old left answer) (s : Snapshot) →
         1 ≤ length old.items → (own_view left.items).snapshot ≡ Some s → IsOfAMoment old.config (own_number old.items) left.items s }
 {}
 
@@ -34,7 +34,7 @@ pub fn a_last_snapshot_is_of_a_moment()
 /// that history, after just what its task's own number, and those that it had to give, had done before the call. Does nothing: its
 /// contract is the law.
 pub fn a_call_sees_a_moment()
-    ensures { (op : Op) (old left : TaskState) (answer : Result Reply GateError) (called : Called op old left answer)
+    ensures { (op : Op) (old left : SeatedTask) (answer : Result Reply GateError) (called : Called op old left answer)
         (loaded : TreeWords) (release last : Traced) (earlier : List Traced) → 1 ≤ length old.items →
         called.trace ≡ release ∷ last ∷ earlier →
         completed_by (state_of_trace old.config (own_number old.items) op (last ∷ earlier)).comes (last ∷ earlier) release ≡ None →
@@ -48,7 +48,7 @@ pub fn a_call_sees_a_moment()
 /// moment of that history at which all was frozen, after just what its task's own number, and those that it had to give, had done before
 /// the call. Does nothing: its contract is the law.
 pub fn a_snapshot_that_replied_was_taken()
-    ensures { (wait : Bool) (old left : TaskState) (reply : Reply) → 1 ≤ length old.items →
+    ensures { (wait : Bool) (old left : SeatedTask) (reply : Reply) → 1 ≤ length old.items →
         Called (SnapshotOp wait) old left (Ok reply) → HasTaken old.config old.items left.items }
 {}
 
@@ -58,7 +58,7 @@ pub fn a_snapshot_that_replied_was_taken()
 /// the shown model had the mount read-only, and a change that was Busy one at which something was counted there. Does nothing: its
 /// contract is the law.
 pub fn a_refused_call_has_its_cause()
-    ensures { (op : Op) (old left : TaskState) (refusal : GateError) (called : Called op old left (Err refusal)) →
+    ensures { (op : Op) (old left : SeatedTask) (refusal : GateError) (called : Called op old left (Err refusal)) →
         HasItsCause old.config (own_number old.items) op called.trace refusal }
 {}
 
@@ -77,25 +77,25 @@ pub fn closed_gates_are_left_by_a_schedule()
 /// An access that a want was granted, and a drop right after it, on the same processor or any that there is: the drop is not refused, both stand
 /// in the task's list, and the task is as it was. Does nothing: its contract is the law.
 pub fn a_granted_want_is_dropped()
-    ensures there { (m p : ℕ) (wait : Bool) (old there left : TaskState) (outcome : Result (Unit {0}) GateError) →
+    ensures there { (m p : ℕ) (wait : Bool) (old there left : SeatedTask) (outcome : Result (Unit {0}) GateError) →
         Performs (Want m p wait) old there (Ok tt) → Performs (DropMount m p) there left outcome → IsGivenBack (Mount m) old left outcome }
-    ensures anywhere { (m p q : ℕ) (wait : Bool) (old there left : TaskState) (outcome : Result (Unit {0}) GateError) → q < old.config.processors →
+    ensures anywhere { (m p q : ℕ) (wait : Bool) (old there left : SeatedTask) (outcome : Result (Unit {0}) GateError) → q < old.config.processors →
         Performs (Want m p wait) old there (Ok tt) → Performs (DropMount m q) there left outcome → IsGivenBack (Mount m) old left outcome }
 {}
 
 /// A want of a task at rest is refused as ReadOnly alone; then nothing was added to the task's list, and it rests. Does nothing: its contract is
 /// the law.
 pub fn a_refused_want_leaves_a_task_at_rest()
-    ensures { (m p : ℕ) (old left : TaskState) (refusal : GateError) → Rests old → m < old.config.mounts → p < old.config.processors →
+    ensures { (m p : ℕ) (old left : SeatedTask) (refusal : GateError) → Rests old → m < old.config.mounts → p < old.config.processors →
         Performs (Want m p true) old left (Err refusal) → (refusal ≡ ReadOnly) × (own_actions left ≡ own_actions old) × Rests left }
 {}
 
 /// A change of a mount by a task at rest is refused as Busy alone, and one to writable is done; the task rests after it, refused or not. Does
 /// nothing: its contract is the law.
 pub fn a_change_leaves_a_task_at_rest()
-    ensures done { (m : ℕ) (old left : TaskState) (outcome : Result (Unit {0}) GateError) → Rests old → m < old.config.mounts →
+    ensures done { (m : ℕ) (old left : SeatedTask) (outcome : Result (Unit {0}) GateError) → Rests old → m < old.config.mounts →
         Performs (ChangeMount m false true) old left outcome → outcome ≡ Ok tt }
-    ensures rests { (m : ℕ) (read_only : Bool) (old left : TaskState) (outcome : Result (Unit {0}) GateError) → Rests old →
+    ensures rests { (m : ℕ) (read_only : Bool) (old left : SeatedTask) (outcome : Result (Unit {0}) GateError) → Rests old →
         m < old.config.mounts → Performs (ChangeMount m read_only true) old left outcome →
         IfErr outcome (λ refusal. refusal ≡ Busy) × Rests left }
 {}
@@ -103,11 +103,11 @@ pub fn a_change_leaves_a_task_at_rest()
 /// A call that takes no access and gives none back, and neither opens nor closes a file, leaves an idle task as it was, whatever it answers, and
 /// so one that rests at rest; any call that is refused does. Does nothing: its contract is the law.
 pub fn a_call_that_takes_nothing_leaves_a_task_as_it_was()
-    ensures kept { (op : Op) (old left : TaskState) (outcome : Result (Unit {0}) GateError) → IsIdle old → takes_nothing op ≡ true →
+    ensures kept { (op : Op) (old left : SeatedTask) (outcome : Result (Unit {0}) GateError) → IsIdle old → takes_nothing op ≡ true →
         Performs op old left outcome → IsAsBefore old left }
-    ensures refused { (op : Op) (old left : TaskState) (refusal : GateError) → IsIdle old → Performs op old left (Err refusal) →
+    ensures refused { (op : Op) (old left : SeatedTask) (refusal : GateError) → IsIdle old → Performs op old left (Err refusal) →
         IsAsBefore old left }
-    ensures rests { (op : Op) (old left : TaskState) (outcome : Result (Unit {0}) GateError) → Rests old → takes_nothing op ≡ true →
+    ensures rests { (op : Op) (old left : SeatedTask) (outcome : Result (Unit {0}) GateError) → Rests old → takes_nothing op ≡ true →
         Performs op old left outcome → Rests left }
 {}
 

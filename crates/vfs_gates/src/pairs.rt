@@ -2,7 +2,7 @@
 
 ghost use Rattle.std.specs.Prelude.{◌≡◌, Ok};
 ghost use Rattle.std.specs.Fn.{FnOnceReturnsAtMut, FnOnceTakesAtMut};
-ghost use Rattle.vfs_gates.specs.TaskStates.{TaskState};
+ghost use Rattle.vfs_gates.specs.TaskStates.{SeatedTask};
 
 use crate::gates::Gates;
 use crate::task::Task;
@@ -32,9 +32,9 @@ impl Task {
         inside: F,
     ) -> Result<T, GateError>
         requires from { IsFrom self.old gates.now }
-        requires callable { (there : TaskState) → IsFrom there gates.now → Performs (WantWrite mount cpu) self.old there (Ok tt) →
+        requires callable { (there : SeatedTask) → IsFrom there gates.now → Performs (WantWrite mount cpu) self.old there (Ok tt) →
             FnOnceTakesAtMut F.FnOnce inside there }
-        requires keeps { (there mid : TaskState) (answer : T) → IsIdle there → Performs (WantWrite mount cpu) self.old there (Ok tt) →
+        requires keeps { (there mid : SeatedTask) (answer : T) → IsIdle there → Performs (WantWrite mount cpu) self.old there (Ok tt) →
             FnOnceReturnsAtMut F.FnOnce inside there answer mid → IsAsBefore there mid }
         ensures from { IsFrom self.new gates.now }
         ensures written { WithWrite (FnOnceReturnsAtMut F.FnOnce inside) mount cpu self.old self.new result }
@@ -64,9 +64,9 @@ impl Task {
         inside: F,
     ) -> Result<(T, Result<(), GateError>), GateError>
         requires from { IsFrom self.old gates.now }
-        requires callable { (there : TaskState) → IsFrom there gates.now → Performs (FreezeOp holder) self.old there (Ok tt) →
+        requires callable { (there : SeatedTask) → IsFrom there gates.now → Performs (FreezeOp holder) self.old there (Ok tt) →
             FnOnceTakesAtMut F.FnOnce inside there }
-        requires keeps { (there mid : TaskState) (answer : T) → IsIdle there → Performs (FreezeOp holder) self.old there (Ok tt) →
+        requires keeps { (there mid : SeatedTask) (answer : T) → IsIdle there → Performs (FreezeOp holder) self.old there (Ok tt) →
             FnOnceReturnsAtMut F.FnOnce inside there answer mid → IsAsBefore there mid }
         ensures from { IsFrom self.new gates.now }
         ensures frozen { WithFreeze (FnOnceReturnsAtMut F.FnOnce inside) H.answers holder self.old self.new result hooks.old hooks.new }

@@ -4,7 +4,7 @@ ghost use Rattle.std.specs.Prelude.{◌≡◌, ◌≤◌, ◌<◌, ◌↔◌, �
 ghost use Rattle.gate_world.specs.Configs.{IsWithin};
 ghost use Rattle.gate_world.specs.declared.operations.Op.{Op as OpType};
 ghost use Rattle.gate_world.specs.declared.work.Phase.{Phase as PhaseType};
-ghost use Rattle.vfs_gates.specs.TaskStates.{TaskState, IsNothing};
+ghost use Rattle.vfs_gates.specs.TaskStates.{SeatedTask, IsNothing};
 ghost use Rattle.gate_steps.specs.Rules.{first_known};
 ghost use Rattle.access_model.specs.Replies.{map_next};
 ghost use Rattle.gate_world.specs.Views.{phase_after};
@@ -65,12 +65,12 @@ pub struct Task {
 
 impl Model for Task {
     ghost use Rattle.std.specs.Prelude.{◌≡◌, []};
-    ghost use Rattle.vfs_gates.specs.TaskStates.{TaskState, own_number, own_view, task_state};
+    ghost use Rattle.vfs_gates.specs.TaskStates.{SeatedTask, own_number, own_view, task_state};
     ghost use Rattle.vfs_gates.specs.Buffers.{BuffersMatch};
     ghost use Rattle.vfs_gates.specs.Waits.{WaitsTell};
     ghost use Rattle.gate_steps.specs.call_events.GhostAgrees.{GhostAgrees};
 
-    ghost Value = { TaskState };
+    ghost Value = { SeatedTask };
 
     ghost view = { λ t. task_state t.seat.table_id t.config t.begins t.kept.phase t.seat.me.0 };
 
@@ -229,7 +229,7 @@ impl Task {
         ensures idle { IsIdle self.old → (self.new ≡ self.old) × (result ≡ idle_step) }
         ensures event { (phase : PhaseType) → self.old.phase ≡ Some phase → Stepped phase hook self.old result self.new }
         // An operation that has begun so goes on, says that it waits only where it may, or was done whole.
-        ensures told { (op : OpType) (start : TaskState) → Goes op start self.old → StepTells op start result.progress self.new }
+        ensures told { (op : OpType) (start : SeatedTask) → Goes op start self.old → StepTells op start result.progress self.new }
     {
         let Some(phase) = self.kept.phase else {
             return Step::idle();

@@ -2,7 +2,7 @@
 
 ghost use Rattle.std.specs.Prelude.{◌≡◌, true, false, IfOk};
 ghost use Rattle.gate_world.specs.declared.operations.Op.{Op as OpType};
-ghost use Rattle.vfs_gates.specs.TaskStates.{TaskState};
+ghost use Rattle.vfs_gates.specs.TaskStates.{SeatedTask};
 ghost use Rattle.gate_steps.specs.call_events.Runs.{told_as, ran_of, IsRanReply, Goes};
 
 use crate::calls::{outcome, waits};
@@ -50,7 +50,7 @@ impl Task {
         gates: &Gates,
     ) -> Result<Reply, GateError>
         requires { IsFrom self.old gates.now }
-        ensures { (op : OpType) (start : TaskState) → Goes op start self.old → Called op start self.new result }
+        ensures { (op : OpType) (start : SeatedTask) → Goes op start self.old → Called op start self.new result }
     {
         let backoff = Backoff::new();
         for _ in rt.forever() {

@@ -20,32 +20,32 @@ use Rattle.gate_runs.specs.run_parts.Refusals.{EndsCreate, EndsFreeze, EndsGrow,
 use Rattle.gate_runs.specs.run_parts.Rounds.{Does, IsRefused}
 use Rattle.vfs_gates.specs.Held.{Rests, own_actions, takes_nothing}
 use Rattle.vfs_gates.specs.Runs.{Called, Performs, Replies, told_as}
-use Rattle.vfs_gates.specs.TaskStates.{TaskState, refusal_at}
+use Rattle.vfs_gates.specs.TaskStates.{SeatedTask, refusal_at}
 use Rattle.vfs_gates.proofs.Holding.{adds, as_before_twice, keeps, refused_call_keeps, rests_on, unchanged}
 use Rattle.vfs_gates.proofs.Returning.{done_idle, return_restores, was_done}
 
 -- a call that takes nothing leaves a task at rest, whatever it answers
-pub rests_by : {A : Type 0} (read : Reply → A) (op : Op) (first last : TaskState) (outcome : Result A GateError) → takes_nothing op ≡ true →
+pub rests_by : {A : Type 0} (read : Reply → A) (op : Op) (first last : SeatedTask) (outcome : Result A GateError) → takes_nothing op ≡ true →
     Rests first → Replies read op first last outcome → Rests last
 rests_by read op first last outcome none rests did = rests_on first last rests (keeps read op first last outcome rests.0 did none)
 
 -- and so does one that is refused
-pub rests_refused : (op : Op) (refusal : GateError) (first last : TaskState) → Rests first → IsRefused op refusal first last → Rests last
+pub rests_refused : (op : Op) (refusal : GateError) (first last : SeatedTask) → Rests first → IsRefused op refusal first last → Rests last
 rests_refused op refusal first last rests did = rests_on first last rests (refused_call_keeps _ op first last refusal rests.0 did)
 
 -- one that its task might begin, and that is refused, was done whole
-whole : {A : Type 0} (read : Reply → A) (op : Op) (first last : TaskState) (refusal : GateError) (answer : Result Reply GateError) →
+whole : {A : Type 0} (read : Reply → A) (op : Op) (first last : SeatedTask) (refusal : GateError) (answer : Result Reply GateError) →
     ◌≡◌ {A = Result A GateError} (Err refusal) (told_as read answer) → Called op first last answer → Called op first last (Err refusal)
 whole read op first last refusal (Ok reply) told k = absurd (let f : ⊥ = cc in f)
 whole read op first last refusal (Err cause) told k =
     let same : cause ≡ refusal = cc in subst (λ e. Called op first last (Err e)) same k
 
-pub was_whole : {A : Type 0} (read : Reply → A) (op : Op) (first last : TaskState) (refusal : GateError) → refusal_at op first ≡ None →
+pub was_whole : {A : Type 0} (read : Reply → A) (op : Op) (first last : SeatedTask) (refusal : GateError) → refusal_at op first ≡ None →
     Replies read op first last (Err refusal) → Called op first last (Err refusal)
 was_whole read op first last refusal began did = let done = did.done began in whole read op first last refusal done.0 done.1 done.2
 
 -- by a task of some gates that stood so
-pub was_refused : {A : Type 0} (read : Reply → A) (config : Config) (op : Op) (first last : TaskState) (refusal : GateError) →
+pub was_refused : {A : Type 0} (read : Reply → A) (config : Config) (op : Op) (first last : SeatedTask) (refusal : GateError) →
     first.config ≡ config → StandsFor op first → refusal_at op first ≡ None → Replies read op first last (Err refusal) →
     WasRefused config op refusal
 was_refused read config op first last refusal of stands began did = record {
@@ -63,7 +63,7 @@ pub met : (config : Config) (tasks : ℕ) (op : Op) (refusal : GateError) → Ma
 met config tasks op refusal may was = record { op = op; its = may; was = was }
 
 -- write access that a task at rest takes
-pub want_begins : (cpu : ℕ) (s : TaskState) → Rests s → 0 < s.config.mounts → cpu < s.config.processors → refusal_at (WantWrite 0 cpu) s ≡ None
+pub want_begins : (cpu : ℕ) (s : SeatedTask) → Rests s → 0 < s.config.mounts → cpu < s.config.processors → refusal_at (WantWrite 0 cpu) s ≡ None
 want_begins cpu s rests mount there = rw (
   rests.0,
   lt-ltb 0 s.config.mounts mount,
@@ -80,12 +80,12 @@ want_ends cpu c trace ReadOnly honest = refl
 want_ends cpu c trace refusal honest = absurd honest
 
 -- is refused as read-only alone
-pub want_read_only : (cpu : ℕ) (first last : TaskState) (refusal : GateError) → Called (WantWrite 0 cpu) first last (Err refusal) →
+pub want_read_only : (cpu : ℕ) (first last : SeatedTask) (refusal : GateError) → Called (WantWrite 0 cpu) first last (Err refusal) →
     refusal ≡ ReadOnly
 want_read_only cpu first last refusal k = want_ends cpu first.config k.trace refusal k.honest
 
 -- and is inside it when it is granted
-pub is_inside : (cpu : ℕ) (first last : TaskState) → Rests first → Does (WantWrite 0 cpu) first last → HasWriteAccess last
+pub is_inside : (cpu : ℕ) (first last : SeatedTask) → Rests first → Does (WantWrite 0 cpu) first last → HasWriteAccess last
 is_inside cpu first last rests took = record {
   cpu = cpu;
   before = first;
@@ -96,7 +96,7 @@ is_inside cpu first last rests took = record {
 }
 
 -- after a call that takes nothing it still is
-pub inside_by : {A : Type 0} (read : Reply → A) (op : Op) (first last : TaskState) (outcome : Result A GateError) → takes_nothing op ≡ true →
+pub inside_by : {A : Type 0} (read : Reply → A) (op : Op) (first last : SeatedTask) (outcome : Result A GateError) → takes_nothing op ≡ true →
     HasWriteAccess first → Replies read op first last outcome → HasWriteAccess last
 inside_by read op first last outcome none held did = record {
   cpu = held.cpu;
@@ -108,7 +108,7 @@ inside_by read op first last outcome none held did = record {
 }
 
 -- It is given back on any processor that there is, without a refusal, and the task rests again.
-pub gives_back : (q : ℕ) (first last : TaskState) (outcome : Result (Unit {0}) GateError) → HasWriteAccess first →
+pub gives_back : (q : ℕ) (first last : SeatedTask) (outcome : Result (Unit {0}) GateError) → HasWriteAccess first →
     q < first.config.processors → Performs (DropWrite 0 q) first last outcome → (outcome ≡ Ok tt) × Rests last
 gives_back q first last outcome held there did =
     let cpu : q < held.before.config.processors = subst (λ d. q < d.processors) (held.since.config ∙ held.took.config) there in
@@ -122,7 +122,7 @@ some_access (suc zero) held mount some = lt-ltb 0 (held 0) some
 some_access (suc (suc n)) held mount some = rw (some_access (suc n) held (omega arith) some) refl
 
 -- A task inside write access may change the tree.
-module _ (s : TaskState) (held : HasWriteAccess s) (mount : 0 < s.config.mounts) where
+module _ (s : SeatedTask) (held : HasWriteAccess s) (mount : 0 < s.config.mounts) where
   holds_then : holdings_of (own_actions s) ≡
       held_after (Some (Grant (Mount 0))) (held_after (Some (Grant (Level 1))) (holdings_of (own_actions held.before)))
   holds_then =
@@ -152,7 +152,7 @@ create_ends c trace NoSpace honest = tt
 create_ends c trace Again honest = tt
 create_ends c trace refusal honest = absurd honest
 
-pub create_refused : (first last : TaskState) (refusal : GateError) → Called (Create 0 File) first last (Err refusal) → EndsCreate refusal
+pub create_refused : (first last : SeatedTask) (refusal : GateError) → Called (Create 0 File) first last (Err refusal) → EndsCreate refusal
 create_refused first last refusal k = create_ends first.config k.trace refusal k.honest
 
 -- and a growth, where it isn't tried again
@@ -164,12 +164,12 @@ grow_ends file c trace NoSpace other honest = tt
 grow_ends file c trace Again other honest = absurd (other refl)
 grow_ends file c trace refusal other honest = absurd honest
 
-pub grow_refused : (file : ℕ) (first last : TaskState) (refusal : GateError) → ¬ (refusal ≡ Again) →
+pub grow_refused : (file : ℕ) (first last : SeatedTask) (refusal : GateError) → ¬ (refusal ≡ Again) →
     Called (Grow file 1) first last (Err refusal) → EndsGrow refusal
 grow_refused file first last refusal other k = grow_ends file first.config k.trace refusal other k.honest
 
 -- A task at rest may freeze, take a snapshot and thaw.
-module _ (s : TaskState) (rests : Rests s) where
+module _ (s : SeatedTask) (rests : Rests s) where
   pub freeze_begins : refusal_at (Freeze User) s ≡ None
   freeze_begins = rw (
     rests.0,
@@ -200,7 +200,7 @@ freeze_ends c trace Busy honest = tt
 freeze_ends c trace (Hook code) honest = tt
 freeze_ends c trace refusal honest = absurd honest
 
-pub freeze_refused : (first last : TaskState) (refusal : GateError) → Called (Freeze User) first last (Err refusal) → EndsFreeze refusal
+pub freeze_refused : (first last : SeatedTask) (refusal : GateError) → Called (Freeze User) first last (Err refusal) → EndsFreeze refusal
 freeze_refused first last refusal k = freeze_ends first.config k.trace refusal k.honest
 
 thaw_ends : (c : Config) (trace : List Traced) (refusal : GateError) → IsHonestAnswer c (Thaw User) (Err refusal) trace → EndsThaw refusal
@@ -208,7 +208,7 @@ thaw_ends c trace Invalid honest = tt
 thaw_ends c trace (Hook code) honest = tt
 thaw_ends c trace refusal honest = absurd honest
 
-pub thaw_refused : (first last : TaskState) (refusal : GateError) → Called (Thaw User) first last (Err refusal) → EndsThaw refusal
+pub thaw_refused : (first last : SeatedTask) (refusal : GateError) → Called (Thaw User) first last (Err refusal) → EndsThaw refusal
 thaw_refused first last refusal k = thaw_ends first.config k.trace refusal k.honest
 
 snapshot_ends : (c : Config) (trace : List Traced) (refusal : GateError) → IsHonestAnswer c (Snapshot true) (Err refusal) trace → refusal ≡ Invalid
@@ -216,7 +216,7 @@ snapshot_ends c trace Invalid honest = refl
 snapshot_ends c trace Again honest = absurd (let f : ⊥ = cc honest.0 in f)
 snapshot_ends c trace refusal honest = absurd honest
 
-pub snapshot_refused : (first last : TaskState) (refusal : GateError) → Called (Snapshot true) first last (Err refusal) → refusal ≡ Invalid
+pub snapshot_refused : (first last : SeatedTask) (refusal : GateError) → Called (Snapshot true) first last (Err refusal) → refusal ≡ Invalid
 snapshot_refused first last refusal k = snapshot_ends first.config k.trace refusal k.honest
 
 -- No call ends a run as Order, nor as TooMany.

@@ -5,7 +5,7 @@ use Rattle.access_model.specs.declared.errors.GateError.{GateError}
 use Rattle.access_model.specs.declared.errors.GateError.TheVariants.{ReadOnly}
 use Rattle.gate_world.specs.declared.operations.Op.{Op}
 use Rattle.gate_world.specs.declared.operations.Op.TheVariants.{WantWrite, DropWrite}
-use Rattle.vfs_gates.specs.TaskStates.{TaskState}
+use Rattle.vfs_gates.specs.TaskStates.{SeatedTask}
 use Rattle.vfs_gates.specs.Runs.{Performs}
 use Rattle.gate_runs.specs.run_parts.Counts.{counted}
 use Rattle.gate_runs.specs.run_parts.Rounds.{Closes, CreatesFile, CreatesFiles, Does, IsRefused, Repeats, Retries, Takes, Waits}
@@ -17,7 +17,7 @@ one_more Round k first mid last so_far next =
     let is : suc k ≡ k + 1 = omega arith in subst (λ n. Repeats Round n first last) is (mid, so_far, next)
 
 -- files that were created, and the access that is given back
-pub created : (writers : ℕ) (first held made last : TaskState) → Does (WantWrite 0 0) first held → Repeats (λ k. CreatesFile) writers held made →
+pub created : (writers : ℕ) (first held made last : SeatedTask) → Does (WantWrite 0 0) first held → Repeats (λ k. CreatesFile) writers held made →
     (answer : Result (Unit {0}) GateError) → Performs (DropWrite 0 0) made last answer → OnOk answer (CreatesFiles writers first last)
 created writers first held made last took creates (Ok unit) gave = record {
   held = held;
@@ -29,13 +29,13 @@ created writers first held made last took creates (Ok unit) gave = record {
 created writers first held made last took creates (Err refusal) gave = tt
 
 -- a call that was refused again and again, and then was done, and how often it was refused
-pub answered : (op : Op) (refusal : GateError) (first mid last : TaskState) (tries tried : ℕ) →
+pub answered : (op : Op) (refusal : GateError) (first mid last : SeatedTask) (tries tried : ℕ) →
     Repeats (λ k. IsRefused op refusal) tries first mid → Does op mid last → tried ≡ counted tries →
     (did : Retries op refusal first last) × (tried ≡ counted did.0)
 answered op refusal first mid last tries tried so_far did counts = ((tries, mid, so_far, did), counts)
 
 -- the same of write access, with the waits so far
-pub taken : (cpu : ℕ) (first mid last : TaskState × ℕ) (tries tried : ℕ) →
+pub taken : (cpu : ℕ) (first mid last : SeatedTask × ℕ) (tries tried : ℕ) →
     Repeats (λ k. Waits (IsRefused (WantWrite 0 cpu) ReadOnly)) tries first mid → Waits (Does (WantWrite 0 cpu)) mid last → tried ≡ counted tries →
     (did : Takes cpu first last) × (tried ≡ counted did.0)
 taken cpu first mid last tries tried so_far did counts = ((tries, mid, so_far, did), counts)
@@ -48,6 +48,6 @@ pub counted_more : (n : ℕ) → min (counted n + 1) (2 ^ 64 - 1) ≡ counted (n
 counted_more n = stands_still (2 ^ 64 - 1) n
 
 -- a mount is busy once at most
-pub busy_once : (busy : ℕ) (first last : TaskState) → Closes busy first last → busy ≤ 1
+pub busy_once : (busy : ℕ) (first last : SeatedTask) → Closes busy first last → busy ≤ 1
 busy_once busy first last (inl done) = let none : busy ≡ 0 = done.1 in omega arith
 busy_once busy first last (inr was) = let one : busy ≡ 1 = was.1 in omega arith

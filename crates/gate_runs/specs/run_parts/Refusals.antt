@@ -9,20 +9,20 @@ use Rattle.gate_world.specs.declared.operations.Op.{Op}
 use Rattle.gate_world.specs.declared.operations.Op.TheVariants.{WantWrite, Freeze, Thaw, Create, Grow, Snapshot}
 use Rattle.vfs_gates.specs.Held.{Rests, IsAsBefore}
 use Rattle.vfs_gates.specs.Runs.{Called}
-use Rattle.vfs_gates.specs.TaskStates.{TaskState, refusal_at}
+use Rattle.vfs_gates.specs.TaskStates.{SeatedTask, refusal_at}
 use Rattle.gate_runs.specs.run_parts.Rounds.{Does}
 
 -- A task that was granted write access when it rested, and holds since then just what the grant left it.
-pub record HasWriteAccess (s : TaskState) : Type 0 where
+pub record HasWriteAccess (s : SeatedTask) : Type 0 where
   pub cpu : ℕ
-  pub before : TaskState
-  pub granted : TaskState
+  pub before : SeatedTask
+  pub granted : SeatedTask
   pub rests : Rests before
   pub took : Does (WantWrite 0 cpu) before granted
   pub since : IsAsBefore granted s
 
 -- how a run's task stands when it makes a call: inside its write access where it changes the tree, and else at rest
-abbrev pub StandsFor : Op → TaskState → Type 0
+abbrev pub StandsFor : Op → SeatedTask → Type 0
 StandsFor (Create dir kind) s = HasWriteAccess s
 StandsFor (Grow file blocks) s = HasWriteAccess s
 StandsFor op s = Rests s
@@ -69,8 +69,8 @@ MayEnd tasks op refusal = ⊥
 -- A task of gates with this configuration, which stood as a run's task does, might begin this operation, and the whole operation was refused so: its
 -- cause is in its trace.
 pub record WasRefused (config : Config) (op : Op) (refusal : GateError) : Type 0 where
-  pub first : TaskState
-  pub last : TaskState
+  pub first : SeatedTask
+  pub last : SeatedTask
   pub of : first.config ≡ config
   pub stands : StandsFor op first
   pub began : refusal_at op first ≡ None

@@ -7,16 +7,16 @@ use vfs_gates::Task;
 /// none, so the notes that it gives back tell which calls it made, in which order, and how the task stood at each.
 pub trait NotedObserver {
     ghost use Rattle.std.specs.Prelude.{ℕ};
-    ghost use Rattle.vfs_gates.specs.TaskStates.{TaskState};
+    ghost use Rattle.vfs_gates.specs.TaskStates.{SeatedTask};
 
     /// What a task notes.
     type Notes;
 
     /// What a call of `holding` by a task that stands so, in this round, may make of its notes.
-    ghost meets: { Self → TaskState → ℕ → Self.Notes → Self.Notes → Type 0 };
+    ghost meets: { Self → SeatedTask → ℕ → Self.Notes → Self.Notes → Type 0 };
 
     /// What a call of `frozen` by a task that stands so, at this freeze, makes of the notes.
-    ghost sees: { Self → TaskState → ℕ → Self.Notes → Self.Notes → Type 0 };
+    ghost sees: { Self → SeatedTask → ℕ → Self.Notes → Self.Notes → Type 0 };
 
     /// Called by each writer in each round, from 0, between the grant of its write access and its return.
     fn holding(&self, task: &Task, round: u32, notes: &mut Self::Notes)

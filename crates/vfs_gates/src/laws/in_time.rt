@@ -18,18 +18,18 @@ ghost use Rattle.gate_steps.specs.call_events.Spans.{AreInOrder, HasItsCauseDuri
 ghost use Rattle.vfs_gates.specs.Ended.{EndedWith, IsLeftAfter};
 ghost use Rattle.vfs_gates.specs.Handed.{ComesAfter};
 ghost use Rattle.vfs_gates.specs.Parts.{SplitOf};
-ghost use Rattle.vfs_gates.specs.TaskStates.{TaskState, own_number, own_view};
+ghost use Rattle.vfs_gates.specs.TaskStates.{SeatedTask, own_number, own_view};
 
 /// What a task has seen it has seen still after each of its calls, and so have both tasks after a split, and a task that another was joined to has
 /// seen what either had. So what a thread did before its task was joined lies behind the task that goes on, and what was done before a split
 /// behind the new one.
 pub fn what_was_seen_stays_seen()
-    ensures calls { (op : Op) (old left : TaskState) (answer : Result Reply GateError) → Called op old left answer →
+    ensures calls { (op : Op) (old left : SeatedTask) (answer : Result Reply GateError) → Called op old left answer →
         StaySeen old.seen left.seen }
-    ensures splits { (old left other : TaskState) → SplitOf old left other → StaySeen old.seen left.seen × StaySeen old.seen other.seen }
-    ensures joins { (first second joined : TaskState) → joined.seen ≡ first.seen ++ second.seen →
+    ensures splits { (old left other : SeatedTask) → SplitOf old left other → StaySeen old.seen left.seen × StaySeen old.seen other.seen }
+    ensures joins { (first second joined : SeatedTask) → joined.seen ≡ first.seen ++ second.seen →
         StaySeen first.seen joined.seen × StaySeen second.seen joined.seen }
-    ensures further { (first second third : TaskState) → StaySeen first.seen second.seen → StaySeen second.seen third.seen →
+    ensures further { (first second third : SeatedTask) → StaySeen first.seen second.seen → StaySeen second.seen third.seen →
         StaySeen first.seen third.seen }
 {}
 
@@ -45,7 +45,7 @@ pub fn closed_gates_are_left_after_all_that_was_seen()
 /// history that it leaves, the actions that were added since the call began come after all that stood there when it did, and the task's own among
 /// them are exactly the call's.
 pub fn a_call_takes_effect_between_call_and_return()
-    ensures { (op : Op) (old left : TaskState) (answer : Result Reply GateError) (called : Called op old left answer) →
+    ensures { (op : Op) (old left : SeatedTask) (answer : Result Reply GateError) (called : Called op old left answer) →
         TakesEffect old.config old.items op called.trace old.seen left.seen called.history.history.log }
 {}
 
@@ -53,7 +53,7 @@ pub fn a_call_takes_effect_between_call_and_return()
 /// it added comes after all that the first one added. So it is of two calls of one task, and of calls of two tasks, where the first one's was
 /// joined, or the second one's split off, between the two.
 pub fn calls_take_effect_in_order()
-    ensures { (one two : Op) (old left begins ends : TaskState) (answer reply : Result Reply GateError)
+    ensures { (one two : Op) (old left begins ends : SeatedTask) (answer reply : Result Reply GateError)
         (first : Called one old left answer) (second : Called two begins ends reply) → begins.config ≡ old.config →
         StaySeen left.seen begins.seen →
         AreInOrder (own_number old.items) (state_of_trace old.config (own_number old.items) one first.trace).added
@@ -65,7 +65,7 @@ pub fn calls_take_effect_in_order()
 /// task had seen when it called, and with that event it returns. So a want is ReadOnly only if the mount was read-only at a moment of the call, and
 /// not for what had been undone before it.
 pub fn a_refused_call_has_its_cause_between_call_and_return()
-    ensures { (op : Op) (old left : TaskState) (refusal : GateError) (called : Called op old left (Err refusal)) →
+    ensures { (op : Op) (old left : SeatedTask) (refusal : GateError) (called : Called op old left (Err refusal)) →
         HasItsCauseDuring old.config old.items op called.trace refusal old.seen left.seen }
 {}
 
@@ -73,7 +73,7 @@ pub fn a_refused_call_has_its_cause_between_call_and_return()
 /// the tree were those that the snapshot has. The schedule of that moment goes on from all that the task had seen when it called, so what had been
 /// done by then is in the tree.
 pub fn a_snapshot_is_of_a_freeze_that_stood_during_the_call()
-    ensures { (wait : Bool) (old left : TaskState) (reply : Reply) (s : Snapshot) → 1 ≤ length old.items →
+    ensures { (wait : Bool) (old left : SeatedTask) (reply : Reply) (s : Snapshot) → 1 ≤ length old.items →
         Called (SnapshotOp wait) old left (Ok reply) → (own_view left.items).snapshot ≡ Some s →
         IsTreeDuring old.config old.items (SnapshotOp wait) old.seen left.seen s.loaded }
 {}
@@ -81,7 +81,7 @@ pub fn a_snapshot_is_of_a_freeze_that_stood_during_the_call()
 /// A call of a task to which another was joined comes after all that the other had done: in the history that the
 /// call leaves, the other's whole list stands before all that was added since the call began.
 pub fn a_call_comes_after_what_was_joined()
-    ensures { (op : Op) (first other joined left : TaskState) (answer : Result Reply GateError) →
+    ensures { (op : Op) (first other joined left : SeatedTask) (answer : Result Reply GateError) →
         joined.items ≡ first.items ++ other.items → 1 ≤ length first.items → 1 ≤ length other.items → Called op joined left answer →
         ComesAfter other joined left }
 {}

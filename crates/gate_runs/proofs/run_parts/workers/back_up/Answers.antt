@@ -8,7 +8,7 @@ use Rattle.gate_world.specs.declared.operations.Op.TheVariants.{Freeze, Snapshot
 use Rattle.run_plans.specs.declared.counts.Copies.{Copies}
 use Rattle.vfs_gates.specs.Held.{Rests}
 use Rattle.vfs_gates.specs.Runs.{Performs}
-use Rattle.vfs_gates.specs.TaskStates.{TaskState}
+use Rattle.vfs_gates.specs.TaskStates.{SeatedTask}
 use Rattle.gate_runs.specs.run_parts.Refusals.{WasRefused}
 use Rattle.gate_runs.proofs.run_parts.Answering.{freeze_begins, freeze_refused, met, rests_by, thaw_begins, thaw_refused, was_refused}
 use Rattle.gate_runs.proofs.run_parts.Repeating.{one_more}
@@ -17,10 +17,10 @@ use Rattle.gate_runs.specs.run_parts.Rounds.{BackupRound, CallsBack, Repeats}
 use Rattle.gate_runs.proofs.run_parts.workers.back_up.Goals as goal
 
 -- a freeze and a thaw leave the task at rest
-frozen_rests : (first last : TaskState) (outcome : Result (Unit {0}) GateError) → Rests first → Performs (Freeze User) first last outcome → Rests last
+frozen_rests : (first last : SeatedTask) (outcome : Result (Unit {0}) GateError) → Rests first → Performs (Freeze User) first last outcome → Rests last
 frozen_rests first last outcome rests did = rests_by _ (Freeze User) first last outcome refl rests did
 
-thawed_rests : (first last : TaskState) (outcome : Result (Unit {0}) GateError) → Rests first → Performs (Thaw User) first last outcome → Rests last
+thawed_rests : (first last : SeatedTask) (outcome : Result (Unit {0}) GateError) → Rests first → Performs (Thaw User) first last outcome → Rests last
 thawed_rests first last outcome rests did = rests_by _ (Thaw User) first last outcome refl rests did
 
 pub freeze-requires : goal.freeze-requires

@@ -1,7 +1,7 @@
 -- one level more
 use Rattle.std.proofs.Common.{rules, ◌≡◌, ℕ, ◌+◌, ◌-◌, ◌≤◌, Bool, true, false, arith, refl, subst, ◌∙◌}
 use Rattle.gate_world.specs.declared.operations.Op.TheVariants.{Callback}
-use Rattle.vfs_gates.specs.TaskStates.{TaskState}
+use Rattle.vfs_gates.specs.TaskStates.{SeatedTask}
 use Rattle.gate_runs.specs.run_parts.Counts.{with_ran}
 use Rattle.vfs_gates.proofs.CallingBack.{never_refused}
 use Rattle.gate_runs.proofs.run_parts.Answering.{rests_by}
@@ -21,7 +21,7 @@ loop-level-preserved g c =
     let next : k + 1 ≡ c.loop-level.level + 1 - 1 = omega (arith, c.loop-level.auto.level) in
     let counts : c.loop-level.ran + c.from.result ≡ with_ran c.in_ok-callback.field-0 c.loop-level.ran = search rules in
     let once = ran_once c.in_ok-callback.field-0 c.loop-level.ran in
-    let then : TaskState × ℕ × ℕ = (c.callback.new.self, c.loop-level.ran + c.from.result, c.with_waits-waits.result) in
+    let then : SeatedTask × ℕ × ℕ = (c.callback.new.self, c.loop-level.ran + c.from.result, c.with_waits-waits.result) in
     let ran : CallsBack (k + 1) (c.loop-level.task, c.loop-level.ran, c.loop-level.waits) then =
     subst (λ n. CallsBack n (c.loop-level.task, c.loop-level.ran, c.loop-level.waits) then) level
     (c.in_ok-callback.field-0, c.in_ok-callback.ensures, counts, c.with_waits-waits.ensures) in

@@ -7,7 +7,7 @@ use Rattle.gate_world.specs.declared.config.Config.{Config}
 use Rattle.gate_world.specs.declared.operations.Op.TheVariants.{Create, DropWrite, WantWrite}
 use Rattle.vfs_gates.specs.Held.{Rests}
 use Rattle.vfs_gates.specs.Runs.{Performs}
-use Rattle.vfs_gates.specs.TaskStates.{IsFrom, TaskState}
+use Rattle.vfs_gates.specs.TaskStates.{IsFrom, SeatedTask}
 use Rattle.vfs_gates.specs.declared.Gates.{Gates}
 use Rattle.vfs_gates.proofs.Resting.{some_mount, some_processor}
 use Rattle.gate_runs.proofs.run_parts.Answering.{create_begins, create_refused, gives_back, inside_by, is_inside, met, want_begins, want_read_only, was_refused}
@@ -17,7 +17,7 @@ use Rattle.gate_runs.specs.run_parts.Rounds.{CreatesFile, Repeats}
 use Rattle.gate_runs.proofs.run_parts.workers.create_files.Goals as goal
 
 -- the access is given back without a refusal
-given_back : (first last : TaskState) (gates : Gates) → IsFrom first gates → HasWriteAccess first → {outcome : Result (Unit {0}) GateError} →
+given_back : (first last : SeatedTask) (gates : Gates) → IsFrom first gates → HasWriteAccess first → {outcome : Result (Unit {0}) GateError} →
     Performs (DropWrite 0 0) first last outcome → (outcome ≡ Ok tt) × Rests last
 given_back first last gates from held {outcome = outcome} did = gives_back 0 first last outcome held (some_processor first gates from) did
 

@@ -8,7 +8,7 @@ use Rattle.std.proofs.lemmas.Result.{err_from_is_err_and}
 use Rattle.gate_world.specs.declared.operations.Op.TheVariants.{DropWrite, Grow}
 use Rattle.vfs_gates.specs.Held.{Rests}
 use Rattle.vfs_gates.specs.Runs.{Performs}
-use Rattle.vfs_gates.specs.TaskStates.{TaskState}
+use Rattle.vfs_gates.specs.TaskStates.{SeatedTask}
 use Rattle.vfs_gates.proofs.CallingBack.{none_err}
 use Rattle.gate_runs.specs.run_parts.Refusals.{HasWriteAccess}
 use Rattle.gate_runs.proofs.run_parts.Answering.{gives_back, met}
@@ -18,7 +18,7 @@ use Rattle.gate_runs.specs.run_parts.Rounds.{Does, Takes, WriterRound}
 use Rattle.gate_runs.proofs.run_parts.workers.write.Goals as goal
 
 -- write access is given back without a refusal, on a processor that there is
-given_back : (q : ℕ) (config : Config) (first last : TaskState) (outcome : Result (Unit {0}) GateError) → q < config.processors →
+given_back : (q : ℕ) (config : Config) (first last : SeatedTask) (outcome : Result (Unit {0}) GateError) → q < config.processors →
     first.config ≡ config → HasWriteAccess first → Performs (DropWrite 0 q) first last outcome → (outcome ≡ Ok tt) × Rests last
 given_back q config first last outcome there of held did =
     gives_back q first last outcome held (subst (λ d. q < d.processors) (sym of) there) did

@@ -3,7 +3,7 @@ use Rattle.std.proofs.Common.{List, sym, ap, subst}
 use Rattle.gate_world.specs.declared.entries.Entry.{Entry}
 use Rattle.gate_steps.specs.call_events.Grown.{StaySeen}
 use Rattle.gate_steps.proofs.call_events.Grown.{call_stays_seen, same_stays_seen, both_stay_seen, stays_seen_on}
-use Rattle.vfs_gates.specs.TaskStates.{TaskState}
+use Rattle.vfs_gates.specs.TaskStates.{SeatedTask}
 use Rattle.vfs_gates.proofs.laws.in_time.what_was_seen_stays_seen.Goals as goal
 
 pub returns-clause-calls : goal.returns-clause-calls
@@ -11,8 +11,8 @@ returns-clause-calls c = call_stays_seen
 
 pub returns-clause-splits : goal.returns-clause-splits
 returns-clause-splits c = λ old left other is. (
-  subst (StaySeen old.seen) (ap (λ (s : TaskState). s.seen) (sym is.kept)) (same_stays_seen old.seen),
-  subst (StaySeen old.seen) (ap (λ (s : TaskState). s.seen) (sym is.given)) (same_stays_seen old.seen),
+  subst (StaySeen old.seen) (ap (λ (s : SeatedTask). s.seen) (sym is.kept)) (same_stays_seen old.seen),
+  subst (StaySeen old.seen) (ap (λ (s : SeatedTask). s.seen) (sym is.given)) (same_stays_seen old.seen),
 )
 
 pub returns-clause-joins : goal.returns-clause-joins

@@ -1,7 +1,7 @@
 -- a beginning that is refused, and one that isn't
 use Rattle.std.proofs.Common.{refl, sym, ap}
 use Rattle.std.proofs.lemmas.Result.{err_from_is_err_and}
-use Rattle.vfs_gates.specs.TaskStates.{TaskState}
+use Rattle.vfs_gates.specs.TaskStates.{SeatedTask}
 use Rattle.gate_steps.proofs.call_events.Running.{starts}
 use Rattle.vfs_gates.proofs.Admitting.{admitted_by, refused_by}
 use Rattle.vfs_gates.proofs.Calling.{Call, admitted_call, begun, begun_state}
@@ -26,7 +26,7 @@ returns-in_err-phase-clause-refused c = let p = err_from_is_err_and c.from_resid
 abbrev call : In_ok-phase → Call
 call c =
     admitted_call c.args.op c.self.inside c.self.inside.config c.args.self.now c.self.view_is
-    (sym (ap (λ (s : TaskState). s.config) c.self.view_is)) c.self.invariant.0
+    (sym (ap (λ (s : SeatedTask). s.config) c.self.view_is)) c.self.invariant.0
     c.in_ok-phase.phase c.in_ok-phase.ensures
 
 pub invariant_of-self : goal.invariant_of-self

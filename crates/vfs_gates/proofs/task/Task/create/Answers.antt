@@ -11,7 +11,7 @@ use Rattle.gate_world.specs.declared.views.Traced.{Traced}
 use Rattle.gate_steps.specs.call_events.Runs.{told_as, node_of, the_reply, Replies}
 use Rattle.gate_steps.proofs.call_events.Running.{was_told}
 use Rattle.gate_world.specs.declared.operations.Op.TheVariants.{Create}
-use Rattle.vfs_gates.specs.TaskStates.{TaskState, refusal_at}
+use Rattle.vfs_gates.specs.TaskStates.{SeatedTask, refusal_at}
 use Rattle.vfs_gates.proofs.task.Task.create.Goals as goal
 
 -- an answer that is honest tells of a node
@@ -20,7 +20,7 @@ node_or_not : (dir : ℕ) (kind : Kind) (c : Config) (trace : List Traced) (answ
 node_or_not dir kind c trace (Ok reply) honest = honest
 node_or_not dir kind c trace (Err refusal) honest = tt
 
-replied_node : (dir : ℕ) (kind : Kind) (old left : TaskState) (outcome : Result Reply GateError) →
+replied_node : (dir : ℕ) (kind : Kind) (old left : SeatedTask) (outcome : Result Reply GateError) →
     Replies the_reply (Create dir kind) old left outcome → (o : Option GateError) → refusal_at (Create dir kind) old ≡ o → IfOk outcome IsNodeReply
 replied_node dir kind old left outcome call (Some refusal) at = subst (λ x. IfOk x IsNodeReply) (sym (call.refused refusal at).0) tt
 replied_node dir kind old left outcome call None at =

@@ -1,6 +1,6 @@
 use Rattle.std.proofs.Common.{ℕ, ◌<◌, ◌≤◌, refl, sym, subst}
 use Rattle.gate_steps.specs.Seating.{times}
-use Rattle.vfs_gates.specs.TaskStates.{TaskState}
+use Rattle.vfs_gates.specs.TaskStates.{SeatedTask}
 use Rattle.vfs_gates.proofs.Parting.{all_marked}
 use Rattle.vfs_gates.proofs.task.Task.has_all.Goals as goal
 
@@ -10,5 +10,5 @@ returns-then-rests c =
     let l = all_marked t.number t.config t.begins t.kept t.spare t.seat.me.0.items c.self.invariant.0 in
     let told = c.are_all.ensures in
     let rest = c.if-rests.ensures.0 refl in
-    let P : TaskState → Type 0 = λ s. (n : ℕ) → n < s.config.tasks → 1 ≤ times n s.items in
+    let P : SeatedTask → Type 0 = λ s. (n : ℕ) → n < s.config.tasks → 1 ≤ times n s.items in
     ((λ is. (rest.0, rest.1, subst P c.self.view_is (l.0 (told.0 is)))), (λ h. told.1 (l.1 (subst P (sym c.self.view_is) h.2))))

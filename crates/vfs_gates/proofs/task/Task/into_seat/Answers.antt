@@ -1,6 +1,6 @@
 -- what a task that rests knows rests
 use Rattle.std.proofs.Common.{sym, ap, ◌∙◌, subst}
-use Rattle.vfs_gates.specs.TaskStates.{TaskState, HoldsNothing}
+use Rattle.vfs_gates.specs.TaskStates.{SeatedTask, HoldsNothing}
 use Rattle.gate_steps.specs.call_events.GhostAgrees.{AllRest}
 use Rattle.vfs_gates.proofs.Parting.{all_rest}
 use Rattle.vfs_gates.proofs.task.Task.into_seat.Goals as goal
@@ -8,6 +8,6 @@ use Rattle.vfs_gates.proofs.task.Task.into_seat.Goals as goal
 pub returns-clause-rested : goal.returns-clause-rested
 returns-clause-rested c rests =
     let t = c.self.inside in
-    subst (λ (s : TaskState). AllRest s.config t.seat.me.0.items) c.self.view_is
+    subst (λ (s : SeatedTask). AllRest s.config t.seat.me.0.items) c.self.view_is
     (all_rest t.number t.config t.begins t.kept t.spare t.seat.me.0.items c.self.invariant.0
-    (ap (λ (s : TaskState). s.phase) c.self.view_is ∙ rests.0) (subst HoldsNothing (sym c.self.view_is) rests.1))
+    (ap (λ (s : SeatedTask). s.phase) c.self.view_is ∙ rests.0) (subst HoldsNothing (sym c.self.view_is) rests.1))

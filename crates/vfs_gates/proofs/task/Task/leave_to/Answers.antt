@@ -1,7 +1,7 @@
 use Rattle.std.proofs.Common.{◌≡◌, set, true, length, arith, sym, ap, ◌∙◌, subst, None}
 use Rattle.gate_world.specs.declared.config.Config.{Config}
 use Rattle.gate_steps.specs.Seating.{SeatItems}
-use Rattle.vfs_gates.specs.TaskStates.{TaskState, Empty, own_number, own_view}
+use Rattle.vfs_gates.specs.TaskStates.{SeatedTask, Empty, own_number, own_view}
 use Rattle.gate_steps.specs.call_events.GhostAgrees.{GhostAgrees}
 use Rattle.vfs_gates.proofs.Parting.{join_self, below}
 use Rattle.vfs_gates.proofs.Rooming.{joined_view, room_same}
@@ -10,10 +10,10 @@ use Rattle.vfs_gates.proofs.task.Task.leave_to.Goals as goal
 
 pub invariant_of-task : goal.invariant_of-task
 invariant_of-task c = let mine = c.task.inside in let others = c.self.inside in let rest = c.requires.rest in let seen = c.self.view_is in
-    let idle : others.kept.phase ≡ None = ap (λ (s : TaskState). s.phase) seen ∙ rest.0 in
-    let same : others.config ≡ mine.config = ap (λ (s : TaskState). s.config) seen ∙
-    (c.requires.this.1 ∙ sym (ap (λ (s : TaskState). s.config) c.task.view_is ∙ c.requires.that.1)) in
-    let none : Empty others.config (own_view others.seat.me.0.items) = subst (λ (s : TaskState). Empty s.config (own_view s.items)) (sym seen)
+    let idle : others.kept.phase ≡ None = ap (λ (s : SeatedTask). s.phase) seen ∙ rest.0 in
+    let same : others.config ≡ mine.config = ap (λ (s : SeatedTask). s.config) seen ∙
+    (c.requires.this.1 ∙ sym (ap (λ (s : SeatedTask). s.config) c.task.view_is ∙ c.requires.that.1)) in
+    let none : Empty others.config (own_view others.seat.me.0.items) = subst (λ (s : SeatedTask). Empty s.config (own_view s.items)) (sym seen)
     rest.1 in
     let small = below others.number others.config others.begins others.kept others.spare others.seat.me.0.items c.self.invariant.0 in
     let m = join_self mine.number mine.config mine.begins mine.kept mine.spare others.number others.begins others.kept others.spare

@@ -1,12 +1,12 @@
 -- a task has a number of its own
 use Rattle.std.proofs.Common.{◌≤◌, subst}
 use Rattle.std.specs.Prelude.{length}
-use Rattle.vfs_gates.specs.TaskStates.{TaskState}
+use Rattle.vfs_gates.specs.TaskStates.{SeatedTask}
 use Rattle.vfs_gates.proofs.Parting.{has_own}
 use Rattle.vfs_gates.proofs.task.Task.number.Goals as goal
 
 pub returns-clause-there : goal.returns-clause-there
 returns-clause-there c =
     let t = c.self.inside in
-    subst (λ (s : TaskState). 1 ≤ length s.items) c.self.view_is
+    subst (λ (s : SeatedTask). 1 ≤ length s.items) c.self.view_is
     (has_own t.number t.config t.begins t.kept t.spare t.seat.me.0.items c.self.invariant.0)

@@ -1,5 +1,5 @@
 use Rattle.std.proofs.Common.{refl, sym, subst}
-use Rattle.vfs_gates.specs.TaskStates.{TaskState, Empty, own_view}
+use Rattle.vfs_gates.specs.TaskStates.{SeatedTask, Empty, own_view}
 use Rattle.vfs_gates.proofs.Parting.{holds_same}
 use Rattle.vfs_gates.proofs.task.Task.rests.Goals as goal
 
@@ -8,7 +8,7 @@ returns-then-is_idle c =
     let t = c.self.inside in
     let both = holds_same t.number t.config t.begins t.kept t.spare t.seat.me.0.items c.self.invariant.0 in
     let told = c.holds_nothing.ensures in
-    let P : TaskState → Type 0 = λ s. Empty s.config (own_view s.items) in (
+    let P : SeatedTask → Type 0 = λ s. Empty s.config (own_view s.items) in (
       (λ is. (c.if-is_idle.ensures.0 refl, subst P c.self.view_is (both.0 (told.0 is)))),
       (λ h. told.1 (both.1 (subst P (sym c.self.view_is) h.1))),
     )

@@ -4,7 +4,7 @@ use Rattle.gate_steps.specs.Seating.{SeatItems, times}
 use Rattle.gate_steps.specs.call_events.GhostAgrees.{GhostAgrees}
 use Rattle.vfs_gates.proofs.Parting.{split_self, split_new, lowest_there, none_begun, none_there}
 use Rattle.gate_steps.specs.call_events.TaskState.{TaskState}
-use Rattle.vfs_gates.specs.TaskStates.{TaskState, task_state, own_number, own_view, spare_of, Empty}
+use Rattle.vfs_gates.specs.TaskStates.{SeatedTask, task_state, own_number, own_view, spare_of, Empty}
 use Rattle.vfs_gates.specs.Parts.{SplitOf}
 use Rattle.vfs_gates.proofs.Rooming.{given_unseen, kept_view, room_new, room_same}
 use Rattle.vfs_gates.proofs.Resting.{given_empty}
@@ -45,11 +45,11 @@ returns-clause-made c =
     let n : ℕ = c.in-Some.number in
     let low = c.in-Some.ensures.some in
     let ties = c.self.invariant.0 in
-    let idle : old.kept.phase ≡ None = ap (λ (s : TaskState). s.phase) c.self.view_is ∙ c.if-not-is_idle.ensures.0 refl in
+    let idle : old.kept.phase ≡ None = ap (λ (s : SeatedTask). s.phase) c.self.view_is ∙ c.if-not-is_idle.ensures.0 refl in
     let spares = lowest_there old.number old.config old.begins old.kept old.spare old.seat.me.0.items n ties low.1 low.2 in
     let begun = none_begun old.number old.config old.begins old.kept old.spare old.seat.me.0.items ties idle in
     let given = c.give-seat.ensures in
-    subst (λ (s : TaskState). SplitOf s
+    subst (λ (s : SeatedTask). SplitOf s
     (task_state c.give-seat.new.seat.table_id old.config old.begins old.kept.phase c.give-seat.new.seat.me.0)
     (task_state c.give-seat.result.table_id old.config None c.idle.result.phase c.give-seat.result.me.0)) c.self.view_is
     (record {
@@ -68,7 +68,7 @@ returns-clause-rests c =
     let n : ℕ = c.in-Some.number in
     let low = c.in-Some.ensures.some in
     let ties = c.self.invariant.0 in
-    let idle : old.kept.phase ≡ None = ap (λ (s : TaskState). s.phase) c.self.view_is ∙ c.if-not-is_idle.ensures.0 refl in
+    let idle : old.kept.phase ≡ None = ap (λ (s : SeatedTask). s.phase) c.self.view_is ∙ c.if-not-is_idle.ensures.0 refl in
     let spares = lowest_there old.number old.config old.begins old.kept old.spare old.seat.me.0.items n ties low.1 low.2 in
     let given = given_empty old.number old.config old.begins old.kept old.spare old.seat.me.0.items n ties spares.0 in (
       (
@@ -78,7 +78,7 @@ returns-clause-rests c =
       (λ rests. (
         idle,
         subst (λ (v : View). Empty old.config v) (sym (ap (λ z. own_view z.0.items) c.give-seat.ensures.kept ∙ kept_view n old.seat.me.0.items))
-            (subst (λ (s : TaskState). Empty s.config (own_view s.items)) (sym c.self.view_is) rests.1),
+            (subst (λ (s : SeatedTask). Empty s.config (own_view s.items)) (sym c.self.view_is) rests.1),
       )),
     )
 
@@ -93,7 +93,7 @@ returns-in_default c =
         refl,
         (
           c.if-not-is_idle.ensures.0 refl,
-          λ n. subst (λ (s : TaskState). times n (spare_of s.items) ≡ 0) c.self.view_is
+          λ n. subst (λ (s : SeatedTask). times n (spare_of s.items) ≡ 0) c.self.view_is
               (none_there old.number old.config old.begins old.kept old.spare old.seat.me.0.items c.self.invariant.0 c.in_default.ensures.none n),
         ),
       );
@@ -107,7 +107,7 @@ returns-in_default-new c =
     let low = c.in-Some.ensures.some in
     let spares = lowest_there old.number old.config old.begins old.kept old.spare old.seat.me.0.items n c.self.invariant.0 low.1 low.2 in
     let there : 1 ≤ times n (spare_of c.args.self.now.items) =
-    subst (λ (s : TaskState). 1 ≤ times n (spare_of s.items)) c.self.view_is spares.0 in record {
+    subst (λ (s : SeatedTask). 1 ≤ times n (spare_of s.items)) c.self.view_is spares.0 in record {
       table = refl;
       config = refl;
       from = tt;

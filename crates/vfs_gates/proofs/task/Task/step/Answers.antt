@@ -1,13 +1,13 @@
 -- the event of its kind is the event of the operation
 use Rattle.std.proofs.Common.{sym, ap, ◌∙◌, refl, subst}
 use Rattle.std.proofs.lemmas.Option.{none-some}
-use Rattle.vfs_gates.specs.TaskStates.{TaskState}
+use Rattle.vfs_gates.specs.TaskStates.{SeatedTask}
 use Rattle.gate_steps.proofs.call_events.Running.{told_then}
 use Rattle.gate_world.specs.Configs.{IsWithin}
 use Rattle.vfs_gates.proofs.task.Task.step.Goals as goal
 
 pub step_there-requires-clause-at : goal.step_there-requires-clause-at
-step_there-requires-clause-at c = sym (ap (λ (s : TaskState). s.phase) c.self.view_is) ∙ c.in-Some.is
+step_there-requires-clause-at c = sym (ap (λ (s : SeatedTask). s.phase) c.self.view_is) ∙ c.in-Some.is
 
 pub returns-clause-event : goal.returns-clause-event
 returns-clause-event c = c.step_there.ensures.event
@@ -17,11 +17,11 @@ returns-in_default-clause-idle c idle = (refl, c.idle.ensures)
 
 pub returns-in_default-clause-event : goal.returns-in_default-clause-event
 returns-in_default-clause-event c phase at =
-    absurd (none-some phase (sym c.in_default.is ∙ (ap (λ (s : TaskState). s.phase) c.self.view_is ∙ at)))
+    absurd (none-some phase (sym c.in_default.is ∙ (ap (λ (s : SeatedTask). s.phase) c.self.view_is ∙ at)))
 
 pub returns-clause-idle : goal.returns-clause-idle
 returns-clause-idle c idle =
-    absurd (none-some c.in-Some.phase (sym idle ∙ (sym (ap (λ (s : TaskState). s.phase) c.self.view_is) ∙ c.in-Some.is)))
+    absurd (none-some c.in-Some.phase (sym idle ∙ (sym (ap (λ (s : SeatedTask). s.phase) c.self.view_is) ∙ c.in-Some.is)))
 
 pub returns-clause-told : goal.returns-clause-told
 returns-clause-told c op start goes =
@@ -30,4 +30,4 @@ returns-clause-told c op start goes =
 
 pub returns-in_default-clause-told : goal.returns-in_default-clause-told
 returns-in_default-clause-told c op start goes =
-    absurd (none-some goes.going.0 (sym c.in_default.is ∙ (ap (λ (s : TaskState). s.phase) c.self.view_is ∙ goes.going.1)))
+    absurd (none-some goes.going.0 (sym c.in_default.is ∙ (ap (λ (s : SeatedTask). s.phase) c.self.view_is ∙ goes.going.1)))

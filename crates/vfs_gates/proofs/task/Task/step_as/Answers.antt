@@ -3,7 +3,7 @@ use Rattle.std.proofs.Common.{◌≡◌, ◌+◌, ◌∙◌, sym, ap, refl, subs
 use Rattle.std.specs.Prelude.{Option, Some, None}
 use Rattle.access_model.specs.declared.replies.Next.{Next}
 use Rattle.gate_world.specs.declared.work.Phase.{Phase}
-use Rattle.vfs_gates.specs.TaskStates.{TaskState, task_state}
+use Rattle.vfs_gates.specs.TaskStates.{SeatedTask, task_state}
 use Rattle.gate_steps.specs.call_events.Turns.{kept_at}
 use Rattle.gate_steps.proofs.call_events.Turning.{tied_at, stepped_there}
 use Rattle.access_model.specs.Replies.{map_next}
@@ -18,8 +18,8 @@ pub do_event-action-requires-clause-tied : goal.do_event-action-requires-clause-
 do_event-action-requires-clause-tied g c =
     let t = c.self.inside in
     let phase : Phase = g.P.PendingOp.as_phase c.args.under_way in
-    let at : t.kept.phase ≡ Some phase = ap (λ (s : TaskState). s.phase) c.self.view_is ∙ c.requires.at in
-    let same : t.config ≡ c.args.gates.now.words.config = ap (λ (s : TaskState). s.config) c.self.view_is ∙ c.requires.from.1 in
+    let at : t.kept.phase ≡ Some phase = ap (λ (s : SeatedTask). s.phase) c.self.view_is ∙ c.requires.at in
+    let same : t.config ≡ c.args.gates.now.words.config = ap (λ (s : SeatedTask). s.config) c.self.view_is ∙ c.requires.from.1 in
     record {
       number = t.number;
       flags = t.spare;
@@ -31,8 +31,8 @@ pub invariant_of-self : goal.invariant_of-self
 invariant_of-self g c =
     let t = c.self.inside in
     let phase : Phase = g.P.PendingOp.as_phase c.args.under_way in
-    let at : t.kept.phase ≡ Some phase = ap (λ (s : TaskState). s.phase) c.self.view_is ∙ c.requires.at in
-    let same : t.config ≡ c.args.gates.now.words.config = ap (λ (s : TaskState). s.config) c.self.view_is ∙ c.requires.from.1 in
+    let at : t.kept.phase ≡ Some phase = ap (λ (s : SeatedTask). s.phase) c.self.view_is ∙ c.requires.at in
+    let same : t.config ≡ c.args.gates.now.words.config = ap (λ (s : SeatedTask). s.config) c.self.view_is ∙ c.requires.from.1 in
     let next : Next Phase = map_next g.P.PendingOp.as_phase c.do_event-action.result.next in
     let stands = sym (ap (λ p. p.1) c.standing-progress.ensures) in
     let tied = c.do_event-action.ensures.tied t.number t.spare
@@ -68,8 +68,8 @@ pub returns-clause-event : goal.returns-clause-event
 returns-clause-event g c =
     let t = c.self.inside in
     let phase : Phase = g.P.PendingOp.as_phase c.args.under_way in
-    let at : t.kept.phase ≡ Some phase = ap (λ (s : TaskState). s.phase) c.self.view_is ∙ c.requires.at in
-    let same : t.config ≡ c.args.gates.now.words.config = ap (λ (s : TaskState). s.config) c.self.view_is ∙ c.requires.from.1 in
+    let at : t.kept.phase ≡ Some phase = ap (λ (s : SeatedTask). s.phase) c.self.view_is ∙ c.requires.at in
+    let same : t.config ≡ c.args.gates.now.words.config = ap (λ (s : SeatedTask). s.config) c.self.view_is ∙ c.requires.from.1 in
     let next : Next Phase = map_next g.P.PendingOp.as_phase c.do_event-action.result.next in
     let stands = sym (ap (λ p. p.1) c.standing-progress.ensures) in
     let told = sym (ap (λ p. p.0) c.standing-progress.ensures) in

@@ -2,7 +2,7 @@
 use Rattle.std.proofs.Common.{◌≤◌, ap, subst, ◌∙◌}
 use Rattle.std.specs.Prelude.{length, option_map}
 use Rattle.gate_world.specs.declared.views.Snapshot.{Snapshot}
-use Rattle.vfs_gates.specs.TaskStates.{TaskState, own_view}
+use Rattle.vfs_gates.specs.TaskStates.{SeatedTask, own_view}
 use Rattle.vfs_gates.proofs.Parting.{has_own}
 use Rattle.vfs_gates.proofs.Rooming.{shows_last}
 use Rattle.vfs_gates.proofs.task.Task.tree.Goals as goal
@@ -11,10 +11,10 @@ pub returns-clause-last : goal.returns-clause-last
 returns-clause-last c =
     let t = c.self.inside in
     c.last.ensures ∙ (shows_last t.buffers (own_view t.seat.me.0.items).snapshot c.self.invariant.2.last ∙
-    ap (λ (s : TaskState). option_map (λ (n : Snapshot). n.loaded) (own_view s.items).snapshot) c.self.view_is)
+    ap (λ (s : SeatedTask). option_map (λ (n : Snapshot). n.loaded) (own_view s.items).snapshot) c.self.view_is)
 
 pub returns-clause-there : goal.returns-clause-there
 returns-clause-there c =
     let t = c.self.inside in
-    subst (λ (s : TaskState). 1 ≤ length s.items) c.self.view_is
+    subst (λ (s : SeatedTask). 1 ≤ length s.items) c.self.view_is
     (has_own t.number t.config t.begins t.kept t.spare t.seat.me.0.items c.self.invariant.0)
