@@ -5,7 +5,7 @@ use Rattle.gate_world.specs.declared.{config.Config.Config, entries.Entry.Entry}
 use Rattle.gate_world.specs.declared.views.View.{View}
 use Rattle.gate_world.specs.Views.{opening_view}
 use Rattle.gate_world.specs.Worlds.{World}
-use Rattle.gate_steps.proofs.call_events.Keeps.{by_bool}
+use Rattle.gate_steps.proofs.call_events.OperationLaws.{by_bool}
 use Rattle.gate_steps.specs.Rules.{TableShows, first_items}
 use Rattle.gate_steps.specs.Seating.{SeatItems, numbered, times, view_in, deal}
 use Rattle.gate_steps.proofs.call_events.Opening.{times-deal}
