@@ -254,11 +254,11 @@ impl Task {
         requires { IsFrom self.old gates.now }
         ensures { Performs (SnapshotOp false) self.old self.new result }
     {
-        match self.load_at_once(gates, false) {
-            Ok(Progress::Done(answer)) => outcome(answer),
-            Ok(_) => outcome(self.finish(gates)),
-            Err(refusal) => Err(refusal),
+        let progress = self.load_at_once(gates, false)?;
+        if let Progress::Done(answer) = progress {
+            return outcome(answer);
         }
+        outcome(self.finish(gates))
     }
 
     /// Takes a snapshot of the frozen file system, which `tree` shows from then on, and waits for `umount`.
@@ -270,10 +270,10 @@ impl Task {
         requires { IsFrom self.old gates.now }
         ensures { Performs (SnapshotOp true) self.old self.new result }
     {
-        match self.load_at_once(gates, true) {
-            Ok(Progress::Done(answer)) => outcome(answer),
-            Ok(_) => outcome(self.finish_waiting(rt, gates)),
-            Err(refusal) => Err(refusal),
+        let progress = self.load_at_once(gates, true)?;
+        if let Progress::Done(answer) = progress {
+            return outcome(answer);
         }
+        outcome(self.finish_waiting(rt, gates))
     }
 }
