@@ -1,31 +1,31 @@
 -- What the program tells of its run: what the lists of its two tasks have in the end.
 use Rattle.std.specs.Prelude.{◌≡◌, ◌++◌, ℕ, true, false, Ok, IfSome}
-use Rattle.vfs_gates.specs.Rounds.{Rounds, BothDone, Did, Granted, TaskState, Ended, Ending, Mount, ChangeMount, ComesAfter, Performs, granted_in, own_actions}
+use Rattle.vfs_gates.specs.Rounds.{Rounds, BothDone, Did, Granted, SeatedTask, Ended, Ending, Mount, ChangeMount, ComesAfter, Performs, granted_in, own_actions}
 use Rattle.backup_beside_writer.specs.declared.told.Told.{Told}
 
 -- a copy: the mount was made read-only and then writable, and neither was refused
-abbrev pub HasCopied : TaskState → TaskState → Type 0
+abbrev pub HasCopied : SeatedTask → SeatedTask → Type 0
 HasCopied old left = BothDone (ChangeMount 0 true true) (ChangeMount 0 false true) old left
 
 -- so many copies: in each the mount was made read-only and then writable, and neither was refused
-abbrev pub Copies : ℕ → TaskState → TaskState → Type 0
+abbrev pub Copies : ℕ → SeatedTask → SeatedTask → Type 0
 Copies = Rounds HasCopied
 
 -- The backup's task, to which the writer's was joined, has copied: the mount was made read-only and then writable, neither was refused, and in the
 -- history that the first change leaves all that the writer had done comes before it.
-pub record HasEveryWrite (backup writer left : TaskState) : Type 0 where
-  pub joined : TaskState
+pub record HasEveryWrite (backup writer left : SeatedTask) : Type 0 where
+  pub joined : SeatedTask
   pub joins : joined ≡ record backup { items = backup.items ++ writer.items; seen = backup.seen ++ writer.seen }
-  pub there : TaskState
+  pub there : SeatedTask
   pub closes : Performs (ChangeMount 0 true true) joined there (Ok tt)
   pub after : ComesAfter writer joined there
   pub opens : Performs (ChangeMount 0 false true) there left (Ok tt)
 
 -- A task to which one was joined that had been granted so many accesses, and no more, has copied then.
 pub record HasAllWrites (writes : ℕ) : Type 0 where
-  pub last : TaskState
-  pub writer : TaskState
-  pub left : TaskState
+  pub last : SeatedTask
+  pub writer : SeatedTask
+  pub left : SeatedTask
   pub granted : granted_in (Mount 0) (own_actions writer) ≡ writes
   pub copied : HasEveryWrite last writer left
 

@@ -1,7 +1,7 @@
 //! The backup: it reads while the mount is read-only.
 
 ghost use Rattle.std.specs.Prelude.{◌≡◌, ◌+◌, ℕ, IfErr, OnErr, OnOk};
-ghost use Rattle.vfs_gates.specs.Rounds.{TaskState, IsFrom, Rests, Busy, spare_of};
+ghost use Rattle.vfs_gates.specs.Rounds.{SeatedTask, IsFrom, Rests, Busy, spare_of};
 ghost use Rattle.backup_beside_writer.specs.Told.{Copies, HasCopied};
 
 use crate::MOUNT;
@@ -23,8 +23,8 @@ pub(crate) fn copy_once<R: Wait>(
     ensures refused { IfErr result (λ refusal. refusal ≡ Busy) }
     ensures others { spare_of task.new.items ≡ spare_of task.old.items }
     ensures made { OnOk result (HasCopied task.old task.new) }
-    ensures copied { OnOk result ((n : ℕ) (first : TaskState) → Copies n first task.old → Copies (n + 1) first task.new) }
-    ensures copied_nothing { OnErr result ((n : ℕ) (first : TaskState) → Copies n first task.old → Copies n first task.new) }
+    ensures copied { OnOk result ((n : ℕ) (first : SeatedTask) → Copies n first task.old → Copies (n + 1) first task.new) }
+    ensures copied_nothing { OnErr result ((n : ℕ) (first : SeatedTask) → Copies n first task.old → Copies n first task.new) }
 {
     task.change_mount(rt, gates, MOUNT, true)?;
     let copy = file.load(Ordering::SeqCst);

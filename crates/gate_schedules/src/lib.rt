@@ -1,13 +1,13 @@
 //! Whole schedules, and what holds of each of them: the headline (`schedules`); below it the laws of all operations (`operations`) and of the
-//! calls at the tree (`trees`). What a step tells (`steps`), what is kept of a task between its steps (`seats`), and what moves the gates of a
+//! calls at the tree (`trees`). What a step tells (`steps`), what is kept of a task between its steps (`task_states`), and what moves the gates of a
 //! schedule (`Driver`), by whatever program does them.
 //!
 //! In `proofs` a folder says what its lemmas are of:
 //!
 //! - `schedules`: whole schedules, from the laws of events to the clauses of the headline.
 //! - `operations`: one folder for each operation, or for a few of a kind: `want` (and drop), `change`, `remount`, `freeze`, `thaw`, `readers`
-//!   (start and end), `callback`, `write_access`, `calls` (create, remove, grow, move, fault, flush, open), `snapshot`, `close`. `Layers`
-//!   knows them all. `deadlocks`: who comes to a reply, and who is kept.
+//!   (start and end), `callback`, `write_access`, `calls` (create, remove, grow, move, fault, flush, open), `snapshot`, `close`.
+//!   `AllOperations` knows them all. `deadlocks`: who comes to a reply, and who is blocked.
 //! - `mounts`, `levels`, `writers` (freezes and thaws at a level), `trees/worlds`: what several operations do there; `trees`: the tree alone.
 //! - `frames`: what an event leaves alone, part by part of the rule, and what the owner of `umount` relies on.
 //! - `traces`: what a trace tells from event to event. `same_phases`: phases that compare equal are the same.

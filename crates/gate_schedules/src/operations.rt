@@ -1,5 +1,5 @@
 //! The laws of all operations: each event of each phase keeps the rule, and moves the shown model by its action or not at all; a frozen tree
-//! is whole; and who comes to a reply, who is kept, and by what (`deadlocks`). It has no code: its functions state laws.
+//! is whole; and who comes to a reply, who is blocked, and by what (`deadlocks`). It has no code: its functions state laws.
 
 pub mod deadlocks;
 

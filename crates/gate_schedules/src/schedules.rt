@@ -55,23 +55,23 @@ ghost use Rattle.gate_schedules.specs.operations.Ranks.{most_events_to_reply, mo
 ///   snapshot only where another task has `umount`, and a start only where another task had the level closed, or the file system was frozen
 ///   as a whole, in the world in which it last looked; another call at the tree is refused for a node, as one that is free, a file or a
 ///   directory, only where the shown model has that node so in the world of the load that it is refused with.
-/// - `waits`: every wait has a culprit: a want waits only where another task has HOLD set at its mount, a change, a remount, a thaw and a
+/// - `waits`: every wait has a blocker: a want waits only where another task has HOLD set at its mount, a change, a remount, a thaw and a
 ///   snapshot only where another task has `umount`, a callback only where another task is inside a section, and a start only where the level
 ///   was closed when it last looked, as above; a freeze waits as a remount and as a callback do, and where something was counted at the level
 ///   that it closes, in some world from the load of its sum's first word to the load of its last; a drop, an end and the other calls at the
 ///   tree never wait.
 /// - `progress`: nobody is deadlocked: a bounded number of events of tasks under way, which somebody picks one by one, lead to a reply of one
-///   of them, whatever the hooks answer; or each operation under way is kept: a start or a last close that waits and isn't admitted yet, by its
+///   of them, whatever the hooks answer; or each operation under way is blocked: a start or a last close that waits and isn't admitted yet, by its
 ///   closed level; a freeze, by an idle task that holds a level which it has to pass yet; and who waits for `umount`, by such a freeze that
 ///   owns it to its end. It says what is possible, and no more: what may starve is in docs/theorem.md.
 /// - `settles`: so with no new beginning somebody can pick at most T times as many events, for T tasks, one by one, of tasks under way, whatever
-///   the hooks answer, after which each operation that was under way has its reply, or all that are left are kept.
+///   the hooks answer, after which each operation that was under way has its reply, or all that are left are blocked.
 /// - `replies`: so, with an operation under way, a reply is at most so many events away, or the file system is frozen as a whole, or an idle
-///   task keeps a freeze that is under way.
-/// - `kept_stays`: and that is exact: where each operation under way is kept, no event of one of them is a reply, and all stay kept, as long as
+///   task blocks a freeze that is under way.
+/// - `kept_stays`: and that is exact: where each operation under way is blocked, no event of one of them is a reply, and all stay blocked, as long as
 ///   no hook fails.
 ///
-/// It takes nothing, does nothing and answers nothing: its contract is the theorem. `Core` is bound to the same worlds by `Shows`.
+/// It takes nothing, does nothing and answers nothing: its contract is the theorem. `Core` is bound to the same worlds by `Represents`.
 pub fn every_schedule()
     ensures moves { (c : Config) → IsWithin c → (entries : List Entry) (next : Entry) → MovesTheModel c entries next }
     ensures run { (c : Config) → IsWithin c → (entries : List Entry) → IsOneRun c entries }

@@ -20,7 +20,7 @@ use Rattle.gate_steps.specs.call_events.Asking.{GoesWith}
 use Rattle.gate_steps.specs.call_events.Led.{LedAsking}
 use Rattle.gate_steps.specs.call_events.Progress.{Progress}
 use Rattle.gate_steps.specs.call_events.Progress.TheVariants.{Idle, Going, Waiting, Done}
-use Rattle.gate_steps.specs.call_events.Runs.{Goes, StepTells}
+use Rattle.gate_steps.specs.call_events.Runs.{Goes, ProgressMatches}
 use Rattle.gate_steps.specs.call_events.Waited.{WentWaiting}
 use Rattle.gate_steps.proofs.call_events.Running.{admitted_some, refused_as, refused_none}
 use Rattle.gate_steps.proofs.call_events.Turning.{unasked}
@@ -49,7 +49,7 @@ refused_at_once op old e is = record {
 module _ (op : Op) (old left : SeatedTask) (admitted : Ok tt ≡ unless_refused (refusal_at op old)) (table : left.table ≡ old.table)
     (config : left.config ≡ old.config) (begun : left.begins ≡ None) where
   -- one that was begun, and so stands
-  pub told_at_once : (progress : Progress) → StepTells op old progress left → BeginsAtOnce op old left (Ok progress)
+  pub told_at_once : (progress : Progress) → ProgressMatches op old progress left → BeginsAtOnce op old left (Ok progress)
   told_at_once progress told = record {
     table = table;
     config = config;
@@ -59,13 +59,13 @@ module _ (op : Op) (old left : SeatedTask) (admitted : Ok tt ≡ unless_refused 
 
 -- what such a call tells: it was begun, and stands so, or was refused and left all as it was
 pub begun_by : (op : Op) (old left : SeatedTask) (progress : Progress) (o : Option GateError) → refusal_at op old ≡ o →
-    BeginsAtOnce op old left (Ok progress) → (Ok tt ≡ unless_refused (refusal_at op old)) × StepTells op old progress left
+    BeginsAtOnce op old left (Ok progress) → (Ok tt ≡ unless_refused (refusal_at op old)) × ProgressMatches op old progress left
 begun_by op old left progress (Some e) at begins =
     let is : ◌≡◌ {A = Result Progress GateError} (Ok progress) (Err e) = (begins.refused e at).0 in absurd (let f : ⊥ = cc in f)
 begun_by op old left progress None at begins =
     let told = begins.begun at in let is : ◌≡◌ {A = Result Progress GateError} (Ok progress) (Ok told.0) = told.1 in
     let same : progress ≡ told.0 = cc in
-    (sym (ap (λ o. unless_refused o) at), subst (λ p. StepTells op old p left) (sym same) told.3)
+    (sym (ap (λ o. unless_refused o) at), subst (λ p. ProgressMatches op old p left) (sym same) told.3)
 
 pub refused_so : (op : Op) (old left : SeatedTask) (e : GateError) (o : Option GateError) → refusal_at op old ≡ o →
     BeginsAtOnce op old left (Err e) → (Err e ≡ unless_refused (refusal_at op old)) × (left ≡ old)
@@ -77,7 +77,7 @@ refused_so op old left e None at begins =
 
 -- where it has not ended, it goes on
 pub goes_by : (op : Op) (old left : SeatedTask) (progress : Progress) → ((answer : Result Reply GateError) → progress ≡ Done answer → ⊥) →
-    StepTells op old progress left → Goes op old left
+    ProgressMatches op old progress left → Goes op old left
 goes_by op old left Idle not told = absurd told
 goes_by op old left Going not told = told
 goes_by op old left Waiting not told = told.0

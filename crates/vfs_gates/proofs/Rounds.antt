@@ -14,7 +14,7 @@ use Rattle.gate_world.specs.declared.config.Config.{Config}
 use Rattle.vfs_gates.specs.Held.{own_actions, IsGivenBack, takes_nothing}
 use Rattle.gate_world.specs.declared.entries.Entry.{Entry}
 use Rattle.vfs_gates.specs.Ended.{EndedWith}
-pub use Rattle.vfs_gates.specs.Rounds.{GateError, Mount, Op, ChangeMount, Performs, Rests, TaskState, IsFrom, ComesAfter, Did, Ended, Granted, refused, round}
+pub use Rattle.vfs_gates.specs.Rounds.{GateError, Mount, Op, ChangeMount, Performs, Rests, SeatedTask, IsFrom, ComesAfter, Did, Ended, Granted, refused, round}
 use Rattle.access_model.specs.declared.actions.Gate.{Gate}
 use Rattle.vfs_gates.specs.Rounds.{granted_in}
 use Rattle.vfs_gates.specs.Parts.{SplitOf}
@@ -26,13 +26,13 @@ use Rattle.vfs_gates.proofs.Returning.{may, was_done, dropped}
 use Rattle.vfs_gates.proofs.Timing.{comes_after}
 
 -- a call that takes nothing leaves a task at rest
-pub rests_after : {op : Op} {old left : TaskState} {outcome : Result (Unit {0}) GateError} → takes_nothing op ≡ true → Rests old →
+pub rests_after : {op : Op} {old left : SeatedTask} {outcome : Result (Unit {0}) GateError} → takes_nothing op ≡ true → Rests old →
     Performs op old left outcome → Rests left
 rests_after {op = op} {old = old} {left = left} {outcome = outcome} none rests call =
     rests_on old left rests (keeps unit_of op old left outcome rests.0 call none)
 
 -- an access that a want was granted is given back on the processor where it was taken
-pub given_back : {m p : ℕ} {wait : Bool} {old there left : TaskState} {outcome : Result (Unit {0}) GateError} →
+pub given_back : {m p : ℕ} {wait : Bool} {old there left : SeatedTask} {outcome : Result (Unit {0}) GateError} →
     Performs (Want m p wait) old there (Ok tt) → Performs (DropMount m p) there left outcome → IsGivenBack (Mount m) old left outcome
 given_back {m = m} {p = p} {wait = wait} {old = old} {there = there} {left = left} {outcome = outcome} took gives =
     let began = may (Want m p wait) old there (was_done (Want m p wait) old there took) in
@@ -40,12 +40,12 @@ given_back {m = m} {p = p} {wait = wait} {old = old} {there = there} {left = lef
     dropped m p p wait old there left outcome (ltb-true p old.config.processors range.1) took gives
 
 -- and a task at rest rests again
-pub rests_back : {m p : ℕ} {wait : Bool} {old there left : TaskState} {outcome : Result (Unit {0}) GateError} → Rests old →
+pub rests_back : {m p : ℕ} {wait : Bool} {old there left : SeatedTask} {outcome : Result (Unit {0}) GateError} → Rests old →
     Performs (Want m p wait) old there (Ok tt) → Performs (DropMount m p) there left outcome → (outcome ≡ Ok tt) × Rests left
 rests_back {old = old} {left = left} rests took gives = let given = given_back took gives in (given.done, rests_on old left rests given.as_before)
 
 -- a change to writable that waits is done
-pub made_writable : {m : ℕ} {old left : TaskState} {outcome : Result (Unit {0}) GateError} → Rests old → m < old.config.mounts →
+pub made_writable : {m : ℕ} {old left : SeatedTask} {outcome : Result (Unit {0}) GateError} → Rests old → m < old.config.mounts →
     Performs (ChangeMount m false true) old left outcome → outcome ≡ Ok tt
 made_writable {m = m} {old = old} {left = left} {outcome = outcome} rests mount call =
     let done = call.done (change_begins m false old left outcome rests call mount) in
@@ -53,7 +53,7 @@ made_writable {m = m} {old = old} {left = left} {outcome = outcome} rests mount 
     done.1 ∙ ap (told_as unit_of) reply
 
 -- so is one of a mount that the task has just made read-only, and leaves it at rest
-pub reopened : {m : ℕ} {old there left : TaskState} {outcome : Result (Unit {0}) GateError} → Rests old →
+pub reopened : {m : ℕ} {old there left : SeatedTask} {outcome : Result (Unit {0}) GateError} → Rests old →
     Performs (ChangeMount m true true) old there (Ok tt) → Performs (ChangeMount m false true) there left outcome → (outcome ≡ Ok tt) × Rests left
 reopened {m = m} {old = old} {there = there} rests closed call =
     let began = may (ChangeMount m true true) old there (was_done (ChangeMount m true true) old there closed) in
@@ -63,8 +63,8 @@ reopened {m = m} {old = old} {there = there} rests closed call =
 
 -- Two tasks, the first of some gates and one that was split off it, did this each, were joined, and closed the gates: their numbers have it in the
 -- end, from where they had done nothing.
-pub joined_did : {c : Config} {ws : List ℕ} {items : SeatItems} {seen : List (List Entry)} {one two : ℕ} {opening : Config} {id : TableId} {old f s : TaskState}
-    (F S : TaskState → TaskState → Type 0) (first second : TaskState) → old ≡ task_state id opening None None (first_known opening) → SplitOf old f s →
+pub joined_did : {c : Config} {ws : List ℕ} {items : SeatItems} {seen : List (List Entry)} {one two : ℕ} {opening : Config} {id : TableId} {old f s : SeatedTask}
+    (F S : SeatedTask → SeatedTask → Type 0) (first second : SeatedTask) → old ≡ task_state id opening None None (first_known opening) → SplitOf old f s →
     (e : EndedWith c ws items seen) → items ≡ first.items ++ second.items → one ≡ own_number first.items → 1 ≤ length first.items →
     two ≡ own_number second.items → 1 ≤ length second.items → F f first → S s second →
     (ended : Ended c ws) × Did (ended.world.views one) F × Did (ended.world.views two) S
@@ -78,7 +78,7 @@ joined_did {c = c} {ws = ws} {seen = seen} {opening = opening} {id = id} {old = 
     )
 
 -- A call that was done of a task to which another was joined has all behind it that the other had done.
-pub done_after : {op : Op} {other joined left : TaskState} (first : TaskState) → joined.items ≡ first.items ++ other.items → 1 ≤ length first.items →
+pub done_after : {op : Op} {other joined left : SeatedTask} (first : SeatedTask) → joined.items ≡ first.items ++ other.items → 1 ≤ length first.items →
     1 ≤ length other.items → Performs op joined left (Ok tt) → ComesAfter other joined left
 done_after {op = op} {other = other} {joined = joined} {left = left} first is some_first some_other call =
     let was = was_done op joined left call in comes_after op first other joined left (Ok was.reply) is some_first some_other was.called
@@ -88,13 +88,13 @@ own_same [] m there = absurd (omega arith)
 own_same (x ∷ xs) m there = refl
 
 -- And it rests as it did.
-pub joined_rests : {joined : TaskState} (first other : TaskState) → joined ≡ record first { items = first.items ++ other.items; seen = first.seen ++ other.seen } →
+pub joined_rests : {joined : SeatedTask} (first other : SeatedTask) → joined ≡ record first { items = first.items ++ other.items; seen = first.seen ++ other.seen } →
     1 ≤ length first.items → Rests first → Rests joined
 joined_rests first other is there rests =
     subst Rests (sym is) (rests.0, subst (Empty first.config) (own_same first.items other.items there) rests.1)
 
 -- And has a number of its own.
-pub joined_there : (first other joined : TaskState) → joined.items ≡ first.items ++ other.items → 1 ≤ length first.items →
+pub joined_there : (first other joined : SeatedTask) → joined.items ≡ first.items ++ other.items → 1 ≤ length first.items →
     1 ≤ length joined.items
 joined_there first other joined is there = let more = length-append first.items other.items in omega (arith, ap length is, more, there)
 
@@ -103,18 +103,18 @@ ran_spare : (c : Config) (op : Op) (trace : List Traced) (l : SeatItems) → spa
 ran_spare c op trace [] = refl
 ran_spare c op trace (x ∷ xs) = refl
 
-spare_at : (op : Op) (old left : TaskState) (outcome : Result (Unit {0}) GateError) → Performs op old left outcome →
+spare_at : (op : Op) (old left : SeatedTask) (outcome : Result (Unit {0}) GateError) → Performs op old left outcome →
     (o : Option GateError) → refusal_at op old ≡ o → spare_of left.items ≡ spare_of old.items
 spare_at op old left outcome call None at =
     let called = (call.done at).2 in
-    ap (λ (s : TaskState). spare_of s.items) called.after ∙ ran_spare old.config op called.trace old.items
-spare_at op old left outcome call (Some refusal) at = ap (λ (s : TaskState). spare_of s.items) (call.refused refusal at).1
+    ap (λ (s : SeatedTask). spare_of s.items) called.after ∙ ran_spare old.config op called.trace old.items
+spare_at op old left outcome call (Some refusal) at = ap (λ (s : SeatedTask). spare_of s.items) (call.refused refusal at).1
 
-pub spare_stays : {op : Op} {old left : TaskState} {outcome : Result (Unit {0}) GateError} → Performs op old left outcome →
+pub spare_stays : {op : Op} {old left : SeatedTask} {outcome : Result (Unit {0}) GateError} → Performs op old left outcome →
     spare_of left.items ≡ spare_of old.items
 spare_stays {op = op} {old = old} {left = left} {outcome = outcome} call = spare_at op old left outcome call (refusal_at op old) refl
 
-pub spare_stays_on : {one two : Op} {old there left : TaskState} {answer outcome : Result (Unit {0}) GateError} →
+pub spare_stays_on : {one two : Op} {old there left : SeatedTask} {answer outcome : Result (Unit {0}) GateError} →
     Performs one old there answer → Performs two there left outcome → spare_of left.items ≡ spare_of old.items
 spare_stays_on first second = spare_stays second ∙ spare_stays first
 
@@ -135,7 +135,7 @@ kept_same n [] = refl
 kept_same n (x ∷ xs) = refl
 
 -- A task that was granted so many accesses, from where it had done nothing, and to which another was joined then, has just these in its list.
-pub granted_alone : {opening : Config} {id : TableId} {old f g s t : TaskState} (gate : Gate) (n : ℕ) (first other joined : TaskState) →
+pub granted_alone : {opening : Config} {id : TableId} {old f g s t : SeatedTask} (gate : Gate) (n : ℕ) (first other joined : SeatedTask) →
     old ≡ task_state id opening None None (first_known opening) → SplitOf old f s → SplitOf f g t → Granted gate n g first →
     joined.items ≡ first.items ++ other.items → 1 ≤ length first.items → granted_in gate (own_actions joined) ≡ n
 granted_alone {opening = opening} {id = id} {old = old} {f = f} {g = g} {s = s} gate n first other joined is made more granted items there =
@@ -147,7 +147,7 @@ granted_alone {opening = opening} {id = id} {old = old} {f = f} {g = g} {s = s} 
 
 -- The same of two tasks that were joined to a third, which was split off behind them, and called then itself.
 pub handed_did : {c : Config} {ws : List ℕ} {items : SeatItems} {seen : List (List Entry)} {one two : ℕ} {opening : Config} {id : TableId}
-    {old f g s t : TaskState} (F S : TaskState → TaskState → Type 0) (first second both : TaskState) →
+    {old f g s t : SeatedTask} (F S : SeatedTask → SeatedTask → Type 0) (first second both : SeatedTask) →
     old ≡ task_state id opening None None (first_known opening) → SplitOf old f s → SplitOf f g t → (e : EndedWith c ws items seen) →
     spare_of items ≡ spare_of (t.items ++ both.items) → both.items ≡ first.items ++ second.items → 1 ≤ length t.items →
     one ≡ own_number first.items → 1 ≤ length first.items → two ≡ own_number second.items → 1 ≤ length second.items → F g first → S s second →

@@ -102,7 +102,7 @@ impl Task {
     ghost use Rattle.gate_world.specs.Views.{held_at, holds_level as has_level, has_open as opens_file};
     ghost use Rattle.vfs_gates.specs.TaskStates.{task_state, IsFrom, own_number, own_view, refusal_at, IsIdle, HoldsNothing};
     ghost use Rattle.gate_steps.specs.call_events.Stepped.{Stepped};
-    ghost use Rattle.gate_steps.specs.call_events.Runs.{Goes, StepTells};
+    ghost use Rattle.gate_steps.specs.call_events.Runs.{Goes, ProgressMatches};
     ghost use Rattle.vfs_gates.specs.Ended.{HasAll};
     ghost use Rattle.vfs_gates.specs.Waits.{waited_at};
     ghost use Rattle.gate_steps.specs.call_events.GhostAgrees.{AllRest};
@@ -229,7 +229,7 @@ impl Task {
         ensures idle { IsIdle self.old → (self.new ≡ self.old) × (result ≡ idle_step) }
         ensures event { (phase : PhaseType) → self.old.phase ≡ Some phase → Stepped phase hook self.old result self.new }
         // An operation that has begun so goes on, says that it waits only where it may, or was done whole.
-        ensures told { (op : OpType) (start : SeatedTask) → Goes op start self.old → StepTells op start result.progress self.new }
+        ensures told { (op : OpType) (start : SeatedTask) → Goes op start self.old → ProgressMatches op start result.progress self.new }
     {
         let Some(phase) = self.kept.phase else {
             return Step::idle();

@@ -2,13 +2,13 @@
 use Rattle.std.proofs.Common.{◌≡◌, ℕ, ◌≤◌, List, [], ◌∷◌, ◌++◌, length, refl, ap, sym, subst, ◌∙◌, arith}
 use Rattle.access_model.specs.declared.actions.Action.{Action}
 use Rattle.access_model.specs.Histories.{mounts_of, levels_of, opens_of}
-use Rattle.gate_runs.specs.run_parts.TaskStates.{TaskState, IsIdle, HoldsNothing, own_view}
+use Rattle.gate_runs.specs.run_parts.TaskStates.{SeatedTask, IsIdle, HoldsNothing, own_view}
 use Rattle.gate_runs.specs.run_parts.Splitting.{HasBegun}
 use Rattle.gate_runs.specs.run_parts.Seating.{SeatItems}
 use Rattle.vfs_gates.specs.Held.{Rests}
 
 -- a task that is idle and has done nothing rests
-pub begun_rests : (number : ℕ) (s : TaskState) → IsIdle s → HasBegun number s → Rests s
+pub begun_rests : (number : ℕ) (s : SeatedTask) → IsIdle s → HasBegun number s → Rests s
 begun_rests number s idle begun =
     let none : (own_view s.items).actions ≡ [] = begun.nothing in (
       idle,
@@ -24,7 +24,7 @@ own_still : (items more : SeatItems) → 1 ≤ length items → own_view (items 
 own_still [] more there = absurd (omega arith)
 own_still (x ∷ xs) more there = refl
 
-pub joined_rests : (old other new : TaskState) → 1 ≤ length old.items → Rests old → new ≡ record old { items = old.items ++ other.items; seen = old.seen ++ other.seen } → Rests new
+pub joined_rests : (old other new : SeatedTask) → 1 ≤ length old.items → Rests old → new ≡ record old { items = old.items ++ other.items; seen = old.seen ++ other.seen } → Rests new
 joined_rests old other new there rests is =
     let same : HoldsNothing (record old { items = old.items ++ other.items; seen = old.seen ++ other.seen }) =
     let view = own_still old.items other.items there in (
@@ -38,5 +38,5 @@ there_still : (items more : SeatItems) → 1 ≤ length items → 1 ≤ length (
 there_still [] more there = absurd (omega arith)
 there_still (x ∷ xs) more there = omega arith
 
-pub joined_there : (old other new : TaskState) → 1 ≤ length old.items → new ≡ record old { items = old.items ++ other.items; seen = old.seen ++ other.seen } → 1 ≤ length new.items
-joined_there old other new there is = subst (λ (s : TaskState). 1 ≤ length s.items) (sym is) (there_still old.items other.items there)
+pub joined_there : (old other new : SeatedTask) → 1 ≤ length old.items → new ≡ record old { items = old.items ++ other.items; seen = old.seen ++ other.seen } → 1 ≤ length new.items
+joined_there old other new there is = subst (λ (s : SeatedTask). 1 ≤ length s.items) (sym is) (there_still old.items other.items there)

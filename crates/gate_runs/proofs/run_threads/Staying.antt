@@ -11,7 +11,7 @@ use Rattle.gate_world.specs.declared.views.Traced.{Traced}
 use Rattle.gate_world.specs.declared.views.View.{View}
 use Rattle.std.proofs.lemmas.Bool.{eq-eqb}
 use Rattle.gate_runs.specs.run_parts.Seating.{SeatItems, HaveViews, numbered, times}
-use Rattle.gate_runs.specs.run_parts.TaskStates.{TaskState, own_number, own_view, spare_of, refusal_at}
+use Rattle.gate_runs.specs.run_parts.TaskStates.{SeatedTask, own_number, own_view, spare_of, refusal_at}
 use Rattle.gate_runs.specs.run_parts.Runs.{Replies, ran_items}
 use Rattle.run_plans.specs.declared.counts.Copies.{Copies}
 use Rattle.run_plans.specs.declared.counts.Details.{Details}
@@ -23,10 +23,10 @@ use Rattle.gate_runs.specs.run_parts.Rounds.{Repeats, CallsBack, CreatesFile, Cr
 use Rattle.gate_runs.specs.run_parts.Splitting.{Gives, HasBegun, HaveDoneNothing}
 use Rattle.gate_runs.specs.run_threads.Parts.{EachFrom, Among, EndsAs, KeepsNumbers, Remounted, Wrote, AllWrote, AllDid}
 
-pub stays_so : (s : TaskState) → KeepsNumbers s s
+pub stays_so : (s : SeatedTask) → KeepsNumbers s s
 stays_so s = record { config = refl; own = refl; spare = refl; idle = λ i. i; there = λ h. h }
 
-pub stays_on : {first mid last : TaskState} → KeepsNumbers first mid → KeepsNumbers mid last → KeepsNumbers first last
+pub stays_on : {first mid last : SeatedTask} → KeepsNumbers first mid → KeepsNumbers mid last → KeepsNumbers first last
 stays_on one two = record {
   config = two.config ∙ one.config;
   own = two.own ∙ one.own;
@@ -49,89 +49,89 @@ there_ran c op trace [] h = h
 there_ran c op trace (x ∷ xs) h = omega arith
 
 -- a whole call, as its beginning was answered
-call_stays : {A : Type 0} (read : Reply → A) (op : Op) (first last : TaskState) (outcome : Result A GateError) → Replies read op first last outcome →
+call_stays : {A : Type 0} (read : Reply → A) (op : Op) (first last : SeatedTask) (outcome : Result A GateError) → Replies read op first last outcome →
     (r : Option GateError) → refusal_at op first ≡ r → KeepsNumbers first last
 call_stays read op first last outcome did None e =
     let called = (did.done e).2 in
-    let items : last.items ≡ ran_items first.config op called.trace first.items = ap (λ (s : TaskState). s.items) called.after in record {
+    let items : last.items ≡ ran_items first.config op called.trace first.items = ap (λ (s : SeatedTask). s.items) called.after in record {
       config = did.config;
       own = ap own_number items ∙ own_ran first.config op called.trace first.items;
       spare = ap spare_of items ∙ spare_ran first.config op called.trace first.items;
-      idle = λ i. ap (λ (s : TaskState). s.phase) called.after;
+      idle = λ i. ap (λ (s : SeatedTask). s.phase) called.after;
       there = λ h. subst (λ (l : SeatItems). 1 ≤ length l) (sym items) (there_ran first.config op called.trace first.items h);
     }
 call_stays read op first last outcome did (Some refusal) e = subst (KeepsNumbers first) (sym (did.refused refusal e).1) (stays_so first)
 
-pub stays : {A : Type 0} (read : Reply → A) (op : Op) (first last : TaskState) (outcome : Result A GateError) → Replies read op first last outcome →
+pub stays : {A : Type 0} (read : Reply → A) (op : Op) (first last : SeatedTask) (outcome : Result A GateError) → Replies read op first last outcome →
     KeepsNumbers first last
 stays read op first last outcome did = call_stays read op first last outcome did (refusal_at op first) refl
 
 -- so many rounds, where each leaves a task so
-rounds_stay : {S : Type 0} (task : S → TaskState) (Round : ℕ → S → S → Type 0) →
+rounds_stay : {S : Type 0} (task : S → SeatedTask) (Round : ℕ → S → S → Type 0) →
     ((k : ℕ) (x y : S) → Round k x y → KeepsNumbers (task x) (task y)) → (k : ℕ) (first last : S) → Repeats Round k first last →
     KeepsNumbers (task first) (task last)
 rounds_stay {S = S} task Round each zero first last did = subst (λ (x : S). KeepsNumbers (task first) (task x)) (sym did) (stays_so (task first))
 rounds_stay task Round each (suc k) first last did = stays_on (rounds_stay task Round each k first did.0 did.1) (each k did.0 last did.2)
 
 -- the same of rounds that are calls
-calls_stay : (Round : ℕ → TaskState → TaskState → Type 0) → ((k : ℕ) (x y : TaskState) → Round k x y → KeepsNumbers x y) → (k : ℕ) (first last : TaskState) →
+calls_stay : (Round : ℕ → SeatedTask → SeatedTask → Type 0) → ((k : ℕ) (x y : SeatedTask) → Round k x y → KeepsNumbers x y) → (k : ℕ) (first last : SeatedTask) →
     Repeats Round k first last → KeepsNumbers first last
 calls_stay = rounds_stay (λ x. x)
 
-retries_stay : (op : Op) (refusal : GateError) (first last : TaskState) → Retries op refusal first last → KeepsNumbers first last
+retries_stay : (op : Op) (refusal : GateError) (first last : SeatedTask) → Retries op refusal first last → KeepsNumbers first last
 retries_stay op refusal first last did =
     stays_on (calls_stay (λ k. IsRefused op refusal) (λ k x y was. stays _ op x y _ was) did.0 first did.1 did.2) (stays _ op did.1 last _ did.3)
 
 -- of write access that was taken
-takes_stay : (cpu : ℕ) (first last : TaskState × ℕ) → Takes cpu first last → KeepsNumbers first.0 last.0
-takes_stay cpu first last did = stays_on (rounds_stay (λ (x : TaskState × ℕ). x.0) (λ k. Waits (IsRefused (WantWrite 0 cpu) ReadOnly))
+takes_stay : (cpu : ℕ) (first last : SeatedTask × ℕ) → Takes cpu first last → KeepsNumbers first.0 last.0
+takes_stay cpu first last did = stays_on (rounds_stay (λ (x : SeatedTask × ℕ). x.0) (λ k. Waits (IsRefused (WantWrite 0 cpu) ReadOnly))
     (λ k x y was. stays _ _ x.0 y.0 _ was.0) did.0 first did.1 did.2) (stays _ _ did.1.0 last.0 _ did.3.0)
 
-pub creates_stay : (writers : ℕ) (first last : TaskState) → CreatesFiles writers first last → KeepsNumbers first last
+pub creates_stay : (writers : ℕ) (first last : SeatedTask) → CreatesFiles writers first last → KeepsNumbers first last
 creates_stay writers first last did =
     stays_on (stays _ _ first did.held _ did.took) (stays_on
     (calls_stay (λ k. CreatesFile) (λ k x y was. stays _ _ x y _ was.1) writers did.held did.made did.creates)
     (stays _ _ did.made last _ did.gave))
 
-pub remounts_stay : (rounds : ℕ) (first last : TaskState × Remounts) → Repeats RemountRound rounds first last → KeepsNumbers first.0 last.0
+pub remounts_stay : (rounds : ℕ) (first last : SeatedTask × Remounts) → Repeats RemountRound rounds first last → KeepsNumbers first.0 last.0
 remounts_stay rounds first last did = rounds_stay (λ x. x.0) RemountRound (λ k x y was. stays_on
     (elim was.closed [ inl done ↦ stays _ _ x.0 was.mid _ done.0 | inr busy ↦ stays _ _ x.0 was.mid _ busy.0 ])
     (stays _ _ was.mid y.0 _ was.opened)) rounds first last did
 
-module _ {N : Type 0} (link : TaskState → ℕ → N → N → Type 0) where
-  pub writes_stay : (processors writer rounds : ℕ) (first last : TaskState × N × Writes) →
+module _ {N : Type 0} (link : SeatedTask → ℕ → N → N → Type 0) where
+  pub writes_stay : (processors writer rounds : ℕ) (first last : SeatedTask × N × Writes) →
       Repeats (WriterRound link processors writer) rounds first last → KeepsNumbers first.0 last.0
   writes_stay processors writer rounds first last did = rounds_stay (λ x. x.0) (WriterRound link processors writer) (λ k x y was. stays_on
       (takes_stay _ (x.0, x.2.waits) (was.held, was.waits) was.took) (stays_on (retries_stay _ _ was.held was.grown was.grew) (stays _ _ was.grown y.0 _ was.gave)))
       rounds first last did
 
-  pub backs_stay : (freezes : ℕ) (first last : TaskState × N × Copies) → Repeats (BackupRound link) freezes first last →
+  pub backs_stay : (freezes : ℕ) (first last : SeatedTask × N × Copies) → Repeats (BackupRound link) freezes first last →
       KeepsNumbers first.0 last.0
   backs_stay freezes first last did = rounds_stay (λ x. x.0) (BackupRound link) (λ k x y was. stays_on
       (stays _ _ x.0 was.frozen _ was.freezes) (stays_on (stays _ _ was.frozen was.copied _ was.copies) (stays_on
       (stays _ _ was.copied was.thawed _ was.thaws)
-      (rounds_stay (λ (x : TaskState × ℕ × ℕ). x.0) (λ k. CallsBack (k + 1)) (λ k x y ran. stays _ _ x.0 y.0 _ ran.1) 3
+      (rounds_stay (λ (x : SeatedTask × ℕ × ℕ). x.0) (λ k. CallsBack (k + 1)) (λ k x y ran. stays _ _ x.0 y.0 _ ran.1) 3
       (was.thawed, 0, with_waits (with_waits (with_waits x.2.waits was.frozen) was.copied) was.thawed) (y.0, was.ran, was.waits) was.calls_back)))) freezes first last did
 
 -- who stands among these does so among more
-pub among_more : (s : TaskState) (items more : SeatItems) → Among items s → Among (items ++ more) s
+pub among_more : (s : SeatedTask) (items more : SeatItems) → Among items s → Among (items ++ more) s
 among_more s [] more h = absurd h
 among_more s (x ∷ xs) more (inl is) = inl is
 among_more s (x ∷ xs) more (inr h) = inr (among_more s xs more h)
 
 -- and who joins them does
-own_among : (s : TaskState) (items : SeatItems) → 1 ≤ length items → s.items ≡ items → Among items s
+own_among : (s : SeatedTask) (items : SeatItems) → 1 ≤ length items → s.items ≡ items → Among items s
 own_among s [] there is = absurd (omega arith)
 own_among s (x ∷ xs) there is = inl (sym (ap (λ l. numbered (own_number l) (own_view l)) is))
 
-among_behind : (s : TaskState) (items more : SeatItems) → Among more s → Among (items ++ more) s
+among_behind : (s : SeatedTask) (items more : SeatItems) → Among more s → Among (items ++ more) s
 among_behind s [] more h = h
 among_behind s (x ∷ xs) more h = inr (among_behind s xs more h)
 
-pub joins_them : (s : TaskState) (items : SeatItems) → 1 ≤ length s.items → Among (items ++ s.items) s
+pub joins_them : (s : SeatedTask) (items : SeatItems) → 1 ≤ length s.items → Among (items ++ s.items) s
 joins_them s items there = among_behind s items s.items (own_among s s.items there refl)
 
-pub is_among : (s : TaskState) → 1 ≤ length s.items → Among s.items s
+pub is_among : (s : SeatedTask) → 1 ≤ length s.items → Among s.items s
 is_among s there = own_among s s.items there refl
 
 -- each of a list that is so is otherwise
@@ -141,17 +141,17 @@ each_on Is Other on n [] each = tt
 each_on Is Other on n (x ∷ xs) each = (on n x each.0, each_on Is Other on (suc n) xs each.1)
 
 -- in the end its number has the view that it knew
-pub ends_as : (views : ℕ → View) (items : SeatItems) (s : TaskState) → HaveViews views items → Among items s → EndsAs views s
+pub ends_as : (views : ℕ → View) (items : SeatItems) (s : SeatedTask) → HaveViews views items → Among items s → EndsAs views s
 ends_as views [] s have h = absurd h
 ends_as views (x ∷ xs) s have (inl is) = subst (λ y. views y.number ≡ y.view) is (have 0 x refl)
 ends_as views (x ∷ xs) s have (inr h) = ends_as views xs s (λ k y e. have (suc k) y e) h
 
 -- parts of those who end so are parts of those who end otherwise
-module _ (Ends Other : TaskState → Type 0) (on : (s : TaskState) → Ends s → Other s) where
+module _ (Ends Other : SeatedTask → Type 0) (on : (s : SeatedTask) → Ends s → Other s) where
   pub remounted_on : (rounds : ℕ) (met : Remounts) → Remounted Ends rounds met → Remounted Other rounds met
   remounted_on rounds met r = record { first = r.first; last = r.last; begun = r.begun; did = r.did; own = r.own; ends = on r.last r.ends }
 
-  module _ {N : Type 0} (link : TaskState → ℕ → N → N → Type 0) (processors rounds : ℕ) (before after : N) where
+  module _ {N : Type 0} (link : SeatedTask → ℕ → N → N → Type 0) (processors rounds : ℕ) (before after : N) where
     pub wrote_on : (writer : ℕ) (writes : Writes) → Wrote Ends link processors rounds writer before after writes →
         Wrote Other link processors rounds writer before after writes
     wrote_on writer writes w =
@@ -187,7 +187,7 @@ module _ (Ends Other : TaskState → Type 0) (on : (s : TaskState) → Ends s �
   }
 
 -- one writer more, before all that come after it
-pub all_wrote_before : (Ends : TaskState → Type 0) {N : Type 0} (link : TaskState → ℕ → N → N → Type 0)
+pub all_wrote_before : (Ends : SeatedTask → Type 0) {N : Type 0} (link : SeatedTask → ℕ → N → N → Type 0)
     (processors rounds : ℕ) (before after : N) (writer from count : ℕ) (its writes all : Writes) → from ≡ suc writer →
     Wrote Ends link processors rounds writer before after its →
     AllWrote Ends link processors rounds from count before after writes → all ≡ both its writes →
@@ -232,19 +232,19 @@ each_popped Is all rest x are each =
     let e : 0 + length rest ≡ length rest = omega arith in (parts.0, subst (λ k. Is k x) e parts.1)
 
 -- a task that was taken back by one that had these numbers
-abbrev pub TookBack : TaskState → TaskState → TaskState → Type 0
+abbrev pub TookBack : SeatedTask → SeatedTask → SeatedTask → Type 0
 TookBack old other new = new ≡ record old { items = old.items ++ other.items; seen = old.seen ++ other.seen }
 
-pub stays_among : (old other new : TaskState) → TookBack old other new → (s : TaskState) → Among old.items s → Among new.items s
+pub stays_among : (old other new : SeatedTask) → TookBack old other new → (s : SeatedTask) → Among old.items s → Among new.items s
 stays_among old other new took s h =
-    subst (λ (t : TaskState). Among t.items s) (sym took) (among_more s old.items other.items h)
+    subst (λ (t : SeatedTask). Among t.items s) (sym took) (among_more s old.items other.items h)
 
-pub comes_among : (old other new : TaskState) → TookBack old other new → 1 ≤ length other.items → Among new.items other
+pub comes_among : (old other new : SeatedTask) → TookBack old other new → 1 ≤ length other.items → Among new.items other
 comes_among old other new took there =
-    subst (λ (t : TaskState). Among t.items other) (sym took) (joins_them other old.items there)
+    subst (λ (t : SeatedTask). Among t.items other) (sym took) (joins_them other old.items there)
 
 -- the remounter's part, once its task was taken back
-pub remounter_part : (rounds : ℕ) (met : Remounts) (first last old new : TaskState) → HasBegun 1 first →
+pub remounter_part : (rounds : ℕ) (met : Remounts) (first last old new : SeatedTask) → HasBegun 1 first →
     Repeats RemountRound rounds (first, no_remounts) (last, met) → TookBack old last new → Remounted (Among new.items) rounds met
 remounter_part rounds met first last old new begun did took =
     let stayed = remounts_stay rounds (first, no_remounts) (last, met) did in record {
@@ -257,8 +257,8 @@ remounter_part rounds met first last old new begun did took =
     }
 
 -- and a writer's
-pub writer_part : {N : Type 0} (link : TaskState → ℕ → N → N → Type 0) (processors rounds writer : ℕ) (before after : N)
-    (writes : Writes) (first last old new : TaskState) → HasBegun (writer + 2) first →
+pub writer_part : {N : Type 0} (link : SeatedTask → ℕ → N → N → Type 0) (processors rounds writer : ℕ) (before after : N)
+    (writes : Writes) (first last old new : SeatedTask) → HasBegun (writer + 2) first →
     Repeats (WriterRound link processors writer) rounds (first, before, no_writes) (last, after, writes) → TookBack old last new →
     Wrote (Among new.items) link processors rounds writer before after writes
 writer_part link processors rounds writer before after writes first last old new begun did took =
@@ -272,7 +272,7 @@ writer_part link processors rounds writer before after writes first last old new
     }
 
 -- what a task has to give stays its to give
-pub gives_stay : (first last : TaskState) (from count : ℕ) → KeepsNumbers first last → Gives first from count → Gives last from count
+pub gives_stay : (first last : SeatedTask) (from count : ℕ) → KeepsNumbers first last → Gives first from count → Gives last from count
 gives_stay first last from count stayed gives = record {
   there = stayed.there gives.there;
   own = stayed.own ∙ gives.own;
@@ -283,7 +283,7 @@ gives_stay first last from count stayed gives = record {
 }
 
 -- who stands among these numbers is counted there
-among_counted : (items : SeatItems) (s : TaskState) (n : ℕ) → own_number s.items ≡ n → Among items s → 1 ≤ times n items
+among_counted : (items : SeatItems) (s : SeatedTask) (n : ℕ) → own_number s.items ≡ n → Among items s → 1 ≤ times n items
 among_counted [] s n own h = absurd h
 among_counted (x ∷ xs) s n own (inl is) =
     let here : x.number ≡ n = ap (λ y. y.number) is ∙ own in rw (eq-eqb x.number n here) (omega arith)

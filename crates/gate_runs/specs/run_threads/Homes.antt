@@ -12,23 +12,23 @@ use Rattle.gate_runs.specs.run_threads.Parts.{Remounted, Wrote}
 use Rattle.vfs_gates.specs.Held.{Rests}
 use Rattle.vfs_gates.specs.declared.Gates.{Gates}
 use Rattle.gate_runs.specs.run_parts.Splitting.{HasBegun}
-use Rattle.gate_runs.specs.run_parts.TaskStates.{IsFrom, TaskState}
+use Rattle.gate_runs.specs.run_parts.TaskStates.{IsFrom, SeatedTask}
 
 -- all rounds of the task with this number, and nothing else, which met this
-abbrev pub DoesRounds : (ℕ → ℕ → Type 0) → ℕ → ℕ → ℕ → TaskState → TaskState → Met → Type 0
+abbrev pub DoesRounds : (ℕ → ℕ → Type 0) → ℕ → ℕ → ℕ → SeatedTask → SeatedTask → Met → Type 0
 DoesRounds held processors rounds number first last (Remounter met) =
     (number ≡ 1) × Repeats RemountRound rounds (first, no_remounts) (last, met)
 DoesRounds held processors rounds number first last (Writer met) = (writer : ℕ) × (number ≡ writer + 2)
     × Repeats (WriterRound (was_held held) processors writer) rounds (first, tt, no_writes) (last, tt, met)
 
 -- it comes back to these gates, at rest, and has done all its rounds since it began, unless a call of it was refused so
-abbrev pub ComesHome : (ℕ → ℕ → Type 0) → Gates → Plan → ℕ → TaskState → Result Met GateError → Type 0
+abbrev pub ComesHome : (ℕ → ℕ → Type 0) → Gates → Plan → ℕ → SeatedTask → Result Met GateError → Type 0
 ComesHome held gates plan number last met = IsFrom last gates × Rests last
-    × IfOk met (λ m. (first : TaskState) × HasBegun number first × DoesRounds held plan.processors plan.rounds number first last m)
+    × IfOk met (λ m. (first : SeatedTask) × HasBegun number first × DoesRounds held plan.processors plan.rounds number first last m)
     × IfErr met (MetBy gates.words.config plan.tasks)
 
 -- what it has done of a run, and met, and how it stands at the end
-abbrev pub TaskShare : (TaskState → Type 0) → (ℕ → ℕ → Type 0) → ℕ → ℕ → ℕ → Met → Type 0
+abbrev pub TaskShare : (SeatedTask → Type 0) → (ℕ → ℕ → Type 0) → ℕ → ℕ → ℕ → Met → Type 0
 TaskShare Ends held processors rounds number (Remounter met) = (number ≡ 1) × Remounted Ends rounds met
 TaskShare Ends held processors rounds number (Writer met) = (writer : ℕ) × (number ≡ writer + 2)
     × Wrote Ends (was_held held) processors rounds writer tt tt met

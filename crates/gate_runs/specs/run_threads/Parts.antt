@@ -2,7 +2,7 @@
 use Rattle.std.specs.Prelude.{◌≡◌, ℕ, suc, ◌+◌, ◌-◌, ◌≤◌, ◌⊎◌, List, [], ◌∷◌, length}
 use Rattle.gate_world.specs.declared.views.View.{View}
 use Rattle.gate_runs.specs.run_parts.Seating.{SeatItems, numbered}
-use Rattle.gate_runs.specs.run_parts.TaskStates.{TaskState, IsIdle, own_number, own_view, spare_of}
+use Rattle.gate_runs.specs.run_parts.TaskStates.{SeatedTask, IsIdle, own_number, own_view, spare_of}
 use Rattle.run_plans.specs.declared.counts.Copies.{Copies}
 use Rattle.run_plans.specs.declared.counts.Details.{Details}
 use Rattle.run_plans.specs.declared.counts.Remounts.{Remounts}
@@ -18,16 +18,16 @@ EachFrom Is n [] = Unit {0}
 EachFrom Is n (x ∷ xs) = Is n x × EachFrom Is (suc n) xs
 
 -- the task's own number stands among these, with its view
-abbrev pub Among : SeatItems → TaskState → Type 0
+abbrev pub Among : SeatItems → SeatedTask → Type 0
 Among [] s = ⊥
 Among (x ∷ xs) s = (x ≡ numbered (own_number s.items) (own_view s.items)) ⊎ Among xs s
 
 -- its own number has in the end the view that it knew
-abbrev pub EndsAs : (ℕ → View) → TaskState → Type 0
+abbrev pub EndsAs : (ℕ → View) → SeatedTask → Type 0
 EndsAs views s = views (own_number s.items) ≡ own_view s.items
 
 -- calls of its own leave a task its number, and the others that it has to give
-pub record KeepsNumbers (first last : TaskState) : Type 0 where
+pub record KeepsNumbers (first last : SeatedTask) : Type 0 where
   pub config : last.config ≡ first.config
   pub own : own_number last.items ≡ own_number first.items
   pub spare : spare_of last.items ≡ spare_of first.items
@@ -35,21 +35,21 @@ pub record KeepsNumbers (first last : TaskState) : Type 0 where
   pub there : 1 ≤ length first.items → 1 ≤ length last.items
 
 -- What each task has done. `Ends` says of the last state of each how it stands at the end.
-module _ (Ends : TaskState → Type 0) where
+module _ (Ends : SeatedTask → Type 0) where
   -- the remounter: from its beginning on so many rounds, which met this, and nothing else
   pub record Remounted (rounds : ℕ) (remounts : Remounts) : Type 0 where
-    pub first : TaskState
-    pub last : TaskState
+    pub first : SeatedTask
+    pub last : SeatedTask
     pub begun : HasBegun 1 first
     pub did : Repeats RemountRound rounds (first, no_remounts) (last, remounts)
     pub own : own_number last.items ≡ 1
     pub ends : Ends last
 
-  module _ {N : Type 0} (link : TaskState → ℕ → N → N → Type 0) where
+  module _ {N : Type 0} (link : SeatedTask → ℕ → N → N → Type 0) where
     -- a writer, the first being 0: from its beginning and these notes on so many rounds, which met this, and nothing else
     pub record Wrote (processors rounds writer : ℕ) (before after : N) (writes : Writes) : Type 0 where
-      pub first : TaskState
-      pub last : TaskState
+      pub first : SeatedTask
+      pub last : SeatedTask
       pub begun : HasBegun (writer + 2) first
       pub did : Repeats (WriterRound link processors writer) rounds (first, before, no_writes) (last, after, writes)
       pub own : own_number last.items ≡ writer + 2
@@ -65,10 +65,10 @@ module _ (Ends : TaskState → Type 0) where
     -- The backup: it has created a file for each writer, then given all other numbers away, which adds nothing to its list, and then frozen
     -- so often, which met this, and nothing else.
     pub record BackedUp (writers freezes : ℕ) (before after : N) (copies : Copies) : Type 0 where
-      pub begins : TaskState
-      pub made : TaskState
-      pub first : TaskState
-      pub last : TaskState
+      pub begins : SeatedTask
+      pub made : SeatedTask
+      pub first : SeatedTask
+      pub last : SeatedTask
       pub begun : HasBegun 0 begins
       pub creates : CreatesFiles writers begins made
       pub same : own_view first.items ≡ own_view made.items
@@ -77,7 +77,7 @@ module _ (Ends : TaskState → Type 0) where
       pub ends : Ends last
 
 -- what all tasks of a run have done and met
-pub record AllDid (Ends : TaskState → Type 0) (held : ℕ → ℕ → Type 0) (seen : ℕ → Type 0) (tasks processors rounds freezes : ℕ)
+pub record AllDid (Ends : SeatedTask → Type 0) (held : ℕ → ℕ → Type 0) (seen : ℕ → Type 0) (tasks processors rounds freezes : ℕ)
     (details : Details) : Type 0 where
   pub backup : BackedUp Ends (was_frozen seen) (tasks - 2) freezes tt tt details.copies
   pub remounter : Remounted Ends rounds (remounts_of details)

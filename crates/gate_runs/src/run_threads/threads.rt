@@ -7,7 +7,7 @@ ghost use Rattle.gate_runs.specs.run_threads.Parts.{AllDid, AllWrote, Among, Eac
 ghost use Rattle.gate_runs.specs.run_parts.Meetings.{was_held};
 ghost use Rattle.gate_runs.specs.run_parts.Refusals.{MetBy, RunRefused};
 ghost use Rattle.gate_runs.specs.run_parts.Splitting.{Gives, HasBegun};
-ghost use Rattle.gate_runs.specs.run_parts.TaskStates.{IsFrom, TaskState, own_view};
+ghost use Rattle.gate_runs.specs.run_parts.TaskStates.{IsFrom, SeatedTask, own_view};
 ghost use Rattle.run_plans.specs.Plans.{run_config};
 ghost use Rattle.vfs_gates.specs.Held.{Rests};
 
@@ -204,7 +204,7 @@ fn join_worker<R: Threads, W: RunObserver>(
     requires there { 1 ≤ length task.old.items }
     ensures from { IsFrom task.new gates.now }
     ensures rests { Rests task.new × (1 ≤ length task.new.items) }
-    ensures others { (s : TaskState) → Among task.old.items s → Among task.new.items s }
+    ensures others { (s : SeatedTask) → Among task.old.items s → Among task.new.items s }
     ensures part { IfOk result (TaskShare (Among task.new.items) (W.held worker.entry.promise.watch.now)
         worker.entry.promise.plan.processors worker.entry.promise.plan.rounds worker.entry.promise.number) }
     ensures refused { IfErr result (RunRefused gates.now.words.config worker.entry.promise.plan.tasks) }
@@ -234,7 +234,7 @@ fn join_workers<R: Threads, W: RunObserver>(
     requires there { 1 ≤ length task.old.items }
     ensures from { IsFrom task.new gates.now }
     ensures rests { Rests task.new }
-    ensures others { (s : TaskState) → Among task.old.items s → Among task.new.items s }
+    ensures others { (s : SeatedTask) → Among task.old.items s → Among task.new.items s }
     ensures remounted { IfOk result (λ met. Remounted (Among task.new.items) _plan.rounds met.0) }
     ensures wrote { IfOk result (λ met. AllWrote (Among task.new.items) (was_held (W.held _watch.now)) _plan.processors _plan.rounds
         0 (vec_len workers.old - 1) tt tt met.1) }

@@ -1,4 +1,4 @@
--- Of every schedule: a reply is near, or each operation under way is kept; and all that is under way settles.
+-- Of every schedule: a reply is near, or each operation under way is blocked; and all that is under way settles.
 use Rattle.std.specs.Prelude.{List}
 use Rattle.gate_world.specs.{Configs.IsWithin, Headline.world_after, declared.config.Config.Config}
 use Rattle.gate_world.specs.declared.entries.Entry.{Entry}

@@ -1,5 +1,5 @@
--- Progress: from each world in which an operation is under way a reply is near, or each task under way stands before a level that is kept
--- closed, or kept from being passed, by what no task under way can change.
+-- Progress: from each world in which an operation is under way a reply is near, or each task under way stands before a level that is held
+-- closed, or that it can't pass, by what no task under way can change.
 use Rattle.std.specs.Prelude.{◌≡◌, ℕ, zero, suc, ◌<◌, ◌≤◌, ◌⊎◌, ◌==◌, ◌&&◌, if◌then◌else◌, Bool, true, false, Option, Some, None, Ok, List}
 use Rattle.cpu_words.specs.{Hooks.HookAnswer, Words.Words}
 use Rattle.node_words.specs.Nodes.{removed_in, opens_in}
@@ -65,7 +65,7 @@ next_level w (Releases answer) = 4
 abbrev pub HeldLevelAhead : Config → World → FreezeStep → Type 0
 HeldLevelAhead c w step = (i : ℕ) × (next_level w.words step ≤ i) × (i ≤ 3) × IsHeldIdle c w i
 
--- what a task is at is a freeze that is so kept, and has level 1 behind it, from where on it owns `umount` to its end
+-- what a task is at is a freeze that is so blocked, and has level 1 behind it, from where on it owns `umount` to its end
 abbrev pub BlockedIfFreeze : Config → World → Option Phase → Type 0
 BlockedIfFreeze c w (Some (Freezes x)) = (2 ≤ next_level w.words x.step) × HeldLevelAhead c w x.step
 BlockedIfFreeze c w phase = ⊥
@@ -138,14 +138,14 @@ abbrev pub OneFreezeBegins : Config → World → Type 0
 OneFreezeBegins c w = (y z : ℕ) → y < c.tasks → z < c.tasks → begins_freeze (w.views y).phase ≡ true →
     begins_freeze (w.views z).phase ≡ true → y ≡ z
 
--- A freeze at its first lock waits for one that is kept and has it; or it is free, and the freeze, which would be kept itself, is the only one
+-- A freeze at its first lock waits for one that is blocked and has it; or it is free, and the freeze, which would be blocked itself, is the only one
 -- there: of two the second finds that the stage isn't 0, and is busy.
 abbrev pub FreezeIsBlocked : Config → World → FreezeStep → Type 0
 FreezeIsBlocked c w FreezeLocks = LockIsBlocked c w ⊎ ((w.words.umount ≡ 0) × OneFreezeBegins c w × HeldLevelAhead c w FreezeLocks)
 FreezeIsBlocked c w step = HeldLevelAhead c w step
 
--- An operation is kept: a start or a last close that waits, by its closed level; a freeze, by an idle task that holds a level which it has to pass yet;
--- and whoever waits for `umount`, by a freeze that owns it and is kept so. No other operation is.
+-- An operation is blocked: a start or a last close that waits, by its closed level; a freeze, by an idle task that holds a level which it has to pass yet;
+-- and whoever waits for `umount`, by a freeze that owns it and is blocked so. No other operation is.
 abbrev pub IsBlockedAt : Config → World → Phase → Type 0
 IsBlockedAt c w (Mounts phase) = MountIsBlocked c w phase
 IsBlockedAt c w (Remounts x) = RemountIsBlocked c w x.step
@@ -157,16 +157,16 @@ IsBlockedAt c w (Trees phase) = TreeIsBlocked c w phase
 IsBlockedAt c w (FileCloses phase) = CloseIsBlocked w phase
 IsBlockedAt c w phase = ⊥
 
--- each operation under way is kept
+-- each operation under way is blocked
 abbrev pub AllAreBlocked : Config → World → Type 0
 AllAreBlocked c w = (t : ℕ) → t < c.tasks → (phase : Phase) → (w.views t).phase ≡ Some phase → IsBlockedAt c w phase
 
--- A reply is near, or each operation under way is kept.
+-- A reply is near, or each operation under way is blocked.
 abbrev pub Progresses : Config → ℕ → World → Type 0
 Progresses c n w = ReplyWithin c n w ⊎ AllAreBlocked c w
 
 -- All that is under way comes to its end, as far as it can. Somebody can pick, event by event, one of the tasks under way, knowing what the hooks
--- have answered so far but not what they will, so that after at most so many events each operation that is still under way is kept. No other
+-- have answered so far but not what they will, so that after at most so many events each operation that is still under way is blocked. No other
 -- operation begins in between, so each of the others has its reply.
 abbrev pub SettlesWithin : Config → ℕ → World → Type 0
 SettlesWithin c zero w = AllAreBlocked c w
@@ -177,7 +177,7 @@ SettlesWithin c (suc n) w =
 abbrev pub IsAgreed : Phase → HookAnswer → Type 0
 IsAgreed phase hook = (hook_of phase ≡ None) ⊎ (hook ≡ Ok tt)
 
--- The converse: where each operation under way is kept, no event of one of them is a reply, and all stay kept. So they are until an idle
+-- The converse: where each operation under way is blocked, no event of one of them is a reply, and all stay blocked. So they are until an idle
 -- task gives its level back, another operation begins, or a hook fails.
 abbrev pub BlockedIsStable : Config → World → Type 0
 BlockedIsStable c w = AllAreBlocked c w → (t : ℕ) → t < c.tasks → (phase : Phase) → (w.views t).phase ≡ Some phase → (hook : HookAnswer) →
@@ -187,7 +187,7 @@ BlockedIsStable c w = AllAreBlocked c w → (t : ℕ) → t < c.tasks → (phase
 abbrev pub AFreezeIsKept : Config → World → Type 0
 AFreezeIsKept c w = (y : ℕ) × (y < c.tasks) × (x : Freeze) × ((w.views y).phase ≡ Some (Freezes x)) × HeldLevelAhead c w x.step
 
--- The same in fewer words: with an operation under way, a reply is near, or the file system is frozen as a whole, or a freeze is kept by an
+-- The same in fewer words: with an operation under way, a reply is near, or the file system is frozen as a whole, or a freeze is blocked by an
 -- idle task.
 abbrev pub ReplyOrFrozen : Config → ℕ → World → Type 0
 ReplyOrFrozen c n w = (t : ℕ) → t < c.tasks → IsUnderWay w t →

@@ -313,6 +313,6 @@ most_settled c = max (most_in_loop c) (most_beside c + 5 * (c.tasks - 1))
 abbrev pub most_events_to_reply : Config → ℕ
 most_events_to_reply c = most_settled c + 5
 
--- so many for each task, until all have their reply or are kept
+-- so many for each task, until all have their reply or are blocked
 abbrev pub most_events_to_settle : Config → ℕ
 most_events_to_settle c = c.tasks * most_events_to_reply c

@@ -36,7 +36,7 @@ use Rattle.gate_steps.specs.call_events.Asking.{Ask, asks_of, asks_with, call_at
 use Rattle.gate_steps.specs.call_events.Waited.{is_wait, waits_in}
 use Rattle.gate_steps.specs.call_events.Refused.{IsUnchanged, IsUnchangedBy, IsHonestWait}
 use Rattle.gate_steps.proofs.call_events.Refused.{is_unchanged, waits_honestly}
-use Rattle.gate_steps.specs.call_events.Runs.{events_onto, completed_by, ran_snapshot, ran_view, ran_items, begins_at, items_at, IsMoveOf, IsNextMove, AreMoves, IsBounded, IsRanReply, told_as, the_reply, Goes, Went, StepTells, Called, Replies}
+use Rattle.gate_steps.specs.call_events.Runs.{events_onto, completed_by, ran_snapshot, ran_view, ran_items, begins_at, items_at, IsMoveOf, IsNextMove, AreMoves, IsBounded, IsRanReply, told_as, the_reply, Goes, Went, ProgressMatches, Called, Replies}
 
 -- the numbers of a task whose own number has begun the operation
 abbrev pub entered_items : Option Op → Option Phase → SeatItems → SeatItems
@@ -409,7 +409,7 @@ module _ (op : Op) (start now left : SeatedTask) (step : Step) (h : HookAnswer) 
   ends_there within a is = (ends_with_it within a is).0
 
   -- so a step tells how it stands
-  by_next : IsWithin c → (next : Next Phase) → after.0 ≡ next → StepTells op start (progress_of next) left
+  by_next : IsWithin c → (next : Next Phase) → after.0 ≡ next → ProgressMatches op start (progress_of next) left
   by_next within (Go q) is = goes_further (λ a ended. absurd (let told = progress_then ∙ ap progress_of is in let f : ⊥ = cc in f))
   by_next within (Wait q) is =
       let g = goes_with_it (λ a ended. absurd (let told = progress_then ∙ ap progress_of is in let f : ⊥ = cc in f)) in
@@ -418,8 +418,8 @@ module _ (op : Op) (start now left : SeatedTask) (step : Step) (h : HookAnswer) 
       (g.0, subst (MayWait c op) (sym g.1) (subst (IsHonestWait c op trace) comes waits))
   by_next within (Done a) is = ends_there within a (progress_then ∙ ap progress_of is)
 
-  pub told_then : IsWithin c → StepTells op start step.progress left
-  told_then within = subst (λ p. StepTells op start p left) (sym progress_then) (by_next within after.0 refl)
+  pub told_then : IsWithin c → ProgressMatches op start step.progress left
+  told_then within = subst (λ p. ProgressMatches op start p left) (sym progress_then) (by_next within after.0 refl)
 
   -- the hooks that it has asked then
   asks_then : (asks : List Ask) → asks_of c op start.items goes.trace ≡ asks →

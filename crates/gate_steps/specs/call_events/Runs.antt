@@ -173,11 +173,11 @@ Went op start (Wait phase) now = Goes op start now
 Went op start (Done answer) now = Called op start now answer
 
 -- The same as a step tells it: the operation goes on, or waits for others where it may, or was done whole.
-abbrev pub StepTells : Op → SeatedTask → Progress → SeatedTask → Type 0
-StepTells op start Idle now = ⊥
-StepTells op start Going now = Goes op start now
-StepTells op start Waiting now = (goes : Goes op start now) × MayWait start.config op goes.trace
-StepTells op start (Ended answer) now = Called op start now answer
+abbrev pub ProgressMatches : Op → SeatedTask → Progress → SeatedTask → Type 0
+ProgressMatches op start Idle now = ⊥
+ProgressMatches op start Going now = Goes op start now
+ProgressMatches op start Waiting now = (goes : Goes op start now) × MayWait start.config op goes.trace
+ProgressMatches op start (Ended answer) now = Called op start now answer
 
 -- some operation that has a most number of events is under way here
 pub record IsTrying (now : SeatedTask) : Type 0 where

@@ -1,11 +1,11 @@
 -- The backup's task rests once the writer's is joined to it, and its first change comes after all that the writer had done.
 use Rattle.std.specs.Prelude.{Bool, Result, Ok, Err, OnOk}
-use Rattle.vfs_gates.proofs.Rounds.{GateError, TaskState, done_after, joined_rests}
+use Rattle.vfs_gates.proofs.Rounds.{GateError, SeatedTask, done_after, joined_rests}
 use Rattle.backup_beside_writer.specs.Told.{HasEveryWrite, HasCopied}
 use Rattle.backup_beside_writer.proofs.run.copy_at_the_end.Goals as goal
 
 -- where a copy was made, it is one of all writes
-has_every_write : (copied : Result Bool GateError) (backup writer old left : TaskState) → (HasCopied old left → HasEveryWrite backup writer left) →
+has_every_write : (copied : Result Bool GateError) (backup writer old left : SeatedTask) → (HasCopied old left → HasEveryWrite backup writer left) →
     OnOk copied (HasCopied old left) → OnOk copied (HasEveryWrite backup writer left)
 has_every_write (Ok torn) backup writer old left every made = every made
 has_every_write (Err refusal) backup writer old left every made = tt

@@ -4,7 +4,7 @@ use Rattle.std.specs.Prelude.{slice_index, unwrap_or}
 use Rattle.cpu_words.specs.Names.{place, stride}
 use Rattle.cpu_words.specs.declared.names.WordName.TheVariants.{Used}
 use Rattle.gate_world.specs.declared.config.Config.{Config}
-use Rattle.gate_runs.specs.run_parts.TaskStates.{TaskState}
+use Rattle.gate_runs.specs.run_parts.TaskStates.{SeatedTask}
 use Rattle.std.proofs.lemmas.Nat.{mul-le}
 use Rattle.gate_world.specs.Configs.{IsWithin}
 use Rattle.gate_runs.specs.run_threads.Parts.{Among, EndsAs}
@@ -21,7 +21,7 @@ in_threads-requires-clause-begins g c =
     let made = c.in-Ok.ensures.made in
     let tasks : c.config.result.tasks ≡ c.args.plan.tasks = ap (λ (d : Config). d.tasks) c.config.ensures in
     let some : 1 ≤ c.config.result.tasks = omega (arith, tasks, c.args.plan.within.tasks_from) in
-    let begun : HasBegun 0 c.in-Ok.made.1 = first_begins c.in-Ok.made.1 c.config.result some (ap (λ (t : TaskState). t.items) made.1) in
+    let begun : HasBegun 0 c.in-Ok.made.1 = first_begins c.in-Ok.made.1 c.config.result some (ap (λ (t : SeatedTask). t.items) made.1) in
     λ _ _. begun
 
 pub in_threads-requires-clause-gives : goal.in_threads-requires-clause-gives
@@ -30,7 +30,7 @@ in_threads-requires-clause-gives g c =
     let tasks : c.config.result.tasks ≡ c.args.plan.tasks = ap (λ (d : Config). d.tasks) c.config.ensures in
     let some : 1 ≤ c.config.result.tasks = omega (arith, tasks, c.args.plan.within.tasks_from) in
     let gives : Gives c.in-Ok.made.1 1 c.args.plan.tasks = subst (λ n. Gives c.in-Ok.made.1 1 n) tasks
-    (gives_all c.in-Ok.made.1 c.config.result some (ap (λ (t : TaskState). t.phase) made.1) (ap (λ (t : TaskState). t.items) made.1)) in
+    (gives_all c.in-Ok.made.1 c.config.result some (ap (λ (t : SeatedTask). t.phase) made.1) (ap (λ (t : SeatedTask). t.items) made.1)) in
     λ _ _. gives
 
 pub in_threads-requires-clause-planned : goal.in_threads-requires-clause-planned

@@ -1,4 +1,4 @@
--- The closing of a level leaves the words that others are kept by, and ends only by passing the level.
+-- The closing of a level leaves the words that others are blocked by, and ends only by passing the level.
 use Rattle.std.{proofs.{Common.{◌≡◌, ℕ}}, specs.Prelude.{Option, Some, None}}
 use Rattle.std.proofs.Common.{arith}
 use Rattle.access_model.specs.declared.{actions.Action.Action, replies.Next.Next}

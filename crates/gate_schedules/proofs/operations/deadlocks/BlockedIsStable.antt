@@ -1,4 +1,4 @@
--- Where each operation under way is kept, no event of one of them is a reply, and all stay kept.
+-- Where each operation under way is blocked, no event of one of them is a reply, and all stay blocked.
 use Rattle.gate_world.specs.Roles.{freeze_owns}
 use Rattle.access_model.specs.{Replies.map_next, declared.{actions.Action.{Action, TheVariants.Pass}, replies.Next.{Next, TheVariants.{Done, Go, Wait}}}}
 use Rattle.cpu_words.specs.{Hooks.HookAnswer, Touches.{found_by, left}, Words.{Words, put, read}, declared.events.Touch.TheVariants.Cas}
@@ -56,7 +56,7 @@ kept_later : (c : Config) (v : World) (s : FreezeStep) → is_first_lock s ≡ f
 kept_later c v FreezeLocks later h = absurd (true≢false later)
 kept_later c v s later h = h
 
--- what an event of a task that is kept, from this phase to that one, leaves to others that are kept
+-- what an event of a task that is blocked, from this phase to that one, leaves to others that are blocked
 pub record LeavesKept (c : Config) (w next : World) (t : ℕ) (p q : Phase) : Type 0 where
   pub here : (next.views t).phase ≡ Some q
   -- closed levels stay closed, and last closes the last
@@ -66,7 +66,7 @@ pub record LeavesKept (c : Config) (w next : World) (t : ℕ) (p q : Phase) : Ty
   pub owner : BlockedIfFreeze c w (Some p) → owns (Some p) ≡ 1 → (owns (Some q) ≡ 1) × BlockedIfFreeze c next (Some q)
   -- who doesn't own `umount` leaves the stage and the superblock's flag
   pub stage : owns (Some p) ≡ 0 → (next.words.stage ≡ w.words.stage) × (next.words.sb ≡ w.words.sb)
-  -- and `umount` where a freeze at its first lock is kept there
+  -- and `umount` where a freeze at its first lock is blocked there
   pub free : w.words.umount ≡ 0 → w.words.stage ≡ 0 → begins_freeze (Some p) ≡ false →
       (next.words.umount ≡ 0) × (begins_freeze (Some q) ≡ false)
 
@@ -78,7 +78,7 @@ module _ (c : Config) (w : World) (good : IsGood c w) (t : ℕ) (lt : t < c.task
   beside : (y : ℕ) → (y ≡ t → ⊥) → next.views y ≡ w.views y
   beside y ne = update_off w.views t (view_after (w.views t) p (value_at w.words p hook) hook) y ne
 
-  -- an idle task stays one, so a freeze stays kept by it
+  -- an idle task stays one, so a freeze stays blocked by it
   idle_stays : (i : ℕ) → IsHeldIdle c w i → IsHeldIdle c next i
   idle_stays i z =
       let ne : z.0 ≡ t → ⊥ = λ e. not_none p (sym at ∙ (sym (ap (λ y. (w.views y).phase) e) ∙ z.2)) in
@@ -94,7 +94,7 @@ module _ (c : Config) (w : World) (good : IsGood c w) (t : ℕ) (lt : t < c.task
       omega (arith, (good Owner).locked y ly own, (good Owner).locked t lt (ap owns at ∙ mine))
 
   module _ (q : Phase) (k : LeavesKept c w next t p q) where
-    -- who waits for `umount` waits for a freeze that is kept still
+    -- who waits for `umount` waits for a freeze that is blocked still
     locks_stay : LockIsBlocked c w → LockIsBlocked c next
     locks_stay l =
         elim (eqb_tells l.0 t) [
@@ -185,7 +185,7 @@ module _ (c : Config) (w : World) (good : IsGood c w) (t : ℕ) (lt : t < c.task
     reads_stay : (r : DownRead) → StartIsBlocked w r → StartIsBlocked next r
     reads_stay r h = (h.0, h.1, k.blocks r.level h.2)
 
-    -- so each other operation stays kept
+    -- so each other operation stays blocked
     phase_stays : (y : ℕ) → y < c.tasks → (y ≡ t → ⊥) → (phase : Phase) → (w.views y).phase ≡ Some phase → IsBlockedAt c w phase →
         IsBlockedAt c next phase
     phase_stays y ly ne (Mounts (Changes x)) is h = change_stays x.step x.wait h
@@ -238,13 +238,13 @@ module _ (c : Config) (w : World) (good : IsGood c w) (t : ℕ) (lt : t < c.task
   abbrev after : Phase → World
   after p = after_step w t p hook
 
-  -- what the event of a kept operation comes to
+  -- what the event of a blocked operation comes to
   record Goes (p : Phase) : Type 0 where
     then_at : Phase
     leaves : LeavesKept c w (after p) t p then_at
     kept : IsBlockedAt c (after p) then_at
 
-  -- a start that is kept
+  -- a start that is blocked
   start_facts : (r : DownRead) → StartIsBlocked w r → 1 ≤ r.level → r.level ≤ 3 →
       StaysKept r (down_read_after r r.step (found_by (down_read_next r r.step).1 (read w.words (down_read_next r r.step).0))).0
   start_facts r h one three =
@@ -576,7 +576,7 @@ module _ (c : Config) (w : World) (good : IsGood c w) (t : ℕ) (lt : t < c.task
         kept = (wait, refl, ap (λ (v : Words). v.block 3) same ∙ set);
       }
 
-  -- each operation that is kept
+  -- each operation that is blocked
   phase_goes : (phase : Phase) (at : (w.views t).phase ≡ Some phase) → PhaseFits c t (held_of (w.views t)) phase →
       IsAgreed phase hook → MovesModel c (shown c w) t (phase_action w hook (Some phase)) (shown c (after phase)) → IsBlockedAt c w phase →
       Goes phase
@@ -601,7 +601,7 @@ module _ (c : Config) (w : World) (good : IsGood c w) (t : ℕ) (lt : t < c.task
       (stands_after c w t lt hook (FileCloses (EntersLevel n node r)) at) (start_facts r k f.2.0 f.2.1)
   phase_goes phase at f agreed m k = absurd k
 
-  -- so all stay kept, and none has its reply
+  -- so all stay blocked, and none has its reply
   all_stay : (phase : Phase) → (w.views t).phase ≡ Some phase → IsAgreed phase hook →
       MovesModel c (shown c w) t (phase_action w hook (Some phase)) (shown c (after phase)) → AllAreBlocked c w →
       (HasReply (after phase) t → ⊥) × AllAreBlocked c (after phase)

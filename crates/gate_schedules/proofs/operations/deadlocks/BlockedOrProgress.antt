@@ -1,4 +1,4 @@
--- Each operation under way is kept, or a reply is near.
+-- Each operation under way is blocked, or a reply is near.
 use Rattle.gate_world.specs.Roles.{freeze_owns, snapshot_owns, thaw_owns}
 use Rattle.cpu_words.specs.{Hooks.HookAnswer, Words.Words}
 use Rattle.composite_ops.specs.declared.file_closes.phases.ClosePhase.{ClosePhase}
@@ -188,7 +188,7 @@ module _ (c : Config) (lim : IsWithin c)
     lastly : ReplyWithin c (most_settled c + 4) w → ReplyWithin c (most_settled c + 5) w
     lastly = no_further c (most_settled c + 4) (most_settled c + 5) w (omega arith)
 
-    -- where `umount` is taken, its owner has its reply, or is a freeze that releases it, or one that is kept
+    -- where `umount` is taken, its owner has its reply, or is a freeze that releases it, or one that is blocked
     lock_taken : (t : ℕ) → t < c.tasks → (phase : Phase) → (w.views t).phase ≡ Some phase → owns (Some phase) ≡ 0 →
         Waits t phase → (w.words.umount ≡ 0 → ⊥) → ReplyWithin c (most_settled c + 5) w ⊎ LockIsBlocked c w
     lock_taken t lt phase at none waits taken =
@@ -228,7 +228,7 @@ module _ (c : Config) (lim : IsWithin c)
           freeze_goes c lim keeps ends v good' t lt x at (subst (IdleApart c v) (sym e) (apart_at_one v one))
           (subst (FirstFree v.words) (sym e) free)
 
-      -- the operation of each task: a reply is near, or it is kept
+      -- the operation of each task: a reply is near, or it is blocked
       task_goes : (phase : Phase) → (w.views t).phase ≡ Some phase →
           PhaseFits c t (held_of (w.views t)) phase → ReplyWithin c (most_settled c + 5) w ⊎ IsBlockedAt c w phase
       task_goes (Phase.Mounts (MountPhase.Want x)) at f =

@@ -1,4 +1,4 @@
--- A start or a last close that is kept stays so by its own events, which leave the words that others are kept by.
+-- A start or a last close that is blocked stays so by its own events, which leave the words that others are blocked by.
 use Rattle.std.proofs.{Common.{◌≡◌, true, false, arith}}
 use Rattle.access_model.specs.declared.replies.Next.{Next, TheVariants.{Go, Wait, Done}}
 use Rattle.cpu_words.specs.{Touches.found_by, Words.{Words, read}}
@@ -7,7 +7,7 @@ use Rattle.percpu_rwsem.specs.declared.readers.DownReadStep.{DownReadStep, TheVa
 use Rattle.gate_schedules.specs.operations.Progress.{is_admitted}
 use Rattle.gate_schedules.proofs.operations.deadlocks.RankDecreases.{after_event}
 
--- what comes after an event of a start that is kept is that start, which waits and isn't admitted
+-- what comes after an event of a start that is blocked is that start, which waits and isn't admitted
 abbrev pub StaysKept : DownRead → Next DownRead → Type 0
 StaysKept r (Go next) = (next.wait ≡ true) × (is_admitted next.step ≡ false) × (next.level ≡ r.level)
 StaysKept r (Wait next) = (next.wait ≡ true) × (is_admitted next.step ≡ false) × (next.level ≡ r.level)

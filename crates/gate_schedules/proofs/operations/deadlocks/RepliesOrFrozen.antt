@@ -1,4 +1,4 @@
--- With an operation under way, a reply is near, or the file system is frozen as a whole, or a freeze is kept by an idle task.
+-- With an operation under way, a reply is near, or the file system is frozen as a whole, or a freeze is blocked by an idle task.
 use Rattle.composite_ops.specs.declared.file_closes.phases.ClosePhase.{ClosePhase}
 use Rattle.finite_sums.proofs.Totals.{HasPlace, total_place}
 use Rattle.freeze_levels.specs.declared.{freezes.{Freeze.Freeze, FreezeStep.FreezeStep}, thaws.ThawStep.ThawStep}
@@ -53,7 +53,7 @@ full_or false = inl refl
 
 module _ (c : Config) (w : World) (good : IsGood c w)
     (kept : (t : ℕ) → t < c.tasks → (phase : Phase) → (w.views t).phase ≡ Some phase → IsBlockedAt c w phase) where
-  -- a task at a phase that has a level closed is a freeze that is kept
+  -- a task at a phase that has a level closed is a freeze that is blocked
   closer_at : (i y : ℕ) → 1 ≤ i → y < c.tasks → (p : Option Phase) → (w.views y).phase ≡ p → (closes i (stage_role_of p) ≡ 0 → ⊥) →
       AFreezeIsKept c w
   closer_at i y one ly None at some = absurd (some (up_to_none i one))
@@ -103,7 +103,7 @@ module _ (c : Config) (w : World) (good : IsGood c w)
       FreezeIsBlocked c w s → AFreezeIsKept c w
   freeze_tells t lt x at s e k = grind arith
 
-  -- each operation that is kept
+  -- each operation that is blocked
   kept_tells : (t : ℕ) → t < c.tasks → (phase : Phase) → (w.views t).phase ≡ Some phase →
       PhaseFits c t (held_of (w.views t)) phase → IsBlockedAt c w phase →
       (is_frozen_whole w.words ≡ 1) ⊎ AFreezeIsKept c w

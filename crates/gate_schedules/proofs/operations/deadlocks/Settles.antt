@@ -1,4 +1,4 @@
--- All that is under way comes to its reply, one after the other, until what is left is kept.
+-- All that is under way comes to its reply, one after the other, until what is left is blocked.
 use Rattle.std.{proofs.Common.{◌≡◌, ℕ, zero, suc, ◌+◌, ◌*◌, ◌<◌, ◌≤◌, sym, ap, subst, inl, inr, arith}, specs.Prelude.{Option, None, Some, []}}
 use Rattle.finite_sums.specs.Sums.{total}
 use Rattle.finite_sums.proofs.Totals.{total_at, total_bound, total_updated, update_at}
@@ -23,7 +23,7 @@ going_at_most (Some phase) = omega arith
 abbrev going_in : Config → World → ℕ
 going_in c w = total c.tasks (λ t. is_going (w.views t).phase)
 
--- what is kept has settled
+-- what is blocked has settled
 settled_now : (c : Config) (n : ℕ) (w : World) → AllAreBlocked c w → SettlesWithin c n w
 settled_now c zero w kept = kept
 settled_now c (suc n) w kept = inl kept
@@ -35,7 +35,7 @@ settles_further c (suc n) (suc m) w le (inl kept) = inl kept
 settles_further c (suc n) (suc m) w le (inr h) =
     inr (h.0, h.1, h.2, λ hook. settles_further c n m (happens c w (Steps h.0 hook)) (omega arith) (h.3 hook))
 
--- with none under way nothing is left to be kept
+-- with none under way nothing is left to be blocked
 none_going : (c : Config) (w : World) → going_in c w ≤ 0 → AllAreBlocked c w
 none_going c w none t lt phase at =
     let one : is_going (w.views t).phase ≡ 1 = ap is_going at in

@@ -1,6 +1,6 @@
 -- All threads that were joined are those of the last tasks, and each of these has done its part, with what they met together.
 use Rattle.std.proofs.Common.{◌≡◌, ◌+◌, ◌-◌, ◌≤◌, length, vec_len}
-use Rattle.gate_runs.specs.run_parts.TaskStates.{IsFrom, TaskState}
+use Rattle.gate_runs.specs.run_parts.TaskStates.{IsFrom, SeatedTask}
 use Rattle.vfs_gates.specs.Held.{Rests}
 use Rattle.gate_runs.specs.run_threads.Parts.{Among, EachFrom}
 use Rattle.gate_runs.proofs.run_threads.Homes.{Joined}
@@ -14,7 +14,7 @@ invariant-loop-worker g l = record {
   homes : EachFrom
       (λ place w. (w.promise.gates.now ≡ l.fn.gates) × (w.promise.plan ≡ l.fn._plan) × (w.promise.watch.now ≡ l.fn._watch)
       × (w.promise.number ≡ place + 1)) 0 l.workers.items;
-  others : (s : TaskState) → Among l.fn.task.items s → Among l.task.items s;
+  others : (s : SeatedTask) → Among l.fn.task.items s → Among l.task.items s;
   parts : Joined (Among l.task.items) (g.W.RunObserver.held l.fn._watch) l.fn._plan.processors l.fn._plan.rounds
       (vec_len l.workers) (vec_len l.fn.workers - 1) l.remounts l.writes;
 }

@@ -3,7 +3,7 @@ use Rattle.std.proofs.Common.{◌≡◌, ℕ, ap, refl, ◌∙◌, [], ◌∷◌
 use Rattle.gate_runs.proofs.run_parts.Splitting.{gives_on, has_begun}
 use Rattle.gate_runs.specs.run_parts.Seating.{SeatItems, kept_of}
 use Rattle.gate_runs.specs.run_parts.Splitting.{HasBegun}
-use Rattle.gate_runs.specs.run_parts.TaskStates.{TaskState, own_view}
+use Rattle.gate_runs.specs.run_parts.TaskStates.{SeatedTask, own_view}
 use Rattle.gate_runs.proofs.run_threads.threads.start_worker.Goals as goal
 
 own_kept : (n : ℕ) (items : SeatItems) → own_view (kept_of n items) ≡ own_view items
@@ -22,7 +22,7 @@ returns-in-Ok-spawn_with-clause-from g c = (c.split.ensures.table ∙ c.requires
 pub returns-in-Ok-spawn_with-clause-same : goal.returns-in-Ok-spawn_with-clause-same
 returns-in-Ok-spawn_with-clause-same g c =
     let made = c.in-Ok.ensures.made in
-    ap (λ (t : TaskState). own_view t.items) made.kept ∙ own_kept made.number c.args.task.now.items
+    ap (λ (t : SeatedTask). own_view t.items) made.kept ∙ own_kept made.number c.args.task.now.items
 
 pub returns-clause-from : goal.returns-clause-from
 returns-clause-from g c = (c.split.ensures.table ∙ c.requires.from.0, c.split.ensures.config ∙ c.requires.from.1)

@@ -2,7 +2,7 @@
 use Rattle.std.proofs.Common.{refl, true, subst}
 use Rattle.std.proofs.lemmas.Result.{err_from_is_err_and}
 use Rattle.gate_world.specs.declared.operations.Op.TheVariants.{Snapshot as SnapshotOp}
-use Rattle.gate_steps.specs.call_events.Runs.{StepTells, unit_of}
+use Rattle.gate_steps.specs.call_events.Runs.{ProgressMatches, unit_of}
 use Rattle.gate_steps.proofs.call_events.Running.{was_refused, was_done}
 use Rattle.vfs_gates.proofs.AtOnce.{begun_by, goes_by, refused_so}
 use Rattle.vfs_gates.proofs.task.Task.snapshot.Goals as goal
@@ -11,7 +11,7 @@ pub returns-in-Done : goal.returns-in-Done
 returns-in-Done g c =
     let told = begun_by (SnapshotOp true) c.args.self.now c.load_at_once-progress.new.self c.in_ok-progress.progress _ refl c.in_ok-progress.ensures in
     was_done unit_of (SnapshotOp true) c.args.self.now c.load_at_once-progress.new.self c.in-Done.answer c.outcome.result c.outcome.ensures
-    told.0 (subst (λ p. StepTells (SnapshotOp true) c.args.self.now p c.load_at_once-progress.new.self) c.in-Done.is told.1)
+    told.0 (subst (λ p. ProgressMatches (SnapshotOp true) c.args.self.now p c.load_at_once-progress.new.self) c.in-Done.is told.1)
 
 pub returns : goal.returns
 returns g c =
