@@ -1,5 +1,5 @@
 -- A snapshot whose steps stand in a line: where they lead, and what its task notes of them.
-use Rattle.std.proofs.Common.{◌≡◌, ℕ, ◌-◌, ◌<◌, ◌≤◌, refl, sym, ap, ◌∙◌, subst, arith, Bool, true, false, true≢false}
+use Rattle.std.proofs.Common.{◌≡◌, ℕ, ◌-◌, ◌<◌, ◌≤◌, refl, sym, ap, ◌∙◌, subst, arith, true, false, true≢false}
 use Rattle.std.specs.Prelude.{Option, Some, None, Result, Ok, is_some, if◌then◌else◌, length, []}
 use Rattle.atomic_table.specs.Seated.{TableId}
 use Rattle.access_model.specs.declared.replies.Next.{Next}
@@ -22,7 +22,7 @@ use Rattle.gated_tree.specs.declared.snapshots.SnapshotStep.{SnapshotStep}
 use Rattle.gated_tree.specs.declared.snapshots.SnapshotStep.TheVariants.{Locks, LoadsStage, LoadsUsed, LoadsNode, LoadsKids, Releases}
 use Rattle.gate_world.specs.Accesses.{accesses_after}
 use Rattle.gate_world.specs.Views.{phase_after}
-use Rattle.gate_world.specs.Work.{after_of, next_of}
+use Rattle.gate_world.specs.Work.{after_of}
 use Rattle.gate_world.specs.declared.accesses.Accesses.{Accesses}
 use Rattle.gate_world.specs.declared.config.Config.{Config}
 use Rattle.gate_world.specs.declared.operations.Op.{Op}
@@ -32,9 +32,9 @@ use Rattle.gate_steps.specs.Seating.{SeatItems, items_after}
 use Rattle.gate_steps.specs.declared.seating.Knowledge.{Knowledge}
 use Rattle.gate_steps.specs.call_events.Led.{Led}
 use Rattle.gate_steps.specs.call_events.Turns.{StateAgrees, kept_at}
-use Rattle.gate_steps.proofs.call_events.Leading.{led_on, led_to, led_nowhere}
+use Rattle.gate_steps.proofs.call_events.Leading.{led_on, led_nowhere}
 use Rattle.vfs_gates.specs.declared.buffers.SnapshotBuffers.{SnapshotBuffers}
-use Rattle.vfs_gates.specs.Noted.{Noted, nodes_loaded, taking_at}
+use Rattle.vfs_gates.specs.Noted.{Noted, taking_at}
 use Rattle.vfs_gates.specs.Buffers.{BuffersMatch, noted_in}
 use Rattle.gate_steps.proofs.call_events.Turning.{unasked}
 use Rattle.vfs_gates.proofs.Calling.{Call, Left, has_asked_none, idle, items_of, not_begun, same}

@@ -87,8 +87,8 @@ impl Task {
         if let Err(refusal) = self.admit(op) {
             return Err(refusal);
         }
-        self.buffers.begin(op);
         let first = self.first_snapshot(wait);
+        self.buffers.begin(op);
         let (seat, accesses) = (&mut self.seat, &self.kept.accesses);
         let next = snapshot_first(&gates.words, seat, accesses, &mut self.buffers, op, first);
         self.waited = waits(&next);

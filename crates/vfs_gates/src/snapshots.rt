@@ -53,7 +53,14 @@ fn find_noting(
         (after_of (Trees (Snapshots snapshot)) result (Ok tt)).0 seat.new.table_id seat.new.me.0 buffers.new }
 {
     let touch = Touch::Load;
-    let found = find(gates, seat, accesses, TreePhase::Snapshot(snapshot), word, touch);
+    let found = find(
+        gates,
+        seat,
+        accesses,
+        TreePhase::Snapshot(snapshot),
+        word,
+        touch,
+    );
     buffers.note(snapshot, touch.event(word, found));
     found
 }
@@ -141,7 +148,14 @@ fn load_tree(
     load_kids(gates, seat, accesses, buffers, snapshot);
     let step = SnapshotStep::Releases(Ok(Reply::Tree));
     let here = TreePhase::Snapshot(Snapshot { step, ..snapshot });
-    let _freed = find(gates, seat, accesses, here, WordName::Umount, Touch::Store(0));
+    let _freed = find(
+        gates,
+        seat,
+        accesses,
+        here,
+        WordName::Umount,
+        Touch::Store(0),
+    );
     Next::Done(Ok(Reply::Tree))
 }
 

@@ -1,5 +1,5 @@
 -- each part goes on from what the one before it left
-use Rattle.std.proofs.Common.{refl, ◌∙◌}
+use Rattle.std.proofs.Common.{refl}
 use Rattle.gate_steps.proofs.call_events.Leading.{still_tied}
 use Rattle.vfs_gates.proofs.Loading.{noted_on, unnoted}
 use Rattle.vfs_gates.proofs.snapshots.load_tree.Goals as goal

@@ -1,5 +1,5 @@
 -- a beginning, and a line of steps whose loads are noted
-use Rattle.std.proofs.Common.{refl, sym, ap, ◌∙◌}
+use Rattle.std.proofs.Common.{sym, ap, ◌∙◌}
 use Rattle.std.specs.Prelude.{Some}
 use Rattle.gate_steps.proofs.call_events.Onward.{stands_at, done_at}
 use Rattle.gate_steps.specs.call_events.Progress.TheVariants.{Going, Done}
@@ -30,7 +30,7 @@ left c = left_by (call c) (of_tree c.snapshot_first-next.result) c.snapshot_firs
 
 -- as the call begins, its buffers tell of the operation's first phase
 begun : (c : After-snapshot_first-next) →
-    BuffersMatch (call c).task.config.nodes c.begin.new.buffers (Some (call c).op) (Some (call c).first) (items_of (call c))
+    BuffersMatch (call c).task.config.nodes c.begin.new.self (Some (call c).op) (Some (call c).first) (items_of (call c))
 begun c = begun_in (call c) _ (c.begin.ensures c.self.inside.config c.self.inside.begins c.self.inside.kept.phase c.self.inside.seat.me.0.items
     c.self.inside.number c.self.invariant.2)
 

@@ -9,21 +9,21 @@ use Rattle.vfs_gates.proofs.task.Task.snapshot.Goals as goal
 
 pub returns-in-Done : goal.returns-in-Done
 returns-in-Done g c =
-    let told = begun_by (SnapshotOp true) c.args.self.now c.load_at_once-progress.new.self c.in_ok-progress.progress _ refl c.in_ok-progress.ensures in
-    was_done unit_of (SnapshotOp true) c.args.self.now c.load_at_once-progress.new.self c.in-Done.answer c.outcome.result c.outcome.ensures
-    told.0 (subst (λ p. ProgressMatches (SnapshotOp true) c.args.self.now p c.load_at_once-progress.new.self) c.in-Done.is told.1)
+    let told = begun_by (SnapshotOp true) c.args.self.now c.load_at_once.new.self c.in_ok-progress.progress _ refl c.in_ok-progress.ensures in
+    was_done unit_of (SnapshotOp true) c.args.self.now c.load_at_once.new.self c.in-Done.answer c.outcome.result c.outcome.ensures
+    told.0 (subst (λ p. ProgressMatches (SnapshotOp true) c.args.self.now p c.load_at_once.new.self) c.in-Done.is told.1)
 
 pub returns : goal.returns
 returns g c =
-    let told = begun_by (SnapshotOp true) c.args.self.now c.load_at_once-progress.new.self c.in_ok-progress.progress _ refl c.in_ok-progress.ensures in
+    let told = begun_by (SnapshotOp true) c.args.self.now c.load_at_once.new.self c.in_ok-progress.progress _ refl c.in_ok-progress.ensures in
     was_done unit_of (SnapshotOp true) c.args.self.now c.finish_waiting.new.self c.finish_waiting.result c.outcome-2.result c.outcome-2.ensures told.0
     (c.finish_waiting.ensures (SnapshotOp true) c.args.self.now
-    (goes_by (SnapshotOp true) c.args.self.now c.load_at_once-progress.new.self c.in_ok-progress.progress c.in_default.not-Done told.1))
+    (goes_by (SnapshotOp true) c.args.self.now c.load_at_once.new.self c.in_ok-progress.progress c.in_default.not-Done told.1))
 
 pub returns-in_err-progress : goal.returns-in_err-progress
 returns-in_err-progress g c =
     let p = err_from_is_err_and c.from_residual.result c.from_residual.ensures.1 in
-    let refused = refused_so (SnapshotOp true) c.args.self.now c.load_at_once-progress.new.self c.in_err-progress.field-0.0 _ refl
+    let refused = refused_so (SnapshotOp true) c.args.self.now c.load_at_once.new.self c.in_err-progress.field-0.0 _ refl
     c.in_err-progress.ensures in
-    rw (p.1, p.2) (was_refused unit_of (SnapshotOp true) c.args.self.now c.load_at_once-progress.new.self c.in_err-progress.field-0.0
+    rw (p.1, p.2) (was_refused unit_of (SnapshotOp true) c.args.self.now c.load_at_once.new.self c.in_err-progress.field-0.0
     refused.0 refused.1)
