@@ -1,9 +1,10 @@
 -- Operations that are begun and done as far as they go at once.
-use Rattle.std.proofs.Common.{◌≡◌, refl, []}
-use Rattle.std.specs.Prelude.{Option, Some, None, Ok, Err}
+use Rattle.std.proofs.Common.{◌≡◌, refl, sym, ap, ◌∙◌, subst, []}
+use Rattle.std.specs.Prelude.{Option, Some, None, Result, Ok, Err}
 use Rattle.access_model.specs.declared.errors.GateError.{GateError}
 use Rattle.access_model.specs.declared.replies.Next.{Next}
 use Rattle.access_model.specs.declared.replies.Next.TheVariants.{Go}
+use Rattle.access_model.specs.declared.replies.Reply.{Reply}
 use Rattle.atomic_table.specs.Seated.{TableId}
 use Rattle.cpu_words.specs.Hooks.{HookAnswer}
 use Rattle.freeze_levels.specs.declared.hooks.HookCall.{HookCall}
@@ -18,7 +19,8 @@ use Rattle.gate_steps.specs.call_events.Answers.{unless_refused}
 use Rattle.gate_steps.specs.call_events.Asking.{GoesWith}
 use Rattle.gate_steps.specs.call_events.Led.{LedAsking}
 use Rattle.gate_steps.specs.call_events.Progress.{Progress}
-use Rattle.gate_steps.specs.call_events.Runs.{ProgressMatches}
+use Rattle.gate_steps.specs.call_events.Progress.TheVariants.{Idle, Going, Waiting, Done}
+use Rattle.gate_steps.specs.call_events.Runs.{Goes, ProgressMatches}
 use Rattle.gate_steps.specs.call_events.Waited.{WentWaiting}
 use Rattle.gate_steps.proofs.call_events.Running.{admitted_some, refused_as, refused_none}
 use Rattle.gate_steps.proofs.call_events.Turning.{unasked}
@@ -54,3 +56,29 @@ module _ (op : Op) (old left : SeatedTask) (admitted : Ok tt ≡ unless_refused 
     refused = λ r at. absurd (admitted_some (refusal_at op old) r admitted at);
     begun = λ at. (progress, refl, begun, told);
   }
+
+-- what such a call tells: it was begun, and stands so, or was refused and left all as it was
+pub begun_by : (op : Op) (old left : SeatedTask) (progress : Progress) (o : Option GateError) → refusal_at op old ≡ o →
+    BeginsAtOnce op old left (Ok progress) → (Ok tt ≡ unless_refused (refusal_at op old)) × ProgressMatches op old progress left
+begun_by op old left progress (Some e) at begins =
+    let is : ◌≡◌ {A = Result Progress GateError} (Ok progress) (Err e) = (begins.refused e at).0 in absurd (let f : ⊥ = cc in f)
+begun_by op old left progress None at begins =
+    let told = begins.begun at in let is : ◌≡◌ {A = Result Progress GateError} (Ok progress) (Ok told.0) = told.1 in
+    let same : progress ≡ told.0 = cc in
+    (sym (ap (λ o. unless_refused o) at), subst (λ p. ProgressMatches op old p left) (sym same) told.3)
+
+pub refused_so : (op : Op) (old left : SeatedTask) (e : GateError) (o : Option GateError) → refusal_at op old ≡ o →
+    BeginsAtOnce op old left (Err e) → (Err e ≡ unless_refused (refusal_at op old)) × (left ≡ old)
+refused_so op old left e (Some r) at begins =
+    let refused = begins.refused r at in let is : ◌≡◌ {A = Result Progress GateError} (Err e) (Err r) = refused.0 in let same : e ≡ r = cc in
+    (ap (λ x. Err x) same ∙ sym (ap (λ o. unless_refused o) at), refused.1)
+refused_so op old left e None at begins =
+    let told = begins.begun at in let is : ◌≡◌ {A = Result Progress GateError} (Err e) (Ok told.0) = told.1 in absurd (let f : ⊥ = cc in f)
+
+-- where it has not ended, it goes on
+pub goes_by : (op : Op) (old left : SeatedTask) (progress : Progress) → ((answer : Result Reply GateError) → progress ≡ Done answer → ⊥) →
+    ProgressMatches op old progress left → Goes op old left
+goes_by op old left Idle not told = absurd told
+goes_by op old left Going not told = told
+goes_by op old left Waiting not told = told.0
+goes_by op old left (Done answer) not told = absurd (not answer refl)

@@ -8,6 +8,7 @@ pub mod Admitting
 pub mod Calling
 pub mod Waiting
 pub mod Noting
+pub mod Loading
 pub mod Rooming
 pub mod Seeing
 pub mod Taking

@@ -190,7 +190,7 @@ went_tells waits op start (Done answer) now there none went =
     (ran_tells start.config op went.0.trace start.items (waits + 0) there (went.1 ∙ sym (add-zero waits)))
 
 -- a task has a number
-has_number : (number : ℕ) (c : Config) (begins : Option Op) (kept : TaskState) (flags : List Bool) (l : SeatItems) →
+pub has_number : (number : ℕ) (c : Config) (begins : Option Op) (kept : TaskState) (flags : List Bool) (l : SeatItems) →
     GhostAgrees number c begins kept flags l → 1 ≤ length l
 has_number number c begins kept flags [] ties = absurd ties
 has_number number c begins kept flags (x ∷ xs) ties = omega arith

@@ -12,6 +12,7 @@ pub use Rattle.gate_steps.specs.call_events.GhostAgrees
 pub use Rattle.gate_steps.specs.call_events.Stepped
 pub use Rattle.gate_steps.specs.call_events.Turns
 pub mod Lines
+pub mod Noted
 pub mod Parts
 pub mod Splitting
 pub mod Sums

@@ -6,15 +6,17 @@ ghost use Rattle.vfs_gates.specs.AtOnce.{BeginsAtOnce};
 use crate::calls::waits;
 use crate::fast_paths::FastPath;
 use crate::gates::Gates;
+use crate::snapshots::snapshot_first;
 use crate::task::Task;
 use access_model::{GateError, Holder, Next};
+use gate_events::PendingOp;
 use gate_steps::call_ends::Waiting;
 use gate_steps::call_events::Progress;
 use gate_world::Op;
 
 impl Task {
     ghost use Rattle.gate_world.specs.Beginnings.{first_phase};
-    ghost use Rattle.gate_world.specs.declared.operations.Op.TheVariants.{RemountSb, WantWrite, Callback, Freeze, Thaw};
+    ghost use Rattle.gate_world.specs.declared.operations.Op.TheVariants.{RemountSb, WantWrite, Callback, Freeze, Snapshot, Thaw};
     ghost use Rattle.vfs_gates.specs.Buffers.{is_of_snapshot};
     ghost use Rattle.vfs_gates.specs.TaskStates.{IsFrom, own_number};
 
@@ -65,6 +67,30 @@ impl Task {
         }
         let accesses = &mut self.kept.accesses;
         let next = first.go_in_line(&gates.words, &mut self.seat, accesses, Some(op));
+        self.waited = waits(&next);
+        match next {
+            Next::Done(answer) => Ok(Progress::Done(answer)),
+            Next::Go(under_way) | Next::Wait(under_way) => {
+                self.kept.phase = Some(under_way.phase());
+                Ok(Progress::Going)
+            }
+        }
+    }
+
+    /// Begins a snapshot, and does its steps in a line, likewise. What they load is noted in the task's buffers.
+    #[inline(always)]
+    pub(crate) fn load_at_once(&mut self, gates: &Gates, wait: bool) -> Result<Progress, GateError>
+        requires { IsFrom self.old gates.now }
+        ensures { BeginsAtOnce (Snapshot wait) self.old self.new result }
+    {
+        let op = Op::Snapshot { wait };
+        if let Err(refusal) = self.admit(op) {
+            return Err(refusal);
+        }
+        let first = self.first_snapshot(wait);
+        self.buffers.begin(op);
+        let (seat, accesses) = (&mut self.seat, &self.kept.accesses);
+        let next = snapshot_first(&gates.words, seat, accesses, &mut self.buffers, op, first);
         self.waited = waits(&next);
         match next {
             Next::Done(answer) => Ok(Progress::Done(answer)),

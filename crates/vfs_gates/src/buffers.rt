@@ -56,7 +56,8 @@ impl SnapshotBuffers {
     }
 
     /// Notes an event of a snapshot. With the load of its last word it is the last snapshot.
-    fn note(&mut self, snapshot: Snapshot, event: Event)
+    #[inline(always)]
+    pub(crate) fn note(&mut self, snapshot: Snapshot, event: Event)
         ensures goes_on { loads_last snapshot.nodes snapshot.step ≡ false → (self.new.taken ≡ self.old.taken)
             × (words_of self.new.last ≡ words_of self.old.last) × (words_of self.new.next ≡ noted_in (words_of self.old.next) event) }
         ensures ends { loads_last snapshot.nodes snapshot.step ≡ true → (self.new.taken ≡ true)

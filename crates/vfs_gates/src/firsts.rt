@@ -2,13 +2,16 @@
 
 ghost use Rattle.std.specs.Prelude.{◌≡◌};
 ghost use Rattle.gate_world.specs.Beginnings.{first_phase};
-ghost use Rattle.gate_world.specs.declared.operations.Op.TheVariants.{RemountSb, WantWrite, Callback as CallbackOp, Freeze as FreezeOp, Thaw as ThawOp};
+ghost use Rattle.gate_world.specs.declared.operations.Op.TheVariants.{RemountSb, WantWrite, Callback as CallbackOp, Freeze as FreezeOp, Snapshot as SnapshotOp, Thaw as ThawOp};
 ghost use Rattle.gate_world.specs.declared.work.Phase.TheVariants.{Callbacks, Freezes, Remounts, Thaws, Writes};
+ghost use Rattle.gated_tree.specs.declared.snapshots.SnapshotStep.TheVariants.{Locks};
+ghost use Rattle.vfs_gates.specs.Noted.{taking_at};
 
 use crate::task::Task;
 use access_model::Holder;
 use composite_ops::WritePhase;
 use freeze_levels::{Freeze, FreezeStep, Thaw, ThawStep};
+use gated_tree::{Snapshot, SnapshotStep};
 use mount_counts::{Remount, RemountStep};
 use percpu_rwsem::{Callback, CallbackStep, DownRead, DownReadStep, Transition};
 
@@ -81,6 +84,19 @@ impl Task {
             task: self.number(),
             holder,
             step: ThawStep::Locks,
+        }
+    }
+
+    /// A snapshot, likewise.
+    #[inline(always)]
+    pub(crate) fn first_snapshot(&self, wait: bool) -> Snapshot
+        ensures { taking_at result Locks ≡ first_phase self.now.config (own_number self.now.items) (SnapshotOp wait) }
+    {
+        Snapshot {
+            wait,
+            task: self.number(),
+            nodes: self.config.nodes,
+            step: SnapshotStep::Locks,
         }
     }
 }

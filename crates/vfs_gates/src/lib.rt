@@ -15,6 +15,7 @@ mod pairs;
 mod parts;
 mod settling;
 mod shown;
+mod snapshots;
 mod taken;
 mod task;
 mod tree_calls;

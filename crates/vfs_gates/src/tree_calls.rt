@@ -11,6 +11,7 @@ use crate::gates::Gates;
 use crate::task::Task;
 use access_model::{GateError, Kind, Reply};
 use gate_steps::call_ends::run_to_reply;
+use gate_steps::call_events::Progress;
 use gate_world::Op;
 use gated_tree::{
     Create, CreateStep, Grow, GrowStep, Mark, MarkStep, MoveStep, MoveTo, OpenFile, OpenStep,
@@ -253,7 +254,11 @@ impl Task {
         requires { IsFrom self.old gates.now }
         ensures { Performs (SnapshotOp false) self.old self.new result }
     {
-        outcome(self.run(gates, Op::Snapshot { wait: false }))
+        let progress = self.load_at_once(gates, false)?;
+        if let Progress::Done(answer) = progress {
+            return outcome(answer);
+        }
+        outcome(self.finish(gates))
     }
 
     /// Takes a snapshot of the frozen file system, which `tree` shows from then on, and waits for `umount`.
@@ -265,6 +270,10 @@ impl Task {
         requires { IsFrom self.old gates.now }
         ensures { Performs (SnapshotOp true) self.old self.new result }
     {
-        outcome(self.run_waiting(rt, gates, Op::Snapshot { wait: true }))
+        let progress = self.load_at_once(gates, true)?;
+        if let Progress::Done(answer) = progress {
+            return outcome(answer);
+        }
+        outcome(self.finish_waiting(rt, gates))
     }
 }

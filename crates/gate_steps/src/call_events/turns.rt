@@ -6,6 +6,7 @@ ghost use Rattle.access_model.specs.declared.replies.Next.TheVariants.{Go};
 ghost use Rattle.cpu_words.specs.Hooks.{HookAnswer};
 ghost use Rattle.gate_world.specs.Accesses.{accesses_after};
 ghost use Rattle.gate_world.specs.Work.{next_of, after_of};
+ghost use Rattle.gate_steps.specs.Seating.{items_after};
 ghost use Rattle.gate_steps.specs.call_events.Led.{Led, LedAsking};
 ghost use Rattle.gate_world.specs.Views.{phase_after};
 ghost use Rattle.access_model.specs.Replies.{map_next};
@@ -119,6 +120,7 @@ pub fn find<P: PendingOp>(
     ensures slots { seat.new.me.1 ≡ seat.old.me.1 }
     ensures led { Led gates.now.config None accesses.now (Go (P.as_phase under_way)) seat.old.table_id seat.old.me.0
         (after_of (P.as_phase under_way) result (Ok tt)).0 seat.new.table_id seat.new.me.0 }
+    ensures items { seat.new.me.0.items ≡ items_after None (P.as_phase under_way) (Ok tt) result seat.old.me.0.items }
 {
     let _ = accesses;
     gates.touch(seat, None, under_way, Ok(()), word, touch)
@@ -143,6 +145,7 @@ pub fn find_first<P: PendingOp>(
     ensures slots { seat.new.me.1 ≡ seat.old.me.1 }
     ensures led { Led gates.now.config (Some op) accesses.now (Go (P.as_phase under_way)) seat.old.table_id seat.old.me.0
         (after_of (P.as_phase under_way) result (Ok tt)).0 seat.new.table_id seat.new.me.0 }
+    ensures items { seat.new.me.0.items ≡ items_after (Some op) (P.as_phase under_way) (Ok tt) result seat.old.me.0.items }
 {
     let _ = accesses;
     gates.touch(seat, Some(op), under_way, Ok(()), word, touch)

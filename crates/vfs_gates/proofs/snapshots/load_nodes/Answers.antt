@@ -1,0 +1,55 @@
+-- each load goes on from what the one before it left
+use Rattle.std.proofs.Common.{◌≡◌, Bool, refl, sym, ap, ◌∙◌}
+use Rattle.std.specs.Prelude.{Option, is_some}
+use Rattle.access_model.specs.declared.replies.Next.TheVariants.{Go}
+use Rattle.gated_tree.specs.declared.snapshots.SnapshotStep.TheVariants.{LoadsNode}
+use Rattle.gate_steps.proofs.call_events.Leading.{still_tied}
+use Rattle.vfs_gates.specs.Noted.{taking_at}
+use Rattle.vfs_gates.proofs.Loading.{fewer_left, node_last, node_none, node_on, noted_nowhere, noted_on, noted_to}
+use Rattle.vfs_gates.proofs.snapshots.load_nodes.Goals as goal
+
+-- what was found of the word is what it is
+there : {A : Type 0} {b c : Bool} {o left : Option A} → b ≡ c → b ≡ is_some o → o ≡ left → c ≡ is_some left
+there is some same = sym is ∙ (some ∙ ap (λ o. is_some o) same)
+
+pub loop-snapshot-init : goal.loop-snapshot-init
+loop-snapshot-init c = record {
+  slots = refl;
+  noted = noted_nowhere c.args.gates.now.config c.args.accesses.now (Go (taking_at c.args.snapshot (LoadsNode 0))) c.args.seat.now.table_id
+      c.args.seat.now.me.0 c.args.buffers.now;
+}
+
+pub find_noting-found-requires-clause-table : goal.find_noting-found-requires-clause-table
+find_noting-found-requires-clause-table c = c.loop-snapshot.invariant.noted.led.same_table ∙ c.requires.table
+
+pub find_noting-found-requires-clause-tied : goal.find_noting-found-requires-clause-tied
+find_noting-found-requires-clause-tied c = still_tied c.loop-snapshot.invariant.noted.led c.requires.tied
+
+pub loop-snapshot-smaller : goal.loop-snapshot-smaller
+loop-snapshot-smaller c = fewer_left c.loop-snapshot.node c.args.snapshot.nodes c.in-Some.next c.in-Some.ensures
+
+pub loop-snapshot-preserved : goal.loop-snapshot-preserved
+loop-snapshot-preserved c = record {
+  slots = c.find_noting-found.ensures.slots ∙ c.loop-snapshot.invariant.slots;
+  noted = noted_on c.loop-snapshot.invariant.noted
+      (noted_to (node_on c.args.snapshot c.loop-snapshot.node c.in-Some.next c.find_noting-found.result (there c.if-not-is_node.false c.is_some-is_node.ensures c.unpack.ensures.node) c.in-Some.ensures)
+      c.find_noting-found.ensures.noted);
+}
+
+pub returns-in-None-clause-slots : goal.returns-in-None-clause-slots
+returns-in-None-clause-slots c = c.find_noting-found.ensures.slots ∙ c.loop-snapshot.invariant.slots
+
+pub returns-in-None-clause-noted : goal.returns-in-None-clause-noted
+returns-in-None-clause-noted c =
+    noted_on c.loop-snapshot.invariant.noted
+    (noted_to (node_last c.args.snapshot c.loop-snapshot.node c.find_noting-found.result (there c.if-not-is_node.false c.is_some-is_node.ensures c.unpack.ensures.node) c.in-None.ensures)
+    c.find_noting-found.ensures.noted)
+
+pub returns-then-not-is_node-clause-slots : goal.returns-then-not-is_node-clause-slots
+returns-then-not-is_node-clause-slots c = c.find_noting-found.ensures.slots ∙ c.loop-snapshot.invariant.slots
+
+pub returns-then-not-is_node-clause-noted : goal.returns-then-not-is_node-clause-noted
+returns-then-not-is_node-clause-noted c =
+    noted_on c.loop-snapshot.invariant.noted
+    (noted_to (node_none c.args.snapshot c.loop-snapshot.node c.find_noting-found.result
+    (there c.if-not-is_node.true c.is_some-is_node.ensures c.unpack.ensures.node)) c.find_noting-found.ensures.noted)

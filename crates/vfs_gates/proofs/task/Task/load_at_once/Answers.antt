@@ -1,0 +1,80 @@
+-- a beginning, and a line of steps whose loads are noted
+use Rattle.std.proofs.Common.{sym, ap, ◌∙◌}
+use Rattle.std.specs.Prelude.{Some}
+use Rattle.gate_steps.proofs.call_events.Onward.{stands_at, done_at}
+use Rattle.gate_steps.specs.call_events.Progress.TheVariants.{Going, Done}
+use Rattle.gate_world.specs.declared.operations.Op.TheVariants.{Snapshot as SnapshotOp}
+use Rattle.gate_world.specs.declared.work.Phase.{Phase}
+use Rattle.gate_world.specs.declared.work.Phase.TheVariants.{Trees}
+use Rattle.gated_tree.specs.declared.snapshots.SnapshotStep.TheVariants.{Locks}
+use Rattle.vfs_gates.specs.Noted.{of_tree, taking_at}
+use Rattle.vfs_gates.specs.Buffers.{BuffersMatch}
+use Rattle.vfs_gates.proofs.Admitting.{refused_by}
+use Rattle.vfs_gates.proofs.AtOnce.{refused_at_once, told_at_once}
+use Rattle.vfs_gates.proofs.Calling.{Call, Left, call_with, is_tied, items_of, not_begun, ties_at, ties_done, goes_at, ended_at}
+use Rattle.vfs_gates.proofs.Loading.{left_by, loaded_done, loaded_buffers}
+use Rattle.vfs_gates.proofs.Rooming.{begun_in}
+use Rattle.vfs_gates.proofs.Waiting.{left_tells, once}
+use Rattle.vfs_gates.proofs.task.Task.load_at_once.Goals as goal
+use Rattle.vfs_gates.proofs.task.Task.load_at_once.Goals.{After-snapshot_first-next}
+
+-- the call, and what its line has left
+abbrev call : After-snapshot_first-next → Call
+call c =
+    call_with (SnapshotOp c.args.wait) c.self.inside c.args.gates.now.words.config c.args.self.now c.self.view_is c.requires.1
+    c.self.invariant.0 c.admit.result c.admit.ensures c.in_default.not-Err (taking_at c.first_snapshot-first.result Locks)
+    c.first_snapshot-first.ensures
+
+abbrev left : (c : After-snapshot_first-next) → Left (call c)
+left c = left_by (call c) (of_tree c.snapshot_first-next.result) c.snapshot_first-next.ensures.noted
+
+-- as the call begins, its buffers tell of the operation's first phase
+begun : (c : After-snapshot_first-next) →
+    BuffersMatch (call c).task.config.nodes c.begin.new.self (Some (call c).op) (Some (call c).first) (items_of (call c))
+begun c = begun_in (call c) _ (c.begin.ensures c.self.inside.config c.self.inside.begins c.self.inside.kept.phase c.self.inside.seat.me.0.items
+    c.self.inside.number c.self.invariant.2)
+
+pub snapshot_first-next-requires-clause-tied : goal.snapshot_first-next-requires-clause-tied
+snapshot_first-next-requires-clause-tied c =
+    is_tied (call_with (SnapshotOp c.args.wait) c.self.inside c.args.gates.now.words.config c.args.self.now c.self.view_is c.requires.1
+    c.self.invariant.0 c.admit.result c.admit.ensures c.in_default.not-Err (taking_at c.first_snapshot-first.result Locks)
+    c.first_snapshot-first.ensures)
+
+pub invariant_of-self : goal.invariant_of-self
+invariant_of-self c =
+    let d = (goal.at.invariant_of-self c).After-snapshot_first-next in
+    let done = done_at Trees c.snapshot_first-next.result c.in-Done.answer c.in-Done.is in (
+      ties_done (call d) (left d) c.in-Done.answer done,
+      c.snapshot_first-next.ensures.slots ∙ c.self.invariant.1,
+      loaded_done (call d) _ c.snapshot_first-next.ensures.noted (begun d) c.in-Done.answer done,
+      left_tells (call d) (left d) c.waits-self-inside.result (once (of_tree c.snapshot_first-next.result) c.waits-self-inside.result c.waits-self-inside.ensures),
+    )
+
+pub invariant_of-self-in-Go : goal.invariant_of-self-in-Go
+invariant_of-self-in-Go c =
+    let d = (goal.at.invariant_of-self-in-Go c).After-snapshot_first-next in
+    let stands = stands_at Trees c.snapshot_first-next.result c.in-Go.under_way c.in-Go.is ∙ ap (λ (p : Phase). Some p) (sym c.phase.ensures) in (
+      ties_at (call d) (left d) _ stands,
+      c.snapshot_first-next.ensures.slots ∙ c.self.invariant.1,
+      loaded_buffers (call d) _ c.snapshot_first-next.ensures.noted (begun d) _ stands,
+      left_tells (call d) (left d) c.waits-self-inside.result (once (of_tree c.snapshot_first-next.result) c.waits-self-inside.result c.waits-self-inside.ensures),
+    )
+
+pub returns-in-Done : goal.returns-in-Done
+returns-in-Done c =
+    let d = (goal.at.returns-in-Done c).After-snapshot_first-next in
+    let called = ended_at (call d) (left d) c.in-Done.answer (done_at Trees c.snapshot_first-next.result c.in-Done.answer c.in-Done.is) in
+    told_at_once (call d).op (call d).start _ (call d).admitted (ap (λ s. s.table) called.after) (ap (λ s. s.config) called.after)
+    (not_begun (call d)) (Done c.in-Done.answer) called
+
+pub returns-in-Go : goal.returns-in-Go
+returns-in-Go c =
+    let d = (goal.at.returns-in-Go c).After-snapshot_first-next in
+    let goes = goes_at (call d) (left d) c.phase.result (stands_at Trees c.snapshot_first-next.result c.in-Go.under_way c.in-Go.is ∙
+    ap (λ (p : Phase). Some p) (sym c.phase.ensures)) in
+    told_at_once (call d).op (call d).start _ (call d).admitted goes.table goes.config (not_begun (call d)) Going goes
+
+pub returns-in-Err : goal.returns-in-Err
+returns-in-Err c =
+    refused_at_once (SnapshotOp c.args.wait) c.args.self.now c.in-Err.refusal
+    (refused_by (SnapshotOp c.args.wait) c.args.self.now c.in-Err.refusal (sym c.in-Err.is ∙ c.admit.ensures))
