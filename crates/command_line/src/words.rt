@@ -9,7 +9,7 @@ ghost use Rattle.command_line.specs.declared.words.Form.TheVariants.{Plain};
 use clap::builder::ValueParser;
 use clap::error::ErrorKind;
 use clap::{Arg, ArgAction, ArgMatches, Command, Error};
-use endings::Printable;
+use exit_status::Printable;
 use std::alloc::{AllocError, Global};
 use std::fmt::Display;
 use std::io::Write;

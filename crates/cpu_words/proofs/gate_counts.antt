@@ -3,4 +3,4 @@ pub mod Events
 pub mod Readers
 pub mod Flags
 pub mod LevelLaws
-pub mod Quiet
+pub mod ZeroCountWrites

@@ -1,7 +1,7 @@
 -- The words that a configuration has, and where each lies.
 use Rattle.std.specs.Prelude.{ℕ, ◌+◌, ◌-◌, ◌*◌, ◌<◌, ◌≤◌}
-use Rattle.cpu_words.specs.declared.names.Row.{Row}
-use Rattle.cpu_words.specs.declared.names.Row.TheVariants.{OfAll, OfMount, CountOfMount, OfLevel, CountOfLevel, OfTask, OfNode}
+use Rattle.cpu_words.specs.declared.names.WordRow.{WordRow}
+use Rattle.cpu_words.specs.declared.names.WordRow.TheVariants.{OfAll, OfMount, CountOfMount, OfLevel, CountOfLevel, OfTask, OfNode}
 use Rattle.cpu_words.specs.declared.names.WordName.{WordName}
 use Rattle.cpu_words.specs.declared.names.WordName.TheVariants.{Umount, Stage, Holders, SbFlags, Remount, MountFlags, MountCount, Block, Sync, LevelCount, Section, Used, Node, Kids, Removed}
 
@@ -18,7 +18,7 @@ largest = record { tasks = 64; processors = 64; mounts = 8; nodes = 64 }
 
 -- The table of all words: what there is one such word of, and which of the words of that kind it is. A word more takes its row here, and is
 -- counted below.
-abbrev pub row : WordName → Row
+abbrev pub row : WordName → WordRow
 row Umount = OfAll 0
 row Stage = OfAll 1
 row Holders = OfAll 2
@@ -36,7 +36,7 @@ row (Node n) = OfNode 0 n
 row (Kids n) = OfNode 1 n
 
 -- there is that word
-abbrev pub HasRow : Extents → Row → Type 0
+abbrev pub HasRow : Extents → WordRow → Type 0
 HasRow e (OfAll k) = Unit {0}
 HasRow e (OfMount k m) = m < e.mounts
 HasRow e (CountOfMount k m p) = (m < e.mounts) × (p < e.processors)
@@ -88,7 +88,7 @@ abbrev pub stride : ℕ
 stride = 16
 
 -- where the word of a row lies
-abbrev pub lies : Row → ℕ
+abbrev pub lies : WordRow → ℕ
 lies (OfAll k) = k
 lies (OfMount k m) = mount_base + largest.mounts * k + m
 lies (CountOfMount k m p) = mount_count_base + line_length * largest.mounts * k + line_length * m + p

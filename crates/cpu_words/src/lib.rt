@@ -8,5 +8,5 @@ pub mod names;
 pub mod sums;
 
 pub use events::{Event, Touch};
-pub use names::{Row, STRIDE, WORDS, WordName};
+pub use names::{WordRow, STRIDE, WORDS, WordName};
 pub use sums::{Sum, Taken};

@@ -86,7 +86,7 @@ pub enum WordName {
 /// The row of a word: its kind, which is what there is one such word of, which of the words of that kind it is, from 0, and what it is the
 /// word of.
 #[derive(Clone, Copy)]
-pub enum Row {
+pub enum WordRow {
     /// Of the whole file system.
     OfAll { which: u8 },
     /// Of each mount.
@@ -103,24 +103,24 @@ pub enum Row {
     OfNode { which: u8, node: u8 },
 }
 
-impl Row {
+impl WordRow {
     /// Where the word of this row lies.
     #[inline(always)]
     pub fn place(self) -> usize
         ensures { result ≡ lies self }
     {
         match self {
-            Row::OfAll { which } => which as usize,
-            Row::OfMount { which, mount } => MOUNT + MOUNTS * which as usize + mount as usize,
-            Row::CountOfMount { which, mount, cpu } => {
+            WordRow::OfAll { which } => which as usize,
+            WordRow::OfMount { which, mount } => MOUNT + MOUNTS * which as usize + mount as usize,
+            WordRow::CountOfMount { which, mount, cpu } => {
                 MOUNT_COUNT + LINE * MOUNTS * which as usize + LINE * mount as usize + cpu as usize
             }
-            Row::OfLevel { which, level } => LEVEL + 3 * which as usize + level as usize,
-            Row::CountOfLevel { which, level, cpu } => {
+            WordRow::OfLevel { which, level } => LEVEL + 3 * which as usize + level as usize,
+            WordRow::CountOfLevel { which, level, cpu } => {
                 LEVEL_COUNT + LINE * 3 * which as usize + LINE * level as usize + cpu as usize
             }
-            Row::OfTask { which, task } => TASK + TASKS * which as usize + task as usize,
-            Row::OfNode { which, node } => NODE + NODES * which as usize + node as usize,
+            WordRow::OfTask { which, task } => TASK + TASKS * which as usize + task as usize,
+            WordRow::OfNode { which, node } => NODE + NODES * which as usize + node as usize,
         }
     }
 }
@@ -128,33 +128,33 @@ impl Row {
 impl WordName {
     /// The row of the word, which says where it lies and which configurations have it. A word more takes its row here.
     #[inline(always)]
-    pub fn row(self) -> Row
+    pub fn row(self) -> WordRow
         ensures { result ≡ row self }
     {
         match self {
-            WordName::Umount => Row::OfAll { which: 0 },
-            WordName::Stage => Row::OfAll { which: 1 },
-            WordName::Holders => Row::OfAll { which: 2 },
-            WordName::SbFlags => Row::OfAll { which: 3 },
-            WordName::Remount => Row::OfAll { which: 4 },
-            WordName::Removed => Row::OfAll { which: 5 },
-            WordName::Used => Row::OfAll { which: 6 },
-            WordName::MountFlags(mount) => Row::OfMount { which: 0, mount },
-            WordName::MountCount(mount, cpu) => Row::CountOfMount {
+            WordName::Umount => WordRow::OfAll { which: 0 },
+            WordName::Stage => WordRow::OfAll { which: 1 },
+            WordName::Holders => WordRow::OfAll { which: 2 },
+            WordName::SbFlags => WordRow::OfAll { which: 3 },
+            WordName::Remount => WordRow::OfAll { which: 4 },
+            WordName::Removed => WordRow::OfAll { which: 5 },
+            WordName::Used => WordRow::OfAll { which: 6 },
+            WordName::MountFlags(mount) => WordRow::OfMount { which: 0, mount },
+            WordName::MountCount(mount, cpu) => WordRow::CountOfMount {
                 which: 0,
                 mount,
                 cpu,
             },
-            WordName::Block(level) => Row::OfLevel { which: 0, level },
-            WordName::Sync(level) => Row::OfLevel { which: 1, level },
-            WordName::LevelCount(level, cpu) => Row::CountOfLevel {
+            WordName::Block(level) => WordRow::OfLevel { which: 0, level },
+            WordName::Sync(level) => WordRow::OfLevel { which: 1, level },
+            WordName::LevelCount(level, cpu) => WordRow::CountOfLevel {
                 which: 0,
                 level,
                 cpu,
             },
-            WordName::Section(task) => Row::OfTask { which: 0, task },
-            WordName::Node(node) => Row::OfNode { which: 0, node },
-            WordName::Kids(node) => Row::OfNode { which: 1, node },
+            WordName::Section(task) => WordRow::OfTask { which: 0, task },
+            WordName::Node(node) => WordRow::OfNode { which: 0, node },
+            WordName::Kids(node) => WordRow::OfNode { which: 1, node },
         }
     }
 

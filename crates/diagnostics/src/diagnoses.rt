@@ -1,13 +1,13 @@
 //! A diagnosis: a fault with its line, and how to mend it.
 
 ghost use Rattle.std.specs.Prelude.{◌≡◌};
-ghost use Rattle.endings.specs.declared.ends.Ending.TheVariants.{Refused};
+ghost use Rattle.exit_status.specs.declared.ends.Ending.TheVariants.{Refused};
 
 use crate::contexts::Context;
 use crate::hints::{find, tell_first_line};
 use crate::places::Place;
 use crate::texts::Text;
-use endings::{Ending, SourceName, fault_told, why_told};
+use exit_status::{Ending, SourceName, fault_told, why_told};
 use schedule_lines::bytes::ReplayFault;
 use schedule_text::{Front, front_of};
 use std::alloc::{AllocError, Global};

@@ -7,6 +7,6 @@ pub mod Runs
 pub mod SlowLaws
 pub mod IdleLaws
 pub mod GraceLaws
-pub mod Whole
+pub mod CitedLaws
 pub mod Operations
 pub mod ReadOperations

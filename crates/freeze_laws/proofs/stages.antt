@@ -6,5 +6,5 @@ pub mod MarkLaws
 pub mod EachEvent
 pub mod Allowed
 pub mod Effects
-pub mod Whole
+pub mod CitedLaws
 pub mod Walks

@@ -6,7 +6,7 @@ ghost use Rattle.gate_world.specs.Accesses.{held_in};
 ghost use Rattle.gate_world.specs.Beginnings.{beginning, first_phase, is_in_range, is_in_order, is_within_room};
 
 use access_model::GateError;
-use compounds::{ClosePhase, Closing, WritePhase};
+use composite_ops::{ClosePhase, Closing, WritePhase};
 use freeze_levels::{Freeze, Thaw};
 use gate_world::{Accesses, Config, Op, Phase};
 use gated_tree::{Create, Grow, Mark, MoveTo, OpenFile, Remove, Snapshot, TreePhase};

@@ -10,13 +10,13 @@ use Rattle.gate_world.specs.declared.entries.Entry.{TheVariants.{Begins}}
 use Rattle.gate_schedules.proofs.schedules.{Beginnings.{refusal_agree, may_begin, first_fits, ok_means, err_means}, Runs.run_more}
 use Rattle.gate_core.proofs.Each.{seat_cases}
 use Rattle.gate_schedules.specs.Answers.{unless_refused, begin_answer}
-use Rattle.gate_core.specs.Memory.{Memory, Shows, IsSound, no_seat, seat_of}
+use Rattle.gate_core.specs.Memory.{Memory, Represents, IsSound, no_seat, seat_of}
 use Rattle.gate_core.specs.Moves.{refusal_in, begun_of, begun}
 use Rattle.gate_schedules.specs.Seats.{seat_held}
-use Rattle.gate_schedules.specs.declared.seats.Seat.{Seat}
+use Rattle.gate_schedules.specs.declared.task_states.TaskState.{TaskState}
 
 module _ (memory : Memory) (sound : IsSound memory) (t : ℕ) (lt : t < memory.config.tasks)
-    (seat : Seat) (seat_is : seat ≡ get_or memory.seats t seat)
+    (seat : TaskState) (seat_is : seat ≡ get_or memory.seats t seat)
     (under_way : Bool) (under_way_is : under_way ≡ is_some seat.phase) (op : Op) where
   same_seat : seat_of memory t ≡ seat
   same_seat = get_or_default memory.seats t no_seat seat (omega (arith, sound.seats)) ∙ sym seat_is
@@ -32,15 +32,15 @@ module _ (memory : Memory) (sound : IsSound memory) (t : ℕ) (lt : t < memory.c
   pub refusal_told : refusal_in memory t op ≡ seat_refusal
   refusal_told =
       rw (lt-ltb t memory.config.tasks lt)
-      (ap (λ (s : Seat). refusal memory.config (is_some s.phase) (seat_held s) op) same_seat ∙
+      (ap (λ (s : TaskState). refusal memory.config (is_some s.phase) (seat_held s) op) same_seat ∙
       ap (λ b. refusal memory.config b (seat_held seat) op) (sym under_way_is))
 
-  module _ (w : World) (shows : Shows memory w) where
+  module _ (w : World) (shows : Represents memory w) where
     phase_same : seat.phase ≡ (w.views t).phase
-    phase_same = ap (λ (s : Seat). s.phase) (sym same_seat) ∙ shows.phases t lt
+    phase_same = ap (λ (s : TaskState). s.phase) (sym same_seat) ∙ shows.phases t lt
 
     held_agrees : Agree memory.config (seat_held seat) (held_of (w.views t))
-    held_agrees = subst (λ (s : Seat). Agree memory.config (seat_held s) (held_of (w.views t))) same_seat (shows.held t lt)
+    held_agrees = subst (λ (s : TaskState). Agree memory.config (seat_held s) (held_of (w.views t))) same_seat (shows.held t lt)
 
     pub refusal_same : begin_refusal memory.config w t op ≡ seat_refusal
     refusal_same =
@@ -54,10 +54,10 @@ module _ (memory : Memory) (sound : IsSound memory) (t : ℕ) (lt : t < memory.c
     refused_is = err_means (first_phase memory.config t op) seat_refusal refused answered
 
     -- a refused beginning changes nothing
-    pub refused_shows : (w : World) → Shows memory w → Shows memory (happens memory.config w (Begins t op))
+    pub refused_shows : (w : World) → Represents memory w → Represents memory (happens memory.config w (Begins t op))
     refused_shows w shows = rw (refusal_same w shows ∙ refused_is) shows
 
-    pub refused_answer : (w : World) → Shows memory w →
+    pub refused_answer : (w : World) → Represents memory w →
         ◌≡◌ {A = Result (Unit {0}) GateError} (Err refused) (begin_answer memory.config w t op)
     refused_answer w shows = sym (ap unless_refused (refusal_same w shows ∙ refused_is))
 
@@ -75,7 +75,7 @@ module _ (memory : Memory) (sound : IsSound memory) (t : ℕ) (lt : t < memory.c
     phase_is = (ok_means (first_phase memory.config t op) seat_refusal phase answered).1
 
     -- the task has begun
-    abbrev seat_after : Seat
+    abbrev seat_after : TaskState
     seat_after = record { phase = Some phase; accesses = seat.accesses }
 
     abbrev memory_after : Memory
@@ -86,17 +86,17 @@ module _ (memory : Memory) (sound : IsSound memory) (t : ℕ) (lt : t < memory.c
 
     pub begin_begun : memory_after ≡ begun memory t op
     begin_begun =
-        ap (λ (s : Seat). record { config = memory.config; words = memory.words; seats = slice_set memory.seats t s })
+        ap (λ (s : TaskState). record { config = memory.config; words = memory.words; seats = slice_set memory.seats t s })
         (λ i. record { phase = Some (phase_is i); accesses = (sym same_seat i).accesses }) ∙
         sym (ap (begun_of memory t op) (refusal_told ∙ none_refused))
 
     some_seat : t < length memory.seats
     some_seat = omega (arith, sound.seats)
 
-    pub begin_answers : (w : World) → Shows memory w → ◌≡◌ {A = Result (Unit {0}) GateError} (Ok tt) (begin_answer memory.config w t op)
+    pub begin_answers : (w : World) → Represents memory w → ◌≡◌ {A = Result (Unit {0}) GateError} (Ok tt) (begin_answer memory.config w t op)
     begin_answers w shows = sym (ap unless_refused (refusal_same w shows ∙ none_refused))
 
-    pub begin_shows : (w : World) → Shows memory w → Shows memory_after (happens memory.config w (Begins t op))
+    pub begin_shows : (w : World) → Represents memory w → Represents memory_after (happens memory.config w (Begins t op))
     begin_shows w shows =
         let view : View = begun_view (w.views t) op (first_phase memory.config t op) in
         rw (refusal_same w shows ∙ none_refused) (record {
@@ -123,17 +123,17 @@ module _ (memory : Memory) (sound : IsSound memory) (t : ℕ) (lt : t < memory.c
       words = sound.words;
       seats = length-set memory.seats t seat_after ∙ sound.seats;
       mounts = λ x lx. seat_cases memory.seats t seat_after some_seat (λ y s. y < memory.config.tasks → length s.accesses.mounts ≡ 8) x
-          (λ l. ap (λ (s : Seat). length s.accesses.mounts) (sym same_seat) ∙ sound.mounts t lt) (λ ne l. sound.mounts x l) lx;
+          (λ l. ap (λ (s : TaskState). length s.accesses.mounts) (sym same_seat) ∙ sound.mounts t lt) (λ ne l. sound.mounts x l) lx;
       levels = λ x lx. seat_cases memory.seats t seat_after some_seat (λ y s. y < memory.config.tasks → length s.accesses.levels ≡ 4) x
-          (λ l. ap (λ (s : Seat). length s.accesses.levels) (sym same_seat) ∙ sound.levels t lt) (λ ne l. sound.levels x l) lx;
+          (λ l. ap (λ (s : TaskState). length s.accesses.levels) (sym same_seat) ∙ sound.levels t lt) (λ ne l. sound.levels x l) lx;
       files = λ x lx. seat_cases memory.seats t seat_after some_seat (λ y s. y < memory.config.tasks → length s.accesses.files ≡ 64) x
-          (λ l. ap (λ (s : Seat). length s.accesses.files) (sym same_seat) ∙ sound.files t lt) (λ ne l. sound.files x l) lx;
+          (λ l. ap (λ (s : TaskState). length s.accesses.files) (sym same_seat) ∙ sound.files t lt) (λ ne l. sound.files x l) lx;
       fits = λ x lx. seat_cases memory.seats t seat_after some_seat
           (λ y s. y < memory.config.tasks → Fits memory.config y (seat_held s) s.phase) x
           (λ l. seat_fits) (λ ne l. sound.fits x l) lx;
       reached = (
         sound.reached.0 ++ Begins t op ∷ [],
-        subst (Shows memory_after) (sym (run_more memory.config opening sound.reached.0 (Begins t op)))
+        subst (Represents memory_after) (sym (run_more memory.config opening sound.reached.0 (Begins t op)))
             (begin_shows (run memory.config opening sound.reached.0) sound.reached.1),
       );
     }

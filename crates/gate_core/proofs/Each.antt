@@ -1,11 +1,11 @@
 -- One seat among all.
 use Rattle.std.proofs.{Common.{◌≡◌, ℕ, ◌<◌, List, length, sym, subst, inl, inr, get_or-set_same, get_or-set_other}, lemmas.Bool.Decides.eqb_tells}
 use Rattle.std.specs.Prelude.{slice_index_or, slice_set}
-use Rattle.gate_schedules.specs.declared.seats.Seat.{Seat}
+use Rattle.gate_schedules.specs.declared.task_states.TaskState.{TaskState}
 use Rattle.gate_core.specs.Memory.{no_seat}
 
 -- what holds of one seat that is written and of each other one holds of each
-pub seat_cases : (seats : List Seat) (t : ℕ) (seat : Seat) → t < length seats → (P : ℕ → Seat → Type 0) (x : ℕ) → P t seat →
+pub seat_cases : (seats : List TaskState) (t : ℕ) (seat : TaskState) → t < length seats → (P : ℕ → TaskState → Type 0) (x : ℕ) → P t seat →
     ((x ≡ t → ⊥) → P x (slice_index_or seats x no_seat)) →
     P x (slice_index_or (slice_set seats t seat) x no_seat)
 seat_cases seats t seat lt P x here there =

@@ -16,11 +16,11 @@ use Rattle.gate_schedules.proofs.frames.{Accesses.{holdings_of_after, long_after
 use Rattle.gate_schedules.proofs.{frames.Places.are_few, schedules.{Phases.{word_there, word_placed, action_fits, fits_after, fits_agree}, Runs.run_more}}
 use Rattle.gate_core.proofs.Each.{seat_cases}
 use Rattle.gate_schedules.specs.Answers.{progress_of, step_answer}
-use Rattle.gate_core.specs.Memory.{Memory, Shows, IsSound, no_seat, seat_of}
+use Rattle.gate_core.specs.Memory.{Memory, Represents, IsSound, no_seat, seat_of}
 use Rattle.gate_schedules.specs.Seats.{seat_held}
 use Rattle.gate_core.specs.Moves.{phase_in, stepped_of, stepped, progress_by, progress_in}
 use Rattle.gate_core.specs.Stepped.{IsStep}
-use Rattle.gate_schedules.specs.declared.seats.Seat.{Seat}
+use Rattle.gate_schedules.specs.declared.task_states.TaskState.{TaskState}
 use Rattle.gate_schedules.specs.declared.steps.Progress.{Progress}
 use Rattle.gate_schedules.specs.declared.steps.Step.{Step}
 
@@ -55,7 +55,7 @@ module _ (memory : Memory) (sound : IsSound memory) (t : ℕ) (lt : t < memory.c
   done = done_at value
 
   -- the seat and the memory after the event
-  abbrev seat_after : Seat
+  abbrev seat_after : TaskState
   seat_after = record { phase = phase_after done.0; accesses = accesses_after accesses done.1 }
 
   abbrev pub memory_after : Memory
@@ -84,13 +84,13 @@ module _ (memory : Memory) (sound : IsSound memory) (t : ℕ) (lt : t < memory.c
   held_then : (seen : Holdings) → Agree config held seen → Agree config (seat_held seat_after) (held_after done.1 seen)
   held_then seen same = agree_after config accesses (sound.mounts t lt) (sound.levels t lt) (sound.files t lt) seen done.1 acts same
 
-  pub words_shown : (w : World) → Shows memory w → value ≡ read w.words name
+  pub words_shown : (w : World) → Represents memory w → value ≡ read w.words name
   words_shown w shows = shows.words name there
 
-  pub phase_shown : (w : World) → Shows memory w → (w.views t).phase ≡ Some phase
+  pub phase_shown : (w : World) → Represents memory w → (w.views t).phase ≡ Some phase
   phase_shown w shows = sym (shows.phases t lt) ∙ is
 
-  module _ (w : World) (shows : Shows memory w) where
+  module _ (w : World) (shows : Represents memory w) where
     -- the view after the event
     abbrev view : View
     view = view_after (w.views t) phase (read w.words name) hook
@@ -113,7 +113,7 @@ module _ (memory : Memory) (sound : IsSound memory) (t : ℕ) (lt : t < memory.c
         memory.words w.words name (left touch value) place_fits there shows.words n rn ∙
         ap (λ y. read (put w.words name (left touch y)) n) (words_shown w shows)
 
-    stepped_shown : Shows memory_after (after_step w t phase hook)
+    stepped_shown : Represents memory_after (after_step w t phase hook)
     stepped_shown = record {
       words = words_after_shown;
       phases = λ x lx. seat_cases memory.seats t seat_after some_seat
@@ -128,7 +128,7 @@ module _ (memory : Memory) (sound : IsSound memory) (t : ℕ) (lt : t < memory.c
           lx;
     }
 
-    pub step_shows : Shows memory_after (happens config w (Steps t hook))
+    pub step_shows : Represents memory_after (happens config w (Steps t hook))
     step_shows = rw (lt-ltb t config.tasks lt, phase_shown w shows) stepped_shown
 
   seat_fits : Fits config t (seat_held seat_after) (phase_after done.0)
@@ -153,7 +153,7 @@ module _ (memory : Memory) (sound : IsSound memory) (t : ℕ) (lt : t < memory.c
         (λ l. seat_fits) (λ ne l. sound.fits x l) lx;
     reached = (
       sound.reached.0 ++ Steps t hook ∷ [],
-      subst (Shows memory_after) (sym (run_more config opening sound.reached.0 (Steps t hook)))
+      subst (Represents memory_after) (sym (run_more config opening sound.reached.0 (Steps t hook)))
           (step_shows (run config opening sound.reached.0) sound.reached.1),
     );
   }
@@ -181,7 +181,7 @@ module _ (memory : Memory) (sound : IsSound memory) (t : ℕ) (lt : t < memory.c
 
   module _ (value : ℕ) (value_is : value ≡ get_or memory.words at value) (event : Event) (event_is : event ≡ event_of next.0 next.1 value)
       (done : Next Phase × Option Action) (done_is : done ≡ after_of phase event.found hook)
-      (seat : Seat) (seat_is : seat ≡ get_or memory.seats t seat) where
+      (seat : TaskState) (seat_is : seat ≡ get_or memory.seats t seat) where
     same_value : value ≡ its_value
     same_value = value_is ∙ (get_or_default memory.words at value 0 at_small ∙ ap (λ i. slice_index memory.words i) same_at)
 
@@ -196,7 +196,7 @@ module _ (memory : Memory) (sound : IsSound memory) (t : ℕ) (lt : t < memory.c
 
     pub may_act : ActionFits (seat_held seat) done.1
     may_act =
-        subst (λ (s : Seat). ActionFits (seat_held s) done.1) same_seat
+        subst (λ (s : TaskState). ActionFits (seat_held s) done.1) same_seat
         (subst (λ (d : Next Phase × Option Action). ActionFits (seat_held (seat_of memory t)) d.1) (sym same_done)
         (acts memory sound t lt phase its_phase hook))
 
@@ -240,12 +240,12 @@ module _ (memory : Memory) (sound : IsSound memory) (t : ℕ) (lt : t < memory.c
       sound_after = subst IsSound (sym same_memory) (step_sound memory sound t lt phase its_phase hook)
 
       -- and shows what the entry makes of the world
-      shows_after : (w : World) → Shows memory w → Shows left_memory (happens memory.config w (Steps t hook))
+      shows_after : (w : World) → Represents memory w → Represents left_memory (happens memory.config w (Steps t hook))
       shows_after w shows =
-          subst (λ m. Shows m (happens memory.config w (Steps t hook))) (sym same_memory)
+          subst (λ m. Represents m (happens memory.config w (Steps t hook))) (sym same_memory)
           (step_shows memory sound t lt phase its_phase hook w shows)
 
-      answer_after : (w : World) → Shows memory w →
+      answer_after : (w : World) → Represents memory w →
           ◌≡◌ {A = Step} (record { event = Some event; action = done.1; progress = progress.0 }) (step_answer memory.config w t hook)
       answer_after w shows =
           let told : progress.0 ≡ progress_of done.0 = ap (λ (p : Progress × Option Phase). p.0) progress_is in

@@ -1,16 +1,16 @@
 -- What a driver answers of a word, and what the core shows of a world.
 use Rattle.std.specs.Prelude.{◌≡◌, ℕ, Bool, true, ◌&&◌, List, Option, Some, None, nat_lt, nat_le, if◌then◌else◌, slice_get, slice_index}
 use Rattle.cpu_words.specs.declared.names.WordName.{WordName}
-use Rattle.cpu_words.specs.declared.names.Row.{Row}
-use Rattle.cpu_words.specs.declared.names.Row.TheVariants.{OfAll, OfMount, CountOfMount, OfLevel, CountOfLevel, OfTask, OfNode}
+use Rattle.cpu_words.specs.declared.names.WordRow.{WordRow}
+use Rattle.cpu_words.specs.declared.names.WordRow.TheVariants.{OfAll, OfMount, CountOfMount, OfLevel, CountOfLevel, OfTask, OfNode}
 use Rattle.cpu_words.specs.Names.{Extents, row, place}
-use Rattle.gate_core.specs.Memory.{Memory, Shows}
+use Rattle.gate_core.specs.Memory.{Memory, Represents}
 use Rattle.gate_world.specs.Configs.{IsWithin, extents_of}
 use Rattle.gate_world.specs.Worlds.{World}
 use Rattle.gate_world.specs.declared.config.Config.{Config}
 
 -- whether there is that word
-abbrev pub has_row : Extents → Row → Bool
+abbrev pub has_row : Extents → WordRow → Bool
 has_row e (OfAll k) = true
 has_row e (OfMount k m) = nat_lt m e.mounts
 has_row e (CountOfMount k m p) = nat_lt m e.mounts && nat_lt p e.processors
@@ -38,4 +38,4 @@ core_word core name = where_there core.config name (Some (slice_index core.words
 pub record CoreShows (core : Memory) (c : Config) (w : World) : Type 0 where
   pub config : core.config ≡ c
   pub within : IsWithin c
-  pub world : Shows core w
+  pub world : Represents core w

@@ -9,26 +9,26 @@ use Rattle.gate_world.specs.{Holdings.Agree, Views.held_of}
 use Rattle.gate_world.specs.Worlds.{World, run, opening}
 use Rattle.gate_world.specs.declared.entries.Entry.{Entry}
 use Rattle.gate_world.specs.Fits.{Fits}
-use Rattle.gate_schedules.specs.declared.seats.Seat.{Seat}
+use Rattle.gate_schedules.specs.declared.task_states.TaskState.{TaskState}
 use Rattle.gate_schedules.specs.Seats.{seat_held}
 
 -- the fields of the core
 pub record Memory : Type 0 where
   pub config : Config
   pub words : List ℕ
-  pub seats : List Seat
+  pub seats : List TaskState
 
 -- past the end of the seats there is no task
-abbrev pub no_seat : Seat
+abbrev pub no_seat : TaskState
 no_seat = record { phase = None; accesses = record { mounts = []; levels = []; files = [] } }
 
 -- the seat of a task
-abbrev pub seat_of : Memory → ℕ → Seat
+abbrev pub seat_of : Memory → ℕ → TaskState
 seat_of memory t = slice_index_or memory.seats t no_seat
 
 -- The memory shows this world: each word that is kept, and each task's phase and what it holds. Lists of actions and events stand in
 -- no memory.
-pub record Shows (memory : Memory) (w : World) : Type 0 where
+pub record Represents (memory : Memory) (w : World) : Type 0 where
   pub words : (name : WordName) → IsWord (extents_kept memory.config) name → slice_index memory.words (place name) ≡ read w.words name
   pub phases : (t : ℕ) → t < memory.config.tasks → (seat_of memory t).phase ≡ (w.views t).phase
   pub held : (t : ℕ) → t < memory.config.tasks → Agree memory.config (seat_held (seat_of memory t)) (held_of (w.views t))
@@ -43,4 +43,4 @@ pub record IsSound (memory : Memory) : Type 0 where
   pub files : (t : ℕ) → t < memory.config.tasks → length (seat_of memory t).accesses.files ≡ 64
   pub fits : (t : ℕ) → t < memory.config.tasks →
       Fits memory.config t (seat_held (seat_of memory t)) (seat_of memory t).phase
-  pub reached : (entries : List Entry) × Shows memory (run memory.config opening entries)
+  pub reached : (entries : List Entry) × Represents memory (run memory.config opening entries)

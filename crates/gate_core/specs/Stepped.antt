@@ -4,7 +4,7 @@ use Rattle.cpu_words.specs.Hooks.{HookAnswer}
 use Rattle.gate_world.specs.Worlds.{World, happens}
 use Rattle.gate_world.specs.declared.entries.Entry.{TheVariants.{Steps}}
 use Rattle.gate_schedules.specs.Answers.{step_answer}
-use Rattle.gate_core.specs.Memory.{Memory, Shows}
+use Rattle.gate_core.specs.Memory.{Memory, Represents}
 use Rattle.gate_core.specs.Moves.{stepped, progress_in}
 use Rattle.gate_schedules.specs.declared.steps.Step.{Step}
 
@@ -12,7 +12,7 @@ use Rattle.gate_schedules.specs.declared.steps.Step.{Step}
 -- the first one shows, and is told as it is of that world.
 pub record IsStep (before after : Memory) (t : ℕ) (hook : HookAnswer) (step : Step) : Type 0 where
   pub config : after.config ≡ before.config
-  pub answer : (w : World) → Shows before w → step ≡ step_answer before.config w t hook
-  pub shows : (w : World) → Shows before w → Shows after (happens before.config w (Steps t hook))
+  pub answer : (w : World) → Represents before w → step ≡ step_answer before.config w t hook
+  pub shows : (w : World) → Represents before w → Represents after (happens before.config w (Steps t hook))
   pub progress : step.progress ≡ progress_in before t hook
   pub memory : after ≡ stepped before t hook

@@ -5,8 +5,8 @@ use Rattle.std.proofs.lemmas.Bool.{lt-ltb, le-leb}
 use Rattle.std.proofs.Math.Nat.{le_trans}
 use Rattle.std.specs.Cmp.Derive.{both_true}
 use Rattle.cpu_words.specs.declared.names.WordName.{WordName}
-use Rattle.cpu_words.specs.declared.names.Row.{Row}
-use Rattle.cpu_words.specs.declared.names.Row.TheVariants.{OfAll, OfMount, CountOfMount, OfLevel, CountOfLevel, OfTask, OfNode}
+use Rattle.cpu_words.specs.declared.names.WordRow.{WordRow}
+use Rattle.cpu_words.specs.declared.names.WordRow.TheVariants.{OfAll, OfMount, CountOfMount, OfLevel, CountOfLevel, OfTask, OfNode}
 use Rattle.cpu_words.specs.Names.{Extents, HasRow, IsWord, row, place}
 use Rattle.cpu_words.specs.Words.{read}
 use Rattle.gate_core.specs.Memory.{Memory}
@@ -16,7 +16,7 @@ use Rattle.gate_world.specs.declared.config.Config.{Config}
 use Rattle.gate_core.specs.Drivers.{has_row, core_word, CoreShows}
 
 -- the test finds a word that there is
-found : (e : Extents) (r : Row) → HasRow e r → has_row e r ≡ true
+found : (e : Extents) (r : WordRow) → HasRow e r → has_row e r ≡ true
 found e (OfAll k) there = refl
 found e (OfMount k m) there = lt-ltb m e.mounts there
 found e (CountOfMount k m p) there = both_true (lt-ltb m e.mounts there.0) (lt-ltb p e.processors there.1)
@@ -27,7 +27,7 @@ found e (OfTask k t) there = lt-ltb t e.tasks there
 found e (OfNode k n) there = lt-ltb n e.nodes there
 
 -- a word of a lawful configuration is among those that are kept
-kept_too : (c : Config) → IsWithin c → (r : Row) → HasRow (extents_of c) r → HasRow (extents_kept c) r
+kept_too : (c : Config) → IsWithin c → (r : WordRow) → HasRow (extents_of c) r → HasRow (extents_kept c) r
 kept_too c within (OfNode k n) there = le_trans there within.nodes
 kept_too c within _ there = there
 

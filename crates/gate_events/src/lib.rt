@@ -2,6 +2,6 @@
 //! `gate_world`, so that the proofs over every schedule wait for no code.
 #![tactic(auto)]
 
-pub mod under_way;
+pub mod pending_ops;
 
-pub use under_way::{UnderWay, after_event, next_event};
+pub use pending_ops::{PendingOp, after_event, next_event};

@@ -4,6 +4,6 @@
 mod meetings;
 mod workers;
 
-pub use meetings::NotedWatch;
+pub use meetings::NotedObserver;
 pub use vfs_gates::{Closed, Gates, Task};
 pub use workers::{back_up, create_files, remount, write};

@@ -14,7 +14,7 @@ use crate::run_parts::{Closed, Gates, Task};
 use crate::run_threads::in_threads;
 use access_model::{Gate, GateError};
 use cpu_words::WordName;
-use run_plans::{Details, MOUNT, Meeting, Plan, Totals, Watch};
+use run_plans::{Details, MOUNT, Meeting, Plan, Totals, RunObserver};
 use std::alloc::Global;
 use std::sync::Wait;
 use std::thread::Threads;
@@ -48,13 +48,13 @@ fn close(gates: Gates, task: Task) -> Closed
 }
 
 /// Runs a plan: makes the gates and their files, does the plan in threads, and closes the gates. Its backup calls the watch too
-/// (`Watch::seen` has what these calls show). Tells beside the totals what the tasks met on their way: each refusal that was
+/// (`RunObserver::seen` has what these calls show). Tells beside the totals what the tasks met on their way: each refusal that was
 /// tried again, and each callback that ran, is counted.
 ///
 /// # Errors
 ///
 /// As `run_with`. A plan's numbers are within their limits, so Invalid comes only from a snapshot or a thaw.
-pub fn run_plan<R: Threads + Wait + Sync, W: Watch + Sync>(
+pub fn run_plan<R: Threads + Wait + Sync, W: RunObserver + Sync>(
     rt: &R,
     alloc: Global,
     plan: Plan,

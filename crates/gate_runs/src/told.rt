@@ -1,14 +1,14 @@
 //! A run, with what it counted written.
 
 ghost use Rattle.std.specs.Prelude.{◌≡◌, ◌≤◌, ◌⊎◌};
-ghost use Rattle.endings.specs.declared.ends.Ending.TheVariants.{Ran, Refused};
+ghost use Rattle.exit_status.specs.declared.ends.Ending.TheVariants.{Ran, Refused};
 ghost use Rattle.gate_runs.specs.Told.{WasRun};
 
 use crate::runs::run_plan;
 use access_model::GateError;
-use endings::{Ending, refused, why_told};
+use exit_status::{Ending, refused, why_told};
 use run_plans::rows::{ROWS, add_rows};
-use run_plans::{Plan, Watch};
+use run_plans::{Plan, RunObserver};
 use schedule_lines::bytes::write_out;
 use std::alloc::Global;
 use std::io::Write;
@@ -19,7 +19,7 @@ use std::time::Instant;
 
 /// Does the plan (`run_plan`), and writes what was counted: the first so many of the rows. It ends as Ran only where all of the plan was done. A refusal
 /// is told on the writer of faults, and so is a write that fails; where that can't be told it ends the same.
-pub fn run_told<R: Threads + Wait + Clock + Sync, P: Watch + Sync, W: Write, E: Write>(
+pub fn run_told<R: Threads + Wait + Clock + Sync, P: RunObserver + Sync, W: Write, E: Write>(
     rt: &R,
     alloc: Global,
     plan: Plan,

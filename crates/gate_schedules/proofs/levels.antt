@@ -1,9 +1,9 @@
 pub mod Steps
-pub mod Stands
+pub mod ClosedBelow
 pub mod Worlds
-pub mod Standing
-pub mod StandRoles
-pub mod Whole
+pub mod LevelPositions
+pub mod PositionRoles
+pub mod FreezeCompletes
 pub mod UpWrite
 pub mod DownWrite
 pub mod Runs

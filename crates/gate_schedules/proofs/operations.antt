@@ -1,4 +1,4 @@
-pub mod Layers
+pub mod AllOperations
 pub mod want
 pub mod change
 pub mod remount

@@ -5,10 +5,10 @@ pub mod Schedule
 pub mod Lists
 pub mod Snapshots
 pub mod Rests
-pub mod Between
-pub mod Standing
+pub mod BetweenStores
+pub mod SnapshotStability
 pub mod Leads
-pub mod Whole
+pub mod HeadlineProof
 pub mod Runs
 pub mod LevelRuns
 pub mod Deadlocks

@@ -1,4 +1,4 @@
 pub mod Moments
-pub mod Says
+pub mod TraceInvariant
 pub mod Traced
 pub mod Cleans

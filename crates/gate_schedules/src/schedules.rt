@@ -6,9 +6,9 @@ ghost use Rattle.gate_world.specs.Configs.{IsWithin};
 ghost use Rattle.gate_world.specs.declared.entries.Entry.{Entry};
 ghost use Rattle.gate_world.specs.Rules.{IsGood};
 ghost use Rattle.gate_world.specs.Headline.{world_after, MovesTheModel, IsOneRun, NobodyIsInside, SumsHold, LevelsLead, IdleSumsHold, NothingIsLeft, FreezeIsUnderWay, HoldersAreTold, FrozenTreeIsWhole, FrozenTreeStays, SnapshotsStand, OperationsAreKept};
-ghost use Rattle.gate_world.specs.Causes.{RefusalsHaveCauses};
+ghost use Rattle.gate_world.specs.refusals.Causes.{RefusalsHaveCauses};
 ghost use Rattle.gate_world.specs.LevelRuns.{LevelsAreRuns};
-ghost use Rattle.gate_world.specs.Waits.{EachWaitHasCulprit};
+ghost use Rattle.gate_world.specs.refusals.Waits.{EachWaitHasCulprit};
 ghost use Rattle.gate_schedules.specs.operations.Progress.{EverybodySettles, KeptStaysKept, NobodyIsDeadlocked, RepliesOrIsFrozen};
 ghost use Rattle.gate_schedules.specs.operations.Ranks.{most_events_to_reply, most_events_to_settle};
 

@@ -11,7 +11,7 @@ use lib.ListN.{get_elem?}
 use Rattle.gate_steps.specs.Rules.{Ruled, Held}
 use Rattle.gate_steps.specs.Tables.{IsClosing}
 use Rattle.gate_steps.proofs.Dealing.{known_here}
-use Rattle.gate_steps.proofs.Lifting.{holds}
+use Rattle.gate_steps.proofs.TableSimulation.{holds}
 
 -- what the last state of a table says of its words and of a seat
 pub closes : (c : Config) (id : ℕ) (k : Knowledge) (ws : List ℕ) (slots : List (Unit {0})) → Final (Seen (holds c) id k) ws slots →

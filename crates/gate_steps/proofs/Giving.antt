@@ -24,7 +24,7 @@ use Rattle.cpu_words.specs.Words.{Words}
 use Rattle.gate_schedules.proofs.frames.Frames.{left_alone, shown_still}
 use Rattle.gate_steps.specs.{Histories.HasHistory, Seating.{SeatItems, numbered, one_if, times, times_all, HaveViews, Dealt, without, view_in, renewed}}
 use Rattle.gate_steps.specs.{Seating.{given_of, Spares, trace_kept}, declared.seating.Numbered.Numbered}
-use Rattle.gate_steps.proofs.{Dealing.{one_if-same, one_if-other, times-append, times_all-set, times_all-one, times_all-snoc, known, apart}, Lifting.holds}
+use Rattle.gate_steps.proofs.{Dealing.{one_if-same, one_if-other, times-append, times_all-set, times_all-one, times_all-snoc, known, apart}, TableSimulation.holds}
 use Rattle.gate_steps.proofs.Reaching.{renewed_reached}
 
 pub times-without : (n : ℕ) (l : SeatItems) → times n (without n l) ≡ 0

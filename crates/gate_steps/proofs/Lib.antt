@@ -3,7 +3,7 @@ pub mod Growing
 pub mod TableWords
 pub mod Reaching
 pub mod Stores
-pub mod Lifting
+pub mod TableSimulation
 pub mod Giving
 pub mod Opening
 pub mod Closing

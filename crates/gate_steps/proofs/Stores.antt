@@ -10,7 +10,7 @@ use Rattle.percpu_rwsem.specs.declared.readers.DownReadStep.TheVariants.{EntersS
 use Rattle.percpu_rwsem.specs.declared.callbacks.CallbackStep.TheVariants.{Claims, AwaitsSections as CAwaitsSections, CallsBack as CCallsBack}
 use Rattle.percpu_rwsem.specs.declared.writers.DownWriteStep.TheVariants.{Enters, CallsBack as WCallsBack}
 use Rattle.percpu_rwsem.specs.declared.writers.UpWriteStep.TheVariants.{ClearsBlock, Exits}
-use Rattle.compounds.specs.declared.write_access.phases.WritePhase.TheVariants.{Takes, Wants as WWants}
+use Rattle.composite_ops.specs.declared.write_access.phases.WritePhase.TheVariants.{Takes, Wants as WWants}
 use Rattle.freeze_levels.specs.declared.freezes.FreezeStep.TheVariants.{Closes, SetsFs, SetsComplete, Reopens as FReopens}
 use Rattle.freeze_levels.specs.declared.thaws.ThawStep.TheVariants.{LeavesLast, Reopens as TReopens}
 use Rattle.gated_tree.specs.declared.changes.CreateStep.TheVariants.{LoadsDirectory}
@@ -22,15 +22,15 @@ use Rattle.gated_tree.specs.declared.snapshots.SnapshotStep.TheVariants.{Locks a
 use Rattle.gated_tree.specs.declared.phases.TreePhase.TheVariants.{Create as Creates, Remove as Removes, Grow as Grows, MoveTo as Moves, Mark as TreeMarks, OpenFile as OpensOne, Snapshot as Snapshots, ClearMarks as TreeClears}
 use Rattle.gate_world.specs.declared.work.Phase.TheVariants.{Mounts, Remounts, DownReads, Callbacks, Writes, Freezes, Thaws, Trees, Closes}
 use Rattle.gated_tree.specs.Phases.{next as tree_next, remove_next, grow_next, move_next, mark_next, create_next, snapshot_next, open_next}
-use Rattle.compounds.specs.file_closes.Phases.{next as close_next}
-use Rattle.compounds.specs.write_access.Phases.{next as write_next}
+use Rattle.composite_ops.specs.file_closes.Phases.{next as close_next}
+use Rattle.composite_ops.specs.write_access.Phases.{next as write_next}
 use Rattle.cpu_words.specs.declared.names.WordName.TheVariants.{Node, Sync}
 use Rattle.cpu_words.specs.declared.events.Touch.{Touch}
 use Rattle.cpu_words.specs.declared.events.Touch.TheVariants.{Load, Store, Add, Sub, Or, And, Swap, Cas}
 use Rattle.cpu_words.specs.Touches.{found_by}
-use Rattle.gate_world.specs.Courses.{MayHold, MayFind, OpenMayFind}
-use Rattle.compounds.specs.declared.file_closes.phases.ClosePhase.{ClosePhase}
-use Rattle.compounds.specs.declared.file_closes.phases.ClosePhase.TheVariants.{LoadsFile as LoadsFileToClose, LowersCount, Enters as EntersLevel, FreesNode as FreesFile, RefundsBlocks as RefundsFile, Uncounts, Leaves as LeavesLevel}
+use Rattle.gate_world.specs.traces.TraceStates.{WordIsValid, ReadIsValid, OpenReadIsValid}
+use Rattle.composite_ops.specs.declared.file_closes.phases.ClosePhase.{ClosePhase}
+use Rattle.composite_ops.specs.declared.file_closes.phases.ClosePhase.TheVariants.{LoadsFile as LoadsFileToClose, LowersCount, Enters as EntersLevel, FreesNode as FreesFile, RefundsBlocks as RefundsFile, Uncounts, Leaves as LeavesLevel}
 use Rattle.gated_tree.specs.declared.opens.OpenFile.{OpenFile}
 use Rattle.gated_tree.specs.declared.opens.OpenStep.{OpenStep}
 use Rattle.gated_tree.specs.declared.opens.OpenStep.TheVariants.{LoadsFile as LoadsFileToOpen, OpensFile}
@@ -43,7 +43,7 @@ use Rattle.percpu_rwsem.specs.declared.readers.DownRead.{DownRead}
 use Rattle.percpu_rwsem.specs.declared.callbacks.Callback.{Callback}
 use Rattle.percpu_rwsem.specs.declared.writers.DownWrite.{DownWrite}
 use Rattle.percpu_rwsem.specs.declared.writers.UpWrite.{UpWrite}
-use Rattle.compounds.specs.declared.write_access.phases.WritePhase.{WritePhase}
+use Rattle.composite_ops.specs.declared.write_access.phases.WritePhase.{WritePhase}
 use Rattle.freeze_levels.specs.declared.freezes.Freeze.{Freeze}
 use Rattle.freeze_levels.specs.declared.thaws.Thaw.{Thaw}
 use Rattle.gated_tree.specs.declared.changes.Create.{Create}
@@ -200,8 +200,8 @@ no_store (Closes x) hook = close_word x
 no_store other hook = tt
 
 -- so what an event finds in a word is what the word held, where that is a node's or a sync word
-held_found : (word : WordName) (touch : Touch) (value : ℕ) → IsNoStore (word, touch) → MayHold word value →
-    MayHold word (found_by touch value)
+held_found : (word : WordName) (touch : Touch) (value : ℕ) → IsNoStore (word, touch) → WordIsValid word value →
+    WordIsValid word (found_by touch value)
 held_found (Node n) (Store new) value none may = absurd none
 held_found (Node n) Load value none may = may
 held_found (Node n) (Add by) value none may = may
@@ -221,12 +221,12 @@ held_found (Sync i) (Cas expect put) value none may = may
 held_found other touch value none may = tt
 
 -- the same of what a phase asks of its word
-open_found : (x : OpenFile) (s : OpenStep) (value : ℕ) → OpenMayFind s value → OpenMayFind s (found_by (open_next x s).1 value)
+open_found : (x : OpenFile) (s : OpenStep) (value : ℕ) → OpenReadIsValid s value → OpenReadIsValid s (found_by (open_next x s).1 value)
 open_found x LoadsFileToOpen value may = may
 open_found x (OpensFile file) value may = may
 
-pub there_found : (phase : Phase) (hook : HookAnswer) (value : ℕ) → MayFind phase (next_of phase hook).0 value →
-    MayFind phase (next_of phase hook).0 (found_by (next_of phase hook).1 value)
+pub there_found : (phase : Phase) (hook : HookAnswer) (value : ℕ) → ReadIsValid phase (next_of phase hook).0 value →
+    ReadIsValid phase (next_of phase hook).0 (found_by (next_of phase hook).1 value)
 there_found (Closes (LoadsFileToClose x)) hook value may = may
 there_found (Closes (LowersCount x node)) hook value may = may
 there_found (Closes (EntersLevel file node r)) hook value may =

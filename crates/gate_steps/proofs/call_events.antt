@@ -2,7 +2,7 @@ pub use Rattle.gate_schedules.proofs.schedules.Beginnings
 pub use Rattle.gate_schedules.proofs.schedules.Rests
 pub use Rattle.gate_schedules.proofs.schedules.Schedule
 pub use Rattle.gate_schedules.proofs.schedules.Snapshots
-pub use Rattle.gate_schedules.proofs.frames.Keeps
+pub use Rattle.gate_schedules.proofs.frames.OperationLaws
 pub use Rattle.gate_steps.proofs.Dealing
 pub use Rattle.gate_steps.proofs.Giving
 pub use Rattle.gate_steps.proofs.Opening

@@ -14,7 +14,7 @@ use Rattle.gate_world.specs.Beginnings.{first_phase, view_refusal}
 use Rattle.gate_world.specs.Worlds.{World, after_begin, found_at, after_step_beside, phase_action, task_of, with_action}
 use Rattle.gate_world.specs.declared.entries.Entry.{Entry}
 use Rattle.gate_world.specs.Work.{next_of}
-use Rattle.gate_world.specs.Courses.{MayFind}
+use Rattle.gate_world.specs.traces.TraceStates.{ReadIsValid}
 use Rattle.gate_world.specs.Shown.{shown}
 use Rattle.gate_world.specs.Rules.{IsGood, Moves}
 use Rattle.gate_steps.specs.Histories.{HasHistory, IsReached, then_begins, then_steps}
@@ -134,7 +134,7 @@ world_left c w begins phase hook n others = after_step_beside (done_by others) (
 -- is such a world too, in which they have the views that the seat knows then. It moves the shown model by its action, and its history is
 -- the one before with this action. What it found is what its word may hold. Its schedule is the one before with the beginning, where the
 -- operation has just begun, and with this event: between the two it makes the world in which the event happened.
-pub record Moved (c : Config) (begins : Option Op) (phase : Phase) (hook : HookAnswer) (x : Numbered) (xs : SeatItems)
+pub record StepWitness (c : Config) (begins : Option Op) (phase : Phase) (hook : HookAnswer) (x : Numbered) (xs : SeatItems)
     (n : ℕ) (seen left_seen : List (List Entry)) : Type 0 where
   pub within : IsWithin c
   pub world : World
@@ -143,7 +143,7 @@ pub record Moved (c : Config) (begins : Option Op) (phase : Phase) (hook : HookA
   pub before : IsGood c world
   pub mine : HaveViews world.views (x ∷ xs)
   pub found : n ≡ found_at world.words phase hook
-  pub holds : MayFind phase (next_of phase hook).0 n
+  pub holds : ReadIsValid phase (next_of phase hook).0 n
   pub after : IsGood c (world_left c world begins phase hook x.number xs)
   pub moves : Moves c (shown c world) x.number (phase_action world hook (Some phase))
       (shown c (world_left c world begins phase hook x.number xs))
@@ -159,15 +159,15 @@ pub record Moved (c : Config) (begins : Option Op) (phase : Phase) (hook : HookA
   pub left : HaveViews (world_left c world begins phase hook x.number xs).views (items_after begins phase hook n (x ∷ xs))
 
 -- the same of a seat's own number, which is its first
-abbrev pub IsMove : Config → Option Op → Phase → HookAnswer → SeatItems → ℕ → List (List Entry) → List (List Entry) → Type 0
-IsMove c begins phase hook [] found seen left = ⊥
-IsMove c begins phase hook (x ∷ xs) found seen left = Moved c begins phase hook x xs found seen left
+abbrev pub HasWitness : Config → Option Op → Phase → HookAnswer → SeatItems → ℕ → List (List Entry) → List (List Entry) → Type 0
+HasWitness c begins phase hook [] found seen left = ⊥
+HasWitness c begins phase hook (x ∷ xs) found seen left = StepWitness c begins phase hook x xs found seen left
 
 -- what the one play says: the seat's own view is what the event makes of it, nothing else of the seat changed, and it was an event
 -- in a world that the rule holds of
 abbrev pub happened : Config → Option Op → Phase → HookAnswer → Knowledge × List (ℕ × Unit {0}) → ℕ → Knowledge × List (ℕ × Unit {0}) → Type 0
 happened c begins phase hook me found after = (after.0.items ≡ items_after begins phase hook found me.0.items) × (after.1 ≡ me.1) ×
-    IsMove c begins phase hook me.0.items found me.0.seen after.0.seen
+    HasWitness c begins phase hook me.0.items found me.0.seen after.0.seen
 
 -- these numbers but for one
 abbrev pub without : ℕ → SeatItems → SeatItems

@@ -1,14 +1,14 @@
 pub use Rattle.gate_schedules.specs.Answers
 pub use Rattle.gate_schedules.specs.Seats
-pub use Rattle.gate_schedules.specs.declared.seats.Seat
+pub use Rattle.gate_schedules.specs.declared.task_states.TaskState
 pub use Rattle.gate_schedules.specs.declared.steps.Progress
 pub use Rattle.gate_schedules.specs.declared.steps.Step
 pub use Rattle.gate_steps.specs.Histories
 pub use Rattle.gate_steps.specs.Rules
 pub use Rattle.gate_steps.specs.Seating
 pub use Rattle.gate_steps.specs.Tables
-pub mod TaskStates
-pub mod Ties
+pub mod SeatedTasks
+pub mod GhostAgrees
 pub mod Stepped
 pub mod Turns
 pub mod Refused

@@ -11,8 +11,8 @@ ghost use Rattle.gate_steps.specs.call_events.Closings.{of_freeze};
 ghost use Rattle.gate_steps.specs.call_events.Led.{Led, LedAsking};
 ghost use Rattle.gate_steps.specs.call_events.Remounting.{of_remount};
 ghost use Rattle.gate_steps.specs.call_events.Reopenings.{of_thaw};
-ghost use Rattle.gate_steps.specs.call_events.TaskStates.{TaskState, task_state};
-ghost use Rattle.gate_steps.specs.call_events.Turns.{IsTied, StayTied};
+ghost use Rattle.gate_steps.specs.call_events.SeatedTasks.{SeatedTask, task_state};
+ghost use Rattle.gate_steps.specs.call_events.Turns.{StateAgrees, StayTied};
 ghost use Rattle.gate_steps.specs.call_events.Runs.{Called, Goes, IsTrying};
 ghost use Rattle.gate_steps.specs.call_events.Asking.{CalledAsking, GoesAsking, WentAsking};
 
@@ -28,24 +28,24 @@ use crate::call_ends::freeze_lines::{
 };
 use crate::call_ends::remount_lines::{remount_first, remount_locked};
 use crate::call_ends::thaw_lines::{reopen_all, thaw_first, thaw_locked};
-use crate::call_events::{GateWords, Seat, TimedHooks, Turn, do_event, go_on};
+use crate::call_events::{GateWords, GhostSeat, TimedHooks, Turn, do_event, step_once};
 use access_model::{GateError, Next, Reply};
 use crossbeam_utils::Backoff;
 use freeze_levels::{Freeze, FreezeStep, HookCall, Thaw, ThawStep};
-use gate_events::UnderWay;
+use gate_events::PendingOp;
 use gate_world::{Accesses, Op};
 use mount_counts::{Remount, RemountStep};
 use percpu_rwsem::{Callback, CallbackStep};
 use std::sync::Wait;
 
 /// An operation that may have to wait, in a form of its own.
-pub trait Waiting: UnderWay {
+pub trait Waiting: PendingOp {
     ghost use Rattle.std.specs.Prelude.{◌≡◌, Some, None};
     ghost use Rattle.access_model.specs.Replies.{map_next};
     ghost use Rattle.access_model.specs.declared.replies.Next.TheVariants.{Go};
     ghost use Rattle.gate_steps.specs.call_events.Asking.{call_at};
     ghost use Rattle.gate_steps.specs.call_events.Led.{LedAsking};
-    ghost use Rattle.gate_steps.specs.call_events.Turns.{IsTied};
+    ghost use Rattle.gate_steps.specs.call_events.Turns.{StateAgrees};
 
     /// The hook whose answer the next event reads, with what it is asked.
     fn asks(&self) -> Option<HookCall>
@@ -56,13 +56,13 @@ pub trait Waiting: UnderWay {
     fn begin_in_line<H: TimedHooks>(
         self,
         gates: &GateWords,
-        seat: &mut Seat,
+        seat: &mut GhostSeat,
         accesses: &Accesses,
         op: Op,
         hooks: &mut H,
     ) -> Next<Self>
         requires table { seat.old.table_id ≡ gates.now.table.shared.table_id }
-        requires tied { IsTied gates.now.config (Some op) (Some (Self.as_phase self)) accesses.now seat.old.me.0.items }
+        requires tied { StateAgrees gates.now.config (Some op) (Some (Self.as_phase self)) accesses.now seat.old.me.0.items }
         ensures slots { seat.new.me.1 ≡ seat.old.me.1 }
         ensures led { LedAsking H.answers gates.now.config (Some op) accesses.now (Go (Self.as_phase self)) seat.old.table_id seat.old.me.0
             hooks.old (map_next Self.as_phase result) seat.new.table_id seat.new.me.0 hooks.new };
@@ -71,12 +71,12 @@ pub trait Waiting: UnderWay {
     fn go_in_line<H: TimedHooks>(
         self,
         gates: &GateWords,
-        seat: &mut Seat,
+        seat: &mut GhostSeat,
         accesses: &Accesses,
         hooks: &mut H,
     ) -> Next<Self>
         requires table { seat.old.table_id ≡ gates.now.table.shared.table_id }
-        requires tied { IsTied gates.now.config None (Some (Self.as_phase self)) accesses.now seat.old.me.0.items }
+        requires tied { StateAgrees gates.now.config None (Some (Self.as_phase self)) accesses.now seat.old.me.0.items }
         ensures slots { seat.new.me.1 ≡ seat.old.me.1 }
         ensures led { LedAsking H.answers gates.now.config None accesses.now (Go (Self.as_phase self)) seat.old.table_id seat.old.me.0
             hooks.old (map_next Self.as_phase result) seat.new.table_id seat.new.me.0 hooks.new };
@@ -96,7 +96,7 @@ impl Waiting for Freeze {
     fn begin_in_line<H: TimedHooks>(
         self,
         gates: &GateWords,
-        seat: &mut Seat,
+        seat: &mut GhostSeat,
         accesses: &Accesses,
         op: Op,
         hooks: &mut H,
@@ -108,7 +108,7 @@ impl Waiting for Freeze {
     fn go_in_line<H: TimedHooks>(
         self,
         gates: &GateWords,
-        seat: &mut Seat,
+        seat: &mut GhostSeat,
         accesses: &Accesses,
         hooks: &mut H,
     ) -> Next<Freeze> {
@@ -129,7 +129,7 @@ impl Waiting for Thaw {
     fn begin_in_line<H: TimedHooks>(
         self,
         gates: &GateWords,
-        seat: &mut Seat,
+        seat: &mut GhostSeat,
         accesses: &Accesses,
         op: Op,
         hooks: &mut H,
@@ -141,7 +141,7 @@ impl Waiting for Thaw {
     fn go_in_line<H: TimedHooks>(
         self,
         gates: &GateWords,
-        seat: &mut Seat,
+        seat: &mut GhostSeat,
         accesses: &Accesses,
         hooks: &mut H,
     ) -> Next<Thaw> {
@@ -165,7 +165,7 @@ impl Waiting for Remount {
     fn begin_in_line<H: TimedHooks>(
         self,
         gates: &GateWords,
-        seat: &mut Seat,
+        seat: &mut GhostSeat,
         accesses: &Accesses,
         op: Op,
         hooks: &mut H,
@@ -177,7 +177,7 @@ impl Waiting for Remount {
     fn go_in_line<H: TimedHooks>(
         self,
         gates: &GateWords,
-        seat: &mut Seat,
+        seat: &mut GhostSeat,
         accesses: &Accesses,
         hooks: &mut H,
     ) -> Next<Remount> {
@@ -195,7 +195,7 @@ impl Waiting for Callback {
     fn begin_in_line<H: TimedHooks>(
         self,
         gates: &GateWords,
-        seat: &mut Seat,
+        seat: &mut GhostSeat,
         accesses: &Accesses,
         op: Op,
         hooks: &mut H,
@@ -208,7 +208,7 @@ impl Waiting for Callback {
     fn go_in_line<H: TimedHooks>(
         self,
         gates: &GateWords,
-        seat: &mut Seat,
+        seat: &mut GhostSeat,
         accesses: &Accesses,
         hooks: &mut H,
     ) -> Next<Callback> {
@@ -221,13 +221,13 @@ impl Waiting for Callback {
 #[inline(always)]
 fn thaw_in_line<H: TimedHooks>(
     gates: &GateWords,
-    seat: &mut Seat,
+    seat: &mut GhostSeat,
     accesses: &Accesses,
     thaw: Thaw,
     hooks: &mut H,
 ) -> Next<Thaw>
     requires table { seat.old.table_id ≡ gates.now.table.shared.table_id }
-    requires tied { IsTied gates.now.config None (Some (Thaws thaw)) accesses.now seat.old.me.0.items }
+    requires tied { StateAgrees gates.now.config None (Some (Thaws thaw)) accesses.now seat.old.me.0.items }
     ensures slots { seat.new.me.1 ≡ seat.old.me.1 }
     ensures led { LedAsking H.answers gates.now.config None accesses.now (Go (Thaws thaw)) seat.old.table_id seat.old.me.0 hooks.old
         (of_thaw result) seat.new.table_id seat.new.me.0 hooks.new }
@@ -243,13 +243,13 @@ fn thaw_in_line<H: TimedHooks>(
 #[inline(always)]
 fn remount_in_line<H: TimedHooks>(
     gates: &GateWords,
-    seat: &mut Seat,
+    seat: &mut GhostSeat,
     accesses: &Accesses,
     remount: Remount,
     hooks: &mut H,
 ) -> Next<Remount>
     requires table { seat.old.table_id ≡ gates.now.table.shared.table_id }
-    requires tied { IsTied gates.now.config None (Some (Remounts remount)) accesses.now seat.old.me.0.items }
+    requires tied { StateAgrees gates.now.config None (Some (Remounts remount)) accesses.now seat.old.me.0.items }
     ensures slots { seat.new.me.1 ≡ seat.old.me.1 }
     ensures led { LedAsking H.answers gates.now.config None accesses.now (Go (Remounts remount)) seat.old.table_id seat.old.me.0 hooks.old
         (of_remount result) seat.new.table_id seat.new.me.0 hooks.new }
@@ -264,12 +264,12 @@ fn remount_in_line<H: TimedHooks>(
 #[inline(always)]
 fn callback_in_line(
     gates: &GateWords,
-    seat: &mut Seat,
+    seat: &mut GhostSeat,
     accesses: &Accesses,
     callback: Callback,
 ) -> Next<Callback>
     requires table { seat.old.table_id ≡ gates.now.table.shared.table_id }
-    requires tied { IsTied gates.now.config None (Some (Callbacks callback)) accesses.now seat.old.me.0.items }
+    requires tied { StateAgrees gates.now.config None (Some (Callbacks callback)) accesses.now seat.old.me.0.items }
     ensures slots { seat.new.me.1 ≡ seat.old.me.1 }
     ensures led { Led gates.now.config None accesses.now (Go (Callbacks callback)) seat.old.table_id seat.old.me.0
         (of_callback result) seat.new.table_id seat.new.me.0 }
@@ -291,13 +291,13 @@ fn callback_in_line(
 #[inline(always)]
 fn freeze_in_line<H: TimedHooks>(
     gates: &GateWords,
-    seat: &mut Seat,
+    seat: &mut GhostSeat,
     accesses: &Accesses,
     freeze: Freeze,
     hooks: &mut H,
 ) -> Next<Freeze>
     requires table { seat.old.table_id ≡ gates.now.table.shared.table_id }
-    requires tied { IsTied gates.now.config None (Some (Freezes freeze)) accesses.now seat.old.me.0.items }
+    requires tied { StateAgrees gates.now.config None (Some (Freezes freeze)) accesses.now seat.old.me.0.items }
     ensures slots { seat.new.me.1 ≡ seat.old.me.1 }
     ensures led { LedAsking H.answers gates.now.config None accesses.now (Go (Freezes freeze)) seat.old.table_id seat.old.me.0 hooks.old
         (of_freeze result) seat.new.table_id seat.new.me.0 hooks.new }
@@ -313,21 +313,21 @@ fn freeze_in_line<H: TimedHooks>(
 
 /// Does the next step of an operation. What comes after it. Where it reads what a hook answers, that hook is asked right before it.
 #[inline(always)]
-fn go_on_asking<P: Waiting, H: TimedHooks>(
+fn step_asking<P: Waiting, H: TimedHooks>(
     gates: &GateWords,
-    seat: &mut Seat,
+    seat: &mut GhostSeat,
     accesses: &mut Accesses,
     under_way: P,
     hooks: &mut H,
 ) -> Next<P>
     requires table { seat.old.table_id ≡ gates.now.table.shared.table_id }
-    requires tied { IsTied gates.now.config None (Some (P.as_phase under_way)) accesses.old seat.old.me.0.items }
+    requires tied { StateAgrees gates.now.config None (Some (P.as_phase under_way)) accesses.old seat.old.me.0.items }
     ensures table { seat.new.table_id ≡ seat.old.table_id }
     ensures slots { seat.new.me.1 ≡ seat.old.me.1 }
     ensures tied { StayTied gates.now.config None (Some (P.as_phase under_way)) accesses.old seat.old.me.0.items
         (phase_after (map_next P.as_phase result)) accesses.new seat.new.me.0.items }
-    ensures still { IsTied gates.now.config None (phase_after (map_next P.as_phase result)) accesses.new seat.new.me.0.items }
-    ensures asked { (waits : ℕ) (op : OpType) (start : TaskState) (before : H) →
+    ensures still { StateAgrees gates.now.config None (phase_after (map_next P.as_phase result)) accesses.new seat.new.me.0.items }
+    ensures asked { (waits : ℕ) (op : OpType) (start : SeatedTask) (before : H) →
         GoesAsking H.answers waits op start before
         (task_state seat.old.table_id gates.now.config None (Some (P.as_phase under_way)) seat.old.me.0) hooks.old →
         WentAsking H.answers waits op start before (map_next P.as_phase result)
@@ -337,20 +337,20 @@ fn go_on_asking<P: Waiting, H: TimedHooks>(
         Some(call) => hooks.ask(call, seat),
         None => Ok(()),
     };
-    go_on(gates, seat, accesses, None, under_way, hook)
+    step_once(gates, seat, accesses, None, under_way, hook)
 }
 
 /// The line of an operation, where it goes on.
 #[inline(always)]
 fn go_on_in_line<P: Waiting, H: TimedHooks>(
     gates: &GateWords,
-    seat: &mut Seat,
+    seat: &mut GhostSeat,
     accesses: &Accesses,
     next: Next<P>,
     hooks: &mut H,
 ) -> Next<P>
     requires table { seat.old.table_id ≡ gates.now.table.shared.table_id }
-    requires tied { IsTied gates.now.config None (phase_after (map_next P.as_phase next)) accesses.now seat.old.me.0.items }
+    requires tied { StateAgrees gates.now.config None (phase_after (map_next P.as_phase next)) accesses.now seat.old.me.0.items }
     ensures slots { seat.new.me.1 ≡ seat.old.me.1 }
     ensures led { LedAsking H.answers gates.now.config None accesses.now (map_next P.as_phase next) seat.old.table_id seat.old.me.0 hooks.old
         (map_next P.as_phase result) seat.new.table_id seat.new.me.0 hooks.new }
@@ -364,21 +364,21 @@ fn go_on_in_line<P: Waiting, H: TimedHooks>(
 
 /// Does the events of an operation that has a most number of them and asks no hook, from its first to its reply.
 #[inline(never)]
-pub fn go_to_end<P: UnderWay>(
+pub fn run_to_reply<P: PendingOp>(
     gates: &GateWords,
-    seat: &mut Seat,
+    seat: &mut GhostSeat,
     accesses: &mut Accesses,
     op: Op,
     first: P,
 ) -> Result<Reply, GateError>
     requires table { seat.old.table_id ≡ gates.now.table.shared.table_id }
-    requires tied { IsTied gates.now.config (Some op) (Some (P.as_phase first)) accesses.old seat.old.me.0.items }
+    requires tied { StateAgrees gates.now.config (Some op) (Some (P.as_phase first)) accesses.old seat.old.me.0.items }
     requires trying { IsTrying (task_state seat.old.table_id gates.now.config (Some op) (Some (P.as_phase first)) seat.old.me.0) }
     ensures table { seat.new.table_id ≡ seat.old.table_id }
     ensures slots { seat.new.me.1 ≡ seat.old.me.1 }
     ensures tied { StayTied gates.now.config (Some op) (Some (P.as_phase first)) accesses.old seat.old.me.0.items
         None accesses.new seat.new.me.0.items }
-    ensures called { (of : OpType) (start : TaskState) →
+    ensures called { (of : OpType) (start : SeatedTask) →
         Goes of start (task_state seat.old.table_id gates.now.config (Some op) (Some (P.as_phase first)) seat.old.me.0) →
         Called of start (task_state seat.new.table_id gates.now.config None None seat.new.me.0) result }
 {
@@ -404,21 +404,21 @@ pub fn go_to_end<P: UnderWay>(
 /// these makes the pauses short again. It tells how many events did.
 #[cold]
 #[inline(never)]
-fn go_on_waiting<R: Wait, H: TimedHooks, P: Waiting>(
+fn step_waiting<R: Wait, H: TimedHooks, P: Waiting>(
     rt: &R,
     gates: &GateWords,
-    seat: &mut Seat,
+    seat: &mut GhostSeat,
     accesses: &mut Accesses,
     begun: Next<P>,
     hooks: &mut H,
 ) -> (Result<Reply, GateError>, u64)
     requires table { seat.old.table_id ≡ gates.now.table.shared.table_id }
-    requires tied { IsTied gates.now.config None (phase_after (map_next P.as_phase begun)) accesses.old seat.old.me.0.items }
+    requires tied { StateAgrees gates.now.config None (phase_after (map_next P.as_phase begun)) accesses.old seat.old.me.0.items }
     ensures table { seat.new.table_id ≡ seat.old.table_id }
     ensures slots { seat.new.me.1 ≡ seat.old.me.1 }
     ensures tied { StayTied gates.now.config None (phase_after (map_next P.as_phase begun)) accesses.old seat.old.me.0.items
         None accesses.new seat.new.me.0.items }
-    ensures called { (of : OpType) (start : TaskState) (before : H) →
+    ensures called { (of : OpType) (start : SeatedTask) (before : H) →
         WentAsking H.answers 0 of start before (map_next P.as_phase begun)
         (task_state seat.old.table_id gates.now.config None (phase_after (map_next P.as_phase begun)) seat.old.me.0) hooks.old →
         CalledAsking H.answers of start before (task_state seat.new.table_id gates.now.config None None seat.new.me.0) result.0 result.1
@@ -437,7 +437,7 @@ fn go_on_waiting<R: Wait, H: TimedHooks, P: Waiting>(
                 further
             }
         };
-        let after = go_on_asking(gates, seat, accesses, under_way, hooks);
+        let after = step_asking(gates, seat, accesses, under_way, hooks);
         next = go_on_in_line(gates, seat, accesses, after, hooks);
     }
     unreachable!()
@@ -446,22 +446,22 @@ fn go_on_waiting<R: Wait, H: TimedHooks, P: Waiting>(
 /// Does the events of an operation from its first to its reply, however long it has to wait, and tells how many events found what it waits for.
 /// Where its line leads to the reply, nothing of it is written to memory.
 #[inline(never)]
-pub fn wait_to_end<R: Wait, H: TimedHooks, P: Waiting>(
+pub fn wait_for_reply<R: Wait, H: TimedHooks, P: Waiting>(
     rt: &R,
     gates: &GateWords,
-    seat: &mut Seat,
+    seat: &mut GhostSeat,
     accesses: &mut Accesses,
     op: Op,
     first: P,
     hooks: &mut H,
 ) -> (Result<Reply, GateError>, u64)
     requires table { seat.old.table_id ≡ gates.now.table.shared.table_id }
-    requires tied { IsTied gates.now.config (Some op) (Some (P.as_phase first)) accesses.old seat.old.me.0.items }
+    requires tied { StateAgrees gates.now.config (Some op) (Some (P.as_phase first)) accesses.old seat.old.me.0.items }
     ensures table { seat.new.table_id ≡ seat.old.table_id }
     ensures slots { seat.new.me.1 ≡ seat.old.me.1 }
     ensures tied { StayTied gates.now.config (Some op) (Some (P.as_phase first)) accesses.old seat.old.me.0.items
         None accesses.new seat.new.me.0.items }
-    ensures called { (of : OpType) (start : TaskState) (before : H) →
+    ensures called { (of : OpType) (start : SeatedTask) (before : H) →
         GoesAsking H.answers 0 of start before
         (task_state seat.old.table_id gates.now.config (Some op) (Some (P.as_phase first)) seat.old.me.0) hooks.old →
         CalledAsking H.answers of start before (task_state seat.new.table_id gates.now.config None None seat.new.me.0) result.0 result.1
@@ -471,5 +471,5 @@ pub fn wait_to_end<R: Wait, H: TimedHooks, P: Waiting>(
     if let Next::Done(answer) = next {
         return (answer, 0);
     }
-    go_on_waiting(rt, gates, seat, accesses, next, hooks)
+    step_waiting(rt, gates, seat, accesses, next, hooks)
 }

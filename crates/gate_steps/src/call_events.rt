@@ -8,7 +8,7 @@ mod turns;
 mod words;
 
 pub use crate::{Closed, Happens, index_of, word_of};
-pub use gate_schedules::{Progress, Seat as Kept, Step};
+pub use gate_schedules::{Progress, Step, TaskState};
 pub use hooks::TimedHooks;
-pub use turns::{Turn, do_event, find, find_asking, find_first, go_on};
-pub use words::{GateWords, Seat};
+pub use turns::{Turn, do_event, find, find_asking, find_first, step_once};
+pub use words::{GateWords, GhostSeat};

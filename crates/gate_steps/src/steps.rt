@@ -5,12 +5,12 @@ ghost use Rattle.cpu_words.specs.Names.{place, words_in_all};
 ghost use Rattle.cpu_words.specs.Touches.{event_of, found_by};
 ghost use Rattle.gate_world.specs.Work.{next_of};
 ghost use Rattle.gate_steps.specs.Rules.{table_index, table_length};
-ghost use Rattle.gate_steps.specs.Seating.{Acts, IsMove, items_after, Spares, known_kept, known_given, known_both};
+ghost use Rattle.gate_steps.specs.Seating.{Acts, HasWitness, items_after, Spares, known_kept, known_given, known_both};
 
 use crate::rule::{Given, Gives, Happens, Items, Moment, Rule, TakesBack};
 use atomic_table::{Seat, Shared};
 use cpu_words::{Event, STRIDE, Touch, WordName};
-use gate_events::UnderWay;
+use gate_events::PendingOp;
 use gate_world::{Config, Op};
 use std::marker::Brand;
 
@@ -24,7 +24,7 @@ pub fn index_of(word: WordName) -> usize
 
 /// The event of that moment, which is known to touch this word so. What it found; of a store, what it wrote.
 #[inline(always)]
-fn touch_at<J: Moment, P: UnderWay>(
+fn touch_at<J: Moment, P: PendingOp>(
     shared: &Shared<(), Items, Config, Rule>,
     seat: &mut Seat<(), Items>,
     begins: Option<Op>,
@@ -46,7 +46,7 @@ fn touch_at<J: Moment, P: UnderWay>(
     ensures id { seat.new.id ≡ seat.old.id }
     ensures found { found_by touch result ≡ result }
     ensures event { seat.new.me.0.items ≡ items_after begins (P.as_phase under_way) hook result seat.old.me.0.items }
-    ensures moves { IsMove shared.now.key begins (P.as_phase under_way) hook seat.old.me.0.items result seat.old.me.0.seen seat.new.me.0.seen }
+    ensures moves { HasWitness shared.now.key begins (P.as_phase under_way) hook seat.old.me.0.items result seat.old.me.0.seen seat.new.me.0.seen }
     ensures slots { seat.new.me.1 ≡ seat.old.me.1 }
 {
     let _ = (begins, under_way, hook);
@@ -71,7 +71,7 @@ fn touch_at<J: Moment, P: UnderWay>(
 /// The next event of the seat's own number, which is known to touch this word so, in one atomic step. What it found; of a store, what it
 /// wrote.
 #[inline(always)]
-pub fn touch<P: UnderWay>(
+pub fn touch<P: PendingOp>(
     shared: &Shared<(), Items, Config, Rule>,
     seat: &mut Seat<(), Items>,
     begins: Option<Op>,
@@ -89,7 +89,7 @@ pub fn touch<P: UnderWay>(
     ensures id { seat.new.id ≡ seat.old.id }
     ensures found { found_by touch result ≡ result }
     ensures event { seat.new.me.0.items ≡ items_after begins (P.as_phase under_way) hook result seat.old.me.0.items }
-    ensures moves { IsMove shared.now.key begins (P.as_phase under_way) hook seat.old.me.0.items result seat.old.me.0.seen seat.new.me.0.seen }
+    ensures moves { HasWitness shared.now.key begins (P.as_phase under_way) hook seat.old.me.0.items result seat.old.me.0.seen seat.new.me.0.seen }
     ensures slots { seat.new.me.1 ≡ seat.old.me.1 }
 {
     touch_at::<Brand, P>(shared, seat, begins, under_way, hook, word, touch)
@@ -98,7 +98,7 @@ pub fn touch<P: UnderWay>(
 /// The next event of the seat's own number, in one atomic step. An operation that has begun stands in `begins` until its first
 /// event, and None stands there from then on.
 #[inline(always)]
-pub fn event<P: UnderWay>(
+pub fn event<P: PendingOp>(
     shared: &Shared<(), Items, Config, Rule>,
     seat: &mut Seat<(), Items>,
     begins: Option<Op>,
@@ -113,7 +113,7 @@ pub fn event<P: UnderWay>(
     ensures id { seat.new.id ≡ seat.old.id }
     ensures is { result ≡ event_of (next_of (P.as_phase under_way) hook).0 (next_of (P.as_phase under_way) hook).1 result.found }
     ensures event { seat.new.me.0.items ≡ items_after begins (P.as_phase under_way) hook result.found seat.old.me.0.items }
-    ensures moves { IsMove shared.now.key begins (P.as_phase under_way) hook seat.old.me.0.items result.found seat.old.me.0.seen seat.new.me.0.seen }
+    ensures moves { HasWitness shared.now.key begins (P.as_phase under_way) hook seat.old.me.0.items result.found seat.old.me.0.seen seat.new.me.0.seen }
     ensures slots { seat.new.me.1 ≡ seat.old.me.1 }
 {
     let (word, how) = under_way.next(hook);

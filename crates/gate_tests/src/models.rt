@@ -6,7 +6,7 @@ use std::process::Abort;
 use std::test::Fail;
 
 /// An action of a task, and whether the model does it.
-type Row = (u8, Action, bool);
+type ActionCase = (u8, Action, bool);
 
 /// A file in the root.
 const FILE: Action = Action::Create {
@@ -16,7 +16,7 @@ const FILE: Action = Action::Create {
 };
 
 /// That the model does each action, or refuses it and says so beforehand.
-fn does<R: Abort>(rt: &R, model: &mut Model, rows: &[Row]) {
+fn does<R: Abort>(rt: &R, model: &mut Model, rows: &[ActionCase]) {
     for (number, (task, action, is_done)) in rows.iter().enumerate() {
         let is_allowed = model.allows(*task, action);
         let is_refused = model.apply(*task, action) == Err(GateError::Invalid);
@@ -28,7 +28,7 @@ fn does<R: Abort>(rt: &R, model: &mut Model, rows: &[Row]) {
 }
 
 /// A writer inside level 1 fills a file, and no more, and the other task opens it.
-static FILLS: [Row; 9] = [
+static FILLS: [ActionCase; 9] = [
     (0, Action::Open(1), false),
     (0, Action::Grant(Gate::Level(1)), true),
     (0, Action::Grant(Gate::Mount(0)), true),
@@ -41,7 +41,7 @@ static FILLS: [Row; 9] = [
 ];
 
 /// A freeze waits for the writer at level 1 and for its file, and is held by both holders until one leaves.
-static FREEZES: [Row; 14] = [
+static FREEZES: [ActionCase; 14] = [
     (1, Action::Stage(1), true),
     (1, Action::Pass(1), false),
     (0, Action::Return(Gate::Level(1)), true),
@@ -60,7 +60,7 @@ static FREEZES: [Row; 14] = [
 
 /// It is thawed once neither holds one. The file is removed, and freed at its last close, inside level 3 alone; only then the superblock is made
 /// read-only. A mount is once its writer has left, and then grants nothing.
-static THAWS: [Row; 18] = [
+static THAWS: [ActionCase; 18] = [
     (1, Action::Stage(0), false),
     (1, Action::Leave(Holder::User), true),
     (1, Action::Stage(0), true),
@@ -123,7 +123,7 @@ fn a_model_does_what_is_allowed(rt: HostRuntime) -> Result<(), Fail> {
 }
 
 /// One task at one mount. The mount is made read-only once its writer has left, and grants nothing then.
-static SHUTS: [Row; 5] = [
+static SHUTS: [ActionCase; 5] = [
     (0, Action::Grant(Gate::Mount(0)), true),
     (0, Action::MountRo(0), false),
     (0, Action::Return(Gate::Mount(0)), true),

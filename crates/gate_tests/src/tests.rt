@@ -7,11 +7,11 @@ mod lost;
 mod pairs;
 mod rows;
 mod runs;
-mod scene;
+mod fixtures;
 mod tasks;
 mod teams;
 mod threads;
-mod turns;
+mod thread_runs;
 mod worked;
 
 use std::test::Fail;

@@ -2,7 +2,7 @@
 
 use crate::ending::Ending;
 use access_model::GateError;
-use asked_replays::replay_gates;
+use program_replay::replay_gates;
 use line_replays::ReplayFault;
 use line_replays::replay::replay;
 use std::alloc::Global;

@@ -2,9 +2,9 @@
 -- actions have changed them since.
 use Rattle.access_model.specs.{Holders.{held_by, is_unheld, with_holder}, declared.actions.Action.{Action, TheVariants.{Close, Grant, Open, Return}}}
 use Rattle.access_model.specs.declared.actions.{Gate.TheVariants.{Level, Mount}, Holder.Holder, Kind.TheVariants.File}
-use Rattle.compounds.specs.declared.file_closes.phases.ClosePhase.{ClosePhase, TheVariants.{Enters, FreesNode, Leaves as CloseLeaves, LoadsFile as CloseLoadsFile}}
-use Rattle.compounds.specs.declared.file_closes.phases.ClosePhase.TheVariants.{LowersCount, RefundsBlocks as CloseRefundsBlocks, Uncounts as CloseUncounts}
-use Rattle.compounds.specs.declared.file_closes.phases.Closing.{Closing}
+use Rattle.composite_ops.specs.declared.file_closes.phases.ClosePhase.{ClosePhase, TheVariants.{Enters, FreesNode, Leaves as CloseLeaves, LoadsFile as CloseLoadsFile}}
+use Rattle.composite_ops.specs.declared.file_closes.phases.ClosePhase.TheVariants.{LowersCount, RefundsBlocks as CloseRefundsBlocks, Uncounts as CloseUncounts}
+use Rattle.composite_ops.specs.declared.file_closes.phases.Closing.{Closing}
 use Rattle.freeze_levels.specs.declared.freezes.FreezeStep.{FreezeStep, TheVariants.{Cleans, Closes, Holds, Reopens as FreezeReopens}}
 use Rattle.freeze_levels.specs.declared.thaws.ThawStep.{ThawStep, TheVariants.{Leaves, Reopens as ThawReopens}}
 use Rattle.gate_world.specs.{Holdings.Holdings, Operations.{holds_none, holds_none_from, is_writer, may_mark}, Remounts.RemountFits, Roles.{close_file, tree_file}}
@@ -22,7 +22,7 @@ use Rattle.percpu_rwsem.specs.declared.{readers.DownReadStep.{DownReadStep, TheV
 use Rattle.percpu_rwsem.specs.declared.writers.DownWriteStep.{DownWriteStep, TheVariants.{AwaitsSections as AwaitsReaders, Sums as SumsLevel}}
 use Rattle.percpu_rwsem.specs.declared.writers.UpWrite.{UpWrite}
 use Rattle.std.specs.Prelude.{Bool, None, Option, Some, false, true, ℕ, ◌<◌, ◌≡◌, ◌≤◌, ◌⊎◌}
-use Rattle.compounds.specs.declared.write_access.phases.WritePhase.{WritePhase, TheVariants.{Drops as WriteDrops, Ends, GivesBack, Takes, Wants as WriteWants}}
+use Rattle.composite_ops.specs.declared.write_access.phases.WritePhase.{WritePhase, TheVariants.{Drops as WriteDrops, Ends, GivesBack, Takes, Wants as WriteWants}}
 
 -- a sum in progress has a word more to read
 abbrev pub SumFits : Config → ChangeStep → Type 0

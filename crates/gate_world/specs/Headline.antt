@@ -13,9 +13,9 @@ use Rattle.percpu_rwsem.specs.{SyncWords.unpack, declared.sync_word.SyncWord.Syn
 use Rattle.freeze_levels.specs.Holders.{word_of}
 use Rattle.freeze_laws.specs.levels.Roles.{fast}
 use Rattle.freeze_levels.specs.declared.freezes.FreezeStep.{FreezeStep}
-use Rattle.gate_world.specs.{Configs.model_limits, Courses.{course_of, IsTraced}, Found.{stores_stage, newest}}
+use Rattle.gate_world.specs.{Configs.model_limits, traces.TraceStates.{state_of_trace, IsTraced}, traces.Found.{stores_stage, newest}}
 use Rattle.gate_world.specs.{Levels.{at_level, level_role_of, sync_role_of, is_frozen_whole}, Moments.AllHaveMoments, Owners.last_left}
-use Rattle.gate_world.specs.{Rules.{at_mount, owns, Moves}, Shown.shown, Snapshots.values_noted, Traces.{Tells, IsShort, most_events}}
+use Rattle.gate_world.specs.{Rules.{at_mount, owns, Moves}, Shown.shown, traces.Snapshots.values_noted, traces.Traces.{Tells, IsShort, most_events}}
 use Rattle.gate_world.specs.{Views.{held_at, holds_level, HoldsAsBefore}, Worlds.{World, happens, action_of, task_of, run, opening, history}}
 use Rattle.gate_world.specs.declared.entries.Entry.{Entry}
 use Rattle.gate_world.specs.declared.{config.Config.Config, operations.Op.Op, views.{Traced.Traced, View.View}}
@@ -189,8 +189,8 @@ NobodyIsInside c w = NobodyHoldsClosed (model_limits c) (shown c w)
 -- its stated actions, a refusal has its cause in the trace, and waiting is reported only where it may be; after a refusal the task
 -- holds what it held when the operation began; and where the operation waits for nobody, its events are few.
 pub record OperationTells (c : Config) (t : ℕ) (v : View) (op : Op) : Type 0 where
-  pub tells : Tells c op v.trace (course_of c t op v.trace).comes (course_of c t op v.trace).added
-  pub refused : (refusal : GateError) → (course_of c t op v.trace).comes ≡ Ended (Err refusal) → HoldsAsBefore v
+  pub tells : Tells c op v.trace (state_of_trace c t op v.trace).comes (state_of_trace c t op v.trace).added
+  pub refused : (refusal : GateError) → (state_of_trace c t op v.trace).comes ≡ Ended (Err refusal) → HoldsAsBefore v
   pub short : IsShort (most_events c op) v.trace
 
 -- the same of a view that may have no operation

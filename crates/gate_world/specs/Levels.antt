@@ -6,9 +6,9 @@ use Rattle.cpu_words.specs.declared.{events.{Event.Event, Touch.{Touch, TheVaria
 use Rattle.cpu_words.specs.gate_counts.Levels.{LevelRole, LevelView, Out as CountsNot}
 use Rattle.freeze_laws.specs.levels.{Operations.{callback_role, down_read_inside}, Roles.{SyncRole, Out as IsApart}}
 use Rattle.freeze_laws.specs.stages.Roles.{is_full}
-use Rattle.compounds.specs.declared.write_access.phases.WritePhase.{WritePhase}
-use Rattle.compounds.specs.declared.file_closes.phases.ClosePhase.{ClosePhase}
-use Rattle.gate_world.specs.Roles.{freeze_stand, read_level_role, read_sync_role, stand_count, stand_sync, sync_role_if, thaw_stand}
+use Rattle.composite_ops.specs.declared.write_access.phases.WritePhase.{WritePhase}
+use Rattle.composite_ops.specs.declared.file_closes.phases.ClosePhase.{ClosePhase}
+use Rattle.gate_world.specs.Roles.{freeze_position, read_level_role, read_sync_role, position_count, position_sync, sync_role_if, thaw_position}
 use Rattle.gate_world.specs.{Views.holds_level, declared.{views.View.View, work.Phase.Phase}}
 
 -- net additions are what was added to a level's count word less what was taken away: each is a sum over the events
@@ -36,8 +36,8 @@ abbrev pub level_role_of : ℕ → Option Phase → LevelRole
 level_role_of i (Some (Phase.DownReads r)) = read_level_role i r
 level_role_of i (Some (Phase.Writes (WritePhase.Takes m r))) = read_level_role i r
 level_role_of i (Some (Phase.Closes (ClosePhase.Enters f node r))) = read_level_role i r
-level_role_of i (Some (Phase.Freezes x)) = stand_count i (freeze_stand x.step)
-level_role_of i (Some (Phase.Thaws x)) = stand_count i (thaw_stand x.step)
+level_role_of i (Some (Phase.Freezes x)) = position_count i (freeze_position x.step)
+level_role_of i (Some (Phase.Thaws x)) = position_count i (thaw_position x.step)
 level_role_of i p = CountsNot
 
 -- and at its rcu_sync
@@ -46,8 +46,8 @@ sync_role_of i (Some (Phase.DownReads r)) = read_sync_role i r
 sync_role_of i (Some (Phase.Writes (WritePhase.Takes m r))) = read_sync_role i r
 sync_role_of i (Some (Phase.Closes (ClosePhase.Enters f node r))) = read_sync_role i r
 sync_role_of i (Some (Phase.Callbacks b)) = sync_role_if (i == b.level) (callback_role b.step)
-sync_role_of i (Some (Phase.Freezes x)) = stand_sync i (freeze_stand x.step)
-sync_role_of i (Some (Phase.Thaws x)) = stand_sync i (thaw_stand x.step)
+sync_role_of i (Some (Phase.Freezes x)) = position_sync i (freeze_position x.step)
+sync_role_of i (Some (Phase.Thaws x)) = position_sync i (thaw_position x.step)
 sync_role_of i p = IsApart
 
 -- 1 while it is inside a read-side section

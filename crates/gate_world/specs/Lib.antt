@@ -1,7 +1,6 @@
 pub mod Configs
 pub mod Remounts
-pub mod Found
-pub mod Snapshots
+pub mod traces
 pub mod Roles
 pub mod Work
 pub mod Views
@@ -17,12 +16,8 @@ pub mod Moments
 pub mod Levels
 pub mod Fits
 pub mod Rules
-pub mod Alike
-pub mod Courses
-pub mod Traces
+pub mod SameRoles
 pub mod Headline
 pub mod LevelRuns
-pub mod Causes
-pub mod Waits
-pub mod KeptCauses
+pub mod refusals
 pub mod Counted

@@ -15,8 +15,8 @@ use Rattle.mount_counts.specs.declared.{phases.WantStep.TheVariants.CountsUp, re
 use Rattle.percpu_rwsem.specs.declared.{callbacks.CallbackStep.TheVariants.Claims, readers.DownReadStep.TheVariants.EntersSection}
 use Rattle.percpu_rwsem.specs.declared.transitions.Transition.TheVariants.{Loads}
 use Rattle.freeze_levels.specs.declared.{freezes.FreezeStep.TheVariants.Locks as FreezeLocks, thaws.ThawStep.TheVariants.Locks as ThawLocks}
-use Rattle.compounds.specs.declared.write_access.phases.WritePhase.TheVariants.{Takes, Drops as WriteDrops}
-use Rattle.compounds.specs.declared.file_closes.phases.{ClosePhase.TheVariants.LoadsFile as CloseLoadsFile, Closing.Closing}
+use Rattle.composite_ops.specs.declared.write_access.phases.WritePhase.TheVariants.{Takes, Drops as WriteDrops}
+use Rattle.composite_ops.specs.declared.file_closes.phases.{ClosePhase.TheVariants.LoadsFile as CloseLoadsFile, Closing.Closing}
 use Rattle.gate_world.specs.{Holdings.Holdings, declared.{config.Config.Config, operations.Op.{Op, TheVariants.{Want, DropMount, ChangeMount, RemountSb}}}}
 use Rattle.gate_world.specs.declared.operations.Op.TheVariants.{Start, End, WantWrite, DropWrite, Callback, Freeze as FreezeOp, Thaw as ThawOp}
 use Rattle.gate_world.specs.declared.operations.Op.TheVariants.{Create as CreateOp, Remove as RemoveOp, Grow as GrowOp, MoveTo as MoveToOp, Fault as FaultOp}
@@ -32,10 +32,10 @@ use Rattle.access_model.specs.declared.replies.Reply.{Reply, TheVariants.{Unit a
 use Rattle.cpu_words.specs.declared.names.WordName.{WordName, TheVariants.{Umount, Remount, Stage}}
 use Rattle.gated_tree.specs.Phases.{mark_done}
 use Rattle.gated_tree.specs.Refusals.{CreateHonest, FileHonest, GrowHonest, MoveHonest, SnapshotHonest, finds_other}
-use Rattle.gate_world.specs.Found.{found_read_only, found_hold, found_taken, found_sealed, SeenIn, found_frozen, found_removed, found_dropped, finds_hold}
-use Rattle.gate_world.specs.Found.{finds_taken, each_event, looks_again, counts_loaded, IsEachCount, sum_loaded, ReadAnswer, cleans, newest, found_closed}
-use Rattle.gate_world.specs.Found.{left_closed, holds_since, finds_inside, finds_none_queued, transitions_made, found_incomplete, found_complete, found_moving}
-use Rattle.gate_world.specs.Found.{found_held, found_unheld, found_shared, stored_stage, finds_readers, FoundInside}
+use Rattle.gate_world.specs.traces.Found.{found_read_only, found_hold, found_taken, found_sealed, SeenIn, found_frozen, found_removed, found_dropped, finds_hold}
+use Rattle.gate_world.specs.traces.Found.{finds_taken, each_event, looks_again, counts_loaded, IsEachCount, sum_loaded, ReadAnswer, cleans, newest, found_closed}
+use Rattle.gate_world.specs.traces.Found.{left_closed, holds_since, finds_inside, finds_none_queued, transitions_made, found_incomplete, found_complete, found_moving}
+use Rattle.gate_world.specs.traces.Found.{found_held, found_unheld, found_shared, stored_stage, finds_readers, FoundInside}
 use Rattle.gate_world.specs.declared.views.Traced.{Traced}
 
 -- where an operation begins, and who may begin it

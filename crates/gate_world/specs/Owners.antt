@@ -2,7 +2,7 @@
 use Rattle.std.specs.Prelude.{◌≡◌, ℕ, ◌==◌, ◌&&◌, Bool, true, false, if◌then◌else◌, Option, Some, None, List, [], ◌∷◌}
 use Rattle.cpu_words.specs.Words.{Words, read}
 use Rattle.cpu_words.specs.declared.{events.Event.Event, names.WordName.{WordName, TheVariants.{Umount, Stage, Holders, SbFlags, Remount, MountFlags}}}
-use Rattle.gate_world.specs.{Found.is_cas, declared.views.Traced.Traced}
+use Rattle.gate_world.specs.{traces.Found.is_cas, declared.views.Traced.Traced}
 
 -- the words that only the owner of `umount` changes: the stage, the holders, the superblock's flags, `remount`, each mount's flags
 abbrev pub is_owned : WordName → Bool

@@ -14,8 +14,8 @@ use Rattle.freeze_laws.specs.levels.Operations.{down_read_role, down_write_role,
 use Rattle.freeze_laws.specs.levels.Roles.{SyncRole, Out as IsApart, Closed}
 use Rattle.freeze_laws.specs.stages.Roles.{Place, Before, Closing, HasPassed, StageRole, Aside, Owning, Remounting, Freezing, Reopening}
 use Rattle.freeze_levels.specs.holder_laws.Roles.{HolderRole, Apart, Found, Fills, Empties}
-use Rattle.compounds.specs.declared.write_access.phases.WritePhase.{WritePhase}
-use Rattle.compounds.specs.declared.file_closes.phases.ClosePhase.{ClosePhase}
+use Rattle.composite_ops.specs.declared.write_access.phases.WritePhase.{WritePhase}
+use Rattle.composite_ops.specs.declared.file_closes.phases.ClosePhase.{ClosePhase}
 
 -- what a step of a want is doing at its mount, on this processor
 abbrev pub want_role : ℕ → WantStep → Role
@@ -124,30 +124,30 @@ up_count_role (UpWriteStep.Exits transition) = CountsNot
 
 -- How a freeze or a thaw stands with the levels: those below one of them are closed and passed, those above it are not its own, and at
 -- that one it has these roles.
-pub record Stand : Type 0 where
+pub record LevelPosition : Type 0 where
   pub level : ℕ
   pub count : LevelRole
   pub sync : SyncRole
 
 -- the levels up to this one are closed and passed
-abbrev pub closed_to : ℕ → Stand
+abbrev pub closed_to : ℕ → LevelPosition
 closed_to level = record { level = level; count = Passed; sync = Closed }
 
 -- a freeze
-abbrev pub freeze_stand : FreezeStep → Option Stand
-freeze_stand (FreezeStep.Closes d) = Some record { level = d.level; count = down_count_role d.step; sync = down_write_role d.step }
-freeze_stand FreezeStep.LocksAgain = Some (closed_to 1)
-freeze_stand FreezeStep.SetsPageFault = Some (closed_to 1)
-freeze_stand (FreezeStep.Cleans marks) = Some (closed_to 2)
-freeze_stand FreezeStep.SetsFs = Some (closed_to 2)
-freeze_stand FreezeStep.SetsComplete = Some (closed_to 3)
-freeze_stand (FreezeStep.Reopens u code) = Some record { level = u.level; count = up_count_role u.step; sync = up_write_role u.step }
-freeze_stand step = None
+abbrev pub freeze_position : FreezeStep → Option LevelPosition
+freeze_position (FreezeStep.Closes d) = Some record { level = d.level; count = down_count_role d.step; sync = down_write_role d.step }
+freeze_position FreezeStep.LocksAgain = Some (closed_to 1)
+freeze_position FreezeStep.SetsPageFault = Some (closed_to 1)
+freeze_position (FreezeStep.Cleans marks) = Some (closed_to 2)
+freeze_position FreezeStep.SetsFs = Some (closed_to 2)
+freeze_position FreezeStep.SetsComplete = Some (closed_to 3)
+freeze_position (FreezeStep.Reopens u code) = Some record { level = u.level; count = up_count_role u.step; sync = up_write_role u.step }
+freeze_position step = None
 
 -- a thaw
-abbrev pub thaw_stand : ThawStep → Option Stand
-thaw_stand (ThawStep.Reopens u) = Some record { level = u.level; count = up_count_role u.step; sync = up_write_role u.step }
-thaw_stand step = None
+abbrev pub thaw_position : ThawStep → Option LevelPosition
+thaw_position (ThawStep.Reopens u) = Some record { level = u.level; count = up_count_role u.step; sync = up_write_role u.step }
+thaw_position step = None
 
 -- at its own level this role, closed below it, and none above it
 abbrev pub count_beside : (here below : Bool) → LevelRole → LevelRole
@@ -162,14 +162,14 @@ sync_beside false true r = Closed
 sync_beside false false r = IsApart
 
 -- who stands so at the counts of a level
-abbrev pub stand_count : ℕ → Option Stand → LevelRole
-stand_count i None = CountsNot
-stand_count i (Some s) = count_beside (i == s.level) (nat_lt i s.level) s.count
+abbrev pub position_count : ℕ → Option LevelPosition → LevelRole
+position_count i None = CountsNot
+position_count i (Some s) = count_beside (i == s.level) (nat_lt i s.level) s.count
 
 -- and at its rcu_sync
-abbrev pub stand_sync : ℕ → Option Stand → SyncRole
-stand_sync i None = IsApart
-stand_sync i (Some s) = sync_beside (i == s.level) (nat_lt i s.level) s.sync
+abbrev pub position_sync : ℕ → Option LevelPosition → SyncRole
+position_sync i None = IsApart
+position_sync i (Some s) = sync_beside (i == s.level) (nat_lt i s.level) s.sync
 
 -- a down-write with its level: it closes it by its swap, and sums from there
 abbrev pub place_of : DownWriteStep → Place

@@ -4,7 +4,7 @@ use Rattle.finite_sums.specs.Sums.{update}
 use Rattle.access_model.specs.{Histories.{mounts_of, levels_of, opens_of}, declared.{actions.Action.Action, replies.Next.{Next, TheVariants.{Go, Wait, Done}}}}
 use Rattle.cpu_words.specs.{Hooks.HookAnswer, Touches.{event_of, found_by}}
 use Rattle.cpu_words.specs.declared.{events.{Event.Event, Touch.{Touch, TheVariants.{Add, Sub}}}, names.WordName.{WordName, TheVariants.MountCount}}
-use Rattle.gate_world.specs.{Holdings.{Holdings, holdings_of}, Snapshots.{completes, last_snapshot}, Work.{next_of, after_of}}
+use Rattle.gate_world.specs.{Holdings.{Holdings, holdings_of}, traces.Snapshots.{completes, last_snapshot}, Work.{next_of, after_of}}
 use Rattle.gate_world.specs.declared.{operations.Op.Op, views.{Traced.Traced, View.View}, work.Phase.Phase}
 
 -- nothing is held and nothing was done

@@ -8,9 +8,9 @@ use Rattle.mount_counts.specs.declared.phases.MountPhase.TheVariants.{Want as Pl
 use Rattle.percpu_rwsem.specs.{Callbacks.{callback_next, callback_after}, Readers.{down_read_next, down_read_after, up_read_next, up_read_after}}
 use Rattle.freeze_levels.specs.{Freezes.{freeze_next, freeze_after, freeze_hook}, Thaws.{thaw_next, thaw_after, thaw_hook}}
 use Rattle.freeze_levels.specs.declared.hooks.HookKind.{HookKind}
-use Rattle.compounds.specs.write_access.Phases.{next as write_next, after as write_after, leaves_on}
-use Rattle.compounds.specs.declared.write_access.phases.WritePhase.{WritePhase, TheVariants.{Takes, Wants, GivesBack, Drops, Ends}}
-use Rattle.compounds.specs.file_closes.Phases.{next as close_next, after as close_after}
+use Rattle.composite_ops.specs.write_access.Phases.{next as write_next, after as write_after, leaves_on}
+use Rattle.composite_ops.specs.declared.write_access.phases.WritePhase.{WritePhase, TheVariants.{Takes, Wants, GivesBack, Drops, Ends}}
+use Rattle.composite_ops.specs.file_closes.Phases.{next as close_next, after as close_after}
 use Rattle.gate_world.specs.Roles.{remount_hook}
 use Rattle.gate_world.specs.declared.work.Phase.{Phase, TheVariants.{Mounts, Remounts, DownReads, UpReads, Callbacks, Writes, Freezes, Thaws, Trees, Closes}}
 

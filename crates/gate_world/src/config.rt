@@ -3,7 +3,7 @@
 ghost use Rattle.std.specs.Prelude.{◌↔◌, ◌≤◌, IsTrue};
 ghost use Rattle.cpu_words.specs.Names.{HasRow, IsWord};
 
-use cpu_words::{Row, WordName};
+use cpu_words::{WordRow, WordName};
 
 /// How many tasks (1 to 64), processors (1 to 64), mounts (1 to 8) and nodes (2 to 64, the root counted) there are, and how
 /// many blocks all files may have together.
@@ -42,19 +42,19 @@ impl Config {
         self.has_row(name.row())
     }
 
-    fn has_row(self, row: Row) -> bool
+    fn has_row(self, row: WordRow) -> bool
         ensures { IsTrue result ↔ HasRow (extents_of self) row }
     {
         match row {
-            Row::OfAll { .. } => true,
-            Row::OfMount { mount, .. } => mount < self.mounts,
-            Row::CountOfMount { mount, cpu, .. } => mount < self.mounts && cpu < self.processors,
-            Row::OfLevel { level, .. } => (1..=3).contains(&level),
-            Row::CountOfLevel { level, cpu, .. } => {
+            WordRow::OfAll { .. } => true,
+            WordRow::OfMount { mount, .. } => mount < self.mounts,
+            WordRow::CountOfMount { mount, cpu, .. } => mount < self.mounts && cpu < self.processors,
+            WordRow::OfLevel { level, .. } => (1..=3).contains(&level),
+            WordRow::CountOfLevel { level, cpu, .. } => {
                 (1..=3).contains(&level) && cpu < self.processors
             }
-            Row::OfTask { task, .. } => task < self.tasks,
-            Row::OfNode { node, .. } => node < self.nodes,
+            WordRow::OfTask { task, .. } => task < self.tasks,
+            WordRow::OfNode { node, .. } => node < self.nodes,
         }
     }
 }

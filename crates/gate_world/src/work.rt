@@ -3,7 +3,7 @@
 ghost use Rattle.std.specs.Prelude.{◌≡◌};
 ghost use Rattle.gate_world.specs.Work.{hook_of};
 
-use compounds::{ClosePhase, WritePhase};
+use composite_ops::{ClosePhase, WritePhase};
 use freeze_levels::{Freeze, HookKind, Thaw};
 use gated_tree::TreePhase;
 use mount_counts::{MountPhase, Remount, RemountStep};

@@ -10,12 +10,12 @@ use Rattle.command_line.specs.declared.words.Form.TheVariants.{Plain, Events, Co
 use Rattle.command_line.specs.declared.words.Listing.TheVariants.{Text}
 use Rattle.command_line.specs.declared.words.Numbers.{Numbers}
 use Rattle.command_line.specs.declared.words.Outcomes.{Outcomes}
-use Rattle.endings.specs.Endings.{of_file}
-use Rattle.endings.specs.declared.ends.Ending.{Ending}
-use Rattle.endings.specs.declared.ends.Ending.TheVariants.{Done, DoneOfFile, DoneOverGates, Shown, Passed, Blessed, Listed, Ran, Told, Refused, Misused}
-use Rattle.asked_files.specs.Checks.{TellsPassed, count_checked}
-use Rattle.asked_replays.specs.Replays.{EndsReplayed, done_in, done_of, ending_of}
-use Rattle.asked_files.specs.Outcomes.{EndsTold}
+use Rattle.exit_status.specs.Endings.{of_file}
+use Rattle.exit_status.specs.declared.ends.Ending.{Ending}
+use Rattle.exit_status.specs.declared.ends.Ending.TheVariants.{Done, DoneOfFile, DoneOverGates, Shown, Passed, Blessed, Listed, Ran, Told, Refused, Misused}
+use Rattle.program_races.specs.Checks.{TellsPassed, count_checked}
+use Rattle.program_replay.specs.Replays.{EndsReplayed, done_in, done_of, ending_of}
+use Rattle.program_races.specs.Outcomes.{EndsTold}
 use Rattle.mntgate.specs.Asking.{EndsAsked, EndsOutcomes, EndsRun, TellsSomePassed}
 use Rattle.schedule_lines.specs.declared.bytes.replay_faults.ReplayFault.{ReplayFault}
 use Rattle.line_replays.specs.Replayed.{Replayed}

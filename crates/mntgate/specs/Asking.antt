@@ -1,9 +1,9 @@
 -- What the program does that is asked for something, and how it ends.
 use Rattle.std.specs.Prelude.{◌≡◌, ◌⊎◌, ℕ, suc, false, List, Option, Some, None, codes, vec_len}
 use Rattle.std.specs.Borrow.{Bor}
-use Rattle.asked_replays.specs.Replays.{EndsReplayed, EndsReplayedFile, EndsReplayedNamed, IsRefusedUnread, done_in, done_of}
-use Rattle.asked_files.specs.Checks.{TellsPassed, count_checked}
-use Rattle.asked_files.specs.Outcomes.{EndsTold}
+use Rattle.program_replay.specs.Replays.{EndsReplayed, EndsReplayedFile, EndsReplayedNamed, IsRefusedUnread, done_in, done_of}
+use Rattle.program_races.specs.Checks.{TellsPassed, count_checked}
+use Rattle.program_races.specs.Outcomes.{EndsTold}
 use Rattle.command_line.specs.CommandLine.{IsPlain}
 use Rattle.command_line.specs.declared.words.Listing.TheVariants.{Text}
 use Rattle.command_line.specs.declared.words.Numbers.{Numbers}
@@ -11,8 +11,8 @@ use Rattle.command_line.specs.declared.words.Outcomes.{Outcomes}
 use Rattle.command_line.specs.declared.words.Replay.{Replay}
 use Rattle.command_line.specs.declared.words.Asked.{Asked}
 use Rattle.command_line.specs.declared.words.Asked.TheVariants as ask
-use Rattle.endings.specs.declared.ends.Ending.{Ending}
-use Rattle.endings.specs.declared.ends.Ending.TheVariants.{Listed, Passed, Blessed, Ran, Told, Refused, Misused}
+use Rattle.exit_status.specs.declared.ends.Ending.{Ending}
+use Rattle.exit_status.specs.declared.ends.Ending.TheVariants.{Listed, Passed, Blessed, Ran, Told, Refused, Misused}
 use Rattle.gate_runs.specs.Told.{WasRun}
 use Rattle.gate_runs.specs.run_parts.Meetings.{unseen}
 use Rattle.run_plans.specs.Plans.{MayRun}

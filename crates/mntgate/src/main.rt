@@ -1,12 +1,12 @@
 //! The program: write gates of a mounted file system, driven from the command line.
 #![tactic(auto)]
 
-pub mod asking;
+pub mod dispatch;
 
-use crate::asking::run;
+use crate::dispatch::run;
 use access_model::GateError;
-use asked_replays::Person;
-use endings::{Ending, refused, unreadable};
+use program_replay::Person;
+use exit_status::{Ending, refused, unreadable};
 use std::alloc::{AllocError, Global};
 use std::io::{IsTerminal, Stderr};
 use std::process::ExitCode;

@@ -4,7 +4,7 @@ ghost use Rattle.std.specs.Prelude.{◌≡◌, ◌<◌, slice_get, slice_index};
 ghost use Rattle.cpu_words.specs.Names.{IsWord, place};
 ghost use Rattle.gate_core.specs.Memory.{Memory, seat_of};
 ghost use Rattle.gate_world.specs.Configs.{extents_kept};
-ghost use Rattle.races.specs.Races.{Standing};
+ghost use Rattle.races.specs.Races.{RaceStateIn};
 
 use cpu_words::WordName;
 use gate_world::{Accesses, Config};
@@ -13,7 +13,7 @@ use races::Course;
 /// A state of a race, in whatever form it is kept.
 pub trait StateView {
     /// The state that it is.
-    ghost state: { Self → Standing Memory };
+    ghost state: { Self → RaceStateIn Memory };
 
     /// The configuration.
     fn config(&self) -> Config

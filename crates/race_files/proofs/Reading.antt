@@ -1,21 +1,21 @@
 -- What all lines call, by the first of them; and lines that are left.
 use Rattle.std.proofs.Common.{◌≡◌, ◌∙◌, sym, ap, refl, ℕ, zero, suc, List, ◌∷◌, Option, Result, Ok, Err, inl, inr}
 use Rattle.std.specs.Result.{OnOk, result_and}
-use Rattle.race_files.specs.Calls.{Row, calls_after, calls_of, ended}
+use Rattle.race_files.specs.Calls.{TaskCalls, calls_after, calls_of, ended}
 use Rattle.race_files.specs.Faults.{IsToldOrMemory}
 use Rattle.race_files.specs.Left.{AreLeftOf, BeginRace, Left, after_lines, behind, none_left}
 use Rattle.race_files.specs.declared.faults.RaceFault.{RaceFault}
 use Rattle.schedule_lines.specs.declared.faults.Fault.{Fault}
 
 -- behind a line after which this is called
-abbrev behind_call : ℕ → Option Fault → List (List ℕ) → Result (List Row) RaceFault → Result (List Row) RaceFault
+abbrev behind_call : ℕ → Option Fault → List (List ℕ) → Result (List TaskCalls) RaceFault → Result (List TaskCalls) RaceFault
 behind_call tasks end others after = elim after [
   | Ok more ↦ calls_of tasks end others more
   | Err fault ↦ Err fault
 ]
 
 -- at a line
-pub at_line : (tasks known : ℕ) (left : Left) (line : List ℕ) (calls : List Row) (after : Result (List Row) RaceFault) → known ≡ tasks →
+pub at_line : (tasks known : ℕ) (left : Left) (line : List ℕ) (calls : List TaskCalls) (after : Result (List TaskCalls) RaceFault) → known ≡ tasks →
     left.lines ≡ line ∷ (behind left).lines → calls_after known calls line ≡ after →
     calls_of tasks left.fault left.lines calls ≡ behind_call tasks left.fault (behind left).lines after
 unfolding calls_of
@@ -24,14 +24,14 @@ at_line tasks known left line calls after same first e =
     ∙ ap (behind_call tasks left.fault (behind left).lines) (sym (ap (λ (n : ℕ). calls_after n calls line) same) ∙ e)
 
 -- its fault is that of all
-pub line_told : (tasks known : ℕ) (left : Left) (line : List ℕ) (calls : List Row) (fault : RaceFault) → known ≡ tasks →
+pub line_told : (tasks known : ℕ) (left : Left) (line : List ℕ) (calls : List TaskCalls) (fault : RaceFault) → known ≡ tasks →
     left.lines ≡ line ∷ (behind left).lines → IsToldOrMemory (calls_after known calls line) fault →
     IsToldOrMemory (calls_of tasks left.fault left.lines calls) fault
 line_told tasks known left line calls fault same first (inl e) = inl e
 line_told tasks known left line calls fault same first (inr e) = inr (at_line tasks known left line calls (Err fault) same first e)
 
 -- behind the last line
-pub at_end : (tasks : ℕ) (left : Left) (end : Option Fault) (calls : List Row) → left ≡ none_left end →
+pub at_end : (tasks : ℕ) (left : Left) (end : Option Fault) (calls : List TaskCalls) → left ≡ none_left end →
     calls_of tasks left.fault left.lines calls ≡ ended end calls
 unfolding calls_of
 at_end tasks left end calls e = ap (λ (x : Left). calls_of tasks x.fault x.lines calls) e

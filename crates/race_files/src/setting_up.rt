@@ -15,16 +15,16 @@ use std::alloc::Global;
 use transcripts::Session;
 
 /// Who looks at what the lines of a schedule print.
-pub trait Watch {
+pub trait SetUpObserver {
     /// Takes what was printed, before the next of these lines is done.
     fn take(&mut self, lines: &Lines<'_>, printed: &mut Output);
 }
 
 /// What is printed is dropped.
 #[derive(Drop)]
-struct Unwatched;
+struct Unobserved;
 
-impl Watch for Unwatched {
+impl SetUpObserver for Unobserved {
     fn take(&mut self, _lines: &Lines<'_>, printed: &mut Output) {
         printed.clear();
     }
@@ -36,11 +36,11 @@ pub fn set_up(alloc: Global, lines: &mut Lines<'_>) -> Result<Session<Core>, Rac
     ensures begin { IfOk result (λ _. BeginRace (left_in lines.old) (left_in lines.new)) }
     ensures made { IfOk result (λ session. (p : Play) × SetsUp None (Some p) (left_in lines.old) (left_in lines.new) × ShowsPlay CoreShows session p) }
 {
-    do_setting(alloc, lines, &mut Output::new(alloc), &mut Unwatched)
+    do_setting(alloc, lines, &mut Output::new(alloc), &mut Unobserved)
 }
 
 /// Does the lines before the first line `race`, for one who looks at what they print.
-pub fn do_setting<W: Watch>(
+pub fn do_setting<W: SetUpObserver>(
     alloc: Global,
     lines: &mut Lines<'_>,
     printed: &mut Output,
@@ -71,7 +71,7 @@ fn open(alloc: Global, lines: &mut Lines<'_>) -> Result<Session<Core>, RaceFault
 }
 
 /// Takes the lines behind the configuration, up to the line `race`, and does them. RaceExpected where there is no such line.
-fn do_lines<W: Watch>(
+fn do_lines<W: SetUpObserver>(
     session: &mut Session<Core>,
     lines: &mut Lines<'_>,
     printed: &mut Output,

@@ -1,15 +1,15 @@
 //! Explanations, from the command line.
 
 ghost use Rattle.std.specs.Prelude.{◌≡◌, ◌⊎◌};
-ghost use Rattle.endings.specs.declared.ends.Ending.TheVariants.{Misused, Refused, Told};
+ghost use Rattle.exit_status.specs.declared.ends.Ending.TheVariants.{Misused, Refused, Told};
 
 use crate::calls::CALLS;
 use crate::causes::CAUSES;
-use crate::rows::{Call, Row};
+use crate::rows::{Call, RefusalRow};
 use crate::table::{gates, tasks, trees};
 use access_model::GateError;
 use diagnostics::Text;
-use endings::{Ending, refused, text_told, why_told};
+use exit_status::{Ending, refused, text_told, why_told};
 use std::alloc::{AllocError, Global};
 use std::io::Write;
 use strsim::osa_distance;
@@ -77,7 +77,7 @@ fn put_rows(text: &mut Text, asked: Asked<'_>) -> bool {
 }
 
 /// Puts each of these rows that is asked for, behind others, if some were found; whether there are some now.
-fn put_part(text: &mut Text, rows: &[Row], asked: Asked<'_>, others: bool) -> bool {
+fn put_part(text: &mut Text, rows: &[RefusalRow], asked: Asked<'_>, others: bool) -> bool {
     let mut is_found = others;
     for row in rows {
         if is_asked(row, asked) {
@@ -92,7 +92,7 @@ fn put_part(text: &mut Text, rows: &[Row], asked: Asked<'_>, others: bool) -> bo
 }
 
 /// Whether a row is asked for.
-fn is_asked(row: &Row, asked: Asked<'_>) -> bool {
+fn is_asked(row: &RefusalRow, asked: Asked<'_>) -> bool {
     let is_of_call = match asked.call {
         Some(word) => are_named(row.calls, word),
         None => true,
@@ -105,7 +105,7 @@ fn is_asked(row: &Row, asked: Asked<'_>) -> bool {
 }
 
 /// Puts a row: its calls, its refusal, and each text behind its label.
-fn put_row(text: &mut Text, row: &Row) {
+fn put_row(text: &mut Text, row: &RefusalRow) {
     put_head(text, row);
     put_labelled(text, "means", row.means);
     put_labelled(text, "state now", row.state);
@@ -115,7 +115,7 @@ fn put_row(text: &mut Text, row: &Row) {
 }
 
 /// Puts the refusal of a row, and its calls.
-fn put_head(text: &mut Text, row: &Row) {
+fn put_head(text: &mut Text, row: &RefusalRow) {
     put_refusal(text, row.refusal);
     if !row.when.is_empty() {
         text.put(", ");
@@ -287,7 +287,7 @@ fn put_unknown_refusal(text: &mut Text, call: Option<&str>, word: &str) {
 }
 
 /// Puts the refusals of these rows that are asked for, each once.
-fn put_refusals(text: &mut Text, rows: &[Row], asked: Asked<'_>) {
+fn put_refusals(text: &mut Text, rows: &[RefusalRow], asked: Asked<'_>) {
     let mut last = None;
     for row in rows {
         if is_asked(row, asked) && last != Some(row.refusal) {

@@ -7,7 +7,7 @@ pub(crate) type Call = &'static [&'static str];
 
 /// What is to be known of a refusal of some calls. A text is sentences, with code in backticks; an empty one is not told.
 #[derive(Clone, Copy)]
-pub(crate) struct Row {
+pub(crate) struct RefusalRow {
     pub(crate) calls: &'static [Call],
     /// The refusal; `Hook(0)` stands for a hook's of whatever code.
     pub(crate) refusal: GateError,

@@ -9,6 +9,6 @@ pub mod progress;
 pub mod rows;
 
 pub use counts::{Copies, Details, Remounts, Sizes, Totals, Writes};
-pub use meetings::{Meeting, Watch};
+pub use meetings::{Meeting, RunObserver};
 pub use plans::{FIRST_WRITER, MOUNT, Plan};
 pub use progress::Progress;

@@ -18,8 +18,8 @@ impl Meeting for () {
 }
 
 /// Looks at a run. It is called by each writer while it holds its access, as a `Meeting` is, and by the backup at each freeze: so a program can
-/// tell how far a run is. Each `Meeting` is a `Watch` at whose freezes nothing is done.
-pub trait Watch {
+/// tell how far a run is. Each `Meeting` is a `RunObserver` at whose freezes nothing is done.
+pub trait RunObserver {
     ghost use Rattle.std.specs.Prelude.{ℕ};
 
     /// What a call of `holding` by this task in this round shows. Nothing, unless it is written.
@@ -37,7 +37,7 @@ pub trait Watch {
         ensures { seen self.now freeze };
 }
 
-impl<M: Meeting> Watch for M {
+impl<M: Meeting> RunObserver for M {
     ghost held = { λ it. M.held it };
 
     fn holding(&self, task: u8, round: u32) {

@@ -1,6 +1,6 @@
 //! How far a run is, told while it runs.
 
-use crate::meetings::Watch;
+use crate::meetings::RunObserver;
 use std::io;
 use std::io::{Stderr, Write};
 use std::rt::Clock;
@@ -76,7 +76,7 @@ impl<'r, R: Clock> Progress<'r, R> {
     }
 }
 
-impl<'r, R: Clock> Watch for Progress<'r, R> {
+impl<'r, R: Clock> RunObserver for Progress<'r, R> {
     fn holding(&self, _task: u8, _round: u32) {
         self.rounds.fetch_add(1, Ordering::SeqCst);
         self.tell_each_second();

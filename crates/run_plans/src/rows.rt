@@ -14,13 +14,13 @@ fn each_second(count: u64, took: Duration) -> u64 {
 }
 
 /// A line that is told: a name and its number, and none where there is no number.
-type Row = (&'static str, Option<u64>);
+type Figure = (&'static str, Option<u64>);
 
 /// How many rows there are.
 pub const ROWS: usize = 15;
 
 /// What can be told of a run. The sizes of snapshots are told where there was one, and the time where the clock could be read.
-fn rows_of(totals: Totals, details: Details, took: Option<Duration>) -> [Row; ROWS] {
+fn rows_of(totals: Totals, details: Details, took: Option<Duration>) -> [Figure; ROWS] {
     let (writes, copies) = (details.writes, details.copies);
     let (least, most) = match copies.sizes {
         Some(Sizes { least, most }) => (Some(least), Some(most)),

@@ -1,7 +1,7 @@
 //! Searches in full, led and past their limit.
 
 use super::{Counters, start};
-use exploration::{Unwatched, Watch, find_runs, outcomes, search_all, search_led, trace_by_runs};
+use exploration::{Unobserved, Observer, find_runs, outcomes, search_all, search_led, trace_by_runs};
 use std::test::Fail;
 
 /// The left counter comes to 0, 1, 2, 3 and 5, the right one to 0, 1, 2 and 3. At the end the right one is at 3, and the left one at 3, or at 5: from
@@ -10,7 +10,7 @@ use std::test::Fail;
 fn finds_all_outcomes(rt: HostRuntime) -> Result<(), Fail> {
     let alloc = rt.alloc();
     let counters = Counters { goal: 3 };
-    let all = search_all(alloc, &counters, start(alloc)?, 20, &mut Unwatched)?;
+    let all = search_all(alloc, &counters, start(alloc)?, 20, &mut Unobserved)?;
     assert!(rt; all.found.is_whole());
     assert_eq!(rt; all.found.origins.len(), 20);
     assert_eq!(rt; all.ends.len(), 2);
@@ -34,7 +34,7 @@ fn finds_all_or_none(rt: HostRuntime) -> Result<(), Fail> {
 fn is_led(rt: HostRuntime) -> Result<(), Fail> {
     let alloc = rt.alloc();
     let counters = Counters { goal: 3 };
-    let all = search_led(alloc, &counters, start(alloc)?, 11, &mut Unwatched)?;
+    let all = search_led(alloc, &counters, start(alloc)?, 11, &mut Unobserved)?;
     assert!(rt; all.found.is_whole());
     assert_eq!(rt; all.found.origins.len(), 11);
     assert_eq!(rt; all.ends.len(), 2);
@@ -46,12 +46,12 @@ fn is_led(rt: HostRuntime) -> Result<(), Fail> {
 fn tells_what_is_settled_so_far(rt: HostRuntime) -> Result<(), Fail> {
     let alloc = rt.alloc();
     let counters = Counters { goal: 5 };
-    let all = search_led(alloc, &counters, start(alloc)?, 22, &mut Unwatched)?;
+    let all = search_led(alloc, &counters, start(alloc)?, 22, &mut Unobserved)?;
     assert!(rt; !all.found.is_whole());
     assert_eq!(rt; all.found.origins.len(), 23);
     assert_eq!(rt; all.found.expanded, 21);
     assert_eq!(rt; all.ends.len(), 1);
-    let whole = search_led(alloc, &counters, start(alloc)?, 23, &mut Unwatched)?;
+    let whole = search_led(alloc, &counters, start(alloc)?, 23, &mut Unobserved)?;
     assert_eq!(rt; whole.ends.len(), 3);
     Ok(())
 }
@@ -60,7 +60,7 @@ fn tells_what_is_settled_so_far(rt: HostRuntime) -> Result<(), Fail> {
 #[derive(Clone, Copy)]
 struct Calls(u8);
 
-impl Watch for Calls {
+impl Observer for Calls {
     fn found(&mut self, _states: usize) {
         self.0 = self.0.wrapping_add(1);
     }
@@ -83,7 +83,7 @@ fn is_watched(rt: HostRuntime) -> Result<(), Fail> {
 fn traces_have_few_runs(rt: HostRuntime) -> Result<(), Fail> {
     let alloc = rt.alloc();
     let counters = Counters { goal: 3 };
-    let all = search_all(alloc, &counters, start(alloc)?, 20, &mut Unwatched)?;
+    let all = search_all(alloc, &counters, start(alloc)?, 20, &mut Unobserved)?;
     let runs = find_runs(alloc, &counters, &all.found)?;
     for at in 0..all.found.origins.len() {
         let pair = all.found.states.get_index(at).ok_or("a state")?;

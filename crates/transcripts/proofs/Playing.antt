@@ -15,7 +15,7 @@ use Rattle.gate_world.specs.declared.entries.Entry.{Entry, TheVariants.{Steps}}
 use Rattle.gate_world.specs.Shown.{shown}
 use Rattle.gate_schedules.specs.Answers.{step_answer, phase_step, idle_step}
 use Rattle.gate_schedules.specs.declared.steps.Step.{Step}
-use Rattle.gate_schedules.proofs.schedules.Whole.{whole_run, whole_moves}
+use Rattle.gate_schedules.proofs.schedules.HeadlineProof.{whole_run, whole_moves}
 use Rattle.transcripts.specs.Transcript.{Play, played}
 use Rattle.transcripts.specs.Reached.{IsReached}
 

@@ -4,18 +4,18 @@ use Rattle.std.specs.Prelude.{Option, is_some, Result, Ok, Err}
 use Rattle.access_model.specs.declared.errors.GateError.{GateError}
 use Rattle.gate_world.specs.{Beginnings.{first_phase, refusal, or_refusal, beginning}, Configs.IsWithin, Views.held_of, declared.config.Config.Config}
 use Rattle.gate_world.specs.declared.{operations.Op.Op, work.Phase.Phase}
-use Rattle.gate_steps.specs.call_events.{Answers.unless_refused, Seat.Seat, Seating.SeatItems, Seats.seat_held, Ties.Ties}
+use Rattle.gate_steps.specs.call_events.{Answers.unless_refused, TaskState.TaskState, Seating.SeatItems, Seats.seat_held, GhostAgrees.GhostAgrees}
 use Rattle.gate_steps.proofs.call_events.Beginnings.{refusal_agree, ok_means, err_means}
 use Rattle.vfs_gates.specs.{TaskStates.{TaskState, task_state, own_number, own_view, refusal_at, beginning_at}, declared.task.Task.TheInside.Inside}
 
-module _ (number : ℕ) (c : Config) (begins : Option Op) (kept : Seat) (flags : List Bool) where
+module _ (number : ℕ) (c : Config) (begins : Option Op) (kept : TaskState) (flags : List Bool) where
   -- the configuration of a task is within its limits
-  pub within : (l : SeatItems) → Ties number c begins kept flags l → IsWithin c
+  pub within : (l : SeatItems) → GhostAgrees number c begins kept flags l → IsWithin c
   within [] t = absurd t
   within (x ∷ xs) t = t.within
 
   -- what is kept of accesses has the same refusal as the view
-  refusal_same : (l : SeatItems) (op : Op) → Ties number c begins kept flags l →
+  refusal_same : (l : SeatItems) (op : Op) → GhostAgrees number c begins kept flags l →
       refusal c (is_some kept.phase) (seat_held kept) op ≡
       refusal c (is_some kept.phase) (held_of (own_view l)) op
   refusal_same [] op t = absurd t
@@ -23,14 +23,14 @@ module _ (number : ℕ) (c : Config) (begins : Option Op) (kept : Seat) (flags :
       refusal_agree c (seat_held kept) (held_of x.view) t.keeps.held (is_some kept.phase) op
 
   -- and the same number
-  number_same : (l : SeatItems) → Ties number c begins kept flags l → number ≡ own_number l
+  number_same : (l : SeatItems) → GhostAgrees number c begins kept flags l → number ≡ own_number l
   number_same [] t = absurd t
   number_same (x ∷ xs) t = sym t.same_number
 
 -- so the answer that the fields give is the task's
 pub admitted_as : (op : Op) (task : Inside) (start : TaskState) →
     task_state task.seat.table_id task.config task.begins task.kept.phase task.seat.me.0 ≡ start →
-    Ties task.number task.config task.begins task.kept task.spare task.seat.me.0.items → (under_way : Bool) →
+    GhostAgrees task.number task.config task.begins task.kept task.spare task.seat.me.0.items → (under_way : Bool) →
     under_way ≡ is_some task.kept.phase → (answer : Result Phase GateError) →
     answer ≡ beginning task.config task.number under_way (seat_held task.kept) op → answer ≡ beginning_at op start
 admitted_as op task start start_is ties under_way under_way_is answer is =
@@ -66,7 +66,7 @@ admitted_unless op start (Err refused) is granted = absurd (granted refused refl
 -- what is the first phase as the task's state says is so as its fields say
 pub first_so : (op : Op) (task : Inside) (start : TaskState) →
     task_state task.seat.table_id task.config task.begins task.kept.phase task.seat.me.0 ≡ start →
-    Ties task.number task.config task.begins task.kept task.spare task.seat.me.0.items → (phase : Phase) →
+    GhostAgrees task.number task.config task.begins task.kept task.spare task.seat.me.0.items → (phase : Phase) →
     phase ≡ first_phase start.config (own_number start.items) op → phase ≡ first_phase task.config task.number op
 first_so op task start start_is ties phase is =
     is ∙ sym (ap (λ (n : ℕ). first_phase task.config n op)
@@ -76,7 +76,7 @@ first_so op task start start_is ties phase is =
 -- the phase that was answered is the operation's first
 pub first_by : (op : Op) (task : Inside) (start : TaskState) →
     task_state task.seat.table_id task.config task.begins task.kept.phase task.seat.me.0 ≡ start →
-    Ties task.number task.config task.begins task.kept task.spare task.seat.me.0.items → (phase : Phase) → Ok phase ≡ beginning_at op start →
+    GhostAgrees task.number task.config task.begins task.kept task.spare task.seat.me.0.items → (phase : Phase) → Ok phase ≡ beginning_at op start →
     phase ≡ first_phase task.config task.number op
 first_by op task start start_is ties phase is =
     first_so op task start start_is ties phase

@@ -18,7 +18,7 @@ use Rattle.gate_steps.specs.call_events.Answers.{unless_refused}
 use Rattle.gate_steps.specs.call_events.Asking.{GoesWith}
 use Rattle.gate_steps.specs.call_events.Led.{LedAsking}
 use Rattle.gate_steps.specs.call_events.Progress.{Progress}
-use Rattle.gate_steps.specs.call_events.Runs.{Told}
+use Rattle.gate_steps.specs.call_events.Runs.{StepTells}
 use Rattle.gate_steps.specs.call_events.Waited.{WentWaiting}
 use Rattle.gate_steps.proofs.call_events.Running.{admitted_some, refused_as, refused_none}
 use Rattle.gate_steps.proofs.call_events.Turning.{unasked}
@@ -47,7 +47,7 @@ refused_at_once op old e is = record {
 module _ (op : Op) (old left : TaskState) (admitted : Ok tt ≡ unless_refused (refusal_at op old)) (table : left.table ≡ old.table)
     (config : left.config ≡ old.config) (begun : left.begins ≡ None) where
   -- one that was begun, and so stands
-  pub told_at_once : (progress : Progress) → Told op old progress left → BeginsAtOnce op old left (Ok progress)
+  pub told_at_once : (progress : Progress) → StepTells op old progress left → BeginsAtOnce op old left (Ok progress)
   told_at_once progress told = record {
     table = table;
     config = config;

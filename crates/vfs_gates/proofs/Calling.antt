@@ -5,9 +5,9 @@ use Rattle.std.specs.Prelude.{Option, Some, None, Result, Ok, Err, is_some}
 use Rattle.access_model.specs.declared.{errors.GateError.GateError, replies.{Next.{Next, TheVariants.{Go, Wait, Done}}, Reply.Reply}}
 use Rattle.gate_world.specs.{Beginnings.{first_phase, refusal}, Fits.Fits, Views.{phase_after, held_of}, declared.accesses.Accesses.Accesses}
 use Rattle.gate_world.specs.declared.{config.Config.Config, operations.Op.Op, work.Phase.Phase}
-use Rattle.gate_steps.specs.call_events.{Answers.unless_refused, Asking.{GoesWith, CalledAsking}, Runs.{Goes, Called}, Seat.Seat}
+use Rattle.gate_steps.specs.call_events.{Answers.unless_refused, Asking.{GoesWith, CalledAsking}, Runs.{Goes, Called}, TaskState.TaskState}
 use Rattle.gate_steps.specs.declared.seating.Numbered.{Numbered}
-use Rattle.gate_steps.specs.call_events.{Seating.SeatItems, Ties.{PhaseOk, OwnTies, Ties}, Turns.{kept_at, IsTied, StayTied}, Waited.{GoesWaiting, WentWaiting}}
+use Rattle.gate_steps.specs.call_events.{Seating.SeatItems, GhostAgrees.{PhaseOk, OwnTies, GhostAgrees}, Turns.{kept_at, StateAgrees, StayTied}, Waited.{GoesWaiting, WentWaiting}}
 use Rattle.gate_steps.proofs.call_events.{Beginnings.{MayBegin, may_begin, first_fits}, Running.{not_refused, starts_asking_none}}
 use Rattle.atomic_table.specs.Seated.{TableId}
 use Rattle.vfs_gates.specs.{TaskStates.{TaskState, task_state, own_number, own_view, refusal_at, beginning_at}, declared.task.Task.TheInside.Inside}
@@ -29,7 +29,7 @@ pub record Call : Type 0 where
   pub start : TaskState
   pub start_is : task_state task.seat.table_id task.config task.begins task.kept.phase task.seat.me.0 ≡ start
   pub from : start.config ≡ gates
-  pub ties : Ties task.number task.config task.begins task.kept task.spare task.seat.me.0.items
+  pub ties : GhostAgrees task.number task.config task.begins task.kept task.spare task.seat.me.0.items
   pub admitted : Ok tt ≡ unless_refused (refusal_at op start)
   pub first : Phase
   pub first_is : first ≡ first_phase task.config task.number op
@@ -37,7 +37,7 @@ pub record Call : Type 0 where
 -- of these parts
 abbrev pub call_of : (op : Op) (task : Inside) (gates : Config) (start : TaskState) →
     task_state task.seat.table_id task.config task.begins task.kept.phase task.seat.me.0 ≡ start → start.config ≡ gates →
-    Ties task.number task.config task.begins task.kept task.spare task.seat.me.0.items → Ok tt ≡ unless_refused (refusal_at op start) →
+    GhostAgrees task.number task.config task.begins task.kept task.spare task.seat.me.0.items → Ok tt ≡ unless_refused (refusal_at op start) →
     (first : Phase) → first ≡ first_phase task.config task.number op → Call
 call_of op task gates start start_is from ties admitted first first_is = record {
   op = op;
@@ -55,7 +55,7 @@ call_of op task gates start start_is from ties admitted first first_is = record 
 -- the call of an operation whose first phase was answered
 abbrev pub admitted_call : (op : Op) (task : Inside) (gates : Config) (start : TaskState) →
     task_state task.seat.table_id task.config task.begins task.kept.phase task.seat.me.0 ≡ start → start.config ≡ gates →
-    Ties task.number task.config task.begins task.kept task.spare task.seat.me.0.items → (first : Phase) → Ok first ≡ beginning_at op start → Call
+    GhostAgrees task.number task.config task.begins task.kept task.spare task.seat.me.0.items → (first : Phase) → Ok first ≡ beginning_at op start → Call
 admitted_call op task gates start start_is from ties first answered =
     call_of op task gates start start_is from ties (admitted_by op start first answered) first
     (first_by op task start start_is ties first answered)
@@ -63,7 +63,7 @@ admitted_call op task gates start start_is from ties first answered =
 -- the call of an operation that was not refused, and whose first phase is this
 abbrev pub call_with : (op : Op) (task : Inside) (gates : Config) (start : TaskState) →
     task_state task.seat.table_id task.config task.begins task.kept.phase task.seat.me.0 ≡ start → start.config ≡ gates →
-    Ties task.number task.config task.begins task.kept task.spare task.seat.me.0.items → (answer : Result Phase GateError) →
+    GhostAgrees task.number task.config task.begins task.kept task.spare task.seat.me.0.items → (answer : Result Phase GateError) →
     answer ≡ beginning_at op start → ((refused : GateError) → answer ≡ Err refused → ⊥) →
     (first : Phase) → first ≡ first_phase start.config (own_number start.items) op → Call
 call_with op task gates start start_is from ties answer answer_is granted first is =
@@ -103,7 +103,7 @@ module _ (call : Call) where
   c = call.task.config
 
   -- what it keeps of its phase and accesses
-  abbrev kept : Seat
+  abbrev kept : TaskState
   kept = call.task.kept
 
   -- the numbers that it has to give
@@ -166,13 +166,13 @@ module _ (call : Call) where
   }
 
   -- and all numbers
-  begun_ties : (l : SeatItems) → items_of call ≡ l → Ties number c call.task.begins kept flags l →
-      Ties number c (Some op) (kept_at (Some the_first) kept.accesses) flags l
+  begun_ties : (l : SeatItems) → items_of call ≡ l → GhostAgrees number c call.task.begins kept flags l →
+      GhostAgrees number c (Some op) (kept_at (Some the_first) kept.accesses) flags l
   begun_ties [] here t = absurd t
   begun_ties (x ∷ xs) here t = begun_own x xs here t
 
   -- what the ties say of the own number
-  own_same : (l : SeatItems) → Ties number c call.task.begins kept flags l → (call.task.begins ≡ None) × (own_number l ≡ number)
+  own_same : (l : SeatItems) → GhostAgrees number c call.task.begins kept flags l → (call.task.begins ≡ None) × (own_number l ≡ number)
   own_same [] t = absurd t
   own_same (x ∷ xs) t = ((at_rest x xs t).0, t.same_number)
 
@@ -185,8 +185,8 @@ module _ (call : Call) where
   own_is = (own_same (items_of call) call.ties).1
 
   -- the fields that a beginning leaves
-  pub begun : Ties number c (Some op) (kept_at (Some call.first) kept.accesses) flags (items_of call)
-  begun = subst (λ (p : Phase). Ties number c (Some op) (kept_at (Some p) kept.accesses) flags (items_of call)) (sym call.first_is)
+  pub begun : GhostAgrees number c (Some op) (kept_at (Some call.first) kept.accesses) flags (items_of call)
+  begun = subst (λ (p : Phase). GhostAgrees number c (Some op) (kept_at (Some p) kept.accesses) flags (items_of call)) (sym call.first_is)
       (begun_ties (items_of call) refl call.ties)
 
   -- and the state
@@ -198,11 +198,11 @@ module _ (call : Call) where
       ap (λ (s : TaskState). record s { begins = Some op; phase = Some (first_phase s.config (own_number s.items) op) }) call.start_is
 
   -- as the first event finds them
-  pub after_begin : Ties number call.gates (Some op) (kept_at (Some call.first) kept.accesses) flags (items_of call)
-  after_begin = subst (λ (d : Config). Ties number d (Some op) (kept_at (Some call.first) kept.accesses) flags (items_of call)) same begun
+  pub after_begin : GhostAgrees number call.gates (Some op) (kept_at (Some call.first) kept.accesses) flags (items_of call)
+  after_begin = subst (λ (d : Config). GhostAgrees number d (Some op) (kept_at (Some call.first) kept.accesses) flags (items_of call)) same begun
 
   -- so the first event may be done
-  pub is_tied : IsTied call.gates (Some op) (Some call.first) kept.accesses (items_of call)
+  pub is_tied : StateAgrees call.gates (Some op) (Some call.first) kept.accesses (items_of call)
   is_tied = record { number = number; flags = flags; ties = after_begin }
 
   -- the operation goes on from there, with no hook asked and no wait
@@ -224,14 +224,14 @@ module _ (call : Call) where
     found = task_state left.table call.gates None (phase_after left.next) left.known
 
     -- the fields, where what comes next is this phase or none
-    pub ties_at : (o : Option Phase) → phase_after left.next ≡ o → Ties number c call.task.begins (kept_at o left.accesses) flags left.known.items
+    pub ties_at : (o : Option Phase) → phase_after left.next ≡ o → GhostAgrees number c call.task.begins (kept_at o left.accesses) flags left.known.items
     ties_at o is =
-        let P : Config × Option Op × Option Phase → Type 0 = λ z. Ties number z.0 z.1 (kept_at z.2 left.accesses) flags left.known.items in
+        let P : Config × Option Op × Option Phase → Type 0 = λ z. GhostAgrees number z.0 z.1 (kept_at z.2 left.accesses) flags left.known.items in
         subst P (λ i. (sym same i, sym not_begun i, is i)) (left.tied number flags after_begin)
 
     -- the same where nothing comes next: what is kept of the phase stays as it was
     pub ties_done : (answer : Result Reply GateError) → left.next ≡ Done answer →
-        Ties number c call.task.begins (kept_at kept.phase left.accesses) flags left.known.items
+        GhostAgrees number c call.task.begins (kept_at kept.phase left.accesses) flags left.known.items
     ties_done answer is = ties_at kept.phase (ap (λ (n : Next Phase). phase_after n) is ∙ sym idle)
 
     -- it is the state that the task shows then

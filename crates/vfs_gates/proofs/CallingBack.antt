@@ -7,7 +7,7 @@ use Rattle.access_model.specs.declared.replies.Reply.{Reply}
 use Rattle.gate_world.specs.declared.config.Config.{Config}
 use Rattle.gate_world.specs.declared.operations.Op.TheVariants.{Callback}
 use Rattle.gate_world.specs.declared.views.Traced.{Traced}
-use Rattle.gate_world.specs.Traces.{IsHonestAnswer}
+use Rattle.gate_world.specs.traces.Traces.{IsHonestAnswer}
 use Rattle.gate_steps.proofs.call_events.Running.{ran_told}
 use Rattle.gate_steps.specs.call_events.Runs.{told_as, ran_of, the_reply, Called, IsRanReply, Replies}
 use Rattle.vfs_gates.specs.TaskStates.{TaskState, refusal_at, IsIdle}

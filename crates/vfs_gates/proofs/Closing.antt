@@ -11,7 +11,7 @@ use Rattle.gate_steps.specs.Seating.{SeatItems, numbered, times, view_in, deal}
 use Rattle.gate_steps.proofs.call_events.Opening.{times-deal}
 use Rattle.gate_steps.specs.Tables.{IsClosing}
 use Rattle.gate_steps.proofs.call_events.Giving.{view_in-at, view_in-is}
-use Rattle.gate_steps.specs.call_events.Ties.{IsStill, AllRest}
+use Rattle.gate_steps.specs.call_events.GhostAgrees.{IsStill, AllRest}
 use Rattle.gate_steps.specs.Histories.{IsReached}
 use Rattle.vfs_gates.specs.Ended.{Ended, EndedWith, HasOpeningWords, IsLeftAfter, IsLeftBySchedule}
 use Rattle.vfs_gates.proofs.Parting.{rest-at}

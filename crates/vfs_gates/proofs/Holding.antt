@@ -7,8 +7,8 @@ use Rattle.access_model.specs.declared.{actions.Action.TheVariants.{Open as Open
 use Rattle.access_model.specs.declared.replies.{Next.TheVariants.{Go, Wait, Done}, Reply.{Reply, TheVariants.Node as NodeReply}}
 use Rattle.cpu_words.specs.declared.{events.Touch.{Touch, TheVariants.And}, names.WordName.{WordName, TheVariants.Node}}
 use Rattle.mount_counts.specs.Phases.{has_flag}
-use Rattle.gate_world.specs.{Operations.all_levels_closed, Courses.course_of, Found.{clean_found, cleans, found_complete, found_read_only, found_sealed}}
-use Rattle.gate_world.specs.{Found.found_shared, Holdings.{Holdings, holdings_of, held_after}, Traces.actions_of, declared.config.Config.Config}
+use Rattle.gate_world.specs.{Operations.all_levels_closed, traces.TraceStates.state_of_trace, traces.Found.{clean_found, cleans, found_complete, found_read_only, found_sealed}}
+use Rattle.gate_world.specs.{traces.Found.found_shared, Holdings.{Holdings, holdings_of, held_after}, traces.Traces.actions_of, declared.config.Config.Config}
 use Rattle.gate_world.specs.declared.operations.Op.{Op, TheVariants.{Want, DropMount, ChangeMount, RemountSb, Start, End, WantWrite, DropWrite}}
 use Rattle.gate_world.specs.declared.{operations.Op.TheVariants.{Freeze, Thaw, Create, Open, Close}, views.Traced.Traced, work.Phase.Phase}
 use Rattle.gate_steps.proofs.call_events.Asked.{either_way}
@@ -98,8 +98,8 @@ no_move c op earlier e seen gone (Done answer) h = h
 
 -- the own number's actions after a whole operation: those that it has added, and the earlier ones
 acted : (c : Config) (op : Op) (trace : List Traced) (answer : Result Reply GateError) (l : SeatItems) (added : List Action)
-    (seen gone : List (List Entry)) → (course_of c (own_number l) op trace).comes ≡ Done answer → AreMoves c op l seen trace gone →
-    (course_of c (own_number l) op trace).added ≡ added →
+    (seen gone : List (List Entry)) → (state_of_trace c (own_number l) op trace).comes ≡ Done answer → AreMoves c op l seen trace gone →
+    (state_of_trace c (own_number l) op trace).added ≡ added →
     (own_view (ran_items c op trace l)).actions ≡ added ++ (own_view l).actions
 acted c op [] answer [] added seen gone ends moves is = absurd (let f : ⊥ = cc in f)
 acted c op (e ∷ es) answer [] added seen gone ends moves is = absurd (no_move c op es e moves.0 gone _ moves.1)

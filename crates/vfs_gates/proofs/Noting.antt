@@ -23,20 +23,20 @@ use Rattle.gate_world.specs.declared.work.Phase.{Phase}
 use Rattle.gate_world.specs.declared.work.Phase.TheVariants.{Trees}
 use Rattle.gate_world.specs.declared.views.Snapshot.{Snapshot as Noted}
 use Rattle.gate_world.specs.declared.views.Traced.{Traced}
-use Rattle.gate_world.specs.Snapshots.{completes, last_snapshot, loads_noted, noted_last}
+use Rattle.gate_world.specs.traces.Snapshots.{completes, last_snapshot, loads_noted, noted_last}
 use Rattle.gate_world.specs.Views.{phase_after}
 use Rattle.gate_world.specs.Work.{after_of, next_of}
 use Rattle.gate_steps.specs.Seating.{SeatItems, done_by, items_after}
 use Rattle.gate_steps.specs.declared.seating.Numbered.{Numbered}
-use Rattle.vfs_gates.specs.declared.rooms.Rooms.{Rooms}
-use Rattle.vfs_gates.specs.Room.{LastTells, NextTells, RoomTells, StepTells, noted_in, trace_so_far}
+use Rattle.vfs_gates.specs.declared.buffers.SnapshotBuffers.{SnapshotBuffers}
+use Rattle.vfs_gates.specs.Buffers.{LastTells, NextTells, BuffersMatch, StepTells, noted_in, trace_so_far}
 use Rattle.vfs_gates.specs.TaskStates.{own_view}
 
 -- what noting an event does to the room, where the snapshot goes on, and where that was its last load
-abbrev pub GoesOn : Rooms → Rooms → Event → Type 0
+abbrev pub GoesOn : SnapshotBuffers → SnapshotBuffers → Event → Type 0
 GoesOn r left e = (left.taken ≡ r.taken) × (words_of left.last ≡ words_of r.last) × (words_of left.next ≡ noted_in (words_of r.next) e)
 
-abbrev pub EndsTaking : Rooms → Rooms → Event → Type 0
+abbrev pub EndsTaking : SnapshotBuffers → SnapshotBuffers → Event → Type 0
 EndsTaking r left e = (left.taken ≡ true) × (words_of left.last ≡ noted_in (words_of r.next) e) × (words_of left.next ≡ words_of r.last)
 
 -- what an event adds to the own view: itself, and the snapshot that it completes
@@ -54,7 +54,7 @@ snapshot_after None phase hook found x xs = refl
 snapshot_after (Some op) phase hook found x xs = refl
 
 -- the last snapshot stays
-last_same : (r left : Rooms) (o : Option Noted) → left.taken ≡ r.taken → words_of left.last ≡ words_of r.last → LastTells r o → LastTells left o
+last_same : (r left : SnapshotBuffers) (o : Option Noted) → left.taken ≡ r.taken → words_of left.last ≡ words_of r.last → LastTells r o → LastTells left o
 last_same r left None taken last h = taken ∙ h
 last_same r left (Some s) taken last h = (taken ∙ h.0, last ∙ h.1)
 
@@ -72,10 +72,10 @@ either : {A : Type 0} (T : A → Type 0) (b : Bool) (p q : A) → T p → T q �
 either T true p q hp hq = hp
 either T false p q hp hq = hq
 
-abbrev Tells : Rooms → List Traced → Next Taking → Type 0
+abbrev Tells : SnapshotBuffers → List Traced → Next Taking → Type 0
 Tells left trace n = NextTells left trace (phase_after (map_next Trees (map_next Snapshots n)))
 
-module _ (r left : Rooms) (nodes : ℕ) (begins : Option Op) (hook : HookAnswer) (found : ℕ) (x : Numbered) (xs : SeatItems) where
+module _ (r left : SnapshotBuffers) (nodes : ℕ) (begins : Option Op) (hook : HookAnswer) (found : ℕ) (x : Numbered) (xs : SeatItems) where
   abbrev event_at : Taking → Event
   event_at s = event_of (next_of (Trees (Snapshots s)) hook).0 (next_of (Trees (Snapshots s)) hook).1 found
 
@@ -87,8 +87,8 @@ module _ (r left : Rooms) (nodes : ℕ) (begins : Option Op) (hook : HookAnswer)
       completes (Trees (Snapshots s)) (trace_so_far begins x.view) (event_at s).found ≡ None →
       length (noted_in (words_of r.next) (event_at s)).nodes ≡ length (words_of r.next).nodes →
       NextTells left (trace_at s) (phase_after (after_of (Trees (Snapshots s)) (event_at s).found hook).0) →
-      RoomTells nodes r begins (Some (Trees (Snapshots s))) (x ∷ xs) →
-      RoomTells nodes left None (phase_after (after_of (Trees (Snapshots s)) (event_at s).found hook).0)
+      BuffersMatch nodes r begins (Some (Trees (Snapshots s))) (x ∷ xs) →
+      BuffersMatch nodes left None (phase_after (after_of (Trees (Snapshots s)) (event_at s).found hook).0)
       (items_after begins (Trees (Snapshots s)) hook found (x ∷ xs))
   going s note none long next h = record {
     room = (ap (λ (w : TreeWords). length w.nodes) note.1 ∙ h.room.0, ap (λ (w : TreeWords). length w.nodes) note.2 ∙ (long ∙ h.room.1));
@@ -103,8 +103,8 @@ module _ (r left : Rooms) (nodes : ℕ) (begins : Option Op) (hook : HookAnswer)
   -- after its last load it is the last one
   ending : (wait : Bool) (task n node : ℕ) → node_after node n ≡ None →
       EndsTaking r left (event_at (record { wait = wait; task = task; nodes = n; step = LoadsKids node })) →
-      RoomTells nodes r begins (Some (Trees (Snapshots (record { wait = wait; task = task; nodes = n; step = LoadsKids node })))) (x ∷ xs) →
-      RoomTells nodes left None (phase_after (after_of (Trees (Snapshots (record { wait = wait; task = task; nodes = n; step = LoadsKids node })))
+      BuffersMatch nodes r begins (Some (Trees (Snapshots (record { wait = wait; task = task; nodes = n; step = LoadsKids node })))) (x ∷ xs) →
+      BuffersMatch nodes left None (phase_after (after_of (Trees (Snapshots (record { wait = wait; task = task; nodes = n; step = LoadsKids node })))
       found hook).0)
       (items_after begins (Trees (Snapshots (record { wait = wait; task = task; nodes = n; step = LoadsKids node }))) hook found (x ∷ xs))
   unfolding words_of
@@ -125,8 +125,8 @@ module _ (r left : Rooms) (nodes : ℕ) (begins : Option Op) (hook : HookAnswer)
       (loads_last n (LoadsKids node) ≡ false → GoesOn r left (event_at (record { wait = wait; task = task; nodes = n; step = LoadsKids node }))) →
       (loads_last n (LoadsKids node) ≡ true →
       EndsTaking r left (event_at (record { wait = wait; task = task; nodes = n; step = LoadsKids node }))) →
-      RoomTells nodes r begins (Some (Trees (Snapshots (record { wait = wait; task = task; nodes = n; step = LoadsKids node })))) (x ∷ xs) →
-      RoomTells nodes left None (phase_after (after_of (Trees (Snapshots (record { wait = wait; task = task; nodes = n; step = LoadsKids node })))
+      BuffersMatch nodes r begins (Some (Trees (Snapshots (record { wait = wait; task = task; nodes = n; step = LoadsKids node })))) (x ∷ xs) →
+      BuffersMatch nodes left None (phase_after (after_of (Trees (Snapshots (record { wait = wait; task = task; nodes = n; step = LoadsKids node })))
       found hook).0)
       (items_after begins (Trees (Snapshots (record { wait = wait; task = task; nodes = n; step = LoadsKids node }))) hook found (x ∷ xs))
   kids wait task n node None is goes_on ends h = ending wait task n node is (ends (ap (λ o. not (is_some o)) is)) h
@@ -142,8 +142,8 @@ module _ (r left : Rooms) (nodes : ℕ) (begins : Option Op) (hook : HookAnswer)
   follows_step : (wait : Bool) (task n : ℕ) (step : SnapshotStep) →
       (loads_last n step ≡ false → GoesOn r left (event_at (record { wait = wait; task = task; nodes = n; step = step }))) →
       (loads_last n step ≡ true → EndsTaking r left (event_at (record { wait = wait; task = task; nodes = n; step = step }))) →
-      RoomTells nodes r begins (Some (Trees (Snapshots (record { wait = wait; task = task; nodes = n; step = step })))) (x ∷ xs) →
-      RoomTells nodes left None (phase_after (after_of (Trees (Snapshots (record { wait = wait; task = task; nodes = n; step = step })))
+      BuffersMatch nodes r begins (Some (Trees (Snapshots (record { wait = wait; task = task; nodes = n; step = step })))) (x ∷ xs) →
+      BuffersMatch nodes left None (phase_after (after_of (Trees (Snapshots (record { wait = wait; task = task; nodes = n; step = step })))
       (event_at (record { wait = wait; task = task; nodes = n; step = step })).found hook).0)
       (items_after begins (Trees (Snapshots (record { wait = wait; task = task; nodes = n; step = step }))) hook found (x ∷ xs))
   unfolding words_of
@@ -175,26 +175,26 @@ module _ (r left : Rooms) (nodes : ℕ) (begins : Option Op) (hook : HookAnswer)
       let s : Taking = record { wait = wait; task = task; nodes = n; step = Releases answer } in going s (goes_on refl) refl refl tt h
 
 -- so it follows what was noted of an event
-follows_at : (r left : Rooms) (s : Taking) (event : Event) → (loads_last s.nodes s.step ≡ false → GoesOn r left event) →
+follows_at : (r left : SnapshotBuffers) (s : Taking) (event : Event) → (loads_last s.nodes s.step ≡ false → GoesOn r left event) →
     (loads_last s.nodes s.step ≡ true → EndsTaking r left event) → (nodes : ℕ) (begins : Option Op) (hook : HookAnswer) (found : ℕ)
     (items : SeatItems) → 1 ≤ length items →
     event ≡ event_of (next_of (Trees (Snapshots s)) hook).0 (next_of (Trees (Snapshots s)) hook).1 found →
-    RoomTells nodes r begins (Some (Trees (Snapshots s))) items →
-    RoomTells nodes left None (phase_after (after_of (Trees (Snapshots s)) event.found hook).0)
+    BuffersMatch nodes r begins (Some (Trees (Snapshots s))) items →
+    BuffersMatch nodes left None (phase_after (after_of (Trees (Snapshots s)) event.found hook).0)
     (items_after begins (Trees (Snapshots s)) hook found items)
 follows_at r left s event goes_on ends nodes begins hook found [] there is h = absurd (omega arith)
 follows_at r left s event goes_on ends nodes begins hook found (x ∷ xs) there is h =
-    subst (λ (e : Event). RoomTells nodes left None (phase_after (after_of (Trees (Snapshots s)) e.found hook).0)
+    subst (λ (e : Event). BuffersMatch nodes left None (phase_after (after_of (Trees (Snapshots s)) e.found hook).0)
     (items_after begins (Trees (Snapshots s)) hook found (x ∷ xs))) (sym is)
     (follows_step r left nodes begins hook found x xs s.wait s.task s.nodes s.step
     (λ f. subst (GoesOn r left) is (goes_on f)) (λ t. subst (EndsTaking r left) is (ends t)) h)
 
-pub follows_taking : (r left : Rooms) (phase : Phase) (s : Taking) → phase ≡ Trees (Snapshots s) → (event : Event) →
+pub follows_taking : (r left : SnapshotBuffers) (phase : Phase) (s : Taking) → phase ≡ Trees (Snapshots s) → (event : Event) →
     (loads_last s.nodes s.step ≡ false → GoesOn r left event) → (loads_last s.nodes s.step ≡ true → EndsTaking r left event) → (nodes : ℕ)
     (begins : Option Op) (hook : HookAnswer) (found : ℕ) (items : SeatItems) → 1 ≤ length items →
-    event ≡ event_of (next_of phase hook).0 (next_of phase hook).1 found → RoomTells nodes r begins (Some phase) items →
-    RoomTells nodes left None (phase_after (after_of phase event.found hook).0) (items_after begins phase hook found items)
+    event ≡ event_of (next_of phase hook).0 (next_of phase hook).1 found → BuffersMatch nodes r begins (Some phase) items →
+    BuffersMatch nodes left None (phase_after (after_of phase event.found hook).0) (items_after begins phase hook found items)
 follows_taking r left phase s at event goes_on ends nodes begins hook found items there =
-    subst (λ (p : Phase). event ≡ event_of (next_of p hook).0 (next_of p hook).1 found → RoomTells nodes r begins (Some p) items →
-    RoomTells nodes left None (phase_after (after_of p event.found hook).0) (items_after begins p hook found items)) (sym at)
+    subst (λ (p : Phase). event ≡ event_of (next_of p hook).0 (next_of p hook).1 found → BuffersMatch nodes r begins (Some p) items →
+    BuffersMatch nodes left None (phase_after (after_of p event.found hook).0) (items_after begins p hook found items)) (sym at)
     (follows_at r left s event goes_on ends nodes begins hook found items there)

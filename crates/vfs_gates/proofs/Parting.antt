@@ -8,9 +8,9 @@ use mathlib.Core.Option.{some, some-injective, some-ne-none}
 use native.Mathlib.Decide.{ℕ_discrete, dec_lt}
 use lib.ListN.{get_elem?}
 use Rattle.gate_world.specs.{Configs.IsWithin, Views.opening_view, declared.{config.Config.Config, operations.Op.Op, views.View.View}}
-use Rattle.gate_steps.specs.call_events.{Seat.Seat, Seating.{SeatItems, numbered, one_if, times, without, view_in, renewed, kept_of, given_of, deal}}
+use Rattle.gate_steps.specs.call_events.{TaskState.TaskState, Seating.{SeatItems, numbered, one_if, times, without, view_in, renewed, kept_of, given_of, deal}}
 use Rattle.gate_steps.specs.declared.seating.Numbered.{Numbered}
-use Rattle.gate_steps.specs.call_events.{Seats.idle_seat, Ties.{PhaseOk, IsStill, AllRest, Keeps, OwnTies, Ties}}
+use Rattle.gate_steps.specs.call_events.{Seats.idle_seat, GhostAgrees.{PhaseOk, IsStill, AllRest, Keeps, OwnTies, GhostAgrees}}
 use Rattle.gate_steps.proofs.call_events.{Dealing.{one_if-same, one_if-other, times-append}, Giving.{view_in-at, times-without, times-without_other}}
 use Rattle.gate_steps.proofs.call_events.Opening.{times-deal_below, times-deal_above, times-deal}
 use Rattle.vfs_gates.specs.TaskStates.{spare_of, Empty, IsNothing, own_view}
@@ -66,7 +66,7 @@ module _ (c : Config) where
   }
 
   -- the own view of a task that rests is still
-  still-own : (number : ℕ) (begins : Option Op) (kept : Seat) (flags : List Bool) (x : Numbered) (xs : SeatItems) →
+  still-own : (number : ℕ) (begins : Option Op) (kept : TaskState) (flags : List Bool) (x : Numbered) (xs : SeatItems) →
       OwnTies number c begins kept flags x xs → kept.phase ≡ None → Empty c x.view → IsStill c x.view
   still-own number begins kept flags x xs t idle e = let may : PhaseOk c begins None x = subst (λ o. PhaseOk c begins o x) idle t.may in
       (may.1, e)
@@ -76,9 +76,9 @@ no_more : (m : ℕ) → (1 ≤ m → ⊥) → m ≡ 0
 no_more zero none = refl
 no_more (suc m) none = absurd (none (omega arith))
 
-module _ (number : ℕ) (c : Config) (begins : Option Op) (kept : Seat) (flags : List Bool) where
+module _ (number : ℕ) (c : Config) (begins : Option Op) (kept : TaskState) (flags : List Bool) where
   -- the lowest number that is marked is the lowest that there is to give
-  pub lowest_there : (l : SeatItems) (n : ℕ) → Ties number c begins kept flags l → IsSet flags n →
+  pub lowest_there : (l : SeatItems) (n : ℕ) → GhostAgrees number c begins kept flags l → IsSet flags n →
       ((k : ℕ) → k < n → get_or flags k false ≡ false) →
       (1 ≤ times n (spare_of l)) × ((k : ℕ) → k < n → times k (spare_of l) ≡ 0)
   lowest_there [] n t on low = absurd t
@@ -88,19 +88,19 @@ module _ (number : ℕ) (c : Config) (begins : Option Op) (kept : Seat) (flags :
   )
 
   -- where no flag is set, it has none to give
-  pub none_there : (l : SeatItems) → Ties number c begins kept flags l → ((k : ℕ) → get_or flags k false ≡ false) → (n : ℕ) →
+  pub none_there : (l : SeatItems) → GhostAgrees number c begins kept flags l → ((k : ℕ) → get_or flags k false ≡ false) → (n : ℕ) →
       times n (spare_of l) ≡ 0
   none_there [] t low n = absurd t
   none_there (x ∷ xs) t low n = no_more (times n xs) (λ some. false_true (sym (low n) ∙ (t.marks n).1 some))
 
   -- a task that is idle has begun nothing
-  pub none_begun : (l : SeatItems) → Ties number c begins kept flags l → kept.phase ≡ None → begins ≡ None
+  pub none_begun : (l : SeatItems) → GhostAgrees number c begins kept flags l → kept.phase ≡ None → begins ≡ None
   none_begun [] t idle = absurd t
   none_begun (x ∷ xs) t idle = let may : PhaseOk c begins None x = subst (λ o. PhaseOk c begins o x) idle t.may in may.0
 
   -- the giver is tied without the number
-  pub split_self : (l : SeatItems) (n : ℕ) → Ties number c begins kept flags l → n < length flags →
-      Ties number c begins kept (set flags n false) (kept_of n l)
+  pub split_self : (l : SeatItems) (n : ℕ) → GhostAgrees number c begins kept flags l → n < length flags →
+      GhostAgrees number c begins kept (set flags n false) (kept_of n l)
   split_self [] n t lt = absurd t
   split_self (x ∷ xs) n t lt = record {
     within = t.within;
@@ -122,14 +122,14 @@ module _ (number : ℕ) (c : Config) (begins : Option Op) (kept : Seat) (flags :
   }
 
   -- the new task is tied to the number that it was given
-  pub split_new : (l : SeatItems) (n : ℕ) (none : List Bool) (idle : Seat) → Ties number c begins kept flags l → IsSet flags n → n < 64 →
+  pub split_new : (l : SeatItems) (n : ℕ) (none : List Bool) (idle : TaskState) → GhostAgrees number c begins kept flags l → IsSet flags n → n < 64 →
       ((k : ℕ) → get_or none k false ≡ false) → idle ≡ idle_seat →
-      Ties n c None idle none (given_of n l)
+      GhostAgrees n c None idle none (given_of n l)
   split_new [] n none idle t on lt off still = absurd t
   split_new (x ∷ xs) n none idle t on lt off still =
       let there = view_in-at n xs ((t.marks n).0 on) in
       let r : IsStill c (view_in n xs) = rest-at c xs there.0 (numbered n (view_in n xs)) t.rest there.1 in
-      subst (λ (s : Seat). Ties n c None s none (given_of n (x ∷ xs))) (sym still) (record {
+      subst (λ (s : TaskState). GhostAgrees n c None s none (given_of n (x ∷ xs))) (sym still) (record {
         within = t.within;
         same_number = refl;
         below = lt;
@@ -141,12 +141,12 @@ module _ (number : ℕ) (c : Config) (begins : Option Op) (kept : Seat) (flags :
       })
 
   -- a number is below 64
-  pub below : (l : SeatItems) → Ties number c begins kept flags l → number < 64
+  pub below : (l : SeatItems) → GhostAgrees number c begins kept flags l → number < 64
   below [] t = absurd t
   below (x ∷ xs) t = t.below
 
   -- nothing is kept just where nothing is held
-  pub holds_same : (l : SeatItems) → Ties number c begins kept flags l → IsNothing kept.accesses c.mounts ↔ Empty c (own_view l)
+  pub holds_same : (l : SeatItems) → GhostAgrees number c begins kept flags l → IsNothing kept.accesses c.mounts ↔ Empty c (own_view l)
   holds_same [] t = absurd t
   holds_same (x ∷ xs) t = (
     (λ h. (
@@ -162,12 +162,12 @@ module _ (number : ℕ) (c : Config) (begins : Option Op) (kept : Seat) (flags :
   )
 
   -- what a task that rests knows rests
-  pub all_rest : (l : SeatItems) → Ties number c begins kept flags l → kept.phase ≡ None → Empty c (own_view l) → AllRest c l
+  pub all_rest : (l : SeatItems) → GhostAgrees number c begins kept flags l → kept.phase ≡ None → Empty c (own_view l) → AllRest c l
   all_rest [] t idle e = absurd t
   all_rest (x ∷ xs) t idle e = (still-own c number begins kept flags x xs t idle e, t.rest)
 
   -- all numbers are there just where each other number is marked
-  pub all_marked : (l : SeatItems) → Ties number c begins kept flags l →
+  pub all_marked : (l : SeatItems) → GhostAgrees number c begins kept flags l →
       ((k : ℕ) → k < c.tasks → (k ≡ number) ⊎ IsSet flags k) ↔ ((n : ℕ) → n < c.tasks → 1 ≤ times n l)
   all_marked [] t = absurd t
   all_marked (x ∷ xs) t = (
@@ -177,12 +177,12 @@ module _ (number : ℕ) (c : Config) (begins : Option Op) (kept : Seat) (flags :
         one_if-other x.number k (λ e. ne (sym e ∙ t.same_number)) in let m = h k lt in inr ((t.marks k).1 (omega arith)))),
   )
 
-  module _ (number' : ℕ) (begins' : Option Op) (kept' : Seat) (flags' all : List Bool) where
+  module _ (number' : ℕ) (begins' : Option Op) (kept' : TaskState) (flags' all : List Bool) where
     -- a task is tied to its numbers and those that it took back
-    pub join_self : (l m : SeatItems) → Ties number c begins kept flags l → Ties number' c begins' kept' flags' m → kept'.phase ≡ None →
+    pub join_self : (l m : SeatItems) → GhostAgrees number c begins kept flags l → GhostAgrees number' c begins' kept' flags' m → kept'.phase ≡ None →
         Empty c (own_view m) →
         ((k : ℕ) → IsSet all k ↔ (IsSet flags k ⊎ IsSet flags' k)) → number' < length all →
-        Ties number c begins kept (set all number' true) (l ++ m)
+        GhostAgrees number c begins kept (set all number' true) (l ++ m)
     join_self [] m p q idle none both lt = absurd p
     join_self (x ∷ xs) [] p q idle none both lt = absurd q
     join_self (x ∷ xs) (y ∷ ys) p q idle none both lt = record {
@@ -208,10 +208,10 @@ module _ (number : ℕ) (c : Config) (begins : Option Op) (kept : Seat) (flags :
     }
 
 -- the first task has all other numbers to give
-pub first_ties : (c : Config) (idle : Seat) (n : ℕ) (flags : List Bool) → IsWithin c → idle ≡ idle_seat → 1 ≤ n → n ≤ 64 →
-    ((k : ℕ) → IsSet flags k ↔ ((0 < k) × (k < n))) → Ties 0 c None idle flags (deal 0 n)
+pub first_ties : (c : Config) (idle : TaskState) (n : ℕ) (flags : List Bool) → IsWithin c → idle ≡ idle_seat → 1 ≤ n → n ≤ 64 →
+    ((k : ℕ) → IsSet flags k ↔ ((0 < k) × (k < n))) → GhostAgrees 0 c None idle flags (deal 0 n)
 first_ties c idle zero flags within still some_there few set_are = absurd (omega arith)
-first_ties c idle (suc n) flags within still some_there few set_are = subst (λ (s : Seat). Ties 0 c None s flags (deal 0 (suc n)))
+first_ties c idle (suc n) flags within still some_there few set_are = subst (λ (s : TaskState). GhostAgrees 0 c None s flags (deal 0 (suc n)))
     (sym still) (record {
       within = within;
       same_number = refl;
@@ -230,7 +230,7 @@ first_ties c idle (suc n) flags within still some_there few set_are = subst (λ 
     })
 
 -- a task has a number of its own
-pub has_own : (number : ℕ) (c : Config) (begins : Option Op) (kept : Seat) (flags : List Bool) (items : SeatItems) →
-    Ties number c begins kept flags items → 1 ≤ length items
+pub has_own : (number : ℕ) (c : Config) (begins : Option Op) (kept : TaskState) (flags : List Bool) (items : SeatItems) →
+    GhostAgrees number c begins kept flags items → 1 ≤ length items
 has_own number c begins kept flags [] h = absurd h
 has_own number c begins kept flags (x ∷ xs) h = omega arith

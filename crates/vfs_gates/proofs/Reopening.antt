@@ -7,7 +7,7 @@ use Rattle.access_model.specs.declared.replies.{Next.Next, Reply.Reply}
 use Rattle.cpu_words.specs.Hooks.{HookAnswer}
 use Rattle.mount_counts.specs.Phases.{has_flag}
 use Rattle.mount_counts.specs.declared.phases.{ChangeStep.ChangeStep, MountPhase.MountPhase}
-use Rattle.gate_world.specs.Courses.{course_of, course_after}
+use Rattle.gate_world.specs.traces.TraceStates.{state_of_trace, trace_state_after}
 use Rattle.gate_world.specs.Work.{after_of}
 use Rattle.gate_world.specs.declared.{config.Config.Config, operations.Op.Op, views.Traced.Traced, work.Phase.Phase}
 
@@ -23,21 +23,21 @@ opening c t m step = Phase.Mounts (MountPhase.Change (record {
 }))
 
 -- the steps that it comes to: it sums nothing
-abbrev Comes : ChangeStep → Type 0
-Comes ChangeStep.Locks = Unit {0}
-Comes ChangeStep.LoadsFlags = Unit {0}
-Comes ChangeStep.LoadsSuperblock = Unit {0}
-Comes ChangeStep.ClearsReadOnly = Unit {0}
-Comes (ChangeStep.Releases answer) = answer ≡ Ok Reply.Unit
-Comes step = ⊥
+abbrev StepFollows : ChangeStep → Type 0
+StepFollows ChangeStep.Locks = Unit {0}
+StepFollows ChangeStep.LoadsFlags = Unit {0}
+StepFollows ChangeStep.LoadsSuperblock = Unit {0}
+StepFollows ChangeStep.ClearsReadOnly = Unit {0}
+StepFollows (ChangeStep.Releases answer) = answer ≡ Ok Reply.Unit
+StepFollows step = ⊥
 
 abbrev pub Opens : Config → ℕ → ℕ → Next Phase → Type 0
-Opens c t m (Next.Go phase) = (step : ChangeStep) × (phase ≡ opening c t m step) × Comes step
-Opens c t m (Next.Wait phase) = (step : ChangeStep) × (phase ≡ opening c t m step) × Comes step
+Opens c t m (Next.Go phase) = (step : ChangeStep) × (phase ≡ opening c t m step) × StepFollows step
+Opens c t m (Next.Wait phase) = (step : ChangeStep) × (phase ≡ opening c t m step) × StepFollows step
 Opens c t m (Next.Done answer) = answer ≡ Ok Reply.Unit
 
 module _ (c : Config) (t m : ℕ) where
-  goes_on : (found : ℕ) (hook : HookAnswer) (step : ChangeStep) → Comes step → Opens c t m (after_of (opening c t m step) found hook).0
+  goes_on : (found : ℕ) (hook : HookAnswer) (step : ChangeStep) → StepFollows step → Opens c t m (after_of (opening c t m step) found hook).0
   goes_on found hook ChangeStep.Locks comes =
       elim (cases_Bool (found == 0)) [ inl f ↦ rw f (ChangeStep.LoadsFlags, refl, tt) | inr f ↦ rw f (ChangeStep.Locks, refl, tt) ]
   goes_on found hook ChangeStep.LoadsFlags comes =
@@ -54,7 +54,7 @@ module _ (c : Config) (t m : ℕ) where
   goes_on found hook (ChangeStep.Releases answer) comes = comes
   goes_on found hook step comes = absurd comes
 
-  opens_after : (next : Next Phase) (added : List Action) (e : Traced) → Opens c t m next → Opens c t m (course_after next added e).comes
+  opens_after : (next : Next Phase) (added : List Action) (e : Traced) → Opens c t m next → Opens c t m (trace_state_after next added e).comes
   opens_after (Next.Go phase) added e h =
       subst (λ p. Opens c t m (after_of p e.event.found e.hook).0) (sym h.1) (goes_on e.event.found e.hook h.0 h.2)
   opens_after (Next.Wait phase) added e h =
@@ -62,6 +62,6 @@ module _ (c : Config) (t m : ℕ) where
   opens_after (Next.Done answer) added e h = h
 
   -- so its course ends in no refusal
-  pub opens : (trace : List Traced) → Opens c t m (course_of c t (Op.ChangeMount m false true) trace).comes
+  pub opens : (trace : List Traced) → Opens c t m (state_of_trace c t (Op.ChangeMount m false true) trace).comes
   opens [] = (ChangeStep.Locks, refl, tt)
-  opens (e ∷ earlier) = opens_after (course_of c t (Op.ChangeMount m false true) earlier).comes _ e (opens earlier)
+  opens (e ∷ earlier) = opens_after (state_of_trace c t (Op.ChangeMount m false true) earlier).comes _ e (opens earlier)

@@ -9,14 +9,14 @@ use Rattle.gate_world.specs.declared.operations.Op.{Op}
 use Rattle.gate_world.specs.declared.operations.Op.TheVariants.{Want, ChangeMount}
 use Rattle.gate_world.specs.declared.views.View.{View}
 use Rattle.gate_world.specs.declared.views.Traced.{Traced}
-use Rattle.gate_world.specs.Traces.{IsHonestAnswer}
+use Rattle.gate_world.specs.traces.Traces.{IsHonestAnswer}
 use Rattle.gate_world.specs.Views.{opening_view}
 use Rattle.atomic_table.specs.Seated.{TableId}
 use Rattle.gate_steps.specs.Rules.{first_known}
 use Rattle.gate_steps.specs.call_events.Runs.{told_as, unit_of, Called, Performs}
-use Rattle.gate_steps.specs.call_events.Seat.{Seat}
+use Rattle.gate_steps.specs.call_events.TaskState.{TaskState}
 use Rattle.gate_steps.specs.Seating.{SeatItems, HaveViews, numbered, times, view_in, kept_of, given_of, deal}
-use Rattle.gate_steps.specs.call_events.Ties.{Ties}
+use Rattle.gate_steps.specs.call_events.GhostAgrees.{GhostAgrees}
 use Rattle.gate_steps.proofs.call_events.Giving.{view_in-at}
 use Rattle.vfs_gates.specs.declared.gates.Gates.{Gates}
 use Rattle.vfs_gates.specs.TaskStates.{TaskState, task_state, own_number, own_view, spare_of, refusal_at, Empty, IsFrom}
@@ -122,8 +122,8 @@ both_end c ws first second seen e some_first some_second = (
 )
 
 -- a number that was given rests
-pub given_empty : (number : ℕ) (c : Config) (begins : Option Op) (kept : Seat) (flags : List Bool) (l : SeatItems) (n : ℕ) →
-    Ties number c begins kept flags l → 1 ≤ times n (spare_of l) → Empty c (own_view (given_of n l))
+pub given_empty : (number : ℕ) (c : Config) (begins : Option Op) (kept : TaskState) (flags : List Bool) (l : SeatItems) (n : ℕ) →
+    GhostAgrees number c begins kept flags l → 1 ≤ times n (spare_of l) → Empty c (own_view (given_of n l))
 given_empty number c begins kept flags [] n ties there = absurd ties
 given_empty number c begins kept flags (x ∷ xs) n ties there =
     let at = view_in-at n xs there in (rest-at c xs at.0 (numbered n (view_in n xs)) ties.rest at.1).1

@@ -6,7 +6,7 @@ use Rattle.finite_sums.specs.Sums.{update}
 use Rattle.finite_sums.proofs.Totals.{update_at, update_off}
 use Rattle.access_model.specs.{Histories.{mounts_of, levels_of}, declared.actions.{Action.TheVariants.{Grant, Return}, Gate.TheVariants.{Mount, Level}}}
 use Rattle.access_model.specs.declared.{errors.GateError.GateError, replies.Reply.Reply}
-use Rattle.gate_world.specs.{Holdings.{Holdings, holdings_of, held_after}, Traces.IsHonestAnswer, Views.held_of, declared.config.Config.Config}
+use Rattle.gate_world.specs.{Holdings.{Holdings, holdings_of, held_after}, traces.Traces.IsHonestAnswer, Views.held_of, declared.config.Config.Config}
 use Rattle.gate_world.specs.declared.{operations.Op.{Op, TheVariants.{Want, DropMount, WantWrite, DropWrite}}, views.Traced.Traced}
 use Rattle.gate_steps.proofs.call_events.Beginnings.{may_begin, MayBegin}
 use Rattle.gate_steps.specs.call_events.Runs.{told_as, unit_of, Called, Performs}

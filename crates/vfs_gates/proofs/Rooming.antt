@@ -20,13 +20,13 @@ use Rattle.gate_world.specs.declared.work.Phase.{Phase}
 use Rattle.gate_world.specs.declared.work.Phase.TheVariants.{Mounts, Remounts, DownReads, UpReads, Callbacks, Writes, Freezes, Thaws, Trees, Closes}
 use Rattle.gate_world.specs.declared.views.Traced.{Traced}
 use Rattle.gate_world.specs.Beginnings.{first_phase}
-use Rattle.gate_world.specs.Snapshots.{completes, last_snapshot}
+use Rattle.gate_world.specs.traces.Snapshots.{completes, last_snapshot}
 use Rattle.gate_world.specs.Views.{phase_after}
 use Rattle.gate_world.specs.Work.{after_of, next_of}
 use Rattle.gate_steps.specs.Seating.{SeatItems, deal, done_by, given_of, items_after, kept_of}
 use Rattle.gate_steps.specs.Rules.{first_items}
 use Rattle.gate_steps.specs.declared.seating.Numbered.{Numbered}
-use Rattle.gate_steps.specs.call_events.Seat.{Seat}
+use Rattle.gate_steps.specs.call_events.TaskState.{TaskState}
 use Rattle.gate_steps.specs.call_events.Step.{Step}
 use Rattle.atomic_table.specs.Seated.{TableId}
 use Rattle.access_model.specs.declared.actions.Action.{Action}
@@ -34,13 +34,13 @@ use Rattle.access_model.specs.declared.errors.GateError.{GateError}
 use Rattle.access_model.specs.declared.replies.Reply.{Reply}
 use Rattle.gate_world.specs.declared.views.View.{View}
 use Rattle.gate_world.specs.declared.views.Snapshot.{Snapshot as Noted}
-use Rattle.gate_world.specs.Courses.{course_after, course_of}
-use Rattle.vfs_gates.specs.declared.rooms.Rooms.{Rooms}
-use Rattle.vfs_gates.specs.Room.{HasSnapshotRoom, LastTells, NextTells, RoomTells, is_of_snapshot, last_in, trace_so_far}
+use Rattle.gate_world.specs.traces.TraceStates.{trace_state_after, state_of_trace}
+use Rattle.vfs_gates.specs.declared.buffers.SnapshotBuffers.{SnapshotBuffers}
+use Rattle.vfs_gates.specs.Buffers.{HasSnapshotRoom, LastTells, NextTells, BuffersMatch, is_of_snapshot, last_in, trace_so_far}
 use Rattle.vfs_gates.specs.TaskStates.{TaskState, own_number, own_view, task_state}
 use Rattle.gate_steps.specs.call_events.Runs.{Called, Goes, completed_by, items_at, ran_items, ran_snapshot}
 use Rattle.gate_steps.specs.call_events.Stepped.{Stepped}
-use Rattle.gate_steps.specs.call_events.Ties.{Ties}
+use Rattle.gate_steps.specs.call_events.GhostAgrees.{GhostAgrees}
 use Rattle.gate_steps.specs.call_events.Turns.{step_was}
 use Rattle.vfs_gates.proofs.Calling.{Call, Left, ended_at, goes_at, idle, own_is}
 
@@ -84,7 +84,7 @@ goes_on_other (Trees (TreeClears x)) found hook h = other_call TreeClears (λ p.
 goes_on_other (Closes x) found hook h = other_next Closes (λ p. refl) _
 
 -- its room has nothing to tell of what it has loaded
-pub other_tells : (r : Rooms) (trace : List Traced) (phase : Phase) → is_of_snapshot phase ≡ false → NextTells r trace (Some phase)
+pub other_tells : (r : SnapshotBuffers) (trace : List Traced) (phase : Phase) → is_of_snapshot phase ≡ false → NextTells r trace (Some phase)
 other_tells r trace (Mounts x) h = tt
 other_tells r trace (Remounts x) h = tt
 other_tells r trace (DownReads x) h = tt
@@ -103,7 +103,7 @@ other_tells r trace (Trees (Snapshots x)) h = absurd (true≢false h)
 other_tells r trace (Trees (TreeClears x)) h = tt
 other_tells r trace (Closes x) h = tt
 
-pub next_tells : (r : Rooms) (trace : List Traced) (n : Next Phase) → NextIsOther n → NextTells r trace (phase_after n)
+pub next_tells : (r : SnapshotBuffers) (trace : List Traced) (n : Next Phase) → NextIsOther n → NextTells r trace (phase_after n)
 next_tells r trace (Go phase) h = other_tells r trace phase h
 next_tells r trace (Wait phase) h = other_tells r trace phase h
 next_tells r trace (Done answer) h = tt
@@ -134,23 +134,23 @@ completed_other (Go phase) earlier e h = other_completes phase earlier e.event.f
 completed_other (Wait phase) earlier e h = other_completes phase earlier e.event.found h
 completed_other (Done answer) earlier e h = refl
 
-course_other : (n : Next Phase) (added : List Action) (e : Traced) → NextIsOther n → NextIsOther (course_after n added e).comes
+course_other : (n : Next Phase) (added : List Action) (e : Traced) → NextIsOther n → NextIsOther (trace_state_after n added e).comes
 course_other (Go phase) added e h = goes_on_other phase e.event.found e.hook h
 course_other (Wait phase) added e h = goes_on_other phase e.event.found e.hook h
 course_other (Done answer) added e h = tt
 
 module _ (c : Config) (t : ℕ) (op : Op) (other : is_of_snapshot (first_phase c t op) ≡ false) where
   -- it stays none
-  stays_other : (trace : List Traced) → NextIsOther (course_of c t op trace).comes
+  stays_other : (trace : List Traced) → NextIsOther (state_of_trace c t op trace).comes
   stays_other [] = other
-  stays_other (e ∷ earlier) = course_other (course_of c t op earlier).comes (course_of c t op earlier).added e (stays_other earlier)
+  stays_other (e ∷ earlier) = course_other (state_of_trace c t op earlier).comes (state_of_trace c t op earlier).added e (stays_other earlier)
 
   -- and leaves the last snapshot
   ran_other : (others : List (ℕ × ℕ)) (trace : List Traced) (v : View) → ran_snapshot c t op others trace v ≡ v.snapshot
   ran_other others [] v = refl
   ran_other others (e ∷ earlier) v =
-      ap (λ taken. last_snapshot taken ((course_of c t op earlier).added ++ v.actions) others (ran_snapshot c t op others earlier v))
-      (completed_other (course_of c t op earlier).comes earlier e (stays_other earlier)) ∙ ran_other others earlier v
+      ap (λ taken. last_snapshot taken ((state_of_trace c t op earlier).added ++ v.actions) others (ran_snapshot c t op others earlier v))
+      (completed_other (state_of_trace c t op earlier).comes earlier e (stays_other earlier)) ∙ ran_other others earlier v
 
 -- of a task's numbers
 items_other : (c : Config) (op : Op) (items : SeatItems) → is_of_snapshot (first_phase c (own_number items) op) ≡ false →
@@ -164,22 +164,22 @@ items_at_other c op items other [] = refl
 items_at_other c op items other (e ∷ earlier) = items_other c op items other (e ∷ earlier)
 
 -- so the room tells of a task whose operation goes on
-goes_room : (nodes : ℕ) (r : Rooms) (op : Op) (start now : TaskState) (begins left : Option Op) (phase : Option Phase) →
+goes_room : (nodes : ℕ) (r : SnapshotBuffers) (op : Op) (start now : TaskState) (begins left : Option Op) (phase : Option Phase) →
     is_of_snapshot (first_phase start.config (own_number start.items) op) ≡ false → Goes op start now →
-    RoomTells nodes r begins phase start.items → RoomTells nodes r left now.phase now.items
+    BuffersMatch nodes r begins phase start.items → BuffersMatch nodes r left now.phase now.items
 goes_room nodes r op start now begins left phase other goes h = record {
   room = h.room;
   last = subst (LastTells r)
       (sym (ap (λ (l : SeatItems). (own_view l).snapshot) goes.items ∙ items_at_other start.config op start.items other goes.trace)) h.last;
   next = subst (NextTells r (trace_so_far left (own_view now.items))) (sym goes.phase)
-      (next_tells r (trace_so_far left (own_view now.items)) (course_of start.config (own_number start.items) op goes.trace).comes
+      (next_tells r (trace_so_far left (own_view now.items)) (state_of_trace start.config (own_number start.items) op goes.trace).comes
       (stays_other start.config (own_number start.items) op other goes.trace));
 }
 
 -- and of one whose operation was done
-called_room : (nodes : ℕ) (r : Rooms) (op : Op) (start now : TaskState) (answer : Result Reply GateError) (begins left : Option Op)
+called_room : (nodes : ℕ) (r : SnapshotBuffers) (op : Op) (start now : TaskState) (answer : Result Reply GateError) (begins left : Option Op)
     (phase stands : Option Phase) → is_of_snapshot (first_phase start.config (own_number start.items) op) ≡ false →
-    Called op start now answer → stands ≡ None → RoomTells nodes r begins phase start.items → RoomTells nodes r left stands now.items
+    Called op start now answer → stands ≡ None → BuffersMatch nodes r begins phase start.items → BuffersMatch nodes r left stands now.items
 called_room nodes r op start now answer begins left phase stands other called none h = record {
   room = h.room;
   last = subst (LastTells r)
@@ -189,53 +189,53 @@ called_room nodes r op start now answer begins left phase stands other called no
 }
 
 -- as a task begins an operation, its room tells of the operation's first phase
-pub begun_in : (call : Call) (r : Rooms) →
-    RoomTells call.task.config.nodes r (Some call.op) (Some (first_phase call.task.config call.task.number call.op)) call.task.seat.me.0.items →
-    RoomTells call.task.config.nodes r (Some call.op) (Some call.first) call.task.seat.me.0.items
+pub begun_in : (call : Call) (r : SnapshotBuffers) →
+    BuffersMatch call.task.config.nodes r (Some call.op) (Some (first_phase call.task.config call.task.number call.op)) call.task.seat.me.0.items →
+    BuffersMatch call.task.config.nodes r (Some call.op) (Some call.first) call.task.seat.me.0.items
 begun_in call r h =
-    subst (λ (p : Phase). RoomTells call.task.config.nodes r (Some call.op) (Some p) call.task.seat.me.0.items) (sym call.first_is) h
+    subst (λ (p : Phase). BuffersMatch call.task.config.nodes r (Some call.op) (Some p) call.task.seat.me.0.items) (sym call.first_is) h
 
 -- of a call that does its events in a line
-module _ (call : Call) (r : Rooms) (other : is_of_snapshot call.first ≡ false)
-    (h : RoomTells call.task.config.nodes r call.task.begins call.task.kept.phase call.task.seat.me.0.items) where
+module _ (call : Call) (r : SnapshotBuffers) (other : is_of_snapshot call.first ≡ false)
+    (h : BuffersMatch call.task.config.nodes r call.task.begins call.task.kept.phase call.task.seat.me.0.items) where
   other_start : is_of_snapshot (first_phase call.start.config (own_number call.start.items) call.op) ≡ false
   other_start =
       sym (ap (λ (s : TaskState). is_of_snapshot (first_phase s.config (own_number s.items) call.op)) call.start_is) ∙
       (ap (λ n. is_of_snapshot (first_phase call.task.config n call.op)) (own_is call) ∙ (sym (ap is_of_snapshot call.first_is) ∙ other))
 
-  start_room : RoomTells call.task.config.nodes r call.task.begins call.task.kept.phase call.start.items
-  start_room = subst (λ (s : TaskState). RoomTells call.task.config.nodes r call.task.begins call.task.kept.phase s.items) call.start_is h
+  start_room : BuffersMatch call.task.config.nodes r call.task.begins call.task.kept.phase call.start.items
+  start_room = subst (λ (s : TaskState). BuffersMatch call.task.config.nodes r call.task.begins call.task.kept.phase s.items) call.start_is h
 
   -- it goes on at this phase
   pub room_at : (left : Left call) (phase : Phase) → phase_after left.next ≡ Some phase →
-      RoomTells call.task.config.nodes r call.task.begins (Some phase) left.known.items
+      BuffersMatch call.task.config.nodes r call.task.begins (Some phase) left.known.items
   room_at left phase is =
       goes_room call.task.config.nodes r call.op call.start _ call.task.begins call.task.begins call.task.kept.phase other_start
       (goes_at call left phase is) start_room
 
   -- or was done
   pub room_done : (left : Left call) (answer : Result Reply GateError) → left.next ≡ Done answer →
-      RoomTells call.task.config.nodes r call.task.begins call.task.kept.phase left.known.items
+      BuffersMatch call.task.config.nodes r call.task.begins call.task.kept.phase left.known.items
   room_done left answer is =
       called_room call.task.config.nodes r call.op call.start _ answer call.task.begins call.task.begins call.task.kept.phase
       call.task.kept.phase other_start (ended_at call left answer is) (idle call) start_room
 
 -- what the room tells follows an event that found this
-abbrev pub FollowsBy : Rooms → Rooms → Event → Phase → ℕ → Option Op → HookAnswer → ℕ → SeatItems → Type 0
+abbrev pub FollowsBy : SnapshotBuffers → SnapshotBuffers → Event → Phase → ℕ → Option Op → HookAnswer → ℕ → SeatItems → Type 0
 FollowsBy r left event phase nodes begins hook found items =
-    1 ≤ length items → event ≡ event_of (next_of phase hook).0 (next_of phase hook).1 found → RoomTells nodes r begins (Some phase) items →
-    RoomTells nodes left None (phase_after (after_of phase event.found hook).0) (items_after begins phase hook found items)
+    1 ≤ length items → event ≡ event_of (next_of phase hook).0 (next_of phase hook).1 found → BuffersMatch nodes r begins (Some phase) items →
+    BuffersMatch nodes left None (phase_after (after_of phase event.found hook).0) (items_after begins phase hook found items)
 
 -- an event of a task, which follows the room
-pub stepped_room : {seen gone : List (List Entry)} (nodes : ℕ) (r left : Rooms) (begins : Option Op) (phase : Phase) (hook : HookAnswer) (table table_left : TableId)
-    (c : Config) (items items_left : SeatItems) (event : Event) (action : Option Action) (next : Next Phase) (number : ℕ) (kept : Seat)
-    (flags : List Bool) → Ties number c begins kept flags items →
+pub stepped_room : {seen gone : List (List Entry)} (nodes : ℕ) (r left : SnapshotBuffers) (begins : Option Op) (phase : Phase) (hook : HookAnswer) (table table_left : TableId)
+    (c : Config) (items items_left : SeatItems) (event : Event) (action : Option Action) (next : Next Phase) (number : ℕ) (kept : TaskState)
+    (flags : List Bool) → GhostAgrees number c begins kept flags items →
     Stepped phase hook (task_state table c begins (Some phase) (knows items seen)) (step_was event action next)
-    (task_state table_left c None (phase_after next) (knows items_left gone)) → RoomTells nodes r begins (Some phase) items →
+    (task_state table_left c None (phase_after next) (knows items_left gone)) → BuffersMatch nodes r begins (Some phase) items →
     ((found : ℕ) → 1 ≤ length items → event ≡ event_of (next_of phase hook).0 (next_of phase hook).1 found →
-    RoomTells nodes r begins (Some phase) items →
-    RoomTells nodes left None (phase_after (after_of phase event.found hook).0) (items_after begins phase hook found items)) →
-    RoomTells nodes left None (phase_after next) items_left
+    BuffersMatch nodes r begins (Some phase) items →
+    BuffersMatch nodes left None (phase_after (after_of phase event.found hook).0) (items_after begins phase hook found items)) →
+    BuffersMatch nodes left None (phase_after next) items_left
 stepped_room nodes r left begins phase hook table table_left c [] items_left event action next number kept flags ties stepped h follows =
     absurd ties
 stepped_room nodes r left begins phase hook table table_left c (x ∷ xs) items_left event action next number kept flags ties stepped h follows =
@@ -245,7 +245,7 @@ stepped_room nodes r left begins phase hook table table_left c (x ∷ xs) items_
     let stands : phase_after next ≡ phase_after (after_of phase event.found hook).0 =
     ap (λ (s : TaskState). s.phase) stepped.new ∙ ap (λ (e : Event). phase_after (after_of phase e.found hook).0) (sym is) in
     let there : items_left ≡ items_after begins phase hook stepped.found (x ∷ xs) = ap (λ (s : TaskState). s.items) stepped.new in
-    let P : Option Phase × SeatItems → Type 0 = λ z. RoomTells nodes left None z.0 z.1 in
+    let P : Option Phase × SeatItems → Type 0 = λ z. BuffersMatch nodes left None z.0 z.1 in
     subst P (λ i. (sym stands i, sym there i)) (follows stepped.found (omega arith) is h)
 
 -- a phase that is no call at the tree, and a call that is no snapshot
@@ -282,9 +282,9 @@ leaves_last (Some op) phase hook found x xs other =
     (other_completes phase [] (found_by (next_of phase hook).1 found) other)
 
 -- so the room stays as it is
-pub follows_other : (r : Rooms) (phase : Phase) (found_there : ℕ) → is_of_snapshot phase ≡ false → (nodes : ℕ) (begins : Option Op)
-    (hook : HookAnswer) (found : ℕ) (items : SeatItems) → 1 ≤ length items → RoomTells nodes r begins (Some phase) items →
-    RoomTells nodes r None (phase_after (after_of phase found_there hook).0) (items_after begins phase hook found items)
+pub follows_other : (r : SnapshotBuffers) (phase : Phase) (found_there : ℕ) → is_of_snapshot phase ≡ false → (nodes : ℕ) (begins : Option Op)
+    (hook : HookAnswer) (found : ℕ) (items : SeatItems) → 1 ≤ length items → BuffersMatch nodes r begins (Some phase) items →
+    BuffersMatch nodes r None (phase_after (after_of phase found_there hook).0) (items_after begins phase hook found items)
 follows_other r phase found_there other nodes begins hook found [] there h = absurd (omega arith)
 follows_other r phase found_there other nodes begins hook found (x ∷ xs) there h = record {
   room = h.room;
@@ -294,8 +294,8 @@ follows_other r phase found_there other nodes begins hook found (x ∷ xs) there
 }
 
 -- a room that has nothing yet, of a task that has none
-pub room_new : (nodes : ℕ) (r : Rooms) (begins : Option Op) (phase : Option Phase) (items : SeatItems) → HasSnapshotRoom nodes r →
-    r.taken ≡ false → (own_view items).snapshot ≡ None → phase ≡ None → RoomTells nodes r begins phase items
+pub room_new : (nodes : ℕ) (r : SnapshotBuffers) (begins : Option Op) (phase : Option Phase) (items : SeatItems) → HasSnapshotRoom nodes r →
+    r.taken ≡ false → (own_view items).snapshot ≡ None → phase ≡ None → BuffersMatch nodes r begins phase items
 room_new nodes r begins phase items room taken none idle = record {
   room = room;
   last = subst (LastTells r) (sym none) taken;
@@ -303,8 +303,8 @@ room_new nodes r begins phase items room taken none idle = record {
 }
 
 -- a task whose own view is the same
-pub room_same : (nodes : ℕ) (r : Rooms) (begins : Option Op) (phase : Option Phase) (items items_left : SeatItems) →
-    own_view items_left ≡ own_view items → RoomTells nodes r begins phase items → RoomTells nodes r begins phase items_left
+pub room_same : (nodes : ℕ) (r : SnapshotBuffers) (begins : Option Op) (phase : Option Phase) (items items_left : SeatItems) →
+    own_view items_left ≡ own_view items → BuffersMatch nodes r begins phase items → BuffersMatch nodes r begins phase items_left
 room_same nodes r begins phase items items_left same h = record {
   room = h.room;
   last = subst (λ (v : View). LastTells r v.snapshot) (sym same) h.last;
@@ -316,8 +316,8 @@ pub kept_view : (n : ℕ) (l : SeatItems) → own_view (kept_of n l) ≡ own_vie
 kept_view n [] = refl
 kept_view n (x ∷ xs) = refl
 
-pub joined_view : (number : ℕ) (c : Config) (begins : Option Op) (kept : Seat) (flags : List Bool) (l k : SeatItems) →
-    Ties number c begins kept flags l → own_view (l ++ k) ≡ own_view l
+pub joined_view : (number : ℕ) (c : Config) (begins : Option Op) (kept : TaskState) (flags : List Bool) (l k : SeatItems) →
+    GhostAgrees number c begins kept flags l → own_view (l ++ k) ≡ own_view l
 joined_view number c begins kept flags [] k ties = absurd ties
 joined_view number c begins kept flags (x ∷ xs) k ties = refl
 
@@ -334,6 +334,6 @@ pub first_unseen : (c : Config) → (own_view (first_items c)).snapshot ≡ None
 first_unseen c = dealt_unseen 0 c.tasks
 
 -- what the room shows is the view's last snapshot
-pub shows_last : (r : Rooms) (o : Option Noted) → LastTells r o → last_in r ≡ option_map (λ (s : Noted). s.loaded) o
+pub shows_last : (r : SnapshotBuffers) (o : Option Noted) → LastTells r o → last_in r ≡ option_map (λ (s : Noted). s.loaded) o
 shows_last r None h = rw h refl
 shows_last r (Some s) h = rw h.0 (ap (λ (w : TreeWords). Some w) h.1)

@@ -13,10 +13,10 @@ use Rattle.gate_world.specs.declared.views.Traced.{Traced}
 use Rattle.gated_tree.specs.declared.trees.TreeWords.{TreeWords}
 use Rattle.gate_world.specs.declared.views.Snapshot.{Snapshot}
 use Rattle.gate_world.specs.Configs.{model_limits}
-use Rattle.gate_world.specs.Snapshots.{last_snapshot}
+use Rattle.gate_world.specs.traces.Snapshots.{last_snapshot}
 use Rattle.gated_tree.specs.Trees.{node_at}
 use Rattle.gate_world.specs.Moments.{HasMoment}
-use Rattle.gate_world.specs.Courses.{course_of}
+use Rattle.gate_world.specs.traces.TraceStates.{state_of_trace}
 use Rattle.gate_steps.specs.Seating.{SeatItems, HaveHistory, done_by}
 use Rattle.vfs_gates.specs.TaskStates.{TaskState, own_number, own_view, spare_of}
 use Rattle.vfs_gates.specs.Seen.{IsOfAMoment}
@@ -65,15 +65,15 @@ module _ (c : Config) (t : ℕ) (op : Op) (others : List (ℕ × ℕ)) (e : Trac
   abbrev before : Option TreeWords → List Action → Option Snapshot
   before taken added = last_snapshot taken (added ++ v.actions) others (ran_snapshot c t op others earlier v)
 
-  ran_same : completed_by (course_of c t op earlier).comes earlier e ≡ None →
+  ran_same : completed_by (state_of_trace c t op earlier).comes earlier e ≡ None →
       ran_snapshot c t op others (e ∷ earlier) v ≡ ran_snapshot c t op others earlier v
-  ran_same none = ap (λ taken. before taken (course_of c t op earlier).added) none
+  ran_same none = ap (λ taken. before taken (state_of_trace c t op earlier).added) none
 
-  ran_taken : (loaded : TreeWords) → completed_by (course_of c t op earlier).comes earlier e ≡ Some loaded →
-      (course_of c t op earlier).added ≡ [] →
+  ran_taken : (loaded : TreeWords) → completed_by (state_of_trace c t op earlier).comes earlier e ≡ Some loaded →
+      (state_of_trace c t op earlier).added ≡ [] →
       ran_snapshot c t op others (e ∷ earlier) v ≡ Some (record { loaded = loaded; done = length v.actions; others = others })
   ran_taken loaded taken none =
-      ap (λ o. before o (course_of c t op earlier).added) taken ∙ ap (before (Some loaded)) none
+      ap (λ o. before o (state_of_trace c t op earlier).added) taken ∙ ap (before (Some loaded)) none
 
 -- what a task notes that had done what it did before a call
 abbrev pub noted_by : SeatItems → TreeWords → Snapshot
@@ -83,9 +83,9 @@ noted_by before loaded = record { loaded = loaded; done = length (own_view befor
 pub call_took : (op : Op) (old left : TaskState) (answer : Result Reply GateError) (called : Called op old left answer)
     (loaded : TreeWords) (release last : Traced) (earlier : List Traced) → 1 ≤ length old.items →
     called.trace ≡ release ∷ last ∷ earlier →
-    completed_by (course_of old.config (own_number old.items) op (last ∷ earlier)).comes (last ∷ earlier) release ≡ None →
-    completed_by (course_of old.config (own_number old.items) op earlier).comes earlier last ≡ Some loaded →
-    (course_of old.config (own_number old.items) op earlier).added ≡ [] →
+    completed_by (state_of_trace old.config (own_number old.items) op (last ∷ earlier)).comes (last ∷ earlier) release ≡ None →
+    completed_by (state_of_trace old.config (own_number old.items) op earlier).comes earlier last ≡ Some loaded →
+    (state_of_trace old.config (own_number old.items) op earlier).added ≡ [] →
     IsOfAMoment old.config (own_number old.items) left.items
     (record { loaded = loaded; done = length (own_view old.items).actions; others = done_by (spare_of old.items) })
 call_took op old left answer called loaded release last earlier some_there is none taken added =

@@ -25,8 +25,8 @@ use Rattle.gate_world.specs.declared.views.Traced.{Traced}
 use Rattle.gate_world.specs.declared.views.View.{View}
 use Rattle.gate_world.specs.declared.views.Snapshot.{Snapshot as Noted}
 use Rattle.gate_world.specs.Views.{actions_after}
-use Rattle.gate_world.specs.Courses.{course_of, course_after, IsNext, IsTrace}
-use Rattle.gate_world.specs.Snapshots.{last_snapshot, noted_last, snapshot_completes}
+use Rattle.gate_world.specs.traces.TraceStates.{state_of_trace, trace_state_after, IsNext, IsTrace}
+use Rattle.gate_world.specs.traces.Snapshots.{last_snapshot, noted_last, snapshot_completes}
 use Rattle.gate_steps.specs.Seating.{SeatItems, done_by}
 use Rattle.vfs_gates.specs.TaskStates.{TaskState, own_number, own_view, refusal_at, spare_of}
 use Rattle.gate_steps.specs.call_events.Runs.{Called, Performs, completed_by, ran_items, ran_snapshot, told_as, unit_of}
@@ -55,14 +55,14 @@ module _ (c : Config) (t : ℕ) (wait : Bool) (others : List (ℕ × ℕ)) (v : 
   AtPhase trace (Trees (Snapshots x)) = StandsAt trace x.step
   AtPhase trace phase = ⊥
 
-  abbrev Comes : List Traced → Next Phase → Type 0
-  Comes trace (Go phase) = AtPhase trace phase
-  Comes trace (Wait phase) = AtPhase trace phase
-  Comes trace (Done answer) = Answers trace answer
+  abbrev NextInvariant : List Traced → Next Phase → Type 0
+  NextInvariant trace (Go phase) = AtPhase trace phase
+  NextInvariant trace (Wait phase) = AtPhase trace phase
+  NextInvariant trace (Done answer) = Answers trace answer
 
   -- the same of what comes after an event of a snapshot, as it says it itself
   abbrev ComesNext : List Traced → Next Snapshot → Type 0
-  ComesNext trace n = Comes trace (map_next Trees (map_next Snapshots n))
+  ComesNext trace n = NextInvariant trace (map_next Trees (map_next Snapshots n))
 
   locked_out : (trace : List Traced) (s : Snapshot) (waits : Bool) → ComesNext trace (snapshot_locked_out s waits)
   locked_out trace s true = tt
@@ -115,34 +115,34 @@ module _ (c : Config) (t : ℕ) (wait : Bool) (others : List (ℕ × ℕ)) (v : 
   -- one event more
   phase_comes : (trace : List Traced) (e : Traced) (phase : Phase) (added : List Action) → added ≡ [] → AtPhase trace phase →
       seen (e ∷ trace) ≡ last_snapshot (completed_by (Go phase) trace e) (added ++ v.actions) others (seen trace) →
-      Comes (e ∷ trace) (course_after (Go phase) added e).comes × ((course_after (Go phase) added e).added ≡ [])
+      NextInvariant (e ∷ trace) (trace_state_after (Go phase) added e).comes × ((trace_state_after (Go phase) added e).added ≡ [])
   phase_comes trace e (Trees (Snapshots x)) added none h is = (
     step_comes trace e x x.step added none is h,
     ap (λ a. actions_after a added) (adds_nothing x x.step e.event.found) ∙ none,
   )
   phase_comes trace e phase added none h is = absurd h
 
-  more_comes : (trace : List Traced) (e : Traced) (n : Next Phase) (added : List Action) → added ≡ [] → Comes trace n →
+  more_comes : (trace : List Traced) (e : Traced) (n : Next Phase) (added : List Action) → added ≡ [] → NextInvariant trace n →
       IsNext n e → seen (e ∷ trace) ≡ last_snapshot (completed_by n trace e) (added ++ v.actions) others (seen trace) →
-      Comes (e ∷ trace) (course_after n added e).comes × ((course_after n added e).added ≡ [])
+      NextInvariant (e ∷ trace) (trace_state_after n added e).comes × ((trace_state_after n added e).added ≡ [])
   more_comes trace e (Go phase) added none h next is = phase_comes trace e phase added none h is
   more_comes trace e (Wait phase) added none h next is = phase_comes trace e phase added none h is
   more_comes trace e (Done answer) added none h next is = absurd next
 
   -- all events
   all_come : (trace : List Traced) → IsTrace c t (SnapshotOp wait) trace →
-      Comes trace (course_of c t (SnapshotOp wait) trace).comes × ((course_of c t (SnapshotOp wait) trace).added ≡ [])
+      NextInvariant trace (state_of_trace c t (SnapshotOp wait) trace).comes × ((state_of_trace c t (SnapshotOp wait) trace).added ≡ [])
   all_come [] h = (tt, refl)
   all_come (e ∷ earlier) h =
-      let before : Comes earlier (course_of c t (SnapshotOp wait) earlier).comes × ((course_of c t (SnapshotOp wait) earlier).added ≡ []) =
+      let before : NextInvariant earlier (state_of_trace c t (SnapshotOp wait) earlier).comes × ((state_of_trace c t (SnapshotOp wait) earlier).added ≡ []) =
       all_come earlier h.1 in
-      more_comes earlier e (course_of c t (SnapshotOp wait) earlier).comes (course_of c t (SnapshotOp wait) earlier).added before.1 before.0
+      more_comes earlier e (state_of_trace c t (SnapshotOp wait) earlier).comes (state_of_trace c t (SnapshotOp wait) earlier).added before.1 before.0
       h.0 refl
 
   -- so one that replied has taken one
   pub replied_one : (trace : List Traced) (reply : Reply) → IsTrace c t (SnapshotOp wait) trace →
-      (course_of c t (SnapshotOp wait) trace).comes ≡ Done (Ok reply) → HasOne trace
-  replied_one trace reply h ends = subst (Comes trace) ends (all_come trace h).0
+      (state_of_trace c t (SnapshotOp wait) trace).comes ≡ Done (Ok reply) → HasOne trace
+  replied_one trace reply h ends = subst (NextInvariant trace) ends (all_come trace h).0
 
 -- a whole call of a snapshot that replied
 pub has_taken : (wait : Bool) (old left : TaskState) (reply : Reply) → 1 ≤ length old.items →

@@ -8,9 +8,9 @@ use Rattle.access_model.specs.declared.actions.Action.{Action}
 use Rattle.access_model.specs.declared.errors.GateError.{GateError}
 use Rattle.access_model.specs.declared.replies.Reply.{Reply}
 use Rattle.gated_tree.specs.declared.trees.TreeWords.{TreeWords}
-use Rattle.gate_world.specs.Courses.{course_of}
+use Rattle.gate_world.specs.traces.TraceStates.{state_of_trace}
 use Rattle.gate_world.specs.Headline.{actions_so_far, actions_since}
-use Rattle.gate_world.specs.Snapshots.{last_snapshot}
+use Rattle.gate_world.specs.traces.Snapshots.{last_snapshot}
 use Rattle.gate_world.specs.declared.config.Config.{Config}
 use Rattle.gate_world.specs.declared.operations.Op.{Op}
 use Rattle.gate_world.specs.declared.operations.Op.TheVariants.{Snapshot as SnapshotOp}
@@ -31,21 +31,21 @@ use Rattle.vfs_gates.proofs.{Seeing.same_own, Taking.replied_one}
 pub calls_in_order : (one two : Op) (old left begins ends : TaskState) (answer reply : Result Reply GateError)
     (first : Called one old left answer) (second : Called two begins ends reply) → begins.config ≡ old.config →
     StaySeen left.seen begins.seen →
-    AreInOrder (own_number old.items) (course_of old.config (own_number old.items) one first.trace).added
-    (own_number begins.items) (course_of begins.config (own_number begins.items) two second.trace).added second.history.history.log
+    AreInOrder (own_number old.items) (state_of_trace old.config (own_number old.items) one first.trace).added
+    (own_number begins.items) (state_of_trace begins.config (own_number begins.items) two second.trace).added second.history.history.log
 calls_in_order one two old left begins ends answer reply first second same seen =
     let effect : TakesEffect begins.config old.items one first.trace old.seen left.seen first.history.history.log =
     subst (λ c. TakesEffect c old.items one first.trace old.seen left.seen first.history.history.log) (sym same)
     (call_effect one old left answer first) in
-    subst (λ (c : Config). AreInOrder (own_number old.items) (course_of c (own_number old.items) one first.trace).added
-    (own_number begins.items) (course_of begins.config (own_number begins.items) two second.trace).added second.history.history.log) same
+    subst (λ (c : Config). AreInOrder (own_number old.items) (state_of_trace c (own_number old.items) one first.trace).added
+    (own_number begins.items) (state_of_trace begins.config (own_number begins.items) two second.trace).added second.history.history.log) same
     (in_order begins.config old.items begins.items one two first.trace second.trace old.seen left.seen begins.seen ends.seen
     first.history.history.log second.history.history.log effect (call_effect two begins ends reply second) seen)
 
 -- an event of a trace has completed a snapshot of these words
 abbrev HasCompleted : Config → ℕ → Op → List Traced → TreeWords → Type 0
 HasCompleted c t op trace loaded = (later : List Traced) × (e : Traced) × (earlier : List Traced) × (trace ≡ later ++ e ∷ earlier) ×
-    (completed_by (course_of c t op earlier).comes earlier e ≡ Some loaded)
+    (completed_by (state_of_trace c t op earlier).comes earlier e ≡ Some loaded)
 
 -- of a number that had none, what it has was taken by one of its events, and so it is where it had one before
 module _ (c : Config) (t : ℕ) (op : Op) (others : List (ℕ × ℕ)) (v : View) where
@@ -53,7 +53,7 @@ module _ (c : Config) (t : ℕ) (op : Op) (others : List (ℕ × ℕ)) (v : View
   had = record v { snapshot = None }
 
   by_event : (e : Traced) (earlier : List Traced) (s : Noted) (o : Option TreeWords) →
-      completed_by (course_of c t op earlier).comes earlier e ≡ o → (added : List Action) (before now : Option Noted) →
+      completed_by (state_of_trace c t op earlier).comes earlier e ≡ o → (added : List Action) (before now : Option Noted) →
       last_snapshot o added others before ≡ Some s → (before ≡ Some s → (now ≡ Some s) × HasCompleted c t op earlier s.loaded) →
       (last_snapshot o added others now ≡ Some s) × HasCompleted c t op (e ∷ earlier) s.loaded
   by_event e earlier s (Some loaded) is added before now ends sooner =
@@ -66,8 +66,8 @@ module _ (c : Config) (t : ℕ) (op : Op) (others : List (ℕ × ℕ)) (v : View
       (ran_snapshot c t op others trace v ≡ Some s) × HasCompleted c t op trace s.loaded
   was_taken [] s ends = absurd (let no : ⊥ = cc in no)
   was_taken (e ∷ earlier) s ends =
-      by_event e earlier s (completed_by (course_of c t op earlier).comes earlier e) refl
-      ((course_of c t op earlier).added ++ v.actions) (ran_snapshot c t op others earlier had) (ran_snapshot c t op others earlier v) ends
+      by_event e earlier s (completed_by (state_of_trace c t op earlier).comes earlier e) refl
+      ((state_of_trace c t op earlier).added ++ v.actions) (ran_snapshot c t op others earlier had) (ran_snapshot c t op others earlier v) ends
       (was_taken earlier s)
 
 -- so a snapshot that replied is of a moment of its call
@@ -107,7 +107,7 @@ other_behind c items mine (y ∷ ys) before is there had =
 
 -- what a task's own number has done after an operation
 ran_actions : (c : Config) (op : Op) (trace : List Traced) (items mine others : SeatItems) → items ≡ mine ++ others → 1 ≤ length mine →
-    (own_view (ran_items c op trace items)).actions ≡ (course_of c (own_number items) op trace).added ++ (own_view items).actions
+    (own_view (ran_items c op trace items)).actions ≡ (state_of_trace c (own_number items) op trace).added ++ (own_view items).actions
 ran_actions c op trace [] [] others is there = absurd (omega arith)
 ran_actions c op trace [] (x ∷ mine) others is there = absurd (let no : ⊥ = cc in no)
 ran_actions c op trace (x ∷ items) mine others is there = refl

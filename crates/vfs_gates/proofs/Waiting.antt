@@ -10,8 +10,8 @@ use Rattle.atomic_table.specs.Seated.{TableId}
 use Rattle.cpu_words.specs.Hooks.{HookAnswer}
 use Rattle.cpu_words.specs.Touches.{event_of, found_by}
 use Rattle.cpu_words.specs.declared.events.Event.{Event}
-use Rattle.gate_world.specs.Courses.{Course, course_of}
-use Rattle.gate_world.specs.Traces.{MayWait, most_events}
+use Rattle.gate_world.specs.traces.TraceStates.{TraceState, state_of_trace}
+use Rattle.gate_world.specs.traces.Traces.{MayWait, most_events}
 use Rattle.gate_world.specs.Views.{begun_view, opening_view, phase_after, view_after_beside, with_hook}
 use Rattle.gate_world.specs.Work.{after_of, next_of}
 use Rattle.gate_world.specs.declared.accesses.Accesses.{Accesses}
@@ -25,11 +25,11 @@ use Rattle.gate_steps.proofs.call_events.Running.{course_is, same_wait}
 use Rattle.gate_steps.specs.call_events.Refused.{IsHonestWait, WaitsHonestly}
 use Rattle.gate_steps.specs.Rules.{first_items}
 use Rattle.gate_steps.specs.call_events.Runs.{begins_at, items_at, ran_items, IsBounded}
-use Rattle.gate_steps.specs.call_events.Seat.{Seat}
+use Rattle.gate_steps.specs.call_events.TaskState.{TaskState}
 use Rattle.gate_steps.specs.Seating.{SeatItems, deal, done_by, given_of, items_after, kept_of}
 use Rattle.gate_steps.specs.call_events.Step.{Step}
 use Rattle.gate_steps.specs.call_events.Stepped.{Stepped}
-use Rattle.gate_steps.specs.call_events.Ties.{PhaseOk, Ties}
+use Rattle.gate_steps.specs.call_events.GhostAgrees.{PhaseOk, GhostAgrees}
 use Rattle.gate_steps.specs.call_events.Turns.{kept_at, step_was}
 use Rattle.gate_steps.specs.call_events.Waited.{GoesWaiting, WentWaiting, waits_by, waits_in}
 use Rattle.vfs_gates.specs.TaskStates.{TaskState, own_number, own_view, task_state}
@@ -55,8 +55,8 @@ pub kept_number : (n : ℕ) (l : SeatItems) → own_number (kept_of n l) ≡ own
 kept_number n [] = refl
 kept_number n (x ∷ xs) = refl
 
-pub joined_number : (number : ℕ) (c : Config) (begins : Option Op) (kept : Seat) (flags : List Bool) (l k : SeatItems) →
-    Ties number c begins kept flags l → own_number (l ++ k) ≡ own_number l
+pub joined_number : (number : ℕ) (c : Config) (begins : Option Op) (kept : TaskState) (flags : List Bool) (l k : SeatItems) →
+    GhostAgrees number c begins kept flags l → own_number (l ++ k) ≡ own_number l
 joined_number number c begins kept flags [] k ties = absurd ties
 joined_number number c begins kept flags (x ∷ xs) k ties = refl
 
@@ -75,13 +75,13 @@ given_op : (n : ℕ) (l : SeatItems) → (own_view (given_of n l)).op ≡ None
 given_op n [] = refl
 given_op n (x ∷ xs) = refl
 
-idle_view : (number : ℕ) (c : Config) (begins : Option Op) (kept : Seat) (flags : List Bool) (l : SeatItems) →
-    Ties number c begins kept flags l → kept.phase ≡ None → (own_view l).phase ≡ None
+idle_view : (number : ℕ) (c : Config) (begins : Option Op) (kept : TaskState) (flags : List Bool) (l : SeatItems) →
+    GhostAgrees number c begins kept flags l → kept.phase ≡ None → (own_view l).phase ≡ None
 idle_view number c begins kept flags [] ties idle = absurd ties
 idle_view number c begins kept flags (x ∷ xs) ties idle = let at : PhaseOk c begins None x = subst (λ o. PhaseOk c begins o x) idle ties.may in at.1
 
-pub given_tells : (number : ℕ) (c : Config) (kept : Seat) (flags : List Bool) (n : ℕ) (l items : SeatItems) → items ≡ given_of n l →
-    Ties number c None kept flags items → kept.phase ≡ None → WaitsTell c (own_number items) (own_view items) 0
+pub given_tells : (number : ℕ) (c : Config) (kept : TaskState) (flags : List Bool) (n : ℕ) (l items : SeatItems) → items ≡ given_of n l →
+    GhostAgrees number c None kept flags items → kept.phase ≡ None → WaitsTell c (own_number items) (own_view items) 0
 given_tells number c kept flags n l items is ties idle =
     tell_none c (own_number items) (own_view items) (ap (λ k. (own_view k).op) is ∙ given_op n l)
     (idle_view number c None kept flags items ties idle)
@@ -97,16 +97,16 @@ module _ (c : Config) (t : ℕ) (phase : Phase) (hook : HookAnswer) (found : ℕ
   after = (after_of phase (found_by (next_of phase hook).1 found) hook).0
 
   -- of an operation that has come to the event's phase
-  of_op : (op : Op) (v : View) (waited : ℕ) → v.op ≡ Some op → phase_after (course_of c t op v.trace).comes ≡ Some phase →
+  of_op : (op : Op) (v : View) (waited : ℕ) → v.op ≡ Some op → phase_after (state_of_trace c t op v.trace).comes ≡ Some phase →
       waited ≡ counted (waits_in c t op v.trace) → WaitsTell c t (view_after_beside others v phase found hook) (counted (waited + is_wait after))
   of_op op v waited is at told =
       let e : Traced = with_hook (event_of (next_of phase hook).0 (next_of phase hook).1 found) hook in
-      let here = course_is (course_of c t op v.trace).comes phase (course_of c t op v.trace).added e at in
+      let here = course_is (state_of_trace c t op v.trace).comes phase (state_of_trace c t op v.trace).added e at in
       let all : counted (waited + is_wait after) ≡ counted (waits_in c t op v.trace + is_wait after) =
       ap (λ n. counted (n + is_wait after)) told ∙ still (waits_in c t op v.trace) (is_wait after) in
       record {
-        stands = subst (StandsBy c t (view_after_beside others v phase found hook)) (sym is) (ap (λ (o : Course). phase_after o.comes) (sym here));
-        told = all ∙ (ap (λ (o : Course). counted (waits_in c t op v.trace + is_wait o.comes)) (sym here) ∙
+        stands = subst (StandsBy c t (view_after_beside others v phase found hook)) (sym is) (ap (λ (o : TraceState). phase_after o.comes) (sym here));
+        told = all ∙ (ap (λ (o : TraceState). counted (waits_in c t op v.trace + is_wait o.comes)) (sym here) ∙
             ap (λ o. counted (waits_by c t o (e ∷ v.trace))) (sym is));
       }
 
@@ -131,7 +131,7 @@ since_going (Some op) waited is = absurd (true≢false is)
 
 -- a task's own number, after an event
 after_event : (c : Config) (begins : Option Op) (phase : Phase) (hook : HookAnswer) (found : ℕ) (items : SeatItems) (number waited : ℕ)
-    (accesses : Accesses) (flags : List Bool) → Ties number c begins (kept_at (Some phase) accesses) flags items →
+    (accesses : Accesses) (flags : List Bool) → GhostAgrees number c begins (kept_at (Some phase) accesses) flags items →
     WaitsTell c (own_number items) (own_view items) waited →
     WaitsTell c (own_number (items_after begins phase hook found items)) (own_view (items_after begins phase hook found items))
     (counted (since begins waited + is_wait (after_of phase (found_by (next_of phase hook).1 found) hook).0))
@@ -144,7 +144,7 @@ after_event c (Some op) phase hook found (x ∷ xs) number waited accesses flags
 -- so it is of a task that notes it, where the gates name the configuration otherwise
 pub noted_tells : {d c : Config} {seen gone : List (List Entry)} → d ≡ c → (begins : Option Op) (phase : Phase) (hook : HookAnswer) (table table_left : TableId)
     (items left : SeatItems) (event : Event) (action : Option Action) (next : Next Phase) (number waited noted : ℕ) (accesses : Accesses)
-    (flags : List Bool) → Ties number c begins (kept_at (Some phase) accesses) flags items →
+    (flags : List Bool) → GhostAgrees number c begins (kept_at (Some phase) accesses) flags items →
     Stepped phase hook (task_state table c begins (Some phase) (knows items seen)) (step_was event action next)
     (task_state table_left c None (phase_after next) (knows left gone)) → WaitsTell d (own_number items) (own_view items) waited →
     noted ≡ counted (since begins waited + is_wait next) → WaitsTell d (own_number left) (own_view left) noted
@@ -190,8 +190,8 @@ went_tells waits op start (Done answer) now there none went =
     (ran_tells start.config op went.0.trace start.items (waits + 0) there (went.1 ∙ sym (add-zero waits)))
 
 -- a task has a number
-has_number : (number : ℕ) (c : Config) (begins : Option Op) (kept : Seat) (flags : List Bool) (l : SeatItems) →
-    Ties number c begins kept flags l → 1 ≤ length l
+has_number : (number : ℕ) (c : Config) (begins : Option Op) (kept : TaskState) (flags : List Bool) (l : SeatItems) →
+    GhostAgrees number c begins kept flags l → 1 ≤ length l
 has_number number c begins kept flags [] ties = absurd ties
 has_number number c begins kept flags (x ∷ xs) ties = omega arith
 
@@ -242,6 +242,6 @@ pub waits_for_nobody : (c : Config) (t : ℕ) (op : Op) (trace : List Traced) �
     waits_in c t op trace ≡ 0
 waits_for_nobody c t op [] bounded honest = refl
 waits_for_nobody c t op (e ∷ earlier) bounded honest =
-    let last = none_waits c op (e ∷ earlier) (course_of c t op (e ∷ earlier)).comes bounded honest.0 in
+    let last = none_waits c op (e ∷ earlier) (state_of_trace c t op (e ∷ earlier)).comes bounded honest.0 in
     let before = waits_for_nobody c t op earlier bounded honest.1 in
     omega arith

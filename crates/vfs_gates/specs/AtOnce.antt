@@ -3,7 +3,7 @@ use Rattle.std.specs.Prelude.{◌≡◌, Some, None, Result, Ok, Err}
 use Rattle.access_model.specs.declared.errors.GateError.{GateError}
 use Rattle.gate_steps.specs.call_events.Progress.{Progress}
 use Rattle.gate_world.specs.declared.operations.Op.{Op}
-use Rattle.gate_steps.specs.call_events.Runs.{Told}
+use Rattle.gate_steps.specs.call_events.Runs.{StepTells}
 use Rattle.vfs_gates.specs.TaskStates.{TaskState, refusal_at}
 
 -- An operation whose beginning is refused changes nothing. Any other has done its first step at least, and goes on, or was done whole.
@@ -11,4 +11,4 @@ pub record BeginsAtOnce (op : Op) (old left : TaskState) (outcome : Result Progr
   pub table : left.table ≡ old.table
   pub config : left.config ≡ old.config
   pub refused : (refusal : GateError) → refusal_at op old ≡ Some refusal → (outcome ≡ Err refusal) × (left ≡ old)
-  pub begun : refusal_at op old ≡ None → (progress : Progress) × (outcome ≡ Ok progress) × (left.begins ≡ None) × Told op old progress left
+  pub begun : refusal_at op old ≡ None → (progress : Progress) × (outcome ≡ Ok progress) × (left.begins ≡ None) × StepTells op old progress left

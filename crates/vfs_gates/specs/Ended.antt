@@ -14,7 +14,7 @@ use Rattle.gate_steps.specs.Histories.{HasHistory}
 use Rattle.gate_steps.specs.Seating.{SeatItems, HaveViews, HaveSeen, times}
 use Rattle.gate_steps.specs.Rules.{TableShows, Ruled}
 use Rattle.vfs_gates.specs.TaskStates.{TaskState, IsIdle, HoldsNothing}
-use Rattle.gate_steps.specs.call_events.Ties.{IsStill}
+use Rattle.gate_steps.specs.call_events.GhostAgrees.{IsStill}
 
 -- the task rests, and each number is its own or its to give
 abbrev pub HasAll : TaskState → Type 0

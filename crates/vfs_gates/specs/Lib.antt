@@ -5,10 +5,10 @@ pub use Rattle.access_model.specs.declared.actions.Gate
 pub use Rattle.access_model.specs.declared.errors.GateError
 pub use Rattle.gate_world.specs.declared.operations.Op
 pub use Rattle.gate_world.specs.declared.views.View
-pub mod Room
+pub mod Buffers
 pub mod Waits
 pub mod TaskStates
-pub use Rattle.gate_steps.specs.call_events.Ties
+pub use Rattle.gate_steps.specs.call_events.GhostAgrees
 pub use Rattle.gate_steps.specs.call_events.Stepped
 pub use Rattle.gate_steps.specs.call_events.Turns
 pub mod Lines

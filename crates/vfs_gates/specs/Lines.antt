@@ -4,15 +4,15 @@ use Rattle.access_model.specs.Replies.{map_next}
 use Rattle.access_model.specs.declared.replies.Next.{Next}
 use Rattle.access_model.specs.declared.replies.Next.TheVariants.{Done}
 use Rattle.access_model.specs.declared.replies.Reply.TheVariants.{Unit as UnitReply}
-use Rattle.compounds.specs.declared.write_access.phases.WritePhase.{WritePhase}
-use Rattle.compounds.specs.declared.write_access.phases.WritePhase.TheVariants.{Takes}
+use Rattle.composite_ops.specs.declared.write_access.phases.WritePhase.{WritePhase}
+use Rattle.composite_ops.specs.declared.write_access.phases.WritePhase.TheVariants.{Takes}
 use Rattle.gate_world.specs.declared.work.Phase.{Phase}
 use Rattle.gate_world.specs.declared.work.Phase.TheVariants.{DownReads, Mounts, Writes}
 use Rattle.mount_counts.specs.declared.phases.MountPhase.TheVariants.{Want as Wants}
 use Rattle.mount_counts.specs.declared.phases.Want.{Want}
 use Rattle.percpu_rwsem.specs.declared.readers.DownRead.{DownRead}
 use Rattle.percpu_rwsem.specs.declared.readers.DownReadStep.TheVariants.{EntersSection}
-use Rattle.vfs_gates.specs.declared.call_lines.Writer.{Writer}
+use Rattle.vfs_gates.specs.declared.fast_paths.Writer.{Writer}
 
 -- what comes next of a want of an access at a mount, as phases
 abbrev pub of_want : Next Want → Next Phase

@@ -1,6 +1,6 @@
 -- What a task keeps of its waits.
 use Rattle.std.specs.Prelude.{◌≡◌, ℕ, Option, Some, None}
-use Rattle.gate_world.specs.Courses.{course_of}
+use Rattle.gate_world.specs.traces.TraceStates.{state_of_trace}
 use Rattle.gate_world.specs.Views.{phase_after}
 use Rattle.gate_world.specs.declared.config.Config.{Config}
 use Rattle.gate_world.specs.declared.operations.Op.{Op}
@@ -10,7 +10,7 @@ pub use Rattle.gate_steps.specs.call_events.Waited.{counted, is_wait, waited_at,
 -- a view stands where the events of its operation have led; one with no operation is idle
 abbrev pub StandsBy : Config → ℕ → View → Option Op → Type 0
 StandsBy c t v None = v.phase ≡ None
-StandsBy c t v (Some op) = v.phase ≡ phase_after (course_of c t op v.trace).comes
+StandsBy c t v (Some op) = v.phase ≡ phase_after (state_of_trace c t op v.trace).comes
 
 -- A number with this view stands where its events have led, and so many of the last operation's that came to a wait are told.
 pub record WaitsTell (c : Config) (t : ℕ) (v : View) (waited : ℕ) : Type 0 where

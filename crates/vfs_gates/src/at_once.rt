@@ -3,7 +3,7 @@
 ghost use Rattle.std.specs.Prelude.{◌≡◌, false};
 ghost use Rattle.vfs_gates.specs.AtOnce.{BeginsAtOnce};
 
-use crate::call_lines::InLine;
+use crate::fast_paths::FastPath;
 use crate::calls::waits;
 use crate::gates::Gates;
 use crate::task::Task;
@@ -15,7 +15,7 @@ use gate_world::Op;
 impl Task {
     ghost use Rattle.gate_world.specs.Beginnings.{first_phase};
     ghost use Rattle.gate_world.specs.declared.operations.Op.TheVariants.{RemountSb, WantWrite, Callback, Freeze, Thaw};
-    ghost use Rattle.vfs_gates.specs.Room.{is_of_snapshot};
+    ghost use Rattle.vfs_gates.specs.Buffers.{is_of_snapshot};
     ghost use Rattle.vfs_gates.specs.TaskStates.{IsFrom, own_number};
 
     /// Begins an operation that has this first phase, and does its steps in a line, where each hook answers Ok. Where one of them finds
@@ -49,7 +49,7 @@ impl Task {
 
     /// Begins an operation that has this first phase and asks no hook, and does its steps in a line, likewise.
     #[inline(always)]
-    fn take_at_once<P: InLine>(
+    fn take_at_once<P: FastPath>(
         &mut self,
         gates: &Gates,
         op: Op,

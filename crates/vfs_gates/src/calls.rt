@@ -7,13 +7,13 @@ ghost use Rattle.vfs_gates.specs.TaskStates.{TaskState};
 ghost use Rattle.vfs_gates.specs.Waits.{is_wait};
 ghost use Rattle.gate_steps.specs.call_events.Runs.{told_as, unit_of, Goes};
 
-use crate::call_lines::InLine;
+use crate::fast_paths::FastPath;
 use crate::gates::Gates;
 use crate::task::Task;
 use access_model::{GateError, Next, Reply};
-use compounds::WritePhase;
+use composite_ops::WritePhase;
 use gate_beginnings::begin;
-use gate_events::UnderWay;
+use gate_events::PendingOp;
 use gate_steps::call_events::Progress;
 use gate_world::{Op, Phase};
 use mount_counts::{Change, ChangeStep, MountPhase, Want, WantStep};
@@ -31,7 +31,7 @@ pub(crate) fn outcome(answer: Result<Reply, GateError>) -> Result<(), GateError>
 
 /// 1 where the event before found what the operation waits for, else 0.
 #[inline(always)]
-pub(crate) fn waits<P: UnderWay>(next: &Next<P>) -> u64
+pub(crate) fn waits<P: PendingOp>(next: &Next<P>) -> u64
     ensures { result ≡ is_wait (map_next P.as_phase next.now) }
 {
     match next {
@@ -42,11 +42,11 @@ pub(crate) fn waits<P: UnderWay>(next: &Next<P>) -> u64
 
 impl Task {
     ghost use Rattle.gate_world.specs.Beginnings.{first_phase};
-    ghost use Rattle.gate_world.specs.Traces.{most_events};
+    ghost use Rattle.gate_world.specs.traces.Traces.{most_events};
     ghost use Rattle.gate_world.specs.declared.operations.Op.TheVariants.{Want as WantOp, DropMount, ChangeMount, Start, End, DropWrite};
     ghost use Rattle.gate_world.specs.declared.work.Phase.TheVariants.{Mounts};
     ghost use Rattle.mount_counts.specs.declared.phases.MountPhase.TheVariants.{Change as Changes};
-    ghost use Rattle.vfs_gates.specs.Room.{is_of_snapshot};
+    ghost use Rattle.vfs_gates.specs.Buffers.{is_of_snapshot};
     ghost use Rattle.vfs_gates.specs.TaskStates.{IsFrom, beginning_at, own_number};
     ghost use Rattle.gate_steps.specs.call_events.Runs.{Called, IsBounded, IsTrying, Performs};
 
@@ -78,7 +78,7 @@ impl Task {
     /// Begins an operation that has a most number of events and this first phase, and does its events in a line. Where one of them finds
     /// something else, it notes where the operation stands and does the rest.
     #[inline(always)]
-    pub(crate) fn perform<P: InLine>(
+    pub(crate) fn perform<P: FastPath>(
         &mut self,
         gates: &Gates,
         op: Op,

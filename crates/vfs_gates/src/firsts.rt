@@ -7,7 +7,7 @@ ghost use Rattle.gate_world.specs.declared.work.Phase.TheVariants.{Callbacks, Fr
 
 use crate::task::Task;
 use access_model::Holder;
-use compounds::WritePhase;
+use composite_ops::WritePhase;
 use freeze_levels::{Freeze, FreezeStep, Thaw, ThawStep};
 use mount_counts::{Remount, RemountStep};
 use percpu_rwsem::{Callback, CallbackStep, DownRead, DownReadStep, Transition};

@@ -5,7 +5,7 @@ ghost use Rattle.gate_world.specs.Configs.{IsWithin};
 ghost use Rattle.gate_steps.specs.Rules.{first_known};
 
 use crate::closed::Closed;
-use crate::rooms::Rooms;
+use crate::buffers::SnapshotBuffers;
 use crate::task::Task;
 use access_model::GateError;
 use gate_steps::call_events::GateWords;
@@ -46,13 +46,13 @@ impl Gates {
         if !config.is_within() {
             return Err(GateError::Invalid);
         }
-        let Ok(rooms) = Rooms::new(alloc, config.nodes) else {
+        let Ok(buffers) = SnapshotBuffers::new(alloc, config.nodes) else {
             return Err(GateError::NoMemory);
         };
         let Ok((words, seat)) = GateWords::open(alloc, config) else {
             return Err(GateError::NoMemory);
         };
-        Ok((Gates { words }, Task::first(config, seat, rooms)))
+        Ok((Gates { words }, Task::first(config, seat, buffers)))
     }
 
     /// The words as they were at the end, where this task is the only one left: all other numbers are its to give. They are left by a schedule

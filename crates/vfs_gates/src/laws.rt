@@ -9,7 +9,7 @@ ghost use Rattle.gate_world.specs.declared.operations.Op.{Op};
 ghost use Rattle.gate_world.specs.declared.views.Snapshot.{Snapshot};
 ghost use Rattle.gate_world.specs.declared.views.Traced.{Traced};
 ghost use Rattle.gated_tree.specs.declared.trees.TreeWords.{TreeWords};
-ghost use Rattle.gate_world.specs.Courses.{course_of};
+ghost use Rattle.gate_world.specs.traces.TraceStates.{state_of_trace};
 ghost use Rattle.gate_steps.specs.Seating.{SeatItems, done_by};
 ghost use Rattle.vfs_gates.specs.TaskStates.{TaskState, own_number, own_view, spare_of, IsIdle};
 ghost use Rattle.vfs_gates.specs.Held.{Rests, own_actions, IsAsBefore, IsGivenBack, takes_nothing};
@@ -37,9 +37,9 @@ pub fn a_call_sees_a_moment()
     ensures { (op : Op) (old left : TaskState) (answer : Result Reply GateError) (called : Called op old left answer)
         (loaded : TreeWords) (release last : Traced) (earlier : List Traced) → 1 ≤ length old.items →
         called.trace ≡ release ∷ last ∷ earlier →
-        completed_by (course_of old.config (own_number old.items) op (last ∷ earlier)).comes (last ∷ earlier) release ≡ None →
-        completed_by (course_of old.config (own_number old.items) op earlier).comes earlier last ≡ Some loaded →
-        (course_of old.config (own_number old.items) op earlier).added ≡ [] →
+        completed_by (state_of_trace old.config (own_number old.items) op (last ∷ earlier)).comes (last ∷ earlier) release ≡ None →
+        completed_by (state_of_trace old.config (own_number old.items) op earlier).comes earlier last ≡ Some loaded →
+        (state_of_trace old.config (own_number old.items) op earlier).added ≡ [] →
         IsOfAMoment old.config (own_number old.items) left.items
         (record { loaded = loaded; done = length (own_view old.items).actions; others = done_by (spare_of old.items) }) }
 {}

@@ -3,7 +3,7 @@
 #![tactic(auto)]
 
 mod at_once;
-mod call_lines;
+mod fast_paths;
 mod calls;
 mod closed;
 mod firsts;
@@ -12,7 +12,7 @@ pub mod laws;
 mod numbers;
 mod pairs;
 mod parts;
-mod rooms;
+mod buffers;
 mod settling;
 mod shown;
 mod taken;
@@ -24,7 +24,7 @@ pub use access_model::{Action, Gate, GateError, Holder, Kind, NodeInfo, Reply};
 pub use closed::Closed;
 pub use cpu_words::{Event, Touch, WordName};
 pub use freeze_levels::{FsHooks, HookCall, HookKind};
-pub use gate_steps::call_events::{Progress, Seat, Step, TimedHooks};
+pub use gate_steps::call_events::{Progress, GhostSeat, Step, TimedHooks};
 pub use gate_world::{Config, Op};
 pub use gated_tree::Tree;
 pub use gates::Gates;

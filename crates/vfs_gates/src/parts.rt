@@ -5,10 +5,10 @@ ghost use Rattle.access_model.specs.declared.errors.GateError.TheVariants.{Order
 
 use crate::gates::Gates;
 use crate::numbers::{lowest, none};
-use crate::rooms::Rooms;
+use crate::buffers::SnapshotBuffers;
 use crate::task::Task;
 use access_model::GateError;
-use gate_steps::call_events::Kept;
+use gate_steps::call_events::TaskState;
 use std::alloc::Global;
 
 impl Task {
@@ -38,7 +38,7 @@ impl Task {
         let Some(number) = lowest(&self.spare) else {
             return Err(GateError::TooMany);
         };
-        let Ok(rooms) = Rooms::new(alloc, self.config.nodes) else {
+        let Ok(buffers) = SnapshotBuffers::new(alloc, self.config.nodes) else {
             return Err(GateError::NoMemory);
         };
         let seat = gates.words.give(&mut self.seat, number);
@@ -47,9 +47,9 @@ impl Task {
             number,
             config: self.config,
             begins: None,
-            kept: Kept::idle(),
+            kept: TaskState::idle(),
             spare: none(),
-            rooms,
+            buffers,
             waited: 0,
             seat,
         })

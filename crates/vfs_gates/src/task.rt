@@ -13,11 +13,11 @@ ghost use Rattle.gate_steps.specs.call_events.Answers.{progress_of};
 use crate::calls::waits;
 use crate::gates::Gates;
 use crate::numbers::{Numbers, add_all, are_all, others_of};
-use crate::rooms::Rooms;
+use crate::buffers::SnapshotBuffers;
 use access_model::{GateError, Next};
 use freeze_levels::HookKind;
-use gate_events::UnderWay;
-use gate_steps::call_events::{Kept, Progress, Seat, Step, Turn, do_event};
+use gate_events::PendingOp;
+use gate_steps::call_events::{TaskState, Progress, GhostSeat, Step, Turn, do_event};
 use gate_world::{Accesses, Config, Op, Phase};
 use gated_tree::Tree;
 use mount_counts::MountPhase;
@@ -54,28 +54,28 @@ pub struct Task {
     pub(crate) config: Config,
     /// The operation that has begun, until its first event.
     pub(crate) begins: Option<Op>,
-    pub(crate) kept: Kept,
+    pub(crate) kept: TaskState,
     /// The numbers that it has to give.
     pub(crate) spare: Numbers,
-    pub(crate) rooms: Rooms,
+    pub(crate) buffers: SnapshotBuffers,
     /// How often its last operation came to a wait.
     pub(crate) waited: u64,
-    pub(crate) seat: Seat,
+    pub(crate) seat: GhostSeat,
 }
 
 impl Model for Task {
     ghost use Rattle.std.specs.Prelude.{◌≡◌, []};
     ghost use Rattle.vfs_gates.specs.TaskStates.{TaskState, own_number, own_view, task_state};
-    ghost use Rattle.vfs_gates.specs.Room.{RoomTells};
+    ghost use Rattle.vfs_gates.specs.Buffers.{BuffersMatch};
     ghost use Rattle.vfs_gates.specs.Waits.{WaitsTell};
-    ghost use Rattle.gate_steps.specs.call_events.Ties.{Ties};
+    ghost use Rattle.gate_steps.specs.call_events.GhostAgrees.{GhostAgrees};
 
     ghost Value = { TaskState };
 
     ghost view = { λ t. task_state t.seat.table_id t.config t.begins t.kept.phase t.seat.me.0 };
 
-    ghost invariant = { λ t. Ties t.number t.config t.begins t.kept t.spare t.seat.me.0.items × (t.seat.me.1 ≡ [])
-        × RoomTells t.config.nodes t.rooms t.begins t.kept.phase t.seat.me.0.items
+    ghost invariant = { λ t. GhostAgrees t.number t.config t.begins t.kept t.spare t.seat.me.0.items × (t.seat.me.1 ≡ [])
+        × BuffersMatch t.config.nodes t.buffers t.begins t.kept.phase t.seat.me.0.items
         × WaitsTell t.config (own_number t.seat.me.0.items) (own_view t.seat.me.0.items) t.waited };
 }
 
@@ -88,7 +88,7 @@ impl Drop for Task {
             begins: _,
             kept: _,
             spare: _,
-            rooms: _,
+            buffers: _,
             waited: _,
             seat: _,
         } = self;
@@ -96,32 +96,32 @@ impl Drop for Task {
 }
 
 impl Task {
-    ghost use Rattle.vfs_gates.specs.Room.{HasSnapshotRoom};
+    ghost use Rattle.vfs_gates.specs.Buffers.{HasSnapshotRoom};
     ghost use Rattle.gate_steps.specs.call_events.Answers.{idle_step, unless_refused, asked_by};
     ghost use Rattle.gate_world.specs.Beginnings.{first_phase as the_first_phase};
     ghost use Rattle.gate_world.specs.Views.{held_at, holds_level as has_level, has_open as opens_file};
     ghost use Rattle.vfs_gates.specs.TaskStates.{task_state, IsFrom, own_number, own_view, refusal_at, IsIdle, HoldsNothing};
     ghost use Rattle.gate_steps.specs.call_events.Stepped.{Stepped};
-    ghost use Rattle.gate_steps.specs.call_events.Runs.{Goes, Told};
+    ghost use Rattle.gate_steps.specs.call_events.Runs.{Goes, StepTells};
     ghost use Rattle.vfs_gates.specs.Ended.{HasAll};
     ghost use Rattle.vfs_gates.specs.Waits.{waited_at};
-    ghost use Rattle.gate_steps.specs.call_events.Ties.{AllRest};
+    ghost use Rattle.gate_steps.specs.call_events.GhostAgrees.{AllRest};
     ghost use Rattle.gate_world.specs.declared.views.Snapshot.{Snapshot};
     ghost use Rattle.gated_tree.specs.Trees.{words_of};
 
-    pub(crate) fn first(config: Config, seat: Seat, rooms: Rooms) -> Task
+    pub(crate) fn first(config: Config, seat: GhostSeat, buffers: SnapshotBuffers) -> Task
         requires within { IsWithin config }
         requires seat { seat.me ≡ (first_known config, []) }
-        requires room { HasSnapshotRoom config.nodes rooms × (rooms.taken ≡ false) }
+        requires room { HasSnapshotRoom config.nodes buffers × (buffers.taken ≡ false) }
         ensures { result ≡ task_state seat.table_id config None None (first_known config) }
     {
         Task {
             number: 0,
             config,
             begins: None,
-            kept: Kept::idle(),
+            kept: TaskState::idle(),
             spare: others_of(config.tasks),
-            rooms,
+            buffers,
             waited: 0,
             seat,
         }
@@ -184,7 +184,7 @@ impl Task {
         ensures last { option_map (λ tree. words_of tree.now) result ≡ option_map (λ (s : Snapshot). s.loaded) (own_view self.now.items).snapshot }
         ensures there { 1 ≤ length self.now.items }
     {
-        self.rooms.last()
+        self.buffers.last()
     }
 
     /// Begins an operation; it has no event, and changes no word.
@@ -207,7 +207,7 @@ impl Task {
         ensures goes { OnOk result (Goes op self.old self.new) }
     {
         let phase = self.admit(op)?;
-        self.rooms.begin(op);
+        self.buffers.begin(op);
         self.begins = Some(op);
         self.kept.phase = Some(phase);
         Ok(())
@@ -229,7 +229,7 @@ impl Task {
         ensures idle { IsIdle self.old → (self.new ≡ self.old) × (result ≡ idle_step) }
         ensures event { (phase : PhaseType) → self.old.phase ≡ Some phase → Stepped phase hook self.old result self.new }
         // An operation that has begun so goes on, says that it waits only where it may, or was done whole.
-        ensures told { (op : OpType) (start : TaskState) → Goes op start self.old → Told op start result.progress self.new }
+        ensures told { (op : OpType) (start : TaskState) → Goes op start self.old → StepTells op start result.progress self.new }
     {
         let Some(phase) = self.kept.phase else {
             return Step::idle();
@@ -264,7 +264,7 @@ impl Task {
 
     /// The event of an operation of one kind: a function of its own for each kind, so that none pays for another's.
     #[inline(never)]
-    fn step_as<P: UnderWay>(&mut self, gates: &Gates, under_way: P, hook: Result<(), u16>) -> Step
+    fn step_as<P: PendingOp>(&mut self, gates: &Gates, under_way: P, hook: Result<(), u16>) -> Step
         requires from { IsFrom self.old gates.now }
         requires at { self.old.phase ≡ Some (P.as_phase under_way) }
         ensures table { self.new.table ≡ self.old.table }
@@ -285,7 +285,7 @@ impl Task {
             under_way,
             hook,
         );
-        self.rooms.follow(under_way.phase(), event);
+        self.buffers.follow(under_way.phase(), event);
         let so_far = if begins.is_some() { 0 } else { self.waited };
         self.waited = so_far.saturating_add(waits(&next));
         let (progress, phase) = standing(next);
@@ -325,7 +325,7 @@ impl Task {
             begins: _,
             kept: _,
             spare,
-            rooms: _,
+            buffers: _,
             waited: _,
             seat,
         } = self;
@@ -334,7 +334,7 @@ impl Task {
         task.spare[number as usize] = true;
     }
 
-    pub(crate) fn into_seat(self) -> Seat
+    pub(crate) fn into_seat(self) -> GhostSeat
         ensures table { result.table_id ≡ self.table }
         ensures items { (result.me.0.items ≡ self.items) × (result.me.0.seen ≡ self.seen) }
         ensures rested { IsIdle self × HoldsNothing self → AllRest self.config result.me.0.items }
@@ -345,7 +345,7 @@ impl Task {
             begins: _,
             kept: _,
             spare: _,
-            rooms: _,
+            buffers: _,
             waited: _,
             seat,
         } = self;
@@ -355,7 +355,7 @@ impl Task {
 
 /// How an operation stands after an event, and its next phase.
 #[inline(always)]
-fn standing<P: UnderWay>(next: Next<P>) -> (Progress, Option<Phase>)
+fn standing<P: PendingOp>(next: Next<P>) -> (Progress, Option<Phase>)
     ensures { result ≡ (progress_of (map_next P.as_phase next), phase_after (map_next P.as_phase next)) }
 {
     match next {

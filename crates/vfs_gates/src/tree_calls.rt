@@ -10,7 +10,7 @@ use crate::calls::outcome;
 use crate::gates::Gates;
 use crate::task::Task;
 use access_model::{GateError, Kind, Reply};
-use gate_steps::call_ends::go_to_end;
+use gate_steps::call_ends::run_to_reply;
 use gate_world::Op;
 use gated_tree::{
     Create, CreateStep, Grow, GrowStep, Mark, MarkStep, MoveStep, MoveTo, OpenFile, OpenStep,
@@ -43,9 +43,9 @@ fn mark(file: u8, dirty: bool) -> TreePhase
 
 impl Task {
     ghost use Rattle.gate_world.specs.Beginnings.{first_phase};
-    ghost use Rattle.gate_world.specs.Traces.{most_events};
+    ghost use Rattle.gate_world.specs.traces.Traces.{most_events};
     ghost use Rattle.gate_world.specs.declared.work.Phase.TheVariants.{Trees};
-    ghost use Rattle.vfs_gates.specs.Room.{is_of_snapshot};
+    ghost use Rattle.vfs_gates.specs.Buffers.{is_of_snapshot};
     ghost use Rattle.gate_world.specs.declared.operations.Op.TheVariants.{Create as CreateOp, Remove as RemoveOp, Grow as GrowOp, MoveTo as MoveToOp, Fault as FaultOp, Flush as FlushOp, Snapshot as SnapshotOp, Open as OpenOp, Close as CloseOp};
     ghost use Rattle.vfs_gates.specs.TaskStates.{IsFrom, own_number};
     ghost use Rattle.gate_steps.specs.call_events.Runs.{IsBounded, Performs, Replies, the_reply};
@@ -63,7 +63,7 @@ impl Task {
             return Err(refusal);
         }
         self.waited = 0;
-        go_to_end(
+        run_to_reply(
             &gates.words,
             &mut self.seat,
             &mut self.kept.accesses,

@@ -5,13 +5,13 @@ ghost use Rattle.gate_world.specs.declared.operations.Op.{Op as OpType};
 ghost use Rattle.vfs_gates.specs.TaskStates.{TaskState};
 ghost use Rattle.gate_steps.specs.call_events.Runs.{told_as, ran_of, IsRanReply, Goes};
 
-use crate::call_lines::InLine;
+use crate::fast_paths::FastPath;
 use crate::calls::{outcome, waits};
 use crate::gates::Gates;
 use crate::task::Task;
 use access_model::{GateError, Holder, Next, Reply};
 use crossbeam_utils::Backoff;
-use gate_steps::call_ends::{Waiting, wait_to_end};
+use gate_steps::call_ends::{Waiting, wait_for_reply};
 use gate_steps::call_events::{Progress, TimedHooks};
 use gate_world::Op;
 use mount_counts::{Want, WantStep};
@@ -33,7 +33,7 @@ fn ran(answer: Result<Reply, GateError>) -> Result<bool, GateError>
 impl Task {
     ghost use Rattle.gate_world.specs.Beginnings.{first_phase};
     ghost use Rattle.gate_world.specs.declared.operations.Op.TheVariants.{Want as WantOp, ChangeMount, RemountSb, Start, WantWrite, Callback as CallbackOp, Freeze as FreezeOp, Thaw as ThawOp};
-    ghost use Rattle.vfs_gates.specs.Room.{is_of_snapshot};
+    ghost use Rattle.vfs_gates.specs.Buffers.{is_of_snapshot};
     ghost use Rattle.vfs_gates.specs.TaskStates.{IsFrom, own_number};
     ghost use Rattle.gate_steps.specs.call_events.Runs.{the_reply, Called, Replies, Performs};
     ghost use Rattle.gate_steps.specs.call_events.Asking.{PerformsAsking, RepliesAsking};
@@ -86,7 +86,7 @@ impl Task {
         }
         let accesses = &mut self.kept.accesses;
         let seat = &mut self.seat;
-        let (answer, waited) = wait_to_end(rt, &gates.words, seat, accesses, op, first, hooks);
+        let (answer, waited) = wait_for_reply(rt, &gates.words, seat, accesses, op, first, hooks);
         self.waited = waited;
         answer
     }
@@ -94,7 +94,7 @@ impl Task {
     /// Begins an operation that has this first phase and asks no hook, and does its events in a line. Where one of them finds something
     /// else, it notes where the operation stands and does the rest, however long it has to wait.
     #[inline(always)]
-    fn perform_or_wait<R: Wait, P: InLine>(
+    fn perform_or_wait<R: Wait, P: FastPath>(
         &mut self,
         rt: &R,
         gates: &Gates,

@@ -8,7 +8,7 @@ use Rattle.gated_tree.specs.declared.{phases.TreePhase.TreePhase, snapshots.Snap
 use Rattle.mount_counts.specs.declared.phases.{Change.Change, MountPhase.MountPhase}
 use Rattle.percpu_rwsem.specs.declared.{readers.DownReadStep.DownReadStep, writers.DownWriteStep.DownWriteStep}
 use Rattle.freeze_levels.specs.declared.freezes.FreezeStep.{FreezeStep}
-use Rattle.gate_world.specs.{Causes.HasCause, Headline.{LevelsLead, SnapshotsStand}, Levels.at_level, Views.opening_view, Worlds.{World, opening}}
+use Rattle.gate_world.specs.{refusals.Causes.HasCause, Headline.{LevelsLead, SnapshotsStand}, Levels.at_level, Views.opening_view, Worlds.{World, opening}}
 use Rattle.gate_world.specs.declared.{views.View.View, work.Phase.Phase}
 use Rattle.worked_schedules.specs.Schedules.{small}
 

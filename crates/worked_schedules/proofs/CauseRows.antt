@@ -1,7 +1,7 @@
 -- Worked schedules of refusals and their causes, by computing: in which worlds a cause may lie.
 use Rattle.std.{proofs.Common.{◌≡◌, true, false, List, [], ◌++◌, refl, arith}, specs.Prelude.{Ok, Err, ◌∷◌, length}}
 use Rattle.access_model.specs.declared.errors.GateError.{GateError}
-use Rattle.gate_world.specs.Causes.{trail_of, since_begun, last_question, moments_of_sum, was_counted, SomeWasCounted, WantRefused, ChangeRefused}
+use Rattle.gate_world.specs.refusals.Causes.{trail_of, since_begun, last_question, moments_of_sum, was_counted, SomeWasCounted, WantRefused, ChangeRefused}
 use Rattle.gate_world.specs.{Worlds.{run, opening}, declared.operations.Op.Op}
 use Rattle.gate_world.specs.declared.entries.Entry.{Entry, TheVariants.{Begins}}
 use Rattle.gate_schedules.specs.Answers.{step_answer}

@@ -2,10 +2,10 @@
 use Rattle.std.{proofs.Common.{◌≡◌, true, List, [], ◌∷◌, ◌++◌, refl, arith}, specs.Prelude.Some}
 use Rattle.access_model.specs.declared.actions.{Holder.Holder, Kind.Kind}
 use Rattle.percpu_rwsem.specs.declared.readers.{DownRead.DownRead, DownReadStep.DownReadStep}
-use Rattle.compounds.specs.declared.file_closes.phases.ClosePhase.{ClosePhase}
+use Rattle.composite_ops.specs.declared.file_closes.phases.ClosePhase.{ClosePhase}
 use Rattle.gate_world.specs.{Worlds.{run, opening}, declared.{operations.Op.Op, work.Phase.Phase}}
 use Rattle.gate_world.specs.declared.entries.Entry.{Entry, TheVariants.{Begins}}
-use Rattle.gate_schedules.specs.operations.Progress.{StartIsKept, CloseIsKept, LockIsKept, AFreezeIsKept}
+use Rattle.gate_schedules.specs.operations.Progress.{StartIsBlocked, CloseIsBlocked, LockIsBlocked, AFreezeIsKept}
 use Rattle.worked_schedules.specs.Schedules.{small, steps}
 use Rattle.worked_schedules.proofs.Rows.{freezes}
 
@@ -27,14 +27,14 @@ behind = record { level = 1; cpu = 0; task = 1; wait = true; step = DownReadStep
 behind_waits : ((run small opening behind_freeze).views 1).phase ≡ Some (Phase.DownReads behind)
 behind_waits = refl
 
-behind_kept : StartIsKept (run small opening behind_freeze) behind
+behind_kept : StartIsBlocked (run small opening behind_freeze) behind
 behind_kept = (refl, refl, refl)
 
 -- a change behind a freeze that an idle task keeps inside level 2
 abbrev behind_lock : List Entry
 behind_lock = Begins 0 (Op.Start 2 0 true) ∷ steps 4 0 ++ (Begins 1 (Op.Freeze Holder.User) ∷ steps 24 1 ++ (Begins 2 (Op.ChangeMount 0 true true) ∷ steps 1 2))
 
-lock_kept : LockIsKept small (run small opening behind_lock)
+lock_kept : LockIsBlocked small (run small opening behind_lock)
 lock_kept = (1, omega arith, refl, (omega arith, (2, omega arith, omega arith, (0, omega arith, refl, refl))))
 
 -- a last close that waits, where all is frozen: the file is made, opened by another task and removed before
@@ -45,8 +45,8 @@ last_close =
     (Begins 0 (Op.Freeze Holder.User) ∷ steps 43 0 ++ (Begins 1 (Op.Close 1 0 true) ∷ []))))))
 
 -- it is kept before its first event, by what it is to find, and goes inside the level as a start does
-close_kept : CloseIsKept (run small opening last_close) (ClosePhase.LoadsFile record { file = 1; cpu = 0; task = 1; wait = true })
+close_kept : CloseIsBlocked (run small opening last_close) (ClosePhase.LoadsFile record { file = 1; cpu = 0; task = 1; wait = true })
 close_kept = (refl, refl, refl)
 
-close_stays : StartIsKept (run small opening (last_close ++ steps 3 1)) record { level = 3; cpu = 0; task = 1; wait = true; step = DownReadStep.CountsUpSlow }
+close_stays : StartIsBlocked (run small opening (last_close ++ steps 3 1)) record { level = 3; cpu = 0; task = 1; wait = true; step = DownReadStep.CountsUpSlow }
 close_stays = (refl, refl, refl)

@@ -3,7 +3,7 @@ use Rattle.std.{proofs.Common.{◌≡◌, ◌+◌, ◌*◌, ◌<◌, ℕ, zero, 
 use Rattle.std.proofs.lemmas.List.{append_assoc}
 use Rattle.access_model.specs.declared.{actions.Holder.Holder, errors.GateError.GateError}
 use Rattle.gated_tree.specs.declared.trees.TreeWords.{TreeWords}
-use Rattle.gate_world.specs.Causes.{trail_of, since_begun, last_question, WantRefused}
+use Rattle.gate_world.specs.refusals.Causes.{trail_of, since_begun, last_question, WantRefused}
 use Rattle.cpu_words.specs.Touches.{event_of}
 use Rattle.gated_tree.specs.Trees.{node_at}
 use Rattle.mount_counts.specs.declared.phases.MountPhase.{MountPhase}
@@ -16,7 +16,7 @@ use Rattle.gate_schedules.specs.declared.steps.Progress.{Progress}
 use Rattle.gate_steps.specs.Seating.{SeatItems, GoesOn}
 use Rattle.gate_steps.specs.call_events.Caused.{IsCausedBy}
 use Rattle.gate_steps.specs.call_events.Spans.{IsEventDuring, IsCausedDuring, IsTreeDuring}
-use Rattle.gate_steps.specs.call_events.TaskStates.{own_number}
+use Rattle.gate_steps.specs.call_events.SeatedTasks.{own_number}
 use Rattle.worked_schedules.specs.Schedules.{small, steps}
 use Rattle.worked_schedules.proofs.TreeRows.{freezes as frozen, snapshots}
 

@@ -1,7 +1,7 @@
 -- Worked schedules of calls at the tree, by computing, on two processors and one mount.
 use Rattle.std.{proofs.Common.{◌≡◌, ◌+◌, ◌*◌, true, List, [], ◌∷◌, ◌++◌, refl}, specs.Prelude.{Ok, Err, Some}}
 use Rattle.access_model.specs.declared.{actions.{Action.Action, Gate.Gate, Holder.Holder, Kind.Kind}, errors.GateError.GateError, replies.Reply.Reply}
-use Rattle.gate_world.specs.{Snapshots.values_noted, Worlds.{run, history, opening}, declared.operations.Op.Op}
+use Rattle.gate_world.specs.{traces.Snapshots.values_noted, Worlds.{run, history, opening}, declared.operations.Op.Op}
 use Rattle.gate_world.specs.declared.entries.Entry.{Entry, TheVariants.{Begins}}
 use Rattle.gate_schedules.specs.Answers.{step_answer}
 use Rattle.gate_schedules.specs.declared.steps.Progress.{Progress}

@@ -15,7 +15,7 @@ use Rattle.freeze_laws.proofs.levels.{EventLaws.swap_keeps, Exchanges.exchanges_
 use Rattle.freeze_laws.specs.levels.Changes.{transition, state_found, role_entered, role_found, waits, claims}
 use Rattle.freeze_laws.specs.levels.Events.{SyncLevel, SyncLevelHolds, SyncEvent, Enters, Looks, Passes, Swaps, Opens, Exits, Claims, LooksClaimed, Calls, Stays}
 use Rattle.freeze_laws.specs.levels.Events.{Happens, SyncStep}
-use Rattle.freeze_laws.specs.levels.Exchanges.{KnowsWords, Shows}
+use Rattle.freeze_laws.specs.levels.Exchanges.{KnowsWords, MakesTransition}
 use Rattle.freeze_laws.specs.levels.Operations.{down_write_role, up_write_role, callback_role, KnowsDownWrite, KnowsUpWrite, KnowsCallback, by_next, HoldsOfNext}
 use Rattle.freeze_laws.specs.levels.Operations.{DownWriteIsThere, UpWriteIsThere, CallbackIsThere, DownWritesAreThere, UpWritesAreThere, CallbacksAreThere}
 use Rattle.freeze_laws.specs.levels.Roles.{SyncRole, Out, Past, Entered, Closed, Ready, entered}
@@ -44,7 +44,7 @@ module _ (tasks t : ℕ) (lt : t < tasks) (l : SyncLevel) where
       ((x : Transition) → role (TransitionNext.More x) ≡ r) → role TransitionNext.Undefined ≡ r →
       ((s : GpState) (v : ℕ) → state_found l.sync ≡ Some s → transition makes l.sync ≡ Some v →
       SyncStep tasks l (record l { sync = v; at = update l.at t (role (TransitionNext.Made s)) })) →
-      (v : ℕ) (n : TransitionNext) → Shows makes l.sync v n → SyncStep tasks l (record l { sync = v; at = update l.at t (role n) })
+      (v : ℕ) (n : TransitionNext) → MakesTransition makes l.sync v n → SyncStep tasks l (record l { sync = v; at = update l.at t (role n) })
   exchanged_by makes role r here more none made v (TransitionNext.More x) h = unmoved v (role (TransitionNext.More x)) h.0 (here ∙ sym (more x))
   exchanged_by makes role r here more none made v TransitionNext.Undefined h = unmoved v (role TransitionNext.Undefined) h.0 (here ∙ sym none)
   exchanged_by makes role r here more none made v (TransitionNext.Made s) h = made s v h.0 h.1
@@ -65,12 +65,12 @@ module _ (tasks t : ℕ) (lt : t < tasks) (l : SyncLevel) where
       λ q. record l { section = sym (update_same l.section g) q; at = update l.at t (sym e q) } in
       subst (SyncStep tasks l) p (step_by _ k h)
 
-pub enter_knows : (tasks found v : ℕ) (n : TransitionNext) → Shows on_enter found v n → KnowsDownWrite (enter_step tasks n)
+pub enter_knows : (tasks found v : ℕ) (n : TransitionNext) → MakesTransition on_enter found v n → KnowsDownWrite (enter_step tasks n)
 enter_knows tasks found v (TransitionNext.More x) h = h.1
 enter_knows tasks found v TransitionNext.Undefined h = tt
 enter_knows tasks found v (TransitionNext.Made s) h = knows_from tasks s
 
-pub callback_knows : (found v : ℕ) (n : TransitionNext) → Shows on_callback found v n → KnowsDownWrite (callback_step n)
+pub callback_knows : (found v : ℕ) (n : TransitionNext) → MakesTransition on_callback found v n → KnowsDownWrite (callback_step n)
 callback_knows found v (TransitionNext.More x) h = h.1
 callback_knows found v TransitionNext.Undefined h = tt
 callback_knows found v (TransitionNext.Made s) h = tt
@@ -175,7 +175,7 @@ pub down_writes_are_there : DownWritesAreThere
 down_writes_are_there t other l d lt right here k none = down_write_there t other l d lt d.step right here k none
 
 -- an up-write that goes on knows what is to come
-exit_knows : (u : UpWrite) (found v : ℕ) (n : TransitionNext) → Shows on_exit found v n →
+exit_knows : (u : UpWrite) (found v : ℕ) (n : TransitionNext) → MakesTransition on_exit found v n →
     HoldsOfNext (λ (x : UpWrite). KnowsUpWrite x.step) (exit_made u n)
 exit_knows u found v (TransitionNext.More x) h = h.1
 exit_knows u found v TransitionNext.Undefined h = tt
@@ -204,14 +204,14 @@ pub up_writes_are_there : UpWritesAreThere
 up_writes_are_there tasks t other l u lt here k = up_write_there tasks t other l u lt u.step here k
 
 -- a callback that has claimed waits for its grace period, and one that claims knows what is to come
-claim_knows : (b : Callback) (found v : ℕ) (n : TransitionNext) → Shows on_claim found v n →
+claim_knows : (b : Callback) (found v : ℕ) (n : TransitionNext) → MakesTransition on_claim found v n →
     HoldsOfNext (λ (x : Callback). (x.tasks ≡ b.tasks) × KnowsCallback x.step) (claim_made b n)
 claim_knows b found v (TransitionNext.More x) h = (refl, h.1)
 claim_knows b found v TransitionNext.Undefined h = tt
 claim_knows b found v (TransitionNext.Made s) h = (refl, tt)
 
 -- one past its grace period knows it too
-call_knows : (b : Callback) (found v : ℕ) (n : TransitionNext) → Shows on_callback found v n →
+call_knows : (b : Callback) (found v : ℕ) (n : TransitionNext) → MakesTransition on_callback found v n →
     HoldsOfNext (λ (x : Callback). (x.tasks ≡ b.tasks) × KnowsCallback x.step) (called_back b n)
 call_knows b found v (TransitionNext.More x) h = (refl, h.1)
 call_knows b found v TransitionNext.Undefined h = (refl, tt)

@@ -4,7 +4,7 @@ use Rattle.std.specs.Prelude.{◌==◌, Bool, true, false, Option, Some, None}
 use Rattle.access_model.specs.{Actions.MayDo, States.{Limits, State, IsClean}, declared.actions.Action.Action}
 use Rattle.freeze_laws.proofs.stages.{EachEvent.{fewer, own_clean}, Positions.{owner_idle, passed_idle, passed_own}}
 use Rattle.freeze_laws.proofs.stages.StageLaws.{freeze_bound, own_remount, relied_on, ways}
-use Rattle.freeze_laws.specs.stages.Events.{Stages, Holds, Shows, StageEvent, Happens, action_of, cleaned, Advances, Begins, CancelsRemount, ClearsBlock, ClearsMark}
+use Rattle.freeze_laws.specs.stages.Events.{Stages, Holds, RepresentsStages, StageEvent, Happens, action_of, cleaned, Advances, Begins, CancelsRemount, ClearsBlock, ClearsMark}
 use Rattle.freeze_laws.specs.stages.Events.{ClearsMarkReadOnly, Completes, Fails, FreezesAtOnce, HoldsOne, LeavesOne, Passes, SetsRemount, SetsWritable, Syncs, Thaws}
 use Rattle.freeze_laws.specs.stages.Events.{ThawsAtOnce}
 use Rattle.freeze_laws.specs.stages.Roles.{StageRole, Owning, Remounting, Freezing, Reopening, CleanBelow, Closing, HasPassed, KnowsStage, has_position, owns}
@@ -23,7 +23,7 @@ cleaned_is : (node mark : ℕ) (action : Action) (P : Action → Type 0) → cle
 cleaned_is node zero action P e p = absurd (none-some action e)
 cleaned_is node (suc mark) action P e p = subst P (some_inj e) p
 
-module _ (l : Limits) (x : Stages) (h : Holds l.tasks l.nodes x) (t : ℕ) (lt : t < l.tasks) (s : State) (shows : Shows l x s) where
+module _ (l : Limits) (x : Stages) (h : Holds l.tasks l.nodes x) (t : ℕ) (lt : t < l.tasks) (s : State) (shows : RepresentsStages l x s) where
   pub all_clean : CleanBelow l.nodes x.dirty → IsClean l s
   all_clean c n ln = shows.marks n ln (c n ln)
 

@@ -1,7 +1,7 @@
 -- Whole operations, event by event: what one event leaves is what the next one asks for.
 use Rattle.std.{proofs.Common.{◌≡◌, ℕ, refl, arith, suc, zero}, specs.Prelude.{true, false, Option, Some, None, List}}
 use Rattle.access_model.specs.declared.actions.{Action.Action, Holder.Holder}
-use Rattle.freeze_laws.specs.stages.Events.{Stages, IsAlike, StageEvent, Happens, action_of, Advances, Begins, ClearsBlock, ClearsMark, Completes, HoldsOne, LeavesOne}
+use Rattle.freeze_laws.specs.stages.Events.{Stages, SameDuties, StageEvent, Happens, action_of, Advances, Begins, ClearsBlock, ClearsMark, Completes, HoldsOne, LeavesOne}
 use Rattle.freeze_laws.specs.stages.Events.{LetsGo, LoadsSb, LoadsStage, Locks, LocksAgain, MarksNode, Passes, Releases, ReleasesOpen, SetsBlock, Syncs, Thaws}
 use Rattle.freeze_laws.specs.stages.{Laws.{with_one, StageRun, Ends, Goes, FreezeAndThawHappen}, Roles.{Before, HasPassed, CleanBelow, Owning}}
 
@@ -14,7 +14,7 @@ root_clean : (dirty : ℕ → ℕ) → dirty 0 ≡ 0 → CleanBelow 1 dirty
 root_clean dirty e zero lt = e
 root_clean dirty e (suc n) lt = absurd (omega (arith, lt))
 
-owners_alike : {stage sb stage' sb' : Option ℕ} → IsAlike (Owning stage sb) (Owning stage' sb')
+owners_alike : {stage sb stage' sb' : Option ℕ} → SameDuties (Owning stage sb) (Owning stage' sb')
 owners_alike = record { owns_same = refl; freezes_same = refl; remounts_same = refl; closed_same = refl; passed_same = refl }
 
 pub freeze_and_thaw_happen : FreezeAndThawHappen

@@ -22,12 +22,12 @@ pub record Holds (tasks nodes : ℕ) (x : Stages) : Type 0 where
   pub marks : MarksHold tasks nodes x.stage x.sb x.dirty x.at
 
 -- a state of the model shows it
-pub record Shows (l : Limits) (x : Stages) (s : State) : Type 0 where
+pub record RepresentsStages (l : Limits) (x : Stages) (s : State) : Type 0 where
   pub stages : ShowsStages l.tasks x.stage x.sb x.remount x.block x.at s
   pub marks : ShowsMarks l.nodes x.dirty s
 
 -- two roles that differ in no more than what they rely on, and in how many nodes they have cleared
-pub record IsAlike (old new : StageRole) : Type 0 where
+pub record SameDuties (old new : StageRole) : Type 0 where
   pub owns_same : owns new ≡ owns old
   pub freezes_same : freezes new ≡ freezes old
   pub remounts_same : remounts new ≡ remounts old
@@ -112,10 +112,10 @@ Happens tasks nodes t x x' (Fails stage clean) =
 Happens tasks nodes t x x' FreezesAtOnce =
     (x.at t ≡ Owning (Some 0) (Some 1)) × (x' ≡ playing (record x { stage = 4 }) t (Owning (Some 4) None))
 Happens tasks nodes t x x' (HoldsOne holder sb new) =
-    (x.at t ≡ Owning (Some 4) sb) × IsAlike (Owning (Some 4) sb) new × KnowsStage x.stage x.sb new × CleanBelow (clean_by new) x.dirty ×
+    (x.at t ≡ Owning (Some 4) sb) × SameDuties (Owning (Some 4) sb) new × KnowsStage x.stage x.sb new × CleanBelow (clean_by new) x.dirty ×
     (x' ≡ playing x t new)
 Happens tasks nodes t x x' (LeavesOne holder sb new) =
-    (x.at t ≡ Owning (Some 4) sb) × IsAlike (Owning (Some 4) sb) new × KnowsStage x.stage x.sb new × CleanBelow (clean_by new) x.dirty ×
+    (x.at t ≡ Owning (Some 4) sb) × SameDuties (Owning (Some 4) sb) new × KnowsStage x.stage x.sb new × CleanBelow (clean_by new) x.dirty ×
     (x' ≡ playing x t new)
 Happens tasks nodes t x x' Thaws = (x.at t ≡ Owning (Some 4) (Some 0)) × (x' ≡ playing (record x { stage = 0 }) t (Reopening 3))
 Happens tasks nodes t x x' ThawsAtOnce =
@@ -145,7 +145,7 @@ Happens tasks nodes t x x' (MarksNode node mark) =
     (passed_shown tasks x.block x.at < 2) × (x.remount ≡ 0) × (x.sb ≡ 0) × (x' ≡ record x { dirty = update x.dirty node mark })
 Happens tasks nodes t x x' (WashesNode node) = x' ≡ record x { dirty = update x.dirty node 0 }
 Happens tasks nodes t x x' (Recalls old new) =
-    (x.at t ≡ old) × IsAlike old new × KnowsStage x.stage x.sb new × CleanBelow (clean_by new) x.dirty × (x' ≡ playing x t new)
+    (x.at t ≡ old) × SameDuties old new × KnowsStage x.stage x.sb new × CleanBelow (clean_by new) x.dirty × (x' ≡ playing x t new)
 Happens tasks nodes t x x' Stays = x' ≡ x
 
 -- a node is cleaned where it was dirty

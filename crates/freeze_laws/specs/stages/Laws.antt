@@ -2,7 +2,7 @@
 use Rattle.std.{proofs.Common.Bool, specs.Prelude.{◌≡◌, ℕ, ◌<◌, ◌≤◌, Option, Some, None, List, [], ◌∷◌}}
 use Rattle.access_model.specs.{Actions.IsAllowed, States.{Limits, State}}
 use Rattle.access_model.specs.declared.actions.{Action.{Action, TheVariants.{Stage, Hold, Leave, Pass, Reopen, Clean}}, Holder.TheVariants.User}
-use Rattle.freeze_laws.specs.stages.Events.{Stages, Holds, Shows, StageEvent, Happens, action_of}
+use Rattle.freeze_laws.specs.stages.Events.{Stages, Holds, RepresentsStages, StageEvent, Happens, action_of}
 use Rattle.freeze_laws.specs.stages.Roles.{Aside, Owning, freezes, has_position, closes, passed_by, is_full, Freezing, Place, up_to}
 use Rattle.freeze_laws.specs.stages.Shown.{is_passed, passed_shown, ShowsStages, AsksOthers, state_after}
 
@@ -23,7 +23,7 @@ EventsKeep = (tasks nodes : ℕ) (x x' : Stages) (t : ℕ) (kind : StageEvent) �
 -- The action of each event is allowed in each state that shows the moment before it.
 abbrev pub ActionsAreAllowed : Type 0
 ActionsAreAllowed = (l : Limits) (x x' : Stages) (t : ℕ) (kind : StageEvent) → StageStep l.tasks l.nodes x x' t kind → (s : State) →
-    Shows l x s →
+    RepresentsStages l x s →
     (action : Action) → action_of kind x ≡ Some action → AsksOthers l s action → IsAllowed l s t action
 
 -- And its effect shows the stage after it; an event with no action leaves the stage that was shown.

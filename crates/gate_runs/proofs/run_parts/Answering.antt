@@ -11,7 +11,7 @@ use Rattle.access_model.specs.declared.errors.GateError.TheVariants.{Again, Busy
 use Rattle.access_model.specs.declared.replies.Reply.{Reply}
 use Rattle.gate_world.specs.Holdings.{Holdings, holdings_of, held_after}
 use Rattle.gate_world.specs.Operations.{some_mount}
-use Rattle.gate_world.specs.Traces.{IsHonestAnswer}
+use Rattle.gate_world.specs.traces.Traces.{IsHonestAnswer}
 use Rattle.gate_world.specs.declared.config.Config.{Config}
 use Rattle.gate_world.specs.declared.operations.Op.{Op}
 use Rattle.gate_world.specs.declared.operations.Op.TheVariants.{WantWrite, DropWrite, Freeze, Thaw, Create, Grow, Snapshot}

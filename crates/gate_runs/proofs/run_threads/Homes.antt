@@ -10,7 +10,7 @@ use Rattle.gate_runs.specs.run_parts.Meetings.{was_held}
 use Rattle.gate_runs.specs.run_parts.Refusals.{RunRefused}
 use Rattle.gate_runs.specs.declared.run_threads.threads.Met.{Met}
 use Rattle.gate_runs.specs.declared.run_threads.threads.Met.TheVariants.{Remounter, Writer}
-use Rattle.gate_runs.specs.run_threads.Homes.{ComesHome, DoesRounds, Part}
+use Rattle.gate_runs.specs.run_threads.Homes.{ComesHome, DoesRounds, TaskShare}
 use Rattle.gate_runs.specs.run_threads.Parts.{Among, Remounted, Wrote, AllWrote}
 use Rattle.gate_runs.proofs.run_threads.Staying.{TookBack, all_wrote_before, all_wrote_on, remounted_on, remounter_part, writer_part}
 use Rattle.vfs_gates.specs.declared.Gates.{Gates}
@@ -19,7 +19,7 @@ use Rattle.gate_runs.specs.run_parts.TaskStates.{TaskState}
 
 -- its part, once its number was taken back
 part_of : (held : ℕ → ℕ → Type 0) (processors rounds number : ℕ) (first last old new : TaskState) (met : Met) → HasBegun number first →
-    DoesRounds held processors rounds number first last met → TookBack old last new → Part (Among new.items) held processors rounds number met
+    DoesRounds held processors rounds number first last met → TookBack old last new → TaskShare (Among new.items) held processors rounds number met
 part_of held processors rounds number first last old new (Remounter met) begun did took =
     (did.0, remounter_part rounds met first last old new (subst (λ n. HasBegun n first) did.0 begun) did.1 took)
 part_of held processors rounds number first last old new (Writer met) begun did took = (
@@ -30,7 +30,7 @@ part_of held processors rounds number first last old new (Writer met) begun did 
 
 pub came_home : (held : ℕ → ℕ → Type 0) (gates : Gates) (plan : Plan) (number : ℕ) (last old new : TaskState) (met : Result Met GateError) →
     ComesHome held gates plan number last met → TookBack old last new →
-    IfOk met (Part (Among new.items) held plan.processors plan.rounds number)
+    IfOk met (TaskShare (Among new.items) held plan.processors plan.rounds number)
 came_home held gates plan number last old new (Ok m) home took =
     part_of held plan.processors plan.rounds number home.2.0 last old new m home.2.1 home.2.2 took
 came_home held gates plan number last old new (Err e) home took = tt
@@ -49,7 +49,7 @@ pub record Joined (Ends : TaskState → Type 0) (held : ℕ → ℕ → Type 0) 
 
 -- the remounter is the last of all
 pub joined_remounter : (Ends : TaskState → Type 0) (held : ℕ → ℕ → Type 0) (processors rounds left place count number : ℕ) (remounts its : Remounts)
-    (writes : Writes) → left ≡ suc place → number ≡ place + 1 → Part Ends held processors rounds number (Remounter its) →
+    (writes : Writes) → left ≡ suc place → number ≡ place + 1 → TaskShare Ends held processors rounds number (Remounter its) →
     Joined Ends held processors rounds left count remounts writes → Joined Ends held processors rounds place count its writes
 joined_remounter Ends held processors rounds left place count number remounts its writes next is part before =
     let here : place ≡ 0 = omega (arith, is, part.0) in
@@ -60,7 +60,7 @@ joined_remounter Ends held processors rounds left place count number remounts it
 
 -- and a writer comes before those that were joined
 pub joined_writer : (Ends : TaskState → Type 0) (held : ℕ → ℕ → Type 0) (processors rounds left place count number : ℕ) (remounts : Remounts)
-    (its writes all : Writes) → left ≡ suc place → number ≡ place + 1 → Part Ends held processors rounds number (Writer its) →
+    (its writes all : Writes) → left ≡ suc place → number ≡ place + 1 → TaskShare Ends held processors rounds number (Writer its) →
     Joined Ends held processors rounds left count remounts writes → all ≡ both its writes →
     Joined Ends held processors rounds place count remounts all
 joined_writer Ends held processors rounds left place count number remounts its writes all next is part before sum =

@@ -21,12 +21,12 @@ use Rattle.gate_runs.specs.run_parts.Counts.{both, no_remounts, no_writes, remou
 use Rattle.gate_runs.specs.run_parts.Meetings.{was_held}
 use Rattle.gate_runs.specs.run_parts.Rounds.{Repeats, CallsBack, CreatesFile, CreatesFiles, IsRefused, Retries, Takes, Waits, RemountRound, WriterRound, BackupRound}
 use Rattle.gate_runs.specs.run_parts.Splitting.{Gives, HasBegun, HaveDoneNothing}
-use Rattle.gate_runs.specs.run_threads.Parts.{EachFrom, Among, EndsAs, Stays, Remounted, Wrote, AllWrote, AllDid}
+use Rattle.gate_runs.specs.run_threads.Parts.{EachFrom, Among, EndsAs, KeepsNumbers, Remounted, Wrote, AllWrote, AllDid}
 
-pub stays_so : (s : TaskState) → Stays s s
+pub stays_so : (s : TaskState) → KeepsNumbers s s
 stays_so s = record { config = refl; own = refl; spare = refl; idle = λ i. i; there = λ h. h }
 
-pub stays_on : {first mid last : TaskState} → Stays first mid → Stays mid last → Stays first last
+pub stays_on : {first mid last : TaskState} → KeepsNumbers first mid → KeepsNumbers mid last → KeepsNumbers first last
 stays_on one two = record {
   config = two.config ∙ one.config;
   own = two.own ∙ one.own;
@@ -50,7 +50,7 @@ there_ran c op trace (x ∷ xs) h = omega arith
 
 -- a whole call, as its beginning was answered
 call_stays : {A : Type 0} (read : Reply → A) (op : Op) (first last : TaskState) (outcome : Result A GateError) → Replies read op first last outcome →
-    (r : Option GateError) → refusal_at op first ≡ r → Stays first last
+    (r : Option GateError) → refusal_at op first ≡ r → KeepsNumbers first last
 call_stays read op first last outcome did None e =
     let called = (did.done e).2 in
     let items : last.items ≡ ran_items first.config op called.trace first.items = ap (λ (s : TaskState). s.items) called.after in record {
@@ -60,53 +60,53 @@ call_stays read op first last outcome did None e =
       idle = λ i. ap (λ (s : TaskState). s.phase) called.after;
       there = λ h. subst (λ (l : SeatItems). 1 ≤ length l) (sym items) (there_ran first.config op called.trace first.items h);
     }
-call_stays read op first last outcome did (Some refusal) e = subst (Stays first) (sym (did.refused refusal e).1) (stays_so first)
+call_stays read op first last outcome did (Some refusal) e = subst (KeepsNumbers first) (sym (did.refused refusal e).1) (stays_so first)
 
 pub stays : {A : Type 0} (read : Reply → A) (op : Op) (first last : TaskState) (outcome : Result A GateError) → Replies read op first last outcome →
-    Stays first last
+    KeepsNumbers first last
 stays read op first last outcome did = call_stays read op first last outcome did (refusal_at op first) refl
 
 -- so many rounds, where each leaves a task so
 rounds_stay : {S : Type 0} (task : S → TaskState) (Round : ℕ → S → S → Type 0) →
-    ((k : ℕ) (x y : S) → Round k x y → Stays (task x) (task y)) → (k : ℕ) (first last : S) → Repeats Round k first last →
-    Stays (task first) (task last)
-rounds_stay {S = S} task Round each zero first last did = subst (λ (x : S). Stays (task first) (task x)) (sym did) (stays_so (task first))
+    ((k : ℕ) (x y : S) → Round k x y → KeepsNumbers (task x) (task y)) → (k : ℕ) (first last : S) → Repeats Round k first last →
+    KeepsNumbers (task first) (task last)
+rounds_stay {S = S} task Round each zero first last did = subst (λ (x : S). KeepsNumbers (task first) (task x)) (sym did) (stays_so (task first))
 rounds_stay task Round each (suc k) first last did = stays_on (rounds_stay task Round each k first did.0 did.1) (each k did.0 last did.2)
 
 -- the same of rounds that are calls
-calls_stay : (Round : ℕ → TaskState → TaskState → Type 0) → ((k : ℕ) (x y : TaskState) → Round k x y → Stays x y) → (k : ℕ) (first last : TaskState) →
-    Repeats Round k first last → Stays first last
+calls_stay : (Round : ℕ → TaskState → TaskState → Type 0) → ((k : ℕ) (x y : TaskState) → Round k x y → KeepsNumbers x y) → (k : ℕ) (first last : TaskState) →
+    Repeats Round k first last → KeepsNumbers first last
 calls_stay = rounds_stay (λ x. x)
 
-retries_stay : (op : Op) (refusal : GateError) (first last : TaskState) → Retries op refusal first last → Stays first last
+retries_stay : (op : Op) (refusal : GateError) (first last : TaskState) → Retries op refusal first last → KeepsNumbers first last
 retries_stay op refusal first last did =
     stays_on (calls_stay (λ k. IsRefused op refusal) (λ k x y was. stays _ op x y _ was) did.0 first did.1 did.2) (stays _ op did.1 last _ did.3)
 
 -- of write access that was taken
-takes_stay : (cpu : ℕ) (first last : TaskState × ℕ) → Takes cpu first last → Stays first.0 last.0
+takes_stay : (cpu : ℕ) (first last : TaskState × ℕ) → Takes cpu first last → KeepsNumbers first.0 last.0
 takes_stay cpu first last did = stays_on (rounds_stay (λ (x : TaskState × ℕ). x.0) (λ k. Waits (IsRefused (WantWrite 0 cpu) ReadOnly))
     (λ k x y was. stays _ _ x.0 y.0 _ was.0) did.0 first did.1 did.2) (stays _ _ did.1.0 last.0 _ did.3.0)
 
-pub creates_stay : (writers : ℕ) (first last : TaskState) → CreatesFiles writers first last → Stays first last
+pub creates_stay : (writers : ℕ) (first last : TaskState) → CreatesFiles writers first last → KeepsNumbers first last
 creates_stay writers first last did =
     stays_on (stays _ _ first did.held _ did.took) (stays_on
     (calls_stay (λ k. CreatesFile) (λ k x y was. stays _ _ x y _ was.1) writers did.held did.made did.creates)
     (stays _ _ did.made last _ did.gave))
 
-pub remounts_stay : (rounds : ℕ) (first last : TaskState × Remounts) → Repeats RemountRound rounds first last → Stays first.0 last.0
+pub remounts_stay : (rounds : ℕ) (first last : TaskState × Remounts) → Repeats RemountRound rounds first last → KeepsNumbers first.0 last.0
 remounts_stay rounds first last did = rounds_stay (λ x. x.0) RemountRound (λ k x y was. stays_on
     (elim was.closed [ inl done ↦ stays _ _ x.0 was.mid _ done.0 | inr busy ↦ stays _ _ x.0 was.mid _ busy.0 ])
     (stays _ _ was.mid y.0 _ was.opened)) rounds first last did
 
 module _ {N : Type 0} (link : TaskState → ℕ → N → N → Type 0) where
   pub writes_stay : (processors writer rounds : ℕ) (first last : TaskState × N × Writes) →
-      Repeats (WriterRound link processors writer) rounds first last → Stays first.0 last.0
+      Repeats (WriterRound link processors writer) rounds first last → KeepsNumbers first.0 last.0
   writes_stay processors writer rounds first last did = rounds_stay (λ x. x.0) (WriterRound link processors writer) (λ k x y was. stays_on
       (takes_stay _ (x.0, x.2.waits) (was.held, was.waits) was.took) (stays_on (retries_stay _ _ was.held was.grown was.grew) (stays _ _ was.grown y.0 _ was.gave)))
       rounds first last did
 
   pub backs_stay : (freezes : ℕ) (first last : TaskState × N × Copies) → Repeats (BackupRound link) freezes first last →
-      Stays first.0 last.0
+      KeepsNumbers first.0 last.0
   backs_stay freezes first last did = rounds_stay (λ x. x.0) (BackupRound link) (λ k x y was. stays_on
       (stays _ _ x.0 was.frozen _ was.freezes) (stays_on (stays _ _ was.frozen was.copied _ was.copies) (stays_on
       (stays _ _ was.copied was.thawed _ was.thaws)
@@ -272,7 +272,7 @@ writer_part link processors rounds writer before after writes first last old new
     }
 
 -- what a task has to give stays its to give
-pub gives_stay : (first last : TaskState) (from count : ℕ) → Stays first last → Gives first from count → Gives last from count
+pub gives_stay : (first last : TaskState) (from count : ℕ) → KeepsNumbers first last → Gives first from count → Gives last from count
 gives_stay first last from count stayed gives = record {
   there = stayed.there gives.there;
   own = stayed.own ∙ gives.own;

@@ -28,7 +28,7 @@ ComesHome held gates plan number last met = IsFrom last gates × Rests last
     × IfErr met (MetBy gates.words.config plan.tasks)
 
 -- what it has done of a run, and met, and how it stands at the end
-abbrev pub Part : (TaskState → Type 0) → (ℕ → ℕ → Type 0) → ℕ → ℕ → ℕ → Met → Type 0
-Part Ends held processors rounds number (Remounter met) = (number ≡ 1) × Remounted Ends rounds met
-Part Ends held processors rounds number (Writer met) = (writer : ℕ) × (number ≡ writer + 2)
+abbrev pub TaskShare : (TaskState → Type 0) → (ℕ → ℕ → Type 0) → ℕ → ℕ → ℕ → Met → Type 0
+TaskShare Ends held processors rounds number (Remounter met) = (number ≡ 1) × Remounted Ends rounds met
+TaskShare Ends held processors rounds number (Writer met) = (writer : ℕ) × (number ≡ writer + 2)
     × Wrote Ends (was_held held) processors rounds writer tt tt met

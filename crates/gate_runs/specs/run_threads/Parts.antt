@@ -27,7 +27,7 @@ abbrev pub EndsAs : (ℕ → View) → TaskState → Type 0
 EndsAs views s = views (own_number s.items) ≡ own_view s.items
 
 -- calls of its own leave a task its number, and the others that it has to give
-pub record Stays (first last : TaskState) : Type 0 where
+pub record KeepsNumbers (first last : TaskState) : Type 0 where
   pub config : last.config ≡ first.config
   pub own : own_number last.items ≡ own_number first.items
   pub spare : spare_of last.items ≡ spare_of first.items

@@ -1,11 +1,11 @@
 //! Who looks on at a run, with notes of its own for each task.
 
-use run_plans::Watch;
+use run_plans::RunObserver;
 use vfs_gates::Task;
 
 /// A watch at which each task has notes of its own, to which a call adds what it may. They are the caller's: a run can make, copy and let go of
 /// none, so the notes that it gives back tell which calls it made, in which order, and how the task stood at each.
-pub trait NotedWatch {
+pub trait NotedObserver {
     ghost use Rattle.std.specs.Prelude.{ℕ};
     ghost use Rattle.vfs_gates.specs.TaskStates.{TaskState};
 
@@ -28,7 +28,7 @@ pub trait NotedWatch {
 }
 
 /// Each watch is one with no notes.
-impl<W: Watch> NotedWatch for W {
+impl<W: RunObserver> NotedObserver for W {
     ghost use Rattle.gate_runs.specs.run_parts.Meetings.{was_frozen, was_held};
 
     type Notes = ();
@@ -38,10 +38,10 @@ impl<W: Watch> NotedWatch for W {
     ghost sees = { λ it. was_frozen (W.seen it) };
 
     fn holding(&self, task: &Task, round: u32, _notes: &mut ()) {
-        Watch::holding(self, task.number(), round);
+        RunObserver::holding(self, task.number(), round);
     }
 
     fn frozen(&self, _task: &Task, freeze: u32, _notes: &mut ()) {
-        Watch::frozen(self, freeze);
+        RunObserver::frozen(self, freeze);
     }
 }

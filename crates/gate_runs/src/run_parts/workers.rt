@@ -12,7 +12,7 @@ ghost use Rattle.run_plans.specs.Plans.{run_config};
 ghost use Rattle.vfs_gates.specs.Held.{Rests};
 ghost use Rattle.vfs_gates.specs.TaskStates.{IsFrom, own_number, own_view};
 
-use crate::run_parts::meetings::NotedWatch;
+use crate::run_parts::meetings::NotedObserver;
 use access_model::{GateError, Holder, Kind};
 use crossbeam_utils::Backoff;
 use run_plans::{Copies, MOUNT, Plan, Remounts, Writes};
@@ -105,7 +105,7 @@ fn grow<R: Wait>(rt: &R, gates: &Gates, task: &mut Task, file: u8) -> Result<u64
 }
 
 /// Writes in each round, with the access given back on the processor after the one on which it was taken. Tells what it met.
-pub fn write<R: Wait, W: NotedWatch>(
+pub fn write<R: Wait, W: NotedObserver>(
     rt: &R,
     gates: &Gates,
     plan: Plan,
@@ -233,7 +233,7 @@ fn call_back<R: Wait>(
 
 /// Freezes, takes a snapshot, meets, thaws, and calls back what the levels have queued, so often. Counts the freezes, the snapshots that
 /// were sound and clean, their blocks, the callbacks that ran, and the waits of all these calls.
-pub fn back_up<R: Wait, W: NotedWatch>(
+pub fn back_up<R: Wait, W: NotedObserver>(
     rt: &R,
     gates: &Gates,
     plan: Plan,

@@ -2,7 +2,7 @@
 
 ghost use Rattle.std.specs.Prelude.{◌≡◌, ◌+◌, ◌-◌, ◌<◌, ◌≤◌, [], IfErr, IfOk, OnOk, length, vec_len};
 ghost use Rattle.access_model.specs.declared.errors.GateError.TheVariants.{NoMemory};
-ghost use Rattle.gate_runs.specs.run_threads.Homes.{ComesHome, DoesRounds, Part};
+ghost use Rattle.gate_runs.specs.run_threads.Homes.{ComesHome, DoesRounds, TaskShare};
 ghost use Rattle.gate_runs.specs.run_threads.Parts.{AllDid, AllWrote, Among, EachFrom, Remounted};
 ghost use Rattle.gate_runs.specs.run_parts.Meetings.{was_held};
 ghost use Rattle.gate_runs.specs.run_parts.Refusals.{MetBy, RunRefused};
@@ -13,7 +13,7 @@ ghost use Rattle.vfs_gates.specs.Held.{Rests};
 
 use crate::run_parts::{Gates, Task, back_up, create_files, remount, write};
 use access_model::GateError;
-use run_plans::{Details, FIRST_WRITER, Plan, Remounts, Watch, Writes};
+use run_plans::{Details, FIRST_WRITER, Plan, Remounts, RunObserver, Writes};
 use std::alloc::Global;
 use std::sync::Wait;
 use std::thread;
@@ -56,7 +56,7 @@ impl<'g, W> Drop for Home<'g, W> {
     }
 }
 
-impl<'g, W: Watch> Promise<Worked> for Home<'g, W> {
+impl<'g, W: RunObserver> Promise<Worked> for Home<'g, W> {
     ghost kept_by = { λ home ended. ComesHome (W.held home.watch.now) home.gates.now home.plan home.number ended.task ended.met };
 }
 
@@ -64,7 +64,7 @@ impl<'g, W: Watch> Promise<Worked> for Home<'g, W> {
 type Worker<'g, W> = PromisedHandle<Worked, Home<'g, W>>;
 
 /// What a thread does: it remounts, or writes, by its task's number.
-fn work<R: Wait, W: Watch>(
+fn work<R: Wait, W: RunObserver>(
     rt: &R,
     gates: &Gates,
     plan: Plan,
@@ -90,7 +90,7 @@ fn work<R: Wait, W: Watch>(
 }
 
 /// Splits the next task off, and starts its thread. NoMemory where it can't be started, or a growth was refused.
-fn start_worker<'s, E, R: Wait + Sync, W: Watch + Sync>(
+fn start_worker<'s, E, R: Wait + Sync, W: RunObserver + Sync>(
     scope: &Scope<'s, E>,
     rt: &'s R,
     alloc: Global,
@@ -141,7 +141,7 @@ fn start_worker<'s, E, R: Wait + Sync, W: Watch + Sync>(
 }
 
 /// Splits off all other tasks, in their order, and starts their threads.
-fn start_workers<'s, E, R: Wait + Sync, W: Watch + Sync>(
+fn start_workers<'s, E, R: Wait + Sync, W: RunObserver + Sync>(
     scope: &Scope<'s, E>,
     rt: &'s R,
     alloc: Global,
@@ -178,7 +178,7 @@ fn start_workers<'s, E, R: Wait + Sync, W: Watch + Sync>(
 }
 
 /// Joins a thread, and takes its task's number back: both tasks rest, so this isn't refused. Tells what it met, or why a call of it was refused.
-fn join_worker<R: Threads, W: Watch>(
+fn join_worker<R: Threads, W: RunObserver>(
     rt: &R,
     gates: &Gates,
     task: &mut Task,
@@ -191,7 +191,7 @@ fn join_worker<R: Threads, W: Watch>(
     ensures from { IsFrom task.new gates.now }
     ensures rests { Rests task.new × (1 ≤ length task.new.items) }
     ensures others { (s : TaskState) → Among task.old.items s → Among task.new.items s }
-    ensures part { IfOk result (Part (Among task.new.items) (W.held worker.entry.promise.watch.now)
+    ensures part { IfOk result (TaskShare (Among task.new.items) (W.held worker.entry.promise.watch.now)
         worker.entry.promise.plan.processors worker.entry.promise.plan.rounds worker.entry.promise.number) }
     ensures refused { IfErr result (RunRefused gates.now.words.config worker.entry.promise.plan.tasks) }
 {
@@ -203,7 +203,7 @@ fn join_worker<R: Threads, W: Watch>(
 }
 
 /// Joins all threads, of this plan and watch, and tells what the remounter met, and the writers together. The first refusal that is met ends it.
-fn join_workers<R: Threads, W: Watch>(
+fn join_workers<R: Threads, W: RunObserver>(
     rt: &R,
     gates: &Gates,
     _plan: Plan,
@@ -238,7 +238,7 @@ fn join_workers<R: Threads, W: Watch>(
 }
 
 /// Creates the files, starts the threads of all other tasks, backs up beside them, and joins them.
-fn run_threads<'s, E, R: Threads + Wait + Sync, W: Watch + Sync>(
+fn run_threads<'s, E, R: Threads + Wait + Sync, W: RunObserver + Sync>(
     scope: &Scope<'s, E>,
     rt: &'s R,
     alloc: Global,
@@ -273,7 +273,7 @@ fn run_threads<'s, E, R: Threads + Wait + Sync, W: Watch + Sync>(
 }
 
 /// Does a run in a scope of threads: all of them have ended when it returns, whatever it answers.
-pub fn in_threads<R: Threads + Wait + Sync, W: Watch + Sync>(
+pub fn in_threads<R: Threads + Wait + Sync, W: RunObserver + Sync>(
     rt: &R,
     alloc: Global,
     gates: &Gates,

@@ -7,7 +7,7 @@ use Rattle.freeze_levels.specs.Holders.{holders_in}
 use Rattle.cpu_words.specs.gate_counts.Levels.{LevelHolds, LevelRole, LevelView, Out as CountsNot}
 use Rattle.gate_schedules.proofs.frames.Known.{known_same}
 use Rattle.gate_world.specs.{Fits.{Fits, HasFile, file_of}, Holdings.Holdings, Levels.{at_level, inside, is_frozen_whole, level_added_by, level_taken_by}}
-use Rattle.gate_world.specs.{Alike.{Roles, no_roles, roles_of}, Levels.sync_role_of, Owners.KnowsWords, Roles.{count_role_if, role_if, sync_role_if}}
+use Rattle.gate_world.specs.{SameRoles.{Roles, no_roles, roles_of}, Levels.sync_role_of, Owners.KnowsWords, Roles.{count_role_if, role_if, sync_role_if}}
 use Rattle.gate_world.specs.Rules.{AtLevel, AtMount, Files, Fitting, GatesHold, Holding, Holds, IsGood, IsSteady, Known, Owner, OwnerHolds, Part, SameView}
 use Rattle.gate_world.specs.Rules.{SameWords, Sections, Stages, SyncAt, Tree, ViewFits, at_mount, holder_role_of, holder_roles, owns, remounts, stage_role_of}
 use Rattle.gate_world.specs.{Rules.stage_roles, Shown.{closing, is_passed, shown}, Trees.{tree_bounds, tree_role_of, tree_roles}, Views.added_after}

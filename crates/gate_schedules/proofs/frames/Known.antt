@@ -4,7 +4,7 @@ use Rattle.std.specs.Prelude.{List, None, Some, false, is_some, ◌∷◌, []}
 use Rattle.finite_sums.{proofs.Totals.each_updated}
 use Rattle.cpu_words.specs.{Hooks.HookAnswer, Touches.{event_of, left}, Words.{Words, put, read}}
 use Rattle.cpu_words.specs.declared.{events.{Event.Event, Touch.Touch}, names.WordName.WordName}
-use Rattle.gate_world.specs.{Found.is_load, Owners.{is_owned, is_owned_word, last_left, takes_lock, KnowsWords}, Rules.{Holds, IsGood, Known, Owner, owns}}
+use Rattle.gate_world.specs.{traces.Found.is_load, Owners.{is_owned, is_owned_word, last_left, takes_lock, KnowsWords}, Rules.{Holds, IsGood, Known, Owner, owns}}
 use Rattle.gate_world.specs.{Views.{phase_after, view_after}, Work.{after_of, next_of}, Worlds.{World, after_step, found_at, value_at, words_after}}
 use Rattle.gate_world.specs.declared.{config.Config.Config, views.{Traced.Traced, View.View}, work.Phase.Phase}
 use Rattle.gate_schedules.proofs.frames.Words.{load_same}

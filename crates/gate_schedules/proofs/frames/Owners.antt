@@ -6,7 +6,7 @@ use Rattle.finite_sums.specs.Sums.{total, update}
 use Rattle.gate_schedules.proofs.frames.Frames.{MountHoldsAfter, gates_after, holds_as, owner_same, shown_held, shown_still, view_as}
 use Rattle.gate_world.specs.{Holdings.Holdings, Remounts.{remount_owns, remount_sets}}
 use Rattle.gate_world.specs.{Rules.{AtMount, GatesHold, IsGood, IsSteady, Owner, OwnerHolds, ViewFits, at_mount, owns, remounts, role_of}, Shown.closing}
-use Rattle.gate_world.specs.{Shown.shown, Views.{added_by, held_of, taken_by}, Waits.{HasCulprit, IsWaitedFor}, Worlds.World, declared.config.Config.Config}
+use Rattle.gate_world.specs.{Shown.shown, Views.{added_by, held_of, taken_by}, refusals.Waits.{HasCulprit, IsWaitedFor}, Worlds.World, declared.config.Config.Config}
 use Rattle.gate_world.specs.declared.{views.View.View, work.Phase.Phase}
 use Rattle.mount_counts.specs.{Roles.{Role, has_hold, hold_bit, ro_bit, skips}}
 use Rattle.mount_counts.specs.declared.{remounts.RemountStep.RemountStep}

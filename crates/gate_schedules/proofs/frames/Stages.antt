@@ -11,18 +11,18 @@ use Rattle.gate_world.specs.{Rules.{marks_of, owns, stage_role_of, stage_roles},
 use Rattle.gate_world.specs.declared.{config.Config.Config, views.View.View, work.Phase.Phase}
 use Rattle.node_words.specs.Nodes.{dirty_in, node_shown}
 use Rattle.mount_counts.specs.{Roles.ro_bit, declared.remounts.RemountStep.RemountStep}
-use Rattle.freeze_laws.proofs.stages.Whole.{actions_are_allowed, actions_have_their_effect, events_keep}
-use Rattle.freeze_laws.specs.stages.{Events.{Happens, Holds as StageHolds, IsAlike, Shows, StageEvent, Stages as StageMoment, action_of}, Roles.{Owning, StageRole}}
+use Rattle.freeze_laws.proofs.stages.CitedLaws.{actions_are_allowed, actions_have_their_effect, events_keep}
+use Rattle.freeze_laws.specs.stages.{Events.{Happens, Holds as StageHolds, SameDuties, RepresentsStages, StageEvent, Stages as StageMoment, action_of}, Roles.{Owning, StageRole}}
 use Rattle.freeze_laws.specs.stages.{Roles.owns as stage_owns, Shown.{AsksOthers, ShowsStages, passed_shown, state_after}}
 use Rattle.std.proofs.{Common.{Bool, ap, arith, refl, subst, sym, ℕ, ◌<◌, ◌∙◌, ◌≡◌, ◌≤◌}}
 use Rattle.std.specs.Prelude.{Option, Some, false, ◌==◌}
 
 -- owners that rely on one thing or another are alike
-pub owners_alike : (stage sb stage' sb' : Option ℕ) → IsAlike (Owning stage sb) (Owning stage' sb')
+pub owners_alike : (stage sb stage' sb' : Option ℕ) → SameDuties (Owning stage sb) (Owning stage' sb')
 owners_alike stage sb stage' sb' =
     record { owns_same = refl; freezes_same = refl; remounts_same = refl; closed_same = refl; passed_same = refl }
 
-pub alike_same : (r : StageRole) → IsAlike r r
+pub alike_same : (r : StageRole) → SameDuties r r
 alike_same r = record { owns_same = refl; freezes_same = refl; remounts_same = refl; closed_same = refl; passed_same = refl }
 
 -- the stage of a world
@@ -50,7 +50,7 @@ module _ (c : Config) (w : World) (good : IsGood c w) where
   pub stages_right : StageHolds c.tasks c.nodes (stages_in w)
   stages_right = record { stages = good Stages; marks = marks_right c w good }
 
-  pub stages_shown : Shows (model_limits c) (stages_in w) (shown c w)
+  pub stages_shown : RepresentsStages (model_limits c) (stages_in w) (shown c w)
   stages_shown = record {
     stages = record { stage_same = refl; passed_same = shown_passed c w; sb_same = refl };
     marks = λ n lt e. clean_shown (w.words.node n) e;

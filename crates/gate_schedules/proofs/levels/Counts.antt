@@ -10,7 +10,7 @@ use Rattle.cpu_words.specs.gate_counts.Levels.{Out as CountsNot, Seeking, Backin
 use Rattle.gate_world.specs.{Configs.IsWithin, Levels.{is_frozen_whole, at_level, level_role_of, level_added_by, level_taken_by}, Roles.count_role_if}
 use Rattle.gate_world.specs.{Rules.{IsGood, Holds, AtLevel}, Views.{holds_level, view_with}, Worlds.World, declared.{config.Config.Config, views.View.View}}
 use Rattle.gate_world.specs.declared.work.Phase.{Phase}
-use Rattle.gate_schedules.proofs.{frames.Frames.{left_alone, level_as, level_view_as}, levels.Parts.{IsBeside, whole_same}}
+use Rattle.gate_schedules.proofs.{frames.Frames.{left_alone, level_as, level_view_as}, levels.Parts.{SameOffLevels, whole_same}}
 
 pub count_on : (i : ℕ) (r : LevelRole) → count_role_if (i == i) r ≡ r
 count_on i r = rw (eq-eqb i i refl)
@@ -29,7 +29,7 @@ module _ (c : Config) (w : World) (good : IsGood c w) (t : ℕ) (lt : t < c.task
   LevelHoldsAfter count v =
       LevelHolds c.tasks c.processors (w.words.block i) (is_frozen_whole w.words) count (update (λ x. at_level i (w.views x)) t v)
 
-  module _ (ws : Words) (v : View) (words : IsBeside w.words ws) where
+  module _ (ws : Words) (v : View) (words : SameOffLevels w.words ws) where
     -- an event that counts at one level at most
     pub level_follows : (count : ℕ → ℕ) (view : LevelView) → ws.level i ≡ count → at_level i v ≡ view →
         (1 ≤ i → i ≤ 3 → LevelHoldsAfter count view) →
@@ -72,10 +72,10 @@ module _ (c : Config) (lim : IsWithin c) (w : World) (good : IsGood c w) (t : �
   abbrev pub view_down : View
   view_down = view_with (w.views t) (WordName.LevelCount i p, Touch.Sub 1) (w.words.level i p) hook coming
 
-  pub up_beside : IsBeside w.words words_up
+  pub up_beside : SameOffLevels w.words words_up
   up_beside = refl
 
-  pub down_beside : IsBeside w.words words_down
+  pub down_beside : SameOffLevels w.words words_down
   down_beside = refl
 
   -- what the level's counts are before the event

@@ -22,12 +22,12 @@ use Rattle.freeze_laws.specs.levels.Operations.{down_write_role, value_at, left_
 use Rattle.freeze_laws.specs.levels.Roles.{Out as IsApart, Closed, entered}
 use Rattle.freeze_laws.{proofs.stages.{Facts.total_alone, Positions.{other_position, not_full}}, specs.stages.Roles.has_position}
 use Rattle.gate_world.specs.{Configs.IsWithin, Fits.DownWriteFits, LevelRuns.level_in, Levels.{sync_role_of, at_level, is_frozen_whole, level_role_of}}
-use Rattle.gate_world.specs.Roles.{Stand, stand_count, stand_sync, closed_to, down_count_role}
+use Rattle.gate_world.specs.Roles.{LevelPosition, position_count, position_sync, closed_to, down_count_role}
 use Rattle.gate_world.specs.{Rules.{AtLevel, Holds, IsGood, Stages, stage_role_of, stage_roles}}
 use Rattle.gate_world.specs.{Views.holds_level, Worlds.World, declared.{config.Config.Config, views.View.View, work.Phase.{Phase}}}
 use Rattle.gate_schedules.proofs.frames.Frames.{SameLevelCounts}
-use Rattle.gate_schedules.proofs.levels.StandRoles.{count_at, sync_at, SayBeside, counts_left, counts_become, levels_move}
-use Rattle.gate_schedules.proofs.levels.Standing.{Stands, closing_stand, stand_after_closing, LevelsHold, left_world}
+use Rattle.gate_schedules.proofs.levels.PositionRoles.{count_at, sync_at, SayBeside, counts_left, counts_become, levels_move}
+use Rattle.gate_schedules.proofs.levels.LevelPositions.{HasPosition, closing_position, position_after_closing, LevelsHold, left_world}
 use Rattle.gate_schedules.proofs.levels.Worlds.{level_right, found_level, IsEventAt, event_word}
 
 -- each event of a down-write is one of its level, and changes no section word
@@ -58,17 +58,17 @@ pub down_write_level : (d : DownWrite) (s : DownWriteStep) (found : ℕ) → AtT
 down_write_level d s found = grind arith
 
 -- what comes after its event says what it said of the other levels
-closing_beside : (level : ℕ) (s : Stand) → s.level ≡ level → (n : Next DownWrite) → AtTheLevel level n →
-    SayBeside level (Some s) (stand_after_closing level n)
+closing_beside : (level : ℕ) (s : LevelPosition) → s.level ≡ level → (n : Next DownWrite) → AtTheLevel level n →
+    SayBeside level (Some s) (position_after_closing level n)
 closing_beside level s e n h = grind (arith, common_steps)
 
 -- and of its own what its step is doing there
 closing_sync : (level : ℕ) (n : Next DownWrite) → AtTheLevel level n →
-    by_next (λ (x : DownWrite). down_write_role x.step) Closed n ≡ stand_sync level (stand_after_closing level n)
+    by_next (λ (x : DownWrite). down_write_role x.step) Closed n ≡ position_sync level (position_after_closing level n)
 closing_sync level n h = grind arith
 
-counts_as : (d : DownWrite) (s : DownWriteStep) → stand_count d.level (Some (closing_stand (at_down_write d s))) ≡ down_count_role s
-counts_as d s = count_at d.level (closing_stand (at_down_write d s)) refl
+counts_as : (d : DownWrite) (s : DownWriteStep) → position_count d.level (Some (closing_position (at_down_write d s))) ≡ down_count_role s
+counts_as d s = count_at d.level (closing_position (at_down_write d s)) refl
 
 -- nor has it while it enters
 enter_counts : (tasks : ℕ) (n : TransitionNext) → down_count_role (enter_step tasks n) ≡ CountsNot
@@ -81,23 +81,23 @@ call_counts other = refl
 
 -- or is in it
 grace_counts : (d : DownWrite) (n : GraceNext) →
-    stand_count d.level (stand_after_closing d.level (sections_awaited d n)) ≡ CountsNot
+    position_count d.level (position_after_closing d.level (sections_awaited d n)) ≡ CountsNot
 grace_counts d n = grind arith
 
 -- or has loaded for GP_PASSED
-state_counts : (d : DownWrite) (b : Bool) → stand_count d.level (stand_after_closing d.level
+state_counts : (d : DownWrite) (b : Bool) → position_count d.level (position_after_closing d.level
     (if b then Next.Go (at_down_write d DownWriteStep.SetsBlock) else Next.Wait (at_down_write d DownWriteStep.AwaitsPassed))) ≡ CountsNot
 state_counts d true = counts_as d DownWriteStep.SetsBlock
 state_counts d false = counts_as d DownWriteStep.AwaitsPassed
 
 -- whatever number it found
 passed_counts : (d : DownWrite) (o : Option SyncWord) →
-    stand_count d.level (stand_after_closing d.level (passed_awaited d o)) ≡ CountsNot
+    position_count d.level (position_after_closing d.level (passed_awaited d o)) ≡ CountsNot
 passed_counts d None = counts_as d DownWriteStep.AwaitsPassed
 passed_counts d (Some word) = state_counts d (is_passed word.state)
 
 -- by its swap of a clear `block` it begins a sum
-swap_counts : (d : DownWrite) (b : Bool) → b ≡ true → stand_count d.level (stand_after_closing d.level
+swap_counts : (d : DownWrite) (b : Bool) → b ≡ true → position_count d.level (position_after_closing d.level
     (if b then Next.Go (at_down_write d sum_begun) else Next.Wait (at_down_write d DownWriteStep.SetsBlock))) ≡ Summing 0 0
 swap_counts d true e = counts_as d sum_begun
 swap_counts d false e = absurd (true≢false (sym e))
@@ -126,14 +126,14 @@ taken_role (Taken.More sum) = Summing sum.words sum.total
 taken_role (Taken.Total n) = total_role (n == 0)
 
 -- so it stands then at its level
-total_counts : (d : DownWrite) (b : Bool) → stand_count d.level (stand_after_closing d.level
+total_counts : (d : DownWrite) (b : Bool) → position_count d.level (position_after_closing d.level
     (if b then Next.Done (Ok Reply.Unit) else Next.Wait (at_down_write d sum_begun))) ≡ total_role b
 total_counts d true = count_at d.level (closed_to d.level) refl
 total_counts d false = counts_as d sum_begun
 
 -- and so after one word more
 taken_counts : (d : DownWrite) (taken : Taken) →
-    stand_count d.level (stand_after_closing d.level (down_write_summed d taken).0) ≡ taken_role taken
+    position_count d.level (position_after_closing d.level (down_write_summed d taken).0) ≡ taken_role taken
 taken_counts d (Taken.More sum) = counts_as d (DownWriteStep.Sums sum)
 taken_counts d (Taken.Total n) = total_counts d (n == 0)
 
@@ -189,17 +189,17 @@ module _ (c : Config) (lim : IsWithin c) (w : World) (good : IsGood c w) (t : �
     next_closing s = (down_write_after d s (found_closing s)).0
 
     -- its swap finds `block` clear
-    pub swap_finds_clear : 1 ≤ d.level → d.level ≤ 3 → Stands (w.views t).phase (Some (closing_stand (at_down_write d DownWriteStep.SetsBlock))) →
+    pub swap_finds_clear : 1 ≤ d.level → d.level ≤ 3 → HasPosition (w.views t).phase (Some (closing_position (at_down_write d DownWriteStep.SetsBlock))) →
         w.words.block d.level ≡ 0
     swap_finds_clear one three was =
         let l = level_in w d.level in
         let right = level_right c w good d.level one three in
         (swap_keeps c.tasks right.level.word l.block l.full l.section l.at right.level.holds t lt
-        (was.syncs d.level one three ∙ sync_at d.level (closing_stand (at_down_write d DownWriteStep.SetsBlock)) refl)).0
+        (was.syncs d.level one three ∙ sync_at d.level (closing_position (at_down_write d DownWriteStep.SetsBlock)) refl)).0
 
     -- its sum after one word more
     summed_here : (sum : Sum) → DownWriteFits c (at_down_write d (DownWriteStep.Sums sum)) →
-        Stands (w.views t).phase (Some (closing_stand (at_down_write d (DownWriteStep.Sums sum)))) →
+        HasPosition (w.views t).phase (Some (closing_position (at_down_write d (DownWriteStep.Sums sum)))) →
         RoleAfter d.level (taken_role (sum_taking sum (w.words.level d.level sum.words) d.processors))
     summed_here sum fits was =
         word_taken d.level sum.words sum.total fits.0 fits.1 (was.counts d.level fits.0 fits.1 ∙ counts_as d (DownWriteStep.Sums sum)) fits.4
@@ -210,7 +210,7 @@ module _ (c : Config) (lim : IsWithin c) (w : World) (good : IsGood c w) (t : �
 
     -- the sum of nobody's counts finds that nobody holds the level
     summed_nobody : (sum : Sum) → DownWriteFits c (at_down_write d (DownWriteStep.Sums sum)) →
-        Stands (w.views t).phase (Some (closing_stand (at_down_write d (DownWriteStep.Sums sum)))) → (j : ℕ) →
+        HasPosition (w.views t).phase (Some (closing_position (at_down_write d (DownWriteStep.Sums sum)))) → (j : ℕ) →
         (down_write_summed d (sum_taking sum (w.words.level d.level sum.words) d.processors)).1 ≡ Some (Action.Pass j) →
         total c.tasks (λ x. (at_level d.level (w.views x)).held) ≡ 0
     summed_nobody sum fits was j e =
@@ -224,7 +224,7 @@ module _ (c : Config) (lim : IsWithin c) (w : World) (good : IsGood c w) (t : �
 
     -- an event that passes a level finds that nobody holds it
     passes_nobody : (s : DownWriteStep) → DownWriteFits c (at_down_write d s) →
-        Stands (w.views t).phase (Some (closing_stand (at_down_write d s))) → (j : ℕ) →
+        HasPosition (w.views t).phase (Some (closing_position (at_down_write d s))) → (j : ℕ) →
         (down_write_after d s (found_closing s)).1 ≡ Some (Action.Pass j) →
         total c.tasks (λ x. if holds_level (w.views x) d.level then 1 else 0) ≡ 0
     passes_nobody (DownWriteStep.Sums sum) fits was j e = summed_nobody sum fits was j e
@@ -232,12 +232,12 @@ module _ (c : Config) (lim : IsWithin c) (w : World) (good : IsGood c w) (t : �
 
     -- its event is one of the rcu_sync of its level; it enters where nobody has entered
     pub closing_there : (s : DownWriteStep) → DownWriteFits c (at_down_write d s) →
-        Stands (w.views t).phase (Some (closing_stand (at_down_write d s))) →
+        HasPosition (w.views t).phase (Some (closing_position (at_down_write d s))) →
         (sync_role_of d.level (w.views t).phase ≡ IsApart →
         total c.tasks (λ x. entered (sync_role_of d.level (w.views x).phase)) + is_frozen_whole w.words ≡ 0) →
         SyncStep c.tasks (level_in w d.level)
         (left_by (level_in w d.level) t (down_write_next d s) (read w.words (down_write_next d s).0)
-        (stand_sync d.level (stand_after_closing d.level (next_closing s))))
+        (position_sync d.level (position_after_closing d.level (next_closing s))))
     closing_there s fits was alone =
         let name : WordName = (down_write_next d s).0 in
         let touch : Touch = (down_write_next d s).1 in
@@ -245,7 +245,7 @@ module _ (c : Config) (lim : IsWithin c) (w : World) (good : IsGood c w) (t : �
         let found = found_level w d.level name (event_word d.level name touch (down_write_event d s)) in
         let there = down_writes_are_there t (read w.words name) l (at_down_write d s) (omega (arith, lt, fits.2))
         (subst (λ k. SyncLevelHolds k l) (sym fits.2) (level_right c w good d.level fits.0 fits.1))
-        (was.syncs d.level fits.0 fits.1 ∙ sync_at d.level (closing_stand (at_down_write d s)) refl) fits.5
+        (was.syncs d.level fits.0 fits.1 ∙ sync_at d.level (closing_position (at_down_write d s)) refl) fits.5
         (λ out. subst (λ k. total k (λ x. entered (sync_role_of d.level (w.views x).phase)) + is_frozen_whole w.words ≡ 0)
         (sym fits.2) (alone out)) in
         subst (λ k. SyncStep c.tasks l (left_by l t (name, touch) (read w.words name) k))
@@ -258,26 +258,26 @@ module _ (c : Config) (lim : IsWithin c) (w : World) (good : IsGood c w) (t : �
 
     -- what comes after it says what it said of the other levels
     pub closing_others : (s : DownWriteStep) →
-        SayBeside d.level (Some (closing_stand (at_down_write d s))) (stand_after_closing d.level (next_closing s))
+        SayBeside d.level (Some (closing_position (at_down_write d s))) (position_after_closing d.level (next_closing s))
     closing_others s =
-        closing_beside d.level (closing_stand (at_down_write d s)) refl (next_closing s) (down_write_level d s (found_closing s))
+        closing_beside d.level (closing_position (at_down_write d s)) refl (next_closing s) (down_write_level d s (found_closing s))
 
     module _ (v : View) (counts : SameLevelCounts (w.views t) v) where
       -- an event before its swap leaves the counts of its level
       waits_here : (s : DownWriteStep) → (words_closing s).block d.level ≡ w.words.block d.level →
           is_frozen_whole (words_closing s) ≡ is_frozen_whole w.words → down_count_role s ≡ CountsNot →
-          stand_count d.level (stand_after_closing d.level (next_closing s)) ≡ CountsNot →
-          Stands (w.views t).phase (Some (closing_stand (at_down_write d s))) →
-          Stands v.phase (stand_after_closing d.level (next_closing s)) → Holds c (left_world w t (words_closing s) v) (AtLevel d.level)
+          position_count d.level (position_after_closing d.level (next_closing s)) ≡ CountsNot →
+          HasPosition (w.views t).phase (Some (closing_position (at_down_write d s))) →
+          HasPosition v.phase (position_after_closing d.level (next_closing s)) → Holds c (left_world w t (words_closing s) v) (AtLevel d.level)
       waits_here s eb ef before after was now =
-          counts_left c w good t lt v (Some (closing_stand (at_down_write d s))) (stand_after_closing d.level (next_closing s)) was now
+          counts_left c w good t lt v (Some (closing_position (at_down_write d s))) (position_after_closing d.level (next_closing s)) was now
           counts (words_closing s) d.level eb (ap (λ f. f d.level) (down_write_counts w.words d s)) ef
           (λ low high. after ∙ sym (counts_as d s ∙ before))
 
       -- the counts of its level after its event
       closing_here : (s : DownWriteStep) → DownWriteFits c (at_down_write d s) →
-          Stands (w.views t).phase (Some (closing_stand (at_down_write d s))) →
-          Stands v.phase (stand_after_closing d.level (next_closing s)) → Holds c (left_world w t (words_closing s) v) (AtLevel d.level)
+          HasPosition (w.views t).phase (Some (closing_position (at_down_write d s))) →
+          HasPosition v.phase (position_after_closing d.level (next_closing s)) → Holds c (left_world w t (words_closing s) v) (AtLevel d.level)
       closing_here (DownWriteStep.Enters Transition.Loads) fits was now =
           waits_here (DownWriteStep.Enters Transition.Loads) refl refl refl
           (counts_as d (enter_step d.tasks (transition_after on_enter Transition.Loads (w.words.sync d.level))) ∙
@@ -300,15 +300,15 @@ module _ (c : Config) (lim : IsWithin c) (w : World) (good : IsGood c w) (t : �
           waits_here DownWriteStep.AwaitsPassed refl refl refl (passed_counts d (unpack (w.words.sync d.level))) was now
       closing_here DownWriteStep.SetsBlock fits was now =
           let clear = swap_finds_clear fits.0 fits.1 was in
-          counts_become c w good t lt v (Some (closing_stand (at_down_write d DownWriteStep.SetsBlock)))
-          (stand_after_closing d.level (next_closing DownWriteStep.SetsBlock)) was now counts (words_closing DownWriteStep.SetsBlock) d.level 1
+          counts_become c w good t lt v (Some (closing_position (at_down_write d DownWriteStep.SetsBlock)))
+          (position_after_closing d.level (next_closing DownWriteStep.SetsBlock)) was now counts (words_closing DownWriteStep.SetsBlock) d.level 1
           (is_frozen_whole w.words) (Summing 0 0) (update_at w.words.block d.level 1) refl refl
           (λ low high. swap_counts d (w.words.block d.level == 0) (eq-eqb (w.words.block d.level) 0 clear))
           (λ low high. swaps (good (AtLevel d.level) low high) t lt lim.tasks lim.processors
           (was.counts d.level low high ∙ counts_as d DownWriteStep.SetsBlock) clear (omega (arith, lim.some_processor)))
       closing_here (DownWriteStep.Sums sum) fits was now =
-          counts_become c w good t lt v (Some (closing_stand (at_down_write d (DownWriteStep.Sums sum))))
-          (stand_after_closing d.level (next_closing (DownWriteStep.Sums sum))) was now counts (words_closing (DownWriteStep.Sums sum)) d.level
+          counts_become c w good t lt v (Some (closing_position (at_down_write d (DownWriteStep.Sums sum))))
+          (position_after_closing d.level (next_closing (DownWriteStep.Sums sum))) was now counts (words_closing (DownWriteStep.Sums sum)) d.level
           (w.words.block d.level) (is_frozen_whole w.words)
           (taken_role (sum_taking sum (w.words.level d.level sum.words) d.processors)) refl refl
           (ap (λ f. f d.level) (down_write_counts w.words d (DownWriteStep.Sums sum)))
@@ -317,19 +317,19 @@ module _ (c : Config) (lim : IsWithin c) (w : World) (good : IsGood c w) (t : �
 
       -- each event of a down-write leaves the levels as the rule has them
       pub down_write_levels_at : (s : DownWriteStep) → DownWriteFits c (at_down_write d s) →
-          Stands (w.views t).phase (Some (closing_stand (at_down_write d s))) →
-          Stands v.phase (stand_after_closing d.level (next_closing s)) →
+          HasPosition (w.views t).phase (Some (closing_position (at_down_write d s))) →
+          HasPosition v.phase (position_after_closing d.level (next_closing s)) →
           (sync_role_of d.level (w.views t).phase ≡ IsApart →
           total c.tasks (λ x. entered (sync_role_of d.level (w.views x).phase)) + is_frozen_whole w.words ≡ 0) →
           LevelsHold c (left_world w t (words_closing s) v)
       down_write_levels_at s fits was now alone =
-          levels_move c w good t lt v (Some (closing_stand (at_down_write d s))) (stand_after_closing d.level (next_closing s)) was now
+          levels_move c w good t lt v (Some (closing_position (at_down_write d s))) (position_after_closing d.level (next_closing s)) was now
           counts d.level (down_write_next d s).0 (down_write_next d s).1 (down_write_event d s) (down_write_counts w.words d s)
           (closing_others s) (closing_here s fits was now) (λ low high. closing_there s fits was alone)
 
 pub down_write_levels : (c : Config) → IsWithin c → (w : World) → IsGood c w → (t : ℕ) → t < c.tasks → (d : DownWrite) (v : View) →
-    SameLevelCounts (w.views t) v → DownWriteFits c d → Stands (w.views t).phase (Some (closing_stand d)) →
-    Stands v.phase (stand_after_closing d.level
+    SameLevelCounts (w.views t) v → DownWriteFits c d → HasPosition (w.views t).phase (Some (closing_position d)) →
+    HasPosition v.phase (position_after_closing d.level
     (down_write_after d d.step (found_by (down_write_next d d.step).1 (read w.words (down_write_next d d.step).0))).0) →
     (sync_role_of d.level (w.views t).phase ≡ IsApart →
     total c.tasks (λ x. entered (sync_role_of d.level (w.views x).phase)) + is_frozen_whole w.words ≡ 0) →
@@ -339,7 +339,7 @@ down_write_levels c lim w good t lt d v counts fits was now alone =
     down_write_levels_at c lim w good t lt d v counts d.step fits was now alone
 
 pub passes_finds_nobody : (c : Config) → IsWithin c → (w : World) → IsGood c w → (t : ℕ) → t < c.tasks → (d : DownWrite) →
-    DownWriteFits c d → Stands (w.views t).phase (Some (closing_stand d)) → (j : ℕ) →
+    DownWriteFits c d → HasPosition (w.views t).phase (Some (closing_position d)) → (j : ℕ) →
     (down_write_after d d.step (found_by (down_write_next d d.step).1 (read w.words (down_write_next d d.step).0))).1 ≡ Some (Action.Pass j) →
     total c.tasks (λ x. if holds_level (w.views x) d.level then 1 else 0) ≡ 0
 passes_finds_nobody c lim w good t lt d fits was j e = passes_nobody c lim w good t lt d d.step fits was j e

@@ -11,7 +11,7 @@ use Rattle.percpu_rwsem.specs.declared.{readers.DownReadStep.DownReadStep, sync_
 use Rattle.percpu_rwsem.specs.declared.transitions.{Transition.Transition, TransitionNext.TransitionNext}
 use Rattle.freeze_laws.specs.levels.Roles.{SyncRole, Out, entering, entered, claimed, closed, enter_bit, SyncHolds}
 use Rattle.freeze_laws.proofs.stages.Facts.{other_zero}
-use Rattle.gate_schedules.proofs.operations.deadlocks.Freezing.{not_none}
+use Rattle.gate_schedules.proofs.operations.deadlocks.FreezeProgress.{not_none}
 use Rattle.gate_schedules.specs.operations.Ranks.{exchange_rank}
 
 -- what comes after an event of a transition has a lower rank, or it is made, or it is not defined, which is this

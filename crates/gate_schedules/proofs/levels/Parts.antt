@@ -8,7 +8,7 @@ use Rattle.node_words.specs.Nodes.{node_shown}
 use Rattle.mount_counts.specs.Roles.{ro_bit}
 use Rattle.percpu_rwsem.specs.declared.readers.{DownRead.DownRead, UpRead.UpRead}
 use Rattle.freeze_levels.specs.Holders.{holders_in}
-use Rattle.gate_world.specs.{Alike.{Roles, no_roles, roles_of}, Levels.{at_level, inside, is_frozen_whole, sync_role_of}, Owners.KnowsWords, Rules.owns}
+use Rattle.gate_world.specs.{SameRoles.{Roles, no_roles, roles_of}, Levels.{at_level, inside, is_frozen_whole, sync_role_of}, Owners.KnowsWords, Rules.owns}
 use Rattle.gate_world.specs.Rules.{IsGood, Holds, ViewFits, Owner, Known, AtMount, AtLevel, SyncAt, Sections, Stages, Holding, Fitting, Tree, Files}
 use Rattle.gate_world.specs.{Shown.{closing, shown}, Views.{held_at, added_by, phase_after, taken_by, holds_level, has_open}, Worlds.World}
 use Rattle.gate_world.specs.declared.{config.Config.Config, views.View.View, work.Phase.Phase}
@@ -19,8 +19,8 @@ abbrev pub beside_levels : Words → Words
 beside_levels w = record w { level = λ i p. 0; sync = λ i. 0; section = λ t. 0 }
 
 -- are as they were
-abbrev pub IsBeside : Words → Words → Type 0
-IsBeside old new = beside_levels new ≡ beside_levels old
+abbrev pub SameOffLevels : Words → Words → Type 0
+SameOffLevels old new = beside_levels new ≡ beside_levels old
 
 -- these roles but for those at levels
 abbrev pub off_levels : Roles → Roles
@@ -38,7 +38,7 @@ pub record SameAtMounts (old new : View) : Type 0 where
   pub open_same : has_open new ≡ has_open old
 
 -- frozen or not as before
-pub whole_same : (old new : Words) → IsBeside old new → is_frozen_whole new ≡ is_frozen_whole old
+pub whole_same : (old new : Words) → SameOffLevels old new → is_frozen_whole new ≡ is_frozen_whole old
 whole_same old new words = λ k. is_frozen_whole (words k)
 
 pub reads_at_levels : (next : Next DownRead) → IsAtLevels (phase_after (map_next Phase.DownReads next))
@@ -48,7 +48,7 @@ reads_at_levels other = refl
 pub end_at_levels : (u : UpRead) → IsAtLevels (Some (Phase.UpReads u))
 end_at_levels u = refl
 
-module _ (c : Config) (w : World) (good : IsGood c w) (t : ℕ) (lt : t < c.tasks) (ws : Words) (v : View) (words : IsBeside w.words ws)
+module _ (c : Config) (w : World) (good : IsGood c w) (t : ℕ) (lt : t < c.tasks) (ws : Words) (v : View) (words : SameOffLevels w.words ws)
     (was : IsAtLevels (w.views t).phase) (now : IsAtLevels v.phase) where
   -- the world after the event
   abbrev pub then_world : World

@@ -7,16 +7,16 @@ use Rattle.percpu_rwsem.specs.Writers.{down_write_after, up_write_after, down_wr
 use Rattle.percpu_rwsem.specs.declared.writers.{DownWrite.DownWrite, UpWrite.UpWrite}
 use Rattle.freeze_laws.specs.levels.{Events.SyncStep, Operations.{put_at, left_by}, Roles.{Out as IsApart, entered}}
 use Rattle.gate_world.specs.{Configs.IsWithin, Fits.{DownWriteFits, UpWriteFits}, LevelRuns.level_in, Levels.{inside, sync_role_of, is_frozen_whole}}
-use Rattle.gate_world.specs.{Roles.{Stand, stand_sync}, Rules.IsGood, Worlds.World, declared.{config.Config.Config, views.View.View}}
+use Rattle.gate_world.specs.{Roles.{LevelPosition, position_sync}, Rules.IsGood, Worlds.World, declared.{config.Config.Config, views.View.View}}
 use Rattle.gate_schedules.proofs.{frames.Frames.SameLevelWords, levels.DownWrite.{next_closing, down_write_event, closing_others, closing_there}}
-use Rattle.gate_schedules.proofs.levels.StandRoles.{SayBeside, touched_sync, put_inside, touched_block, touched_whole}
-use Rattle.gate_schedules.proofs.levels.Standing.{Stands, LevelsRun, closing_stand, opening_stand, left_world, stand_after_closing, stand_after_opening}
+use Rattle.gate_schedules.proofs.levels.PositionRoles.{SayBeside, touched_sync, put_inside, touched_block, touched_whole}
+use Rattle.gate_schedules.proofs.levels.LevelPositions.{HasPosition, LevelsRun, closing_position, opening_position, left_world, position_after_closing, position_after_opening}
 use Rattle.gate_schedules.proofs.levels.{Steps.{level_stays, level_kept, level_moved}, UpWrite.{next_opening, up_write_event, opening_others, opening_there}}
 use Rattle.gate_schedules.proofs.levels.Worlds.{IsEventAt, section_kept}
 
 -- an event that leaves what the levels read of the words, and how its task stands with them, leaves each level
-pub levels_stay_runs : (c : Config) (w : World) (t : ℕ) → t < c.tasks → (ws : Words) (v : View) (s : Option Stand) →
-    SameLevelWords w.words ws → Stands (w.views t).phase s → Stands v.phase s → LevelsRun c w (left_world w t ws v)
+pub levels_stay_runs : (c : Config) (w : World) (t : ℕ) → t < c.tasks → (ws : Words) (v : View) (s : Option LevelPosition) →
+    SameLevelWords w.words ws → HasPosition (w.views t).phase s → HasPosition v.phase s → LevelsRun c w (left_world w t ws v)
 levels_stay_runs c w t lt ws v s words was now i one three =
     level_stays c.tasks t lt (level_in w i) (level_in (left_world w t ws v) i)
     (level_kept w t i ws v (ap (λ f. f i) words.sync_same) (ap (λ f. f i) words.block_same) words.whole_same words.section_same
@@ -26,15 +26,15 @@ put_level : (w : World) (i : ℕ) (name : WordName) (touch : Touch) → IsEventA
     put_at (level_in w i) name n ≡ level_in (record { words = put w.words name n; views = w.views }) i
 put_level w i name touch e n = grind arith
 
-module _ (c : Config) (w : World) (t : ℕ) (lt : t < c.tasks) (v : View) (s z : Option Stand) (was : Stands (w.views t).phase s)
-    (now : Stands v.phase z) (i : ℕ) (name : WordName) (touch : Touch) (is : IsEventAt i name touch) where
+module _ (c : Config) (w : World) (t : ℕ) (lt : t < c.tasks) (v : View) (s z : Option LevelPosition) (was : HasPosition (w.views t).phase s)
+    (now : HasPosition v.phase z) (i : ℕ) (name : WordName) (touch : Touch) (is : IsEventAt i name touch) where
   -- the words after an event of one level's words
   abbrev words_touched : Words
   words_touched = put w.words name (left touch (read w.words name))
 
   -- what the level's own event leaves of it is the level then
   own_level : 1 ≤ i → i ≤ 3 →
-      left_by (level_in w i) t (name, touch) (read w.words name) (stand_sync i z) ≡ level_in (left_world w t words_touched v) i
+      left_by (level_in w i) t (name, touch) (read w.words name) (position_sync i z) ≡ level_in (left_world w t words_touched v) i
   own_level one three =
       let n : ℕ = left touch (read w.words name) in
       let out : (put_at (level_in w i) name n).inside ≡ update (level_in w i).inside t (inside v.phase) =
@@ -47,7 +47,7 @@ module _ (c : Config) (w : World) (t : ℕ) (lt : t < c.tasks) (v : View) (s z :
       }) ∙ sym (level_moved w t i words_touched v))
 
   -- another level is left, where what the task says of it is
-  other_level : (j : ℕ) → (j ≡ i → ⊥) → stand_sync j z ≡ stand_sync j s → 1 ≤ j → j ≤ 3 →
+  other_level : (j : ℕ) → (j ≡ i → ⊥) → position_sync j z ≡ position_sync j s → 1 ≤ j → j ≤ 3 →
       level_in (left_world w t words_touched v) j ≡ level_in w j
   other_level j ne same one three =
       level_kept w t j words_touched v (touched_sync w.words i j ne name touch is) (touched_block w.words i j ne name touch is)
@@ -56,7 +56,7 @@ module _ (c : Config) (w : World) (t : ℕ) (lt : t < c.tasks) (v : View) (s z :
 
   -- so it is an event of each level, where it is one of its own
   pub levels_move_runs : SayBeside i s z → (1 ≤ i → i ≤ 3 → SyncStep c.tasks (level_in w i)
-      (left_by (level_in w i) t (name, touch) (read w.words name) (stand_sync i z))) → LevelsRun c w (left_world w t words_touched v)
+      (left_by (level_in w i) t (name, touch) (read w.words name) (position_sync i z))) → LevelsRun c w (left_world w t words_touched v)
   levels_move_runs beside step j one three = elim (eqb_tells j i) [
     | inl q ↦ subst (λ k. SyncStep c.tasks (level_in w k) (level_in (left_world w t words_touched v) k)) (sym q.1)
         (subst (SyncStep c.tasks (level_in w i)) (own_level (omega (arith, one, q.1)) (omega (arith, three, q.1)))
@@ -66,25 +66,25 @@ module _ (c : Config) (w : World) (t : ℕ) (lt : t < c.tasks) (v : View) (s z :
   ]
 
 pub down_write_runs : (c : Config) → IsWithin c → (w : World) → IsGood c w → (t : ℕ) → t < c.tasks → (d : DownWrite) (v : View) →
-    DownWriteFits c d → Stands (w.views t).phase (Some (closing_stand d)) →
-    Stands v.phase (stand_after_closing d.level
+    DownWriteFits c d → HasPosition (w.views t).phase (Some (closing_position d)) →
+    HasPosition v.phase (position_after_closing d.level
     (down_write_after d d.step (found_by (down_write_next d d.step).1 (read w.words (down_write_next d d.step).0))).0) →
     (sync_role_of d.level (w.views t).phase ≡ IsApart →
     total c.tasks (λ x. entered (sync_role_of d.level (w.views x).phase)) + is_frozen_whole w.words ≡ 0) →
     LevelsRun c w (left_world w t (put w.words (down_write_next d d.step).0
     (left (down_write_next d d.step).1 (read w.words (down_write_next d d.step).0))) v)
 down_write_runs c lim w good t lt d v fits was now alone =
-    levels_move_runs c w t lt v (Some (closing_stand d)) (stand_after_closing d.level (next_closing c lim w good t lt d d.step)) was now
+    levels_move_runs c w t lt v (Some (closing_position d)) (position_after_closing d.level (next_closing c lim w good t lt d d.step)) was now
     d.level (down_write_next d d.step).0 (down_write_next d d.step).1 (down_write_event d d.step)
     (closing_others c lim w good t lt d d.step) (λ low high. closing_there c lim w good t lt d d.step fits was alone)
 
 pub up_write_runs : (c : Config) → IsWithin c → (w : World) → IsGood c w → (t : ℕ) → t < c.tasks → (u : UpWrite) (v : View) →
-    UpWriteFits u → Stands (w.views t).phase (Some (opening_stand u)) →
-    Stands v.phase (stand_after_opening u.level
+    UpWriteFits u → HasPosition (w.views t).phase (Some (opening_position u)) →
+    HasPosition v.phase (position_after_opening u.level
     (up_write_after u u.step (found_by (up_write_next u u.step).1 (read w.words (up_write_next u u.step).0))).0) →
     LevelsRun c w (left_world w t (put w.words (up_write_next u u.step).0
     (left (up_write_next u u.step).1 (read w.words (up_write_next u u.step).0))) v)
 up_write_runs c lim w good t lt u v fits was now =
-    levels_move_runs c w t lt v (Some (opening_stand u)) (stand_after_opening u.level (next_opening c lim w good t lt u u.step)) was now
+    levels_move_runs c w t lt v (Some (opening_position u)) (position_after_opening u.level (next_opening c lim w good t lt u u.step)) was now
     u.level (up_write_next u u.step).0 (up_write_next u u.step).1 (up_write_event u u.step)
     (opening_others c lim w good t lt u u.step fits) (opening_there c lim w good t lt u u.step fits was)

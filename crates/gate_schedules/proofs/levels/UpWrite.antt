@@ -9,12 +9,12 @@ use Rattle.percpu_rwsem.specs.{SyncWords.on_exit, Transitions.transition_after, 
 use Rattle.percpu_rwsem.specs.declared.{transitions.{Transition.Transition, TransitionNext.TransitionNext}, writers.{UpWrite.UpWrite, UpWriteStep.UpWriteStep}}
 use Rattle.freeze_laws.proofs.levels.Operations.{up_writes_are_there}
 use Rattle.freeze_laws.specs.levels.{Events.SyncStep, Operations.{up_write_role, left_by, by_next, HoldsOfNext}, Roles.Out as IsApart}
-use Rattle.gate_world.specs.{Configs.IsWithin, Fits.UpWriteFits, LevelRuns.level_in, Levels.is_frozen_whole, Roles.{Stand, stand_count, stand_sync}}
+use Rattle.gate_world.specs.{Configs.IsWithin, Fits.UpWriteFits, LevelRuns.level_in, Levels.is_frozen_whole, Roles.{LevelPosition, position_count, position_sync}}
 use Rattle.gate_world.specs.{Rules.{IsGood, Holds, AtLevel}, Worlds.World, declared.{config.Config.Config, views.View.View}}
 use Rattle.gate_schedules.proofs.frames.Frames.{SameLevelCounts}
-use Rattle.gate_schedules.proofs.levels.StandRoles.{count_at, sync_at, SayBeside, counts_left}
-use Rattle.gate_schedules.proofs.levels.StandRoles.{counts_become, levels_move}
-use Rattle.gate_schedules.proofs.levels.Standing.{Stands, opening_stand, stand_after_opening, LevelsHold, left_world}
+use Rattle.gate_schedules.proofs.levels.PositionRoles.{count_at, sync_at, SayBeside, counts_left}
+use Rattle.gate_schedules.proofs.levels.PositionRoles.{counts_become, levels_move}
+use Rattle.gate_schedules.proofs.levels.LevelPositions.{HasPosition, opening_position, position_after_opening, LevelsHold, left_world}
 use Rattle.gate_schedules.proofs.levels.Worlds.{found_level, IsEventAt, event_word}
 
 -- the same up-write at this step
@@ -37,18 +37,18 @@ up_write_level u UpWriteStep.ClearsBlock found = refl
 up_write_level u (UpWriteStep.Exits x) found = exit_level u (transition_after on_exit x found)
 
 -- what comes after its event says what it said of the other levels
-opening_beside : (level : ℕ) (s : Stand) → 1 ≤ level → s.level ≡ level → (n : Next UpWrite) →
-    HoldsOfNext (λ (x : UpWrite). x.level ≡ level) n → SayBeside level (Some s) (stand_after_opening level n)
+opening_beside : (level : ℕ) (s : LevelPosition) → 1 ≤ level → s.level ≡ level → (n : Next UpWrite) →
+    HoldsOfNext (λ (x : UpWrite). x.level ≡ level) n → SayBeside level (Some s) (position_after_opening level n)
 opening_beside level s one e n h = grind arith
 
 -- and of its own what its step is doing there
 opening_sync : (level : ℕ) → 1 ≤ level → (n : Next UpWrite) → HoldsOfNext (λ (x : UpWrite). x.level ≡ level) n →
-    by_next (λ (x : UpWrite). up_write_role x.step) IsApart n ≡ stand_sync level (stand_after_opening level n)
+    by_next (λ (x : UpWrite). up_write_role x.step) IsApart n ≡ position_sync level (position_after_opening level n)
 opening_sync level one n h = grind arith
 
 -- with its store made, it has no part in the counts
 exit_counts : (u : UpWrite) → 1 ≤ u.level → (n : TransitionNext) →
-    stand_count u.level (stand_after_opening u.level (exit_made u n)) ≡ CountsNot
+    position_count u.level (position_after_opening u.level (exit_made u n)) ≡ CountsNot
 exit_counts u one n = grind arith
 
 module _ (c : Config) (lim : IsWithin c) (w : World) (good : IsGood c w) (t : ℕ) (lt : t < c.tasks) (u : UpWrite) where
@@ -62,16 +62,16 @@ module _ (c : Config) (lim : IsWithin c) (w : World) (good : IsGood c w) (t : �
 
   -- its event is one of the rcu_sync of its level
   pub opening_there : (s : UpWriteStep) → UpWriteFits (opening_at u s) →
-      Stands (w.views t).phase (Some (opening_stand (opening_at u s))) → 1 ≤ u.level → u.level ≤ 3 →
+      HasPosition (w.views t).phase (Some (opening_position (opening_at u s))) → 1 ≤ u.level → u.level ≤ 3 →
       SyncStep c.tasks (level_in w u.level) (left_by (level_in w u.level) t (up_write_next u s) (read w.words (up_write_next u s).0)
-      (stand_sync u.level (stand_after_opening u.level (next_opening s))))
+      (position_sync u.level (position_after_opening u.level (next_opening s))))
   opening_there s fits was low high =
       let name : WordName = (up_write_next u s).0 in
       let touch : Touch = (up_write_next u s).1 in
       let stays = up_write_level u s (found_by touch (read w.words name)) in
       let found = found_level w u.level name (event_word u.level name touch (up_write_event u s)) in
       let there = up_writes_are_there c.tasks t (read w.words name) (level_in w u.level) (opening_at u s) lt
-      (was.syncs u.level low high ∙ sync_at u.level (opening_stand (opening_at u s)) refl) fits.2 in
+      (was.syncs u.level low high ∙ sync_at u.level (opening_position (opening_at u s)) refl) fits.2 in
       subst (λ k. SyncStep c.tasks (level_in w u.level) (left_by (level_in w u.level) t (name, touch) (read w.words name) k))
       (opening_sync u.level fits.0 (next_opening s) stays)
       (subst (λ value. SyncStep c.tasks (level_in w u.level) (left_by (level_in w u.level) t (name, touch) value
@@ -79,50 +79,50 @@ module _ (c : Config) (lim : IsWithin c) (w : World) (good : IsGood c w) (t : �
 
   -- what comes after it says what it said of the other levels
   pub opening_others : (s : UpWriteStep) → UpWriteFits (opening_at u s) →
-      SayBeside u.level (Some (opening_stand (opening_at u s))) (stand_after_opening u.level (next_opening s))
+      SayBeside u.level (Some (opening_position (opening_at u s))) (position_after_opening u.level (next_opening s))
   opening_others s fits =
-      opening_beside u.level (opening_stand (opening_at u s)) fits.0 refl (next_opening s)
+      opening_beside u.level (opening_position (opening_at u s)) fits.0 refl (next_opening s)
       (up_write_level u s (found_by (up_write_next u s).1 (read w.words (up_write_next u s).0)))
 
   module _ (v : View) (counts : SameLevelCounts (w.views t) v) where
     -- the counts of its level after its event: its store opens the level
-    opening_here : (s : UpWriteStep) → 1 ≤ u.level → Stands (w.views t).phase (Some (opening_stand (opening_at u s))) →
-        Stands v.phase (stand_after_opening u.level (next_opening s)) → Holds c (left_world w t (words_opening s) v) (AtLevel u.level)
+    opening_here : (s : UpWriteStep) → 1 ≤ u.level → HasPosition (w.views t).phase (Some (opening_position (opening_at u s))) →
+        HasPosition v.phase (position_after_opening u.level (next_opening s)) → Holds c (left_world w t (words_opening s) v) (AtLevel u.level)
     opening_here UpWriteStep.ClearsBlock one was now =
-        counts_become c w good t lt v (Some (opening_stand (opening_at u UpWriteStep.ClearsBlock)))
-        (stand_after_opening u.level (next_opening UpWriteStep.ClearsBlock)) was now counts (words_opening UpWriteStep.ClearsBlock) u.level 0
+        counts_become c w good t lt v (Some (opening_position (opening_at u UpWriteStep.ClearsBlock)))
+        (position_after_opening u.level (next_opening UpWriteStep.ClearsBlock)) was now counts (words_opening UpWriteStep.ClearsBlock) u.level 0
         (is_frozen_whole w.words) CountsNot (update_at w.words.block u.level 0) refl refl
-        (λ low high. count_at u.level (opening_stand (at_up_write u Transition.Loads)) refl)
+        (λ low high. count_at u.level (opening_position (at_up_write u Transition.Loads)) refl)
         (λ low high. reopens (good (AtLevel u.level) low high) t lt lim.tasks lim.processors
-        (was.counts u.level low high ∙ count_at u.level (opening_stand (opening_at u UpWriteStep.ClearsBlock)) refl))
+        (was.counts u.level low high ∙ count_at u.level (opening_position (opening_at u UpWriteStep.ClearsBlock)) refl))
     opening_here (UpWriteStep.Exits Transition.Loads) one was now =
-        counts_left c w good t lt v (Some (opening_stand (opening_at u (UpWriteStep.Exits Transition.Loads))))
-        (stand_after_opening u.level (next_opening (UpWriteStep.Exits Transition.Loads))) was now counts
+        counts_left c w good t lt v (Some (opening_position (opening_at u (UpWriteStep.Exits Transition.Loads))))
+        (position_after_opening u.level (next_opening (UpWriteStep.Exits Transition.Loads))) was now counts
         (words_opening (UpWriteStep.Exits Transition.Loads)) u.level refl refl refl
         (λ low high. exit_counts u one (transition_after on_exit Transition.Loads (w.words.sync u.level)) ∙
-        sym (count_at u.level (opening_stand (opening_at u (UpWriteStep.Exits Transition.Loads))) refl))
+        sym (count_at u.level (opening_position (opening_at u (UpWriteStep.Exits Transition.Loads))) refl))
     opening_here (UpWriteStep.Exits (Transition.Exchanges from to)) one was now =
-        counts_left c w good t lt v (Some (opening_stand (opening_at u (UpWriteStep.Exits (Transition.Exchanges from to)))))
-        (stand_after_opening u.level (next_opening (UpWriteStep.Exits (Transition.Exchanges from to)))) was now counts
+        counts_left c w good t lt v (Some (opening_position (opening_at u (UpWriteStep.Exits (Transition.Exchanges from to)))))
+        (position_after_opening u.level (next_opening (UpWriteStep.Exits (Transition.Exchanges from to)))) was now counts
         (words_opening (UpWriteStep.Exits (Transition.Exchanges from to)))
         u.level refl refl refl
         (λ low high. exit_counts u one (transition_after on_exit (Transition.Exchanges from to) (w.words.sync u.level)) ∙
-        sym (count_at u.level (opening_stand (opening_at u (UpWriteStep.Exits (Transition.Exchanges from to)))) refl))
+        sym (count_at u.level (opening_position (opening_at u (UpWriteStep.Exits (Transition.Exchanges from to)))) refl))
 
     -- each event of an up-write leaves the levels as the rule has them
     pub up_write_levels_at : (s : UpWriteStep) → UpWriteFits (opening_at u s) →
-        Stands (w.views t).phase (Some (opening_stand (opening_at u s))) →
-        Stands v.phase (stand_after_opening u.level (next_opening s)) → LevelsHold c (left_world w t (words_opening s) v)
+        HasPosition (w.views t).phase (Some (opening_position (opening_at u s))) →
+        HasPosition v.phase (position_after_opening u.level (next_opening s)) → LevelsHold c (left_world w t (words_opening s) v)
     up_write_levels_at s fits was now =
         let name : WordName = (up_write_next u s).0 in
         let touch : Touch = (up_write_next u s).1 in
-        levels_move c w good t lt v (Some (opening_stand (opening_at u s))) (stand_after_opening u.level (next_opening s)) was now counts
+        levels_move c w good t lt v (Some (opening_position (opening_at u s))) (position_after_opening u.level (next_opening s)) was now counts
         u.level name touch (up_write_event u s) (up_write_counts w.words u s (left touch (read w.words name)))
         (opening_others s fits) (opening_here s fits.0 was now) (opening_there s fits was)
 
 pub up_write_levels : (c : Config) → IsWithin c → (w : World) → IsGood c w → (t : ℕ) → t < c.tasks → (u : UpWrite) (v : View) →
-    SameLevelCounts (w.views t) v → UpWriteFits u → Stands (w.views t).phase (Some (opening_stand u)) →
-    Stands v.phase (stand_after_opening u.level
+    SameLevelCounts (w.views t) v → UpWriteFits u → HasPosition (w.views t).phase (Some (opening_position u)) →
+    HasPosition v.phase (position_after_opening u.level
     (up_write_after u u.step (found_by (up_write_next u u.step).1 (read w.words (up_write_next u u.step).0))).0) →
     LevelsHold c (left_world w t (put w.words (up_write_next u u.step).0
     (left (up_write_next u u.step).1 (read w.words (up_write_next u u.step).0))) v)

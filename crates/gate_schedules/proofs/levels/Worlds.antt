@@ -5,7 +5,7 @@ use Rattle.std.specs.Prelude.{Option, Bool, true, false, ◌==◌, ◌&&◌, if�
 use Rattle.finite_sums.{proofs.Totals.{total_le, update_map, update_same}, specs.Sums.{update, total}}
 use Rattle.cpu_words.specs.{Touches.{wrap_add, left}, Words.{Words, put, read}, declared.{events.Touch.Touch, names.WordName.WordName}}
 use Rattle.percpu_rwsem.specs.declared.{readers.DownReadStep.DownReadStep}
-use Rattle.freeze_laws.proofs.levels.Whole.{events_keep, fast_finds_open as level_is_open}
+use Rattle.freeze_laws.proofs.levels.CitedLaws.{events_keep, fast_finds_open as level_is_open}
 use Rattle.freeze_laws.specs.levels.Events.{SyncLevelHolds, SyncStep, TurnsSection}
 use Rattle.freeze_laws.specs.levels.Operations.{down_read_role, put_at, value_at, left_by}
 use Rattle.freeze_laws.specs.levels.Roles.{SyncRole, Out as IsApart, Fast, fast, closed}

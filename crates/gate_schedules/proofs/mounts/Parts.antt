@@ -6,8 +6,8 @@ use Rattle.cpu_words.specs.{Hooks.HookAnswer, Touches.{found_by, left}, Words.{W
 use Rattle.cpu_words.specs.declared.{events.Touch.Touch, names.WordName.WordName}
 use Rattle.mount_counts.specs.Phases.{next, after}
 use Rattle.mount_counts.specs.declared.phases.{MountPhase.MountPhase}
-use Rattle.gate_world.specs.{Found.is_load, Levels.{at_level, level_added_after, level_taken_after, level_added_by, level_taken_by}}
-use Rattle.gate_world.specs.{Alike.{Roles, no_roles, roles_of}, Rules.{Holds, IsGood, Known, Part}}
+use Rattle.gate_world.specs.{traces.Found.is_load, Levels.{at_level, level_added_after, level_taken_after, level_added_by, level_taken_by}}
+use Rattle.gate_world.specs.{SameRoles.{Roles, no_roles, roles_of}, Rules.{Holds, IsGood, Known, Part}}
 use Rattle.gate_world.specs.Rules.{SameView}
 use Rattle.gate_world.specs.Rules.{SameWords, Stages, Holding, StepKeeps, at_gates, GateStepKeeps, Tree, AtLevel, SyncAt, Sections, Files}
 use Rattle.gate_world.specs.{Trees.tree_role_of, Views.{phase_after, view_after, actions_after, has_open}, Worlds.{World, after_step, value_at}}

@@ -5,8 +5,8 @@ use Rattle.cpu_words.specs.{Touches.{left, found_by}, Words.{Words, read, put}}
 use Rattle.mount_counts.specs.Phases.{has_flag, want_next, want_after, change_next, change_after, lock_failed}
 use Rattle.mount_counts.specs.declared.phases.{Change.Change, ChangeStep.ChangeStep, MountPhase.MountPhase, Want.Want, WantStep.WantStep}
 use Rattle.gate_world.specs.{Worlds.{words_after, found_at}, declared.{config.Config.Config, work.Phase.Phase}}
-use Rattle.gate_schedules.proofs.operations.deadlocks.Falls.{falls_as}
-use Rattle.gate_schedules.specs.operations.{Ranks.{rank, mount_rank, want_rank, change_rank}, Ways.{IsFree, MountIsFree, HoldIsClear, ChangeIsFree, Falls, PhaseEnds}}
+use Rattle.gate_schedules.proofs.operations.deadlocks.RankDecreases.{falls_as}
+use Rattle.gate_schedules.specs.operations.{Ranks.{rank, mount_rank, want_rank, change_rank}, Unblocked.{IsUnblocked, MountIsUnblocked, HoldIsClear, ChangeIsUnblocked, RankDecreases, PhaseEnds}}
 
 module _ (w : Words) (x : Want) where
   pub want_flags : (s : WantStep) →
@@ -15,21 +15,21 @@ module _ (w : Words) (x : Want) where
 
   -- each event of a want: with these words after it, that leave the mount free
   pub want_falls : (after : Words) → HoldIsClear after x.mount → HoldIsClear w x.mount → (s : WantStep) →
-      Falls (λ (y : Want). want_rank y.step) (λ (y : Want). HoldIsClear after y.mount) (want_rank s)
+      RankDecreases (λ (y : Want). want_rank y.step) (λ (y : Want). HoldIsClear after y.mount) (want_rank s)
       (want_after x s (found_by (want_next x s).1 (read w (want_next x s).0))).0
   want_falls after stays clear s = grind arith
 
 module _ (w : Words) (x : Change) where
   -- a change that doesn't wait ends where `umount` was taken
   locked_falls : (after : Words) → (x.wait ≡ true → ⊥) → (b : Bool) → x.wait ≡ b →
-      Falls (λ (y : Change). change_rank y.processors y.step) (λ (y : Change). ChangeIsFree after y.step y.wait)
+      RankDecreases (λ (y : Change). change_rank y.processors y.step) (λ (y : Change). ChangeIsUnblocked after y.step y.wait)
       (change_rank x.processors ChangeStep.Locks) (lock_failed x b)
   locked_falls after never true e = absurd (never e)
   locked_falls after never false e = tt
 
   -- each event of a change
-  change_falls : (after : Words) (s : ChangeStep) → ChangeIsFree w s x.wait →
-      Falls (λ (y : Change). change_rank y.processors y.step) (λ (y : Change). ChangeIsFree after y.step y.wait) (change_rank x.processors s)
+  change_falls : (after : Words) (s : ChangeStep) → ChangeIsUnblocked w s x.wait →
+      RankDecreases (λ (y : Change). change_rank y.processors y.step) (λ (y : Change). ChangeIsUnblocked after y.step y.wait) (change_rank x.processors s)
       (change_after x s (found_by (change_next x s).1 (read w (change_next x s).0))).0
   change_falls after s free = grind arith
 
@@ -38,9 +38,9 @@ want_ends c x = record {
   falls = λ lim w good t lt hook at clear.
       let after : Words = words_after w.words (Phase.Mounts (MountPhase.Want x)) hook in
       let stays : HoldIsClear after x.mount = ap (λ f. has_flag f 2) (want_flags w.words x x.step) ∙ clear in
-      falls_as Phase.Mounts (rank after) (IsFree c after) (want_rank x.step)
+      falls_as Phase.Mounts (rank after) (IsUnblocked c after) (want_rank x.step)
       (map_next MountPhase.Want (want_after x x.step (found_at w.words (Phase.Mounts (MountPhase.Want x)) hook)).0)
-      (falls_as MountPhase.Want mount_rank (MountIsFree after) (want_rank x.step)
+      (falls_as MountPhase.Want mount_rank (MountIsUnblocked after) (want_rank x.step)
       (want_after x x.step (found_at w.words (Phase.Mounts (MountPhase.Want x)) hook)).0
       (want_falls w.words x after stays clear x.step));
 }
@@ -52,9 +52,9 @@ pub change_ends : (c : Config) (x : Change) → PhaseEnds c (Phase.Mounts (Mount
 change_ends c x = record {
   falls = λ lim w good t lt hook at free.
       let after : Words = words_after w.words (Phase.Mounts (MountPhase.Change x)) hook in
-      falls_as Phase.Mounts (rank after) (IsFree c after) (change_rank x.processors x.step)
+      falls_as Phase.Mounts (rank after) (IsUnblocked c after) (change_rank x.processors x.step)
       (map_next MountPhase.Change (change_after x x.step (found_at w.words (Phase.Mounts (MountPhase.Change x)) hook)).0)
-      (falls_as MountPhase.Change mount_rank (MountIsFree after) (change_rank x.processors x.step)
+      (falls_as MountPhase.Change mount_rank (MountIsUnblocked after) (change_rank x.processors x.step)
       (change_after x x.step (found_at w.words (Phase.Mounts (MountPhase.Change x)) hook)).0
       (change_falls w.words x after x.step free));
 }

@@ -4,7 +4,7 @@ use Rattle.std.proofs.Common.{arith}
 use Rattle.cpu_words.specs.{Hooks.HookAnswer, Words.Words}
 use Rattle.mount_counts.specs.{Phases.after, declared.phases.{MountPhase.MountPhase}}
 use Rattle.freeze_laws.specs.levels.{Events.SyncStep, Roles.Out as IsApart}
-use Rattle.gate_world.specs.{Alike.{no_roles, roles_of}, LevelRuns.level_in, Levels.{inside, sync_role_of}, Rules.{SameWords, SyncAt}, Views.phase_after}
+use Rattle.gate_world.specs.{SameRoles.{no_roles, roles_of}, LevelRuns.level_in, Levels.{inside, sync_role_of}, Rules.{SameWords, SyncAt}, Views.phase_after}
 use Rattle.gate_world.specs.{Views.view_after, Work.after_of, Worlds.{World, after_step, found_at, value_at, words_after}, declared.work.Phase.Phase}
 use Rattle.gate_schedules.proofs.{levels.Steps.{level_kept, level_stays}, mounts.Parts.{off_mounts, mounts_roles}}
 use Rattle.access_model.specs.Replies.{map_next}

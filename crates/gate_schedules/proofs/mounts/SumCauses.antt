@@ -4,7 +4,7 @@ use Rattle.std.specs.Prelude.{Some, None, List, [], ◌∷◌}
 use Rattle.cpu_words.specs.{Sums.{lead, ahead}, Touches.wrap_add, declared.sums.Sum.Sum}
 use Rattle.cpu_words.proofs.gate_counts.Numbers.{ahead_step, ahead_past}
 use Rattle.mount_counts.specs.declared.phases.ChangeStep.{ChangeStep}
-use Rattle.gate_world.specs.{Causes.{all_counted, was_counted, words_read, moments_of_sum}, KeptCauses.ChangeCause, Rules.IsGood, Worlds.World}
+use Rattle.gate_world.specs.{refusals.Causes.{all_counted, was_counted, words_read, moments_of_sum}, refusals.KeptCauses.ChangeCause, Rules.IsGood, Worlds.World}
 use Rattle.gate_world.specs.declared.config.Config.{Config}
 use Rattle.gate_schedules.proofs.traces.Moments.{fresh_lead, none_counted, sum_skips, sum_begins, sum_goes}
 

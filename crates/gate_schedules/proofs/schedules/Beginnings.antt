@@ -1,6 +1,6 @@
 -- What it means that an operation may begin.
 use Rattle.access_model.specs.declared.errors.GateError.{GateError}
-use Rattle.gate_schedules.proofs.operations.Layers.{op_keeps}
+use Rattle.gate_schedules.proofs.operations.AllOperations.{op_keeps}
 use Rattle.gate_world.specs.{Beginnings.{first_phase, is_in_order, is_in_range, is_within_room, or_refusal, refusal}, Fits.Fits, Holdings.{Agree, Holdings}}
 use Rattle.gate_world.specs.declared.{config.Config.Config, operations.Op.Op}
 use Rattle.std.proofs.{Common.{Bool, ap, false, inl, inr, refl, sym, true, true≢false, ℕ, ◌≡◌}, lemmas.Bool.cases_Bool}

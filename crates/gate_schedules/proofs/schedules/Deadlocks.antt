@@ -2,8 +2,8 @@
 use Rattle.std.specs.Prelude.{List}
 use Rattle.gate_world.specs.{Configs.IsWithin, Headline.world_after, declared.config.Config.Config}
 use Rattle.gate_world.specs.declared.entries.Entry.{Entry}
-use Rattle.gate_schedules.proofs.operations.{Layers.{phase_ends, phase_keeps}, deadlocks.{KeptStays.kept_stays, Plain.world_replies, Settles.world_settles}}
-use Rattle.gate_schedules.proofs.{operations.deadlocks.Whole.world_goes, schedules.Whole.whole_rule}
+use Rattle.gate_schedules.proofs.operations.{AllOperations.{phase_ends, phase_keeps}, deadlocks.{BlockedIsStable.kept_stays, RepliesOrFrozen.world_replies, Settles.world_settles}}
+use Rattle.gate_schedules.proofs.{operations.deadlocks.BlockedOrProgress.world_goes, schedules.HeadlineProof.whole_rule}
 use Rattle.gate_schedules.specs.operations.Progress.{EventsKeepRule, EventsMoveModel, EverybodySettles, KeptStaysKept, NobodyIsDeadlocked, RepliesOrIsFrozen}
 use Rattle.gate_schedules.specs.operations.Ranks.{most_events_to_reply, most_events_to_settle}
 

@@ -4,13 +4,13 @@ use Rattle.std.specs.Prelude.{nat_lt, Option, Some, None, List, [], ◌∷◌}
 use Rattle.finite_sums.proofs.Totals.{update_at, update_off}
 use Rattle.access_model.specs.declared.errors.GateError.{GateError}
 use Rattle.cpu_words.specs.{Hooks.HookAnswer, Names.IsWord, Touches.left}
-use Rattle.gate_world.specs.{Beginnings.{first_phase, view_refusal}, Causes.{trail, since_begun}, Fits.Fits, KeptCauses.{CauseOf, Causes}}
+use Rattle.gate_world.specs.{Beginnings.{first_phase, view_refusal}, refusals.Causes.{trail, since_begun}, Fits.Fits, refusals.KeptCauses.{CauseOf, Causes}}
 use Rattle.gate_world.specs.{Rules.{IsGood, Fitting}, Views.{begun_view, view_after, held_of}, Work.next_of}
 use Rattle.gate_world.specs.Worlds.{World, after_begin, begin_of, after_step, step_of, value_at, happens, run}
 use Rattle.gate_world.specs.declared.entries.Entry.{Entry, TheVariants.{Begins, Steps}}
 use Rattle.gate_world.specs.declared.{config.Config.Config, operations.Op.Op, views.View.View, work.Phase.Phase}
-use Rattle.gate_schedules.proofs.frames.{Keeps.{IsQuiet, extents_touched}, Quiet.write_quiet}
-use Rattle.gate_schedules.proofs.operations.Layers.{phase_keeps, op_keeps}
+use Rattle.gate_schedules.proofs.frames.{OperationLaws.{IsQuiet, extents_touched}, ZeroCountsUnchanged.write_quiet}
+use Rattle.gate_schedules.proofs.operations.AllOperations.{phase_keeps, op_keeps}
 
 -- a task that is at an operation had begun it, so its worlds go on
 pub begun_on : (t : ℕ) (w : World) (earlier : List World) (phase : Phase) → (w.views t).phase ≡ Some phase →

@@ -3,7 +3,7 @@ use Rattle.std.proofs.{Common.{◌≡◌, ℕ, zero, suc, ◌<◌, ◌≤◌, re
 use Rattle.std.specs.Prelude.{Option, Some, None, List, [], ◌∷◌, length, take, nat_lt, is_some}
 use Rattle.access_model.specs.declared.errors.GateError.{GateError}
 use Rattle.cpu_words.specs.Hooks.{HookAnswer}
-use Rattle.freeze_laws.proofs.levels.{GraceLaws.graces_are_whole, IdleLaws.only_callbacks_idle, SlowLaws.stays_slow, Whole.idle_is_earned}
+use Rattle.freeze_laws.proofs.levels.{GraceLaws.graces_are_whole, IdleLaws.only_callbacks_idle, SlowLaws.stays_slow, CitedLaws.idle_is_earned}
 use Rattle.freeze_laws.specs.levels.Events.{SyncLevelHolds, SyncStep, SyncRun}
 use Rattle.gate_world.specs.{Beginnings.{first_phase, view_refusal}, Configs.IsWithin}
 use Rattle.gate_world.specs.{LevelRuns.{level_in, level_after, IsLevelRun, GracesAreKept, LevelsAreRuns}, Levels.{inside, sync_role_of}, Rules.IsGood}
@@ -11,8 +11,8 @@ use Rattle.gate_world.specs.{Views.{begun_view, held_of}, Worlds.{World, begin_o
 use Rattle.gate_world.specs.declared.entries.Entry.{Entry, TheVariants.{Begins, Steps}}
 use Rattle.gate_world.specs.declared.{config.Config.Config, operations.Op.Op, work.Phase.Phase}
 use Rattle.gate_schedules.proofs.{levels.{Steps.{level_stays, level_kept}, Worlds.level_right}, schedules.Beginnings.may_begin}
-use Rattle.gate_schedules.proofs.schedules.{Schedule.{idle_is, happens_keeps}, Whole.whole_rule}
-use Rattle.gate_schedules.proofs.operations.Layers.{phase_keeps, op_keeps}
+use Rattle.gate_schedules.proofs.schedules.{Schedule.{idle_is, happens_keeps}, HeadlineProof.whole_rule}
+use Rattle.gate_schedules.proofs.operations.AllOperations.{phase_keeps, op_keeps}
 
 module _ (c : Config) (lim : IsWithin c) (i : ℕ) (one : 1 ≤ i) (three : i ≤ 3) where
   still : (w next : World) → level_in next i ≡ level_in w i → SyncStep c.tasks (level_in w i) (level_in next i)

@@ -9,7 +9,7 @@ use Rattle.mount_counts.specs.Roles.{has_hold, hold_bit}
 use Rattle.mount_counts.proofs.laws.Bits.{hold_unset}
 use Rattle.percpu_rwsem.specs.SyncWords.{bit, unpack}
 use Rattle.freeze_laws.specs.levels.Roles.{closed, claimed}
-use Rattle.freeze_laws.{proofs.stages.{Facts.{way_is, other_zero}, Whole.freeze_is_under_way}, specs.stages.Roles.{freezes, under_way, Place, Freezing}}
+use Rattle.freeze_laws.{proofs.stages.{Facts.{way_is, other_zero}, CitedLaws.freeze_is_under_way}, specs.stages.Roles.{freezes, under_way, Place, Freezing}}
 use Rattle.freeze_levels.{proofs.holder_laws.HolderLaws.held_exactly, specs.holder_laws.Roles.between}
 use Rattle.gate_world.specs.Headline.{IsAtRest, IsUntaken, HeldWhereFrozen, FreezeIsUnderWay}
 use Rattle.gate_world.specs.Levels.{is_frozen_whole, sync_role_of, inside}

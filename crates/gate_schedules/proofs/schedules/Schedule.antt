@@ -4,12 +4,12 @@ use Rattle.access_model.specs.{States.opening_state, declared.{actions.Action.Ac
 use Rattle.cpu_words.specs.Hooks.{HookAnswer}
 use Rattle.finite_sums.proofs.Totals.{each_updated, total_bound, total_none, total_same}
 use Rattle.finite_sums.specs.Sums.{total, update}
-use Rattle.gate_schedules.proofs.operations.Layers.{op_keeps, phase_keeps}
-use Rattle.gate_schedules.proofs.frames.{Beside.{SameCounts, beside_good, beside_of, beside_shown}, Frames.{left_alone, opens_left, same_words}}
+use Rattle.gate_schedules.proofs.operations.AllOperations.{op_keeps, phase_keeps}
+use Rattle.gate_schedules.proofs.frames.{SameRolesOffTree.{SameCounts, beside_good, beside_of, beside_shown}, Frames.{left_alone, opens_left, same_words}}
 use Rattle.gate_schedules.proofs.{schedules.Beginnings.{MayBegin, first_fits, may_begin}, trees.worlds.Trees.tree_within}
 use Rattle.cpu_words.proofs.gate_counts.{Events.words_sum, Flags.gate_begins, Numbers.below_le}
 use Rattle.cpu_words.specs.gate_counts.{Gates.{below, counted as counted_of}, Levels.{level_as_gate, processor_of as level_processor}}
-use Rattle.gate_world.specs.{Alike.{IsBeside, off_tree}, Beginnings.{first_phase, view_refusal}, Configs.{IsWithin, model_limits}, Fits.{HasFile, file_of}}
+use Rattle.gate_world.specs.{SameRoles.{SameRolesOffTree, off_tree}, Beginnings.{first_phase, view_refusal}, Configs.{IsWithin, model_limits}, Fits.{HasFile, file_of}}
 use Rattle.gate_world.specs.{Headline.{IdleSumsHold, SumsHold}, Levels.{at_level, level_role_of}, Owners.KnowsWords, Rules.{AtLevel, AtMount, Files, Fitting}}
 use Rattle.gate_world.specs.Rules.{Holding, Holds, IsGood, Known, LevelHoldsIn, MountHoldsIn, Moves, Owner, Part, Sections, Stages, SyncAt, Tree}
 use Rattle.gate_world.specs.{Rules.{at_mount, owns, role_of}, Shown.shown, Trees.{tree_bounds, tree_role_of}, Views.{begun_view, has_open, held_of}}
@@ -18,9 +18,9 @@ use Rattle.gate_world.specs.declared.entries.Entry.{Entry, TheVariants.{Begins, 
 use Rattle.gate_world.specs.{Worlds.{task_of, with_action}, declared.{config.Config.Config, operations.Op.Op, views.View.View, work.Phase.Phase}}
 use Rattle.node_words.specs.Nodes.{opens_in}
 use Rattle.freeze_levels.proofs.holder_laws.HolderLaws.{opens as holders_open}
-use Rattle.freeze_laws.proofs.levels.Whole.{opening_is_right}
+use Rattle.freeze_laws.proofs.levels.CitedLaws.{opening_is_right}
 use Rattle.mount_counts.specs.Roles.{counted, mount_shut, processor_of, sought}
-use Rattle.freeze_laws.proofs.stages.Whole.{opening_is_right as stages_open}
+use Rattle.freeze_laws.proofs.stages.CitedLaws.{opening_is_right as stages_open}
 use Rattle.std.proofs.{Common.{ap, arith, false, inl, inr, refl, subst, sym, true≢false, ℕ, ◌%◌, ◌*◌, ◌<◌, ◌∙◌, ◌≡◌, ◌≤◌}, Math.Path.fun_ext}
 use Rattle.std.proofs.lemmas.Bool.{cases_Bool, ltb-true, Decides.eqb_tells}
 use Rattle.std.specs.Prelude.{List, None, Option, Some, [], is_some, nat_lt, ◌∷◌}
@@ -41,7 +41,7 @@ module _ (c : Config) (lim : IsWithin c) (w : World) (good : IsGood c w) (t : �
   step_keeps hook (Some phase) e = (phase_keeps c phase).step lim w good t lt hook e
 
   -- an operation that begins has no role, but that it may rely on a file
-  begins_aside : (op : Op) → MayBeginAt c (w.views t) op → IsBeside (w.views t).phase (Some (first_phase c t op))
+  begins_aside : (op : Op) → MayBeginAt c (w.views t) op → SameRolesOffTree (w.views t).phase (Some (first_phase c t op))
   begins_aside op h = beside_of (idle_is (w.views t).phase h.idle) (λ j. off_tree ((op_keeps c op).starts_aside t j))
 
   -- so a beginning leaves each part of the rule but that of its own phase

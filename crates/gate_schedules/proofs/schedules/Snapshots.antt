@@ -10,12 +10,12 @@ use Rattle.cpu_words.specs.Hooks.{HookAnswer}
 use Rattle.gated_tree.specs.{Trees.{node_at, is_child, HasDirectory, IsSound, LoadedSound, LoadedClean}, declared.trees.TreeWords.TreeWords}
 use Rattle.gate_world.specs.{Beginnings.{view_refusal}, Configs.{IsWithin, model_limits}, Headline.FrozenTreeIsWhole}
 use Rattle.gate_world.specs.{Moments.{HasMoment, AllHaveMoments, IsPresentTree, CompletesNow}, Rules.{IsGood, Moves}, Shown.shown}
-use Rattle.gate_world.specs.{Snapshots.{completes, last_snapshot}, Views.{view_after_beside}}
+use Rattle.gate_world.specs.{traces.Snapshots.{completes, last_snapshot}, Views.{view_after_beside}}
 use Rattle.gate_world.specs.Worlds.{World, begin_of, after_step_beside, step_of, happens, phase_action, action_of, task_of, with_action}
 use Rattle.gate_world.specs.declared.entries.Entry.{Entry, TheVariants.{Begins, Steps}}
 use Rattle.gate_world.specs.Worlds.{found_at, value_at, run, history}
 use Rattle.gate_world.specs.declared.{config.Config.Config, operations.Op.Op, views.{Snapshot.Snapshot, View.View}, work.Phase.Phase}
-use Rattle.gate_schedules.proofs.{operations.Layers.phase_keeps, schedules.{Lists.{lists, happens_lists}, Schedule.{happens_keeps, legal_more}}}
+use Rattle.gate_schedules.proofs.{operations.AllOperations.phase_keeps, schedules.{Lists.{lists, happens_lists}, Schedule.{happens_keeps, legal_more}}}
 use Rattle.gate_schedules.proofs.trees.worlds.Frozen.{frozen_whole}
 
 -- the parent of a node is a directory also in a tree that shows the same nodes

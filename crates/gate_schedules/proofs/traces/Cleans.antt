@@ -3,7 +3,7 @@ use Rattle.std.{proofs.{Common.{◌≡◌, ℕ}}, specs.Prelude.{List, [], ◌�
 use Rattle.std.proofs.Common.{arith}
 use Rattle.access_model.specs.declared.actions.Action.{Action}
 use Rattle.cpu_words.specs.declared.{events.Touch.Touch, names.WordName.WordName}
-use Rattle.gate_world.specs.{Found.{clean_found, cleans}, Holdings.holdings_of, declared.views.Traced.Traced}
+use Rattle.gate_world.specs.{traces.Found.{clean_found, cleans}, Holdings.holdings_of, declared.views.Traced.Traced}
 
 -- these actions leave what the task holds as it was
 abbrev pub LeaveAccesses : List Action → List Action → Type 0

@@ -4,7 +4,7 @@ use Rattle.std.specs.Prelude.{Some, List, ◌∷◌, ◌||◌, None, []}
 use Rattle.finite_sums.specs.Sums.{total}
 use Rattle.cpu_words.specs.Sums.{lead, ahead}
 use Rattle.cpu_words.proofs.gate_counts.{Events.words_sum, Numbers.ahead_none}
-use Rattle.gate_world.specs.Causes.{all_counted, was_counted, asks, last_question, looks_at_stage, last_look, words_read, moments_of_sum}
+use Rattle.gate_world.specs.refusals.Causes.{all_counted, was_counted, asks, last_question, looks_at_stage, last_look, words_read, moments_of_sum}
 use Rattle.gate_world.specs.{Rules.{IsGood, AtMount, MountHoldsIn}, Worlds.World, declared.config.Config.Config}
 
 pub or_true : (b : Bool) → (b || true) ≡ true

@@ -7,7 +7,7 @@ use Rattle.finite_sums.proofs.Totals.{each_updated}
 use Rattle.access_model.specs.declared.{actions.Action.Action, errors.GateError.GateError, replies.Next.Next}
 use Rattle.cpu_words.specs.{Hooks.HookAnswer}
 use Rattle.gate_world.specs.Beginnings.{view_refusal}
-use Rattle.gate_world.specs.Courses.{course_with, course_after, IsEventOf, IsNext, IsTraced, MayFind, AllTraced, EventsMayBe}
+use Rattle.gate_world.specs.traces.TraceStates.{trace_state_with, trace_state_after, IsEventOf, IsNext, IsTraced, ReadIsValid, AllTraced, EventsMayBe}
 use Rattle.gate_world.specs.{Views.{phase_after, actions_after, view_after}, Work.{next_of, after_of}}
 use Rattle.gate_world.specs.Worlds.{World, begin_refusal, begin_of, value_at, step_of, happens, opening}
 use Rattle.gate_world.specs.declared.entries.Entry.{Entry, TheVariants.{Begins, Steps}}
@@ -15,7 +15,7 @@ use Rattle.gate_world.specs.declared.{config.Config.Config, operations.Op.Op, vi
 
 -- where an operation stands at this phase, its event is the next, and what comes after it is the course after it
 stands_at : (comes : Next Phase) (added : List Action) (phase : Phase) (e : Traced) → phase_after comes ≡ Some phase → IsEventOf phase e →
-    IsNext comes e × (course_after comes added e ≡ course_with added (after_of phase e.event.found e.hook))
+    IsNext comes e × (trace_state_after comes added e ≡ trace_state_with added (after_of phase e.event.found e.hook))
 stands_at comes added phase e h next = grind arith
 
 -- an action more goes before the earlier ones
@@ -26,7 +26,7 @@ newest (Some a) actions added before h = ap (λ l. a ∷ l) h
 
 -- the next event of a view that follows its operation
 step_follows : (c : Config) (t : ℕ) (v : View) (op : Option Op) (phase : Phase) (value : ℕ) (hook : HookAnswer) → v.phase ≡ Some phase →
-    MayFind phase (next_of phase hook).0 value → IsTraced c t v op → IsTraced c t (view_after v phase value hook) op
+    ReadIsValid phase (next_of phase hook).0 value → IsTraced c t v op → IsTraced c t (view_after v phase value hook) op
 step_follows c t v op phase value hook e may h = grind arith
 
 -- a beginning empties the trace, and notes the actions so far

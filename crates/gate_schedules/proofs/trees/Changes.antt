@@ -41,7 +41,7 @@ both_false false b e = refl
 
 module _ (c : Bounds) (s : TreeState) (good : TreeHolds c s) (t : ℕ) (lt : t < c.tasks) where
   -- what is known of a file whose node is as it was loaded
-  record IsThere (n : ℕ) (file : NodeWord) : Type 0 where
+  record FileIsAsLoaded (n : ℕ) (file : NodeWord) : Type 0 where
     kind : file.kind ≡ Some Kind.File
     narrow : file.parent < 64
     shows : node_shown (s.node n) ≡ Some (file_info file)
@@ -51,7 +51,7 @@ module _ (c : Bounds) (s : TreeState) (good : TreeHolds c s) (t : ℕ) (lt : t <
     parent : IsDirectoryAt c.nodes s.node file.parent
     size : file.size + charge (s.at t) ≤ c.capacity
 
-  is_there : (n : ℕ) (file : NodeWord) → AreWithin c → IsFileNode c.nodes file → n < c.nodes → s.node n ≡ word_of file → IsThere n file
+  is_there : (n : ℕ) (file : NodeWord) → AreWithin c → IsFileNode c.nodes file → n < c.nodes → s.node n ≡ word_of file → FileIsAsLoaded n file
   is_there n file within h ln found =
       let narrow : file.parent < 64 = omega (arith, h.parent, within.nodes) in
       let shows : node_shown (s.node n) ≡ Some (file_info file) = ap node_shown found ∙ file_shows file h.kind narrow h.opens in
@@ -73,14 +73,14 @@ module _ (c : Bounds) (s : TreeState) (good : TreeHolds c s) (t : ℕ) (lt : t <
         );
       }
 
-  is_linked : (n : ℕ) (file : NodeWord) → IsThere n file → IsLinkedFile (node_shown (s.node n))
+  is_linked : (n : ℕ) (file : NodeWord) → FileIsAsLoaded n file → IsLinkedFile (node_shown (s.node n))
   is_linked n file there = subst IsLinkedFile (sym there.shows) (refl, there.linked)
 
-  nobody_frees : (n : ℕ) (file : NodeWord) → IsThere n file → (u : ℕ) → u < c.tasks → (u ≡ t → ⊥) → frees n (s.at u) ≡ 1 → ⊥
+  nobody_frees : (n : ℕ) (file : NodeWord) → FileIsAsLoaded n file → (u : ℕ) → u < c.tasks → (u ≡ t → ⊥) → frees n (s.at u) ≡ 1 → ⊥
   nobody_frees n file there u lu ne = not_freed c s good t lt n u lu (inl (ap is_removed there.shows ∙ there.linked))
 
   -- a file stays a file that wasn't removed, with other fields
-  file_changes : (n : ℕ) (old new : NodeWord) (r : Role) → n < c.nodes → IsThere n old → new.kind ≡ Some Kind.File → new.parent < 64 →
+  file_changes : (n : ℕ) (old new : NodeWord) (r : Role) → n < c.nodes → FileIsAsLoaded n old → new.kind ≡ Some Kind.File → new.parent < 64 →
       new.opens ≤ 64 → new.removed ≡ false →
       new.size < 4294967296 → IsDirectoryAt c.nodes s.node new.parent →
       new.size + charge r ≡ old.size + charge (s.at t) → removal r ≡ removal (s.at t) →
@@ -133,7 +133,7 @@ module _ (c : Bounds) (s : TreeState) (good : TreeHolds c s) (t : ℕ) (lt : t <
       TreeHolds c (with_node s n 0 t (Freed file.size file.parent)) × TreeDoes c s.node (update s.node n 0) (Action.Remove n)
   removes file n within quiet is ln found closed =
       let h : IsFileNode c.nodes file = role_says c s good t lt (Loaded file) is in
-      let there : IsThere n file = is_there n file within h ln found in
+      let there : FileIsAsLoaded n file = is_there n file within h ln found in
       let stood : (d : ℕ) → has_parent d (node_shown (s.node n)) ≡ is_same file.parent d = λ d.
       ap (has_parent d) there.shows ∙ ap (λ b. if b then 0 else is_same file.parent d) there.linked in
       let none : opens_in (s.node n) ≡ 0 = there.opens ∙ closed in (
@@ -159,7 +159,7 @@ module _ (c : Bounds) (s : TreeState) (good : TreeHolds c s) (t : ℕ) (lt : t <
       TreeDoes c s.node (update s.node n (word_of (unlinked_node file))) (Action.Remove n)
   marks_removed file n within quiet is ln found =
       let h : IsFileNode c.nodes file × (1 ≤ file.opens) = role_says c s good t lt (Removing file) is in
-      let there : IsThere n file = is_there n file within h.0 ln found in
+      let there : FileIsAsLoaded n file = is_there n file within h.0 ln found in
       let new : NodeWord = unlinked_node file in
       let shows : node_shown (word_of new) ≡ Some (file_info new) = file_shows new there.kind there.narrow there.few in
       let stood : (d : ℕ) → has_parent d (node_shown (s.node n)) ≡ is_same file.parent d = λ d.
@@ -201,7 +201,7 @@ module _ (c : Bounds) (s : TreeState) (good : TreeHolds c s) (t : ℕ) (lt : t <
       (Action.Grow n b)
   grows file b n within quiet may is ln found =
       let h : MayGrow c file b = role_says c s good t lt (Charged file b) is in
-      let there : IsThere n file = is_there n file within h.loaded ln found in
+      let there : FileIsAsLoaded n file = is_there n file within h.loaded ln found in
       let fits : (file.size + b) % 4294967296 ≡ file.size + b = omega (arith, h.size, within.capacity) in
       let least : charge (s.at t) ≤ total c.tasks (λ x. charge (s.at x)) = total_at c.tasks t (λ x. charge (s.at x)) lt in (
         file_changes n file (grown_node b file) Out ln there there.kind there.narrow there.few there.linked
@@ -225,7 +225,7 @@ module _ (c : Bounds) (s : TreeState) (good : TreeHolds c s) (t : ℕ) (lt : t <
       TreeDoes c s.node (update s.node n (word_of (moved_node d file))) (Action.MoveTo n d)
   moves_to file d n within quiet is ln found =
       let h : IsFileNode c.nodes file × IsDirectoryAt c.nodes s.node d = role_says c s good t lt (Moving file d) is in
-      let there : IsThere n file = is_there n file within h.0 ln found in
+      let there : FileIsAsLoaded n file = is_there n file within h.0 ln found in
       let narrow : d < 64 = omega (arith, h.1.0, within.nodes) in (
         file_changes n file (moved_node d file) (Returning file.parent) ln there there.kind narrow there.few there.linked
             (omega (arith, there.size, within.capacity)) h.1
@@ -245,7 +245,7 @@ module _ (c : Bounds) (s : TreeState) (good : TreeHolds c s) (t : ℕ) (lt : t <
       TreeDoes c s.node (update s.node n (word_of (marked_node true file))) (Action.Dirty n)
   dirties file n within quiet may is ln found =
       let h : IsFileNode c.nodes file = role_says c s good t lt (Loaded file) is in
-      let there : IsThere n file = is_there n file within h ln found in (
+      let there : FileIsAsLoaded n file = is_there n file within h ln found in (
         file_changes n file (marked_node true file) Out ln there there.kind there.narrow there.few there.linked
             (omega (arith, there.size, within.capacity))
             there.parent
@@ -267,7 +267,7 @@ module _ (c : Bounds) (s : TreeState) (good : TreeHolds c s) (t : ℕ) (lt : t <
       TreeHolds c (with_node s n (word_of (marked_node false file)) t r) ×
       TreeDoes c s.node (update s.node n (word_of (marked_node false file))) (Action.Clean n)
   unmarks file n r within h may e same k ln found own =
-      let there : IsThere n file = is_there n file within h ln found in
+      let there : FileIsAsLoaded n file = is_there n file within h ln found in
       let still : s.sealed ≡ 1 → file_info (marked_node false file) ≡ file_info file =
       λ sealed.
       let clean : file.dirty ≡ false = sym (ap is_dirty there.shows) ∙ good.clean sealed n ln in
@@ -299,7 +299,7 @@ module _ (c : Bounds) (s : TreeState) (good : TreeHolds c s) (t : ℕ) (lt : t <
       TreeDoes c s.node (update s.node n (word_of (opened_node file))) (Action.Open n)
   opens_file file n within is ln found room =
       let h : IsFileNode c.nodes file = role_says c s good t lt (Loaded file) is in
-      let there : IsThere n file = is_there n file within h ln found in
+      let there : FileIsAsLoaded n file = is_there n file within h ln found in
       let new : NodeWord = opened_node file in
       let more : new.opens ≡ file.opens + 1 = omega (arith, room) in
       let few : new.opens ≤ 64 = omega (arith, more, room) in

@@ -8,9 +8,9 @@ use Rattle.freeze_levels.specs.{Freezes.{freeze_after, freeze_next}, Holders.hol
 use Rattle.freeze_levels.specs.declared.{freezes.{Freeze.Freeze, FreezeStep.FreezeStep}, thaws.{Thaw.Thaw}}
 use Rattle.gate_schedules.proofs.frames.{Frames.{left_alone, opens_left, view_as}, Known.{IsOwnersWork, known_after}}
 use Rattle.gate_schedules.proofs.frames.Stages.{IsStageEvent, shown_by, stage_action, stage_effect, stages_after, stages_in}
-use Rattle.gate_schedules.proofs.{levels.Standing.{LevelsHold, left_world}, mounts.Parts.{is_known_part, known_is}}
-use Rattle.gate_world.specs.{Configs.model_limits, Fits.{FreezeFits, HasFile, file_of}, Found.is_load, Holdings.Holdings, Owners.{is_owned, takes_lock}}
-use Rattle.gate_world.specs.{Alike.{Roles, no_roles, roles_of}, Roles.{freeze_owns}, Rules.{AtLevel, AtMount, Files}}
+use Rattle.gate_schedules.proofs.{levels.LevelPositions.{LevelsHold, left_world}, mounts.Parts.{is_known_part, known_is}}
+use Rattle.gate_world.specs.{Configs.model_limits, Fits.{FreezeFits, HasFile, file_of}, traces.Found.is_load, Holdings.Holdings, Owners.{is_owned, takes_lock}}
+use Rattle.gate_world.specs.{SameRoles.{Roles, no_roles, roles_of}, Roles.{freeze_owns}, Rules.{AtLevel, AtMount, Files}}
 use Rattle.gate_world.specs.Rules.{Fitting, Holding, Holds, IsGood, Known, Moves, Owner, OwnerHolds, Part, Sections, Stages, StepKeeps, SyncAt, Tree, ViewFits}
 use Rattle.gate_world.specs.{Rules.{owns, stage_role_of, stage_roles}, Shown.shown, Views.{added_by, has_open, held_of, phase_after, taken_by}, Worlds.World}
 use Rattle.gate_world.specs.{Worlds.{after_step, phase_action, value_at}, declared.{config.Config.Config, views.View.View, work.Phase.Phase}}
@@ -46,7 +46,7 @@ pub thaw_comes : (n : Next Thaw) → IsWriter (phase_after (map_next Phase.Thaws
 thaw_comes n = grind arith
 
 -- the words that no freeze and no thaw writes are as they were
-pub record IsBeside (old new : Words) : Type 0 where
+pub record SameOffFreezes (old new : Words) : Type 0 where
   pub flags_same : new.flags ≡ old.flags
   pub count_same : new.count ≡ old.count
   pub remount_same : new.remount ≡ old.remount
@@ -77,7 +77,7 @@ module _ (c : Config) (w : World) (good : IsGood c w) (t : ℕ) (lt : t < c.task
   -- All that is to be known of an event of a freeze or a thaw: what it leaves of the words and of its task's view, which event of the
   -- stage it is, and what it adds.
   pub record WriterEvent : Type 0 where
-    pub words : IsBeside w.words ws
+    pub words : SameOffFreezes w.words ws
     pub counts : SameAtMounts (w.views t) v
     pub was : IsWriter (w.views t).phase
     pub now : IsWriter v.phase

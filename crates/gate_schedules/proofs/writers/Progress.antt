@@ -18,8 +18,8 @@ use Rattle.gate_world.specs.declared.config.Config.{Config}
 use Rattle.gate_schedules.proofs.frames.Words.{load_same}
 use Rattle.gate_schedules.proofs.levels.Facts.{ExchangeFalls, exchange_falls, defined_falls, enter_defined, writer_passed, exit_defined, block_clear}
 use Rattle.gate_schedules.proofs.levels.Facts.{writer_called}
-use Rattle.gate_schedules.proofs.operations.{callback.Progress.{GraceFalls, look_falls}, deadlocks.Falls.after_event}
-use Rattle.gate_schedules.specs.operations.{Ranks.{exchange_rank, grace_rank, up_rank, reopens_rank, sum_rank, down_rank}, Ways.{NobodyInside, NothingCounted, Falls}}
+use Rattle.gate_schedules.proofs.operations.{callback.Progress.{GraceFalls, look_falls}, deadlocks.RankDecreases.after_event}
+use Rattle.gate_schedules.specs.operations.{Ranks.{exchange_rank, grace_rank, up_rank, reopens_rank, sum_rank, down_rank}, Unblocked.{NobodyInside, NothingCounted, RankDecreases}}
 
 -- a sum has taken one word more: what is ahead of it is as it was
 lead_on : (processors : ℕ) (count : ℕ → ℕ) (k sum : ℕ) → k < processors →
@@ -40,7 +40,7 @@ begun_rank processors count none = grind arith
 
 -- a down-write's next phase is at its level
 abbrev pub DownFalls : Words → DownWrite → ℕ → Next DownWrite → Type 0
-DownFalls after d n next = Falls (λ (y : DownWrite). down_rank after y y.step) (λ (y : DownWrite). y.level ≡ d.level) n next
+DownFalls after d n next = RankDecreases (λ (y : DownWrite). down_rank after y y.step) (λ (y : DownWrite). y.level ≡ d.level) n next
 
 module _ (after : Words) (d : DownWrite) where
   enters_falls : (n : ℕ) (next : TransitionNext) → ExchangeFalls (after.sync d.level) n ⊥ next →
@@ -160,7 +160,7 @@ module _ (c : Config) (w : World) (good : IsGood c w) (t : ℕ) (lt : t < c.task
   -- each event of an up-write
   module _ (u : UpWrite) (one : 1 ≤ u.level) (three : u.level ≤ 3) where
     exits_falls : (after : Words) (n : ℕ) (next : TransitionNext) → ExchangeFalls (after.sync u.level) n ⊥ next →
-        Falls (reopens_rank after) (λ (y : UpWrite). Unit {0}) (n + 3 * (u.level - 1) + 1) (exit_made u next)
+        RankDecreases (reopens_rank after) (λ (y : UpWrite). Unit {0}) (n + 3 * (u.level - 1) + 1) (exit_made u next)
     exits_falls after n next h = grind arith
 
     exit_by : sync_role_of u.level (w.views t).phase ≡ Entered → (x : Transition) (sync : ℕ → ℕ) →
@@ -176,7 +176,7 @@ module _ (c : Config) (w : World) (good : IsGood c w) (t : ℕ) (lt : t < c.task
         (exchange_falls on_exit (w.words.sync u.level) (sync u.level) u.level s.word s.packed x is)
 
     pub up_falls : (s : UpWriteStep) → sync_role_of u.level (w.views t).phase ≡ up_write_role s →
-        Falls (reopens_rank (after_event w.words (up_write_next u s))) (λ (y : UpWrite). Unit {0})
+        RankDecreases (reopens_rank (after_event w.words (up_write_next u s))) (λ (y : UpWrite). Unit {0})
         (up_rank (w.words.sync u.level) s + 3 * (u.level - 1) + 1)
         (up_write_after u s (found_by (up_write_next u s).1 (read w.words (up_write_next u s).0))).0
     up_falls UpWriteStep.ClearsBlock here = (omega arith, tt)

@@ -8,11 +8,11 @@ use Rattle.gated_tree.specs.Roles.{TreeState, sealed_by}
 use Rattle.gate_schedules.specs.trees.Events.{Event, Opens}
 use Rattle.freeze_levels.specs.Holders.{holders_in}
 use Rattle.freeze_laws.specs.stages.{Events.{playing, StageEvent, Stays, action_of as stage_action_of}, Roles.StageRole}
-use Rattle.gate_world.specs.{Configs.{IsWithin, model_limits}, Levels.is_frozen_whole, Roles.Stand, Rules.{Holding, Holds, IsGood, OwnerHolds, Stages, Tree}}
+use Rattle.gate_world.specs.{Configs.{IsWithin, model_limits}, Levels.is_frozen_whole, Roles.LevelPosition, Rules.{Holding, Holds, IsGood, OwnerHolds, Stages, Tree}}
 use Rattle.gate_world.specs.{Rules.{ViewFits, stage_role_of, stage_roles}, Shown.shown, Trees.{tree_bounds, tree_of, tree_role_of, tree_roles}}
 use Rattle.gate_world.specs.{Worlds.World, declared.{config.Config.Config, views.View.View}}
-use Rattle.gate_schedules.proofs.{frames.{Frames.{SameLevelCounts, left_alone}, Stages.{IsStageEvent, stages_in}}, levels.StandRoles.levels_stay}
-use Rattle.gate_schedules.proofs.{levels.Standing.{Stands, LevelsHold, left_world}, trees.worlds.Trees.{sealed_read_only, tree_then, tree_after}}
+use Rattle.gate_schedules.proofs.{frames.{Frames.{SameLevelCounts, left_alone}, Stages.{IsStageEvent, stages_in}}, levels.PositionRoles.levels_stay}
+use Rattle.gate_schedules.proofs.{levels.LevelPositions.{HasPosition, LevelsHold, left_world}, trees.worlds.Trees.{sealed_read_only, tree_then, tree_after}}
 use Rattle.gate_schedules.proofs.writers.Parts.{IsWriter, SameAtMounts, LeavesRest, AsksWhere, WriterLaw, writer_law}
 
 -- the words that tell the stage are as they were
@@ -46,9 +46,9 @@ module _ (c : Config) (w : World) (good : IsGood c w) (t : ℕ) (lt : t < c.task
   stage_leaves n = record { mounts_same = refl; levels_same = refl; opens_same = refl; ro_same = refl; tree_same = refl; holders_same = refl }
 
   -- a store of the stage leaves the levels, where the file system is frozen as a whole or not as before
-  pub stored_levels : (v : View) → SameLevelCounts (w.views t) v → (n : ℕ) (stand : Option Stand) →
-      is_frozen_whole (record w.words { stage = n }) ≡ is_frozen_whole w.words → Stands (w.views t).phase stand →
-      Stands v.phase stand → LevelsHold c (left_world w t (record w.words { stage = n }) v)
+  pub stored_levels : (v : View) → SameLevelCounts (w.views t) v → (n : ℕ) (stand : Option LevelPosition) →
+      is_frozen_whole (record w.words { stage = n }) ≡ is_frozen_whole w.words → HasPosition (w.views t).phase stand →
+      HasPosition v.phase stand → LevelsHold c (left_world w t (record w.words { stage = n }) v)
   stored_levels v levels n stand whole before after =
       levels_stay c w good t lt (record w.words { stage = n }) v stand
       (record { block_same = refl; level_same = refl; sync_same = refl; section_same = refl; whole_same = whole }) levels before after
@@ -82,9 +82,9 @@ module _ (c : Config) (w : World) (good : IsGood c w) (t : ℕ) (lt : t < c.task
   module _ (v : View) (was : IsWriter (w.views t).phase) (now : IsWriter v.phase) (mounts : SameAtMounts (w.views t) v)
       (levels : SameLevelCounts (w.views t) v) (fits : ViewFits c t v) where
     -- an event that leaves all words but `umount`, and what its task has to do with the levels and the tree
-    pub writer_beside : (n : ℕ) (stand : Option Stand) (kind : StageEvent) →
+    pub writer_beside : (n : ℕ) (stand : Option LevelPosition) (kind : StageEvent) →
         OwnerHolds c.tasks n w.words.remount (λ y. (update w.views t v y).phase) →
-        Stands (w.views t).phase stand → Stands v.phase stand →
+        HasPosition (w.views t).phase stand → HasPosition v.phase stand →
         tree_role_of v.trace v.phase ≡ tree_role_of (w.views t).trace (w.views t).phase →
         IsStageEvent c w good t lt (record w.words { umount = n }) v kind → stage_action_of kind (stages_in w) ≡ None →
         Holds c (left_world w t (record w.words { umount = n }) v) Holding →
@@ -137,9 +137,9 @@ module _ (c : Config) (w : World) (good : IsGood c w) (t : ℕ) (lt : t < c.task
         })
 
     -- a store of the holders by the owner, which has to do with the levels and the tree what it had
-    pub writer_holds : (n : ℕ) (action : Action) (stand : Option Stand) (kind : StageEvent) →
+    pub writer_holds : (n : ℕ) (action : Action) (stand : Option LevelPosition) (kind : StageEvent) →
         OwnerHolds c.tasks w.words.umount w.words.remount (λ y. (update w.views t v y).phase) →
-        Stands (w.views t).phase stand → Stands v.phase stand →
+        HasPosition (w.views t).phase stand → HasPosition v.phase stand →
         tree_role_of v.trace v.phase ≡ tree_role_of (w.views t).trace (w.views t).phase →
         IsStageEvent c w good t lt (record w.words { holders = n }) v kind →
         stage_action_of kind (stages_in w) ≡ Some action →

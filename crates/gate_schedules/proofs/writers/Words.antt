@@ -15,8 +15,8 @@ use Rattle.gate_world.specs.{Configs.{IsWithin, model_limits}, Levels.{level_add
 use Rattle.gate_world.specs.{Rules.{holder_role_of, owns}, Shown.shown, Trees.{is_bare_at, is_sealed, tree_bounds, tree_of, tree_role_of, tree_roles}}
 use Rattle.gate_world.specs.Views.{added_after}
 use Rattle.gate_world.specs.{Views.taken_after, Worlds.World, declared.{config.Config.Config, views.View.View}}
-use Rattle.gate_schedules.proofs.frames.{Frames.{unwritten, left_alone}, Holders.holders_stay, Keeps.by_bool, Stages.{IsStageEvent, stages_in}}
-use Rattle.gate_schedules.proofs.{levels.Standing.{LevelsHold, left_world}, trees.worlds.Trees.{tree_then, tree_after}, writers.Owner.owner_stays}
+use Rattle.gate_schedules.proofs.frames.{Frames.{unwritten, left_alone}, Holders.holders_stay, OperationLaws.by_bool, Stages.{IsStageEvent, stages_in}}
+use Rattle.gate_schedules.proofs.{levels.LevelPositions.{LevelsHold, left_world}, trees.worlds.Trees.{tree_then, tree_after}, writers.Owner.owner_stays}
 use Rattle.gate_schedules.proofs.writers.Parts.{IsWriter, SameAtMounts, LeavesRest, AsksWhere, WriterLaw, writer_law}
 
 -- the words that are no level's own

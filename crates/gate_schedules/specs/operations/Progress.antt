@@ -14,8 +14,8 @@ use Rattle.freeze_levels.specs.declared.freezes.{Freeze.Freeze, FreezeStep.{Free
 use Rattle.freeze_levels.specs.declared.freezes.FreezeStep.TheVariants.{LoadsSuperblock, CompletesReadOnly, SetsWrite, Unlocks, Closes, LocksAgain}
 use Rattle.freeze_levels.specs.declared.freezes.FreezeStep.TheVariants.{SetsPageFault, Cleans, SetsFs, SetsComplete, Reopens, Releases}
 use Rattle.freeze_levels.specs.declared.thaws.ThawStep.{ThawStep, TheVariants.Locks as ThawLocks}
-use Rattle.compounds.specs.declared.write_access.phases.WritePhase.{WritePhase, TheVariants.Takes}
-use Rattle.compounds.specs.declared.file_closes.phases.ClosePhase.{ClosePhase, TheVariants.{LoadsFile, Enters as EntersLevel}}
+use Rattle.composite_ops.specs.declared.write_access.phases.WritePhase.{WritePhase, TheVariants.Takes}
+use Rattle.composite_ops.specs.declared.file_closes.phases.ClosePhase.{ClosePhase, TheVariants.{LoadsFile, Enters as EntersLevel}}
 use Rattle.gate_world.specs.{Headline.world_after, Levels.is_frozen_whole, Rules.{IsGood, Moves, owns}, Shown.shown, Views.holds_level, Work.hook_of}
 use Rattle.gate_world.specs.{Worlds.{World, happens, after_step, phase_action}, declared.{config.Config.Config, work.Phase.Phase}}
 use Rattle.gate_world.specs.declared.entries.Entry.{Entry, TheVariants.{Steps}}
@@ -62,17 +62,17 @@ next_level w (Reopens u code) = 4
 next_level w (Releases answer) = 4
 
 -- an idle task holds a level that this freeze has to pass yet
-abbrev pub IsKept : Config → World → FreezeStep → Type 0
-IsKept c w step = (i : ℕ) × (next_level w.words step ≤ i) × (i ≤ 3) × IsHeldIdle c w i
+abbrev pub HeldLevelAhead : Config → World → FreezeStep → Type 0
+HeldLevelAhead c w step = (i : ℕ) × (next_level w.words step ≤ i) × (i ≤ 3) × IsHeldIdle c w i
 
 -- what a task is at is a freeze that is so kept, and has level 1 behind it, from where on it owns `umount` to its end
-abbrev pub KeptIfFreeze : Config → World → Option Phase → Type 0
-KeptIfFreeze c w (Some (Freezes x)) = (2 ≤ next_level w.words x.step) × IsKept c w x.step
-KeptIfFreeze c w phase = ⊥
+abbrev pub BlockedIfFreeze : Config → World → Option Phase → Type 0
+BlockedIfFreeze c w (Some (Freezes x)) = (2 ≤ next_level w.words x.step) × HeldLevelAhead c w x.step
+BlockedIfFreeze c w phase = ⊥
 
 -- such a freeze owns `umount`
-abbrev pub LockIsKept : Config → World → Type 0
-LockIsKept c w = (y : ℕ) × (y < c.tasks) × (owns (w.views y).phase ≡ 1) × KeptIfFreeze c w (w.views y).phase
+abbrev pub LockIsBlocked : Config → World → Type 0
+LockIsBlocked c w = (y : ℕ) × (y < c.tasks) × (owns (w.views y).phase ≡ 1) × BlockedIfFreeze c w (w.views y).phase
 
 -- a start has found its level's readers fast, or is granted, so that it waits no more
 abbrev pub is_admitted : DownReadStep → Bool
@@ -81,47 +81,47 @@ is_admitted LeavesAdmitted = true
 is_admitted step = false
 
 -- a start that waits stands before a closed level
-abbrev pub StartIsKept : World → DownRead → Type 0
-StartIsKept w r = (r.wait ≡ true) × (is_admitted r.step ≡ false) × (w.words.block r.level ≡ 1)
+abbrev pub StartIsBlocked : World → DownRead → Type 0
+StartIsBlocked w r = (r.wait ≡ true) × (is_admitted r.step ≡ false) × (w.words.block r.level ≡ 1)
 
 -- a change that waits stands before its lock
-abbrev pub ChangeIsKept : Config → World → ChangeStep → Bool → Type 0
-ChangeIsKept c w ChangeLocks wait = (wait ≡ true) × LockIsKept c w
-ChangeIsKept c w step wait = ⊥
+abbrev pub ChangeIsBlocked : Config → World → ChangeStep → Bool → Type 0
+ChangeIsBlocked c w ChangeLocks wait = (wait ≡ true) × LockIsBlocked c w
+ChangeIsBlocked c w step wait = ⊥
 
-abbrev pub MountIsKept : Config → World → MountPhase → Type 0
-MountIsKept c w (Changes x) = ChangeIsKept c w x.step x.wait
-MountIsKept c w phase = ⊥
+abbrev pub MountIsBlocked : Config → World → MountPhase → Type 0
+MountIsBlocked c w (Changes x) = ChangeIsBlocked c w x.step x.wait
+MountIsBlocked c w phase = ⊥
 
-abbrev pub RemountIsKept : Config → World → RemountStep → Type 0
-RemountIsKept c w RemountLocks = LockIsKept c w
-RemountIsKept c w step = ⊥
+abbrev pub RemountIsBlocked : Config → World → RemountStep → Type 0
+RemountIsBlocked c w RemountLocks = LockIsBlocked c w
+RemountIsBlocked c w step = ⊥
 
-abbrev pub ThawIsKept : Config → World → ThawStep → Type 0
-ThawIsKept c w ThawLocks = LockIsKept c w
-ThawIsKept c w step = ⊥
+abbrev pub ThawIsBlocked : Config → World → ThawStep → Type 0
+ThawIsBlocked c w ThawLocks = LockIsBlocked c w
+ThawIsBlocked c w step = ⊥
 
-abbrev pub SnapshotIsKept : Config → World → SnapshotStep → Bool → Type 0
-SnapshotIsKept c w SnapshotLocks wait = (wait ≡ true) × LockIsKept c w
-SnapshotIsKept c w step wait = ⊥
+abbrev pub SnapshotIsBlocked : Config → World → SnapshotStep → Bool → Type 0
+SnapshotIsBlocked c w SnapshotLocks wait = (wait ≡ true) × LockIsBlocked c w
+SnapshotIsBlocked c w step wait = ⊥
 
-abbrev pub TreeIsKept : Config → World → TreePhase → Type 0
-TreeIsKept c w (Snapshots x) = SnapshotIsKept c w x.step x.wait
-TreeIsKept c w phase = ⊥
+abbrev pub TreeIsBlocked : Config → World → TreePhase → Type 0
+TreeIsBlocked c w (Snapshots x) = SnapshotIsBlocked c w x.step x.wait
+TreeIsBlocked c w phase = ⊥
 
-abbrev pub WriteIsKept : World → WritePhase → Type 0
-WriteIsKept w (Takes m r) = StartIsKept w r
-WriteIsKept w x = ⊥
+abbrev pub WriteIsBlocked : World → WritePhase → Type 0
+WriteIsBlocked w (Takes m r) = StartIsBlocked w r
+WriteIsBlocked w x = ⊥
 
 -- a close of a file with this word is the last one of a removed file
 abbrev pub is_last_close : ℕ → Bool
 is_last_close word = removed_in word == 1 && opens_in word == 1
 
 -- a last close goes inside level 3 as a start does; one that waits, and is to find that it is the last, stands before it
-abbrev pub CloseIsKept : World → ClosePhase → Type 0
-CloseIsKept w (LoadsFile x) = (x.wait ≡ true) × (is_last_close (w.words.node x.file) ≡ true) × (w.words.block 3 ≡ 1)
-CloseIsKept w (EntersLevel f node r) = StartIsKept w r
-CloseIsKept w x = ⊥
+abbrev pub CloseIsBlocked : World → ClosePhase → Type 0
+CloseIsBlocked w (LoadsFile x) = (x.wait ≡ true) × (is_last_close (w.words.node x.file) ≡ true) × (w.words.block 3 ≡ 1)
+CloseIsBlocked w (EntersLevel f node r) = StartIsBlocked w r
+CloseIsBlocked w x = ⊥
 
 -- a freeze is at its first lock
 abbrev pub is_first_lock : FreezeStep → Bool
@@ -140,38 +140,38 @@ OneFreezeBegins c w = (y z : ℕ) → y < c.tasks → z < c.tasks → begins_fre
 
 -- A freeze at its first lock waits for one that is kept and has it; or it is free, and the freeze, which would be kept itself, is the only one
 -- there: of two the second finds that the stage isn't 0, and is busy.
-abbrev pub FreezeIsKept : Config → World → FreezeStep → Type 0
-FreezeIsKept c w FreezeLocks = LockIsKept c w ⊎ ((w.words.umount ≡ 0) × OneFreezeBegins c w × IsKept c w FreezeLocks)
-FreezeIsKept c w step = IsKept c w step
+abbrev pub FreezeIsBlocked : Config → World → FreezeStep → Type 0
+FreezeIsBlocked c w FreezeLocks = LockIsBlocked c w ⊎ ((w.words.umount ≡ 0) × OneFreezeBegins c w × HeldLevelAhead c w FreezeLocks)
+FreezeIsBlocked c w step = HeldLevelAhead c w step
 
 -- An operation is kept: a start or a last close that waits, by its closed level; a freeze, by an idle task that holds a level which it has to pass yet;
 -- and whoever waits for `umount`, by a freeze that owns it and is kept so. No other operation is.
-abbrev pub IsKeptAt : Config → World → Phase → Type 0
-IsKeptAt c w (Mounts phase) = MountIsKept c w phase
-IsKeptAt c w (Remounts x) = RemountIsKept c w x.step
-IsKeptAt c w (DownReads r) = StartIsKept w r
-IsKeptAt c w (Writes x) = WriteIsKept w x
-IsKeptAt c w (Freezes x) = FreezeIsKept c w x.step
-IsKeptAt c w (Thaws x) = ThawIsKept c w x.step
-IsKeptAt c w (Trees phase) = TreeIsKept c w phase
-IsKeptAt c w (FileCloses phase) = CloseIsKept w phase
-IsKeptAt c w phase = ⊥
+abbrev pub IsBlockedAt : Config → World → Phase → Type 0
+IsBlockedAt c w (Mounts phase) = MountIsBlocked c w phase
+IsBlockedAt c w (Remounts x) = RemountIsBlocked c w x.step
+IsBlockedAt c w (DownReads r) = StartIsBlocked w r
+IsBlockedAt c w (Writes x) = WriteIsBlocked w x
+IsBlockedAt c w (Freezes x) = FreezeIsBlocked c w x.step
+IsBlockedAt c w (Thaws x) = ThawIsBlocked c w x.step
+IsBlockedAt c w (Trees phase) = TreeIsBlocked c w phase
+IsBlockedAt c w (FileCloses phase) = CloseIsBlocked w phase
+IsBlockedAt c w phase = ⊥
 
 -- each operation under way is kept
-abbrev pub AllAreKept : Config → World → Type 0
-AllAreKept c w = (t : ℕ) → t < c.tasks → (phase : Phase) → (w.views t).phase ≡ Some phase → IsKeptAt c w phase
+abbrev pub AllAreBlocked : Config → World → Type 0
+AllAreBlocked c w = (t : ℕ) → t < c.tasks → (phase : Phase) → (w.views t).phase ≡ Some phase → IsBlockedAt c w phase
 
 -- A reply is near, or each operation under way is kept.
 abbrev pub Progresses : Config → ℕ → World → Type 0
-Progresses c n w = ReplyWithin c n w ⊎ AllAreKept c w
+Progresses c n w = ReplyWithin c n w ⊎ AllAreBlocked c w
 
 -- All that is under way comes to its end, as far as it can. Somebody can pick, event by event, one of the tasks under way, knowing what the hooks
 -- have answered so far but not what they will, so that after at most so many events each operation that is still under way is kept. No other
 -- operation begins in between, so each of the others has its reply.
 abbrev pub SettlesWithin : Config → ℕ → World → Type 0
-SettlesWithin c zero w = AllAreKept c w
+SettlesWithin c zero w = AllAreBlocked c w
 SettlesWithin c (suc n) w =
-    AllAreKept c w ⊎ ((t : ℕ) × (t < c.tasks) × IsUnderWay w t × ((hook : HookAnswer) → SettlesWithin c n (happens c w (Steps t hook))))
+    AllAreBlocked c w ⊎ ((t : ℕ) × (t < c.tasks) × IsUnderWay w t × ((hook : HookAnswer) → SettlesWithin c n (happens c w (Steps t hook))))
 
 -- the hook that the next event of a phase asks, if it asks one, agrees
 abbrev pub IsAgreed : Phase → HookAnswer → Type 0
@@ -179,13 +179,13 @@ IsAgreed phase hook = (hook_of phase ≡ None) ⊎ (hook ≡ Ok tt)
 
 -- The converse: where each operation under way is kept, no event of one of them is a reply, and all stay kept. So they are until an idle
 -- task gives its level back, another operation begins, or a hook fails.
-abbrev pub KeptStays : Config → World → Type 0
-KeptStays c w = AllAreKept c w → (t : ℕ) → t < c.tasks → (phase : Phase) → (w.views t).phase ≡ Some phase → (hook : HookAnswer) →
-    IsAgreed phase hook → (HasReply (happens c w (Steps t hook)) t → ⊥) × AllAreKept c (happens c w (Steps t hook))
+abbrev pub BlockedIsStable : Config → World → Type 0
+BlockedIsStable c w = AllAreBlocked c w → (t : ℕ) → t < c.tasks → (phase : Phase) → (w.views t).phase ≡ Some phase → (hook : HookAnswer) →
+    IsAgreed phase hook → (HasReply (happens c w (Steps t hook)) t → ⊥) × AllAreBlocked c (happens c w (Steps t hook))
 
 -- a freeze is under way, and an idle task holds a level that it has to pass yet
 abbrev pub AFreezeIsKept : Config → World → Type 0
-AFreezeIsKept c w = (y : ℕ) × (y < c.tasks) × (x : Freeze) × ((w.views y).phase ≡ Some (Freezes x)) × IsKept c w x.step
+AFreezeIsKept c w = (y : ℕ) × (y < c.tasks) × (x : Freeze) × ((w.views y).phase ≡ Some (Freezes x)) × HeldLevelAhead c w x.step
 
 -- The same in fewer words: with an operation under way, a reply is near, or the file system is frozen as a whole, or a freeze is kept by an
 -- idle task.
@@ -214,4 +214,4 @@ abbrev pub RepliesOrIsFrozen : Config → ℕ → List Entry → Type 0
 RepliesOrIsFrozen c n entries = ReplyOrFrozen c n (world_after c entries)
 
 abbrev pub KeptStaysKept : Config → List Entry → Type 0
-KeptStaysKept c entries = KeptStays c (world_after c entries)
+KeptStaysKept c entries = BlockedIsStable c (world_after c entries)

@@ -39,10 +39,10 @@ use Rattle.freeze_levels.specs.declared.freezes.FreezeStep.TheVariants.{SetsFs, 
 use Rattle.freeze_levels.specs.declared.thaws.ThawStep.{ThawStep, TheVariants.{Locks as TLocks, LoadsStage as TLoadsStage, LoadsHolders as TLoadsHolders}}
 use Rattle.freeze_levels.specs.declared.thaws.ThawStep.TheVariants.{Leaves as TLeaves, LoadsSuperblock as TLoadsSuperblock, LeavesReadOnly, LeavesLast}
 use Rattle.freeze_levels.specs.declared.thaws.ThawStep.TheVariants.{UnfreezesReadOnly, SetsUnfrozen, Reopens as TReopens, Releases as TReleases}
-use Rattle.compounds.specs.declared.write_access.phases.WritePhase.{WritePhase, TheVariants.{Takes, Wants as WWants, GivesBack, Drops as WDrops, Ends}}
-use Rattle.compounds.specs.declared.file_closes.phases.ClosePhase.{ClosePhase}
-use Rattle.compounds.specs.declared.file_closes.phases.ClosePhase.TheVariants.{LoadsFile as CloseLoadsFile, LowersCount, Enters as EntersLevel, FreesNode as ClosesNode}
-use Rattle.compounds.specs.declared.file_closes.phases.ClosePhase.TheVariants.{RefundsBlocks as CloseRefundsBlocks, Uncounts as CloseUncounts, Leaves as CloseLeaves}
+use Rattle.composite_ops.specs.declared.write_access.phases.WritePhase.{WritePhase, TheVariants.{Takes, Wants as WWants, GivesBack, Drops as WDrops, Ends}}
+use Rattle.composite_ops.specs.declared.file_closes.phases.ClosePhase.{ClosePhase}
+use Rattle.composite_ops.specs.declared.file_closes.phases.ClosePhase.TheVariants.{LoadsFile as CloseLoadsFile, LowersCount, Enters as EntersLevel, FreesNode as ClosesNode}
+use Rattle.composite_ops.specs.declared.file_closes.phases.ClosePhase.TheVariants.{RefundsBlocks as CloseRefundsBlocks, Uncounts as CloseUncounts, Leaves as CloseLeaves}
 use Rattle.gate_world.specs.declared.{config.Config.Config, work.Phase.{Phase, TheVariants.{Mounts, Remounts, DownReads, UpReads, Callbacks, Writes}}}
 use Rattle.gate_world.specs.declared.work.Phase.TheVariants.{Freezes, Thaws, Trees, Closes as FileCloses}
 

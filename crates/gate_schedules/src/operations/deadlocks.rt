@@ -5,9 +5,9 @@ ghost use Rattle.gate_world.specs.declared.work.Phase.{Phase};
 ghost use Rattle.gate_world.specs.Configs.{IsWithin};
 ghost use Rattle.gate_world.specs.Rules.{IsGood};
 ghost use Rattle.gate_world.specs.Worlds.{World};
-ghost use Rattle.gate_schedules.specs.operations.Progress.{EventsKeepRule, EventsMoveModel, KeptStays, Progresses, ReplyOrFrozen, SettlesWithin};
+ghost use Rattle.gate_schedules.specs.operations.Progress.{EventsKeepRule, EventsMoveModel, BlockedIsStable, Progresses, ReplyOrFrozen, SettlesWithin};
 ghost use Rattle.gate_schedules.specs.operations.Ranks.{most_events_to_reply, most_events_to_settle};
-ghost use Rattle.gate_schedules.specs.operations.Ways.{PhaseEnds};
+ghost use Rattle.gate_schedules.specs.operations.Unblocked.{PhaseEnds};
 
 /// Where the way of a phase is free, each of its events lowers its rank and leaves its way free. Does nothing: its contract is the law.
 pub fn each_event_comes_nearer_to_the_reply()
@@ -34,5 +34,5 @@ pub fn nobody_is_deadlocked()
 /// The converse, so that what is kept is just that: where each operation under way is kept, no event of one of them is a reply, and all stay
 /// kept, as long as no hook fails. It takes nothing, does nothing and answers nothing: its contract is the theorem.
 pub fn what_is_kept_stays_so()
-    ensures { (c : Config) → EventsMoveModel c → (w : World) → IsGood c w → KeptStays c w }
+    ensures { (c : Config) → EventsMoveModel c → (w : World) → IsGood c w → BlockedIsStable c w }
 {}

@@ -24,8 +24,8 @@ use Rattle.gate_steps.specs.call_events.CallingBack.{calling_at}
 use Rattle.gate_steps.specs.call_events.Closings.{standing}
 use Rattle.gate_steps.specs.call_events.Remounting.{remounting_at}
 use Rattle.gate_steps.specs.call_events.Reopenings.{thaw_at}
-use Rattle.gate_steps.specs.call_events.Ties.{Ties}
-use Rattle.gate_steps.specs.call_events.Turns.{IsTied, kept_at}
+use Rattle.gate_steps.specs.call_events.GhostAgrees.{GhostAgrees}
+use Rattle.gate_steps.specs.call_events.Turns.{StateAgrees, kept_at}
 
 -- where one that may wait begins
 abbrev IsFirst : Phase → Type 0
@@ -58,25 +58,25 @@ is_first c n (Close file cpu wait) = tt
 is_first c n (Snapshot wait) = tt
 
 begun_items : (number : ℕ) (c : Config) (op : Op) (phase : Phase) (accesses : Accesses) (flags : List Bool) (items : SeatItems) →
-    Ties number c (Some op) (kept_at (Some phase) accesses) flags items → IsFirst phase
+    GhostAgrees number c (Some op) (kept_at (Some phase) accesses) flags items → IsFirst phase
 begun_items number c op phase accesses flags [] ties = absurd ties
 begun_items number c op phase accesses flags (x ∷ xs) ties = subst IsFirst (sym ties.may.1) (is_first c x.number op)
 
-begun : {c : Config} {op : Op} {phase : Phase} {accesses : Accesses} {items : SeatItems} → IsTied c (Some op) (Some phase) accesses items → IsFirst phase
+begun : {c : Config} {op : Op} {phase : Phase} {accesses : Accesses} {items : SeatItems} → StateAgrees c (Some op) (Some phase) accesses items → IsFirst phase
 begun {c} {op} {phase} {accesses} {items} tied = begun_items tied.number c op phase accesses tied.flags items tied.ties
 
 -- so each form of one does
 module _ {c : Config} {op : Op} {accesses : Accesses} {items : SeatItems} where
-  pub freeze_begun : (x : Freeze) → IsTied c (Some op) (Some (Freezes x)) accesses items → Go (standing x FreezeLocks) ≡ Go (Freezes x)
+  pub freeze_begun : (x : Freeze) → StateAgrees c (Some op) (Some (Freezes x)) accesses items → Go (standing x FreezeLocks) ≡ Go (Freezes x)
   freeze_begun x tied = ap (λ s. Go (standing x s)) (sym (begun tied))
 
-  pub thaw_begun : (x : Thaw) → IsTied c (Some op) (Some (Thaws x)) accesses items → Go (thaw_at x ThawLocks) ≡ Go (Thaws x)
+  pub thaw_begun : (x : Thaw) → StateAgrees c (Some op) (Some (Thaws x)) accesses items → Go (thaw_at x ThawLocks) ≡ Go (Thaws x)
   thaw_begun x tied = ap (λ s. Go (thaw_at x s)) (sym (begun tied))
 
-  pub remount_begun : (x : Remount) → IsTied c (Some op) (Some (Remounts x)) accesses items → Go (remounting_at x RemountLocks) ≡ Go (Remounts x)
+  pub remount_begun : (x : Remount) → StateAgrees c (Some op) (Some (Remounts x)) accesses items → Go (remounting_at x RemountLocks) ≡ Go (Remounts x)
   remount_begun x tied = ap (λ s. Go (remounting_at x s)) (sym (begun tied))
 
-  pub callback_begun : (x : Callback) → IsTied c (Some op) (Some (Callbacks x)) accesses items → Go (calling_at x.level x.tasks (Claims Loads)) ≡ Go (Callbacks x)
+  pub callback_begun : (x : Callback) → StateAgrees c (Some op) (Some (Callbacks x)) accesses items → Go (calling_at x.level x.tasks (Claims Loads)) ≡ Go (Callbacks x)
   callback_begun x tied = ap (λ s. Go (calling_at x.level x.tasks s)) (sym (begun tied))
 
 -- a callback stands at a step

@@ -10,13 +10,13 @@ use Rattle.gate_world.specs.declared.operations.Op.{Op}
 use Rattle.gate_world.specs.declared.views.Traced.{Traced}
 use Rattle.gate_world.specs.declared.work.Phase.{Phase}
 use Rattle.gate_world.specs.Beginnings.{first_phase}
-use Rattle.gate_world.specs.Courses.{course_after, course_of}
+use Rattle.gate_world.specs.traces.TraceStates.{trace_state_after, state_of_trace}
 use Rattle.gate_world.specs.Views.{actions_after}
 use Rattle.gate_world.specs.Work.{after_of}
 use Rattle.gate_steps.specs.Seating.{SeatItems}
 use Rattle.gate_steps.specs.call_events.Asking.{Ask, asks_with, asks_of, call_at, next_call}
 use Rattle.gate_steps.specs.call_events.Runs.{items_at}
-use Rattle.gate_steps.specs.call_events.TaskStates.{own_number}
+use Rattle.gate_steps.specs.call_events.SeatedTasks.{own_number}
 
 -- what comes next, whichever of two it is
 pub either_way : {A : Type 0} (P : A → Type 0) (b : Bool) (x y : A) → P x → P y → P (if b then x else y)
@@ -29,15 +29,15 @@ module _ (I : Next Phase → List Action → List Ask → Type 0)
     I (after_of p found hook).0 (actions_after (after_of p found hook).1 added) (asks_with (call_at p) at hook asks)) where
   -- one event more
   one_more : (comes : Next Phase) (added : List Action) (e : Traced) (at : SeatItems) (asks : List Ask) → I comes added asks →
-      I (course_after comes added e).comes (course_after comes added e).added (asks_with (next_call comes) at e.hook asks)
+      I (trace_state_after comes added e).comes (trace_state_after comes added e).added (asks_with (next_call comes) at e.hook asks)
   one_more (Go p) added e at asks is = keeps p e.event.found e.hook at added asks is
   one_more (Wait p) added e at asks is = keeps p e.event.found e.hook at added asks (waits_so p added asks is)
   one_more (Done answer) added e at asks is = is
 
   -- so it is after each trace
   pub asked_after : (c : Config) (op : Op) (items : SeatItems) → I (Go (first_phase c (own_number items) op)) [] [] → (trace : List Traced) →
-      I (course_of c (own_number items) op trace).comes (course_of c (own_number items) op trace).added (asks_of c op items trace)
+      I (state_of_trace c (own_number items) op trace).comes (state_of_trace c (own_number items) op trace).added (asks_of c op items trace)
   asked_after c op items first [] = first
   asked_after c op items first (e ∷ earlier) =
-      one_more (course_of c (own_number items) op earlier).comes (course_of c (own_number items) op earlier).added e
+      one_more (state_of_trace c (own_number items) op earlier).comes (state_of_trace c (own_number items) op earlier).added e
       (items_at c op earlier items) (asks_of c op items earlier) (asked_after c op items first earlier)

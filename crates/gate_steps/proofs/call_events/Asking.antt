@@ -6,7 +6,7 @@ use Rattle.access_model.specs.declared.replies.Reply.{Reply}
 use Rattle.gate_schedules.specs.Answers.{unless_refused}
 use Rattle.gate_world.specs.declared.operations.Op.{Op}
 use Rattle.gate_steps.specs.call_events.Runs.{told_as, the_reply}
-use Rattle.gate_steps.specs.call_events.TaskStates.{TaskState, refusal_at}
+use Rattle.gate_steps.specs.call_events.SeatedTasks.{SeatedTask, refusal_at}
 use Rattle.gate_steps.proofs.call_events.Running.{was_refused, was_done, was_told}
 use Rattle.cpu_words.specs.Hooks.{HookAnswer}
 use Rattle.freeze_levels.specs.declared.hooks.HookCall.{HookCall}
@@ -38,14 +38,14 @@ module _ {H : Type 0} (answers : HookCall → SeatItems → H → HookAnswer →
   was_not wanted at is hook h left same = subst (λ w. AskedFor w at hook h left) (sym is) same
 
   -- a call whose beginning is refused asks none
-  pub was_refused_asking : {A : Type 0} (read : Reply → A) (op : Op) (old left : TaskState) (e : GateError) → Err e ≡
+  pub was_refused_asking : {A : Type 0} (read : Reply → A) (op : Op) (old left : SeatedTask) (e : GateError) → Err e ≡
       unless_refused (refusal_at op old) → left ≡ old → (before : H) → RepliesAsking answers read op old left (Err e) before before
   was_refused_asking read op old left e is same before =
       let replies = was_refused read op old left e is same in
       record { replies = replies; refused = λ r at. refl; asked = λ at. absurd (let none : Err e ≡ Ok tt = is ∙ ap unless_refused at in let no : ⊥ = cc in no) }
 
   -- and one that was done, those that its events read
-  pub was_done_asking : {A : Type 0} (read : Reply → A) (op : Op) (old left : TaskState) (answer : Result Reply GateError)
+  pub was_done_asking : {A : Type 0} (read : Reply → A) (op : Op) (old left : SeatedTask) (answer : Result Reply GateError)
       (outcome : Result A GateError) → outcome ≡ told_as read answer → Ok tt ≡ unless_refused (refusal_at op old) →
       (before hooks : H) (waited : ℕ) → CalledAsking answers op old before left answer waited hooks → RepliesAsking answers read op old left outcome before hooks
   was_done_asking read op old left answer outcome told admitted before hooks waited called = record {
@@ -55,7 +55,7 @@ module _ {H : Type 0} (answers : HookCall → SeatItems → H → HookAnswer →
   }
 
   -- the same of a call that tells of another's answer what it reads of replies
-  pub was_told_asking : {A : Type 0} (read : Reply → A) (op : Op) (old left : TaskState) (answer : Result Reply GateError)
+  pub was_told_asking : {A : Type 0} (read : Reply → A) (op : Op) (old left : SeatedTask) (answer : Result Reply GateError)
       (outcome : Result A GateError) (before hooks : H) → RepliesAsking answers the_reply op old left answer before hooks →
       outcome ≡ told_as read answer → RepliesAsking answers read op old left outcome before hooks
   was_told_asking read op old left answer outcome before hooks replies told = record {

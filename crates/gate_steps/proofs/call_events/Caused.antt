@@ -5,11 +5,11 @@ use Rattle.access_model.specs.declared.errors.GateError.{GateError}
 use Rattle.access_model.specs.declared.replies.Next.TheVariants.{Done}
 use Rattle.cpu_words.specs.{Touches.{found_by}}
 use Rattle.cpu_words.specs.declared.events.Touch.{Touch, TheVariants.Load}
-use Rattle.gate_schedules.proofs.schedules.Whole.{whole_causes, whole_rule}
-use Rattle.gate_schedules.proofs.operations.Layers.{phase_keeps}
-use Rattle.gate_world.specs.{Causes.HasCause, Headline.world_after, Courses.{Course, course_of}, Work.{next_of, after_of}}
+use Rattle.gate_schedules.proofs.schedules.HeadlineProof.{whole_causes, whole_rule}
+use Rattle.gate_schedules.proofs.operations.AllOperations.{phase_keeps}
+use Rattle.gate_world.specs.{refusals.Causes.HasCause, Headline.world_after, traces.TraceStates.{TraceState, state_of_trace}, Work.{next_of, after_of}}
 use Rattle.gate_world.specs.Worlds.{World, found_at}
-use Rattle.gate_world.specs.Snapshots.{completes}
+use Rattle.gate_world.specs.traces.Snapshots.{completes}
 use Rattle.gated_tree.specs.declared.trees.TreeWords.{TreeWords}
 use Rattle.gate_world.specs.declared.entries.Entry.{Entry}
 use Rattle.gate_world.specs.declared.{config.Config.Config, operations.Op.Op, views.Traced.Traced}
@@ -17,7 +17,7 @@ use Rattle.gate_steps.specs.Seating.{SeatItems}
 use Rattle.gate_steps.specs.call_events.Caused.{IsCausedBy, HasItsCause}
 use Rattle.gate_steps.specs.call_events.Runs.{completed_by, AreMoves, Called}
 use Rattle.gate_steps.specs.call_events.Spans.{HappensAfter, IsEventDuring, IsCausedDuring, HasItsCauseDuring, IsTreeDuring}
-use Rattle.gate_steps.specs.call_events.TaskStates.{TaskState, own_number}
+use Rattle.gate_steps.specs.call_events.SeatedTasks.{SeatedTask, own_number}
 use Rattle.gate_steps.proofs.call_events.Running.{course_is, completed_is}
 use Rattle.gate_steps.proofs.call_events.Spanning.{last_event, each_event}
 
@@ -39,13 +39,13 @@ module _ (c : Config) (items : SeatItems) (op : Op) (earlier : List Traced) (e :
 
   -- an event that ends the operation with a refusal
   refused_during : (during : IsEventDuring c items op earlier e seen gone) → during.rest ≡ [] →
-      (course_of c n op (e ∷ earlier)).comes ≡ Done (Err refusal) → IsCausedDuring c items op earlier e refusal seen gone
+      (state_of_trace c n op (e ∷ earlier)).comes ≡ Done (Err refusal) → IsCausedDuring c items op earlier e refusal seen gone
   refused_during during returns ends =
       let h : HappensAfter c n op earlier e during.entries = during.happens in
       let w : World = world_after c during.entries in
       let done : (after_of h.phase (found_at w.words h.phase e.hook) e.hook).0 ≡ Done (Err refusal) =
       subst (λ k. (after_of h.phase k e.hook).0 ≡ Done (Err refusal)) (says c n op earlier e during.entries h)
-      (sym (ap (λ (o : Course). o.comes) (course_is (course_of c n op earlier).comes h.phase (course_of c n op earlier).added e h.comes)) ∙
+      (sym (ap (λ (o : TraceState). o.comes) (course_is (state_of_trace c n op earlier).comes h.phase (state_of_trace c n op earlier).added e h.comes)) ∙
       ends) in record {
         during = during;
         returns = returns;
@@ -71,7 +71,7 @@ module _ (c : Config) (items : SeatItems) (op : Op) (earlier : List Traced) (e :
       }
 
 trace_caused : (c : Config) (items : SeatItems) (op : Op) (refusal : GateError) (seen gone : List (List Entry)) (trace : List Traced) →
-    (course_of c (own_number items) op trace).comes ≡ Done (Err refusal) → AreMoves c op items seen trace gone →
+    (state_of_trace c (own_number items) op trace).comes ≡ Done (Err refusal) → AreMoves c op items seen trace gone →
     HasItsCauseDuring c items op trace refusal seen gone
 trace_caused c items op refusal seen gone [] ends moves = let no : ⊥ = cc in no
 trace_caused c items op refusal seen gone (e ∷ earlier) ends moves =
@@ -84,12 +84,12 @@ all_alone c items op refusal seen gone [] h = h
 all_alone c items op refusal seen gone (e ∷ earlier) h = alone c items op earlier e refusal seen gone h
 
 -- so a refused call has it
-pub call_caused_during : (op : Op) (old left : TaskState) (refusal : GateError) (called : Called op old left (Err refusal)) →
+pub call_caused_during : (op : Op) (old left : SeatedTask) (refusal : GateError) (called : Called op old left (Err refusal)) →
     HasItsCauseDuring old.config old.items op called.trace refusal old.seen left.seen
 call_caused_during op old left refusal called =
     trace_caused old.config old.items op refusal old.seen left.seen called.trace called.ends called.moves
 
-pub call_caused : (op : Op) (old left : TaskState) (refusal : GateError) (called : Called op old left (Err refusal)) →
+pub call_caused : (op : Op) (old left : SeatedTask) (refusal : GateError) (called : Called op old left (Err refusal)) →
     HasItsCause old.config (own_number old.items) op called.trace refusal
 call_caused op old left refusal called =
     all_alone old.config old.items op refusal old.seen left.seen called.trace (call_caused_during op old left refusal called)
@@ -97,7 +97,7 @@ call_caused op old left refusal called =
 -- and where an event of a call has completed a snapshot, that is of the tree of its moment
 pub tree_during : (c : Config) (items : SeatItems) (op : Op) (seen gone : List (List Entry)) (loaded : TreeWords)
     (later : List Traced) (e : Traced) (earlier : List Traced) → AreMoves c op items seen (later ++ e ∷ earlier) gone →
-    completed_by (course_of c (own_number items) op earlier).comes earlier e ≡ Some loaded → IsTreeDuring c items op seen gone loaded
+    completed_by (state_of_trace c (own_number items) op earlier).comes earlier e ≡ Some loaded → IsTreeDuring c items op seen gone loaded
 tree_during c items op seen gone loaded later e earlier moves completed =
     let n : ℕ = own_number items in
     let during : IsEventDuring c items op earlier e seen gone = each_event c op items seen gone later e earlier moves in
@@ -105,7 +105,7 @@ tree_during c items op seen gone loaded later e earlier moves completed =
     let w : World = world_after c during.entries in
     let here : completes h.phase (w.views n).trace (found_at w.words h.phase e.hook) ≡ Some loaded =
     (λ i. completes h.phase (h.events i) (sym (says c n op earlier e during.entries h) i)) ∙
-    (sym (completed_is (course_of c n op earlier).comes h.phase earlier e h.comes) ∙ completed) in record {
+    (sym (completed_is (state_of_trace c n op earlier).comes h.phase earlier e h.comes) ∙ completed) in record {
       earlier = earlier;
       last = e;
       during = during;

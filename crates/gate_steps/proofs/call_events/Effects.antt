@@ -8,8 +8,8 @@ use Rattle.access_model.specs.Histories.{Done, own_part}
 use Rattle.access_model.specs.declared.actions.Action.{Action}
 use Rattle.access_model.specs.declared.errors.GateError.{GateError}
 use Rattle.access_model.specs.declared.replies.{Next.{Next, TheVariants.{Go, Wait, Done as Ended}}, Reply.Reply}
-use Rattle.gate_schedules.proofs.schedules.Whole.{whole_run}
-use Rattle.gate_world.specs.Courses.{course_of}
+use Rattle.gate_schedules.proofs.schedules.HeadlineProof.{whole_run}
+use Rattle.gate_world.specs.traces.TraceStates.{state_of_trace}
 use Rattle.gate_world.specs.Headline.{world_after, actions_so_far, actions_since}
 use Rattle.gate_world.specs.declared.entries.Entry.{Entry, TheVariants.{Begins, Steps}}
 use Rattle.gate_world.specs.declared.{config.Config.Config, operations.Op.Op, views.{Traced.Traced, View.View}, work.Phase.Phase}
@@ -17,7 +17,7 @@ use Rattle.gate_steps.specs.Seating.{SeatItems, HaveViews, HaveHistory, GoesOn}
 use Rattle.gate_steps.specs.call_events.Grown.{HasSeen}
 use Rattle.gate_steps.specs.call_events.Runs.{ran_items, IsNextMove, AreMoves, Called}
 use Rattle.gate_steps.specs.call_events.Spans.{GoesOnFromSeen, IsEventDuring, TakesEffect, AreInOrder}
-use Rattle.gate_steps.specs.call_events.TaskStates.{TaskState, own_number, own_view}
+use Rattle.gate_steps.specs.call_events.SeatedTasks.{SeatedTask, own_number, own_view}
 use Rattle.gate_steps.proofs.call_events.Grown.{only}
 use Rattle.gate_steps.proofs.call_events.Moments.{own_more, own_one, part_more, actions_append}
 use Rattle.gate_steps.proofs.call_events.Spanning.{last_event}
@@ -44,8 +44,8 @@ module _ (c : Config) (op : Op) (seen gone : List (List Entry)) (e : Traced) (ea
   -- what the own number has done in the one history that is left
   has_done : (items left : SeatItems) → left ≡ ran_items c op (e ∷ earlier) items → AreMoves c op items seen (e ∷ earlier) gone →
       (h : HaveHistory c left gone) →
-      own_part (own_number items) h.history.log ≡ (course_of c (own_number items) op (e ∷ earlier)).added ++ (own_view items).actions
-  has_done [] left is moves h = absurd (none_moves c op earlier e moves.0 gone (course_of c 0 op earlier).comes moves.1)
+      own_part (own_number items) h.history.log ≡ (state_of_trace c (own_number items) op (e ∷ earlier)).added ++ (own_view items).actions
+  has_done [] left is moves h = absurd (none_moves c op earlier e moves.0 gone (state_of_trace c 0 op earlier).comes moves.1)
   has_done (x ∷ xs) left is moves h =
       let mine = subst (HaveViews h.world.views) is h.mine in
       h.history.lists x.number ∙ ap (λ (v : View). v.actions) (mine 0 _ refl)
@@ -53,7 +53,7 @@ module _ (c : Config) (op : Op) (seen gone : List (List Entry)) (e : Traced) (ea
   -- and what it had done in the one with which the call began
   had_done : (items : SeatItems) (began : List Entry) → AreMoves c op items seen (e ∷ earlier) gone → GoesOnFromSeen c items seen began →
       ((world_after c began).views (own_number items)).actions ≡ (own_view items).actions
-  had_done [] began moves h = absurd (none_moves c op earlier e moves.0 gone (course_of c 0 op earlier).comes moves.1)
+  had_done [] began moves h = absurd (none_moves c op earlier e moves.0 gone (state_of_trace c 0 op earlier).comes moves.1)
   had_done (x ∷ xs) began moves h = h.lists 0 x refl
 
   trace_effect : (items left : SeatItems) → left ≡ ran_items c op (e ∷ earlier) items → AreMoves c op items seen (e ∷ earlier) gone →
@@ -82,29 +82,29 @@ module _ (c : Config) (op : Op) (seen gone : List (List Entry)) (e : Traced) (ea
         grows = grows;
         had = λ k x there. (whole_run c one.within one.began).lists x.number ∙ one.begins.lists k x there;
         added = since_then n h.history.log (actions_since c one.began since) (actions_so_far c one.began) _
-            (course_of c n op (e ∷ earlier)).added (own_view items).actions grows (has_done items left is moves h) refl
+            (state_of_trace c n op (e ∷ earlier)).added (own_view items).actions grows (has_done items left is moves h) refl
             ((whole_run c one.within one.began).lists n ∙ had_done items one.began moves one.begins);
       }
 
 any_effect : (c : Config) (op : Op) (items left : SeatItems) (seen gone : List (List Entry)) (answer : Result Reply GateError)
-    (trace : List Traced) → (course_of c (own_number items) op trace).comes ≡ Ended answer → left ≡ ran_items c op trace items →
+    (trace : List Traced) → (state_of_trace c (own_number items) op trace).comes ≡ Ended answer → left ≡ ran_items c op trace items →
     AreMoves c op items seen trace gone → (h : HaveHistory c left gone) → TakesEffect c items op trace seen gone h.history.log
 any_effect c op items left seen gone answer [] ends is moves h = absurd (let no : ⊥ = cc in no)
 any_effect c op items left seen gone answer (e ∷ earlier) ends is moves h = trace_effect c op seen gone e earlier items left is moves h
 
 -- so of each whole call
-pub call_effect : (op : Op) (old left : TaskState) (answer : Result Reply GateError) (called : Called op old left answer) →
+pub call_effect : (op : Op) (old left : SeatedTask) (answer : Result Reply GateError) (called : Called op old left answer) →
     TakesEffect old.config old.items op called.trace old.seen left.seen called.history.history.log
 call_effect op old left answer called =
     any_effect old.config op old.items left.items old.seen left.seen answer called.trace called.ends
-    (ap (λ (s : TaskState). s.items) called.after) called.moves called.history
+    (ap (λ (s : SeatedTask). s.items) called.after) called.moves called.history
 
 -- and two of which the later one has seen what the earlier one left
 pub in_order : (c : Config) (items others : SeatItems) (one two : Op) (first second : List Traced) (seen left begins ends : List (List Entry))
     (log now : List Done) → TakesEffect c items one first seen left log → TakesEffect c others two second begins ends now →
     ((k : ℕ) (there : List Entry) → get_elem? left k ≡ some there → HasSeen there begins) →
-    AreInOrder (own_number items) (course_of c (own_number items) one first).added (own_number others)
-    (course_of c (own_number others) two second).added now
+    AreInOrder (own_number items) (state_of_trace c (own_number items) one first).added (own_number others)
+    (state_of_trace c (own_number others) two second).added now
 in_order c items others one two first second seen left begins ends log now f s all =
     let there : List Entry = f.began ++ f.since in
     let known : HasSeen there begins = all 0 there (ap (λ l. get_elem? l 0) f.leaves) in

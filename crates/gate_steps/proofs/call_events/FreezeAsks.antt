@@ -51,7 +51,7 @@ use Rattle.freeze_levels.specs.Holders.{holders_in}
 use Rattle.gate_world.specs.declared.operations.Op.TheVariants.{Freeze as FreezeOp}
 use Rattle.gate_world.specs.declared.work.Phase.{Phase}
 use Rattle.gate_world.specs.declared.work.Phase.TheVariants.{Freezes}
-use Rattle.gate_world.specs.Traces.{actions_of}
+use Rattle.gate_world.specs.traces.Traces.{actions_of}
 use Rattle.gate_world.specs.Views.{actions_after}
 use Rattle.gate_world.specs.Work.{after_of}
 use Rattle.gate_steps.specs.Seating.{SeatItems}
@@ -59,7 +59,7 @@ use Rattle.access_model.specs.declared.actions.Holder.{Holder}
 use Rattle.gate_steps.specs.call_events.Asked.{agreed, OnceAsked, stored_third_stage, AskedByFreeze}
 use Rattle.gate_steps.specs.call_events.Asking.{Ask, asks_with, asks_of, call_at}
 use Rattle.gate_steps.specs.call_events.Runs.{Called}
-use Rattle.gate_steps.specs.call_events.TaskStates.{TaskState}
+use Rattle.gate_steps.specs.call_events.SeatedTasks.{SeatedTask}
 use Rattle.gate_steps.proofs.call_events.Asked.{either_way, asked_after}
 
 -- nothing was asked
@@ -227,7 +227,7 @@ keeps (Freezes x) found hook at added asks is =
 keeps p found hook at added asks is = absurd is
 
 -- of a freeze that was granted
-pub granted_freeze : (holder : Holder) (old left : TaskState) (reply : Reply) (called : Called (FreezeOp holder) old left (Ok reply)) →
+pub granted_freeze : (holder : Holder) (old left : SeatedTask) (reply : Reply) (called : Called (FreezeOp holder) old left (Ok reply)) →
     AskedByFreeze (actions_of (FreezeOp holder) (Ok reply) called.trace) (asks_of old.config (FreezeOp holder) old.items called.trace)
 granted_freeze holder old left reply called =
     let op = FreezeOp holder in

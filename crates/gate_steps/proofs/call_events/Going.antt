@@ -11,14 +11,14 @@ use Rattle.gate_world.specs.{Views.{phase_after, view_after_beside}, Work.{next_
 use Rattle.gate_world.specs.declared.{accesses.Accesses.Accesses, config.Config.Config, operations.Op.Op, views.View.View, work.Phase.Phase}
 use Rattle.gate_schedules.specs.Answers.{progress_of, phase_step}
 use Rattle.gate_schedules.specs.Seats.{seat_held}
-use Rattle.gate_schedules.specs.declared.seats.Seat.{Seat}
+use Rattle.gate_schedules.specs.declared.task_states.TaskState.{TaskState}
 use Rattle.gate_schedules.specs.declared.steps.Progress.{Progress}
 use Rattle.gate_schedules.specs.declared.steps.Step.{Step}
 use Rattle.gate_schedules.proofs.frames.{Accesses.{holdings_of_after, long_after, wide_after, deep_after, agree_after}, Agreeing.agree_sym}
 use Rattle.gate_schedules.proofs.schedules.Phases.{action_fits, fits_after, fits_agree}
-use Rattle.gate_steps.specs.{Seating.{SeatItems, numbered, entered, done_by, items_after, IsMove}, declared.seating.Numbered.Numbered}
+use Rattle.gate_steps.specs.{Seating.{SeatItems, numbered, entered, done_by, items_after, HasWitness}, declared.seating.Numbered.Numbered}
 use Rattle.atomic_table.specs.Seated.{TableId}
-use Rattle.gate_steps.specs.call_events.{Stepped.{found_step, state_after, ToldIn, Stepped}, TaskStates.{TaskState, task_state}, Ties.{PhaseOk, OwnTies, Ties}}
+use Rattle.gate_steps.specs.call_events.{Stepped.{found_step, state_after, ToldIn, Stepped}, SeatedTasks.{SeatedTask, task_state}, GhostAgrees.{PhaseOk, OwnTies, GhostAgrees}}
 
 -- a view stands where its phase says
 phase_ok : (c : Config) (n : ℕ) (v : View) (o : Option Phase) → v.phase ≡ o → PhaseOk c None o (numbered n v)
@@ -30,14 +30,14 @@ entered_actions : (v : View) (begins : Option Op) (phase : Phase) → (entered v
 entered_actions v None phase = refl
 entered_actions v (Some op) phase = refl
 
-module _ (number : ℕ) (c : Config) (begins : Option Op) (kept : Seat) (flags : List Bool) (phase : Phase) (is : kept.phase ≡ Some phase)
+module _ (number : ℕ) (c : Config) (begins : Option Op) (kept : TaskState) (flags : List Bool) (phase : Phase) (is : kept.phase ≡ Some phase)
     (hook : HookAnswer) (found : ℕ) where
   -- what comes after the event, and its action
   abbrev done : Next Phase × Option Action
   done = after_of phase (found_by (next_of phase hook).1 found) hook
 
   -- what is kept after it
-  abbrev kept_after : Seat
+  abbrev kept_after : TaskState
   kept_after = record { phase = phase_after done.0; accesses = accesses_after kept.accesses done.1 }
 
   module _ (x : Numbered) (xs : SeatItems) (ties : OwnTies number c begins kept flags x xs) where
@@ -88,13 +88,13 @@ module _ (number : ℕ) (c : Config) (begins : Option Op) (kept : Seat) (flags :
     }
 
   -- the fields that follow an event are what the seat knows after it
-  pub matches_after : (items : SeatItems) → Ties number c begins kept flags items →
-      Ties number c None kept_after flags (items_after begins phase hook found items)
+  pub matches_after : (items : SeatItems) → GhostAgrees number c begins kept flags items →
+      GhostAgrees number c None kept_after flags (items_after begins phase hook found items)
   matches_after [] t = absurd t
   matches_after (x ∷ xs) t = ties_after x xs t
 
   -- and the action can be done
-  pub acts_after : (items : SeatItems) → Ties number c begins kept flags items → ActionFits (seat_held kept) done.1
+  pub acts_after : (items : SeatItems) → GhostAgrees number c begins kept flags items → ActionFits (seat_held kept) done.1
   acts_after [] t = absurd t
   acts_after (x ∷ xs) t = acts_kept x xs t
 
@@ -123,15 +123,15 @@ step_in w phase hook =
 
 -- so it is told in the world of the event
 told_in : (c : Config) (begins : Option Op) (phase : Phase) (hook : HookAnswer) (found : ℕ) (items : SeatItems)
-    (seen gone : List (List Entry)) (move : IsMove c begins phase hook items found seen gone) (step : Step) →
+    (seen gone : List (List Entry)) (move : HasWitness c begins phase hook items found seen gone) (step : Step) →
     step ≡ found_step phase hook found → ToldIn c begins phase hook found items seen gone move step
 told_in c begins phase hook found [] seen gone move step is = absurd move
 told_in c begins phase hook found (x ∷ xs) seen gone move step is = is ∙ (ap (found_step phase hook) move.found ∙ step_in move.world phase hook)
 
 -- the event of a step
-pub was_stepped : (phase : Phase) (hook : HookAnswer) (old : TaskState) (done : Step) (left : TaskState) (found : ℕ) → done ≡
+pub was_stepped : (phase : Phase) (hook : HookAnswer) (old : SeatedTask) (done : Step) (left : SeatedTask) (found : ℕ) → done ≡
     found_step phase hook found → left ≡ state_after old phase hook found left.seen →
-    IsMove old.config old.begins phase hook old.items found old.seen left.seen → Stepped phase hook old done left
+    HasWitness old.config old.begins phase hook old.items found old.seen left.seen → Stepped phase hook old done left
 was_stepped phase hook old done left found step new moves =
     record {
       found = found;
@@ -143,8 +143,8 @@ was_stepped phase hook old done left found step new moves =
     }
 
 -- the same of the values that the code has
-module _ (number : ℕ) (c : Config) (begins : Option Op) (kept : Seat) (flags : List Bool) (phase : Phase) (is : kept.phase ≡ Some phase)
-    (hook : HookAnswer) (items : SeatItems) (ties : Ties number c begins kept flags items)
+module _ (number : ℕ) (c : Config) (begins : Option Op) (kept : TaskState) (flags : List Bool) (phase : Phase) (is : kept.phase ≡ Some phase)
+    (hook : HookAnswer) (items : SeatItems) (ties : GhostAgrees number c begins kept flags items)
     (next : WordName × Touch) (next_is : next ≡ next_of phase hook) (found : ℕ) (event : Event)
     (event_is : event ≡ event_of next.0 next.1 found)
     (done : Next Phase × Option Action) (done_is : done ≡ after_of phase event.found hook) where
@@ -173,9 +173,9 @@ module _ (number : ℕ) (c : Config) (begins : Option Op) (kept : Seat) (flags :
     same_accesses = accesses_is ∙ ap (λ (d : Next Phase × Option Action). accesses_after kept.accesses d.1) same_done
 
     -- the fields that are left agree with the seat
-    pub ties_left : Ties number c None (record { phase = progress.1; accesses = accesses }) flags after
+    pub ties_left : GhostAgrees number c None (record { phase = progress.1; accesses = accesses }) flags after
     ties_left =
-        let P : Option Phase × Accesses × SeatItems → Type 0 = λ z. Ties number c None (record { phase = z.0; accesses = z.1 }) flags z.2 in
+        let P : Option Phase × Accesses × SeatItems → Type 0 = λ z. GhostAgrees number c None (record { phase = z.0; accesses = z.1 }) flags z.2 in
         subst P (λ j. (sym same_phase j, sym same_accesses j, sym after_is j))
         (matches_after number c begins kept flags phase is hook found items ties)
 
@@ -197,15 +197,15 @@ module _ (number : ℕ) (c : Config) (begins : Option Op) (kept : Seat) (flags :
         λ i. record { table = same i; config = c; begins = None; phase = same_phase i; items = after_is i; seen = gone }
 
     -- the step that the code has done, where the seat's event was such a move
-    pub stepped_here : (seen gone : List (List Entry)) (table before : TableId) (now : TaskState) → table ≡ before →
-        task_state before c begins kept.phase (knows items seen) ≡ now → IsMove c begins phase hook items found seen gone →
+    pub stepped_here : (seen gone : List (List Entry)) (table before : TableId) (now : SeatedTask) → table ≡ before →
+        task_state before c begins kept.phase (knows items seen) ≡ now → HasWitness c begins phase hook items found seen gone →
         (p : Phase) → now.phase ≡ Some p → Stepped p hook now (record { event = Some event; action = done.1; progress = progress.0 })
         (task_state table c None progress.1 (knows after gone))
     stepped_here seen gone table before now same view moves p at =
-        let other : Some phase ≡ Some p = sym is ∙ (ap (λ (s : TaskState). s.phase) view ∙ at) in
+        let other : Some phase ≡ Some p = sym is ∙ (ap (λ (s : SeatedTask). s.phase) view ∙ at) in
         let same_p : phase ≡ p = cc in
         let step : Step = record { event = Some event; action = done.1; progress = progress.0 } in
-        let left : TaskState = task_state table c None progress.1 (knows after gone) in
+        let left : SeatedTask = task_state table c None progress.1 (knows after gone) in
         subst (λ (q : Phase). Stepped q hook now step left) same_p
-        (subst (λ (s : TaskState). Stepped phase hook s step left) view
+        (subst (λ (s : SeatedTask). Stepped phase hook s step left) view
         (was_stepped phase hook (task_state before c begins kept.phase (knows items seen)) step left found step_is (left_is seen gone table before same) moves))

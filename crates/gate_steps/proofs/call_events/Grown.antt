@@ -9,12 +9,12 @@ use Rattle.access_model.specs.declared.errors.GateError.{GateError}
 use Rattle.std.specs.Prelude.{Result}
 use Rattle.cpu_words.specs.Hooks.{HookAnswer}
 use Rattle.gate_world.specs.declared.{config.Config.Config, entries.Entry.Entry, operations.Op.Op, views.Traced.Traced, work.Phase.Phase}
-use Rattle.gate_world.specs.Courses.{course_of}
+use Rattle.gate_world.specs.traces.TraceStates.{state_of_trace}
 use Rattle.gate_steps.specs.Histories.{then_begins}
-use Rattle.gate_steps.specs.Seating.{SeatItems, GoesOn, IsMove}
+use Rattle.gate_steps.specs.Seating.{SeatItems, GoesOn, HasWitness}
 use Rattle.gate_steps.specs.call_events.Grown.{AllGoOn, StaySeen}
 use Rattle.gate_steps.specs.call_events.Runs.{items_at, begins_at, IsNextMove, AreMoves, Called}
-use Rattle.gate_steps.specs.call_events.TaskStates.{TaskState, own_number}
+use Rattle.gate_steps.specs.call_events.SeatedTasks.{SeatedTask, own_number}
 
 pub after_more : (a b c : List Entry) → GoesOn a b → GoesOn b c → GoesOn a c
 after_more a b c g h = (g.0 ++ h.0, h.1 ∙ (ap (λ (l : List Entry). l ++ h.0) g.1 ∙ append_assoc a g.0 h.0))
@@ -29,7 +29,7 @@ only last (suc j) later at = absurd (some-ne-none later (sym at))
 
 -- the schedules that an event leaves go on from all seen before it
 pub moved_on : (c : Config) (begins : Option Op) (phase : Phase) (hook : HookAnswer) (items : SeatItems) (found : ℕ) (seen gone : List (List Entry)) →
-    IsMove c begins phase hook items found seen gone → AllGoOn seen gone
+    HasWitness c begins phase hook items found seen gone → AllGoOn seen gone
 moved_on c begins phase hook [] found seen gone move k earlier at j later there = absurd move
 moved_on c begins phase hook (x ∷ xs) found seen gone move k earlier at j later there =
     let last : List Entry = move.history.reached.entries in
@@ -45,7 +45,7 @@ abbrev HasOne : List (List Entry) → Type 0
 HasOne gone = (l : List Entry) × (get_elem? gone 0 ≡ some l)
 
 one_left : (c : Config) (begins : Option Op) (phase : Phase) (hook : HookAnswer) (items : SeatItems) (found : ℕ) (seen gone : List (List Entry)) →
-    IsMove c begins phase hook items found seen gone → HasOne gone
+    HasWitness c begins phase hook items found seen gone → HasOne gone
 one_left c begins phase hook [] found seen gone move = absurd move
 one_left c begins phase hook (x ∷ xs) found seen gone move =
     (move.history.reached.entries, ap (λ l. get_elem? l 0) move.leaves)
@@ -66,22 +66,22 @@ next_on c op items earlier e seen gone (Done answer) m = absurd m
 pub moves_on : (c : Config) (op : Op) (items : SeatItems) (seen : List (List Entry)) (e : Traced) (earlier : List Traced)
     (gone : List (List Entry)) → AreMoves c op items seen (e ∷ earlier) gone → AllGoOn seen gone
 moves_on c op items seen e [] gone m =
-    let n = next_on c op items [] e m.0 gone (course_of c (own_number items) op []).comes m.1 in
+    let n = next_on c op items [] e m.0 gone (state_of_trace c (own_number items) op []).comes m.1 in
     λ k a at j b there. n.0 k a (subst (λ l. get_elem? l k ≡ some a) (sym m.2) at) j b there
 moves_on c op items seen e (d ∷ earlier) gone m =
-    let n = next_on c op items (d ∷ earlier) e m.0 gone (course_of c (own_number items) op (d ∷ earlier)).comes m.1 in
-    let before = next_on c op items earlier d m.2.0 m.0 (course_of c (own_number items) op earlier).comes m.2.1 in
+    let n = next_on c op items (d ∷ earlier) e m.0 gone (state_of_trace c (own_number items) op (d ∷ earlier)).comes m.1 in
+    let before = next_on c op items earlier d m.2.0 m.0 (state_of_trace c (own_number items) op earlier).comes m.2.1 in
     let r = moves_on c op items seen d earlier m.0 m.2 in
     λ k a at j b there. let o = before.1 in
     after_more a o.0 b (r k a at 0 o.0 o.1) (n.0 0 o.0 o.1 j b there)
 
 trace_goes_on : (c : Config) (op : Op) (items : SeatItems) (seen gone : List (List Entry)) (answer : Result Reply GateError) (trace : List Traced) →
-    (course_of c (own_number items) op trace).comes ≡ Done answer → AreMoves c op items seen trace gone → AllGoOn seen gone
+    (state_of_trace c (own_number items) op trace).comes ≡ Done answer → AreMoves c op items seen trace gone → AllGoOn seen gone
 trace_goes_on c op items seen gone answer [] ends moves = absurd (let no : ⊥ = cc in no)
 trace_goes_on c op items seen gone answer (e ∷ earlier) ends moves = moves_on c op items seen e earlier gone moves
 
 -- so a whole call, which has at least one event
-pub call_goes_on : (op : Op) (old left : TaskState) (answer : Result Reply GateError) → Called op old left answer → AllGoOn old.seen left.seen
+pub call_goes_on : (op : Op) (old left : SeatedTask) (answer : Result Reply GateError) → Called op old left answer → AllGoOn old.seen left.seen
 call_goes_on op old left answer called = trace_goes_on old.config op old.items old.seen left.seen answer called.trace called.ends called.moves
 
 -- what was seen
@@ -90,12 +90,12 @@ only_seen earlier = ([], sym (append-nil earlier))
 
 -- stays so over a call
 trace_leaves : (c : Config) (op : Op) (items : SeatItems) (seen gone : List (List Entry)) (answer : Result Reply GateError) (trace : List Traced) →
-    (course_of c (own_number items) op trace).comes ≡ Done answer → AreMoves c op items seen trace gone → HasOne gone
+    (state_of_trace c (own_number items) op trace).comes ≡ Done answer → AreMoves c op items seen trace gone → HasOne gone
 trace_leaves c op items seen gone answer [] ends moves = absurd (let no : ⊥ = cc in no)
 trace_leaves c op items seen gone answer (e ∷ earlier) ends moves =
-    (next_on c op items earlier e moves.0 gone (course_of c (own_number items) op earlier).comes moves.1).1
+    (next_on c op items earlier e moves.0 gone (state_of_trace c (own_number items) op earlier).comes moves.1).1
 
-pub call_stays_seen : (op : Op) (old left : TaskState) (answer : Result Reply GateError) → Called op old left answer →
+pub call_stays_seen : (op : Op) (old left : SeatedTask) (answer : Result Reply GateError) → Called op old left answer →
     StaySeen old.seen left.seen
 call_stays_seen op old left answer called k earlier at =
     let one = trace_leaves old.config op old.items old.seen left.seen answer called.trace called.ends called.moves in

@@ -8,19 +8,19 @@ use Rattle.cpu_words.specs.declared.names.WordName.{WordName}
 use Rattle.freeze_levels.specs.declared.hooks.HookCall.{HookCall}
 use Rattle.gate_world.specs.{Accesses.accesses_after, Configs.IsWithin, Views.phase_after, Work.{next_of, after_of}}
 use Rattle.gate_world.specs.declared.{accesses.Accesses.Accesses, config.Config.Config, operations.Op.Op, work.Phase.Phase}
-use Rattle.gate_steps.specs.Seating.{SeatItems, items_after, IsMove}
+use Rattle.gate_steps.specs.Seating.{SeatItems, items_after, HasWitness}
 use Rattle.gate_steps.specs.declared.seating.Knowledge.{Knowledge}
 use Rattle.gate_steps.specs.call_events.{Asking.{Ask, asks_with, call_at, WentWith, WereAsked}, Led.{Led, LedAsking}}
-use Rattle.gate_steps.specs.call_events.{TaskStates.{TaskState, task_state}, Turns.{IsTied, StayTied}}
+use Rattle.gate_steps.specs.call_events.{SeatedTasks.{SeatedTask, task_state}, Turns.{StateAgrees, StayTied}}
 use Rattle.gate_steps.proofs.call_events.Asking.{AskedFor, asks_more}
 use Rattle.gate_steps.proofs.call_events.Turning.{stay_tied, stepped_so, went_with_so}
 
 -- one step, whose word and touch are known
 module _ (c key : Config) (same_key : key ≡ c) (within : IsWithin c) (begins : Option Op) (phase : Phase) (accesses : Accesses) (me left : Knowledge)
     (hook : HookAnswer) (found : ℕ) (known : WordName × Touch) (known_is : known ≡ next_of phase hook) (finds : found_by known.1 found ≡ found)
-    (leaves : accesses ≡ accesses_after accesses (after_of phase found hook).1) (tied : IsTied c begins (Some phase) accesses me.items)
+    (leaves : accesses ≡ accesses_after accesses (after_of phase found hook).1) (tied : StateAgrees c begins (Some phase) accesses me.items)
     (left_is : left.items ≡ items_after begins phase hook found me.items)
-    (moves : IsMove key begins phase hook me.items found me.seen left.seen) (table before : TableId) (same : table ≡ before) where
+    (moves : HasWitness key begins phase hook me.items found me.seen left.seen) (table before : TableId) (same : table ≡ before) where
   -- the step as it is printed
   abbrev event : Event
   event = event_of (next_of phase hook).0 (next_of phase hook).1 found
@@ -40,7 +40,7 @@ module _ (c key : Config) (same_key : key ≡ c) (within : IsWithin c) (begins :
       leaves left_is number flags ties
 
   -- and so has every operation that came here
-  went_by : (op : Op) (start : TaskState) (asks : List Ask) (waits : ℕ) →
+  went_by : (op : Op) (start : SeatedTask) (asks : List Ask) (waits : ℕ) →
       WentWith asks waits op start (Go phase) (task_state before c begins (Some phase) me) →
       WentWith (asks_with (call_at phase) me.items hook asks) waits op start (after_of phase found hook).0
       (task_state table c None (phase_after (after_of phase found hook).0) left)
@@ -93,8 +93,8 @@ module _ {c : Config} {begins : Option Op} {accesses : Accesses} {a b : Next Pha
   led_from is led = subst (λ (n : Next Phase). Led c begins accesses n ta la b tb lb) is led
 
   -- the fields of a task are still what its seat knows
-  pub still_tied : Led c begins accesses a ta la b tb lb → IsTied c begins (phase_after a) accesses la.items →
-      IsTied c None (phase_after b) accesses lb.items
+  pub still_tied : Led c begins accesses a ta la b tb lb → StateAgrees c begins (phase_after a) accesses la.items →
+      StateAgrees c None (phase_after b) accesses lb.items
   still_tied led tied = record { number = tied.number; flags = tied.flags; ties = led.tied tied.number tied.flags tied.ties }
 
   module _ {H : Type 0} {answers : HookCall → SeatItems → H → HookAnswer → H → Type 0} {ha hb : H} where
@@ -128,8 +128,8 @@ module _ {c : Config} {begins : Option Op} {accesses : Accesses} {a b : Next Pha
     asking_from is led = subst (λ (n : Next Phase). LedAsking answers c begins accesses n ta la ha b tb lb hb) is led
 
     -- the fields of a task are still what its seat knows
-    pub asking_tied : LedAsking answers c begins accesses a ta la ha b tb lb hb → IsTied c begins (phase_after a) accesses la.items →
-        IsTied c None (phase_after b) accesses lb.items
+    pub asking_tied : LedAsking answers c begins accesses a ta la ha b tb lb hb → StateAgrees c begins (phase_after a) accesses la.items →
+        StateAgrees c None (phase_after b) accesses lb.items
     asking_tied led tied = record { number = tied.number; flags = tied.flags; ties = led.tied tied.number tied.flags tied.ties }
 
 -- no step
@@ -137,5 +137,5 @@ pub led_nowhere : (c : Config) (accesses : Accesses) (a : Next Phase) (ta : Tabl
 led_nowhere c accesses a ta la = record { same_table = refl; tied = λ number flags ties. ties; went = λ op start asks waits went. went }
 
 pub tied_from : {c : Config} {begins : Option Op} {accesses : Accesses} {a b : Next Phase} {la : SeatItems} →
-    a ≡ b → IsTied c begins (phase_after b) accesses la → IsTied c begins (phase_after a) accesses la
-tied_from {c} {begins} {accesses} {a} {b} {la} is tied = subst (λ (n : Next Phase). IsTied c begins (phase_after n) accesses la) (sym is) tied
+    a ≡ b → StateAgrees c begins (phase_after b) accesses la → StateAgrees c begins (phase_after a) accesses la
+tied_from {c} {begins} {accesses} {a} {b} {la} is tied = subst (λ (n : Next Phase). StateAgrees c begins (phase_after n) accesses la) (sym is) tied

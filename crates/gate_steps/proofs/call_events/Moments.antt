@@ -7,7 +7,7 @@ use Rattle.access_model.specs.Histories.{Done, own_part}
 use Rattle.access_model.specs.declared.{actions.Action.Action, errors.GateError.GateError}
 use Rattle.cpu_words.specs.Hooks.{HookAnswer}
 use Rattle.gate_schedules.proofs.schedules.{Entries.begun_on, Runs.{run_more, history_on}}
-use Rattle.gate_world.specs.Causes.{since_begun, trail, trail_of}
+use Rattle.gate_world.specs.refusals.Causes.{since_begun, trail, trail_of}
 use Rattle.gate_world.specs.Headline.{world_after, actions_so_far, actions_since}
 use Rattle.gate_world.specs.Worlds.{World, begin_of, begin_refusal, step_of, happens, run, opening, history, task_of}
 use Rattle.gate_world.specs.declared.entries.Entry.{Entry, TheVariants.{Begins, Steps}}

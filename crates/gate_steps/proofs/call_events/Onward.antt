@@ -22,8 +22,8 @@ use Rattle.gate_world.specs.declared.operations.Op.{Op}
 use Rattle.gate_world.specs.declared.work.Phase.{Phase}
 use Rattle.gate_steps.specs.call_events.Runs.{Goes, Went, Called, IsTrying}
 use Rattle.gate_steps.specs.call_events.Stepped.{Stepped}
-use Rattle.gate_steps.specs.call_events.TaskStates.{TaskState, task_state}
-use Rattle.gate_steps.specs.call_events.Ties.{Ties}
+use Rattle.gate_steps.specs.call_events.SeatedTasks.{SeatedTask, task_state}
+use Rattle.gate_steps.specs.call_events.GhostAgrees.{GhostAgrees}
 use Rattle.gate_steps.specs.call_events.Turns.{kept_at, step_was}
 use Rattle.gate_steps.proofs.call_events.Running.{events_left, falls}
 use Rattle.gate_steps.proofs.call_events.Turning.{went_so}
@@ -40,7 +40,7 @@ pub done_at : {A : Type 0} (as_phase : A → Phase) (next : Next A) (answer : Re
 done_at as_phase next answer is = ap (λ n. map_next as_phase n) is
 
 -- where a phase comes next, the operation goes on
-pub goes_where : (op : Op) (start now : TaskState) (next : Next Phase) (phase : Phase) → phase_after next ≡ Some phase →
+pub goes_where : (op : Op) (start now : SeatedTask) (next : Next Phase) (phase : Phase) → phase_after next ≡ Some phase →
     Went op start next now → Goes op start now
 goes_where op start now (Go q) phase is went = went
 goes_where op start now (Wait q) phase is went = went
@@ -59,15 +59,15 @@ module _ (c : Config) (within : IsWithin c) (event : Event) (action : Option Act
     (task_state left_table c None (phase_after next) left))
     (further : Phase) (is : phase_after next ≡ Some further) where
   -- before the event
-  abbrev before : TaskState
+  abbrev before : SeatedTask
   before = task_state table c begins (Some phase) items
 
   -- and after it
-  abbrev after : TaskState
+  abbrev after : SeatedTask
   after = task_state left_table c None (phase_after next) left
 
   -- the operation goes on
-  pub goes_so : (op : Op) (start : TaskState) → Goes op start before → Goes op start (task_state left_table c None (Some further) left)
+  pub goes_so : (op : Op) (start : SeatedTask) → Goes op start before → Goes op start (task_state left_table c None (Some further) left)
   goes_so op start goes =
       subst (λ (o : Option Phase). Goes op start (task_state left_table c None o left)) is
       (goes_where op start after next further is (went_so c within op start event action next hook goes after_step))
@@ -86,12 +86,12 @@ module _ (c : Config) (within : IsWithin c) (event : Event) (action : Option Act
 
 -- the fields of a task whose operation stands there
 pub tied_so : (number : ℕ) (c : Config) (accesses : Accesses) (flags : List Bool) (items : SeatItems) (o p : Option Phase) → o ≡ p →
-    Ties number c None (kept_at o accesses) flags items → Ties number c None (kept_at p accesses) flags items
+    GhostAgrees number c None (kept_at o accesses) flags items → GhostAgrees number c None (kept_at p accesses) flags items
 tied_so number c accesses flags items o p is ties =
-    subst (λ (q : Option Phase). Ties number c None (kept_at q accesses) flags items) is ties
+    subst (λ (q : Option Phase). GhostAgrees number c None (kept_at q accesses) flags items) is ties
 
 -- an operation that replied was done whole
-pub called_so : (op : Op) (start : TaskState) (next : Next Phase) (answer : Result Reply GateError) (table : TableId) (c : Config)
+pub called_so : (op : Op) (start : SeatedTask) (next : Next Phase) (answer : Result Reply GateError) (table : TableId) (c : Config)
     (items : Knowledge) → next ≡ Done answer → Went op start next (task_state table c None (phase_after next) items) →
     Called op start (task_state table c None None items) answer
 called_so op start (Go q) answer table c items is went = absurd (let f : ⊥ = cc in f)

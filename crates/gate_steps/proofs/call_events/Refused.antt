@@ -7,13 +7,13 @@ use Rattle.access_model.specs.declared.{actions.NodeInfo.NodeInfo, errors.GateEr
 use Rattle.access_model.specs.declared.replies.Next.TheVariants.{Wait, Done}
 use Rattle.cpu_words.specs.declared.{events.Touch.{Touch, TheVariants.And}, names.WordName.{WordName, TheVariants.Node}}
 use Rattle.mount_counts.specs.Phases.{has_flag}
-use Rattle.gate_world.specs.{Beginnings.is_in_order, Operations.{two_levels_closed, all_levels_closed}, Configs.IsWithin, Courses.{course_of, IsTrace}}
-use Rattle.gate_world.specs.{Found.{clean_found, cleans, stored_stage}, Holdings.holdings_of, Traces.{actions_of, Tells}, Views.held_of}
+use Rattle.gate_world.specs.{Beginnings.is_in_order, Operations.{two_levels_closed, all_levels_closed}, Configs.IsWithin, traces.TraceStates.{state_of_trace, IsTrace}}
+use Rattle.gate_world.specs.{traces.Found.{clean_found, cleans, stored_stage}, Holdings.holdings_of, traces.Traces.{actions_of, Tells}, Views.held_of}
 use Rattle.gate_world.specs.declared.{config.Config.Config, operations.Op.{Op, TheVariants.{RemountSb, WantWrite, Freeze as FreezeOp}}, views.Traced.Traced}
 use Rattle.gate_world.specs.declared.work.Phase.{Phase}
-use Rattle.gate_schedules.proofs.operations.Layers.{op_keeps}
+use Rattle.gate_schedules.proofs.operations.AllOperations.{op_keeps}
 use Rattle.gate_steps.specs.Seating.{SeatItems}
-use Rattle.gate_steps.specs.call_events.{Refused.{LeavesTree, IsUnchanged, IsHonestWait, WaitsHonestly}, Runs.ran_items, TaskStates.{own_number, own_view}}
+use Rattle.gate_steps.specs.call_events.{Refused.{LeavesTree, IsUnchanged, IsHonestWait, WaitsHonestly}, Runs.ran_items, SeatedTasks.{own_number, own_view}}
 use Rattle.gate_steps.proofs.call_events.Asked.{either_way}
 
 -- a node that is cleaned loses its mark, and any other stays
@@ -77,8 +77,8 @@ leaves op refusal trace = All-from_recursion LeavesTree (actions_of op (Err refu
 -- so a refusal leaves all unchanged, where the operation was in order
 pub is_unchanged : (c : Config) (op : Op) (refusal : GateError) (trace : List Traced) (l : SeatItems) →
     is_in_order c (held_of (own_view l)) op ≡ true →
-    (course_of c (own_number l) op trace).added ≡ actions_of op (Err refusal) trace →
-    IsUnchanged (course_of c (own_number l) op trace).added (own_view l) (own_view (ran_items c op trace l))
+    (state_of_trace c (own_number l) op trace).added ≡ actions_of op (Err refusal) trace →
+    IsUnchanged (state_of_trace c (own_number l) op trace).added (own_view l) (own_view (ran_items c op trace l))
 is_unchanged c op refusal trace [] order is =
     record { held = refl; tree = subst (All LeavesTree) (sym is) (leaves op refusal trace) }
 is_unchanged c op refusal trace (x ∷ xs) order is =
@@ -97,7 +97,7 @@ honest_wait c op e earlier (Done answer) added tells = tt
 pub waits_honestly : (c : Config) (t : ℕ) (op : Op) → IsWithin c → (trace : List Traced) → IsTrace c t op trace → WaitsHonestly c t op trace
 waits_honestly c t op within [] follows = tt
 waits_honestly c t op within (e ∷ earlier) follows = (
-  honest_wait c op e earlier (course_of c t op (e ∷ earlier)).comes (course_of c t op (e ∷ earlier)).added
+  honest_wait c op e earlier (state_of_trace c t op (e ∷ earlier)).comes (state_of_trace c t op (e ∷ earlier)).added
       ((op_keeps c op).tells within t (e ∷ earlier) follows),
   waits_honestly c t op within earlier follows.1,
 )

@@ -39,14 +39,14 @@ use Rattle.freeze_levels.specs.declared.hooks.HookCall.TheVariants.{Reconfigure 
 use Rattle.gate_world.specs.declared.operations.Op.TheVariants.{RemountSb}
 use Rattle.gate_world.specs.declared.work.Phase.{Phase}
 use Rattle.gate_world.specs.declared.work.Phase.TheVariants.{Remounts}
-use Rattle.gate_world.specs.Courses.{course_of}
+use Rattle.gate_world.specs.traces.TraceStates.{state_of_trace}
 use Rattle.gate_world.specs.Views.{actions_after}
 use Rattle.gate_world.specs.Work.{after_of}
 use Rattle.gate_steps.specs.Seating.{SeatItems}
 use Rattle.gate_steps.specs.call_events.Asked.{agreed, OnceAsked, AtMostAsked}
 use Rattle.gate_steps.specs.call_events.Asking.{Ask, asks_with, asks_of, call_at}
 use Rattle.gate_steps.specs.call_events.Runs.{Called}
-use Rattle.gate_steps.specs.call_events.TaskStates.{TaskState, own_number}
+use Rattle.gate_steps.specs.call_events.SeatedTasks.{SeatedTask, own_number}
 use Rattle.gate_steps.proofs.call_events.Asked.{either_way, asked_after}
 
 module _ (read_only : Bool) where
@@ -154,9 +154,9 @@ module _ (read_only : Bool) where
   keeps p found hook at added asks is = absurd is
 
   -- of a remount that was granted
-  pub granted_remount : (old left : TaskState) (reply : Reply) (called : Called (RemountSb read_only) old left (Ok reply)) →
+  pub granted_remount : (old left : SeatedTask) (reply : Reply) (called : Called (RemountSb read_only) old left (Ok reply)) →
       AtMostAsked (ReconfigureCall read_only) (asks_of old.config (RemountSb read_only) old.items called.trace)
   granted_remount old left reply called =
       let asks = asks_of old.config (RemountSb read_only) old.items called.trace in
-      subst (λ n. At n (course_of old.config (own_number old.items) (RemountSb read_only) called.trace).added asks) called.ends
+      subst (λ n. At n (state_of_trace old.config (own_number old.items) (RemountSb read_only) called.trace).added asks) called.ends
       (asked_after At (λ p added asks at. at) keeps old.config (RemountSb read_only) old.items (refl, refl) called.trace)

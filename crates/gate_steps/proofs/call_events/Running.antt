@@ -17,26 +17,26 @@ use Rattle.gate_world.specs.declared.work.Phase.{Phase}
 use Rattle.gate_world.specs.declared.views.Traced.{Traced}
 use Rattle.gate_world.specs.declared.views.View.{View}
 use Rattle.gate_world.specs.Configs.{IsWithin}
-use Rattle.gate_world.specs.Snapshots.{completes, last_snapshot}
+use Rattle.gate_world.specs.traces.Snapshots.{completes, last_snapshot}
 use Rattle.gate_world.specs.Views.{phase_after, actions_after, view_after_beside, with_hook, held_of}
 use Rattle.gate_world.specs.Work.{next_of, after_of}
 use Rattle.gate_world.specs.Beginnings.{first_phase}
-use Rattle.gate_world.specs.Courses.{Course, course_with, course_after, course_of, IsEventOf, IsNext, IsTrace, MayFind}
-use Rattle.gate_world.specs.Traces.{actions_of, Tells, IsHonestAnswer, IsTold, most_events, IsShort, MayWait}
-use Rattle.gate_schedules.proofs.{frames.Keeps.{most_events_of_all, IsSmall}, schedules.Beginnings.may_begin}
-use Rattle.gate_schedules.proofs.operations.Layers.{op_keeps}
+use Rattle.gate_world.specs.traces.TraceStates.{TraceState, trace_state_with, trace_state_after, state_of_trace, IsEventOf, IsNext, IsTrace, ReadIsValid}
+use Rattle.gate_world.specs.traces.Traces.{actions_of, Tells, IsHonestAnswer, IsTold, most_events, IsShort, MayWait}
+use Rattle.gate_schedules.proofs.{frames.OperationLaws.{most_events_of_all, IsSmall}, schedules.Beginnings.may_begin}
+use Rattle.gate_schedules.proofs.operations.AllOperations.{op_keeps}
 use Rattle.gate_schedules.specs.declared.steps.Progress.{Progress}
 use Rattle.gate_schedules.specs.declared.steps.Progress.TheVariants.{Done as Ended, Waiting}
 use Rattle.gate_schedules.specs.declared.steps.Step.{Step}
 use Rattle.gate_schedules.specs.Answers.{progress_of, unless_refused}
-use Rattle.gate_steps.specs.Seating.{SeatItems, numbered, HaveHistory, entered, done_by, items_after, world_left, IsMove}
-use Rattle.gate_steps.specs.call_events.TaskStates.{TaskState, own_number, own_view, refusal_at}
+use Rattle.gate_steps.specs.Seating.{SeatItems, numbered, HaveHistory, entered, done_by, items_after, world_left, HasWitness}
+use Rattle.gate_steps.specs.call_events.SeatedTasks.{SeatedTask, own_number, own_view, refusal_at}
 use Rattle.gate_steps.specs.call_events.Stepped.{Stepped}
 use Rattle.gate_steps.specs.call_events.Asking.{Ask, asks_of, asks_with, call_at, next_call, GoesWith, WentWith}
 use Rattle.gate_steps.specs.call_events.Waited.{is_wait, waits_in}
 use Rattle.gate_steps.specs.call_events.Refused.{IsUnchanged, IsUnchangedBy, IsHonestWait}
 use Rattle.gate_steps.proofs.call_events.Refused.{is_unchanged, waits_honestly}
-use Rattle.gate_steps.specs.call_events.Runs.{events_onto, completed_by, ran_snapshot, ran_view, ran_items, begins_at, items_at, IsMoveOf, IsNextMove, AreMoves, IsBounded, IsRanReply, told_as, the_reply, Goes, Went, Told, Called, Replies}
+use Rattle.gate_steps.specs.call_events.Runs.{events_onto, completed_by, ran_snapshot, ran_view, ran_items, begins_at, items_at, IsMoveOf, IsNextMove, AreMoves, IsBounded, IsRanReply, told_as, the_reply, Goes, Went, StepTells, Called, Replies}
 
 -- the numbers of a task whose own number has begun the operation
 abbrev pub entered_items : Option Op → Option Phase → SeatItems → SeatItems
@@ -71,13 +71,13 @@ move_is c op items earlier e seen gone (Done a) p is h = absurd (let f : ⊥ = c
 
 -- what an event found is what its word may hold
 move_holds : (c : Config) (begins : Option Op) (p : Phase) (hook : HookAnswer) (items : SeatItems) (found : ℕ)
-    (seen gone : List (List Entry)) → IsMove c begins p hook items found seen gone → MayFind p (next_of p hook).0 found
+    (seen gone : List (List Entry)) → HasWitness c begins p hook items found seen gone → ReadIsValid p (next_of p hook).0 found
 move_holds c begins p hook [] found seen gone move = absurd move
 move_holds c begins p hook (x ∷ xs) found seen gone move = move.holds
 
 -- an event leaves one history
 move_has_history : (c : Config) (begins : Option Op) (p : Phase) (hook : HookAnswer) (items : SeatItems) (found : ℕ)
-    (seen gone : List (List Entry)) → IsMove c begins p hook items found seen gone → HaveHistory c (items_after begins p hook found items) gone
+    (seen gone : List (List Entry)) → HasWitness c begins p hook items found seen gone → HaveHistory c (items_after begins p hook found items) gone
 move_has_history c begins p hook [] found seen gone move = absurd move
 move_has_history c begins p hook (x ∷ xs) found seen gone move =
     record {
@@ -103,10 +103,10 @@ call_is (Wait q) p is = ap call_at (let f : q ≡ p = cc in f)
 call_is (Done a) p is = absurd (let f : ⊥ = cc in f)
 
 -- the course after it
-pub course_is : (s : Next Phase) (p : Phase) (added : List Action) (e : Traced) → phase_after s ≡ Some p → course_after s added e ≡
-    course_with added (after_of p e.event.found e.hook)
-course_is (Go q) p added e is = ap (λ r. course_with added (after_of r e.event.found e.hook)) (let f : q ≡ p = cc in f)
-course_is (Wait q) p added e is = ap (λ r. course_with added (after_of r e.event.found e.hook)) (let f : q ≡ p = cc in f)
+pub course_is : (s : Next Phase) (p : Phase) (added : List Action) (e : Traced) → phase_after s ≡ Some p → trace_state_after s added e ≡
+    trace_state_with added (after_of p e.event.found e.hook)
+course_is (Go q) p added e is = ap (λ r. trace_state_with added (after_of r e.event.found e.hook)) (let f : q ≡ p = cc in f)
+course_is (Wait q) p added e is = ap (λ r. trace_state_with added (after_of r e.event.found e.hook)) (let f : q ≡ p = cc in f)
 course_is (Done a) p added e is = absurd (let f : ⊥ = cc in f)
 
 -- its action goes before all earlier ones
@@ -140,11 +140,11 @@ pub same_wait : (x y : Next Phase) → progress_of x ≡ progress_of y → is_wa
 same_wait x y same = wait_told x ∙ (ap waits_told same ∙ sym (wait_told y))
 
 -- how many events the operation under way has had
-abbrev pub steps_of : TaskState → ℕ
+abbrev pub steps_of : SeatedTask → ℕ
 steps_of now = length (own_view (entered_items now.begins now.phase now.items)).trace
 
 -- the events that may be left to an operation that has a most number of them
-abbrev pub events_left : TaskState → ℕ
+abbrev pub events_left : SeatedTask → ℕ
 events_left now = most_events_of_all + 1 - steps_of now
 
 -- why an operation can't begin, said of the answer of a beginning
@@ -182,24 +182,24 @@ begun_items c op (x ∷ xs) = refl
 
 -- the numbers of an operation after these events
 entered_at : (c : Config) (op : Op) (trace : List Traced) (l : SeatItems) →
-    entered_items (begins_at op trace) (phase_after (course_of c (own_number l) op trace).comes) (items_at c op trace l) ≡
+    entered_items (begins_at op trace) (phase_after (state_of_trace c (own_number l) op trace).comes) (items_at c op trace l) ≡
     ran_items c op trace l
 entered_at c op [] l = begun_items c op l
-entered_at c op (e ∷ earlier) l = not_entered (phase_after (course_of c (own_number l) op (e ∷ earlier)).comes)
+entered_at c op (e ∷ earlier) l = not_entered (phase_after (state_of_trace c (own_number l) op (e ∷ earlier)).comes)
     (ran_items c op (e ∷ earlier) l)
 
 -- and of one under way
-ran_so_far : (op : Op) (start now : TaskState) (goes : Goes op start now) → entered_items now.begins now.phase now.items ≡
+ran_so_far : (op : Op) (start now : SeatedTask) (goes : Goes op start now) → entered_items now.begins now.phase now.items ≡
     ran_items start.config op goes.trace start.items
 ran_so_far op start now goes =
     let same : entered_items now.begins now.phase now.items ≡
-    entered_items (begins_at op goes.trace) (phase_after (course_of start.config (own_number start.items) op goes.trace).comes)
+    entered_items (begins_at op goes.trace) (phase_after (state_of_trace start.config (own_number start.items) op goes.trace).comes)
     (items_at start.config op goes.trace start.items) =
     λ i. entered_items (goes.begins i) (goes.phase i) (goes.items i) in
     same ∙ entered_at start.config op goes.trace start.items
 
 -- as it begins, with no hook asked and no wait
-pub starts_asking_none : (op : Op) (start now : TaskState) → Ok tt ≡ unless_refused (refusal_at op start) → now ≡ record start {
+pub starts_asking_none : (op : Op) (start now : SeatedTask) → Ok tt ≡ unless_refused (refusal_at op start) → now ≡ record start {
   begins = Some op;
   phase =
       Some (first_phase start.config (own_number start.items) op);
@@ -221,7 +221,7 @@ starts_asking_none op start now admitted is = subst (GoesWith [] 0 op start) (sy
   refl,
 )
 
-pub starts : (op : Op) (start now : TaskState) → Ok tt ≡ unless_refused (refusal_at op start) → now ≡ record start {
+pub starts : (op : Op) (start now : SeatedTask) → Ok tt ≡ unless_refused (refusal_at op start) → now ≡ record start {
   begins = Some op;
   phase =
       Some (first_phase start.config (own_number start.items) op);
@@ -229,7 +229,7 @@ pub starts : (op : Op) (start now : TaskState) → Ok tt ≡ unless_refused (ref
 starts op start now admitted is = (starts_asking_none op start now admitted is).0
 
 -- one step of it, where a hook of the file system answers this
-module _ (op : Op) (start now left : TaskState) (step : Step) (h : HookAnswer) (goes : Goes op start now)
+module _ (op : Op) (start now left : SeatedTask) (step : Step) (h : HookAnswer) (goes : Goes op start now)
     (after_step : (p : Phase) → now.phase ≡ Some p → Stepped p h now step left) where
   -- the configuration
   abbrev c : Config
@@ -264,20 +264,20 @@ module _ (op : Op) (start now left : TaskState) (step : Step) (h : HookAnswer) (
   trace = e ∷ goes.trace
 
   -- the phase is the one that comes next
-  stands_there : phase_after (course_of c n op goes.trace).comes ≡ Some p
+  stands_there : phase_after (state_of_trace c n op goes.trace).comes ≡ Some p
   stands_there = sym goes.phase ∙ goes.going.1
 
   -- the trace is one of the operation
   follows_after : IsTrace c n op trace
-  follows_after = (next_is (course_of c n op goes.trace).comes p e stands_there (found, refl, move_holds now.config now.begins p h now.items found now.seen left.seen did.moves), goes.follows)
+  follows_after = (next_is (state_of_trace c n op goes.trace).comes p e stands_there (found, refl, move_holds now.config now.begins p h now.items found now.seen left.seen did.moves), goes.follows)
 
   -- the course after the event
-  course_here : course_of c n op trace ≡ course_with (course_of c n op goes.trace).added after
-  course_here = course_is (course_of c n op goes.trace).comes p (course_of c n op goes.trace).added e stands_there
+  course_here : state_of_trace c n op trace ≡ trace_state_with (state_of_trace c n op goes.trace).added after
+  course_here = course_is (state_of_trace c n op goes.trace).comes p (state_of_trace c n op goes.trace).added e stands_there
 
   -- the snapshot that it completes, if any
-  completes_here : completed_by (course_of c n op goes.trace).comes goes.trace e ≡ completes p goes.trace (found_by (next_of p h).1 found)
-  completes_here = completed_is (course_of c n op goes.trace).comes p goes.trace e stands_there
+  completes_here : completed_by (state_of_trace c n op goes.trace).comes goes.trace e ≡ completes p goes.trace (found_by (next_of p h).1 found)
+  completes_here = completed_is (state_of_trace c n op goes.trace).comes p goes.trace e stands_there
 
   -- a view after it
   ran_more : (others : List (ℕ × ℕ)) (x : View) →
@@ -285,12 +285,12 @@ module _ (op : Op) (start now left : TaskState) (step : Step) (h : HookAnswer) (
   ran_more others x = λ i. record {
     op = Some op;
     phase = phase_after (sym course_here i).comes;
-    actions = (actions_append after.1 (course_of c n op goes.trace).added x.actions ∙
-        ap (λ (o : Course). o.added ++ x.actions) (sym course_here)) i;
+    actions = (actions_append after.1 (state_of_trace c n op goes.trace).added x.actions ∙
+        ap (λ (o : TraceState). o.added ++ x.actions) (sym course_here)) i;
     before = x.actions;
     events = events_onto trace x.events;
     trace = trace;
-    snapshot = last_snapshot (sym completes_here i) ((course_of c n op goes.trace).added ++ x.actions) others
+    snapshot = last_snapshot (sym completes_here i) ((state_of_trace c n op goes.trace).added ++ x.actions) others
         (ran_snapshot c n op others goes.trace x);
   }
 
@@ -304,13 +304,13 @@ module _ (op : Op) (start now left : TaskState) (step : Step) (h : HookAnswer) (
       (ap (λ (v : View). numbered x.number v ∷ xs) (ran_more (done_by xs) x.view))
 
   -- the phase that is left
-  phase_then : left.phase ≡ phase_after (course_of c n op trace).comes
-  phase_then = ap (λ (s : TaskState). s.phase) did.new ∙ ap (λ (o : Course). phase_after o.comes) (sym course_here)
+  phase_then : left.phase ≡ phase_after (state_of_trace c n op trace).comes
+  phase_then = ap (λ (s : SeatedTask). s.phase) did.new ∙ ap (λ (o : TraceState). phase_after o.comes) (sym course_here)
 
   -- the numbers that are left
   items_then : left.items ≡ ran_items c op trace start.items
   items_then =
-      ap (λ (s : TaskState). s.items) did.new ∙
+      ap (λ (s : SeatedTask). s.items) did.new ∙
       (sym (after_entered now.begins p h found now.items) ∙
       (ap (λ (o : Option Phase). items_after None p h found (entered_items now.begins o now.items)) (sym goes.going.1) ∙
       (ap (items_after None p h found) (ran_so_far op start now goes) ∙ ran_all start.items refl)))
@@ -321,23 +321,23 @@ module _ (op : Op) (start now left : TaskState) (step : Step) (h : HookAnswer) (
 
   -- the table is the same
   table_then : left.table ≡ start.table
-  table_then = ap (λ (s : TaskState). s.table) did.new ∙ goes.table
+  table_then = ap (λ (s : SeatedTask). s.table) did.new ∙ goes.table
 
   -- and so is the configuration
   config_then : left.config ≡ c
-  config_then = ap (λ (s : TaskState). s.config) did.new ∙ goes.config
+  config_then = ap (λ (s : SeatedTask). s.config) did.new ∙ goes.config
 
   -- nothing has just begun
   begins_then : left.begins ≡ None
-  begins_then = ap (λ (s : TaskState). s.begins) did.new
+  begins_then = ap (λ (s : SeatedTask). s.begins) did.new
 
   -- each event was a move
   moves_then : AreMoves c op start.items start.seen trace left.seen
   moves_then =
-      let P : Config × Option Op × SeatItems → Type 0 = λ z. IsMove z.0 z.1 p h z.2 found now.seen left.seen in
-      let moved : IsMove c (begins_at op goes.trace) p h (items_at c op goes.trace start.items) found now.seen left.seen =
+      let P : Config × Option Op × SeatItems → Type 0 = λ z. HasWitness z.0 z.1 p h z.2 found now.seen left.seen in
+      let moved : HasWitness c (begins_at op goes.trace) p h (items_at c op goes.trace start.items) found now.seen left.seen =
       subst P (λ j. (goes.config j, goes.begins j, goes.items j)) did.moves in
-      (now.seen, move_is c op start.items goes.trace e now.seen left.seen (course_of c n op goes.trace).comes p stands_there (found, refl, moved), goes.moves)
+      (now.seen, move_is c op start.items goes.trace e now.seen left.seen (state_of_trace c n op goes.trace).comes p stands_there (found, refl, moved), goes.moves)
 
   -- what it leaves has one history
   history_then : HaveHistory c left.items left.seen
@@ -345,7 +345,7 @@ module _ (op : Op) (start now left : TaskState) (step : Step) (h : HookAnswer) (
       let history : HaveHistory now.config (items_after now.begins p h found now.items) left.seen =
       move_has_history now.config now.begins p h now.items found now.seen left.seen did.moves in
       subst (λ d. HaveHistory d left.items left.seen) goes.config
-      (subst (λ l. HaveHistory now.config l left.seen) (ap (λ (s : TaskState). s.items) (sym did.new)) history)
+      (subst (λ l. HaveHistory now.config l left.seen) (ap (λ (s : SeatedTask). s.items) (sym did.new)) history)
 
   -- where it does not reply, it goes on, with this event more
   goes_with_it : ((a : Result Reply GateError) → step.progress ≡ Ended a → ⊥) → (goes : Goes op start left) × (goes.trace ≡ trace)
@@ -359,7 +359,7 @@ module _ (op : Op) (start now left : TaskState) (step : Step) (h : HookAnswer) (
       phase = phase_then;
       going =
           let g = goes_on after.0 (λ a is. not a (progress_then ∙ is)) in
-          (g.0, ap (λ (s : TaskState). s.phase) did.new ∙ g.1);
+          (g.0, ap (λ (s : SeatedTask). s.phase) did.new ∙ g.1);
       begins = begins_then;
       items = items_then;
       moves = moves_then;
@@ -371,11 +371,11 @@ module _ (op : Op) (start now left : TaskState) (step : Step) (h : HookAnswer) (
   goes_further not = (goes_with_it not).0
 
   -- a refusal leaves all unchanged
-  unchanged_then : (a : Result Reply GateError) → (course_of c n op trace).added ≡ actions_of op a trace →
-      IsUnchangedBy a (course_of c n op trace).added (own_view start.items) (own_view left.items)
+  unchanged_then : (a : Result Reply GateError) → (state_of_trace c n op trace).added ≡ actions_of op a trace →
+      IsUnchangedBy a (state_of_trace c n op trace).added (own_view start.items) (own_view left.items)
   unchanged_then (Ok reply) is = tt
   unchanged_then (Err refusal) is =
-      subst (λ l. IsUnchanged (course_of c n op trace).added (own_view start.items) (own_view l)) (sym items_then)
+      subst (λ l. IsUnchanged (state_of_trace c n op trace).added (own_view start.items) (own_view l)) (sym items_then)
       (is_unchanged c op refusal trace start.items
       (may_begin c (is_some start.phase) (held_of (own_view start.items)) op
       goes.admitted).order is)
@@ -385,9 +385,9 @@ module _ (op : Op) (start now left : TaskState) (step : Step) (h : HookAnswer) (
       (called : Called op start left a) × (called.trace ≡ trace)
   ends_with_it within a is =
       let last : after.0 ≡ Done a = done_is after.0 a (sym progress_then ∙ is) in
-      let ends : (course_of c n op trace).comes ≡ Done a = ap (λ (o : Course). o.comes) course_here ∙ last in
-      let tells : Tells c op trace (Done a) (course_of c n op trace).added =
-      subst (λ s. Tells c op trace s (course_of c n op trace).added) ends ((op_keeps c op).tells within n trace follows_after) in
+      let ends : (state_of_trace c n op trace).comes ≡ Done a = ap (λ (o : TraceState). o.comes) course_here ∙ last in
+      let tells : Tells c op trace (Done a) (state_of_trace c n op trace).added =
+      subst (λ s. Tells c op trace s (state_of_trace c n op trace).added) ends ((op_keeps c op).tells within n trace follows_after) in
       let idle : left.phase ≡ None = phase_then ∙ ap (λ s. phase_after s) ends in (
         record {
           trace = trace;
@@ -409,29 +409,29 @@ module _ (op : Op) (start now left : TaskState) (step : Step) (h : HookAnswer) (
   ends_there within a is = (ends_with_it within a is).0
 
   -- so a step tells how it stands
-  by_next : IsWithin c → (next : Next Phase) → after.0 ≡ next → Told op start (progress_of next) left
+  by_next : IsWithin c → (next : Next Phase) → after.0 ≡ next → StepTells op start (progress_of next) left
   by_next within (Go q) is = goes_further (λ a ended. absurd (let told = progress_then ∙ ap progress_of is in let f : ⊥ = cc in f))
   by_next within (Wait q) is =
       let g = goes_with_it (λ a ended. absurd (let told = progress_then ∙ ap progress_of is in let f : ⊥ = cc in f)) in
-      let comes : (course_of c n op trace).comes ≡ Wait q = ap (λ (o : Course). o.comes) course_here ∙ is in
-      let waits : IsHonestWait c op trace (course_of c n op trace).comes = (waits_honestly c n op within trace follows_after).0 in
+      let comes : (state_of_trace c n op trace).comes ≡ Wait q = ap (λ (o : TraceState). o.comes) course_here ∙ is in
+      let waits : IsHonestWait c op trace (state_of_trace c n op trace).comes = (waits_honestly c n op within trace follows_after).0 in
       (g.0, subst (MayWait c op) (sym g.1) (subst (IsHonestWait c op trace) comes waits))
   by_next within (Done a) is = ends_there within a (progress_then ∙ ap progress_of is)
 
-  pub told_then : IsWithin c → Told op start step.progress left
-  told_then within = subst (λ p. Told op start p left) (sym progress_then) (by_next within after.0 refl)
+  pub told_then : IsWithin c → StepTells op start step.progress left
+  told_then within = subst (λ p. StepTells op start p left) (sym progress_then) (by_next within after.0 refl)
 
   -- the hooks that it has asked then
   asks_then : (asks : List Ask) → asks_of c op start.items goes.trace ≡ asks →
       asks_of c op start.items trace ≡ asks_with (call_at p) now.items h asks
   asks_then asks is = λ i.
-      asks_with (call_is (course_of c n op goes.trace).comes p stands_there i) (sym goes.items i) h (is i)
+      asks_with (call_is (state_of_trace c n op goes.trace).comes p stands_there i) (sym goes.items i) h (is i)
 
   -- how many of its events have come to a wait then
   waits_then : (waits : ℕ) → waits_in c n op goes.trace ≡ waits → (next : Next Phase) → step.progress ≡ progress_of next →
       waits_in c n op trace ≡ waits + is_wait next
   waits_then waits is next at = λ i.
-      is i + (ap (λ (o : Course). is_wait o.comes) course_here ∙ same_wait after.0 next (sym progress_then ∙ at)) i
+      is i + (ap (λ (o : TraceState). is_wait o.comes) course_here ∙ same_wait after.0 next (sym progress_then ∙ at)) i
 
   -- so it went, by what comes after the event
   pub went_asking : (asks : List Ask) (waits : ℕ) → asks_of c op start.items goes.trace ≡ asks → waits_in c n op goes.trace ≡ waits →
@@ -455,7 +455,7 @@ module _ (op : Op) (start now left : TaskState) (step : Step) (h : HookAnswer) (
 
   -- and its trace has one event more
   grown : (begins : Option Op) (o : Option Phase) (l : SeatItems) → o ≡ Some p →
-      IsMove now.config begins p h l found now.seen left.seen →
+      HasWitness now.config begins p h l found now.seen left.seen →
       length (own_view (items_after begins p h found l)).trace ≡ length (own_view (entered_items begins o l)).trace + 1
   grown begins o [] is moves = absurd moves
   grown begins o (x ∷ xs) is moves = subst (λ q. length (own_view (items_after begins p h found (x ∷ xs))).trace ≡
@@ -465,7 +465,7 @@ module _ (op : Op) (start now left : TaskState) (step : Step) (h : HookAnswer) (
   one_more : steps_of left ≡ steps_of now + 1
   one_more =
       ap (λ b. length (own_view (entered_items b left.phase left.items)).trace) begins_then ∙
-      (ap (λ l. length (own_view l).trace) (not_entered left.phase left.items ∙ ap (λ (s : TaskState). s.items) did.new) ∙
+      (ap (λ l. length (own_view l).trace) (not_entered left.phase left.items ∙ ap (λ (s : SeatedTask). s.items) did.new) ∙
       grown now.begins now.phase now.items goes.going.1 did.moves)
 
 -- what is no more than the most is no more than the most of all
@@ -479,7 +479,7 @@ own_trace c op trace [] = omega arith
 own_trace c op trace (x ∷ xs) = omega arith
 
 -- an operation that has a most number of events has no more than the most of all
-pub few_steps : (op : Op) (start now : TaskState) → IsWithin start.config → IsBounded (most_events start.config op) → Goes op start now →
+pub few_steps : (op : Op) (start now : SeatedTask) → IsWithin start.config → IsBounded (most_events start.config op) → Goes op start now →
     steps_of now ≤ most_events_of_all
 few_steps op start now within tries goes =
     let c : Config = start.config in
@@ -491,7 +491,7 @@ few_steps op start now within tries goes =
     omega (arith, short, own, same)
 
 -- what comes after the event tells whether it goes on
-pub went_on : (op : Op) (start now left : TaskState) (step : Step) (hook : HookAnswer) (goes : Goes op start now)
+pub went_on : (op : Op) (start now left : SeatedTask) (step : Step) (hook : HookAnswer) (goes : Goes op start now)
     (after_step : (p : Phase) → now.phase ≡ Some p → Stepped p hook now step left) → IsWithin start.config →
     (next : Next Phase) → step.progress ≡ progress_of next → Went op start next left
 went_on op start now left step hook goes after_step within (Go q) is =
@@ -501,7 +501,7 @@ went_on op start now left step hook goes after_step within (Wait q) is =
 went_on op start now left step hook goes after_step within (Done a) is = ends_there op start now left step hook goes after_step within a is
 
 -- fewer events are left after each
-pub falls : (op : Op) (start now left : TaskState) (step : Step) (hook : HookAnswer) (goes : Goes op start now)
+pub falls : (op : Op) (start now left : SeatedTask) (step : Step) (hook : HookAnswer) (goes : Goes op start now)
     (after_step : (p : Phase) → now.phase ≡ Some p → Stepped p hook now step left) → IsWithin start.config →
     IsBounded (most_events start.config op) →
     ((a : Result Reply GateError) → step.progress ≡ Ended a → ⊥) → events_left left < events_left now
@@ -511,24 +511,24 @@ falls op start now left step hook goes after_step within tries not =
     omega arith
 
 -- a beginning that is refused
-pub was_refused : {A : Type 0} (read : Reply → A) (op : Op) (old left : TaskState) (e : GateError) → Err e ≡
+pub was_refused : {A : Type 0} (read : Reply → A) (op : Op) (old left : SeatedTask) (e : GateError) → Err e ≡
     unless_refused (refusal_at op old) → left ≡ old →
     Replies read op old left (Err e)
 was_refused {A} read op old left e is same = record {
-  table = ap (λ (s : TaskState). s.table) same;
-  config = ap (λ (s : TaskState). s.config) same;
+  table = ap (λ (s : SeatedTask). s.table) same;
+  config = ap (λ (s : SeatedTask). s.config) same;
   refused = λ r at. (refused_as e (refusal_at op old) r is at, same);
   done = λ at. absurd (refused_none e (refusal_at op old) is at);
 }
 
 -- and one that isn't
-abbrev pub was_done : {A : Type 0} (read : Reply → A) (op : Op) (old left : TaskState) (answer : Result Reply GateError)
+abbrev pub was_done : {A : Type 0} (read : Reply → A) (op : Op) (old left : SeatedTask) (answer : Result Reply GateError)
     (outcome : Result A GateError) →
     outcome ≡ told_as read answer → Ok tt ≡ unless_refused (refusal_at op old) → Called op old left answer →
     Replies read op old left outcome
 was_done read op old left answer outcome told is called = record {
-  table = ap (λ (s : TaskState). s.table) called.after;
-  config = ap (λ (s : TaskState). s.config) called.after;
+  table = ap (λ (s : SeatedTask). s.table) called.after;
+  config = ap (λ (s : SeatedTask). s.config) called.after;
   refused = λ r at. absurd (admitted_some (refusal_at op old) r is at);
   done = λ at. (answer, told, called);
 }
@@ -545,7 +545,7 @@ told_twice read (Ok reply) = refl
 told_twice read (Err refusal) = refl
 
 -- a call that tells of another's answer what it reads of replies
-abbrev pub was_told : {A : Type 0} (read : Reply → A) (op : Op) (old left : TaskState) (answer : Result Reply GateError)
+abbrev pub was_told : {A : Type 0} (read : Reply → A) (op : Op) (old left : SeatedTask) (answer : Result Reply GateError)
     (outcome : Result A GateError) →
     Replies the_reply op old left answer → outcome ≡ told_as read answer → Replies read op old left outcome
 was_told read op old left answer outcome replies told = record {
@@ -562,7 +562,7 @@ reply_told : (P : Reply → Type 0) (c : Config) (op : Op) (events : List Traced
 reply_told P c op events says (Ok reply) honest = says reply honest
 reply_told P c op events says (Err refusal) honest = tt
 
-reply_at : (P : Reply → Type 0) (op : Op) (old left : TaskState) (outcome : Result Reply GateError) →
+reply_at : (P : Reply → Type 0) (op : Op) (old left : SeatedTask) (outcome : Result Reply GateError) →
     ((reply : Reply) (events : List Traced) → IsTold op reply events → P reply) → Replies the_reply op old left outcome →
     (o : Option GateError) → refusal_at op old ≡ o → IfOk outcome P
 reply_at P op old left outcome says replies (Some r) at = subst (λ x. IfOk x P) (sym (replies.refused r at).0) tt

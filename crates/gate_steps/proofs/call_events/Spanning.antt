@@ -7,8 +7,8 @@ use lib.ListN.{get_elem?}
 use Rattle.access_model.specs.declared.replies.Next.{Next, TheVariants.{Go, Wait, Done}}
 use Rattle.cpu_words.specs.{Hooks.HookAnswer, Touches.{event_of}, Words.Words}
 use Rattle.gate_schedules.proofs.schedules.{Beginnings.may_begin, Entries.begun_on, Runs.run_more}
-use Rattle.gate_world.specs.Causes.{since_begun, trail, trail_of}
-use Rattle.gate_world.specs.Courses.{course_of}
+use Rattle.gate_world.specs.refusals.Causes.{since_begun, trail, trail_of}
+use Rattle.gate_world.specs.traces.TraceStates.{state_of_trace}
 use Rattle.gate_world.specs.Headline.{world_after}
 use Rattle.gate_world.specs.Views.{phase_after, with_hook, held_of}
 use Rattle.gate_world.specs.Work.{next_of}
@@ -16,12 +16,12 @@ use Rattle.gate_world.specs.Worlds.{World, happens, run, opening, found_at}
 use Rattle.gate_world.specs.declared.entries.Entry.{Entry, TheVariants.{Begins, Steps}}
 use Rattle.gate_world.specs.declared.{config.Config.Config, operations.Op.Op, views.{Traced.Traced, View.View}, work.Phase.Phase}
 use Rattle.gate_steps.specs.Histories.{IsLike}
-use Rattle.gate_steps.specs.Seating.{SeatItems, numbered, GoesOn, HasRested, done_by, entered, world_entered, Moved}
+use Rattle.gate_steps.specs.Seating.{SeatItems, numbered, GoesOn, HasRested, done_by, entered, world_entered, StepWitness}
 use Rattle.gate_steps.specs.declared.seating.Numbered.{Numbered}
 use Rattle.gate_steps.specs.call_events.Grown.{AllGoOn}
 use Rattle.gate_steps.specs.call_events.Runs.{ran_view, IsMoveOf, IsNextMove, AreMoves}
 use Rattle.gate_steps.specs.call_events.Spans.{own_entries, worlds_since, HappensAfter, IsEventDuring}
-use Rattle.gate_steps.specs.call_events.TaskStates.{own_number}
+use Rattle.gate_steps.specs.call_events.SeatedTasks.{own_number}
 use Rattle.gate_steps.proofs.Dealing.{times-at}
 use Rattle.gate_steps.proofs.call_events.Grown.{only, next_on}
 use Rattle.gate_steps.proofs.call_events.Moments.{own_more, own_none, own_one, run_append, run_quiet, idle_since, trail_more, one_since, one_run, more_since}
@@ -39,9 +39,9 @@ none_of (Some phase) is = absurd (let no : ⊥ = cc in no)
 -- the moment of an event that was a move of a phase, of an operation that was under way with these earlier events
 happens_after : (c : Config) (op : Op) (earlier : List Traced) (e : Traced) (begins : Option Op) (phase : Phase) (x : Numbered)
     (xs : SeatItems) (found : ℕ) (seen gone : List (List Entry)) →
-    phase_after (course_of c x.number op earlier).comes ≡ Some phase →
+    phase_after (state_of_trace c x.number op earlier).comes ≡ Some phase →
     e ≡ with_hook (event_of (next_of phase e.hook).0 (next_of phase e.hook).1 found) e.hook →
-    (move : Moved c begins phase e.hook x xs found seen gone) → (entered x.view begins phase).phase ≡ Some phase →
+    (move : StepWitness c begins phase e.hook x xs found seen gone) → (entered x.view begins phase).phase ≡ Some phase →
     (entered x.view begins phase).op ≡ Some op → (entered x.view begins phase).trace ≡ earlier →
     HappensAfter c x.number op earlier e move.reached.entries
 happens_after c op earlier e begins phase x xs found seen gone comes is move at under_way events =
@@ -62,7 +62,7 @@ happens_after c op earlier e begins phase x xs found seen gone comes is move at 
 
 -- the schedule that an event leaves
 leaves_so : (c : Config) (begins : Option Op) (phase : Phase) (hook : HookAnswer) (x : Numbered) (xs : SeatItems) (found : ℕ)
-    (seen gone : List (List Entry)) (move : Moved c begins phase hook x xs found seen gone) →
+    (seen gone : List (List Entry)) (move : StepWitness c begins phase hook x xs found seen gone) →
     gone ≡ (move.reached.entries ++ Steps x.number hook ∷ []) ∷ []
 leaves_so c begins phase hook x xs found seen gone move = move.leaves ∙ ap (λ (l : List Entry). l ∷ []) move.stepped
 
@@ -75,9 +75,9 @@ module _ (c : Config) (op : Op) (x : Numbered) (xs : SeatItems) (e : Traced) (ph
   n = x.number
 
   -- the first event
-  first_event : (seen gone : List (List Entry)) → phase_after (course_of c n op []).comes ≡ Some phase →
+  first_event : (seen gone : List (List Entry)) → phase_after (state_of_trace c n op []).comes ≡ Some phase →
       e ≡ with_hook (event_of (next_of phase e.hook).0 (next_of phase e.hook).1 found) e.hook →
-      Moved c (Some op) phase e.hook x xs found seen gone → IsLast c (x ∷ xs) op [] e seen gone
+      StepWitness c (Some op) phase e.hook x xs found seen gone → IsLast c (x ∷ xs) op [] e seen gone
   first_event seen gone comes is move =
       let past : List Entry = move.past.reached.entries in
       let like : IsLike ((world_after c past).views n) (move.world.views n) = move.past.reached.views n in
@@ -118,9 +118,9 @@ module _ (c : Config) (op : Op) (x : Numbered) (xs : SeatItems) (e : Traced) (ph
 
   -- and each further one, after the one before
   next_event : (d : Traced) (ds : List Traced) (v : View) (seen before gone : List (List Entry)) →
-      phase_after (course_of c n op (d ∷ ds)).comes ≡ Some phase →
+      phase_after (state_of_trace c n op (d ∷ ds)).comes ≡ Some phase →
       e ≡ with_hook (event_of (next_of phase e.hook).0 (next_of phase e.hook).1 found) e.hook → v.phase ≡ Some phase →
-      v.op ≡ Some op → v.trace ≡ d ∷ ds → Moved c None phase e.hook (numbered n v) xs found before gone →
+      v.op ≡ Some op → v.trace ≡ d ∷ ds → StepWitness c None phase e.hook (numbered n v) xs found before gone →
       IsLast c (x ∷ xs) op ds d seen before → IsLast c (x ∷ xs) op (d ∷ ds) e seen gone
   next_event d ds v seen before gone comes is at under_way events move last =
       let one : IsEventDuring c (x ∷ xs) op ds d seen before = last.0 in
@@ -180,14 +180,14 @@ module _ (c : Config) (op : Op) (x : Numbered) (xs : SeatItems) (e : Traced) (ph
 -- the event of this phase, after those before it
 module _ (c : Config) (op : Op) (e : Traced) (phase : Phase) (seen gone : List (List Entry)) where
   move_first : (items : SeatItems) (before : List (List Entry)) → before ≡ seen →
-      phase_after (course_of c (own_number items) op []).comes ≡ Some phase → IsMoveOf c op items [] e before gone phase →
+      phase_after (state_of_trace c (own_number items) op []).comes ≡ Some phase → IsMoveOf c op items [] e before gone phase →
       IsLast c items op [] e seen gone
   move_first [] before same comes m = absurd m.2
   move_first (x ∷ xs) before same comes m = subst (λ l. IsLast c (x ∷ xs) op [] e l gone) same
       (first_event c op x xs e phase m.0 before gone comes m.1 m.2)
 
   move_next : (items : SeatItems) (before : List (List Entry)) (d : Traced) (ds : List Traced) → IsLast c items op ds d seen before →
-      phase_after (course_of c (own_number items) op (d ∷ ds)).comes ≡ Some phase → IsMoveOf c op items (d ∷ ds) e before gone phase →
+      phase_after (state_of_trace c (own_number items) op (d ∷ ds)).comes ≡ Some phase → IsMoveOf c op items (d ∷ ds) e before gone phase →
       IsLast c items op (d ∷ ds) e seen gone
   move_next [] before d ds last comes m = absurd m.2
   move_next (x ∷ xs) before d ds last comes m =
@@ -196,14 +196,14 @@ module _ (c : Config) (op : Op) (e : Traced) (phase : Phase) (seen gone : List (
 
 -- and of whatever came next
 comes_first : (c : Config) (op : Op) (items : SeatItems) (e : Traced) (seen before gone : List (List Entry)) (comes : Next Phase) →
-    (course_of c (own_number items) op []).comes ≡ comes → before ≡ seen → IsNextMove c op items [] e before gone comes →
+    (state_of_trace c (own_number items) op []).comes ≡ comes → before ≡ seen → IsNextMove c op items [] e before gone comes →
     IsLast c items op [] e seen gone
 comes_first c op items e seen before gone (Go phase) is same m = move_first c op e phase seen gone items before same (ap phase_after is) m
 comes_first c op items e seen before gone (Wait phase) is same m = move_first c op e phase seen gone items before same (ap phase_after is) m
 comes_first c op items e seen before gone (Done answer) is same m = absurd m
 
 comes_next : (c : Config) (op : Op) (items : SeatItems) (e d : Traced) (ds : List Traced) (seen before gone : List (List Entry))
-    (comes : Next Phase) → (course_of c (own_number items) op (d ∷ ds)).comes ≡ comes → IsLast c items op ds d seen before →
+    (comes : Next Phase) → (state_of_trace c (own_number items) op (d ∷ ds)).comes ≡ comes → IsLast c items op ds d seen before →
     IsNextMove c op items (d ∷ ds) e before gone comes → IsLast c items op (d ∷ ds) e seen gone
 comes_next c op items e d ds seen before gone (Go phase) is last m =
     move_next c op e phase seen gone items before d ds last (ap phase_after is) m
@@ -215,9 +215,9 @@ comes_next c op items e d ds seen before gone (Done answer) is last m = absurd m
 pub last_event : (c : Config) (op : Op) (items : SeatItems) (seen gone : List (List Entry)) (e : Traced) (earlier : List Traced) →
     AreMoves c op items seen (e ∷ earlier) gone → (during : IsEventDuring c items op earlier e seen gone) × (during.rest ≡ [])
 last_event c op items seen gone e [] m =
-    comes_first c op items e seen m.0 gone (course_of c (own_number items) op []).comes refl m.2 m.1
+    comes_first c op items e seen m.0 gone (state_of_trace c (own_number items) op []).comes refl m.2 m.1
 last_event c op items seen gone e (d ∷ ds) m =
-    comes_next c op items e d ds seen m.0 gone (course_of c (own_number items) op (d ∷ ds)).comes refl
+    comes_next c op items e d ds seen m.0 gone (state_of_trace c (own_number items) op (d ∷ ds)).comes refl
     (last_event c op items seen m.0 d ds m.2) m.1
 
 -- what an event leaves goes on from where the one before it did
@@ -250,6 +250,6 @@ each_event c op items seen gone [] e earlier m = (last_event c op items seen gon
 each_event c op items seen gone (f ∷ later) e earlier m =
     let rest : List Traced = later ++ e ∷ earlier in
     let last = last_event c op items seen gone f rest m in
-    let on = next_on c op items rest f m.0 gone (course_of c (own_number items) op rest).comes m.1 in
+    let on = next_on c op items rest f m.0 gone (state_of_trace c (own_number items) op rest).comes m.1 in
     goes_on_from c items op earlier e seen m.0 gone (each_event c op items seen m.0 later e earlier m.2) on.0
     (last.0.entries ++ Steps (own_number items) f.hook ∷ last.0.rest) last.0.leaves

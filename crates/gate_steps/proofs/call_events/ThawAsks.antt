@@ -33,14 +33,14 @@ use Rattle.freeze_levels.specs.Thaws.{thaw_after, at_thaw, after_opening}
 use Rattle.gate_world.specs.declared.operations.Op.TheVariants.{Thaw as ThawOp}
 use Rattle.gate_world.specs.declared.work.Phase.{Phase}
 use Rattle.gate_world.specs.declared.work.Phase.TheVariants.{Thaws}
-use Rattle.gate_world.specs.Courses.{course_of}
+use Rattle.gate_world.specs.traces.TraceStates.{state_of_trace}
 use Rattle.gate_world.specs.Views.{actions_after}
 use Rattle.gate_world.specs.Work.{after_of}
 use Rattle.gate_steps.specs.Seating.{SeatItems}
 use Rattle.gate_steps.specs.call_events.Asked.{agreed, OnceAsked, AtMostAsked}
 use Rattle.gate_steps.specs.call_events.Asking.{Ask, asks_with, asks_of, call_at}
 use Rattle.gate_steps.specs.call_events.Runs.{Called}
-use Rattle.gate_steps.specs.call_events.TaskStates.{TaskState, own_number}
+use Rattle.gate_steps.specs.call_events.SeatedTasks.{SeatedTask, own_number}
 use Rattle.gate_steps.proofs.call_events.Asked.{either_way, asked_after}
 
 abbrev AtStep : ThawStep → List Ask → Type 0
@@ -114,9 +114,9 @@ keeps (Thaws x) found hook at added asks is =
 keeps p found hook at added asks is = absurd is
 
 -- of a thaw that was granted
-pub granted_thaw : (holder : Holder) (old left : TaskState) (reply : Reply) (called : Called (ThawOp holder) old left (Ok reply)) →
+pub granted_thaw : (holder : Holder) (old left : SeatedTask) (reply : Reply) (called : Called (ThawOp holder) old left (Ok reply)) →
     AtMostAsked UnfreezeCall (asks_of old.config (ThawOp holder) old.items called.trace)
 granted_thaw holder old left reply called =
     let asks = asks_of old.config (ThawOp holder) old.items called.trace in
-    subst (λ n. At n (course_of old.config (own_number old.items) (ThawOp holder) called.trace).added asks) called.ends
+    subst (λ n. At n (state_of_trace old.config (own_number old.items) (ThawOp holder) called.trace).added asks) called.ends
     (asked_after At (λ p added asks at. at) keeps old.config (ThawOp holder) old.items refl called.trace)

@@ -10,31 +10,31 @@ use Rattle.cpu_words.specs.{Hooks.HookAnswer, Names.{place, words_in_all}, Touch
 use Rattle.gate_world.specs.{Accesses.{accesses_after, held_in}, Configs.IsWithin, Fits.ActionFits, Views.{phase_after, held_of}, Work.{next_of, after_of}}
 use Rattle.gate_world.specs.declared.{accesses.Accesses.Accesses, config.Config.Config, operations.Op.Op, work.Phase.Phase}
 use Rattle.gate_schedules.specs.Answers.{progress_of}
-use Rattle.gate_schedules.specs.declared.seats.Seat.{Seat}
+use Rattle.gate_schedules.specs.declared.task_states.TaskState.{TaskState}
 use Rattle.gate_schedules.specs.declared.steps.Step.{Step}
 use Rattle.gate_schedules.proofs.schedules.Phases.{word_placed}
-use Rattle.gate_steps.specs.Seating.{SeatItems, Acts, items_after, IsMove}
+use Rattle.gate_steps.specs.Seating.{SeatItems, Acts, items_after, HasWitness}
 use Rattle.atomic_table.specs.Seated.{TableId}
-use Rattle.gate_steps.specs.call_events.{Asking.{Ask, asks_with, call_at, GoesWith, WentWith}, Runs.{Goes, Went}, Stepped.Stepped, Waited.{GoesWaiting, WentWaiting}, TaskStates.{TaskState, task_state}}
-use Rattle.gate_steps.specs.call_events.{Ties.Ties, Turns.{kept_at, IsTied, step_was}}
+use Rattle.gate_steps.specs.call_events.{Asking.{Ask, asks_with, call_at, GoesWith, WentWith}, Runs.{Goes, Went}, Stepped.Stepped, Waited.{GoesWaiting, WentWaiting}, SeatedTasks.{SeatedTask, task_state}}
+use Rattle.gate_steps.specs.call_events.{GhostAgrees.GhostAgrees, Turns.{kept_at, StateAgrees, step_was}}
 use Rattle.gate_steps.proofs.call_events.{Going.{may_add, ties_left, stepped_here}, Running.{went_on, went_asking}}
 
 -- before the event: the word is one of the table's, and the number may do the event
 module _ (number : ℕ) (c : Config) (begins : Option Op) (phase : Phase) (accesses : Accesses) (flags : List Bool) (hook : HookAnswer) where
   -- the word of the event is one of the table's
-  word_inside : (l : SeatItems) → Ties number c begins (kept_at (Some phase) accesses) flags l → place (next_of phase hook).0 < words_in_all
+  word_inside : (l : SeatItems) → GhostAgrees number c begins (kept_at (Some phase) accesses) flags l → place (next_of phase hook).0 < words_in_all
   word_inside [] t = absurd t
   word_inside (x ∷ xs) t =
       word_placed c t.within x.number (held_of x.view) (omega (arith, t.below, t.same_number)) phase hook t.fits
 
   -- the own number may do the event
-  may_act : (l : SeatItems) → Ties number c begins (kept_at (Some phase) accesses) flags l → Acts c begins phase l
+  may_act : (l : SeatItems) → GhostAgrees number c begins (kept_at (Some phase) accesses) flags l → Acts c begins phase l
   may_act [] t = absurd t
   may_act (x ∷ xs) t = t.may
 
 -- the same of the configuration as the table names it
 module _ (c key : Config) (same_key : key ≡ c) (begins : Option Op) (phase : Phase) (accesses : Accesses) (items : SeatItems)
-    (tied : IsTied c begins (Some phase) accesses items) (hook : HookAnswer) where
+    (tied : StateAgrees c begins (Some phase) accesses items) (hook : HookAnswer) where
   -- the word is inside
   pub inside_so : place (next_of phase hook).0 < words_in_all
   inside_so = word_inside tied.number c begins phase accesses tied.flags hook items tied.ties
@@ -59,27 +59,27 @@ module _ (c key : Config) (same_key : key ≡ c) (begins : Option Op) (phase : P
     (done : Next Phase × Option Action) (done_is : done ≡ after_of phase event.found hook)
     (accesses_is : accesses_left ≡ accesses_after accesses done.1) (left_is : left ≡ items_after begins phase hook found items) where
   -- the fields stay tied
-  pub stay_tied : (number : ℕ) (flags : List Bool) → Ties number c begins (kept_at (Some phase) accesses) flags items →
-      Ties number c None (kept_at (phase_after done.0) accesses_left) flags left
+  pub stay_tied : (number : ℕ) (flags : List Bool) → GhostAgrees number c begins (kept_at (Some phase) accesses) flags items →
+      GhostAgrees number c None (kept_at (phase_after done.0) accesses_left) flags left
   stay_tied number flags ties =
       ties_left number c begins (kept_at (Some phase) accesses) flags phase refl hook items ties (next_of phase hook) refl found event event_is
       done done_is
       (progress_of done.0, phase_after done.0) refl accesses_left accesses_is left left_is
 
   -- the event was a step
-  pub stepped_so : (number : ℕ) (flags : List Bool) → Ties number c begins (kept_at (Some phase) accesses) flags items →
-      (seen gone : List (List Entry)) → IsMove key begins phase hook items found seen gone → (table before : TableId) → table ≡ before →
+  pub stepped_so : (number : ℕ) (flags : List Bool) → GhostAgrees number c begins (kept_at (Some phase) accesses) flags items →
+      (seen gone : List (List Entry)) → HasWitness key begins phase hook items found seen gone → (table before : TableId) → table ≡ before →
       Stepped phase hook (task_state before c begins (Some phase) (knows items seen)) (step_was event done.1 done.0)
       (task_state table c None (phase_after done.0) (knows left gone))
   stepped_so number flags ties seen gone moves table before same =
-      let here : IsMove c begins phase hook items found seen gone = subst (λ (k : Config). IsMove k begins phase hook items found seen gone) same_key moves in
+      let here : HasWitness c begins phase hook items found seen gone = subst (λ (k : Config). HasWitness k begins phase hook items found seen gone) same_key moves in
       stepped_here number c begins (kept_at (Some phase) accesses) flags phase refl hook items ties (next_of phase hook) refl found event
       event_is done done_is
       (progress_of done.0, phase_after done.0) refl accesses_left accesses_is left left_is
       seen gone table before (task_state before c begins (Some phase) (knows items seen)) same refl here phase refl
 
 -- and what comes after it tells whether the operation goes on
-pub went_so : (c : Config) → IsWithin c → (op : Op) (start : TaskState) (event : Event) (action : Option Action) (next : Next Phase)
+pub went_so : (c : Config) → IsWithin c → (op : Op) (start : SeatedTask) (event : Event) (action : Option Action) (next : Next Phase)
     (hook : HookAnswer)
     {table left_table : TableId} {begins : Option Op} {phase : Phase} {items left : Knowledge} →
     Goes op start (task_state table c begins (Some phase) items) →
@@ -87,15 +87,15 @@ pub went_so : (c : Config) → IsWithin c → (op : Op) (start : TaskState) (eve
     (task_state left_table c None (phase_after next) left) →
     Went op start next (task_state left_table c None (phase_after next) left)
 went_so c within op start event action next hook {table} {left_table} {begins} {phase} {items} {left} goes after_step =
-    let now : TaskState = task_state table c begins (Some phase) items in
-    let after : TaskState = task_state left_table c None (phase_after next) left in
+    let now : SeatedTask = task_state table c begins (Some phase) items in
+    let after : SeatedTask = task_state left_table c None (phase_after next) left in
     let step : Step = step_was event action next in
     went_on op start now after step hook goes
     (λ p is. subst (λ (q : Phase). Stepped q hook now step after) (let same : phase ≡ p = cc in same) after_step)
     (subst IsWithin goes.config within) next refl
 
 -- and which hooks it has asked, and how many of its events came to a wait
-pub went_with_so : (c : Config) → IsWithin c → (op : Op) (start : TaskState) (event : Event) (action : Option Action) (next : Next Phase)
+pub went_with_so : (c : Config) → IsWithin c → (op : Op) (start : SeatedTask) (event : Event) (action : Option Action) (next : Next Phase)
     (hook : HookAnswer) (asks : List Ask) (waits : ℕ)
     {table left_table : TableId} {begins : Option Op} {phase : Phase} {items left : Knowledge} →
     GoesWith asks waits op start (task_state table c begins (Some phase) items) →
@@ -103,8 +103,8 @@ pub went_with_so : (c : Config) → IsWithin c → (op : Op) (start : TaskState)
     (task_state left_table c None (phase_after next) left) →
     WentWith (asks_with (call_at phase) items.items hook asks) waits op start next (task_state left_table c None (phase_after next) left)
 went_with_so c within op start event action next hook asks waits {table} {left_table} {begins} {phase} {items} {left} goes after_step =
-    let now : TaskState = task_state table c begins (Some phase) items in
-    let after : TaskState = task_state left_table c None (phase_after next) left in
+    let now : SeatedTask = task_state table c begins (Some phase) items in
+    let after : SeatedTask = task_state left_table c None (phase_after next) left in
     let step : Step = step_was event action next in
     let same : goes.0.going.0 ≡ phase = let at : Some phase ≡ Some goes.0.going.0 = goes.0.going.1 in cc in
     subst (λ (p : Phase). WentWith (asks_with (call_at p) items.items hook asks) waits op start next after) same
@@ -113,13 +113,13 @@ went_with_so c within op start event action next hook asks waits {table} {left_t
     asks waits goes.1 goes.2 (subst IsWithin goes.0.config within) next refl)
 
 -- of which the hooks may be left out
-pub unasked : (op : Op) (start : TaskState) (next : Next Phase) (now : TaskState) (asks : List Ask) (waits : ℕ) →
+pub unasked : (op : Op) (start : SeatedTask) (next : Next Phase) (now : SeatedTask) (asks : List Ask) (waits : ℕ) →
     WentWith asks waits op start next now → WentWaiting waits op start next now
 unasked op start (Go q) now asks waits went = (went.0, went.2)
 unasked op start (Wait q) now asks waits went = (went.0, went.2)
 unasked op start (Done a) now asks waits went = (went.0, went.2)
 
-pub went_waiting_so : (c : Config) → IsWithin c → (waits : ℕ) (op : Op) (start : TaskState) (event : Event) (action : Option Action)
+pub went_waiting_so : (c : Config) → IsWithin c → (waits : ℕ) (op : Op) (start : SeatedTask) (event : Event) (action : Option Action)
     (next : Next Phase) (hook : HookAnswer)
     {table left_table : TableId} {begins : Option Op} {phase : Phase} {items left : Knowledge} →
     GoesWaiting waits op start (task_state table c begins (Some phase) items) →
@@ -131,19 +131,19 @@ went_waiting_so c within waits op start event action next hook goes after_step =
     (went_with_so c within op start event action next hook _ waits (goes.0, refl, goes.1) after_step)
 
 -- a task's fields, said with another name of the config and of the phase
-pub tied_at : (number : ℕ) {c d : Config} (begins : Option Op) (flags : List Bool) (items : SeatItems) (kept : Seat)
-    (phase : Option Phase) → Ties number c begins kept flags items → c ≡ d → kept.phase ≡ phase →
-    Ties number d begins (kept_at phase kept.accesses) flags items
+pub tied_at : (number : ℕ) {c d : Config} (begins : Option Op) (flags : List Bool) (items : SeatItems) (kept : TaskState)
+    (phase : Option Phase) → GhostAgrees number c begins kept flags items → c ≡ d → kept.phase ≡ phase →
+    GhostAgrees number d begins (kept_at phase kept.accesses) flags items
 tied_at number {c} {d} begins flags items kept phase ties same is =
-    let P : Config × Option Phase → Type 0 = λ z. Ties number z.0 begins (kept_at z.1 kept.accesses) flags items in
+    let P : Config × Option Phase → Type 0 = λ z. GhostAgrees number z.0 begins (kept_at z.1 kept.accesses) flags items in
     subst P (λ i. (same i, is i)) ties
 
 -- a step, said with other names of what it was
-pub stepped_there : {phase : Phase} {hook : HookAnswer} {old old_now left left_now : TaskState} {done done_now : Step} →
+pub stepped_there : {phase : Phase} {hook : HookAnswer} {old old_now left left_now : SeatedTask} {done done_now : Step} →
     Stepped phase hook old done left → old ≡ old_now → done ≡ done_now → left ≡ left_now → old.phase ≡ Some phase →
     (p : Phase) → old_now.phase ≡ Some p → Stepped p hook old_now done_now left_now
 stepped_there {phase} {hook} {old} {old_now} {left} {left_now} {done} {done_now} after_step same_old same_done same_left is p at =
-    let other : Some phase ≡ Some p = sym is ∙ (ap (λ (s : TaskState). s.phase) same_old ∙ at) in
+    let other : Some phase ≡ Some p = sym is ∙ (ap (λ (s : SeatedTask). s.phase) same_old ∙ at) in
     let same : phase ≡ p = cc in
-    let P : Phase × TaskState × Step × TaskState → Type 0 = λ z. Stepped z.0 hook z.1 z.2 z.3 in
+    let P : Phase × SeatedTask × Step × SeatedTask → Type 0 = λ z. Stepped z.0 hook z.1 z.2 z.3 in
     subst P (λ i. (same i, same_old i, same_done i, same_left i)) after_step

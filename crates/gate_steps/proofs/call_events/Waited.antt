@@ -14,7 +14,7 @@ use Rattle.gate_world.specs.declared.work.Phase.{Phase}
 use Rattle.gate_steps.specs.Seating.{SeatItems}
 use Rattle.gate_steps.specs.declared.seating.Knowledge.{Knowledge}
 use Rattle.gate_steps.specs.call_events.Asking.{CalledAsking, GoesAsking, WentAsking, WereAsked}
-use Rattle.gate_steps.specs.call_events.TaskStates.{TaskState, task_state}
+use Rattle.gate_steps.specs.call_events.SeatedTasks.{SeatedTask, task_state}
 use Rattle.gate_steps.specs.call_events.Waited.{counted}
 
 -- a count that stands still at its end is of a sum the same
@@ -26,7 +26,7 @@ pub one_more : (waits before after : ℕ) → before ≡ counted waits → after
 one_more waits before after had more = more ∙ (ap (λ n. counted (n + 1)) had ∙ counted_more waits)
 
 -- Where an operation stands after a line: it goes on, or waits, or was done whole.
-module _ {H : Type 0} (answers : HookCall → SeatItems → H → HookAnswer → H → Type 0) (waits : ℕ) {op : Op} {start : TaskState} {before hooks : H}
+module _ {H : Type 0} (answers : HookCall → SeatItems → H → HookAnswer → H → Type 0) (waits : ℕ) {op : Op} {start : SeatedTask} {before hooks : H}
     {c : Config} {table : TableId} {me : Knowledge} {next : Next Phase} where
   pub going_on : {phase : Phase} → next ≡ Go phase → WentAsking answers waits op start before next (task_state table c None (phase_after next) me) hooks →
       GoesAsking answers waits op start before (task_state table c None (Some phase) me) hooks

@@ -3,7 +3,7 @@ use Rattle.std.specs.Prelude.{◌≡◌, ℕ, ◌<◌, Some, Err, List, [], ◌�
 use Rattle.access_model.specs.declared.errors.GateError.{GateError}
 use Rattle.access_model.specs.declared.replies.Next.TheVariants.{Done}
 use Rattle.cpu_words.specs.Touches.{event_of}
-use Rattle.gate_world.specs.Causes.{HasCause, since_begun, trail_of}
+use Rattle.gate_world.specs.refusals.Causes.{HasCause, since_begun, trail_of}
 use Rattle.gate_world.specs.Configs.{IsWithin}
 use Rattle.gate_world.specs.Headline.{world_after}
 use Rattle.gate_world.specs.Views.{with_hook}

@@ -12,7 +12,7 @@ use Rattle.gate_world.specs.Views.{phase_after}
 use Rattle.gate_steps.specs.Seating.{SeatItems}
 use Rattle.gate_steps.specs.declared.seating.Knowledge.{Knowledge}
 use Rattle.gate_steps.specs.call_events.Asking.{Ask, WentWith, WentAsking}
-use Rattle.gate_steps.specs.call_events.TaskStates.{TaskState, task_state}
+use Rattle.gate_steps.specs.call_events.SeatedTasks.{SeatedTask, task_state}
 use Rattle.gate_steps.specs.call_events.Turns.{StayTied}
 
 -- Steps that ask no hook have led an operation from where it stood, at a table and with what its seat knew, to where it stands: it is the same
@@ -22,7 +22,7 @@ pub record Led (c : Config) (begins : Option Op) (accesses : Accesses) (next : N
     (further : Next Phase) (table_left : TableId) (left : Knowledge) : Type 0 where
   pub same_table : table_left ≡ table
   pub tied : StayTied c begins (phase_after next) accesses me.items (phase_after further) accesses left.items
-  pub went : (op : Op) (start : TaskState) (asks : List Ask) (waits : ℕ) →
+  pub went : (op : Op) (start : SeatedTask) (asks : List Ask) (waits : ℕ) →
       WentWith asks waits op start next (task_state table c begins (phase_after next) me) →
       WentWith asks waits op start further (task_state table_left c None (phase_after further) left)
 
@@ -33,6 +33,6 @@ pub record LedAsking {H : Type 0} (answers : HookCall → SeatItems → H → Ho
     (left : Knowledge) (hooks_left : H) : Type 0 where
   pub same_table : table_left ≡ table
   pub tied : StayTied c begins (phase_after next) accesses me.items (phase_after further) accesses left.items
-  pub went : (op : Op) (start : TaskState) (before : H) (waits : ℕ) →
+  pub went : (op : Op) (start : SeatedTask) (before : H) (waits : ℕ) →
       WentAsking answers waits op start before next (task_state table c begins (phase_after next) me) hooks →
       WentAsking answers waits op start before further (task_state table_left c None (phase_after further) left) hooks_left

@@ -2,7 +2,7 @@
 use Rattle.std.specs.{List.All, Prelude.{◌≡◌, ◌⊎◌, ℕ, false, Option, Result, Ok, Err, List, [], ◌∷◌, option_map}}
 use Rattle.access_model.specs.{Actions.{marked, tree_after}, declared.{actions.{Action.Action, NodeInfo.NodeInfo}, errors.GateError.GateError}}
 use Rattle.access_model.specs.declared.replies.{Next.{Next, TheVariants.{Go, Wait, Done}}, Reply.Reply}
-use Rattle.gate_world.specs.{Courses.course_of, Traces.MayWait, Views.held_of, declared.{config.Config.Config, operations.Op.Op, views.Traced.Traced}}
+use Rattle.gate_world.specs.{traces.TraceStates.state_of_trace, traces.Traces.MayWait, Views.held_of, declared.{config.Config.Config, operations.Op.Op, views.Traced.Traced}}
 use Rattle.gate_world.specs.declared.{views.View.View, work.Phase.Phase}
 
 -- an action that leaves each node of any tree as it was, or without its dirty mark
@@ -30,4 +30,4 @@ IsHonestWait c op trace (Done answer) = Unit {0}
 abbrev pub WaitsHonestly : Config → ℕ → Op → List Traced → Type 0
 WaitsHonestly c t op [] = Unit {0}
 WaitsHonestly c t op (e ∷ earlier) =
-    IsHonestWait c op (e ∷ earlier) (course_of c t op (e ∷ earlier)).comes × WaitsHonestly c t op earlier
+    IsHonestWait c op (e ∷ earlier) (state_of_trace c t op (e ∷ earlier)).comes × WaitsHonestly c t op earlier

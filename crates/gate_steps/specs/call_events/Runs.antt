@@ -15,16 +15,16 @@ use Rattle.gate_world.specs.declared.views.Traced.{Traced}
 use Rattle.gate_world.specs.declared.views.View.{View}
 use Rattle.gated_tree.specs.declared.trees.TreeWords.{TreeWords}
 use Rattle.gate_world.specs.declared.views.Snapshot.{Snapshot}
-use Rattle.gate_world.specs.Snapshots.{completes, last_snapshot}
+use Rattle.gate_world.specs.traces.Snapshots.{completes, last_snapshot}
 use Rattle.gate_world.specs.Views.{phase_after, with_hook}
 use Rattle.gate_world.specs.Work.{next_of}
-use Rattle.gate_world.specs.Courses.{course_of, IsTrace}
-use Rattle.gate_world.specs.Traces.{actions_of, IsHonestAnswer, most_events, IsShort, MayWait}
-use Rattle.gate_steps.specs.Seating.{SeatItems, numbered, HaveHistory, done_by, IsMove}
+use Rattle.gate_world.specs.traces.TraceStates.{state_of_trace, IsTrace}
+use Rattle.gate_world.specs.traces.Traces.{actions_of, IsHonestAnswer, most_events, IsShort, MayWait}
+use Rattle.gate_steps.specs.Seating.{SeatItems, numbered, HaveHistory, done_by, HasWitness}
 use Rattle.gate_schedules.specs.declared.steps.Progress.{Progress}
 use Rattle.gate_schedules.specs.declared.steps.Progress.TheVariants.{Idle, Going, Waiting, Done as Ended}
 use Rattle.gate_steps.specs.call_events.Refused.{IsUnchangedBy, WaitsHonestly}
-use Rattle.gate_steps.specs.call_events.TaskStates.{TaskState, own_number, own_view, refusal_at}
+use Rattle.gate_steps.specs.call_events.SeatedTasks.{SeatedTask, own_number, own_view, refusal_at}
 
 -- the events of a trace before earlier ones, the newest first
 abbrev pub events_onto : List Traced → List Event → List Event
@@ -42,15 +42,15 @@ completed_by (Done answer) earlier e = None
 abbrev pub ran_snapshot : Config → ℕ → Op → List (ℕ × ℕ) → List Traced → View → Option Snapshot
 ran_snapshot c t op others [] v = v.snapshot
 ran_snapshot c t op others (e ∷ earlier) v =
-    last_snapshot (completed_by (course_of c t op earlier).comes earlier e) ((course_of c t op earlier).added ++ v.actions) others
+    last_snapshot (completed_by (state_of_trace c t op earlier).comes earlier e) ((state_of_trace c t op earlier).added ++ v.actions) others
     (ran_snapshot c t op others earlier v)
 
 -- and its view
 abbrev pub ran_view : Config → ℕ → Op → List (ℕ × ℕ) → List Traced → View → View
 ran_view c t op others trace v = record {
   op = Some op;
-  phase = phase_after (course_of c t op trace).comes;
-  actions = (course_of c t op trace).added ++ v.actions;
+  phase = phase_after (state_of_trace c t op trace).comes;
+  actions = (state_of_trace c t op trace).added ++ v.actions;
   events = events_onto trace v.events;
   trace = trace;
   before = v.actions;
@@ -77,7 +77,7 @@ items_at c op (e ∷ earlier) items = ran_items c op (e ∷ earlier) items
 abbrev pub IsMoveOf : Config → Op → SeatItems → List Traced → Traced → List (List Entry) → List (List Entry) → Phase → Type 0
 IsMoveOf c op items earlier e seen left phase =
     (found : ℕ) × (e ≡ with_hook (event_of (next_of phase e.hook).0 (next_of phase e.hook).1 found) e.hook)
-    × IsMove c (begins_at op earlier) phase e.hook (items_at c op earlier items) found seen left
+    × HasWitness c (begins_at op earlier) phase e.hook (items_at c op earlier items) found seen left
 
 -- the event was such a move of the phase that comes next
 abbrev pub IsNextMove : Config → Op → SeatItems → List Traced → Traced → List (List Entry) → List (List Entry) → Next Phase → Type 0
@@ -90,7 +90,7 @@ IsNextMove c op items earlier e seen left (Done answer) = ⊥
 abbrev pub AreMoves : Config → Op → SeatItems → List (List Entry) → List Traced → List (List Entry) → Type 0
 AreMoves c op items seen [] left = left ≡ seen
 AreMoves c op items seen (e ∷ earlier) left = (before : List (List Entry)) ×
-    IsNextMove c op items earlier e before left (course_of c (own_number items) op earlier).comes × AreMoves c op items seen earlier before
+    IsNextMove c op items earlier e before left (state_of_trace c (own_number items) op earlier).comes × AreMoves c op items seen earlier before
 
 -- an operation that has a most number of events
 abbrev pub IsBounded : Option ℕ → Type 0
@@ -129,59 +129,59 @@ IsRanReply reply = ⊥
 -- actions, and nothing else of the task changed. Each event was a move in a world that the rule holds of. So it has added exactly the
 -- operation's actions, a refusal has its cause in the trace and leaves all unchanged, it waits only where it may, and where the operation has
 -- a most number of events, they are no more. What it leaves has one history, in which each last snapshot has its moment.
-pub record Called (op : Op) (old left : TaskState) (answer : Result Reply GateError) : Type 0 where
+pub record Called (op : Op) (old left : SeatedTask) (answer : Result Reply GateError) : Type 0 where
   pub trace : List Traced
   pub follows : IsTrace old.config (own_number old.items) op trace
-  pub ends : (course_of old.config (own_number old.items) op trace).comes ≡ Done answer
+  pub ends : (state_of_trace old.config (own_number old.items) op trace).comes ≡ Done answer
   pub after : left ≡ record old { begins = None; phase = None; items = ran_items old.config op trace old.items; seen = left.seen }
   pub moves : AreMoves old.config op old.items old.seen trace left.seen
-  pub added : (course_of old.config (own_number old.items) op trace).added ≡ actions_of op answer trace
+  pub added : (state_of_trace old.config (own_number old.items) op trace).added ≡ actions_of op answer trace
   pub honest : IsHonestAnswer old.config op answer trace
-  pub unchanged : IsUnchangedBy answer (course_of old.config (own_number old.items) op trace).added (own_view old.items) (own_view left.items)
+  pub unchanged : IsUnchangedBy answer (state_of_trace old.config (own_number old.items) op trace).added (own_view old.items) (own_view left.items)
   pub waits : WaitsHonestly old.config (own_number old.items) op trace
   pub short : IsShort (most_events old.config op) trace
   pub history : HaveHistory old.config left.items left.seen
 
 -- An operation whose beginning is refused changes nothing, and any other is done whole. The call tells its answer as it reads replies.
-pub record Replies {A : Type 0} (read : Reply → A) (op : Op) (old left : TaskState) (outcome : Result A GateError) : Type 0 where
+pub record Replies {A : Type 0} (read : Reply → A) (op : Op) (old left : SeatedTask) (outcome : Result A GateError) : Type 0 where
   pub table : left.table ≡ old.table
   pub config : left.config ≡ old.config
   pub refused : (refusal : GateError) → refusal_at op old ≡ Some refusal → (outcome ≡ Err refusal) × (left ≡ old)
   pub done : refusal_at op old ≡ None → (answer : Result Reply GateError) × (outcome ≡ told_as read answer) × Called op old left answer
 
 -- the same of a call that tells only whether the operation was done
-abbrev pub Performs : Op → TaskState → TaskState → Result (Unit {0}) GateError → Type 0
+abbrev pub Performs : Op → SeatedTask → SeatedTask → Result (Unit {0}) GateError → Type 0
 Performs op old left outcome = Replies unit_of op old left outcome
 
 -- an operation under way, after these events
-pub record Goes (op : Op) (start now : TaskState) : Type 0 where
+pub record Goes (op : Op) (start now : SeatedTask) : Type 0 where
   pub trace : List Traced
   pub admitted : refusal_at op start ≡ None
   pub table : now.table ≡ start.table
   pub config : now.config ≡ start.config
   pub follows : IsTrace start.config (own_number start.items) op trace
-  pub phase : now.phase ≡ phase_after (course_of start.config (own_number start.items) op trace).comes
+  pub phase : now.phase ≡ phase_after (state_of_trace start.config (own_number start.items) op trace).comes
   pub going : (q : Phase) × (now.phase ≡ Some q)
   pub begins : now.begins ≡ begins_at op trace
   pub items : now.items ≡ items_at start.config op trace start.items
   pub moves : AreMoves start.config op start.items start.seen trace now.seen
 
 -- what comes after the last event: it goes on, or it was done whole
-abbrev pub Went : Op → TaskState → Next Phase → TaskState → Type 0
+abbrev pub Went : Op → SeatedTask → Next Phase → SeatedTask → Type 0
 Went op start (Go phase) now = Goes op start now
 Went op start (Wait phase) now = Goes op start now
 Went op start (Done answer) now = Called op start now answer
 
 -- The same as a step tells it: the operation goes on, or waits for others where it may, or was done whole.
-abbrev pub Told : Op → TaskState → Progress → TaskState → Type 0
-Told op start Idle now = ⊥
-Told op start Going now = Goes op start now
-Told op start Waiting now = (goes : Goes op start now) × MayWait start.config op goes.trace
-Told op start (Ended answer) now = Called op start now answer
+abbrev pub StepTells : Op → SeatedTask → Progress → SeatedTask → Type 0
+StepTells op start Idle now = ⊥
+StepTells op start Going now = Goes op start now
+StepTells op start Waiting now = (goes : Goes op start now) × MayWait start.config op goes.trace
+StepTells op start (Ended answer) now = Called op start now answer
 
 -- some operation that has a most number of events is under way here
-pub record IsTrying (now : TaskState) : Type 0 where
+pub record IsTrying (now : SeatedTask) : Type 0 where
   pub op : Op
-  pub start : TaskState
+  pub start : SeatedTask
   pub goes : Goes op start now
   pub tries : IsBounded (most_events start.config op)

@@ -8,9 +8,9 @@ use Rattle.access_model.specs.declared.errors.GateError.{GateError}
 use Rattle.access_model.specs.declared.replies.Next.TheVariants.{Done as Ended}
 use Rattle.cpu_words.specs.Touches.{event_of}
 use Rattle.gated_tree.specs.declared.trees.TreeWords.{TreeWords}
-use Rattle.gate_world.specs.Causes.{HasCause, since_begun, trail, trail_of}
+use Rattle.gate_world.specs.refusals.Causes.{HasCause, since_begun, trail, trail_of}
 use Rattle.gate_world.specs.Configs.{IsWithin}
-use Rattle.gate_world.specs.Courses.{course_of}
+use Rattle.gate_world.specs.traces.TraceStates.{state_of_trace}
 use Rattle.gate_world.specs.Headline.{world_after, actions_so_far, actions_since}
 use Rattle.gate_world.specs.Moments.{IsPresentTree}
 use Rattle.gate_world.specs.Views.{phase_after, with_hook}
@@ -20,7 +20,7 @@ use Rattle.gate_world.specs.declared.entries.Entry.{Entry, TheVariants.{Begins, 
 use Rattle.gate_world.specs.declared.{config.Config.Config, operations.Op.Op, views.Traced.Traced, work.Phase.Phase}
 use Rattle.gate_steps.specs.Seating.{SeatItems, GoesOn, HasRested}
 use Rattle.gate_steps.specs.declared.seating.Numbered.{Numbered}
-use Rattle.gate_steps.specs.call_events.TaskStates.{own_number}
+use Rattle.gate_steps.specs.call_events.SeatedTasks.{own_number}
 
 -- the entries of this number among these
 abbrev pub own_entries : ℕ → List Entry → List Entry
@@ -48,7 +48,7 @@ pub record GoesOnFromSeen (c : Config) (items : SeatItems) (seen : List (List En
 -- finds there what it says that it found.
 pub record HappensAfter (c : Config) (n : ℕ) (op : Op) (earlier : List Traced) (e : Traced) (entries : List Entry) : Type 0 where
   pub phase : Phase
-  pub comes : phase_after (course_of c n op earlier).comes ≡ Some phase
+  pub comes : phase_after (state_of_trace c n op earlier).comes ≡ Some phase
   pub at : ((world_after c entries).views n).phase ≡ Some phase
   pub under_way : ((world_after c entries).views n).op ≡ Some op
   pub events : ((world_after c entries).views n).trace ≡ earlier
@@ -107,7 +107,7 @@ pub record TakesEffect (c : Config) (items : SeatItems) (op : Op) (trace : List 
   pub leaves : left ≡ (began ++ since) ∷ []
   pub grows : log ≡ actions_since c began since ++ actions_so_far c began
   pub had : (k : ℕ) (x : Numbered) → get_elem? items k ≡ some x → own_part x.number (actions_so_far c began) ≡ x.view.actions
-  pub added : own_part (own_number items) (actions_since c began since) ≡ (course_of c (own_number items) op trace).added
+  pub added : own_part (own_number items) (actions_since c began since) ≡ (state_of_trace c (own_number items) op trace).added
 
 -- A history has, the newest first, what was done during a later call, then what was done between the two, then what was done during an earlier
 -- one, and then what was done before it. These actions are each number's own in its part.

@@ -10,8 +10,8 @@ use Rattle.gate_world.specs.Views.{phase_after}
 use Rattle.gate_world.specs.Work.{next_of, after_of}
 use Rattle.gate_schedules.specs.declared.steps.Step.{Step}
 use Rattle.gate_schedules.specs.Answers.{progress_of, phase_step}
-use Rattle.gate_steps.specs.Seating.{SeatItems, items_after, IsMove}
-use Rattle.gate_steps.specs.call_events.TaskStates.{TaskState}
+use Rattle.gate_steps.specs.Seating.{SeatItems, items_after, HasWitness}
+use Rattle.gate_steps.specs.call_events.SeatedTasks.{SeatedTask}
 
 -- the step of the event of a phase that found this
 abbrev pub found_step : Phase → HookAnswer → ℕ → Step
@@ -22,7 +22,7 @@ found_step phase hook found = record {
 }
 
 -- and the task after it
-abbrev pub state_after : TaskState → Phase → HookAnswer → ℕ → List (List Entry) → TaskState
+abbrev pub state_after : SeatedTask → Phase → HookAnswer → ℕ → List (List Entry) → SeatedTask
 state_after old phase hook found seen = record old {
   begins = None;
   phase = phase_after (after_of phase (found_by (next_of phase hook).1 found) hook).0;
@@ -32,15 +32,15 @@ state_after old phase hook found seen = record old {
 
 -- the step is the one that the phase has in the world of this event
 abbrev pub ToldIn : (c : Config) (begins : Option Op) (phase : Phase) (hook : HookAnswer) (found : ℕ) (items : SeatItems)
-    (seen left : List (List Entry)) → IsMove c begins phase hook items found seen left → Step → Type 0
+    (seen left : List (List Entry)) → HasWitness c begins phase hook items found seen left → Step → Type 0
 ToldIn c begins phase hook found [] seen left move step = ⊥
 ToldIn c begins phase hook found (x ∷ xs) seen left move step = step ≡ phase_step move.world hook (Some phase)
 
 -- One event of the task's own number, which found something in a world that the rule holds of, before it and after it. The step is the
 -- one that the phase has in that world.
-pub record Stepped (phase : Phase) (hook : HookAnswer) (old : TaskState) (done : Step) (left : TaskState) : Type 0 where
+pub record Stepped (phase : Phase) (hook : HookAnswer) (old : SeatedTask) (done : Step) (left : SeatedTask) : Type 0 where
   pub found : ℕ
   pub step : done ≡ found_step phase hook found
   pub new : left ≡ state_after old phase hook found left.seen
-  pub moves : IsMove old.config old.begins phase hook old.items found old.seen left.seen
+  pub moves : HasWitness old.config old.begins phase hook old.items found old.seen left.seen
   pub told : ToldIn old.config old.begins phase hook found old.items old.seen left.seen moves done

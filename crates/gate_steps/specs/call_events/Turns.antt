@@ -12,29 +12,29 @@ use Rattle.gated_tree.specs.declared.phases.TreePhase.TheVariants.{Grow as Grows
 use Rattle.mount_counts.specs.declared.phases.Change.{Change}
 use Rattle.mount_counts.specs.declared.phases.MountPhase.TheVariants.{Change as Changes}
 use Rattle.access_model.specs.Replies.{map_next}
-use Rattle.gate_schedules.specs.declared.seats.Seat.{Seat}
+use Rattle.gate_schedules.specs.declared.task_states.TaskState.{TaskState}
 use Rattle.gate_world.specs.declared.accesses.Accesses.{Accesses}
 use Rattle.gate_schedules.specs.declared.steps.Step.{Step}
 use Rattle.gate_schedules.specs.Answers.{progress_of}
 use Rattle.gate_steps.specs.Seating.{SeatItems}
-use Rattle.gate_steps.specs.call_events.Ties.{Ties}
-use Rattle.compounds.specs.declared.write_access.phases.WritePhase.{WritePhase}
+use Rattle.gate_steps.specs.call_events.GhostAgrees.{GhostAgrees}
+use Rattle.composite_ops.specs.declared.write_access.phases.WritePhase.{WritePhase}
 
 -- what is kept of a task whose operation stands there
-abbrev pub kept_at : Option Phase → Accesses → Seat
+abbrev pub kept_at : Option Phase → Accesses → TaskState
 kept_at phase accesses = record { phase = phase; accesses = accesses }
 
 -- some task's fields are what its seat at the table knows, and its operation stands there
-pub record IsTied (c : Config) (begins : Option Op) (phase : Option Phase) (accesses : Accesses) (items : SeatItems) : Type 0 where
+pub record StateAgrees (c : Config) (begins : Option Op) (phase : Option Phase) (accesses : Accesses) (items : SeatItems) : Type 0 where
   pub number : ℕ
   pub flags : List Bool
-  pub ties : Ties number c begins (kept_at phase accesses) flags items
+  pub ties : GhostAgrees number c begins (kept_at phase accesses) flags items
 
 -- the fields of a task that were what its seat knew are so again
 abbrev pub StayTied : Config → Option Op → Option Phase → Accesses → SeatItems → Option Phase → Accesses → SeatItems → Type 0
 StayTied c begins phase accesses items left accesses_left items_left =
-    (number : ℕ) (flags : List Bool) → Ties number c begins (kept_at phase accesses) flags items →
-    Ties number c None (kept_at left accesses_left) flags items_left
+    (number : ℕ) (flags : List Bool) → GhostAgrees number c begins (kept_at phase accesses) flags items →
+    GhostAgrees number c None (kept_at left accesses_left) flags items_left
 
 -- the step that an event was
 abbrev pub step_was : Event → Option Action → Next Phase → Step

@@ -10,10 +10,10 @@ use Rattle.gate_world.specs.declared.operations.Op.{Op}
 use Rattle.gate_world.specs.declared.views.Traced.{Traced}
 use Rattle.gate_world.specs.declared.views.View.{View}
 use Rattle.gate_world.specs.declared.work.Phase.{Phase}
-use Rattle.gate_world.specs.Courses.{course_of}
+use Rattle.gate_world.specs.traces.TraceStates.{state_of_trace}
 pub use Rattle.gate_world.specs.Counted.{counted}
 use Rattle.gate_steps.specs.call_events.Runs.{Called, Goes}
-use Rattle.gate_steps.specs.call_events.TaskStates.{TaskState, own_number, own_view}
+use Rattle.gate_steps.specs.call_events.SeatedTasks.{SeatedTask, own_number, own_view}
 
 -- 1 where an event came to a wait
 abbrev pub is_wait : Next Phase → ℕ
@@ -23,7 +23,7 @@ is_wait next = 0
 -- how many events of a trace did
 abbrev pub waits_in : Config → ℕ → Op → List Traced → ℕ
 waits_in c t op [] = 0
-waits_in c t op (e ∷ earlier) = waits_in c t op earlier + is_wait (course_of c t op (e ∷ earlier)).comes
+waits_in c t op (e ∷ earlier) = waits_in c t op earlier + is_wait (state_of_trace c t op (e ∷ earlier)).comes
 
 -- how many of the last operation of a number with this view did
 abbrev pub waits_by : Config → ℕ → Option Op → List Traced → ℕ
@@ -38,21 +38,21 @@ abbrev pub waited_of : Config → SeatItems → ℕ
 waited_of c items = counted (waits_of c (own_number items) (own_view items))
 
 -- the same of a task that stands so
-abbrev pub waited_at : TaskState → ℕ
+abbrev pub waited_at : SeatedTask → ℕ
 waited_at s = waited_of s.config s.items
 
 -- an operation under way, of whose events so many came to a wait
-abbrev pub GoesWaiting : ℕ → Op → TaskState → TaskState → Type 0
+abbrev pub GoesWaiting : ℕ → Op → SeatedTask → SeatedTask → Type 0
 GoesWaiting waits op start now =
     (goes : Goes op start now) × (waits_in start.config (own_number start.items) op goes.trace ≡ waits)
 
 -- one that was done whole
-abbrev pub CalledWaiting : ℕ → Op → TaskState → TaskState → Result Reply GateError → Type 0
+abbrev pub CalledWaiting : ℕ → Op → SeatedTask → SeatedTask → Result Reply GateError → Type 0
 CalledWaiting waits op start left answer =
     (called : Called op start left answer) × (waits_in start.config (own_number start.items) op called.trace ≡ waits)
 
 -- the same by what comes after the last event, before which so many came to one
-abbrev pub WentWaiting : ℕ → Op → TaskState → Next Phase → TaskState → Type 0
+abbrev pub WentWaiting : ℕ → Op → SeatedTask → Next Phase → SeatedTask → Type 0
 WentWaiting waits op start (Go phase) now = GoesWaiting waits op start now
 WentWaiting waits op start (Wait phase) now = GoesWaiting (waits + 1) op start now
 WentWaiting waits op start (Done answer) now = CalledWaiting waits op start now answer

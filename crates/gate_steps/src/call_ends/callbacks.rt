@@ -6,9 +6,9 @@ ghost use Rattle.percpu_rwsem.specs.declared.callbacks.CallbackStep.TheVariants.
 ghost use Rattle.percpu_rwsem.specs.declared.transitions.Transition.TheVariants.{Loads};
 ghost use Rattle.gate_steps.specs.call_events.CallingBack.{called_or, calling_at, of_callback, sections_ended};
 ghost use Rattle.gate_steps.specs.call_events.Led.{Led};
-ghost use Rattle.gate_steps.specs.call_events.Turns.{IsTied};
+ghost use Rattle.gate_steps.specs.call_events.Turns.{StateAgrees};
 
-use crate::call_events::{GateWords, Seat, find, find_first};
+use crate::call_events::{GateWords, GhostSeat, find, find_first};
 use access_model::{Next, Reply};
 use cpu_words::{Touch, WordName};
 use gate_world::{Accesses, Op};
@@ -19,14 +19,14 @@ use percpu_rwsem::{Callback, CallbackStep, Grace, GraceNext, SyncWord, Transitio
 #[inline(never)]
 fn await_sections(
     gates: &GateWords,
-    seat: &mut Seat,
+    seat: &mut GhostSeat,
     accesses: &Accesses,
     level: u8,
     tasks: u8,
     mut grace: Grace,
 ) -> Option<Grace>
     requires table { seat.old.table_id ≡ gates.now.table.shared.table_id }
-    requires tied { IsTied gates.now.config None (Some (calling_at level tasks (AwaitsSections grace))) accesses.now seat.old.me.0.items }
+    requires tied { StateAgrees gates.now.config None (Some (calling_at level tasks (AwaitsSections grace))) accesses.now seat.old.me.0.items }
     ensures slots { seat.new.me.1 ≡ seat.old.me.1 }
     ensures led { Led gates.now.config None accesses.now (Go (calling_at level tasks (AwaitsSections grace))) seat.old.table_id seat.old.me.0
         (sections_ended level tasks result) seat.new.table_id seat.new.me.0 }
@@ -49,14 +49,14 @@ fn await_sections(
 #[inline(always)]
 fn call_back(
     gates: &GateWords,
-    seat: &mut Seat,
+    seat: &mut GhostSeat,
     accesses: &Accesses,
     level: u8,
     tasks: u8,
     rest: &mut Next<Callback>,
 ) -> bool
     requires table { seat.old.table_id ≡ gates.now.table.shared.table_id }
-    requires tied { IsTied gates.now.config None (Some (calling_at level tasks (CallsBack Loads))) accesses.now seat.old.me.0.items }
+    requires tied { StateAgrees gates.now.config None (Some (calling_at level tasks (CallsBack Loads))) accesses.now seat.old.me.0.items }
     ensures slots { seat.new.me.1 ≡ seat.old.me.1 }
     ensures led { Led gates.now.config None accesses.now (Go (calling_at level tasks (CallsBack Loads))) seat.old.table_id seat.old.me.0
         (called_or result rest.new) seat.new.table_id seat.new.me.0 }
@@ -89,7 +89,7 @@ fn call_back(
 #[inline(never)]
 pub(crate) fn run_callback(
     gates: &GateWords,
-    seat: &mut Seat,
+    seat: &mut GhostSeat,
     accesses: &Accesses,
     level: u8,
     tasks: u8,
@@ -97,7 +97,7 @@ pub(crate) fn run_callback(
     rest: &mut Next<Callback>,
 ) -> bool
     requires table { seat.old.table_id ≡ gates.now.table.shared.table_id }
-    requires tied { IsTied gates.now.config None (Some (calling_at level tasks (AwaitsSections grace))) accesses.now seat.old.me.0.items }
+    requires tied { StateAgrees gates.now.config None (Some (calling_at level tasks (AwaitsSections grace))) accesses.now seat.old.me.0.items }
     ensures slots { seat.new.me.1 ≡ seat.old.me.1 }
     ensures led { Led gates.now.config None accesses.now (Go (calling_at level tasks (AwaitsSections grace))) seat.old.table_id seat.old.me.0
         (called_or result rest.new) seat.new.table_id seat.new.me.0 }
@@ -114,14 +114,14 @@ pub(crate) fn run_callback(
 #[inline(never)]
 pub(crate) fn callback_first(
     gates: &GateWords,
-    seat: &mut Seat,
+    seat: &mut GhostSeat,
     accesses: &Accesses,
     op: Op,
     level: u8,
     tasks: u8,
 ) -> Next<Callback>
     requires table { seat.old.table_id ≡ gates.now.table.shared.table_id }
-    requires tied { IsTied gates.now.config (Some op) (Some (calling_at level tasks (Claims Loads))) accesses.now seat.old.me.0.items }
+    requires tied { StateAgrees gates.now.config (Some op) (Some (calling_at level tasks (Claims Loads))) accesses.now seat.old.me.0.items }
     ensures slots { seat.new.me.1 ≡ seat.old.me.1 }
     ensures led { Led gates.now.config (Some op) accesses.now (Go (calling_at level tasks (Claims Loads))) seat.old.table_id seat.old.me.0
         (of_callback result) seat.new.table_id seat.new.me.0 }

@@ -8,9 +8,9 @@ ghost use Rattle.percpu_rwsem.specs.declared.transitions.Transition.TheVariants.
 ghost use Rattle.percpu_rwsem.specs.Writers.{entered_from};
 ghost use Rattle.gate_steps.specs.call_events.Closings.{awaited, closed_or, closing_at, standing, summed};
 ghost use Rattle.gate_steps.specs.call_events.Led.{Led};
-ghost use Rattle.gate_steps.specs.call_events.Turns.{IsTied};
+ghost use Rattle.gate_steps.specs.call_events.Turns.{StateAgrees};
 
-use crate::call_events::{GateWords, Seat, find};
+use crate::call_events::{GateWords, GhostSeat, find};
 use access_model::Next;
 use cpu_words::{Sum, Taken, Touch, WordName};
 use freeze_levels::{Freeze, FreezeStep};
@@ -34,13 +34,13 @@ fn entered(state: GpState, tasks: u8) -> DownWriteStep
 #[inline(always)]
 fn enter(
     gates: &GateWords,
-    seat: &mut Seat,
+    seat: &mut GhostSeat,
     accesses: &Accesses,
     freeze: Freeze,
     level: u8,
 ) -> DownWriteStep
     requires table { seat.old.table_id ≡ gates.now.table.shared.table_id }
-    requires tied { IsTied gates.now.config None (Some (closing_at freeze level (Enters Loads))) accesses.now seat.old.me.0.items }
+    requires tied { StateAgrees gates.now.config None (Some (closing_at freeze level (Enters Loads))) accesses.now seat.old.me.0.items }
     ensures slots { seat.new.me.1 ≡ seat.old.me.1 }
     ensures led { Led gates.now.config None accesses.now (Go (closing_at freeze level (Enters Loads))) seat.old.table_id seat.old.me.0
         (Go (closing_at freeze level result)) seat.new.table_id seat.new.me.0 }
@@ -80,14 +80,14 @@ fn enter(
 #[inline(never)]
 fn await_sections(
     gates: &GateWords,
-    seat: &mut Seat,
+    seat: &mut GhostSeat,
     accesses: &Accesses,
     freeze: Freeze,
     level: u8,
     mut grace: Grace,
 ) -> Option<Grace>
     requires table { seat.old.table_id ≡ gates.now.table.shared.table_id }
-    requires tied { IsTied gates.now.config None (Some (closing_at freeze level (AwaitsSections grace))) accesses.now seat.old.me.0.items }
+    requires tied { StateAgrees gates.now.config None (Some (closing_at freeze level (AwaitsSections grace))) accesses.now seat.old.me.0.items }
     ensures slots { seat.new.me.1 ≡ seat.old.me.1 }
     ensures led { Led gates.now.config None accesses.now (Go (closing_at freeze level (AwaitsSections grace))) seat.old.table_id seat.old.me.0
         (awaited freeze level result) seat.new.table_id seat.new.me.0 }
@@ -123,13 +123,13 @@ fn await_sections(
 #[inline(always)]
 fn call_back(
     gates: &GateWords,
-    seat: &mut Seat,
+    seat: &mut GhostSeat,
     accesses: &Accesses,
     freeze: Freeze,
     level: u8,
 ) -> DownWriteStep
     requires table { seat.old.table_id ≡ gates.now.table.shared.table_id }
-    requires tied { IsTied gates.now.config None (Some (closing_at freeze level (CallsBack Loads))) accesses.now seat.old.me.0.items }
+    requires tied { StateAgrees gates.now.config None (Some (closing_at freeze level (CallsBack Loads))) accesses.now seat.old.me.0.items }
     ensures slots { seat.new.me.1 ≡ seat.old.me.1 }
     ensures led { Led gates.now.config None accesses.now (Go (closing_at freeze level (CallsBack Loads))) seat.old.table_id seat.old.me.0
         (Go (closing_at freeze level result)) seat.new.table_id seat.new.me.0 }
@@ -168,14 +168,14 @@ fn call_back(
 #[inline(never)]
 fn sum_counts(
     gates: &GateWords,
-    seat: &mut Seat,
+    seat: &mut GhostSeat,
     accesses: &Accesses,
     freeze: Freeze,
     level: u8,
     mut sum: Sum,
 ) -> bool
     requires table { seat.old.table_id ≡ gates.now.table.shared.table_id }
-    requires tied { IsTied gates.now.config None (Some (closing_at freeze level (Sums sum))) accesses.now seat.old.me.0.items }
+    requires tied { StateAgrees gates.now.config None (Some (closing_at freeze level (Sums sum))) accesses.now seat.old.me.0.items }
     ensures slots { seat.new.me.1 ≡ seat.old.me.1 }
     ensures led { Led gates.now.config None accesses.now (Go (closing_at freeze level (Sums sum))) seat.old.table_id seat.old.me.0
         (summed freeze level result) seat.new.table_id seat.new.me.0 }
@@ -204,7 +204,7 @@ fn sum_counts(
 #[inline(always)]
 fn sum(
     gates: &GateWords,
-    seat: &mut Seat,
+    seat: &mut GhostSeat,
     accesses: &Accesses,
     freeze: Freeze,
     level: u8,
@@ -212,7 +212,7 @@ fn sum(
     rest: &mut Next<Freeze>,
 ) -> bool
     requires table { seat.old.table_id ≡ gates.now.table.shared.table_id }
-    requires tied { IsTied gates.now.config None (Some (closing_at freeze level (Sums so_far))) accesses.now seat.old.me.0.items }
+    requires tied { StateAgrees gates.now.config None (Some (closing_at freeze level (Sums so_far))) accesses.now seat.old.me.0.items }
     ensures slots { seat.new.me.1 ≡ seat.old.me.1 }
     ensures led { Led gates.now.config None accesses.now (Go (closing_at freeze level (Sums so_far))) seat.old.table_id seat.old.me.0
         (closed_or freeze level result rest.new) seat.new.table_id seat.new.me.0 }
@@ -236,14 +236,14 @@ fn sum(
 #[inline(always)]
 fn block(
     gates: &GateWords,
-    seat: &mut Seat,
+    seat: &mut GhostSeat,
     accesses: &Accesses,
     freeze: Freeze,
     level: u8,
     rest: &mut Next<Freeze>,
 ) -> bool
     requires table { seat.old.table_id ≡ gates.now.table.shared.table_id }
-    requires tied { IsTied gates.now.config None (Some (closing_at freeze level SetsBlock)) accesses.now seat.old.me.0.items }
+    requires tied { StateAgrees gates.now.config None (Some (closing_at freeze level SetsBlock)) accesses.now seat.old.me.0.items }
     ensures slots { seat.new.me.1 ≡ seat.old.me.1 }
     ensures led { Led gates.now.config None accesses.now (Go (closing_at freeze level SetsBlock)) seat.old.table_id seat.old.me.0
         (closed_or freeze level result rest.new) seat.new.table_id seat.new.me.0 }
@@ -270,7 +270,7 @@ fn block(
 #[inline(always)]
 fn pass(
     gates: &GateWords,
-    seat: &mut Seat,
+    seat: &mut GhostSeat,
     accesses: &Accesses,
     freeze: Freeze,
     level: u8,
@@ -278,7 +278,7 @@ fn pass(
     rest: &mut Next<Freeze>,
 ) -> bool
     requires table { seat.old.table_id ≡ gates.now.table.shared.table_id }
-    requires tied { IsTied gates.now.config None (Some (closing_at freeze level (AwaitsSections grace))) accesses.now seat.old.me.0.items }
+    requires tied { StateAgrees gates.now.config None (Some (closing_at freeze level (AwaitsSections grace))) accesses.now seat.old.me.0.items }
     ensures slots { seat.new.me.1 ≡ seat.old.me.1 }
     ensures led { Led gates.now.config None accesses.now (Go (closing_at freeze level (AwaitsSections grace))) seat.old.table_id seat.old.me.0
         (closed_or freeze level result rest.new) seat.new.table_id seat.new.me.0 }
@@ -318,14 +318,14 @@ fn pass(
 #[inline(never)]
 pub(crate) fn close_level(
     gates: &GateWords,
-    seat: &mut Seat,
+    seat: &mut GhostSeat,
     accesses: &Accesses,
     freeze: Freeze,
     level: u8,
     rest: &mut Next<Freeze>,
 ) -> bool
     requires table { seat.old.table_id ≡ gates.now.table.shared.table_id }
-    requires tied { IsTied gates.now.config None (Some (standing freeze (freeze_closes freeze level))) accesses.now seat.old.me.0.items }
+    requires tied { StateAgrees gates.now.config None (Some (standing freeze (freeze_closes freeze level))) accesses.now seat.old.me.0.items }
     ensures slots { seat.new.me.1 ≡ seat.old.me.1 }
     ensures led { Led gates.now.config None accesses.now (Go (standing freeze (freeze_closes freeze level))) seat.old.table_id seat.old.me.0
         (closed_or freeze level result rest.new) seat.new.table_id seat.new.me.0 }
@@ -353,7 +353,7 @@ pub(crate) fn close_level(
 #[inline(never)]
 pub(crate) fn go_on_closing(
     gates: &GateWords,
-    seat: &mut Seat,
+    seat: &mut GhostSeat,
     accesses: &Accesses,
     freeze: Freeze,
     level: u8,
@@ -361,7 +361,7 @@ pub(crate) fn go_on_closing(
     rest: &mut Next<Freeze>,
 ) -> bool
     requires table { seat.old.table_id ≡ gates.now.table.shared.table_id }
-    requires tied { IsTied gates.now.config None (Some (closing_at freeze level step)) accesses.now seat.old.me.0.items }
+    requires tied { StateAgrees gates.now.config None (Some (closing_at freeze level step)) accesses.now seat.old.me.0.items }
     ensures slots { seat.new.me.1 ≡ seat.old.me.1 }
     ensures led { Led gates.now.config None accesses.now (Go (closing_at freeze level step)) seat.old.table_id seat.old.me.0
         (closed_or freeze level result rest.new) seat.new.table_id seat.new.me.0 }

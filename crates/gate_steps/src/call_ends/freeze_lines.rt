@@ -18,10 +18,10 @@ ghost use Rattle.freeze_levels.specs.declared.freezes.FreezeStep.TheVariants.{
 };
 ghost use Rattle.gate_steps.specs.call_events.Closings.{of_freeze, standing};
 ghost use Rattle.gate_steps.specs.call_events.Led.{Led, LedAsking};
-ghost use Rattle.gate_steps.specs.call_events.Turns.{IsTied};
+ghost use Rattle.gate_steps.specs.call_events.Turns.{StateAgrees};
 
 use crate::call_ends::closings::{close_level, go_on_closing};
-use crate::call_events::{GateWords, Seat, TimedHooks, find, find_asking, find_first};
+use crate::call_events::{GateWords, GhostSeat, TimedHooks, find, find_asking, find_first};
 use access_model::{Holders, Next, Reply};
 use cpu_words::{Touch, WordName};
 use freeze_levels::holders::pack;
@@ -46,14 +46,14 @@ fn leave(freeze: Freeze, step: FreezeStep, found: u64) -> Next<Freeze>
 #[inline(never)]
 pub(crate) fn freeze_first<H: TimedHooks>(
     gates: &GateWords,
-    seat: &mut Seat,
+    seat: &mut GhostSeat,
     accesses: &Accesses,
     op: Op,
     freeze: Freeze,
     hooks: &mut H,
 ) -> Next<Freeze>
     requires table { seat.old.table_id ≡ gates.now.table.shared.table_id }
-    requires tied { IsTied gates.now.config (Some op) (Some (standing freeze Locks)) accesses.now seat.old.me.0.items }
+    requires tied { StateAgrees gates.now.config (Some op) (Some (standing freeze Locks)) accesses.now seat.old.me.0.items }
     ensures slots { seat.new.me.1 ≡ seat.old.me.1 }
     ensures led { LedAsking H.answers gates.now.config (Some op) accesses.now (Go (standing freeze Locks)) seat.old.table_id seat.old.me.0
         hooks.old (of_freeze result) seat.new.table_id seat.new.me.0 hooks.new }
@@ -82,13 +82,13 @@ pub(crate) fn freeze_first<H: TimedHooks>(
 #[inline(always)]
 pub(crate) fn freeze_locked<H: TimedHooks>(
     gates: &GateWords,
-    seat: &mut Seat,
+    seat: &mut GhostSeat,
     accesses: &Accesses,
     freeze: Freeze,
     hooks: &mut H,
 ) -> Next<Freeze>
     requires table { seat.old.table_id ≡ gates.now.table.shared.table_id }
-    requires tied { IsTied gates.now.config None (Some (standing freeze LoadsStage)) accesses.now seat.old.me.0.items }
+    requires tied { StateAgrees gates.now.config None (Some (standing freeze LoadsStage)) accesses.now seat.old.me.0.items }
     ensures slots { seat.new.me.1 ≡ seat.old.me.1 }
     ensures led { LedAsking H.answers gates.now.config None accesses.now (Go (standing freeze LoadsStage)) seat.old.table_id seat.old.me.0
         hooks.old (of_freeze result) seat.new.table_id seat.new.me.0 hooks.new }
@@ -116,13 +116,13 @@ pub(crate) fn freeze_locked<H: TimedHooks>(
 #[inline(always)]
 fn close_first<H: TimedHooks>(
     gates: &GateWords,
-    seat: &mut Seat,
+    seat: &mut GhostSeat,
     accesses: &Accesses,
     freeze: Freeze,
     hooks: &mut H,
 ) -> Next<Freeze>
     requires table { seat.old.table_id ≡ gates.now.table.shared.table_id }
-    requires tied { IsTied gates.now.config None (Some (standing freeze SetsWrite)) accesses.now seat.old.me.0.items }
+    requires tied { StateAgrees gates.now.config None (Some (standing freeze SetsWrite)) accesses.now seat.old.me.0.items }
     ensures slots { seat.new.me.1 ≡ seat.old.me.1 }
     ensures led { LedAsking H.answers gates.now.config None accesses.now (Go (standing freeze SetsWrite)) seat.old.table_id seat.old.me.0
         hooks.old (of_freeze result) seat.new.table_id seat.new.me.0 hooks.new }
@@ -150,13 +150,13 @@ fn close_first<H: TimedHooks>(
 #[inline(always)]
 fn lock_again<H: TimedHooks>(
     gates: &GateWords,
-    seat: &mut Seat,
+    seat: &mut GhostSeat,
     accesses: &Accesses,
     freeze: Freeze,
     hooks: &mut H,
 ) -> Next<Freeze>
     requires table { seat.old.table_id ≡ gates.now.table.shared.table_id }
-    requires tied { IsTied gates.now.config None (Some (standing freeze LocksAgain)) accesses.now seat.old.me.0.items }
+    requires tied { StateAgrees gates.now.config None (Some (standing freeze LocksAgain)) accesses.now seat.old.me.0.items }
     ensures slots { seat.new.me.1 ≡ seat.old.me.1 }
     ensures led { LedAsking H.answers gates.now.config None accesses.now (Go (standing freeze LocksAgain)) seat.old.table_id seat.old.me.0
         hooks.old (of_freeze result) seat.new.table_id seat.new.me.0 hooks.new }
@@ -178,13 +178,13 @@ fn lock_again<H: TimedHooks>(
 #[inline(always)]
 pub(crate) fn close_second<H: TimedHooks>(
     gates: &GateWords,
-    seat: &mut Seat,
+    seat: &mut GhostSeat,
     accesses: &Accesses,
     freeze: Freeze,
     hooks: &mut H,
 ) -> Next<Freeze>
     requires table { seat.old.table_id ≡ gates.now.table.shared.table_id }
-    requires tied { IsTied gates.now.config None (Some (standing freeze SetsPageFault)) accesses.now seat.old.me.0.items }
+    requires tied { StateAgrees gates.now.config None (Some (standing freeze SetsPageFault)) accesses.now seat.old.me.0.items }
     ensures slots { seat.new.me.1 ≡ seat.old.me.1 }
     ensures led { LedAsking H.answers gates.now.config None accesses.now (Go (standing freeze SetsPageFault)) seat.old.table_id seat.old.me.0
         hooks.old (of_freeze result) seat.new.table_id seat.new.me.0 hooks.new }
@@ -206,13 +206,13 @@ pub(crate) fn close_second<H: TimedHooks>(
 #[inline(never)]
 fn clean(
     gates: &GateWords,
-    seat: &mut Seat,
+    seat: &mut GhostSeat,
     accesses: &Accesses,
     freeze: Freeze,
     mut clearing: ClearMarks,
 )
     requires table { seat.old.table_id ≡ gates.now.table.shared.table_id }
-    requires tied { IsTied gates.now.config None (Some (standing freeze (Cleans clearing))) accesses.now seat.old.me.0.items }
+    requires tied { StateAgrees gates.now.config None (Some (standing freeze (Cleans clearing))) accesses.now seat.old.me.0.items }
     ensures slots { seat.new.me.1 ≡ seat.old.me.1 }
     ensures led { Led gates.now.config None accesses.now (Go (standing freeze (Cleans clearing))) seat.old.table_id seat.old.me.0
         (Go (standing freeze SetsFs)) seat.new.table_id seat.new.me.0 }
@@ -234,13 +234,13 @@ fn clean(
 #[inline(always)]
 fn sync<H: TimedHooks>(
     gates: &GateWords,
-    seat: &mut Seat,
+    seat: &mut GhostSeat,
     accesses: &Accesses,
     freeze: Freeze,
     hooks: &mut H,
 ) -> Next<Freeze>
     requires table { seat.old.table_id ≡ gates.now.table.shared.table_id }
-    requires tied { IsTied gates.now.config None (Some (standing freeze (level_closed 2 freeze.nodes))) accesses.now seat.old.me.0.items }
+    requires tied { StateAgrees gates.now.config None (Some (standing freeze (level_closed 2 freeze.nodes))) accesses.now seat.old.me.0.items }
     ensures slots { seat.new.me.1 ≡ seat.old.me.1 }
     ensures led { LedAsking H.answers gates.now.config None accesses.now (Go (standing freeze (level_closed 2 freeze.nodes))) seat.old.table_id seat.old.me.0
         hooks.old (of_freeze result) seat.new.table_id seat.new.me.0 hooks.new }
@@ -254,13 +254,13 @@ fn sync<H: TimedHooks>(
 #[inline(always)]
 fn close_third<H: TimedHooks>(
     gates: &GateWords,
-    seat: &mut Seat,
+    seat: &mut GhostSeat,
     accesses: &Accesses,
     freeze: Freeze,
     hooks: &mut H,
 ) -> Next<Freeze>
     requires table { seat.old.table_id ≡ gates.now.table.shared.table_id }
-    requires tied { IsTied gates.now.config None (Some (standing freeze SetsFs)) accesses.now seat.old.me.0.items }
+    requires tied { StateAgrees gates.now.config None (Some (standing freeze SetsFs)) accesses.now seat.old.me.0.items }
     ensures slots { seat.new.me.1 ≡ seat.old.me.1 }
     ensures led { LedAsking H.answers gates.now.config None accesses.now (Go (standing freeze SetsFs)) seat.old.table_id seat.old.me.0
         hooks.old (of_freeze result) seat.new.table_id seat.new.me.0 hooks.new }
@@ -284,13 +284,13 @@ fn close_third<H: TimedHooks>(
 #[inline(always)]
 fn complete<H: TimedHooks>(
     gates: &GateWords,
-    seat: &mut Seat,
+    seat: &mut GhostSeat,
     accesses: &Accesses,
     freeze: Freeze,
     hooks: &mut H,
 ) -> Next<Freeze>
     requires table { seat.old.table_id ≡ gates.now.table.shared.table_id }
-    requires tied { IsTied gates.now.config None (Some (standing freeze SetsComplete)) accesses.now seat.old.me.0.items }
+    requires tied { StateAgrees gates.now.config None (Some (standing freeze SetsComplete)) accesses.now seat.old.me.0.items }
     ensures slots { seat.new.me.1 ≡ seat.old.me.1 }
     ensures led { LedAsking H.answers gates.now.config None accesses.now (Go (standing freeze SetsComplete)) seat.old.table_id seat.old.me.0
         hooks.old (of_freeze result) seat.new.table_id seat.new.me.0 hooks.new }
@@ -323,14 +323,14 @@ fn fail(freeze: Freeze, level: u8, code: u16) -> Next<Freeze>
 #[inline(never)]
 pub(crate) fn go_on_level<H: TimedHooks>(
     gates: &GateWords,
-    seat: &mut Seat,
+    seat: &mut GhostSeat,
     accesses: &Accesses,
     freeze: Freeze,
     write: DownWrite,
     hooks: &mut H,
 ) -> Next<Freeze>
     requires table { seat.old.table_id ≡ gates.now.table.shared.table_id }
-    requires tied { IsTied gates.now.config None (Some (standing freeze (Closes write))) accesses.now seat.old.me.0.items }
+    requires tied { StateAgrees gates.now.config None (Some (standing freeze (Closes write))) accesses.now seat.old.me.0.items }
     ensures slots { seat.new.me.1 ≡ seat.old.me.1 }
     ensures led { LedAsking H.answers gates.now.config None accesses.now (Go (standing freeze (Closes write))) seat.old.table_id seat.old.me.0
         hooks.old (of_freeze result) seat.new.table_id seat.new.me.0 hooks.new }
@@ -352,14 +352,14 @@ pub(crate) fn go_on_level<H: TimedHooks>(
 #[inline(always)]
 fn go_on_closed<H: TimedHooks>(
     gates: &GateWords,
-    seat: &mut Seat,
+    seat: &mut GhostSeat,
     accesses: &Accesses,
     freeze: Freeze,
     level: u8,
     hooks: &mut H,
 ) -> Next<Freeze>
     requires table { seat.old.table_id ≡ gates.now.table.shared.table_id }
-    requires tied { IsTied gates.now.config None (Some (standing freeze (level_closed level freeze.nodes))) accesses.now seat.old.me.0.items }
+    requires tied { StateAgrees gates.now.config None (Some (standing freeze (level_closed level freeze.nodes))) accesses.now seat.old.me.0.items }
     ensures slots { seat.new.me.1 ≡ seat.old.me.1 }
     ensures led { LedAsking H.answers gates.now.config None accesses.now (Go (standing freeze (level_closed level freeze.nodes))) seat.old.table_id seat.old.me.0
         hooks.old (of_freeze result) seat.new.table_id seat.new.me.0 hooks.new }
@@ -377,13 +377,13 @@ fn go_on_closed<H: TimedHooks>(
 #[inline(always)]
 pub(crate) fn end_freeze(
     gates: &GateWords,
-    seat: &mut Seat,
+    seat: &mut GhostSeat,
     accesses: &Accesses,
     freeze: Freeze,
     beside: Holders,
 ) -> Next<Freeze>
     requires table { seat.old.table_id ≡ gates.now.table.shared.table_id }
-    requires tied { IsTied gates.now.config None (Some (standing freeze (Holds beside))) accesses.now seat.old.me.0.items }
+    requires tied { StateAgrees gates.now.config None (Some (standing freeze (Holds beside))) accesses.now seat.old.me.0.items }
     ensures slots { seat.new.me.1 ≡ seat.old.me.1 }
     ensures led { Led gates.now.config None accesses.now (Go (standing freeze (Holds beside))) seat.old.table_id seat.old.me.0
         (of_freeze result) seat.new.table_id seat.new.me.0 }

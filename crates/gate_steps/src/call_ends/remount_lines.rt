@@ -17,9 +17,9 @@ ghost use Rattle.mount_counts.specs.declared.remounts.RemountStep.TheVariants.{
 };
 ghost use Rattle.gate_steps.specs.call_events.Remounting.{done_remount, first_count, held_or, of_remount, past_or, remounting_at, summed_or};
 ghost use Rattle.gate_steps.specs.call_events.Led.{Led, LedAsking};
-ghost use Rattle.gate_steps.specs.call_events.Turns.{IsTied};
+ghost use Rattle.gate_steps.specs.call_events.Turns.{StateAgrees};
 
-use crate::call_events::{GateWords, Seat, TimedHooks, find, find_asking, find_first};
+use crate::call_events::{GateWords, GhostSeat, TimedHooks, find, find_asking, find_first};
 use access_model::{GateError, Next, Reply};
 use bitflags::Flags;
 use cpu_words::{Sum, Taken, Touch, WordName};
@@ -45,7 +45,7 @@ fn leave(remount: Remount, step: RemountStep, found: u64) -> Next<Remount>
 #[inline(never)]
 fn sum_mount(
     gates: &GateWords,
-    seat: &mut Seat,
+    seat: &mut GhostSeat,
     accesses: &Accesses,
     remount: Remount,
     mount: u8,
@@ -53,7 +53,7 @@ fn sum_mount(
     rest: &mut Next<Remount>,
 ) -> bool
     requires table { seat.old.table_id ≡ gates.now.table.shared.table_id }
-    requires tied { IsTied gates.now.config None (Some (remounting_at remount (first_count mount held))) accesses.now seat.old.me.0.items }
+    requires tied { StateAgrees gates.now.config None (Some (remounting_at remount (first_count mount held))) accesses.now seat.old.me.0.items }
     ensures slots { seat.new.me.1 ≡ seat.old.me.1 }
     ensures led { Led gates.now.config None accesses.now (Go (remounting_at remount (first_count mount held))) seat.old.table_id seat.old.me.0
         (summed_or remount mount held result rest.new) seat.new.table_id seat.new.me.0 }
@@ -82,7 +82,7 @@ fn sum_mount(
 #[inline(always)]
 fn hold_mount(
     gates: &GateWords,
-    seat: &mut Seat,
+    seat: &mut GhostSeat,
     accesses: &Accesses,
     remount: Remount,
     mount: u8,
@@ -90,7 +90,7 @@ fn hold_mount(
     rest: &mut Next<Remount>,
 ) -> Option<MountSet>
     requires table { seat.old.table_id ≡ gates.now.table.shared.table_id }
-    requires tied { IsTied gates.now.config None (Some (remounting_at remount (LoadsFlags mount held))) accesses.now seat.old.me.0.items }
+    requires tied { StateAgrees gates.now.config None (Some (remounting_at remount (LoadsFlags mount held))) accesses.now seat.old.me.0.items }
     ensures slots { seat.new.me.1 ≡ seat.old.me.1 }
     ensures led { Led gates.now.config None accesses.now (Go (remounting_at remount (LoadsFlags mount held))) seat.old.table_id seat.old.me.0
         (past_or remount mount result rest.new) seat.new.table_id seat.new.me.0 }
@@ -117,13 +117,13 @@ fn hold_mount(
 #[inline(always)]
 fn hold_mounts(
     gates: &GateWords,
-    seat: &mut Seat,
+    seat: &mut GhostSeat,
     accesses: &Accesses,
     remount: Remount,
     rest: &mut Next<Remount>,
 ) -> Option<MountSet>
     requires table { seat.old.table_id ≡ gates.now.table.shared.table_id }
-    requires tied { IsTied gates.now.config None (Some (remounting_at remount (LoadsFlags 0 no_mounts))) accesses.now seat.old.me.0.items }
+    requires tied { StateAgrees gates.now.config None (Some (remounting_at remount (LoadsFlags 0 no_mounts))) accesses.now seat.old.me.0.items }
     ensures slots { seat.new.me.1 ≡ seat.old.me.1 }
     ensures led { Led gates.now.config None accesses.now (Go (remounting_at remount (LoadsFlags 0 no_mounts))) seat.old.table_id seat.old.me.0
         (held_or remount result rest.new) seat.new.table_id seat.new.me.0 }
@@ -146,13 +146,13 @@ fn hold_mounts(
 #[inline(always)]
 fn let_mounts_go(
     gates: &GateWords,
-    seat: &mut Seat,
+    seat: &mut GhostSeat,
     accesses: &Accesses,
     remount: Remount,
     mut held: MountSet,
 )
     requires table { seat.old.table_id ≡ gates.now.table.shared.table_id }
-    requires tied { IsTied gates.now.config None (Some (remounting_at remount (let_go held))) accesses.now seat.old.me.0.items }
+    requires tied { StateAgrees gates.now.config None (Some (remounting_at remount (let_go held))) accesses.now seat.old.me.0.items }
     ensures slots { seat.new.me.1 ≡ seat.old.me.1 }
     ensures led { Led gates.now.config None accesses.now (Go (remounting_at remount (let_go held))) seat.old.table_id seat.old.me.0
         (Go (remounting_at remount (ClearsMark 1))) seat.new.table_id seat.new.me.0 }
@@ -169,9 +169,9 @@ fn let_mounts_go(
 
 /// Clears the dirty mark of one node after the other; the root has none.
 #[inline(always)]
-fn clean(gates: &GateWords, seat: &mut Seat, accesses: &Accesses, remount: Remount)
+fn clean(gates: &GateWords, seat: &mut GhostSeat, accesses: &Accesses, remount: Remount)
     requires table { seat.old.table_id ≡ gates.now.table.shared.table_id }
-    requires tied { IsTied gates.now.config None (Some (remounting_at remount (ClearsMark 1))) accesses.now seat.old.me.0.items }
+    requires tied { StateAgrees gates.now.config None (Some (remounting_at remount (ClearsMark 1))) accesses.now seat.old.me.0.items }
     ensures slots { seat.new.me.1 ≡ seat.old.me.1 }
     ensures led { Led gates.now.config None accesses.now (Go (remounting_at remount (ClearsMark 1))) seat.old.table_id seat.old.me.0
         (Go (remounting_at remount SetsReadOnly)) seat.new.table_id seat.new.me.0 }
@@ -193,12 +193,12 @@ fn clean(gates: &GateWords, seat: &mut Seat, accesses: &Accesses, remount: Remou
 #[inline(always)]
 fn release(
     gates: &GateWords,
-    seat: &mut Seat,
+    seat: &mut GhostSeat,
     accesses: &Accesses,
     remount: Remount,
 ) -> Next<Remount>
     requires table { seat.old.table_id ≡ gates.now.table.shared.table_id }
-    requires tied { IsTied gates.now.config None (Some (remounting_at remount done_remount)) accesses.now seat.old.me.0.items }
+    requires tied { StateAgrees gates.now.config None (Some (remounting_at remount done_remount)) accesses.now seat.old.me.0.items }
     ensures slots { seat.new.me.1 ≡ seat.old.me.1 }
     ensures led { Led gates.now.config None accesses.now (Go (remounting_at remount done_remount)) seat.old.table_id seat.old.me.0
         (of_remount result) seat.new.table_id seat.new.me.0 }
@@ -214,13 +214,13 @@ fn release(
 #[inline(always)]
 fn end_read_only<H: TimedHooks>(
     gates: &GateWords,
-    seat: &mut Seat,
+    seat: &mut GhostSeat,
     accesses: &Accesses,
     remount: Remount,
     hooks: &mut H,
 ) -> Next<Remount>
     requires table { seat.old.table_id ≡ gates.now.table.shared.table_id }
-    requires tied { IsTied gates.now.config None (Some (remounting_at remount SetsReadOnly)) accesses.now seat.old.me.0.items }
+    requires tied { StateAgrees gates.now.config None (Some (remounting_at remount SetsReadOnly)) accesses.now seat.old.me.0.items }
     ensures slots { seat.new.me.1 ≡ seat.old.me.1 }
     ensures led { LedAsking H.answers gates.now.config None accesses.now (Go (remounting_at remount SetsReadOnly)) seat.old.table_id seat.old.me.0
         hooks.old (of_remount result) seat.new.table_id seat.new.me.0 hooks.new }
@@ -245,14 +245,14 @@ fn end_read_only<H: TimedHooks>(
 #[inline(always)]
 fn bar_writers<H: TimedHooks>(
     gates: &GateWords,
-    seat: &mut Seat,
+    seat: &mut GhostSeat,
     accesses: &Accesses,
     remount: Remount,
     held: MountSet,
     hooks: &mut H,
 ) -> Next<Remount>
     requires table { seat.old.table_id ≡ gates.now.table.shared.table_id }
-    requires tied { IsTied gates.now.config None (Some (remounting_at remount (LoadsRemovedAgain held))) accesses.now seat.old.me.0.items }
+    requires tied { StateAgrees gates.now.config None (Some (remounting_at remount (LoadsRemovedAgain held))) accesses.now seat.old.me.0.items }
     ensures slots { seat.new.me.1 ≡ seat.old.me.1 }
     ensures led { LedAsking H.answers gates.now.config None accesses.now (Go (remounting_at remount (LoadsRemovedAgain held))) seat.old.table_id seat.old.me.0
         hooks.old (of_remount result) seat.new.table_id seat.new.me.0 hooks.new }
@@ -276,13 +276,13 @@ fn bar_writers<H: TimedHooks>(
 #[inline(always)]
 fn make_read_only<H: TimedHooks>(
     gates: &GateWords,
-    seat: &mut Seat,
+    seat: &mut GhostSeat,
     accesses: &Accesses,
     remount: Remount,
     hooks: &mut H,
 ) -> Next<Remount>
     requires table { seat.old.table_id ≡ gates.now.table.shared.table_id }
-    requires tied { IsTied gates.now.config None (Some (remounting_at remount LoadsRemoved)) accesses.now seat.old.me.0.items }
+    requires tied { StateAgrees gates.now.config None (Some (remounting_at remount LoadsRemoved)) accesses.now seat.old.me.0.items }
     ensures slots { seat.new.me.1 ≡ seat.old.me.1 }
     ensures led { LedAsking H.answers gates.now.config None accesses.now (Go (remounting_at remount LoadsRemoved)) seat.old.table_id seat.old.me.0
         hooks.old (of_remount result) seat.new.table_id seat.new.me.0 hooks.new }
@@ -304,13 +304,13 @@ fn make_read_only<H: TimedHooks>(
 #[inline(always)]
 fn make_writable<H: TimedHooks>(
     gates: &GateWords,
-    seat: &mut Seat,
+    seat: &mut GhostSeat,
     accesses: &Accesses,
     remount: Remount,
     hooks: &mut H,
 ) -> Next<Remount>
     requires table { seat.old.table_id ≡ gates.now.table.shared.table_id }
-    requires tied { IsTied gates.now.config None (Some (remounting_at remount SetsWritable)) accesses.now seat.old.me.0.items }
+    requires tied { StateAgrees gates.now.config None (Some (remounting_at remount SetsWritable)) accesses.now seat.old.me.0.items }
     ensures slots { seat.new.me.1 ≡ seat.old.me.1 }
     ensures led { LedAsking H.answers gates.now.config None accesses.now (Go (remounting_at remount SetsWritable)) seat.old.table_id seat.old.me.0
         hooks.old (of_remount result) seat.new.table_id seat.new.me.0 hooks.new }
@@ -330,13 +330,13 @@ fn make_writable<H: TimedHooks>(
 #[inline(never)]
 pub(crate) fn remount_locked<H: TimedHooks>(
     gates: &GateWords,
-    seat: &mut Seat,
+    seat: &mut GhostSeat,
     accesses: &Accesses,
     remount: Remount,
     hooks: &mut H,
 ) -> Next<Remount>
     requires table { seat.old.table_id ≡ gates.now.table.shared.table_id }
-    requires tied { IsTied gates.now.config None (Some (remounting_at remount LoadsStage)) accesses.now seat.old.me.0.items }
+    requires tied { StateAgrees gates.now.config None (Some (remounting_at remount LoadsStage)) accesses.now seat.old.me.0.items }
     ensures slots { seat.new.me.1 ≡ seat.old.me.1 }
     ensures led { LedAsking H.answers gates.now.config None accesses.now (Go (remounting_at remount LoadsStage)) seat.old.table_id seat.old.me.0
         hooks.old (of_remount result) seat.new.table_id seat.new.me.0 hooks.new }
@@ -366,14 +366,14 @@ pub(crate) fn remount_locked<H: TimedHooks>(
 #[inline(always)]
 pub(crate) fn remount_first<H: TimedHooks>(
     gates: &GateWords,
-    seat: &mut Seat,
+    seat: &mut GhostSeat,
     accesses: &Accesses,
     op: Op,
     remount: Remount,
     hooks: &mut H,
 ) -> Next<Remount>
     requires table { seat.old.table_id ≡ gates.now.table.shared.table_id }
-    requires tied { IsTied gates.now.config (Some op) (Some (remounting_at remount Locks)) accesses.now seat.old.me.0.items }
+    requires tied { StateAgrees gates.now.config (Some op) (Some (remounting_at remount Locks)) accesses.now seat.old.me.0.items }
     ensures slots { seat.new.me.1 ≡ seat.old.me.1 }
     ensures led { LedAsking H.answers gates.now.config (Some op) accesses.now (Go (remounting_at remount Locks)) seat.old.table_id seat.old.me.0
         hooks.old (of_remount result) seat.new.table_id seat.new.me.0 hooks.new }

@@ -8,9 +8,9 @@ ghost use Rattle.percpu_rwsem.specs.declared.writers.UpWriteStep.TheVariants.{Cl
 ghost use Rattle.percpu_rwsem.specs.declared.transitions.Transition.TheVariants.{Loads};
 ghost use Rattle.gate_steps.specs.call_events.Reopenings.{opening_at, of_thaw, reopened, thaw_at};
 ghost use Rattle.gate_steps.specs.call_events.Led.{Led, LedAsking};
-ghost use Rattle.gate_steps.specs.call_events.Turns.{IsTied};
+ghost use Rattle.gate_steps.specs.call_events.Turns.{StateAgrees};
 
-use crate::call_events::{GateWords, Seat, TimedHooks, find, find_asking, find_first};
+use crate::call_events::{GateWords, GhostSeat, TimedHooks, find, find_asking, find_first};
 use access_model::{GateError, Next, Reply};
 use cpu_words::{Touch, WordName};
 use freeze_levels::holders::unpack;
@@ -43,9 +43,9 @@ fn exit_again(thaw: Thaw, level: u8) -> Next<Thaw>
 
 /// Leaves the level's `rcu_sync`, in two events. False where the word was none, or another task changed it in between.
 #[inline(always)]
-fn exit(gates: &GateWords, seat: &mut Seat, accesses: &Accesses, thaw: Thaw, level: u8) -> bool
+fn exit(gates: &GateWords, seat: &mut GhostSeat, accesses: &Accesses, thaw: Thaw, level: u8) -> bool
     requires table { seat.old.table_id ≡ gates.now.table.shared.table_id }
-    requires tied { IsTied gates.now.config None (Some (opening_at thaw level (Exits Loads))) accesses.now seat.old.me.0.items }
+    requires tied { StateAgrees gates.now.config None (Some (opening_at thaw level (Exits Loads))) accesses.now seat.old.me.0.items }
     ensures slots { seat.new.me.1 ≡ seat.old.me.1 }
     ensures led { Led gates.now.config None accesses.now (Go (opening_at thaw level (Exits Loads))) seat.old.table_id seat.old.me.0
         (Go (reopened thaw level result)) seat.new.table_id seat.new.me.0 }
@@ -82,9 +82,9 @@ fn exit(gates: &GateWords, seat: &mut Seat, accesses: &Accesses, thaw: Thaw, lev
 
 /// Reopens a level, in three events. False where the sync word was none, or another task changed it in between.
 #[inline(never)]
-fn reopen(gates: &GateWords, seat: &mut Seat, accesses: &Accesses, thaw: Thaw, level: u8) -> bool
+fn reopen(gates: &GateWords, seat: &mut GhostSeat, accesses: &Accesses, thaw: Thaw, level: u8) -> bool
     requires table { seat.old.table_id ≡ gates.now.table.shared.table_id }
-    requires tied { IsTied gates.now.config None (Some (opening_at thaw level ClearsBlock)) accesses.now seat.old.me.0.items }
+    requires tied { StateAgrees gates.now.config None (Some (opening_at thaw level ClearsBlock)) accesses.now seat.old.me.0.items }
     ensures slots { seat.new.me.1 ≡ seat.old.me.1 }
     ensures led { Led gates.now.config None accesses.now (Go (opening_at thaw level ClearsBlock)) seat.old.table_id seat.old.me.0
         (Go (reopened thaw level result)) seat.new.table_id seat.new.me.0 }
@@ -109,12 +109,12 @@ fn reopen(gates: &GateWords, seat: &mut Seat, accesses: &Accesses, thaw: Thaw, l
 #[inline(never)]
 pub(crate) fn reopen_all(
     gates: &GateWords,
-    seat: &mut Seat,
+    seat: &mut GhostSeat,
     accesses: &Accesses,
     thaw: Thaw,
 ) -> Next<Thaw>
     requires table { seat.old.table_id ≡ gates.now.table.shared.table_id }
-    requires tied { IsTied gates.now.config None (Some (thaw_at thaw SetsUnfrozen)) accesses.now seat.old.me.0.items }
+    requires tied { StateAgrees gates.now.config None (Some (thaw_at thaw SetsUnfrozen)) accesses.now seat.old.me.0.items }
     ensures slots { seat.new.me.1 ≡ seat.old.me.1 }
     ensures led { Led gates.now.config None accesses.now (Go (thaw_at thaw SetsUnfrozen)) seat.old.table_id seat.old.me.0
         (of_thaw result) seat.new.table_id seat.new.me.0 }
@@ -159,14 +159,14 @@ pub(crate) fn reopen_all(
 #[inline(never)]
 pub(crate) fn thaw_first<H: TimedHooks>(
     gates: &GateWords,
-    seat: &mut Seat,
+    seat: &mut GhostSeat,
     accesses: &Accesses,
     op: Op,
     thaw: Thaw,
     hooks: &mut H,
 ) -> Next<Thaw>
     requires table { seat.old.table_id ≡ gates.now.table.shared.table_id }
-    requires tied { IsTied gates.now.config (Some op) (Some (thaw_at thaw Locks)) accesses.now seat.old.me.0.items }
+    requires tied { StateAgrees gates.now.config (Some op) (Some (thaw_at thaw Locks)) accesses.now seat.old.me.0.items }
     ensures slots { seat.new.me.1 ≡ seat.old.me.1 }
     ensures led { LedAsking H.answers gates.now.config (Some op) accesses.now (Go (thaw_at thaw Locks)) seat.old.table_id seat.old.me.0
         hooks.old (of_thaw result) seat.new.table_id seat.new.me.0 hooks.new }
@@ -195,13 +195,13 @@ pub(crate) fn thaw_first<H: TimedHooks>(
 #[inline(always)]
 pub(crate) fn thaw_locked<H: TimedHooks>(
     gates: &GateWords,
-    seat: &mut Seat,
+    seat: &mut GhostSeat,
     accesses: &Accesses,
     thaw: Thaw,
     hooks: &mut H,
 ) -> Next<Thaw>
     requires table { seat.old.table_id ≡ gates.now.table.shared.table_id }
-    requires tied { IsTied gates.now.config None (Some (thaw_at thaw LoadsStage)) accesses.now seat.old.me.0.items }
+    requires tied { StateAgrees gates.now.config None (Some (thaw_at thaw LoadsStage)) accesses.now seat.old.me.0.items }
     ensures slots { seat.new.me.1 ≡ seat.old.me.1 }
     ensures led { LedAsking H.answers gates.now.config None accesses.now (Go (thaw_at thaw LoadsStage)) seat.old.table_id seat.old.me.0
         hooks.old (of_thaw result) seat.new.table_id seat.new.me.0 hooks.new }
@@ -244,13 +244,13 @@ pub(crate) fn thaw_locked<H: TimedHooks>(
 #[inline(always)]
 fn thaw_last<H: TimedHooks>(
     gates: &GateWords,
-    seat: &mut Seat,
+    seat: &mut GhostSeat,
     accesses: &Accesses,
     thaw: Thaw,
     hooks: &mut H,
 ) -> Next<Thaw>
     requires table { seat.old.table_id ≡ gates.now.table.shared.table_id }
-    requires tied { IsTied gates.now.config None (Some (thaw_at thaw LeavesLast)) accesses.now seat.old.me.0.items }
+    requires tied { StateAgrees gates.now.config None (Some (thaw_at thaw LeavesLast)) accesses.now seat.old.me.0.items }
     ensures slots { seat.new.me.1 ≡ seat.old.me.1 }
     ensures led { LedAsking H.answers gates.now.config None accesses.now (Go (thaw_at thaw LeavesLast)) seat.old.table_id seat.old.me.0
         hooks.old (of_thaw result) seat.new.table_id seat.new.me.0 hooks.new }

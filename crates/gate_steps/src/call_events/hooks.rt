@@ -1,6 +1,6 @@
 //! What a call asks of the file system, with the moment at which it asks.
 
-use crate::call_events::words::Seat;
+use crate::call_events::words::GhostSeat;
 use freeze_levels::{FsHooks, HookCall};
 
 /// The hooks of a file system that may look at the task that asks: each `FsHooks` is one, which doesn't look.
@@ -14,7 +14,7 @@ pub trait TimedHooks {
 
     /// Asks a hook, by the seat of the task that asks: Ok, or Err with the code of its failure. Nobody has the seat as it stands after an
     /// event before that event.
-    fn ask(&mut self, call: HookCall, at: &Seat) -> Result<(), u16>
+    fn ask(&mut self, call: HookCall, at: &GhostSeat) -> Result<(), u16>
         ensures { answers call at.now.me.0.items self.old result self.new };
 }
 
@@ -22,7 +22,7 @@ impl<H: FsHooks> TimedHooks for H {
     ghost answers = { λ call at old answer new. H.answers call old answer new };
 
     #[inline(always)]
-    fn ask(&mut self, call: HookCall, _at: &Seat) -> Result<(), u16> {
+    fn ask(&mut self, call: HookCall, _at: &GhostSeat) -> Result<(), u16> {
         call.ask(self)
     }
 }

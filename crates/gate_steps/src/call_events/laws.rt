@@ -5,37 +5,37 @@ ghost use Rattle.access_model.specs.declared.actions.Holder.{Holder};
 ghost use Rattle.access_model.specs.declared.replies.Reply.{Reply};
 ghost use Rattle.gate_world.specs.declared.operations.Op.TheVariants.{Freeze, RemountSb, Thaw};
 ghost use Rattle.freeze_levels.specs.declared.hooks.HookCall.TheVariants.{UnfreezeFs, Reconfigure};
-ghost use Rattle.gate_world.specs.Traces.{actions_of};
+ghost use Rattle.gate_world.specs.traces.Traces.{actions_of};
 ghost use Rattle.gate_steps.specs.call_events.Asked.{AskedByFreeze, AtMostAsked};
 ghost use Rattle.gate_steps.specs.call_events.Asking.{asks_of};
 ghost use Rattle.access_model.specs.declared.errors.GateError.{GateError};
 ghost use Rattle.gate_world.specs.declared.operations.Op.{Op};
 ghost use Rattle.gate_steps.specs.call_events.Grown.{AllGoOn};
 ghost use Rattle.gate_steps.specs.call_events.Runs.{Called};
-ghost use Rattle.gate_steps.specs.call_events.TaskStates.{TaskState};
+ghost use Rattle.gate_steps.specs.call_events.SeatedTasks.{SeatedTask};
 
 /// A freeze that was granted has asked `sync` once and then `freeze_fs` once, and both have agreed, where it has stored stage 3; else none.
 /// Does nothing: its contract is the law.
 pub fn a_granted_freeze_asks_each_hook_once()
-    ensures { (holder : Holder) (old left : TaskState) (reply : Reply) (called : Called (Freeze holder) old left (Ok reply)) →
+    ensures { (holder : Holder) (old left : SeatedTask) (reply : Reply) (called : Called (Freeze holder) old left (Ok reply)) →
         AskedByFreeze (actions_of (Freeze holder) (Ok reply) called.trace) (asks_of old.config (Freeze holder) old.items called.trace) }
 {}
 
 /// A thaw that was granted has asked `unfreeze_fs` once, which has agreed, or no hook: of a superblock that is read-only, and where another
 /// holder's freeze stands. Does nothing: its contract is the law.
 pub fn a_granted_thaw_asks_at_most_once()
-    ensures { (holder : Holder) (old left : TaskState) (reply : Reply) (called : Called (Thaw holder) old left (Ok reply)) →
+    ensures { (holder : Holder) (old left : SeatedTask) (reply : Reply) (called : Called (Thaw holder) old left (Ok reply)) →
         AtMostAsked UnfreezeFs (asks_of old.config (Thaw holder) old.items called.trace) }
 {}
 
 /// A remount that was granted has asked `reconfigure` once, for the state that it was asked for, which has agreed, or no hook: of a
 /// superblock that was so. Does nothing: its contract is the law.
 pub fn a_granted_remount_asks_for_its_state()
-    ensures { (read_only : Bool) (old left : TaskState) (reply : Reply) (called : Called (RemountSb read_only) old left (Ok reply)) →
+    ensures { (read_only : Bool) (old left : SeatedTask) (reply : Reply) (called : Called (RemountSb read_only) old left (Ok reply)) →
         AtMostAsked (Reconfigure read_only) (asks_of old.config (RemountSb read_only) old.items called.trace) }
 {}
 
 /// The schedule in which a call ends goes on from each that its task had seen before. Does nothing: its contract is the law.
 pub fn a_call_goes_on_from_what_was_seen()
-    ensures { (op : Op) (old left : TaskState) (answer : Result Reply GateError) → Called op old left answer → AllGoOn old.seen left.seen }
+    ensures { (op : Op) (old left : SeatedTask) (answer : Result Reply GateError) → Called op old left answer → AllGoOn old.seen left.seen }
 {}

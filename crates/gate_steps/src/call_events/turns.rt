@@ -9,20 +9,20 @@ ghost use Rattle.gate_world.specs.Work.{next_of, after_of};
 ghost use Rattle.gate_steps.specs.call_events.Led.{Led, LedAsking};
 ghost use Rattle.gate_world.specs.Views.{phase_after};
 ghost use Rattle.access_model.specs.Replies.{map_next};
-ghost use Rattle.gate_steps.specs.call_events.TaskStates.{task_state};
+ghost use Rattle.gate_steps.specs.call_events.SeatedTasks.{task_state};
 ghost use Rattle.gate_steps.specs.call_events.Stepped.{Stepped};
-ghost use Rattle.gate_steps.specs.call_events.Turns.{IsTied, StayTied, step_was};
+ghost use Rattle.gate_steps.specs.call_events.Turns.{StateAgrees, StayTied, step_was};
 ghost use Rattle.gate_steps.specs.call_events.Waited.{GoesWaiting, WentWaiting};
 ghost use Rattle.gate_steps.specs.call_events.Asking.{Ask, asks_with, call_at, GoesWith, WentWith};
-ghost use Rattle.gate_steps.specs.call_events.TaskStates.{TaskState};
+ghost use Rattle.gate_steps.specs.call_events.SeatedTasks.{SeatedTask};
 ghost use Rattle.gate_world.specs.declared.operations.Op.{Op as OpType};
 
 use crate::call_events::hooks::TimedHooks;
-use crate::call_events::words::{GateWords, Seat};
+use crate::call_events::words::{GateWords, GhostSeat};
 use access_model::{Action, Next};
 use cpu_words::{Event, Touch, WordName};
 use freeze_levels::HookCall;
-use gate_events::UnderWay;
+use gate_events::PendingOp;
 use gate_world::{Accesses, Op};
 
 /// An event, the action that it added, and what comes after it.
@@ -37,16 +37,16 @@ pub struct Turn<P> {
 
 /// Does the next event of an operation under way, in one atomic step by the seat, and to the accesses what its action does.
 #[inline(always)]
-pub fn do_event<P: UnderWay>(
+pub fn do_event<P: PendingOp>(
     gates: &GateWords,
-    seat: &mut Seat,
+    seat: &mut GhostSeat,
     accesses: &mut Accesses,
     begins: Option<Op>,
     under_way: P,
     hook: Result<(), u16>,
 ) -> Turn<P>
     requires table { seat.old.table_id ≡ gates.now.table.shared.table_id }
-    requires tied { IsTied gates.now.config begins (Some (P.as_phase under_way)) accesses.old seat.old.me.0.items }
+    requires tied { StateAgrees gates.now.config begins (Some (P.as_phase under_way)) accesses.old seat.old.me.0.items }
     ensures table { seat.new.table_id ≡ seat.old.table_id }
     ensures slots { seat.new.me.1 ≡ seat.old.me.1 }
     ensures tied { StayTied gates.now.config begins (Some (P.as_phase under_way)) accesses.old seat.old.me.0.items
@@ -68,26 +68,26 @@ pub fn do_event<P: UnderWay>(
 
 /// The same for a call that does one event after the other: what comes after it.
 #[inline(always)]
-pub fn go_on<P: UnderWay>(
+pub fn step_once<P: PendingOp>(
     gates: &GateWords,
-    seat: &mut Seat,
+    seat: &mut GhostSeat,
     accesses: &mut Accesses,
     begins: Option<Op>,
     under_way: P,
     hook: Result<(), u16>,
 ) -> Next<P>
     requires table { seat.old.table_id ≡ gates.now.table.shared.table_id }
-    requires tied { IsTied gates.now.config begins (Some (P.as_phase under_way)) accesses.old seat.old.me.0.items }
+    requires tied { StateAgrees gates.now.config begins (Some (P.as_phase under_way)) accesses.old seat.old.me.0.items }
     ensures table { seat.new.table_id ≡ seat.old.table_id }
     ensures slots { seat.new.me.1 ≡ seat.old.me.1 }
     ensures tied { StayTied gates.now.config begins (Some (P.as_phase under_way)) accesses.old seat.old.me.0.items
         (phase_after (map_next P.as_phase result)) accesses.new seat.new.me.0.items }
-    ensures still { IsTied gates.now.config None (phase_after (map_next P.as_phase result)) accesses.new seat.new.me.0.items }
-    ensures went { (waits : ℕ) (op : OpType) (start : TaskState) →
+    ensures still { StateAgrees gates.now.config None (phase_after (map_next P.as_phase result)) accesses.new seat.new.me.0.items }
+    ensures went { (waits : ℕ) (op : OpType) (start : SeatedTask) →
         GoesWaiting waits op start (task_state seat.old.table_id gates.now.config begins (Some (P.as_phase under_way)) seat.old.me.0) →
         WentWaiting waits op start (map_next P.as_phase result)
         (task_state seat.new.table_id gates.now.config None (phase_after (map_next P.as_phase result)) seat.new.me.0) }
-    ensures asks { (op : OpType) (start : TaskState) (asks : List Ask) (waits : ℕ) →
+    ensures asks { (op : OpType) (start : SeatedTask) (asks : List Ask) (waits : ℕ) →
         GoesWith asks waits op start (task_state seat.old.table_id gates.now.config begins (Some (P.as_phase under_way)) seat.old.me.0) →
         WentWith (asks_with (call_at (P.as_phase under_way)) seat.old.me.0.items hook asks) waits op start (map_next P.as_phase result)
         (task_state seat.new.table_id gates.now.config None (phase_after (map_next P.as_phase result)) seat.new.me.0) }
@@ -103,9 +103,9 @@ pub fn go_on<P: UnderWay>(
 /// Does the next step of an operation that goes on, which is known to touch this word so, asks no hook and adds no action on accesses. Returns
 /// what it found; of a store, what it wrote. Whoever calls it says what comes after it, so that it stands in a line of code.
 #[inline(always)]
-pub fn find<P: UnderWay>(
+pub fn find<P: PendingOp>(
     gates: &GateWords,
-    seat: &mut Seat,
+    seat: &mut GhostSeat,
     accesses: &Accesses,
     under_way: P,
     word: WordName,
@@ -115,7 +115,7 @@ pub fn find<P: UnderWay>(
     requires unasked { call_at (P.as_phase under_way) ≡ None }
     requires leaves { (found : ℕ) → accesses.now ≡ accesses_after accesses.now (after_of (P.as_phase under_way) found (Ok tt)).1 }
     requires table { seat.old.table_id ≡ gates.now.table.shared.table_id }
-    requires tied { IsTied gates.now.config None (Some (P.as_phase under_way)) accesses.now seat.old.me.0.items }
+    requires tied { StateAgrees gates.now.config None (Some (P.as_phase under_way)) accesses.now seat.old.me.0.items }
     ensures slots { seat.new.me.1 ≡ seat.old.me.1 }
     ensures led { Led gates.now.config None accesses.now (Go (P.as_phase under_way)) seat.old.table_id seat.old.me.0
         (after_of (P.as_phase under_way) result (Ok tt)).0 seat.new.table_id seat.new.me.0 }
@@ -126,9 +126,9 @@ pub fn find<P: UnderWay>(
 
 /// Does the first step of an operation that has begun, known as that of `find`. Returns what it found.
 #[inline(always)]
-pub fn find_first<P: UnderWay>(
+pub fn find_first<P: PendingOp>(
     gates: &GateWords,
-    seat: &mut Seat,
+    seat: &mut GhostSeat,
     accesses: &Accesses,
     op: Op,
     under_way: P,
@@ -139,7 +139,7 @@ pub fn find_first<P: UnderWay>(
     requires unasked { call_at (P.as_phase under_way) ≡ None }
     requires leaves { (found : ℕ) → accesses.now ≡ accesses_after accesses.now (after_of (P.as_phase under_way) found (Ok tt)).1 }
     requires table { seat.old.table_id ≡ gates.now.table.shared.table_id }
-    requires tied { IsTied gates.now.config (Some op) (Some (P.as_phase under_way)) accesses.now seat.old.me.0.items }
+    requires tied { StateAgrees gates.now.config (Some op) (Some (P.as_phase under_way)) accesses.now seat.old.me.0.items }
     ensures slots { seat.new.me.1 ≡ seat.old.me.1 }
     ensures led { Led gates.now.config (Some op) accesses.now (Go (P.as_phase under_way)) seat.old.table_id seat.old.me.0
         (after_of (P.as_phase under_way) result (Ok tt)).0 seat.new.table_id seat.new.me.0 }
@@ -151,9 +151,9 @@ pub fn find_first<P: UnderWay>(
 /// Asks the hook whose answer the next step of an operation reads, and does the step as the hook has answered: it adds no action on accesses.
 /// Returns the answer.
 #[inline(always)]
-pub fn find_asking<P: UnderWay, H: TimedHooks>(
+pub fn find_asking<P: PendingOp, H: TimedHooks>(
     gates: &GateWords,
-    seat: &mut Seat,
+    seat: &mut GhostSeat,
     accesses: &Accesses,
     under_way: P,
     hooks: &mut H,
@@ -162,7 +162,7 @@ pub fn find_asking<P: UnderWay, H: TimedHooks>(
     requires wanted { call_at (P.as_phase under_way) ≡ Some call }
     requires leaves { (found : ℕ) (hook : HookAnswer) → accesses.now ≡ accesses_after accesses.now (after_of (P.as_phase under_way) found hook).1 }
     requires table { seat.old.table_id ≡ gates.now.table.shared.table_id }
-    requires tied { IsTied gates.now.config None (Some (P.as_phase under_way)) accesses.now seat.old.me.0.items }
+    requires tied { StateAgrees gates.now.config None (Some (P.as_phase under_way)) accesses.now seat.old.me.0.items }
     ensures slots { seat.new.me.1 ≡ seat.old.me.1 }
     ensures led { (found : ℕ) × LedAsking H.answers gates.now.config None accesses.now (Go (P.as_phase under_way)) seat.old.table_id
         seat.old.me.0 hooks.old (after_of (P.as_phase under_way) found result).0 seat.new.table_id seat.new.me.0 hooks.new }

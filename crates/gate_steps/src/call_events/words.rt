@@ -8,16 +8,16 @@ ghost use Rattle.gate_world.specs.Configs.{IsWithin};
 ghost use Rattle.gate_world.specs.Work.{next_of};
 ghost use Rattle.gate_steps.specs.Rules.{first_known, table_length};
 ghost use Rattle.gate_steps.specs.Tables.{IsClosing};
-ghost use Rattle.gate_steps.specs.Seating.{Acts, IsMove, items_after, Spares, known_kept, known_given, known_both};
+ghost use Rattle.gate_steps.specs.Seating.{Acts, HasWitness, items_after, Spares, known_kept, known_given, known_both};
 
 use crate::{Closed, GateTable, Items};
 use cpu_words::{Event, Touch, WordName};
-use gate_events::UnderWay;
+use gate_events::PendingOp;
 use gate_world::{Config, Op};
 use std::alloc::{AllocError, Global};
 
 /// The seat of a task at the table.
-pub type Seat = atomic_table::Seat<(), Items>;
+pub type GhostSeat = atomic_table::Seat<(), Items>;
 
 /// All words of the gates, with the configuration that they have. Nothing outside this file reaches the table: a word is loaded or changed by
 /// `event` alone, in one atomic step that stands in its task's trace.
@@ -34,7 +34,7 @@ pub struct GateWords {
 
 impl GateWords {
     /// All words as they begin, and the seat of number 0, which has all others to give.
-    pub fn open(alloc: Global, config: Config) -> Result<(GateWords, Seat), AllocError>
+    pub fn open(alloc: Global, config: Config) -> Result<(GateWords, GhostSeat), AllocError>
         requires { IsWithin config }
         ensures config { IfOk result (λ t. t.0.config ≡ config) }
         ensures seat { IfOk result (λ t.
@@ -46,9 +46,9 @@ impl GateWords {
 
     /// The next event of the seat's own number, in one atomic step (`crate::event`).
     #[inline(always)]
-    pub(crate) fn event<P: UnderWay>(
+    pub(crate) fn event<P: PendingOp>(
         &self,
-        seat: &mut Seat,
+        seat: &mut GhostSeat,
         begins: Option<Op>,
         under_way: P,
         hook: Result<(), u16>,
@@ -59,7 +59,7 @@ impl GateWords {
         ensures table { seat.new.table_id ≡ seat.old.table_id }
         ensures is { result ≡ event_of (next_of (P.as_phase under_way) hook).0 (next_of (P.as_phase under_way) hook).1 result.found }
         ensures event { seat.new.me.0.items ≡ items_after begins (P.as_phase under_way) hook result.found seat.old.me.0.items }
-        ensures moves { IsMove self.now.table.shared.key begins (P.as_phase under_way) hook seat.old.me.0.items result.found seat.old.me.0.seen seat.new.me.0.seen }
+        ensures moves { HasWitness self.now.table.shared.key begins (P.as_phase under_way) hook seat.old.me.0.items result.found seat.old.me.0.seen seat.new.me.0.seen }
         ensures slots { seat.new.me.1 ≡ seat.old.me.1 }
     {
         crate::event(&self.table.shared, seat, begins, under_way, hook)
@@ -67,9 +67,9 @@ impl GateWords {
 
     /// The same of an event that is known to touch this word so (`crate::touch`). What it found; of a store, what it wrote.
     #[inline(always)]
-    pub(crate) fn touch<P: UnderWay>(
+    pub(crate) fn touch<P: PendingOp>(
         &self,
-        seat: &mut Seat,
+        seat: &mut GhostSeat,
         begins: Option<Op>,
         under_way: P,
         hook: Result<(), u16>,
@@ -83,7 +83,7 @@ impl GateWords {
         ensures table { seat.new.table_id ≡ seat.old.table_id }
         ensures found { found_by touch result ≡ result }
         ensures event { seat.new.me.0.items ≡ items_after begins (P.as_phase under_way) hook result seat.old.me.0.items }
-        ensures moves { IsMove self.now.table.shared.key begins (P.as_phase under_way) hook seat.old.me.0.items result seat.old.me.0.seen seat.new.me.0.seen }
+        ensures moves { HasWitness self.now.table.shared.key begins (P.as_phase under_way) hook seat.old.me.0.items result seat.old.me.0.seen seat.new.me.0.seen }
         ensures slots { seat.new.me.1 ≡ seat.old.me.1 }
     {
         crate::touch(
@@ -98,7 +98,7 @@ impl GateWords {
     }
 
     /// A new seat with one of the numbers that the seat has to give.
-    pub fn give(&self, seat: &mut Seat, number: u8) -> Seat
+    pub fn give(&self, seat: &mut GhostSeat, number: u8) -> GhostSeat
         requires table { seat.old.table_id ≡ self.now.table.shared.table_id }
         requires spare { Spares number seat.old.me.0.items }
         ensures table { (seat.new.table_id ≡ seat.old.table_id) × (result.table_id ≡ seat.old.table_id) }
@@ -109,7 +109,7 @@ impl GateWords {
     }
 
     /// All numbers of the other seat come back.
-    pub fn take_back(&self, seat: &mut Seat, other: Seat)
+    pub fn take_back(&self, seat: &mut GhostSeat, other: GhostSeat)
         requires table { (seat.old.table_id ≡ self.now.table.shared.table_id) × (other.table_id ≡ self.now.table.shared.table_id) }
         requires slots { other.me.1 ≡ [] }
         ensures table { seat.new.table_id ≡ seat.old.table_id }
@@ -119,7 +119,7 @@ impl GateWords {
     }
 
     /// The words, which no thread shares any more.
-    pub fn close(self, seat: Seat) -> Closed
+    pub fn close(self, seat: GhostSeat) -> Closed
         requires { seat.table_id ≡ self.table.shared.table_id }
         ensures counts { (slots_len result.words ≡ self.table.shared.table_id.words) × (slots_len result.slots ≡ self.table.shared.table_id.slots) }
         ensures full { IsFull result.words × IsFull result.slots }

@@ -1,10 +1,10 @@
 //! Each public call as its user makes it, by tasks of one thread.
 
 use super::SMALL;
-use super::rows::Deed::{Calls, CopiesInside, Stands, Steps, Took, WritesInside};
-use super::rows::{AT_REST, EMPTY_TREE, ROOT, Row, Stand};
-use super::scene::Manner;
-use super::teams::{Act, Case, JOINS, SPLITS};
+use super::rows::Check::{Calls, CopiesInside, Stands, Steps, Took, WritesInside};
+use super::rows::{AT_REST, EMPTY_TREE, ROOT, CheckRow, Stand};
+use super::fixtures::HookPolicy;
+use super::teams::{Script, Case, JOINS, SPLITS};
 use vfs_gates::GateError::{Invalid, Order};
 use vfs_gates::{Config, Kind, NodeInfo, Progress, Reply, WordName};
 
@@ -14,10 +14,10 @@ use vfs_gates::{Config, Kind, NodeInfo, Progress, Reply, WordName};
 pub const ACCESSES: Case = Case {
     name: "accesses",
     config: SMALL,
-    manner: Manner::Agrees,
+    manner: HookPolicy::Agrees,
     acts: &[
         SPLITS,
-        Act::First(&[
+        Script::First(&[
             ("no snapshot yet", Took(&[])),
             (
                 "0 want 0 0: done\n\
@@ -30,7 +30,7 @@ pub const ACCESSES: Case = Case {
                 Calls,
             ),
         ]),
-        Act::Second(&[(
+        Script::Second(&[(
             "1 change 0 ro: done\n\
              1 want 0 0: ReadOnly\n\
              1 trychange 0 rw: done\n\
@@ -42,7 +42,7 @@ pub const ACCESSES: Case = Case {
              1 remount rw: done\n",
             Calls,
         )]),
-        Act::First(&[(
+        Script::First(&[(
             "0 start 1 0: done\n\
              0 trystart 2 0: done\n\
              0 trystart 2 0: Order\n\
@@ -51,8 +51,8 @@ pub const ACCESSES: Case = Case {
              0 end 2 1: Order\n",
             Calls,
         )]),
-        Act::Second(&[("1 freeze: done\n", Calls)]),
-        Act::First(&[
+        Script::Second(&[("1 freeze: done\n", Calls)]),
+        Script::First(&[
             (
                 "0 trystart 1 0: Again\n\
                  0 snapshot: done\n",
@@ -87,10 +87,10 @@ const EMPTY: NodeInfo = NodeInfo {
 pub const FILES: Case = Case {
     name: "files",
     config: Config { nodes: 4, ..SMALL },
-    manner: Manner::Agrees,
+    manner: HookPolicy::Agrees,
     acts: &[
         SPLITS,
-        Act::First(&[
+        Script::First(&[
             (
                 "0 create 0 file: Order\n\
                  0 wantwrite 0 0: done\n\
@@ -139,10 +139,10 @@ pub const FILES: Case = Case {
 pub const TRIES: Case = Case {
     name: "tries",
     config: Config { mounts: 2, ..SMALL },
-    manner: Manner::Agrees,
+    manner: HookPolicy::Agrees,
     acts: &[
         SPLITS,
-        Act::First(&[(
+        Script::First(&[(
             "0 trywant 0 0: done\n\
              0 trystart 1 0: done\n\
              0 trystart 2 0: done\n\
@@ -155,7 +155,7 @@ pub const TRIES: Case = Case {
              0 trychange 0 rw: done\n",
             Calls,
         )]),
-        Act::Second(&[(
+        Script::Second(&[(
             "1 trywant 0 1: done\n\
              1 trystart 1 1: done\n\
              1 trystart 2 1: done\n\
@@ -168,25 +168,25 @@ pub const TRIES: Case = Case {
              1 trychange 0 rw: done\n",
             Calls,
         )]),
-        Act::Second(AT_SECOND_MOUNT),
-        Act::First(&[("0 freeze: done\n", Calls)]),
-        Act::Second(&[
+        Script::Second(AT_SECOND_MOUNT),
+        Script::First(&[("0 freeze: done\n", Calls)]),
+        Script::Second(&[
             ("1 trysnapshot: done\n", Calls),
             ("its tree", Took(EMPTY_TREE)),
         ]),
-        Act::First(&[
+        Script::First(&[
             ("0 trysnapshot: done\n", Calls),
             ("its tree", Took(EMPTY_TREE)),
             ("0 thaw: done\n", Calls),
         ]),
-        Act::Second(AT_SECOND_MOUNT),
+        Script::Second(AT_SECOND_MOUNT),
         JOINS,
     ],
     stays_open: &[],
     left: Some(&[]),
 };
 
-const AT_SECOND_MOUNT: &[Row] = &[(
+const AT_SECOND_MOUNT: &[CheckRow] = &[(
     "1 trywant 1 0: done\n\
      1 trystart 1 0: done\n\
      1 trystart 2 0: done\n\
@@ -205,24 +205,24 @@ const AT_SECOND_MOUNT: &[Row] = &[(
 pub const HOLDERS: Case = Case {
     name: "holders",
     config: SMALL,
-    manner: Manner::Agrees,
+    manner: HookPolicy::Agrees,
     acts: &[
         SPLITS,
-        Act::First(&[("0 freeze kernel: done\n", Calls)]),
-        Act::Second(&[(
+        Script::First(&[("0 freeze kernel: done\n", Calls)]),
+        Script::Second(&[(
             "1 thaw user: Invalid\n\
              1 freeze user: done\n",
             Calls,
         )]),
-        Act::First(&[("0 freeze user: Busy\n", Calls)]),
-        Act::Second(&[("1 thaw kernel: done\n", Calls)]),
-        Act::First(&[(
+        Script::First(&[("0 freeze user: Busy\n", Calls)]),
+        Script::Second(&[("1 thaw kernel: done\n", Calls)]),
+        Script::First(&[(
             "0 trystart 1 0: Again\n\
              0 thaw kernel: Invalid\n\
              0 thaw user: done\n",
             Calls,
         )]),
-        Act::Second(&[(
+        Script::Second(&[(
             "1 trystart 1 0: done\n\
              1 end 1 0: done\n",
             Calls,
@@ -239,10 +239,10 @@ pub const HOLDERS: Case = Case {
 pub const OPENS: Case = Case {
     name: "opens",
     config: SMALL,
-    manner: Manner::Agrees,
+    manner: HookPolicy::Agrees,
     acts: &[
         SPLITS,
-        Act::First(&[(
+        Script::First(&[(
             "0 open 1: NoEntry\n\
              0 wantwrite 0 0: done\n\
              0 create 0 file: done=1\n\
@@ -253,12 +253,12 @@ pub const OPENS: Case = Case {
              0 open 1: TooMany\n",
             Calls,
         )]),
-        Act::Second(&[(
+        Script::Second(&[(
             "1 tryclose 1 0: Order\n\
              1 open 1: done\n",
             Calls,
         )]),
-        Act::First(&[(
+        Script::First(&[(
             "0 remove 1: done\n\
              0 close 1 2: Invalid\n\
              0 close 1 1: done\n\
@@ -271,8 +271,8 @@ pub const OPENS: Case = Case {
              0 freeze: done\n",
             Calls,
         )]),
-        Act::Second(&[("1 tryclose 1 0: Again\n", Calls)]),
-        Act::First(&[
+        Script::Second(&[("1 tryclose 1 0: Again\n", Calls)]),
+        Script::First(&[
             (
                 "0 snapshot: done\n\
                  0 thaw: done\n",
@@ -290,7 +290,7 @@ pub const OPENS: Case = Case {
                 ]),
             ),
         ]),
-        Act::Second(&[(
+        Script::Second(&[(
             "1 start 3 0: done\n\
              1 close 1 0: Order\n\
              1 tryclose 1 0: Order\n\
@@ -315,10 +315,10 @@ pub const OPENS: Case = Case {
 pub const KEPT_OPEN: Case = Case {
     name: "a file kept open",
     config: SMALL,
-    manner: Manner::Agrees,
+    manner: HookPolicy::Agrees,
     acts: &[
         SPLITS,
-        Act::First(&[(
+        Script::First(&[(
             "0 wantwrite 0 0: done\n\
              0 create 0 file: done=1\n\
              0 grow 1 5: done\n\
@@ -326,14 +326,14 @@ pub const KEPT_OPEN: Case = Case {
              0 dropwrite 0 0: done\n",
             Calls,
         )]),
-        Act::Joins(Err(Order)),
+        Script::Joins(Err(Order)),
     ],
     stays_open: CLOSED_ONCE,
     left: Some(&[(WordName::Used, 5)]),
 };
 
-const CLOSED_ONCE: &[Act] = &[
-    Act::First(&[
+const CLOSED_ONCE: &[Script] = &[
+    Script::First(&[
         (
             "has it open still",
             Stands(Stand {
@@ -350,24 +350,24 @@ const CLOSED_ONCE: &[Act] = &[
 pub const OPENED_TOO: Case = Case {
     name: "a file kept open by the second task",
     config: SMALL,
-    manner: Manner::Agrees,
+    manner: HookPolicy::Agrees,
     acts: &[
         SPLITS,
-        Act::Second(&[(
+        Script::Second(&[(
             "1 wantwrite 0 0: done\n\
              1 create 0 file: done=1\n\
              1 open 1: done\n\
              1 dropwrite 0 0: done\n",
             Calls,
         )]),
-        Act::Joins(Err(Order)),
+        Script::Joins(Err(Order)),
     ],
     stays_open: CLOSED_TOO,
     left: Some(&[(WordName::Used, 0)]),
 };
 
-const CLOSED_TOO: &[Act] = &[
-    Act::Second(&[
+const CLOSED_TOO: &[Script] = &[
+    Script::Second(&[
         (
             "has it open still",
             Stands(Stand {
@@ -387,24 +387,24 @@ const CLOSED_TOO: &[Act] = &[
 pub const BY_STEPS: Case = Case {
     name: "calls by steps",
     config: SMALL,
-    manner: Manner::Agrees,
+    manner: HookPolicy::Agrees,
     acts: &[
         SPLITS,
-        Act::Second(&[
+        Script::Second(&[
             ("1 remount rw", Steps(WordName::Umount, 0, Progress::Going)),
             (
                 "finds nothing frozen",
                 Steps(WordName::Stage, 0, Progress::Going),
             ),
         ]),
-        Act::Joins(Err(Order)),
+        Script::Joins(Err(Order)),
     ],
     stays_open: TO_THE_END,
     left: Some(&[]),
 };
 
-const TO_THE_END: &[Act] = &[
-    Act::Second(&[(
+const TO_THE_END: &[Script] = &[
+    Script::Second(&[(
         "is at it still",
         Stands(Stand {
             number: 1,
@@ -412,7 +412,7 @@ const TO_THE_END: &[Act] = &[
             ..AT_REST
         }),
     )]),
-    Act::First(&[
+    Script::First(&[
         ("0 snapshot", Steps(WordName::Umount, 2, Progress::Waiting)),
         (
             "has waited",
@@ -432,14 +432,14 @@ const TO_THE_END: &[Act] = &[
             }),
         ),
     ]),
-    Act::Second(&[
+    Script::Second(&[
         ("finds it so", Steps(WordName::SbFlags, 0, Progress::Going)),
         (
             "gives umount back",
             Steps(WordName::Umount, 0, Progress::Done(Ok(Reply::Unit))),
         ),
     ]),
-    Act::First(&[
+    Script::First(&[
         ("takes umount", Steps(WordName::Umount, 0, Progress::Going)),
         (
             "finds nothing frozen",
@@ -466,10 +466,10 @@ const TO_THE_END: &[Act] = &[
 pub const CLOSURES: Case = Case {
     name: "closures",
     config: SMALL,
-    manner: Manner::Agrees,
+    manner: HookPolicy::Agrees,
     acts: &[
         SPLITS,
-        Act::First(&[
+        Script::First(&[
             ("makes a file", WritesInside),
             ("is at rest", Stands(AT_REST)),
             ("takes a snapshot", CopiesInside),

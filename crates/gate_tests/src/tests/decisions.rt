@@ -3,11 +3,11 @@
 ghost use Rattle.vfs_gates.specs.TaskStates.{IsFrom};
 
 use super::SMALL;
-use super::rows::Deed::{BacksUp, Calls, FailsAt, Shuts, ShutsAndSees, Takes, Took};
+use super::rows::Check::{BacksUp, Calls, FailsAt, Shuts, ShutsAndSees, Takes, Took};
 use super::rows::EMPTY_TREE;
-use super::scene::Manner;
-use super::teams::{Act, Case, JOINS, SPLITS};
-use super::turns::Turn;
+use super::fixtures::HookPolicy;
+use super::teams::{Script, Case, JOINS, SPLITS};
+use super::thread_runs::ThreadRun;
 use crossbeam_utils::Backoff;
 use std::sync::Wait;
 use vfs_gates::{Event, FsHooks, GateError, Gates, Holder, HookCall, Op, Progress, Task, WordName};
@@ -17,7 +17,7 @@ pub fn shut<R: Wait>(
     rt: &R,
     gates: &Gates,
     task: &mut Task,
-    hooks: &mut Turn<'_>,
+    hooks: &mut ThreadRun<'_>,
     tries: u32,
 ) -> Result<(), GateError>
     requires { IsFrom task.old gates.now }
@@ -39,7 +39,7 @@ pub fn shut_and_see<R: Wait>(
     rt: &R,
     gates: &Gates,
     task: &mut Task,
-    hooks: &mut Turn<'_>,
+    hooks: &mut ThreadRun<'_>,
 ) -> Result<Option<WordName>, GateError>
     requires { IsFrom task.old gates.now }
     ensures { IsFrom task.new gates.now }
@@ -78,7 +78,7 @@ pub fn back_up<R: Wait>(
     rt: &R,
     gates: &Gates,
     task: &mut Task,
-    hooks: &mut Turn<'_>,
+    hooks: &mut ThreadRun<'_>,
 ) -> Result<(), GateError>
     requires { IsFrom task.old gates.now }
     ensures { IsFrom task.new gates.now }
@@ -107,7 +107,7 @@ pub fn take<R: Wait>(
     rt: &R,
     gates: &Gates,
     task: &mut Task,
-    hooks: &mut Turn<'_>,
+    hooks: &mut ThreadRun<'_>,
     tries: u32,
 ) -> Result<(), GateError>
     requires { IsFrom task.old gates.now }
@@ -128,26 +128,26 @@ pub fn take<R: Wait>(
 pub const REMOUNTS: Case = Case {
     name: "a remount that is busy",
     config: SMALL,
-    manner: Manner::Agrees,
+    manner: HookPolicy::Agrees,
     acts: &[
         SPLITS,
-        Act::Second(&[("1 want 0 1: done\n", Calls)]),
-        Act::First(&[
+        Script::Second(&[("1 want 0 1: done\n", Calls)]),
+        Script::First(&[
             ("remounts beside an access", Shuts(Err(GateError::Busy))),
             (
                 "sees the access",
                 ShutsAndSees(Ok(Some(WordName::MountCount(0, 1)))),
             ),
         ]),
-        Act::Second(&[(
+        Script::Second(&[(
             "1 drop 0 0: done\n\
              1 freeze: done\n",
             Calls,
         )]),
-        Act::First(&[("sees the freeze", ShutsAndSees(Ok(Some(WordName::Stage))))]),
-        Act::Second(&[("1 thaw: done\n", Calls)]),
-        Act::First(&[("remounts", Shuts(Ok(())))]),
-        Act::Second(&[("1 trywant 0 0: ReadOnly\n", Calls)]),
+        Script::First(&[("sees the freeze", ShutsAndSees(Ok(Some(WordName::Stage))))]),
+        Script::Second(&[("1 thaw: done\n", Calls)]),
+        Script::First(&[("remounts", Shuts(Ok(())))]),
+        Script::Second(&[("1 trywant 0 0: ReadOnly\n", Calls)]),
         JOINS,
     ],
     stays_open: &[],
@@ -159,15 +159,15 @@ pub const REMOUNTS: Case = Case {
 pub const BACKUPS: Case = Case {
     name: "a backup beside another",
     config: SMALL,
-    manner: Manner::Agrees,
+    manner: HookPolicy::Agrees,
     acts: &[
         SPLITS,
-        Act::Second(&[(
+        Script::Second(&[(
             "1 freeze: done\n\
              1 thaw: done\n",
             Calls,
         )]),
-        Act::First(&[
+        Script::First(&[
             ("a file system that fails", FailsAt(HookCall::FreezeFs, 16)),
             ("backs up in vain", BacksUp(Err(GateError::Hook(16)))),
             ("no snapshot", Took(&[])),
@@ -177,13 +177,13 @@ pub const BACKUPS: Case = Case {
                 Calls,
             ),
         ]),
-        Act::Second(&[("1 freeze: done\n", Calls)]),
-        Act::First(&[
+        Script::Second(&[("1 freeze: done\n", Calls)]),
+        Script::First(&[
             ("backs up what is frozen", BacksUp(Ok(()))),
             ("its tree", Took(EMPTY_TREE)),
             ("0 trystart 1 0: Again\n", Calls),
         ]),
-        Act::Second(&[("1 thaw: done\n", Calls)]),
+        Script::Second(&[("1 thaw: done\n", Calls)]),
         JOINS,
     ],
     stays_open: &[],
@@ -194,15 +194,15 @@ pub const BACKUPS: Case = Case {
 pub const OWN: Case = Case {
     name: "a backup",
     config: SMALL,
-    manner: Manner::Agrees,
+    manner: HookPolicy::Agrees,
     acts: &[
         SPLITS,
-        Act::First(&[
+        Script::First(&[
             ("backs up", BacksUp(Ok(()))),
             ("its tree", Took(EMPTY_TREE)),
             ("0 thaw: Invalid\n", Calls),
         ]),
-        Act::Second(&[(
+        Script::Second(&[(
             "1 trystart 1 0: done\n\
              1 end 1 0: done\n",
             Calls,
@@ -217,10 +217,10 @@ pub const OWN: Case = Case {
 pub const SNAPSHOTS: Case = Case {
     name: "a snapshot of nothing frozen",
     config: SMALL,
-    manner: Manner::Agrees,
+    manner: HookPolicy::Agrees,
     acts: &[
         SPLITS,
-        Act::First(&[
+        Script::First(&[
             ("0 snapshot: Invalid\n", Calls),
             ("no snapshot", Took(&[])),
             ("takes one", Takes(Ok(()))),

@@ -2,9 +2,9 @@
 //! system agrees.
 
 use super::SMALL;
-use super::rows::Deed::{Calls, FailsAt};
-use super::scene::Manner;
-use super::teams::{Act, Case, JOINS, SPLITS};
+use super::rows::Check::{Calls, FailsAt};
+use super::fixtures::HookPolicy;
+use super::teams::{Script, Case, JOINS, SPLITS};
 use vfs_gates::HookCall;
 
 /// A try at the mount and one at each level, each with its return, where each level lets readers in, and the mount lets writers in.
@@ -44,10 +44,10 @@ const TO_WRITABLE: HookCall = HookCall::Reconfigure { read_only: false };
 pub const FAILURES: Case = Case {
     name: "hooks that fail",
     config: SMALL,
-    manner: Manner::Agrees,
+    manner: HookPolicy::Agrees,
     acts: &[
         SPLITS,
-        Act::First(&[
+        Script::First(&[
             (OPEN, Calls),
             ("its sync fails", FailsAt(HookCall::Sync, 16)),
             ("0 freeze: Hook\n", Calls),

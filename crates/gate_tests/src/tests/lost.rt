@@ -2,10 +2,10 @@
 //! number is left to split off, and the gates can't be closed, but both come back as they were.
 
 use super::SMALL;
-use super::rows::Deed::{Calls, Stands, Steps};
-use super::rows::{AT_REST, Deed};
-use super::scene::Manner;
-use super::teams::{Act, Case, SPLITS};
+use super::rows::Check::{Calls, Stands, Steps};
+use super::rows::{AT_REST, Check};
+use super::fixtures::HookPolicy;
+use super::teams::{Script, Case, SPLITS};
 use vfs_gates::GateError::TooMany;
 use vfs_gates::{Config, Progress, WordName};
 
@@ -13,13 +13,13 @@ use vfs_gates::{Config, Progress, WordName};
 pub const ACCESS: Case = Case {
     name: "an access is lost",
     config: TWO_MOUNTS,
-    manner: Manner::Agrees,
+    manner: HookPolicy::Agrees,
     acts: &[
         SPLITS,
-        Act::Second(&[("1 trywant 0 1: done\n", Calls)]),
-        Act::Loses,
+        Script::Second(&[("1 trywant 0 1: done\n", Calls)]),
+        Script::Loses,
         NONE_LEFT,
-        Act::First(&[(
+        Script::First(&[(
             "0 trychange 0 ro: Busy\n\
              0 trychange 0 ro: Busy\n\
              0 trywant 0 0: done\n\
@@ -34,19 +34,19 @@ pub const ACCESS: Case = Case {
     left: None,
 };
 
-const TAKES_UMOUNT: Deed = Steps(WordName::Umount, 0, Progress::Going);
+const TAKES_UMOUNT: Check = Steps(WordName::Umount, 0, Progress::Going);
 
 /// It owns `umount` after one event. Changes of each mount and snapshots would wait, while others may want.
 pub const OWNER: Case = Case {
     name: "the owner of umount is lost",
     config: TWO_MOUNTS,
-    manner: Manner::Agrees,
+    manner: HookPolicy::Agrees,
     acts: &[
         SPLITS,
-        Act::Second(&[("1 change 0 ro", TAKES_UMOUNT)]),
-        Act::Loses,
+        Script::Second(&[("1 change 0 ro", TAKES_UMOUNT)]),
+        Script::Loses,
         NONE_LEFT,
-        Act::First(&[(
+        Script::First(&[(
             "0 trychange 0 ro: Again\n\
              0 trychange 0 rw: Again\n\
              0 trychange 1 ro: Again\n\
@@ -65,10 +65,10 @@ pub const OWNER: Case = Case {
 pub const HOLDER: Case = Case {
     name: "a change is lost that holds writers off",
     config: TWO_MOUNTS,
-    manner: Manner::Agrees,
+    manner: HookPolicy::Agrees,
     acts: &[
         SPLITS,
-        Act::Second(&[
+        Script::Second(&[
             ("1 change 0 ro", TAKES_UMOUNT),
             (
                 "finds it writable",
@@ -83,9 +83,9 @@ pub const HOLDER: Case = Case {
                 Steps(WordName::MountFlags(0), 0, Progress::Going),
             ),
         ]),
-        Act::Loses,
+        Script::Loses,
         NONE_LEFT,
-        Act::First(&[(
+        Script::First(&[(
             "0 trywant 0 0: Again\n\
              0 drop 0 0: Order\n\
              0 trywant 1 0: done\n\
@@ -103,11 +103,11 @@ pub const HOLDER: Case = Case {
 pub const INSIDE: Case = Case {
     name: "a level is lost",
     config: TWO_MOUNTS,
-    manner: Manner::Agrees,
+    manner: HookPolicy::Agrees,
     acts: &[
         SPLITS,
-        Act::Second(&[("1 trystart 1 0: done\n", Calls)]),
-        Act::Loses,
+        Script::Second(&[("1 trystart 1 0: done\n", Calls)]),
+        Script::Loses,
         NONE_LEFT,
     ],
     stays_open: DONE,
@@ -117,29 +117,29 @@ pub const INSIDE: Case = Case {
 pub const RESTING: Case = Case {
     name: "a task at rest is lost",
     config: TWO_MOUNTS,
-    manner: Manner::Agrees,
-    acts: &[SPLITS, Act::Loses, NONE_LEFT],
+    manner: HookPolicy::Agrees,
+    acts: &[SPLITS, Script::Loses, NONE_LEFT],
     stays_open: DONE,
     left: None,
 };
 
 /// The first task is as it was, and so are the gates: a change of the first mount is refused as before, or done.
-const BUSY: &[Act] = &[Act::First(&[
+const BUSY: &[Script] = &[Script::First(&[
     ("is as it was", Stands(AT_REST)),
     ("0 trychange 0 ro: Busy\n", Calls),
 ])];
 
-const TAKEN: &[Act] = &[Act::First(&[
+const TAKEN: &[Script] = &[Script::First(&[
     ("is as it was", Stands(AT_REST)),
     ("0 trychange 0 ro: Again\n", Calls),
 ])];
 
-const DONE: &[Act] = &[Act::First(&[
+const DONE: &[Script] = &[Script::First(&[
     ("is as it was", Stands(AT_REST)),
     ("0 trychange 0 ro: done\n", Calls),
 ])];
 
 /// No number is left to split off.
-const NONE_LEFT: Act = Act::Splits(Err(TooMany));
+const NONE_LEFT: Script = Script::Splits(Err(TooMany));
 
 const TWO_MOUNTS: Config = Config { mounts: 2, ..SMALL };

@@ -4,9 +4,9 @@ ghost use Rattle.vfs_gates.specs.TaskStates.{IsFrom};
 
 use super::decisions::{back_up, shut, shut_and_see, take};
 use super::pairs::{copies_inside, writes_inside};
-use super::scene::Scene;
+use super::fixtures::Fixture;
 use super::tasks::call;
-use super::turns::Turn;
+use super::thread_runs::ThreadRun;
 use schedule_text::{Line, Request, TaskCommand, parse};
 use std::sync::Wait;
 use std::thread;
@@ -48,8 +48,8 @@ pub const ROOT: NodeInfo = NodeInfo {
 pub const EMPTY_TREE: &[Option<NodeInfo>] = &[Some(ROOT), None];
 
 /// What is done in a row, and what is seen of it.
-pub enum Deed {
-    /// Calls, of which the row has the lines: each as a schedule has it, and behind a colon and a blank how it may end (`Turn::may_end`). In it
+pub enum Check {
+    /// Calls, of which the row has the lines: each as a schedule has it, and behind a colon and a blank how it may end (`ThreadRun::may_end`). In it
     /// node 100 stands for the file that the task made last, and node 200 for another one in each round.
     Calls,
     /// The operation of the line begins, if there is one. Then a step, in which a hook that nobody asks fails: it finds this in a word, and so
@@ -76,7 +76,7 @@ pub enum Deed {
 pub const MOST: u32 = 1_000_000;
 
 /// Lines or a name, and what is done.
-pub type Row = (&'static str, Deed);
+pub type CheckRow = (&'static str, Check);
 
 /// The operation of a line of a schedule of five tasks, and whose it is.
 pub fn call_of(line: &str) -> Option<(u8, Op)> {
@@ -98,7 +98,7 @@ fn make_calls<R: Wait>(
     task: &mut Task,
     rt: &R,
     gates: &Gates,
-    turn: &mut Turn<'_>,
+    turn: &mut ThreadRun<'_>,
     lines: &'static str,
 )
     requires { IsFrom task.old gates.now }
@@ -168,30 +168,30 @@ pub fn go_through<R: Wait>(
     task: &mut Task,
     rt: &R,
     gates: &Gates,
-    turn: &mut Turn<'_>,
-    rows: &[Row],
+    turn: &mut ThreadRun<'_>,
+    rows: &[CheckRow],
 )
     requires { IsFrom task.old gates.now }
     ensures { IsFrom task.new gates.now }
 {
     for row in rows {
         let is_so = match &row.1 {
-            Deed::Steps(word, found, progress) => {
+            Check::Steps(word, found, progress) => {
                 steps(task, gates, row.0, *word, *found, *progress)
             }
-            Deed::FailsAt(question, code) => {
+            Check::FailsAt(question, code) => {
                 turn.fails = Some((*question, *code));
                 true
             }
-            Deed::Shuts(wanted) => shut(rt, gates, task, turn, 3) == *wanted,
-            Deed::ShutsAndSees(wanted) => shut_and_see(rt, gates, task, turn) == *wanted,
-            Deed::BacksUp(wanted) => back_up(rt, gates, task, turn) == *wanted,
-            Deed::Takes(wanted) => take(rt, gates, task, turn, 2) == *wanted,
-            Deed::WritesInside => writes_inside(task, rt, gates),
-            Deed::CopiesInside => copies_inside(task, rt, gates),
-            Deed::Stands(stand) => stands(task, stand),
-            Deed::Took(nodes) => took(task, nodes),
-            Deed::Calls => {
+            Check::Shuts(wanted) => shut(rt, gates, task, turn, 3) == *wanted,
+            Check::ShutsAndSees(wanted) => shut_and_see(rt, gates, task, turn) == *wanted,
+            Check::BacksUp(wanted) => back_up(rt, gates, task, turn) == *wanted,
+            Check::Takes(wanted) => take(rt, gates, task, turn, 2) == *wanted,
+            Check::WritesInside => writes_inside(task, rt, gates),
+            Check::CopiesInside => copies_inside(task, rt, gates),
+            Check::Stands(stand) => stands(task, stand),
+            Check::Took(nodes) => took(task, nodes),
+            Check::Calls => {
                 make_calls(task, rt, gates, turn, row.0);
                 true
             }
@@ -201,8 +201,8 @@ pub fn go_through<R: Wait>(
 }
 
 /// What a task does again and again.
-pub struct Part {
-    /// The lines of a round, as those of `Deed::Calls`.
+pub struct Repetition {
+    /// The lines of a round, as those of `Check::Calls`.
     pub lines: &'static str,
     pub rounds: u16,
     /// Of how many files node 200 stands for one.
@@ -210,11 +210,11 @@ pub struct Part {
 }
 
 /// Goes through rounds, until something is wrong.
-pub fn work<R: Wait>(task: &mut Task, rt: &R, gates: &Gates, scene: &Scene, part: &Part)
+pub fn work<R: Wait>(task: &mut Task, rt: &R, gates: &Gates, scene: &Fixture, part: &Repetition)
     requires { IsFrom task.old gates.now }
     ensures { IsFrom task.new gates.now }
 {
-    let mut turn = Turn::new(scene, part.files);
+    let mut turn = ThreadRun::new(scene, part.files);
     for _round in 0..part.rounds {
         if scene.wrong.get().is_none() {
             turn.begin_round();

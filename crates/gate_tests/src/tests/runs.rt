@@ -1,6 +1,6 @@
 //! Runs: what they count, and that their tasks run at the same time.
 
-use gate_runs::{Meeting, Plan, Totals, Watch, run_plan, run_with};
+use gate_runs::{Meeting, Plan, Totals, RunObserver, run_plan, run_with};
 use std::alloc::Global;
 use std::sync::Wait;
 use std::sync::atomic::{AtomicBool, AtomicU32, Ordering};
@@ -52,7 +52,7 @@ struct Counted {
     frozen: AtomicU32,
 }
 
-impl Watch for Counted {
+impl RunObserver for Counted {
     fn holding(&self, _task: u8, _round: u32) {
         self.held.fetch_add(1, Ordering::SeqCst);
     }

@@ -3,7 +3,7 @@
 
 ghost use Rattle.vfs_gates.specs.TaskStates.{IsFrom};
 
-use super::turns::Turn;
+use super::thread_runs::ThreadRun;
 use std::sync::Wait;
 use vfs_gates::{GateError, Gates, Op, Task};
 
@@ -31,7 +31,7 @@ pub fn call<R: Wait>(
     rt: &R,
     gates: &Gates,
     op: Op,
-    turn: &mut Turn<'_>,
+    turn: &mut ThreadRun<'_>,
 ) -> Result<(), GateError>
     requires { IsFrom task.old gates.now }
     ensures { IsFrom task.new gates.now }
@@ -65,7 +65,7 @@ pub fn call<R: Wait>(
 }
 
 /// One that waits for nobody.
-fn try_call(task: &mut Task, gates: &Gates, op: Op, turn: &mut Turn<'_>) -> Result<(), GateError>
+fn try_call(task: &mut Task, gates: &Gates, op: Op, turn: &mut ThreadRun<'_>) -> Result<(), GateError>
     requires { IsFrom task.old gates.now }
     ensures { IsFrom task.new gates.now }
 {

@@ -3,9 +3,9 @@
 ghost use Rattle.std.specs.Prelude.{◌≡◌, All, IfErr};
 ghost use Rattle.vfs_gates.specs.TaskStates.{IsFrom};
 
-use super::rows::{Part, Row, go_through, work};
-use super::scene::{Manner, Scene};
-use super::turns::Turn;
+use super::rows::{Repetition, CheckRow, go_through, work};
+use super::fixtures::{HookPolicy, Fixture};
+use super::thread_runs::ThreadRun;
 use std::alloc::Global;
 use std::fmt::Debug;
 use std::sync::Wait;
@@ -15,15 +15,15 @@ use std::thread::Threads;
 use vfs_gates::{Closed, Config, Gate, GateError, Gates, Task, WordName};
 
 /// What tasks do.
-pub enum Act {
+pub enum Script {
     /// The first task does this.
-    First(&'static [Row]),
+    First(&'static [CheckRow]),
     /// The second one does.
-    Second(&'static [Row]),
+    Second(&'static [CheckRow]),
     /// All but the first do, each in a thread of its own.
-    Beside(&'static [Part]),
+    Beside(&'static [Repetition]),
     /// The first and the second one do the same, each in a thread of its own.
-    Both(&'static Part),
+    Both(&'static Repetition),
     /// The first one splits another one off, or is refused so.
     Splits(Result<(), GateError>),
     /// The first one joins the last one, or is refused so.
@@ -32,18 +32,18 @@ pub enum Act {
     Loses,
 }
 
-pub const SPLITS: Act = Act::Splits(Ok(()));
+pub const SPLITS: Script = Script::Splits(Ok(()));
 
-pub const JOINS: Act = Act::Joins(Ok(()));
+pub const JOINS: Script = Script::Joins(Ok(()));
 
 /// Acts in a row at gates of their own.
 pub struct Case {
     pub name: &'static str,
     pub config: Config,
-    pub manner: Manner,
-    pub acts: &'static [Act],
+    pub manner: HookPolicy,
+    pub acts: &'static [Script],
     /// Where the gates can't be closed then, and come back as they were: further acts.
-    pub stays_open: &'static [Act],
+    pub stays_open: &'static [Script],
     /// What words hold in the end, where the gates are closed then.
     pub left: Option<&'static [(WordName, u64)]>,
 }
@@ -99,8 +99,8 @@ fn go_beside<R: Wait + Threads + Sync>(
     others: &mut Vec<Task>,
     rt: &R,
     gates: &Gates,
-    scene: &Scene,
-    parts: &[Part],
+    scene: &Fixture,
+    parts: &[Repetition],
 )
     requires others { All (λ task. IsFrom task gates.now) others.old.items }
     ensures others { All (λ task. IsFrom task gates.now) others.new.items }
@@ -126,8 +126,8 @@ fn work_both<R: Wait + Threads + Sync>(
     second: &mut Task,
     rt: &R,
     gates: &Gates,
-    scene: &Scene,
-    part: &Part,
+    scene: &Fixture,
+    part: &Repetition,
 )
     requires first { IsFrom first.old gates.now }
     requires second { IsFrom second.old gates.now }
@@ -147,8 +147,8 @@ fn go_both<R: Wait + Threads + Sync>(
     others: &mut Vec<Task>,
     rt: &R,
     gates: &Gates,
-    scene: &Scene,
-    part: &Part,
+    scene: &Fixture,
+    part: &Repetition,
 ) -> bool
     requires first { IsFrom first.old gates.now }
     requires others { All (λ task. IsFrom task gates.now) others.old.items }
@@ -170,36 +170,36 @@ fn go<R: Wait + Threads + Sync + Alloc<A = Global>>(
     others: &mut Vec<Task>,
     rt: &R,
     gates: &Gates,
-    scene: &Scene,
-    acts: &[Act],
+    scene: &Fixture,
+    acts: &[Script],
 )
     requires first { IsFrom first.old gates.now }
     requires others { All (λ task. IsFrom task gates.now) others.old.items }
     ensures first { IsFrom first.new gates.now }
     ensures others { All (λ task. IsFrom task gates.now) others.new.items }
 {
-    let mut turn = Turn::new(scene, 1);
+    let mut turn = ThreadRun::new(scene, 1);
     for act in acts {
         let is_so = match act {
-            Act::First(rows) => {
+            Script::First(rows) => {
                 go_through(first, rt, gates, &mut turn, rows);
                 true
             }
-            Act::Second(rows) => match others.get_mut(0) {
+            Script::Second(rows) => match others.get_mut(0) {
                 Some(second) => {
                     go_through(second, rt, gates, &mut turn, rows);
                     true
                 }
                 None => false,
             },
-            Act::Beside(parts) => {
+            Script::Beside(parts) => {
                 go_beside(others, rt, gates, scene, parts);
                 true
             }
-            Act::Both(part) => go_both(first, others, rt, gates, scene, part),
-            Act::Splits(wanted) => split(first, others, rt.alloc(), gates) == *wanted,
-            Act::Joins(wanted) => join(first, others, gates) == *wanted,
-            Act::Loses => others.pop().is_some(),
+            Script::Both(part) => go_both(first, others, rt, gates, scene, part),
+            Script::Splits(wanted) => split(first, others, rt.alloc(), gates) == *wanted,
+            Script::Joins(wanted) => join(first, others, gates) == *wanted,
+            Script::Loses => others.pop().is_some(),
         };
         scene.expect(is_so, "split, joined or lost otherwise");
     }
@@ -222,7 +222,7 @@ impl Case {
     fn closes(
         &self,
         alloc: Global,
-        scene: &Scene,
+        scene: &Fixture,
         gates: Gates,
         first: Task,
     ) -> Result<(), (Gates, Task)>
@@ -249,7 +249,7 @@ impl Case {
     fn play_at<R: Wait + Threads + Sync + Alloc<A = Global>>(
         &self,
         rt: &R,
-        scene: &Scene,
+        scene: &Fixture,
         gates: Gates,
         mut first: Task,
     )
@@ -268,7 +268,7 @@ impl Case {
     }
 
     /// The same at gates of its own, which show themselves, as their first task does.
-    fn play<R: Wait + Threads + Sync + Alloc<A = Global>>(&self, rt: &R, scene: &Scene) {
+    fn play<R: Wait + Threads + Sync + Alloc<A = Global>>(&self, rt: &R, scene: &Fixture) {
         match Gates::new(rt.alloc(), self.config) {
             Ok((gates, first)) => {
                 let does_show = shows(rt.alloc(), &first, "Task { number: 0, under_way: false, ")
@@ -288,7 +288,7 @@ pub fn last_wrong<R: Wait + Threads + Sync + Alloc<A = Global>>(
 ) -> Option<&'static str> {
     let mut wrong = None;
     for case in cases {
-        let scene = Scene::of(case.manner);
+        let scene = Fixture::of(case.manner);
         case.play(rt, &scene);
         if let Some(line) = scene.wrong.get() {
             wrong = Some(*line);

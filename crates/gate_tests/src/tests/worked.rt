@@ -3,10 +3,10 @@
 ghost use Rattle.vfs_gates.specs.TaskStates.{IsFrom};
 
 use super::SMALL;
-use super::rows::Deed::Calls;
-use super::rows::Part;
-use super::scene::Manner;
-use super::teams::{Act, Case, JOINS, SPLITS};
+use super::rows::Check::Calls;
+use super::rows::Repetition;
+use super::fixtures::HookPolicy;
+use super::teams::{Script, Case, JOINS, SPLITS};
 use cpu_words::{Sum, Taken};
 use percpu_rwsem::SyncWord;
 use std::alloc::Global;
@@ -18,16 +18,16 @@ use vfs_gates::{Config, GateError, Gates, Task, WordName};
 pub const READERS: Case = Case {
     name: "two readers, and a freeze after them",
     config: SMALL,
-    manner: Manner::Agrees,
+    manner: HookPolicy::Agrees,
     acts: &[
         SPLITS,
-        Act::Both(&Part {
+        Script::Both(&Repetition {
             lines: "0 trystart 1 0: done Again*\n\
                     0 end 1 0: done\n",
             rounds: 1,
             files: 1,
         }),
-        Act::First(&[(
+        Script::First(&[(
             "0 freeze: done\n\
              0 trysnapshot: done\n",
             Calls,
@@ -41,10 +41,10 @@ pub const READERS: Case = Case {
 pub const WRITERS: Case = Case {
     name: "two writers, 1,000 times",
     config: SMALL,
-    manner: Manner::Agrees,
+    manner: HookPolicy::Agrees,
     acts: &[
         SPLITS,
-        Act::Both(&Part {
+        Script::Both(&Repetition {
             lines: "0 trywant 0 0: done\n\
                     0 drop 0 0: done\n",
             rounds: 1_000,
@@ -59,8 +59,8 @@ pub const WRITERS: Case = Case {
 pub const ALONE: Case = Case {
     name: "one task alone",
     config: Config { tasks: 1, ..SMALL },
-    manner: Manner::Agrees,
-    acts: &[Act::First(&[(
+    manner: HookPolicy::Agrees,
+    acts: &[Script::First(&[(
         "0 want 0 0: done\n\
          0 drop 0 0: done\n\
          0 start 1 0: done\n\

@@ -6,7 +6,7 @@ ghost use Rattle.gate_schedules.specs.Answers.{unless_refused, asked_by, idle_st
 ghost use Rattle.gate_schedules.specs.declared.steps.Progress.TheVariants.{Idle};
 ghost use Rattle.gate_world.specs.declared.operations.Op.{Op as OpType};
 ghost use Rattle.gate_world.specs.declared.work.Phase.{Phase as PhaseType};
-ghost use Rattle.gate_steps.specs.call_events.Runs.{Goes, Told};
+ghost use Rattle.gate_steps.specs.call_events.Runs.{Goes, StepTells};
 ghost use Rattle.gate_steps.specs.call_events.Stepped.{Stepped};
 ghost use Rattle.vfs_gates.specs.TaskStates.{TaskState, refusal_at, IsIdle};
 ghost use Rattle.mntgate_c.specs.Codes.{answer_of, hook_answer, hook_at, progress_at};
@@ -48,7 +48,7 @@ pub extern "C" fn mntgate_step(task: &mut TaskHandle, hook: u16, step: &mut Step
     ensures event { (phase : PhaseType) → task.old.state.phase ≡ Some phase →
         Stepped phase (hook_answer hook) task.old.state (step_at step.new) task.new.state }
     ensures told { (op : OpType) (start : TaskState) → Goes op start task.old.state →
-        Told op start (step_at step.new).progress task.new.state }
+        StepTells op start (step_at step.new).progress task.new.state }
 {
     let Member { gates, task } = task.member();
     *step = record(task.step(gates, answer(hook)));
@@ -63,7 +63,7 @@ pub extern "C" fn mntgate_run(task: &mut TaskHandle, hook: u16, most: u32, outco
     ensures idle { IsIdle task.old.state → (task.new.state ≡ task.old.state) × (progress_at outcome.new ≡ Idle) }
     ensures runs { (phase : PhaseType) → task.old.state.phase ≡ Some phase →
         Runs phase (hook_answer hook) most task.old.state task.new.state (progress_at outcome.new) }
-    ensures told { (op : OpType) (start : TaskState) → Goes op start task.old.state → Told op start (progress_at outcome.new) task.new.state }
+    ensures told { (op : OpType) (start : TaskState) → Goes op start task.old.state → StepTells op start (progress_at outcome.new) task.new.state }
 {
     let Member { gates, task } = task.member();
     *outcome = tell(run(task, gates, answer(hook), most));

@@ -3,11 +3,11 @@
 use crate::calls::{
     CHANGE, FREEZE, REMOUNT, THAW, TRY_CHANGE, TRY_START, TRY_WANT, WANT, WANT_WRITE,
 };
-use crate::rows::Row;
+use crate::rows::RefusalRow;
 use access_model::GateError;
 
-pub(crate) static ROWS: [Row; 14] = [
-    Row {
+pub(crate) static ROWS: [RefusalRow; 14] = [
+    RefusalRow {
         calls: &[WANT, TRY_WANT, WANT_WRITE],
         refusal: GateError::ReadOnly,
         when: "",
@@ -17,7 +17,7 @@ pub(crate) static ROWS: [Row; 14] = [
         never: "remount to writable to get through: somebody made it read-only on purpose, or an error did.",
         system: "`findmnt -no VFS-OPTIONS,FS-OPTIONS -T PATH` tells whether the mount or the superblock is read-only, `dmesg` whether an error made it so.",
     },
-    Row {
+    RefusalRow {
         calls: &[TRY_WANT],
         refusal: GateError::Again,
         when: "",
@@ -27,7 +27,7 @@ pub(crate) static ROWS: [Row; 14] = [
         never: "try again without a pause: each try is counted.",
         system: "The kernel waits here for some microseconds and returns no such error.",
     },
-    Row {
+    RefusalRow {
         calls: &[TRY_START],
         refusal: GateError::Again,
         when: "",
@@ -37,7 +37,7 @@ pub(crate) static ROWS: [Row; 14] = [
         never: "thaw a freeze that isn't yours.",
         system: "`ps -eo pid,stat,wchan:30,args` shows who sleeps at a closed level, in `percpu_rwsem_wait`. `/sys/block/dm-N/dm/suspended` is 1 for a suspended device.",
     },
-    Row {
+    RefusalRow {
         calls: &[CHANGE, TRY_CHANGE],
         refusal: GateError::Busy,
         when: "to read-only",
@@ -47,7 +47,7 @@ pub(crate) static ROWS: [Row; 14] = [
         never: "try again without a pause, nor take it for a proof that somebody writes.",
         system: "`fuser -vm MOUNTPOINT` lists who has files open there, with F for writing, and `lsof +f -- MOUNTPOINT` lists the files.",
     },
-    Row {
+    RefusalRow {
         calls: &[TRY_CHANGE],
         refusal: GateError::Again,
         when: "",
@@ -57,7 +57,7 @@ pub(crate) static ROWS: [Row; 14] = [
         never: "",
         system: "The kernel waits for the lock and returns no such error.",
     },
-    Row {
+    RefusalRow {
         calls: &[REMOUNT],
         refusal: GateError::Busy,
         when: "frozen",
@@ -67,7 +67,7 @@ pub(crate) static ROWS: [Row; 14] = [
         never: "thaw a freeze that isn't yours: a backup may be reading.",
         system: "`dmsetup info -c -o name,suspended` and `/sys/block/dm-N/dm/suspended` tell of a suspended device. Nothing in 6.1 names who froze: `ps -e` shows agents that do, as `fsfreeze` or `qemu-ga`.",
     },
-    Row {
+    RefusalRow {
         calls: &[REMOUNT],
         refusal: GateError::Busy,
         when: "to read-only, somebody counted",
@@ -77,7 +77,7 @@ pub(crate) static ROWS: [Row; 14] = [
         never: "try again without a pause: those who wait for HOLD make the next try `Busy`, too.",
         system: "`fuser -vm MOUNTPOINT` lists who has files open there, with F for writing. `findmnt -S SOURCE` lists all mounts of the file system: each is summed.",
     },
-    Row {
+    RefusalRow {
         calls: &[REMOUNT],
         refusal: GateError::Busy,
         when: "to read-only, a removed file open",
@@ -87,7 +87,7 @@ pub(crate) static ROWS: [Row; 14] = [
         never: "end the process that has it open before you know whose data it is: the last close frees them.",
         system: "`lsof +L1 MOUNTPOINT` lists open files that have no name any more. `losetup -l` and `swapon --show` list files that the kernel itself has open.",
     },
-    Row {
+    RefusalRow {
         calls: &[REMOUNT],
         refusal: GateError::Hook(0),
         when: "to read-only",
@@ -97,7 +97,7 @@ pub(crate) static ROWS: [Row; 14] = [
         never: "take the code for a refusal of the gates: `Hook(16)` isn't `Busy`.",
         system: "`dmesg` has what the file system said.",
     },
-    Row {
+    RefusalRow {
         calls: &[REMOUNT],
         refusal: GateError::Hook(0),
         when: "to writable",
@@ -107,7 +107,7 @@ pub(crate) static ROWS: [Row; 14] = [
         never: "force it after an error of the file system: it wants a check first.",
         system: "`blockdev --getro DEVICE` tells whether the device is read-only, `dmesg` what the file system said.",
     },
-    Row {
+    RefusalRow {
         calls: &[FREEZE],
         refusal: GateError::Busy,
         when: "",
@@ -117,7 +117,7 @@ pub(crate) static ROWS: [Row; 14] = [
         never: "thaw it: somebody else relies on it.",
         system: "`fsfreeze -f` fails with EBUSY. `ps -eo pid,stat,wchan:30,args` shows a freeze that is under way, and `/sys/block/dm-N/dm/suspended` is 1 for a suspended device.",
     },
-    Row {
+    RefusalRow {
         calls: &[FREEZE],
         refusal: GateError::Hook(0),
         when: "",
@@ -127,7 +127,7 @@ pub(crate) static ROWS: [Row; 14] = [
         never: "thaw after it: that is `Invalid`, or ends another task's freeze.",
         system: "`dmesg` has what the file system said, mostly of a write that failed.",
     },
-    Row {
+    RefusalRow {
         calls: &[THAW],
         refusal: GateError::Invalid,
         when: "",
@@ -137,7 +137,7 @@ pub(crate) static ROWS: [Row; 14] = [
         never: "thaw for the other holder in its place.",
         system: "`fsfreeze -u` fails with EINVAL. The logs of the agents that freeze tell which of them has thawed.",
     },
-    Row {
+    RefusalRow {
         calls: &[THAW],
         refusal: GateError::Hook(0),
         when: "",

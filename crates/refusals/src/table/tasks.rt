@@ -5,11 +5,11 @@ use crate::calls::{
     GROW, JOIN, MOVE, NEW, OPEN, REMOUNT, REMOVE, RUN, SNAPSHOT, SPLIT, START, THAW, TRY_CHANGE,
     TRY_CLOSE, TRY_SNAPSHOT, TRY_START, TRY_WANT, WANT, WANT_WRITE,
 };
-use crate::rows::Row;
+use crate::rows::RefusalRow;
 use access_model::GateError;
 
-pub(crate) static ROWS: [Row; 10] = [
-    Row {
+pub(crate) static ROWS: [RefusalRow; 10] = [
+    RefusalRow {
         calls: &[
             WANT,
             TRY_WANT,
@@ -45,7 +45,7 @@ pub(crate) static ROWS: [Row; 10] = [
         never: "try again: no retry helps.",
         system: "The kernel has no such error: there it is a deadlock or a count that goes wrong. A kernel built with lockdep reports it in `dmesg`.",
     },
-    Row {
+    RefusalRow {
         calls: &[
             WANT, TRY_WANT, WANT_WRITE, DROP, DROP_WRITE, START, TRY_START, END, CALLBACK, CHANGE,
             TRY_CHANGE, CREATE, REMOVE, GROW, MOVE, FAULT, FLUSH, OPEN, CLOSE, TRY_CLOSE,
@@ -58,7 +58,7 @@ pub(crate) static ROWS: [Row; 10] = [
         never: "try again: no retry helps.",
         system: "",
     },
-    Row {
+    RefusalRow {
         calls: &[WANT, TRY_WANT, WANT_WRITE, OPEN],
         refusal: GateError::TooMany,
         when: "before the first step",
@@ -68,7 +68,7 @@ pub(crate) static ROWS: [Row; 10] = [
         never: "try again: no retry helps.",
         system: "",
     },
-    Row {
+    RefusalRow {
         calls: &[NEW, RUN],
         refusal: GateError::Invalid,
         when: "",
@@ -78,7 +78,7 @@ pub(crate) static ROWS: [Row; 10] = [
         never: "",
         system: "",
     },
-    Row {
+    RefusalRow {
         calls: &[NEW],
         refusal: GateError::NoMemory,
         when: "",
@@ -88,7 +88,7 @@ pub(crate) static ROWS: [Row; 10] = [
         never: "",
         system: "`free -m` tells how much memory is left. A mount that finds none is ENOMEM in the kernel, too.",
     },
-    Row {
+    RefusalRow {
         calls: &[SPLIT],
         refusal: GateError::Order,
         when: "",
@@ -98,7 +98,7 @@ pub(crate) static ROWS: [Row; 10] = [
         never: "",
         system: "",
     },
-    Row {
+    RefusalRow {
         calls: &[SPLIT],
         refusal: GateError::TooMany,
         when: "",
@@ -108,7 +108,7 @@ pub(crate) static ROWS: [Row; 10] = [
         never: "",
         system: "",
     },
-    Row {
+    RefusalRow {
         calls: &[SPLIT],
         refusal: GateError::NoMemory,
         when: "",
@@ -118,7 +118,7 @@ pub(crate) static ROWS: [Row; 10] = [
         never: "",
         system: "",
     },
-    Row {
+    RefusalRow {
         calls: &[JOIN, CLOSE_GATES],
         refusal: GateError::Order,
         when: "",
@@ -128,7 +128,7 @@ pub(crate) static ROWS: [Row; 10] = [
         never: "drop a task that holds something: its accesses stay counted for ever.",
         system: "",
     },
-    Row {
+    RefusalRow {
         calls: &[RUN],
         refusal: GateError::NoMemory,
         when: "",

@@ -3,11 +3,11 @@
 use crate::calls::{
     CLOSE, CREATE, FAULT, FLUSH, GROW, MOVE, OPEN, REMOVE, SNAPSHOT, TRY_CLOSE, TRY_SNAPSHOT,
 };
-use crate::rows::Row;
+use crate::rows::RefusalRow;
 use access_model::GateError;
 
-pub(crate) static ROWS: [Row; 9] = [
-    Row {
+pub(crate) static ROWS: [RefusalRow; 9] = [
+    RefusalRow {
         calls: &[CREATE, REMOVE, GROW, MOVE, FAULT, FLUSH, OPEN],
         refusal: GateError::NoEntry,
         when: "",
@@ -17,7 +17,7 @@ pub(crate) static ROWS: [Row; 9] = [
         never: "use the number without a look-up: another file may have it now.",
         system: "`stat PATH` tells the inode that a name has now.",
     },
-    Row {
+    RefusalRow {
         calls: &[REMOVE, GROW, MOVE, FAULT, FLUSH, OPEN],
         refusal: GateError::IsDir,
         when: "",
@@ -27,7 +27,7 @@ pub(crate) static ROWS: [Row; 9] = [
         never: "",
         system: "`stat PATH` tells what a name is.",
     },
-    Row {
+    RefusalRow {
         calls: &[CREATE, MOVE],
         refusal: GateError::NotDir,
         when: "",
@@ -37,7 +37,7 @@ pub(crate) static ROWS: [Row; 9] = [
         never: "",
         system: "`stat PATH` tells what a name is.",
     },
-    Row {
+    RefusalRow {
         calls: &[CREATE],
         refusal: GateError::NoSpace,
         when: "",
@@ -47,7 +47,7 @@ pub(crate) static ROWS: [Row; 9] = [
         never: "",
         system: "`df -i PATH` tells how many inodes are free.",
     },
-    Row {
+    RefusalRow {
         calls: &[GROW],
         refusal: GateError::NoSpace,
         when: "",
@@ -57,7 +57,7 @@ pub(crate) static ROWS: [Row; 9] = [
         never: "",
         system: "`df PATH` tells how many blocks are free, and `lsof +L1 MOUNTPOINT` which removed files still have some.",
     },
-    Row {
+    RefusalRow {
         calls: &[
             CREATE, REMOVE, GROW, MOVE, FAULT, FLUSH, OPEN, CLOSE, TRY_CLOSE,
         ],
@@ -69,7 +69,7 @@ pub(crate) static ROWS: [Row; 9] = [
         never: "",
         system: "The kernel waits for a lock here and returns no such error.",
     },
-    Row {
+    RefusalRow {
         calls: &[TRY_CLOSE],
         refusal: GateError::Again,
         when: "frozen",
@@ -79,7 +79,7 @@ pub(crate) static ROWS: [Row; 9] = [
         never: "thaw a freeze that isn't yours.",
         system: "The kernel waits at the closed level and returns no such error: `ps -eo pid,stat,wchan:30,args` shows who does.",
     },
-    Row {
+    RefusalRow {
         calls: &[SNAPSHOT, TRY_SNAPSHOT],
         refusal: GateError::Invalid,
         when: "",
@@ -89,7 +89,7 @@ pub(crate) static ROWS: [Row; 9] = [
         never: "take `tree()` after it for the tree of now.",
         system: "Freeze first, by `fsfreeze -f MOUNTPOINT`. A snapshot by LVM freezes by itself.",
     },
-    Row {
+    RefusalRow {
         calls: &[TRY_SNAPSHOT],
         refusal: GateError::Again,
         when: "",

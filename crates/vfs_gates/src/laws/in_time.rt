@@ -5,7 +5,7 @@
 ghost use Rattle.std.specs.Prelude.{◌≡◌, ◌≤◌, ℕ, Bool, Some, Ok, Err, Result, List, ◌++◌, length};
 ghost use Rattle.access_model.specs.declared.errors.GateError.{GateError};
 ghost use Rattle.access_model.specs.declared.replies.Reply.{Reply};
-ghost use Rattle.gate_world.specs.Courses.{course_of};
+ghost use Rattle.gate_world.specs.traces.TraceStates.{state_of_trace};
 ghost use Rattle.gate_world.specs.declared.config.Config.{Config};
 ghost use Rattle.gate_world.specs.declared.entries.Entry.{Entry};
 ghost use Rattle.gate_world.specs.declared.operations.Op.{Op};
@@ -56,8 +56,8 @@ pub fn calls_take_effect_in_order()
     ensures { (one two : Op) (old left begins ends : TaskState) (answer reply : Result Reply GateError)
         (first : Called one old left answer) (second : Called two begins ends reply) → begins.config ≡ old.config →
         StaySeen left.seen begins.seen →
-        AreInOrder (own_number old.items) (course_of old.config (own_number old.items) one first.trace).added
-        (own_number begins.items) (course_of begins.config (own_number begins.items) two second.trace).added second.history.history.log }
+        AreInOrder (own_number old.items) (state_of_trace old.config (own_number old.items) one first.trace).added
+        (own_number begins.items) (state_of_trace begins.config (own_number begins.items) two second.trace).added second.history.history.log }
 {}
 
 /// A refused call has its cause between its call and its return, whatever its operation: the worlds among which `every_schedule` finds it (clause

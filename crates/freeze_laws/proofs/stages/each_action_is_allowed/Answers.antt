@@ -1,4 +1,4 @@
-use Rattle.freeze_laws.proofs.stages.Whole.{actions_are_allowed, actions_have_their_effect}
+use Rattle.freeze_laws.proofs.stages.CitedLaws.{actions_are_allowed, actions_have_their_effect}
 use Rattle.freeze_laws.proofs.stages.each_action_is_allowed.Goals as goal
 
 pub returns : goal.returns

@@ -11,7 +11,7 @@ use Rattle.finite_sums.proofs.Totals.{update_same}
 use Rattle.finite_sums.specs.Sums.{update}
 use Rattle.cpu_words.specs.gate_counts.Levels.{Out as CountsNot}
 use Rattle.gate_schedules.proofs.frames.Frames.{left_alone, level_view_as}
-use Rattle.gate_schedules.proofs.levels.Parts.{IsAtLevels, IsBeside, SameAtMounts, level_parts, level_still, whole_same}
+use Rattle.gate_schedules.proofs.levels.Parts.{IsAtLevels, SameOffLevels, SameAtMounts, level_parts, level_still, whole_same}
 use Rattle.gate_schedules.proofs.levels.Worlds.{IsEventAt, IsOfLevel, found_level, level_there, sync_elsewhere, sync_off, sync_on}
 use Rattle.gate_world.specs.Configs.{IsWithin}
 use Rattle.gate_world.specs.Fits.{Fits, GraceFits, PhaseFits}
@@ -44,7 +44,7 @@ pub word_of_level : (b : Callback) (s : CallbackStep) → IsOfLevel b.level (cal
 word_of_level b s = grind arith
 
 -- it leaves the words beside the levels, and each `block`
-words_beside : (w : Words) (b : Callback) (s : CallbackStep) (n : ℕ) → IsBeside w (put w (callback_next b s).0 n)
+words_beside : (w : Words) (b : Callback) (s : CallbackStep) (n : ℕ) → SameOffLevels w (put w (callback_next b s).0 n)
 words_beside w b s n = grind arith
 
 -- and the counts of each level
@@ -86,31 +86,31 @@ after_outside (Next.Go x) = refl
 after_outside other = refl
 
 -- what stays of a callback from event to event: its level, and that its grace period is among all tasks
-abbrev Stays : ℕ → ℕ → Callback → Type 0
-Stays level tasks x = (x.level ≡ level) × (x.tasks ≡ tasks) × GraceFits tasks x.step
+abbrev SameCallback : ℕ → ℕ → Callback → Type 0
+SameCallback level tasks x = (x.level ≡ level) × (x.tasks ≡ tasks) × GraceFits tasks x.step
 
 -- an event of its own transition
-call_stays : (b : Callback) (n : TransitionNext) → HoldsOfNext (Stays b.level b.tasks) (called_back b n)
+call_stays : (b : Callback) (n : TransitionNext) → HoldsOfNext (SameCallback b.level b.tasks) (called_back b n)
 call_stays b n = grind arith
 
 -- so each event leaves it
 stays_after : (b : Callback) → 0 < b.tasks → (s : CallbackStep) → GraceFits b.tasks s → (found : ℕ) →
-    HoldsOfNext (Stays b.level b.tasks) (callback_after b s found).0
+    HoldsOfNext (SameCallback b.level b.tasks) (callback_after b s found).0
 stays_after b some s f found = grind arith
 
 -- at its level, the role of what comes after an event is the one of its step
-role_next : (i tasks : ℕ) (n : Next Callback) → HoldsOfNext (Stays i tasks) n →
+role_next : (i tasks : ℕ) (n : Next Callback) → HoldsOfNext (SameCallback i tasks) n →
     by_next (λ (x : Callback). callback_role x.step) IsApart n ≡ sync_role_of i (phase_after (map_next Phase.Callbacks n))
 role_next i tasks n h = grind arith
 
 -- at another level there is none
-role_elsewhere : (i j tasks : ℕ) → (j ≡ i → ⊥) → (n : Next Callback) → HoldsOfNext (Stays i tasks) n →
+role_elsewhere : (i j tasks : ℕ) → (j ≡ i → ⊥) → (n : Next Callback) → HoldsOfNext (SameCallback i tasks) n →
     sync_role_of j (phase_after (map_next Phase.Callbacks n)) ≡ IsApart
 role_elsewhere i j tasks ne n h = grind arith
 
 -- so what comes after an event does
 next_fits : (c : Config) (t level tasks : ℕ) (held : Holdings) → 1 ≤ level → level ≤ 3 → tasks ≡ c.tasks →
-    (n : Next Callback) → HoldsOfNext (Stays level tasks) n →
+    (n : Next Callback) → HoldsOfNext (SameCallback level tasks) n →
     HoldsOfNext (λ (x : Callback). (x.tasks ≡ tasks) × KnowsCallback x.step) n →
     Fits c t held (phase_after (map_next Phase.Callbacks n))
 next_fits c t level tasks held one three all n stays knows = grind arith
@@ -146,7 +146,7 @@ module _ (c : Config) (w : World) (good : IsGood c w) (t : ℕ) (lt : t < c.task
   some_task : 0 < b.tasks
   some_task = omega (arith, lt, here_fits.2)
 
-  stays : HoldsOfNext (Stays b.level b.tasks) coming
+  stays : HoldsOfNext (SameCallback b.level b.tasks) coming
   stays =
       stays_after b some_task s (subst (λ k. GraceFits k s) (sym here_fits.2) here_fits.3) (found_by touch (read w.words name))
 
@@ -230,7 +230,7 @@ module _ (c : Config) (w : World) (good : IsGood c w) (t : ℕ) (lt : t < c.task
 
   keeps_at : StepKeeps c w t hook (Phase.Callbacks (at_callback b s))
   keeps_at =
-      let words : IsBeside w.words then_words = words_beside w.words b s (left touch (read w.words name)) in
+      let words : SameOffLevels w.words then_words = words_beside w.words b s (left touch (read w.words name)) in
       let was : IsAtLevels (w.views t).phase = subst IsAtLevels (sym e) (after_at_levels (Next.Go (at_callback b s))) in
       let now : IsAtLevels seen_after.phase = after_at_levels coming in (
         level_parts c w good t lt then_words seen_after words was now same_at_mounts fits_next level_counts syncs own_level.sections.odd,

@@ -1,10 +1,10 @@
 -- All that is proved of a callback.
 use Rattle.access_model.specs.{Replies.map_next, declared.{actions.Action.Action, replies.Next.Next}}
-use Rattle.gate_schedules.proofs.frames.{Frames.sync_none, Keeps.{OpKeeps, PhaseKeeps, word_among}, Snapshots.completes_none}
+use Rattle.gate_schedules.proofs.frames.{Frames.sync_none, OperationLaws.{OpLaws, PhaseLaws, word_among}, Snapshots.completes_none}
 use Rattle.gate_schedules.proofs.operations.callback.{Events.callback_keeps, Trace.{CallbackAt, callback_kept}}
 use Rattle.gate_schedules.proofs.operations.readers.{Fits.{callback_acts_none, callback_goes, callback_there, level_there}, Runs.callback_runs}
-use Rattle.gate_schedules.proofs.{operations.readers.Waits.callback_waits, traces.Says.{is_short, tells}}
-use Rattle.gate_world.specs.{Alike.no_roles, Fits.{ActionFits, Fits}, Holdings.held_after, KeptCauses.CauseOf, Rules.Fitting, Views.{held_of, phase_after}}
+use Rattle.gate_schedules.proofs.{operations.readers.Waits.callback_waits, traces.TraceInvariant.{is_short, tells}}
+use Rattle.gate_world.specs.{SameRoles.no_roles, Fits.{ActionFits, Fits}, Holdings.held_after, refusals.KeptCauses.CauseOf, Rules.Fitting, Views.{held_of, phase_after}}
 use Rattle.gate_world.specs.{Worlds.{World, after_step, found_at}, declared.{config.Config.Config, operations.Op.Op, work.Phase.Phase}}
 use Rattle.percpu_rwsem.specs.{Callbacks.callback_after, declared.callbacks.Callback.Callback}
 use Rattle.std.proofs.Common.{refl, subst, sym, ℕ, ◌≤◌}
@@ -16,7 +16,7 @@ callback_cause : (c : Config) (t : ℕ) (w : World) (earlier : List World) (n : 
 callback_cause c t w earlier (Next.Go x) = tt
 callback_cause c t w earlier other = tt
 
-pub callback_phase : (c : Config) (b : Callback) → PhaseKeeps c (Phase.Callbacks b)
+pub callback_phase : (c : Config) (b : Callback) → PhaseLaws c (Phase.Callbacks b)
 callback_phase c b = record {
   step = λ within w good t lt hook e. callback_keeps c within w good t lt hook b e;
   runs = λ within w good t lt hook e i one three. callback_runs c w good t lt hook b e i;
@@ -39,7 +39,7 @@ callback_phase c b = record {
       callback_waits c w earlier t good b hook b.step e f.3;
 }
 
-pub callback_op : (c : Config) (i : ℕ) → OpKeeps c (Op.Callback i)
+pub callback_op : (c : Config) (i : ℕ) → OpLaws c (Op.Callback i)
 callback_op c i = record {
   fits = λ t held there order room.
       let l : (1 ≤ i) × (i ≤ 3) = level_there i there in

@@ -2,7 +2,7 @@
 use Rattle.cpu_words.specs.{Touches.{found_by, left}, Words.{Words, read}, declared.names.WordName.WordName}
 use Rattle.finite_sums.proofs.Totals.{update_at}
 use Rattle.gate_schedules.proofs.{frames.Words.load_same, levels.Facts.{ExchangeFalls, callback_called, defined_falls, exchange_falls}}
-use Rattle.gate_schedules.proofs.operations.deadlocks.Falls.{after_event, falls_as}
+use Rattle.gate_schedules.proofs.operations.deadlocks.RankDecreases.{after_event, falls_as}
 use Rattle.gate_world.specs.{Fits.{Fits, GraceFits, PhaseFits}, Levels.{is_frozen_whole, sync_role_of}, Roles.sync_role_if, Rules.{Fitting, IsGood, SyncAt}}
 use Rattle.gate_world.specs.{Rules.SyncHoldsIn, Views.held_of, Worlds.{World, found_at, words_after}, declared.{config.Config.Config, work.Phase.Phase}}
 use Rattle.freeze_laws.specs.levels.{Operations.callback_role, Roles.{Ready, claimed as has_claimed}}
@@ -10,7 +10,7 @@ use Rattle.percpu_rwsem.specs.{Callbacks.{callback_after, callback_looked, callb
 use Rattle.percpu_rwsem.specs.{SyncWords.on_claim, Transitions.{transition_after, transition_next}, declared.callbacks.Callback.Callback}
 use Rattle.percpu_rwsem.specs.declared.{callbacks.CallbackStep.CallbackStep, grace.{Grace.Grace, GraceNext.GraceNext}, transitions.Transition.Transition}
 use Rattle.percpu_rwsem.specs.declared.transitions.TransitionNext.{TransitionNext}
-use Rattle.gate_schedules.specs.operations.{Ranks.{callback_rank, exchange_rank, grace_rank, rank}, Ways.{Falls, IsFree, NobodyInside, PhaseEnds}}
+use Rattle.gate_schedules.specs.operations.{Ranks.{callback_rank, exchange_rank, grace_rank, rank}, Unblocked.{RankDecreases, IsUnblocked, NobodyInside, PhaseEnds}}
 use Rattle.std.proofs.{Common.{ap, arith, refl, subst, sym, ℕ, ◌+◌, ◌<◌, ◌∙◌, ◌≡◌, ◌≤◌}, lemmas.Bool.{eq-eqb}}
 use Rattle.std.specs.Prelude.{None, ◌%◌, ◌==◌}
 
@@ -25,17 +25,17 @@ look_falls g found even = grind arith
 
 module _ (b : Callback) (sync : ℕ → ℕ) (free : Callback → Type 0) (is : (y : Callback) → free y) where
   claims_falls : (n : ℕ) (undefined : Type 0) (next : TransitionNext) → ExchangeFalls (sync b.level) n undefined next →
-      Falls (λ (y : Callback). callback_rank y.tasks (sync y.level) y.step) free (b.tasks + 3 + n) (claimed b next)
+      RankDecreases (λ (y : Callback). callback_rank y.tasks (sync y.level) y.step) free (b.tasks + 3 + n) (claimed b next)
   claims_falls n undefined next h = grind arith
 
   -- of its grace period
   waits_falls : (n : ℕ) (next : GraceNext) → GraceFalls n next →
-      Falls (λ (y : Callback). callback_rank y.tasks (sync y.level) y.step) free (n + 2) (callback_looked b next)
+      RankDecreases (λ (y : Callback). callback_rank y.tasks (sync y.level) y.step) free (n + 2) (callback_looked b next)
   waits_falls n next h = grind arith
 
   -- and of its own transition
   calls_falls : (n : ℕ) (next : TransitionNext) → ExchangeFalls (sync b.level) n ⊥ next →
-      Falls (λ (y : Callback). callback_rank y.tasks (sync y.level) y.step) free n (called_back b next)
+      RankDecreases (λ (y : Callback). callback_rank y.tasks (sync y.level) y.step) free n (called_back b next)
   calls_falls n next h = grind arith
 
 module _ (c : Config) (w : World) (good : IsGood c w) (t : ℕ) (lt : t < c.tasks) (b : Callback) (one : 1 ≤ b.level) (three : b.level ≤ 3)
@@ -60,7 +60,7 @@ module _ (c : Config) (w : World) (good : IsGood c w) (t : ℕ) (lt : t < c.task
       (exchange_falls on_callback (w.words.sync b.level) (sync b.level) b.level s.word s.packed x is)
 
   callback_falls : (s : CallbackStep) → sync_role_of b.level (w.views t).phase ≡ callback_role s → GraceFits c.tasks s →
-      Falls (λ (y : Callback). callback_rank y.tasks ((after_event w.words (callback_next b s)).sync y.level) y.step)
+      RankDecreases (λ (y : Callback). callback_rank y.tasks ((after_event w.words (callback_next b s)).sync y.level) y.step)
       (λ (y : Callback). NobodyInside c (after_event w.words (callback_next b s)))
       (callback_rank b.tasks (w.words.sync b.level) s)
       (callback_after b s (found_by (callback_next b s).1 (read w.words (callback_next b s).0))).0
@@ -103,7 +103,7 @@ callback_ends c b = record {
       let after : Words = words_after w.words (Phase.Callbacks b) hook in
       let here : sync_role_if (b.level == b.level) (callback_role b.step) ≡ callback_role b.step =
       ap (λ q. sync_role_if q (callback_role b.step)) (eq-eqb b.level b.level refl) in
-      falls_as Phase.Callbacks (rank after) (IsFree c after) (callback_rank b.tasks (w.words.sync b.level) b.step)
+      falls_as Phase.Callbacks (rank after) (IsUnblocked c after) (callback_rank b.tasks (w.words.sync b.level) b.step)
       (callback_after b b.step (found_at w.words (Phase.Callbacks b) hook)).0
       (callback_falls c w good t lt b f.0 f.1 free b.step (ap (sync_role_of b.level) at ∙ here) f.3);
 }

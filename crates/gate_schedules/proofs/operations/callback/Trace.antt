@@ -7,8 +7,8 @@ use Rattle.cpu_words.specs.Hooks.{HookAnswer}
 use Rattle.percpu_rwsem.specs.{Callbacks.{callback_looked}, Graces.{passed_on}}
 use Rattle.percpu_rwsem.specs.declared.{callbacks.{Callback.Callback, CallbackStep.CallbackStep}, grace.Grace.Grace}
 use Rattle.percpu_rwsem.specs.declared.transitions.Transition.{Transition}
-use Rattle.gate_world.specs.{Found.transitions_made, Views.with_hook, declared.{config.Config.Config, operations.Op.Op, views.Traced.Traced, work.Phase.Phase}}
-use Rattle.gate_schedules.proofs.traces.Says.{Says, SaysAfter, Kept, event_at}
+use Rattle.gate_world.specs.{traces.Found.transitions_made, Views.with_hook, declared.{config.Config.Config, operations.Op.Op, views.Traced.Traced, work.Phase.Phase}}
+use Rattle.gate_schedules.proofs.traces.TraceInvariant.{InvariantAfter, InvariantAfterStep, IsInductive, event_at}
 
 -- a callback of this level over so many tasks, at a step
 abbrev pub callback_on : ℕ → ℕ → CallbackStep → Callback
@@ -29,12 +29,12 @@ module _ (c : Config) (i tasks value : ℕ) (hook : HookAnswer) (earlier : List 
   -- what the trace says by what comes after an event of a step
   abbrev SaysNow : CallbackStep → Next Callback → Type 0
   SaysNow s n =
-      Says (CallbackAt i tasks) c (Op.Callback i) (with_hook (event_at (Phase.Callbacks (callback_on i tasks s)) value hook) hook ∷ earlier)
+      InvariantAfter (CallbackAt i tasks) c (Op.Callback i) (with_hook (event_at (Phase.Callbacks (callback_on i tasks s)) value hook) hook ∷ earlier)
       (map_next Phase.Callbacks n) added
 
   -- what the trace says after the event of a step
   abbrev After : CallbackStep → Type 0
-  After s = SaysAfter (CallbackAt i tasks) c (Op.Callback i) (Phase.Callbacks (callback_on i tasks s)) value hook earlier added
+  After s = InvariantAfterStep (CallbackAt i tasks) c (Op.Callback i) (Phase.Callbacks (callback_on i tasks s)) value hook earlier added
 
   passed : (g : Grace) → transitions_made i earlier ≡ 1 →
       SaysNow (CallbackStep.AwaitsSections g) (callback_looked (callback_on i tasks (CallbackStep.AwaitsSections g)) (passed_on g))
@@ -43,11 +43,11 @@ module _ (c : Config) (i tasks value : ℕ) (hook : HookAnswer) (earlier : List 
   callback_event : (s : CallbackStep) → transitions_made i earlier ≡ made_before s → After s
   callback_event s h = grind arith
 
-pub callback_kept : (c : Config) (t i : ℕ) → Kept (CallbackAt i c.tasks) c t (Op.Callback i)
+pub callback_kept : (c : Config) (t i : ℕ) → IsInductive (CallbackAt i c.tasks) c t (Op.Callback i)
 callback_kept c t i = record {
   first = (CallbackStep.Claims Transition.Loads, refl, refl, refl);
   more = λ phase value hook earlier added here.
-      subst (λ (x : Phase). SaysAfter (CallbackAt i c.tasks) c (Op.Callback i) x value hook earlier added) (sym here.1)
+      subst (λ (x : Phase). InvariantAfterStep (CallbackAt i c.tasks) c (Op.Callback i) x value hook earlier added) (sym here.1)
       (callback_event c i c.tasks value hook earlier added here.2 here.0 here.3);
   short = λ trace phase added here. tt;
 }

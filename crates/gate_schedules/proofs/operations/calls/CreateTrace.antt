@@ -11,16 +11,16 @@ use Rattle.gated_tree.specs.declared.changes.Create.{Create}
 use Rattle.gated_tree.specs.declared.changes.CreateStep.{CreateStep}
 use Rattle.gated_tree.specs.declared.phases.TreePhase.{TreePhase}
 use Rattle.gate_schedules.{proofs.trees.Ends.create_ends, specs.trees.Ends.{CreateKnows, IsNodeReply, create_adds}}
-use Rattle.gate_world.specs.{Configs.IsWithin, Courses.{IsTrace, MayHold, MayFind, course_of}, Found.SeenIn, Operations.first_create}
-use Rattle.gate_world.specs.{Traces.{IsShort, Tells, most_events}, Views.with_hook, Work.next_of}
+use Rattle.gate_world.specs.{Configs.IsWithin, traces.TraceStates.{IsTrace, WordIsValid, ReadIsValid, state_of_trace}, traces.Found.SeenIn, Operations.first_create}
+use Rattle.gate_world.specs.{traces.Traces.{IsShort, Tells, most_events}, Views.with_hook, Work.next_of}
 use Rattle.gate_world.specs.declared.{config.Config.Config, operations.Op.Op, views.Traced.Traced, work.Phase.Phase}
-use Rattle.gate_schedules.proofs.operations.calls.Trace.{Answers, CallAt, Stays, call_says, looked, made_some, sees}
-use Rattle.gate_schedules.proofs.traces.Says.{KeptWell, SaysAfter, event_at, tells_well, is_short_well}
+use Rattle.gate_schedules.proofs.operations.calls.Trace.{Answers, CallAt, GoesOnOrEnds, call_says, looked, made_some, sees}
+use Rattle.gate_schedules.proofs.traces.TraceInvariant.{IsInductiveGivenReads, InvariantAfterStep, event_at, tells_well, is_short_well}
 
 -- the node that a create loads is one of the tree's
-abbrev IsThere : Config → List Traced → CreateStep → Type 0
-IsThere c trace (CreateStep.LoadsNode node) = node < c.nodes
-IsThere c trace step = Unit {0}
+abbrev StepInvariant : Config → List Traced → CreateStep → Type 0
+StepInvariant c trace (CreateStep.LoadsNode node) = node < c.nodes
+StepInvariant c trace step = Unit {0}
 
 -- how many events a create has done before a step, at most
 abbrev events_before : Config → CreateStep → ℕ
@@ -45,22 +45,22 @@ module _ (c : Config) (d : ℕ) (kind : Kind) where
 
   -- what its trace says at a phase
   abbrev CreateAt : List Traced → Phase → List Action → Type 0
-  CreateAt = CallAt Create CreateStep TreePhase.Create create_of Knows so_far (IsThere c) (events_before c) (c.nodes + 3) false c (Op.Create d kind)
+  CreateAt = CallAt Create CreateStep TreePhase.Create create_of Knows so_far (StepInvariant c) (events_before c) (c.nodes + 3) false c (Op.Create d kind)
 
   -- what comes after so many events
-  abbrev Comes : List Traced → ℕ → Next Create → Type 0
-  Comes = Stays Create CreateStep TreePhase.Create create_of Knows so_far (IsThere c) (events_before c) (c.nodes + 3) false c (Op.Create d kind)
+  abbrev NextInvariant : List Traced → ℕ → Next Create → Type 0
+  NextInvariant = GoesOnOrEnds Create CreateStep TreePhase.Create create_of Knows so_far (StepInvariant c) (events_before c) (c.nodes + 3) false c (Op.Create d kind)
 
   node_looked : (trace : List Traced) (node : ℕ) (r : Option NodeWord) → node < c.nodes → is_some r ≡ true →
-      Comes trace node (create_looked (create_of (CreateStep.LoadsNode node)) node r)
+      NextInvariant trace node (create_looked (create_of (CreateStep.LoadsNode node)) node r)
   node_looked trace node r lt h = grind arith
 
   -- each event of a create is followed by a later step of it, or by its end
-  create_goes : IsWithin c → (earlier : List Traced) (s : CreateStep) (value : ℕ) → IsThere c earlier s →
-      (trace : List Traced) → MayHold (create_next (create_of s) s).0 value →
-      Comes trace (events_before c s) (create_after (create_of s) s (found_by (create_next (create_of s) s).1 value)).0
+  create_goes : IsWithin c → (earlier : List Traced) (s : CreateStep) (value : ℕ) → StepInvariant c earlier s →
+      (trace : List Traced) → WordIsValid (create_next (create_of s) s).0 value →
+      NextInvariant trace (events_before c s) (create_after (create_of s) s (found_by (create_next (create_of s) s).1 value)).0
   create_goes lim earlier CreateStep.LoadsDirectory value there trace may =
-      looked (Comes trace 0) (create_of CreateStep.LoadsDirectory) (λ dir. create_of (CreateStep.LoadsNode 1)) (directory_in value)
+      looked (NextInvariant trace 0) (create_of CreateStep.LoadsDirectory) (λ dir. create_of (CreateStep.LoadsNode 1)) (directory_in value)
       (made_some (λ node. as_directory node node.kind) (unpacked value) may)
       (λ dir. (CreateStep.LoadsNode 1, refl, lim.some_node, λ q. omega arith)) (λ refusal q. omega arith)
   create_goes lim earlier (CreateStep.LoadsNode node) value there trace may = node_looked trace node (unpacked value) there may
@@ -72,29 +72,29 @@ module _ (c : Config) (d : ℕ) (kind : Kind) where
   create_goes lim earlier CreateStep.RefundsChild value there trace may = λ q. omega arith
 
   -- a step comes after at most that many events
-  create_within : (s : CreateStep) (trace : List Traced) → IsThere c trace s → length trace ≤ events_before c s →
+  create_within : (s : CreateStep) (trace : List Traced) → StepInvariant c trace s → length trace ≤ events_before c s →
       length trace ≤ c.nodes + 3
   create_within (CreateStep.LoadsNode node) trace there h = omega (arith, there, h)
   create_within s trace there h = omega (arith, h)
 
   -- so the trace of a create says what its row asks for
   create_answers : (s : CreateStep) (trace : List Traced) →
-      Answers Create CreateStep TreePhase.Create create_of Knows so_far (IsThere c) (events_before c) (c.nodes + 3) false c (Op.Create d kind)
+      Answers Create CreateStep TreePhase.Create create_of Knows so_far (StepInvariant c) (events_before c) (c.nodes + 3) false c (Op.Create d kind)
       IsNodeReply (CreateHonest (SeenIn trace) (create_of s)) (create_adds (create_of s)) trace
   create_answers s trace = grind arith
 
   -- and keeps it along
-  create_kept : IsWithin c → (t : ℕ) → KeptWell CreateAt c t (Op.Create d kind)
+  create_kept : IsWithin c → (t : ℕ) → IsInductiveGivenReads CreateAt c t (Op.Create d kind)
   create_kept lim t = record {
     first = (CreateStep.LoadsDirectory, refl, (tt, tt, refl, λ q. omega arith));
     more = λ phase value hook earlier added may here.
         let s : CreateStep = here.0 in
         let x : Phase = Phase.Trees (TreePhase.Create (create_of s)) in
         let e : Traced = with_hook (event_at x value hook) hook in
-        subst (λ (p : Phase). MayFind p (next_of p hook).0 value → SaysAfter CreateAt c (Op.Create d kind) p value hook earlier added)
+        subst (λ (p : Phase). ReadIsValid p (next_of p hook).0 value → InvariantAfterStep CreateAt c (Op.Create d kind) p value hook earlier added)
         (sym here.1)
         (λ holds.
-        call_says Create CreateStep TreePhase.Create create_of Knows so_far (IsThere c) (events_before c) (c.nodes + 3) false c (Op.Create d kind)
+        call_says Create CreateStep TreePhase.Create create_of Knows so_far (StepInvariant c) (events_before c) (c.nodes + 3) false c (Op.Create d kind)
         IsNodeReply (CreateHonest (SeenIn (e ∷ earlier)) (create_of s)) (create_adds (create_of s)) e earlier
         (create_answers s (e ∷ earlier)) (events_before c s) here.2.3
         (create_after (create_of s) s (found_by (create_next (create_of s) s).1 value)).0
@@ -106,7 +106,7 @@ module _ (c : Config) (d : ℕ) (kind : Kind) where
   }
 
 pub create_tells : (d : ℕ) (kind : Kind) (c : Config) → IsWithin c → (t : ℕ) (trace : List Traced) → IsTrace c t (Op.Create d kind) trace →
-    Tells c (Op.Create d kind) trace (course_of c t (Op.Create d kind) trace).comes (course_of c t (Op.Create d kind) trace).added
+    Tells c (Op.Create d kind) trace (state_of_trace c t (Op.Create d kind) trace).comes (state_of_trace c t (Op.Create d kind) trace).added
 create_tells d kind c lim t trace h = tells_well (CreateAt c d kind) c t (Op.Create d kind) (create_kept c d kind lim t) trace h
 
 pub create_short : (d : ℕ) (kind : Kind) (c : Config) → IsWithin c → (t : ℕ) (trace : List Traced) → IsTrace c t (Op.Create d kind) trace →

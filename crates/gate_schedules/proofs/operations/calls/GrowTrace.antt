@@ -7,11 +7,11 @@ use Rattle.gated_tree.specs.Phases.{at_grow, grow_after, grow_next}
 use Rattle.gated_tree.specs.Refusals.{GrowHonest}
 use Rattle.gated_tree.specs.declared.{growth.{Grow.Grow, GrowStep.GrowStep}, phases.TreePhase.TreePhase}
 use Rattle.gate_schedules.{proofs.trees.Ends.grow_ends, specs.trees.Ends.{GrowKnows, IsReply, where_done}}
-use Rattle.gate_world.specs.{Configs.IsWithin, Courses.{IsTrace, MayHold, MayFind, course_of}, Found.SeenIn, Operations.first_grow}
-use Rattle.gate_world.specs.{Traces.{actions_of, IsHonest, IsShort, Tells, most_events}, Views.with_hook, Work.next_of}
+use Rattle.gate_world.specs.{Configs.IsWithin, traces.TraceStates.{IsTrace, WordIsValid, ReadIsValid, state_of_trace}, traces.Found.SeenIn, Operations.first_grow}
+use Rattle.gate_world.specs.{traces.Traces.{actions_of, IsHonest, IsShort, Tells, most_events}, Views.with_hook, Work.next_of}
 use Rattle.gate_world.specs.declared.{config.Config.Config, operations.Op.Op, views.Traced.Traced, work.Phase.Phase}
-use Rattle.gate_schedules.proofs.operations.calls.Trace.{Answers, CallAt, Stays, call_says, sees}
-use Rattle.gate_schedules.proofs.traces.Says.{KeptWell, SaysAfter, event_at, tells_well, is_short_well}
+use Rattle.gate_schedules.proofs.operations.calls.Trace.{Answers, CallAt, GoesOnOrEnds, call_says, sees}
+use Rattle.gate_schedules.proofs.traces.TraceInvariant.{IsInductiveGivenReads, InvariantAfterStep, event_at, tells_well, is_short_well}
 
 -- how many events a grow has done before a step
 abbrev events_before : GrowStep → ℕ
@@ -29,8 +29,8 @@ abbrev so_far : Grow → List Action
 so_far x = []
 
 -- its trace says no more
-abbrev IsThere : List Traced → GrowStep → Type 0
-IsThere trace s = Unit {0}
+abbrev StepInvariant : List Traced → GrowStep → Type 0
+StepInvariant trace s = Unit {0}
 
 module _ (c : Config) (file blocks : ℕ) where
   -- the grow at a step
@@ -39,15 +39,15 @@ module _ (c : Config) (file blocks : ℕ) where
 
   -- what its trace says at a phase
   abbrev GrowAt : List Traced → Phase → List Action → Type 0
-  GrowAt = CallAt Grow GrowStep TreePhase.Grow grow_of Knows so_far IsThere events_before 5 false c (Op.Grow file blocks)
+  GrowAt = CallAt Grow GrowStep TreePhase.Grow grow_of Knows so_far StepInvariant events_before 5 false c (Op.Grow file blocks)
 
   -- what comes after so many events
-  abbrev Comes : List Traced → ℕ → Next Grow → Type 0
-  Comes = Stays Grow GrowStep TreePhase.Grow grow_of Knows so_far IsThere events_before 5 false c (Op.Grow file blocks)
+  abbrev NextInvariant : List Traced → ℕ → Next Grow → Type 0
+  NextInvariant = GoesOnOrEnds Grow GrowStep TreePhase.Grow grow_of Knows so_far StepInvariant events_before 5 false c (Op.Grow file blocks)
 
   -- each event is followed by a later step of the grow, or by its end
-  grow_goes : (s : GrowStep) (value : ℕ) (trace : List Traced) → MayHold (grow_next (grow_of s) s).0 value →
-      Comes trace (events_before s) (grow_after (grow_of s) s (found_by (grow_next (grow_of s) s).1 value)).0
+  grow_goes : (s : GrowStep) (value : ℕ) (trace : List Traced) → WordIsValid (grow_next (grow_of s) s).0 value →
+      NextInvariant trace (events_before s) (grow_after (grow_of s) s (found_by (grow_next (grow_of s) s).1 value)).0
   grow_goes s value trace may = grind arith
 
   -- why a grow is refused doesn't depend on its step
@@ -63,7 +63,7 @@ module _ (c : Config) (file blocks : ℕ) where
 
   -- so the trace of a grow says what its row asks for
   grow_answers : (s : GrowStep) (trace : List Traced) →
-      Answers Grow GrowStep TreePhase.Grow grow_of Knows so_far IsThere events_before 5 false c (Op.Grow file blocks)
+      Answers Grow GrowStep TreePhase.Grow grow_of Knows so_far StepInvariant events_before 5 false c (Op.Grow file blocks)
       (IsReply Reply.Unit) (GrowHonest (SeenIn trace) (grow_of s)) (where_done (Action.Grow file blocks)) trace
   grow_answers s trace = record {
     told = λ reply h. h;
@@ -78,17 +78,17 @@ module _ (c : Config) (file blocks : ℕ) where
   grow_within other trace h = omega (arith, h)
 
   -- and keeps it along
-  grow_kept : (t : ℕ) → KeptWell GrowAt c t (Op.Grow file blocks)
+  grow_kept : (t : ℕ) → IsInductiveGivenReads GrowAt c t (Op.Grow file blocks)
   grow_kept t = record {
     first = (GrowStep.LoadsFile, refl, (tt, tt, refl, λ q. omega arith));
     more = λ phase value hook earlier added may here.
         let s : GrowStep = here.0 in
         let x : Phase = Phase.Trees (TreePhase.Grow (grow_of s)) in
         let e : Traced = with_hook (event_at x value hook) hook in
-        subst (λ (p : Phase). MayFind p (next_of p hook).0 value → SaysAfter GrowAt c (Op.Grow file blocks) p value hook earlier added)
+        subst (λ (p : Phase). ReadIsValid p (next_of p hook).0 value → InvariantAfterStep GrowAt c (Op.Grow file blocks) p value hook earlier added)
         (sym here.1)
         (λ holds.
-        call_says Grow GrowStep TreePhase.Grow grow_of Knows so_far IsThere events_before 5 false c (Op.Grow file blocks)
+        call_says Grow GrowStep TreePhase.Grow grow_of Knows so_far StepInvariant events_before 5 false c (Op.Grow file blocks)
         (IsReply Reply.Unit) (GrowHonest (SeenIn (e ∷ earlier)) (grow_of s)) (where_done (Action.Grow file blocks)) e earlier
         (grow_answers s (e ∷ earlier)) (events_before s) here.2.3
         (grow_after (grow_of s) s (found_by (grow_next (grow_of s) s).1 value)).0
@@ -100,7 +100,7 @@ module _ (c : Config) (file blocks : ℕ) where
   }
 
 pub grow_tells : (file blocks : ℕ) (c : Config) → IsWithin c → (t : ℕ) (trace : List Traced) → IsTrace c t (Op.Grow file blocks) trace →
-    Tells c (Op.Grow file blocks) trace (course_of c t (Op.Grow file blocks) trace).comes (course_of c t (Op.Grow file blocks) trace).added
+    Tells c (Op.Grow file blocks) trace (state_of_trace c t (Op.Grow file blocks) trace).comes (state_of_trace c t (Op.Grow file blocks) trace).added
 grow_tells file blocks c lim t trace h = tells_well (GrowAt c file blocks) c t (Op.Grow file blocks) (grow_kept c file blocks t) trace h
 
 pub grow_short : (file blocks : ℕ) (c : Config) → IsWithin c → (t : ℕ) (trace : List Traced) → IsTrace c t (Op.Grow file blocks) trace →

@@ -1,11 +1,11 @@
 -- All that is proved of the beginnings and the traces of the operations at the tree.
 use Rattle.access_model.specs.declared.actions.Kind.{Kind}
-use Rattle.gate_schedules.proofs.frames.{Agreeing.{faulter_agrees, none_agree, writer_agrees}, Keeps.{IsSmall, OpKeeps, by_bool}}
+use Rattle.gate_schedules.proofs.frames.{Agreeing.{faulter_agrees, none_agree, writer_agrees}, OperationLaws.{IsSmall, OpLaws, by_bool}}
 use Rattle.gate_schedules.proofs.operations.calls.{CreateTrace.{create_short, create_tells}, GrowTrace.{grow_short, grow_tells}}
 use Rattle.gate_schedules.proofs.operations.calls.{MarkTrace.{fault_short, fault_tells, flush_short, flush_tells}, MoveTrace.{move_short, move_tells}}
 use Rattle.gate_schedules.proofs.operations.calls.{OpenTrace.{open_short, open_tells}, RemoveTrace.{remove_short, remove_tells}}
 use Rattle.gate_schedules.proofs.{operations.snapshot.Trace.{snapshot_short, snapshot_tells}, trees.worlds.Holders.both_true}
-use Rattle.gate_world.specs.{Traces.most_events, declared.{config.Config.Config, operations.Op.Op}}
+use Rattle.gate_world.specs.{traces.Traces.most_events, declared.{config.Config.Config, operations.Op.Op}}
 use Rattle.std.proofs.{Common.{Bool, ap, arith, not, refl, sym, true, ℕ, ◌≡◌}, lemmas.Bool.ltb-true}
 use Rattle.std.specs.Prelude.{false, nat_lt}
 
@@ -13,7 +13,7 @@ not_false : (b : Bool) → not b ≡ true → b ≡ false
 not_false true e = sym e
 not_false false e = refl
 
-pub create_keeps : (c : Config) (d : ℕ) (kind : Kind) → OpKeeps c (Op.Create d kind)
+pub create_keeps : (c : Config) (d : ℕ) (kind : Kind) → OpLaws c (Op.Create d kind)
 create_keeps c d kind = record {
   fits = λ t held there order room. ((ltb-true d c.nodes there, refl, tt), order);
   starts_aside = λ t. refl;
@@ -27,7 +27,7 @@ create_keeps c d kind = record {
   most_small = λ within. omega (arith, within.nodes);
 }
 
-pub remove_keeps : (c : Config) (file : ℕ) → OpKeeps c (Op.Remove file)
+pub remove_keeps : (c : Config) (file : ℕ) → OpLaws c (Op.Remove file)
 remove_keeps c file = record {
   fits = λ t held there order room. ((ltb-true file c.nodes there, tt), order);
   starts_aside = λ t. refl;
@@ -41,7 +41,7 @@ remove_keeps c file = record {
   most_small = λ within. omega arith;
 }
 
-pub grow_keeps : (c : Config) (file blocks : ℕ) → OpKeeps c (Op.Grow file blocks)
+pub grow_keeps : (c : Config) (file blocks : ℕ) → OpLaws c (Op.Grow file blocks)
 grow_keeps c file blocks = record {
   fits = λ t held there order room.
       let both : (nat_lt file c.nodes ≡ true) × (nat_lt 0 blocks ≡ true) = both_true (nat_lt file c.nodes) (nat_lt 0 blocks) there in
@@ -57,7 +57,7 @@ grow_keeps c file blocks = record {
   most_small = λ within. omega arith;
 }
 
-pub move_keeps : (c : Config) (file dir : ℕ) → OpKeeps c (Op.MoveTo file dir)
+pub move_keeps : (c : Config) (file dir : ℕ) → OpLaws c (Op.MoveTo file dir)
 move_keeps c file dir = record {
   fits = λ t held there order room.
       let both : (nat_lt file c.nodes ≡ true) × (nat_lt dir c.nodes ≡ true) = both_true (nat_lt file c.nodes) (nat_lt dir c.nodes) there in
@@ -73,7 +73,7 @@ move_keeps c file dir = record {
   most_small = λ within. omega arith;
 }
 
-pub fault_keeps : (c : Config) (file : ℕ) → OpKeeps c (Op.Fault file)
+pub fault_keeps : (c : Config) (file : ℕ) → OpLaws c (Op.Fault file)
 fault_keeps c file = record {
   fits = λ t held there order room. (ltb-true file c.nodes there, order);
   starts_aside = λ t. refl;
@@ -87,7 +87,7 @@ fault_keeps c file = record {
   most_small = λ within. omega arith;
 }
 
-pub flush_keeps : (c : Config) (file : ℕ) → OpKeeps c (Op.Flush file)
+pub flush_keeps : (c : Config) (file : ℕ) → OpLaws c (Op.Flush file)
 flush_keeps c file = record {
   fits = λ t held there order room. (ltb-true file c.nodes there, order);
   starts_aside = λ t. refl;
@@ -101,7 +101,7 @@ flush_keeps c file = record {
   most_small = λ within. omega arith;
 }
 
-pub open_keeps : (c : Config) (file : ℕ) → OpKeeps c (Op.Open file)
+pub open_keeps : (c : Config) (file : ℕ) → OpLaws c (Op.Open file)
 open_keeps c file = record {
   fits = λ t held there order room. ((ltb-true file c.nodes there, tt), tt);
   starts_aside = λ t. refl;
@@ -115,7 +115,7 @@ open_keeps c file = record {
   most_small = λ within. omega arith;
 }
 
-pub snapshot_keeps : (c : Config) (wait : Bool) → OpKeeps c (Op.Snapshot wait)
+pub snapshot_keeps : (c : Config) (wait : Bool) → OpLaws c (Op.Snapshot wait)
 snapshot_keeps c wait = record {
   fits = λ t held there order room. ((refl, refl, tt), order);
   starts_aside = λ t. refl;

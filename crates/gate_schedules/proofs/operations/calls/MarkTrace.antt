@@ -8,11 +8,11 @@ use Rattle.gated_tree.specs.Phases.{at_mark, mark_after, mark_done, mark_next}
 use Rattle.gated_tree.specs.Refusals.{FileHonest}
 use Rattle.gated_tree.specs.declared.{marks.{Mark.Mark, MarkStep.MarkStep}, phases.TreePhase.TreePhase}
 use Rattle.gate_schedules.{proofs.trees.Ends.mark_ends, specs.trees.Ends.{IsReply, where_done}}
-use Rattle.gate_world.specs.{Beginnings.first_phase, Configs.IsWithin, Courses.{IsTrace, MayHold, MayFind, course_of}, Found.SeenIn, Operations.first_mark}
-use Rattle.gate_world.specs.{Traces.{IsShort, Tells, most_events}, Views.with_hook, Work.next_of}
+use Rattle.gate_world.specs.{Beginnings.first_phase, Configs.IsWithin, traces.TraceStates.{IsTrace, WordIsValid, ReadIsValid, state_of_trace}, traces.Found.SeenIn, Operations.first_mark}
+use Rattle.gate_world.specs.{traces.Traces.{IsShort, Tells, most_events}, Views.with_hook, Work.next_of}
 use Rattle.gate_world.specs.declared.{config.Config.Config, operations.Op.Op, views.Traced.Traced, work.Phase.Phase}
-use Rattle.gate_schedules.proofs.operations.calls.Trace.{Answers, CallAt, Stays, call_says, looked, made_some, sees}
-use Rattle.gate_schedules.proofs.traces.Says.{KeptWell, SaysAfter, event_at, tells_well, is_short_well}
+use Rattle.gate_schedules.proofs.operations.calls.Trace.{Answers, CallAt, GoesOnOrEnds, call_says, looked, made_some, sees}
+use Rattle.gate_schedules.proofs.traces.TraceInvariant.{IsInductiveGivenReads, InvariantAfterStep, event_at, tells_well, is_short_well}
 
 -- how many events one has done before a step
 abbrev events_before : MarkStep → ℕ
@@ -27,8 +27,8 @@ abbrev so_far : Mark → List Action
 so_far x = []
 
 -- its trace says no more
-abbrev IsThere : List Traced → MarkStep → Type 0
-IsThere trace s = Unit {0}
+abbrev StepInvariant : List Traced → MarkStep → Type 0
+StepInvariant trace s = Unit {0}
 
 -- the operation: a page fault sets a file's mark, a write-back clears it
 abbrev mark_op : ℕ → Bool → Op
@@ -52,17 +52,17 @@ module _ (c : Config) (file : ℕ) (dirty : Bool) where
 
   -- what its trace says at a phase
   abbrev MarkAt : List Traced → Phase → List Action → Type 0
-  MarkAt = CallAt Mark MarkStep TreePhase.Mark mark_of Knows so_far IsThere events_before 2 false c (mark_op file dirty)
+  MarkAt = CallAt Mark MarkStep TreePhase.Mark mark_of Knows so_far StepInvariant events_before 2 false c (mark_op file dirty)
 
   -- what comes after so many events
-  abbrev Comes : List Traced → ℕ → Next Mark → Type 0
-  Comes = Stays Mark MarkStep TreePhase.Mark mark_of Knows so_far IsThere events_before 2 false c (mark_op file dirty)
+  abbrev NextInvariant : List Traced → ℕ → Next Mark → Type 0
+  NextInvariant = GoesOnOrEnds Mark MarkStep TreePhase.Mark mark_of Knows so_far StepInvariant events_before 2 false c (mark_op file dirty)
 
   -- each event is followed by a later step of the mark, or by its end
-  mark_goes : (s : MarkStep) (value : ℕ) (trace : List Traced) → MayHold (mark_next (mark_of s) s).0 value →
-      Comes trace (events_before s) (mark_after (mark_of s) s (found_by (mark_next (mark_of s) s).1 value)).0
+  mark_goes : (s : MarkStep) (value : ℕ) (trace : List Traced) → WordIsValid (mark_next (mark_of s) s).0 value →
+      NextInvariant trace (events_before s) (mark_after (mark_of s) s (found_by (mark_next (mark_of s) s).1 value)).0
   mark_goes MarkStep.LoadsFile value trace may =
-      looked (Comes trace 0) (mark_of MarkStep.LoadsFile) (λ node. mark_of (MarkStep.MarksFile node)) (file_in value)
+      looked (NextInvariant trace 0) (mark_of MarkStep.LoadsFile) (λ node. mark_of (MarkStep.MarksFile node)) (file_in value)
       (made_some (λ node. as_file node node.removed node.kind) (unpacked value) may)
       (λ node. (MarkStep.MarksFile node, refl, tt, λ q. omega arith)) (λ refusal q. omega arith)
   mark_goes (MarkStep.MarksFile node) value trace may = elim (cases_Bool (value == word_of node)) [
@@ -72,7 +72,7 @@ module _ (c : Config) (file : ℕ) (dirty : Bool) where
 
   -- so the trace of a mark says what its row asks for
   mark_answers : (trace : List Traced) →
-      Answers Mark MarkStep TreePhase.Mark mark_of Knows so_far IsThere events_before 2 false c (mark_op file dirty)
+      Answers Mark MarkStep TreePhase.Mark mark_of Knows so_far StepInvariant events_before 2 false c (mark_op file dirty)
       (IsReply Reply.Unit) (FileHonest (SeenIn trace) file) (where_done (mark_done dirty file)) trace
   mark_answers trace = grind arith
 
@@ -82,17 +82,17 @@ module _ (c : Config) (file : ℕ) (dirty : Bool) where
   mark_within (MarkStep.MarksFile file) trace h = omega (arith, h)
 
   -- and keeps it along
-  mark_kept : (t : ℕ) → KeptWell MarkAt c t (mark_op file dirty)
+  mark_kept : (t : ℕ) → IsInductiveGivenReads MarkAt c t (mark_op file dirty)
   mark_kept t = record {
     first = (MarkStep.LoadsFile, mark_first c t file dirty, (tt, tt, refl, λ q. omega arith));
     more = λ phase value hook earlier added may here.
         let s : MarkStep = here.0 in
         let x : Phase = Phase.Trees (TreePhase.Mark (mark_of s)) in
         let e : Traced = with_hook (event_at x value hook) hook in
-        subst (λ (p : Phase). MayFind p (next_of p hook).0 value → SaysAfter MarkAt c (mark_op file dirty) p value hook earlier added)
+        subst (λ (p : Phase). ReadIsValid p (next_of p hook).0 value → InvariantAfterStep MarkAt c (mark_op file dirty) p value hook earlier added)
         (sym here.1)
         (λ holds.
-        call_says Mark MarkStep TreePhase.Mark mark_of Knows so_far IsThere events_before 2 false c (mark_op file dirty)
+        call_says Mark MarkStep TreePhase.Mark mark_of Knows so_far StepInvariant events_before 2 false c (mark_op file dirty)
         (IsReply Reply.Unit) (FileHonest (SeenIn (e ∷ earlier)) file) (where_done (mark_done dirty file)) e earlier
         (mark_answers (e ∷ earlier)) (events_before s) here.2.3
         (mark_after (mark_of s) s (found_by (mark_next (mark_of s) s).1 value)).0
@@ -104,7 +104,7 @@ module _ (c : Config) (file : ℕ) (dirty : Bool) where
   }
 
 pub fault_tells : (file : ℕ) (c : Config) → IsWithin c → (t : ℕ) (trace : List Traced) → IsTrace c t (Op.Fault file) trace →
-    Tells c (Op.Fault file) trace (course_of c t (Op.Fault file) trace).comes (course_of c t (Op.Fault file) trace).added
+    Tells c (Op.Fault file) trace (state_of_trace c t (Op.Fault file) trace).comes (state_of_trace c t (Op.Fault file) trace).added
 fault_tells file c lim t trace h = tells_well (MarkAt c file true) c t (Op.Fault file) (mark_kept c file true t) trace h
 
 pub fault_short : (file : ℕ) (c : Config) → IsWithin c → (t : ℕ) (trace : List Traced) → IsTrace c t (Op.Fault file) trace →
@@ -112,7 +112,7 @@ pub fault_short : (file : ℕ) (c : Config) → IsWithin c → (t : ℕ) (trace 
 fault_short file c lim t trace h = is_short_well (MarkAt c file true) c t (Op.Fault file) (mark_kept c file true t) trace h
 
 pub flush_tells : (file : ℕ) (c : Config) → IsWithin c → (t : ℕ) (trace : List Traced) → IsTrace c t (Op.Flush file) trace →
-    Tells c (Op.Flush file) trace (course_of c t (Op.Flush file) trace).comes (course_of c t (Op.Flush file) trace).added
+    Tells c (Op.Flush file) trace (state_of_trace c t (Op.Flush file) trace).comes (state_of_trace c t (Op.Flush file) trace).added
 flush_tells file c lim t trace h = tells_well (MarkAt c file false) c t (Op.Flush file) (mark_kept c file false t) trace h
 
 pub flush_short : (file : ℕ) (c : Config) → IsWithin c → (t : ℕ) (trace : List Traced) → IsTrace c t (Op.Flush file) trace →

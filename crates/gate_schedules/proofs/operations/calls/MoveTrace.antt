@@ -7,11 +7,11 @@ use Rattle.node_words.specs.Nodes.{word_of, as_file, as_directory, unpacked, fil
 use Rattle.gated_tree.specs.Phases.{at_move, move_after, move_next}
 use Rattle.gated_tree.specs.{Refusals.MoveHonest, declared.{changes.{MoveStep.MoveStep, MoveTo.MoveTo}, phases.TreePhase.TreePhase}}
 use Rattle.gate_schedules.{proofs.trees.Ends.move_ends, specs.trees.Ends.{IsReply, MoveKnows, move_added, where_done}}
-use Rattle.gate_world.specs.{Configs.IsWithin, Courses.{IsTrace, MayHold, MayFind, course_of}, Found.SeenIn, Operations.first_move}
-use Rattle.gate_world.specs.{Traces.{IsShort, Tells, most_events}, Views.with_hook, Work.next_of}
+use Rattle.gate_world.specs.{Configs.IsWithin, traces.TraceStates.{IsTrace, WordIsValid, ReadIsValid, state_of_trace}, traces.Found.SeenIn, Operations.first_move}
+use Rattle.gate_world.specs.{traces.Traces.{IsShort, Tells, most_events}, Views.with_hook, Work.next_of}
 use Rattle.gate_world.specs.declared.{config.Config.Config, operations.Op.Op, views.Traced.Traced, work.Phase.Phase}
-use Rattle.gate_schedules.proofs.operations.calls.Trace.{Answers, CallAt, Stays, call_says, looked, made_some, sees}
-use Rattle.gate_schedules.proofs.traces.Says.{KeptWell, SaysAfter, event_at, tells_well, is_short_well}
+use Rattle.gate_schedules.proofs.operations.calls.Trace.{Answers, CallAt, GoesOnOrEnds, call_says, looked, made_some, sees}
+use Rattle.gate_schedules.proofs.traces.TraceInvariant.{IsInductiveGivenReads, InvariantAfterStep, event_at, tells_well, is_short_well}
 
 -- how many events a move has done before a step
 abbrev events_before : MoveStep → ℕ
@@ -29,8 +29,8 @@ abbrev so_far : MoveTo → List Action
 so_far x = move_added x x.step
 
 -- its trace says no more
-abbrev IsThere : List Traced → MoveStep → Type 0
-IsThere trace s = Unit {0}
+abbrev StepInvariant : List Traced → MoveStep → Type 0
+StepInvariant trace s = Unit {0}
 
 module _ (c : Config) (file dir : ℕ) where
   -- the move at a step
@@ -39,21 +39,21 @@ module _ (c : Config) (file dir : ℕ) where
 
   -- what its trace says at a phase
   abbrev MoveAt : List Traced → Phase → List Action → Type 0
-  MoveAt = CallAt MoveTo MoveStep TreePhase.MoveTo move_of Knows so_far IsThere events_before 5 false c (Op.MoveTo file dir)
+  MoveAt = CallAt MoveTo MoveStep TreePhase.MoveTo move_of Knows so_far StepInvariant events_before 5 false c (Op.MoveTo file dir)
 
   -- what comes after so many events
-  abbrev Comes : List Traced → ℕ → Next MoveTo → Type 0
-  Comes = Stays MoveTo MoveStep TreePhase.MoveTo move_of Knows so_far IsThere events_before 5 false c (Op.MoveTo file dir)
+  abbrev NextInvariant : List Traced → ℕ → Next MoveTo → Type 0
+  NextInvariant = GoesOnOrEnds MoveTo MoveStep TreePhase.MoveTo move_of Knows so_far StepInvariant events_before 5 false c (Op.MoveTo file dir)
 
   -- each event is followed by a later step of the move, or by its end
-  move_goes : (s : MoveStep) (value : ℕ) (trace : List Traced) → MayHold (move_next (move_of s) s).0 value →
-      Comes trace (events_before s) (move_after (move_of s) s (found_by (move_next (move_of s) s).1 value)).0
+  move_goes : (s : MoveStep) (value : ℕ) (trace : List Traced) → WordIsValid (move_next (move_of s) s).0 value →
+      NextInvariant trace (events_before s) (move_after (move_of s) s (found_by (move_next (move_of s) s).1 value)).0
   move_goes MoveStep.LoadsFile value trace may =
-      looked (Comes trace 0) (move_of MoveStep.LoadsFile) (λ node. move_of (MoveStep.LoadsDirectory node)) (file_in value)
+      looked (NextInvariant trace 0) (move_of MoveStep.LoadsFile) (λ node. move_of (MoveStep.LoadsDirectory node)) (file_in value)
       (made_some (λ node. as_file node node.removed node.kind) (unpacked value) may)
       (λ node. (MoveStep.LoadsDirectory node, refl, tt, λ q. omega arith)) (λ refusal q. omega arith)
   move_goes (MoveStep.LoadsDirectory node) value trace may =
-      looked (Comes trace 1) (move_of (MoveStep.LoadsDirectory node)) (λ found. move_of (MoveStep.ChargesChild node)) (directory_in value)
+      looked (NextInvariant trace 1) (move_of (MoveStep.LoadsDirectory node)) (λ found. move_of (MoveStep.ChargesChild node)) (directory_in value)
       (made_some (λ found. as_directory found found.kind) (unpacked value) may)
       (λ found. (MoveStep.ChargesChild node, refl, tt, λ q. omega arith)) (λ refusal q. omega arith)
   move_goes (MoveStep.ChargesChild node) value trace may = (MoveStep.MovesFile node, refl, tt, λ q. omega arith)
@@ -65,7 +65,7 @@ module _ (c : Config) (file dir : ℕ) where
 
   -- so the trace of a move says what its row asks for
   move_answers : (s : MoveStep) (trace : List Traced) →
-      Answers MoveTo MoveStep TreePhase.MoveTo move_of Knows so_far IsThere events_before 5 false c (Op.MoveTo file dir)
+      Answers MoveTo MoveStep TreePhase.MoveTo move_of Knows so_far StepInvariant events_before 5 false c (Op.MoveTo file dir)
       (IsReply Reply.Unit) (MoveHonest (SeenIn trace) (move_of s)) (where_done (Action.MoveTo file dir)) trace
   move_answers s trace = grind arith
 
@@ -75,17 +75,17 @@ module _ (c : Config) (file dir : ℕ) where
   move_within other trace h = omega (arith, h)
 
   -- and keeps it along
-  move_kept : (t : ℕ) → KeptWell MoveAt c t (Op.MoveTo file dir)
+  move_kept : (t : ℕ) → IsInductiveGivenReads MoveAt c t (Op.MoveTo file dir)
   move_kept t = record {
     first = (MoveStep.LoadsFile, refl, (tt, tt, refl, λ q. omega arith));
     more = λ phase value hook earlier added may here.
         let s : MoveStep = here.0 in
         let x : Phase = Phase.Trees (TreePhase.MoveTo (move_of s)) in
         let e : Traced = with_hook (event_at x value hook) hook in
-        subst (λ (p : Phase). MayFind p (next_of p hook).0 value → SaysAfter MoveAt c (Op.MoveTo file dir) p value hook earlier added)
+        subst (λ (p : Phase). ReadIsValid p (next_of p hook).0 value → InvariantAfterStep MoveAt c (Op.MoveTo file dir) p value hook earlier added)
         (sym here.1)
         (λ holds.
-        call_says MoveTo MoveStep TreePhase.MoveTo move_of Knows so_far IsThere events_before 5 false c (Op.MoveTo file dir)
+        call_says MoveTo MoveStep TreePhase.MoveTo move_of Knows so_far StepInvariant events_before 5 false c (Op.MoveTo file dir)
         (IsReply Reply.Unit) (MoveHonest (SeenIn (e ∷ earlier)) (move_of s)) (where_done (Action.MoveTo file dir)) e earlier
         (move_answers s (e ∷ earlier)) (events_before s) here.2.3
         (move_after (move_of s) s (found_by (move_next (move_of s) s).1 value)).0
@@ -97,7 +97,7 @@ module _ (c : Config) (file dir : ℕ) where
   }
 
 pub move_tells : (file dir : ℕ) (c : Config) → IsWithin c → (t : ℕ) (trace : List Traced) → IsTrace c t (Op.MoveTo file dir) trace →
-    Tells c (Op.MoveTo file dir) trace (course_of c t (Op.MoveTo file dir) trace).comes (course_of c t (Op.MoveTo file dir) trace).added
+    Tells c (Op.MoveTo file dir) trace (state_of_trace c t (Op.MoveTo file dir) trace).comes (state_of_trace c t (Op.MoveTo file dir) trace).added
 move_tells file dir c lim t trace h = tells_well (MoveAt c file dir) c t (Op.MoveTo file dir) (move_kept c file dir t) trace h
 
 pub move_short : (file dir : ℕ) (c : Config) → IsWithin c → (t : ℕ) (trace : List Traced) → IsTrace c t (Op.MoveTo file dir) trace →

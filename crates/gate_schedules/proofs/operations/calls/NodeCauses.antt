@@ -21,7 +21,7 @@ use Rattle.node_words.specs.declared.nodes.NodeWord.{NodeWord}
 use Rattle.gated_tree.specs.declared.opens.OpenFile.{OpenFile}
 use Rattle.gated_tree.specs.declared.opens.OpenStep.{OpenStep}
 use Rattle.gated_tree.specs.declared.phases.TreePhase.{TreePhase}
-use Rattle.gate_world.specs.{Causes.{TellsOf, CallRefused, tree_sees}, Shown.shown, Work.after_of, Worlds.{World, found_at}}
+use Rattle.gate_world.specs.{refusals.Causes.{TellsOf, CallRefused, tree_sees}, Shown.shown, Work.after_of, Worlds.{World, found_at}}
 use Rattle.gate_world.specs.declared.{config.Config.Config, work.Phase.Phase}
 
 pub some_is : {A : Type 0} (a b : A) → Some a ≡ Some b → a ≡ b

@@ -13,11 +13,11 @@ use Rattle.gated_tree.specs.declared.opens.OpenFile.{OpenFile}
 use Rattle.gated_tree.specs.declared.opens.OpenStep.{OpenStep}
 use Rattle.gated_tree.specs.declared.phases.TreePhase.{TreePhase}
 use Rattle.gate_schedules.{proofs.trees.Ends.open_ends, specs.trees.Ends.{IsReply, where_done}}
-use Rattle.gate_world.specs.{Configs.IsWithin, Courses.{IsTrace, MayFind, OpenMayFind, course_of}, Found.SeenIn, Operations.first_open}
-use Rattle.gate_world.specs.{Traces.{IsShort, Tells, most_events}, Views.with_hook, Work.next_of}
+use Rattle.gate_world.specs.{Configs.IsWithin, traces.TraceStates.{IsTrace, ReadIsValid, OpenReadIsValid, state_of_trace}, traces.Found.SeenIn, Operations.first_open}
+use Rattle.gate_world.specs.{traces.Traces.{IsShort, Tells, most_events}, Views.with_hook, Work.next_of}
 use Rattle.gate_world.specs.declared.{config.Config.Config, operations.Op.Op, views.Traced.Traced, work.Phase.Phase}
-use Rattle.gate_schedules.proofs.operations.calls.Trace.{Answers, CallAt, Stays, call_says, made_some, sees}
-use Rattle.gate_schedules.proofs.traces.Says.{KeptWell, SaysAfter, event_at, tells_well, is_short_well}
+use Rattle.gate_schedules.proofs.operations.calls.Trace.{Answers, CallAt, GoesOnOrEnds, call_says, made_some, sees}
+use Rattle.gate_schedules.proofs.traces.TraceInvariant.{IsInductiveGivenReads, InvariantAfterStep, event_at, tells_well, is_short_well}
 
 -- how many events an open has done before a step
 abbrev events_before : OpenStep → ℕ
@@ -32,8 +32,8 @@ abbrev so_far : OpenFile → List Action
 so_far x = []
 
 -- its trace says no more
-abbrev IsThere : List Traced → OpenStep → Type 0
-IsThere trace s = Unit {0}
+abbrev StepInvariant : List Traced → OpenStep → Type 0
+StepInvariant trace s = Unit {0}
 
 module _ (c : Config) (file : ℕ) where
   -- the open at a step
@@ -42,21 +42,21 @@ module _ (c : Config) (file : ℕ) where
 
   -- what its trace says at a phase
   abbrev OpenAt : List Traced → Phase → List Action → Type 0
-  OpenAt = CallAt OpenFile OpenStep TreePhase.OpenFile open_of Knows so_far IsThere events_before 2 false c (Op.Open file)
+  OpenAt = CallAt OpenFile OpenStep TreePhase.OpenFile open_of Knows so_far StepInvariant events_before 2 false c (Op.Open file)
 
   -- what comes after so many events
-  abbrev Comes : List Traced → ℕ → Next OpenFile → Type 0
-  Comes = Stays OpenFile OpenStep TreePhase.OpenFile open_of Knows so_far IsThere events_before 2 false c (Op.Open file)
+  abbrev NextInvariant : List Traced → ℕ → Next OpenFile → Type 0
+  NextInvariant = GoesOnOrEnds OpenFile OpenStep TreePhase.OpenFile open_of Knows so_far StepInvariant events_before 2 false c (Op.Open file)
 
   -- a look that finds its file room goes on
   look_goes : (value : ℕ) (trace : List Traced) (r : Option (Result NodeWord GateError)) → file_in value ≡ r → is_some r ≡ true →
       opens_in value < 64 →
-      Comes trace 0 (after_look (open_of OpenStep.LoadsFile) (λ node. open_of (opens_from node (nat_lt node.opens 64))) r)
+      NextInvariant trace 0 (after_look (open_of OpenStep.LoadsFile) (λ node. open_of (opens_from node (nat_lt node.opens 64))) r)
   look_goes value trace r e some room = grind (arith, common_steps)
 
   -- each event is followed by a later step of the open, or by its end
-  open_goes : (s : OpenStep) (value : ℕ) (trace : List Traced) → OpenMayFind s value →
-      Comes trace (events_before s) (open_after (open_of s) s (found_by (open_next (open_of s) s).1 value)).0
+  open_goes : (s : OpenStep) (value : ℕ) (trace : List Traced) → OpenReadIsValid s value →
+      NextInvariant trace (events_before s) (open_after (open_of s) s (found_by (open_next (open_of s) s).1 value)).0
   open_goes OpenStep.LoadsFile value trace may =
       look_goes value trace (file_in value) refl (made_some (λ node. as_file node node.removed node.kind) (unpacked value) may.0) may.1
   open_goes (OpenStep.OpensFile node) value trace may = elim (cases_Bool (value == word_of node)) [
@@ -66,7 +66,7 @@ module _ (c : Config) (file : ℕ) where
 
   -- so the trace of an open says what its row asks for
   open_answers : (trace : List Traced) →
-      Answers OpenFile OpenStep TreePhase.OpenFile open_of Knows so_far IsThere events_before 2 false c (Op.Open file)
+      Answers OpenFile OpenStep TreePhase.OpenFile open_of Knows so_far StepInvariant events_before 2 false c (Op.Open file)
       (IsReply Reply.Unit) (FileHonest (SeenIn trace) file) (where_done (Action.Open file)) trace
   open_answers trace = grind arith
 
@@ -76,17 +76,17 @@ module _ (c : Config) (file : ℕ) where
   open_within (OpenStep.OpensFile file) trace h = omega (arith, h)
 
   -- and keeps it along
-  open_kept : (t : ℕ) → KeptWell OpenAt c t (Op.Open file)
+  open_kept : (t : ℕ) → IsInductiveGivenReads OpenAt c t (Op.Open file)
   open_kept t = record {
     first = (OpenStep.LoadsFile, refl, (tt, tt, refl, λ q. omega arith));
     more = λ phase value hook earlier added may here.
         let s : OpenStep = here.0 in
         let x : Phase = Phase.Trees (TreePhase.OpenFile (open_of s)) in
         let e : Traced = with_hook (event_at x value hook) hook in
-        subst (λ (p : Phase). MayFind p (next_of p hook).0 value → SaysAfter OpenAt c (Op.Open file) p value hook earlier added)
+        subst (λ (p : Phase). ReadIsValid p (next_of p hook).0 value → InvariantAfterStep OpenAt c (Op.Open file) p value hook earlier added)
         (sym here.1)
         (λ holds.
-        call_says OpenFile OpenStep TreePhase.OpenFile open_of Knows so_far IsThere events_before 2 false c (Op.Open file)
+        call_says OpenFile OpenStep TreePhase.OpenFile open_of Knows so_far StepInvariant events_before 2 false c (Op.Open file)
         (IsReply Reply.Unit) (FileHonest (SeenIn (e ∷ earlier)) file) (where_done (Action.Open file)) e earlier
         (open_answers (e ∷ earlier)) (events_before s) here.2.3
         (open_after (open_of s) s (found_by (open_next (open_of s) s).1 value)).0
@@ -98,7 +98,7 @@ module _ (c : Config) (file : ℕ) where
   }
 
 pub open_tells : (file : ℕ) (c : Config) → IsWithin c → (t : ℕ) (trace : List Traced) → IsTrace c t (Op.Open file) trace →
-    Tells c (Op.Open file) trace (course_of c t (Op.Open file) trace).comes (course_of c t (Op.Open file) trace).added
+    Tells c (Op.Open file) trace (state_of_trace c t (Op.Open file) trace).comes (state_of_trace c t (Op.Open file) trace).added
 open_tells file c lim t trace h = tells_well (OpenAt c file) c t (Op.Open file) (open_kept c file t) trace h
 
 pub open_short : (file : ℕ) (c : Config) → IsWithin c → (t : ℕ) (trace : List Traced) → IsTrace c t (Op.Open file) trace →

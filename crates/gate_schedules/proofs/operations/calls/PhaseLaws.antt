@@ -2,11 +2,11 @@
 use Rattle.std.proofs.Common.{subst}
 use Rattle.gated_tree.specs.declared.phases.TreePhase.{TreePhase}
 use Rattle.gate_world.specs.{Fits.Fits, Rules.Fitting, Views.held_of, Worlds.after_step, declared.{config.Config.Config, work.Phase.Phase}}
-use Rattle.gate_schedules.proofs.{frames.{Agreeing.access_agrees, Keeps.PhaseKeeps}, operations.calls.Causes.{tree_stays, tree_own}}
+use Rattle.gate_schedules.proofs.{frames.{Agreeing.access_agrees, OperationLaws.PhaseLaws}, operations.calls.Causes.{tree_stays, tree_own}}
 use Rattle.gate_schedules.proofs.operations.calls.{Events.{call_step, call_completes}, Fits.tree_acts, Waits.tree_waits, Words.tree_there}
 use Rattle.gate_schedules.proofs.trees.worlds.{Events.tree_run, Parts.{call_goes, call_at}}
 
-pub tree_phase_keeps : (c : Config) (x : TreePhase) → PhaseKeeps c (Phase.Trees x)
+pub tree_phase_keeps : (c : Config) (x : TreePhase) → PhaseLaws c (Phase.Trees x)
 tree_phase_keeps c x = record {
   step = λ within w good t lt hook e. call_step c within w good t lt hook x e;
   runs = λ within w good t lt hook e i one three. tree_run c.tasks w t lt (Phase.Trees x) hook e (call_at w x hook) i;

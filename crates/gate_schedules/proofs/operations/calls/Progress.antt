@@ -22,36 +22,36 @@ use Rattle.gated_tree.specs.declared.opens.OpenFile.{OpenFile}
 use Rattle.gated_tree.specs.declared.opens.OpenStep.{OpenStep}
 use Rattle.gated_tree.specs.declared.phases.TreePhase.{TreePhase}
 use Rattle.gated_tree.specs.declared.snapshots.{Snapshot.Snapshot, SnapshotStep.SnapshotStep}
-use Rattle.gate_world.specs.{Courses.{MayHold, MayFind, OpenMayFind}, Worlds.{words_after, found_at}, declared.{config.Config.Config, work.Phase.Phase}}
-use Rattle.gate_schedules.proofs.{frames.MayHolds.events_may_be, operations.deadlocks.Falls.falls_as}
+use Rattle.gate_world.specs.{traces.TraceStates.{WordIsValid, ReadIsValid, OpenReadIsValid}, Worlds.{words_after, found_at}, declared.{config.Config.Config, work.Phase.Phase}}
+use Rattle.gate_schedules.proofs.{frames.ValidWords.events_may_be, operations.deadlocks.RankDecreases.falls_as}
 use Rattle.gate_schedules.specs.operations.Ranks.{rank, create_rank, remove_rank, grow_rank, move_rank, mark_rank, open_rank, snapshot_rank, tree_rank}
-use Rattle.gate_schedules.specs.operations.Ways.{IsFree, SnapshotIsFree, TreeIsFree, Falls, PhaseEnds}
+use Rattle.gate_schedules.specs.operations.Unblocked.{IsUnblocked, SnapshotIsUnblocked, TreeIsUnblocked, RankDecreases, PhaseEnds}
 
 module _ {P : Type 0} (rank_of : P → ℕ) (free : P → Type 0) (n : ℕ) (again : P) (to : NodeWord → P)
     (goes : (a : NodeWord) → (rank_of (to a) < n) × free (to a)) where
-  answer_falls : (r : Result NodeWord GateError) → Falls rank_of free n (after_look again to (Some r))
+  answer_falls : (r : Result NodeWord GateError) → RankDecreases rank_of free n (after_look again to (Some r))
   answer_falls (Ok a) = goes a
   answer_falls (Err refusal) = tt
 
   look_falls : (kind_of : NodeWord → Result NodeWord GateError) (o : Option NodeWord) → is_some o ≡ true →
-      Falls rank_of free n (after_look again to (option_map kind_of o))
+      RankDecreases rank_of free n (after_look again to (option_map kind_of o))
   look_falls kind_of None h = absurd (true≢false (sym h))
   look_falls kind_of (Some node) h = answer_falls (kind_of node)
 
 module _ (w : Words) where
   module _ (c : Create) where
     create_looked_falls : (node : ℕ) (o : Option NodeWord) → is_some o ≡ true →
-        Falls (λ (y : Create). create_rank y.nodes y.step) (λ (y : Create). Unit {0}) (create_rank c.nodes (CreateStep.LoadsNode node))
+        RankDecreases (λ (y : Create). create_rank y.nodes y.step) (λ (y : Create). Unit {0}) (create_rank c.nodes (CreateStep.LoadsNode node))
         (create_looked c node o)
     create_looked_falls node o h = grind arith
 
-    create_falls : (s : CreateStep) → MayHold (create_next c s).0 (read w (create_next c s).0) →
-        Falls (λ (y : Create). create_rank y.nodes y.step) (λ (y : Create). Unit {0}) (create_rank c.nodes s)
+    create_falls : (s : CreateStep) → WordIsValid (create_next c s).0 (read w (create_next c s).0) →
+        RankDecreases (λ (y : Create). create_rank y.nodes y.step) (λ (y : Create). Unit {0}) (create_rank c.nodes s)
         (create_after c s (found_by (create_next c s).1 (read w (create_next c s).0))).0
     create_falls s h = grind (arith, common_steps)
 
-  remove_falls : (r : Remove) (s : RemoveStep) → MayHold (remove_next r s).0 (read w (remove_next r s).0) →
-      Falls (λ (y : Remove). remove_rank y.step) (λ (y : Remove). Unit {0}) (remove_rank s)
+  remove_falls : (r : Remove) (s : RemoveStep) → WordIsValid (remove_next r s).0 (read w (remove_next r s).0) →
+      RankDecreases (λ (y : Remove). remove_rank y.step) (λ (y : Remove). Unit {0}) (remove_rank s)
       (remove_after r s (found_by (remove_next r s).1 (read w (remove_next r s).0))).0
   remove_falls r RemoveStep.LoadsFile h =
       look_falls (λ (y : Remove). remove_rank y.step) (λ (y : Remove). Unit {0}) 3 _ _
@@ -66,8 +66,8 @@ module _ (w : Words) where
   remove_falls r (RemoveStep.RefundsBlocks file) h = (omega arith, tt)
   remove_falls r (RemoveStep.RefundsChild file) h = tt
 
-  grow_falls : (g : Grow) (s : GrowStep) → MayHold (grow_next g s).0 (read w (grow_next g s).0) →
-      Falls (λ (y : Grow). grow_rank y.step) (λ (y : Grow). Unit {0}) (grow_rank s)
+  grow_falls : (g : Grow) (s : GrowStep) → WordIsValid (grow_next g s).0 (read w (grow_next g s).0) →
+      RankDecreases (λ (y : Grow). grow_rank y.step) (λ (y : Grow). Unit {0}) (grow_rank s)
       (grow_after g s (found_by (grow_next g s).1 (read w (grow_next g s).0))).0
   grow_falls g GrowStep.LoadsFile h =
       look_falls (λ (y : Grow). grow_rank y.step) (λ (y : Grow). Unit {0}) 4 _ _
@@ -84,8 +84,8 @@ module _ (w : Words) where
       elim (eqb_tells (w.node g.file) (word_of file)) [ inl q ↦ rw q.0 tt | inr q ↦ rw q.0 (omega arith, tt) ]
   grow_falls g GrowStep.RefundsBlocks h = tt
 
-  move_falls : (m : MoveTo) (s : MoveStep) → MayHold (move_next m s).0 (read w (move_next m s).0) →
-      Falls (λ (y : MoveTo). move_rank y.step) (λ (y : MoveTo). Unit {0}) (move_rank s)
+  move_falls : (m : MoveTo) (s : MoveStep) → WordIsValid (move_next m s).0 (read w (move_next m s).0) →
+      RankDecreases (λ (y : MoveTo). move_rank y.step) (λ (y : MoveTo). Unit {0}) (move_rank s)
       (move_after m s (found_by (move_next m s).1 (read w (move_next m s).0))).0
   move_falls m MoveStep.LoadsFile h =
       look_falls (λ (y : MoveTo). move_rank y.step) (λ (y : MoveTo). Unit {0}) 4 _ _
@@ -98,31 +98,31 @@ module _ (w : Words) where
       elim (eqb_tells (w.node m.file) (word_of file)) [ inl q ↦ rw q.0 (omega arith, tt) | inr q ↦ rw q.0 (omega arith, tt) ]
   move_falls m (MoveStep.RefundsChild dir answer) h = tt
 
-  mark_falls : (m : Mark) (s : MarkStep) → MayHold (mark_next m s).0 (read w (mark_next m s).0) →
-      Falls (λ (y : Mark). mark_rank y.step) (λ (y : Mark). Unit {0}) (mark_rank s)
+  mark_falls : (m : Mark) (s : MarkStep) → WordIsValid (mark_next m s).0 (read w (mark_next m s).0) →
+      RankDecreases (λ (y : Mark). mark_rank y.step) (λ (y : Mark). Unit {0}) (mark_rank s)
       (mark_after m s (found_by (mark_next m s).1 (read w (mark_next m s).0))).0
   mark_falls m s h = grind (arith, common_steps)
 
-  open_falls : (o : OpenFile) (s : OpenStep) → OpenMayFind s (read w (open_next o s).0) →
-      Falls (λ (y : OpenFile). open_rank y.step) (λ (y : OpenFile). Unit {0}) (open_rank s)
+  open_falls : (o : OpenFile) (s : OpenStep) → OpenReadIsValid s (read w (open_next o s).0) →
+      RankDecreases (λ (y : OpenFile). open_rank y.step) (λ (y : OpenFile). Unit {0}) (open_rank s)
       (open_after o s (found_by (open_next o s).1 (read w (open_next o s).0))).0
   open_falls o s h = grind (arith, common_steps)
 
   -- a snapshot that finds `umount` free
   locked_falls : (after : Words) (x : Snapshot) → (x.wait ≡ true → ⊥) → (b : Bool) → x.wait ≡ b →
-      Falls (λ (y : Snapshot). snapshot_rank y.nodes y.step) (λ (y : Snapshot). SnapshotIsFree after y.step y.wait)
+      RankDecreases (λ (y : Snapshot). snapshot_rank y.nodes y.step) (λ (y : Snapshot). SnapshotIsUnblocked after y.step y.wait)
       (snapshot_rank x.nodes SnapshotStep.Locks) (snapshot_locked_out x b)
   locked_falls after x never true e = absurd (never e)
   locked_falls after x never false e = tt
 
-  snapshot_falls : (after : Words) (x : Snapshot) (s : SnapshotStep) → SnapshotIsFree w s x.wait →
-      MayHold (snapshot_next x s).0 (read w (snapshot_next x s).0) →
-      Falls (λ (y : Snapshot). snapshot_rank y.nodes y.step) (λ (y : Snapshot). SnapshotIsFree after y.step y.wait) (snapshot_rank x.nodes s)
+  snapshot_falls : (after : Words) (x : Snapshot) (s : SnapshotStep) → SnapshotIsUnblocked w s x.wait →
+      WordIsValid (snapshot_next x s).0 (read w (snapshot_next x s).0) →
+      RankDecreases (λ (y : Snapshot). snapshot_rank y.nodes y.step) (λ (y : Snapshot). SnapshotIsUnblocked after y.step y.wait) (snapshot_rank x.nodes s)
       (snapshot_after x s (found_by (snapshot_next x s).1 (read w (snapshot_next x s).0))).0
   snapshot_falls after x s free h = grind arith
 
   pub clear_falls : (x : ClearMarks) (found : ℕ) →
-      Falls (λ (y : ClearMarks). y.nodes - y.node) (λ (y : ClearMarks). Unit {0}) (x.nodes - x.node) (clear_after x found).0
+      RankDecreases (λ (y : ClearMarks). y.nodes - y.node) (λ (y : ClearMarks). Unit {0}) (x.nodes - x.node) (clear_after x found).0
   clear_falls x found =
       elim (cases_Bool (nat_lt (x.node + 1) x.nodes)) [
         | inl q ↦ rw q (omega (arith, ltb-true (x.node + 1) x.nodes q), tt)
@@ -130,24 +130,24 @@ module _ (w : Words) where
       ]
 
   -- each event of a call
-  tree_falls : (after : Words) (hook : HookAnswer) (x : TreePhase) → TreeIsFree w x →
-      MayFind (Phase.Trees x) (tree_next x hook).0 (read w (tree_next x hook).0) →
-      Falls tree_rank (TreeIsFree after) (tree_rank x)
+  tree_falls : (after : Words) (hook : HookAnswer) (x : TreePhase) → TreeIsUnblocked w x →
+      ReadIsValid (Phase.Trees x) (tree_next x hook).0 (read w (tree_next x hook).0) →
+      RankDecreases tree_rank (TreeIsUnblocked after) (tree_rank x)
       (tree_after x (found_by (tree_next x hook).1 (read w (tree_next x hook).0)) hook).0
-  tree_falls after hook (TreePhase.Create x) free h = falls_as TreePhase.Create tree_rank (TreeIsFree after) _ _ (create_falls x x.step h)
-  tree_falls after hook (TreePhase.Remove x) free h = falls_as TreePhase.Remove tree_rank (TreeIsFree after) _ _ (remove_falls x x.step h)
-  tree_falls after hook (TreePhase.Grow x) free h = falls_as TreePhase.Grow tree_rank (TreeIsFree after) _ _ (grow_falls x x.step h)
-  tree_falls after hook (TreePhase.MoveTo x) free h = falls_as TreePhase.MoveTo tree_rank (TreeIsFree after) _ _ (move_falls x x.step h)
-  tree_falls after hook (TreePhase.Mark x) free h = falls_as TreePhase.Mark tree_rank (TreeIsFree after) _ _ (mark_falls x x.step h)
-  tree_falls after hook (TreePhase.OpenFile x) free h = falls_as TreePhase.OpenFile tree_rank (TreeIsFree after) _ _ (open_falls x x.step h)
+  tree_falls after hook (TreePhase.Create x) free h = falls_as TreePhase.Create tree_rank (TreeIsUnblocked after) _ _ (create_falls x x.step h)
+  tree_falls after hook (TreePhase.Remove x) free h = falls_as TreePhase.Remove tree_rank (TreeIsUnblocked after) _ _ (remove_falls x x.step h)
+  tree_falls after hook (TreePhase.Grow x) free h = falls_as TreePhase.Grow tree_rank (TreeIsUnblocked after) _ _ (grow_falls x x.step h)
+  tree_falls after hook (TreePhase.MoveTo x) free h = falls_as TreePhase.MoveTo tree_rank (TreeIsUnblocked after) _ _ (move_falls x x.step h)
+  tree_falls after hook (TreePhase.Mark x) free h = falls_as TreePhase.Mark tree_rank (TreeIsUnblocked after) _ _ (mark_falls x x.step h)
+  tree_falls after hook (TreePhase.OpenFile x) free h = falls_as TreePhase.OpenFile tree_rank (TreeIsUnblocked after) _ _ (open_falls x x.step h)
   tree_falls after hook (TreePhase.Snapshot x) free h =
-      falls_as TreePhase.Snapshot tree_rank (TreeIsFree after) _ _ (snapshot_falls after x x.step free h)
-  tree_falls after hook (TreePhase.ClearMarks x) free h = falls_as TreePhase.ClearMarks tree_rank (TreeIsFree after) _ _ (clear_falls x (w.node x.node))
+      falls_as TreePhase.Snapshot tree_rank (TreeIsUnblocked after) _ _ (snapshot_falls after x x.step free h)
+  tree_falls after hook (TreePhase.ClearMarks x) free h = falls_as TreePhase.ClearMarks tree_rank (TreeIsUnblocked after) _ _ (clear_falls x (w.node x.node))
 
 pub tree_ends : (c : Config) (x : TreePhase) → PhaseEnds c (Phase.Trees x)
 tree_ends c x = record {
   falls = λ lim w good t lt hook at free.
       let after : Words = words_after w.words (Phase.Trees x) hook in
-      falls_as Phase.Trees (rank after) (IsFree c after) (tree_rank x) (tree_after x (found_at w.words (Phase.Trees x) hook) hook).0
+      falls_as Phase.Trees (rank after) (IsUnblocked c after) (tree_rank x) (tree_after x (found_at w.words (Phase.Trees x) hook) hook).0
       (tree_falls w.words after hook x free (events_may_be c lim w good t lt (Phase.Trees x) hook at));
 }

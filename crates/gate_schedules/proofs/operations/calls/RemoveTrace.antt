@@ -11,11 +11,11 @@ use Rattle.gated_tree.specs.declared.changes.Remove.{Remove}
 use Rattle.gated_tree.specs.declared.changes.RemoveStep.{RemoveStep}
 use Rattle.gated_tree.specs.declared.phases.TreePhase.{TreePhase}
 use Rattle.gate_schedules.{proofs.trees.Ends.remove_ends, specs.trees.Ends.{IsReply, RemoveKnows, remove_added, where_done}}
-use Rattle.gate_world.specs.{Configs.IsWithin, Courses.{IsTrace, MayHold, MayFind, course_of}, Found.SeenIn, Operations.first_remove}
-use Rattle.gate_world.specs.{Traces.{IsShort, Tells, most_events}, Views.with_hook, Work.next_of}
+use Rattle.gate_world.specs.{Configs.IsWithin, traces.TraceStates.{IsTrace, WordIsValid, ReadIsValid, state_of_trace}, traces.Found.SeenIn, Operations.first_remove}
+use Rattle.gate_world.specs.{traces.Traces.{IsShort, Tells, most_events}, Views.with_hook, Work.next_of}
 use Rattle.gate_world.specs.declared.{config.Config.Config, operations.Op.Op, views.Traced.Traced, work.Phase.Phase}
-use Rattle.gate_schedules.proofs.operations.calls.Trace.{Answers, CallAt, Stays, call_says, looked, made_some, sees}
-use Rattle.gate_schedules.proofs.traces.Says.{KeptWell, SaysAfter, event_at, tells_well, is_short_well}
+use Rattle.gate_schedules.proofs.operations.calls.Trace.{Answers, CallAt, GoesOnOrEnds, call_says, looked, made_some, sees}
+use Rattle.gate_schedules.proofs.traces.TraceInvariant.{IsInductiveGivenReads, InvariantAfterStep, event_at, tells_well, is_short_well}
 
 -- how many events a remove has done before a step
 abbrev events_before : RemoveStep → ℕ
@@ -38,8 +38,8 @@ abbrev so_far : Remove → List Action
 so_far x = remove_added x x.step
 
 -- its trace says no more
-abbrev IsThere : List Traced → RemoveStep → Type 0
-IsThere trace s = Unit {0}
+abbrev StepInvariant : List Traced → RemoveStep → Type 0
+StepInvariant trace s = Unit {0}
 
 module _ (c : Config) (file : ℕ) where
   -- the remove at a step
@@ -48,17 +48,17 @@ module _ (c : Config) (file : ℕ) where
 
   -- what its trace says at a phase
   abbrev RemoveAt : List Traced → Phase → List Action → Type 0
-  RemoveAt = CallAt Remove RemoveStep TreePhase.Remove remove_of Knows so_far IsThere events_before 4 false c (Op.Remove file)
+  RemoveAt = CallAt Remove RemoveStep TreePhase.Remove remove_of Knows so_far StepInvariant events_before 4 false c (Op.Remove file)
 
   -- what comes after so many events
-  abbrev Comes : List Traced → ℕ → Next Remove → Type 0
-  Comes = Stays Remove RemoveStep TreePhase.Remove remove_of Knows so_far IsThere events_before 4 false c (Op.Remove file)
+  abbrev NextInvariant : List Traced → ℕ → Next Remove → Type 0
+  NextInvariant = GoesOnOrEnds Remove RemoveStep TreePhase.Remove remove_of Knows so_far StepInvariant events_before 4 false c (Op.Remove file)
 
   -- each event is followed by a later step of the remove, or by its end
-  remove_goes : (s : RemoveStep) (value : ℕ) (trace : List Traced) → MayHold (remove_next (remove_of s) s).0 value →
-      Comes trace (events_before s) (remove_after (remove_of s) s (found_by (remove_next (remove_of s) s).1 value)).0
+  remove_goes : (s : RemoveStep) (value : ℕ) (trace : List Traced) → WordIsValid (remove_next (remove_of s) s).0 value →
+      NextInvariant trace (events_before s) (remove_after (remove_of s) s (found_by (remove_next (remove_of s) s).1 value)).0
   remove_goes RemoveStep.LoadsFile value trace may =
-      looked (Comes trace 0) (remove_of RemoveStep.LoadsFile) (λ node. remove_of (removes_file node node.opens)) (file_in value)
+      looked (NextInvariant trace 0) (remove_of RemoveStep.LoadsFile) (λ node. remove_of (removes_file node node.opens)) (file_in value)
       (made_some (λ node. as_file node node.removed node.kind) (unpacked value) may)
       (λ node. (removes_file node node.opens, refl, tt, λ q. removes_later node node.opens)) (λ refusal q. omega arith)
   remove_goes (RemoveStep.FreesNode node) value trace may = elim (cases_Bool (value == word_of node)) [
@@ -76,7 +76,7 @@ module _ (c : Config) (file : ℕ) where
 
   -- so the trace of a remove says what its row asks for
   remove_answers : (trace : List Traced) →
-      Answers Remove RemoveStep TreePhase.Remove remove_of Knows so_far IsThere events_before 4 false c (Op.Remove file)
+      Answers Remove RemoveStep TreePhase.Remove remove_of Knows so_far StepInvariant events_before 4 false c (Op.Remove file)
       (IsReply Reply.Unit) (FileHonest (SeenIn trace) file) (where_done (Action.Remove file)) trace
   remove_answers trace = grind arith
 
@@ -86,17 +86,17 @@ module _ (c : Config) (file : ℕ) where
   remove_within other trace h = omega (arith, h)
 
   -- and keeps it along
-  remove_kept : (t : ℕ) → KeptWell RemoveAt c t (Op.Remove file)
+  remove_kept : (t : ℕ) → IsInductiveGivenReads RemoveAt c t (Op.Remove file)
   remove_kept t = record {
     first = (RemoveStep.LoadsFile, refl, (tt, tt, refl, λ q. omega arith));
     more = λ phase value hook earlier added may here.
         let s : RemoveStep = here.0 in
         let x : Phase = Phase.Trees (TreePhase.Remove (remove_of s)) in
         let e : Traced = with_hook (event_at x value hook) hook in
-        subst (λ (p : Phase). MayFind p (next_of p hook).0 value → SaysAfter RemoveAt c (Op.Remove file) p value hook earlier added)
+        subst (λ (p : Phase). ReadIsValid p (next_of p hook).0 value → InvariantAfterStep RemoveAt c (Op.Remove file) p value hook earlier added)
         (sym here.1)
         (λ holds.
-        call_says Remove RemoveStep TreePhase.Remove remove_of Knows so_far IsThere events_before 4 false c (Op.Remove file)
+        call_says Remove RemoveStep TreePhase.Remove remove_of Knows so_far StepInvariant events_before 4 false c (Op.Remove file)
         (IsReply Reply.Unit) (FileHonest (SeenIn (e ∷ earlier)) file) (where_done (Action.Remove file)) e earlier
         (remove_answers (e ∷ earlier)) (events_before s) here.2.3
         (remove_after (remove_of s) s (found_by (remove_next (remove_of s) s).1 value)).0
@@ -108,7 +108,7 @@ module _ (c : Config) (file : ℕ) where
   }
 
 pub remove_tells : (file : ℕ) (c : Config) → IsWithin c → (t : ℕ) (trace : List Traced) → IsTrace c t (Op.Remove file) trace →
-    Tells c (Op.Remove file) trace (course_of c t (Op.Remove file) trace).comes (course_of c t (Op.Remove file) trace).added
+    Tells c (Op.Remove file) trace (state_of_trace c t (Op.Remove file) trace).comes (state_of_trace c t (Op.Remove file) trace).added
 remove_tells file c lim t trace h = tells_well (RemoveAt c file) c t (Op.Remove file) (remove_kept c file t) trace h
 
 pub remove_short : (file : ℕ) (c : Config) → IsWithin c → (t : ℕ) (trace : List Traced) → IsTrace c t (Op.Remove file) trace →

@@ -6,9 +6,9 @@ use Rattle.cpu_words.specs.declared.events.Event.{Event}
 use Rattle.node_words.specs.Phases.{after_look}
 use Rattle.gated_tree.specs.declared.phases.TreePhase.{TreePhase}
 use Rattle.gate_schedules.specs.trees.Ends.{with_action, EndsWell, SeesMore}
-use Rattle.gate_world.specs.{Found.SeenIn, Traces.{actions_of, IsHonest, IsTold, most_events, IsShort, MayWait}, Views.actions_after}
+use Rattle.gate_world.specs.{traces.Found.SeenIn, traces.Traces.{actions_of, IsHonest, IsTold, most_events, IsShort, MayWait}, Views.actions_after}
 use Rattle.gate_world.specs.declared.{config.Config.Config, operations.Op.Op, views.Traced.Traced, work.Phase.Phase}
-use Rattle.gate_schedules.proofs.traces.Says.{Says}
+use Rattle.gate_schedules.proofs.traces.TraceInvariant.{InvariantAfter}
 
 or_one : (a b : Bool) → a ≡ true → (a || b) ≡ true
 or_one a b h = rw h refl
@@ -50,10 +50,10 @@ module _ (P S : Type 0) (to : P → TreePhase) (at : S → P) (Knows : ((Event �
   CallAt trace phase added = (s : S) × (phase ≡ Phase.Trees (to (at s))) × CallSays trace s added
 
   -- what comes is a step of the same call, after one event more than so many, or the call's end
-  abbrev pub Stays : List Traced → ℕ → Next P → Type 0
-  Stays trace n (Next.Go y) = (s : S) × (y ≡ at s) × Is trace s × (waits ≡ false → n < done s)
-  Stays trace n (Next.Wait y) = (s : S) × (y ≡ at s) × Is trace s × (waits ≡ true) × MayWait c op trace
-  Stays trace n (Next.Done answer) = waits ≡ false → n < most
+  abbrev pub GoesOnOrEnds : List Traced → ℕ → Next P → Type 0
+  GoesOnOrEnds trace n (Next.Go y) = (s : S) × (y ≡ at s) × Is trace s × (waits ≡ false → n < done s)
+  GoesOnOrEnds trace n (Next.Wait y) = (s : S) × (y ≡ at s) × Is trace s × (waits ≡ true) × MayWait c op trace
+  GoesOnOrEnds trace n (Next.Done answer) = waits ≡ false → n < most
 
   -- what is known, told and added by an answer is what the operation's row asks for
   pub record Answers (IsOne : Reply → Type 0) (Honest : GateError → Type 0) (adds : Result Reply GateError → List Action)
@@ -68,14 +68,14 @@ module _ (P S : Type 0) (to : P → TreePhase) (at : S → P) (Knows : ((Event �
       (within : waits ≡ false → length earlier ≤ n) where
     -- what is known and what comes say what the trace says after an event
     next_says : (next : Next P) (added : List Action) → EndsWell (Knows (SeenIn (e ∷ earlier))) so_far IsOne Honest adds next added →
-        Stays (e ∷ earlier) n next → Says CallAt c op (e ∷ earlier) (map_next Phase.Trees (map_next to next)) added
+        GoesOnOrEnds (e ∷ earlier) n next → InvariantAfter CallAt c op (e ∷ earlier) (map_next Phase.Trees (map_next to next)) added
     next_says next added h stays = grind arith
 
     -- the same, of what the event added on top of what was added before
     pub call_says : (next : Next P) (action : Option Action) (before added : List Action) → added ≡ before →
-        EndsWell (Knows (SeenIn (e ∷ earlier))) so_far IsOne Honest adds next (with_action action before) → Stays (e ∷ earlier) n next →
-        Says CallAt c op (e ∷ earlier) (map_next Phase.Trees (map_next to next)) (actions_after action added)
+        EndsWell (Knows (SeenIn (e ∷ earlier))) so_far IsOne Honest adds next (with_action action before) → GoesOnOrEnds (e ∷ earlier) n next →
+        InvariantAfter CallAt c op (e ∷ earlier) (map_next Phase.Trees (map_next to next)) (actions_after action added)
     call_says next action before added same ends stays =
-        subst (Says CallAt c op (e ∷ earlier) (map_next Phase.Trees (map_next to next)))
+        subst (InvariantAfter CallAt c op (e ∷ earlier) (map_next Phase.Trees (map_next to next)))
         (same_actions action before ∙ ap (actions_after action) (sym same))
         (next_says next (with_action action before) ends stays)

@@ -20,8 +20,8 @@ use Rattle.gated_tree.specs.declared.opens.OpenFile.{OpenFile}
 use Rattle.gated_tree.specs.declared.opens.OpenStep.{OpenStep}
 use Rattle.gated_tree.specs.declared.phases.TreePhase.{TreePhase}
 use Rattle.gated_tree.specs.declared.snapshots.{Snapshot.Snapshot, SnapshotStep.SnapshotStep}
-use Rattle.gate_world.specs.{Causes.{CallRefused, TreeRefused, IsTaken, TellsOf, tree_sees}, Fits.PhaseFits, KeptCauses.{SnapshotCause, TreeCause}}
-use Rattle.gate_world.specs.{Rules.{owns, IsGood}, Shown.shown, Views.held_of, Waits.{HasReason, HasCulprit}, Work.after_of}
+use Rattle.gate_world.specs.{refusals.Causes.{CallRefused, TreeRefused, IsTaken, TellsOf, tree_sees}, Fits.PhaseFits, refusals.KeptCauses.{SnapshotCause, TreeCause}}
+use Rattle.gate_world.specs.{Rules.{owns, IsGood}, Shown.shown, Views.held_of, refusals.Waits.{HasReason, HasCulprit}, Work.after_of}
 use Rattle.gate_world.specs.{Worlds.{World, found_at}, declared.{config.Config.Config, work.Phase.Phase}}
 use Rattle.gate_schedules.proofs.frames.Owners.{umount_taken}
 use Rattle.gate_schedules.proofs.operations.calls.NodeCauses.{is_of_node, call_refused, create_node, remove_node, grow_node, move_node, mark_node, open_node}

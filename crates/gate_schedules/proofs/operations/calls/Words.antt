@@ -7,7 +7,7 @@ use Rattle.gated_tree.specs.declared.changes.{Create.Create, CreateStep.CreateSt
 use Rattle.gated_tree.specs.declared.{growth.{Grow.Grow, GrowStep.GrowStep}, marks.{Mark.Mark, MarkStep.MarkStep}, opens.{OpenFile.OpenFile, OpenStep.OpenStep}}
 use Rattle.gated_tree.specs.declared.{phases.TreePhase.TreePhase, snapshots.{Snapshot.Snapshot, SnapshotStep.SnapshotStep}}
 use Rattle.gate_world.specs.{Trees.tree_bounds, declared.config.Config.Config}
-use Rattle.gate_schedules.proofs.frames.Keeps.{extents_touched}
+use Rattle.gate_schedules.proofs.frames.OperationLaws.{extents_touched}
 
 module _ (c : Config) (n t : ℕ) where
   touched : (m : ℕ) → m < c.nodes → m < 64 + (c.nodes - 64)

@@ -4,7 +4,7 @@ use Rattle.std.specs.Prelude.{nat_lt, Some, List, ◌∷◌, ◌==◌, not, Err,
 use Rattle.access_model.specs.declared.{errors.GateError.GateError, replies.Reply.Reply}
 use Rattle.cpu_words.specs.{Hooks.HookAnswer, Touches.wrap_add, Words.Words, declared.{names.WordName.WordName, sums.Sum.Sum}}
 use Rattle.mount_counts.specs.{Phases.{has_flag, step_between}, declared.phases.ChangeStep.ChangeStep}
-use Rattle.gate_world.specs.{Causes.{all_counted, words_read}, Fits.SumFits, KeptCauses.{ChangeCause, CauseOf, AnswerCause}, Operations.holds_none}
+use Rattle.gate_world.specs.{refusals.Causes.{all_counted, words_read}, Fits.SumFits, refusals.KeptCauses.{ChangeCause, CauseOf, AnswerCause}, Operations.holds_none}
 use Rattle.gate_world.specs.{Rules.IsGood, Views.{holds_level, phase_after}, Work.after_of, Worlds.{words_after, World, found_at}}
 use Rattle.gate_world.specs.declared.{config.Config.Config, work.Phase.Phase}
 use Rattle.gate_schedules.proofs.{frames.Words.load_same, mounts.{Loads.fits_now, SumCauses.{counted_stays, sum_starts, sum_stays, sum_takes, sum_ends}}}

@@ -1,15 +1,15 @@
 -- All that is proved of a change.
-use Rattle.gate_schedules.proofs.frames.{Agreeing.none_agree, Frames.role_none, Keeps.{IsSmall, OpKeeps, PhaseKeeps, by_bool, word_among}}
+use Rattle.gate_schedules.proofs.frames.{Agreeing.none_agree, Frames.role_none, OperationLaws.{IsSmall, OpLaws, PhaseLaws, by_bool, word_among}}
 use Rattle.gate_schedules.proofs.{frames.Snapshots.completes_none, mounts.Runs.mounts_run, operations.change.Causes.{change_kept, change_own}}
 use Rattle.gate_schedules.proofs.operations.change.{Events.change_keeps, Fits.{change_acts, change_goes, change_there}}
-use Rattle.gate_schedules.proofs.{operations.change.{Trace.{ChangeAt, change_kept as change_traced}, Waits.change_waits}, traces.Says.{is_short, tells}}
-use Rattle.gate_world.specs.{Alike.no_roles, Fits.Fits, Rules.Fitting, Traces.most_events, Views.held_of, Worlds.after_step, declared.config.Config.Config}
+use Rattle.gate_schedules.proofs.{operations.change.{Trace.{ChangeAt, change_kept as change_traced}, Waits.change_waits}, traces.TraceInvariant.{is_short, tells}}
+use Rattle.gate_world.specs.{SameRoles.no_roles, Fits.Fits, Rules.Fitting, traces.Traces.most_events, Views.held_of, Worlds.after_step, declared.config.Config.Config}
 use Rattle.gate_world.specs.declared.{operations.Op.Op, work.Phase.Phase}
 use Rattle.mount_counts.specs.declared.phases.{Change.Change, MountPhase.MountPhase}
 use Rattle.std.proofs.{Common.{Bool, arith, refl, subst, ℕ}, lemmas.Bool.ltb-true}
 use Rattle.std.specs.Prelude.{Some}
 
-pub change_phase : (c : Config) (x : Change) → PhaseKeeps c (Phase.Mounts (MountPhase.Change x))
+pub change_phase : (c : Config) (x : Change) → PhaseLaws c (Phase.Mounts (MountPhase.Change x))
 change_phase c x = record {
   step = λ lim w good t lt hook e. change_keeps c lim w good t lt hook x.mount x.read_only x.wait x.task x.processors x.step e;
   runs = λ lim w good t lt hook e i l1 l3. mounts_run c.tasks w t lt hook (MountPhase.Change x) e i;
@@ -29,7 +29,7 @@ change_phase c x = record {
       change_waits c w earlier good t lt x.mount x.read_only x.task x.processors hook x.wait x.step e cause;
 }
 
-pub change_op : (c : Config) (m : ℕ) (ro wait : Bool) → OpKeeps c (Op.ChangeMount m ro wait)
+pub change_op : (c : Config) (m : ℕ) (ro wait : Bool) → OpLaws c (Op.ChangeMount m ro wait)
 change_op c m ro wait = record {
   fits = λ t held there order room. (ltb-true m c.mounts there, refl, refl, order, tt);
   starts_aside = λ t k. record no_roles { mount = λ y. role_none y m k };

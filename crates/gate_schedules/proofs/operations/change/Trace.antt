@@ -5,10 +5,10 @@ use Rattle.std.specs.Prelude.{◌==◌, nat_lt, Result, Err, List, [], ◌∷◌
 use Rattle.access_model.specs.declared.{actions.Action.Action, errors.GateError.GateError, replies.Reply.Reply}
 use Rattle.cpu_words.specs.{Hooks.HookAnswer, Touches.wrap_add, declared.sums.Sum.Sum}
 use Rattle.mount_counts.specs.{Phases.{has_flag, step_between}, declared.phases.{ChangeStep.ChangeStep, MountPhase.MountPhase}}
-use Rattle.gate_world.specs.{Configs.IsWithin, Found.{found_read_only, counts_loaded, sum_loaded, IsEachCount, each_event, finds_taken}}
-use Rattle.gate_world.specs.{Traces.{actions_of, IsHonestAnswer, most_events, IsShort}, Views.with_hook}
+use Rattle.gate_world.specs.{Configs.IsWithin, traces.Found.{found_read_only, counts_loaded, sum_loaded, IsEachCount, each_event, finds_taken}}
+use Rattle.gate_world.specs.{traces.Traces.{actions_of, IsHonestAnswer, most_events, IsShort}, Views.with_hook}
 use Rattle.gate_world.specs.declared.{config.Config.Config, operations.Op.Op, views.Traced.Traced, work.Phase.Phase}
-use Rattle.gate_schedules.proofs.{operations.remount.Trace.{sum_more}, traces.Says.{SaysAfter, Kept, event_at}}
+use Rattle.gate_schedules.proofs.{operations.remount.Trace.{sum_more}, traces.TraceInvariant.{InvariantAfterStep, IsInductive, event_at}}
 
 abbrev pub change : Config → ℕ → ℕ → Bool → Bool → ChangeStep → Phase
 change c t m ro wait step = Phase.Mounts (MountPhase.Change (record {
@@ -97,7 +97,7 @@ module _ (c : Config) (lim : IsWithin c) (t m : ℕ) (ro : Bool) (value : ℕ) (
 
   -- what the trace says after the event of a step
   abbrev After : Bool → ChangeStep → Type 0
-  After wait step = SaysAfter (ChangeAt c t m ro wait) c (Op.ChangeMount m ro wait) (change c t m ro wait step) value hook earlier added
+  After wait step = InvariantAfterStep (ChangeAt c t m ro wait) c (Op.ChangeMount m ro wait) (change c t m ro wait step) value hook earlier added
 
   -- an event that clears HOLD leaves what is told
   hold_leaves : (wait : Bool) (answer : Result Reply GateError) → Answers c m ro wait answer earlier added →
@@ -207,11 +207,11 @@ module _ (c : Config) (lim : IsWithin c) (t m : ℕ) (ro : Bool) (value : ℕ) (
     change_short c m ro wait (longer wait (ChangeStep.Releases answer)) (λ q. omega (arith, h.0 q)),
   )
 
-pub change_kept : (c : Config) → IsWithin c → (t m : ℕ) (ro wait : Bool) → Kept (ChangeAt c t m ro wait) c t (Op.ChangeMount m ro wait)
+pub change_kept : (c : Config) → IsWithin c → (t m : ℕ) (ro wait : Bool) → IsInductive (ChangeAt c t m ro wait) c t (Op.ChangeMount m ro wait)
 change_kept c lim t m ro wait = record {
   first = (ChangeStep.Locks, refl, (λ q. omega arith, (refl, (refl, refl, refl))));
   more = λ phase value hook earlier added here.
-      subst (λ (x : Phase). SaysAfter (ChangeAt c t m ro wait) c (Op.ChangeMount m ro wait) x value hook earlier added) (sym here.1)
+      subst (λ (x : Phase). InvariantAfterStep (ChangeAt c t m ro wait) c (Op.ChangeMount m ro wait) x value hook earlier added) (sym here.1)
       (change_event c lim t m ro value hook earlier added wait here.0 here.2);
   short = λ trace phase added here. change_short c m ro wait trace (λ q. within_most c m ro wait here.0 trace added here.2.1 (here.2.0 q));
 }

@@ -3,7 +3,7 @@ use Rattle.std.{proofs.{Common.{ℕ, ◌<◌, Bool, true, false, ap, inl, inr, �
 use Rattle.access_model.specs.declared.errors.GateError.{GateError}
 use Rattle.cpu_words.specs.Hooks.{HookAnswer}
 use Rattle.mount_counts.specs.{Phases.has_flag, declared.phases.ChangeStep.ChangeStep}
-use Rattle.gate_world.specs.{Causes.IsTaken, KeptCauses.ChangeCause, Rules.{owns, IsGood}, Waits.HasReason, Work.after_of, Worlds.{World, found_at}}
+use Rattle.gate_world.specs.{refusals.Causes.IsTaken, refusals.KeptCauses.ChangeCause, Rules.{owns, IsGood}, refusals.Waits.HasReason, Work.after_of, Worlds.{World, found_at}}
 use Rattle.gate_world.specs.declared.{config.Config.Config, work.Phase.Phase}
 use Rattle.gate_schedules.proofs.{frames.Owners.umount_taken, operations.change.Loads.{change, IsAt}}
 

@@ -1,15 +1,15 @@
 -- What is proved of the beginning of a close, given what its trace says.
-use Rattle.gate_schedules.proofs.{frames.Keeps.{IsSmall, OpKeeps, by_bool}, operations.readers.Fits.{both_true, none_from_agree}}
-use Rattle.gate_world.specs.{Configs.IsWithin, Courses.{IsTrace, course_of}, Operations.holds_none_from, Traces.{IsShort, Tells, most_events}}
+use Rattle.gate_schedules.proofs.{frames.OperationLaws.{IsSmall, OpLaws, by_bool}, operations.readers.Fits.{both_true, none_from_agree}}
+use Rattle.gate_world.specs.{Configs.IsWithin, traces.TraceStates.{IsTrace, state_of_trace}, Operations.holds_none_from, traces.Traces.{IsShort, Tells, most_events}}
 use Rattle.gate_world.specs.declared.{config.Config.Config, operations.Op.Op, views.Traced.Traced}
 use Rattle.std.proofs.{Common.{Bool, arith, refl, true, ℕ, ◌≡◌}, lemmas.Bool.ltb-true}
 use Rattle.std.specs.Prelude.{List, nat_lt, ◌&&◌}
 
 pub close_op_from : (c : Config) (file p : ℕ) (wait : Bool) →
     (IsWithin c → (t : ℕ) (trace : List Traced) → IsTrace c t (Op.Close file p wait) trace →
-    Tells c (Op.Close file p wait) trace (course_of c t (Op.Close file p wait) trace).comes (course_of c t (Op.Close file p wait) trace).added) →
+    Tells c (Op.Close file p wait) trace (state_of_trace c t (Op.Close file p wait) trace).comes (state_of_trace c t (Op.Close file p wait) trace).added) →
     (IsWithin c → (t : ℕ) (trace : List Traced) → IsTrace c t (Op.Close file p wait) trace →
-    IsShort (most_events c (Op.Close file p wait)) trace) → OpKeeps c (Op.Close file p wait)
+    IsShort (most_events c (Op.Close file p wait)) trace) → OpLaws c (Op.Close file p wait)
 close_op_from c file p wait tells short = record {
   fits = λ t held there order room.
       let at : (nat_lt file c.nodes ≡ true) × (nat_lt p c.processors ≡ true) =

@@ -7,8 +7,8 @@ use Rattle.node_words.specs.Nodes.{any_file_in, opens_in}
 use Rattle.node_words.specs.Phases.{after_look}
 use Rattle.node_words.specs.declared.nodes.NodeWord.{NodeWord}
 use Rattle.percpu_rwsem.specs.declared.readers.DownRead.{DownRead}
-use Rattle.compounds.specs.{file_closes.Phases.{then_frees, closed_from}, declared.file_closes.phases.{ClosePhase.ClosePhase, Closing.Closing}}
-use Rattle.gate_world.specs.{Causes.{last_asked, WasClosed}, KeptCauses.CauseOf, Views.phase_after, Waits.HasReason, Worlds.World}
+use Rattle.composite_ops.specs.{file_closes.Phases.{then_frees, closed_from}, declared.file_closes.phases.{ClosePhase.ClosePhase, Closing.Closing}}
+use Rattle.gate_world.specs.{refusals.Causes.{last_asked, WasClosed}, refusals.KeptCauses.CauseOf, Views.phase_after, refusals.Waits.HasReason, Worlds.World}
 use Rattle.gate_world.specs.declared.{config.Config.Config, work.Phase.Phase}
 use Rattle.gate_schedules.proofs.operations.readers.{Causes.{AsksNext, HasNextCause}, Waits.{WhereRefused}}
 

@@ -16,7 +16,7 @@ use Rattle.gated_tree.specs.Roles.{NobodyElseFrees, IsLastOpen}
 use Rattle.node_words.specs.declared.nodes.NodeWord.{NodeWord}
 use Rattle.gate_schedules.proofs.trees.{Counts.{finds_last, same_le}, Each.each_event, Laws.{role_says}, Steps.{leaves_word, as_event, stays_at}}
 use Rattle.gate_schedules.specs.trees.{Events.{turned, ClosesFile, FreesFile, DropsBlocks, Uncounts}, Steps.{tree_in, EventKeeps}}
-use Rattle.compounds.specs.{file_closes.Phases.{next, after, enters, closed_from}, declared.file_closes.phases.{ClosePhase.ClosePhase, Closing.Closing}}
+use Rattle.composite_ops.specs.{file_closes.Phases.{next, after, enters, closed_from}, declared.file_closes.phases.{ClosePhase.ClosePhase, Closing.Closing}}
 use Rattle.gate_world.specs.{Configs.IsWithin, Fits.{MayLower, HasFile, file_of}, Roles.{close_tree_role}, Rules.{IsGood, Tree, Files, Stages}}
 use Rattle.gate_world.specs.{Trees.{tree_bounds, tree_of, tree_roles, tree_role_of, is_bare_at}, Views.{has_open, holds_level}}
 use Rattle.gate_world.specs.{Worlds.World, declared.{config.Config.Config, views.Traced.Traced, work.Phase.Phase}}

@@ -9,10 +9,10 @@ use Rattle.node_words.specs.Nodes.{any_file_in, is_stray, node_of, kind_in, kind
 use Rattle.node_words.specs.Phases.{after_look}
 use Rattle.node_words.specs.declared.nodes.NodeWord.{NodeWord}
 use Rattle.percpu_rwsem.specs.{Readers.down_read_after, declared.readers.DownRead.DownRead}
-use Rattle.compounds.specs.{file_closes.Phases.{next, after, closed_from, then_frees}, declared.file_closes.phases.{ClosePhase.ClosePhase, Closing.Closing}}
+use Rattle.composite_ops.specs.{file_closes.Phases.{next, after, closed_from, then_frees}, declared.file_closes.phases.{ClosePhase.ClosePhase, Closing.Closing}}
 use Rattle.gate_world.specs.{Holdings.{Holdings, held_after, Agree}, Configs.IsWithin, Fits.{Fits, CloseFits, ClosingFits, ActionFits}, Views.phase_after}
 use Rattle.gate_world.specs.declared.{config.Config.Config, work.Phase.Phase}
-use Rattle.gate_schedules.proofs.{frames.Keeps.{extents_touched}, operations.readers.Fits.{ReadGoes, read_goes}}
+use Rattle.gate_schedules.proofs.{frames.OperationLaws.{extents_touched}, operations.readers.Fits.{ReadGoes, read_goes}}
 
 some_is : {A : Type 0} (a b : A) → Some a ≡ Some b → a ≡ b
 some_is a b e = cc

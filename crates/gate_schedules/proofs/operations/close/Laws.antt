@@ -5,11 +5,11 @@ use Rattle.cpu_words.specs.Hooks.{HookAnswer}
 use Rattle.node_words.specs.Nodes.{any_file_in, word_of}
 use Rattle.percpu_rwsem.specs.{Readers.down_read_after, declared.readers.DownRead.DownRead}
 use Rattle.freeze_laws.specs.levels.{Events.SyncStep, Roles.closed}
-use Rattle.compounds.specs.{file_closes.Phases.{after, then_frees, leaves_on}, declared.file_closes.phases.ClosePhase.ClosePhase}
-use Rattle.gate_world.specs.{Alike.{rephased, IsBeside}, Causes.asks_level, Configs.IsWithin, Courses.CloseMayFind, Fits.CloseFits, KeptCauses.CauseOf, LevelRuns.level_in}
-use Rattle.gate_world.specs.{Levels.sync_role_of, Rules.{IsGood, StepKeeps}, Views.{phase_after, held_of}, Waits.HasReason}
+use Rattle.composite_ops.specs.{file_closes.Phases.{after, then_frees, leaves_on}, declared.file_closes.phases.ClosePhase.ClosePhase}
+use Rattle.gate_world.specs.{SameRoles.{rephased, SameRolesOffTree}, refusals.Causes.asks_level, Configs.IsWithin, traces.TraceStates.CloseReadIsValid, Fits.CloseFits, refusals.KeptCauses.CauseOf, LevelRuns.level_in}
+use Rattle.gate_world.specs.{Levels.sync_role_of, Rules.{IsGood, StepKeeps}, Views.{phase_after, held_of}, refusals.Waits.HasReason}
 use Rattle.gate_world.specs.{Worlds.{World, after_step, found_at, value_at}, declared.{config.Config.Config, work.Phase.Phase}}
-use Rattle.gate_schedules.proofs.frames.{Keeps.PhaseKeeps, MayHolds.events_may_be, Snapshots.completes_none}
+use Rattle.gate_schedules.proofs.frames.{OperationLaws.PhaseLaws, ValidWords.events_may_be, Snapshots.completes_none}
 use Rattle.gate_schedules.proofs.operations.close.Causes.{enters_asks, enters_cause, enters_waits, looked_cause, looked_waits}
 use Rattle.gate_schedules.proofs.operations.close.Fits.{close_goes, close_there, close_acts, close_agrees}
 use Rattle.gate_schedules.proofs.operations.close.LevelEvents.{close_fits_now, enters_level, leaves_level, beside_reads, beside_ends, beside_runs}
@@ -35,7 +35,7 @@ close_runs : (c : Config) → IsWithin c → (w : World) → IsGood c w → (t :
 close_runs c lim w good t lt hook (ClosePhase.LoadsFile x) e i one three = close_run c w t lt hook (ClosePhase.LoadsFile x) refl e i
 close_runs c lim w good t lt hook (ClosePhase.LowersCount x node) e i one three = close_run c w t lt hook (ClosePhase.LowersCount x node) refl e i
 close_runs c lim w good t lt hook (ClosePhase.Enters file node r) e i one three =
-    let b : IsBeside (w.views t).phase (Some (Phase.DownReads r)) × IsGood c (rephased w t (Some (Phase.DownReads r))) =
+    let b : SameRolesOffTree (w.views t).phase (Some (Phase.DownReads r)) × IsGood c (rephased w t (Some (Phase.DownReads r))) =
     beside_reads c w good t lt file node r e in
     let n : Next DownRead = (down_read_after r r.step (found_at w.words (Phase.DownReads r) hook)).0 in
     beside_runs c w t lt hook (Phase.DownReads r) b.0 b.1 (map_next Phase.Closes (then_frees file node r.cpu n)) (beside_enters file r.cpu node n) i
@@ -45,7 +45,7 @@ close_runs c lim w good t lt hook (ClosePhase.RefundsBlocks p blocks) e i one th
 close_runs c lim w good t lt hook (ClosePhase.Uncounts p) e i one three = close_run c w t lt hook (ClosePhase.Uncounts p) refl e i
 close_runs c lim w good t lt hook (ClosePhase.Leaves p) e i one three =
     let q : Phase = Phase.UpReads (leaves_on p) in
-    let b : IsBeside (w.views t).phase (Some q) × IsGood c (rephased w t (Some q)) = beside_ends c w good t lt p e in
+    let b : SameRolesOffTree (w.views t).phase (Some q) × IsGood c (rephased w t (Some q)) = beside_ends c w good t lt p e in
     beside_runs c w t lt hook q b.0 b.1 (Next.Done (Ok Reply.Unit)) refl i
     (λ g at. (end_phase c (leaves_on p)).runs lim (rephased w t (Some q)) g t lt hook at i one three)
 
@@ -79,7 +79,7 @@ close_causes c w earlier good t hook other f e is h = tt
 
 -- it waits at level 3 alone
 close_waits : (c : Config) (w : World) (earlier : List World) (t : ℕ) (hook : HookAnswer) (x : ClosePhase) →
-    CloseMayFind x (value_at w.words (Phase.Closes x) hook) → CauseOf c t w earlier (Some (Phase.Closes x)) →
+    CloseReadIsValid x (value_at w.words (Phase.Closes x) hook) → CauseOf c t w earlier (Some (Phase.Closes x)) →
     HasReason c w earlier t (Phase.Closes x) (map_next Phase.Closes (after x (found_at w.words (Phase.Closes x) hook)).0)
 close_waits c w earlier t hook (ClosePhase.LoadsFile x) may h =
     looked_waits c t w earlier x (w.words.node x.file) may.1 (any_file_in (w.words.node x.file)) refl
@@ -92,7 +92,7 @@ close_waits c w earlier t hook (ClosePhase.FreesNode file p node) may h =
     elim (cases_Bool (w.words.node file == word_of node)) [ inl z ↦ rw z tt | inr z ↦ rw z tt ]
 close_waits c w earlier t hook other may h = tt
 
-pub close_phase : (c : Config) (x : ClosePhase) → PhaseKeeps c (Phase.Closes x)
+pub close_phase : (c : Config) (x : ClosePhase) → PhaseLaws c (Phase.Closes x)
 close_phase c x = record {
   step = λ lim w good t lt hook e. close_keeps c lim w good t lt hook x e;
   runs = λ lim w good t lt hook e i one three. close_runs c lim w good t lt hook x e i one three;

@@ -2,13 +2,13 @@
 -- leaves alone.
 use Rattle.access_model.specs.{Replies.map_next, States.openers, declared.{actions.Action.Action, replies.{Next.Next, Reply.Reply}}}
 use Rattle.cpu_words.specs.{Hooks.HookAnswer, Words.{Words, read}}
-use Rattle.compounds.specs.{file_closes.Phases.{leaves_on, then_frees}, declared.file_closes.phases.ClosePhase.ClosePhase}
+use Rattle.composite_ops.specs.{file_closes.Phases.{leaves_on, then_frees}, declared.file_closes.phases.ClosePhase.ClosePhase}
 use Rattle.finite_sums.proofs.Totals.{each_updated, update_at}
 use Rattle.finite_sums.specs.Sums.{update}
-use Rattle.gate_schedules.proofs.frames.{Accesses.holdings_of_after, Beside.{beside_of, made, made_keeps_beside, made_runs_beside, rephased_beside}}
+use Rattle.gate_schedules.proofs.frames.{Accesses.holdings_of_after, SameRolesOffTree.{beside_of, made, made_keeps_beside, made_runs_beside, rephased_beside}}
 use Rattle.gate_schedules.proofs.{frames.Frames.{left_alone, opens_left}, operations.{close.Fits.enters_fits, readers.Laws.{end_phase, read_phase}}}
 use Rattle.gate_schedules.proofs.trees.worlds.Trees.{tree_holds}
-use Rattle.gate_world.specs.{Alike.{IsBeside, at_phase, rephased}, Configs.IsWithin, Fits.{CloseFits, Fits, HasFile, file_of}, Holdings.Holdings}
+use Rattle.gate_world.specs.{SameRoles.{SameRolesOffTree, at_phase, rephased}, Configs.IsWithin, Fits.{CloseFits, Fits, HasFile, file_of}, Holdings.Holdings}
 use Rattle.gate_world.specs.{Holdings.held_after, LevelRuns.level_in, Rules.{Files, Fitting, Holds, IsGood, Moves, SameWords, StepKeeps, Tree}, Shown.shown}
 use Rattle.gate_world.specs.{Trees.{tree_bounds, tree_of, tree_role_of, tree_roles}, Views.{has_open, held_of, phase_after, view_with}, Work.after_of}
 use Rattle.gate_world.specs.{Work.next_of, Worlds.{World, found_at, words_after}, declared.{config.Config.Config, views.{Traced.Traced, View.View}}}
@@ -24,7 +24,7 @@ use Rattle.gate_schedules.proofs.trees.Counts.{leaves}
 
 -- what comes after an event at level 3 is beside what comes in its own operation
 pub beside_enters : (file p : ℕ) (node : NodeWord) (n : Next DownRead) →
-    IsBeside (phase_after (map_next Phase.DownReads n)) (phase_after (map_next Phase.Closes (then_frees file node p n)))
+    SameRolesOffTree (phase_after (map_next Phase.DownReads n)) (phase_after (map_next Phase.Closes (then_frees file node p n)))
 beside_enters file p node n = grind arith
 
 -- no event of a down-read touches a word of the tree
@@ -77,7 +77,7 @@ module _ (c : Config) (w : World) (good : IsGood c w) (t : ℕ) (lt : t < c.task
       (leaves (tree_bounds c) (tree_of w) (good Tree) t lt
       (record { blocks = ap charge is; removed = ap removal is; children = λ d. ap (child_charge d) is })))
 
-  module _ (hook : HookAnswer) (q : Phase) (before : IsBeside (w.views t).phase (Some q))
+  module _ (hook : HookAnswer) (q : Phase) (before : SameRolesOffTree (w.views t).phase (Some q))
       (fits : Fits c t (held_of (w.views t)) (Some q)) (tree : Holds c (rephased w t (Some q)) Tree)
       (files : Holds c (rephased w t (Some q)) Files) where
     -- what comes after the level's event in its own operation, and the action that it adds
@@ -104,7 +104,7 @@ module _ (c : Config) (w : World) (good : IsGood c w) (t : ℕ) (lt : t < c.task
         IsGood c (made_in first_world plain_after) ×
         Moves c (shown c first_world) t plain_action (shown c (made_in first_world plain_after))
 
-    beside_step : PlainLaw → (coming : Next Phase) → IsBeside (phase_after plain_after) (phase_after coming) →
+    beside_step : PlainLaw → (coming : Next Phase) → SameRolesOffTree (phase_after plain_after) (phase_after coming) →
         Fits c t (held_after plain_action (held_of (w.views t))) (phase_after coming) →
         Holds c (made_in w coming) Tree → Holds c (made_in w coming) Files →
         IsGood c (made_in w coming) × Moves c (shown c w) t plain_action (shown c (made_in w coming))
@@ -134,7 +134,7 @@ module _ (c : Config) (lim : IsWithin c) (w : World) (good : IsGood c w) (t : �
       let opens : has_open v ≡ has_open (w.views t) =
       ap (λ (h : Holdings). h.files) (holdings_of_after (down_read_after r r.step found).1 (w.views t).actions) ∙
       read_opens (held_of (w.views t)) r r.step found in
-      let before : IsBeside (w.views t).phase (Some (Phase.DownReads r)) =
+      let before : SameRolesOffTree (w.views t).phase (Some (Phase.DownReads r)) =
       beside_of e refl in
       let same : SameWords w.words ws Tree = read_tree w.words r r.step hook in
       beside_step c w good t lt hook (Phase.DownReads r) before f.2
@@ -158,7 +158,7 @@ module _ (c : Config) (lim : IsWithin c) (w : World) (good : IsGood c w) (t : �
       let v : View = view_with (w.views t) (next_of q hook) (read w.words (next_of q hook).0) hook
       (coming, (after_of q found hook).1) in
       let is : tree_roles w t ≡ OffTree = ap (tree_role_of (w.views t).trace) e in
-      let before : IsBeside (w.views t).phase (Some q) = beside_of e refl in
+      let before : SameRolesOffTree (w.views t).phase (Some q) = beside_of e refl in
       beside_step c w good t lt hook q before (omega arith, omega arith, f.0, f.1)
       (left_alone c w t lt Tree w.words (at_phase (w.views t) (Some q)) (refl, refl, refl, refl, refl, refl) (sym is) (good Tree))
       (files_still c w good t lt w.words (at_phase (w.views t) (Some q)) refl refl tt)
@@ -168,8 +168,8 @@ module _ (c : Config) (lim : IsWithin c) (w : World) (good : IsGood c w) (t : �
 
 -- an event at level 3 of a task that stands at the level's phase, and after which another phase comes that is beside the level's own
 module _ (c : Config) (w : World) (t : ℕ) (lt : t < c.tasks) (hook : HookAnswer) (q : Phase)
-    (before : IsBeside (w.views t).phase (Some q)) (good : IsGood c (rephased w t (Some q))) (coming : Next Phase)
-    (after : IsBeside (phase_after (after_of q (found_at w.words q hook) hook).0) (phase_after coming)) where
+    (before : SameRolesOffTree (w.views t).phase (Some q)) (good : IsGood c (rephased w t (Some q))) (coming : Next Phase)
+    (after : SameRolesOffTree (phase_after (after_of q (found_at w.words q hook) hook).0) (phase_after coming)) where
   -- what comes after the event in its own operation, and its action
   abbrev own_next : Next Phase
   own_next = (after_of q (found_at w.words q hook) hook).0
@@ -194,12 +194,12 @@ module _ (c : Config) (w : World) (t : ℕ) (lt : t < c.tasks) (hook : HookAnswe
 -- the worlds in which a close at level 3 stands at the level's phase: the rule holds there
 module _ (c : Config) (w : World) (good : IsGood c w) (t : ℕ) (lt : t < c.tasks) where
   pub beside_reads : (file : ℕ) (node : NodeWord) (r : DownRead) → (w.views t).phase ≡ Some (Phase.Closes (ClosePhase.Enters file node r)) →
-      IsBeside (w.views t).phase (Some (Phase.DownReads r)) × IsGood c (rephased w t (Some (Phase.DownReads r)))
+      SameRolesOffTree (w.views t).phase (Some (Phase.DownReads r)) × IsGood c (rephased w t (Some (Phase.DownReads r)))
   beside_reads file node r e =
       let f : CloseFits c t (held_of (w.views t)) (ClosePhase.Enters file node r) =
       subst (Fits c t (held_of (w.views t))) e (good Fitting t lt) in
       let is : tree_roles w t ≡ Freeing file node = ap (tree_role_of (w.views t).trace) e in
-      let before : IsBeside (w.views t).phase (Some (Phase.DownReads r)) =
+      let before : SameRolesOffTree (w.views t).phase (Some (Phase.DownReads r)) =
       beside_of e refl in (
         before,
         rephased_beside c w t lt (Some (Phase.DownReads r)) before f.2 good
@@ -208,13 +208,13 @@ module _ (c : Config) (w : World) (good : IsGood c w) (t : ℕ) (lt : t < c.task
       )
 
   pub beside_ends : (p : ℕ) → (w.views t).phase ≡ Some (Phase.Closes (ClosePhase.Leaves p)) →
-      IsBeside (w.views t).phase (Some (Phase.UpReads (leaves_on p))) × IsGood c (rephased w t (Some (Phase.UpReads (leaves_on p))))
+      SameRolesOffTree (w.views t).phase (Some (Phase.UpReads (leaves_on p))) × IsGood c (rephased w t (Some (Phase.UpReads (leaves_on p))))
   beside_ends p e =
       let f : CloseFits c t (held_of (w.views t)) (ClosePhase.Leaves p) =
       subst (Fits c t (held_of (w.views t))) e (good Fitting t lt) in
       let is : tree_roles w t ≡ OffTree = ap (tree_role_of (w.views t).trace) e in
       let q : Phase = Phase.UpReads (leaves_on p) in
-      let before : IsBeside (w.views t).phase (Some q) = beside_of e refl in (
+      let before : SameRolesOffTree (w.views t).phase (Some q) = beside_of e refl in (
         before,
         rephased_beside c w t lt (Some q) before (omega arith, omega arith, f.0, f.1) good
             (left_alone c w t lt Tree w.words (at_phase (w.views t) (Some q)) (refl, refl, refl, refl, refl, refl) (sym is) (good Tree))

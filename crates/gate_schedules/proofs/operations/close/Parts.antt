@@ -3,7 +3,7 @@
 use Rattle.access_model.specs.{Replies.map_next, States.is_removed, declared.{actions.Action.Action, errors.GateError.GateError, replies.Next.Next}}
 use Rattle.std.proofs.lemmas.Grind.{common_steps}
 use Rattle.cpu_words.specs.Hooks.{HookAnswer}
-use Rattle.compounds.specs.{file_closes.Phases.{after, closed_from, next}, declared.file_closes.phases.{ClosePhase.ClosePhase, Closing.Closing}}
+use Rattle.composite_ops.specs.{file_closes.Phases.{after, closed_from, next}, declared.file_closes.phases.{ClosePhase.ClosePhase, Closing.Closing}}
 use Rattle.gate_schedules.proofs.operations.close.Events.{close_drops, close_frees, close_loads, close_lowers, close_uncounts, closer_unread, dropped_removed}
 use Rattle.gate_schedules.proofs.operations.close.Events.{freeing_removed, frees_alone}
 use Rattle.gate_schedules.proofs.{operations.close.Fits.close_goes, trees.worlds.{Events.{IsPlain, plain_parts, tree_run}, MayTree.LeaveFor}}

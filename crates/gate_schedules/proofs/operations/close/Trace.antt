@@ -8,13 +8,13 @@ use Rattle.node_words.specs.Nodes.{any_file_in, as_any_file, opens_in, unpacked,
 use Rattle.node_words.specs.Phases.{after_look}
 use Rattle.node_words.specs.declared.nodes.NodeWord.{NodeWord}
 use Rattle.percpu_rwsem.specs.{Readers.{down_read_next, down_read_after}, declared.readers.{DownRead.DownRead, DownReadStep.DownReadStep}}
-use Rattle.compounds.specs.{file_closes.Phases.{closed_from, then_frees}, declared.file_closes.phases.ClosePhase.ClosePhase}
-use Rattle.gate_world.specs.{Courses.{CloseMayFind, MayFind, MayHold}, Found.found_dropped, Operations.first_close, Traces.{IsShort, most_events}}
+use Rattle.composite_ops.specs.{file_closes.Phases.{closed_from, then_frees}, declared.file_closes.phases.ClosePhase.ClosePhase}
+use Rattle.gate_world.specs.{traces.TraceStates.{CloseReadIsValid, ReadIsValid, WordIsValid}, traces.Found.found_dropped, Operations.first_close, traces.Traces.{IsShort, most_events}}
 use Rattle.gate_world.specs.{Views.{with_hook, actions_after}, Work.next_of}
 use Rattle.gate_world.specs.declared.{config.Config.Config, operations.Op.Op, views.Traced.Traced, work.Phase.Phase}
-use Rattle.gate_schedules.proofs.{frames.Keeps.OpKeeps, operations.{calls.Trace.made_some, close.{Beginning.close_op_from}}}
+use Rattle.gate_schedules.proofs.{frames.OperationLaws.OpLaws, operations.{calls.Trace.made_some, close.{Beginning.close_op_from}}}
 use Rattle.gate_schedules.proofs.operations.{readers.Trace.{read_at, ReadSays, ReadNext, read_event}}
-use Rattle.gate_schedules.proofs.traces.Says.{KeptWell, Says, SaysAfter, event_at, tells_well, is_short_well}
+use Rattle.gate_schedules.proofs.traces.TraceInvariant.{IsInductiveGivenReads, InvariantAfter, InvariantAfterStep, event_at, tells_well, is_short_well}
 
 -- an event of a down-read isn't on `removed`
 read_dropped : (r : DownRead) (s : DownReadStep) (value : ℕ) (hook : HookAnswer) (earlier : List Traced) →
@@ -32,21 +32,21 @@ freed file = Action.Close file ∷ entered
 module _ (file p t : ℕ) (wait : Bool) where
   -- What a trace says of what was added, whether an event was on `removed`, and how many events there are at most, where the close doesn't
   -- wait.
-  abbrev Stands : List Action → Bool → ℕ → List Traced → List Action → Type 0
-  Stands actions dropped most trace added =
+  abbrev HasAdded : List Action → Bool → ℕ → List Traced → List Action → Type 0
+  HasAdded actions dropped most trace added =
       (added ≡ actions) × (found_dropped trace ≡ dropped) × (wait ≡ false → length trace ≤ most)
 
   -- What a trace says, by where the close stands. Inside level 3 it has one event and those of a down-read, at most five, before it frees
   -- its file.
   abbrev CloseSays : ClosePhase → List Traced → List Action → Type 0
   CloseSays (ClosePhase.LoadsFile x) trace added = (x ≡ first_close file p t wait) × (trace ≡ []) × (added ≡ [])
-  CloseSays (ClosePhase.LowersCount x node) trace added = (x ≡ first_close file p t wait) × Stands [] false 1 trace added
+  CloseSays (ClosePhase.LowersCount x node) trace added = (x ≡ first_close file p t wait) × HasAdded [] false 1 trace added
   CloseSays (ClosePhase.Enters f node r) trace added =
       (f ≡ file) × ((s : DownReadStep) × (r ≡ read_at 3 p t wait s) × ReadSays 1 3 wait s trace added) × (found_dropped trace ≡ false)
-  CloseSays (ClosePhase.FreesNode f q node) trace added = (f ≡ file) × Stands entered false 6 trace added
-  CloseSays (ClosePhase.RefundsBlocks q blocks) trace added = Stands (freed file) false 7 trace added
-  CloseSays (ClosePhase.Uncounts q) trace added = Stands (freed file) false 8 trace added
-  CloseSays (ClosePhase.Leaves q) trace added = Stands (freed file) true 9 trace added
+  CloseSays (ClosePhase.FreesNode f q node) trace added = (f ≡ file) × HasAdded entered false 6 trace added
+  CloseSays (ClosePhase.RefundsBlocks q blocks) trace added = HasAdded (freed file) false 7 trace added
+  CloseSays (ClosePhase.Uncounts q) trace added = HasAdded (freed file) false 8 trace added
+  CloseSays (ClosePhase.Leaves q) trace added = HasAdded (freed file) true 9 trace added
 
   -- what it says at a phase
   abbrev CloseAt : List Traced → Phase → List Action → Type 0
@@ -65,18 +65,18 @@ says_short c file p t wait x trace added h q = grind arith
 
 module _ (c : Config) (file p t : ℕ) (wait : Bool) where
   -- what a trace says by what comes
-  abbrev Comes : List Traced → Next ClosePhase → List Action → Type 0
-  Comes trace n added = Says (CloseAt file p t wait) c (Op.Close file p wait) trace (map_next Phase.Closes n) added
+  abbrev NextInvariant : List Traced → Next ClosePhase → List Action → Type 0
+  NextInvariant trace n added = InvariantAfter (CloseAt file p t wait) c (Op.Close file p wait) trace (map_next Phase.Closes n) added
 
   -- what the trace says after an event at level 3
   entered_says : (node : NodeWord) (e : Traced) (earlier : List Traced) (added : List Action) (n : Next DownRead) →
-      ReadNext 1 3 p t wait (e ∷ earlier) added n → found_dropped (e ∷ earlier) ≡ false → Comes (e ∷ earlier) (then_frees file node p n) added
+      ReadNext 1 3 p t wait (e ∷ earlier) added n → found_dropped (e ∷ earlier) ≡ false → NextInvariant (e ∷ earlier) (then_frees file node p n) added
   entered_says node e earlier added n h none = grind arith
 
 module _ (c : Config) (file p t : ℕ) (wait : Bool) (value : ℕ) (hook : HookAnswer) where
   -- what the trace says after the event of a phase
   abbrev After : ClosePhase → List Traced → List Action → Type 0
-  After x earlier added = SaysAfter (CloseAt file p t wait) c (Op.Close file p wait) (Phase.Closes x) value hook earlier added
+  After x earlier added = InvariantAfterStep (CloseAt file p t wait) c (Op.Close file p wait) (Phase.Closes x) value hook earlier added
 
   -- the close as it begins, and the load of its file
   abbrev looks : ClosePhase
@@ -86,16 +86,16 @@ module _ (c : Config) (file p t : ℕ) (wait : Bool) (value : ℕ) (hook : HookA
   loaded = with_hook (event_at (Phase.Closes looks) value hook) hook
 
   looked_says : (r : Option (Result NodeWord GateError)) → any_file_in value ≡ r → is_some r ≡ true → 1 ≤ opens_in value →
-      Comes c file p t wait (loaded ∷ []) (after_look looks (closed_from (first_close file p t wait)) r) []
+      NextInvariant c file p t wait (loaded ∷ []) (after_look looks (closed_from (first_close file p t wait)) r) []
   looked_says r e some opens = grind (arith, common_steps)
 
-  loads_event : CloseMayFind looks value → After looks [] []
+  loads_event : CloseReadIsValid looks value → After looks [] []
   loads_event may =
       looked_says (any_file_in value) refl (made_some (λ node. as_any_file node node.kind) (unpacked value) may.0) may.1
 
   module _ (earlier : List Traced) (added : List Action) where
     -- the count is lowered, or has changed
-    lowers_event : (node : NodeWord) → Stands file p t wait [] false 1 earlier added →
+    lowers_event : (node : NodeWord) → HasAdded file p t wait [] false 1 earlier added →
         After (ClosePhase.LowersCount (first_close file p t wait) node) earlier added
     lowers_event node h = elim (cases_Bool (value == word_of node)) [
       | inl same ↦
@@ -105,7 +105,7 @@ module _ (c : Config) (file p t : ℕ) (wait : Bool) (value : ℕ) (hook : HookA
     ]
 
     -- an event at level 3
-    enters_event : (node : NodeWord) (s : DownReadStep) → MayHold (down_read_next (read_at 3 p t wait s) s).0 value →
+    enters_event : (node : NodeWord) (s : DownReadStep) → WordIsValid (down_read_next (read_at 3 p t wait s) s).0 value →
         ReadSays 1 3 wait s earlier added → found_dropped earlier ≡ false → After (ClosePhase.Enters file node (read_at 3 p t wait s)) earlier added
     enters_event node s may h none =
         let r : DownRead = read_at 3 p t wait s in
@@ -114,7 +114,7 @@ module _ (c : Config) (file p t : ℕ) (wait : Bool) (value : ℕ) (hook : HookA
         (actions_after (down_read_after r s found).1 added) (down_read_after r s found).0
         (read_event 1 3 p t value hook earlier added wait s may h) (read_dropped r s value hook earlier ∙ none)
 
-    close_event : (x : ClosePhase) → CloseMayFind x value → CloseSays file p t wait x earlier added → After x earlier added
+    close_event : (x : ClosePhase) → CloseReadIsValid x value → CloseSays file p t wait x earlier added → After x earlier added
     close_event (ClosePhase.LoadsFile x) may h =
         let start : After looks earlier added =
         subst (λ l. After looks l added) (sym h.1) (subst (λ l. After looks [] l) (sym h.2) (loads_event may)) in
@@ -122,7 +122,7 @@ module _ (c : Config) (file p t : ℕ) (wait : Bool) (value : ℕ) (hook : HookA
     close_event (ClosePhase.LowersCount x node) may h = subst (λ y. After (ClosePhase.LowersCount y node) earlier added) (sym h.0) (lowers_event node h.1)
     close_event (ClosePhase.Enters f node r) may h =
         subst (λ y. After (ClosePhase.Enters y node r) earlier added) (sym h.0)
-        (subst (λ (y : DownRead). MayHold (down_read_next y y.step).0 value → After (ClosePhase.Enters file node y) earlier added) (sym h.1.1)
+        (subst (λ (y : DownRead). WordIsValid (down_read_next y y.step).0 value → After (ClosePhase.Enters file node y) earlier added) (sym h.1.1)
         (λ holds. enters_event node h.1.0 holds h.1.2 h.2) may)
     close_event (ClosePhase.FreesNode f q node) may h =
         subst (λ y. After (ClosePhase.FreesNode y q node) earlier added) (sym h.0)
@@ -137,18 +137,18 @@ module _ (c : Config) (file p t : ℕ) (wait : Bool) (value : ℕ) (hook : HookA
       close_short c file p wait _ (λ r. omega (arith, h.2 r)),
     )
 
-pub close_kept : (c : Config) (file p t : ℕ) (wait : Bool) → KeptWell (CloseAt file p t wait) c t (Op.Close file p wait)
+pub close_kept : (c : Config) (file p t : ℕ) (wait : Bool) → IsInductiveGivenReads (CloseAt file p t wait) c t (Op.Close file p wait)
 close_kept c file p t wait = record {
   first = (ClosePhase.LoadsFile (first_close file p t wait), refl, (refl, refl, refl));
   more = λ phase value hook earlier added may here.
-      subst (λ (x : Phase). MayFind x (next_of x hook).0 value → SaysAfter (CloseAt file p t wait) c (Op.Close file p wait) x value hook
+      subst (λ (x : Phase). ReadIsValid x (next_of x hook).0 value → InvariantAfterStep (CloseAt file p t wait) c (Op.Close file p wait) x value hook
       earlier added)
       (sym here.1) (λ holds. close_event c file p t wait value hook earlier added here.0 holds here.2) may;
   short = λ trace phase added here.
       close_short c file p wait trace (says_short c file p t wait here.0 trace added here.2);
 }
 
-pub close_op : (c : Config) (file p : ℕ) (wait : Bool) → OpKeeps c (Op.Close file p wait)
+pub close_op : (c : Config) (file p : ℕ) (wait : Bool) → OpLaws c (Op.Close file p wait)
 close_op c file p wait =
     close_op_from c file p wait
     (λ lim t trace h. tells_well (CloseAt file p t wait) c t (Op.Close file p wait) (close_kept c file p t wait) trace h)

@@ -6,8 +6,8 @@ use Rattle.cpu_words.specs.Hooks.{HookAnswer}
 use Rattle.gate_world.specs.{Configs.IsWithin, Rules.IsGood, Views.view_after_beside, Worlds.{World, after_step, value_at, happens}}
 use Rattle.gate_world.specs.declared.entries.Entry.{TheVariants.{Steps}}
 use Rattle.gate_world.specs.declared.{config.Config.Config, views.View.View, work.Phase.Phase}
-use Rattle.gate_schedules.proofs.operations.{Layers.phase_ends, deadlocks.{Falls.happens_is, Whole.world_goes}}
-use Rattle.gate_schedules.specs.operations.Progress.{AllAreKept, EventsKeepRule, Progresses, ReplyWithin, SettlesWithin}
+use Rattle.gate_schedules.proofs.operations.{AllOperations.phase_ends, deadlocks.{RankDecreases.happens_is, BlockedOrProgress.world_goes}}
+use Rattle.gate_schedules.specs.operations.Progress.{AllAreBlocked, EventsKeepRule, Progresses, ReplyWithin, SettlesWithin}
 use Rattle.gate_schedules.specs.operations.Ranks.{most_events_to_reply, most_events_to_settle}
 
 -- 1 where an operation is under way
@@ -24,7 +24,7 @@ abbrev going_in : Config → World → ℕ
 going_in c w = total c.tasks (λ t. is_going (w.views t).phase)
 
 -- what is kept has settled
-settled_now : (c : Config) (n : ℕ) (w : World) → AllAreKept c w → SettlesWithin c n w
+settled_now : (c : Config) (n : ℕ) (w : World) → AllAreBlocked c w → SettlesWithin c n w
 settled_now c zero w kept = kept
 settled_now c (suc n) w kept = inl kept
 
@@ -36,7 +36,7 @@ settles_further c (suc n) (suc m) w le (inr h) =
     inr (h.0, h.1, h.2, λ hook. settles_further c n m (happens c w (Steps h.0 hook)) (omega arith) (h.3 hook))
 
 -- with none under way nothing is left to be kept
-none_going : (c : Config) (w : World) → going_in c w ≤ 0 → AllAreKept c w
+none_going : (c : Config) (w : World) → going_in c w ≤ 0 → AllAreBlocked c w
 none_going c w none t lt phase at =
     let one : is_going (w.views t).phase ≡ 1 = ap is_going at in
     absurd (omega (arith, total_at c.tasks t (λ x. is_going (w.views x).phase) lt))

@@ -1,4 +1,4 @@
-use Rattle.gate_schedules.proofs.operations.Layers.{phase_keeps}
+use Rattle.gate_schedules.proofs.operations.AllOperations.{phase_keeps}
 use Rattle.gate_schedules.proofs.operations.each_event_keeps_the_rule.Goals as goal
 
 pub returns-clause-keeps : goal.returns-clause-keeps

@@ -14,10 +14,10 @@ use Rattle.percpu_rwsem.specs.declared.{grace.GraceNext.GraceNext, sync_word.{Sy
 use Rattle.percpu_rwsem.specs.declared.writers.{DownWrite.DownWrite, DownWriteStep.DownWriteStep, UpWrite.UpWrite}
 use Rattle.freeze_levels.specs.{Freezes.{at_freeze, level_closed, after_closing, after_clearing, freeze_fails, after_reopening}, Holders.holders_in}
 use Rattle.freeze_levels.specs.declared.freezes.{Freeze.Freeze, FreezeStep.FreezeStep}
-use Rattle.gate_world.specs.{Causes.{all_inside, was_inside, words_read, moments_of_sum, looks_at_stage, was_busy}, Fits.{DownWriteStepFits, FreezeFits}}
-use Rattle.gate_world.specs.{KeptCauses.{DownWriteCause, FreezeCause, CauseOf}, Rules.{IsGood, AtLevel, LevelHoldsIn}, Views.phase_after, Work.after_of}
+use Rattle.gate_world.specs.{refusals.Causes.{all_inside, was_inside, words_read, moments_of_sum, looks_at_stage, was_busy}, Fits.{DownWriteStepFits, FreezeFits}}
+use Rattle.gate_world.specs.{refusals.KeptCauses.{DownWriteCause, FreezeCause, CauseOf}, Rules.{IsGood, AtLevel, LevelHoldsIn}, Views.phase_after, Work.after_of}
 use Rattle.gate_world.specs.{Worlds.{words_after, World, found_at}, declared.{config.Config.Config, work.Phase.Phase}}
-use Rattle.gate_schedules.proofs.{frames.{Keeps.IsQuiet, Words.load_same}, operations.freeze.Fits.found_cases}
+use Rattle.gate_schedules.proofs.{frames.{OperationLaws.IsQuiet, Words.load_same}, operations.freeze.Fits.found_cases}
 use Rattle.gate_schedules.proofs.traces.Moments.{look_skips, sum_begins, sum_goes}
 
 -- where nothing is counted at a level, a sum that begins leads by 0

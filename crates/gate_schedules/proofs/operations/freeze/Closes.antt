@@ -1,7 +1,7 @@
 -- The events of a freeze on the words of a level that it closes.
-use Rattle.gate_schedules.proofs.frames.{Accesses.holdings_of_after, ByPhase.freeze_owner, Keeps.by_bool, Stages.{IsStageEvent, stages_in}}
+use Rattle.gate_schedules.proofs.frames.{Accesses.holdings_of_after, ByPhase.freeze_owner, OperationLaws.by_bool, Stages.{IsStageEvent, stages_in}}
 use Rattle.gate_schedules.proofs.levels.DownWrite.{down_write_levels, entered_by_nobody, passes_finds_nobody, swap_finds_clear}
-use Rattle.gate_schedules.proofs.{levels.Standing.{LevelsHold, Stands, left_world, stand_after_closing}, operations.freeze.Fits.freeze_goes}
+use Rattle.gate_schedules.proofs.{levels.LevelPositions.{LevelsHold, HasPosition, left_world, position_after_closing}, operations.freeze.Fits.freeze_goes}
 use Rattle.gate_schedules.proofs.operations.freeze.Stages.{FitsHere, IsHere, Keeps, freeze_stands, here_fits, here_stands, here_tree, here_writes}
 use Rattle.gate_schedules.proofs.{trees.worlds.Trees.shown_clean, writers.Parts.{AsksWhere, LeavesRest, WriterLaw, down_write_comes, freeze_comes}}
 use Rattle.gate_schedules.proofs.writers.Stages.{none_leaves, stays_there, still_plays}
@@ -71,7 +71,7 @@ closed_role x level = at_level
 
 -- how it stands with the levels then
 closed_stands : (x : Freeze) (level : ℕ) → 1 ≤ level → level ≤ 3 →
-    Stands (Some (Phase.Freezes (at_freeze x (level_closed level x.nodes)))) (Some (closed_to level))
+    HasPosition (Some (Phase.Freezes (at_freeze x (level_closed level x.nodes)))) (Some (closed_to level))
 closed_stands x level = grind arith
 
 -- `block` is set where the swap found it clear
@@ -162,9 +162,9 @@ module _ (c : Config) (lim : IsWithin c) (w : World) (good : IsGood c w) (t : �
         ap stage_owns (closed_role x d.level fits_now.5.0 fits_now.5.1)) d.step found_here
 
     -- how it stands with the levels
-    pub stands_then : Stands view_then.phase (stand_after_closing d.level next_here)
+    pub stands_then : HasPosition view_then.phase (position_after_closing d.level next_here)
     stands_then =
-        down_write_comes d (λ n. Stands (phase_after (map_next Phase.Freezes (after_closing x d.level n))) (stand_after_closing d.level n))
+        down_write_comes d (λ n. HasPosition (phase_after (map_next Phase.Freezes (after_closing x d.level n))) (position_after_closing d.level n))
         (λ s. freeze_stands (at_freeze x (FreezeStep.Closes (at_down_write d s)))) (λ s. freeze_stands (at_freeze x (FreezeStep.Closes (at_down_write d s))))
         (closed_stands x d.level fits_now.5.0 fits_now.5.1) d.step found_here
 

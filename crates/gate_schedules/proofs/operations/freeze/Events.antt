@@ -1,6 +1,6 @@
 -- The events of a freeze on nodes and on the words of a level that it reopens, and all of its events as one law.
-use Rattle.gate_schedules.proofs.frames.{ByPhase.freeze_owner, Holders.holders_stay, Rephased.{alike_of, made_keeps}, Stages.{IsStageEvent, stages_in}}
-use Rattle.gate_schedules.proofs.levels.{StandRoles.levels_stay, Standing.{Stands, left_world, stand_after_opening}}
+use Rattle.gate_schedules.proofs.frames.{ByPhase.freeze_owner, Holders.holders_stay, PhaseSubstitution.{alike_of, made_keeps}, Stages.{IsStageEvent, stages_in}}
+use Rattle.gate_schedules.proofs.levels.{PositionRoles.levels_stay, LevelPositions.{HasPosition, left_world, position_after_opening}}
 use Rattle.gate_schedules.proofs.operations.freeze.{Closes.closes, Fits.freeze_goes}
 use Rattle.gate_schedules.proofs.operations.freeze.Stages.{FitsHere, IsHere, Keeps, completes_read_only, freeze_stands, goes_to, here_fits, here_knows}
 use Rattle.gate_schedules.proofs.operations.freeze.Stages.{here_stands, here_tree, here_writes, holds, loads_holders, loads_stage, loads_superblock, locks}
@@ -14,8 +14,8 @@ use Rattle.finite_sums.proofs.Totals.{each_updated, update_map, update_same}
 use Rattle.finite_sums.specs.Sums.{update}
 use Rattle.freeze_levels.specs.{Freezes.{after_reopening, at_freeze}, Thaws.{after_opening}}
 use Rattle.freeze_levels.specs.declared.{freezes.{Freeze.Freeze, FreezeStep.FreezeStep}, thaws.{Thaw.Thaw, ThawStep.ThawStep}}
-use Rattle.gate_world.specs.{Alike.{IsAlike, rephased}, Configs.{IsWithin, model_limits}, Fits.FreezeFits, Holdings.Holdings, Roles.closed_to}
-use Rattle.gate_world.specs.{Roles.{freeze_holder_role, freeze_stage_role, freeze_stand, freeze_tree_role}, Rules.{Holds, IsGood, StepKeeps, Tree, ViewFits}}
+use Rattle.gate_world.specs.{SameRoles.{SameRoles, rephased}, Configs.{IsWithin, model_limits}, Fits.FreezeFits, Holdings.Holdings, Roles.closed_to}
+use Rattle.gate_world.specs.{Roles.{freeze_holder_role, freeze_stage_role, freeze_position, freeze_tree_role}, Rules.{Holds, IsGood, StepKeeps, Tree, ViewFits}}
 use Rattle.gate_world.specs.{Rules.{holder_role_of, marks_of, owns, stage_role_of, stage_roles}, Shown.shown, Trees.{tree_bounds, tree_of}, Views.held_of}
 use Rattle.gate_world.specs.{Views.phase_after, Worlds.World, declared.{config.Config.Config, views.View.View, work.Phase.Phase}}
 use Rattle.node_words.proofs.ClearedMarks.{clean_stays, cleared_shown, clears_mark, without_mark}
@@ -33,7 +33,7 @@ use Rattle.gate_schedules.specs.trees.Events.{Clears, Event, Passes, with_node}
 -- and after each event of a reopening
 pub stands_then : (x : Freeze) (u : UpWrite) (code found : ℕ) →
     let n : Next UpWrite = (up_write_after u u.step found).0 in
-    Stands (phase_after (map_next Phase.Freezes (after_reopening x u.level code n))) (stand_after_opening u.level n)
+    HasPosition (phase_after (map_next Phase.Freezes (after_reopening x u.level code n))) (position_after_opening u.level n)
 stands_then x u code found = grind arith
 
 -- Where a freeze failed, its levels are reopened as by a thaw: a thaw at this step stands with all parts of the rule as the freeze does.
@@ -42,11 +42,11 @@ as_thaw x s = record { task = x.task; holder = x.holder; step = s }
 
 -- before an event
 reopens_alike : (x : Freeze) (u : UpWrite) (code : ℕ) →
-    IsAlike (Some (Phase.Freezes (at_freeze x (FreezeStep.Reopens u code)))) (Some (Phase.Thaws (as_thaw x (ThawStep.Reopens u))))
+    SameRoles (Some (Phase.Freezes (at_freeze x (FreezeStep.Reopens u code)))) (Some (Phase.Thaws (as_thaw x (ThawStep.Reopens u))))
 reopens_alike x u code = refl
 
 next_alike : (x : Freeze) (u : UpWrite) (code : ℕ) (n : Next UpWrite) →
-    IsAlike (phase_after (map_next Phase.Thaws (after_opening (as_thaw x (ThawStep.Reopens u)) u.level n)))
+    SameRoles (phase_after (map_next Phase.Thaws (after_opening (as_thaw x (ThawStep.Reopens u)) u.level n)))
     (phase_after (map_next Phase.Freezes (after_reopening x u.level code n)))
 next_alike x u code n = grind arith
 
@@ -55,7 +55,7 @@ module _ (c : Config) (lim : IsWithin c) (w : World) (good : IsGood c w) (t : �
   module _ (marks : ClearMarks) (e : IsHere c lim w good t lt x (FreezeStep.Cleans marks)) (s : FreezeStep) (fit : FreezeFits c x.holder s)
       (role : freeze_stage_role x.nodes s ≡ Freezing 2 (HasPassed (suc marks.node)) true)
       (past : freeze_tree_role x.nodes s ≡ Clearing (suc marks.node))
-      (stand : freeze_stand s ≡ Some (closed_to 2)) (holder : freeze_holder_role s ≡ Apart) where
+      (stand : freeze_position s ≡ Some (closed_to 2)) (holder : freeze_holder_role s ≡ Apart) where
     abbrev node_word : ℕ
     node_word = w.words.node marks.node
 
@@ -114,7 +114,7 @@ module _ (c : Config) (lim : IsWithin c) (w : World) (good : IsGood c w) (t : �
           levels = levels_stay c w good t lt cleared_words v (Some (closed_to 2)) (assumption)
               (record { held_same = ap (λ (h : Holdings). h.levels) mounts.held_same; added_same = refl; taken_same = refl })
               (here_stands c lim w good t lt x (FreezeStep.Cleans marks) e)
-              (subst (Stands (Some (Phase.Freezes (at_freeze x s)))) stand (freeze_stands (at_freeze x s)));
+              (subst (HasPosition (Some (Phase.Freezes (at_freeze x s)))) stand (freeze_stands (at_freeze x s)));
           tree = tree_cleared action event;
           opens = λ n. each_updated (λ y word. opens_in word ≡ opens_in (w.words.node y)) w.words.node marks.node
               (without_mark node_word) n (clears_mark node_word node_there.packed).opens (λ ne. refl);

@@ -23,7 +23,7 @@ use Rattle.freeze_levels.proofs.holder_laws.Words.{none_held}
 use Rattle.gate_world.specs.Configs.{IsWithin, extents_of}
 use Rattle.gate_world.specs.{Fits.{DownWriteStepFits, DownWriteFits, UpWriteFits, FreezeFits, PhaseFits, Fits, ActionFits}, Holdings.{Holdings, held_after}}
 use Rattle.gate_world.specs.{Operations.holds_none, Views.phase_after, declared.{config.Config.Config, work.Phase.Phase}}
-use Rattle.gate_schedules.proofs.frames.{Cases.both, Keeps.by_bool}
+use Rattle.gate_schedules.proofs.frames.{Cases.both, OperationLaws.by_bool}
 
 -- the word of each event of a down-write is there
 down_write_word : (c : Config) (d : DownWrite) (s : DownWriteStep) → 1 ≤ d.level → d.level ≤ 3 → DownWriteStepFits c s →

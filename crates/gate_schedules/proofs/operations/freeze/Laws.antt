@@ -1,7 +1,7 @@
 -- All that is proved of a freeze, from the law of its events and from what its trace tells.
 use Rattle.access_model.specs.declared.actions.Holder.{Holder}
 use Rattle.freeze_levels.specs.declared.freezes.{Freeze.Freeze, FreezeStep.FreezeStep}
-use Rattle.gate_schedules.proofs.frames.{Agreeing.none_agree, Keeps.{OpKeeps, PhaseKeeps, word_among}, Snapshots.completes_none}
+use Rattle.gate_schedules.proofs.frames.{Agreeing.none_agree, OperationLaws.{OpLaws, PhaseLaws, word_among}, Snapshots.completes_none}
 use Rattle.gate_schedules.proofs.operations.freeze.{Causes.{freeze_own, freeze_stays}, Events.freeze_keeps, Fits.{freeze_acts, freeze_goes, freeze_word}}
 use Rattle.gate_schedules.proofs.operations.freeze.{Runs.freeze_runs, Trace.{freeze_restores, freeze_short, freeze_tells}, Waits.freeze_waits}
 use Rattle.gate_world.specs.{Fits.{Fits, PhaseFits}, Roles.freeze_stage_role, Rules.{Fitting, IsGood, Stages, stage_role_of}, Views.held_of}
@@ -21,7 +21,7 @@ stage_here c x w good t lt e is =
     (subst (λ s. KnowsStage w.words.stage w.words.sb (freeze_stage_role x.nodes s)) is
     (subst (λ p. KnowsStage w.words.stage w.words.sb (stage_role_of p)) e ((good Stages).knows t lt))).0
 
-pub freeze_phase : (c : Config) (x : Freeze) → PhaseKeeps c (Phase.Freezes x)
+pub freeze_phase : (c : Config) (x : Freeze) → PhaseLaws c (Phase.Freezes x)
 freeze_phase c x = record {
   step = λ within w good t lt hook e. freeze_keeps c within w good t lt hook x e;
   runs = λ within w good t lt hook e. freeze_runs c within w good t lt hook x e;
@@ -39,7 +39,7 @@ freeze_phase c x = record {
       freeze_waits c w earlier good t lt x hook x.step e (fits_here c x w good t lt e).5 cause;
 }
 
-pub freeze_op : (c : Config) (holder : Holder) → OpKeeps c (Op.Freeze holder)
+pub freeze_op : (c : Config) (holder : Holder) → OpLaws c (Op.Freeze holder)
 freeze_op c holder = record {
   fits = λ t held there order room. (refl, refl, refl, refl, order, tt);
   starts_aside = λ t. refl;

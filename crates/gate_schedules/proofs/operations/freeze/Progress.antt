@@ -4,9 +4,9 @@ use Rattle.cpu_words.specs.{Hooks.HookAnswer, Touches.found_by, Words.{Words, re
 use Rattle.finite_sums.specs.Sums.{total}
 use Rattle.freeze_levels.specs.{Freezes.{after_clearing, after_closing, after_reopening, freeze_after, freeze_next}, Holders.holders_in}
 use Rattle.freeze_levels.specs.declared.freezes.{Freeze.Freeze, FreezeStep.FreezeStep}
-use Rattle.gate_schedules.proofs.{operations.{calls.Progress.clear_falls, deadlocks.Falls.{after_event, falls_as}}}
+use Rattle.gate_schedules.proofs.{operations.{calls.Progress.clear_falls, deadlocks.RankDecreases.{after_event, falls_as}}}
 use Rattle.gate_schedules.proofs.writers.Progress.{DownFalls, down_falls, up_falls}
-use Rattle.gate_world.specs.{Fits.{Fits, FreezeFits, PhaseFits}, Levels.sync_role_of, Roles.{freeze_stand, stand_sync, sync_beside}, Rules.{Fitting, IsGood}}
+use Rattle.gate_world.specs.{Fits.{Fits, FreezeFits, PhaseFits}, Levels.sync_role_of, Roles.{freeze_position, position_sync, sync_beside}, Rules.{Fitting, IsGood}}
 use Rattle.gate_world.specs.{Views.held_of, Worlds.{World, found_at, words_after}, declared.{config.Config.Config, work.Phase.Phase}}
 use Rattle.node_words.specs.Phases.{clear_after, clear_next}
 use Rattle.node_words.specs.declared.marks.ClearMarks.{ClearMarks}
@@ -14,7 +14,7 @@ use Rattle.freeze_laws.specs.levels.Operations.{down_write_role, up_write_role}
 use Rattle.percpu_rwsem.specs.{Writers.{down_write_after, down_write_next, up_write_after, up_write_next}}
 use Rattle.percpu_rwsem.specs.declared.writers.{DownWrite.DownWrite, DownWriteStep.DownWriteStep, UpWrite.UpWrite, UpWriteStep.UpWriteStep}
 use Rattle.gate_schedules.specs.operations.Ranks.{closed_rank, closing_rank, down_rank, freeze_rank, rank, reopens_rank, up_rank}
-use Rattle.gate_schedules.specs.operations.Ways.{Falls, FreezeIsFree, IsFree, LevelsAreFree, NobodyInside, NothingCounted, PhaseEnds}
+use Rattle.gate_schedules.specs.operations.Unblocked.{RankDecreases, FreezeIsUnblocked, IsUnblocked, LevelsAreFree, NobodyInside, NothingCounted, PhaseEnds}
 use Rattle.std.proofs.{Common.{ap, arith, inl, inr, refl, subst, ℕ, ◌+◌, ◌<◌, ◌∙◌, ◌≡◌, ◌≤◌}, lemmas.Bool.{cases_Bool, eq-eqb, Decides.eqb_tells}}
 use Rattle.std.specs.Prelude.{Err, Ok, nat_lt, ◌%◌, ◌*◌, ◌-◌}
 
@@ -36,7 +36,7 @@ none_left c w i low high = absurd (omega (arith, low, high))
 
 -- what comes after an event of a freeze, with these words
 abbrev FreezeFalls : Config → Words → ℕ → Next Freeze → Type 0
-FreezeFalls c after n next = Falls (λ (y : Freeze). freeze_rank after y y.step) (λ (y : Freeze). FreezeIsFree c after y.step) n next
+FreezeFalls c after n next = RankDecreases (λ (y : Freeze). freeze_rank after y y.step) (λ (y : Freeze). FreezeIsUnblocked c after y.step) n next
 
 module _ (c : Config) (after : Words) (x : Freeze) (even : NobodyInside c after) where
   -- after an event of the closing of a level
@@ -45,19 +45,19 @@ module _ (c : Config) (after : Words) (x : Freeze) (even : NobodyInside c after)
   closes_falls d n next lock levels h = grind arith
 
   cleans_falls : (n : ℕ) (next : Next ClearMarks) → 1 ≤ n → ((i : ℕ) → 3 ≤ i → i ≤ 3 → NothingCounted c after i) →
-      Falls (λ (y : ClearMarks). y.nodes - y.node) (λ (y : ClearMarks). Unit {0}) n next →
+      RankDecreases (λ (y : ClearMarks). y.nodes - y.node) (λ (y : ClearMarks). Unit {0}) n next →
       FreezeFalls c after (closing_rank x + n + 11) (after_clearing x next)
   cleans_falls n next some levels h = grind arith
 
   -- after an event of the reopening of a level
   reopens_falls : (level r code : ℕ) (next : Next UpWrite) →
-      Falls (reopens_rank after) (λ (y : UpWrite). Unit {0}) (r + 3 * (level - 1) + 1) next →
+      RankDecreases (reopens_rank after) (λ (y : UpWrite). Unit {0}) (r + 3 * (level - 1) + 1) next →
       FreezeFalls c after (r + 3 * (level - 1) + 1) (after_reopening x level code next)
   reopens_falls level r code next h = grind arith
 
 module _ (c : Config) (some : 1 ≤ c.processors) (w : World) (good : IsGood c w) (t : ℕ) (lt : t < c.tasks) (x : Freeze) where
-  freeze_falls : (hook : HookAnswer) (s : FreezeStep) → ((i : ℕ) → sync_role_of i (w.views t).phase ≡ stand_sync i (freeze_stand s)) →
-      FreezeFits c x.holder s → FreezeIsFree c w.words s →
+  freeze_falls : (hook : HookAnswer) (s : FreezeStep) → ((i : ℕ) → sync_role_of i (w.views t).phase ≡ position_sync i (freeze_position s)) →
+      FreezeFits c x.holder s → FreezeIsUnblocked c w.words s →
       FreezeFalls c (after_event w.words (freeze_next x s hook)) (freeze_rank w.words x s)
       (freeze_after x s (found_by (freeze_next x s hook).1 (read w.words (freeze_next x s hook).0)) hook).0
   freeze_falls hook FreezeStep.Locks role fits free = rw free.1 (omega arith, (free.0, tt, free.2))
@@ -85,7 +85,7 @@ module _ (c : Config) (some : 1 ≤ c.processors) (w : World) (good : IsGood c w
   freeze_falls hook FreezeStep.Unlocks role fits free = (omega arith, (free.0, λ q. refl, free.2))
   freeze_falls hook (FreezeStep.Closes d) role fits free =
       let after : Words = after_event w.words (down_write_next d d.step) in
-      let here : stand_sync d.level (freeze_stand (FreezeStep.Closes d)) ≡ down_write_role d.step =
+      let here : position_sync d.level (freeze_position (FreezeStep.Closes d)) ≡ down_write_role d.step =
       ap (λ q. sync_beside q (nat_lt d.level d.level) (down_write_role d.step)) (eq-eqb d.level d.level refl) in
       let even : NobodyInside c after =
       λ y ly. ap (λ (f : ℕ → ℕ). f y % 2) (down_sections w.words d d.step) ∙ free.0 y ly in
@@ -108,7 +108,7 @@ module _ (c : Config) (some : 1 ≤ c.processors) (w : World) (good : IsGood c w
   freeze_falls (Err code) FreezeStep.SetsComplete role fits free = (omega arith, (free.0, tt, λ i low high. absurd (omega (arith, low, high))))
   freeze_falls hook (FreezeStep.Reopens u code) role fits free =
       let after : Words = after_event w.words (up_write_next u u.step) in
-      let here : stand_sync u.level (freeze_stand (FreezeStep.Reopens u code)) ≡ up_write_role u.step =
+      let here : position_sync u.level (freeze_position (FreezeStep.Reopens u code)) ≡ up_write_role u.step =
       ap (λ q. sync_beside q (nat_lt u.level u.level) (up_write_role u.step)) (eq-eqb u.level u.level refl) in
       let even : NobodyInside c after = λ y ly. ap (λ (f : ℕ → ℕ). f y % 2) (up_sections w.words u u.step) ∙ free.0 y ly in
       reopens_falls c after x even u.level (up_rank (w.words.sync u.level) u.step) code
@@ -122,7 +122,7 @@ freeze_ends c x = record {
       let f : PhaseFits c t (held_of (w.views t)) (Phase.Freezes x) =
       subst (Fits c t (held_of (w.views t))) at (good Fitting t lt) in
       let after : Words = words_after w.words (Phase.Freezes x) hook in
-      falls_as Phase.Freezes (rank after) (IsFree c after) (freeze_rank w.words x x.step)
+      falls_as Phase.Freezes (rank after) (IsUnblocked c after) (freeze_rank w.words x x.step)
       (freeze_after x x.step (found_at w.words (Phase.Freezes x) hook) hook).0
       (freeze_falls c lim.some_processor w good t lt x hook x.step (λ i. ap (sync_role_of i) at) f.5 free);
 }

@@ -8,30 +8,30 @@ use Rattle.node_words.specs.declared.marks.ClearMarks.{ClearMarks}
 use Rattle.freeze_levels.specs.{Freezes.{at_freeze, freeze_closes, freeze_fails, freeze_after, freeze_locked, after_clearing}, Holders.holders_in}
 use Rattle.freeze_levels.specs.declared.freezes.{Freeze.Freeze, FreezeStep.FreezeStep}
 use Rattle.freeze_laws.specs.stages.Roles.{has_position}
-use Rattle.gate_world.specs.{Configs.IsWithin, Roles.{Stand, closed_to}, Rules.{IsGood, Stages, stage_role_of}, Views.{phase_after, view_after}}
+use Rattle.gate_world.specs.{Configs.IsWithin, Roles.{LevelPosition, closed_to}, Rules.{IsGood, Stages, stage_role_of}, Views.{phase_after, view_after}}
 use Rattle.gate_world.specs.{Worlds.{World, after_step, words_after, found_at, value_at}, declared.{config.Config.Config, work.Phase.Phase}}
-use Rattle.gate_schedules.proofs.{frames.{Frames.SameLevelWords, Keeps.by_bool}, levels.DownWrite.entered_by_nobody}
-use Rattle.gate_schedules.proofs.levels.{Runs.{levels_stay_runs, down_write_runs, up_write_runs}, StandRoles.{closing_first, closing_next}}
-use Rattle.gate_schedules.proofs.{levels.{Standing.{Stands, LevelsRun}, Whole.freezes_runs}, operations.freeze.Closes.stands_then as stands_closing}
+use Rattle.gate_schedules.proofs.{frames.{Frames.SameLevelWords, OperationLaws.by_bool}, levels.DownWrite.entered_by_nobody}
+use Rattle.gate_schedules.proofs.levels.{Runs.{levels_stay_runs, down_write_runs, up_write_runs}, PositionRoles.{closing_first, closing_next}}
+use Rattle.gate_schedules.proofs.{levels.{LevelPositions.{HasPosition, LevelsRun}, FreezeCompletes.freezes_runs}, operations.freeze.Closes.stands_then as stands_closing}
 use Rattle.gate_schedules.proofs.operations.freeze.{Events.stands_then as stands_reopening, Fits.found_cases}
 use Rattle.gate_schedules.proofs.operations.freeze.Stages.{freeze_stands, idle_stands, IsHere, here_fits, here_knows, here_stands}
 
 -- with level 2 closed, a freeze clears another mark or asks the file system for its sync
 cleared_stands : (x : Freeze) (marks : ClearMarks) (node : Option ℕ) →
-    Stands (phase_after (map_next Phase.Freezes (after_clearing x (clears_at marks node)))) (Some (closed_to 2))
+    HasPosition (phase_after (map_next Phase.Freezes (after_clearing x (clears_at marks node)))) (Some (closed_to 2))
 cleared_stands x marks (Some node) = freeze_stands (at_freeze x (FreezeStep.Cleans (record marks { node = node })))
 cleared_stands x marks None = freeze_stands (at_freeze x FreezeStep.SetsFs)
 
 -- an attempt at `umount` leaves how a freeze stands with the levels, where the step that it is for stands so
-locked_stands : (x : Freeze) (again step : FreezeStep) (found : ℕ) (stand : Option Stand) →
-    Stands (Some (Phase.Freezes (at_freeze x again))) stand → Stands (Some (Phase.Freezes (at_freeze x step))) stand →
-    Stands (phase_after (map_next Phase.Freezes (freeze_locked x again found step))) stand
+locked_stands : (x : Freeze) (again step : FreezeStep) (found : ℕ) (stand : Option LevelPosition) →
+    HasPosition (Some (Phase.Freezes (at_freeze x again))) stand → HasPosition (Some (Phase.Freezes (at_freeze x step))) stand →
+    HasPosition (phase_after (map_next Phase.Freezes (freeze_locked x again found step))) stand
 locked_stands x again step found stand vain won = grind arith
 
 -- so does a load, of which two steps may come
-found_stands : (x : Freeze) (some other : FreezeStep) (found : ℕ) (stand : Option Stand) →
-    Stands (Some (Phase.Freezes (at_freeze x some))) stand → Stands (Some (Phase.Freezes (at_freeze x other))) stand →
-    Stands (phase_after (map_next Phase.Freezes (if found == 0 then Next.Go (at_freeze x some) else Next.Go (at_freeze x other)))) stand
+found_stands : (x : Freeze) (some other : FreezeStep) (found : ℕ) (stand : Option LevelPosition) →
+    HasPosition (Some (Phase.Freezes (at_freeze x some))) stand → HasPosition (Some (Phase.Freezes (at_freeze x other))) stand →
+    HasPosition (phase_after (map_next Phase.Freezes (if found == 0 then Next.Go (at_freeze x some) else Next.Go (at_freeze x other)))) stand
 found_stands x some other found stand first second = grind arith
 
 module _ (c : Config) (lim : IsWithin c) (w : World) (good : IsGood c w) (t : ℕ) (lt : t < c.tasks) (x : Freeze) where
@@ -43,9 +43,9 @@ module _ (c : Config) (lim : IsWithin c) (w : World) (good : IsGood c w) (t : �
   words_then hook s = words_after w.words (Phase.Freezes (at_freeze x s)) hook
 
   -- an event that leaves the words of the levels, and how the freeze stands with them
-  leaves : (hook : HookAnswer) (s : FreezeStep) (stand : Option Stand) → SameLevelWords w.words (words_then hook s) →
-      Stands (w.views t).phase stand →
-      Stands (phase_after (map_next Phase.Freezes (freeze_after x s (found_at w.words (Phase.Freezes (at_freeze x s)) hook) hook).0)) stand →
+  leaves : (hook : HookAnswer) (s : FreezeStep) (stand : Option LevelPosition) → SameLevelWords w.words (words_then hook s) →
+      HasPosition (w.views t).phase stand →
+      HasPosition (phase_after (map_next Phase.Freezes (freeze_after x s (found_at w.words (Phase.Freezes (at_freeze x s)) hook) hook).0)) stand →
       Runs hook s
   leaves hook s stand words was now =
       levels_stay_runs c w t lt (words_then hook s)
@@ -88,17 +88,17 @@ module _ (c : Config) (lim : IsWithin c) (w : World) (good : IsGood c w) (t : �
   freeze_run hook FreezeStep.LoadsStage e =
       leaves hook FreezeStep.LoadsStage None (assumption) (here_stands c lim w good t lt x FreezeStep.LoadsStage e)
       (by_bool (w.words.stage == 0)
-      (λ b. Stands (phase_after (map_next Phase.Freezes (if b then Next.Go (at_freeze x FreezeStep.LoadsSuperblock) else
+      (λ b. HasPosition (phase_after (map_next Phase.Freezes (if b then Next.Go (at_freeze x FreezeStep.LoadsSuperblock) else
       if w.words.stage == 4 then Next.Go (at_freeze x FreezeStep.LoadsHolders) else Next.Go (at_freeze x (FreezeStep.Releases (Err GateError.Busy)))))) None)
       (freeze_stands (at_freeze x FreezeStep.LoadsSuperblock))
       (by_bool (w.words.stage == 4)
-      (λ b. Stands (phase_after
+      (λ b. HasPosition (phase_after
       (map_next Phase.Freezes
       (if b then Next.Go (at_freeze x FreezeStep.LoadsHolders) else Next.Go (at_freeze x (FreezeStep.Releases (Err GateError.Busy)))))) None)
       (freeze_stands (at_freeze x FreezeStep.LoadsHolders)) (freeze_stands (at_freeze x (FreezeStep.Releases (Err GateError.Busy))))))
   freeze_run hook FreezeStep.LoadsHolders e =
       leaves hook FreezeStep.LoadsHolders None (assumption) (here_stands c lim w good t lt x FreezeStep.LoadsHolders e)
-      (found_cases x (holders_in w.words.holders) (λ s. Stands (Some (Phase.Freezes (at_freeze x s))) None)
+      (found_cases x (holders_in w.words.holders) (λ s. HasPosition (Some (Phase.Freezes (at_freeze x s))) None)
       (λ own. freeze_stands (at_freeze x (FreezeStep.Releases (Err GateError.Busy))))
       (λ other. freeze_stands (at_freeze x (FreezeStep.Holds (holders_in w.words.holders)))))
   freeze_run hook (FreezeStep.Holds beside) e =

@@ -7,13 +7,13 @@ use Rattle.finite_sums.specs.Sums.{total, update}
 use Rattle.freeze_levels.specs.{Freezes.{at_freeze, freeze_closes, freeze_fails}, Holders.{holders_in, word_of}, declared.freezes.Freeze.Freeze}
 use Rattle.freeze_levels.specs.declared.freezes.FreezeStep.{FreezeStep}
 use Rattle.gate_schedules.proofs.frames.{Cases.both, Frames.SameLevelCounts, Holders.{holders_after, holders_at, holders_move, holders_stay, nobody_minds}}
-use Rattle.gate_schedules.proofs.{frames.Stages.{IsStageEvent, nobody_owns, owners_alike, stages_in}, levels.StandRoles.{closing_first, closing_next}}
-use Rattle.gate_schedules.proofs.{levels.{Standing.{LevelsHold, Stands, left_world}, Whole.freezes_all}, operations.freeze.Fits.found_cases}
+use Rattle.gate_schedules.proofs.{frames.Stages.{IsStageEvent, nobody_owns, owners_alike, stages_in}, levels.PositionRoles.{closing_first, closing_next}}
+use Rattle.gate_schedules.proofs.{levels.{LevelPositions.{LevelsHold, HasPosition, left_world}, FreezeCompletes.freezes_all}, operations.freeze.Fits.found_cases}
 use Rattle.gate_schedules.proofs.{trees.worlds.Trees.{sealed_frozen, tree_after, tree_then}, writers.Owner.{lock_given, lock_taken, owner_stays}}
 use Rattle.gate_schedules.proofs.writers.Parts.{AsksWhere, IsWriter, SameAtMounts, WriterKeeps, WriterLaw, freezes_write, idle_writes}
 use Rattle.gate_schedules.proofs.writers.Stages.{opened_tree, stays_there, stored_levels, stored_tree, writer_beside, writer_holds, writer_stores}
-use Rattle.gate_world.specs.{Configs.{IsWithin, model_limits}, Fits.{Fits, FreezeFits, PhaseFits}, Roles.{Stand, closed_to, freeze_holder_role}}
-use Rattle.gate_world.specs.{Roles.{freeze_stage_role, freeze_stand, freeze_tree_role}, Rules.{Fitting, Holding, Holds, IsGood, OwnerHolds, Stages, Tree}}
+use Rattle.gate_world.specs.{Configs.{IsWithin, model_limits}, Fits.{Fits, FreezeFits, PhaseFits}, Roles.{LevelPosition, closed_to, freeze_holder_role}}
+use Rattle.gate_world.specs.{Roles.{freeze_stage_role, freeze_position, freeze_tree_role}, Rules.{Fitting, Holding, Holds, IsGood, OwnerHolds, Stages, Tree}}
 use Rattle.gate_world.specs.{Rules.{holder_role_of, holder_roles, owns, stage_role_of}, Shown.shown, Trees.{tree_bounds, tree_of, tree_role_of, tree_roles}}
 use Rattle.gate_world.specs.{Views.{held_of, view_with}, Worlds.World, declared.{config.Config.Config, views.View.View, work.Phase.Phase}}
 use Rattle.gated_tree.specs.Roles.{HasNoCharge, Out as OffTree, TreeState, sealed_by}
@@ -26,10 +26,10 @@ use Rattle.std.proofs.{Common.{ap, arith, inl, inr, refl, subst, sym, ℕ, ◌+�
 use Rattle.std.specs.Prelude.{Err, None, Ok, Option, Result, Some, false, if◌then◌else◌, true, ◌∷◌}
 use Rattle.gate_schedules.specs.trees.Events.{Event as TreeEvent, Leaves, Seals, turned}
 
-pub freeze_stands : (x : Freeze) → Stands (Some (Phase.Freezes x)) (freeze_stand x.step)
+pub freeze_stands : (x : Freeze) → HasPosition (Some (Phase.Freezes x)) (freeze_position x.step)
 freeze_stands x = record { counts = λ i one three. refl; syncs = λ i one three. refl; outside = refl }
 
-pub idle_stands : Stands None None
+pub idle_stands : HasPosition None None
 idle_stands = record { counts = λ i one three. refl; syncs = λ i one three. refl; outside = refl }
 
 module _ (c : Config) (lim : IsWithin c) (w : World) (good : IsGood c w) (t : ℕ) (lt : t < c.tasks) (x : Freeze) where
@@ -53,8 +53,8 @@ module _ (c : Config) (lim : IsWithin c) (w : World) (good : IsGood c w) (t : �
   pub here_knows : (s : FreezeStep) → IsHere s → KnowsStage w.words.stage w.words.sb (freeze_stage_role x.nodes s)
   here_knows s e = subst (λ p. KnowsStage w.words.stage w.words.sb (stage_role_of p)) e ((good Stages).knows t lt)
 
-  pub here_stands : (s : FreezeStep) → IsHere s → Stands (w.views t).phase (freeze_stand s)
-  here_stands s e = subst (λ p. Stands p (freeze_stand s)) (sym e) (freeze_stands (at_freeze x s))
+  pub here_stands : (s : FreezeStep) → IsHere s → HasPosition (w.views t).phase (freeze_position s)
+  here_stands s e = subst (λ p. HasPosition p (freeze_position s)) (sym e) (freeze_stands (at_freeze x s))
 
   pub here_tree : (s : FreezeStep) → IsHere s → tree_roles w t ≡ freeze_tree_role x.nodes s
   here_tree s e = ap (tree_role_of (w.views t).trace) e
@@ -106,14 +106,14 @@ module _ (c : Config) (lim : IsWithin c) (w : World) (good : IsGood c w) (t : �
       (here, off, nobody_minds c w good t lt (ap owns e ∙ own) (ap minds here), refl)
 
   -- which leaves the levels, where the file system is frozen as a whole or not as before
-  kept_levels : (hook : HookAnswer) (s s' : FreezeStep) (e : IsHere s) (n : ℕ) (stand : Option Stand) →
-      is_full n w.words.sb ≡ is_full w.words.stage w.words.sb → freeze_stand s ≡ stand → Stands (Some (Phase.Freezes (at_freeze x s'))) stand →
+  kept_levels : (hook : HookAnswer) (s s' : FreezeStep) (e : IsHere s) (n : ℕ) (stand : Option LevelPosition) →
+      is_full n w.words.sb ≡ is_full w.words.stage w.words.sb → freeze_position s ≡ stand → HasPosition (Some (Phase.Freezes (at_freeze x s'))) stand →
       let v : View = view_at (WordName.Stage, Touch.Store n) w.words.stage hook s' (Some (Action.Stage n)) in
       LevelsHold c (left_world w t (record w.words { stage = n }) v)
   kept_levels hook s s' e n stand whole before after =
       let v : View = view_at (WordName.Stage, Touch.Store n) w.words.stage hook s' (Some (Action.Stage n)) in
       stored_levels c w good t lt v (record { held_same = refl; added_same = refl; taken_same = refl }) n stand whole
-      (subst (Stands (w.views t).phase) before (here_stands s e)) after
+      (subst (HasPosition (w.views t).phase) before (here_stands s e)) after
 
   -- and the tree, where it is sealed or not as before, and the freeze does there what it did
   kept_tree : (hook : HookAnswer) (s s' : FreezeStep) (e : IsHere s) (n : ℕ) → freeze_tree_role x.nodes s' ≡ freeze_tree_role x.nodes s →
@@ -224,12 +224,12 @@ module _ (c : Config) (lim : IsWithin c) (w : World) (good : IsGood c w) (t : �
       (moved (Err code) FreezeStep.SetsComplete s' e 0 refl refl (λ four. omega (arith, k, four)) (λ four. omega (arith, four)))
 
   -- an event that leaves all words but `umount`, after which this step comes
-  beside : (s s' : FreezeStep) (e : IsHere s) (n value : ℕ) (word : WordName) (touch : Touch) (hook : HookAnswer) (stand : Option Stand)
+  beside : (s s' : FreezeStep) (e : IsHere s) (n value : ℕ) (word : WordName) (touch : Touch) (hook : HookAnswer) (stand : Option LevelPosition)
       (kind : StageEvent) →
       let v : View = view_at (word, touch) value hook s' None in
       SameAtMounts (w.views t) v → SameLevelCounts (w.views t) v → FreezeFits c x.holder s' →
       OwnerHolds c.tasks n w.words.remount (λ y. (update w.views t v y).phase) →
-      freeze_stand s ≡ stand → Stands (Some (Phase.Freezes (at_freeze x s'))) stand → freeze_tree_role x.nodes s' ≡ freeze_tree_role x.nodes s →
+      freeze_position s ≡ stand → HasPosition (Some (Phase.Freezes (at_freeze x s'))) stand → freeze_tree_role x.nodes s' ≡ freeze_tree_role x.nodes s →
       IsStageEvent c w good t lt (record w.words { umount = n }) v kind → stage_action_of kind (stages_in w) ≡ None →
       Holds c (left_world w t (record w.words { umount = n }) v) Holding →
       WriterLaw c w t (record w.words { umount = n }) v None
@@ -237,7 +237,7 @@ module _ (c : Config) (lim : IsWithin c) (w : World) (good : IsGood c w) (t : �
       writer_beside c w good t lt (view_at (word, touch) value hook s' None) (here_writes s e)
       (freezes_write (at_freeze x s')) mounts levels
       (goes_to s s' e fit) n stand kind owner
-      (subst (Stands (w.views t).phase) before (here_stands s e)) after (same ∙ sym (here_tree s e)) happens adds holding
+      (subst (HasPosition (w.views t).phase) before (here_stands s e)) after (same ∙ sym (here_tree s e)) happens adds holding
 
   -- the view after the lock was tried, which left this in `umount`, with this step to come
   abbrev tried : HookAnswer → ℕ → FreezeStep → View
@@ -250,17 +250,17 @@ module _ (c : Config) (lim : IsWithin c) (w : World) (good : IsGood c w) (t : �
       }
 
   -- the lock is tried, and this step comes
-  tries : (s s' : FreezeStep) (e : IsHere s) (n : ℕ) (hook : HookAnswer) (stand : Option Stand) (kind : StageEvent) →
+  tries : (s s' : FreezeStep) (e : IsHere s) (n : ℕ) (hook : HookAnswer) (stand : Option LevelPosition) (kind : StageEvent) →
       let v : View = tried hook n s' in
       FreezeFits c x.holder s' → OwnerHolds c.tasks n w.words.remount (λ y. (update w.views t v y).phase) →
-      freeze_stand s ≡ stand → freeze_stand s' ≡ stand → freeze_tree_role x.nodes s' ≡ freeze_tree_role x.nodes s →
+      freeze_position s ≡ stand → freeze_position s' ≡ stand → freeze_tree_role x.nodes s' ≡ freeze_tree_role x.nodes s →
       IsStageEvent c w good t lt (record w.words { umount = n }) v kind → stage_action_of kind (stages_in w) ≡ None →
       freeze_holder_role s' ≡ freeze_holder_role s → WriterLaw c w t (record w.words { umount = n }) v None
   tries s s' e n hook stand kind fit owner before after same happens adds holder =
       writer_beside c w good t lt (tried hook n s') (here_writes s e) (freezes_write (at_freeze x s')) (assumption)
       (record { held_same = refl; added_same = refl; taken_same = refl }) (goes_to s s' e fit) n stand kind owner
-      (subst (Stands (w.views t).phase) before (here_stands s e))
-      (subst (Stands (Some (Phase.Freezes (at_freeze x s')))) after (freeze_stands (at_freeze x s'))) (same ∙ sym (here_tree s e)) happens adds
+      (subst (HasPosition (w.views t).phase) before (here_stands s e))
+      (subst (HasPosition (Some (Phase.Freezes (at_freeze x s')))) after (freeze_stands (at_freeze x s'))) (same ∙ sym (here_tree s e)) happens adds
       (holders_stay c w good t lt (record w.words { umount = n }) (tried hook n s') refl refl (holder ∙ sym (ap holder_role_of e)))
 
   -- in vain: the same step comes again
@@ -268,7 +268,7 @@ module _ (c : Config) (lim : IsWithin c) (w : World) (good : IsGood c w) (t : �
       WriterLaw c w t w.words (tried hook w.words.umount s) None
   tries_again s e hook fit =
       let v : View = tried hook w.words.umount s in
-      tries s s e w.words.umount hook (freeze_stand s) Stays fit
+      tries s s e w.words.umount hook (freeze_position s) Stays fit
       (owner_stays c w good t lt v (here_writes s e) (freezes_write (at_freeze x s)) w.words refl refl (sym (ap owns e))) refl refl refl
       (stays_there c w good t lt w.words v (assumption) (sym (ap stage_role_of e))) refl refl
 
@@ -326,7 +326,7 @@ module _ (c : Config) (lim : IsWithin c) (w : World) (good : IsGood c w) (t : �
   loads : (hook : HookAnswer) (word : WordName) (value : ℕ) (s s' : FreezeStep) (e : IsHere s) (kind : StageEvent) →
       let v : View = view_at (word, Touch.Load) value hook s' None in
       freeze_owns s ≡ 1 → freeze_owns s' ≡ 1 →
-      freeze_stand s ≡ None → freeze_stand s' ≡ None → freeze_tree_role x.nodes s' ≡ freeze_tree_role x.nodes s →
+      freeze_position s ≡ None → freeze_position s' ≡ None → freeze_tree_role x.nodes s' ≡ freeze_tree_role x.nodes s →
       FreezeFits c x.holder s' → SameAtMounts (w.views t) v → SameLevelCounts (w.views t) v →
       IsStageEvent c w good t lt w.words v kind → stage_action_of kind (stages_in w) ≡ None →
       Holds c (left_world w t w.words v) Holding → WriterLaw c w t w.words v None
@@ -334,7 +334,7 @@ module _ (c : Config) (lim : IsWithin c) (w : World) (good : IsGood c w) (t : �
       let v : View = view_at (word, Touch.Load) value hook s' None in
       beside s s' e w.words.umount value word Touch.Load hook None kind mounts levels fit
       (owner_stays c w good t lt v (here_writes s e) (freezes_write (at_freeze x s')) w.words refl refl (o' ∙ sym (ap owns e ∙ o)))
-      before (subst (Stands (Some (Phase.Freezes (at_freeze x s')))) after (freeze_stands (at_freeze x s'))) same happens adds holding
+      before (subst (HasPosition (Some (Phase.Freezes (at_freeze x s')))) after (freeze_stands (at_freeze x s'))) same happens adds holding
 
   still : (s s' : FreezeStep) → IsHere s → (word : WordName) (value : ℕ) (hook : HookAnswer) →
       freeze_holder_role s' ≡ freeze_holder_role s → Holds c (left_world w t w.words (view_at (word, Touch.Load) value hook s' None)) Holding

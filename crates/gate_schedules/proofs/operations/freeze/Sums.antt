@@ -10,7 +10,7 @@ use Rattle.percpu_rwsem.specs.declared.{grace.Grace.Grace, sync_word.{SyncWord.S
 use Rattle.percpu_rwsem.specs.declared.transitions.{TransitionNext.TransitionNext}
 use Rattle.percpu_rwsem.specs.declared.writers.{DownWrite.DownWrite, DownWriteStep.DownWriteStep}
 use Rattle.gate_world.specs.Configs.{IsWithin}
-use Rattle.gate_world.specs.Found.{found_sealed, found_complete, stored_stage, cleans, newest, finds_readers, IsLevelSum, sum_of_newest, FoundInside}
+use Rattle.gate_world.specs.traces.Found.{found_sealed, found_complete, stored_stage, cleans, newest, finds_readers, IsLevelSum, sum_of_newest, FoundInside}
 use Rattle.gate_world.specs.{Views.with_hook, declared.{config.Config.Config, views.Traced.Traced}}
 
 -- the closing of this level, among the tasks and processors of a configuration, at a step
@@ -39,8 +39,8 @@ ClosingNext c i trace (Next.Wait d) action = ClosingGoes c i trace d × (action 
 ClosingNext c i trace (Next.Done answer) action = action ≡ Some (Action.Pass i)
 
 -- the trace has found the superblock's flag, stored stage 3 and cleared marks as an earlier one had
-abbrev pub Leaves : List Traced → List Traced → Type 0
-Leaves trace earlier =
+abbrev pub FoundAsBefore : List Traced → List Traced → Type 0
+FoundAsBefore trace earlier =
     (found_sealed trace ≡ found_sealed earlier) × (stored_stage 3 trace ≡ stored_stage 3 earlier) × (cleans trace ≡ cleans earlier) ×
     (found_complete trace ≡ found_complete earlier)
 
@@ -54,7 +54,7 @@ module _ (c : Config) (lim : IsWithin c) (i value : ℕ) (hook : HookAnswer) (ea
   abbrev pub closing_found : DownWriteStep → ℕ
   closing_found s = found_by (down_write_next (closing_at c i s) s).1 value
 
-  pub closing_leaves : (s : DownWriteStep) → Leaves (closing_trace s) earlier
+  pub closing_leaves : (s : DownWriteStep) → FoundAsBefore (closing_trace s) earlier
   closing_leaves s = grind arith
 
   -- what the trace says after the event of a step

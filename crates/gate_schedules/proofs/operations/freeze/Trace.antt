@@ -14,13 +14,13 @@ use Rattle.percpu_rwsem.specs.declared.transitions.{Transition.Transition, Trans
 use Rattle.percpu_rwsem.specs.declared.writers.{DownWrite.DownWrite, DownWriteStep.DownWriteStep, UpWrite.UpWrite, UpWriteStep.UpWriteStep}
 use Rattle.freeze_levels.specs.{Freezes.{after_closing, after_clearing, after_reopening}}
 use Rattle.freeze_levels.specs.declared.freezes.{Freeze.Freeze, FreezeStep.FreezeStep}
-use Rattle.gate_world.specs.{Operations.{two_levels_closed, all_levels_closed}, Configs.IsWithin, Courses.{IsTrace, course_of}}
-use Rattle.gate_world.specs.Found.{found_sealed, found_complete, stored_stage, cleans, ReadAnswer}
-use Rattle.gate_world.specs.{Traces.{actions_of, IsHonestAnswer, Tells, IsShort, most_events}, Views.{actions_after, with_hook}}
+use Rattle.gate_world.specs.{Operations.{two_levels_closed, all_levels_closed}, Configs.IsWithin, traces.TraceStates.{IsTrace, state_of_trace}}
+use Rattle.gate_world.specs.traces.Found.{found_sealed, found_complete, stored_stage, cleans, ReadAnswer}
+use Rattle.gate_world.specs.{traces.Traces.{actions_of, IsHonestAnswer, Tells, IsShort, most_events}, Views.{actions_after, with_hook}}
 use Rattle.gate_world.specs.declared.{config.Config.Config, operations.Op.Op, views.Traced.Traced, work.Phase.Phase}
-use Rattle.gate_schedules.proofs.operations.freeze.Sums.{ClosingSays, ClosingNext, Leaves, closing_at, closing_trace, closing_found, closing_leaves}
+use Rattle.gate_schedules.proofs.operations.freeze.Sums.{ClosingSays, ClosingNext, FoundAsBefore, closing_at, closing_trace, closing_found, closing_leaves}
 use Rattle.gate_schedules.proofs.operations.freeze.Sums.{closing_event}
-use Rattle.gate_schedules.proofs.traces.{Cleans.{LeaveAccesses, cleans_leave}, Says.{Says, SaysAfter, Kept, event_at, tells, is_short}}
+use Rattle.gate_schedules.proofs.traces.{Cleans.{LeaveAccesses, cleans_leave}, TraceInvariant.{InvariantAfter, InvariantAfterStep, IsInductive, event_at, tells, is_short}}
 
 -- a freeze of the superblock by a task, at this step
 abbrev pub freeze_of : Config → ℕ → Holder → FreezeStep → Freeze
@@ -120,7 +120,7 @@ mark_bit word =
     ]
 
 -- what is added before a level is closed stays so while the trace leaves what it speaks of
-closing_stays : (i : ℕ) (trace earlier : List Traced) (added : List Action) → Leaves trace earlier → IsClosing i earlier added →
+closing_stays : (i : ℕ) (trace earlier : List Traced) (added : List Action) → FoundAsBefore trace earlier → IsClosing i earlier added →
     IsClosing i trace added
 closing_stays zero trace earlier added l h = absurd h
 closing_stays (suc zero) trace earlier added l h = ((h.0.0, (l.0 ∙ h.0.1.0, l.3 ∙ h.0.1.1), l.1 ∙ h.0.2), l.2 ∙ h.1)
@@ -136,7 +136,7 @@ closing_stays (suc (suc (suc (suc i)))) trace earlier added l h = absurd h
 closing_says : (c : Config) (t : ℕ) (holder : Holder) (i : ℕ) (s : DownWriteStep) (e : Traced) (earlier : List Traced) (added : List Action)
     (n : Next DownWrite)
     (action : Option Action) → IsClosing i (e ∷ earlier) added → ClosingNext c i (e ∷ earlier) n action →
-    Says (FreezeAt c t holder) c (Op.Freeze holder) (e ∷ earlier)
+    InvariantAfter (FreezeAt c t holder) c (Op.Freeze holder) (e ∷ earlier)
     (map_next Phase.Freezes (after_closing (freeze_of c t holder (FreezeStep.Closes (closing_at c i s))) i n)) (actions_after action added)
 closing_says c t holder i s e earlier added n action level h = grind arith
 
@@ -154,7 +154,7 @@ module _ (c : Config) (lim : IsWithin c) (t : ℕ) (holder : Holder) (value : �
 
   -- what the trace says after the event of a step
   abbrev After : HookAnswer → FreezeStep → Type 0
-  After hook step = SaysAfter (FreezeAt c t holder) c (Op.Freeze holder) (freeze_at c t holder step) value hook earlier added
+  After hook step = InvariantAfterStep (FreezeAt c t holder) c (Op.Freeze holder) (freeze_at c t holder step) value hook earlier added
 
   -- `umount` is tried
   locks : (hook : HookAnswer) → StepSays c holder FreezeStep.Locks earlier added → After hook FreezeStep.Locks
@@ -200,7 +200,7 @@ module _ (c : Config) (lim : IsWithin c) (t : ℕ) (holder : Holder) (value : �
 
   node_says : (marks : ClearMarks) (trace : List Traced) (actions : List Action) →
       HasAdded (two_levels_closed trace) false trace actions →
-      Says (FreezeAt c t holder) c (Op.Freeze holder) trace
+      InvariantAfter (FreezeAt c t holder) c (Op.Freeze holder) trace
       (map_next Phase.Freezes (after_clearing (freeze_of c t holder (FreezeStep.Cleans marks)) (clears_at marks (node_after marks.node marks.nodes)))) actions
   node_says marks trace actions h = grind arith
 
@@ -225,7 +225,7 @@ module _ (c : Config) (lim : IsWithin c) (t : ℕ) (holder : Holder) (value : �
   -- a level is being left, or it is left and the level below it comes
   leaves_on : (i code : ℕ) (from : Transition) (trace : List Traced) (n : TransitionNext) → AreLeft i trace added →
       ReadAnswer WordName.Stage (Err code) trace →
-      Says (FreezeAt c t holder) c (Op.Freeze holder) trace
+      InvariantAfter (FreezeAt c t holder) c (Op.Freeze holder) trace
       (map_next Phase.Freezes
       (after_reopening (freeze_of c t holder (FreezeStep.Reopens (record { level = suc i; step = UpWriteStep.Exits from }) code)) (suc i) code
       (exit_made (record { level = suc i; step = UpWriteStep.Exits from }) n)))
@@ -290,18 +290,18 @@ module _ (c : Config) (lim : IsWithin c) (t : ℕ) (holder : Holder) (value : �
       subst (λ (x : UpWrite). After hook (FreezeStep.Reopens x code)) (sym h.2) (reopening_event hook code h.0 h.1 h.3 h.4)
   freeze_event hook (FreezeStep.Releases answer) h = (lock_leaves c holder answer value hook earlier added h, tt)
 
-pub freeze_kept : (c : Config) → IsWithin c → (t : ℕ) (holder : Holder) → Kept (FreezeAt c t holder) c t (Op.Freeze holder)
+pub freeze_kept : (c : Config) → IsWithin c → (t : ℕ) (holder : Holder) → IsInductive (FreezeAt c t holder) c t (Op.Freeze holder)
 freeze_kept c lim t holder = record {
   first = (FreezeStep.Locks, refl, ((refl, (refl, refl), refl), refl));
   more = λ phase value hook earlier added here.
-      subst (λ (x : Phase). SaysAfter (FreezeAt c t holder) c (Op.Freeze holder) x value hook earlier added) (sym here.1)
+      subst (λ (x : Phase). InvariantAfterStep (FreezeAt c t holder) c (Op.Freeze holder) x value hook earlier added) (sym here.1)
       (freeze_event c lim t holder value earlier added hook here.0 here.2);
   short = λ trace phase added here. tt;
 }
 
 -- every trace of a freeze tells what is to be told
 pub freeze_tells : (c : Config) (holder : Holder) → IsWithin c → (t : ℕ) (trace : List Traced) → IsTrace c t (Op.Freeze holder) trace →
-    Tells c (Op.Freeze holder) trace (course_of c t (Op.Freeze holder) trace).comes (course_of c t (Op.Freeze holder) trace).added
+    Tells c (Op.Freeze holder) trace (state_of_trace c t (Op.Freeze holder) trace).comes (state_of_trace c t (Op.Freeze holder) trace).added
 freeze_tells c holder lim t trace h = tells (FreezeAt c t holder) c t (Op.Freeze holder) (freeze_kept c lim t holder) trace h
 
 pub freeze_short : (c : Config) (holder : Holder) → IsWithin c → (t : ℕ) (trace : List Traced) → IsTrace c t (Op.Freeze holder) trace →

@@ -12,11 +12,11 @@ use Rattle.percpu_rwsem.specs.Writers.{down_write_after, at_down_write, sections
 use Rattle.percpu_rwsem.specs.declared.{grace.Grace.Grace, sync_word.GpState.GpState, transitions.TransitionNext.TransitionNext}
 use Rattle.percpu_rwsem.specs.declared.writers.{DownWrite.DownWrite, DownWriteStep.DownWriteStep, UpWrite.UpWrite, UpWriteStep.UpWriteStep}
 use Rattle.freeze_levels.specs.{Freezes.{at_freeze, after_closing, after_clearing, after_reopening}, declared.freezes.{Freeze.Freeze, FreezeStep.FreezeStep}}
-use Rattle.freeze_laws.proofs.levels.Whole.{writers_find}
+use Rattle.freeze_laws.proofs.levels.CitedLaws.{writers_find}
 use Rattle.freeze_laws.specs.levels.{Changes.{state_found, state_found_in}, Events.SyncLevelHolds, Operations.down_write_role}
 use Rattle.freeze_laws.specs.levels.Roles.{Entered, entered, entering, closed}
-use Rattle.gate_world.specs.{Fits.{DownWriteStepFits, FreezeFits}, KeptCauses.{DownWriteCause, FreezeCause}, LevelRuns.level_in, Levels.{inside, sync_role_of}}
-use Rattle.gate_world.specs.{Rules.{owns, IsGood, Sections}, Waits.{HasCulprit, HasReason}, Work.after_of, Worlds.{World, found_at}}
+use Rattle.gate_world.specs.{Fits.{DownWriteStepFits, FreezeFits}, refusals.KeptCauses.{DownWriteCause, FreezeCause}, LevelRuns.level_in, Levels.{inside, sync_role_of}}
+use Rattle.gate_world.specs.{Rules.{owns, IsGood, Sections}, refusals.Waits.{HasCulprit, HasReason}, Work.after_of, Worlds.{World, found_at}}
 use Rattle.gate_world.specs.declared.{config.Config.Config, work.Phase.Phase}
 use Rattle.gate_schedules.proofs.{frames.Owners.umount_taken, levels.{DownWrite.queued_passed, Worlds.level_right}, operations.freeze.Causes.level_ends}
 

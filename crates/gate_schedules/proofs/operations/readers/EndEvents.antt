@@ -8,7 +8,7 @@ use Rattle.percpu_rwsem.specs.declared.readers.UpRead.{UpRead}
 use Rattle.gate_world.specs.{Configs.IsWithin, Fits.{PhaseFits, Fits}, Levels.{level_role_of, sync_role_of, inside}, Rules.{IsGood, StepKeeps, Fitting}}
 use Rattle.gate_world.specs.{Views.{held_of, holds_level}, Worlds.World, declared.{config.Config.Config, views.View.View, work.Phase.Phase}}
 use Rattle.gate_schedules.proofs.levels.Counts.{SameElsewhere, words_down, view_down, down_beside, leaves}
-use Rattle.gate_schedules.proofs.levels.Parts.{IsBeside, IsAtLevels, SameAtMounts, end_at_levels, reads_at_levels, level_parts, level_shown, sync_left_at}
+use Rattle.gate_schedules.proofs.levels.Parts.{SameOffLevels, IsAtLevels, SameAtMounts, end_at_levels, reads_at_levels, level_parts, level_shown, sync_left_at}
 use Rattle.gate_schedules.proofs.levels.Parts.{sections_left_at}
 
 module _ (c : Config) (lim : IsWithin c) (w : World) (good : IsGood c w) (t : â„•) (lt : t < c.tasks) (hook : HookAnswer) (u : UpRead)
@@ -28,7 +28,7 @@ module _ (c : Config) (lim : IsWithin c) (w : World) (good : IsGood c w) (t : â„
   abbrev end_view : View
   end_view = view_down c lim w good t lt u.level u.cpu end_fits.2 hook ended
 
-  end_beside : IsBeside w.words end_words
+  end_beside : SameOffLevels w.words end_words
   end_beside = down_beside c lim w good t lt u.level u.cpu end_fits.2 hook ended
 
   end_was : IsAtLevels (w.views t).phase

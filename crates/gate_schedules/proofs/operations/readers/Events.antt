@@ -10,7 +10,7 @@ use Rattle.cpu_words.specs.gate_counts.Levels.{Out as CountsNot}
 use Rattle.gate_schedules.proofs.frames.Frames.{count_none, level_view_as}
 use Rattle.gate_schedules.proofs.levels.Counts.{LevelHoldsAfter, SameElsewhere, backs_off, bit_room, count_on, down_beside, enters_fast, held_bit}
 use Rattle.gate_schedules.proofs.levels.Counts.{level_follows, seeks, up_beside, words_down, words_up}
-use Rattle.gate_schedules.proofs.levels.Parts.{IsAtLevels, IsBeside, SameAtMounts, beside_levels, counts_left_at, level_parts, level_shown, level_still}
+use Rattle.gate_schedules.proofs.levels.Parts.{IsAtLevels, SameOffLevels, SameAtMounts, beside_levels, counts_left_at, level_parts, level_shown, level_still}
 use Rattle.gate_schedules.proofs.levels.Parts.{reads_at_levels}
 use Rattle.gate_schedules.proofs.{levels.Worlds.{fast_finds_open, not_passed, sync_on}, operations.readers.Levels.{LevelsHold, read_levels}}
 use Rattle.gate_world.specs.{Configs.{IsWithin, model_limits}, Fits.{Fits, ReadFits, ReadStepFits}, Holdings.Holdings, Levels.{at_level, level_role_of}}
@@ -138,7 +138,7 @@ module _ (c : Config) (lim : IsWithin c) (w : World) (good : IsGood c w) (t : â„
   section_words = put w.words (Section r.task) (wrap_add (w.words.section r.task) 1)
 
   -- they are the same beside the levels
-  section_beside : IsBeside w.words section_words
+  section_beside : SameOffLevels w.words section_words
   section_beside = refl
 
   -- such an addition keeps the rule, and leaves the shown model
@@ -193,7 +193,7 @@ module _ (c : Config) (lim : IsWithin c) (w : World) (good : IsGood c w) (t : â„
       let n : Next DownRead = Go (at_down_read r s) in
       let v : View = then_view (Sync i, Load) (n, None) in
       let ws : Words = put w.words (Sync i) (w.words.sync i) in
-      let beside : IsBeside w.words ws = refl in
+      let beside : SameOffLevels w.words ws = refl in
       let mounts : SameAtMounts (w.views t) v = record { held_same = refl; added_same = refl; taken_same = refl; open_same = refl } in (
         level_parts c w good t lt ws v beside (at_levels LoadsSync e) (reads_at_levels n) mounts
             (f.0, f.1, f.2, f.3, path.fits_still i (holds_level (w.views t)) f.4)
@@ -222,7 +222,7 @@ module _ (c : Config) (lim : IsWithin c) (w : World) (good : IsGood c w) (t : â„
       let n : Next DownRead = Go (at_down_read r LoadsBlock) in
       let v : View = then_view (LevelCount i r.cpu, Add 1) (n, None) in
       let ws : Words = words_up c lim w good t lt i r.cpu f.2 hook (map_next DownReads n, None) in
-      let beside : IsBeside w.words ws = up_beside c lim w good t lt i r.cpu f.2 hook (map_next DownReads n, None) in
+      let beside : SameOffLevels w.words ws = up_beside c lim w good t lt i r.cpu f.2 hook (map_next DownReads n, None) in
       let mounts : SameAtMounts (w.views t) v = record { held_same = refl; added_same = refl; taken_same = refl; open_same = refl } in (
         level_parts c w good t lt ws v beside (at_levels CountsUpSlow e) (reads_at_levels n) mounts f
             (seeks c lim w good t lt i r.cpu f.2 hook (map_next DownReads n, None) (counts_here CountsUpSlow e)
@@ -239,7 +239,7 @@ module _ (c : Config) (lim : IsWithin c) (w : World) (good : IsGood c w) (t : â„
       let n : Next DownRead = Go (at_down_read r LeavesBlocked) in
       let v : View = then_view (LevelCount i r.cpu, Sub 1) (n, None) in
       let ws : Words = words_down c lim w good t lt i r.cpu f.2 hook (map_next DownReads n, None) in
-      let beside : IsBeside w.words ws = down_beside c lim w good t lt i r.cpu f.2 hook (map_next DownReads n, None) in
+      let beside : SameOffLevels w.words ws = down_beside c lim w good t lt i r.cpu f.2 hook (map_next DownReads n, None) in
       let mounts : SameAtMounts (w.views t) v = record { held_same = refl; added_same = refl; taken_same = refl; open_same = refl } in (
         level_parts c w good t lt ws v beside (at_levels CountsDown e) (reads_at_levels n) mounts f
             (backs_off c lim w good t lt i r.cpu f.2 hook (map_next DownReads n, None) (counts_here CountsDown e)
@@ -258,7 +258,7 @@ module _ (c : Config) (lim : IsWithin c) (w : World) (good : IsGood c w) (t : â„
       let a : Option Action = Some (Grant (Level i)) in
       let v : View = then_view (LevelCount i r.cpu, Add 1) (n, a) in
       let ws : Words = words_up c lim w good t lt i r.cpu f.2 hook (map_next DownReads n, a) in
-      let beside : IsBeside w.words ws = up_beside c lim w good t lt i r.cpu f.2 hook (map_next DownReads n, a) in
+      let beside : SameOffLevels w.words ws = up_beside c lim w good t lt i r.cpu f.2 hook (map_next DownReads n, a) in
       let mounts : SameAtMounts (w.views t) v = record { held_same = refl; added_same = refl; taken_same = refl; open_same = refl } in (
         level_parts c w good t lt ws v beside (at_levels CountsUpFast e) (reads_at_levels n) mounts
             (f.0, f.1, f.2, f.3, update_at (holds_level (w.views t)) i true)
@@ -274,7 +274,7 @@ module _ (c : Config) (lim : IsWithin c) (w : World) (good : IsGood c w) (t : â„
   block_words = put w.words (Block r.level) (w.words.block r.level)
 
   -- they are the same beside the level
-  block_beside : IsBeside w.words block_words
+  block_beside : SameOffLevels w.words block_words
   block_beside = Î» k. record (beside_levels w.words) { block = update_same w.words.block r.level k }
 
   -- the world after it, from what it leaves of the counts of the task's own level

@@ -25,7 +25,7 @@ use Rattle.gate_world.specs.Configs.{IsWithin, extents_of}
 use Rattle.gate_world.specs.Views.{phase_after}
 use Rattle.gate_world.specs.Operations.{holds_none_from, is_level_number}
 use Rattle.gate_world.specs.{Fits.{ReadStepFits, ReadFits, GraceFits, PhaseFits, Fits, ActionFits}, Holdings.{Holdings, held_after}}
-use Rattle.gate_schedules.proofs.{frames.Keeps.by_bool, operations.readers.Trace.by_word}
+use Rattle.gate_schedules.proofs.{frames.OperationLaws.by_bool, operations.readers.Trace.by_word}
 
 -- each is true where both are
 pub both_true : (a b : Bool) → (a && b) ≡ true → (a ≡ true) × (b ≡ true)

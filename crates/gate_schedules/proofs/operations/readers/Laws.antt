@@ -1,13 +1,13 @@
 -- All that is proved of a start and of an end.
-use Rattle.gate_schedules.proofs.frames.{Frames.{count_none, sync_none}, Keeps.{IsSmall, OpKeeps, PhaseKeeps, by_bool}, Snapshots.completes_none}
+use Rattle.gate_schedules.proofs.frames.{Frames.{count_none, sync_none}, OperationLaws.{IsSmall, OpLaws, PhaseLaws, by_bool}, Snapshots.completes_none}
 use Rattle.gate_schedules.proofs.operations.readers.{Causes.{asks_next, next_cause, read_not_closed, read_own, read_stays}, EndEvents.end_keeps}
 use Rattle.gate_schedules.proofs.operations.readers.Events.{read_keeps}
 use Rattle.gate_schedules.proofs.operations.readers.Fits.{none_from_agree, read_acts, read_fits, read_goes, read_step_agrees}
 use Rattle.gate_schedules.proofs.operations.readers.Fits.{read_there}
 use Rattle.gate_schedules.proofs.operations.readers.{Runs.{end_runs, read_runs}, Trace.{EndAt, StartAt, end_kept, start_kept}, Waits.{read_waits, start_waits}}
-use Rattle.gate_schedules.proofs.traces.Says.{is_short, is_short_well, tells, tells_well}
-use Rattle.gate_world.specs.{Alike.no_roles, Causes.asks_level, Fits.Fits, Holdings.held_after, Levels.sync_role_of, Operations.is_level_number}
-use Rattle.gate_world.specs.{Rules.Fitting, Traces.most_events, Views.held_of, Worlds.{World, after_step, found_at}, declared.config.Config.Config}
+use Rattle.gate_schedules.proofs.traces.TraceInvariant.{is_short, is_short_well, tells, tells_well}
+use Rattle.gate_world.specs.{SameRoles.no_roles, refusals.Causes.asks_level, Fits.Fits, Holdings.held_after, Levels.sync_role_of, Operations.is_level_number}
+use Rattle.gate_world.specs.{Rules.Fitting, traces.Traces.most_events, Views.held_of, Worlds.{World, after_step, found_at}, declared.config.Config.Config}
 use Rattle.gate_world.specs.declared.{operations.Op.TheVariants.{End, Start}, work.Phase.TheVariants.{DownReads, UpReads}}
 use Rattle.freeze_laws.specs.levels.Roles.{closed}
 use Rattle.percpu_rwsem.specs.{Readers.down_read_after, declared.readers.{DownRead.DownRead, UpRead.UpRead}}
@@ -15,7 +15,7 @@ use Rattle.std.proofs.{Common.{Bool, ap, arith, refl, subst, sym, true, ℕ, ◌
 use Rattle.std.specs.Prelude.{Some, nat_lt, ◌&&◌}
 
 -- of each phase of a start
-pub read_phase : (c : Config) (r : DownRead) → PhaseKeeps c (DownReads r)
+pub read_phase : (c : Config) (r : DownRead) → PhaseLaws c (DownReads r)
 read_phase c r = record {
   step = λ within w good t lt hook e. read_keeps c within w good t lt hook r e;
   runs = λ within w good t lt hook e i one three. read_runs c w good t lt hook r e i;
@@ -42,7 +42,7 @@ read_phase c r = record {
 }
 
 -- of the one phase of an end
-pub end_phase : (c : Config) (u : UpRead) → PhaseKeeps c (UpReads u)
+pub end_phase : (c : Config) (u : UpRead) → PhaseLaws c (UpReads u)
 end_phase c u = record {
   step = λ within w good t lt hook e. end_keeps c within w good t lt hook u e;
   runs = λ within w good t lt hook e i one three. end_runs c w t lt hook u e i;
@@ -61,7 +61,7 @@ in_level : (c : Config) (i p : ℕ) → (is_level_number i && nat_lt p c.process
 in_level c i p there = grind arith
 
 -- of the beginning and the trace of a start
-pub start_op : (c : Config) (i p : ℕ) (wait : Bool) → OpKeeps c (Start i p wait)
+pub start_op : (c : Config) (i p : ℕ) (wait : Bool) → OpLaws c (Start i p wait)
 start_op c i p wait = record {
   fits = λ t held there order room.
       let l : (1 ≤ i) × (i ≤ 3) × (p < c.processors) = in_level c i p there in
@@ -78,7 +78,7 @@ start_op c i p wait = record {
 }
 
 -- of those of an end
-pub end_op : (c : Config) (i p : ℕ) → OpKeeps c (End i p)
+pub end_op : (c : Config) (i p : ℕ) → OpLaws c (End i p)
 end_op c i p = record {
   fits = λ t held there order room.
       let l : (1 ≤ i) × (i ≤ 3) × (p < c.processors) = in_level c i p there in

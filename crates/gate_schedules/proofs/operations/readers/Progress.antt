@@ -4,12 +4,12 @@ use Rattle.cpu_words.specs.{Touches.{left, found_by}, Words.{Words, read, put}}
 use Rattle.percpu_rwsem.specs.{Readers.{down_read_next, down_read_after}}
 use Rattle.percpu_rwsem.specs.declared.readers.{DownRead.DownRead, DownReadStep.{DownReadStep}}
 use Rattle.percpu_rwsem.specs.declared.readers.{UpRead.UpRead}
-use Rattle.compounds.specs.{write_access.Phases.{next as write_next, after as write_after}, declared.write_access.phases.WritePhase.WritePhase}
-use Rattle.gate_world.specs.{Courses.MayHold, Worlds.{words_after, found_at}, declared.{config.Config.Config, work.Phase.TheVariants.{DownReads, UpReads}}}
+use Rattle.composite_ops.specs.{write_access.Phases.{next as write_next, after as write_after}, declared.write_access.phases.WritePhase.WritePhase}
+use Rattle.gate_world.specs.{traces.TraceStates.WordIsValid, Worlds.{words_after, found_at}, declared.{config.Config.Config, work.Phase.TheVariants.{DownReads, UpReads}}}
 use Rattle.gate_world.specs.declared.work.Phase.TheVariants.{Writes}
-use Rattle.gate_schedules.proofs.{frames.MayHolds.events_may_be, operations.deadlocks.Falls.falls_as}
-use Rattle.gate_schedules.specs.operations.{Progress.is_admitted, Ranks.{rank, read_rank, write_rank}, Ways.{IsFree, ReadIsFree}}
-use Rattle.gate_schedules.specs.operations.Ways.{WriteIsFree, Falls, PhaseEnds}
+use Rattle.gate_schedules.proofs.{frames.ValidWords.events_may_be, operations.deadlocks.RankDecreases.falls_as}
+use Rattle.gate_schedules.specs.operations.{Progress.is_admitted, Ranks.{rank, read_rank, write_rank}, Unblocked.{IsUnblocked, ReadIsUnblocked}}
+use Rattle.gate_schedules.specs.operations.Unblocked.{WriteIsUnblocked, RankDecreases, PhaseEnds}
 
 module _ (w : Words) (r : DownRead) where
   -- a down-read leaves each `block`
@@ -22,10 +22,10 @@ module _ (w : Words) (r : DownRead) where
   read_block s = ap (λ f. f r.level) (read_blocks s)
 
   -- each event of a down-read, whose sync word is one
-  pub read_falls : (after : Words) → (s : DownReadStep) → MayHold (down_read_next r s).0 (read w (down_read_next r s).0) →
+  pub read_falls : (after : Words) → (s : DownReadStep) → WordIsValid (down_read_next r s).0 (read w (down_read_next r s).0) →
       (r.wait ≡ true → is_admitted s ≡ false → after.block r.level ≡ 0) →
       (r.wait ≡ true → is_admitted s ≡ false → w.block r.level ≡ 0) →
-      Falls (λ (y : DownRead). read_rank y.wait y.step) (ReadIsFree after) (read_rank r.wait s)
+      RankDecreases (λ (y : DownRead). read_rank y.wait y.step) (ReadIsUnblocked after) (read_rank r.wait s)
       (down_read_after r s (found_by (down_read_next r s).1 (read w (down_read_next r s).0))).0
   read_falls after s may stays free = grind arith
 
@@ -35,7 +35,7 @@ read_ends c r = record {
   falls = λ lim w good t lt hook at free.
       let after : Words = words_after w.words (DownReads r) hook in
       let stays : r.wait ≡ true → is_admitted r.step ≡ false → after.block r.level ≡ 0 = λ e a. read_block w.words r r.step ∙ free e a in
-      falls_as DownReads (rank after) (IsFree c after) (read_rank r.wait r.step)
+      falls_as DownReads (rank after) (IsUnblocked c after) (read_rank r.wait r.step)
       (down_read_after r r.step (found_at w.words (DownReads r) hook)).0
       (read_falls w.words r after r.step (events_may_be c lim w good t lt (DownReads r) hook at) stays free);
 }
@@ -45,9 +45,9 @@ pub end_ends : (c : Config) (u : UpRead) → PhaseEnds c (UpReads u)
 end_ends c u = record { falls = λ lim w good t lt hook at free. tt }
 
 -- each event of a write access
-write_falls : (w : Words) (x : WritePhase) → WriteIsFree w x → MayHold (write_next x).0 (read w (write_next x).0) →
+write_falls : (w : Words) (x : WritePhase) → WriteIsUnblocked w x → WordIsValid (write_next x).0 (read w (write_next x).0) →
     let after : Words = put w (write_next x).0 (left (write_next x).1 (read w (write_next x).0)) in
-    Falls write_rank (WriteIsFree after) (write_rank x) (write_after x (found_by (write_next x).1 (read w (write_next x).0))).0
+    RankDecreases write_rank (WriteIsUnblocked after) (write_rank x) (write_after x (found_by (write_next x).1 (read w (write_next x).0))).0
 write_falls w x free may = grind arith
 
 -- of each phase of a write access
@@ -55,6 +55,6 @@ pub write_ends : (c : Config) (x : WritePhase) → PhaseEnds c (Writes x)
 write_ends c x = record {
   falls = λ lim w good t lt hook at free.
       let after : Words = words_after w.words (Writes x) hook in
-      falls_as Writes (rank after) (IsFree c after) (write_rank x) (write_after x (found_at w.words (Writes x) hook)).0
+      falls_as Writes (rank after) (IsUnblocked c after) (write_rank x) (write_after x (found_at w.words (Writes x) hook)).0
       (write_falls w.words x free (events_may_be c lim w good t lt (Writes x) hook at));
 }

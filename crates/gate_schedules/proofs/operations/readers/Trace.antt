@@ -9,10 +9,10 @@ use Rattle.percpu_rwsem.specs.{Readers.{down_read_next, down_read_after, step_in
 use Rattle.percpu_rwsem.specs.declared.readers.DownReadStep.{DownReadStep, TheVariants.{EntersSection, LoadsSync, CountsUpFast, CountsUpSlow, LoadsBlock}}
 use Rattle.percpu_rwsem.specs.declared.{readers.DownReadStep.TheVariants.{CountsDown, LeavesAdmitted, LeavesBlocked}, sync_word.GpState.GpState}
 use Rattle.percpu_rwsem.specs.declared.sync_word.{SyncWord.SyncWord}
-use Rattle.gate_world.specs.{Courses.{MayHold, MayFind}, Found.{newest, finds_closed, backed_off, left_closed, found_closed}, Traces.{most_events, IsShort}}
+use Rattle.gate_world.specs.{traces.TraceStates.{WordIsValid, ReadIsValid}, traces.Found.{newest, finds_closed, backed_off, left_closed, found_closed}, traces.Traces.{most_events, IsShort}}
 use Rattle.gate_world.specs.{Views.{with_hook, actions_after}, Work.next_of, declared.{config.Config.Config, operations.Op.TheVariants.{Start, End}}}
 use Rattle.gate_world.specs.declared.{views.Traced.Traced, work.Phase.{Phase, TheVariants.{DownReads, UpReads}}}
-use Rattle.gate_schedules.proofs.traces.Says.{Says, SaysAfter, Kept, KeptWell}
+use Rattle.gate_schedules.proofs.traces.TraceInvariant.{InvariantAfter, InvariantAfterStep, IsInductive, IsInductiveGivenReads}
 
 -- a down-read of this level, processor, task and wait, at a step
 abbrev pub read_at : ℕ → ℕ → ℕ → Bool → DownReadStep → DownRead
@@ -80,7 +80,7 @@ module _ (base i p t : ℕ) (value : ℕ) (hook : HookAnswer) (earlier : List Tr
   blocked false h = (h.0, (refl, h.2.1), λ q. omega (arith, h.1 q))
 
   -- each event of a down-read keeps what its trace says: its sync word is one, so it is loaded once
-  pub read_event : (wait : Bool) (s : DownReadStep) → MayHold (down_read_next (read_at i p t wait s) s).0 value →
+  pub read_event : (wait : Bool) (s : DownReadStep) → WordIsValid (down_read_next (read_at i p t wait s) s).0 value →
       ReadSays base i wait s earlier added → After wait s
   read_event wait s may h = grind arith
 
@@ -102,15 +102,15 @@ within_six s n h = omega arith
 -- what is said of a down-read is said of a start, by what comes next
 start_says : (c : Config) (i p t : ℕ) (wait : Bool) (e : Traced) (earlier : List Traced) (added : List Action) (n : Next DownRead) →
     ReadNext 0 i p t wait (e ∷ earlier) added n →
-    Says (StartAt i p t wait) c (Start i p wait) (e ∷ earlier) (map_next DownReads n) added
+    InvariantAfter (StartAt i p t wait) c (Start i p wait) (e ∷ earlier) (map_next DownReads n) added
 start_says c i p t wait e earlier added n h = grind arith
 
 -- so it is kept along every trace of a start
-pub start_kept : (c : Config) (t i p : ℕ) (wait : Bool) → KeptWell (StartAt i p t wait) c t (Start i p wait)
+pub start_kept : (c : Config) (t i p : ℕ) (wait : Bool) → IsInductiveGivenReads (StartAt i p t wait) c t (Start i p wait)
 start_kept c t i p wait = record {
   first = (EntersSection, refl, (refl, λ q. omega arith, tt));
   more = λ phase value hook earlier added may here.
-      subst (λ (x : Phase). MayFind x (next_of x hook).0 value → SaysAfter (StartAt i p t wait) c (Start i p wait) x value hook earlier added)
+      subst (λ (x : Phase). ReadIsValid x (next_of x hook).0 value → InvariantAfterStep (StartAt i p t wait) c (Start i p wait) x value hook earlier added)
       (sym here.1)
       (λ holds.
       let r : DownRead = read_at i p t wait here.0 in
@@ -127,11 +127,11 @@ abbrev pub EndAt : ℕ → ℕ → List Traced → Phase → List Action → Typ
 EndAt i p trace phase added = (phase ≡ UpReads (record { level = i; cpu = p })) × (trace ≡ []) × (added ≡ [])
 
 -- its one event is its last
-pub end_kept : (c : Config) (t i p : ℕ) → Kept (EndAt i p) c t (End i p)
+pub end_kept : (c : Config) (t i p : ℕ) → IsInductive (EndAt i p) c t (End i p)
 end_kept c t i p = record {
   first = (refl, refl, refl);
   more = λ phase value hook earlier added here.
-      subst (λ (x : Phase). SaysAfter (EndAt i p) c (End i p) x value hook earlier added) (sym here.0)
+      subst (λ (x : Phase). InvariantAfterStep (EndAt i p) c (End i p) x value hook earlier added) (sym here.0)
       ((ap (λ (l : List Action). Return (Level i) ∷ l) here.2, tt), omega (arith, ap length here.1));
   short = λ trace phase added here. omega (arith, ap length here.1);
 }

@@ -9,8 +9,8 @@ use Rattle.percpu_rwsem.specs.{SyncWords.{on_claim, on_callback}, Transitions.tr
 use Rattle.percpu_rwsem.specs.declared.callbacks.{Callback.Callback, CallbackStep.{CallbackStep, TheVariants.{Claims, AwaitsSections, CallsBack}}}
 use Rattle.percpu_rwsem.specs.declared.{grace.Grace.Grace, readers.{DownRead.DownRead, DownReadStep.{DownReadStep}}}
 use Rattle.percpu_rwsem.specs.declared.transitions.TransitionNext.{TransitionNext, TheVariants.More}
-use Rattle.gate_world.specs.{Causes.{last_asked, WasClosed}, Fits.GraceFits, KeptCauses.ReadCause, Levels.inside, Rules.{IsGood, Sections}}
-use Rattle.gate_world.specs.{Waits.{HasCulprit, HasReason}, Work.after_of, Worlds.{World, found_at}, declared.config.Config.Config}
+use Rattle.gate_world.specs.{refusals.Causes.{last_asked, WasClosed}, Fits.GraceFits, refusals.KeptCauses.ReadCause, Levels.inside, Rules.{IsGood, Sections}}
+use Rattle.gate_world.specs.{refusals.Waits.{HasCulprit, HasReason}, Work.after_of, Worlds.{World, found_at}, declared.config.Config.Config}
 use Rattle.gate_world.specs.declared.work.Phase.TheVariants.{DownReads, Callbacks}
 
 -- this, where a wait or a refusal comes next

@@ -6,11 +6,11 @@ use Rattle.access_model.specs.declared.{errors.GateError.GateError, replies.Repl
 use Rattle.cpu_words.specs.{Hooks.HookAnswer, Touches.wrap_add, Words.Words, declared.{names.WordName.WordName, sums.Sum.Sum}}
 use Rattle.mount_counts.specs.{Phases.has_flag, Remounts.{at_remount, remount_from, past_mount, let_go, leave_holds, give_up, remount_summed, past_node}}
 use Rattle.mount_counts.specs.{Sets.{with_mount, without_lowest}, declared.{remounts.{Remount.Remount, RemountStep.RemountStep}, sets.MountSet.MountSet}}
-use Rattle.gate_world.specs.Causes.{all_counted, words_read, mount_summed, moments_of_sum, AreOfMount, SomeWasCounted, was_removed}
-use Rattle.gate_world.specs.Causes.{last_removed, looks_at_removed}
-use Rattle.gate_world.specs.{KeptCauses.{RemountAnswerCause, RemountCause, CauseOf}, Remounts.RemountFits, Rules.IsGood, Views.phase_after, Work.after_of}
+use Rattle.gate_world.specs.refusals.Causes.{all_counted, words_read, mount_summed, moments_of_sum, AreOfMount, SomeWasCounted, was_removed}
+use Rattle.gate_world.specs.refusals.Causes.{last_removed, looks_at_removed}
+use Rattle.gate_world.specs.{refusals.KeptCauses.{RemountAnswerCause, RemountCause, CauseOf}, Remounts.RemountFits, Rules.IsGood, Views.phase_after, Work.after_of}
 use Rattle.gate_world.specs.{Worlds.{words_after, World, found_at}, declared.{config.Config.Config, work.Phase.Phase}}
-use Rattle.gate_schedules.proofs.{frames.{Keeps.by_bool, Words.load_same}, mounts.SumCauses.{counted_stays, sum_starts, sum_stays, sum_takes, sum_ends}}
+use Rattle.gate_schedules.proofs.{frames.{OperationLaws.by_bool, Words.load_same}, mounts.SumCauses.{counted_stays, sum_starts, sum_stays, sum_takes, sum_ends}}
 use Rattle.gate_schedules.proofs.traces.Moments.{sum_skips, sum_begins}
 
 -- a task whose next event is a load of `removed` looks at it, any other doesn't

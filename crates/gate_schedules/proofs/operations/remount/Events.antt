@@ -4,13 +4,13 @@ use Rattle.access_model.specs.declared.replies.{Next.Next, Reply.Reply}
 use Rattle.cpu_words.specs.{Hooks.HookAnswer, Words.Words, declared.{events.{Event.Event, Touch.Touch}, names.WordName.WordName}}
 use Rattle.finite_sums.proofs.Totals.{total_at, update_at, update_map, update_same}
 use Rattle.finite_sums.specs.Sums.{total, update}
-use Rattle.gate_schedules.proofs.frames.{Beside.update_twice, Frames.{left_alone, owner_same}}
+use Rattle.gate_schedules.proofs.frames.{SameRolesOffTree.update_twice, Frames.{left_alone, owner_same}}
 use Rattle.gate_schedules.proofs.frames.{Owners.{locks_umount, no_remount, releases_umount, remount_stands}, Stages.{nobody_owns, stages_in}}
 use Rattle.gate_schedules.proofs.mounts.{Loads.{after_load, steady}, Parts.is_known_part}
 use Rattle.gate_schedules.proofs.operations.remount.Fits.{give_up_fits, leave_holds_fits, leaves_below, let_go_fits, none_below, past_node_fits, state_fits}
 use Rattle.gate_schedules.proofs.operations.remount.Loop.{give_up_on, give_up_stays, leave_holds_on, leave_holds_stays, let_go_on, let_go_stage, let_go_stays}
 use Rattle.gate_schedules.proofs.operations.remount.Loop.{loads_flags, past_node_stage, past_node_stays, sets_hold, sums}
-use Rattle.gate_schedules.proofs.operations.remount.Parts.{GoesOn, Mount, PartsHold, RemountKeeps, StageHolds, Stays, flags_change, here_cleared, here_fits}
+use Rattle.gate_schedules.proofs.operations.remount.Parts.{GoesOn, Mount, PartsHold, RemountKeeps, StageHolds, StaysAtStep, flags_change, here_cleared, here_fits}
 use Rattle.gate_schedules.proofs.operations.remount.Parts.{here_knows, load_event, load_found, mount_stays, node_changes, owner_on, role_stays, role_was}
 use Rattle.gate_schedules.proofs.operations.remount.Parts.{stage_holds, stores, tree_by, tree_by_two, tree_stays, tree_was, tree_where, umount_changes}
 use Rattle.gate_schedules.proofs.operations.remount.Parts.{whole_remount}
@@ -31,7 +31,7 @@ use Rattle.mount_counts.specs.{Sets.without_lowest, declared.{remounts.{Remount.
 use Rattle.mount_counts.proofs.laws.{Bits.{and_not_hold, without_hold}, MountLaws.{SeeksNone, clears_hold as mount_clears_hold, closed, empties, is_left}}
 use Rattle.mount_counts.proofs.laws.{MountLaws.{marks_empty, marks_skipped, none_remounting, remounting, sealed, stores as mount_stores}, Sets.leaves_here}
 use Rattle.mount_counts.proofs.laws.Sets.{leaves_there, lowest_held, none_held}
-use Rattle.freeze_laws.specs.stages.Events.{CancelsRemount, ClearsMarkReadOnly, ClearsRemount as TakesRemount, IsAlike, Locks as LocksStage}
+use Rattle.freeze_laws.specs.stages.Events.{CancelsRemount, ClearsMarkReadOnly, ClearsRemount as TakesRemount, SameDuties, Locks as LocksStage}
 use Rattle.freeze_laws.specs.stages.Events.{Releases as ReleasesStage, SetsReadOnly as StoresReadOnly, SetsRemount as StoresRemount, SetsWritable as StoresWritable}
 use Rattle.freeze_laws.specs.stages.{Events.playing, Roles.{CleanBelow, IsKnown, Owning}}
 use Rattle.std.proofs.Common.{Bool, Err, None, Ok, Option, Result, Some, ap, arith, bit_and, eq-eqb, false, inl, inr, le-ltb, nat_lt, ne_eqb, not, option_map}
@@ -163,7 +163,7 @@ module _ (c : Config) (lim : IsWithin c) (w : World) (good : IsGood c w) (t : �
   lets_go : (hook : HookAnswer) (held : MountSet) (s s' : RemountStep) (e : IsHere s) → 0 < held.bits → AllBelow c.mounts held →
       has_hold (remount_role (lowest held) s) ≡ 1 → remount_role (lowest held) s' ≡ Out →
       ((n : ℕ) → (n ≡ lowest held → ⊥) → remount_role n s' ≡ remount_role n s) →
-      RemountFits c s' → remount_owns s ≡ 1 → Stays x.nodes s' (remount_sets s) (remount_tree_role x.nodes s) →
+      RemountFits c s' → remount_owns s ≡ 1 → StaysAtStep x.nodes s' (remount_sets s) (remount_tree_role x.nodes s) →
       GoesOn (remount_stage_role x.nodes s) x.nodes s' w.words.stage w.words.sb (marks_of w.words) →
       let m : ℕ = lowest held in
       let v : View = view_with (w.views t) (WordName.MountFlags m, Touch.And 18446744073709551613) (w.words.flags m) hook
@@ -422,7 +422,7 @@ module _ (c : Config) (lim : IsWithin c) (w : World) (good : IsGood c w) (t : �
 
   -- a load by the owner that has no role, before and after it
   still_load : (hook : HookAnswer) (name : WordName) (s s' : RemountStep) (e : IsHere s) → remount_owns s ≡ 1 →
-      Stays x.nodes s' (remount_sets s) (remount_tree_role x.nodes s) →
+      StaysAtStep x.nodes s' (remount_sets s) (remount_tree_role x.nodes s) →
       GoesOn (remount_stage_role x.nodes s) x.nodes s' w.words.stage w.words.sb (marks_of w.words) →
       RemountFits c s' → ((m : ℕ) → remount_role m s' ≡ remount_role m s) →
       let coming : Next Phase = Next.Go (Phase.Remounts (at_remount x s')) in
@@ -445,12 +445,12 @@ module _ (c : Config) (lim : IsWithin c) (w : World) (good : IsGood c w) (t : �
 
   -- what is to hold of a step for which the stage and the flags were found
   abbrev FromState : RemountStep → Type 0
-  FromState s = Stays x.nodes s 0 OffTree × GoesOn (Owning (Some 0) None) x.nodes s w.words.stage w.words.sb (marks_of w.words) ×
+  FromState s = StaysAtStep x.nodes s 0 OffTree × GoesOn (Owning (Some 0) None) x.nodes s w.words.stage w.words.sb (marks_of w.words) ×
       ((m : ℕ) → remount_role m s ≡ Out)
 
   -- it goes on as an owner that relies on this
   from_state : (stage sb : Option ℕ) → IsKnown stage w.words.stage → IsKnown sb w.words.sb →
-      IsAlike (Owning (Some 0) None) (Owning stage sb) × (IsKnown stage w.words.stage × IsKnown sb w.words.sb) ×
+      SameDuties (Owning (Some 0) None) (Owning stage sb) × (IsKnown stage w.words.stage × IsKnown sb w.words.sb) ×
       CleanBelow 0 (marks_of w.words)
   from_state stage sb a b = owner_on (Some 0) None stage sb w.words.stage w.words.sb (marks_of w.words) a b
 

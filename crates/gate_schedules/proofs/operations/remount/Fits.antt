@@ -9,7 +9,7 @@ use Rattle.mount_counts.specs.declared.{remounts.{Remount.Remount, RemountStep.R
 use Rattle.mount_counts.proofs.laws.Sets.{leaves_within, joins_within, joins_there, none_held, leaves_here, lowest_held, leaves_there}
 use Rattle.gate_world.specs.{Configs.{IsWithin, extents_of}, Fits.{ActionFits, PhaseFits, Fits}, Holdings.{Holdings, held_after}, Remounts.AllBelow}
 use Rattle.gate_world.specs.{Remounts.RemountFits, Views.phase_after, declared.{config.Config.Config, work.Phase.Phase}}
-use Rattle.gate_schedules.proofs.frames.Keeps.{by_bool}
+use Rattle.gate_schedules.proofs.frames.OperationLaws.{by_bool}
 
 pub joins_below : (m : ℕ) (held : MountSet) → m < 8 → AllBelow m held → AllBelow (m + 1) (with_mount held m)
 joins_below m held lm h = (

@@ -1,14 +1,14 @@
 -- All that is proved of a remount.
-use Rattle.gate_schedules.proofs.frames.{Agreeing.none_agree, Keeps.{OpKeeps, PhaseKeeps, word_among}, Snapshots.completes_none}
+use Rattle.gate_schedules.proofs.frames.{Agreeing.none_agree, OperationLaws.{OpLaws, PhaseLaws, word_among}, Snapshots.completes_none}
 use Rattle.gate_schedules.proofs.operations.remount.{Causes.{remount_own, remount_stays}, Events.remount_keeps}
 use Rattle.gate_schedules.proofs.operations.remount.{Fits.{remount_acts, remount_goes, remount_there}, Runs.remount_runs}
-use Rattle.gate_schedules.proofs.{operations.remount.{Trace.{RemountAt, remount_kept, remount_restores}, Waits.remount_waits}, traces.Says.{is_short, tells}}
+use Rattle.gate_schedules.proofs.{operations.remount.{Trace.{RemountAt, remount_kept, remount_restores}, Waits.remount_waits}, traces.TraceInvariant.{is_short, tells}}
 use Rattle.gate_world.specs.{Fits.Fits, Rules.Fitting, Views.held_of, Worlds.after_step, declared.{config.Config.Config, operations.Op.Op, work.Phase.Phase}}
 use Rattle.mount_counts.specs.declared.remounts.Remount.{Remount}
 use Rattle.std.proofs.Common.{Bool, refl, subst}
 use Rattle.std.specs.Prelude.{Some}
 
-pub remount_phase : (c : Config) (x : Remount) → PhaseKeeps c (Phase.Remounts x)
+pub remount_phase : (c : Config) (x : Remount) → PhaseLaws c (Phase.Remounts x)
 remount_phase c x = record {
   step = λ lim w good t lt hook e. remount_keeps c lim w good t lt hook x e;
   runs = λ lim w good t lt hook e i l1 l3. remount_runs c w good t lt hook x e i;
@@ -26,7 +26,7 @@ remount_phase c x = record {
   reasons = λ lim w earlier good t lt hook e cause. remount_waits c w earlier good t lt x hook x.step e cause;
 }
 
-pub remount_op : (c : Config) (ro : Bool) → OpKeeps c (Op.RemountSb ro)
+pub remount_op : (c : Config) (ro : Bool) → OpLaws c (Op.RemountSb ro)
 remount_op c ro = record {
   fits = λ t held there order room. (refl, refl, refl, refl, order, tt);
   starts_aside = λ t. refl;

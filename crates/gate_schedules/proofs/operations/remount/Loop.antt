@@ -1,8 +1,8 @@
 -- Events of a remount's loop over the mounts.
 use Rattle.access_model.specs.declared.{replies.Next.Next}
 use Rattle.cpu_words.specs.{Hooks.HookAnswer, Touches.wrap_add, declared.{events.Touch.Touch, names.WordName.WordName, sums.Sum.Sum}}
-use Rattle.gate_schedules.proofs.{frames.{Keeps.by_bool, Owners.no_hold}, operations.remount.Fits.{give_up_fits, joins_below, past_mount_fits}}
-use Rattle.gate_schedules.proofs.operations.remount.Parts.{GoesOn, Mount, RemountKeeps, Stays, flags_change, here_fits, here_knows, in_loop}
+use Rattle.gate_schedules.proofs.{frames.{OperationLaws.by_bool, Owners.no_hold}, operations.remount.Fits.{give_up_fits, joins_below, past_mount_fits}}
+use Rattle.gate_schedules.proofs.operations.remount.Parts.{GoesOn, Mount, RemountKeeps, StaysAtStep, flags_change, here_fits, here_knows, in_loop}
 use Rattle.gate_schedules.proofs.operations.remount.Parts.{load_event, mount_stays, owner_on, role_was}
 use Rattle.gate_schedules.proofs.operations.remount.Roles.{give_up_role, not_passed, passed_here, passed_there, past_mount_role, remount_seeks, summing_here}
 use Rattle.gate_schedules.proofs.operations.remount.Roles.{summing_there}
@@ -15,24 +15,24 @@ use Rattle.mount_counts.specs.{Roles.hold_bit, Sets.{has_mount, with_mount}, dec
 use Rattle.mount_counts.specs.declared.sets.MountSet.{MountSet}
 use Rattle.mount_counts.proofs.laws.{Bits.{or_hold, read_only_set}, MountLaws.{SeeksNone, is_left, is_skipped, sets_hold as mount_sets_hold, sums_on, sums_to_none}}
 use Rattle.mount_counts.proofs.laws.{MountLaws.sums_to_some, Sets.{joins_here, joins_there}}
-use Rattle.freeze_laws.specs.stages.{Events.IsAlike, Roles.{CleanBelow, Remounting}}
+use Rattle.freeze_laws.specs.stages.{Events.SameDuties, Roles.{CleanBelow, Remounting}}
 use Rattle.std.proofs.Common.{Bool, None, Some, add-one, ap, arith, bit_or, eq-eqb, false, if◌then◌else◌, inl, inr, ltb-false, ltb-true, nat_lt, ne_eqb}
 use Rattle.std.proofs.{Common.{refl, subst, suc, sym, true, ℕ, ◌+◌, ◌<◌, ◌==◌, ◌∙◌, ◌≡◌, ◌⊎◌}, lemmas.Bool.{cases_Bool, Decides.eqb_tells}}
 
 -- what stays where the loop goes on, where holds are to be cleared, and where marks are
-past_mount_stays : (nodes mounts m : ℕ) (held : MountSet) → Stays nodes (past_mount mounts m held) 0 OffTree
+past_mount_stays : (nodes mounts m : ℕ) (held : MountSet) → StaysAtStep nodes (past_mount mounts m held) 0 OffTree
 past_mount_stays nodes mounts m held = grind arith
 
-pub leave_holds_stays : (nodes : ℕ) (held : MountSet) → Stays nodes (leave_holds held) 0 OffTree
+pub leave_holds_stays : (nodes : ℕ) (held : MountSet) → StaysAtStep nodes (leave_holds held) 0 OffTree
 leave_holds_stays nodes held = grind arith
 
-pub let_go_stays : (nodes : ℕ) (held : MountSet) → Stays nodes (let_go held) 1 (Clearing 1)
+pub let_go_stays : (nodes : ℕ) (held : MountSet) → StaysAtStep nodes (let_go held) 1 (Clearing 1)
 let_go_stays nodes held = grind arith
 
-pub give_up_stays : (nodes m : ℕ) (held : MountSet) → Stays nodes (give_up m held) 0 OffTree
+pub give_up_stays : (nodes m : ℕ) (held : MountSet) → StaysAtStep nodes (give_up m held) 0 OffTree
 give_up_stays nodes m held = grind arith
 
-pub past_node_stays : (nodes n : ℕ) → n < nodes → Stays nodes (past_node nodes n) 1 (Clearing (suc n))
+pub past_node_stays : (nodes n : ℕ) → n < nodes → StaysAtStep nodes (past_node nodes n) 1 (Clearing (suc n))
 past_node_stays nodes n there = grind arith
 
 -- the role at the stage where holds are to be cleared under `remount`, and where the mark of a node was
@@ -45,7 +45,7 @@ past_node_stage nodes n there = grind arith
 
 -- a remount in its loop, or at the end of one, goes on at stage 0 of a writable superblock
 module _ (nodes stage sb : ℕ) (dirty : ℕ → ℕ) (a : stage ≡ 0) (b : sb ≡ 0) where
-  pub loop_on : IsAlike in_loop in_loop × ((stage ≡ 0) × (sb ≡ 0)) × CleanBelow 0 dirty
+  pub loop_on : SameDuties in_loop in_loop × ((stage ≡ 0) × (sb ≡ 0)) × CleanBelow 0 dirty
   loop_on = owner_on (Some 0) (Some 0) (Some 0) (Some 0) stage sb dirty a b
 
   past_mount_on : (mounts m : ℕ) (held : MountSet) → GoesOn in_loop nodes (past_mount mounts m held) stage sb dirty

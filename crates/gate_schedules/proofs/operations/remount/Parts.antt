@@ -22,7 +22,7 @@ use Rattle.gated_tree.specs.Roles.{Role as TreeRole, TreeState}
 use Rattle.freeze_levels.specs.holder_laws.Roles.{Apart}
 use Rattle.mount_counts.specs.{Remounts.{at_remount}, Roles.{MountHolds, Role, ro_bit}, declared.remounts.Remount.Remount}
 use Rattle.mount_counts.specs.declared.remounts.RemountStep.{RemountStep}
-use Rattle.freeze_laws.specs.stages.Events.{IsAlike, Recalls, StageEvent, playing}
+use Rattle.freeze_laws.specs.stages.Events.{SameDuties, Recalls, StageEvent, playing}
 use Rattle.freeze_laws.specs.stages.Roles.{CleanBelow, IsKnown, KnowsStage, Owning, StageRole, clean_by}
 use Rattle.std.proofs.Common.{Bool, None, Option, Some, ap, arith, false, inl, inr, refl, subst, sym, true≢false, ℕ, ◌<◌, ◌==◌, ◌||◌, ◌∙◌, ◌≡◌}
 use Rattle.std.proofs.lemmas.Bool.{cases_Bool, Decides.eqb_tells}
@@ -51,26 +51,26 @@ whole_remount c w t lt good hook x e keeps = (
 )
 
 -- a step, among so many nodes, at which `umount` is owned, `remount` stands so, and the remount is doing this at the tree
-abbrev pub Stays : ℕ → RemountStep → ℕ → TreeRole → Type 0
-Stays nodes s set role = (remount_owns s ≡ 1) × (remount_sets s ≡ set) × (remount_tree_role nodes s ≡ role)
+abbrev pub StaysAtStep : ℕ → RemountStep → ℕ → TreeRole → Type 0
+StaysAtStep nodes s set role = (remount_owns s ≡ 1) × (remount_sets s ≡ set) × (remount_tree_role nodes s ≡ role)
 
 -- A step to which a remount in this role goes on without a change of the stage and the flags: its role is alike, and what it relies on is
 -- so of this stage, these flags and these marks.
 abbrev pub GoesOn : StageRole → ℕ → RemountStep → ℕ → ℕ → (ℕ → ℕ) → Type 0
 GoesOn old nodes s stage sb dirty =
-    IsAlike old (remount_stage_role nodes s) × KnowsStage stage sb (remount_stage_role nodes s) ×
+    SameDuties old (remount_stage_role nodes s) × KnowsStage stage sb (remount_stage_role nodes s) ×
     CleanBelow (clean_by (remount_stage_role nodes s)) dirty
 
 -- in the loop over the mounts
 abbrev pub in_loop : StageRole
 in_loop = Owning (Some 0) (Some 0)
 
-pub alike_same : {r : StageRole} → IsAlike r r
+pub alike_same : {r : StageRole} → SameDuties r r
 alike_same {r} = record { owns_same = refl; freezes_same = refl; remounts_same = refl; closed_same = refl; passed_same = refl }
 
 -- an owner goes on as an owner, where what it relies on then is so
 pub owner_on : (old_stage old_sb new_stage new_sb : Option ℕ) (stage sb : ℕ) (dirty : ℕ → ℕ) → IsKnown new_stage stage → IsKnown new_sb sb →
-    IsAlike (Owning old_stage old_sb) (Owning new_stage new_sb) × (IsKnown new_stage stage × IsKnown new_sb sb) × CleanBelow 0 dirty
+    SameDuties (Owning old_stage old_sb) (Owning new_stage new_sb) × (IsKnown new_stage stage × IsKnown new_sb sb) × CleanBelow 0 dirty
 owner_on old_stage old_sb new_stage new_sb stage sb dirty a b = grind arith
 
 module _ (c : Config) (w : World) (good : IsGood c w) (t : ℕ) (lt : t < c.tasks) (x : Remount) (s : RemountStep)
@@ -261,7 +261,7 @@ module _ (c : Config) (w : World) (good : IsGood c w) (t : ℕ) (lt : t < c.task
         )
 
     -- an event on the flags of one mount, which leaves READONLY
-    pub flags_change : (at f : ℕ) → Stays x.nodes s' (remount_sets s) (remount_tree_role x.nodes s) →
+    pub flags_change : (at f : ℕ) → StaysAtStep x.nodes s' (remount_sets s) (remount_tree_role x.nodes s) →
         GoesOn (remount_stage_role x.nodes s) x.nodes s' w.words.stage w.words.sb (marks_of w.words) →
         ro_bit f ≡ ro_bit (w.words.flags at) →
         (at < c.mounts → Mount at f w.words.remount w.words.sb (remount_role at s')) →
@@ -292,7 +292,7 @@ module _ (c : Config) (w : World) (good : IsGood c w) (t : ℕ) (lt : t < c.task
 
     pub stores : (set sealing : ℕ) (b : Bool) (role : TreeRole) →
         is_frozen_whole (record w.words { remount = set; sb = sealing }) ≡ is_frozen_whole w.words →
-        Stays x.nodes s' set role → TreeIsRight (record w.words { remount = set; sb = sealing }) v →
+        StaysAtStep x.nodes s' set role → TreeIsRight (record w.words { remount = set; sb = sealing }) v →
         StageHolds (record w.words { remount = set; sb = sealing }) v → (set == 1 || sealing == 1) ≡ b →
         ((m : ℕ) → m < c.mounts → Mount m (w.words.flags m) set sealing (remount_role m s')) →
         let ws : Words = record w.words { remount = set; sb = sealing } in
@@ -308,7 +308,7 @@ module _ (c : Config) (w : World) (good : IsGood c w) (t : ℕ) (lt : t < c.task
         )
 
     -- an event on the word of a node, of a remount that has no role at a mount before and after it
-    pub node_changes : (n f : ℕ) (role : TreeRole) → Stays x.nodes s' (remount_sets s) role →
+    pub node_changes : (n f : ℕ) (role : TreeRole) → StaysAtStep x.nodes s' (remount_sets s) role →
         opens_in f ≡ opens_in (w.words.node n) → TreeIsRight (record w.words { node = update w.words.node n f }) v →
         StageHolds (record w.words { node = update w.words.node n f }) v →
         ((m : ℕ) → remount_role m s' ≡ remount_role m s) →
@@ -354,7 +354,7 @@ module _ (c : Config) (w : World) (good : IsGood c w) (t : ℕ) (lt : t < c.task
 
   -- a load by the owner, after which this step comes, as its event
   pub load_event : (name : WordName) (hook : HookAnswer) (s' : RemountStep) → remount_owns s ≡ 1 →
-      Stays x.nodes s' (remount_sets s) (remount_tree_role x.nodes s) →
+      StaysAtStep x.nodes s' (remount_sets s) (remount_tree_role x.nodes s) →
       GoesOn (remount_stage_role x.nodes s) x.nodes s' w.words.stage w.words.sb (marks_of w.words) →
       RemountFits c s' → ((m : ℕ) → m < c.mounts → Mount m (w.words.flags m) w.words.remount w.words.sb (remount_role m s')) →
       let coming : Next Phase = Next.Go (Phase.Remounts (at_remount x s')) in

@@ -11,8 +11,8 @@ use Rattle.mount_counts.proofs.laws.Sets.{lowest_held, leaves_here, leaves_there
 use Rattle.percpu_rwsem.specs.SyncWords.{bit}
 use Rattle.gate_world.specs.{Configs.IsWithin, Fits.{Fits, PhaseFits}, Remounts.RemountFits, Rules.Fitting, Views.held_of}
 use Rattle.gate_world.specs.{Worlds.{words_after, found_at}, declared.{config.Config.Config, work.Phase.Phase}}
-use Rattle.gate_schedules.proofs.operations.deadlocks.Falls.{falls_as}
-use Rattle.gate_schedules.specs.operations.{Ranks.{rank, mount_bit, held_size, loop_rank, remount_rank}, Ways.{IsFree, RemountIsFree, Falls, PhaseEnds}}
+use Rattle.gate_schedules.proofs.operations.deadlocks.RankDecreases.{falls_as}
+use Rattle.gate_schedules.specs.operations.{Ranks.{rank, mount_bit, held_size, loop_rank, remount_rank}, Unblocked.{IsUnblocked, RemountIsUnblocked, RankDecreases, PhaseEnds}}
 
 bit_le : (b : Bool) → bit b ≤ 1
 bit_le true = omega arith
@@ -51,7 +51,7 @@ module _ (w : Words) (p mounts nodes : ℕ) where
   from_rank false true = omega arith
   from_rank false false = omega arith
 
-  from_free : (a b : Bool) → RemountIsFree w (remount_from a b)
+  from_free : (a b : Bool) → RemountIsUnblocked w (remount_from a b)
   from_free true true = tt
   from_free true false = tt
   from_free false true = tt
@@ -61,32 +61,32 @@ module _ (w : Words) (p mounts nodes : ℕ) where
       remount_rank p mounts nodes (past_mount mounts m held) ≤ loop_rank p (mounts - (m + 1)) + nodes + 12
   past_rank m held = elim (cases_Bool (nat_lt (m + 1) mounts)) [ inl h ↦ rw h (omega arith) | inr h ↦ rw h (omega arith) ]
 
-  past_free : (m : ℕ) (held : MountSet) → RemountIsFree w (past_mount mounts m held)
+  past_free : (m : ℕ) (held : MountSet) → RemountIsUnblocked w (past_mount mounts m held)
   past_free m held = elim (cases_Bool (nat_lt (m + 1) mounts)) [ inl h ↦ rw h tt | inr h ↦ rw h tt ]
 
   go_rank : (held : MountSet) → remount_rank p mounts nodes (let_go held) ≤ held_size held + (nodes - 1) + 2
   go_rank held = elim (eqb_tells held.bits 0) [ inl h ↦ rw h.0 (omega arith) | inr h ↦ rw h.0 (omega arith) ]
 
-  go_free : (held : MountSet) → RemountIsFree w (let_go held)
+  go_free : (held : MountSet) → RemountIsUnblocked w (let_go held)
   go_free held = elim (eqb_tells held.bits 0) [ inl h ↦ rw h.0 tt | inr h ↦ rw h.0 tt ]
 
   leave_rank : (held : MountSet) → remount_rank p mounts nodes (leave_holds held) ≤ held_size held
   leave_rank held = elim (eqb_tells held.bits 0) [ inl h ↦ rw h.0 (omega arith) | inr h ↦ rw h.0 (omega arith) ]
 
-  leave_free : (held : MountSet) → RemountIsFree w (leave_holds held)
+  leave_free : (held : MountSet) → RemountIsUnblocked w (leave_holds held)
   leave_free held = elim (eqb_tells held.bits 0) [ inl h ↦ rw h.0 tt | inr h ↦ rw h.0 tt ]
 
   give_rank : (m : ℕ) (held : MountSet) → remount_rank p mounts nodes (give_up m held) ≤ held_size held
   give_rank m held = elim (eqb_tells held.bits 0) [ inl h ↦ rw h.0 (omega arith) | inr h ↦ rw h.0 (omega arith) ]
 
-  give_free : (m : ℕ) (held : MountSet) → RemountIsFree w (give_up m held)
+  give_free : (m : ℕ) (held : MountSet) → RemountIsUnblocked w (give_up m held)
   give_free m held = elim (eqb_tells held.bits 0) [ inl h ↦ rw h.0 tt | inr h ↦ rw h.0 tt ]
 
 module _ (c : Config) (lim : IsWithin c) (w after : Words) (x : Remount) (processors : x.processors ≡ c.processors)
     (mounts : x.mounts ≡ c.mounts) (nodes : x.nodes ≡ c.nodes) where
   abbrev RemountFalls : RemountStep → HookAnswer → ℕ → Type 0
   RemountFalls s hook found =
-      Falls (λ (y : Remount). remount_rank y.processors y.mounts y.nodes y.step) (λ (y : Remount). RemountIsFree after y.step)
+      RankDecreases (λ (y : Remount). remount_rank y.processors y.mounts y.nodes y.step) (λ (y : Remount). RemountIsUnblocked after y.step)
       (remount_rank x.processors x.mounts x.nodes s) (remount_after x s found hook).0
 
   sums_falls : (m : ℕ) (held : MountSet) (sum : Sum) (hook : HookAnswer) (found : ℕ) → RemountFits c (RemountStep.Sums m held sum) →
@@ -110,7 +110,7 @@ module _ (c : Config) (lim : IsWithin c) (w after : Words) (x : Remount) (proces
       ]
 
   -- each event of a remount
-  remount_falls : (hook : HookAnswer) (s : RemountStep) → RemountFits c s → RemountIsFree w s →
+  remount_falls : (hook : HookAnswer) (s : RemountStep) → RemountFits c s → RemountIsUnblocked w s →
       RemountFalls s hook (found_by (remount_next x s hook).1 (read w (remount_next x s hook).0))
   remount_falls hook RemountStep.Locks fits free = rw free (omega arith, tt)
   remount_falls hook RemountStep.LoadsStage fits free =
@@ -179,7 +179,7 @@ remount_ends c x = record {
       let f : PhaseFits c t (held_of (w.views t)) (Phase.Remounts x) =
       subst (Fits c t (held_of (w.views t))) at (good Fitting t lt) in
       let after : Words = words_after w.words (Phase.Remounts x) hook in
-      falls_as Phase.Remounts (rank after) (IsFree c after) (remount_rank x.processors x.mounts x.nodes x.step)
+      falls_as Phase.Remounts (rank after) (IsUnblocked c after) (remount_rank x.processors x.mounts x.nodes x.step)
       (remount_after x x.step (found_at w.words (Phase.Remounts x) hook) hook).0
       (remount_falls c lim w.words after x f.1 f.2 f.3 hook x.step f.5 free);
 }

@@ -7,7 +7,7 @@ use Rattle.mount_counts.specs.{Remounts.{let_go, leave_holds, give_up, past_node
 use Rattle.mount_counts.specs.declared.{remounts.RemountStep.RemountStep, sets.MountSet.MountSet}
 use Rattle.mount_counts.proofs.laws.{MountLaws.SeeksNone}
 use Rattle.gate_world.specs.Remounts.{giving_role, remount_role, loop_role, held_role, summing_role}
-use Rattle.gate_schedules.proofs.frames.Keeps.{by_bool}
+use Rattle.gate_schedules.proofs.frames.OperationLaws.{by_bool}
 use mathlib.Core.Bool.{true}
 
 pub remount_seeks : (m : ℕ) (s : RemountStep) → SeeksNone (remount_role m s)

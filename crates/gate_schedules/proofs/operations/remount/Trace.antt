@@ -6,10 +6,10 @@ use Rattle.access_model.specs.declared.{actions.Action.Action, errors.GateError.
 use Rattle.cpu_words.specs.{Hooks.HookAnswer, Touches.{wrap_add, event_of}, declared.{events.Touch.Touch, names.WordName.WordName, sums.Sum.Sum}}
 use Rattle.mount_counts.specs.{Phases.has_flag, Remounts.{remount_from, past_mount, let_go, leave_holds, give_up, past_node}}
 use Rattle.mount_counts.specs.{Sets.{with_mount, without_lowest}, declared.{remounts.RemountStep.RemountStep, sets.MountSet.MountSet}}
-use Rattle.gate_world.specs.{Configs.IsWithin, Found.{found_sealed, counts_loaded, sum_loaded, IsEachCount, each_event, finds_taken, cleans}}
-use Rattle.gate_world.specs.{Traces.{actions_of, IsHonestAnswer}, Views.with_hook}
+use Rattle.gate_world.specs.{Configs.IsWithin, traces.Found.{found_sealed, counts_loaded, sum_loaded, IsEachCount, each_event, finds_taken, cleans}}
+use Rattle.gate_world.specs.{traces.Traces.{actions_of, IsHonestAnswer}, Views.with_hook}
 use Rattle.gate_world.specs.declared.{config.Config.Config, operations.Op.Op, views.Traced.Traced, work.Phase.Phase}
-use Rattle.gate_schedules.proofs.{frames.Keeps.by_bool, traces.{Cleans.{cleans_leave, LeaveAccesses}, Says.{SaysAfter, Kept, event_at}}}
+use Rattle.gate_schedules.proofs.{frames.OperationLaws.by_bool, traces.{Cleans.{cleans_leave, LeaveAccesses}, TraceInvariant.{InvariantAfterStep, IsInductive, event_at}}}
 
 -- a remount of the superblock by a task, at this step
 abbrev remount : Config → ℕ → Bool → RemountStep → Phase
@@ -128,7 +128,7 @@ module _ (c : Config) (lim : IsWithin c) (t : ℕ) (ro : Bool) (value : ℕ) (ea
 
   -- what the trace says after the event of a step
   abbrev After : HookAnswer → RemountStep → Type 0
-  After hook step = SaysAfter (RemountAt c t ro) c (Op.RemountSb ro) (remount c t ro step) value hook earlier added
+  After hook step = InvariantAfterStep (RemountAt c t ro) c (Op.RemountSb ro) (remount c t ro step) value hook earlier added
 
   locks : (hook : HookAnswer) → StepSays c ro RemountStep.Locks earlier added → After hook RemountStep.Locks
   locks hook h = grind arith
@@ -270,11 +270,11 @@ module _ (c : Config) (lim : IsWithin c) (t : ℕ) (ro : Bool) (value : ℕ) (ea
   remount_event hook RemountStep.ClearsRemount h = (RemountStep.Releases (Ok Reply.Unit), refl, (rw (h.1, h.2) h.0, tt))
   remount_event hook (RemountStep.Releases answer) h = (lock_leaves c ro answer value hook earlier added h, tt)
 
-pub remount_kept : (c : Config) → IsWithin c → (t : ℕ) (ro : Bool) → Kept (RemountAt c t ro) c t (Op.RemountSb ro)
+pub remount_kept : (c : Config) → IsWithin c → (t : ℕ) (ro : Bool) → IsInductive (RemountAt c t ro) c t (Op.RemountSb ro)
 remount_kept c lim t ro = record {
   first = (RemountStep.Locks, refl, (refl, (refl, refl, refl, λ m. refl)));
   more = λ phase value hook earlier added here.
-      subst (λ (x : Phase). SaysAfter (RemountAt c t ro) c (Op.RemountSb ro) x value hook earlier added) (sym here.1)
+      subst (λ (x : Phase). InvariantAfterStep (RemountAt c t ro) c (Op.RemountSb ro) x value hook earlier added) (sym here.1)
       (remount_event c lim t ro value earlier added hook here.0 here.2);
   short = λ trace phase added here. tt;
 }

@@ -3,7 +3,7 @@ use Rattle.std.{proofs.{Common.{◌≡◌, ℕ, ◌<◌, ap, inl, inr, refl}, le
 use Rattle.access_model.specs.declared.errors.GateError.{GateError}
 use Rattle.cpu_words.specs.Hooks.{HookAnswer}
 use Rattle.mount_counts.specs.{Phases.has_flag, Remounts.at_remount, declared.remounts.{Remount.Remount, RemountStep.RemountStep}}
-use Rattle.gate_world.specs.{KeptCauses.RemountCause, Rules.{owns, IsGood}, Waits.HasReason, Work.after_of, Worlds.{World, found_at}}
+use Rattle.gate_world.specs.{refusals.KeptCauses.RemountCause, Rules.{owns, IsGood}, refusals.Waits.HasReason, Work.after_of, Worlds.{World, found_at}}
 use Rattle.gate_world.specs.declared.{config.Config.Config, work.Phase.Phase}
 use Rattle.gate_schedules.proofs.frames.Owners.{umount_taken}
 

@@ -1,7 +1,7 @@
 -- The last load of a snapshot: the tree that it has loaded is the present one.
 use Rattle.cpu_words.specs.{Hooks.HookAnswer, declared.names.WordName.WordName}
 use Rattle.gate_world.specs.{Configs.IsWithin, Fits.{Fits, PhaseFits}, Moments.{CompletesNow, IsPresentTree}, Rules.{Fitting, IsGood, Stages, Tree}}
-use Rattle.gate_world.specs.{Rules.stage_role_of, Snapshots.{loads_noted, snapshot_completes, values_noted}, Trees.{tree_bounds, tree_role_of}, Views.held_of}
+use Rattle.gate_world.specs.{Rules.stage_role_of, traces.Snapshots.{loads_noted, snapshot_completes, values_noted}, Trees.{tree_bounds, tree_role_of}, Views.held_of}
 use Rattle.gate_world.specs.{Worlds.World, declared.{config.Config.Config, work.Phase.Phase}}
 use Rattle.gated_tree.specs.{Phases.at_snapshot, Roles.{RoleHolds, seen_as, tree_word}, Trees.loaded, declared.phases.TreePhase.TreePhase}
 use Rattle.gated_tree.specs.declared.{snapshots.{Snapshot.Snapshot, SnapshotStep.SnapshotStep}, trees.TreeWords.TreeWords}

@@ -1,5 +1,5 @@
 -- The law of each event of a snapshot.
-use Rattle.gate_schedules.proofs.frames.{ByPhase.snapshot_owner, Frames.left_alone, Keeps.by_bool, Known.{IsOwnersWork, known_after}}
+use Rattle.gate_schedules.proofs.frames.{ByPhase.snapshot_owner, Frames.left_alone, OperationLaws.by_bool, Known.{IsOwnersWork, known_after}}
 use Rattle.gate_schedules.proofs.frames.{Owners.{locks_umount, releases_umount}, Snapshots.noted_part}
 use Rattle.gate_schedules.proofs.frames.{Stages.{alike_same, nobody_owns, owners_alike, stages_after, stages_in}, Words.load_same}
 use Rattle.gate_schedules.proofs.operations.snapshot.Noted.{notes_step}
@@ -9,7 +9,7 @@ use Rattle.cpu_words.specs.{Hooks.HookAnswer, Touches.{found_by}, Words.{Words, 
 use Rattle.finite_sums.specs.Sums.{update}
 use Rattle.gate_world.specs.{Configs.IsWithin, Fits.{Fits, PhaseFits}, Roles.snapshot_stage_role}
 use Rattle.gate_world.specs.{Roles.stage_at_end, Rules.{AtLevel, AtMount, Files, Fitting, Holding, Holds, IsGood, Known, Owner, Part, Sections, Stages}}
-use Rattle.gate_world.specs.{Rules.{StepKeeps, SyncAt, Tree, marks_of, owns, remounts, stage_role_of, stage_roles}, Snapshots.values_noted}
+use Rattle.gate_world.specs.{Rules.{StepKeeps, SyncAt, Tree, marks_of, owns, remounts, stage_role_of, stage_roles}, traces.Snapshots.values_noted}
 use Rattle.gate_world.specs.{Trees.{tree_bounds, tree_role_of}, Views.{held_of, phase_after, view_with}, Worlds.{World, after_step}}
 use Rattle.gate_world.specs.declared.{config.Config.Config, views.{Traced.Traced, View.View}, work.Phase.Phase}
 use Rattle.node_words.specs.Nodes.{dirty_in, node_after, unpacked}
@@ -17,7 +17,7 @@ use Rattle.gated_tree.specs.Calls.{phase_role, role_after}
 use Rattle.gated_tree.specs.Phases.{at_snapshot, kids_step, node_step}
 use Rattle.gated_tree.specs.{Phases.{snapshot_after, snapshot_locked_out, snapshot_next}, declared.{phases.TreePhase.TreePhase, snapshots.Snapshot.Snapshot}}
 use Rattle.gated_tree.specs.declared.snapshots.SnapshotStep.{SnapshotStep}
-use Rattle.freeze_laws.specs.stages.Events.{IsAlike, Locks as LocksStage, Recalls, Releases as ReleasesStage, Stages as StageMoment, playing}
+use Rattle.freeze_laws.specs.stages.Events.{SameDuties, Locks as LocksStage, Recalls, Releases as ReleasesStage, Stages as StageMoment, playing}
 use Rattle.freeze_laws.specs.stages.Roles.{Aside, KnowsStage, Owning, StageRole, clean_by, owns as stage_owns}
 use Rattle.std.proofs.Common.{Bool, List, ap, arith, false, inl, inr, refl, subst, suc, sym, true, ℕ, ◌<◌, ◌∙◌, ◌≡◌}
 use Rattle.std.proofs.lemmas.Bool.{Decides.eqb_tells}
@@ -130,7 +130,7 @@ module _ (c : Config) (within : IsWithin c) (w : World) (good : IsGood c w) (t :
       }
 
   -- the rule of the stage after an event that leaves the task's part in it, but for what it relies on
-  recalls : (s : SnapshotStep) → IsHere s → (r : StageRole) → stage_role_of (view_here s).phase ≡ r → IsAlike (snapshot_stage_role s) r →
+  recalls : (s : SnapshotStep) → IsHere s → (r : StageRole) → stage_role_of (view_here s).phase ≡ r → SameDuties (snapshot_stage_role s) r →
       KnowsStage w.words.stage w.words.sb r → clean_by r ≡ 0 → Holds c (world_here s) Stages
   recalls s e r is alike knows none =
       stages_after c w good t lt (words_here s) (view_here s) (Recalls (snapshot_stage_role s) r)

@@ -12,7 +12,7 @@ use Rattle.gated_tree.specs.Roles.{Bounds, tree_word, seen_as}
 use Rattle.gated_tree.specs.Trees.{loaded, node_at}
 use Rattle.gated_tree.specs.declared.{snapshots.{Snapshot.Snapshot, SnapshotStep.SnapshotStep}, trees.TreeWords.TreeWords}
 use Rattle.gate_schedules.specs.trees.Steps.{NotesOne, NotesLoad}
-use Rattle.gate_world.specs.{Found.is_load, Snapshots.{loads_noted, values_noted}, Views.with_hook, declared.views.Traced.Traced}
+use Rattle.gate_world.specs.{traces.Found.is_load, traces.Snapshots.{loads_noted, values_noted}, Views.with_hook, declared.views.Traced.Traced}
 
 -- there is room for the words of so many nodes
 abbrev pub IsLong : ℕ → TreeWords → Type 0

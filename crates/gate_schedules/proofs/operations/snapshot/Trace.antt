@@ -6,18 +6,18 @@ use Rattle.cpu_words.specs.{Hooks.HookAnswer, Touches.found_by, declared.events.
 use Rattle.gated_tree.specs.Phases.{at_snapshot, snapshot_after, snapshot_locked_out, snapshot_next}
 use Rattle.gated_tree.specs.{Refusals.SnapshotHonest, declared.{phases.TreePhase.TreePhase, snapshots.{Snapshot.Snapshot, SnapshotStep.SnapshotStep}}}
 use Rattle.gate_schedules.{proofs.trees.Ends.snapshot_ends, specs.trees.Ends.{IsReply, SnapshotKnows}}
-use Rattle.gate_world.specs.{Configs.IsWithin, Courses.{IsTrace, MayHold, MayFind, course_of}, Found.{SeenIn, each_event, finds_taken}}
-use Rattle.gate_world.specs.{Operations.first_snapshot, Traces.{IsShort, Tells, most_events}, Views.with_hook, Work.next_of}
+use Rattle.gate_world.specs.{Configs.IsWithin, traces.TraceStates.{IsTrace, WordIsValid, ReadIsValid, state_of_trace}, traces.Found.{SeenIn, each_event, finds_taken}}
+use Rattle.gate_world.specs.{Operations.first_snapshot, traces.Traces.{IsShort, Tells, most_events}, Views.with_hook, Work.next_of}
 use Rattle.gate_world.specs.declared.{config.Config.Config, operations.Op.Op, views.Traced.Traced, work.Phase.Phase}
-use Rattle.gate_schedules.proofs.operations.calls.Trace.{Answers, CallAt, Stays, call_says, sees}
-use Rattle.gate_schedules.proofs.traces.Says.{KeptWell, SaysAfter, event_at, tells_well, is_short_well}
+use Rattle.gate_schedules.proofs.operations.calls.Trace.{Answers, CallAt, GoesOnOrEnds, call_says, sees}
+use Rattle.gate_schedules.proofs.traces.TraceInvariant.{IsInductiveGivenReads, InvariantAfterStep, event_at, tells_well, is_short_well}
 
 -- before `umount` is taken, each event has found it taken; after that, the node whose words a snapshot loads is one of the tree's
-abbrev IsThere : Config → List Traced → SnapshotStep → Type 0
-IsThere c trace SnapshotStep.Locks = each_event finds_taken trace ≡ true
-IsThere c trace (SnapshotStep.LoadsNode node) = node < c.nodes
-IsThere c trace (SnapshotStep.LoadsKids node) = node < c.nodes
-IsThere c trace step = Unit {0}
+abbrev StepInvariant : Config → List Traced → SnapshotStep → Type 0
+StepInvariant c trace SnapshotStep.Locks = each_event finds_taken trace ≡ true
+StepInvariant c trace (SnapshotStep.LoadsNode node) = node < c.nodes
+StepInvariant c trace (SnapshotStep.LoadsKids node) = node < c.nodes
+StepInvariant c trace step = Unit {0}
 
 -- how many events a snapshot that doesn't wait has done before a step, at most
 abbrev events_before : Config → SnapshotStep → ℕ
@@ -52,50 +52,50 @@ module _ (c : Config) (t : ℕ) (wait : Bool) where
 
   -- what its trace says at a phase
   abbrev SnapshotAt : List Traced → Phase → List Action → Type 0
-  SnapshotAt = CallAt Snapshot SnapshotStep TreePhase.Snapshot snapshot_of Knows so_far (IsThere c) (events_before c) (2 * c.nodes + 4) wait c
+  SnapshotAt = CallAt Snapshot SnapshotStep TreePhase.Snapshot snapshot_of Knows so_far (StepInvariant c) (events_before c) (2 * c.nodes + 4) wait c
       (Op.Snapshot wait)
 
   -- what comes after so many events
-  abbrev Comes : List Traced → ℕ → Next Snapshot → Type 0
-  Comes = Stays Snapshot SnapshotStep TreePhase.Snapshot snapshot_of Knows so_far (IsThere c) (events_before c) (2 * c.nodes + 4) wait c
+  abbrev NextInvariant : List Traced → ℕ → Next Snapshot → Type 0
+  NextInvariant = GoesOnOrEnds Snapshot SnapshotStep TreePhase.Snapshot snapshot_of Knows so_far (StepInvariant c) (events_before c) (2 * c.nodes + 4) wait c
       (Op.Snapshot wait)
 
   -- `umount` was found taken, as it was before: a snapshot waits, or is refused
   taken : (waits : Bool) → wait ≡ waits → (trace : List Traced) → each_event finds_taken trace ≡ true →
-      Comes trace 0 (snapshot_locked_out (snapshot_of SnapshotStep.Locks) waits)
+      NextInvariant trace 0 (snapshot_locked_out (snapshot_of SnapshotStep.Locks) waits)
   taken true is trace each = (SnapshotStep.Locks, refl, each, is, (is, each))
   taken false is trace each = λ q. omega arith
 
   -- each event of a snapshot is followed by a later step of it, or by its end
-  snapshot_goes : IsWithin c → (earlier : List Traced) (s : SnapshotStep) (value : ℕ) (hook : HookAnswer) → IsThere c earlier s →
-      MayHold (snapshot_next (snapshot_of s) s).0 value →
-      Comes (longer earlier value hook s) (events_before c s)
+  snapshot_goes : IsWithin c → (earlier : List Traced) (s : SnapshotStep) (value : ℕ) (hook : HookAnswer) → StepInvariant c earlier s →
+      WordIsValid (snapshot_next (snapshot_of s) s).0 value →
+      NextInvariant (longer earlier value hook s) (events_before c s)
       (snapshot_after (snapshot_of s) s (found_by (snapshot_next (snapshot_of s) s).1 value)).0
   snapshot_goes lim earlier s value hook there may = grind arith
 
   -- so the trace of a snapshot says what its row asks for
   snapshot_answers : (s : SnapshotStep) (trace : List Traced) →
-      Answers Snapshot SnapshotStep TreePhase.Snapshot snapshot_of Knows so_far (IsThere c) (events_before c) (2 * c.nodes + 4) wait c
+      Answers Snapshot SnapshotStep TreePhase.Snapshot snapshot_of Knows so_far (StepInvariant c) (events_before c) (2 * c.nodes + 4) wait c
       (Op.Snapshot wait) (IsReply Reply.Tree) (SnapshotHonest (SeenIn trace) (snapshot_of s)) (λ answer. []) trace
   snapshot_answers s trace = grind arith
 
   -- a step comes after at most that many events
-  snapshot_within : (s : SnapshotStep) (trace : List Traced) → IsThere c trace s → length trace ≤ events_before c s →
+  snapshot_within : (s : SnapshotStep) (trace : List Traced) → StepInvariant c trace s → length trace ≤ events_before c s →
       length trace ≤ 2 * c.nodes + 4
   snapshot_within s trace there h = grind arith
 
   -- and keeps it along
-  snapshot_kept : IsWithin c → KeptWell SnapshotAt c t (Op.Snapshot wait)
+  snapshot_kept : IsWithin c → IsInductiveGivenReads SnapshotAt c t (Op.Snapshot wait)
   snapshot_kept lim = record {
     first = (SnapshotStep.Locks, refl, (refl, tt, refl, λ q. omega arith));
     more = λ phase value hook earlier added may here.
         let s : SnapshotStep = here.0 in
         let x : Phase = Phase.Trees (TreePhase.Snapshot (snapshot_of s)) in
         let e : Traced = with_hook (event_at x value hook) hook in
-        subst (λ (p : Phase). MayFind p (next_of p hook).0 value → SaysAfter SnapshotAt c (Op.Snapshot wait) p value hook earlier added)
+        subst (λ (p : Phase). ReadIsValid p (next_of p hook).0 value → InvariantAfterStep SnapshotAt c (Op.Snapshot wait) p value hook earlier added)
         (sym here.1)
         (λ holds.
-        call_says Snapshot SnapshotStep TreePhase.Snapshot snapshot_of Knows so_far (IsThere c) (events_before c) (2 * c.nodes + 4) wait c
+        call_says Snapshot SnapshotStep TreePhase.Snapshot snapshot_of Knows so_far (StepInvariant c) (events_before c) (2 * c.nodes + 4) wait c
         (Op.Snapshot wait) (IsReply Reply.Tree) (SnapshotHonest (SeenIn (e ∷ earlier)) (snapshot_of s)) (λ answer. []) e earlier
         (snapshot_answers s (e ∷ earlier)) (events_before c s) here.2.3
         (snapshot_after (snapshot_of s) s (found_by (snapshot_next (snapshot_of s) s).1 value)).0
@@ -108,7 +108,7 @@ module _ (c : Config) (t : ℕ) (wait : Bool) where
 
 -- so a snapshot's trace tells what it is to tell, and is short where it doesn't wait
 pub snapshot_tells : (wait : Bool) (c : Config) → IsWithin c → (t : ℕ) (trace : List Traced) → IsTrace c t (Op.Snapshot wait) trace →
-    Tells c (Op.Snapshot wait) trace (course_of c t (Op.Snapshot wait) trace).comes (course_of c t (Op.Snapshot wait) trace).added
+    Tells c (Op.Snapshot wait) trace (state_of_trace c t (Op.Snapshot wait) trace).comes (state_of_trace c t (Op.Snapshot wait) trace).added
 snapshot_tells wait c lim t trace h = tells_well (SnapshotAt c t wait) c t (Op.Snapshot wait) (snapshot_kept c t wait lim) trace h
 
 pub snapshot_short : (wait : Bool) (c : Config) → IsWithin c → (t : ℕ) (trace : List Traced) → IsTrace c t (Op.Snapshot wait) trace →

@@ -7,7 +7,7 @@ use Rattle.cpu_words.specs.Hooks.{HookAnswer}
 use Rattle.percpu_rwsem.specs.{SyncWords.on_exit, Transitions.transition_after, Writers.{exit_made, up_write_after}}
 use Rattle.percpu_rwsem.specs.declared.{transitions.TransitionNext.TransitionNext, writers.{UpWrite.UpWrite, UpWriteStep.UpWriteStep}}
 use Rattle.freeze_levels.specs.{Holders.holders_in, Thaws.{at_thaw, thaw_opens, after_opening}, declared.thaws.{Thaw.Thaw, ThawStep.ThawStep}}
-use Rattle.gate_world.specs.{KeptCauses.{ThawCause, CauseOf}, Views.phase_after, Work.after_of, Worlds.{World, found_at}}
+use Rattle.gate_world.specs.{refusals.KeptCauses.{ThawCause, CauseOf}, Views.phase_after, Work.after_of, Worlds.{World, found_at}}
 use Rattle.gate_world.specs.declared.{config.Config.Config, work.Phase.Phase}
 
 -- a task whose view another entry leaves alone: the cause of each step stays

@@ -3,7 +3,7 @@ use Rattle.gate_world.specs.Roles.{thaw_owns}
 use Rattle.gate_schedules.proofs.frames.{Accesses.holdings_of_after, ByPhase.thaw_owner, Frames.{added_load, taken_load}}
 use Rattle.gate_schedules.proofs.frames.{Holders.{holders_after, holders_at, holders_stay, nobody_minds}}
 use Rattle.gate_schedules.proofs.frames.Stages.{IsStageEvent, nobody_owns, owners_alike, stages_in}
-use Rattle.gate_schedules.proofs.levels.{Standing.{LevelsHold, Stands, left_world, stand_after_opening}, UpWrite.up_write_levels, Whole.thaws_all}
+use Rattle.gate_schedules.proofs.levels.{LevelPositions.{LevelsHold, HasPosition, left_world, position_after_opening}, UpWrite.up_write_levels, FreezeCompletes.thaws_all}
 use Rattle.gate_schedules.proofs.{mounts.Parts.{level_added_load, level_taken_load}, operations.thaw.Fits.{finds_cases, thaw_goes}}
 use Rattle.gate_schedules.proofs.writers.Owner.{lock_given, lock_taken, owner_stays}
 use Rattle.gate_schedules.proofs.writers.Parts.{AsksWhere, IsWriter, LeavesRest, WriterKeeps, WriterLaw, idle_writes, thaw_comes, thaw_work, thaws_write}
@@ -20,7 +20,7 @@ use Rattle.freeze_levels.specs.{Holders.{holders_in, word_of}, Levels.reopening,
 use Rattle.freeze_levels.specs.declared.thaws.ThawStep.{ThawStep}
 use Rattle.gate_world.specs.{Configs.{IsWithin, model_limits}, Fits.{Fits, PhaseFits, ThawFits}, Holdings.{Holdings, holdings_of}, Levels.is_frozen_whole}
 use Rattle.gate_world.specs.{Levels.{level_added_after, level_added_by, level_taken_after, level_taken_by}, Roles.{thaw_holder_role}}
-use Rattle.gate_world.specs.{Roles.{thaw_stage_role, thaw_stand}, Rules.{Fitting, Holding, Holds, IsGood, OwnerHolds, Stages, StepKeeps, ViewFits}}
+use Rattle.gate_world.specs.{Roles.{thaw_stage_role, thaw_position}, Rules.{Fitting, Holding, Holds, IsGood, OwnerHolds, Stages, StepKeeps, ViewFits}}
 use Rattle.gate_world.specs.{Rules.{holder_role_of, holder_roles, marks_of, owns, stage_role_of, stage_roles}, Shown.shown, Trees.tree_role_of}
 use Rattle.gate_world.specs.Views.{actions_after}
 use Rattle.gate_world.specs.{Views.{added_after, added_by, held_of, phase_after, taken_after, taken_by, view_with}, Worlds.World}
@@ -33,7 +33,7 @@ use Rattle.freeze_levels.specs.holder_laws.Roles.{Apart, Empties, Found, between
 use Rattle.percpu_rwsem.specs.{SyncWords.on_exit, Transitions.transition_after, Writers.{exit_made, up_write_after, up_write_next}}
 use Rattle.percpu_rwsem.specs.declared.{transitions.{Transition.Transition, TransitionNext.TransitionNext}, writers.UpWrite.UpWrite}
 use Rattle.percpu_rwsem.specs.declared.writers.UpWriteStep.{UpWriteStep}
-use Rattle.freeze_laws.specs.stages.Events.{ClearsBlock as ClearsBlockOf, IsAlike, LeavesOne, Locks as LocksStage, Recalls, Releases as ReleasesStage, StageEvent}
+use Rattle.freeze_laws.specs.stages.Events.{ClearsBlock as ClearsBlockOf, SameDuties, LeavesOne, Locks as LocksStage, Recalls, Releases as ReleasesStage, StageEvent}
 use Rattle.freeze_laws.specs.stages.{Events.{Stays, Thaws as StoresThaw, ThawsAtOnce, action_of as stage_action_of, playing}, Roles.{CleanBelow, KnowsStage, Owning}}
 use Rattle.freeze_laws.specs.stages.{Roles.{Reopening, StageRole, clean_by, is_full, owns as stage_owns}, Shown.state_after}
 use Rattle.std.proofs.{Common.{ap, arith, inl, inr, refl, subst, suc, sym, zero, ℕ, ◌+◌, ◌-◌, ◌<◌, ◌∙◌, ◌≡◌, ◌≤◌}, lemmas.Bool.{Decides.eqb_tells}}
@@ -42,17 +42,17 @@ use Rattle.std.specs.Prelude.{Err, List, None, Ok, Option, Result, Some, false, 
 none_below : (dirty : ℕ → ℕ) → CleanBelow 0 dirty
 none_below dirty n below = absurd (omega (arith, below))
 
-pub thaw_stands : (x : Thaw) → Stands (Some (Phase.Thaws x)) (thaw_stand x.step)
+pub thaw_stands : (x : Thaw) → HasPosition (Some (Phase.Thaws x)) (thaw_position x.step)
 thaw_stands x = record { counts = λ i one three. refl; syncs = λ i one three. refl; outside = refl }
 
-pub idle_stands : Stands None None
+pub idle_stands : HasPosition None None
 idle_stands = record { counts = λ i one three. refl; syncs = λ i one three. refl; outside = refl }
 
 -- What comes after an event of a level's reopening.
 module _ (x : Thaw) where
   -- it stands so with the levels
   pub opening_stands : (level : ℕ) (n : Next UpWrite) →
-      Stands (phase_after (map_next Phase.Thaws (after_opening x level n))) (stand_after_opening level n)
+      HasPosition (phase_after (map_next Phase.Thaws (after_opening x level n))) (position_after_opening level n)
   opening_stands level n = grind arith
 
   -- it owns `umount`, with the levels up to one still closed
@@ -76,7 +76,7 @@ tree_comes trace other = refl
 
 -- a role that is like this one, relies on what is so, and has cleared nodes that are clean
 abbrev GoesOn : StageRole → ℕ → ℕ → (ℕ → ℕ) → StageRole → Type 0
-GoesOn old stage sb dirty r = IsAlike old r × KnowsStage stage sb r × CleanBelow (clean_by r) dirty
+GoesOn old stage sb dirty r = SameDuties old r × KnowsStage stage sb r × CleanBelow (clean_by r) dirty
 
 -- so it does after an event of the exchange of a level that is open
 exit_on : (x : Thaw) (level : ℕ) (s : UpWriteStep) (n : TransitionNext) (stage sb : ℕ) (dirty : ℕ → ℕ) → level ≤ 3 → stage ≡ 0 →
@@ -109,8 +109,8 @@ module _ (c : Config) (lim : IsWithin c) (w : World) (good : IsGood c w) (t : �
   pub here_knows : (s : ThawStep) → IsHere s → KnowsStage w.words.stage w.words.sb (thaw_stage_role s)
   here_knows s e = subst (λ p. KnowsStage w.words.stage w.words.sb (stage_role_of p)) e ((good Stages).knows t lt)
 
-  pub here_stands : (s : ThawStep) → IsHere s → Stands (w.views t).phase (thaw_stand s)
-  here_stands s e = subst (λ p. Stands p (thaw_stand s)) (sym e) (thaw_stands (at_thaw x s))
+  pub here_stands : (s : ThawStep) → IsHere s → HasPosition (w.views t).phase (thaw_position s)
+  here_stands s e = subst (λ p. HasPosition p (thaw_position s)) (sym e) (thaw_stands (at_thaw x s))
 
   here_off_tree : (s : ThawStep) → IsHere s → tree_role_of (w.views t).trace (w.views t).phase ≡ OffTree
   here_off_tree s e = ap (tree_role_of (w.views t).trace) e
@@ -123,8 +123,8 @@ module _ (c : Config) (lim : IsWithin c) (w : World) (good : IsGood c w) (t : �
   view_at event value hook s action = view_with (w.views t) event value hook (Next.Go (Phase.Thaws (at_thaw x s)), action)
 
   -- a load by the owner, which goes on relying on this
-  load_law : (hook : HookAnswer) (name : WordName) (value : ℕ) (s s' : ThawStep) (e : IsHere s) → thaw_stand s ≡ None →
-      thaw_stand s' ≡ None → (stage sb stage' sb' : Option ℕ) → thaw_stage_role s ≡ Owning stage sb →
+  load_law : (hook : HookAnswer) (name : WordName) (value : ℕ) (s s' : ThawStep) (e : IsHere s) → thaw_position s ≡ None →
+      thaw_position s' ≡ None → (stage sb stage' sb' : Option ℕ) → thaw_stage_role s ≡ Owning stage sb →
       thaw_stage_role s' ≡ Owning stage' sb' → ThawFits x.holder s' → KnowsStage w.words.stage w.words.sb (Owning stage' sb') →
       Holds c (left_world w t w.words (view_at (name, Touch.Load) value hook s' None)) Holding →
       WriterLaw c w t w.words (view_at (name, Touch.Load) value hook s' None) None
@@ -144,8 +144,8 @@ module _ (c : Config) (lim : IsWithin c) (w : World) (good : IsGood c w) (t : �
       })
       (goes_to s s' e fit) w.words.umount None (Recalls (Owning stage sb) (Owning stage' sb'))
       (owner_stays c w good t lt v (here_writes s e) now w.words refl refl (role_owns s' role' ∙ sym (ap owns e ∙ role_owns s role)))
-      (subst (Stands (w.views t).phase) none (here_stands s e))
-      (subst (Stands (Some (Phase.Thaws (at_thaw x s')))) none' (thaw_stands (at_thaw x s'))) (sym (here_off_tree s e)) (
+      (subst (HasPosition (w.views t).phase) none (here_stands s e))
+      (subst (HasPosition (Some (Phase.Thaws (at_thaw x s')))) none' (thaw_stands (at_thaw x s'))) (sym (here_off_tree s e)) (
         ap stage_role_of e ∙ role,
         owners_alike stage sb stage' sb',
         knows,
@@ -191,7 +191,7 @@ module _ (c : Config) (lim : IsWithin c) (w : World) (good : IsGood c w) (t : �
       ))
 
   -- gives `umount` back; meets: the next owner takes it
-  gives_back : (hook : HookAnswer) (s : ThawStep) (e : IsHere s) → thaw_stand s ≡ None → (answer : Result Reply GateError)
+  gives_back : (hook : HookAnswer) (s : ThawStep) (e : IsHere s) → thaw_position s ≡ None → (answer : Result Reply GateError)
       (stage sb : Option ℕ) → thaw_stage_role s ≡ Owning stage sb →
       let v : View = view_with (w.views t) (WordName.Umount, Touch.Store 0) w.words.umount hook (Next.Done answer, None) in
       Holds c (left_world w t (record w.words { umount = 0 }) v) Holding → WriterLaw c w t (record w.words { umount = 0 }) v None
@@ -201,7 +201,7 @@ module _ (c : Config) (lim : IsWithin c) (w : World) (good : IsGood c w) (t : �
       (record { held_same = refl; added_same = refl; taken_same = refl })
       tt 0 None (ReleasesStage stage sb)
       (lock_given c w good t lt v (here_writes s e) idle_writes (ap owns e ∙ role_owns s role) refl)
-      (subst (Stands (w.views t).phase) none (here_stands s e)) idle_stands (sym (here_off_tree s e)) (ap stage_role_of e ∙ role, refl)
+      (subst (HasPosition (w.views t).phase) none (here_stands s e)) idle_stands (sym (here_off_tree s e)) (ap stage_role_of e ∙ role, refl)
       refl holding
 
   -- the view after the lock was tried, which left this in `umount`
@@ -215,7 +215,7 @@ module _ (c : Config) (lim : IsWithin c) (w : World) (good : IsGood c w) (t : �
       }
 
   -- a try of the lock, which leaves this in `umount`, and after which this step comes
-  try_law : (hook : HookAnswer) (e : IsHere ThawStep.Locks) (n : ℕ) (s : ThawStep) → thaw_stand s ≡ None → ThawFits x.holder s →
+  try_law : (hook : HookAnswer) (e : IsHere ThawStep.Locks) (n : ℕ) (s : ThawStep) → thaw_position s ≡ None → ThawFits x.holder s →
       thaw_holder_role x.holder s ≡ Apart → (kind : StageEvent) →
       OwnerHolds c.tasks n w.words.remount (λ y. (update w.views t (tried hook n s) y).phase) →
       IsStageEvent c w good t lt (record w.words { umount = n }) (tried hook n s) kind → stage_action_of kind (stages_in w) ≡ None →
@@ -224,7 +224,7 @@ module _ (c : Config) (lim : IsWithin c) (w : World) (good : IsGood c w) (t : �
       writer_beside c w good t lt (tried hook n s) (here_writes ThawStep.Locks e) (thaws_write (at_thaw x s)) (assumption)
       (record { held_same = refl; added_same = refl; taken_same = refl })
       (goes_to ThawStep.Locks s e fit) n None kind owner (here_stands ThawStep.Locks e)
-      (subst (Stands (Some (Phase.Thaws (at_thaw x s)))) none (thaw_stands (at_thaw x s))) (sym (here_off_tree ThawStep.Locks e)) happens adds
+      (subst (HasPosition (Some (Phase.Thaws (at_thaw x s)))) none (thaw_stands (at_thaw x s))) (sym (here_off_tree ThawStep.Locks e)) happens adds
       (holders_stay c w good t lt (record w.words { umount = n }) (tried hook n s) refl refl (apart ∙ sym (ap holder_role_of e)))
 
   locks : (hook : HookAnswer) → IsHere ThawStep.Locks → Keeps hook ThawStep.Locks
@@ -295,7 +295,7 @@ module _ (c : Config) (lim : IsWithin c) (w : World) (good : IsGood c w) (t : �
   -- the owner's store without its holder
   leave_law : (hook : HookAnswer) (s s' : ThawStep) (e : IsHere s) (held : Holders) (n : ℕ) (sb : Option ℕ) →
       thaw_holder_role x.holder s ≡ Found held → held_by held x.holder ≡ true → holders_in n ≡ with_holder x.holder false held →
-      thaw_stand s ≡ None → thaw_stand s' ≡ None → thaw_stage_role s ≡ Owning (Some 4) sb → (stage' sb' : Option ℕ) →
+      thaw_position s ≡ None → thaw_position s' ≡ None → thaw_stage_role s ≡ Owning (Some 4) sb → (stage' sb' : Option ℕ) →
       thaw_stage_role s' ≡ Owning stage' sb' → KnowsStage w.words.stage w.words.sb (Owning stage' sb') → ThawFits x.holder s' →
       let v : View = view_at (WordName.Holders, Touch.Store n) w.words.holders hook s' (Some (Action.Leave x.holder)) in
       Holds c (left_world w t (record w.words { holders = n }) v) Holding →
@@ -307,8 +307,8 @@ module _ (c : Config) (lim : IsWithin c) (w : World) (good : IsGood c w) (t : �
       writer_holds c w good t lt v (here_writes s e) now (assumption) (record { held_same = refl; added_same = refl; taken_same = refl })
       (goes_to s s' e fit) n (Action.Leave x.holder) None (LeavesOne x.holder sb (Owning stage' sb'))
       (owner_stays c w good t lt v (here_writes s e) now w.words refl refl (role_owns s' role' ∙ sym (ap owns e ∙ role_owns s role)))
-      (subst (Stands (w.views t).phase) none (here_stands s e))
-      (subst (Stands (Some (Phase.Thaws (at_thaw x s')))) none' (thaw_stands (at_thaw x s'))) (sym (here_off_tree s e)) (
+      (subst (HasPosition (w.views t).phase) none (here_stands s e))
+      (subst (HasPosition (Some (Phase.Thaws (at_thaw x s')))) none' (thaw_stands (at_thaw x s'))) (sym (here_off_tree s e)) (
         ap stage_role_of e ∙ role,
         owners_alike (Some 4) sb stage' sb',
         knows,

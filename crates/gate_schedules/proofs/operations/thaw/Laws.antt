@@ -1,13 +1,13 @@
 -- All that is proved of a thaw.
 use Rattle.access_model.specs.declared.actions.Holder.{Holder}
 use Rattle.freeze_levels.specs.declared.thaws.Thaw.{Thaw}
-use Rattle.gate_schedules.proofs.frames.{Agreeing.none_agree, Keeps.{OpKeeps, PhaseKeeps, word_among}, Snapshots.completes_none}
+use Rattle.gate_schedules.proofs.frames.{Agreeing.none_agree, OperationLaws.{OpLaws, PhaseLaws, word_among}, Snapshots.completes_none}
 use Rattle.gate_schedules.proofs.operations.thaw.{Causes.{thaw_own, thaw_stays}, Events.thaw_keeps, Fits.{thaw_acts, thaw_goes, thaw_there}, Runs.thaw_runs}
-use Rattle.gate_schedules.proofs.{operations.thaw.{Trace.{ThawAt, thaw_kept}, Waits.thaw_waits}, traces.Says.{is_short, tells}}
+use Rattle.gate_schedules.proofs.{operations.thaw.{Trace.{ThawAt, thaw_kept}, Waits.thaw_waits}, traces.TraceInvariant.{is_short, tells}}
 use Rattle.gate_world.specs.{Worlds.after_step, declared.{config.Config.Config, operations.Op.Op, work.Phase.Phase}}
 use Rattle.std.proofs.Common.{refl}
 
-pub thaw_phase : (c : Config) (x : Thaw) → PhaseKeeps c (Phase.Thaws x)
+pub thaw_phase : (c : Config) (x : Thaw) → PhaseLaws c (Phase.Thaws x)
 thaw_phase c x = record {
   step = λ lim w good t lt hook e. thaw_keeps c lim w good t lt hook x e;
   runs = λ lim w good t lt hook e. thaw_runs c lim w good t lt hook x e;
@@ -21,7 +21,7 @@ thaw_phase c x = record {
   reasons = λ lim w earlier good t lt hook e cause. thaw_waits c w earlier t good lt x hook x.step e cause;
 }
 
-pub thaw_op : (c : Config) (holder : Holder) → OpKeeps c (Op.Thaw holder)
+pub thaw_op : (c : Config) (holder : Holder) → OpLaws c (Op.Thaw holder)
 thaw_op c holder = record {
   fits = λ t held there order room. (refl, order, tt);
   starts_aside = λ t. refl;

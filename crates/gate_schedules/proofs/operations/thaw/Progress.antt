@@ -2,27 +2,27 @@
 use Rattle.access_model.specs.{Holders.{held_by, is_unheld, with_holder}, declared.replies.Next.Next}
 use Rattle.cpu_words.specs.{Hooks.HookAnswer, Touches.found_by, Words.{Words, read}}
 use Rattle.freeze_levels.specs.{Holders.holders_in, Thaws.{after_opening, thaw_after, thaw_next}, declared.thaws.{Thaw.Thaw, ThawStep.ThawStep}}
-use Rattle.gate_world.specs.{Fits.{Fits, PhaseFits, ThawFits}, Levels.sync_role_of, Roles.{stand_sync, sync_beside, thaw_stand}, Rules.{Fitting, IsGood}}
+use Rattle.gate_world.specs.{Fits.{Fits, PhaseFits, ThawFits}, Levels.sync_role_of, Roles.{position_sync, sync_beside, thaw_position}, Rules.{Fitting, IsGood}}
 use Rattle.gate_world.specs.{Views.held_of, Worlds.{World, found_at, words_after}, declared.{config.Config.Config, work.Phase.Phase}}
 use Rattle.freeze_laws.specs.levels.Operations.{up_write_role}
 use Rattle.percpu_rwsem.specs.{Writers.{up_write_after, up_write_next}, declared.writers.UpWrite.UpWrite}
-use Rattle.gate_schedules.proofs.{operations.deadlocks.Falls.{after_event, falls_as}, writers.Progress.up_falls}
-use Rattle.gate_schedules.specs.operations.{Ranks.{rank, reopens_rank, thaw_rank, up_rank}, Ways.{Falls, IsFree, PhaseEnds, ThawIsFree}}
+use Rattle.gate_schedules.proofs.{operations.deadlocks.RankDecreases.{after_event, falls_as}, writers.Progress.up_falls}
+use Rattle.gate_schedules.specs.operations.{Ranks.{rank, reopens_rank, thaw_rank, up_rank}, Unblocked.{RankDecreases, IsUnblocked, PhaseEnds, ThawIsUnblocked}}
 use Rattle.std.proofs.{Common.{ap, arith, false, inl, inr, refl, subst, ℕ, ◌+◌, ◌<◌, ◌∙◌, ◌≡◌}, lemmas.Bool.{cases_Bool, eq-eqb, Decides.eqb_tells}}
 use Rattle.std.specs.Prelude.{Err, Ok, nat_lt, ◌*◌, ◌-◌}
 
 -- after an event of the reopening of a level: those below it are still to be reopened
 opens_falls : (after : Words) (x : Thaw) (level r : ℕ) (next : Next UpWrite) →
-    Falls (reopens_rank after) (λ (y : UpWrite). Unit {0}) (r + 3 * (level - 1) + 1) next →
-    Falls (λ (y : Thaw). thaw_rank after y.step) (λ (y : Thaw). ThawIsFree after y.step) (r + 3 * (level - 1) + 1)
+    RankDecreases (reopens_rank after) (λ (y : UpWrite). Unit {0}) (r + 3 * (level - 1) + 1) next →
+    RankDecreases (λ (y : Thaw). thaw_rank after y.step) (λ (y : Thaw). ThawIsUnblocked after y.step) (r + 3 * (level - 1) + 1)
     (after_opening x level next)
 opens_falls after x level r next h = grind arith
 
 module _ (c : Config) (w : World) (good : IsGood c w) (t : ℕ) (lt : t < c.tasks) (x : Thaw) where
-  thaw_falls : (hook : HookAnswer) (s : ThawStep) → ((i : ℕ) → sync_role_of i (w.views t).phase ≡ stand_sync i (thaw_stand s)) →
-      ThawFits x.holder s → ThawIsFree w.words s →
-      Falls (λ (y : Thaw). thaw_rank (after_event w.words (thaw_next x s hook)) y.step)
-      (λ (y : Thaw). ThawIsFree (after_event w.words (thaw_next x s hook)) y.step) (thaw_rank w.words s)
+  thaw_falls : (hook : HookAnswer) (s : ThawStep) → ((i : ℕ) → sync_role_of i (w.views t).phase ≡ position_sync i (thaw_position s)) →
+      ThawFits x.holder s → ThawIsUnblocked w.words s →
+      RankDecreases (λ (y : Thaw). thaw_rank (after_event w.words (thaw_next x s hook)) y.step)
+      (λ (y : Thaw). ThawIsUnblocked (after_event w.words (thaw_next x s hook)) y.step) (thaw_rank w.words s)
       (thaw_after x s (found_by (thaw_next x s hook).1 (read w.words (thaw_next x s hook).0)) hook).0
   thaw_falls hook ThawStep.Locks role fits free = rw free (omega arith, tt)
   thaw_falls hook ThawStep.LoadsStage role fits free =
@@ -40,7 +40,7 @@ module _ (c : Config) (w : World) (good : IsGood c w) (t : ℕ) (lt : t < c.task
   thaw_falls (Ok answer) ThawStep.LeavesLast role fits free = (omega arith, tt)
   thaw_falls (Err code) ThawStep.LeavesLast role fits free = tt
   thaw_falls hook (ThawStep.Reopens u) role fits free =
-      let here : stand_sync u.level (thaw_stand (ThawStep.Reopens u)) ≡ up_write_role u.step =
+      let here : position_sync u.level (thaw_position (ThawStep.Reopens u)) ≡ up_write_role u.step =
       ap (λ q. sync_beside q (nat_lt u.level u.level) (up_write_role u.step)) (eq-eqb u.level u.level refl) in
       opens_falls (after_event w.words (up_write_next u u.step)) x u.level (up_rank (w.words.sync u.level) u.step)
       (up_write_after u u.step (found_by (up_write_next u u.step).1 (read w.words (up_write_next u u.step).0))).0
@@ -54,7 +54,7 @@ thaw_ends c x = record {
       let f : PhaseFits c t (held_of (w.views t)) (Phase.Thaws x) =
       subst (Fits c t (held_of (w.views t))) at (good Fitting t lt) in
       let after : Words = words_after w.words (Phase.Thaws x) hook in
-      falls_as Phase.Thaws (rank after) (IsFree c after) (thaw_rank w.words x.step)
+      falls_as Phase.Thaws (rank after) (IsUnblocked c after) (thaw_rank w.words x.step)
       (thaw_after x x.step (found_at w.words (Phase.Thaws x) hook) hook).0
       (thaw_falls c w good t lt x hook x.step (λ i. ap (sync_role_of i) at) f.2 free);
 }

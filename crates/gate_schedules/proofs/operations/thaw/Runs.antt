@@ -6,8 +6,8 @@ use Rattle.percpu_rwsem.specs.Writers.{up_write_next, up_write_after}
 use Rattle.freeze_levels.specs.{Holders.holders_in, Levels.reopening, Thaws.{at_thaw, thaw_after}, declared.thaws.{Thaw.Thaw, ThawStep.ThawStep}}
 use Rattle.gate_world.specs.{Configs.IsWithin, Levels.is_frozen_whole, Rules.IsGood, Views.{phase_after, view_after}}
 use Rattle.gate_world.specs.{Worlds.{World, after_step, words_after, found_at, value_at}, declared.{config.Config.Config, work.Phase.Phase}}
-use Rattle.gate_schedules.proofs.{frames.{Frames.SameLevelWords, Keeps.by_bool}, levels.{Runs.{levels_stay_runs, up_write_runs}, Standing.{Stands, LevelsRun}}}
-use Rattle.gate_schedules.proofs.levels.Whole.{thaws_runs}
+use Rattle.gate_schedules.proofs.{frames.{Frames.SameLevelWords, OperationLaws.by_bool}, levels.{Runs.{levels_stay_runs, up_write_runs}, LevelPositions.{HasPosition, LevelsRun}}}
+use Rattle.gate_schedules.proofs.levels.FreezeCompletes.{thaws_runs}
 use Rattle.gate_schedules.proofs.operations.thaw.Events.{thaw_stands, idle_stands, opening_stands, IsHere, here_fits, here_knows, here_stands}
 use Rattle.gate_schedules.proofs.operations.thaw.Fits.{finds_cases}
 
@@ -20,8 +20,8 @@ module _ (c : Config) (lim : IsWithin c) (w : World) (good : IsGood c w) (t : �
   words_then hook s = words_after w.words (Phase.Thaws (at_thaw x s)) hook
 
   -- an event by a thaw that has closed no level, and has none after it, which leaves the words of the levels
-  leaves : (hook : HookAnswer) (s : ThawStep) → SameLevelWords w.words (words_then hook s) → Stands (w.views t).phase None →
-      Stands (phase_after (map_next Phase.Thaws (thaw_after x s (found_at w.words (Phase.Thaws (at_thaw x s)) hook) hook).0)) None → Runs hook s
+  leaves : (hook : HookAnswer) (s : ThawStep) → SameLevelWords w.words (words_then hook s) → HasPosition (w.views t).phase None →
+      HasPosition (phase_after (map_next Phase.Thaws (thaw_after x s (found_at w.words (Phase.Thaws (at_thaw x s)) hook) hook).0)) None → Runs hook s
   leaves hook s words was now =
       levels_stay_runs c w t lt (words_then hook s)
       (view_after (w.views t) (Phase.Thaws (at_thaw x s)) (value_at w.words (Phase.Thaws (at_thaw x s)) hook) hook) None words was now
@@ -47,17 +47,17 @@ module _ (c : Config) (lim : IsWithin c) (w : World) (good : IsGood c w) (t : �
   thaw_run hook ThawStep.Locks e =
       leaves hook ThawStep.Locks (assumption) (here_stands c lim w good t lt x ThawStep.Locks e)
       (by_bool (w.words.umount == 0)
-      (λ b. Stands (phase_after (map_next Phase.Thaws (if b then Next.Go (at_thaw x ThawStep.LoadsStage) else Next.Wait (at_thaw x ThawStep.Locks)))) None)
+      (λ b. HasPosition (phase_after (map_next Phase.Thaws (if b then Next.Go (at_thaw x ThawStep.LoadsStage) else Next.Wait (at_thaw x ThawStep.Locks)))) None)
       (thaw_stands (at_thaw x ThawStep.LoadsStage)) (thaw_stands (at_thaw x ThawStep.Locks)))
   thaw_run hook ThawStep.LoadsStage e =
       leaves hook ThawStep.LoadsStage (assumption) (here_stands c lim w good t lt x ThawStep.LoadsStage e)
       (by_bool (w.words.stage == 4)
-      (λ b. Stands (phase_after (map_next Phase.Thaws
+      (λ b. HasPosition (phase_after (map_next Phase.Thaws
       (if b then Next.Go (at_thaw x ThawStep.LoadsHolders) else Next.Go (at_thaw x (ThawStep.Releases (Err GateError.Invalid)))))) None)
       (thaw_stands (at_thaw x ThawStep.LoadsHolders)) (thaw_stands (at_thaw x (ThawStep.Releases (Err GateError.Invalid)))))
   thaw_run hook ThawStep.LoadsHolders e =
       leaves hook ThawStep.LoadsHolders (assumption) (here_stands c lim w good t lt x ThawStep.LoadsHolders e)
-      (finds_cases x (holders_in w.words.holders) (λ s. Stands (Some (Phase.Thaws (at_thaw x s))) None)
+      (finds_cases x (holders_in w.words.holders) (λ s. HasPosition (Some (Phase.Thaws (at_thaw x s))) None)
       (λ other. thaw_stands (at_thaw x (ThawStep.Releases (Err GateError.Invalid)))) (λ own alone. thaw_stands (at_thaw x ThawStep.LoadsSuperblock))
       (λ own shared. thaw_stands (at_thaw x (ThawStep.Leaves (holders_in w.words.holders)))))
   thaw_run hook (ThawStep.Leaves held) e =
@@ -70,7 +70,7 @@ module _ (c : Config) (lim : IsWithin c) (w : World) (good : IsGood c w) (t : �
   thaw_run hook ThawStep.LoadsSuperblock e =
       leaves hook ThawStep.LoadsSuperblock (assumption) (here_stands c lim w good t lt x ThawStep.LoadsSuperblock e)
       (by_bool (w.words.sb == 0)
-      (λ b. Stands (phase_after
+      (λ b. HasPosition (phase_after
       (map_next Phase.Thaws (if b then Next.Go (at_thaw x ThawStep.LeavesLast) else Next.Go (at_thaw x ThawStep.LeavesReadOnly)))) None)
       (thaw_stands (at_thaw x ThawStep.LeavesLast)) (thaw_stands (at_thaw x ThawStep.LeavesReadOnly)))
   thaw_run hook ThawStep.UnfreezesReadOnly e =

@@ -5,9 +5,9 @@ use Rattle.access_model.specs.declared.{actions.{Action.Action, Holder.Holder}, 
 use Rattle.cpu_words.specs.{Hooks.HookAnswer, Touches.event_of, declared.{events.Touch.Touch, names.WordName.WordName}}
 use Rattle.percpu_rwsem.specs.declared.{writers.UpWriteStep.UpWriteStep}
 use Rattle.freeze_levels.specs.{declared.thaws.{Thaw.Thaw, ThawStep.ThawStep}}
-use Rattle.gate_world.specs.{Found.{found_sealed, found_shared, each_event, finds_taken}, Traces.{actions_of, IsHonestAnswer}, Views.with_hook}
+use Rattle.gate_world.specs.{traces.Found.{found_sealed, found_shared, each_event, finds_taken}, traces.Traces.{actions_of, IsHonestAnswer}, Views.with_hook}
 use Rattle.gate_world.specs.declared.{config.Config.Config, operations.Op.Op, views.Traced.Traced, work.Phase.Phase}
-use Rattle.gate_schedules.proofs.{traces.Says.{SaysAfter, Kept, event_at}}
+use Rattle.gate_schedules.proofs.{traces.TraceInvariant.{InvariantAfterStep, IsInductive, event_at}}
 
 -- a thaw by a task, at this step
 abbrev thaw_of : ℕ → Holder → ThawStep → Thaw
@@ -65,7 +65,7 @@ module _ (c : Config) (t : ℕ) (holder : Holder) (value : ℕ) (earlier : List 
 
   -- what the trace says after the event of a step
   abbrev After : HookAnswer → ThawStep → Type 0
-  After hook step = SaysAfter (ThawAt c t holder) c (Op.Thaw holder) (Phase.Thaws (thaw_of t holder step)) value hook earlier added
+  After hook step = InvariantAfterStep (ThawAt c t holder) c (Op.Thaw holder) (Phase.Thaws (thaw_of t holder step)) value hook earlier added
 
   locks : (hook : HookAnswer) → StepSays c holder ThawStep.Locks earlier added → After hook ThawStep.Locks
   locks hook h = grind arith
@@ -91,5 +91,5 @@ module _ (c : Config) (t : ℕ) (holder : Holder) (value : ℕ) (earlier : List 
   thaw_event : (hook : HookAnswer) (step : ThawStep) → StepSays c holder step earlier added → After hook step
   thaw_event hook step h = grind arith
 
-pub thaw_kept : (c : Config) (t : ℕ) (holder : Holder) → Kept (ThawAt c t holder) c t (Op.Thaw holder)
+pub thaw_kept : (c : Config) (t : ℕ) (holder : Holder) → IsInductive (ThawAt c t holder) c t (Op.Thaw holder)
 thaw_kept c t holder = grind arith

@@ -5,7 +5,7 @@ use Rattle.cpu_words.specs.Hooks.{HookAnswer}
 use Rattle.percpu_rwsem.specs.{SyncWords.on_exit, Transitions.transition_after, Writers.{exit_made, up_write_after}}
 use Rattle.percpu_rwsem.specs.declared.{transitions.TransitionNext.TransitionNext, writers.{UpWrite.UpWrite, UpWriteStep.UpWriteStep}}
 use Rattle.freeze_levels.specs.{Thaws.{at_thaw, after_opening}, declared.thaws.{Thaw.Thaw, ThawStep.ThawStep}}
-use Rattle.gate_world.specs.{KeptCauses.ThawCause, Rules.{owns, IsGood}, Waits.HasReason, Work.after_of, Worlds.{World, found_at}}
+use Rattle.gate_world.specs.{refusals.KeptCauses.ThawCause, Rules.{owns, IsGood}, refusals.Waits.HasReason, Work.after_of, Worlds.{World, found_at}}
 use Rattle.gate_world.specs.declared.{config.Config.Config, work.Phase.Phase}
 use Rattle.gate_schedules.proofs.frames.Owners.{umount_taken}
 

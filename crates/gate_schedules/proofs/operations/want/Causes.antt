@@ -6,7 +6,7 @@ use Rattle.cpu_words.specs.{Touches.found_by, Words.read}
 use Rattle.mount_counts.specs.{Phases.{has_flag, want_next, want_after, hold_found}, Roles.{ro_bit, has_hold}}
 use Rattle.mount_counts.specs.declared.phases.{MountPhase.MountPhase, Want.Want, WantStep.WantStep}
 use Rattle.mount_counts.proofs.laws.Bits.{read_only_set, hold_set}
-use Rattle.gate_world.specs.{Causes.{asks, want_asks, WantRefused, WasHeld}, KeptCauses.{WantCause, CauseOf}, Roles.want_role, Rules.{IsGood, Owner, Stages}}
+use Rattle.gate_world.specs.{refusals.Causes.{asks, want_asks, WantRefused, WasHeld}, refusals.KeptCauses.{WantCause, CauseOf}, Roles.want_role, Rules.{IsGood, Owner, Stages}}
 use Rattle.gate_world.specs.{Rules.{AtMount, role_of}, Views.phase_after, Worlds.World, declared.{config.Config.Config, work.Phase.Phase}}
 use Rattle.gate_schedules.proofs.{frames.Owners.who_holds, traces.Moments.{or_true, question_skips, question_stands}}
 

@@ -1,17 +1,17 @@
 -- All that is proved of a want and of a drop.
 use Rattle.access_model.specs.declared.replies.Next.{Next}
-use Rattle.gate_schedules.proofs.frames.{Frames.role_none, Keeps.{IsSmall, OpKeeps, PhaseKeeps, by_bool, word_among}, Snapshots.completes_none}
+use Rattle.gate_schedules.proofs.frames.{Frames.role_none, OperationLaws.{IsSmall, OpLaws, PhaseLaws, by_bool, word_among}, Snapshots.completes_none}
 use Rattle.gate_schedules.proofs.{mounts.Runs.mounts_run, operations.want.Causes.{next_asked, next_cause, want_kept, want_own}}
 use Rattle.gate_schedules.proofs.operations.want.{Events.{drop_keeps, want_keeps}, Fits.{want_acts, want_goes, want_there}, Loads.want_here}
 use Rattle.gate_schedules.proofs.operations.want.{Trace.{DropAt, WantAt, drop_kept, want_kept as want_traced}, Waits.{next_waits, want_waits}}
-use Rattle.gate_schedules.proofs.{traces.Says.{is_short, tells}, trees.worlds.Holders.both_true}
-use Rattle.gate_world.specs.{Alike.no_roles, Causes.asks, Fits.Fits, Rules.Fitting, Traces.most_events, Views.held_of, Worlds.{World, after_step, found_at}}
+use Rattle.gate_schedules.proofs.{traces.TraceInvariant.{is_short, tells}, trees.worlds.Holders.both_true}
+use Rattle.gate_world.specs.{SameRoles.no_roles, refusals.Causes.asks, Fits.Fits, Rules.Fitting, traces.Traces.most_events, Views.held_of, Worlds.{World, after_step, found_at}}
 use Rattle.gate_world.specs.declared.{config.Config.Config, operations.Op.Op, work.Phase.Phase}
 use Rattle.mount_counts.specs.{Phases.want_after, declared.phases.{MountPhase.MountPhase, Want.Want}}
 use Rattle.std.proofs.{Common.{Bool, ap, arith, refl, subst, true, ℕ, ◌∙◌, ◌≡◌}, lemmas.Bool.ltb-true}
 use Rattle.std.specs.Prelude.{Some, nat_lt, ◌∷◌}
 
-pub want_phase : (c : Config) (x : Want) → PhaseKeeps c (Phase.Mounts (MountPhase.Want x))
+pub want_phase : (c : Config) (x : Want) → PhaseLaws c (Phase.Mounts (MountPhase.Want x))
 want_phase c x = record {
   step = λ lim w good t lt hook e. want_keeps c lim w good t lt hook x.mount x.cpu x.wait x.step e;
   runs = λ lim w good t lt hook e i l1 l3. mounts_run c.tasks w t lt hook (MountPhase.Want x) e i;
@@ -35,7 +35,7 @@ want_phase c x = record {
       (want_waits c w earlier good t lt x x.step f.0 (want_here x.mount x.cpu x.wait x.step e) cause);
 }
 
-pub drop_phase : (c : Config) (m p : ℕ) → PhaseKeeps c (Phase.Mounts (MountPhase.Drop m p))
+pub drop_phase : (c : Config) (m p : ℕ) → PhaseLaws c (Phase.Mounts (MountPhase.Drop m p))
 drop_phase c m p = record {
   step = λ lim w good t lt hook e. drop_keeps c lim w good t lt hook m p e;
   runs = λ lim w good t lt hook e i l1 l3. mounts_run c.tasks w t lt hook (MountPhase.Drop m p) e i;
@@ -49,7 +49,7 @@ drop_phase c m p = record {
   reasons = λ lim w earlier good t lt hook e cause. tt;
 }
 
-pub want_op : (c : Config) (m p : ℕ) (wait : Bool) → OpKeeps c (Op.Want m p wait)
+pub want_op : (c : Config) (m p : ℕ) (wait : Bool) → OpLaws c (Op.Want m p wait)
 want_op c m p wait = record {
   fits = λ t held there order room.
       let at : (nat_lt m c.mounts ≡ true) × (nat_lt p c.processors ≡ true) = both_true (nat_lt m c.mounts) (nat_lt p c.processors) there in
@@ -66,7 +66,7 @@ want_op c m p wait = record {
   most_small = λ lim. by_bool wait (λ w. IsSmall (most_events c (Op.Want m p w))) tt (omega arith);
 }
 
-pub drop_op : (c : Config) (m p : ℕ) → OpKeeps c (Op.DropMount m p)
+pub drop_op : (c : Config) (m p : ℕ) → OpLaws c (Op.DropMount m p)
 drop_op c m p = record {
   fits = λ t held there order room.
       let at : (nat_lt m c.mounts ≡ true) × (nat_lt p c.processors ≡ true) = both_true (nat_lt m c.mounts) (nat_lt p c.processors) there in

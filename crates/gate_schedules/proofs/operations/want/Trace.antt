@@ -4,9 +4,9 @@ use Rattle.std.specs.Prelude.{◌+◌, ◌&&◌, ◌||◌, ◌==◌, ◌⊎◌, 
 use Rattle.access_model.specs.{Replies.map_next, declared.{actions.{Action.Action, Gate.Gate}, errors.GateError.GateError, replies.Next.Next}}
 use Rattle.cpu_words.specs.{Hooks.HookAnswer, Touches.{event_of, found_by}, declared.events.Event.Event}
 use Rattle.mount_counts.specs.{Phases.{has_flag, want_next, want_after}, declared.phases.{MountPhase.MountPhase, Want.Want, WantStep.WantStep}}
-use Rattle.gate_world.specs.{Found.{each_but_first, finds_hold, looks_again, holds_since, adds_to, newest}, Traces.{IsHonest, most_events, IsShort}}
+use Rattle.gate_world.specs.{traces.Found.{each_but_first, finds_hold, looks_again, holds_since, adds_to, newest}, traces.Traces.{IsHonest, most_events, IsShort}}
 use Rattle.gate_world.specs.{Views.{with_hook, actions_after}, declared.{config.Config.Config, operations.Op.Op, views.Traced.Traced, work.Phase.Phase}}
-use Rattle.gate_schedules.proofs.{operations.calls.Trace.or_other, traces.Says.{Says, SaysAfter, Kept, event_at}}
+use Rattle.gate_schedules.proofs.{operations.calls.Trace.or_other, traces.TraceInvariant.{InvariantAfter, InvariantAfterStep, IsInductive, event_at}}
 
 -- a want of this mount, processor and way to wait, at this step
 abbrev pub want_at : ℕ → ℕ → Bool → WantStep → Want
@@ -154,16 +154,16 @@ module _ (c : Config) (m p : ℕ) (base : List Action) (below : List Traced) (va
 -- what comes after an event of a want that stands alone
 want_says : (c : Config) (m p : ℕ) (wait : Bool) (e : Traced) (earlier : List Traced) (added : List Action) (n : Next Want) →
     WantNext c m p wait [] [] (e ∷ earlier) added n →
-    Says (WantAt c m p wait) c (Op.Want m p wait) (e ∷ earlier) (map_next Phase.Mounts (map_next MountPhase.Want n)) added
+    InvariantAfter (WantAt c m p wait) c (Op.Want m p wait) (e ∷ earlier) (map_next Phase.Mounts (map_next MountPhase.Want n)) added
 want_says c m p wait e earlier added n h = grind arith
 
-pub want_kept : (c : Config) (t m p : ℕ) (wait : Bool) → Kept (WantAt c m p wait) c t (Op.Want m p wait)
+pub want_kept : (c : Config) (t m p : ℕ) (wait : Bool) → IsInductive (WantAt c m p wait) c t (Op.Want m p wait)
 want_kept c t m p wait = record {
   first = (WantStep.CountsUp, refl, (refl, λ q. omega arith, refl));
   more = λ phase value hook earlier added here.
       let x : Want = want_at m p wait here.0 in
       let found : ℕ = found_by (want_next x here.0).1 value in
-      subst (λ (y : Phase). SaysAfter (WantAt c m p wait) c (Op.Want m p wait) y value hook earlier added) (sym here.1)
+      subst (λ (y : Phase). InvariantAfterStep (WantAt c m p wait) c (Op.Want m p wait) y value hook earlier added) (sym here.1)
       (want_says c m p wait (with_hook (event_of (want_next x here.0).0 (want_next x here.0).1 value) hook) earlier
       (actions_after (want_after x here.0 found).1 added) (want_after x here.0 found).0
       (want_event c m p [] [] value hook earlier added wait here.0 here.2));
@@ -174,5 +174,5 @@ want_kept c t m p wait = record {
 abbrev pub DropAt : ℕ → ℕ → List Traced → Phase → List Action → Type 0
 DropAt m p trace phase added = (phase ≡ Phase.Mounts (MountPhase.Drop m p)) × (trace ≡ []) × (added ≡ [])
 
-pub drop_kept : (c : Config) (t m p : ℕ) → Kept (DropAt m p) c t (Op.DropMount m p)
+pub drop_kept : (c : Config) (t m p : ℕ) → IsInductive (DropAt m p) c t (Op.DropMount m p)
 drop_kept c t m p = grind arith

@@ -7,8 +7,8 @@ use Rattle.cpu_words.specs.{Touches.found_by, Words.read}
 use Rattle.mount_counts.specs.{Phases.{has_flag, want_next, want_after, hold_found}, Roles.has_hold}
 use Rattle.mount_counts.specs.declared.phases.{MountPhase.MountPhase, Want.Want, WantStep.WantStep}
 use Rattle.mount_counts.proofs.laws.Bits.{hold_set}
-use Rattle.gate_world.specs.{Causes.{WantRefused, last_question}, KeptCauses.WantCause, Roles.want_role, Rules.{role_of, IsGood, AtMount}, Waits.HasCulprit}
-use Rattle.gate_world.specs.{Waits.HasReason, Worlds.World, declared.{config.Config.Config, work.Phase.Phase}}
+use Rattle.gate_world.specs.{refusals.Causes.{WantRefused, last_question}, refusals.KeptCauses.WantCause, Roles.want_role, Rules.{role_of, IsGood, AtMount}, refusals.Waits.HasCulprit}
+use Rattle.gate_world.specs.{refusals.Waits.HasReason, Worlds.World, declared.{config.Config.Config, work.Phase.Phase}}
 use Rattle.gate_schedules.proofs.frames.Owners.{who_holds}
 
 module _ (c : Config) (w : World) (earlier : List World) (good : IsGood c w) (t : ℕ) (lt : t < c.tasks) (x : Want) where

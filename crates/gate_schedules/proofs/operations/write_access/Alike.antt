@@ -3,25 +3,25 @@
 use Rattle.access_model.specs.{Replies.map_next, declared.replies.Next.Next}
 use Rattle.std.proofs.Common.{arith}
 use Rattle.gate_schedules.proofs.{frames.Frames.role_none}
-use Rattle.gate_world.specs.{Alike.{IsAlike, no_roles}, Views.phase_after, Work.plain}
+use Rattle.gate_world.specs.{SameRoles.{SameRoles, no_roles}, Views.phase_after, Work.plain}
 use Rattle.gate_world.specs.declared.work.Phase.{Phase}
 use Rattle.mount_counts.specs.declared.phases.{MountPhase.MountPhase, Want.Want}
 use Rattle.percpu_rwsem.specs.declared.readers.DownRead.{DownRead}
 use Rattle.std.proofs.Common.{refl, ℕ}
 use Rattle.std.specs.Prelude.{Ok, Some}
-use Rattle.compounds.specs.{write_access.Phases.{then_gives_back, then_wants}, declared.write_access.phases.WritePhase.WritePhase}
+use Rattle.composite_ops.specs.{write_access.Phases.{then_gives_back, then_wants}, declared.write_access.phases.WritePhase.WritePhase}
 
-pub alike_plain : (x : WritePhase) → IsAlike (Some (Phase.Writes x)) (Some (plain x))
+pub alike_plain : (x : WritePhase) → SameRoles (Some (Phase.Writes x)) (Some (plain x))
 alike_plain (WritePhase.Takes m r) = refl
 alike_plain other = refl
 
 -- what comes after an event at level 1 is alike to what comes in its own operation: the want that follows has no role yet
 pub alike_takes : (m p : ℕ) (n : Next DownRead) →
-    IsAlike (phase_after (map_next Phase.DownReads n)) (phase_after (map_next Phase.Writes (then_wants m p n)))
+    SameRoles (phase_after (map_next Phase.DownReads n)) (phase_after (map_next Phase.Writes (then_wants m p n)))
 alike_takes m p (Next.Done (Ok reply)) = λ k. record no_roles { mount = λ y. role_none y m k }
 alike_takes m p other = refl
 
 -- and so is what comes after an event at the mount: an end of level 1 has no role
 pub alike_wants : (m p : ℕ) (n : Next Want) →
-    IsAlike (phase_after (map_next Phase.Mounts (map_next MountPhase.Want n))) (phase_after (map_next Phase.Writes (then_gives_back m p n)))
+    SameRoles (phase_after (map_next Phase.Mounts (map_next MountPhase.Want n))) (phase_after (map_next Phase.Writes (then_gives_back m p n)))
 alike_wants m p n = grind arith

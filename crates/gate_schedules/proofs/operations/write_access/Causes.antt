@@ -4,9 +4,9 @@ use Rattle.std.proofs.Common.{arith}
 use Rattle.access_model.specs.{Replies.map_next, declared.replies.Next.Next}
 use Rattle.mount_counts.specs.declared.phases.Want.{Want}
 use Rattle.percpu_rwsem.specs.declared.readers.DownRead.{DownRead}
-use Rattle.compounds.specs.{write_access.Phases.{then_wants, then_gives_back}, declared.write_access.phases.WritePhase.WritePhase}
-use Rattle.gate_world.specs.{Causes.{asks, last_asked, WasClosed}, KeptCauses.{CauseOf}, Rules.IsGood, Views.phase_after}
-use Rattle.gate_world.specs.{Waits.HasReason, Worlds.World, declared.{config.Config.Config, work.Phase.Phase}}
+use Rattle.composite_ops.specs.{write_access.Phases.{then_wants, then_gives_back}, declared.write_access.phases.WritePhase.WritePhase}
+use Rattle.gate_world.specs.{refusals.Causes.{asks, last_asked, WasClosed}, refusals.KeptCauses.{CauseOf}, Rules.IsGood, Views.phase_after}
+use Rattle.gate_world.specs.{refusals.Waits.HasReason, Worlds.World, declared.{config.Config.Config, work.Phase.Phase}}
 use Rattle.gate_schedules.proofs.operations.{readers.{Causes.{AsksNext, HasNextCause}, Waits.{WhereRefused}}, want.Causes.{next_asks, NextCause}}
 use Rattle.gate_schedules.proofs.operations.want.Waits.{NextWaits}
 

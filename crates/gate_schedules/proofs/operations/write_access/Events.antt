@@ -2,15 +2,15 @@
 use Rattle.access_model.specs.declared.{actions.Action.Action, replies.Next.Next}
 use Rattle.cpu_words.specs.Hooks.{HookAnswer}
 use Rattle.finite_sums.proofs.Totals.{update_at}
-use Rattle.gate_schedules.proofs.frames.{Beside.{made, made_runs_beside}, Rephased.{alike_of, made_keeps, rephased_good}}
+use Rattle.gate_schedules.proofs.frames.{SameRolesOffTree.{made, made_runs_beside}, PhaseSubstitution.{alike_of, made_keeps, rephased_good}}
 use Rattle.gate_schedules.proofs.operations.write_access.Alike.{alike_plain}
-use Rattle.gate_world.specs.{Alike.{IsAlike, at_phase, off_tree, rephased}, Fits.{Fits, PhaseFits, WriteFits}, Holdings.{Holdings, held_after}}
+use Rattle.gate_world.specs.{SameRoles.{SameRoles, at_phase, off_tree, rephased}, Fits.{Fits, PhaseFits, WriteFits}, Holdings.{Holdings, held_after}}
 use Rattle.gate_world.specs.{LevelRuns.level_in, Rules.{Fitting, IsGood, Moves}, Shown.shown, Views.{held_of, phase_after}, Work.{after_of, next_of, plain}}
 use Rattle.gate_world.specs.{Worlds.{World, found_at}, declared.{config.Config.Config, views.View.View, work.Phase.Phase}}
 use Rattle.freeze_laws.specs.levels.Events.{SyncStep}
 use Rattle.std.proofs.Common.{ap, arith, subst, ℕ, ◌<◌, ◌≡◌}
 use Rattle.std.specs.Prelude.{Option, Some}
-use Rattle.compounds.specs.declared.write_access.phases.WritePhase.{WritePhase}
+use Rattle.composite_ops.specs.declared.write_access.phases.WritePhase.{WritePhase}
 
 -- the phase of its gate fits
 pub plain_fits : (c : Config) (t : ℕ) (held : Holdings) (x : WritePhase) → WriteFits c t held x → PhaseFits c t held (plain x)
@@ -21,7 +21,7 @@ module _ (c : Config) (w : World) (good : IsGood c w) (t : ℕ) (lt : t < c.task
   pub write_fits_now : WriteFits c t (held_of (w.views t)) x
   write_fits_now = subst (Fits c t (held_of (w.views t))) e (good Fitting t lt)
 
-  before : IsAlike (w.views t).phase (Some (plain x))
+  before : SameRoles (w.views t).phase (Some (plain x))
   before = alike_of e (alike_plain x)
 
   fits_plain : Fits c t (held_of (w.views t)) (Some (plain x))
@@ -50,7 +50,7 @@ module _ (c : Config) (w : World) (good : IsGood c w) (t : ℕ) (lt : t < c.task
       Moves c (shown c first_world) t plain_action (shown c (made_in first_world plain_after))
 
   -- is the law of the event after which the longer operation goes on
-  pub write_step : PlainLaw → (coming : Next Phase) → IsAlike (phase_after plain_after) (phase_after coming) →
+  pub write_step : PlainLaw → (coming : Next Phase) → SameRoles (phase_after plain_after) (phase_after coming) →
       Fits c t (held_after plain_action (held_of (w.views t))) (phase_after coming) →
       IsGood c (made_in w coming) × Moves c (shown c w) t plain_action (shown c (made_in w coming))
   write_step law coming after fits =
@@ -63,7 +63,7 @@ module _ (c : Config) (w : World) (good : IsGood c w) (t : ℕ) (lt : t < c.task
       SyncStep c.tasks (level_in first_world i) (level_in (made_in first_world plain_after) i)
 
   -- so the event of the longer operation is the same kind of event of the level
-  pub write_runs : (coming : Next Phase) → IsAlike (phase_after plain_after) (phase_after coming) → (i : ℕ) → PlainRuns i →
+  pub write_runs : (coming : Next Phase) → SameRoles (phase_after plain_after) (phase_after coming) → (i : ℕ) → PlainRuns i →
       SyncStep c.tasks (level_in w i) (level_in (made_in w coming) i)
   write_runs coming after i runs =
       made_runs_beside c w t lt (Some (plain x)) (next_of (plain x) hook) hook plain_after coming plain_action i (λ j. off_tree (before j))

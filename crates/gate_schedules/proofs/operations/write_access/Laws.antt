@@ -3,7 +3,7 @@ use Rattle.access_model.specs.{Histories.levels_of, Replies.map_next, declared.{
 use Rattle.cpu_words.specs.Hooks.{HookAnswer}
 use Rattle.finite_sums.proofs.Totals.{update_same}
 use Rattle.finite_sums.specs.Sums.{update}
-use Rattle.gate_schedules.proofs.frames.{Agreeing.none_agree, Beside.update_twice, Frames.{count_none, role_on, sync_none}, Keeps.{OpKeeps, PhaseKeeps}}
+use Rattle.gate_schedules.proofs.frames.{Agreeing.none_agree, SameRolesOffTree.update_twice, Frames.{count_none, role_on, sync_none}, OperationLaws.{OpLaws, PhaseLaws}}
 use Rattle.gate_schedules.proofs.{frames.Snapshots.completes_none, operations.readers.Causes.{read_not_closed, read_own, read_stays}}
 use Rattle.gate_schedules.proofs.operations.readers.{Laws.{end_phase, read_phase}, Waits.read_waits}
 use Rattle.gate_schedules.proofs.operations.want.{Causes.{want_kept, want_own}, Laws.{drop_phase, want_phase}, Waits.want_waits}
@@ -11,16 +11,16 @@ use Rattle.gate_schedules.proofs.operations.write_access.Alike.{alike_takes, ali
 use Rattle.gate_schedules.proofs.operations.write_access.Causes.{takes_asks, takes_cause, takes_waits, wants_asked, wants_cause, wants_waits}
 use Rattle.gate_schedules.proofs.operations.write_access.Events.{first_world, write_fits_now, write_runs, write_step}
 use Rattle.gate_schedules.proofs.operations.write_access.Trace.{DropAt, WriteAt, drop_kept, write_kept}
-use Rattle.gate_schedules.proofs.{traces.Says.{is_short, is_short_well, tells, tells_well}, trees.worlds.Holders.both_true}
-use Rattle.gate_world.specs.{Causes.{asks, asks_level}, Configs.IsWithin, Fits.{Fits, WriteFits}, Holdings.{Holdings, held_after, holdings_of}}
-use Rattle.gate_world.specs.{Alike.no_roles, LevelRuns.level_in, Levels.sync_role_of, Rules.{IsGood, StepKeeps, role_of}, Views.{held_of, phase_after}}
+use Rattle.gate_schedules.proofs.{traces.TraceInvariant.{is_short, is_short_well, tells, tells_well}, trees.worlds.Holders.both_true}
+use Rattle.gate_world.specs.{refusals.Causes.{asks, asks_level}, Configs.IsWithin, Fits.{Fits, WriteFits}, Holdings.{Holdings, held_after, holdings_of}}
+use Rattle.gate_world.specs.{SameRoles.no_roles, LevelRuns.level_in, Levels.sync_role_of, Rules.{IsGood, StepKeeps, role_of}, Views.{held_of, phase_after}}
 use Rattle.gate_world.specs.{Worlds.{World, after_step, found_at}, declared.{config.Config.Config, operations.Op.Op, work.Phase.Phase}}
 use Rattle.freeze_laws.specs.levels.{Events.SyncStep, Roles.closed}
 use Rattle.mount_counts.specs.{Phases.want_after, declared.phases.{MountPhase.MountPhase, Want.Want, WantStep.WantStep}}
 use Rattle.percpu_rwsem.specs.{Readers.down_read_after, declared.readers.DownRead.DownRead}
 use Rattle.std.proofs.{Common.{Bool, ap, arith, false, refl, sym, true, true≢false, ℕ, ◌<◌, ◌∙◌, ◌≡◌, ◌≤◌}, lemmas.Bool.ltb-true}
 use Rattle.std.specs.Prelude.{Err, Ok, Some, nat_lt, not, ◌&&◌, ◌∷◌}
-use Rattle.compounds.specs.{write_access.Phases.{leaves_on, then_gives_back, then_wants}, declared.write_access.phases.WritePhase.WritePhase}
+use Rattle.composite_ops.specs.{write_access.Phases.{leaves_on, then_gives_back, then_wants}, declared.write_access.phases.WritePhase.WritePhase}
 
 -- what fits after an event at level 1, with the mount to come
 takes_fits : (c : Config) (t : ℕ) (held : Holdings) (m : ℕ) (r : DownRead) (found : ℕ) →
@@ -89,7 +89,7 @@ write_phase_runs c lim w good t lt hook (WritePhase.Ends p) e i one three =
     write_runs c w good t lt hook (WritePhase.Ends p) e (Next.Done (Ok Reply.Unit)) refl i
     (λ g at. (end_phase c (leaves_on p)).runs lim (first_world c w good t lt hook (WritePhase.Ends p) e) g t lt hook at i one three)
 
-takes_phase : (c : Config) (m : ℕ) (r : DownRead) → PhaseKeeps c (Phase.Writes (WritePhase.Takes m r))
+takes_phase : (c : Config) (m : ℕ) (r : DownRead) → PhaseLaws c (Phase.Writes (WritePhase.Takes m r))
 takes_phase c m r = record {
   step = λ lim w good t lt hook e. write_keeps c lim w good t lt hook (WritePhase.Takes m r) e;
   runs = λ lim w good t lt hook e i one three. write_phase_runs c lim w good t lt hook (WritePhase.Takes m r) e i one three;
@@ -114,7 +114,7 @@ takes_phase c m r = record {
       (read_waits c w earlier t r r.step (found_at w.words (Phase.DownReads r) hook) cause);
 }
 
-wants_phase : (c : Config) (x : Want) → PhaseKeeps c (Phase.Writes (WritePhase.Wants x))
+wants_phase : (c : Config) (x : Want) → PhaseLaws c (Phase.Writes (WritePhase.Wants x))
 wants_phase c x = record {
   step = λ lim w good t lt hook e. write_keeps c lim w good t lt hook (WritePhase.Wants x) e;
   runs = λ lim w good t lt hook e i one three. write_phase_runs c lim w good t lt hook (WritePhase.Wants x) e i one three;
@@ -138,7 +138,7 @@ wants_phase c x = record {
       (want_waits c w earlier good t lt x x.step f.0.0 (ap (role_of x.mount) e ∙ role_on x.mount _) cause);
 }
 
-gives_back_phase : (c : Config) (m p : ℕ) (refusal : GateError) → PhaseKeeps c (Phase.Writes (WritePhase.GivesBack m p refusal))
+gives_back_phase : (c : Config) (m p : ℕ) (refusal : GateError) → PhaseLaws c (Phase.Writes (WritePhase.GivesBack m p refusal))
 gives_back_phase c m p refusal = record {
   step = λ lim w good t lt hook e. write_keeps c lim w good t lt hook (WritePhase.GivesBack m p refusal) e;
   runs = λ lim w good t lt hook e i one three. write_phase_runs c lim w good t lt hook (WritePhase.GivesBack m p refusal) e i one three;
@@ -153,7 +153,7 @@ gives_back_phase c m p refusal = record {
   reasons = λ lim w earlier good t lt hook e cause. cause;
 }
 
-drops_phase : (c : Config) (m p : ℕ) → PhaseKeeps c (Phase.Writes (WritePhase.Drops m p))
+drops_phase : (c : Config) (m p : ℕ) → PhaseLaws c (Phase.Writes (WritePhase.Drops m p))
 drops_phase c m p = record {
   step = λ lim w good t lt hook e. write_keeps c lim w good t lt hook (WritePhase.Drops m p) e;
   runs = λ lim w good t lt hook e i one three. write_phase_runs c lim w good t lt hook (WritePhase.Drops m p) e i one three;
@@ -168,7 +168,7 @@ drops_phase c m p = record {
   reasons = λ lim w earlier good t lt hook e cause. tt;
 }
 
-ends_phase : (c : Config) (p : ℕ) → PhaseKeeps c (Phase.Writes (WritePhase.Ends p))
+ends_phase : (c : Config) (p : ℕ) → PhaseLaws c (Phase.Writes (WritePhase.Ends p))
 ends_phase c p = record {
   step = λ lim w good t lt hook e. write_keeps c lim w good t lt hook (WritePhase.Ends p) e;
   runs = λ lim w good t lt hook e i one three. write_phase_runs c lim w good t lt hook (WritePhase.Ends p) e i one three;
@@ -183,7 +183,7 @@ ends_phase c p = record {
   reasons = λ lim w earlier good t lt hook e cause. tt;
 }
 
-pub write_phase : (c : Config) (x : WritePhase) → PhaseKeeps c (Phase.Writes x)
+pub write_phase : (c : Config) (x : WritePhase) → PhaseLaws c (Phase.Writes x)
 write_phase c (WritePhase.Takes m r) = takes_phase c m r
 write_phase c (WritePhase.Wants x) = wants_phase c x
 write_phase c (WritePhase.GivesBack m p refusal) = gives_back_phase c m p refusal
@@ -200,7 +200,7 @@ level_restored levels free = update_twice levels 1 true false ∙ (ap (update le
 in_mount : (c : Config) (m p : ℕ) → (nat_lt m c.mounts && nat_lt p c.processors) ≡ true → (m < c.mounts) × (p < c.processors)
 in_mount c m p there = grind arith
 
-pub want_write_op : (c : Config) (m p : ℕ) → OpKeeps c (Op.WantWrite m p)
+pub want_write_op : (c : Config) (m p : ℕ) → OpLaws c (Op.WantWrite m p)
 want_write_op c m p = record {
   fits = λ t held there order room.
       let at : (m < c.mounts) × (p < c.processors) = in_mount c m p there in
@@ -219,7 +219,7 @@ want_write_op c m p = record {
   most_small = λ lim. tt;
 }
 
-pub drop_write_op : (c : Config) (m p : ℕ) → OpKeeps c (Op.DropWrite m p)
+pub drop_write_op : (c : Config) (m p : ℕ) → OpLaws c (Op.DropWrite m p)
 drop_write_op c m p = record {
   fits = λ t held there order room.
       let at : (m < c.mounts) × (p < c.processors) = in_mount c m p there in

@@ -4,11 +4,11 @@ use Rattle.access_model.specs.{Replies.map_next, declared.{actions.{Action.Actio
 use Rattle.cpu_words.specs.{Hooks.HookAnswer, Touches.{event_of, found_by}}
 use Rattle.mount_counts.specs.{Phases.{want_next, want_after}, declared.phases.{Want.Want, WantStep.WantStep}}
 use Rattle.percpu_rwsem.specs.{Readers.{down_read_next, down_read_after}, declared.readers.{DownRead.DownRead, DownReadStep.DownReadStep}}
-use Rattle.compounds.specs.{write_access.Phases.{then_wants, then_gives_back, next as write_next}, declared.write_access.phases.WritePhase.WritePhase}
-use Rattle.gate_world.specs.{Courses.{MayHold, MayFind}, Traces.IsHonest, Views.{with_hook, actions_after}, Work.next_of}
+use Rattle.composite_ops.specs.{write_access.Phases.{then_wants, then_gives_back, next as write_next}, declared.write_access.phases.WritePhase.WritePhase}
+use Rattle.gate_world.specs.{traces.TraceStates.{WordIsValid, ReadIsValid}, traces.Traces.IsHonest, Views.{with_hook, actions_after}, Work.next_of}
 use Rattle.gate_world.specs.declared.{config.Config.Config, operations.Op.Op, views.Traced.Traced, work.Phase.Phase}
 use Rattle.gate_schedules.proofs.operations.{readers.Trace.{read_at, ReadSays, ReadNext, read_event}, want.Trace.{want_at, WantSays, WantNext, want_event}}
-use Rattle.gate_schedules.proofs.traces.Says.{Says, SaysAfter, Kept, event_at, KeptWell}
+use Rattle.gate_schedules.proofs.traces.TraceInvariant.{InvariantAfter, InvariantAfterStep, IsInductive, event_at, IsInductiveGivenReads}
 
 -- what stands of the actions while the mount is wanted
 abbrev level_taken : List Action
@@ -31,7 +31,7 @@ WriteAt c m p t trace phase added = (x : WritePhase) × (phase ≡ Phase.Writes 
 module _ (c : Config) (m p t : ℕ) (e : Traced) (earlier : List Traced) (added : List Action) where
   -- what the trace says after an event at level 1
   taken_says : (n : Next DownRead) → ReadNext 0 1 p t true (e ∷ earlier) added n →
-      Says (WriteAt c m p t) c (Op.WantWrite m p) (e ∷ earlier) (map_next Phase.Writes (then_wants m p n)) added
+      InvariantAfter (WriteAt c m p t) c (Op.WantWrite m p) (e ∷ earlier) (map_next Phase.Writes (then_wants m p n)) added
   taken_says (Next.Go r) h = (WritePhase.Takes m r, refl, (refl, h))
   taken_says (Next.Wait r) h = ((WritePhase.Takes m r, refl, (refl, h.0)), inl h.2)
   taken_says (Next.Done (Ok reply)) h =
@@ -41,16 +41,16 @@ module _ (c : Config) (m p t : ℕ) (e : Traced) (earlier : List Traced) (added 
 
   -- what the trace says after an event at the mount
   wanted_says : (below : List Traced) (n : Next Want) → WantNext c m p true level_taken below (e ∷ earlier) added n →
-      Says (WriteAt c m p t) c (Op.WantWrite m p) (e ∷ earlier) (map_next Phase.Writes (then_gives_back m p n)) added
+      InvariantAfter (WriteAt c m p t) c (Op.WantWrite m p) (e ∷ earlier) (map_next Phase.Writes (then_gives_back m p n)) added
   wanted_says below n h = grind arith
 
 module _ (c : Config) (m p t : ℕ) (value : ℕ) (hook : HookAnswer) (earlier : List Traced) (added : List Action) where
   -- what the trace says after the event of a phase
   abbrev After : WritePhase → Type 0
-  After x = SaysAfter (WriteAt c m p t) c (Op.WantWrite m p) (Phase.Writes x) value hook earlier added
+  After x = InvariantAfterStep (WriteAt c m p t) c (Op.WantWrite m p) (Phase.Writes x) value hook earlier added
 
   -- an event at level 1
-  takes_event : (s : DownReadStep) → MayHold (down_read_next (read_at 1 p t true s) s).0 value → ReadSays 0 1 true s earlier added →
+  takes_event : (s : DownReadStep) → WordIsValid (down_read_next (read_at 1 p t true s) s).0 value → ReadSays 0 1 true s earlier added →
       After (WritePhase.Takes m (read_at 1 p t true s))
   takes_event s may h =
       let r : DownRead = read_at 1 p t true s in
@@ -75,21 +75,21 @@ module _ (c : Config) (m p t : ℕ) (value : ℕ) (hook : HookAnswer) (earlier :
   cause_stays n q GateError.ReadOnly h = h
   cause_stays n q refusal h = h
 
-  write_event : (x : WritePhase) → MayHold (write_next x).0 value → WriteSays c m p t x earlier added → After x
+  write_event : (x : WritePhase) → WordIsValid (write_next x).0 value → WriteSays c m p t x earlier added → After x
   write_event (WritePhase.Takes n r) may h =
       subst (λ y. After (WritePhase.Takes y r)) (sym h.0)
-      (subst (λ (y : DownRead). MayHold (down_read_next y y.step).0 value → After (WritePhase.Takes m y)) (sym h.1.1)
+      (subst (λ (y : DownRead). WordIsValid (down_read_next y y.step).0 value → After (WritePhase.Takes m y)) (sym h.1.1)
       (λ holds. takes_event h.1.0 holds h.1.2) may)
   write_event (WritePhase.Wants x) may h = subst (λ y. After (WritePhase.Wants y)) (sym h.2) (wants_event h.0 h.1 h.3)
   write_event (WritePhase.GivesBack n q refusal) may h = ((ap (λ (l : List Action). Action.Return (Gate.Level 1) ∷ l) h.0, cause_stays n q refusal h.1), tt)
   write_event (WritePhase.Drops n q) may h = absurd h
   write_event (WritePhase.Ends q) may h = absurd h
 
-pub write_kept : (c : Config) (t m p : ℕ) → KeptWell (WriteAt c m p t) c t (Op.WantWrite m p)
+pub write_kept : (c : Config) (t m p : ℕ) → IsInductiveGivenReads (WriteAt c m p t) c t (Op.WantWrite m p)
 write_kept c t m p = record {
   first = (WritePhase.Takes m (read_at 1 p t true DownReadStep.EntersSection), refl, (refl, (DownReadStep.EntersSection, refl, (refl, λ q. omega arith, tt))));
   more = λ phase value hook earlier added may here.
-      subst (λ (x : Phase). MayFind x (next_of x hook).0 value → SaysAfter (WriteAt c m p t) c (Op.WantWrite m p) x value hook earlier added)
+      subst (λ (x : Phase). ReadIsValid x (next_of x hook).0 value → InvariantAfterStep (WriteAt c m p t) c (Op.WantWrite m p) x value hook earlier added)
       (sym here.1) (λ holds. write_event c m p t value hook earlier added here.0 holds here.2) may;
   short = λ trace phase added here. tt;
 }
@@ -104,5 +104,5 @@ DropSays m p other trace added = ⊥
 abbrev pub DropAt : ℕ → ℕ → List Traced → Phase → List Action → Type 0
 DropAt m p trace phase added = (x : WritePhase) × (phase ≡ Phase.Writes x) × DropSays m p x trace added
 
-pub drop_kept : (c : Config) (t m p : ℕ) → Kept (DropAt m p) c t (Op.DropWrite m p)
+pub drop_kept : (c : Config) (t m p : ℕ) → IsInductive (DropAt m p) c t (Op.DropWrite m p)
 drop_kept c t m p = grind arith

@@ -1,7 +1,7 @@
 -- Each clause is a lemma on whole schedules.
 use Rattle.gate_schedules.proofs.schedules.{Deadlocks.{whole_progress, whole_replies, whole_settles, whole_kept}, LevelRuns.whole_levels}
-use Rattle.gate_schedules.proofs.schedules.Whole.{whole_run, whole_moves, whole_nobody, whole_causes, whole_waits, whole_sums, whole_idle, whole_rests}
-use Rattle.gate_schedules.proofs.schedules.Whole.{whole_freezes, whole_holders, whole_trees, whole_stays, whole_snapshots, whole_operations, whole_leads}
+use Rattle.gate_schedules.proofs.schedules.HeadlineProof.{whole_run, whole_moves, whole_nobody, whole_causes, whole_waits, whole_sums, whole_idle, whole_rests}
+use Rattle.gate_schedules.proofs.schedules.HeadlineProof.{whole_freezes, whole_holders, whole_trees, whole_stays, whole_snapshots, whole_operations, whole_leads}
 use Rattle.gate_schedules.proofs.schedules.every_schedule.Goals as goal
 
 pub returns-clause-moves : goal.returns-clause-moves

@@ -1,4 +1,4 @@
-use Rattle.gate_schedules.proofs.schedules.Whole.{whole_rule}
+use Rattle.gate_schedules.proofs.schedules.HeadlineProof.{whole_rule}
 use Rattle.gate_schedules.proofs.schedules.every_schedule_keeps_the_rule.Goals as goal
 
 pub returns : goal.returns

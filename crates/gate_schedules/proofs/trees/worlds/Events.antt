@@ -9,7 +9,7 @@ use Rattle.gate_schedules.specs.trees.Steps.{Notes}
 use Rattle.freeze_laws.specs.levels.Events.{SyncStep}
 use Rattle.freeze_laws.specs.stages.Roles.{Aside}
 use Rattle.gate_world.specs.{Configs.IsWithin, LevelRuns.level_in, Owners.is_owned, Roles.nodes_noted, Rules.{Files, Fitting, Holds, IsGood, Known, Owner}}
-use Rattle.gate_world.specs.{Rules.{Part, Stages, StepKeeps, SyncAt, Tree, owns, stage_role_of}, Snapshots.values_noted, Trees.tree_role_of}
+use Rattle.gate_world.specs.{Rules.{Part, Stages, StepKeeps, SyncAt, Tree, owns, stage_role_of}, traces.Snapshots.values_noted, Trees.tree_role_of}
 use Rattle.gate_world.specs.{Views.phase_after, Work.{next_of, after_of}, Worlds.{World, after_step, found_at, words_after}, declared.config.Config.Config}
 use Rattle.gate_world.specs.declared.{views.Traced.Traced, work.Phase.Phase}
 use Rattle.gate_schedules.proofs.{frames.{Frames.{left_alone, unwritten}, Known.{IsOwnersWork, known_after}}, mounts.Runs.apart_run}

@@ -4,16 +4,16 @@ use Rattle.finite_sums.specs.Sums.{total}
 use Rattle.freeze_levels.specs.declared.{freezes.FreezeStep.FreezeStep, thaws.ThawStep.ThawStep}
 use Rattle.cpu_words.proofs.gate_counts.LevelLaws.{none_frozen, none_passed}
 use Rattle.cpu_words.specs.gate_counts.{Gates.past, Levels.{LevelRole, Passed}}
-use Rattle.gate_schedules.proofs.{frames.Stages.{stages_in, stages_right}, levels.Stands.below}
+use Rattle.gate_schedules.proofs.{frames.Stages.{stages_in, stages_right}, levels.ClosedBelow.below}
 use Rattle.gate_world.specs.{Levels.{at_level, is_frozen_whole, level_role_of}, Operations.{is_writer, some_mount}, Roles.{count_beside, down_count_role}}
-use Rattle.gate_world.specs.Roles.{freeze_stage_role, freeze_stand, place_of, remount_stage_role, reopening_role, snapshot_stage_role, stand_count}
-use Rattle.gate_world.specs.{Roles.{thaw_stage_role, thaw_stand, tree_stage_role, up_count_role}, Rules.{AtLevel, AtMount, IsGood, MountHoldsIn, Owner, Stages}}
+use Rattle.gate_world.specs.Roles.{freeze_stage_role, freeze_position, place_of, remount_stage_role, reopening_role, snapshot_stage_role, position_count}
+use Rattle.gate_world.specs.{Roles.{thaw_stage_role, thaw_position, tree_stage_role, up_count_role}, Rules.{AtLevel, AtMount, IsGood, MountHoldsIn, Owner, Stages}}
 use Rattle.gate_world.specs.{Rules.{at_mount, stage_role_of, stage_roles}, Views.{held_at, held_of, holds_level}, Worlds.World}
 use Rattle.gate_world.specs.declared.{config.Config.Config, work.Phase.Phase}
 use Rattle.gated_tree.specs.declared.{phases.TreePhase.TreePhase, snapshots.SnapshotStep.SnapshotStep}
 use Rattle.mount_counts.specs.{Roles.{mount_as_gate, ro_bit}, declared.remounts.RemountStep.RemountStep}
 use Rattle.percpu_rwsem.specs.declared.writers.{DownWriteStep.DownWriteStep, UpWriteStep.UpWriteStep}
-use Rattle.freeze_laws.proofs.stages.Whole.{freeze_is_under_way}
+use Rattle.freeze_laws.proofs.stages.CitedLaws.{freeze_is_under_way}
 use Rattle.freeze_laws.specs.stages.Roles.{Before, Freezing, Place, passed_by}
 use Rattle.std.proofs.{Common.{Bool, ap, arith, false, inl, inr, refl, suc, sym, true, true≢false, zero, ℕ, ◌<◌, ◌≡◌, ◌≤◌, ◌⊎◌}, lemmas.Bool.cases_Bool}
 use Rattle.std.proofs.lemmas.Bool.{cases_lt, ltb-true, ne_eqb}
@@ -54,7 +54,7 @@ reopening_passed i level (UpWriteStep.Exits transition) low le = below_stand i l
 
 -- a level that a freeze has passed, it has passed at the level's counts
 freeze_passed : (nodes i : ℕ) (s : FreezeStep) → 1 ≤ i → i ≤ passed_by (freeze_stage_role nodes s) →
-    stand_count i (freeze_stand s) ≡ Passed
+    position_count i (freeze_position s) ≡ Passed
 freeze_passed nodes i (FreezeStep.Closes d) low le =
     below_stand i d.level (down_count_role d.step) (closing_passed i d.level d.step (nat_lt 1 d.level) low le)
 freeze_passed nodes i FreezeStep.LocksAgain low le = up_to_stand i 1 Passed le refl
@@ -65,7 +65,7 @@ freeze_passed nodes i FreezeStep.SetsComplete low le = up_to_stand i 3 Passed le
 freeze_passed nodes i (FreezeStep.Reopens u code) low le = reopening_passed i u.level u.step low le
 freeze_passed nodes i s low le = absurd (omega (arith, low, le))
 
-thaw_passed : (i : ℕ) (s : ThawStep) → 1 ≤ i → i ≤ passed_by (thaw_stage_role s) → stand_count i (thaw_stand s) ≡ Passed
+thaw_passed : (i : ℕ) (s : ThawStep) → 1 ≤ i → i ≤ passed_by (thaw_stage_role s) → position_count i (thaw_position s) ≡ Passed
 thaw_passed i (ThawStep.Reopens u) low le = reopening_passed i u.level u.step low le
 thaw_passed i s low le = absurd (omega (arith, low, le))
 

@@ -9,7 +9,7 @@ use Rattle.gate_schedules.proofs.trees.worlds.{Roles.{close_apart, freeze_apart}
 use Rattle.gate_world.specs.{Configs.model_limits, Fits.{Fits, HasFile, PhaseFits, TreeAccess, file_of}, Holdings.Holdings, Operations.is_faulter}
 use Rattle.gate_world.specs.{Operations.{is_writer, may_mark, some_mount}, Remounts.{loop_role, remount_role}}
 use Rattle.gate_world.specs.{Roles.{nodes_noted, remount_tree_role}, Rules.{AtMount, Files, Fitting, IsGood, Owner, at_mount, remounts}}
-use Rattle.gate_world.specs.{Rules.{role_of, stage_role_of}, Shown.shown, Snapshots.values_noted, Trees.{is_bare_at, tree_bounds, tree_of, tree_role_of}}
+use Rattle.gate_world.specs.{Rules.{role_of, stage_role_of}, Shown.shown, traces.Snapshots.values_noted, Trees.{is_bare_at, tree_bounds, tree_of, tree_role_of}}
 use Rattle.gate_world.specs.{Trees.tree_roles, Views.{has_open, held_at, held_of, holds_level}, Worlds.World, declared.config.Config.Config}
 use Rattle.gate_world.specs.declared.{views.Traced.Traced, work.Phase.Phase}
 use Rattle.node_words.specs.Nodes.{word_of}

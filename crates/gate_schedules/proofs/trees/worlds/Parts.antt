@@ -11,11 +11,11 @@ use Rattle.cpu_words.specs.{Hooks.HookAnswer, Touches.left, Words.{Words, put, r
 use Rattle.finite_sums.proofs.Totals.{each_updated, update_map, update_same}
 use Rattle.finite_sums.specs.Sums.{update}
 use Rattle.freeze_levels.specs.Holders.{holders_in}
-use Rattle.gate_world.specs.{Configs.{IsWithin, model_limits}, Fits.{Fits, HasFile, TreeAccess, file_of}, Found.is_load, Holdings.{Holdings, held_after}}
-use Rattle.gate_world.specs.{Alike.{Roles, no_roles, roles_of}, Levels.{level_added_after, level_added_by, level_taken_after, level_taken_by}}
+use Rattle.gate_world.specs.{Configs.{IsWithin, model_limits}, Fits.{Fits, HasFile, TreeAccess, file_of}, traces.Found.is_load, Holdings.{Holdings, held_after}}
+use Rattle.gate_world.specs.{SameRoles.{Roles, no_roles, roles_of}, Levels.{level_added_after, level_added_by, level_taken_after, level_taken_by}}
 use Rattle.gate_world.specs.{Roles.{nodes_noted}, Rules.{AtLevel, AtMount, Files, Fitting, Holding, Holds}}
 use Rattle.gate_world.specs.{Rules.{IsGood, Moves as ModelMoves, Part, SameView, SameWords, Sections, SyncAt, Tree, ViewFits}, Shown.{closing, shown}}
-use Rattle.gate_world.specs.{Snapshots.values_noted, Trees.{is_bare_at, is_sealed, tree_bounds, tree_role_of, tree_roles}, Views.{added_after, added_by}}
+use Rattle.gate_world.specs.{traces.Snapshots.values_noted, Trees.{is_bare_at, is_sealed, tree_bounds, tree_role_of, tree_roles}, Views.{added_after, added_by}}
 use Rattle.gate_world.specs.{Views.{has_open, held_at, held_of, holds_level, phase_after, taken_after, taken_by, view_after}, Work.{after_of, next_of}}
 use Rattle.gate_world.specs.{Worlds.{World, after_step, found_at, value_at, words_after}, declared.{config.Config.Config, views.View.View, work.Phase.Phase}}
 use Rattle.node_words.specs.Nodes.{node_shown}

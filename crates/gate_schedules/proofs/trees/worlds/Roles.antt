@@ -6,7 +6,7 @@ use Rattle.gated_tree.specs.Roles.{cleared, is_bare, words_read, frees}
 use Rattle.gated_tree.specs.declared.{phases.TreePhase.TreePhase, snapshots.SnapshotStep.SnapshotStep}
 use Rattle.mount_counts.specs.declared.remounts.RemountStep.{RemountStep}
 use Rattle.freeze_levels.specs.declared.freezes.FreezeStep.{FreezeStep}
-use Rattle.compounds.specs.declared.file_closes.phases.ClosePhase.{ClosePhase}
+use Rattle.composite_ops.specs.declared.file_closes.phases.ClosePhase.{ClosePhase}
 use Rattle.gate_world.specs.Roles.{close_tree_role, remount_tree_role, freeze_tree_role}
 
 abbrev pub is_plain : TreePhase → Bool

@@ -6,12 +6,12 @@ use Rattle.gate_steps.proofs.call_ends.go_on_in_line.Goals as goal
 
 pub returns-in-Wait-clause-led : goal.returns-in-Wait-clause-led
 returns-in-Wait-clause-led g c =
-    led_unasked (led_to (ap (λ n. map_next g.P.UnderWay.as_phase n) c.in-Wait.is)
-    (led_nowhere c.args.gates.now.config c.args.accesses.now (map_next g.P.UnderWay.as_phase c.args.next) c.args.seat.now.table_id
+    led_unasked (led_to (ap (λ n. map_next g.P.PendingOp.as_phase n) c.in-Wait.is)
+    (led_nowhere c.args.gates.now.config c.args.accesses.now (map_next g.P.PendingOp.as_phase c.args.next) c.args.seat.now.table_id
     c.args.seat.now.me.0)) refl
 
 pub returns-in-Done-clause-led : goal.returns-in-Done-clause-led
 returns-in-Done-clause-led g c =
-    led_unasked (led_to (ap (λ n. map_next g.P.UnderWay.as_phase n) c.in-Done.is)
-    (led_nowhere c.args.gates.now.config c.args.accesses.now (map_next g.P.UnderWay.as_phase c.args.next) c.args.seat.now.table_id
+    led_unasked (led_to (ap (λ n. map_next g.P.PendingOp.as_phase n) c.in-Done.is)
+    (led_nowhere c.args.gates.now.config c.args.accesses.now (map_next g.P.PendingOp.as_phase c.args.next) c.args.seat.now.table_id
     c.args.seat.now.me.0)) refl

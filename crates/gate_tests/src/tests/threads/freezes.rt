@@ -1,13 +1,13 @@
 //! Freezes and thaws beside readers and callbacks, of a file system that fails now and then.
 
-use super::super::rows::Part;
-use super::super::scene::{Manner, Scene};
-use super::super::teams::{Act, Case, JOINS, SPLITS};
+use super::super::rows::Repetition;
+use super::super::fixtures::{HookPolicy, Fixture};
+use super::super::teams::{Script, Case, JOINS, SPLITS};
 use super::FIVE;
 use std::sync::atomic::Ordering;
 use vfs_gates::{GateError, Op, WordName};
 
-impl Scene {
+impl Fixture {
     /// Whether no reader is inside level 1 or 2, nor inside level 3 where that matters, too.
     pub fn is_empty(&self, is_top_closed: bool) -> bool {
         let is_top_empty = self.inside_top.load(Ordering::SeqCst) == 0;
@@ -64,29 +64,29 @@ const CALLBACKS: &str = "3 callback 1: done\n\
 pub const CASE: Case = Case {
     name: "nobody is inside while it is frozen",
     config: FIVE,
-    manner: Manner::Freezes,
+    manner: HookPolicy::Freezes,
     acts: &[
         SPLITS,
         SPLITS,
         SPLITS,
         SPLITS,
-        Act::Beside(&[
-            Part {
+        Script::Beside(&[
+            Repetition {
                 lines: READS,
                 rounds: 5000,
                 files: 1,
             },
-            Part {
+            Repetition {
                 lines: OTHER_READS,
                 rounds: 5000,
                 files: 1,
             },
-            Part {
+            Repetition {
                 lines: CALLBACKS,
                 rounds: 1000,
                 files: 1,
             },
-            Part {
+            Repetition {
                 lines: FREEZES,
                 rounds: 200,
                 files: 1,

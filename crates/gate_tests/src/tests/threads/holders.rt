@@ -1,8 +1,8 @@
 //! Two holders of a freeze, each in a thread, beside a writer, and one who remounts, takes snapshots and writes.
 
-use super::super::rows::Part;
-use super::super::scene::{Manner, Scene};
-use super::super::teams::{Act, Case, JOINS, SPLITS};
+use super::super::rows::Repetition;
+use super::super::fixtures::{HookPolicy, Fixture};
+use super::super::teams::{Script, Case, JOINS, SPLITS};
 use super::FIVE;
 use std::sync::atomic::{AtomicU64, Ordering};
 use std::thread;
@@ -14,7 +14,7 @@ const OF_KERNEL: u8 = 4;
 /// The one that freezes as user space.
 const OF_USER: u8 = 1;
 
-impl Scene {
+impl Fixture {
     /// What a holder has seen in its round.
     fn seen_by(&self, task: u8) -> &AtomicU64 {
         if task == OF_KERNEL {
@@ -105,29 +105,29 @@ const REMOUNTS: &str = "3 remount ro: done Busy\n\
 pub const CASE: Case = Case {
     name: "no snapshot is of an open file system",
     config: Config { nodes: 6, ..FIVE },
-    manner: Manner::Holders,
+    manner: HookPolicy::Holders,
     acts: &[
         SPLITS,
         SPLITS,
         SPLITS,
         SPLITS,
-        Act::Beside(&[
-            Part {
+        Script::Beside(&[
+            Repetition {
                 lines: USER,
                 rounds: 100,
                 files: 5,
             },
-            Part {
+            Repetition {
                 lines: WRITES,
                 rounds: 1000,
                 files: 5,
             },
-            Part {
+            Repetition {
                 lines: REMOUNTS,
                 rounds: 500,
                 files: 5,
             },
-            Part {
+            Repetition {
                 lines: KERNEL,
                 rounds: 100,
                 files: 5,

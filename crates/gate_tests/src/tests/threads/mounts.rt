@@ -1,8 +1,8 @@
 //! Wants and drops of two tasks, and beside them a change that comes and goes.
 
-use super::super::rows::Part;
-use super::super::scene::Manner;
-use super::super::teams::{Act, Case, JOINS, SPLITS};
+use super::super::rows::Repetition;
+use super::super::fixtures::HookPolicy;
+use super::super::teams::{Script, Case, JOINS, SPLITS};
 use super::FIVE;
 use vfs_gates::WordName;
 
@@ -21,29 +21,29 @@ const OTHER_WANTS: &str = "2 want 0 1: done ReadOnly>9\n\
 pub const CASE: Case = Case {
     name: "a change keeps its own thread out",
     config: FIVE,
-    manner: Manner::Agrees,
+    manner: HookPolicy::Agrees,
     acts: &[
         SPLITS,
         SPLITS,
         SPLITS,
         SPLITS,
-        Act::Beside(&[
-            Part {
+        Script::Beside(&[
+            Repetition {
                 lines: WANTS,
                 rounds: 300,
                 files: 1,
             },
-            Part {
+            Repetition {
                 lines: OTHER_WANTS,
                 rounds: 300,
                 files: 1,
             },
-            Part {
+            Repetition {
                 lines: "",
                 rounds: 1,
                 files: 1,
             },
-            Part {
+            Repetition {
                 lines: CHANGES,
                 rounds: 50,
                 files: 1,

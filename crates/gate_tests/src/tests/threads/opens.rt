@@ -1,8 +1,8 @@
 //! Files that are removed while open, beside a remount and a freeze.
 
-use super::super::rows::Part;
-use super::super::scene::Manner;
-use super::super::teams::{Act, Case, JOINS, SPLITS};
+use super::super::rows::Repetition;
+use super::super::fixtures::HookPolicy;
+use super::super::teams::{Script, Case, JOINS, SPLITS};
 use super::FIVE;
 use vfs_gates::{Config, WordName};
 
@@ -48,29 +48,29 @@ const REMOUNTS: &str = "3 remount ro: done Busy*\n\
 pub const CASE: Case = Case {
     name: "no removed file is left open",
     config: Config { nodes: 6, ..FIVE },
-    manner: Manner::Opens,
+    manner: HookPolicy::Opens,
     acts: &[
         SPLITS,
         SPLITS,
         SPLITS,
         SPLITS,
-        Act::Beside(&[
-            Part {
+        Script::Beside(&[
+            Repetition {
                 lines: WRITES,
                 rounds: 500,
                 files: 5,
             },
-            Part {
+            Repetition {
                 lines: OTHER_WRITES,
                 rounds: 500,
                 files: 5,
             },
-            Part {
+            Repetition {
                 lines: REMOUNTS,
                 rounds: 30,
                 files: 5,
             },
-            Part {
+            Repetition {
                 lines: BACKUPS,
                 rounds: 50,
                 files: 5,

@@ -1,8 +1,8 @@
 //! Remounts of a file system that refuses now and then, beside writers.
 
-use super::super::rows::Part;
-use super::super::scene::Manner;
-use super::super::teams::{Act, Case, JOINS, SPLITS};
+use super::super::rows::Repetition;
+use super::super::fixtures::HookPolicy;
+use super::super::teams::{Script, Case, JOINS, SPLITS};
 use super::FIVE;
 use vfs_gates::{Config, WordName};
 
@@ -42,29 +42,29 @@ const OTHER_WANTS: &str = "2 want 0 1: done ReadOnly>1\n\
 pub const CASE: Case = Case {
     name: "a remount keeps its own thread out",
     config: Config { mounts: 3, ..FIVE },
-    manner: Manner::Remounts,
+    manner: HookPolicy::Remounts,
     acts: &[
         SPLITS,
         SPLITS,
         SPLITS,
         SPLITS,
-        Act::Beside(&[
-            Part {
+        Script::Beside(&[
+            Repetition {
                 lines: WANTS,
                 rounds: 300,
                 files: 1,
             },
-            Part {
+            Repetition {
                 lines: OTHER_WANTS,
                 rounds: 300,
                 files: 1,
             },
-            Part {
+            Repetition {
                 lines: "",
                 rounds: 1,
                 files: 1,
             },
-            Part {
+            Repetition {
                 lines: REMOUNTS,
                 rounds: 50,
                 files: 1,

@@ -1,9 +1,9 @@
 //! Snapshots of the tree beside writers.
 
-use super::super::rows::Deed::Calls;
-use super::super::rows::Part;
-use super::super::scene::{Manner, NODES};
-use super::super::teams::{Act, Case, JOINS, SPLITS};
+use super::super::rows::Check::Calls;
+use super::super::rows::Repetition;
+use super::super::fixtures::{HookPolicy, NODES};
+use super::super::teams::{Script, Case, JOINS, SPLITS};
 use super::FIVE;
 use vfs_gates::{Config, WordName};
 
@@ -52,30 +52,30 @@ pub const CASE: Case = Case {
         capacity: 20,
         ..FIVE
     },
-    manner: Manner::Trees,
+    manner: HookPolicy::Trees,
     acts: &[
         SPLITS,
         SPLITS,
         SPLITS,
         SPLITS,
-        Act::First(&[(OPENING, Calls)]),
-        Act::Beside(&[
-            Part {
+        Script::First(&[(OPENING, Calls)]),
+        Script::Beside(&[
+            Repetition {
                 lines: WRITES,
                 rounds: 500,
                 files: 11,
             },
-            Part {
+            Repetition {
                 lines: OTHER_WRITES,
                 rounds: 500,
                 files: 11,
             },
-            Part {
+            Repetition {
                 lines: "",
                 rounds: 1,
                 files: 11,
             },
-            Part {
+            Repetition {
                 lines: BACKUPS,
                 rounds: 50,
                 files: 11,

@@ -4,7 +4,7 @@ use Rattle.std.specs.Prelude.{None}
 use Rattle.gate_schedules.specs.Answers.{asked_by}
 use Rattle.gate_schedules.specs.declared.steps.Progress.TheVariants.{Going, Idle}
 use Rattle.gate_schedules.specs.declared.steps.Step.{Step}
-use Rattle.gate_steps.specs.call_events.Runs.{Told}
+use Rattle.gate_steps.specs.call_events.Runs.{StepTells}
 use Rattle.mntgate_c.proofs.Running.{Ran, one_more}
 use Rattle.mntgate_c.proofs.runs.run.Goals as goal
 
@@ -28,7 +28,7 @@ loop-more-preserved c =
     record {
       table = one.table ∙ now.table;
       config = one.config ∙ now.config;
-      told = λ op start goes. one.told op start (subst (λ p. Told op start p c.loop-more.task) going (now.told op start goes));
+      told = λ op start goes. one.told op start (subst (λ p. StepTells op start p c.loop-more.task) going (now.told op start goes));
       idle = λ none. absurd (let other : Idle ≡ Going = sym (now.idle none).1 ∙ going in let f : ⊥ = cc in f);
       ran = λ phase at.
           let had : Ran phase c.args.hook c.args.task.now c.loop-more._more c.loop-more.task Going =

@@ -144,7 +144,7 @@ pub returns-clause-rounds : goal.returns-clause-rounds
 returns-clause-rounds g c =
     let all : c.loop-freeze.freeze ≡ c.args.plan.freezes =
     omega (arith, c.freezes-freeze-end.ensures, c.loop-freeze-test.false, c.loop-freeze.auto.freeze-end) in
-    subst (λ n. Repeats (BackupRound (g.W.NotedWatch.sees c.args.watch.now)) n (c.args.task.now, c.args.notes.now, no_copies)
+    subst (λ n. Repeats (BackupRound (g.W.NotedObserver.sees c.args.watch.now)) n (c.args.task.now, c.args.notes.now, no_copies)
     (c.loop-freeze.task, c.loop-freeze.notes, c.loop-freeze.copies)) all c.loop-freeze.invariant.did
 
 pub returns-clause-from : goal.returns-clause-from
@@ -166,7 +166,7 @@ loop-freeze-preserved g c =
       frozen = ap (λ (x : Copies). x.frozen) counts ∙ ap (λ n. n + 1) before.frozen;
       snapshots = ap (λ (x : Copies). x.snapshots) counts ∙ ap (λ n. n + 1) before.snapshots;
       callbacks = omega (arith, before.callbacks, callbacks, c.in_ok-ran.ensures.few);
-      did = one_more (BackupRound (g.W.NotedWatch.sees c.args.watch.now)) c.loop-freeze.freeze
+      did = one_more (BackupRound (g.W.NotedObserver.sees c.args.watch.now)) c.loop-freeze.freeze
           (c.args.task.now, c.args.notes.now, no_copies) (c.loop-freeze.task, c.loop-freeze.notes, c.loop-freeze.copies)
           (c.call_back.new.task, c.frozen.new.notes, c.with_copy-copies.result) before.did
           (record {

@@ -13,5 +13,5 @@ invariant-loop-freeze g l = record {
   frozen : l.copies.frozen ≡ l.freeze;
   snapshots : l.copies.snapshots ≡ l.freeze;
   callbacks : l.copies.callbacks ≤ 3 * l.freeze;
-  did : Repeats (BackupRound (g.W.NotedWatch.sees l.fn.watch)) l.freeze (l.fn.task, l.fn.notes, no_copies) (l.task, l.notes, l.copies);
+  did : Repeats (BackupRound (g.W.NotedObserver.sees l.fn.watch)) l.freeze (l.fn.task, l.fn.notes, no_copies) (l.task, l.notes, l.copies);
 }

@@ -117,7 +117,7 @@ loop-round-preserved g c =
           (on_processor (c.args.writer + (c.loop-round.round + 1)) c.args.plan.processors c.processor.result c.args.gates.now.words.config
           (ap (λ (d : Config). d.processors) c.requires.planned) c.args.plan.within.processors_from c.processor.ensures)
           c.grow-grown.ensures.from.1 c.grow-grown.ensures.inside c.in_ok-drop_write.ensures).1,
-      one_more (WriterRound (g.W.NotedWatch.meets c.args.watch.now) c.args.plan.processors c.args.writer) c.loop-round.round
+      one_more (WriterRound (g.W.NotedObserver.meets c.args.watch.now) c.args.plan.processors c.args.writer) c.loop-round.round
           (c.args.task.now, c.args.notes.now, _) (c.loop-round.task, c.loop-round.notes, c.loop-round.writes)
           (last, c.holding.new.notes, c.with_round-writes.result) c.loop-round.invariant.2
           (record {

@@ -6,5 +6,5 @@ use Rattle.gate_runs.specs.run_parts.Rounds.{Repeats, WriterRound}
 use Rattle.gate_runs.proofs.run_parts.workers.write.Given as goal
 
 abbrev pub invariant-loop-round : goal.invariant-loop-round
-invariant-loop-round g l = IsFrom l.task l.fn.gates × Rests l.task × Repeats (WriterRound (g.W.NotedWatch.meets l.fn.watch) l.fn.plan.processors l.fn.writer)
+invariant-loop-round g l = IsFrom l.task l.fn.gates × Rests l.task × Repeats (WriterRound (g.W.NotedObserver.meets l.fn.watch) l.fn.plan.processors l.fn.writer)
     l.round (l.fn.task, l.fn.notes, no_writes) (l.task, l.notes, l.writes)

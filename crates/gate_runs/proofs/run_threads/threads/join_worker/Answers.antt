@@ -19,7 +19,7 @@ returns-clause-rests g c = (
 pub returns-clause-part : goal.returns-clause-part
 returns-clause-part g c =
     let home = c.args.worker.promise in
-    came_home (g.W.Watch.held home.watch.now) home.gates.now home.plan home.number c.join-other.result.task
+    came_home (g.W.RunObserver.held home.watch.now) home.gates.now home.plan home.number c.join-other.result.task
     c.args.task.now c.join.new.self c.join-other.result.met c.join-other.ensures c.in-Ok.ensures.joined.4
 
 pub returns-clause-refused : goal.returns-clause-refused
@@ -27,7 +27,7 @@ returns-clause-refused g c =
     let home = c.args.worker.promise in
     let met = c.join-other.result.met in
     subst (λ (d : Gates). IfErr met (RunRefused d.words.config home.plan.tasks)) c.requires.home
-    (home_refused (g.W.Watch.held home.watch.now) home.gates.now home.plan home.number c.join-other.result.task met c.join-other.ensures)
+    (home_refused (g.W.RunObserver.held home.watch.now) home.gates.now home.plan home.number c.join-other.result.task met c.join-other.ensures)
 
 pub unreachable-requires : goal.unreachable-requires
 unreachable-requires g c = c.in_default.ensures.refused.3 (c.requires.rests.0, c.requires.rests.1, c.join-other.ensures.1.0, c.join-other.ensures.1.1)

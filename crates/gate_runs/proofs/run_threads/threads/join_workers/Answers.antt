@@ -5,7 +5,7 @@ use Rattle.run_plans.specs.declared.plans.Plan.{Plan}
 use Rattle.gate_runs.specs.run_parts.Refusals.{RunRefused}
 use Rattle.gate_runs.specs.run_parts.Meetings.{was_held}
 use Rattle.gate_runs.specs.declared.run_threads.threads.Met.TheVariants.{Remounter, Writer}
-use Rattle.gate_runs.specs.run_threads.Homes.{Part}
+use Rattle.gate_runs.specs.run_threads.Homes.{TaskShare}
 use Rattle.gate_runs.specs.run_threads.Parts.{AllWrote, Among}
 use Rattle.gate_runs.proofs.run_threads.Homes.{joined_on, joined_remounter, joined_writer}
 use Rattle.gate_runs.proofs.run_threads.Staying.{each_popped}
@@ -36,14 +36,14 @@ loop-worker-preserved-in-Remounter g c =
     let plan = c.args._plan in
     let its = c.in_ok-its.field-0 in
     let ends = Among c.join_worker.new.task.items in
-    let held = g.W.Watch.held c.args._watch.now in
+    let held = g.W.RunObserver.held c.args._watch.now in
     let count = vec_len c.args.workers.now - 1 in
     let number : promise.number ≡ vec_len c.pop.new.self + 1 = popped.1.3 ∙ omega (arith, c.pop.new.self.ok.0) in
     let next : vec_len c.loop-worker.workers ≡ suc (vec_len c.pop.new.self) = omega (arith, c.in-Some.ensures.len) in
-    let part : Part ends held plan.processors plan.rounds promise.number (Remounter c.in-Remounter.its) =
-    subst (Part ends held plan.processors plan.rounds promise.number) c.in-Remounter.is
-    (subst (λ (p : Plan). Part ends held p.processors p.rounds promise.number its) popped.1.1
-    (subst (λ v. Part ends (g.W.Watch.held v) promise.plan.processors promise.plan.rounds promise.number its) popped.1.2 joined.part)) in
+    let part : TaskShare ends held plan.processors plan.rounds promise.number (Remounter c.in-Remounter.its) =
+    subst (TaskShare ends held plan.processors plan.rounds promise.number) c.in-Remounter.is
+    (subst (λ (p : Plan). TaskShare ends held p.processors p.rounds promise.number its) popped.1.1
+    (subst (λ v. TaskShare ends (g.W.RunObserver.held v) promise.plan.processors promise.plan.rounds promise.number its) popped.1.2 joined.part)) in
     record {
       from = joined.from;
       rests = joined.rests.0;
@@ -65,14 +65,14 @@ loop-worker-preserved g c =
     let plan = c.args._plan in
     let its = c.in_ok-its.field-0 in
     let ends = Among c.join_worker.new.task.items in
-    let held = g.W.Watch.held c.args._watch.now in
+    let held = g.W.RunObserver.held c.args._watch.now in
     let count = vec_len c.args.workers.now - 1 in
     let number : promise.number ≡ vec_len c.pop.new.self + 1 = popped.1.3 ∙ omega (arith, c.pop.new.self.ok.0) in
     let next : vec_len c.loop-worker.workers ≡ suc (vec_len c.pop.new.self) = omega (arith, c.in-Some.ensures.len) in
-    let part : Part ends held plan.processors plan.rounds promise.number (Writer c.in-Writer.its) =
-    subst (Part ends held plan.processors plan.rounds promise.number) c.in-Writer.is
-    (subst (λ (p : Plan). Part ends held p.processors p.rounds promise.number its) popped.1.1
-    (subst (λ v. Part ends (g.W.Watch.held v) promise.plan.processors promise.plan.rounds promise.number its) popped.1.2 joined.part)) in
+    let part : TaskShare ends held plan.processors plan.rounds promise.number (Writer c.in-Writer.its) =
+    subst (TaskShare ends held plan.processors plan.rounds promise.number) c.in-Writer.is
+    (subst (λ (p : Plan). TaskShare ends held p.processors p.rounds promise.number its) popped.1.1
+    (subst (λ v. TaskShare ends (g.W.RunObserver.held v) promise.plan.processors promise.plan.rounds promise.number its) popped.1.2 joined.part)) in
     record {
       from = joined.from;
       rests = joined.rests.0;
@@ -98,5 +98,5 @@ returns-clause-remounted g c = c.loop-worker.invariant.parts.remounted c.in_defa
 pub returns-clause-wrote : goal.returns-clause-wrote
 returns-clause-wrote g c =
     let none : vec_len c.loop-worker.workers ≡ 0 = c.in_default.ensures.cases.0 in
-    subst (λ n. AllWrote (Among c.loop-worker.task.items) (was_held (g.W.Watch.held c.args._watch.now)) c.args._plan.processors c.args._plan.rounds
+    subst (λ n. AllWrote (Among c.loop-worker.task.items) (was_held (g.W.RunObserver.held c.args._watch.now)) c.args._plan.processors c.args._plan.rounds
     (n - 1) (vec_len c.args.workers.now - 1) tt tt c.loop-worker.writes) none c.loop-worker.invariant.parts.wrote

@@ -15,7 +15,7 @@ invariant-loop-worker g l = record {
       (λ place w. (w.promise.gates.now ≡ l.fn.gates) × (w.promise.plan ≡ l.fn._plan) × (w.promise.watch.now ≡ l.fn._watch)
       × (w.promise.number ≡ place + 1)) 0 l.workers.items;
   others : (s : TaskState) → Among l.fn.task.items s → Among l.task.items s;
-  parts : Joined (Among l.task.items) (g.W.Watch.held l.fn._watch) l.fn._plan.processors l.fn._plan.rounds
+  parts : Joined (Among l.task.items) (g.W.RunObserver.held l.fn._watch) l.fn._plan.processors l.fn._plan.rounds
       (vec_len l.workers) (vec_len l.fn.workers - 1) l.remounts l.writes;
 }
 

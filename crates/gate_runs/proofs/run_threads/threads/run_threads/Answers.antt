@@ -65,7 +65,7 @@ pub join_workers-requires-clause-rests : goal.join_workers-requires-clause-rests
 join_workers-requires-clause-rests g c = c.in_ok-copies.ensures.rests
 
 pub join_workers-requires-clause-there : goal.join_workers-requires-clause-there
-join_workers-requires-clause-there g c = (backs_stay (was_frozen (g.W.Watch.seen c.args.watch.now)) c.args.plan.freezes
+join_workers-requires-clause-there g c = (backs_stay (was_frozen (g.W.RunObserver.seen c.args.watch.now)) c.args.plan.freezes
     (c.start_workers.new.task, tt, no_copies) (c.back_up.new.task, tt, c.in_ok-copies.copies) c.in_ok-copies.ensures.rounds).there
     c.in_ok-start_workers.ensures.gives.there
 
@@ -143,7 +143,7 @@ returns-clause-all g c =
     let started = c.in_ok-start_workers.ensures in
     let joined = c.in_ok-remounts.ensures in
     let did = c.in_ok-copies.ensures.rounds in
-    let stayed = backs_stay (was_frozen (g.W.Watch.seen c.args.watch.now)) c.args.plan.freezes (first, tt, no_copies)
+    let stayed = backs_stay (was_frozen (g.W.RunObserver.seen c.args.watch.now)) c.args.plan.freezes (first, tt, no_copies)
     (last, tt, c.in_ok-copies.copies) did in
     record {
       backup = record {

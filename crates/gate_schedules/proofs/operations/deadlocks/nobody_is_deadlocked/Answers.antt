@@ -1,4 +1,4 @@
-use Rattle.gate_schedules.proofs.operations.{Layers.phase_ends, deadlocks.{Plain.world_replies, Settles.world_settles, Whole.world_goes}}
+use Rattle.gate_schedules.proofs.operations.{AllOperations.phase_ends, deadlocks.{RepliesOrFrozen.world_replies, Settles.world_settles, BlockedOrProgress.world_goes}}
 use Rattle.gate_schedules.proofs.operations.deadlocks.nobody_is_deadlocked.Goals as goal
 
 pub returns-clause-progress : goal.returns-clause-progress

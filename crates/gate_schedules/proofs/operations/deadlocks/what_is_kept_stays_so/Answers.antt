@@ -1,4 +1,4 @@
-use Rattle.gate_schedules.proofs.operations.deadlocks.KeptStays.{kept_stays}
+use Rattle.gate_schedules.proofs.operations.deadlocks.BlockedIsStable.{kept_stays}
 use Rattle.gate_schedules.proofs.operations.deadlocks.what_is_kept_stays_so.Goals as goal
 
 pub returns : goal.returns

@@ -22,7 +22,7 @@ use Rattle.std_heap.proofs.Global.TheLaws as heap_laws
 use Rattle.std_heap.specs.contracts.GlobalAllocator.TheImpl.{ghosts}
 use Rattle.std.proofs.raw_atomic.Walks.{proved_at, leaves}
 use Rattle.mntgate_c.specs.contracts.members.Member as member
-use Rattle.mntgate_c.proofs.Unboxing.{pair, Row, pair_fits, taken_apart}
+use Rattle.mntgate_c.proofs.Unboxing.{pair, BoxedRow, pair_fits, taken_apart}
 use Rattle.mntgate_c.proofs.HandleSteps.{word, handle_in}
 use Rattle.mntgate_c.specs.contracts.handles.TaskHandle.of.{ended, clauses}
 use Rattle.mntgate_c.specs.contracts.handles.TaskHandle.of.Key.{name as #self}
@@ -30,7 +30,7 @@ use Rattle.mntgate_c.proofs.handles.TaskHandle.of.Statement.{statement}
 use Rattle.mntgate_c.proofs.handles.TaskHandle.of.Code as code
 
 abbrev Lr : RattleType
-Lr = Row member.the_row heap.the_row heap_laws.the_row_laws ghosts
+Lr = BoxedRow member.the_row heap.the_row heap_laws.the_row_laws ghosts
 
 pub of_spec : {M : Type 1} → statement M
 of_spec 𝓤 𝓛 𝓜 𝓡 wired =

@@ -33,7 +33,7 @@ use Rattle.std_alloc.proofs.BoxSteps.Steps.{box_out, box_in}
 use Rattle.std.proofs.raw_atomic.Walks.{proved_at, leaves}
 use Rattle.std_alloc.specs.contracts.boxed.Box.from_raw as from_raw
 use Rattle.std_alloc.proofs.boxed.Box.from_raw.Met.{met}
-use Rattle.mntgate_c.proofs.Unboxing.{pair, Row, pair_fits, taken_apart}
+use Rattle.mntgate_c.proofs.Unboxing.{pair, BoxedRow, pair_fits, taken_apart}
 use Rattle.mntgate_c.specs.contracts.unboxed.Unboxed.into_box.{ended, clauses}
 use Rattle.mntgate_c.specs.contracts.unboxed.Unboxed.into_box.Key.{name as #self}
 use Rattle.mntgate_c.proofs.unboxed.Unboxed.into_box.Statement.{statement}
@@ -46,8 +46,8 @@ into_box_spec 𝓤 𝓛 𝓜 𝓡 wired T A L LA g d dx dd allocator glue glued 
     let Box : box.Bx = record { row = T; laws = L; al = record { row = A; laws = LA; g = g; d = d; drops = dd } } in let B : RattleType = box.B Box in
     let given = bounded (a_type ∷ a_type ∷ []) (T, (A, tt)) (dcons d (dcons dx (dcons dd dnil))) in let fn = inst_fn given code.function in
     let here = ended T A g d dx dd in let c = clauses T A g d dx dd 𝓛 𝓜.mem 𝓡.returns in
-    let stays : Stays here.signature.params here.kept = (stay_dropped (plain (λ _. Row R Z LZ g)) no, tt) in
-    proved_at 𝓛 here stays c 𝓜 𝓡 (Goes-blank 𝓛 2 (plain (λ _. Row R Z LZ g)) no (λ κs x f. tt), tt) (#self given) fn (code.unfolded 𝓤 H 𝓜 𝓡 wired (T, (A, tt)) d dx dd) (λ z are.
+    let stays : Stays here.signature.params here.kept = (stay_dropped (plain (λ _. BoxedRow R Z LZ g)) no, tt) in
+    proved_at 𝓛 here stays c 𝓜 𝓡 (Goes-blank 𝓛 2 (plain (λ _. BoxedRow R Z LZ g)) no (λ κs x f. tt), tt) (#self given) fn (code.unfolded 𝓤 H 𝓜 𝓡 wired (T, (A, tt)) d dx dd) (λ z are.
     let κs = z.0.0 in let qs = z.0.1 in let v = z.0.3.0 in let a = v.alloc in
     let Post : Val → SProp 𝓤 = (walk_of 𝓛 here stays c).post z in let Run : List Val → SProp 𝓤 = λ ws. WpFn 𝓤 H 𝓣.C 𝓣.Λ fn ws Post in
     let tokens = ‵ (flft κs.0 qs.0) ⊛ ‵ (flft κs.1.0 qs.1.0) ⊛ ‵ ftrue in

@@ -4,7 +4,7 @@ use Rattle.std.specs.Slots.{slots_items}
 use Rattle.gate_world.specs.declared.{config.Config.Config, entries.Entry.Entry}
 use Rattle.gate_steps.specs.Seating.{SeatItems, times}
 use Rattle.gate_steps.specs.Tables.{IsClosing}
-use Rattle.gate_steps.specs.call_events.Ties.{AllRest}
+use Rattle.gate_steps.specs.call_events.GhostAgrees.{AllRest}
 use Rattle.vfs_gates.specs.Ended.{EndedWith}
 use Rattle.vfs_gates.proofs.Closing.{ended}
 use Rattle.vfs_gates.proofs.gates.Gates.close.Goals as goal

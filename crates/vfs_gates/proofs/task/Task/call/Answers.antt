@@ -10,49 +10,49 @@ use Rattle.vfs_gates.proofs.Waiting.{left_tells, waits_for_nobody}
 use Rattle.vfs_gates.specs.TaskStates.{own_number}
 use Rattle.gate_steps.proofs.call_events.Running.{was_refused, was_done, told_whole}
 use Rattle.vfs_gates.proofs.task.Task.call.Goals as goal
-use Rattle.vfs_gates.proofs.task.Task.call.Goals.{After-go_to_end}
+use Rattle.vfs_gates.proofs.task.Task.call.Goals.{After-run_to_reply}
 
 -- the call, and what its events have left
-abbrev call : After-go_to_end → Call
+abbrev call : After-run_to_reply → Call
 call c =
     call_with c.args.op c.self.inside c.args.gates.now.words.config c.args.self.now c.self.view_is c.requires.from.1 c.self.invariant.0
     c.admit.result c.admit.ensures c.in_default.not-Err (Trees c.args.first) c.requires.first
 
-abbrev left : (c : After-go_to_end) → Left (call c)
+abbrev left : (c : After-run_to_reply) → Left (call c)
 left c = record {
-  next = Done c.go_to_end.result;
-  accesses = c.go_to_end.new.accesses;
-  known = c.go_to_end.new.seat.me.0;
-  table = c.go_to_end.new.seat.table_id;
-  tied = c.go_to_end.ensures.tied;
+  next = Done c.run_to_reply.result;
+  accesses = c.run_to_reply.new.accesses;
+  known = c.run_to_reply.new.seat.me.0;
+  table = c.run_to_reply.new.seat.table_id;
+  tied = c.run_to_reply.ensures.tied;
   waits = 0;
-  went = let called = c.go_to_end.ensures.called (call c).op (call c).start (has_begun (call c)) in
+  went = let called = c.run_to_reply.ensures.called (call c).op (call c).start (has_begun (call c)) in
       (called, waits_for_nobody (call c).start.config (own_number (call c).start.items) (call c).op called.trace c.requires.tries called.waits);
 }
 
-pub go_to_end-requires-clause-tied : goal.go_to_end-requires-clause-tied
-go_to_end-requires-clause-tied c =
+pub run_to_reply-requires-clause-tied : goal.run_to_reply-requires-clause-tied
+run_to_reply-requires-clause-tied c =
     is_tied (call_with c.args.op c.self.inside c.args.gates.now.words.config c.args.self.now c.self.view_is c.requires.from.1 c.self.invariant.0
     c.admit.result c.admit.ensures c.in_default.not-Err (Trees c.args.first) c.requires.first)
 
-pub go_to_end-requires-clause-trying : goal.go_to_end-requires-clause-trying
-go_to_end-requires-clause-trying c =
+pub run_to_reply-requires-clause-trying : goal.run_to_reply-requires-clause-trying
+run_to_reply-requires-clause-trying c =
     let call = call_with c.args.op c.self.inside c.args.gates.now.words.config c.args.self.now c.self.view_is c.requires.from.1 c.self.invariant.0
     c.admit.result c.admit.ensures c.in_default.not-Err (Trees c.args.first) c.requires.first in
     record { op = call.op; start = call.start; goes = has_begun call; tries = c.requires.tries }
 
 pub invariant_of-self : goal.invariant_of-self
 invariant_of-self c = (
-  ties_done (call c) (left c) c.go_to_end.result refl,
-  c.go_to_end.ensures.slots ∙ c.self.invariant.1,
-  room_done (call c) _ c.requires.other c.self.invariant.2 (left c) c.go_to_end.result refl,
+  ties_done (call c) (left c) c.run_to_reply.result refl,
+  c.run_to_reply.ensures.slots ∙ c.self.invariant.1,
+  room_done (call c) _ c.requires.other c.self.invariant.2 (left c) c.run_to_reply.result refl,
   left_tells (call c) (left c) 0 refl,
 )
 
 pub returns : goal.returns
 returns c =
-    was_done the_reply (call c).op (call c).start _ c.go_to_end.result c.go_to_end.result (sym (told_whole c.go_to_end.result))
-    (call c).admitted (ended_at (call c) (left c) c.go_to_end.result refl)
+    was_done the_reply (call c).op (call c).start _ c.run_to_reply.result c.run_to_reply.result (sym (told_whole c.run_to_reply.result))
+    (call c).admitted (ended_at (call c) (left c) c.run_to_reply.result refl)
 
 pub returns-in-Err : goal.returns-in-Err
 returns-in-Err c =

@@ -1,8 +1,8 @@
 use Rattle.std.proofs.Common.{ap, sym, subst, ◌∙◌, None}
 use Rattle.gate_steps.specs.Seating.{SeatItems}
-use Rattle.gate_steps.specs.call_events.Ties.{Ties}
+use Rattle.gate_steps.specs.call_events.GhostAgrees.{GhostAgrees}
 use Rattle.vfs_gates.proofs.Parting.{first_ties}
-use Rattle.gate_steps.specs.call_events.Seat.{Seat}
+use Rattle.gate_steps.specs.call_events.TaskState.{TaskState}
 use Rattle.vfs_gates.specs.TaskStates.{own_view}
 use Rattle.vfs_gates.proofs.Rooming.{first_unseen, room_new}
 use Rattle.vfs_gates.proofs.Waiting.{first_tells}
@@ -12,9 +12,9 @@ pub invariant_of-result : goal.invariant_of-result
 invariant_of-result c = let within = c.requires.within in
     let m = first_ties c.args.config c.idle.result c.args.config.tasks c.others_of.result within c.idle.ensures within.some_task
     within.tasks c.others_of.ensures in (
-      subst (λ (l : SeatItems). Ties 0 c.args.config None c.idle.result c.others_of.result l) (sym (ap (λ z. z.0.items) c.requires.seat)) m,
+      subst (λ (l : SeatItems). GhostAgrees 0 c.args.config None c.idle.result c.others_of.result l) (sym (ap (λ z. z.0.items) c.requires.seat)) m,
       ap (λ z. z.1) c.requires.seat,
-      room_new c.args.config.nodes c.args.rooms None c.idle.result.phase c.args.seat.me.0.items c.requires.room.0 c.requires.room.1
-          (ap (λ z. (own_view z.0.items).snapshot) c.requires.seat ∙ first_unseen c.args.config) (ap (λ (k : Seat). k.phase) c.idle.ensures),
+      room_new c.args.config.nodes c.args.buffers None c.idle.result.phase c.args.seat.me.0.items c.requires.room.0 c.requires.room.1
+          (ap (λ z. (own_view z.0.items).snapshot) c.requires.seat ∙ first_unseen c.args.config) (ap (λ (k : TaskState). k.phase) c.idle.ensures),
       first_tells c.args.config c.args.seat.me.0.items (ap (λ z. z.0.items) c.requires.seat),
     )

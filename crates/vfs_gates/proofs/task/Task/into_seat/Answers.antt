@@ -1,7 +1,7 @@
 -- what a task that rests knows rests
 use Rattle.std.proofs.Common.{sym, ap, ◌∙◌, subst}
 use Rattle.vfs_gates.specs.TaskStates.{TaskState, HoldsNothing}
-use Rattle.gate_steps.specs.call_events.Ties.{AllRest}
+use Rattle.gate_steps.specs.call_events.GhostAgrees.{AllRest}
 use Rattle.vfs_gates.proofs.Parting.{all_rest}
 use Rattle.vfs_gates.proofs.task.Task.into_seat.Goals as goal
 

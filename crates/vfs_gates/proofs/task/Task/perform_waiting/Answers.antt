@@ -13,54 +13,54 @@ use Rattle.gate_steps.specs.call_events.Waited.{counted, waits_in}
 use Rattle.vfs_gates.proofs.Waiting.{left_tells}
 use Rattle.vfs_gates.specs.TaskStates.{own_number, task_state}
 use Rattle.vfs_gates.proofs.task.Task.perform_waiting.Goals as goal
-use Rattle.vfs_gates.proofs.task.Task.perform_waiting.Goals.{After-wait_to_end-answer}
+use Rattle.vfs_gates.proofs.task.Task.perform_waiting.Goals.{After-wait_for_reply-answer}
 
 -- the call, and what its events have left
-abbrev call : (g : _) → After-wait_to_end-answer g → Call
+abbrev call : (g : _) → After-wait_for_reply-answer g → Call
 call g c =
     call_with c.args.op c.self.inside c.args.gates.now.words.config c.args.self.now c.self.view_is c.requires.from.1 c.self.invariant.0
-    c.admit.result c.admit.ensures c.in_default.not-Err (g.P.UnderWay.as_phase c.args.first) c.requires.first
+    c.admit.result c.admit.ensures c.in_default.not-Err (g.P.PendingOp.as_phase c.args.first) c.requires.first
 
 -- done whole, it has asked the hooks that its events read
-asking : (g : _) (c : After-wait_to_end-answer g) →
+asking : (g : _) (c : After-wait_for_reply-answer g) →
     CalledAsking g.H.TimedHooks.answers (call g c).op (call g c).start c.args.hooks.now
-    (task_state c.wait_to_end-answer.new.seat.table_id c.args.gates.now.words.config None None c.wait_to_end-answer.new.seat.me.0) c.wait_to_end-answer.result.0
-    c.wait_to_end-answer.result.1 c.wait_to_end-answer.new.hooks
-asking g c = c.wait_to_end-answer.ensures.called (call g c).op (call g c).start c.args.hooks.now ([], has_asked_none (call g c), refl)
+    (task_state c.wait_for_reply-answer.new.seat.table_id c.args.gates.now.words.config None None c.wait_for_reply-answer.new.seat.me.0) c.wait_for_reply-answer.result.0
+    c.wait_for_reply-answer.result.1 c.wait_for_reply-answer.new.hooks
+asking g c = c.wait_for_reply-answer.ensures.called (call g c).op (call g c).start c.args.hooks.now ([], has_asked_none (call g c), refl)
 
-abbrev left : (g : _) (c : After-wait_to_end-answer g) → Left (call g c)
+abbrev left : (g : _) (c : After-wait_for_reply-answer g) → Left (call g c)
 left g c = record {
-  next = Done c.wait_to_end-answer.result.0;
-  accesses = c.wait_to_end-answer.new.accesses;
-  known = c.wait_to_end-answer.new.seat.me.0;
-  table = c.wait_to_end-answer.new.seat.table_id;
-  tied = c.wait_to_end-answer.ensures.tied;
+  next = Done c.wait_for_reply-answer.result.0;
+  accesses = c.wait_for_reply-answer.new.accesses;
+  known = c.wait_for_reply-answer.new.seat.me.0;
+  table = c.wait_for_reply-answer.new.seat.table_id;
+  tied = c.wait_for_reply-answer.ensures.tied;
   waits = waits_in (call g c).start.config (own_number (call g c).start.items) (call g c).op (asking g c).0.trace;
   went = ((asking g c).0, refl);
 }
 
-pub wait_to_end-answer-requires-clause-tied : goal.wait_to_end-answer-requires-clause-tied
-wait_to_end-answer-requires-clause-tied g c =
+pub wait_for_reply-answer-requires-clause-tied : goal.wait_for_reply-answer-requires-clause-tied
+wait_for_reply-answer-requires-clause-tied g c =
     is_tied (call_with c.args.op c.self.inside c.args.gates.now.words.config c.args.self.now c.self.view_is c.requires.from.1 c.self.invariant.0
-    c.admit.result c.admit.ensures c.in_default.not-Err (g.P.UnderWay.as_phase c.args.first) c.requires.first)
+    c.admit.result c.admit.ensures c.in_default.not-Err (g.P.PendingOp.as_phase c.args.first) c.requires.first)
 
 pub invariant_of-self : goal.invariant_of-self
 invariant_of-self g c =
-    let d = (goal.at.invariant_of-self g c).After-wait_to_end-answer in (
-      ties_done (call g d) (left g d) c.wait_to_end-answer.result.0 refl,
-      c.wait_to_end-answer.ensures.slots ∙ c.self.invariant.1,
-      room_done (call g d) _ c.requires.other c.self.invariant.2 (left g d) c.wait_to_end-answer.result.0 refl,
-      left_tells (call g d) (left g d) c.wait_to_end-answer.result.1 ((asking g d).2 ∙ ap (λ n. counted n) (sym (add-zero (left g d).waits))),
+    let d = (goal.at.invariant_of-self g c).After-wait_for_reply-answer in (
+      ties_done (call g d) (left g d) c.wait_for_reply-answer.result.0 refl,
+      c.wait_for_reply-answer.ensures.slots ∙ c.self.invariant.1,
+      room_done (call g d) _ c.requires.other c.self.invariant.2 (left g d) c.wait_for_reply-answer.result.0 refl,
+      left_tells (call g d) (left g d) c.wait_for_reply-answer.result.1 ((asking g d).2 ∙ ap (λ n. counted n) (sym (add-zero (left g d).waits))),
     )
 
 pub returns : goal.returns
 returns g c =
-    let d = (goal.at.returns g c).After-wait_to_end-answer in
-    was_done_asking g.H.TimedHooks.answers the_reply (call g d).op (call g d).start _ c.wait_to_end-answer.result.0 c.wait_to_end-answer.result.0
-    (sym (told_whole c.wait_to_end-answer.result.0)) (call g d).admitted c.args.hooks.now c.wait_to_end-answer.new.hooks
-    c.wait_to_end-answer.result.1
-    (ended_asking (call g d) (left g d) g.H.TimedHooks.answers c.args.hooks.now c.wait_to_end-answer.new.hooks c.wait_to_end-answer.result.0
-    c.wait_to_end-answer.result.1 refl (asking g d))
+    let d = (goal.at.returns g c).After-wait_for_reply-answer in
+    was_done_asking g.H.TimedHooks.answers the_reply (call g d).op (call g d).start _ c.wait_for_reply-answer.result.0 c.wait_for_reply-answer.result.0
+    (sym (told_whole c.wait_for_reply-answer.result.0)) (call g d).admitted c.args.hooks.now c.wait_for_reply-answer.new.hooks
+    c.wait_for_reply-answer.result.1
+    (ended_asking (call g d) (left g d) g.H.TimedHooks.answers c.args.hooks.now c.wait_for_reply-answer.new.hooks c.wait_for_reply-answer.result.0
+    c.wait_for_reply-answer.result.1 refl (asking g d))
 
 pub returns-in-Err : goal.returns-in-Err
 returns-in-Err g c =

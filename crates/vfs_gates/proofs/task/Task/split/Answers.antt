@@ -1,9 +1,9 @@
 use Rattle.std.proofs.Common.{◌≡◌, ◌≤◌, ℕ, refl, length, set, false, arith, sym, ap, ◌∙◌, subst, None}
 use Rattle.gate_world.specs.declared.views.View.{View}
 use Rattle.gate_steps.specs.Seating.{SeatItems, times}
-use Rattle.gate_steps.specs.call_events.Ties.{Ties}
+use Rattle.gate_steps.specs.call_events.GhostAgrees.{GhostAgrees}
 use Rattle.vfs_gates.proofs.Parting.{split_self, split_new, lowest_there, none_begun, none_there}
-use Rattle.gate_steps.specs.call_events.Seat.{Seat}
+use Rattle.gate_steps.specs.call_events.TaskState.{TaskState}
 use Rattle.vfs_gates.specs.TaskStates.{TaskState, task_state, own_number, own_view, spare_of, Empty}
 use Rattle.vfs_gates.specs.Parts.{SplitOf}
 use Rattle.vfs_gates.proofs.Rooming.{given_unseen, kept_view, room_new, room_same}
@@ -16,13 +16,13 @@ invariant_of-result c = let old = c.self.inside in let n : ℕ = c.in-Some.numbe
     let m = split_new old.number old.config old.begins old.kept old.spare old.seat.me.0.items n c.none.result c.idle.result c.self.invariant.0
     low.1 low.0 c.none.ensures.unset c.idle.ensures in
     let given = c.give-seat.ensures.given in
-    let ties = subst (λ (l : SeatItems). Ties n old.config None c.idle.result c.none.result l) (sym (ap (λ z. z.0.items) given)) m in (
+    let ties = subst (λ (l : SeatItems). GhostAgrees n old.config None c.idle.result c.none.result l) (sym (ap (λ z. z.0.items) given)) m in (
       ties,
       ap (λ z. z.1) given,
       room_new old.config.nodes _ None c.idle.result.phase c.give-seat.result.me.0.items c.in-Ok.ensures.0 c.in-Ok.ensures.1
-          (ap (λ z. (own_view z.0.items).snapshot) given ∙ given_unseen n old.seat.me.0.items) (ap (λ (k : Seat). k.phase) c.idle.ensures),
+          (ap (λ z. (own_view z.0.items).snapshot) given ∙ given_unseen n old.seat.me.0.items) (ap (λ (k : TaskState). k.phase) c.idle.ensures),
       given_tells n old.config c.idle.result c.none.result n old.seat.me.0.items c.give-seat.result.me.0.items (ap (λ z. z.0.items) given) ties
-          (ap (λ (k : Seat). k.phase) c.idle.ensures),
+          (ap (λ (k : TaskState). k.phase) c.idle.ensures),
     )
 
 pub invariant_of-self : goal.invariant_of-self
@@ -30,9 +30,9 @@ invariant_of-self c = let old = c.self.inside in let n : ℕ = c.in-Some.number 
     let long : length old.spare ≡ 64 = c.self.told in
     let m = split_self old.number old.config old.begins old.kept old.spare old.seat.me.0.items n c.self.invariant.0 (omega arith) in
     let kept = c.give-seat.ensures.kept in (
-      subst (λ (l : SeatItems). Ties old.number old.config old.begins old.kept (set old.spare n false) l) (sym (ap (λ z. z.0.items) kept)) m,
+      subst (λ (l : SeatItems). GhostAgrees old.number old.config old.begins old.kept (set old.spare n false) l) (sym (ap (λ z. z.0.items) kept)) m,
       ap (λ z. z.1) kept ∙ c.self.invariant.1,
-      room_same old.config.nodes old.rooms old.begins old.kept.phase old.seat.me.0.items c.give-seat.new.seat.me.0.items
+      room_same old.config.nodes old.buffers old.begins old.kept.phase old.seat.me.0.items c.give-seat.new.seat.me.0.items
           (ap (λ z. own_view z.0.items) kept ∙ kept_view n old.seat.me.0.items) c.self.invariant.2,
       tell_same old.config old.seat.me.0.items c.give-seat.new.seat.me.0.items old.waited
           (ap (λ z. own_number z.0.items) kept ∙ kept_number n old.seat.me.0.items)
@@ -58,7 +58,7 @@ returns-clause-made c =
       there = spares.0;
       lowest = spares.1;
       kept = λ i. task_state (given.table.0 i) old.config old.begins old.kept.phase (given.kept i).0;
-      given = λ i. task_state (given.table.1 i) old.config (sym begun i) ((ap (λ (k : Seat). k.phase) c.idle.ensures ∙ sym idle) i)
+      given = λ i. task_state (given.table.1 i) old.config (sym begun i) ((ap (λ (k : TaskState). k.phase) c.idle.ensures ∙ sym idle) i)
           (given.given i).0;
     })
 
@@ -72,7 +72,7 @@ returns-clause-rests c =
     let spares = lowest_there old.number old.config old.begins old.kept old.spare old.seat.me.0.items n ties low.1 low.2 in
     let given = given_empty old.number old.config old.begins old.kept old.spare old.seat.me.0.items n ties spares.0 in (
       (
-        ap (λ (k : Seat). k.phase) c.idle.ensures,
+        ap (λ (k : TaskState). k.phase) c.idle.ensures,
         subst (λ (l : SeatItems). Empty old.config (own_view l)) (sym (ap (λ z. z.0.items) c.give-seat.ensures.given)) given,
       ),
       (λ rests. (

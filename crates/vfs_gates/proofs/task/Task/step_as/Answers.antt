@@ -7,7 +7,7 @@ use Rattle.vfs_gates.specs.TaskStates.{TaskState, task_state}
 use Rattle.gate_steps.specs.call_events.Turns.{kept_at}
 use Rattle.gate_steps.proofs.call_events.Turning.{tied_at, stepped_there}
 use Rattle.access_model.specs.Replies.{map_next}
-use Rattle.vfs_gates.specs.Room.{RoomTells}
+use Rattle.vfs_gates.specs.Buffers.{BuffersMatch}
 use Rattle.vfs_gates.proofs.Rooming.{FollowsBy, stepped_room}
 use Rattle.vfs_gates.specs.Waits.{counted, is_wait}
 use Rattle.vfs_gates.proofs.Waiting.{noted_tells, since, since_begun, since_going}
@@ -17,7 +17,7 @@ use Rattle.vfs_gates.proofs.task.Task.step_as.Goals as goal
 pub do_event-action-requires-clause-tied : goal.do_event-action-requires-clause-tied
 do_event-action-requires-clause-tied g c =
     let t = c.self.inside in
-    let phase : Phase = g.P.UnderWay.as_phase c.args.under_way in
+    let phase : Phase = g.P.PendingOp.as_phase c.args.under_way in
     let at : t.kept.phase ≡ Some phase = ap (λ (s : TaskState). s.phase) c.self.view_is ∙ c.requires.at in
     let same : t.config ≡ c.args.gates.now.words.config = ap (λ (s : TaskState). s.config) c.self.view_is ∙ c.requires.from.1 in
     record {
@@ -30,10 +30,10 @@ do_event-action-requires-clause-tied g c =
 pub invariant_of-self : goal.invariant_of-self
 invariant_of-self g c =
     let t = c.self.inside in
-    let phase : Phase = g.P.UnderWay.as_phase c.args.under_way in
+    let phase : Phase = g.P.PendingOp.as_phase c.args.under_way in
     let at : t.kept.phase ≡ Some phase = ap (λ (s : TaskState). s.phase) c.self.view_is ∙ c.requires.at in
     let same : t.config ≡ c.args.gates.now.words.config = ap (λ (s : TaskState). s.config) c.self.view_is ∙ c.requires.from.1 in
-    let next : Next Phase = map_next g.P.UnderWay.as_phase c.do_event-action.result.next in
+    let next : Next Phase = map_next g.P.PendingOp.as_phase c.do_event-action.result.next in
     let stands = sym (ap (λ p. p.1) c.standing-progress.ensures) in
     let tied = c.do_event-action.ensures.tied t.number t.spare
     (tied_at t.number t.begins t.spare t.seat.me.0.items t.kept (Some phase) c.self.invariant.0 same at) in
@@ -46,16 +46,16 @@ invariant_of-self g c =
       tied_at t.number None t.spare c.do_event-action.new.seat.me.0.items (kept_at _ c.do_event-action.new.accesses) c.standing-progress.result.1 tied
           (sym same) stands,
       c.do_event-action.ensures.slots ∙ c.self.invariant.1,
-      subst (λ (o : Option Phase). RoomTells t.config.nodes c.follow.new.self None o c.do_event-action.new.seat.me.0.items)
+      subst (λ (o : Option Phase). BuffersMatch t.config.nodes c.follow.new.self None o c.do_event-action.new.seat.me.0.items)
           stands
-          (stepped_room t.config.nodes t.rooms c.follow.new.self t.begins phase c.args.hook t.seat.table_id
+          (stepped_room t.config.nodes t.buffers c.follow.new.self t.begins phase c.args.hook t.seat.table_id
           c.do_event-action.new.seat.table_id c.args.gates.now.words.config t.seat.me.0.items c.do_event-action.new.seat.me.0.items
           c.do_event-action.result.event c.do_event-action.result.action next t.number
           (kept_at (Some phase) t.kept.accesses) t.spare
           (tied_at t.number t.begins t.spare t.seat.me.0.items t.kept (Some phase) c.self.invariant.0 same at)
           c.do_event-action.ensures.stepped
-          (subst (λ (o : Option Phase). RoomTells t.config.nodes t.rooms t.begins o t.seat.me.0.items) at c.self.invariant.2)
-          (λ found. subst (λ (p : Phase). FollowsBy c.self.inside.rooms c.follow.new.self c.do_event-action.result.event p t.config.nodes t.begins c.args.hook found t.seat.me.0.items) c.phase.ensures
+          (subst (λ (o : Option Phase). BuffersMatch t.config.nodes t.buffers t.begins o t.seat.me.0.items) at c.self.invariant.2)
+          (λ found. subst (λ (p : Phase). FollowsBy c.self.inside.buffers c.follow.new.self c.do_event-action.result.event p t.config.nodes t.begins c.args.hook found t.seat.me.0.items) c.phase.ensures
           (c.follow.ensures t.config.nodes t.begins c.args.hook found t.seat.me.0.items))),
       noted_tells same t.begins phase c.args.hook t.seat.table_id c.do_event-action.new.seat.table_id t.seat.me.0.items
           c.do_event-action.new.seat.me.0.items c.do_event-action.result.event c.do_event-action.result.action next
@@ -67,10 +67,10 @@ invariant_of-self g c =
 pub returns-clause-event : goal.returns-clause-event
 returns-clause-event g c =
     let t = c.self.inside in
-    let phase : Phase = g.P.UnderWay.as_phase c.args.under_way in
+    let phase : Phase = g.P.PendingOp.as_phase c.args.under_way in
     let at : t.kept.phase ≡ Some phase = ap (λ (s : TaskState). s.phase) c.self.view_is ∙ c.requires.at in
     let same : t.config ≡ c.args.gates.now.words.config = ap (λ (s : TaskState). s.config) c.self.view_is ∙ c.requires.from.1 in
-    let next : Next Phase = map_next g.P.UnderWay.as_phase c.do_event-action.result.next in
+    let next : Next Phase = map_next g.P.PendingOp.as_phase c.do_event-action.result.next in
     let stands = sym (ap (λ p. p.1) c.standing-progress.ensures) in
     let told = sym (ap (λ p. p.0) c.standing-progress.ensures) in
     let before = (λ i. task_state t.seat.table_id (sym same i) t.begins (sym at i) t.seat.me.0) ∙ c.self.view_is in

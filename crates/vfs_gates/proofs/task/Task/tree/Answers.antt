@@ -10,7 +10,7 @@ use Rattle.vfs_gates.proofs.task.Task.tree.Goals as goal
 pub returns-clause-last : goal.returns-clause-last
 returns-clause-last c =
     let t = c.self.inside in
-    c.last.ensures ∙ (shows_last t.rooms (own_view t.seat.me.0.items).snapshot c.self.invariant.2.last ∙
+    c.last.ensures ∙ (shows_last t.buffers (own_view t.seat.me.0.items).snapshot c.self.invariant.2.last ∙
     ap (λ (s : TaskState). option_map (λ (n : Snapshot). n.loaded) (own_view s.items).snapshot) c.self.view_is)
 
 pub returns-clause-there : goal.returns-clause-there

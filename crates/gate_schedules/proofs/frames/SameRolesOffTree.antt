@@ -1,0 +1,175 @@
+-- An operation that stands at a phase of another one, and relies on something at the tree meanwhile, as a last close does inside level 3:
+-- the law of the other's event is the law of its event, but for the tree and the open files, which the event leaves alone.
+use Rattle.access_model.specs.declared.{actions.Action.Action, replies.Next.Next}
+use Rattle.std.proofs.Common.{arith}
+use Rattle.cpu_words.specs.{Hooks.HookAnswer, Touches.left, Words.{put, read}, declared.{events.Touch.Touch, names.WordName.WordName}}
+use Rattle.finite_sums.proofs.Totals.{each_updated, update_at}
+use Rattle.finite_sums.specs.Sums.{update}
+use Rattle.gate_schedules.proofs.frames.{Accesses.holdings_of_after, ByPhase.closing_as, Frames.{left_alone, same_words, shown_still}}
+use Rattle.gate_schedules.proofs.levels.Steps.{level_kept}
+use Rattle.gate_world.specs.{SameRoles.{SameRolesOffTree, Roles, at_phase, off_tree, rephased, roles_of}, Fits.Fits, Holdings.{held_after}, LevelRuns.level_in}
+use Rattle.gate_world.specs.{Levels.{level_added_by, level_taken_by}, Rules.{AtLevel, AtMount, Files, Fitting, Holding, Holds}}
+use Rattle.gate_world.specs.{Rules.{IsGood, Known, Moves, Owner, Part, SameView, Sections, Stages, SyncAt, Tree, ViewFits}, Shown.shown, Views.added_by}
+use Rattle.gate_world.specs.{Views.{held_of, phase_after, taken_by, view_with}, Worlds.World, declared.{config.Config.Config, views.View.View}}
+use Rattle.gate_world.specs.declared.work.Phase.{Phase}
+use Rattle.freeze_laws.specs.levels.Events.{SyncStep}
+use Rattle.std.proofs.{Common.{Bool, ap, false, refl, subst, sym, true, true≢false, ℕ, ◌<◌, ◌∙◌, ◌≡◌}}
+use Rattle.std.specs.Prelude.{Option, if◌then◌else◌}
+
+pub beside_of : {p q : Option Phase} {r : Roles} → p ≡ q → r ≡ off_tree (roles_of q) → r ≡ off_tree (roles_of p)
+beside_of e h = h ∙ sym (ap (λ p. off_tree (roles_of p)) e)
+
+-- the parts that read of a view no more than its accesses, its net additions and its roles but those at the tree
+abbrev is_beside : Part → Bool
+is_beside Fitting = false
+is_beside Known = false
+is_beside Tree = false
+is_beside Files = false
+is_beside part = true
+
+-- a view holds what the other holds, and has counted what the other has
+pub record SameCounts (old new : View) : Type 0 where
+  pub held_same : held_of new ≡ held_of old
+  pub added_same : added_by new.events ≡ added_by old.events
+  pub taken_same : taken_by new.events ≡ taken_by old.events
+  pub level_added_same : level_added_by new.events ≡ level_added_by old.events
+  pub level_taken_same : level_taken_by new.events ≡ level_taken_by old.events
+
+-- One law for what changes no word and of roles only those at the tree, be it a beginning, a load or a phase that stands for another.
+module _ (c : Config) (w : World) (t : ℕ) (lt : t < c.tasks) (v : View) (counts : SameCounts (w.views t) v)
+    (same : SameRolesOffTree (w.views t).phase v.phase) where
+  seen_beside : (part : Part) → is_beside part ≡ true → SameView (w.views t) v part
+  seen_beside Owner h = (λ j. (same j).owns, λ j. (same j).remounts)
+  seen_beside Stages h = λ j. (same j).stage
+  seen_beside Holding h = λ j. (same j).holder
+  seen_beside (AtMount m) h = λ j. record {
+    held = (counts.held_same j).mounts m;
+    added = counts.added_same j m;
+    taken = counts.taken_same j m;
+    role = (same j).mount m;
+  }
+  seen_beside (AtLevel i) h = λ j. record {
+    held = if (counts.held_same j).levels i then 1 else 0;
+    added = counts.level_added_same j i;
+    taken = counts.level_taken_same j i;
+    role = (same j).count i;
+  }
+  seen_beside (SyncAt i) h = λ j. (same j).sync i
+  seen_beside Sections h = λ j. (same j).inside
+  seen_beside part h = absurd (true≢false (sym h))
+
+  -- each part of the rule holds with it, where the four others do
+  pub beside_good : ViewFits c t v → IsGood c w → Holds c (record { words = w.words; views = update w.views t v }) Known →
+      Holds c (record { words = w.words; views = update w.views t v }) Tree →
+      Holds c (record { words = w.words; views = update w.views t v }) Files →
+      (part : Part) → Holds c (record { words = w.words; views = update w.views t v }) part
+  beside_good fits good known tree files Fitting = λ x lx.
+      each_updated (λ y (u : View). ViewFits c y u) w.views t v x fits (λ ne. good Fitting x lx)
+  beside_good fits good known tree files Known = known
+  beside_good fits good known tree files Tree = tree
+  beside_good fits good known tree files Files = files
+  beside_good fits good known tree files part =
+      left_alone c w t lt part w.words v (same_words w.words part) (seen_beside part refl) (good part)
+
+  -- the shown model is the same
+  pub beside_shown : shown c (record { words = w.words; views = update w.views t v }) ≡ shown c w
+  beside_shown =
+      shown_still c w t lt w.words v refl refl refl refl refl refl refl (closing_as _ _ (λ j. (same j).stage)) counts.held_same
+
+-- the same accesses and events count the same
+pub same_counts : (v : View) (q : Option Phase) → SameCounts v (at_phase v q)
+same_counts v q = assumption
+
+module _ (c : Config) (w : World) (t : ℕ) (lt : t < c.tasks) (q : Option Phase) (same : SameRolesOffTree (w.views t).phase q) where
+  -- what an owner knows, its trace tells
+  known_beside : Holds c w Known → Holds c (rephased w t q) Known
+  known_beside = left_alone c w t lt Known w.words (at_phase (w.views t) q) (same_words w.words Known) (λ j. (same j).owns, refl)
+
+  -- so with the other phase, where the tree and the open files do
+  pub rephased_beside : Fits c t (held_of (w.views t)) q → IsGood c w → Holds c (rephased w t q) Tree →
+      Holds c (rephased w t q) Files → IsGood c (rephased w t q)
+  rephased_beside fits good tree files =
+      beside_good c w t lt (at_phase (w.views t) q) (same_counts (w.views t) q) same fits good (known_beside (good Known)) tree files
+
+  pub shown_beside : shown c (rephased w t q) ≡ shown c w
+  shown_beside = beside_shown c w t lt (at_phase (w.views t) q) (same_counts (w.views t) q) same
+
+pub beside_level : (w : World) (t : ℕ) (q : Option Phase) → SameRolesOffTree (w.views t).phase q → (i : ℕ) →
+    level_in (rephased w t q) i ≡ level_in w i
+beside_level w t q same i =
+    level_kept w t i w.words (at_phase (w.views t) q) refl refl refl refl (λ j. (same j).inside) (λ j. (same j).sync i)
+
+pub update_twice : {A : Type 0} (f : ℕ → A) (t : ℕ) (u v : A) → update (update f t u) t v ≡ update f t v
+update_twice f t u v = grind arith
+
+-- the world after an event of this word and touch, after which this comes
+abbrev pub made : World → ℕ → WordName × Touch → HookAnswer → Next Phase → Option Action → World
+made w t n hook coming action = record {
+  words = put w.words n.0 (left n.1 (read w.words n.0));
+  views = update w.views t (view_with (w.views t) n (read w.words n.0) hook (coming, action));
+}
+
+-- an event of a task that stands at one phase, and of the same task at another phase that is beside it
+module _ (c : Config) (w : World) (t : ℕ) (lt : t < c.tasks) (p : Option Phase) (n : WordName × Touch) (hook : HookAnswer)
+    (a b : Next Phase) (action : Option Action) where
+  -- the event of the first, done again at the second's phases, is the event of the second
+  pub made_again : rephased (made (rephased w t p) t n hook a action) t (phase_after b) ≡ made w t n hook b action
+  made_again =
+      let v : View = at_phase (w.views t) p in
+      let u : View = view_with v n (read w.words n.0) hook (a, action) in
+      let there : update w.views t v t ≡ v = update_at w.views t v in
+      let once : update (update w.views t v) t (view_with (update w.views t v t) n (read w.words n.0) hook (a, action)) ≡ update w.views t u
+      =
+      ap (λ x. update (update w.views t v) t (view_with x n (read w.words n.0) hook (a, action))) there ∙ update_twice w.views t v u in
+      let again : update (update w.views t u) t (at_phase (update w.views t u t) (phase_after b)) ≡ update w.views t
+      (at_phase u (phase_after b)) =
+      ap (λ x. update (update w.views t u) t (at_phase x (phase_after b))) (update_at w.views t u) ∙
+      update_twice w.views t u (at_phase u (phase_after b)) in
+      λ j. record {
+        words = put w.words n.0 (left n.1 (read w.words n.0));
+        views = (ap (λ f. update f t (at_phase (f t) (phase_after b))) once ∙ again) j;
+      }
+
+  -- so what the law of the first says of the rule and of the shown model, it says of the second, where the tree and the open files hold with the
+  -- first phase before the event, and with the second's after it
+  pub made_keeps_beside : IsGood c w → SameRolesOffTree (w.views t).phase p → Fits c t (held_of (w.views t)) p →
+      Holds c (rephased w t p) Tree → Holds c (rephased w t p) Files →
+      (IsGood c (rephased w t p) → ((rephased w t p).views t).phase ≡ p →
+      IsGood c (made (rephased w t p) t n hook a action) ×
+      Moves c (shown c (rephased w t p)) t action (shown c (made (rephased w t p) t n hook a action))) →
+      SameRolesOffTree (phase_after a) (phase_after b) →
+      Fits c t (held_after action (held_of (w.views t))) (phase_after b) →
+      Holds c (made w t n hook b action) Tree → Holds c (made w t n hook b action) Files →
+      IsGood c (made w t n hook b action) × Moves c (shown c w) t action (shown c (made w t n hook b action))
+  made_keeps_beside good before fits tree files law after fits_after tree_then files_then =
+      let v : View = at_phase (w.views t) p in
+      let u : View = view_with v n (read w.words n.0) hook (a, action) in
+      let first : World = rephased w t p in
+      let there : World = made first t n hook a action in
+      let again : rephased there t (phase_after b) ≡ made w t n hook b action = made_again in
+      let l : IsGood c there × Moves c (shown c first) t action (shown c there) =
+      law (rephased_beside c w t lt p before fits good tree files) (ap (λ (x : View). x.phase) (update_at w.views t v)) in
+      let is : there.views t ≡ u = update_at first.views t _ ∙ ap (λ x. view_with x n (read w.words n.0) hook (a, action))
+      (update_at w.views t v) in
+      let same : SameRolesOffTree (there.views t).phase (phase_after b) = beside_of (ap (λ (x : View). x.phase) is) after in
+      let fit : Fits c t (held_of u) (phase_after b) =
+      subst (λ h. Fits c t h (phase_after b)) (sym (holdings_of_after action (w.views t).actions)) fits_after in
+      let fit_there : Fits c t (held_of (there.views t)) (phase_after b) =
+      subst (λ (x : View). Fits c t (held_of x) (phase_after b)) (sym is) fit in (
+        subst (λ x. IsGood c x) again (rephased_beside c there t lt (phase_after b) same fit_there l.0
+            (subst (λ x. Holds c x Tree) (sym again) tree_then) (subst (λ x. Holds c x Files) (sym again) files_then)),
+        subst (λ s. Moves c s t action (shown c (made w t n hook b action))) (shown_beside c w t lt p before)
+            (subst (λ s. Moves c (shown c first) t action s) (sym (shown_beside c there t lt (phase_after b) same) ∙
+            ap (shown c) again) l.1),
+      )
+
+  -- and where the event of the first is one of this level's, so is that of the second
+  pub made_runs_beside : (i : ℕ) → SameRolesOffTree (w.views t).phase p →
+      SyncStep c.tasks (level_in (rephased w t p) i) (level_in (made (rephased w t p) t n hook a action) i) →
+      SameRolesOffTree (phase_after a) (phase_after b) → SyncStep c.tasks (level_in w i) (level_in (made w t n hook b action) i)
+  made_runs_beside i before runs after =
+      let there : World = made (rephased w t p) t n hook a action in
+      let is : (there.views t).phase ≡ phase_after a = ap (λ (u : View). u.phase) (update_at (rephased w t p).views t _) in
+      subst (λ l. SyncStep c.tasks l (level_in (made w t n hook b action) i)) (beside_level w t p before i)
+      (subst (SyncStep c.tasks (level_in (rephased w t p) i))
+      (sym (beside_level there t (phase_after b) (beside_of is after) i) ∙ ap (λ y. level_in y i) made_again) runs)

@@ -1,0 +1,192 @@
+-- The next event of each task is on a word that holds what it may: the word of a node of the tree is a node's, and the sync word of a level
+-- is one.
+use Rattle.std.proofs.Common.{◌≡◌, ℕ, ◌<◌, ◌≤◌, ◌*◌, subst, ap, true, false, arith}
+use Rattle.std.specs.Prelude.{Some, is_some}
+use Rattle.mount_counts.specs.{Phases.{want_next, change_next}, Remounts.remount_next}
+use Rattle.mount_counts.specs.declared.phases.{WantStep.TheVariants.CountsUp}
+use Rattle.mount_counts.specs.declared.phases.{ChangeStep.{TheVariants.Locks, ChangeStep}, Want.Want, Change.Change, WantStep.WantStep}
+use Rattle.mount_counts.specs.declared.remounts.{Remount.Remount}
+use Rattle.mount_counts.specs.declared.remounts.RemountStep.{RemountStep}
+use Rattle.percpu_rwsem.specs.{Callbacks.callback_next, Readers.down_read_next, Transitions.transition_next, Writers.{down_write_next, up_write_next}}
+use Rattle.percpu_rwsem.specs.declared.{callbacks.{Callback.Callback, CallbackStep.CallbackStep}, readers.DownReadStep.TheVariants.LoadsSync}
+use Rattle.percpu_rwsem.specs.declared.{readers.{DownRead.DownRead, DownReadStep.DownReadStep}, transitions.Transition.TheVariants.{Loads, Exchanges}}
+use Rattle.percpu_rwsem.specs.declared.{transitions.Transition.Transition}
+use Rattle.percpu_rwsem.specs.declared.writers.{UpWriteStep.TheVariants.{ClearsBlock, Exits}, DownWrite.DownWrite, UpWrite.UpWrite}
+use Rattle.percpu_rwsem.specs.declared.writers.{DownWriteStep.DownWriteStep, UpWriteStep.UpWriteStep}
+use Rattle.composite_ops.specs.{write_access.Phases.next as write_next, declared.write_access.phases.WritePhase.{WritePhase}}
+use Rattle.freeze_levels.specs.{Freezes.freeze_next, Thaws.thaw_next, declared.freezes.FreezeStep.TheVariants.{Closes}}
+use Rattle.freeze_levels.specs.declared.freezes.{FreezeStep.{FreezeStep}, Freeze.Freeze}
+use Rattle.freeze_levels.specs.declared.thaws.{ThawStep.{ThawStep}, Thaw.Thaw}
+use Rattle.node_words.specs.Nodes.{unpacked, opens_in}
+use Rattle.gated_tree.specs.Calls.{CreateStepFits, SnapshotStepFits, TreePhaseFits}
+use Rattle.gated_tree.specs.Phases.{next as tree_next, remove_next}
+use Rattle.gated_tree.specs.{Phases.{grow_next, move_next, mark_next, create_next, snapshot_next, open_next}, Roles.RoleHolds}
+use Rattle.gated_tree.specs.declared.changes.{Create.Create, Remove.Remove, MoveTo.MoveTo}
+use Rattle.gated_tree.specs.declared.changes.{CreateStep.CreateStep, RemoveStep.RemoveStep, MoveStep.MoveStep}
+use Rattle.gated_tree.specs.declared.growth.{GrowStep.{GrowStep}, Grow.Grow}
+use Rattle.gated_tree.specs.declared.{marks.{MarkStep.{TheVariants.{LoadsFile as LoadsFileToMark, MarksFile}, MarkStep}, Mark.Mark}, opens.OpenFile.OpenFile}
+use Rattle.gated_tree.specs.declared.opens.OpenStep.{OpenStep, TheVariants.{LoadsFile as LoadsFileToOpen, OpensFile}}
+use Rattle.gated_tree.specs.declared.phases.TreePhase.{TheVariants.{OpenFile as OpensOne}, TreePhase}
+use Rattle.gated_tree.specs.declared.snapshots.{SnapshotStep.{TheVariants.LoadsNode as SLoadsNode, SnapshotStep}, Snapshot.Snapshot}
+use Rattle.gate_world.specs.{Configs.IsWithin, traces.TraceStates.{WordIsValid, ReadIsValid, CloseReadIsValid, OpenReadIsValid, EventsMayBe}, Fits.{FreezeFits, ThawFits, WriteFits}}
+use Rattle.gate_world.specs.{Fits.{PhaseFits, CloseFits, HasFile, file_of, Fits}, Holdings.Holdings, Remounts.RemountFits, Rules.{IsGood, Tree, Files}}
+use Rattle.gate_world.specs.{Rules.{Fitting, SyncAt, SyncHoldsIn}, Trees.{tree_bounds, tree_role_of}, Views.{held_of, has_open}, Work.next_of, Worlds.World}
+use Rattle.gate_world.specs.declared.{config.Config.Config}
+use Rattle.gate_world.specs.declared.work.Phase.{TheVariants.{Trees, Closes}, Phase}
+use Rattle.node_words.proofs.Packing.{packed_unpacks}
+use Rattle.cpu_words.specs.{Hooks.HookAnswer, Words.read, declared.names.WordName.{TheVariants.{Node, Sync}, WordName}}
+use Rattle.composite_ops.specs.{file_closes.Phases.next as close_next, declared.file_closes.phases.ClosePhase.{ClosePhase, TheVariants.{LoadsFile as CloseLoadsFile, LowersCount}}}
+use Rattle.composite_ops.specs.declared.file_closes.phases.ClosePhase.TheVariants.{Enters as EntersLevel, FreesNode as ClosesNode}
+use Rattle.finite_sums.specs.Sums.{update, total}
+use Rattle.finite_sums.proofs.Totals.{total_at, total_updated, total_bound, each_updated}
+use Rattle.access_model.specs.States.{one_if, most_tasks}
+use Rattle.gate_schedules.proofs.frames.Openers.{most_tasks_is, one_le}
+
+-- the word of a node is that of one of the tree's, and a sync word that of one of the levels
+abbrev WordExists : Config → WordName → Type 0
+WordExists c (Node n) = n < c.nodes
+WordExists c (Sync i) = (1 ≤ i) × (i ≤ 3)
+WordExists c word = Unit {0}
+
+module _ (c : Config) where
+  want_word : (x : Want) (s : WantStep) → WordExists c (want_next x s).0
+  want_word x CountsUp = tt
+  want_word x other = tt
+
+  change_word : (x : Change) (s : ChangeStep) → WordExists c (change_next x s).0
+  change_word x Locks = tt
+  change_word x other = tt
+
+  remount_word : (x : Remount) (s : RemountStep) (hook : HookAnswer) → RemountFits c s → WordExists c (remount_next x s hook).0
+  remount_word x s hook fits = grind arith
+
+  transition_word : (level : ℕ) (x : Transition) → 1 ≤ level → level ≤ 3 → WordExists c (transition_next level x).0
+  transition_word level Loads l1 l3 = (l1, l3)
+  transition_word level (Exchanges from to) l1 l3 = (l1, l3)
+
+  read_word : (x : DownRead) (s : DownReadStep) → 1 ≤ x.level → x.level ≤ 3 → WordExists c (down_read_next x s).0
+  read_word x LoadsSync l1 l3 = (l1, l3)
+  read_word x other l1 l3 = tt
+
+  callback_word : (x : Callback) (s : CallbackStep) → 1 ≤ x.level → x.level ≤ 3 → WordExists c (callback_next x s).0
+  callback_word x s l1 l3 = grind arith
+
+  down_write_word : (x : DownWrite) (s : DownWriteStep) → 1 ≤ x.level → x.level ≤ 3 → WordExists c (down_write_next x s).0
+  down_write_word x s l1 l3 = grind arith
+
+  up_write_word : (x : UpWrite) (s : UpWriteStep) → 1 ≤ x.level → x.level ≤ 3 → WordExists c (up_write_next x s).0
+  up_write_word x ClearsBlock l1 l3 = tt
+  up_write_word x (Exits transition) l1 l3 = transition_word x.level transition l1 l3
+
+  write_word : (t : ℕ) (held : Holdings) (x : WritePhase) → WriteFits c t held x → WordExists c (write_next x).0
+  write_word t held x fits = grind arith
+
+  freeze_word : (x : Freeze) (s : FreezeStep) (hook : HookAnswer) → FreezeFits c x.holder s → WordExists c (freeze_next x s hook).0
+  freeze_word x s hook fits = grind arith
+
+  thaw_word : (x : Thaw) (s : ThawStep) (hook : HookAnswer) → ThawFits x.holder s → WordExists c (thaw_next x s hook).0
+  thaw_word x s hook fits = grind arith
+
+  create_word : (x : Create) (s : CreateStep) → x.dir < c.nodes → CreateStepFits (tree_bounds c) s → WordExists c (create_next x s).0
+  create_word x s lt fits = grind arith
+
+  remove_word : (x : Remove) (s : RemoveStep) → x.file < c.nodes → WordExists c (remove_next x s).0
+  remove_word x s lt = grind arith
+
+  grow_word : (x : Grow) (s : GrowStep) → x.file < c.nodes → WordExists c (grow_next x s).0
+  grow_word x s lt = grind arith
+
+  move_word : (x : MoveTo) (s : MoveStep) → x.file < c.nodes → x.dir < c.nodes → WordExists c (move_next x s).0
+  move_word x s lt ld = grind arith
+
+  mark_word : (x : Mark) (s : MarkStep) → x.file < c.nodes → WordExists c (mark_next x s).0
+  mark_word x LoadsFileToMark lt = lt
+  mark_word x (MarksFile file) lt = lt
+
+  snapshot_word : (x : Snapshot) (s : SnapshotStep) → SnapshotStepFits (tree_bounds c) s → WordExists c (snapshot_next x s).0
+  snapshot_word x (SLoadsNode n) fits = fits
+  snapshot_word x other fits = tt
+
+  open_word : (x : OpenFile) (s : OpenStep) → x.file < c.nodes → WordExists c (open_next x s).0
+  open_word x LoadsFileToOpen lt = lt
+  open_word x (OpensFile file) lt = lt
+
+  close_word : (t : ℕ) (held : Holdings) (x : ClosePhase) → CloseFits c t held x → WordExists c (close_next x).0
+  close_word t held x fits = grind arith
+
+  tree_word : (t : ℕ) (x : TreePhase) (hook : HookAnswer) → TreePhaseFits (tree_bounds c) t x → WordExists c (tree_next x hook).0
+  tree_word t x hook fits = grind arith
+
+  -- the word of each phase's next event
+  phase_word : (t : ℕ) (held : Holdings) (phase : Phase) (hook : HookAnswer) → PhaseFits c t held phase →
+      WordExists c (next_of phase hook).0
+  phase_word t held phase hook fits = grind arith
+
+  -- the words of a good world hold what they may
+  held_well : (w : World) → IsGood c w → (word : WordName) → WordExists c word → WordIsValid word (read w.words word)
+  held_well w good (Node n) lt = ap is_some (packed_unpacks (w.words.node n) ((good Tree).words n lt).packed)
+  held_well w good (Sync i) there = let s : SyncHoldsIn c w i = good (SyncAt i) there.0 there.1 in ap is_some s.packed
+  held_well w good word lt = tt
+
+  module _ (within : IsWithin c) (w : World) (good : IsGood c w) (t : ℕ) (lt : t < c.tasks) where
+    -- a file that this task has open is open in its word, and one that it hasn't open is not open for all tasks
+    open_counted : (f : ℕ) → f < c.nodes → has_open (w.views t) f ≡ true → 1 ≤ opens_in (w.words.node f)
+    open_counted f lf own = omega (
+      arith,
+      (good Files).counted f lf,
+      total_at most_tasks t (λ x. one_if (has_open (w.views x) f)) (omega (arith, lt, within.tasks, most_tasks_is)),
+      ap one_if own,
+    )
+
+    room_counted : (f : ℕ) → f < c.nodes → has_open (w.views t) f ≡ false → opens_in (w.words.node f) < 64
+    room_counted f lf own =
+        let g : ℕ → ℕ = λ x. one_if (has_open (w.views x) f) in
+        let lm : t < most_tasks = omega (arith, lt, within.tasks, most_tasks_is) in
+        let more = total_updated (λ v. v) most_tasks t g 1 lm in
+        let few : total most_tasks (update g t 1) ≤ most_tasks * 1 =
+        total_bound most_tasks 1 (update g t 1) (λ x lx. each_updated (λ y v. v ≤ 1) g t 1 x (omega arith) (λ ne. one_le (has_open (w.views x) f))) in
+        omega (arith, (good Files).counted f lf, more, few, ap one_if own, most_tasks_is)
+
+    -- what the next event of a phase may find
+    node_packed : (f : ℕ) → f < c.nodes → is_some (unpacked (w.words.node f)) ≡ true
+    node_packed f lf = ap is_some (packed_unpacks (w.words.node f) ((good Tree).words f lf).packed)
+
+    close_finds : (x : ClosePhase) → (w.views t).phase ≡ Some (Closes x) → CloseFits c t (held_of (w.views t)) x →
+        CloseReadIsValid x (read w.words (close_next x).0)
+    close_finds (CloseLoadsFile x) is fits = (
+      node_packed x.file fits.0,
+      open_counted x.file fits.0 (subst (λ p. HasFile (has_open (w.views t)) (file_of p)) is ((good Files).own t lt)),
+    )
+    close_finds (LowersCount x node) is fits = node_packed x.file fits.0.0
+    close_finds (EntersLevel f node r) is fits =
+        held_well w good (down_read_next r r.step).0 (read_word r r.step fits.2.0 fits.2.1)
+    close_finds (ClosesNode f p node) is fits =
+        (subst (λ q. RoleHolds (tree_bounds c) w.words.used w.words.removed w.words.node w.words.kids (tree_role_of (w.views t).trace q)) is
+        ((good Tree).roles t lt)).1.word
+    close_finds other is fits = tt
+
+    open_finds : (x : OpenFile) (s : OpenStep) → has_open (w.views t) x.file ≡ false → x.file < c.nodes →
+        OpenReadIsValid s (read w.words (open_next x s).0)
+    open_finds x LoadsFileToOpen own lf = (node_packed x.file lf, room_counted x.file lf own)
+    open_finds x (OpensFile file) own lf = node_packed x.file lf
+
+    tree_finds : (x : TreePhase) (hook : HookAnswer) → (w.views t).phase ≡ Some (Trees x) →
+        PhaseFits c t (held_of (w.views t)) (Trees x) →
+        ReadIsValid (Trees x) (tree_next x hook).0 (read w.words (tree_next x hook).0)
+    tree_finds (OpensOne x) hook is fits =
+        open_finds x x.step (subst (λ p. HasFile (has_open (w.views t)) (file_of p)) is ((good Files).own t lt)) fits.0.0
+    tree_finds x hook is fits = held_well w good (tree_next x hook).0 (tree_word t x hook fits.0)
+
+    finds_well : (phase : Phase) (hook : HookAnswer) → (w.views t).phase ≡ Some phase →
+        PhaseFits c t (held_of (w.views t)) phase →
+        ReadIsValid phase (next_of phase hook).0 (read w.words (next_of phase hook).0)
+    finds_well (Closes x) hook is fits = close_finds x is fits
+    finds_well (Trees x) hook is fits = tree_finds x hook is fits
+    finds_well phase hook is fits =
+        held_well w good (next_of phase hook).0 (phase_word t (held_of (w.views t)) phase hook fits)
+
+  -- so each event is on such a word
+  pub events_may_be : IsWithin c → (w : World) → IsGood c w → EventsMayBe c w
+  events_may_be within w good t lt phase hook is =
+      finds_well within w good t lt phase hook is
+      (subst (Fits c t (held_of (w.views t))) is (good Fitting t lt))

@@ -1,0 +1,626 @@
+-- Where each operation under way is kept, no event of one of them is a reply, and all stay kept.
+use Rattle.gate_world.specs.Roles.{freeze_owns}
+use Rattle.access_model.specs.{Replies.map_next, declared.{actions.Action.{Action, TheVariants.Pass}, replies.Next.{Next, TheVariants.{Done, Go, Wait}}}}
+use Rattle.cpu_words.specs.{Hooks.HookAnswer, Touches.{found_by, left}, Words.{Words, put, read}, declared.events.Touch.TheVariants.Cas}
+use Rattle.cpu_words.specs.declared.names.WordName.TheVariants.{Node, Umount}
+use Rattle.composite_ops.specs.{file_closes.Phases.{after as close_after, enters, then_frees}, declared.file_closes.phases.ClosePhase.TheVariants.Enters as EntersLevel}
+use Rattle.composite_ops.specs.declared.file_closes.phases.{ClosePhase.TheVariants.LoadsFile as CloseLoadsFile, Closing.Closing}
+use Rattle.finite_sums.proofs.Totals.{each_updated, update_off}
+use Rattle.freeze_levels.specs.{Freezes.{after_closing, at_freeze, freeze_closes, level_closed}, Thaws.at_thaw, declared.freezes.Freeze.Freeze}
+use Rattle.freeze_levels.specs.declared.freezes.FreezeStep.{FreezeStep, TheVariants.{Cleans, Closes, LoadsStage, LoadsSuperblock, Locks as FreezeLocks}}
+use Rattle.freeze_levels.specs.declared.{freezes.FreezeStep.TheVariants.{LocksAgain, SetsFs, SetsPageFault, SetsWrite, Unlocks}, thaws.Thaw.Thaw}
+use Rattle.freeze_levels.specs.declared.thaws.ThawStep.{ThawStep, TheVariants.Locks as ThawLocks}
+use Rattle.gate_schedules.proofs.{frames.{Owners.owns_le, Words.load_same}, levels.Facts.blocked_slow}
+use Rattle.gate_schedules.proofs.operations.deadlocks.{RankDecreases.{after_event, happens_is, stands_after}, FreezeProgress.{next_same, not_none}}
+use Rattle.gate_schedules.proofs.operations.deadlocks.BlockedCloses.{StaysAtLevel, down_beside, down_blocks, down_nodes, down_stays}
+use Rattle.gate_schedules.proofs.operations.deadlocks.{BlockedStarts.{StaysKept, read_nodes, start_stays}, SectionExit.{StaysBeside, read_beside}, WhoCanStep.fits_at}
+use Rattle.gate_schedules.proofs.operations.{deadlocks.BlockedOrProgress.{first_finds, first_is, or_phase}, readers.Progress.read_blocks}
+use Rattle.gate_world.specs.{Fits.{FreezeFits, PhaseFits}, Levels.{is_frozen_whole, sync_role_of}, Roles.freeze_stage_role, Rules.{IsGood, Moves as MovesModel}}
+use Rattle.gate_world.specs.{Rules.{Owner, Stages, SyncAt, SyncHoldsIn, Tree, owns, stage_role_of}, Shown.shown, Views.held_of}
+use Rattle.gate_world.specs.{Views.{holds_level, phase_after, view_after}, Work.after_of, Worlds.{World, after_step, found_at, phase_action, value_at}}
+use Rattle.gate_world.specs.{Worlds.words_after, declared.{config.Config.Config, views.View.View, work.Phase.{Phase, TheVariants.Closes as FileCloses}}}
+use Rattle.gate_world.specs.declared.work.Phase.TheVariants.{DownReads, Freezes, Mounts, Remounts, Thaws, Trees, Writes}
+use Rattle.node_words.proofs.ClearedMarks.{IsCleared, clears_mark, without_mark}
+use Rattle.node_words.proofs.Packing.{packed_unpacks}
+use Rattle.node_words.specs.Nodes.{IsPacked, kind_in, node_of, opens_in, removed_in}
+use Rattle.node_words.specs.declared.marks.ClearMarks.{ClearMarks}
+use Rattle.gated_tree.specs.declared.{phases.TreePhase.TheVariants.Snapshot as Snapshots, snapshots.{Snapshot.Snapshot, SnapshotStep.SnapshotStep}}
+use Rattle.gated_tree.specs.declared.snapshots.SnapshotStep.TheVariants.{Locks as SnapshotLocks}
+use Rattle.mount_counts.specs.{Remounts.at_remount, declared.phases.{Change.Change, ChangeStep.{ChangeStep, TheVariants.Locks as ChangeLocks}}}
+use Rattle.mount_counts.specs.declared.{phases.MountPhase.TheVariants.Change as Changes, remounts.{Remount.Remount, RemountStep.RemountStep}}
+use Rattle.mount_counts.specs.declared.remounts.RemountStep.TheVariants.{Locks as RemountLocks}
+use Rattle.percpu_rwsem.specs.{Readers.{down_read_after, down_read_next, step_found}, Writers.down_write_after, declared.readers.DownRead.DownRead}
+use Rattle.percpu_rwsem.specs.declared.writers.DownWrite.{DownWrite}
+use Rattle.gate_schedules.specs.operations.Progress.{AllAreBlocked, ChangeIsBlocked, EventsMoveModel, FreezeIsBlocked, HasReply, IsAgreed, IsHeldIdle, HeldLevelAhead, IsBlockedAt}
+use Rattle.gate_schedules.specs.operations.Progress.{BlockedIfFreeze, BlockedIsStable, LockIsBlocked, RemountIsBlocked, SnapshotIsBlocked, StartIsBlocked, ThawIsBlocked, begins_freeze}
+use Rattle.gate_schedules.specs.operations.Progress.{is_admitted, is_first_lock, is_last_close, next_level}
+use Rattle.freeze_laws.specs.stages.Roles.{KnowsStage, bit}
+use Rattle.std.proofs.{Common.{Bool, ap, arith, false, inl, inr, refl, subst, sym, true, true≢false, ℕ, ◌<◌, ◌∙◌, ◌≡◌, ◌≤◌}, lemmas.Bool.and_parts}
+use Rattle.std.proofs.lemmas.Bool.{cases_Bool, eqb-true, ne_eqb, Decides.eqb_tells}
+use Rattle.std.specs.Prelude.{Err, Ok, Option, Some, if◌then◌else◌, nat_lt, ◌&&◌, ◌+◌, ◌==◌}
+use Rattle.composite_ops.specs.{write_access.Phases.then_wants, declared.write_access.phases.WritePhase.TheVariants.Takes}
+
+far_same : (w next : Words) (s : FreezeStep) → 2 ≤ next_level w s → next_level w s ≤ 3 → next_level next s ≡ next_level w s
+far_same w next s two three = grind arith
+
+-- nor does one that isn't at its first lock and doesn't own `umount`
+apart_same : (w next : Words) (s : FreezeStep) → freeze_owns s ≡ 0 → is_first_lock s ≡ false →
+    next_level next s ≡ next_level w s
+apart_same w next s none later = grind arith
+
+later_kept : (c : Config) (v : World) (s : FreezeStep) → is_first_lock s ≡ false → FreezeIsBlocked c v s → HeldLevelAhead c v s
+later_kept c v FreezeLocks later h = absurd (true≢false later)
+later_kept c v s later h = h
+
+kept_later : (c : Config) (v : World) (s : FreezeStep) → is_first_lock s ≡ false → HeldLevelAhead c v s → FreezeIsBlocked c v s
+kept_later c v FreezeLocks later h = absurd (true≢false later)
+kept_later c v s later h = h
+
+-- what an event of a task that is kept, from this phase to that one, leaves to others that are kept
+pub record LeavesKept (c : Config) (w next : World) (t : ℕ) (p q : Phase) : Type 0 where
+  pub here : (next.views t).phase ≡ Some q
+  -- closed levels stay closed, and last closes the last
+  pub blocks : (i : ℕ) → w.words.block i ≡ 1 → next.words.block i ≡ 1
+  pub last : (f : ℕ) → is_last_close (w.words.node f) ≡ true → is_last_close (next.words.node f) ≡ true
+  -- a freeze that has `umount` to its end goes on so
+  pub owner : BlockedIfFreeze c w (Some p) → owns (Some p) ≡ 1 → (owns (Some q) ≡ 1) × BlockedIfFreeze c next (Some q)
+  -- who doesn't own `umount` leaves the stage and the superblock's flag
+  pub stage : owns (Some p) ≡ 0 → (next.words.stage ≡ w.words.stage) × (next.words.sb ≡ w.words.sb)
+  -- and `umount` where a freeze at its first lock is kept there
+  pub free : w.words.umount ≡ 0 → w.words.stage ≡ 0 → begins_freeze (Some p) ≡ false →
+      (next.words.umount ≡ 0) × (begins_freeze (Some q) ≡ false)
+
+module _ (c : Config) (w : World) (good : IsGood c w) (t : ℕ) (lt : t < c.tasks) (p : Phase) (at : (w.views t).phase ≡ Some p)
+    (hook : HookAnswer) where
+  abbrev next : World
+  next = after_step w t p hook
+
+  beside : (y : ℕ) → (y ≡ t → ⊥) → next.views y ≡ w.views y
+  beside y ne = update_off w.views t (view_after (w.views t) p (value_at w.words p hook) hook) y ne
+
+  -- an idle task stays one, so a freeze stays kept by it
+  idle_stays : (i : ℕ) → IsHeldIdle c w i → IsHeldIdle c next i
+  idle_stays i z =
+      let ne : z.0 ≡ t → ⊥ = λ e. not_none p (sym at ∙ (sym (ap (λ y. (w.views y).phase) e) ∙ z.2)) in
+      let same : next.views z.0 ≡ w.views z.0 = beside z.0 ne in
+      (z.0, z.1, ap (λ (v : View). v.phase) same ∙ z.2, ap (λ (v : View). holds_level v i) same ∙ z.3)
+
+  kept_by : (s s' : FreezeStep) → next_level next.words s' ≤ next_level w.words s → HeldLevelAhead c w s → HeldLevelAhead c next s'
+  kept_by s s' le k = (k.0, omega (arith, le, k.1), k.2, idle_stays k.0 k.3)
+
+  -- two owners of `umount` are one task
+  one_owner : (y : ℕ) → y < c.tasks → owns (w.views y).phase ≡ 1 → owns (Some p) ≡ 1 → y ≡ t
+  one_owner y ly own mine =
+      omega (arith, (good Owner).locked y ly own, (good Owner).locked t lt (ap owns at ∙ mine))
+
+  module _ (q : Phase) (k : LeavesKept c w next t p q) where
+    -- who waits for `umount` waits for a freeze that is kept still
+    locks_stay : LockIsBlocked c w → LockIsBlocked c next
+    locks_stay l =
+        elim (eqb_tells l.0 t) [
+          | inl e ↦
+              let mine : (w.views l.0).phase ≡ Some p = ap (λ y. (w.views y).phase) e.1 ∙ at in
+              let goes : (owns (Some q) ≡ 1) × BlockedIfFreeze c next (Some q) =
+              k.owner (subst (BlockedIfFreeze c w) mine l.3) (sym (ap owns mine) ∙ l.2) in
+              (t, lt, ap owns k.here ∙ goes.0, subst (BlockedIfFreeze c next) (sym k.here) goes.1)
+          | inr ne ↦
+              let same : (next.views l.0).phase ≡ (w.views l.0).phase = ap (λ (v : View). v.phase) (beside l.0 ne.1) in
+              (l.0, l.1, ap owns same ∙ l.2, subst (BlockedIfFreeze c next) (sym same) (far_stays (w.views l.0).phase l.3))
+        ]
+      where
+        far_stays : (o : Option Phase) → BlockedIfFreeze c w o → BlockedIfFreeze c next o
+        far_stays (Some (Freezes x)) h =
+            let e : next_level next.words x.step ≡ next_level w.words x.step =
+            far_same w.words next.words x.step h.0 (omega (arith, h.1.1, h.1.2)) in
+            (omega (arith, e, h.0), kept_by x.step x.step (omega (arith, e)) h.1)
+        far_stays p h = absurd h
+
+    change_stays : (s : ChangeStep) (wait : Bool) → ChangeIsBlocked c w s wait → ChangeIsBlocked c next s wait
+    change_stays ChangeLocks wait h = (h.0, locks_stay h.1)
+    change_stays s wait h = absurd h
+
+    remount_stays : (s : RemountStep) → RemountIsBlocked c w s → RemountIsBlocked c next s
+    remount_stays RemountLocks h = locks_stay h
+    remount_stays s h = absurd h
+
+    thaw_stays : (s : ThawStep) → ThawIsBlocked c w s → ThawIsBlocked c next s
+    thaw_stays ThawLocks h = locks_stay h
+    thaw_stays s h = absurd h
+
+    snapshot_stays : (s : SnapshotStep) (wait : Bool) → SnapshotIsBlocked c w s wait → SnapshotIsBlocked c next s wait
+    snapshot_stays SnapshotLocks wait h = (h.0, locks_stay h.1)
+    snapshot_stays s wait h = absurd h
+
+    -- a freeze of another task at its first lock
+    first_stays : (y : ℕ) → y < c.tasks → (y ≡ t → ⊥) → begins_freeze (w.views y).phase ≡ true → FreezeIsBlocked c w FreezeLocks →
+        FreezeIsBlocked c next FreezeLocks
+    first_stays y ly ne begins (inl l) = inl (locks_stay l)
+    first_stays y ly ne begins (inr (u, one, h)) =
+        let facts : ((w.words.stage == 0) ≡ true) × ((w.words.sb == 0) ≡ true) = first_finds w.words h.0 h.1 h.2 in
+        let later : begins_freeze (Some p) ≡ false = elim (cases_Bool (begins_freeze (Some p))) [
+          | inl b ↦ absurd (ne (one y t ly lt begins (ap begins_freeze at ∙ b)))
+          | inr b ↦ b
+        ] in
+        let after : (next.words.umount ≡ 0) × (begins_freeze (Some q) ≡ false) = k.free u (eqb-true w.words.stage 0 facts.0) later in
+        let none : owns (Some p) ≡ 0 = elim (eqb_tells (owns (Some p)) 1) [
+          | inl o ↦ absurd (omega (arith, (good Owner).locked t lt (ap owns at ∙ o.1), u))
+          | inr o ↦ omega (arith, owns_le (Some p), o.1)
+        ] in
+        let same : (next.words.stage ≡ w.words.stage) × (next.words.sb ≡ w.words.sb) = k.stage none in
+        inr (
+          after.0,
+          λ a b la lb fa fb. one a b la lb (was a fa after.1) (was b fb after.1),
+          kept_by FreezeLocks FreezeLocks (omega (arith, next_same w.words next.words FreezeLocks same.0 same.1)) h,
+        )
+      where
+        was : (a : ℕ) → begins_freeze (next.views a).phase ≡ true → begins_freeze (Some q) ≡ false → begins_freeze (w.views a).phase ≡ true
+        was a f not =
+            elim (eqb_tells a t) [
+              | inl e ↦ absurd (true≢false (sym f ∙ (ap (λ y. begins_freeze (next.views y).phase) e.1 ∙ (ap begins_freeze k.here ∙ not))))
+              | inr e ↦ sym (ap (λ (v : View). begins_freeze v.phase) (beside a e.1)) ∙ f
+            ]
+
+    -- and at any step
+    freeze_stays : (y : ℕ) → y < c.tasks → (y ≡ t → ⊥) → (x : Freeze) → (w.views y).phase ≡ Some (Freezes x) →
+        FreezeIsBlocked c w x.step → FreezeIsBlocked c next x.step
+    freeze_stays y ly ne x is h =
+        elim (cases_Bool (is_first_lock x.step)) [
+          | inl f ↦
+              let e : x.step ≡ FreezeLocks = first_is x.step f in
+              subst (FreezeIsBlocked c next) (sym e) (first_stays y ly ne (ap begins_freeze is ∙ f) (subst (FreezeIsBlocked c w) e h))
+          | inr later ↦
+              let same : next_level next.words x.step ≡ next_level w.words x.step = elim (eqb_tells (owns (Some p)) 1) [
+                | inl mine ↦ apart_same w.words next.words x.step (elim (eqb_tells (owns (w.views y).phase) 1) [
+                  | inl own ↦ absurd (ne (one_owner y ly own.1 mine.1))
+                  | inr none ↦ omega (arith, owns_le (w.views y).phase, none.1, ap owns is)
+                ]) later
+                | inr none ↦
+                    let stays : (next.words.stage ≡ w.words.stage) × (next.words.sb ≡ w.words.sb) =
+                    k.stage (omega (arith, owns_le (Some p), none.1)) in
+                    next_same w.words next.words x.step stays.0 stays.1
+              ] in
+              kept_later c next x.step later (kept_by x.step x.step (omega (arith, same)) (later_kept c w x.step later h))
+        ]
+
+    reads_stay : (r : DownRead) → StartIsBlocked w r → StartIsBlocked next r
+    reads_stay r h = (h.0, h.1, k.blocks r.level h.2)
+
+    -- so each other operation stays kept
+    phase_stays : (y : ℕ) → y < c.tasks → (y ≡ t → ⊥) → (phase : Phase) → (w.views y).phase ≡ Some phase → IsBlockedAt c w phase →
+        IsBlockedAt c next phase
+    phase_stays y ly ne (Mounts (Changes x)) is h = change_stays x.step x.wait h
+    phase_stays y ly ne (Remounts x) is h = remount_stays x.step h
+    phase_stays y ly ne (DownReads r) is h = reads_stay r h
+    phase_stays y ly ne (Writes (Takes m r)) is h = reads_stay r h
+    phase_stays y ly ne (Freezes x) is h = freeze_stays y ly ne x is h
+    phase_stays y ly ne (Thaws x) is h = thaw_stays x.step h
+    phase_stays y ly ne (Trees (Snapshots x)) is h = snapshot_stays x.step x.wait h
+    phase_stays y ly ne (FileCloses (CloseLoadsFile x)) is h = (h.0, k.last x.file h.1, k.blocks 3 h.2)
+    phase_stays y ly ne (FileCloses (EntersLevel f node r)) is h = reads_stay r h
+    phase_stays y ly ne phase is h = absurd h
+
+  -- what an event that leaves most words leaves to others
+  aside_leaves : (q : Phase) → (next.views t).phase ≡ Some q → StaysBeside w.words next.words →
+      ((i : ℕ) → w.words.block i ≡ 1 → next.words.block i ≡ 1) → next.words.node ≡ w.words.node → owns (Some p) ≡ 0 →
+      (begins_freeze (Some p) ≡ false → begins_freeze (Some q) ≡ false) → LeavesKept c w next t p q
+  aside_leaves q here stays blocks nodes none begins = record {
+    here = here;
+    blocks = blocks;
+    last = λ f h. ap (λ (g : ℕ → ℕ). is_last_close (g f)) nodes ∙ h;
+    owner = λ h own. absurd (omega (arith, own, none));
+    stage = λ e. (stays.stage_same, stays.sb_same);
+    free = λ u z b. (stays.umount_same ∙ u, begins b);
+  }
+
+-- where `umount` is another's, a try for it leaves all words
+tried : (w : Words) (n : ℕ) → (w.umount ≡ 0 → ⊥) → put w Umount (left (Cas 0 n) w.umount) ≡ w
+tried w n taken = rw (ne_eqb w.umount 0 taken) (load_same w Umount)
+
+lock_taken : (c : Config) (w : World) → IsGood c w → LockIsBlocked c w → w.words.umount ≡ 0 → ⊥
+lock_taken c w good l free = absurd (omega (arith, (good Owner).locked l.0 l.1 l.2, free))
+
+-- a close of this file is the last one
+last_goes : (x : Closing) (word : ℕ) → IsPacked word → is_last_close word ≡ true →
+    (close_after (CloseLoadsFile x) word).0 ≡ Go (enters x (node_of word))
+last_goes x word packed last =
+    let gone : removed_in word ≡ 1 = eqb-true (removed_in word) 1 (and_parts (removed_in word == 1) (opens_in word == 1) last).0 in
+    let one : opens_in word ≡ 1 = eqb-true (opens_in word) 1 (and_parts (removed_in word == 1) (opens_in word == 1) last).1 in
+    let kind : kind_in word ≡ 1 = (packed.marked gone).0 in
+    let some : (opens_in word == 0) ≡ false = ne_eqb (opens_in word) 0 (λ z. omega (arith, z, one)) in
+    rw (packed_unpacks word packed, kind, some, last) refl
+
+-- a hook agrees
+abbrev agrees : HookAnswer → Bool
+agrees (Ok answer) = true
+agrees (Err code) = false
+
+module _ (c : Config) (w : World) (good : IsGood c w) (t : ℕ) (lt : t < c.tasks) (hook : HookAnswer) where
+  abbrev after : Phase → World
+  after p = after_step w t p hook
+
+  -- what the event of a kept operation comes to
+  record Goes (p : Phase) : Type 0 where
+    then_at : Phase
+    leaves : LeavesKept c w (after p) t p then_at
+    kept : IsBlockedAt c (after p) then_at
+
+  -- a start that is kept
+  start_facts : (r : DownRead) → StartIsBlocked w r → 1 ≤ r.level → r.level ≤ 3 →
+      StaysKept r (down_read_after r r.step (found_by (down_read_next r r.step).1 (read w.words (down_read_next r r.step).0))).0
+  start_facts r h one three =
+      let s : SyncHoldsIn c w r.level = good (SyncAt r.level) one three in
+      start_stays w.words r h.0 h.2 (ap step_found s.packed ∙
+      blocked_slow c.tasks s.word (w.words.block r.level) (is_frozen_whole w.words) w.words.section
+      (λ y. sync_role_of r.level (w.views y).phase) s.holds h.2) r.step h.1
+
+  module _ (r : DownRead) (h : StartIsBlocked w r) (one : 1 ≤ r.level) (three : r.level ≤ 3) where
+    -- what it comes to in a phase that goes through its events, as a start, a write access and a close do
+    module _ (p : Phase) (at : (w.views t).phase ≡ Some p) (to : DownRead → Phase)
+        (words : (after p).words ≡ after_event w.words (down_read_next r r.step)) (none : owns (Some p) ≡ 0)
+        (later : (x : DownRead) → begins_freeze (Some (to x)) ≡ false)
+        (keeps : (x : DownRead) → StartIsBlocked (after p) x → IsBlockedAt c (after p) (to x)) where
+      start_goes : (x : DownRead) → ((after p).views t).phase ≡ Some (to x) → (x.wait ≡ true) × (is_admitted x.step ≡ false) ×
+          (x.level ≡ r.level) → Goes p
+      start_goes x here k =
+          let blocks : (after p).words.block ≡ w.words.block = ap (λ (v : Words). v.block) words ∙ read_blocks w.words r r.step in
+          let nodes : (after p).words.node ≡ w.words.node = ap (λ (v : Words). v.node) words ∙ read_nodes w.words r r.step in
+          record {
+            then_at = to x;
+            leaves = aside_leaves c w good t lt p at hook (to x) here
+                (subst (StaysBeside w.words) (sym words) (read_beside w.words r r.step))
+                (λ i b. ap (λ (g : ℕ → ℕ). g i) blocks ∙ b) nodes none (λ e. later x);
+            kept = keeps x (k.0, k.1, ap (λ (g : ℕ → ℕ). g x.level) blocks ∙ (ap w.words.block k.2 ∙ h.2));
+          }
+
+      through : (outer : Next DownRead → Next Phase) → ((x : DownRead) → phase_after (outer (Go x)) ≡ Some (to x)) →
+          ((x : DownRead) → phase_after (outer (Wait x)) ≡ Some (to x)) → (coming : Next DownRead) →
+          ((after p).views t).phase ≡ phase_after (outer coming) → StaysKept r coming → Goes p
+      through outer go wait (Go x) is k = start_goes x (is ∙ go x) k
+      through outer go wait (Wait x) is k = start_goes x (is ∙ wait x) k
+      through outer go wait (Done answer) is k = absurd k
+
+  -- a try for `umount`, which is another's
+  module _ (p q : Phase) (at : (w.views t).phase ≡ Some p) (here : ((after p).views t).phase ≡ Some q) (same : (after p).words ≡ w.words)
+      (none : owns (Some p) ≡ 0) (begins : begins_freeze (Some p) ≡ false → begins_freeze (Some q) ≡ false) where
+    tried_leaves : LeavesKept c w (after p) t p q
+    tried_leaves =
+        aside_leaves c w good t lt p at hook q here
+        (subst (StaysBeside w.words) (sym same) (record { umount_same = refl; stage_same = refl; sb_same = refl }))
+        (λ i b. ap (λ (v : Words). v.block i) same ∙ b) (ap (λ (v : Words). v.node) same) none begins
+
+    tried_locks : LockIsBlocked c w → LockIsBlocked c (after p)
+    tried_locks l = locks_stay c w good t lt p at hook q tried_leaves l
+
+  change_goes : (x : Change) (s : ChangeStep) (wait : Bool) →
+      (w.views t).phase ≡ Some (Mounts (Changes (record x { step = s; wait = wait }))) → ChangeIsBlocked c w s wait →
+      Goes (Mounts (Changes (record x { step = s; wait = wait })))
+  change_goes x ChangeLocks true at h =
+      let p : Phase = Mounts (Changes (record x { step = ChangeLocks; wait = true })) in
+      let taken : w.words.umount ≡ 0 → ⊥ = lock_taken c w good h.1 in
+      let e : (w.words.umount == 0) ≡ false = ne_eqb w.words.umount 0 taken in
+      let here : ((after p).views t).phase ≡ Some p = stands_after c w t lt hook p at ∙ rw e refl in
+      let same : (after p).words ≡ w.words = tried w.words (x.task + 1) taken in
+      record {
+        then_at = p;
+        leaves = tried_leaves p p at here same refl (λ b. b);
+        kept = (refl, tried_locks p p at here same refl (λ b. b) h.1);
+      }
+  change_goes x ChangeLocks false at h = absurd (true≢false (sym h.0))
+  change_goes x s wait at h = absurd h
+
+  remount_goes : (x : Remount) (s : RemountStep) → (w.views t).phase ≡ Some (Remounts (at_remount x s)) → RemountIsBlocked c w s →
+      Goes (Remounts (at_remount x s))
+  remount_goes x RemountLocks at h =
+      let p : Phase = Remounts (at_remount x RemountLocks) in
+      let taken : w.words.umount ≡ 0 → ⊥ = lock_taken c w good h in
+      let e : (w.words.umount == 0) ≡ false = ne_eqb w.words.umount 0 taken in
+      let here : ((after p).views t).phase ≡ Some p = stands_after c w t lt hook p at ∙ rw e refl in
+      let same : (after p).words ≡ w.words = tried w.words (x.task + 1) taken in
+      record {
+        then_at = p;
+        leaves = tried_leaves p p at here same refl (λ b. b);
+        kept = tried_locks p p at here same refl (λ b. b) h;
+      }
+  remount_goes x s at h = absurd h
+
+  thaw_goes : (x : Thaw) (s : ThawStep) → (w.views t).phase ≡ Some (Thaws (at_thaw x s)) → ThawIsBlocked c w s → Goes (Thaws (at_thaw x s))
+  thaw_goes x ThawLocks at h =
+      let p : Phase = Thaws (at_thaw x ThawLocks) in
+      let taken : w.words.umount ≡ 0 → ⊥ = lock_taken c w good h in
+      let e : (w.words.umount == 0) ≡ false = ne_eqb w.words.umount 0 taken in
+      let here : ((after p).views t).phase ≡ Some p = stands_after c w t lt hook p at ∙ rw e refl in
+      let same : (after p).words ≡ w.words = tried w.words (x.task + 1) taken in
+      record {
+        then_at = p;
+        leaves = tried_leaves p p at here same refl (λ b. b);
+        kept = tried_locks p p at here same refl (λ b. b) h;
+      }
+  thaw_goes x s at h = absurd h
+
+  snapshot_goes : (x : Snapshot) (s : SnapshotStep) (wait : Bool) →
+      (w.views t).phase ≡ Some (Trees (Snapshots (record x { step = s; wait = wait }))) → SnapshotIsBlocked c w s wait →
+      Goes (Trees (Snapshots (record x { step = s; wait = wait })))
+  snapshot_goes x SnapshotLocks true at h =
+      let p : Phase = Trees (Snapshots (record x { step = SnapshotLocks; wait = true })) in
+      let taken : w.words.umount ≡ 0 → ⊥ = lock_taken c w good h.1 in
+      let e : (w.words.umount == 0) ≡ false = ne_eqb w.words.umount 0 taken in
+      let here : ((after p).views t).phase ≡ Some p = stands_after c w t lt hook p at ∙ rw e refl in
+      let same : (after p).words ≡ w.words = tried w.words (x.task + 1) taken in
+      record {
+        then_at = p;
+        leaves = tried_leaves p p at here same refl (λ b. b);
+        kept = (refl, tried_locks p p at here same refl (λ b. b) h.1);
+      }
+  snapshot_goes x SnapshotLocks false at h = absurd (true≢false (sym h.0))
+  snapshot_goes x s wait at h = absurd h
+
+  module _ (x : Freeze) (s : FreezeStep) (at : (w.views t).phase ≡ Some (Freezes (at_freeze x s))) where
+    abbrev here_at : FreezeStep → Phase
+    here_at s' = Freezes (at_freeze x s')
+
+    -- one that owns `umount` finds it taken
+    owned : owns (Some (here_at s)) ≡ 1 → w.words.umount ≡ 0 → ⊥
+    owned own free = absurd (omega (arith, (good Owner).locked t lt (ap owns at ∙ own), free))
+
+    -- it knows the stage
+    knows : KnowsStage w.words.stage w.words.sb (freeze_stage_role x.nodes s)
+    knows = subst (λ p. KnowsStage w.words.stage w.words.sb (stage_role_of p)) at ((good Stages).knows t lt)
+
+    -- a freeze that is past its first lock
+    freeze_makes : (s' : FreezeStep) → ((after (here_at s)).views t).phase ≡ Some (here_at s') →
+        ((i : ℕ) → w.words.block i ≡ 1 → (after (here_at s)).words.block i ≡ 1) →
+        ((f : ℕ) → is_last_close (w.words.node f) ≡ true → is_last_close ((after (here_at s)).words.node f) ≡ true) →
+        (2 ≤ next_level w.words s → owns (Some (here_at s)) ≡ 1 →
+        (owns (Some (here_at s')) ≡ 1) × (2 ≤ next_level (after (here_at s)).words s')) →
+        (owns (Some (here_at s)) ≡ 0 →
+        ((after (here_at s)).words.stage ≡ w.words.stage) × ((after (here_at s)).words.sb ≡ w.words.sb)) →
+        (w.words.umount ≡ 0 → w.words.stage ≡ 0 → is_first_lock s ≡ false → ⊥) → HeldLevelAhead c (after (here_at s)) s' →
+        is_first_lock s' ≡ false → Goes (here_at s)
+    freeze_makes s' here blocks last far stage early kept later = record {
+      then_at = here_at s';
+      leaves = record {
+        here = here;
+        blocks = blocks;
+        last = last;
+        owner = λ h own. let g : (owns (Some (here_at s')) ≡ 1) × (2 ≤ next_level (after (here_at s)).words s') = far h.0 own in
+            (g.0, (g.1, kept));
+        stage = stage;
+        free = λ u z b. absurd (early u z b);
+      };
+      kept = kept_later c (after (here_at s)) s' later kept;
+    }
+
+    goes_by : (s' : FreezeStep) → next_level (after (here_at s)).words s' ≤ next_level w.words s → HeldLevelAhead c w s → HeldLevelAhead c (after (here_at s)) s'
+    goes_by s' le k = kept_by c w good t lt (here_at s) at hook s s' le k
+
+  -- the levels that a freeze has to pass from here on are some
+  sb_found : (i : ℕ) → (if w.words.sb == 0 then 1 else 4) ≤ i → i ≤ 3 → (w.words.sb == 0) ≡ true
+  sb_found i low high =
+      elim (cases_Bool (w.words.sb == 0)) [ inl b ↦ b | inr b ↦ let l : 4 ≤ i = rw b at low in absurd (omega (arith, l, high)) ]
+
+  -- a node whose mark is cleared is as removed and as open as before
+  last_cleared : (n : ℕ) → IsPacked (w.words.node n) → is_last_close (w.words.node n) ≡ true →
+      is_last_close (without_mark (w.words.node n)) ≡ true
+  last_cleared n packed h =
+      let word : ℕ = w.words.node n in
+      let m : IsCleared word (without_mark word) = clears_mark word packed in
+      ap (λ r. (r == 1) && (opens_in (without_mark word) == 1)) m.removed ∙ (ap (λ o. (removed_in word == 1) && (o == 1)) m.opens ∙ h)
+
+  module _ (x : Freeze) where
+    -- after an event of the closing of a level
+    module _ (d : DownWrite) (one : 1 ≤ d.level) (three : d.level ≤ 3) (at : (w.views t).phase ≡ Some (Freezes (at_freeze x (Closes d))))
+        (k : HeldLevelAhead c w (Closes d)) where
+      abbrev closing : Phase
+      closing = Freezes (at_freeze x (Closes d))
+
+      closes_to : (s' : FreezeStep) → ((after closing).views t).phase ≡ Some (Freezes (at_freeze x s')) →
+          (2 ≤ d.level → owns (Some closing) ≡ 1 →
+          (owns (Some (Freezes (at_freeze x s'))) ≡ 1) × (2 ≤ next_level (after closing).words s')) →
+          HeldLevelAhead c (after closing) s' → is_first_lock s' ≡ false → Goes closing
+      closes_to s' here far kept later =
+          let stays : StaysBeside w.words (after closing).words = down_beside w.words d d.step in
+          freeze_makes x (Closes d) at s' here (down_blocks w.words d d.step)
+          (λ f h. ap (λ (g : ℕ → ℕ). is_last_close (g f)) (down_nodes w.words d d.step) ∙ h) far
+          (λ none. (stays.stage_same, stays.sb_same))
+          (λ u z b. let known : w.words.stage ≡ d.level = knows x (Closes d) at in omega (arith, known, z, one)) kept later
+
+      level_goes : (e : DownWrite) → ((after closing).views t).phase ≡ Some (Freezes (at_freeze x (Closes e))) → e.level ≡ d.level → Goes closing
+      level_goes e here same =
+          closes_to (Closes e) here (λ two own. (ap (λ l. bit (nat_lt 1 l)) same ∙ own, omega (arith, two, same)))
+          (goes_by x (Closes d) at (Closes e) (omega (arith, same)) k) refl
+
+      -- a level that an idle task holds isn't passed
+      passed_apart : MovesModel c (shown c w) t (Some (Pass d.level)) (shown c (after closing)) → (k.0 ≡ d.level → ⊥)
+      passed_apart m e =
+          true≢false (sym k.3.3 ∙ (ap (holds_level (w.views k.3.0)) e ∙ m.0.1.3 k.3.0 k.3.1))
+
+      above : (s' : FreezeStep) → next_level (after closing).words s' ≤ k.0 → HeldLevelAhead c (after closing) s'
+      above s' le = (k.0, le, k.2, idle_stays c w good t lt closing at hook k.0 k.3)
+
+      passes : ((after closing).views t).phase ≡ Some (Freezes (at_freeze x (level_closed d.level x.nodes))) →
+          MovesModel c (shown c w) t (Some (Pass d.level)) (shown c (after closing)) → Goes closing
+      passes here m =
+          let apart : k.0 ≡ d.level → ⊥ = passed_apart m in
+          elim (eqb_tells d.level 1) [
+            | inl e ↦ closes_to LocksAgain (here ∙ rw e.0 refl) (λ two own. absurd (omega (arith, two, e.1)))
+                (above LocksAgain (omega (arith, k.1, apart, e.1))) refl
+            | inr e ↦ elim (eqb_tells d.level 2) [
+              | inl f ↦
+                  let marks : ClearMarks = record { node = 1; nodes = x.nodes } in
+                  closes_to (Cleans marks) (here ∙ rw (e.0, f.0) refl) (λ two own. (refl, omega arith))
+                  (above (Cleans marks) (omega (arith, k.1, apart, f.1))) refl
+              | inr f ↦ absurd (omega (arith, k.1, k.2, apart, e.1, f.1, one))
+            ]
+          ]
+
+      closes_goes : (coming : Next DownWrite) (action : Option Action) →
+          ((after closing).views t).phase ≡ phase_after (map_next Freezes (after_closing (at_freeze x (Closes d)) d.level coming)) →
+          MovesModel c (shown c w) t action (shown c (after closing)) → StaysAtLevel d coming action → Goes closing
+      closes_goes (Go e) action here m l = level_goes e here l
+      closes_goes (Wait e) action here m l = level_goes e here l
+      closes_goes (Done answer) action here m l =
+          passes here (subst (λ a. MovesModel c (shown c w) t a (shown c (after closing))) l m)
+
+    -- a freeze at each step
+    freeze_goes : (s : FreezeStep) → (at : (w.views t).phase ≡ Some (Freezes (at_freeze x s))) → FreezeFits c x.holder s → x.nodes ≡ c.nodes →
+        IsAgreed (Freezes (at_freeze x s)) hook →
+        MovesModel c (shown c w) t (phase_action w hook (Some (Freezes (at_freeze x s)))) (shown c (after (Freezes (at_freeze x s)))) →
+        FreezeIsBlocked c w s → Goes (Freezes (at_freeze x s))
+    freeze_goes FreezeLocks at fits nodes agreed m (inl l) =
+        let p : Phase = Freezes (at_freeze x FreezeLocks) in
+        let taken : w.words.umount ≡ 0 → ⊥ = lock_taken c w good l in
+        let e : (w.words.umount == 0) ≡ false = ne_eqb w.words.umount 0 taken in
+        let here : ((after p).views t).phase ≡ Some p = stands_after c w t lt hook p at ∙ rw e refl in
+        let same : (after p).words ≡ w.words = tried w.words (x.task + 1) taken in
+        record {
+          then_at = p;
+          leaves = tried_leaves p p at here same refl (λ b. b);
+          kept = inl (tried_locks p p at here same refl (λ b. b) l);
+        }
+    freeze_goes FreezeLocks at fits nodes agreed m (inr (u, only, k)) =
+        freeze_makes x FreezeLocks at LoadsStage (stands_after c w t lt hook (Freezes (at_freeze x FreezeLocks)) at ∙ rw u refl)
+        (λ i h. h) (λ f h. h) (λ two own. absurd (omega (arith, own))) (λ none. (refl, refl)) (λ u z b. absurd (true≢false b))
+        (goes_by x FreezeLocks at LoadsStage (omega arith) k) refl
+    freeze_goes LoadsStage at fits nodes agreed m k =
+        let facts : ((w.words.stage == 0) ≡ true) × ((w.words.sb == 0) ≡ true) = first_finds w.words k.0 k.1 k.2 in
+        freeze_makes x LoadsStage at LoadsSuperblock
+        (stands_after c w t lt hook (Freezes (at_freeze x LoadsStage)) at ∙ rw facts.0 refl) (λ i h. h) (λ f h. h)
+        (λ two own. let l : 2 ≤ 1 = rw (facts.0, facts.1) at two in absurd (omega (arith, l)))
+        (λ none. absurd (omega (arith, none))) (λ u z b. owned x LoadsStage at refl u)
+        (goes_by x LoadsStage at LoadsSuperblock (rw (facts.0, facts.1) (omega arith)) k) refl
+    freeze_goes LoadsSuperblock at fits nodes agreed m k =
+        let fact : (w.words.sb == 0) ≡ true = sb_found k.0 k.1 k.2 in
+        freeze_makes x LoadsSuperblock at SetsWrite
+        (stands_after c w t lt hook (Freezes (at_freeze x LoadsSuperblock)) at ∙ rw fact refl) (λ i h. h) (λ f h. h)
+        (λ two own. let l : 2 ≤ 1 = rw fact at two in absurd (omega (arith, l)))
+        (λ none. absurd (omega (arith, none))) (λ u z b. owned x LoadsSuperblock at refl u)
+        (goes_by x LoadsSuperblock at SetsWrite (rw fact (omega arith)) k) refl
+    freeze_goes SetsWrite at fits nodes agreed m k =
+        freeze_makes x SetsWrite at Unlocks (stands_after c w t lt hook (Freezes (at_freeze x SetsWrite)) at) (λ i h. h) (λ f h. h)
+        (λ two own. absurd (omega (arith, two))) (λ none. absurd (omega (arith, none))) (λ u z b. owned x SetsWrite at refl u)
+        (goes_by x SetsWrite at Unlocks (omega arith) k) refl
+    freeze_goes Unlocks at fits nodes agreed m k =
+        freeze_makes x Unlocks at (freeze_closes x 1) (stands_after c w t lt hook (Freezes (at_freeze x Unlocks)) at) (λ i h. h) (λ f h. h)
+        (λ two own. absurd (omega (arith, two))) (λ none. absurd (omega (arith, none))) (λ u z b. owned x Unlocks at refl u)
+        (goes_by x Unlocks at (freeze_closes x 1) (omega arith) k) refl
+    freeze_goes (Closes d) at fits nodes agreed m k =
+        let p : Phase = Freezes (at_freeze x (Closes d)) in
+        let r : Next DownWrite × Option Action = down_write_after d d.step (found_at w.words p hook) in
+        closes_goes d fits.0 fits.1 at k r.0 r.1 (stands_after c w t lt hook p at) m (down_stays d d.step (found_at w.words p hook))
+    freeze_goes LocksAgain at fits nodes agreed m k =
+        let p : Phase = Freezes (at_freeze x LocksAgain) in
+        let known : w.words.stage ≡ 1 = knows x LocksAgain at in
+        elim (eqb_tells w.words.umount 0) [
+          | inl u ↦ freeze_makes x LocksAgain at SetsPageFault (stands_after c w t lt hook p at ∙ rw u.0 refl) (λ i h. h) (λ f h. h)
+              (λ two own. absurd (omega (arith, own))) (λ none. (refl, refl)) (λ v z b. omega (arith, known, z))
+              (goes_by x LocksAgain at SetsPageFault (omega arith) k) refl
+          | inr u ↦
+              let here : ((after p).views t).phase ≡ Some p = stands_after c w t lt hook p at ∙ rw u.0 refl in
+              let same : (after p).words ≡ w.words = tried w.words (x.task + 1) u.1 in
+              record {
+                then_at = p;
+                leaves = tried_leaves p p at here same refl (λ b. b);
+                kept = goes_by x LocksAgain at LocksAgain (omega arith) k;
+              }
+        ]
+    freeze_goes SetsPageFault at fits nodes agreed m k =
+        freeze_makes x SetsPageFault at (freeze_closes x 2) (stands_after c w t lt hook (Freezes (at_freeze x SetsPageFault)) at)
+        (λ i h. h) (λ f h. h) (λ two own. (refl, omega arith)) (λ none. absurd (omega (arith, none)))
+        (λ u z b. owned x SetsPageFault at refl u) (goes_by x SetsPageFault at (freeze_closes x 2) (omega arith) k) refl
+    freeze_goes (Cleans marks) at fits nodes agreed m k =
+        let p : Phase = Freezes (at_freeze x (Cleans marks)) in
+        let last : (f : ℕ) → is_last_close (w.words.node f) ≡ true → is_last_close ((after p).words.node f) ≡ true =
+        λ f h. each_updated (λ y v. is_last_close (w.words.node y) ≡ true → is_last_close v ≡ true) w.words.node marks.node
+        (without_mark (w.words.node marks.node)) f
+        (last_cleared marks.node ((good Tree).words marks.node fits.2).packed) (λ ne q. q) h in
+        elim (cases_Bool (nat_lt (marks.node + 1) marks.nodes)) [
+          | inl more ↦
+              let s' : FreezeStep = Cleans (record marks { node = marks.node + 1 }) in
+              freeze_makes x (Cleans marks) at s' (stands_after c w t lt hook p at ∙ rw more refl) (λ i h. h) last
+              (λ two own. (refl, omega arith)) (λ none. absurd (omega (arith, none))) (λ u z b. owned x (Cleans marks) at refl u)
+              (goes_by x (Cleans marks) at s' (omega arith) k) refl
+          | inr end ↦ freeze_makes x (Cleans marks) at SetsFs (stands_after c w t lt hook p at ∙ rw end refl) (λ i h. h) last
+              (λ two own. (refl, omega arith)) (λ none. absurd (omega (arith, none))) (λ u z b. owned x (Cleans marks) at refl u)
+              (goes_by x (Cleans marks) at SetsFs (omega arith) k) refl
+        ]
+    freeze_goes SetsFs at fits nodes agreed m k =
+        let p : Phase = Freezes (at_freeze x SetsFs) in
+        elim agreed [
+          | inl none ↦ absurd (not_none _ none)
+          | inr e ↦
+              let goes : phase_after (after_of p (found_at w.words p hook) hook).0 ≡ Some (Freezes (at_freeze x (freeze_closes x 3))) =
+              ap (λ (h : HookAnswer). phase_after (after_of p (found_at w.words p h) h).0) e in
+              freeze_makes x SetsFs at (freeze_closes x 3) (stands_after c w t lt hook p at ∙ goes)
+              (λ i h. ap (λ (a : HookAnswer). (words_after w.words p a).block i) e ∙ h)
+              (λ f h. ap (λ (a : HookAnswer). is_last_close ((words_after w.words p a).node f)) e ∙ h)
+              (λ two own. (refl, omega arith)) (λ none. absurd (omega (arith, none))) (λ u z b. owned x SetsFs at refl u)
+              (goes_by x SetsFs at (freeze_closes x 3) (omega arith) k) refl
+        ]
+    freeze_goes s at fits nodes agreed m k = absurd (omega (arith, k.1, k.2))
+
+  -- a close that is to be the last one goes on to level 3
+  load_goes : (x : Closing) → (w.views t).phase ≡ Some (FileCloses (CloseLoadsFile x)) → x.file < c.nodes → x.wait ≡ true →
+      is_last_close (w.words.node x.file) ≡ true → w.words.block 3 ≡ 1 → Goes (FileCloses (CloseLoadsFile x))
+  load_goes x at lf wait last set =
+      let p : Phase = FileCloses (CloseLoadsFile x) in
+      let word : ℕ = w.words.node x.file in
+      let q : Phase = FileCloses (enters x (node_of word)) in
+      let goes : (close_after (CloseLoadsFile x) word).0 ≡ Go (enters x (node_of word)) =
+      last_goes x word ((good Tree).words x.file lf).packed last in
+      let here : ((after p).views t).phase ≡ Some q =
+      stands_after c w t lt hook p at ∙ ap (λ n. phase_after (map_next FileCloses n)) goes in
+      let same : (after p).words ≡ w.words = load_same w.words (Node x.file) in
+      record {
+        then_at = q;
+        leaves = tried_leaves p q at here same refl (λ b. refl);
+        kept = (wait, refl, ap (λ (v : Words). v.block 3) same ∙ set);
+      }
+
+  -- each operation that is kept
+  phase_goes : (phase : Phase) (at : (w.views t).phase ≡ Some phase) → PhaseFits c t (held_of (w.views t)) phase →
+      IsAgreed phase hook → MovesModel c (shown c w) t (phase_action w hook (Some phase)) (shown c (after phase)) → IsBlockedAt c w phase →
+      Goes phase
+  phase_goes (Mounts (Changes x)) at f agreed m k = change_goes x x.step x.wait at k
+  phase_goes (Remounts x) at f agreed m k = remount_goes x x.step at k
+  phase_goes (DownReads r) at f agreed m k =
+      through r k f.0 f.1 (DownReads r) at DownReads refl refl (λ x. refl) (λ x h. h) (map_next DownReads) (λ x. refl) (λ x. refl)
+      (down_read_after r r.step (found_at w.words (DownReads r) hook)).0 (stands_after c w t lt hook (DownReads r) at) (start_facts r k f.0 f.1)
+  phase_goes (Writes (Takes i r)) at f agreed m k =
+      through r k f.0.0 f.0.1 (Writes (Takes i r)) at (λ x. Writes (Takes i x)) refl refl (λ x. refl) (λ x h. h)
+      (λ next. map_next Writes (then_wants i r.cpu next)) (λ x. refl) (λ x. refl)
+      (down_read_after r r.step (found_at w.words (Writes (Takes i r)) hook)).0 (stands_after c w t lt hook (Writes (Takes i r)) at)
+      (start_facts r k f.0.0 f.0.1)
+  phase_goes (Freezes x) at f agreed m k = freeze_goes x x.step at f.5 f.3 agreed m k
+  phase_goes (Thaws x) at f agreed m k = thaw_goes x x.step at k
+  phase_goes (Trees (Snapshots x)) at f agreed m k = snapshot_goes x x.step x.wait at k
+  phase_goes (FileCloses (CloseLoadsFile x)) at f agreed m k = load_goes x at f.0 k.0 k.1 k.2
+  phase_goes (FileCloses (EntersLevel n node r)) at f agreed m k =
+      through r k f.2.0 f.2.1 (FileCloses (EntersLevel n node r)) at (λ x. FileCloses (EntersLevel n node x)) refl refl (λ x. refl)
+      (λ x h. h) (λ next. map_next FileCloses (then_frees n node r.cpu next)) (λ x. refl) (λ x. refl)
+      (down_read_after r r.step (found_at w.words (FileCloses (EntersLevel n node r)) hook)).0
+      (stands_after c w t lt hook (FileCloses (EntersLevel n node r)) at) (start_facts r k f.2.0 f.2.1)
+  phase_goes phase at f agreed m k = absurd k
+
+  -- so all stay kept, and none has its reply
+  all_stay : (phase : Phase) → (w.views t).phase ≡ Some phase → IsAgreed phase hook →
+      MovesModel c (shown c w) t (phase_action w hook (Some phase)) (shown c (after phase)) → AllAreBlocked c w →
+      (HasReply (after phase) t → ⊥) × AllAreBlocked c (after phase)
+  all_stay phase at agreed m all =
+      let g : Goes phase = phase_goes phase at (fits_at c w good t lt phase at) agreed m (all t lt phase at) in (
+        λ reply. not_none g.then_at (sym g.leaves.here ∙ reply),
+        λ y ly q is. elim (eqb_tells y t) [
+          | inl e ↦
+              let same : g.then_at ≡ q =
+              ap (or_phase q) (sym g.leaves.here ∙ (sym (ap (λ a. ((after phase).views a).phase) e.1) ∙ is)) in
+              subst (IsBlockedAt c (after phase)) same g.kept
+          | inr ne ↦
+              let was : (w.views y).phase ≡ Some q =
+              sym (ap (λ (v : View). v.phase) (beside c w good t lt phase at hook y ne.1)) ∙ is in
+              phase_stays c w good t lt phase at hook g.then_at g.leaves y ly ne.1 q was (all y ly q was)
+        ],
+      )
+
+pub kept_stays : (c : Config) → EventsMoveModel c → (w : World) → IsGood c w → BlockedIsStable c w
+kept_stays c moves w good all t lt phase at hook agreed =
+    subst (λ (next : World). (HasReply next t → ⊥) × AllAreBlocked c next) (sym (happens_is c w t lt hook phase at))
+    (all_stay c w good t lt hook phase at agreed (moves w good t lt hook phase at) all)

@@ -1,0 +1,24 @@
+-- A start or a last close that is kept stays so by its own events, which leave the words that others are kept by.
+use Rattle.std.proofs.{Common.{◌≡◌, true, false, arith}}
+use Rattle.access_model.specs.declared.replies.Next.{Next, TheVariants.{Go, Wait, Done}}
+use Rattle.cpu_words.specs.{Touches.found_by, Words.{Words, read}}
+use Rattle.percpu_rwsem.specs.{Readers.{down_read_next, down_read_after, step_found}, SyncWords.unpack, declared.readers.DownRead.DownRead}
+use Rattle.percpu_rwsem.specs.declared.readers.DownReadStep.{DownReadStep, TheVariants.{CountsUpSlow}}
+use Rattle.gate_schedules.specs.operations.Progress.{is_admitted}
+use Rattle.gate_schedules.proofs.operations.deadlocks.RankDecreases.{after_event}
+
+-- what comes after an event of a start that is kept is that start, which waits and isn't admitted
+abbrev pub StaysKept : DownRead → Next DownRead → Type 0
+StaysKept r (Go next) = (next.wait ≡ true) × (is_admitted next.step ≡ false) × (next.level ≡ r.level)
+StaysKept r (Wait next) = (next.wait ≡ true) × (is_admitted next.step ≡ false) × (next.level ≡ r.level)
+StaysKept r (Done answer) = ⊥
+
+-- each event of a start that waits at a closed level, where readers are slow
+pub start_stays : (w : Words) (r : DownRead) → r.wait ≡ true → w.block r.level ≡ 1 → step_found (unpack (w.sync r.level)) ≡ CountsUpSlow →
+    (s : DownReadStep) → is_admitted s ≡ false →
+    StaysKept r (down_read_after r s (found_by (down_read_next r s).1 (read w (down_read_next r s).0))).0
+start_stays w r wait set slow s not = grind arith
+
+-- a down-read leaves the nodes
+pub read_nodes : (w : Words) (r : DownRead) (s : DownReadStep) → (after_event w (down_read_next r s)).node ≡ w.node
+read_nodes w r s = grind arith

@@ -1,0 +1,194 @@
+-- A freeze or a thaw is between its two stores just where its newest event is the first of them: what its role says, its trace says too.
+use Rattle.access_model.specs.{Holders.with_holder, Replies.map_next, declared.{errors.GateError.GateError, replies.Next.Next}}
+use Rattle.cpu_words.specs.{Hooks.HookAnswer, Touches.{event_of, left}, Words.{Words, put, read}, declared.{events.Touch.Touch, names.WordName.WordName}}
+use Rattle.finite_sums.proofs.Totals.{each_updated, total_updated}
+use Rattle.freeze_levels.specs.{Freezes.{freeze_after, freeze_next}, Holders.word_of, Thaws.{thaw_next}, declared.freezes.Freeze.Freeze}
+use Rattle.freeze_levels.specs.declared.{freezes.FreezeStep.{FreezeStep, TheVariants.Closes}, thaws.{Thaw.Thaw, ThawStep.ThawStep}}
+use Rattle.gate_schedules.proofs.frames.Holders.{holders_at}
+use Rattle.gate_world.specs.{Fits.Fits, traces.Found.stores_stage, Headline.{HoldersAreTold, is_between, stores_nobody}, Rules.Fitting}
+use Rattle.gate_world.specs.{Rules.{Holding, IsGood, Known, holder_role_of}, Views.{held_of, phase_after, view_after, with_hook}}
+use Rattle.gate_world.specs.{Work.{after_of, next_of}, Worlds.{World, after_step, begin_of, begin_refusal, found_at, happens, opening}}
+use Rattle.gate_world.specs.declared.entries.Entry.{Entry, TheVariants.{Begins, Steps}}
+use Rattle.gate_world.specs.{Worlds.{step_of, value_at, words_after}, declared.{config.Config.Config, operations.Op.Op, views.{Traced.Traced, View.View}}}
+use Rattle.gate_world.specs.declared.work.Phase.{Phase, TheVariants.Closes}
+use Rattle.freeze_levels.proofs.holder_laws.{HolderLaws.held_exactly, Words.held_word}
+use Rattle.freeze_levels.specs.holder_laws.Roles.{HoldersHold, between, is_four, is_held}
+use Rattle.percpu_rwsem.specs.{Transitions.transition_next, Writers.{down_write_next, up_write_next}, declared.transitions.Transition.Transition}
+use Rattle.percpu_rwsem.specs.declared.writers.{DownWrite.DownWrite, DownWriteStep.DownWriteStep, UpWrite.UpWrite, UpWriteStep.UpWriteStep}
+use Rattle.std.proofs.{Common.{Bool, ap, arith, false, if◌then◌else◌, inl, inr, refl, subst, sym, true, ℕ, ◌<◌, ◌∙◌, ◌≡◌}, lemmas.Bool.{cases_lt, le-ltb}}
+use Rattle.std.proofs.lemmas.Bool.{lt-ltb, Decides.eqb_tells}
+use Rattle.std.specs.Prelude.{Err, List, None, Ok, Option, Some, [], ◌==◌, ◌∷◌}
+
+abbrev bit : Bool → ℕ
+bit b = if b then 1 else 0
+
+-- of a phase after this trace, the role and the newest event say the same
+abbrev IsTold : Option Phase → List Traced → Type 0
+IsTold p trace = between (holder_role_of p) ≡ bit (is_between p trace)
+
+-- so it is of each task
+abbrev pub AllTold : World → Type 0
+AllTold w = (t : ℕ) → IsTold (w.views t).phase (w.views t).trace
+
+-- an operation that is neither a freeze nor a thaw is never between two stores
+quiet : {A : Type 0} (to : A → Phase) → ((x : A) (trace : List Traced) → IsTold (Some (to x)) trace) → (next : Next A) (trace : List Traced) →
+    IsTold (phase_after (map_next to next)) trace
+quiet to each next trace = grind arith
+
+-- an event leaves the stage and the holders as they are, and is the first of no two stores
+abbrev Spares : Words → WordName × Touch → Type 0
+Spares w n =
+    ((put w n.0 (left n.1 (read w n.0))).stage ≡ w.stage) × ((put w n.0 (left n.1 (read w n.0))).holders ≡ w.holders) ×
+    (stores_stage 4 n.0 n.1 ≡ false) × (stores_nobody n.0 n.1 ≡ false)
+
+transition_spares : (w : Words) (level : ℕ) (transition : Transition) → Spares w (transition_next level transition)
+transition_spares w level Transition.Loads = (refl, refl, refl, refl)
+transition_spares w level (Transition.Exchanges from to) = (refl, refl, refl, refl)
+
+down_write_spares : (w : Words) (d : DownWrite) (s : DownWriteStep) → Spares w (down_write_next d s)
+down_write_spares w d s = grind arith
+
+up_write_spares : (w : Words) (u : UpWrite) (s : UpWriteStep) → Spares w (up_write_next u s)
+up_write_spares w u UpWriteStep.ClearsBlock = (refl, refl, refl, refl)
+up_write_spares w u (UpWriteStep.Exits transition) = transition_spares w u.level transition
+
+-- a freeze, or a thaw, that is not between two stores after an event that is the first of none
+freeze_unstored : (next : Next Freeze) (e : Traced) (trace : List Traced) → stores_stage 4 e.event.word e.event.touch ≡ false →
+    between (holder_role_of (phase_after (map_next Phase.Freezes next))) ≡ 0 → IsTold (phase_after (map_next Phase.Freezes next)) (e ∷ trace)
+freeze_unstored next e trace none zero_is = grind arith
+
+not_nobody : (word : ℕ) → is_held word ≡ 1 → (word == 0) ≡ false
+not_nobody word some = elim (eqb_tells word 0) [
+  | inl q ↦
+      let none : is_held word ≡ 0 = rw q.0 refl in
+      absurd (omega (arith, none, some))
+  | inr q ↦ q.0
+]
+
+module _ (c : Config) (w : World) (good : IsGood c w) (t : ℕ) (lt : t < c.tasks) where
+  -- of the view after the next event of a phase, the role and the newest event say the same
+  abbrev IsToldAfter : Phase → HookAnswer → Type 0
+  IsToldAfter phase hook = IsTold (view_after (w.views t) phase (value_at w.words phase hook) hook).phase
+      (view_after (w.views t) phase (value_at w.words phase hook) hook).trace
+
+  -- an event that spares the stage and the holders leaves its task between two stores or not
+  stays : (phase : Phase) (hook : HookAnswer) → (w.views t).phase ≡ Some phase → IsGood c (after_step w t phase hook) →
+      Spares w.words (next_of phase hook) →
+      between (holder_role_of (phase_after (after_of phase (found_at w.words phase hook) hook).0)) ≡ between (holder_role_of (Some phase))
+  stays phase hook e after spares =
+      let before_holds : HoldersHold c.tasks w.words.stage w.words.holders (λ y. holder_role_of (w.views y).phase) = good Holding in
+      let v : View = view_after (w.views t) phase (value_at w.words phase hook) hook in
+      let changes = total_updated (λ (u : View). between (holder_role_of u.phase)) c.tasks t w.views v lt in
+      let held_same : is_held (words_after w.words phase hook).holders ≡ is_held w.words.holders = ap is_held spares.1 in
+      let four_same : is_four (words_after w.words phase hook).stage ≡ is_four w.words.stage = ap is_four spares.0 in
+      let was : between (holder_role_of (w.views t).phase) ≡ between (holder_role_of (Some phase)) =
+      ap (λ p. between (holder_role_of p)) e in
+      omega (arith, before_holds.held, (after Holding).held, changes, held_same, four_same, was)
+
+  -- an event of a freeze that is not between two stores, and doesn't come to be
+  freeze_spares : (x : Freeze) (hook : HookAnswer) → (w.views t).phase ≡ Some (Phase.Freezes x) → IsGood c (after_step w t (Phase.Freezes x) hook) →
+      Spares w.words (freeze_next x x.step hook) → between (holder_role_of (Some (Phase.Freezes x))) ≡ 0 → IsToldAfter (Phase.Freezes x) hook
+  freeze_spares x hook e after spares apart =
+      freeze_unstored (freeze_after x x.step (found_at w.words (Phase.Freezes x) hook) hook).0
+      (with_hook (event_of (freeze_next x x.step hook).0 (freeze_next x x.step hook).1 (value_at w.words (Phase.Freezes x) hook)) hook)
+      (w.views t).trace spares.2 (stays (Phase.Freezes x) hook e after spares ∙ apart)
+
+  thaw_spares : (x : Thaw) (hook : HookAnswer) → (w.views t).phase ≡ Some (Phase.Thaws x) → IsGood c (after_step w t (Phase.Thaws x) hook) →
+      Spares w.words (thaw_next x x.step hook) → between (holder_role_of (Some (Phase.Thaws x))) ≡ 0 → IsToldAfter (Phase.Thaws x) hook
+  thaw_spares x hook e after spares apart = grind arith
+
+  -- each event of a freeze
+  freeze_told : (x : Freeze) (s : FreezeStep) (hook : HookAnswer) → (w.views t).phase ≡ Some (Phase.Freezes (record x { step = s })) →
+      IsGood c (after_step w t (Phase.Freezes (record x { step = s })) hook) → IsToldAfter (Phase.Freezes (record x { step = s })) hook
+  freeze_told x FreezeStep.Locks hook e after = freeze_spares (record x { step = FreezeStep.Locks }) hook e after (refl, refl, refl, refl) refl
+  freeze_told x FreezeStep.LoadsStage hook e after = freeze_spares (record x { step = FreezeStep.LoadsStage }) hook e after (refl, refl, refl, refl) refl
+  freeze_told x FreezeStep.LoadsHolders hook e after = freeze_spares (record x { step = FreezeStep.LoadsHolders }) hook e after (refl, refl, refl, refl) refl
+  freeze_told x FreezeStep.LoadsSuperblock hook e after =
+      freeze_spares (record x { step = FreezeStep.LoadsSuperblock }) hook e after (refl, refl, refl, refl) refl
+  freeze_told x (Closes d) hook e after =
+      freeze_spares (record x { step = Closes d }) hook e after (down_write_spares w.words d d.step) refl
+  freeze_told x FreezeStep.LocksAgain hook e after = freeze_spares (record x { step = FreezeStep.LocksAgain }) hook e after (refl, refl, refl, refl) refl
+  freeze_told x (FreezeStep.Cleans marks) hook e after = freeze_spares (record x { step = FreezeStep.Cleans marks }) hook e after (refl, refl, refl, refl) refl
+  freeze_told x FreezeStep.SetsFs (Ok answer) e after = refl
+  freeze_told x FreezeStep.SetsFs (Err code) e after = refl
+  freeze_told x FreezeStep.SetsComplete (Ok answer) e after = refl
+  freeze_told x FreezeStep.SetsComplete (Err code) e after = refl
+  freeze_told x (FreezeStep.Reopens u code) hook e after =
+      freeze_spares (record x { step = FreezeStep.Reopens u code }) hook e after (up_write_spares w.words u u.step) refl
+  freeze_told x other hook e after = refl
+
+  -- and of a thaw: who leaves others stores that these hold a freeze
+  thaw_told : (x : Thaw) (s : ThawStep) (hook : HookAnswer) → (w.views t).phase ≡ Some (Phase.Thaws (record x { step = s })) →
+      IsGood c (after_step w t (Phase.Thaws (record x { step = s })) hook) → IsToldAfter (Phase.Thaws (record x { step = s })) hook
+  thaw_told x ThawStep.Locks hook e after = thaw_spares (record x { step = ThawStep.Locks }) hook e after (refl, refl, refl, refl) refl
+  thaw_told x ThawStep.LoadsStage hook e after = thaw_spares (record x { step = ThawStep.LoadsStage }) hook e after (refl, refl, refl, refl) refl
+  thaw_told x ThawStep.LoadsHolders hook e after = thaw_spares (record x { step = ThawStep.LoadsHolders }) hook e after (refl, refl, refl, refl) refl
+  thaw_told x (ThawStep.Leaves held) hook e after =
+      let fits = subst (λ p. Fits c t (held_of (w.views t)) p) e (good Fitting t lt) in
+      let others = with_holder x.holder false held in
+      ap bit (sym (not_nobody (word_of others) (held_word others fits.2.1)))
+  thaw_told x ThawStep.LoadsSuperblock hook e after =
+      thaw_spares (record x { step = ThawStep.LoadsSuperblock }) hook e after (refl, refl, refl, refl) refl
+  thaw_told x ThawStep.LeavesLast (Ok answer) e after = refl
+  thaw_told x ThawStep.LeavesLast (Err code) e after = refl
+  thaw_told x (ThawStep.Reopens u) hook e after =
+      thaw_spares (record x { step = ThawStep.Reopens u }) hook e after (up_write_spares w.words u u.step) refl
+  thaw_told x other hook e after = refl
+
+  phase_told : (phase : Phase) (hook : HookAnswer) → (w.views t).phase ≡ Some phase → IsGood c (after_step w t phase hook) →
+      IsToldAfter phase hook
+  phase_told (Phase.Mounts phase) hook e after = quiet Phase.Mounts (λ x trace. refl) _ _
+  phase_told (Phase.Remounts x) hook e after = quiet Phase.Remounts (λ x trace. refl) _ _
+  phase_told (Phase.DownReads r) hook e after = quiet Phase.DownReads (λ x trace. refl) _ _
+  phase_told (Phase.UpReads u) hook e after = refl
+  phase_told (Phase.Callbacks b) hook e after = quiet Phase.Callbacks (λ x trace. refl) _ _
+  phase_told (Phase.Writes x) hook e after = quiet Phase.Writes (λ x trace. refl) _ _
+  phase_told (Phase.Freezes x) hook e after = freeze_told x x.step hook e after
+  phase_told (Phase.Thaws x) hook e after = thaw_told x x.step hook e after
+  phase_told (Phase.Trees phase) hook e after = quiet Phase.Trees (λ x trace. refl) _ _
+  phase_told (Closes phase) hook e after = quiet Closes (λ x trace. refl) _ _
+
+  step_told : (hook : HookAnswer) (p : Option Phase) → (w.views t).phase ≡ p → IsGood c (step_of w t hook p) → AllTold w →
+      AllTold (step_of w t hook p)
+  step_told hook None e after told x = told x
+  step_told hook (Some phase) e after told x =
+      each_updated (λ y (v : View). IsTold v.phase v.trace) w.views t
+      (view_after (w.views t) phase (value_at w.words phase hook) hook) x (phase_told phase hook e after) (λ ne. told x)
+
+none_yet : (phase : Phase) → is_between (Some phase) [] ≡ false
+none_yet (Phase.Mounts phase) = refl
+none_yet other = refl
+
+begin_told : (c : Config) (w : World) (t : ℕ) (op : Op) (refused : Option GateError) → AllTold w → AllTold (begin_of c w t op refused)
+begin_told c w t op refused told x = grind arith
+
+pub entry_told : (c : Config) (w : World) (e : Entry) → IsGood c w → IsGood c (happens c w e) → AllTold w → AllTold (happens c w e)
+entry_told c w (Begins t op) good after told = begin_told c w t op (begin_refusal c w t op) told
+entry_told c w (Steps t hook) good after told =
+    elim (cases_lt t c.tasks) [
+      | inl l ↦
+          let there = lt-ltb t c.tasks l in
+          let left_good : IsGood c (step_of w t hook (w.views t).phase) =
+          subst (λ (b : Bool). IsGood c (if b then step_of w t hook (w.views t).phase else w)) there after in
+          rw there (step_told c w good t l hook (w.views t).phase refl left_good told)
+      | inr l ↦ rw (le-ltb t c.tasks l) told
+    ]
+
+pub opening_told : AllTold opening
+opening_told t = refl
+
+-- who is between two stores or not, by its role
+bit_none : (b : Bool) → 0 ≡ bit b → b ≡ false
+bit_none true e = absurd (omega (arith, e))
+bit_none false e = refl
+
+-- so some freeze is held exactly where all is frozen, but between two stores of one freeze or thaw
+pub holders_told : (c : Config) (w : World) → IsGood c w → AllTold w → HoldersAreTold c w
+holders_told c w good told =
+    let exactly = held_exactly c.tasks (holders_at w) (good Holding) in
+    record {
+      held_where_frozen = λ some. ((exactly.0 some).0, λ t lt. bit_none _ (sym ((exactly.0 some).1 t lt) ∙ told t));
+      frozen_where_held = λ four none. exactly.1 four (λ t lt. told t ∙ ap bit (none t lt));
+      as_shown = (good Holding).lawful;
+      as_found = λ t lt own value left. good Known t lt own WordName.Holders value left;
+    }

@@ -1,0 +1,149 @@
+-- What holds of every schedule from the opening on.
+use Rattle.std.{proofs.Common.{◌≡◌, ℕ, refl, sym, subst, ◌∙◌, ap, ◌<◌}, specs.Prelude.{Option, Some, None, Err, List, [], ◌∷◌, ◌++◌, false, true}}
+use Rattle.access_model.proofs.{Closed.closed, Frozen.frozen_still}
+use Rattle.access_model.specs.{Histories.{Done, end_of, IsLegal}, Holders.held_by, Laws.{IsFrozenStill, NobodyHoldsClosed}, States.State}
+use Rattle.access_model.specs.declared.{actions.{Action.Action}, errors.GateError.GateError, replies.Next.Next}
+use Rattle.cpu_words.specs.Hooks.{HookAnswer}
+use Rattle.gate_world.specs.{refusals.Causes.{since_begun, HasCause, RefusalsHaveCauses, trail_of}, Configs.{IsWithin, model_limits}}
+use Rattle.gate_world.specs.traces.TraceStates.{state_of_trace, IsTraced, FollowsOrder, AllTraced}
+use Rattle.gate_world.specs.Headline.{world_after, actions_so_far, MovesTheModel, IsOneRun, NobodyIsInside, SumsHold, IdleSumsHold, NothingIsLeft}
+use Rattle.gate_world.specs.Headline.{FreezeIsUnderWay, HoldersAreTold, FrozenTreeIsWhole, FrozenTreeStays, SnapshotsStand, ViewTells, OperationsAreKept, LevelsLead}
+use Rattle.gate_world.specs.{Holdings.holdings_of, refusals.KeptCauses.CauseOf, Rules.IsGood, Shown.shown, traces.Traces.{Tells, actions_of}, Views.HoldsAsBefore}
+use Rattle.gate_world.specs.{refusals.Waits.{HasReason, EachWaitHasCulprit, HasCulpritAmong}, Work.after_of, Worlds.{World, opening, happens, run, history, found_at}}
+use Rattle.gate_world.specs.declared.entries.Entry.{Entry}
+use Rattle.gate_world.specs.declared.{config.Config.Config, operations.Op.Op, views.{Traced.Traced, View.View}, work.Phase.Phase}
+use Rattle.gate_schedules.proofs.{frames.ValidWords.events_may_be, operations.AllOperations.{phase_keeps, op_keeps}, schedules.Beginnings.may_begin}
+use Rattle.gate_schedules.proofs.schedules.{BetweenStores.{AllTold, entry_told, opening_told, holders_told}, Entries.{TrailHolds, trail_holds, begun_on}}
+use Rattle.gate_schedules.proofs.schedules.{Leads.levels_lead, Lists.run_lists, Rests.{at_rest, a_freeze_is_under_way}, Runs.history_on}
+use Rattle.gate_schedules.proofs.schedules.{Schedule.{opening_good, opening_shown, happens_keeps, run_keeps, gate_sums, idle_sums}, Snapshots.run_moments}
+use Rattle.gate_schedules.proofs.{schedules.SnapshotStability.snapshots_stand, traces.Traced.{opening_traced, entry_keeps}, trees.worlds.Frozen.frozen_whole}
+
+module _ (c : Config) (lim : IsWithin c) where
+  pub whole_rule : (es : List Entry) → IsGood c (world_after c es)
+  whole_rule es = (run_keeps c lim es opening [] (opening_good c lim) tt (opening_shown c lim)).0
+
+  pub whole_run : (es : List Entry) → IsOneRun c es
+  whole_run es = record {
+    legal = (run_keeps c lim es opening [] (opening_good c lim) tt (opening_shown c lim)).1;
+    end = (run_keeps c lim es opening [] (opening_good c lim) tt (opening_shown c lim)).2;
+    lists = run_lists c es opening [] (λ t. refl);
+    snapshots = run_moments c lim es opening [] (opening_good c lim) tt (opening_shown c lim) (λ t. refl) (λ t. tt);
+  }
+
+  pub whole_moves : (es : List Entry) (e : Entry) → MovesTheModel c es e
+  whole_moves es e = (happens_keeps c lim (world_after c es) (whole_rule es) e).1
+
+  pub whole_nobody : (es : List Entry) → NobodyIsInside c (world_after c es)
+  whole_nobody es = subst (λ (s : State). NobodyHoldsClosed (model_limits c) s) (whole_run es).end
+      (closed (model_limits c) (actions_so_far c es) (whole_run es).legal)
+
+  whole_trail : (es : List Entry) → TrailHolds c (λ w good e. (happens_keeps c lim w good e).0) opening [] es
+  whole_trail es = trail_holds c (λ w good e. (happens_keeps c lim w good e).0) es opening [] (opening_good c lim) (λ x lx. tt)
+
+  pub whole_sums : (es : List Entry) → SumsHold c (world_after c es)
+  whole_sums es = gate_sums c lim (world_after c es) (whole_rule es)
+
+  pub whole_idle : (es : List Entry) → IdleSumsHold c (world_after c es)
+  whole_idle es = idle_sums c lim (world_after c es) (whole_rule es)
+
+  pub whole_leads : (es : List Entry) → LevelsLead c (world_after c es)
+  whole_leads es = levels_lead c (world_after c es) (whole_rule es)
+
+  pub whole_rests : (es : List Entry) → NothingIsLeft c (world_after c es)
+  whole_rests es = at_rest c (world_after c es) (whole_rule es)
+
+  pub whole_freezes : (es : List Entry) → FreezeIsUnderWay c (world_after c es)
+  whole_freezes es = a_freeze_is_under_way c (world_after c es) (whole_rule es)
+
+  run_told : (es : List Entry) (w : World) → IsGood c w → AllTold w → AllTold (run c w es)
+  run_told [] w good told = told
+  run_told (e ∷ es) w good told =
+      let after : IsGood c (happens c w e) = (happens_keeps c lim w good e).0 in
+      run_told es (happens c w e) after (entry_told c w e good after told)
+
+  pub whole_holders : (es : List Entry) → HoldersAreTold c (world_after c es)
+  whole_holders es = holders_told c (world_after c es) (whole_rule es) (run_told es opening (opening_good c lim) opening_told)
+
+  pub whole_trees : (es : List Entry) → FrozenTreeIsWhole c (world_after c es)
+  whole_trees es = frozen_whole c lim (world_after c es) (whole_rule es)
+
+  -- what was done until a world, and what was done since, is one legal history, so what is frozen there stays so
+  pub whole_stays : (es more : List Entry) → FrozenTreeStays c es more
+  whole_stays es more h held never =
+      let w : World = world_after c es in
+      let earlier : List Done = actions_so_far c es in
+      let first : IsOneRun c es = whole_run es in
+      let all = run_keeps c lim more w earlier (whole_rule es) first.legal first.end in
+      let between : List Done = history c w [] more in
+      let is : history c w earlier more ≡ between ++ earlier = history_on c w earlier more in
+      let legal : IsLegal (model_limits c) (between ++ earlier) = subst (λ (l : List Done). IsLegal (model_limits c) l) is all.1 in
+      let end : end_of (between ++ earlier) ≡ shown c (run c w more) = ap end_of (sym is) ∙ all.2 in
+      let own : held_by (end_of earlier).holders h ≡ true = ap (λ (s : State). held_by s.holders h) first.end ∙ held in
+      subst (λ (z : State × State). IsFrozenStill h z.0 z.1) (λ i. (first.end i, end i))
+      (frozen_still (model_limits c) h between earlier legal own never)
+
+  pub whole_snapshots : (es : List Entry) → SnapshotsStand c (world_after c es)
+  whole_snapshots es = snapshots_stand c (world_after c es) (whole_rule es)
+
+  -- what comes after the next event of a task has its reason, among the worlds since the task began its operation
+  reason_told : (es : List Entry) (t : ℕ) (phase : Phase) (hook : HookAnswer) → t < c.tasks → ((world_after c es).views t).phase ≡ Some phase →
+      (since : List World) × (since_begun t (trail_of c es) ≡ world_after c es ∷ since) ×
+      HasReason c (world_after c es) since t phase (after_of phase (found_at (world_after c es).words phase hook) hook).0
+  reason_told es t phase hook lt at =
+      let h : TrailHolds c (λ w good e. (happens_keeps c lim w good e).0) opening [] es = whole_trail es in
+      let since : List World = since_begun t h.rest in (
+        since,
+        ap (since_begun t) h.is ∙ begun_on t (world_after c es) h.rest phase at,
+        (phase_keeps c phase).reasons lim (world_after c es) since (whole_rule es) t lt hook at
+            (subst (CauseOf c t (world_after c es) since) at (h.causes t lt)),
+      )
+
+  pub whole_causes : (es : List Entry) → RefusalsHaveCauses c es
+  whole_causes es t phase hook refusal lt at e =
+      let h = reason_told es t phase hook lt at in
+      subst (λ (ws : List World). HasCause c t ws phase refusal) (sym h.1)
+      (subst (λ (s : Next Phase). HasReason c (world_after c es) h.0 t phase s) e h.2)
+
+  pub whole_waits : (es : List Entry) → EachWaitHasCulprit c es
+  whole_waits es t phase again hook lt at e =
+      let h = reason_told es t phase hook lt at in
+      subst (λ (ws : List World). HasCulpritAmong c ws t phase) (sym h.1)
+      (subst (λ (s : Next Phase). HasReason c (world_after c es) h.0 t phase s) e h.2)
+
+  -- an operation that was refused has added what its refusals add
+  refused_adds : (op : Op) (trace : List Traced) (comes : Next Phase) (added : List Action) (refusal : GateError) →
+      Tells c op trace comes added → comes ≡ Next.Done (Err refusal) → added ≡ actions_of op (Err refusal) trace
+  refused_adds op trace comes added refusal h e =
+      let k : Tells c op trace (Next.Done (Err refusal)) added = subst (λ (s : Next Phase). Tells c op trace s added) e h in k.0
+
+  -- so its task holds what it held when it began
+  holds_as_before : (t : ℕ) (v : View) (op : Op) (refusal : GateError) → FollowsOrder c t v op →
+      v.actions ≡ actions_of op (Err refusal) v.trace ++ v.before →
+      HoldsAsBefore v
+  holds_as_before t v op refusal h is =
+      ap holdings_of is ∙ (op_keeps c op).restores refusal v.trace v.before (may_begin c false (holdings_of v.before) op h.begins).order
+
+  op_tells : (t : ℕ) (v : View) (op : Option Op) → IsTraced c t v op → ViewTells c t v op
+  op_tells t v None h = tt
+  op_tells t v (Some op) h =
+      let k : Tells c op v.trace (state_of_trace c t op v.trace).comes (state_of_trace c t op v.trace).added =
+      (op_keeps c op).tells lim t v.trace h.trace in
+      record {
+        tells = k;
+        refused = λ refusal e. holds_as_before t v op refusal h
+            (h.actions ∙ ap (λ l. l ++ v.before) (refused_adds op v.trace (state_of_trace c t op v.trace).comes
+            (state_of_trace c t op v.trace).added refusal k e));
+        short = (op_keeps c op).short lim t v.trace h.trace;
+      }
+
+  -- each view follows its operation, as each event is on a word that holds what it may
+  run_traced : (es : List Entry) (w : World) → IsGood c w → AllTraced c w → AllTraced c (run c w es)
+  run_traced [] w good h = h
+  run_traced (e ∷ es) w good h =
+      run_traced es (happens c w e) (happens_keeps c lim w good e).0 (entry_keeps c w e (events_may_be c lim w good) h)
+
+  pub whole_operations : (es : List Entry) (t : ℕ) → OperationsAreKept c es t
+  whole_operations es t =
+      let traced : IsTraced c t ((world_after c es).views t) ((world_after c es).views t).op =
+      run_traced es opening (opening_good c lim) (opening_traced c) t in
+      record { traced = traced; tells = op_tells t ((world_after c es).views t) ((world_after c es).views t).op traced }

@@ -1,0 +1,23 @@
+-- A snapshot under way stands in a frozen tree, from its load of stage 4 to its release.
+use Rattle.std.{proofs.Common.{◌≡◌, ℕ, subst}, specs.Prelude.{Some}}
+use Rattle.std.proofs.Common.{arith}
+use Rattle.gated_tree.specs.{Calls.{words_loaded, reading}, Roles.RoleHolds, declared.snapshots.SnapshotStep.SnapshotStep}
+use Rattle.freeze_laws.specs.stages.Roles.{KnowsStage}
+use Rattle.gate_world.specs.{Headline.SnapshotsStand, Rules.{IsGood, Stages, Tree, stage_role_of}, traces.Snapshots.values_noted}
+use Rattle.gate_world.specs.Roles.{snapshot_stage_role}
+use Rattle.gate_world.specs.{Trees.{tree_bounds, tree_role_of}, Worlds.World, declared.config.Config.Config}
+
+-- who has loaded words relies on stage 4
+relies : (stage sb nodes words : ℕ) (s : SnapshotStep) → words_loaded nodes s ≡ Some words → KnowsStage stage sb (snapshot_stage_role s) →
+    stage ≡ 4
+relies stage sb nodes words s e knows = grind arith
+
+pub snapshots_stand : (c : Config) (w : World) → IsGood c w → SnapshotsStand c w
+snapshots_stand c w good t x words lt at e = (
+  relies w.words.stage w.words.sb x.nodes words x.step e
+      (subst (λ p. KnowsStage w.words.stage w.words.sb (stage_role_of p)) at ((good Stages).knows t lt)),
+  subst (λ o. RoleHolds (tree_bounds c) w.words.used w.words.removed w.words.node w.words.kids
+      (reading (values_noted x.nodes (w.views t).trace) o)) e
+      (subst (λ p. RoleHolds (tree_bounds c) w.words.used w.words.removed w.words.node w.words.kids (tree_role_of (w.views t).trace p)) at
+      ((good Tree).roles t lt)),
+)

@@ -1,0 +1,237 @@
+-- The laws of one event and of a beginning as what a step on the table asks.
+use Rattle.std.proofs.Common.{◌≡◌, ℕ, suc, length, ◌<◌, List, [], ◌∷◌, set, sym, refl, ap, ◌∙◌, subst, length-set, arith}
+use Rattle.std.specs.Prelude.{is_some, Option, Some, None, slice_index}
+use Rattle.finite_sums.specs.Sums.{update}
+use Rattle.finite_sums.proofs.Totals.{update_at, update_off}
+use Rattle.atomic_table.specs.Table.{State, Me, keeps, Allows}
+use Rattle.access_model.specs.{Histories.{Done, end_of, IsLegal, IsMerge}, States.State as Shown, declared.{actions.Action.Action, replies.Next.Next}}
+use Rattle.cpu_words.specs.{Hooks.HookAnswer, Names.{IsWord, place, words_in_all}, Touches.{left, found_by}, Words.{Words, read, put}}
+use Rattle.cpu_words.specs.declared.{events.Touch.{Touch, TheVariants.Load}, names.WordName.WordName}
+use Rattle.gate_world.specs.{Beginnings.{first_phase, view_refusal}, Configs.{IsWithin, model_limits, extents_kept}, traces.TraceStates.ReadIsValid, Fits.Fits}
+use Rattle.gate_world.specs.{Moments.AllHaveMoments, Rules.{IsGood, Moves, StepKeeps, Fitting}, Shown.shown, traces.Snapshots.{completes, last_snapshot}}
+use Rattle.gate_world.specs.{Views.{begun_view, view_with, view_after_beside, held_of}, Work.{next_of, after_of}, Worlds.{World, words_after, value_at}}
+use Rattle.gate_world.specs.{Worlds.{found_at, after_step, after_step_beside, phase_action, with_action}, declared.{config.Config.Config, operations.Op.Op}}
+use Rattle.gate_world.specs.declared.{views.{View.View, Snapshot.Snapshot}, work.Phase.Phase}
+use Rattle.freeze_laws.specs.moments.Moments.{HaveDone}
+use Rattle.gate_schedules.proofs.{frames.{ValidWords.events_may_be, Snapshots.others_apart}, operations.AllOperations.phase_keeps, schedules.Beginnings.may_begin}
+use Rattle.gate_schedules.proofs.schedules.{Lists.{beside_lists, begin_lists}, Phases.word_there, Schedule.{begun_keeps, legal_more}}
+use Rattle.gate_schedules.proofs.{schedules.Snapshots.{beside_moments, begin_moments}, trees.worlds.Frozen.frozen_whole}
+use Rattle.gate_steps.proofs.{Dealing.{times-at, known_here, inside, redealt}, Reaching.{begun_reached, stepped_reached}, Stores.there_found}
+use Rattle.gate_steps.proofs.Growing.{seen_all}
+use Rattle.gate_steps.proofs.TableWords.{table_written}
+use Rattle.gate_world.specs.declared.entries.Entry.{Entry}
+use Rattle.gate_steps.specs.declared.seating.Knowledge.{Knowledge}
+use Rattle.std.proofs.Common.{map}
+use Rattle.std.proofs.lemmas.List.{map-set}
+use mathlib.Core.Option.{some}
+use lib.ListN.{get_elem?}
+use Rattle.atomic_table.proofs.Lists.{at_map}
+use Rattle.gate_steps.specs.{Histories.{HasHistory, IsReached, then_begins, then_steps}, Rules.{table_index, table_length, TableShows, Held}, Seating.{SeatItems, knows, items_of, HaveViews, Dealt, MayStep}}
+use Rattle.gate_steps.specs.{Seating.{Acts, entered, world_entered, done_by, items_after, happened}, declared.seating.Numbered.Numbered}
+
+abbrev pub Carried : Type 0
+Carried = List (ℕ × Unit {0})
+
+abbrev pub holds : Config → State (Unit {0}) Knowledge → Type 0
+holds c s = Held c s.words s.views
+
+-- a view depends on a word's value only through what the event says that it found
+view_same : (v : View) (word : WordName) (touch : Touch) (n : ℕ) (hook : HookAnswer) (after : ℕ → Next Phase × Option Action)
+    (last : ℕ → Option Snapshot) →
+    record (view_with v (word, touch) (found_by touch n) hook (after (found_by touch (found_by touch n)))) {
+      snapshot = last (found_by touch (found_by touch n));
+    } ≡
+    record (view_with v (word, touch) n hook (after (found_by touch n))) { snapshot = last (found_by touch n) }
+view_same v word Load n hook after last = refl
+view_same v word other n hook after last = refl
+
+pub found_serves : (others : List (ℕ × ℕ)) (v : View) (phase : Phase) (n : ℕ) (hook : HookAnswer) →
+    view_after_beside others v phase (found_by (next_of phase hook).1 n) hook ≡ view_after_beside others v phase n hook
+found_serves others v phase n hook =
+    view_same v (next_of phase hook).0 (next_of phase hook).1 n hook (λ k. after_of phase k hook)
+    (λ k. last_snapshot (completes phase v.trace k) v.actions others v.snapshot)
+
+-- the numbers that a seat has to give have done what it knows of them
+have_done : (views : ℕ → View) (log : List Done) → IsMerge (λ t. (views t).actions) log → (l : SeatItems) → HaveViews views l →
+    HaveDone (done_by l) log
+have_done views log lists [] mine = tt
+have_done views log lists (x ∷ xs) mine = (
+  ap length (lists x.number) ∙ ap (λ (v : View). length v.actions) (mine 0 x refl),
+  have_done views log lists xs (λ k. mine (suc k)),
+)
+
+-- the world with which an event of a task begins: the task may just have begun its operation
+record Entered (c : Config) (w : World) (t : ℕ) (begins : Option Op) (phase : Phase) (v : View) (log : List Done) : Type 0 where
+  good : IsGood c (world_entered c w t begins)
+  shows : shown c (world_entered c w t begins) ≡ shown c w
+  lists : IsMerge (λ x. ((world_entered c w t begins).views x).actions) log
+  snapshots : AllHaveMoments c log (world_entered c w t begins)
+  mine : (world_entered c w t begins).views t ≡ entered v begins phase
+  at_phase : ((world_entered c w t begins).views t).phase ≡ Some phase
+  words : (world_entered c w t begins).words ≡ w.words
+  reached : (r : IsReached c log w) → (now : IsReached c log (world_entered c w t begins)) × (now.entries ≡ then_begins t begins r.entries)
+  others : (y : ℕ) → (y ≡ t → ⊥) → (world_entered c w t begins).views y ≡ w.views y
+
+enter : (c : Config) (lim : IsWithin c) (w : World) → IsGood c w → (x : Numbered) → x.number < c.tasks → (h : HasHistory c w) →
+    w.views x.number ≡ x.view → (begins : Option Op) (phase : Phase) → MayStep c begins phase x →
+    Entered c w x.number begins phase x.view h.log
+enter c lim w good x lt h mine None phase may = record {
+  good = good;
+  shows = refl;
+  lists = h.lists;
+  snapshots = h.snapshots;
+  mine = mine;
+  at_phase = ap (λ (v : View). v.phase) mine ∙ may;
+  words = refl;
+  reached = λ r. (r, refl);
+  others = λ y ne. refl;
+}
+enter c lim w good x lt h mine (Some op) phase may =
+    let t : ℕ = x.number in
+    let v : View = begun_view (w.views t) op (first_phase c t op) in
+    let ok : view_refusal c (w.views t) op ≡ None = ap (λ u. view_refusal c u op) mine ∙ may.0 in
+    let kept = begun_keeps c lim w good t lt op (may_begin c (is_some (w.views t).phase) (held_of (w.views t)) op ok) in
+    let here : update w.views t v t ≡ v = update_at w.views t v in
+    record {
+      good = kept.0;
+      shows = kept.1;
+      lists = begin_lists c w h.log t op None h.lists;
+      snapshots = begin_moments c w h.log t op None h.snapshots;
+      mine = here ∙ (λ i. begun_view (mine i) op (sym may.1 i));
+      at_phase = ap (λ (u : View). u.phase) here ∙ ap Some (sym may.1);
+      words = refl;
+      reached = λ r. begun_reached c h.log w r t lt op ok;
+      others = λ y ne. update_off w.views t v y ne;
+    }
+
+-- a view that has just had an event has had one
+touched : (others : List (ℕ × ℕ)) (u v : View) (phase : Phase) (n : ℕ) (hook : HookAnswer) → u ≡ view_after_beside others v phase n hook →
+    u.events ≡ [] → ⊥
+touched others u v phase n hook is none =
+    let both : (view_after_beside others v phase n hook).events ≡ [] = ap (λ (w : View). w.events) (sym is) ∙ none in
+    let no : ⊥ = cc in
+    no
+
+-- Whatever the event, the laws of the machine are what the step asks
+pub step_simulates : (c : Config) (slots id : ℕ) (items : SeatItems) (seen : List (List Entry)) (carried : Carried) (begins : Option Op) (phase : Phase) (hook : HookAnswer) →
+    Acts c begins phase items →
+    Allows (holds c) slots id (knows items seen, carried) (table_index (place (next_of phase hook).0)) (left (next_of phase hook).1)
+    (λ n. happened c begins phase hook (knows items seen, carried) (found_by (next_of phase hook).1 n))
+step_simulates c slots id [] seen carried begins phase hook acts s held len at small = absurd acts
+step_simulates c slots id (x ∷ xs) seen carried begins phase hook acts s held len there_is small =
+    let seats : List SeatItems = map items_of s.views in
+    let at : get_elem? seats id ≡ some (x ∷ xs) = at_map items_of s.views id (knows (x ∷ xs) seen) there_is in
+    let t : ℕ = x.number in
+    let w : World = held.world in
+    let lim : IsWithin c = held.ruled.within in
+    let good : IsGood c w = held.ruled.good in
+    let mine : HaveViews w.views (x ∷ xs) = held.dealt.same id (x ∷ xs) at in
+    let lt : t < c.tasks = known_here c.tasks w.views seats held.dealt id (x ∷ xs) at t (times-at (x ∷ xs) 0 x refl) in
+    let log : List Done = held.history.log in
+    let en : Entered c w t begins phase x.view log = enter c lim w good x lt held.history (mine 0 x refl) begins phase acts in
+    let w' : World = world_entered c w t begins in
+    let name : WordName = (next_of phase hook).0 in
+    let touch : Touch = (next_of phase hook).1 in
+    let others : List (ℕ × ℕ) = done_by xs in
+    let after : World = after_step_beside others w' t phase hook in
+    let a : Option Action = phase_action w' hook (Some phase) in
+    let law : StepKeeps c w' t hook phase = (phase_keeps c phase).step lim w' en.good t lt hook en.at_phase in
+    let beside : IsGood c after × (shown c (after_step w' t phase hook) ≡ shown c after) = others_apart c others w' t phase hook law.0 in
+    let kept : IsGood c after × Moves c (shown c w') t a (shown c after) =
+    (beside.0, subst (Moves c (shown c w') t a) beside.1 law.1) in
+    let there : IsWord (extents_kept c) name =
+    word_there c lim t (held_of (w'.views t)) lt phase hook
+    (subst (λ o. Fits c t (held_of (w'.views t)) o) en.at_phase (en.good Fitting t lt)) in
+    let i : ℕ = table_index (place name) in
+    let n : ℕ = slice_index s.words i in
+    let value : n ≡ value_at w'.words phase hook = held.ruled.words name there ∙ ap (λ (l : Words). read l name) (sym en.words) in
+    let table : TableShows c (set s.words i (left touch n)) (words_after w'.words phase hook) =
+    subst (λ m. TableShows c (set s.words i (left touch n)) (put w'.words name (left touch m))) value
+    (table_written c lim s.words w'.words name (left touch n) held.ruled.long there
+    (subst (TableShows c s.words) (sym en.words) held.ruled.words)) in
+    let v : View = view_after_beside others (entered x.view begins phase) phase (found_by touch n) hook in
+    let v' : View = view_after_beside others (w'.views t) phase (value_at w'.words phase hook) hook in
+    let own : after.views t ≡ v =
+    update_at w'.views t v' ∙
+    ((λ j. view_after_beside others (en.mine j) phase (sym value j) hook) ∙
+    sym (found_serves others (entered x.view begins phase) phase n hook)) in
+    let apart : (y : ℕ) → (y ≡ t → ⊥) → after.views y ≡ w.views y = λ y ne. update_off w'.views t v' y ne ∙ en.others y ne in
+    let ends : end_of log ≡ shown c w' = held.history.end ∙ sym en.shows in
+    let more : IsLegal (model_limits c) (with_action t a log) × (end_of (with_action t a log) ≡ shown c after) =
+    legal_more c lim (shown c w') (shown c after) t a log kept.1 held.history.legal ends in
+    let done : HaveDone others log = have_done w.views log held.history.lists xs (λ k. mine (suc k)) in
+    let came = en.reached held.history.reached in
+    let went = stepped_reached c log w' came.0 t lt others phase hook en.at_phase in
+    let past : List Entry = held.history.reached.entries in
+    let now : List Entry = went.0.entries in
+    let grown : now ≡ then_steps t hook (then_begins t begins past) = went.1 ∙ ap (then_steps t hook) came.1 in
+    let left_items : SeatItems = items_after begins phase hook (found_by touch n) (x ∷ xs) in
+    let history : HasHistory c after = record {
+      log = with_action t a log;
+      legal = more.0;
+      end = more.1;
+      lists = beside_lists others w' log t hook phase en.lists;
+      snapshots = beside_moments c w' (frozen_whole c lim w' en.good) log ends others t hook phase en.lists done
+          ((phase_keeps c phase).completes lim w' en.good t lt hook en.at_phase) en.snapshots;
+      reached = went.0;
+    } in (
+      knows left_items (now ∷ []),
+      keeps,
+      tt,
+      record {
+        world = after;
+        ruled = record {
+          within = lim;
+          long = length-set s.words i (left touch n) ∙ held.ruled.long;
+          words = table;
+          good = kept.0;
+          opens = λ untouched. absurd
+              (touched others (after.views t) (entered x.view begins phase) phase (found_by touch n) hook own (untouched t lt));
+        };
+        history = history;
+        dealt = subst (Dealt c.tasks after.views) (sym (map-set items_of s.views id (knows left_items (now ∷ []))))
+            (redealt c.tasks w.views seats held.dealt id (x ∷ xs) at t x.view v xs refl after.views own apart);
+        seen = seen_all c.tasks w.views s.views held.dealt id x xs seen there_is begins hook past now grown held.seen left_items;
+      },
+      (
+        refl,
+        refl,
+        record {
+          within = lim;
+          world = w;
+          task = lt;
+          may = acts;
+          before = good;
+          mine = mine;
+          found = ap (found_by touch) (held.ruled.words name there);
+          holds = there_found phase hook n
+              (subst (ReadIsValid phase name) (sym value) (events_may_be c lim w' en.good t lt phase hook en.at_phase));
+          after = kept.0;
+          moves = subst (λ (z : Shown × Words). Moves c z.0 t (after_of phase (found_at z.1 phase hook) hook).1 (shown c after))
+              (λ j. (en.shows j, en.words j)) kept.1;
+          past = held.history;
+          from = held.seen id (knows (x ∷ xs) seen) there_is;
+          history = history;
+          grows = ap (λ (z : Words). with_action t (after_of phase (found_at z phase hook) hook).1 log) en.words;
+          reached = came.0;
+          begun = came.1;
+          stepped = went.1;
+          leaves = refl;
+          stands = en.mine;
+          left = inside c.tasks w.views seats held.dealt id (x ∷ xs) at t x.view v xs refl after.views own apart;
+        },
+      ),
+    )
+
+-- The same at a place, a touch and a moment that equal those of the phase, with the place's bound
+pub lifted_at : (c : Config) (slots words id : ℕ) (me : Me (Unit {0}) Knowledge) (d : Config) (begins starts : Option Op) (p q : Phase)
+    (h k : HookAnswer) (r : WordName × Touch) (i : ℕ) (touch : Touch) →
+    c ≡ d → begins ≡ starts → p ≡ q → h ≡ k → r ≡ next_of p h → i ≡ table_index (place r.0) → r.1 ≡ touch → words ≡ table_length →
+    place (next_of p h).0 < words_in_all → Acts c begins p me.0.items →
+    (i < words) × Allows (holds c) slots id me i (left touch) (λ n. happened d starts q k me (found_by touch n))
+lifted_at c slots words id me d begins starts p q h k r i touch ec eb ep eh er ei et ew small acts =
+    let at : i ≡ table_index (place (next_of p h).0) = ei ∙ ap (λ (z : WordName × Touch). table_index (place z.0)) er in
+    let same : (next_of p h).1 ≡ touch = ap (λ (z : WordName × Touch). z.1) (sym er) ∙ et in
+    let P : Config × Option Op × Phase × HookAnswer × ℕ × Touch →
+    Type 0 = λ z. Allows (holds c) slots id me z.4 (left z.5) (λ n. happened z.0 z.1 z.2 z.3 me (found_by z.5 n)) in
+    (omega arith, subst P (λ j. (ec j, eb j, ep j, eh j, sym at j, same j)) (step_simulates c slots id me.0.items me.0.seen me.1 begins p h acts))

@@ -1,0 +1,3 @@
+pub mod Causes
+pub mod Waits
+pub mod KeptCauses

@@ -1,0 +1,4 @@
+pub mod Found
+pub mod Snapshots
+pub mod TraceStates
+pub mod Traces

@@ -1,0 +1,144 @@
+//! From the words of a command line to how the program ends.
+
+ghost use Rattle.std.specs.Prelude.{◌≡◌, ◌≤◌, ◌⊎◌, true, IfOk, Ok, map, string_bytes};
+ghost use Rattle.command_line.specs.CommandLine.{MayAskPlainly, ask_plainly};
+ghost use Rattle.exit_status.specs.declared.ends.Ending.TheVariants.{Done, Passed, Ran};
+ghost use Rattle.program_replay.specs.Replays.{EndsReplayed};
+ghost use Rattle.mntgate.specs.Asking.{EndsAsked, EndsRun, TellsSomePassed, WasSomeRun};
+ghost use Rattle.line_replays.specs.Replayed.{Replayed};
+
+use program_races::{run_blessings, run_checks, run_outcomes};
+use program_replay::{Person, run_replay};
+use command_line::{Asked, Numbers, Tells, read_words};
+use exit_status::{Ending, refused, text_told};
+use gate_runs::{Plan, run_told};
+use refusals::run_explanation;
+use run_plans::Progress;
+use run_plans::rows::ROWS;
+use std::alloc::{AllocError, Global};
+use std::io::{Read, Stderr, Write};
+use std::rt::{Clock, Files};
+use std::sync::Wait;
+use std::thread::Threads;
+
+/// Does what the words of a command line ask for; faults are told on a writer of their own, and where they can't be, the
+/// program ends the same. Where a person watches, a run tells there how far it is, and a fault of a schedule is explained. A run ends as Ran
+/// only where all that was asked of it was done.
+///
+/// # Errors
+///
+/// `AllocError` where there was no memory to read the words, or for what they ask for.
+pub fn run<
+    R: Threads + Wait + Clock + Sync + Files + Alloc<A = Global>,
+    I: Read,
+    W: Write,
+    E: Write,
+>(
+    rt: &R,
+    alloc: Global,
+    words: &[String],
+    reader: &mut I,
+    writer: &mut W,
+    errors: &mut E,
+    person: Person,
+) -> Result<Ending, AllocError>
+    ensures plain { ask_plainly (map string_bytes words.now) ≡ true → IfOk result (λ ending. EndsReplayed
+        (I.remaining reader.old) (I.remaining reader.new) (W.contents writer.old) (W.contents writer.new) ending) }
+    ensures only { IfOk result (λ ending. ending ≡ Done → MayAskPlainly (map string_bytes words.now)) }
+    ensures done { IfOk result (λ ending. ending ≡ Done →
+        Replayed (I.remaining reader.old) (I.remaining reader.new) (W.contents writer.old) (W.contents writer.new) (Ok tt)) }
+    ensures passed { IfOk result (λ ending. ending ≡ Passed → TellsSomePassed (W.contents writer.old) (W.contents writer.new)) }
+    ensures ran { IfOk result (λ ending. ending ≡ Ran → WasSomeRun) }
+{
+    let asked = read_words(alloc, words, errors)?;
+    let ended = do_asked(rt, alloc, &asked, reader, writer, errors, person);
+    // By a call: to drop all its parts in line costs the proof more.
+    drop(asked);
+    ended
+}
+
+/// Does what is asked for.
+fn do_asked<
+    R: Threads + Wait + Clock + Sync + Files + Alloc<A = Global>,
+    I: Read,
+    W: Write,
+    E: Write,
+>(
+    rt: &R,
+    alloc: Global,
+    asked: &Asked<'_>,
+    reader: &mut I,
+    writer: &mut W,
+    errors: &mut E,
+    person: Person,
+) -> Result<Ending, AllocError>
+    ensures { IfOk result (EndsAsked asked.now (I.remaining reader.old) (I.remaining reader.new) (W.contents writer.old) (W.contents writer.new)) }
+{
+    match asked {
+        Asked::Replay(replay) => {
+            Ok(run_replay(rt, alloc, *replay, reader, writer, errors, &person))
+        }
+        Asked::Check(files) => {
+            Ok(run_checks(rt, alloc, files.as_slice(), reader, writer, errors))
+        }
+        Asked::Bless(files) => {
+            Ok(run_blessings(rt, alloc, files.as_slice(), reader, writer, errors))
+        }
+        Asked::Explain(explain) => {
+            Ok(run_explanation(alloc, explain.call, explain.refusal, writer, errors))
+        }
+        Asked::Outcomes(asked) => {
+            let watched = person.watches;
+            run_outcomes(rt, alloc, *asked, reader, writer, errors, watched)
+        }
+        Asked::Run(numbers, tells) => {
+            let watched = person.watches;
+            Ok(run_threads(rt, alloc, *numbers, *tells, writer, errors, watched))
+        }
+        Asked::Told(text) => Ok(text_told(text.as_str(), writer, errors)),
+        Asked::Misused => Ok(Ending::Misused),
+    }
+}
+
+/// How many of the rows are told: the first of them tell what all tasks did, the others what they met.
+fn count_of(tells: Tells) -> usize
+    ensures { result ≤ ROWS }
+{
+    match tells {
+        Tells::Totals => 5,
+        Tells::Details => ROWS,
+    }
+}
+
+/// Runs the threads. Where the clock can't be read, nobody is told how far they are.
+fn run_threads<R: Threads + Wait + Clock + Sync, W: Write, E: Write>(
+    rt: &R,
+    alloc: Global,
+    numbers: Numbers,
+    tells: Tells,
+    writer: &mut W,
+    errors: &mut E,
+    watched: Option<Stderr>,
+) -> Ending
+    ensures { EndsRun numbers result }
+{
+    let Numbers {
+        tasks,
+        processors,
+        rounds,
+        freezes,
+    } = numbers;
+    let plan = match Plan::new(tasks, processors, rounds, freezes) {
+        Ok(plan) => plan,
+        Err(refusal) => return refused(refusal, errors),
+    };
+    let progress = match watched {
+        Some(stderr) => Progress::new(rt, tasks, rounds, freezes, stderr).ok(),
+        None => None,
+    };
+    let count = count_of(tells);
+    match progress {
+        Some(progress) => run_told(rt, alloc, plan, count, &progress, writer, errors),
+        None => run_told(rt, alloc, plan, count, &(), writer, errors),
+    }
+}

@@ -1,0 +1,17 @@
+use Rattle.std.proofs.Common.{sym, subst, ap, ◌∙◌, ◌++◌, List, ℕ}
+use Rattle.program_races.proofs.Listed.{tells_as}
+use Rattle.schedule_lines.specs.declared.output.Output.{Output}
+use Rattle.program_races.proofs.outcomes.list_judged.Goals as goal
+
+pub returns-in-Ok-clause-told : goal.returns-in-Ok-clause-told
+returns-in-Ok-clause-told g c = λ text pairs. record {
+  core = c.args.core;
+  calls = c.args.source.calls.now.race.calls.items;
+  race = c.requires.race;
+  outcomes = c.list_race.new.told.bytes.items;
+  tells = tells_as _ _ _ _ _ _ _ c.is_whole-is_whole.ensures c.in_ok-listing.ensures.table.lengths c.in_ok-listing.ensures.expanded
+      c.requires.tasks (c.in_ok-listing.ensures.all text pairs) (c.in_ok-listing.ensures.some text pairs);
+  verdicts = c.judge_claims.new.verdicts.bytes.items;
+  claims = λ none. ap (λ (o : Output). o.bytes.items) (c.in_ok-judged.ensures none) ∙ c.new-verdicts.ensures.nothing;
+  written = (c.tell_verdicts.ensures text).printed c.in-Ok.ensures.whole;
+}

@@ -1,0 +1,401 @@
+//! The outcomes of a race, from the command line.
+
+ghost use Rattle.std.specs.Prelude.{◌≡◌, ◌<◌, ◌≤◌, ◌*◌, ◌⊎◌, ◌++◌, false, true, Some, All, IfOk, IfErr, OnOk, OnErr, length};
+ghost use Rattle.std.specs.Io.KnownBytes.{Appends, Keeps};
+ghost use Rattle.exit_status.specs.declared.ends.Ending.TheVariants.{Listed, Refused};
+ghost use Rattle.exploration.specs.Tables.{IsTable};
+ghost use Rattle.outcome_texts.specs.Methods.{next_by};
+ghost use Rattle.program_races.specs.Outcomes.{EndsTold, TellsRace, details_of, method_of, schedules_as};
+ghost use Rattle.program_races.specs.race_texts.Told.{TellsAll, TellsSome};
+ghost use Rattle.command_line.specs.declared.words.Listing.TheVariants.{Text};
+ghost use Rattle.race_files.specs.Calls.{is_claim};
+ghost use Rattle.race_files.specs.Left.{lines_in};
+ghost use Rattle.race_files.specs.Races.{IsRaceIn};
+ghost use Rattle.schedule_lines.specs.Printed.{Prints};
+ghost use Rattle.schedule_lines.specs.bytes.Writing.{AppendsPart};
+
+use crate::progress::SearchProgress;
+use crate::race_texts::{
+    Details, Exhibit, Judged, RaceSource, Schedules, Shape, VerdictForm, save_outcomes,
+    show_outcomes, tell, tell_claims, tell_ends,
+};
+use access_model::GateError;
+use command_line::{Listing, Outcomes};
+use diagnostics::{Context, Faulty, tell_faulty};
+use exit_status::{Ending, read_bytes, refused_of, why_told, why_told_of};
+use exploration::{Stop, Observer};
+use gate_core::Core;
+use outcome_texts::{Listing as RaceListing, Method, SearchPlan};
+use race_files::{RaceFile, read_race};
+use schedule_lines::bytes::{ReplayFault, write_out};
+use schedule_text::Output;
+use shown_events::{Style, html};
+use std::alloc::{AllocError, Global};
+use std::io::{Read, Stderr, Write};
+use std::rt::{Clock, Files};
+
+/// Writes the outcomes of the race that a file has, or the reader, where none is named, and the verdicts on what it claims. A fault of the race is
+/// told on the writer of faults, and so is want of memory; then nothing is written. Where a person watches, the search tells there how far it is.
+/// It ends as Listed where all outcomes are written, and all claims hold.
+pub fn run_outcomes<R: Files + Clock + Alloc<A = Global>, I: Read, W: Write, E: Write>(
+    rt: &R,
+    alloc: Global,
+    asked: Outcomes<'_>,
+    reader: &mut I,
+    writer: &mut W,
+    errors: &mut E,
+    watched: Option<Stderr>,
+) -> Result<Ending, AllocError>
+    ensures ends { IfOk result (λ ending. (ending ≡ Listed) ⊎ (ending ≡ Refused)) }
+    ensures told { asked.entry.form ≡ Text → asked.entry.ends ≡ false →
+        IfOk result (EndsTold asked.entry (I.remaining reader.old) (W.contents writer.old) (W.contents writer.new)) }
+    ensures memory { OnErr result (Keeps (W.contents writer.old) (W.contents writer.new)) }
+{
+    match read_bytes(rt, alloc, asked.file, reader, errors) {
+        Ok(bytes) => Ok(answer_outcomes(rt, asked, bytes.as_slice(), writer, errors, watched)),
+        Err(ending) => Ok(ending),
+    }
+}
+
+/// What was told of a race.
+#[derive(Drop)]
+struct Answered {
+    listing: RaceListing,
+    /// Whether these are all outcomes.
+    is_whole: bool,
+    judged: Judged,
+}
+
+/// Writes the outcomes of the race that these bytes have, in the form that is asked for.
+fn answer_outcomes<R: Files + Clock + Alloc<A = Global>, W: Write, E: Write>(
+    rt: &R,
+    asked: Outcomes<'_>,
+    bytes: &[u8],
+    writer: &mut W,
+    errors: &mut E,
+    watched: Option<Stderr>,
+) -> Ending
+    ensures ends { (result ≡ Listed) ⊎ (result ≡ Refused) }
+    ensures told { asked.entry.form ≡ Text → asked.entry.ends ≡ false →
+        EndsTold asked.entry (Some bytes.now) (W.contents writer.old) (W.contents writer.new) result }
+{
+    let mut told = Output::new(rt.alloc());
+    let mut watch = SearchProgress::new(rt, watched);
+    match answer_race(rt, asked, bytes, &mut watch, &mut told, errors) {
+        Ok(answered) => {
+            let ending = write_told(&told, &answered, writer, errors);
+            // By a call: to drop all its parts in line costs the proof more.
+            drop(answered);
+            ending
+        }
+        Err(ending) => ending,
+    }
+}
+
+/// Writes what is told. It ends as Listed where that is all outcomes, and all claims hold.
+fn write_told<W: Write, E: Write>(
+    told: &Output,
+    answered: &Answered,
+    writer: &mut W,
+    errors: &mut E,
+) -> Ending
+    ensures ends { (result ≡ Listed) ⊎ (result ≡ Refused) }
+    ensures whole { result ≡ Listed → answered.now.is_whole ≡ true }
+    ensures written { Appends (W.contents writer.old) (W.contents writer.new) told.now.bytes.items
+        ⊎ ((result ≡ Refused) × AppendsPart (W.contents writer.old) (W.contents writer.new) told.now.bytes.items) }
+{
+    match write_out(writer, told.bytes.as_slice()) {
+        Ok(()) => ending_of(answered),
+        Err(fault) => why_told(fault.text(), errors),
+    }
+}
+
+/// How it ends where all was written that is told.
+fn ending_of(answered: &Answered) -> Ending
+    ensures ends { (result ≡ Listed) ⊎ (result ≡ Refused) }
+    ensures whole { result ≡ Listed → answered.now.is_whole ≡ true }
+{
+    if !answered.is_whole {
+        return Ending::Refused;
+    }
+    match answered.judged {
+        Judged::Hold => Ending::Listed,
+        Judged::Broken | Judged::Unjudged => Ending::Refused,
+    }
+}
+
+/// Tells the outcomes of the race that these bytes have, in the form that is asked for, and what its claims come to.
+///
+/// # Errors
+///
+/// How the program ends if they aren't told: why is told on the writer of faults.
+fn answer_race<R: Files + Clock + Alloc<A = Global>, E: Write>(
+    rt: &R,
+    asked: Outcomes<'_>,
+    bytes: &[u8],
+    watch: &mut SearchProgress<'_, R>,
+    told: &mut Output,
+    errors: &mut E,
+) -> Result<Answered, Ending>
+    ensures ends { IfErr result (λ ending. ending ≡ Refused) }
+    ensures told { asked.entry.form ≡ Text → asked.entry.ends ≡ false →
+        IfOk result (λ answered. TellsRace asked.entry answered.is_whole bytes.now told.old.bytes.items told.new.bytes.items) }
+{
+    let alloc = rt.alloc();
+    match read_race(alloc, bytes) {
+        Ok(file) => answer_file(rt, asked, bytes, file, watch, told, errors),
+        Err(fault) => Err(tell_fault(alloc, bytes, fault, asked.file, errors)),
+    }
+}
+
+/// Tells the outcomes of a race that was read from these bytes, and what its claims come to.
+fn answer_file<R: Files + Clock + Alloc<A = Global>, E: Write>(
+    rt: &R,
+    asked: Outcomes<'_>,
+    bytes: &[u8],
+    file: RaceFile,
+    watch: &mut SearchProgress<'_, R>,
+    told: &mut Output,
+    errors: &mut E,
+) -> Result<Answered, Ending>
+    requires { IsRaceIn (lines_in 1048576 bytes.now) file.core file.calls.race.calls.items }
+    ensures ends { IfErr result (λ ending. ending ≡ Refused) }
+    ensures told { asked.entry.form ≡ Text → asked.entry.ends ≡ false →
+        IfOk result (λ answered. TellsRace asked.entry answered.is_whole bytes.now told.old.bytes.items told.new.bytes.items) }
+{
+    let alloc = rt.alloc();
+    let RaceFile { core, calls } = file;
+    let source = RaceSource {
+        alloc,
+        bytes,
+        calls: &calls,
+    };
+    let answered = list_judged(source, core, asked, watch, told);
+    watch.end();
+    match answered {
+        Ok(answered) => match save(rt, source, &answered.listing, asked, errors) {
+            Ok(()) => Ok(answered),
+            Err(ending) => {
+                // By a call: to drop all its parts in line costs the proof more.
+                drop(answered);
+                Err(ending)
+            }
+        },
+        Err(stop) => Err(stopped(stop, asked, errors)),
+    }
+}
+
+/// Tells the outcomes of a race on this core, and behind them the verdicts on what it claims.
+fn list_judged<W: Observer>(
+    source: RaceSource<'_>,
+    core: Core,
+    asked: Outcomes<'_>,
+    watch: &mut W,
+    told: &mut Output,
+) -> Result<Answered, Stop>
+    requires tasks { source.calls.now.race.tasks ≡ core.config.tasks }
+    requires race { IsRaceIn (lines_in 1048576 source.bytes.now) core source.calls.now.race.calls.items }
+    ensures table { IfOk result (λ answered. IsTable (next_by answered.listing.method source.entry.calls.now.race.calls.items source.entry.calls.now.race.tasks)
+        source.entry.calls.now.race.tasks answered.listing.all.found.states answered.listing.all.found.origins.items answered.listing.all.found.edges.items) }
+    ensures rows { IfOk result (λ answered. length answered.listing.all.found.edges.items ≡ answered.listing.all.found.expanded * source.entry.calls.now.race.tasks) }
+    ensures expanded { IfOk result (λ answered. answered.listing.all.found.expanded ≤ length answered.listing.all.found.states) }
+    ensures within { IfOk result (λ answered. All (λ outcome. outcome.end < length answered.listing.all.found.states) answered.listing.outcomes.items) }
+    ensures told { asked.entry.form ≡ Text → asked.entry.ends ≡ false →
+        IfOk result (λ answered. TellsRace asked.entry answered.is_whole source.entry.bytes.now told.old.bytes.items told.new.bytes.items) }
+{
+    let mut verdicts = Output::new(source.alloc);
+    let judged = judge_claims(source, &core, asked, watch, &mut verdicts)?;
+    let listing = list_race(source, core, asked, watch, told)?;
+    tell_verdicts(asked, &verdicts, told);
+    let is_whole = listing.all.found.is_whole();
+    if verdicts.settled().is_err() {
+        // By calls: to drop all its parts in line costs the proof more.
+        drop(listing);
+        return Err(Stop::NoMemory);
+    }
+    match told.settled() {
+        Ok(()) => Ok(Answered {
+            listing,
+            is_whole,
+            judged,
+        }),
+        Err(AllocError) => {
+            drop(listing);
+            Err(Stop::NoMemory)
+        }
+    }
+}
+
+/// Judges what a file claims of its race, and tells the verdicts.
+fn judge_claims<W: Observer>(
+    source: RaceSource<'_>,
+    core: &Core,
+    asked: Outcomes<'_>,
+    watch: &mut W,
+    verdicts: &mut Output,
+) -> Result<Judged, Stop>
+    requires { source.calls.now.race.tasks ≡ core.now.config.tasks }
+    ensures { All (λ line. is_claim line ≡ false) (lines_in 1048576 source.entry.bytes.now).lines → verdicts.new ≡ verdicts.old }
+{
+    let Details {
+        schedules,
+        style,
+        ..
+    } = details_of(asked);
+    let form = VerdictForm {
+        broken_alone: false,
+        records: matches!(asked.form, Listing::Json),
+        schedules,
+        style,
+    };
+    tell_claims(source, core, plan_of(asked).limit, form, watch, verdicts)
+}
+
+/// How the states of a race are searched.
+fn plan_of(asked: Outcomes<'_>) -> SearchPlan
+    ensures limit { result.limit ≡ asked.entry.limit }
+    ensures method { result.method ≡ method_of asked.entry.reduction }
+{
+    SearchPlan {
+        limit: asked.limit as usize,
+        method: if asked.reduction {
+            Method::Reduced
+        } else {
+            Method::Full
+        },
+    }
+}
+
+/// Tells the outcomes of a race on this core, in the form that is asked for.
+fn list_race<W: Observer>(
+    source: RaceSource<'_>,
+    core: Core,
+    asked: Outcomes<'_>,
+    watch: &mut W,
+    told: &mut Output,
+) -> Result<RaceListing, Stop>
+    requires { source.calls.now.race.tasks ≡ core.config.tasks }
+    ensures table { IfOk result (λ listing. IsTable (next_by listing.method source.entry.calls.now.race.calls.items source.entry.calls.now.race.tasks)
+        source.entry.calls.now.race.tasks listing.all.found.states listing.all.found.origins.items listing.all.found.edges.items) }
+    ensures rows { IfOk result (λ listing. length listing.all.found.edges.items ≡ listing.all.found.expanded * source.entry.calls.now.race.tasks) }
+    ensures expanded { IfOk result (λ listing. listing.all.found.expanded ≤ length listing.all.found.states) }
+    ensures within { IfOk result (λ listing. All (λ outcome. outcome.end < length listing.all.found.states) listing.outcomes.items) }
+    ensures all { asked.entry.form ≡ Text → asked.entry.ends ≡ false → IfOk result (λ listing. listing.all.found.expanded ≡ length listing.all.found.states →
+        TellsAll (method_of asked.entry.reduction) core source.entry.calls.now.race.calls.items (details_of asked.entry) told.old.bytes.items told.new.bytes.items) }
+    ensures some { asked.entry.form ≡ Text → asked.entry.ends ≡ false → IfOk result (λ listing. listing.all.found.expanded < length listing.all.found.states →
+        TellsSome (method_of asked.entry.reduction) core source.entry.calls.now.race.tasks source.entry.calls.now.race.calls.items
+        asked.entry.limit (details_of asked.entry) told.old.bytes.items told.new.bytes.items) }
+{
+    let (plan, details) = (plan_of(asked), details_of(asked));
+    let shape = match asked.form {
+        Listing::Text if asked.ends => {
+            let listing = tell_ends(source, &core, plan.limit, details, watch, told);
+            // By a call: to drop all its parts in line costs the proof more.
+            drop(core);
+            return listing;
+        }
+        Listing::Text => return tell(source, core, plan, details, watch, told),
+        Listing::Json => Shape::Records,
+        Listing::Html => Shape::Page(asked.file.unwrap_or("A race")),
+    };
+    let exhibit = Exhibit {
+        shape,
+        details,
+        ends: asked.ends,
+    };
+    show_outcomes(source, core, plan, exhibit, watch, told)
+}
+
+/// Saves a schedule of each outcome, if that is asked for.
+fn save<R: Files + Alloc<A = Global>, E: Write>(
+    rt: &R,
+    source: RaceSource<'_>,
+    listing: &RaceListing,
+    asked: Outcomes<'_>,
+    errors: &mut E,
+) -> Result<(), Ending>
+    requires table { IsTable (next_by listing.now.method source.calls.now.race.calls.items source.calls.now.race.tasks)
+        source.calls.now.race.tasks listing.now.all.found.states listing.now.all.found.origins.items listing.now.all.found.edges.items }
+    requires rows { length listing.now.all.found.edges.items ≡ listing.now.all.found.expanded * source.calls.now.race.tasks }
+    requires expanded { listing.now.all.found.expanded ≤ length listing.now.all.found.states }
+    requires within { All (λ outcome. outcome.end < length listing.now.all.found.states) listing.now.outcomes.items }
+    ensures { IfErr result (λ ending. ending ≡ Refused) }
+{
+    match asked.save {
+        Some(folder) => {
+            let style = details_of(asked).style;
+            save_outcomes(rt, source, listing, style, folder, errors)
+        }
+        None => Ok(()),
+    }
+}
+
+/// Tells the verdicts behind the outcomes.
+fn tell_verdicts(asked: Outcomes<'_>, verdicts: &Output, told: &mut Output)
+    ensures { asked.entry.form ≡ Text → Prints told.old told.new verdicts.now.bytes.items }
+{
+    match asked.form {
+        Listing::Text | Listing::Json => told.text(verdicts.bytes.as_slice()),
+        Listing::Html => {
+            if !verdicts.bytes.is_empty() {
+                html::print_text(told, verdicts.bytes.as_slice());
+            }
+            html::print_end(told);
+        }
+    }
+}
+
+/// Tells the fault of a race in these bytes, with its line and how to mend it.
+fn tell_fault<E: Write>(
+    alloc: Global,
+    bytes: &[u8],
+    fault: ReplayFault,
+    file: Option<&str>,
+    errors: &mut E,
+) -> Ending
+    ensures { result ≡ Refused }
+{
+    let (context, rest) = Context::find(bytes, fault.line);
+    let faulty = Faulty {
+        file,
+        fault,
+        context,
+        rest,
+    };
+    tell_faulty(alloc, faulty, errors)
+}
+
+/// Tells why the outcomes aren't told.
+fn stopped<E: Write>(stop: Stop, asked: Outcomes<'_>, errors: &mut E) -> Ending
+    ensures { result ≡ Refused }
+{
+    match stop {
+        Stop::NoMemory => refused_of(GateError::NoMemory, asked.file, errors),
+        Stop::TooMany => {
+            let limit = asked.limit;
+            why_told_of(format_args!("more than {limit} states"), asked.file, errors)
+        }
+    }
+}
+
+/// What is told under the line of an outcome.
+fn details_of(asked: Outcomes<'_>) -> Details
+    ensures { result ≡ details_of asked.entry }
+{
+    Details {
+        schedules: schedules_of(asked.schedules),
+        model: asked.model,
+        style: Style::of(asked.style.kernel_names, asked.style.raw),
+    }
+}
+
+/// In which form schedules are told.
+fn schedules_of(asked: command_line::Schedules) -> Schedules
+    ensures { result ≡ schedules_as asked }
+{
+    match asked {
+        command_line::Schedules::Untold => Schedules::Untold,
+        command_line::Schedules::Lines => Schedules::Lines,
+        command_line::Schedules::Columns => Schedules::Columns,
+    }
+}

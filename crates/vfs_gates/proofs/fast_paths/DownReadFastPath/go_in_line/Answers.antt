@@ -1,0 +1,10 @@
+-- each event of the line goes on from what the one before it left
+use Rattle.vfs_gates.proofs.fast_paths.DownReadFastPath.go_in_line.Goals as goal
+
+pub returns-clause-tied : goal.returns-clause-tied
+returns-clause-tied c number flags ties =
+    c.count_in_line.ensures.tied number flags (c.step_once-next.ensures.tied number flags ties)
+
+pub returns-clause-went : goal.returns-clause-went
+returns-clause-went c waits op start goes =
+    c.count_in_line.ensures.went waits op start (c.step_once-next.ensures.went waits op start goes)

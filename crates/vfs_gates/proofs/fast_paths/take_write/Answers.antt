@@ -1,0 +1,81 @@
+-- each event of the line goes on from what the one before it left
+use Rattle.std.proofs.Common.{◌∙◌, subst}
+use Rattle.std.specs.Prelude.{None}
+use Rattle.gate_world.specs.Views.{phase_after}
+use Rattle.gate_steps.specs.call_events.SeatedTasks.{task_state}
+use Rattle.gate_steps.specs.call_events.GhostAgrees.{GhostAgrees}
+use Rattle.gate_steps.specs.call_events.Turns.{kept_at, of_write}
+use Rattle.gate_steps.specs.call_events.Waited.{WentWaiting}
+use Rattle.vfs_gates.proofs.fast_paths.take_write.Goals as goal
+
+pub returns-then-is_granted-clause-tied : goal.returns-then-is_granted-clause-tied
+returns-then-is_granted-clause-tied c number flags ties =
+    subst (λ n. GhostAgrees number c.args.gates.now.config None (kept_at (phase_after (of_write n)) c.want_then-next.new.accesses) flags
+    c.want_then-next.new.seat.me.0.items) (c.is_granted.ensures c.if-is_granted.true)
+    (c.want_then-next.ensures.tied number flags
+    (c.step_if_at-next-3.ensures.tied number flags
+    (c.step_if_at-next-2.ensures.tied number flags
+    (c.step_if_at-next.ensures.tied number flags
+    (c.step_once-next.ensures.tied number flags ties)))))
+
+pub returns-then-is_granted-clause-went : goal.returns-then-is_granted-clause-went
+returns-then-is_granted-clause-went c waits op start goes =
+    subst (λ n. WentWaiting waits op start (of_write n) (task_state c.want_then-next.new.seat.table_id c.args.gates.now.config None
+    (phase_after (of_write n)) c.want_then-next.new.seat.me.0)) (c.is_granted.ensures c.if-is_granted.true)
+    (c.want_then-next.ensures.went waits op start
+    (c.step_if_at-next-3.ensures.went waits op start
+    (c.step_if_at-next-2.ensures.went waits op start
+    (c.step_if_at-next.ensures.went waits op start
+    (c.step_once-next.ensures.went waits op start goes)))))
+
+pub returns-then-is_granted-clause-table : goal.returns-then-is_granted-clause-table
+returns-then-is_granted-clause-table c = c.want_then-next.ensures.table ∙ (c.step_if_at-next-3.ensures.table ∙ (c.step_if_at-next-2.ensures.table ∙ (c.step_if_at-next.ensures.table ∙ c.step_once-next.ensures.table)))
+
+pub returns-then-is_granted-clause-slots : goal.returns-then-is_granted-clause-slots
+returns-then-is_granted-clause-slots c = c.want_then-next.ensures.slots ∙ (c.step_if_at-next-3.ensures.slots ∙ (c.step_if_at-next-2.ensures.slots ∙ (c.step_if_at-next.ensures.slots ∙ c.step_once-next.ensures.slots)))
+
+pub returns-clause-tied : goal.returns-clause-tied
+returns-clause-tied c number flags ties =
+    c.want_then-next.ensures.tied number flags
+    (c.step_if_at-next-3.ensures.tied number flags
+    (c.step_if_at-next-2.ensures.tied number flags
+    (c.step_if_at-next.ensures.tied number flags
+    (c.step_once-next.ensures.tied number flags ties))))
+
+pub returns-clause-went : goal.returns-clause-went
+returns-clause-went c waits op start goes =
+    c.want_then-next.ensures.went waits op start
+    (c.step_if_at-next-3.ensures.went waits op start
+    (c.step_if_at-next-2.ensures.went waits op start
+    (c.step_if_at-next.ensures.went waits op start
+    (c.step_once-next.ensures.went waits op start goes))))
+
+pub returns-clause-table : goal.returns-clause-table
+returns-clause-table c = c.want_then-next.ensures.table ∙ (c.step_if_at-next-3.ensures.table ∙ (c.step_if_at-next-2.ensures.table ∙ (c.step_if_at-next.ensures.table ∙ c.step_once-next.ensures.table)))
+
+pub returns-clause-slots : goal.returns-clause-slots
+returns-clause-slots c = c.want_then-next.ensures.slots ∙ (c.step_if_at-next-3.ensures.slots ∙ (c.step_if_at-next-2.ensures.slots ∙ (c.step_if_at-next.ensures.slots ∙ c.step_once-next.ensures.slots)))
+
+pub step_if_at-next-requires-clause-table : goal.step_if_at-next-requires-clause-table
+step_if_at-next-requires-clause-table c = c.step_once-next.ensures.table ∙ c.requires.table
+
+pub step_if_at-next-requires-clause-tied : goal.step_if_at-next-requires-clause-tied
+step_if_at-next-requires-clause-tied c = c.step_once-next.ensures.still
+
+pub step_if_at-next-requires-2-clause-table : goal.step_if_at-next-requires-2-clause-table
+step_if_at-next-requires-2-clause-table c = c.step_if_at-next.ensures.table ∙ (c.step_once-next.ensures.table ∙ c.requires.table)
+
+pub step_if_at-next-requires-2-clause-tied : goal.step_if_at-next-requires-2-clause-tied
+step_if_at-next-requires-2-clause-tied c = c.step_if_at-next.ensures.still
+
+pub step_if_at-next-requires-3-clause-table : goal.step_if_at-next-requires-3-clause-table
+step_if_at-next-requires-3-clause-table c = c.step_if_at-next-2.ensures.table ∙ (c.step_if_at-next.ensures.table ∙ (c.step_once-next.ensures.table ∙ c.requires.table))
+
+pub step_if_at-next-requires-3-clause-tied : goal.step_if_at-next-requires-3-clause-tied
+step_if_at-next-requires-3-clause-tied c = c.step_if_at-next-2.ensures.still
+
+pub want_then-next-requires-clause-table : goal.want_then-next-requires-clause-table
+want_then-next-requires-clause-table c = c.step_if_at-next-3.ensures.table ∙ (c.step_if_at-next-2.ensures.table ∙ (c.step_if_at-next.ensures.table ∙ (c.step_once-next.ensures.table ∙ c.requires.table)))
+
+pub want_then-next-requires-clause-tied : goal.want_then-next-requires-clause-tied
+want_then-next-requires-clause-tied c = c.step_if_at-next-3.ensures.still

@@ -1,0 +1,448 @@
+//! Operations whose usual events are known ahead: they are done in a straight line of code, and nothing is written down in between.
+
+ghost use Rattle.std.specs.Prelude.{◌≡◌, ℕ, IfSome, IsTrue, Some, None, Ok};
+ghost use Rattle.access_model.specs.Replies.{map_next};
+ghost use Rattle.access_model.specs.declared.replies.Next.TheVariants.{Done};
+ghost use Rattle.access_model.specs.declared.replies.Reply.TheVariants.{Unit as UnitReply};
+ghost use Rattle.gate_world.specs.Views.{phase_after};
+ghost use Rattle.gate_world.specs.declared.operations.Op.{Op as OpType};
+ghost use Rattle.gate_world.specs.declared.work.Phase.TheVariants.{Writes};
+ghost use Rattle.gate_steps.specs.call_events.SeatedTasks.{SeatedTask, task_state};
+ghost use Rattle.gate_steps.specs.call_events.Turns.{StateAgrees, StayTied, of_write};
+ghost use Rattle.composite_ops.specs.declared.write_access.phases.WritePhase.TheVariants.{Drops, Takes};
+ghost use Rattle.gate_steps.specs.call_events.Waited.{GoesWaiting, WentWaiting};
+ghost use Rattle.vfs_gates.specs.Lines.{done_or, of_read, of_want, taking_first};
+
+mod changes;
+mod grows;
+
+use access_model::{Next, Reply};
+use composite_ops::WritePhase;
+use gate_events::PendingOp;
+use gate_steps::call_events::{GateWords, GhostSeat, step_once};
+use gate_world::{Accesses, Op};
+use mount_counts::{MountPhase, Want, WantStep};
+use percpu_rwsem::{DownRead, DownReadStep, UpRead};
+
+/// An operation under way, in a form of its own, whose usual events stand in a line.
+pub trait FastPath: PendingOp {
+    ghost use Rattle.std.specs.Prelude.{◌≡◌, ℕ, Some, None};
+    ghost use Rattle.access_model.specs.Replies.{map_next};
+    ghost use Rattle.gate_world.specs.Views.{phase_after};
+    ghost use Rattle.gate_world.specs.declared.operations.Op.{Op as OpType};
+    ghost use Rattle.gate_steps.specs.call_events.SeatedTasks.{SeatedTask, task_state};
+    ghost use Rattle.gate_steps.specs.call_events.Turns.{StateAgrees, StayTied};
+    ghost use Rattle.gate_steps.specs.call_events.Waited.{GoesWaiting, WentWaiting};
+
+    /// The events up to the operation's usual end; where one of them finds something else, the events up to it. What comes after the
+    /// last of them.
+    fn go_in_line(
+        self,
+        gates: &GateWords,
+        seat: &mut GhostSeat,
+        accesses: &mut Accesses,
+        begins: Option<Op>,
+    ) -> Next<Self>
+        requires table { seat.old.table_id ≡ gates.now.table.shared.table_id }
+        requires tied { StateAgrees gates.now.config begins (Some (Self.as_phase self)) accesses.old seat.old.me.0.items }
+        ensures table { seat.new.table_id ≡ seat.old.table_id }
+        ensures slots { seat.new.me.1 ≡ seat.old.me.1 }
+        ensures tied { StayTied gates.now.config begins (Some (Self.as_phase self)) accesses.old seat.old.me.0.items
+            (phase_after (map_next Self.as_phase result)) accesses.new seat.new.me.0.items }
+        ensures went { (waits : ℕ) (op : OpType) (start : SeatedTask) →
+            GoesWaiting waits op start (task_state seat.old.table_id gates.now.config begins (Some (Self.as_phase self)) seat.old.me.0) →
+            WentWaiting waits op start (map_next Self.as_phase result)
+            (task_state seat.new.table_id gates.now.config None (phase_after (map_next Self.as_phase result)) seat.new.me.0) };
+}
+
+/// An operation whose line goes on only where it finds it at a place.
+pub(crate) trait Checkpointed: PendingOp {
+    /// A place in the line.
+    type Place: Copy;
+
+    /// Whether the operation stands there.
+    fn is_at(&self, place: Self::Place) -> bool;
+}
+
+/// The event that comes next, where the operation stands at this place; else nothing. What comes after it.
+#[inline(always)]
+pub(crate) fn step_if_at<P: Checkpointed>(
+    gates: &GateWords,
+    seat: &mut GhostSeat,
+    accesses: &mut Accesses,
+    next: Next<P>,
+    place: P::Place,
+) -> Next<P>
+    requires table { seat.old.table_id ≡ gates.now.table.shared.table_id }
+    requires tied { StateAgrees gates.now.config None (phase_after (map_next P.as_phase next)) accesses.old seat.old.me.0.items }
+    ensures table { seat.new.table_id ≡ seat.old.table_id }
+    ensures slots { seat.new.me.1 ≡ seat.old.me.1 }
+    ensures tied { StayTied gates.now.config None (phase_after (map_next P.as_phase next)) accesses.old seat.old.me.0.items
+        (phase_after (map_next P.as_phase result)) accesses.new seat.new.me.0.items }
+    ensures still { StateAgrees gates.now.config None (phase_after (map_next P.as_phase result)) accesses.new seat.new.me.0.items }
+    ensures went { (waits : ℕ) (op : OpType) (start : SeatedTask) →
+        WentWaiting waits op start (map_next P.as_phase next)
+        (task_state seat.old.table_id gates.now.config None (phase_after (map_next P.as_phase next)) seat.old.me.0) →
+        WentWaiting waits op start (map_next P.as_phase result)
+        (task_state seat.new.table_id gates.now.config None (phase_after (map_next P.as_phase result)) seat.new.me.0) }
+{
+    match next {
+        Next::Go(under_way) => {
+            let goes_on = under_way.is_at(place);
+            if goes_on {
+                step_once(gates, seat, accesses, None, under_way, Ok(()))
+            } else {
+                Next::Go(under_way)
+            }
+        }
+        Next::Wait(under_way) => Next::Wait(under_way),
+        Next::Done(answer) => Next::Done(answer),
+    }
+}
+
+impl Checkpointed for Want {
+    type Place = WantStep;
+
+    #[inline(always)]
+    fn is_at(&self, place: WantStep) -> bool {
+        self.step == place
+    }
+}
+
+impl Checkpointed for DownRead {
+    type Place = DownReadStep;
+
+    #[inline(always)]
+    fn is_at(&self, place: DownReadStep) -> bool {
+        self.step == place
+    }
+}
+
+/// A place in the line of a taking or a return of write access.
+#[derive(Clone, Copy)]
+pub(crate) enum WritePlace {
+    /// At its level, on the way in.
+    Enters(DownReadStep),
+    /// At its mount.
+    Wants(WantStep),
+    /// At its level, on the way out.
+    Leaves,
+}
+
+impl Checkpointed for WritePhase {
+    type Place = WritePlace;
+
+    #[inline(always)]
+    fn is_at(&self, place: WritePlace) -> bool {
+        match place {
+            WritePlace::Enters(step) => {
+                matches!(self, WritePhase::Takes { read, .. } if read.step == step)
+            }
+            WritePlace::Wants(step) => matches!(self, WritePhase::Wants(want) if want.step == step),
+            WritePlace::Leaves => matches!(self, WritePhase::Ends { .. }),
+        }
+    }
+}
+
+/// The last three events of a want that finds nothing in its way, in a line: whether the mount may be written. What comes after the last
+/// of them. They are a function of their own since the compiler takes no hint for one that five events stand in, and calls it.
+#[inline]
+fn ask_in_line(
+    gates: &GateWords,
+    seat: &mut GhostSeat,
+    accesses: &mut Accesses,
+    next: Next<Want>,
+) -> Next<Want>
+    requires table { seat.old.table_id ≡ gates.now.table.shared.table_id }
+    requires tied { StateAgrees gates.now.config None (phase_after (of_want next)) accesses.old seat.old.me.0.items }
+    ensures table { seat.new.table_id ≡ seat.old.table_id }
+    ensures slots { seat.new.me.1 ≡ seat.old.me.1 }
+    ensures tied { StayTied gates.now.config None (phase_after (of_want next)) accesses.old seat.old.me.0.items
+        (phase_after (of_want result)) accesses.new seat.new.me.0.items }
+    ensures went { (waits : ℕ) (op : OpType) (start : SeatedTask) →
+        WentWaiting waits op start (of_want next)
+        (task_state seat.old.table_id gates.now.config None (phase_after (of_want next)) seat.old.me.0) →
+        WentWaiting waits op start (of_want result)
+        (task_state seat.new.table_id gates.now.config None (phase_after (of_want result)) seat.new.me.0) }
+{
+    let next = step_if_at(gates, seat, accesses, next, WantStep::LoadsRemount);
+    let next = step_if_at(gates, seat, accesses, next, WantStep::LoadsReadOnly);
+    step_if_at(gates, seat, accesses, next, WantStep::LoadsSuperblock)
+}
+
+/// Takes a start that finds its level idle to its end, in a line: the load of its sync word, its count, and the end of its section.
+#[inline]
+fn count_in_line(
+    gates: &GateWords,
+    seat: &mut GhostSeat,
+    accesses: &mut Accesses,
+    next: Next<DownRead>,
+) -> Next<DownRead>
+    requires table { seat.old.table_id ≡ gates.now.table.shared.table_id }
+    requires tied { StateAgrees gates.now.config None (phase_after (of_read next)) accesses.old seat.old.me.0.items }
+    ensures table { seat.new.table_id ≡ seat.old.table_id }
+    ensures slots { seat.new.me.1 ≡ seat.old.me.1 }
+    ensures tied { StayTied gates.now.config None (phase_after (of_read next)) accesses.old seat.old.me.0.items
+        (phase_after (of_read result)) accesses.new seat.new.me.0.items }
+    ensures went { (waits : ℕ) (op : OpType) (start : SeatedTask) →
+        WentWaiting waits op start (of_read next)
+        (task_state seat.old.table_id gates.now.config None (phase_after (of_read next)) seat.old.me.0) →
+        WentWaiting waits op start (of_read result)
+        (task_state seat.new.table_id gates.now.config None (phase_after (of_read result)) seat.new.me.0) }
+{
+    let next = step_if_at(gates, seat, accesses, next, DownReadStep::LoadsSync);
+    let next = step_if_at(gates, seat, accesses, next, DownReadStep::CountsUpFast);
+    step_if_at(gates, seat, accesses, next, DownReadStep::LeavesAdmitted)
+}
+
+impl FastPath for Want {
+    #[inline(always)]
+    fn go_in_line(
+        self,
+        gates: &GateWords,
+        seat: &mut GhostSeat,
+        accesses: &mut Accesses,
+        begins: Option<Op>,
+    ) -> Next<Want> {
+        let next = step_once(gates, seat, accesses, begins, self, Ok(()));
+        let next = step_if_at(gates, seat, accesses, next, WantStep::LoadsHold);
+        ask_in_line(gates, seat, accesses, next)
+    }
+}
+
+impl FastPath for MountPhase {
+    #[inline(always)]
+    fn go_in_line(
+        self,
+        gates: &GateWords,
+        seat: &mut GhostSeat,
+        accesses: &mut Accesses,
+        begins: Option<Op>,
+    ) -> Next<MountPhase> {
+        step_once(gates, seat, accesses, begins, self, Ok(()))
+    }
+}
+
+impl FastPath for DownRead {
+    #[inline(always)]
+    fn go_in_line(
+        self,
+        gates: &GateWords,
+        seat: &mut GhostSeat,
+        accesses: &mut Accesses,
+        begins: Option<Op>,
+    ) -> Next<DownRead> {
+        let next = step_once(gates, seat, accesses, begins, self, Ok(()));
+        count_in_line(gates, seat, accesses, next)
+    }
+}
+
+impl FastPath for UpRead {
+    #[inline(always)]
+    fn go_in_line(
+        self,
+        gates: &GateWords,
+        seat: &mut GhostSeat,
+        accesses: &mut Accesses,
+        begins: Option<Op>,
+    ) -> Next<UpRead> {
+        step_once(gates, seat, accesses, begins, self, Ok(()))
+    }
+}
+
+/// The events of a taking of write access at its mount, in a line. What comes after the last of them.
+#[inline(always)]
+fn want_then(
+    gates: &GateWords,
+    seat: &mut GhostSeat,
+    accesses: &mut Accesses,
+    next: Next<WritePhase>,
+) -> Next<WritePhase>
+    requires table { seat.old.table_id ≡ gates.now.table.shared.table_id }
+    requires tied { StateAgrees gates.now.config None (phase_after (of_write next)) accesses.old seat.old.me.0.items }
+    ensures table { seat.new.table_id ≡ seat.old.table_id }
+    ensures slots { seat.new.me.1 ≡ seat.old.me.1 }
+    ensures tied { StayTied gates.now.config None (phase_after (of_write next)) accesses.old seat.old.me.0.items
+        (phase_after (of_write result)) accesses.new seat.new.me.0.items }
+    ensures went { (waits : ℕ) (op : OpType) (start : SeatedTask) →
+        WentWaiting waits op start (of_write next)
+        (task_state seat.old.table_id gates.now.config None (phase_after (of_write next)) seat.old.me.0) →
+        WentWaiting waits op start (of_write result)
+        (task_state seat.new.table_id gates.now.config None (phase_after (of_write result)) seat.new.me.0) }
+{
+    let place = WritePlace::Wants(WantStep::CountsUp);
+    let next = step_if_at(gates, seat, accesses, next, place);
+    let place = WritePlace::Wants(WantStep::LoadsHold);
+    let next = step_if_at(gates, seat, accesses, next, place);
+    let place = WritePlace::Wants(WantStep::LoadsRemount);
+    let next = step_if_at(gates, seat, accesses, next, place);
+    let place = WritePlace::Wants(WantStep::LoadsReadOnly);
+    let next = step_if_at(gates, seat, accesses, next, place);
+    let place = WritePlace::Wants(WantStep::LoadsSuperblock);
+    step_if_at(gates, seat, accesses, next, place)
+}
+
+/// Who takes write access, where, and on which processor.
+#[derive(Clone, Copy)]
+pub(crate) struct Writer {
+    mount: u8,
+    cpu: u8,
+    task: u8,
+}
+
+/// The writer of a taking that begins; none of one that has gone on.
+#[inline(always)]
+fn first_writer(mount: u8, read: DownRead) -> Option<Writer>
+    ensures { IfSome result (λ writer. Writes (Takes mount read) ≡ taking_first writer) }
+{
+    let DownRead {
+        level,
+        cpu,
+        task,
+        wait,
+        step,
+    } = read;
+    if level != 1 {
+        return None;
+    }
+    if !wait {
+        return None;
+    }
+    match step {
+        DownReadStep::EntersSection => Some(Writer { mount, cpu, task }),
+        _ => None,
+    }
+}
+
+/// Whether a taking of write access is done, and granted.
+#[inline(always)]
+fn is_granted(next: Next<WritePhase>) -> bool
+    ensures { IsTrue result → next ≡ Done (Ok UnitReply) }
+{
+    matches!(next, Next::Done(Ok(Reply::Unit)))
+}
+
+/// The events of a taking of write access that begins, in a line. Whether it is done. Where it isn't, what comes after the last of them is left
+/// in `rest`: so the usual answer is one bit, and nothing lies in memory.
+#[inline(never)]
+fn take_write(
+    gates: &GateWords,
+    seat: &mut GhostSeat,
+    accesses: &mut Accesses,
+    begins: Option<Op>,
+    writer: Writer,
+    rest: &mut Next<WritePhase>,
+) -> bool
+    requires table { seat.old.table_id ≡ gates.now.table.shared.table_id }
+    requires tied { StateAgrees gates.now.config begins (Some (taking_first writer)) accesses.old seat.old.me.0.items }
+    ensures table { seat.new.table_id ≡ seat.old.table_id }
+    ensures slots { seat.new.me.1 ≡ seat.old.me.1 }
+    ensures tied { StayTied gates.now.config begins (Some (taking_first writer)) accesses.old seat.old.me.0.items
+        (phase_after (of_write (done_or result rest.new))) accesses.new seat.new.me.0.items }
+    ensures went { (waits : ℕ) (op : OpType) (start : SeatedTask) →
+        GoesWaiting waits op start (task_state seat.old.table_id gates.now.config begins (Some (taking_first writer)) seat.old.me.0) →
+        WentWaiting waits op start (of_write (done_or result rest.new))
+        (task_state seat.new.table_id gates.now.config None (phase_after (of_write (done_or result rest.new))) seat.new.me.0) }
+{
+    let Writer { mount, cpu, task } = writer;
+    let read = DownRead {
+        level: 1,
+        cpu,
+        task,
+        wait: true,
+        step: DownReadStep::EntersSection,
+    };
+    let phase = WritePhase::Takes { mount, read };
+    let next = step_once(gates, seat, accesses, begins, phase, Ok(()));
+    let place = WritePlace::Enters(DownReadStep::LoadsSync);
+    let next = step_if_at(gates, seat, accesses, next, place);
+    let place = WritePlace::Enters(DownReadStep::CountsUpFast);
+    let next = step_if_at(gates, seat, accesses, next, place);
+    let place = WritePlace::Enters(DownReadStep::LeavesAdmitted);
+    let next = step_if_at(gates, seat, accesses, next, place);
+    let next = want_then(gates, seat, accesses, next);
+    if is_granted(next) {
+        return true;
+    }
+    *rest = next;
+    false
+}
+
+/// The two events of a return of write access, likewise.
+#[inline]
+fn give_in_line(
+    gates: &GateWords,
+    seat: &mut GhostSeat,
+    accesses: &mut Accesses,
+    begins: Option<Op>,
+    mount: u8,
+    cpu: u8,
+) -> Next<WritePhase>
+    requires table { seat.old.table_id ≡ gates.now.table.shared.table_id }
+    requires tied { StateAgrees gates.now.config begins (Some (Writes (Drops mount cpu))) accesses.old seat.old.me.0.items }
+    ensures table { seat.new.table_id ≡ seat.old.table_id }
+    ensures slots { seat.new.me.1 ≡ seat.old.me.1 }
+    ensures tied { StayTied gates.now.config begins (Some (Writes (Drops mount cpu))) accesses.old seat.old.me.0.items
+        (phase_after (of_write result)) accesses.new seat.new.me.0.items }
+    ensures went { (waits : ℕ) (op : OpType) (start : SeatedTask) →
+        GoesWaiting waits op start (task_state seat.old.table_id gates.now.config begins (Some (Writes (Drops mount cpu))) seat.old.me.0) →
+        WentWaiting waits op start (of_write result)
+        (task_state seat.new.table_id gates.now.config None (phase_after (of_write result)) seat.new.me.0) }
+{
+    let phase = WritePhase::Drops { mount, cpu };
+    let next = step_once(gates, seat, accesses, begins, phase, Ok(()));
+    step_if_at(gates, seat, accesses, next, WritePlace::Leaves)
+}
+
+/// Does the next event of a taking or a return that has gone on. What comes after it. It stands apart, so that one that begins is small enough
+/// to be put in line.
+#[cold]
+#[inline(never)]
+fn go_on_apart(
+    gates: &GateWords,
+    seat: &mut GhostSeat,
+    accesses: &mut Accesses,
+    begins: Option<Op>,
+    phase: WritePhase,
+) -> Next<WritePhase>
+    requires table { seat.old.table_id ≡ gates.now.table.shared.table_id }
+    requires tied { StateAgrees gates.now.config begins (Some (Writes phase)) accesses.old seat.old.me.0.items }
+    ensures table { seat.new.table_id ≡ seat.old.table_id }
+    ensures slots { seat.new.me.1 ≡ seat.old.me.1 }
+    ensures tied { StayTied gates.now.config begins (Some (Writes phase)) accesses.old seat.old.me.0.items
+        (phase_after (of_write result)) accesses.new seat.new.me.0.items }
+    ensures went { (waits : ℕ) (op : OpType) (start : SeatedTask) →
+        GoesWaiting waits op start (task_state seat.old.table_id gates.now.config begins (Some (Writes phase)) seat.old.me.0) →
+        WentWaiting waits op start (of_write result)
+        (task_state seat.new.table_id gates.now.config None (phase_after (of_write result)) seat.new.me.0) }
+{
+    step_once(gates, seat, accesses, begins, phase, Ok(()))
+}
+
+impl FastPath for WritePhase {
+    #[inline(always)]
+    fn go_in_line(
+        self,
+        gates: &GateWords,
+        seat: &mut GhostSeat,
+        accesses: &mut Accesses,
+        begins: Option<Op>,
+    ) -> Next<WritePhase> {
+        match self {
+            WritePhase::Takes { mount, read } => {
+                let Some(writer) = first_writer(mount, read) else {
+                    return go_on_apart(gates, seat, accesses, begins, self);
+                };
+                let mut rest = Next::Done(Ok(Reply::Unit));
+                if take_write(gates, seat, accesses, begins, writer, &mut rest) {
+                    return Next::Done(Ok(Reply::Unit));
+                }
+                rest
+            }
+            WritePhase::Drops { mount, cpu } => {
+                give_in_line(gates, seat, accesses, begins, mount, cpu)
+            }
+            phase => go_on_apart(gates, seat, accesses, begins, phase),
+        }
+    }
+}
