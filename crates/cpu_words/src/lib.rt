@@ -8,5 +8,5 @@ pub mod names;
 pub mod sums;
 
 pub use events::{Event, Touch};
-pub use names::{WordRow, STRIDE, WORDS, WordName};
+pub use names::{STRIDE, WORDS, WordName, WordRow};
 pub use sums::{Sum, Taken};

@@ -7,6 +7,6 @@ pub mod run_threads;
 mod runs;
 mod told;
 
-pub use run_plans::{Copies, Details, Meeting, Plan, Sizes, Totals, RunObserver, Writes};
+pub use run_plans::{Copies, Details, Meeting, Plan, RunObserver, Sizes, Totals, Writes};
 pub use runs::{run_plan, run_with};
 pub use told::run_told;

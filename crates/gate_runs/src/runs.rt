@@ -14,7 +14,7 @@ use crate::run_parts::{Closed, Gates, Task};
 use crate::run_threads::in_threads;
 use access_model::{Gate, GateError};
 use cpu_words::WordName;
-use run_plans::{Details, MOUNT, Meeting, Plan, Totals, RunObserver};
+use run_plans::{Details, MOUNT, Meeting, Plan, RunObserver, Totals};
 use std::alloc::Global;
 use std::sync::Wait;
 use std::thread::Threads;

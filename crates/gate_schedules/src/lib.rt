@@ -20,11 +20,11 @@
 pub mod drivers;
 pub mod operations;
 pub mod schedules;
-pub mod task_states;
 pub mod steps;
+pub mod task_states;
 pub mod trees;
 
 pub use drivers::Driver;
 pub use schedules::{every_schedule, every_schedule_keeps_the_rule};
-pub use task_states::TaskState;
 pub use steps::{Progress, Step};
+pub use task_states::TaskState;

@@ -3,15 +3,15 @@
 mod calls;
 mod decisions;
 mod failures;
+mod fixtures;
 mod lost;
 mod pairs;
 mod rows;
 mod runs;
-mod fixtures;
 mod tasks;
 mod teams;
-mod threads;
 mod thread_runs;
+mod threads;
 mod worked;
 
 use std::test::Fail;

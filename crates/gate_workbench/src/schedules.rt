@@ -2,9 +2,9 @@
 
 use crate::ending::Ending;
 use access_model::GateError;
-use program_replay::replay_gates;
 use line_replays::ReplayFault;
 use line_replays::replay::replay;
+use program_replay::replay_gates;
 use std::alloc::Global;
 
 /// A schedule that needs memory at its first line and at its third.

@@ -3,7 +3,7 @@
 ghost use Rattle.std.specs.Prelude.{◌↔◌, ◌≤◌, IsTrue};
 ghost use Rattle.cpu_words.specs.Names.{HasRow, IsWord};
 
-use cpu_words::{WordRow, WordName};
+use cpu_words::{WordName, WordRow};
 
 /// How many tasks (1 to 64), processors (1 to 64), mounts (1 to 8) and nodes (2 to 64, the root counted) there are, and how
 /// many blocks all files may have together.
@@ -48,7 +48,8 @@ impl Config {
         match row {
             WordRow::OfAll { .. } => true,
             WordRow::OfMount { mount, .. } => mount < self.mounts,
-            WordRow::CountOfMount { mount, cpu, .. } => mount < self.mounts && cpu < self.processors,
+            WordRow::CountOfMount { mount, cpu, .. } => mount < self.mounts
+                && cpu < self.processors,
             WordRow::OfLevel { level, .. } => (1..=3).contains(&level),
             WordRow::CountOfLevel { level, cpu, .. } => {
                 (1..=3).contains(&level) && cpu < self.processors

@@ -7,11 +7,11 @@ ghost use Rattle.program_replay.specs.Replays.{EndsReplayed};
 ghost use Rattle.mntgate.specs.Asking.{EndsAsked, EndsRun, TellsSomePassed, WasSomeRun};
 ghost use Rattle.line_replays.specs.Replayed.{Replayed};
 
-use program_races::{run_blessings, run_checks, run_outcomes};
-use program_replay::{Person, run_replay};
 use command_line::{Asked, Numbers, Tells, read_words};
 use exit_status::{Ending, refused, text_told};
 use gate_runs::{Plan, run_told};
+use program_races::{run_blessings, run_checks, run_outcomes};
+use program_replay::{Person, run_replay};
 use refusals::run_explanation;
 use run_plans::Progress;
 use run_plans::rows::ROWS;

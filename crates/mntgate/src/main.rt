@@ -5,8 +5,8 @@ pub mod dispatch;
 
 use crate::dispatch::run;
 use access_model::GateError;
-use program_replay::Person;
 use exit_status::{Ending, refused, unreadable};
+use program_replay::Person;
 use std::alloc::{AllocError, Global};
 use std::io::{IsTerminal, Stderr};
 use std::process::ExitCode;

@@ -23,7 +23,7 @@ use access_model::GateError;
 use command_line::{Listing, Outcomes};
 use diagnostics::{Context, Faulty, tell_faulty};
 use exit_status::{Ending, read_bytes, refused_of, why_told, why_told_of};
-use exploration::{Stop, Observer};
+use exploration::{Observer, Stop};
 use gate_core::Core;
 use outcome_texts::{Listing as RaceListing, Method, SearchPlan};
 use race_files::{RaceFile, read_race};

@@ -1,7 +1,9 @@
 //! Searches in full, led and past their limit.
 
 use super::{Counters, start};
-use exploration::{Unobserved, Observer, find_runs, outcomes, search_all, search_led, trace_by_runs};
+use exploration::{
+    Observer, Unobserved, find_runs, outcomes, search_all, search_led, trace_by_runs,
+};
 use std::test::Fail;
 
 /// The left counter comes to 0, 1, 2, 3 and 5, the right one to 0, 1, 2 and 3. At the end the right one is at 3, and the left one at 3, or at 5: from

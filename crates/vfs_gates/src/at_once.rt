@@ -3,8 +3,8 @@
 ghost use Rattle.std.specs.Prelude.{◌≡◌, false};
 ghost use Rattle.vfs_gates.specs.AtOnce.{BeginsAtOnce};
 
-use crate::fast_paths::FastPath;
 use crate::calls::waits;
+use crate::fast_paths::FastPath;
 use crate::gates::Gates;
 use crate::task::Task;
 use access_model::{GateError, Holder, Next};

@@ -4,8 +4,8 @@ ghost use Rattle.std.specs.Prelude.{◌≡◌, ◌-◌, IfOk, IfErr, OnOk, None}
 ghost use Rattle.gate_world.specs.Configs.{IsWithin};
 ghost use Rattle.gate_steps.specs.Rules.{first_known};
 
-use crate::closed::Closed;
 use crate::buffers::SnapshotBuffers;
+use crate::closed::Closed;
 use crate::task::Task;
 use access_model::GateError;
 use gate_steps::call_events::GateWords;

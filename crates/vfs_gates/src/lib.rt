@@ -3,16 +3,16 @@
 #![tactic(auto)]
 
 mod at_once;
-mod fast_paths;
+mod buffers;
 mod calls;
 mod closed;
+mod fast_paths;
 mod firsts;
 mod gates;
 pub mod laws;
 mod numbers;
 mod pairs;
 mod parts;
-mod buffers;
 mod settling;
 mod shown;
 mod taken;
@@ -24,7 +24,7 @@ pub use access_model::{Action, Gate, GateError, Holder, Kind, NodeInfo, Reply};
 pub use closed::Closed;
 pub use cpu_words::{Event, Touch, WordName};
 pub use freeze_levels::{FsHooks, HookCall, HookKind};
-pub use gate_steps::call_events::{Progress, GhostSeat, Step, TimedHooks};
+pub use gate_steps::call_events::{GhostSeat, Progress, Step, TimedHooks};
 pub use gate_world::{Config, Op};
 pub use gated_tree::Tree;
 pub use gates::Gates;

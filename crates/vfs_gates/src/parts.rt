@@ -3,9 +3,9 @@
 ghost use Rattle.std.specs.Prelude.{◌≡◌, ◌++◌, IfOk, IfErr, Some, None};
 ghost use Rattle.access_model.specs.declared.errors.GateError.TheVariants.{Order};
 
+use crate::buffers::SnapshotBuffers;
 use crate::gates::Gates;
 use crate::numbers::{lowest, none};
-use crate::buffers::SnapshotBuffers;
 use crate::task::Task;
 use access_model::GateError;
 use gate_steps::call_events::TaskState;

@@ -10,14 +10,14 @@ ghost use Rattle.access_model.specs.Replies.{map_next};
 ghost use Rattle.gate_world.specs.Views.{phase_after};
 ghost use Rattle.gate_steps.specs.call_events.Answers.{progress_of};
 
+use crate::buffers::SnapshotBuffers;
 use crate::calls::waits;
 use crate::gates::Gates;
 use crate::numbers::{Numbers, add_all, are_all, others_of};
-use crate::buffers::SnapshotBuffers;
 use access_model::{GateError, Next};
 use freeze_levels::HookKind;
 use gate_events::PendingOp;
-use gate_steps::call_events::{TaskState, Progress, GhostSeat, Step, Turn, do_event};
+use gate_steps::call_events::{GhostSeat, Progress, Step, TaskState, Turn, do_event};
 use gate_world::{Accesses, Config, Op, Phase};
 use gated_tree::Tree;
 use mount_counts::MountPhase;

@@ -5,8 +5,8 @@ ghost use Rattle.gate_world.specs.declared.operations.Op.{Op as OpType};
 ghost use Rattle.vfs_gates.specs.TaskStates.{TaskState};
 ghost use Rattle.gate_steps.specs.call_events.Runs.{told_as, ran_of, IsRanReply, Goes};
 
-use crate::fast_paths::FastPath;
 use crate::calls::{outcome, waits};
+use crate::fast_paths::FastPath;
 use crate::gates::Gates;
 use crate::task::Task;
 use access_model::{GateError, Holder, Next, Reply};

@@ -82,7 +82,13 @@ fn exit(gates: &GateWords, seat: &mut GhostSeat, accesses: &Accesses, thaw: Thaw
 
 /// Reopens a level, in three events. False where the sync word was none, or another task changed it in between.
 #[inline(never)]
-fn reopen(gates: &GateWords, seat: &mut GhostSeat, accesses: &Accesses, thaw: Thaw, level: u8) -> bool
+fn reopen(
+    gates: &GateWords,
+    seat: &mut GhostSeat,
+    accesses: &Accesses,
+    thaw: Thaw,
+    level: u8,
+) -> bool
     requires table { seat.old.table_id ≡ gates.now.table.shared.table_id }
     requires tied { StateAgrees gates.now.config None (Some (opening_at thaw level ClearsBlock)) accesses.now seat.old.me.0.items }
     ensures slots { seat.new.me.1 ≡ seat.old.me.1 }

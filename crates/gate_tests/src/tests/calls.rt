@@ -1,10 +1,10 @@
 //! Each public call as its user makes it, by tasks of one thread.
 
 use super::SMALL;
-use super::rows::Check::{Calls, CopiesInside, Stands, Steps, Took, WritesInside};
-use super::rows::{AT_REST, EMPTY_TREE, ROOT, CheckRow, Stand};
 use super::fixtures::HookPolicy;
-use super::teams::{Script, Case, JOINS, SPLITS};
+use super::rows::Check::{Calls, CopiesInside, Stands, Steps, Took, WritesInside};
+use super::rows::{AT_REST, CheckRow, EMPTY_TREE, ROOT, Stand};
+use super::teams::{Case, JOINS, SPLITS, Script};
 use vfs_gates::GateError::{Invalid, Order};
 use vfs_gates::{Config, Kind, NodeInfo, Progress, Reply, WordName};
 

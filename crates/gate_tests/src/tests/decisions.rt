@@ -3,10 +3,10 @@
 ghost use Rattle.vfs_gates.specs.TaskStates.{IsFrom};
 
 use super::SMALL;
+use super::fixtures::HookPolicy;
 use super::rows::Check::{BacksUp, Calls, FailsAt, Shuts, ShutsAndSees, Takes, Took};
 use super::rows::EMPTY_TREE;
-use super::fixtures::HookPolicy;
-use super::teams::{Script, Case, JOINS, SPLITS};
+use super::teams::{Case, JOINS, SPLITS, Script};
 use super::thread_runs::ThreadRun;
 use crossbeam_utils::Backoff;
 use std::sync::Wait;

@@ -2,9 +2,9 @@
 //! system agrees.
 
 use super::SMALL;
-use super::rows::Check::{Calls, FailsAt};
 use super::fixtures::HookPolicy;
-use super::teams::{Script, Case, JOINS, SPLITS};
+use super::rows::Check::{Calls, FailsAt};
+use super::teams::{Case, JOINS, SPLITS, Script};
 use vfs_gates::HookCall;
 
 /// A try at the mount and one at each level, each with its return, where each level lets readers in, and the mount lets writers in.

@@ -2,10 +2,10 @@
 //! number is left to split off, and the gates can't be closed, but both come back as they were.
 
 use super::SMALL;
+use super::fixtures::HookPolicy;
 use super::rows::Check::{Calls, Stands, Steps};
 use super::rows::{AT_REST, Check};
-use super::fixtures::HookPolicy;
-use super::teams::{Script, Case, SPLITS};
+use super::teams::{Case, SPLITS, Script};
 use vfs_gates::GateError::TooMany;
 use vfs_gates::{Config, Progress, WordName};
 

@@ -3,8 +3,8 @@
 ghost use Rattle.vfs_gates.specs.TaskStates.{IsFrom};
 
 use super::decisions::{back_up, shut, shut_and_see, take};
-use super::pairs::{copies_inside, writes_inside};
 use super::fixtures::Fixture;
+use super::pairs::{copies_inside, writes_inside};
 use super::tasks::call;
 use super::thread_runs::ThreadRun;
 use schedule_text::{Line, Request, TaskCommand, parse};

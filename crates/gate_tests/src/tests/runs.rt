@@ -1,6 +1,6 @@
 //! Runs: what they count, and that their tasks run at the same time.
 
-use gate_runs::{Meeting, Plan, Totals, RunObserver, run_plan, run_with};
+use gate_runs::{Meeting, Plan, RunObserver, Totals, run_plan, run_with};
 use std::alloc::Global;
 use std::sync::Wait;
 use std::sync::atomic::{AtomicBool, AtomicU32, Ordering};

@@ -65,7 +65,12 @@ pub fn call<R: Wait>(
 }
 
 /// One that waits for nobody.
-fn try_call(task: &mut Task, gates: &Gates, op: Op, turn: &mut ThreadRun<'_>) -> Result<(), GateError>
+fn try_call(
+    task: &mut Task,
+    gates: &Gates,
+    op: Op,
+    turn: &mut ThreadRun<'_>,
+) -> Result<(), GateError>
     requires { IsFrom task.old gates.now }
     ensures { IsFrom task.new gates.now }
 {

@@ -3,8 +3,8 @@
 ghost use Rattle.std.specs.Prelude.{◌≡◌, All, IfErr};
 ghost use Rattle.vfs_gates.specs.TaskStates.{IsFrom};
 
-use super::rows::{Repetition, CheckRow, go_through, work};
-use super::fixtures::{HookPolicy, Fixture};
+use super::fixtures::{Fixture, HookPolicy};
+use super::rows::{CheckRow, Repetition, go_through, work};
 use super::thread_runs::ThreadRun;
 use std::alloc::Global;
 use std::fmt::Debug;

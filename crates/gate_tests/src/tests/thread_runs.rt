@@ -1,7 +1,7 @@
 //! Turns: how a task stands in its lines, and the hooks that it calls with.
 
-use super::rows::{MOST, call_of};
 use super::fixtures::Fixture;
+use super::rows::{MOST, call_of};
 use vfs_gates::{FsHooks, GateError, HookCall, Op, Tree};
 
 /// How a task stands in its lines.

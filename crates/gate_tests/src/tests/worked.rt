@@ -3,10 +3,10 @@
 ghost use Rattle.vfs_gates.specs.TaskStates.{IsFrom};
 
 use super::SMALL;
+use super::fixtures::HookPolicy;
 use super::rows::Check::Calls;
 use super::rows::Repetition;
-use super::fixtures::HookPolicy;
-use super::teams::{Script, Case, JOINS, SPLITS};
+use super::teams::{Case, JOINS, SPLITS, Script};
 use cpu_words::{Sum, Taken};
 use percpu_rwsem::SyncWord;
 use std::alloc::Global;

@@ -8,7 +8,7 @@ use crate::race_texts::details::{Details, RaceSource};
 use crate::race_texts::executions::{gates_of, movers_to, print_execution, replayed, runs_for};
 use crate::race_texts::finals::{FinalModel, Finals, list_ends};
 use crate::race_texts::telling::print_model_behind;
-use exploration::{Stop, Observer};
+use exploration::{Observer, Stop};
 use gate_core::Core;
 use outcome_texts::{Listing, Outcome, SearchPlan, list};
 use race_files::schedules::print_schedule;

@@ -9,7 +9,7 @@ ghost use Rattle.gate_steps.specs.call_events.SeatedTasks.{SeatedTask, task_stat
 ghost use Rattle.gate_steps.specs.call_events.Turns.{StateAgrees, StayTied, of_grow};
 ghost use Rattle.gate_steps.specs.call_events.Waited.{GoesWaiting, WentWaiting};
 
-use crate::fast_paths::{FastPath, Checkpointed, step_if_at};
+use crate::fast_paths::{Checkpointed, FastPath, step_if_at};
 use access_model::Next;
 use gate_steps::call_events::{GateWords, GhostSeat, step_once};
 use gate_world::{Accesses, Op};

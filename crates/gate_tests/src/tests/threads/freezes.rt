@@ -1,8 +1,8 @@
 //! Freezes and thaws beside readers and callbacks, of a file system that fails now and then.
 
+use super::super::fixtures::{Fixture, HookPolicy};
 use super::super::rows::Repetition;
-use super::super::fixtures::{HookPolicy, Fixture};
-use super::super::teams::{Script, Case, JOINS, SPLITS};
+use super::super::teams::{Case, JOINS, SPLITS, Script};
 use super::FIVE;
 use std::sync::atomic::Ordering;
 use vfs_gates::{GateError, Op, WordName};

@@ -1,8 +1,8 @@
 //! Two holders of a freeze, each in a thread, beside a writer, and one who remounts, takes snapshots and writes.
 
+use super::super::fixtures::{Fixture, HookPolicy};
 use super::super::rows::Repetition;
-use super::super::fixtures::{HookPolicy, Fixture};
-use super::super::teams::{Script, Case, JOINS, SPLITS};
+use super::super::teams::{Case, JOINS, SPLITS, Script};
 use super::FIVE;
 use std::sync::atomic::{AtomicU64, Ordering};
 use std::thread;

@@ -1,8 +1,8 @@
 //! Wants and drops of two tasks, and beside them a change that comes and goes.
 
-use super::super::rows::Repetition;
 use super::super::fixtures::HookPolicy;
-use super::super::teams::{Script, Case, JOINS, SPLITS};
+use super::super::rows::Repetition;
+use super::super::teams::{Case, JOINS, SPLITS, Script};
 use super::FIVE;
 use vfs_gates::WordName;
 

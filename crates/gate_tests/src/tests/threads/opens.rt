@@ -1,8 +1,8 @@
 //! Files that are removed while open, beside a remount and a freeze.
 
-use super::super::rows::Repetition;
 use super::super::fixtures::HookPolicy;
-use super::super::teams::{Script, Case, JOINS, SPLITS};
+use super::super::rows::Repetition;
+use super::super::teams::{Case, JOINS, SPLITS, Script};
 use super::FIVE;
 use vfs_gates::{Config, WordName};
 

@@ -1,8 +1,8 @@
 //! Remounts of a file system that refuses now and then, beside writers.
 
-use super::super::rows::Repetition;
 use super::super::fixtures::HookPolicy;
-use super::super::teams::{Script, Case, JOINS, SPLITS};
+use super::super::rows::Repetition;
+use super::super::teams::{Case, JOINS, SPLITS, Script};
 use super::FIVE;
 use vfs_gates::{Config, WordName};
 

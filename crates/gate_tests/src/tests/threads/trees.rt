@@ -1,9 +1,9 @@
 //! Snapshots of the tree beside writers.
 
+use super::super::fixtures::{HookPolicy, NODES};
 use super::super::rows::Check::Calls;
 use super::super::rows::Repetition;
-use super::super::fixtures::{HookPolicy, NODES};
-use super::super::teams::{Script, Case, JOINS, SPLITS};
+use super::super::teams::{Case, JOINS, SPLITS, Script};
 use super::FIVE;
 use vfs_gates::{Config, WordName};
 
