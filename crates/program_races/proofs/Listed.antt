@@ -5,7 +5,7 @@ use Rattle.std.specs.Io.KnownBytes.{Appends, Keeps}
 use Rattle.command_line.specs.declared.words.Outcomes.{Outcomes}
 use Rattle.exit_status.specs.declared.ends.Ending.{Ending}
 use Rattle.exit_status.specs.declared.ends.Ending.TheVariants.{Listed, Refused}
-use Rattle.program_races.specs.Outcomes.{AreRead, EndsTold, TellsAs, TellsRace, details_of}
+use Rattle.program_races.specs.Outcomes.{AreRead, EndsTold, TellsAs, TellsRace, details_of, method_of}
 use Rattle.program_races.specs.race_texts.Told.{TellsAll, TellsSome}
 use Rattle.gate_core.specs.Memory.{Memory}
 use Rattle.races.specs.declared.calls.Call.{Call}
@@ -15,11 +15,11 @@ use Rattle.schedule_lines.specs.bytes.Writing.{AppendsPart}
 -- all outcomes are told, or those so far
 pub tells_as : (b : Bool) (core : Memory) (calls : List (List (Option Call))) (tasks : ℕ) (asked : Outcomes) (before after : List ℕ)
     {expanded origins states : ℕ} → (IsTrue b ↔ (expanded ≡ origins)) → origins ≡ states → expanded ≤ states → tasks ≡ core.config.tasks →
-    (expanded ≡ states → TellsAll core calls (details_of asked) before after) →
-    (expanded < states → TellsSome core tasks calls asked.limit (details_of asked) before after) → TellsAs b core calls asked before after
+    (expanded ≡ states → TellsAll (method_of asked.reduction) core calls (details_of asked) before after) →
+    (expanded < states → TellsSome (method_of asked.reduction) core tasks calls asked.limit (details_of asked) before after) → TellsAs b core calls asked before after
 tells_as true core calls tasks asked before after whole lengths within same all some = all (whole.0 refl ∙ lengths)
 tells_as false core calls tasks asked before after {expanded} {origins} {states} whole lengths within same all some =
-    subst (λ (k : ℕ). TellsSome core k calls asked.limit (details_of asked) before after) same (some (not_all (cases_lt expanded states)))
+    subst (λ (k : ℕ). TellsSome (method_of asked.reduction) core k calls asked.limit (details_of asked) before after) same (some (not_all (cases_lt expanded states)))
   where
     false_true : false ≡ true → ⊥
     false_true e = cc

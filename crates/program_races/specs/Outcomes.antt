@@ -8,6 +8,8 @@ use Rattle.exit_status.specs.Endings.{IsInput}
 use Rattle.exit_status.specs.declared.ends.Ending.{Ending}
 use Rattle.exit_status.specs.declared.ends.Ending.TheVariants.{Listed, Refused}
 use Rattle.gate_core.specs.Memory.{Memory}
+use Rattle.outcome_texts.specs.declared.listing.Method.{Method}
+use Rattle.outcome_texts.specs.declared.listing.Method.TheVariants.{Full, Reduced}
 use Rattle.races.specs.declared.calls.Call.{Call}
 use Rattle.schedule_lines.specs.bytes.Writing.{AppendsPart}
 use Rattle.program_races.specs.declared.race_texts.details.Details.{Details}
@@ -31,10 +33,16 @@ details_of asked = record {
   style = style_of asked.style.kernel_names asked.style.raw;
 }
 
+-- by which method states are visited: with a reduction, or in full
+abbrev pub method_of : Bool → Method
+method_of true = Reduced
+method_of false = Full
+
 -- All outcomes of a race are told, or those so far.
 abbrev pub TellsAs : Bool → Memory → List (List (Option Call)) → Outcomes → List ℕ → List ℕ → Type 0
-TellsAs true core calls asked before after = TellsAll core calls (details_of asked) before after
-TellsAs false core calls asked before after = TellsSome core core.config.tasks calls asked.limit (details_of asked) before after
+TellsAs true core calls asked before after = TellsAll (method_of asked.reduction) core calls (details_of asked) before after
+TellsAs false core calls asked before after =
+    TellsSome (method_of asked.reduction) core core.config.tasks calls asked.limit (details_of asked) before after
 
 -- The outcomes of the race that these bytes call are told behind what was there, as was asked for: all of them, or those so far; and behind them
 -- the verdicts on what they claim, if they claim something. The core on which the race begins is the one that the lines before the first line

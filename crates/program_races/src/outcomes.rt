@@ -4,13 +4,13 @@ ghost use Rattle.std.specs.Prelude.{◌≡◌, ◌<◌, ◌≤◌, ◌*◌, ◌�
 ghost use Rattle.std.specs.Io.KnownBytes.{Appends, Keeps};
 ghost use Rattle.exit_status.specs.declared.ends.Ending.TheVariants.{Listed, Refused};
 ghost use Rattle.exploration.specs.Tables.{IsTable};
-ghost use Rattle.program_races.specs.Outcomes.{EndsTold, TellsRace, details_of, schedules_as};
+ghost use Rattle.outcome_texts.specs.Methods.{next_by};
+ghost use Rattle.program_races.specs.Outcomes.{EndsTold, TellsRace, details_of, method_of, schedules_as};
 ghost use Rattle.program_races.specs.race_texts.Told.{TellsAll, TellsSome};
 ghost use Rattle.command_line.specs.declared.words.Listing.TheVariants.{Text};
 ghost use Rattle.race_files.specs.Calls.{is_claim};
 ghost use Rattle.race_files.specs.Left.{lines_in};
 ghost use Rattle.race_files.specs.Races.{IsRaceIn};
-ghost use Rattle.races.specs.Races.{next_reduced};
 ghost use Rattle.schedule_lines.specs.Printed.{Prints};
 ghost use Rattle.schedule_lines.specs.bytes.Writing.{AppendsPart};
 
@@ -84,7 +84,6 @@ fn answer_outcomes<R: Files + Clock + Alloc<A = Global>, W: Write, E: Write>(
     match answer_race(rt, asked, bytes, &mut watch, &mut told, errors) {
         Ok(answered) => {
             let ending = write_told(&told, &answered, writer, errors);
-            // By a call: to drop all its parts in line costs the proof more.
             drop(answered);
             ending
         }
@@ -176,7 +175,6 @@ fn answer_file<R: Files + Clock + Alloc<A = Global>, E: Write>(
         Ok(answered) => match save(rt, source, &answered.listing, asked, errors) {
             Ok(()) => Ok(answered),
             Err(ending) => {
-                // By a call: to drop all its parts in line costs the proof more.
                 drop(answered);
                 Err(ending)
             }
@@ -195,8 +193,8 @@ fn list_judged<W: Observer>(
 ) -> Result<Answered, Stop>
     requires tasks { source.calls.now.race.tasks ≡ core.config.tasks }
     requires race { IsRaceIn (lines_in 1048576 source.bytes.now) core source.calls.now.race.calls.items }
-    ensures table { IfOk result (λ answered. IsTable (next_reduced source.entry.calls.now.race.calls.items) source.entry.calls.now.race.tasks
-        answered.listing.all.found.states answered.listing.all.found.origins.items answered.listing.all.found.edges.items) }
+    ensures table { IfOk result (λ answered. IsTable (next_by answered.listing.method source.entry.calls.now.race.calls.items source.entry.calls.now.race.tasks)
+        source.entry.calls.now.race.tasks answered.listing.all.found.states answered.listing.all.found.origins.items answered.listing.all.found.edges.items) }
     ensures rows { IfOk result (λ answered. length answered.listing.all.found.edges.items ≡ answered.listing.all.found.expanded * source.entry.calls.now.race.tasks) }
     ensures expanded { IfOk result (λ answered. answered.listing.all.found.expanded ≤ length answered.listing.all.found.states) }
     ensures within { IfOk result (λ answered. All (λ outcome. outcome.end < length answered.listing.all.found.states) answered.listing.outcomes.items) }
@@ -209,7 +207,6 @@ fn list_judged<W: Observer>(
     tell_verdicts(asked, &verdicts, told);
     let is_whole = listing.all.found.is_whole();
     if verdicts.settled().is_err() {
-        // By calls: to drop all its parts in line costs the proof more.
         drop(listing);
         return Err(Stop::NoMemory);
     }
@@ -253,7 +250,8 @@ fn judge_claims<W: Observer>(
 
 /// How the states of a race are searched.
 fn plan_of(asked: Outcomes<'_>) -> SearchPlan
-    ensures { result.limit ≡ asked.entry.limit }
+    ensures limit { result.limit ≡ asked.entry.limit }
+    ensures method { result.method ≡ method_of asked.entry.reduction }
 {
     SearchPlan {
         limit: asked.limit as usize,
@@ -274,22 +272,21 @@ fn list_race<W: Observer>(
     told: &mut Output,
 ) -> Result<RaceListing, Stop>
     requires { source.calls.now.race.tasks ≡ core.config.tasks }
-    ensures table { IfOk result (λ listing. IsTable (next_reduced source.entry.calls.now.race.calls.items) source.entry.calls.now.race.tasks
-        listing.all.found.states listing.all.found.origins.items listing.all.found.edges.items) }
+    ensures table { IfOk result (λ listing. IsTable (next_by listing.method source.entry.calls.now.race.calls.items source.entry.calls.now.race.tasks)
+        source.entry.calls.now.race.tasks listing.all.found.states listing.all.found.origins.items listing.all.found.edges.items) }
     ensures rows { IfOk result (λ listing. length listing.all.found.edges.items ≡ listing.all.found.expanded * source.entry.calls.now.race.tasks) }
     ensures expanded { IfOk result (λ listing. listing.all.found.expanded ≤ length listing.all.found.states) }
     ensures within { IfOk result (λ listing. All (λ outcome. outcome.end < length listing.all.found.states) listing.outcomes.items) }
     ensures all { asked.entry.form ≡ Text → asked.entry.ends ≡ false → IfOk result (λ listing. listing.all.found.expanded ≡ length listing.all.found.states →
-        TellsAll core source.entry.calls.now.race.calls.items (details_of asked.entry) told.old.bytes.items told.new.bytes.items) }
+        TellsAll (method_of asked.entry.reduction) core source.entry.calls.now.race.calls.items (details_of asked.entry) told.old.bytes.items told.new.bytes.items) }
     ensures some { asked.entry.form ≡ Text → asked.entry.ends ≡ false → IfOk result (λ listing. listing.all.found.expanded < length listing.all.found.states →
-        TellsSome core source.entry.calls.now.race.tasks source.entry.calls.now.race.calls.items asked.entry.limit (details_of asked.entry)
-        told.old.bytes.items told.new.bytes.items) }
+        TellsSome (method_of asked.entry.reduction) core source.entry.calls.now.race.tasks source.entry.calls.now.race.calls.items
+        asked.entry.limit (details_of asked.entry) told.old.bytes.items told.new.bytes.items) }
 {
     let (plan, details) = (plan_of(asked), details_of(asked));
     let shape = match asked.form {
         Listing::Text if asked.ends => {
             let listing = tell_ends(source, &core, plan.limit, details, watch, told);
-            // By a call: to drop all its parts in line costs the proof more.
             drop(core);
             return listing;
         }
@@ -313,8 +310,8 @@ fn save<R: Files + Alloc<A = Global>, E: Write>(
     asked: Outcomes<'_>,
     errors: &mut E,
 ) -> Result<(), Ending>
-    requires table { IsTable (next_reduced source.calls.now.race.calls.items) source.calls.now.race.tasks
-        listing.now.all.found.states listing.now.all.found.origins.items listing.now.all.found.edges.items }
+    requires table { IsTable (next_by listing.now.method source.calls.now.race.calls.items source.calls.now.race.tasks)
+        source.calls.now.race.tasks listing.now.all.found.states listing.now.all.found.origins.items listing.now.all.found.edges.items }
     requires rows { length listing.now.all.found.edges.items ≡ listing.now.all.found.expanded * source.calls.now.race.tasks }
     requires expanded { listing.now.all.found.expanded ≤ length listing.now.all.found.states }
     requires within { All (λ outcome. outcome.end < length listing.now.all.found.states) listing.now.outcomes.items }

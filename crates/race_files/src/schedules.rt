@@ -34,6 +34,52 @@ pub fn print_schedule(
     out.settled()
 }
 
+/// Moves gates that were set up as these movers do, and returns moves that lead to the same answers, where each task begins a call right before the
+/// call's first step; a beginning that no step follows is left out. A beginning touches no word, so it is no matter what others do before and after
+/// it. No contract says that the answers are the same.
+pub fn begin_late(
+    alloc: Global,
+    calls: &Calls,
+    session: &mut Session<Core>,
+    movers: &[u8],
+) -> Result<Vec<u8>, AllocError> {
+    let mut courses = vec![in alloc; Course::new(); usize::from(calls.race.tasks)]?;
+    let mut held = vec![in alloc; false; usize::from(calls.race.tasks)]?;
+    let mut late = Vec::new(alloc);
+    let mut unread = Output::new(alloc);
+    for task in movers {
+        let task = *task;
+        let Some(course) = courses.get_mut(usize::from(task)) else {
+            continue;
+        };
+        let was_idle = !session.gates().is_under_way(task);
+        let answer = print_move(calls, session, task, course.turn, &mut unread);
+        *course = course_after(&calls.race, task, *course, answer);
+        let begins = was_idle && session.gates().is_under_way(task);
+        hold_or_move(begins, task, held.as_mut_slice(), &mut late)?;
+    }
+    Ok(late)
+}
+
+/// Holds the beginning of a task; or adds its move, behind its beginning if that is held.
+fn hold_or_move(
+    begins: bool,
+    task: u8,
+    held: &mut [bool],
+    moves: &mut Vec<u8>,
+) -> Result<(), AllocError> {
+    if let Some(is_held) = held.get_mut(usize::from(task)) {
+        if *is_held {
+            moves.push(task)?;
+        }
+        *is_held = begins;
+    }
+    if !begins {
+        moves.push(task)?;
+    }
+    Ok(())
+}
+
 /// How far a task has come whose next move answered this, or nothing.
 fn course_after(race: &Race, task: u8, course: Course, answer: Option<Answer>) -> Course {
     match (race.calls_of(task), race.call_after(task, course)) {

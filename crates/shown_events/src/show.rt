@@ -47,7 +47,6 @@ impl<D: Driver> Show<D> {
                 })
             }
             Err(refused) => {
-                // By a call: to drop all its parts in line costs the proof more.
                 drop(session);
                 Err(refused)
             }

@@ -203,7 +203,6 @@ fn judge_claims(
         style: NO_DETAILS.style,
     };
     let judged = tell_claims(source, &core, STATES, form, &mut Unobserved, told);
-    // By a call: to drop all its parts in line costs the proof more.
     drop(core);
     judged
 }

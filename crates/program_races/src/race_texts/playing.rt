@@ -60,7 +60,6 @@ impl<'a> Source<'a> {
         match set_up {
             Ok(session) => {
                 let done = print_race(alloc, &session, &mut lines, &mut printed);
-                // By a call: to drop all its parts in line costs the proof more.
                 drop(session);
                 watch.take(&lines, &mut printed);
                 done

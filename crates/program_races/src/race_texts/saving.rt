@@ -3,7 +3,7 @@
 ghost use Rattle.std.specs.Prelude.{◌≡◌, ◌<◌, ◌≤◌, ◌*◌, All, IfErr, length};
 ghost use Rattle.exit_status.specs.declared.ends.Ending.TheVariants.{Refused};
 ghost use Rattle.exploration.specs.Tables.{IsTable};
-ghost use Rattle.races.specs.Races.{next_reduced};
+ghost use Rattle.outcome_texts.specs.Methods.{next_by};
 
 use crate::race_texts::details::RaceSource;
 use crate::race_texts::executions::{gates_of, movers_to, print_execution, runs_for, set_up_in};
@@ -31,8 +31,8 @@ pub fn save_outcomes<R: Files + Alloc<A = Global>, E: Write>(
     folder: &str,
     errors: &mut E,
 ) -> Result<(), Ending>
-    requires table { IsTable (next_reduced source.calls.now.race.calls.items) source.calls.now.race.tasks
-        listing.now.all.found.states listing.now.all.found.origins.items listing.now.all.found.edges.items }
+    requires table { IsTable (next_by listing.now.method source.calls.now.race.calls.items source.calls.now.race.tasks)
+        source.calls.now.race.tasks listing.now.all.found.states listing.now.all.found.origins.items listing.now.all.found.edges.items }
     requires rows { length listing.now.all.found.edges.items ≡ listing.now.all.found.expanded * source.calls.now.race.tasks }
     requires expanded { listing.now.all.found.expanded ≤ length listing.now.all.found.states }
     requires within { All (λ outcome. outcome.end < length listing.now.all.found.states) listing.now.outcomes.items }
@@ -43,7 +43,13 @@ pub fn save_outcomes<R: Files + Alloc<A = Global>, E: Write>(
     };
     let mut number = 1u64;
     for outcome in &listing.outcomes {
-        let Ok(movers) = movers_to(source, &listing.all.found, &runs, outcome.end) else {
+        let Ok(movers) = movers_to(
+            source,
+            listing.method,
+            &listing.all.found,
+            &runs,
+            outcome.end,
+        ) else {
             return Err(refused_of(GateError::NoMemory, Some(folder), errors));
         };
         let Ok(file) = file_of(source, outcome, movers.as_slice(), style) else {
@@ -94,7 +100,6 @@ fn file_of(
     file.line(outcome.text.as_slice());
     let mut session = gates_of(source.alloc, source.bytes)?;
     let printed = print_execution(source, &mut session, movers, style, &mut file);
-    // By a call: to drop all its parts in line costs the proof more.
     drop(session);
     printed?;
     file.settled()?;

@@ -2,7 +2,7 @@
 
 ghost use Rattle.std.specs.Prelude.{◌≡◌, ◌<◌, ◌≤◌, ◌*◌, length, All, IfOk};
 ghost use Rattle.exploration.specs.Tables.{IsTable};
-ghost use Rattle.races.specs.Races.{next_reduced};
+ghost use Rattle.outcome_texts.specs.Methods.{next_by};
 
 use crate::race_texts::details::{Details, RaceSource};
 use crate::race_texts::executions::{gates_of, movers_to, print_execution, replayed, runs_for};
@@ -49,8 +49,8 @@ pub fn show_outcomes<W: Observer>(
     out: &mut Output,
 ) -> Result<Listing, Stop>
     requires { source.calls.now.race.tasks ≡ core.config.tasks }
-    ensures table { IfOk result (λ listing. IsTable (next_reduced source.entry.calls.now.race.calls.items) source.entry.calls.now.race.tasks
-        listing.all.found.states listing.all.found.origins.items listing.all.found.edges.items) }
+    ensures table { IfOk result (λ listing. IsTable (next_by listing.method source.entry.calls.now.race.calls.items source.entry.calls.now.race.tasks)
+        source.entry.calls.now.race.tasks listing.all.found.states listing.all.found.origins.items listing.all.found.edges.items) }
     ensures rows { IfOk result (λ listing. length listing.all.found.edges.items ≡ listing.all.found.expanded * source.entry.calls.now.race.tasks) }
     ensures expanded { IfOk result (λ listing. listing.all.found.expanded ≤ length listing.all.found.states) }
     ensures within { IfOk result (λ listing. All (λ outcome. outcome.end < length listing.all.found.states) listing.outcomes.items) }
@@ -63,7 +63,6 @@ pub fn show_outcomes<W: Observer>(
     };
     let listing = listed(source, core, plan, exhibit.ends, watch)?;
     let shown = show_listing(source, &listing, exhibit, &finals, out);
-    // By a call: to drop all its parts in line costs the proof more.
     drop(finals);
     match shown {
         Ok(()) => Ok(listing),
@@ -83,15 +82,14 @@ fn listed<W: Observer>(
     watch: &mut W,
 ) -> Result<Listing, Stop>
     requires { source.calls.now.race.tasks ≡ core.config.tasks }
-    ensures table { IfOk result (λ listing. IsTable (next_reduced source.entry.calls.now.race.calls.items) source.entry.calls.now.race.tasks
-        listing.all.found.states listing.all.found.origins.items listing.all.found.edges.items) }
+    ensures table { IfOk result (λ listing. IsTable (next_by listing.method source.entry.calls.now.race.calls.items source.entry.calls.now.race.tasks)
+        source.entry.calls.now.race.tasks listing.all.found.states listing.all.found.origins.items listing.all.found.edges.items) }
     ensures rows { IfOk result (λ listing. length listing.all.found.edges.items ≡ listing.all.found.expanded * source.entry.calls.now.race.tasks) }
     ensures expanded { IfOk result (λ listing. listing.all.found.expanded ≤ length listing.all.found.states) }
     ensures within { IfOk result (λ listing. All (λ outcome. outcome.end < length listing.all.found.states) listing.outcomes.items) }
 {
     if ends {
         let listing = list_ends(source, &core, plan.limit, watch);
-        // By a call: to drop all its parts in line costs the proof more.
         drop(core);
         return listing;
     }
@@ -106,8 +104,8 @@ fn show_listing(
     finals: &Finals,
     out: &mut Output,
 ) -> Result<(), AllocError>
-    requires table { IsTable (next_reduced source.calls.now.race.calls.items) source.calls.now.race.tasks
-        listing.now.all.found.states listing.now.all.found.origins.items listing.now.all.found.edges.items }
+    requires table { IsTable (next_by listing.now.method source.calls.now.race.calls.items source.calls.now.race.tasks)
+        source.calls.now.race.tasks listing.now.all.found.states listing.now.all.found.origins.items listing.now.all.found.edges.items }
     requires rows { length listing.now.all.found.edges.items ≡ listing.now.all.found.expanded * source.calls.now.race.tasks }
     requires expanded { listing.now.all.found.expanded ≤ length listing.now.all.found.states }
     requires within { All (λ outcome. outcome.end < length listing.now.all.found.states) listing.now.outcomes.items }
@@ -120,7 +118,13 @@ fn show_listing(
     let runs = runs_for(source, &listing.all.found, is_read)?;
     let mut number = 1u64;
     for outcome in &listing.outcomes {
-        let movers = movers_to(source, &listing.all.found, &runs, outcome.end)?;
+        let movers = movers_to(
+            source,
+            listing.method,
+            &listing.all.found,
+            &runs,
+            outcome.end,
+        )?;
         let known = if exhibit.ends {
             FinalModel::One(movers.as_slice())
         } else {
@@ -212,7 +216,6 @@ fn show_execution(
     let mut schedule = Output::new(source.alloc);
     let mut session = gates_of(source.alloc, source.bytes)?;
     let printed = print_execution(source, &mut session, movers, look.style, &mut schedule);
-    // By a call: to drop all its parts in line costs the proof more.
     drop(session);
     printed?;
     let gates = gates_of(source.alloc, source.bytes)?;
@@ -236,7 +239,6 @@ fn show_model(
         Shape::Page(_) => {
             let mut model = Output::new(source.alloc);
             let printed = print_model_behind(source, &mut session, movers, &mut model);
-            // By a call: to drop all its parts in line costs the proof more.
             drop(session);
             html::print_text(out, model.bytes.as_slice());
             printed
@@ -260,7 +262,6 @@ fn model_record(
         &mut unread,
     );
     if printed.is_err() {
-        // By a call: to drop all its parts in line costs the proof more.
         drop(session);
         return Err(AllocError);
     }
