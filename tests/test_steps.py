@@ -22,7 +22,7 @@ REFUSED = [
     (["sums_before_hold"], "a mutant and a race are needed"),
     (["sums_befor_hold", RACE], "no mutant sums_befor_hold; the nearest: mount_counts/sums_before_hold"),
     (["zzz", RACE], "no mutant zzz; ls crates/*/must-fail lists all"),
-    (["backup_beside_writer/tells_writes_not_made", RACE], "mntgate doesn't stand on that crate, so no race shows it"),
+    (["mntgate_c/a_hook_is_told_as_an_errno", RACE], "mntgate doesn't stand on that crate, so no race shows it"),
     (["sums_before_hold", "no.race"], "no race no.race"),
     (["--limit", "10", "sums_before_hold", RACE], f"{RACE}: more than 10 states"),
 ]
