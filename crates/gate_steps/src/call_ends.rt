@@ -101,7 +101,7 @@ impl Waiting for Freeze {
         op: Op,
         hooks: &mut H,
     ) -> Next<Freeze> {
-        freeze_first(gates, seat, accesses, op, self, hooks)
+        freeze_first(gates, seat, accesses, op, &self, hooks)
     }
 
     #[inline(always)]
@@ -303,10 +303,10 @@ fn freeze_in_line<H: TimedHooks>(
         (of_freeze result) seat.new.table_id seat.new.me.0 hooks.new }
 {
     match freeze.step {
-        FreezeStep::LoadsStage => freeze_locked(gates, seat, accesses, freeze, hooks),
-        FreezeStep::Closes(write) => go_on_level(gates, seat, accesses, freeze, write, hooks),
-        FreezeStep::SetsPageFault => close_second(gates, seat, accesses, freeze, hooks),
-        FreezeStep::Holds(beside) => end_freeze(gates, seat, accesses, freeze, beside),
+        FreezeStep::LoadsStage => freeze_locked(gates, seat, accesses, &freeze, hooks),
+        FreezeStep::Closes(write) => go_on_level(gates, seat, accesses, &freeze, write, hooks),
+        FreezeStep::SetsPageFault => close_second(gates, seat, accesses, &freeze, hooks),
+        FreezeStep::Holds(beside) => end_freeze(gates, seat, accesses, &freeze, beside),
         _ => Next::Go(freeze),
     }
 }
@@ -445,7 +445,7 @@ fn step_waiting<R: Wait, H: TimedHooks, P: Waiting>(
 
 /// Does the events of an operation from its first to its reply, however long it has to wait, and tells how many events found what it waits for.
 /// Where its line leads to the reply, nothing of it is written to memory.
-#[inline(never)]
+#[inline(always)]
 pub fn wait_for_reply<R: Wait, H: TimedHooks, P: Waiting>(
     rt: &R,
     gates: &GateWords,

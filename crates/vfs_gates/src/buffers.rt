@@ -14,8 +14,9 @@ ghost use Rattle.gate_steps.specs.Seating.{SeatItems, items_after};
 ghost use Rattle.vfs_gates.specs.Buffers.{HasSnapshotRoom, BuffersMatch, last_in, noted_in};
 
 use cpu_words::{Event, Touch};
+use gate_steps::call_events::following;
 use gate_world::{Op, Phase};
-use gated_tree::{Snapshot, Tree, TreePhase};
+use gated_tree::{Snapshot, SnapshotStep, Tree, TreePhase};
 use std::alloc::{AllocError, Global};
 use std::mem::swap;
 
@@ -25,6 +26,17 @@ pub struct SnapshotBuffers {
     taken: bool,
     last: Tree,
     next: Tree,
+}
+
+/// The same as `Snapshot::loads_last`, in line, since each load of a snapshot asks it: whether the next event is the load of its last word.
+#[inline(always)]
+fn is_last_load(snapshot: Snapshot) -> bool
+    ensures { result ≡ loads_last snapshot.nodes snapshot.step }
+{
+    match snapshot.step {
+        SnapshotStep::LoadsKids(node) => following(node, snapshot.nodes).is_none(),
+        _ => false,
+    }
 }
 
 impl SnapshotBuffers {
@@ -66,7 +78,7 @@ impl SnapshotBuffers {
         if let Touch::Load = event.touch {
             self.next.load(event.word, event.found);
         }
-        if snapshot.loads_last() {
+        if is_last_load(snapshot) {
             swap(&mut self.last, &mut self.next);
             self.taken = true;
         }

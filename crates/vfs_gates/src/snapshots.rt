@@ -1,6 +1,6 @@
 //! The steps of a snapshot, in a line: it loads all words of the tree, and notes each in its task's buffers.
 
-ghost use Rattle.std.specs.Prelude.{◌≡◌, Some, None, Ok};
+ghost use Rattle.std.specs.Prelude.{◌≡◌, Some, None, Ok, is_some};
 ghost use Rattle.access_model.specs.declared.replies.Next.TheVariants.{Go};
 ghost use Rattle.access_model.specs.declared.replies.Reply.TheVariants.{Tree as TreeReply};
 ghost use Rattle.cpu_words.specs.declared.events.Touch.TheVariants.{Load};
@@ -9,16 +9,16 @@ ghost use Rattle.gate_world.specs.declared.work.Phase.TheVariants.{Trees};
 ghost use Rattle.gated_tree.specs.Phases.{snapshot_next};
 ghost use Rattle.gated_tree.specs.declared.phases.TreePhase.TheVariants.{Snapshot as Snapshots};
 ghost use Rattle.gated_tree.specs.declared.snapshots.SnapshotStep.TheVariants.{LoadsKids, LoadsNode, LoadsUsed, Locks, Releases};
+ghost use Rattle.node_words.specs.Nodes.{unpacked};
 ghost use Rattle.gate_steps.specs.call_events.Turns.{StateAgrees};
 ghost use Rattle.vfs_gates.specs.Noted.{Noted, nodes_loaded, of_tree, taking_at};
 
 use crate::buffers::SnapshotBuffers;
 use access_model::{Next, Reply};
 use cpu_words::{Touch, WordName};
-use gate_steps::call_events::{GateWords, GhostSeat, find, find_first};
+use gate_steps::call_events::{GateWords, GhostSeat, find, find_first, following};
 use gate_world::{Accesses, Op};
 use gated_tree::{NodeWord, Snapshot, SnapshotStep, TreePhase};
-use node_words::following;
 
 /// The stage at which all is frozen (`SB_FREEZE_COMPLETE`).
 const FROZEN: u64 = 4;
@@ -33,6 +33,14 @@ fn leave(snapshot: Snapshot, step: SnapshotStep, found: u64) -> Next<TreePhase>
     let here = TreePhase::Snapshot(Snapshot { step, ..snapshot });
     let (next, _action) = here.after(found, Ok(()));
     next
+}
+
+/// Whether a word is a node's. That of a free one is 0, which is seen first.
+#[inline(always)]
+fn is_node(word: u64) -> bool
+    ensures { result ≡ is_some (unpacked word) }
+{
+    word == 0 || NodeWord::unpack(word).is_some()
 }
 
 /// Does the next step of a snapshot, which is known to load this word, and notes what it has found, which it returns.
@@ -85,8 +93,8 @@ fn load_nodes(
         let step = SnapshotStep::LoadsNode(node);
         let here = Snapshot { step, ..snapshot };
         let found = find_noting(gates, seat, accesses, buffers, here, WordName::Node(node));
-        let is_node = NodeWord::unpack(found).is_some();
-        if !is_node {
+        let is_there = is_node(found);
+        if !is_there {
             return Some(node);
         }
         match following(node, snapshot.nodes) {

@@ -174,6 +174,9 @@ module _ (x : Freeze) (level : ℕ) where
       (after_of (closing_at x level SetsBlock) found (Ok tt)).0 ≡ Go (closing_at x level (Sums sum))
   blocks found is sum begun = rw (same_number found 0 is) (ap (λ s. Go (closing_at x level (Sums s))) (sym begun))
 
+  pub blocked : (found : ℕ) → (found ≡ 0 → ⊥) → (after_of (closing_at x level SetsBlock) found (Ok tt)).0 ≡ Wait (closing_at x level SetsBlock)
+  blocked found not = rw (other_number found 0 not) refl
+
   -- a whole sum
   pub all_summed : (b : Bool) → b ≡ true → summed x level b ≡ Go (standing x (level_closed level x.nodes))
   all_summed b is = ap (summed x level) is

@@ -16,7 +16,7 @@ use percpu_rwsem::{Callback, CallbackStep, Grace, GraceNext, SyncWord, Transitio
 
 /// Loads the section word of one task after the other, from this one of the grace period on, until each section that was under way has
 /// ended. Where one is under way still, how far it has come.
-#[inline(never)]
+#[inline(always)]
 fn await_sections(
     gates: &GateWords,
     seat: &mut GhostSeat,
@@ -86,7 +86,7 @@ fn call_back(
 }
 
 /// The grace period of a callback, and its transition. Whether it is made; where it isn't, what comes next is left in `rest`.
-#[inline(never)]
+#[inline(always)]
 pub(crate) fn run_callback(
     gates: &GateWords,
     seat: &mut GhostSeat,

@@ -21,23 +21,25 @@ ghost use Rattle.gate_steps.specs.call_events.Led.{Led, LedAsking};
 ghost use Rattle.gate_steps.specs.call_events.Turns.{StateAgrees};
 
 use crate::call_ends::closings::{close_level, go_on_closing};
-use crate::call_events::{GateWords, GhostSeat, TimedHooks, find, find_asking, find_first};
+use crate::call_events::{
+    GateWords, GhostSeat, TimedHooks, find, find_asking, find_first, following,
+};
 use access_model::{Holders, Next, Reply};
 use cpu_words::{Touch, WordName};
 use freeze_levels::holders::pack;
 use freeze_levels::{Freeze, FreezeStep, HookCall};
 use gate_world::{Accesses, Op};
-use node_words::{ClearMarks, NodeWord, following};
+use node_words::{ClearMarks, NodeWord};
 use percpu_rwsem::{DownWrite, UpWrite, UpWriteStep};
 
 /// What comes after a step that has found this, where that leads out of the line. It stands apart, and takes the step by itself, so that nothing is
 /// written to memory where the line goes on.
 #[cold]
 #[inline(never)]
-fn leave(freeze: Freeze, step: FreezeStep, found: u64) -> Next<Freeze>
-    ensures { of_freeze result ≡ (after_of (standing freeze step) found (Ok tt)).0 }
+fn leave(freeze: &Freeze, step: FreezeStep, found: u64) -> Next<Freeze>
+    ensures { of_freeze result ≡ (after_of (standing freeze.now step) found (Ok tt)).0 }
 {
-    let here = Freeze { step, ..freeze };
+    let here = Freeze { step, ..*freeze };
     let (next, _action) = here.after(found, Ok(()));
     next
 }
@@ -49,18 +51,18 @@ pub(crate) fn freeze_first<H: TimedHooks>(
     seat: &mut GhostSeat,
     accesses: &Accesses,
     op: Op,
-    freeze: Freeze,
+    freeze: &Freeze,
     hooks: &mut H,
 ) -> Next<Freeze>
     requires table { seat.old.table_id ≡ gates.now.table.shared.table_id }
-    requires tied { StateAgrees gates.now.config (Some op) (Some (standing freeze Locks)) accesses.now seat.old.me.0.items }
+    requires tied { StateAgrees gates.now.config (Some op) (Some (standing freeze.now Locks)) accesses.now seat.old.me.0.items }
     ensures slots { seat.new.me.1 ≡ seat.old.me.1 }
-    ensures led { LedAsking H.answers gates.now.config (Some op) accesses.now (Go (standing freeze Locks)) seat.old.table_id seat.old.me.0
+    ensures led { LedAsking H.answers gates.now.config (Some op) accesses.now (Go (standing freeze.now Locks)) seat.old.table_id seat.old.me.0
         hooks.old (of_freeze result) seat.new.table_id seat.new.me.0 hooks.new }
 {
     let locks = Freeze {
         step: FreezeStep::Locks,
-        ..freeze
+        ..*freeze
     };
     let put = u64::from(freeze.task) + 1;
     let taken = find_first(
@@ -84,18 +86,18 @@ pub(crate) fn freeze_locked<H: TimedHooks>(
     gates: &GateWords,
     seat: &mut GhostSeat,
     accesses: &Accesses,
-    freeze: Freeze,
+    freeze: &Freeze,
     hooks: &mut H,
 ) -> Next<Freeze>
     requires table { seat.old.table_id ≡ gates.now.table.shared.table_id }
-    requires tied { StateAgrees gates.now.config None (Some (standing freeze LoadsStage)) accesses.now seat.old.me.0.items }
+    requires tied { StateAgrees gates.now.config None (Some (standing freeze.now LoadsStage)) accesses.now seat.old.me.0.items }
     ensures slots { seat.new.me.1 ≡ seat.old.me.1 }
-    ensures led { LedAsking H.answers gates.now.config None accesses.now (Go (standing freeze LoadsStage)) seat.old.table_id seat.old.me.0
+    ensures led { LedAsking H.answers gates.now.config None accesses.now (Go (standing freeze.now LoadsStage)) seat.old.table_id seat.old.me.0
         hooks.old (of_freeze result) seat.new.table_id seat.new.me.0 hooks.new }
 {
     let here = Freeze {
         step: FreezeStep::LoadsStage,
-        ..freeze
+        ..*freeze
     };
     let stage = find(gates, seat, accesses, here, WordName::Stage, Touch::Load);
     if stage != 0 {
@@ -103,7 +105,7 @@ pub(crate) fn freeze_locked<H: TimedHooks>(
     }
     let here = Freeze {
         step: FreezeStep::LoadsSuperblock,
-        ..freeze
+        ..*freeze
     };
     let flags = find(gates, seat, accesses, here, WordName::SbFlags, Touch::Load);
     if flags != 0 {
@@ -118,24 +120,24 @@ fn close_first<H: TimedHooks>(
     gates: &GateWords,
     seat: &mut GhostSeat,
     accesses: &Accesses,
-    freeze: Freeze,
+    freeze: &Freeze,
     hooks: &mut H,
 ) -> Next<Freeze>
     requires table { seat.old.table_id ≡ gates.now.table.shared.table_id }
-    requires tied { StateAgrees gates.now.config None (Some (standing freeze SetsWrite)) accesses.now seat.old.me.0.items }
+    requires tied { StateAgrees gates.now.config None (Some (standing freeze.now SetsWrite)) accesses.now seat.old.me.0.items }
     ensures slots { seat.new.me.1 ≡ seat.old.me.1 }
-    ensures led { LedAsking H.answers gates.now.config None accesses.now (Go (standing freeze SetsWrite)) seat.old.table_id seat.old.me.0
+    ensures led { LedAsking H.answers gates.now.config None accesses.now (Go (standing freeze.now SetsWrite)) seat.old.table_id seat.old.me.0
         hooks.old (of_freeze result) seat.new.table_id seat.new.me.0 hooks.new }
 {
     let here = Freeze {
         step: FreezeStep::SetsWrite,
-        ..freeze
+        ..*freeze
     };
     let write = Touch::Store(1);
     let _stored = find(gates, seat, accesses, here, WordName::Stage, write);
     let here = Freeze {
         step: FreezeStep::Unlocks,
-        ..freeze
+        ..*freeze
     };
     let free = Touch::Store(0);
     let _freed = find(gates, seat, accesses, here, WordName::Umount, free);
@@ -152,18 +154,18 @@ fn lock_again<H: TimedHooks>(
     gates: &GateWords,
     seat: &mut GhostSeat,
     accesses: &Accesses,
-    freeze: Freeze,
+    freeze: &Freeze,
     hooks: &mut H,
 ) -> Next<Freeze>
     requires table { seat.old.table_id ≡ gates.now.table.shared.table_id }
-    requires tied { StateAgrees gates.now.config None (Some (standing freeze LocksAgain)) accesses.now seat.old.me.0.items }
+    requires tied { StateAgrees gates.now.config None (Some (standing freeze.now LocksAgain)) accesses.now seat.old.me.0.items }
     ensures slots { seat.new.me.1 ≡ seat.old.me.1 }
-    ensures led { LedAsking H.answers gates.now.config None accesses.now (Go (standing freeze LocksAgain)) seat.old.table_id seat.old.me.0
+    ensures led { LedAsking H.answers gates.now.config None accesses.now (Go (standing freeze.now LocksAgain)) seat.old.table_id seat.old.me.0
         hooks.old (of_freeze result) seat.new.table_id seat.new.me.0 hooks.new }
 {
     let again = Freeze {
         step: FreezeStep::LocksAgain,
-        ..freeze
+        ..*freeze
     };
     let put = u64::from(freeze.task) + 1;
     let touch = Touch::Cas { expect: 0, put };
@@ -180,18 +182,18 @@ pub(crate) fn close_second<H: TimedHooks>(
     gates: &GateWords,
     seat: &mut GhostSeat,
     accesses: &Accesses,
-    freeze: Freeze,
+    freeze: &Freeze,
     hooks: &mut H,
 ) -> Next<Freeze>
     requires table { seat.old.table_id ≡ gates.now.table.shared.table_id }
-    requires tied { StateAgrees gates.now.config None (Some (standing freeze SetsPageFault)) accesses.now seat.old.me.0.items }
+    requires tied { StateAgrees gates.now.config None (Some (standing freeze.now SetsPageFault)) accesses.now seat.old.me.0.items }
     ensures slots { seat.new.me.1 ≡ seat.old.me.1 }
-    ensures led { LedAsking H.answers gates.now.config None accesses.now (Go (standing freeze SetsPageFault)) seat.old.table_id seat.old.me.0
+    ensures led { LedAsking H.answers gates.now.config None accesses.now (Go (standing freeze.now SetsPageFault)) seat.old.table_id seat.old.me.0
         hooks.old (of_freeze result) seat.new.table_id seat.new.me.0 hooks.new }
 {
     let here = Freeze {
         step: FreezeStep::SetsPageFault,
-        ..freeze
+        ..*freeze
     };
     let page_fault = Touch::Store(2);
     let _stored = find(gates, seat, accesses, here, WordName::Stage, page_fault);
@@ -208,18 +210,18 @@ fn clean(
     gates: &GateWords,
     seat: &mut GhostSeat,
     accesses: &Accesses,
-    freeze: Freeze,
+    freeze: &Freeze,
     mut clearing: ClearMarks,
 )
     requires table { seat.old.table_id ≡ gates.now.table.shared.table_id }
-    requires tied { StateAgrees gates.now.config None (Some (standing freeze (Cleans clearing))) accesses.now seat.old.me.0.items }
+    requires tied { StateAgrees gates.now.config None (Some (standing freeze.now (Cleans clearing))) accesses.now seat.old.me.0.items }
     ensures slots { seat.new.me.1 ≡ seat.old.me.1 }
-    ensures led { Led gates.now.config None accesses.now (Go (standing freeze (Cleans clearing))) seat.old.table_id seat.old.me.0
-        (Go (standing freeze SetsFs)) seat.new.table_id seat.new.me.0 }
+    ensures led { Led gates.now.config None accesses.now (Go (standing freeze.now (Cleans clearing))) seat.old.table_id seat.old.me.0
+        (Go (standing freeze.now SetsFs)) seat.new.table_id seat.new.me.0 }
 {
     loop {
         let step = FreezeStep::Cleans(clearing);
-        let here = Freeze { step, ..freeze };
+        let here = Freeze { step, ..*freeze };
         let clean = Touch::And(!NodeWord::DIRTY);
         let node = WordName::Node(clearing.node);
         let _cleaned = find(gates, seat, accesses, here, node, clean);
@@ -236,13 +238,13 @@ fn sync<H: TimedHooks>(
     gates: &GateWords,
     seat: &mut GhostSeat,
     accesses: &Accesses,
-    freeze: Freeze,
+    freeze: &Freeze,
     hooks: &mut H,
 ) -> Next<Freeze>
     requires table { seat.old.table_id ≡ gates.now.table.shared.table_id }
-    requires tied { StateAgrees gates.now.config None (Some (standing freeze (level_closed 2 freeze.nodes))) accesses.now seat.old.me.0.items }
+    requires tied { StateAgrees gates.now.config None (Some (standing freeze.now (level_closed 2 freeze.now.nodes))) accesses.now seat.old.me.0.items }
     ensures slots { seat.new.me.1 ≡ seat.old.me.1 }
-    ensures led { LedAsking H.answers gates.now.config None accesses.now (Go (standing freeze (level_closed 2 freeze.nodes))) seat.old.table_id seat.old.me.0
+    ensures led { LedAsking H.answers gates.now.config None accesses.now (Go (standing freeze.now (level_closed 2 freeze.now.nodes))) seat.old.table_id seat.old.me.0
         hooks.old (of_freeze result) seat.new.table_id seat.new.me.0 hooks.new }
 {
     let clearing = ClearMarks::start(freeze.nodes);
@@ -256,18 +258,18 @@ fn close_third<H: TimedHooks>(
     gates: &GateWords,
     seat: &mut GhostSeat,
     accesses: &Accesses,
-    freeze: Freeze,
+    freeze: &Freeze,
     hooks: &mut H,
 ) -> Next<Freeze>
     requires table { seat.old.table_id ≡ gates.now.table.shared.table_id }
-    requires tied { StateAgrees gates.now.config None (Some (standing freeze SetsFs)) accesses.now seat.old.me.0.items }
+    requires tied { StateAgrees gates.now.config None (Some (standing freeze.now SetsFs)) accesses.now seat.old.me.0.items }
     ensures slots { seat.new.me.1 ≡ seat.old.me.1 }
-    ensures led { LedAsking H.answers gates.now.config None accesses.now (Go (standing freeze SetsFs)) seat.old.table_id seat.old.me.0
+    ensures led { LedAsking H.answers gates.now.config None accesses.now (Go (standing freeze.now SetsFs)) seat.old.table_id seat.old.me.0
         hooks.old (of_freeze result) seat.new.table_id seat.new.me.0 hooks.new }
 {
     let here = Freeze {
         step: FreezeStep::SetsFs,
-        ..freeze
+        ..*freeze
     };
     let answer = find_asking(gates, seat, accesses, here, hooks, HookCall::Sync);
     if let Err(code) = answer {
@@ -286,18 +288,18 @@ fn complete<H: TimedHooks>(
     gates: &GateWords,
     seat: &mut GhostSeat,
     accesses: &Accesses,
-    freeze: Freeze,
+    freeze: &Freeze,
     hooks: &mut H,
 ) -> Next<Freeze>
     requires table { seat.old.table_id ≡ gates.now.table.shared.table_id }
-    requires tied { StateAgrees gates.now.config None (Some (standing freeze SetsComplete)) accesses.now seat.old.me.0.items }
+    requires tied { StateAgrees gates.now.config None (Some (standing freeze.now SetsComplete)) accesses.now seat.old.me.0.items }
     ensures slots { seat.new.me.1 ≡ seat.old.me.1 }
-    ensures led { LedAsking H.answers gates.now.config None accesses.now (Go (standing freeze SetsComplete)) seat.old.table_id seat.old.me.0
+    ensures led { LedAsking H.answers gates.now.config None accesses.now (Go (standing freeze.now SetsComplete)) seat.old.table_id seat.old.me.0
         hooks.old (of_freeze result) seat.new.table_id seat.new.me.0 hooks.new }
 {
     let here = Freeze {
         step: FreezeStep::SetsComplete,
-        ..freeze
+        ..*freeze
     };
     let answer = find_asking(gates, seat, accesses, here, hooks, HookCall::FreezeFs);
     if let Err(code) = answer {
@@ -309,14 +311,14 @@ fn complete<H: TimedHooks>(
 /// What comes after a hook has failed with this code: the levels up to this one are still to reopen, the highest first.
 #[cold]
 #[inline(never)]
-fn fail(freeze: Freeze, level: u8, code: u16) -> Next<Freeze>
+fn fail(freeze: &Freeze, level: u8, code: u16) -> Next<Freeze>
     requires { 1 ≤ level }
-    ensures { result ≡ Go (at_freeze freeze (freeze_fails level code)) }
+    ensures { result ≡ Go (at_freeze freeze.now (freeze_fails level code)) }
 {
     let step = UpWriteStep::ClearsBlock;
     let write = UpWrite { level, step };
     let step = FreezeStep::Reopens { write, code };
-    Next::Go(Freeze { step, ..freeze })
+    Next::Go(Freeze { step, ..*freeze })
 }
 
 /// Goes on with the closing of a level, and with what comes after it.
@@ -325,20 +327,20 @@ pub(crate) fn go_on_level<H: TimedHooks>(
     gates: &GateWords,
     seat: &mut GhostSeat,
     accesses: &Accesses,
-    freeze: Freeze,
+    freeze: &Freeze,
     write: DownWrite,
     hooks: &mut H,
 ) -> Next<Freeze>
     requires table { seat.old.table_id ≡ gates.now.table.shared.table_id }
-    requires tied { StateAgrees gates.now.config None (Some (standing freeze (Closes write))) accesses.now seat.old.me.0.items }
+    requires tied { StateAgrees gates.now.config None (Some (standing freeze.now (Closes write))) accesses.now seat.old.me.0.items }
     ensures slots { seat.new.me.1 ≡ seat.old.me.1 }
-    ensures led { LedAsking H.answers gates.now.config None accesses.now (Go (standing freeze (Closes write))) seat.old.table_id seat.old.me.0
+    ensures led { LedAsking H.answers gates.now.config None accesses.now (Go (standing freeze.now (Closes write))) seat.old.table_id seat.old.me.0
         hooks.old (of_freeze result) seat.new.table_id seat.new.me.0 hooks.new }
 {
     // A freeze closes each level among its own tasks and processors.
     if write.tasks != freeze.tasks || write.processors != freeze.processors {
         let step = FreezeStep::Closes(write);
-        return Next::Go(Freeze { step, ..freeze });
+        return Next::Go(Freeze { step, ..*freeze });
     }
     let DownWrite { level, step, .. } = write;
     let mut rest = Next::Done(Ok(Reply::Unit));
@@ -354,14 +356,14 @@ fn go_on_closed<H: TimedHooks>(
     gates: &GateWords,
     seat: &mut GhostSeat,
     accesses: &Accesses,
-    freeze: Freeze,
+    freeze: &Freeze,
     level: u8,
     hooks: &mut H,
 ) -> Next<Freeze>
     requires table { seat.old.table_id ≡ gates.now.table.shared.table_id }
-    requires tied { StateAgrees gates.now.config None (Some (standing freeze (level_closed level freeze.nodes))) accesses.now seat.old.me.0.items }
+    requires tied { StateAgrees gates.now.config None (Some (standing freeze.now (level_closed level freeze.now.nodes))) accesses.now seat.old.me.0.items }
     ensures slots { seat.new.me.1 ≡ seat.old.me.1 }
-    ensures led { LedAsking H.answers gates.now.config None accesses.now (Go (standing freeze (level_closed level freeze.nodes))) seat.old.table_id seat.old.me.0
+    ensures led { LedAsking H.answers gates.now.config None accesses.now (Go (standing freeze.now (level_closed level freeze.now.nodes))) seat.old.table_id seat.old.me.0
         hooks.old (of_freeze result) seat.new.table_id seat.new.me.0 hooks.new }
 {
     if level == 1 {
@@ -379,18 +381,18 @@ pub(crate) fn end_freeze(
     gates: &GateWords,
     seat: &mut GhostSeat,
     accesses: &Accesses,
-    freeze: Freeze,
+    freeze: &Freeze,
     beside: Holders,
 ) -> Next<Freeze>
     requires table { seat.old.table_id ≡ gates.now.table.shared.table_id }
-    requires tied { StateAgrees gates.now.config None (Some (standing freeze (Holds beside))) accesses.now seat.old.me.0.items }
+    requires tied { StateAgrees gates.now.config None (Some (standing freeze.now (Holds beside))) accesses.now seat.old.me.0.items }
     ensures slots { seat.new.me.1 ≡ seat.old.me.1 }
-    ensures led { Led gates.now.config None accesses.now (Go (standing freeze (Holds beside))) seat.old.table_id seat.old.me.0
+    ensures led { Led gates.now.config None accesses.now (Go (standing freeze.now (Holds beside))) seat.old.table_id seat.old.me.0
         (of_freeze result) seat.new.table_id seat.new.me.0 }
 {
     let here = Freeze {
         step: FreezeStep::Holds(beside),
-        ..freeze
+        ..*freeze
     };
     let holders = beside.with(freeze.holder);
     let word = pack(holders);
@@ -398,7 +400,7 @@ pub(crate) fn end_freeze(
     let _stored = find(gates, seat, accesses, here, WordName::Holders, hold);
     let here = Freeze {
         step: FreezeStep::Releases(Ok(Reply::Unit)),
-        ..freeze
+        ..*freeze
     };
     let free = Touch::Store(0);
     let _freed = find(gates, seat, accesses, here, WordName::Umount, free);

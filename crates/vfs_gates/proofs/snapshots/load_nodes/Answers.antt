@@ -1,16 +1,11 @@
 -- each load goes on from what the one before it left
-use Rattle.std.proofs.Common.{◌≡◌, Bool, refl, sym, ap, ◌∙◌}
-use Rattle.std.specs.Prelude.{Option, is_some}
+use Rattle.std.proofs.Common.{refl, sym, ◌∙◌}
 use Rattle.access_model.specs.declared.replies.Next.TheVariants.{Go}
 use Rattle.gated_tree.specs.declared.snapshots.SnapshotStep.TheVariants.{LoadsNode}
 use Rattle.gate_steps.proofs.call_events.Leading.{still_tied}
 use Rattle.vfs_gates.specs.Noted.{taking_at}
 use Rattle.vfs_gates.proofs.Loading.{fewer_left, node_last, node_none, node_on, noted_nowhere, noted_on, noted_to}
 use Rattle.vfs_gates.proofs.snapshots.load_nodes.Goals as goal
-
--- what was found of the word is what it is
-there : {A : Type 0} {b c : Bool} {o left : Option A} → b ≡ c → b ≡ is_some o → o ≡ left → c ≡ is_some left
-there is some same = sym is ∙ (some ∙ ap (λ o. is_some o) same)
 
 pub loop-snapshot-init : goal.loop-snapshot-init
 loop-snapshot-init c = record {
@@ -32,7 +27,7 @@ pub loop-snapshot-preserved : goal.loop-snapshot-preserved
 loop-snapshot-preserved c = record {
   slots = c.find_noting-found.ensures.slots ∙ c.loop-snapshot.invariant.slots;
   noted = noted_on c.loop-snapshot.invariant.noted
-      (noted_to (node_on c.args.snapshot c.loop-snapshot.node c.in-Some.next c.find_noting-found.result (there c.if-not-is_node.false c.is_some-is_node.ensures c.unpack.ensures.node) c.in-Some.ensures)
+      (noted_to (node_on c.args.snapshot c.loop-snapshot.node c.in-Some.next c.find_noting-found.result (sym c.if-not-is_there.false ∙ c.is_node-is_there.ensures) c.in-Some.ensures)
       c.find_noting-found.ensures.noted);
 }
 
@@ -42,14 +37,14 @@ returns-in-None-clause-slots c = c.find_noting-found.ensures.slots ∙ c.loop-sn
 pub returns-in-None-clause-noted : goal.returns-in-None-clause-noted
 returns-in-None-clause-noted c =
     noted_on c.loop-snapshot.invariant.noted
-    (noted_to (node_last c.args.snapshot c.loop-snapshot.node c.find_noting-found.result (there c.if-not-is_node.false c.is_some-is_node.ensures c.unpack.ensures.node) c.in-None.ensures)
+    (noted_to (node_last c.args.snapshot c.loop-snapshot.node c.find_noting-found.result (sym c.if-not-is_there.false ∙ c.is_node-is_there.ensures) c.in-None.ensures)
     c.find_noting-found.ensures.noted)
 
-pub returns-then-not-is_node-clause-slots : goal.returns-then-not-is_node-clause-slots
-returns-then-not-is_node-clause-slots c = c.find_noting-found.ensures.slots ∙ c.loop-snapshot.invariant.slots
+pub returns-then-not-is_there-clause-slots : goal.returns-then-not-is_there-clause-slots
+returns-then-not-is_there-clause-slots c = c.find_noting-found.ensures.slots ∙ c.loop-snapshot.invariant.slots
 
-pub returns-then-not-is_node-clause-noted : goal.returns-then-not-is_node-clause-noted
-returns-then-not-is_node-clause-noted c =
+pub returns-then-not-is_there-clause-noted : goal.returns-then-not-is_there-clause-noted
+returns-then-not-is_there-clause-noted c =
     noted_on c.loop-snapshot.invariant.noted
     (noted_to (node_none c.args.snapshot c.loop-snapshot.node c.find_noting-found.result
-    (there c.if-not-is_node.true c.is_some-is_node.ensures c.unpack.ensures.node)) c.find_noting-found.ensures.noted)
+    (sym c.if-not-is_there.true ∙ c.is_node-is_there.ensures)) c.find_noting-found.ensures.noted)

@@ -10,7 +10,7 @@ use Rattle.gate_steps.proofs.call_ends.closings.await_sections.Goals as goal
 pub loop-further-init : goal.loop-further-init
 loop-further-init c = record {
   slots = refl;
-  led = led_nowhere c.args.gates.now.config c.args.accesses.now (Go (closing_at c.args.freeze c.args.level (AwaitsSections c.args.grace)))
+  led = led_nowhere c.args.gates.now.config c.args.accesses.now (Go (closing_at c.args.freeze.now c.args.level (AwaitsSections c.args.grace)))
       c.args.seat.now.table_id c.args.seat.now.me.0;
 }
 
@@ -27,7 +27,7 @@ pub loop-further-preserved : goal.loop-further-preserved
 loop-further-preserved c = record {
   slots = c.find-found.ensures.slots ∙ c.loop-further.invariant.slots;
   led = led_on c.loop-further.invariant.led
-      (led_to (looks_on c.args.freeze c.args.level c.loop-further.grace c.in-More.further c.find-found.result c.in-More.ensures)
+      (led_to (looks_on c.args.freeze.now c.args.level c.loop-further.grace c.in-More.further c.find-found.result c.in-More.ensures)
       c.find-found.ensures.led);
 }
 
@@ -37,7 +37,7 @@ returns-in-Wait-clause-slots c = c.find-found.ensures.slots ∙ c.loop-further.i
 pub returns-in-Wait-clause-led : goal.returns-in-Wait-clause-led
 returns-in-Wait-clause-led c =
     led_on c.loop-further.invariant.led
-    (led_to (looks_in_vain c.args.freeze c.args.level c.loop-further.grace c.in-Wait.further c.find-found.result c.in-Wait.ensures)
+    (led_to (looks_in_vain c.args.freeze.now c.args.level c.loop-further.grace c.in-Wait.further c.find-found.result c.in-Wait.ensures)
     c.find-found.ensures.led)
 
 pub returns-in-Ended-clause-slots : goal.returns-in-Ended-clause-slots
@@ -46,5 +46,5 @@ returns-in-Ended-clause-slots c = c.find-found.ensures.slots ∙ c.loop-further.
 pub returns-in-Ended-clause-led : goal.returns-in-Ended-clause-led
 returns-in-Ended-clause-led c =
     led_on c.loop-further.invariant.led
-    (led_to (looks_last c.args.freeze c.args.level c.loop-further.grace c.find-found.result c.in-Ended.ensures)
+    (led_to (looks_last c.args.freeze.now c.args.level c.loop-further.grace c.find-found.result c.in-Ended.ensures)
     c.find-found.ensures.led)

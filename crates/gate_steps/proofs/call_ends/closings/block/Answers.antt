@@ -1,15 +1,19 @@
 -- the sum goes on from the exchange
-use Rattle.std.proofs.Common.{arith}
+use Rattle.std.proofs.Common.{arith, sym, ◌∙◌}
 use Rattle.gate_steps.proofs.call_events.Leading.{led_on, led_to, still_tied}
-use Rattle.gate_steps.proofs.call_ends.Closing.{blocks}
+use Rattle.gate_steps.proofs.call_ends.Closing.{blocked, blocks}
 use Rattle.gate_steps.proofs.call_ends.closings.block.Goals as goal
 
 pub sum-requires-clause-tied : goal.sum-requires-clause-tied
 sum-requires-clause-tied c =
-    still_tied (led_to (blocks c.args.freeze c.args.level c.find-found.result (omega arith) c.start.result c.start.ensures) c.find-found.ensures.led)
+    still_tied (led_to (blocks c.args.freeze.now c.args.level c.find-found.result (omega arith) c.start.result c.start.ensures) c.find-found.ensures.led)
     c.requires.tied
 
 pub returns-clause-led : goal.returns-clause-led
 returns-clause-led c =
-    led_on (led_to (blocks c.args.freeze c.args.level c.find-found.result (omega arith) c.start.result c.start.ensures) c.find-found.ensures.led)
+    led_on (led_to (blocks c.args.freeze.now c.args.level c.find-found.result (omega arith) c.start.result c.start.ensures) c.find-found.ensures.led)
     c.sum.ensures.led
+
+pub returns-then-found-ne0-clause-led : goal.returns-then-found-ne0-clause-led
+returns-then-found-ne0-clause-led c =
+    led_to (blocked c.args.freeze.now c.args.level c.find-found.result (λ is. omega arith) ∙ sym c.leave_to_wait.ensures) c.find-found.ensures.led

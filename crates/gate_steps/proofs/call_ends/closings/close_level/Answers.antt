@@ -1,5 +1,5 @@
 -- each part goes on from what the one before it left
-use Rattle.std.proofs.Common.{ap}
+use Rattle.std.proofs.Common.{ap, sym}
 use Rattle.access_model.specs.declared.replies.Next.TheVariants.{Go}
 use Rattle.gate_steps.specs.call_events.Closings.{closing_at}
 use Rattle.gate_steps.proofs.call_events.Leading.{led_on, led_to, still_tied}
@@ -7,16 +7,19 @@ use Rattle.gate_steps.proofs.call_ends.closings.close_level.Goals as goal
 
 pub block-requires-clause-tied : goal.block-requires-clause-tied
 block-requires-clause-tied c =
-    still_tied (led_to (ap (λ s. Go (closing_at c.args.freeze c.args.level s)) c.in-SetsBlock.is) c.enter.ensures.led) c.requires.tied
+    still_tied (led_to (ap (λ s. Go (closing_at c.args.freeze.now c.args.level s)) c.in-SetsBlock.is) c.enter.ensures.led) c.requires.tied
 
 pub returns-in-SetsBlock-clause-led : goal.returns-in-SetsBlock-clause-led
 returns-in-SetsBlock-clause-led c =
-    led_on (led_to (ap (λ s. Go (closing_at c.args.freeze c.args.level s)) c.in-SetsBlock.is) c.enter.ensures.led) c.block.ensures.led
+    led_on (led_to (ap (λ s. Go (closing_at c.args.freeze.now c.args.level s)) c.in-SetsBlock.is) c.enter.ensures.led) c.block.ensures.led
 
 pub pass-requires-clause-tied : goal.pass-requires-clause-tied
 pass-requires-clause-tied c =
-    still_tied (led_to (ap (λ s. Go (closing_at c.args.freeze c.args.level s)) c.in-AwaitsSections.is) c.enter.ensures.led) c.requires.tied
+    still_tied (led_to (ap (λ s. Go (closing_at c.args.freeze.now c.args.level s)) c.in-AwaitsSections.is) c.enter.ensures.led) c.requires.tied
 
 pub returns-in-AwaitsSections-clause-led : goal.returns-in-AwaitsSections-clause-led
 returns-in-AwaitsSections-clause-led c =
-    led_on (led_to (ap (λ s. Go (closing_at c.args.freeze c.args.level s)) c.in-AwaitsSections.is) c.enter.ensures.led) c.pass.ensures.led
+    led_on (led_to (ap (λ s. Go (closing_at c.args.freeze.now c.args.level s)) c.in-AwaitsSections.is) c.enter.ensures.led) c.pass.ensures.led
+
+pub returns-in_default-clause-led : goal.returns-in_default-clause-led
+returns-in_default-clause-led c = led_to (sym c.leave_to.ensures) c.enter.ensures.led

@@ -8,20 +8,20 @@ use Rattle.gate_steps.proofs.call_ends.closings.enter.Goals as goal
 
 pub find-found-requires-clause-tied : goal.find-found-requires-clause-tied
 find-found-requires-clause-tied c =
-    still_tied (led_to (enters_on c.args.freeze c.args.level c.find-expect.result c.in-Some.from c.in-Some-on_enter.to c.in-Some.ensures.word
+    still_tied (led_to (enters_on c.args.freeze.now c.args.level c.find-expect.result c.in-Some.from c.in-Some-on_enter.to c.in-Some.ensures.word
     c.in-Some-on_enter.ensures.word) c.find-expect.ensures.led) c.requires.tied
 
 pub returns-then-found-expect-clause-led : goal.returns-then-found-expect-clause-led
 returns-then-found-expect-clause-led c =
-    led_on (led_to (enters_on c.args.freeze c.args.level c.find-expect.result c.in-Some.from c.in-Some-on_enter.to c.in-Some.ensures.word
+    led_on (led_to (enters_on c.args.freeze.now c.args.level c.find-expect.result c.in-Some.from c.in-Some-on_enter.to c.in-Some.ensures.word
     c.in-Some-on_enter.ensures.word) c.find-expect.ensures.led)
-    (led_to (entered_so c.args.freeze c.args.level c.find-found.result c.in-Some.from c.in-Some-on_enter.to
+    (led_to (entered_so c.args.freeze.now c.args.level c.find-found.result c.in-Some.from c.in-Some-on_enter.to
     (c.if-found-expect.true ∙ sym c.in-Some.ensures.same)
-    ∙ ap (λ s. Go (closing_at c.args.freeze c.args.level s)) (sym c.entered.ensures)) c.find-found.ensures.led)
+    ∙ ap (λ s. Go (closing_at c.args.freeze.now c.args.level s)) (sym c.entered.ensures)) c.find-found.ensures.led)
 
 pub returns-else-found-expect-clause-led : goal.returns-else-found-expect-clause-led
 returns-else-found-expect-clause-led c =
-    led_on (led_to (enters_on c.args.freeze c.args.level c.find-expect.result c.in-Some.from c.in-Some-on_enter.to c.in-Some.ensures.word
+    led_on (led_to (enters_on c.args.freeze.now c.args.level c.find-expect.result c.in-Some.from c.in-Some-on_enter.to c.in-Some.ensures.word
     c.in-Some-on_enter.ensures.word) c.find-expect.ensures.led)
-    (led_to (entered_not c.args.freeze c.args.level c.find-found.result c.in-Some.from c.in-Some-on_enter.to
+    (led_to (entered_not c.args.freeze.now c.args.level c.find-found.result c.in-Some.from c.in-Some-on_enter.to
     (λ same. c.if-found-expect.false (same ∙ c.in-Some.ensures.same))) c.find-found.ensures.led)

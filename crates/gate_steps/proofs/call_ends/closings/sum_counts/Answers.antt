@@ -10,7 +10,7 @@ use Rattle.gate_steps.proofs.call_ends.closings.sum_counts.Goals as goal
 pub loop-further-init : goal.loop-further-init
 loop-further-init c = record {
   slots = refl;
-  led = led_nowhere c.args.gates.now.config c.args.accesses.now (Go (closing_at c.args.freeze c.args.level (Sums c.args.sum)))
+  led = led_nowhere c.args.gates.now.config c.args.accesses.now (Go (closing_at c.args.freeze.now c.args.level (Sums c.args.sum)))
       c.args.seat.now.table_id c.args.seat.now.me.0;
 }
 
@@ -21,13 +21,13 @@ pub find-found-requires-clause-tied : goal.find-found-requires-clause-tied
 find-found-requires-clause-tied c = still_tied c.loop-further.invariant.led c.requires.tied
 
 pub loop-further-smaller : goal.loop-further-smaller
-loop-further-smaller c = fewer_words c.loop-further.sum c.in-More.further c.find-found.result c.args.freeze.processors c.in-More.ensures.step
+loop-further-smaller c = fewer_words c.loop-further.sum c.in-More.further c.find-found.result c.args.freeze.now.processors c.in-More.ensures.step
 
 pub loop-further-preserved : goal.loop-further-preserved
 loop-further-preserved c = record {
   slots = c.find-found.ensures.slots ∙ c.loop-further.invariant.slots;
   led = led_on c.loop-further.invariant.led
-      (led_to (sums_on c.args.freeze c.args.level c.loop-further.sum c.in-More.further c.find-found.result c.in-More.ensures.step)
+      (led_to (sums_on c.args.freeze.now c.args.level c.loop-further.sum c.in-More.further c.find-found.result c.in-More.ensures.step)
       c.find-found.ensures.led);
 }
 
@@ -37,5 +37,5 @@ returns-in-Total-clause-slots c = c.find-found.ensures.slots ∙ c.loop-further.
 pub returns-in-Total-clause-led : goal.returns-in-Total-clause-led
 returns-in-Total-clause-led c =
     led_on c.loop-further.invariant.led
-    (led_to (sums_last c.args.freeze c.args.level c.loop-further.sum c.in-Total.total c.find-found.result c.in-Total.ensures.step)
+    (led_to (sums_last c.args.freeze.now c.args.level c.loop-further.sum c.in-Total.total c.find-found.result c.in-Total.ensures.step)
     c.find-found.ensures.led)

@@ -10,12 +10,12 @@ use Rattle.gate_steps.proofs.call_ends.freeze_lines.clean.Goals as goal
 pub loop-node-init : goal.loop-node-init
 loop-node-init c = record {
   slots = refl;
-  led = led_nowhere c.args.gates.now.config c.args.accesses.now (Go (standing c.args.freeze (Cleans c.args.clearing))) c.args.seat.now.table_id
+  led = led_nowhere c.args.gates.now.config c.args.accesses.now (Go (standing c.args.freeze.now (Cleans c.args.clearing))) c.args.seat.now.table_id
       c.args.seat.now.me.0;
 }
 
 pub find-cleaned-requires-clause-leaves : goal.find-cleaned-requires-clause-leaves
-find-cleaned-requires-clause-leaves c found = cleans_leave c.args.freeze c.args.accesses.now c.loop-node.clearing found
+find-cleaned-requires-clause-leaves c found = cleans_leave c.args.freeze.now c.args.accesses.now c.loop-node.clearing found
 
 pub find-cleaned-requires-clause-table : goal.find-cleaned-requires-clause-table
 find-cleaned-requires-clause-table c = c.loop-node.invariant.led.same_table ∙ c.requires.table
@@ -30,7 +30,7 @@ pub loop-node-preserved : goal.loop-node-preserved
 loop-node-preserved c = record {
   slots = c.find-cleaned.ensures.slots ∙ c.loop-node.invariant.slots;
   led = led_on c.loop-node.invariant.led
-      (led_to (cleans_on c.args.freeze c.loop-node.clearing c.in-Some.node c.find-cleaned.result c.in-Some.ensures) c.find-cleaned.ensures.led);
+      (led_to (cleans_on c.args.freeze.now c.loop-node.clearing c.in-Some.node c.find-cleaned.result c.in-Some.ensures) c.find-cleaned.ensures.led);
 }
 
 pub returns-in-None-clause-slots : goal.returns-in-None-clause-slots
@@ -39,4 +39,4 @@ returns-in-None-clause-slots c = c.find-cleaned.ensures.slots ∙ c.loop-node.in
 pub returns-in-None-clause-led : goal.returns-in-None-clause-led
 returns-in-None-clause-led c =
     led_on c.loop-node.invariant.led
-    (led_to (cleans_last c.args.freeze c.loop-node.clearing c.find-cleaned.result c.in-None.ensures) c.find-cleaned.ensures.led)
+    (led_to (cleans_last c.args.freeze.now c.loop-node.clearing c.find-cleaned.result c.in-None.ensures) c.find-cleaned.ensures.led)

@@ -14,12 +14,12 @@ close_level-requires-clause-tied g c =
 
 pub lock_again-requires-clause-tied : goal.lock_again-requires-clause-tied
 lock_again-requires-clause-tied g c =
-    still_tied (led_on (led_on c.find-stored.ensures.led c.find-freed.ensures.led) (led_to (closed_so c.args.freeze 1 c.close_level.result c.close_level.new.rest c.if-close_level.true) c.close_level.ensures.led)) c.requires.tied
+    still_tied (led_on (led_on c.find-stored.ensures.led c.find-freed.ensures.led) (led_to (closed_so c.args.freeze.now 1 c.close_level.result c.close_level.new.rest c.if-close_level.true) c.close_level.ensures.led)) c.requires.tied
 
 pub returns-then-close_level-clause-led : goal.returns-then-close_level-clause-led
 returns-then-close_level-clause-led g c =
-    asking_on (led_unasked (led_on (led_on c.find-stored.ensures.led c.find-freed.ensures.led) (led_to (closed_so c.args.freeze 1 c.close_level.result c.close_level.new.rest c.if-close_level.true) c.close_level.ensures.led)) refl) c.lock_again.ensures.led
+    asking_on (led_unasked (led_on (led_on c.find-stored.ensures.led c.find-freed.ensures.led) (led_to (closed_so c.args.freeze.now 1 c.close_level.result c.close_level.new.rest c.if-close_level.true) c.close_level.ensures.led)) refl) c.lock_again.ensures.led
 
 pub returns-clause-led : goal.returns-clause-led
 returns-clause-led g c =
-    led_unasked (led_on (led_on c.find-stored.ensures.led c.find-freed.ensures.led) (led_to (not_closed c.args.freeze 1 c.close_level.result c.close_level.new.rest c.if-close_level.false) c.close_level.ensures.led)) refl
+    led_unasked (led_on (led_on c.find-stored.ensures.led c.find-freed.ensures.led) (led_to (not_closed c.args.freeze.now 1 c.close_level.result c.close_level.new.rest c.if-close_level.false) c.close_level.ensures.led)) refl

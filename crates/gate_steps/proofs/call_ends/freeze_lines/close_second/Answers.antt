@@ -10,12 +10,12 @@ close_level-requires-clause-tied g c =
 
 pub sync-requires-clause-tied : goal.sync-requires-clause-tied
 sync-requires-clause-tied g c =
-    still_tied (led_on c.find-stored.ensures.led (led_to (closed_so c.args.freeze 2 c.close_level.result c.close_level.new.rest c.if-close_level.true) c.close_level.ensures.led)) c.requires.tied
+    still_tied (led_on c.find-stored.ensures.led (led_to (closed_so c.args.freeze.now 2 c.close_level.result c.close_level.new.rest c.if-close_level.true) c.close_level.ensures.led)) c.requires.tied
 
 pub returns-then-close_level-clause-led : goal.returns-then-close_level-clause-led
 returns-then-close_level-clause-led g c =
-    asking_on (led_unasked (led_on c.find-stored.ensures.led (led_to (closed_so c.args.freeze 2 c.close_level.result c.close_level.new.rest c.if-close_level.true) c.close_level.ensures.led)) refl) c.sync.ensures.led
+    asking_on (led_unasked (led_on c.find-stored.ensures.led (led_to (closed_so c.args.freeze.now 2 c.close_level.result c.close_level.new.rest c.if-close_level.true) c.close_level.ensures.led)) refl) c.sync.ensures.led
 
 pub returns-clause-led : goal.returns-clause-led
 returns-clause-led g c =
-    led_unasked (led_on c.find-stored.ensures.led (led_to (not_closed c.args.freeze 2 c.close_level.result c.close_level.new.rest c.if-close_level.false) c.close_level.ensures.led)) refl
+    led_unasked (led_on c.find-stored.ensures.led (led_to (not_closed c.args.freeze.now 2 c.close_level.result c.close_level.new.rest c.if-close_level.false) c.close_level.ensures.led)) refl

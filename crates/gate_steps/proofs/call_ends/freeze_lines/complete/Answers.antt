@@ -9,7 +9,7 @@ use Rattle.gate_steps.proofs.call_ends.freeze_lines.complete.Goals as goal
 
 pub find_asking-answer-requires-clause-leaves : goal.find_asking-answer-requires-clause-leaves
 find_asking-answer-requires-clause-leaves g c =
-    λ found hook. completes_leave c.args.freeze c.args.accesses.now found hook
+    λ found hook. completes_leave c.args.freeze.now c.args.accesses.now found hook
 
 pub returns-in-Err-clause-led : goal.returns-in-Err-clause-led
 returns-in-Err-clause-led g c =
@@ -17,9 +17,9 @@ returns-in-Err-clause-led g c =
 
 pub end_freeze-requires-clause-tied : goal.end_freeze-requires-clause-tied
 end_freeze-requires-clause-tied g c =
-    asking_tied (asking_to (ap (λ h. Go (standing c.args.freeze (Holds h))) (sym c.none.ensures)) c.in_default.ensures.led.1) c.requires.tied
+    asking_tied (asking_to (ap (λ h. Go (standing c.args.freeze.now (Holds h))) (sym c.none.ensures)) c.in_default.ensures.led.1) c.requires.tied
 
 pub returns-clause-led : goal.returns-clause-led
 returns-clause-led g c =
-    asking_on (asking_to (ap (λ h. Go (standing c.args.freeze (Holds h))) (sym c.none.ensures)) c.in_default.ensures.led.1)
+    asking_on (asking_to (ap (λ h. Go (standing c.args.freeze.now (Holds h))) (sym c.none.ensures)) c.in_default.ensures.led.1)
     (led_unasked c.end_freeze.ensures.led refl)

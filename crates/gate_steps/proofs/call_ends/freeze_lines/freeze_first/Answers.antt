@@ -10,9 +10,9 @@ returns-then-taken-ne0-clause-led g c =
 
 pub freeze_locked-requires-clause-tied : goal.freeze_locked-requires-clause-tied
 freeze_locked-requires-clause-tied g c =
-    still_tied (led_to (locked c.args.freeze c.find_first-taken.result (omega arith)) c.find_first-taken.ensures.led) c.requires.tied
+    still_tied (led_to (locked c.args.freeze.now c.find_first-taken.result (omega arith)) c.find_first-taken.ensures.led) c.requires.tied
 
 pub returns-clause-led : goal.returns-clause-led
 returns-clause-led g c =
-    asking_on (led_unasked (led_to (locked c.args.freeze c.find_first-taken.result (omega arith)) c.find_first-taken.ensures.led) refl)
+    asking_on (led_unasked (led_to (locked c.args.freeze.now c.find_first-taken.result (omega arith)) c.find_first-taken.ensures.led) refl)
     c.freeze_locked.ensures.led

@@ -9,19 +9,19 @@ returns-then-stage-ne0-clause-led g c = led_unasked (led_to (sym c.leave.ensures
 
 pub find-flags-requires-clause-tied : goal.find-flags-requires-clause-tied
 find-flags-requires-clause-tied g c =
-    still_tied (led_to (stage_free c.args.freeze c.find-stage.result (omega arith)) c.find-stage.ensures.led) c.requires.tied
+    still_tied (led_to (stage_free c.args.freeze.now c.find-stage.result (omega arith)) c.find-stage.ensures.led) c.requires.tied
 
 pub returns-then-flags-ne0-clause-led : goal.returns-then-flags-ne0-clause-led
 returns-then-flags-ne0-clause-led g c =
-    led_unasked (led_on (led_to (stage_free c.args.freeze c.find-stage.result (omega arith)) c.find-stage.ensures.led)
+    led_unasked (led_on (led_to (stage_free c.args.freeze.now c.find-stage.result (omega arith)) c.find-stage.ensures.led)
     (led_to (sym c.leave-then-flags-ne0.ensures) c.find-flags.ensures.led)) refl
 
 pub close_first-requires-clause-tied : goal.close_first-requires-clause-tied
 close_first-requires-clause-tied g c =
-    still_tied (led_on (led_to (stage_free c.args.freeze c.find-stage.result (omega arith)) c.find-stage.ensures.led)
-    (led_to (flag_clear c.args.freeze c.find-flags.result (omega arith)) c.find-flags.ensures.led)) c.requires.tied
+    still_tied (led_on (led_to (stage_free c.args.freeze.now c.find-stage.result (omega arith)) c.find-stage.ensures.led)
+    (led_to (flag_clear c.args.freeze.now c.find-flags.result (omega arith)) c.find-flags.ensures.led)) c.requires.tied
 
 pub returns-clause-led : goal.returns-clause-led
 returns-clause-led g c =
-    asking_on (led_unasked (led_on (led_to (stage_free c.args.freeze c.find-stage.result (omega arith)) c.find-stage.ensures.led)
-    (led_to (flag_clear c.args.freeze c.find-flags.result (omega arith)) c.find-flags.ensures.led)) refl) c.close_first.ensures.led
+    asking_on (led_unasked (led_on (led_to (stage_free c.args.freeze.now c.find-stage.result (omega arith)) c.find-stage.ensures.led)
+    (led_to (flag_clear c.args.freeze.now c.find-flags.result (omega arith)) c.find-flags.ensures.led)) refl) c.close_first.ensures.led

@@ -6,16 +6,16 @@ use Rattle.gate_steps.proofs.call_ends.freeze_lines.go_on_level.Goals as goal
 
 pub go_on_closing-requires-clause-tied : goal.go_on_closing-requires-clause-tied
 go_on_closing-requires-clause-tied g c =
-    tied_from (closing_of c.args.freeze c.args.write.level c.args.write refl c.if-write-freeze.false c.if-write-freeze-2.false) c.requires.tied
+    tied_from (closing_of c.args.freeze.now c.args.write.level c.args.write refl c.if-write-freeze.false c.if-write-freeze-2.false) c.requires.tied
 
 pub go_on_closed-requires-clause-tied : goal.go_on_closed-requires-clause-tied
 go_on_closed-requires-clause-tied g c =
-    still_tied (led_from (closing_of c.args.freeze c.args.write.level c.args.write refl c.if-write-freeze.false c.if-write-freeze-2.false) (led_to (closed_so c.args.freeze c.args.write.level c.go_on_closing.result c.go_on_closing.new.rest c.if-go_on_closing.true) c.go_on_closing.ensures.led)) c.requires.tied
+    still_tied (led_from (closing_of c.args.freeze.now c.args.write.level c.args.write refl c.if-write-freeze.false c.if-write-freeze-2.false) (led_to (closed_so c.args.freeze.now c.args.write.level c.go_on_closing.result c.go_on_closing.new.rest c.if-go_on_closing.true) c.go_on_closing.ensures.led)) c.requires.tied
 
 pub returns-then-go_on_closing-clause-led : goal.returns-then-go_on_closing-clause-led
 returns-then-go_on_closing-clause-led g c =
-    asking_on (led_unasked (led_from (closing_of c.args.freeze c.args.write.level c.args.write refl c.if-write-freeze.false c.if-write-freeze-2.false) (led_to (closed_so c.args.freeze c.args.write.level c.go_on_closing.result c.go_on_closing.new.rest c.if-go_on_closing.true) c.go_on_closing.ensures.led)) refl) c.go_on_closed.ensures.led
+    asking_on (led_unasked (led_from (closing_of c.args.freeze.now c.args.write.level c.args.write refl c.if-write-freeze.false c.if-write-freeze-2.false) (led_to (closed_so c.args.freeze.now c.args.write.level c.go_on_closing.result c.go_on_closing.new.rest c.if-go_on_closing.true) c.go_on_closing.ensures.led)) refl) c.go_on_closed.ensures.led
 
 pub returns-clause-led : goal.returns-clause-led
 returns-clause-led g c =
-    led_unasked (led_from (closing_of c.args.freeze c.args.write.level c.args.write refl c.if-write-freeze.false c.if-write-freeze-2.false) (led_to (not_closed c.args.freeze c.args.write.level c.go_on_closing.result c.go_on_closing.new.rest c.if-go_on_closing.false) c.go_on_closing.ensures.led)) refl
+    led_unasked (led_from (closing_of c.args.freeze.now c.args.write.level c.args.write refl c.if-write-freeze.false c.if-write-freeze-2.false) (led_to (not_closed c.args.freeze.now c.args.write.level c.go_on_closing.result c.go_on_closing.new.rest c.if-go_on_closing.false) c.go_on_closing.ensures.led)) refl

@@ -10,9 +10,9 @@ returns-then-taken-ne0-clause-led g c =
 
 pub close_second-requires-clause-tied : goal.close_second-requires-clause-tied
 close_second-requires-clause-tied g c =
-    still_tied (led_to (locked_again c.args.freeze c.find-taken.result (omega arith)) c.find-taken.ensures.led) c.requires.tied
+    still_tied (led_to (locked_again c.args.freeze.now c.find-taken.result (omega arith)) c.find-taken.ensures.led) c.requires.tied
 
 pub returns-clause-led : goal.returns-clause-led
 returns-clause-led g c =
-    asking_on (led_unasked (led_to (locked_again c.args.freeze c.find-taken.result (omega arith)) c.find-taken.ensures.led) refl)
+    asking_on (led_unasked (led_to (locked_again c.args.freeze.now c.find-taken.result (omega arith)) c.find-taken.ensures.led) refl)
     c.close_second.ensures.led

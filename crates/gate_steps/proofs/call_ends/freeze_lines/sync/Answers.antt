@@ -8,13 +8,13 @@ use Rattle.gate_steps.proofs.call_ends.freeze_lines.sync.Goals as goal
 
 pub clean-requires-clause-tied : goal.clean-requires-clause-tied
 clean-requires-clause-tied g c =
-    tied_from (ap (λ m. Go (standing c.args.freeze (Cleans m))) c.start-clearing.ensures) c.requires.tied
+    tied_from (ap (λ m. Go (standing c.args.freeze.now (Cleans m))) c.start-clearing.ensures) c.requires.tied
 
 pub close_third-requires-clause-tied : goal.close_third-requires-clause-tied
 close_third-requires-clause-tied g c =
-    still_tied (led_from (ap (λ m. Go (standing c.args.freeze (Cleans m))) c.start-clearing.ensures) c.clean.ensures.led) c.requires.tied
+    still_tied (led_from (ap (λ m. Go (standing c.args.freeze.now (Cleans m))) c.start-clearing.ensures) c.clean.ensures.led) c.requires.tied
 
 pub returns-clause-led : goal.returns-clause-led
 returns-clause-led g c =
-    asking_on (led_unasked (led_from (ap (λ m. Go (standing c.args.freeze (Cleans m))) c.start-clearing.ensures) c.clean.ensures.led) refl)
+    asking_on (led_unasked (led_from (ap (λ m. Go (standing c.args.freeze.now (Cleans m))) c.start-clearing.ensures) c.clean.ensures.led) refl)
     c.close_third.ensures.led
