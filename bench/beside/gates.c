@@ -3,7 +3,8 @@
  *     gates WHAT SIZE COUNT
  *
  * WHAT is mount, level, write-access, pthread_rwlock or urcu, with SIZE threads that do COUNT pairs each; or freeze, with one task among SIZE tasks
- * and processors that freezes and thaws COUNT times. Prints how many nanoseconds that took. */
+ * and processors that freezes and thaws COUNT times; or snapshot, with one task that takes COUNT of them, each of SIZE nodes. Prints how many
+ * nanoseconds that took. */
 #define _GNU_SOURCE
 #include <pthread.h>
 #include <stdio.h>
@@ -45,28 +46,37 @@ static void check(mntgate_result result)
 
 static void mount_pairs(struct job *job)
 {
-	for (unsigned long i = 0; i < pairs; i++) {
-		check(mntgate_want(&job->task, 0, job->number));
+	const unsigned long count = pairs;
+	const uint8_t processor = job->number;
+
+	for (unsigned long i = 0; i < count; i++) {
+		check(mntgate_want(&job->task, 0, processor));
 		INSIDE();
-		check(mntgate_drop_mount(&job->task, 0, job->number));
+		check(mntgate_drop_mount(&job->task, 0, processor));
 	}
 }
 
 static void level_pairs(struct job *job)
 {
-	for (unsigned long i = 0; i < pairs; i++) {
-		check(mntgate_start(&job->task, 1, job->number));
+	const unsigned long count = pairs;
+	const uint8_t processor = job->number;
+
+	for (unsigned long i = 0; i < count; i++) {
+		check(mntgate_start(&job->task, 1, processor));
 		INSIDE();
-		check(mntgate_end(&job->task, 1, job->number));
+		check(mntgate_end(&job->task, 1, processor));
 	}
 }
 
 static void write_pairs(struct job *job)
 {
-	for (unsigned long i = 0; i < pairs; i++) {
-		check(mntgate_want_write(&job->task, 0, job->number));
+	const unsigned long count = pairs;
+	const uint8_t processor = job->number;
+
+	for (unsigned long i = 0; i < count; i++) {
+		check(mntgate_want_write(&job->task, 0, processor));
 		INSIDE();
-		check(mntgate_drop_write(&job->task, 0, job->number));
+		check(mntgate_drop_write(&job->task, 0, processor));
 	}
 }
 
@@ -122,6 +132,23 @@ static long long freezes(unsigned size)
 	return ended - begun;
 }
 
+static long long snapshots(unsigned size)
+{
+	const struct mntgate_config config = { (uint8_t)size, (uint8_t)size, 1, (uint8_t)size, 0 };
+	struct mntgate_task task = MNTGATE_NONE;
+	long long begun, ended;
+
+	check(mntgate_open(&task, &config));
+	check(mntgate_freeze(&task, MNTGATE_USER, NULL));
+	begun = now();
+	for (unsigned long i = 0; i < pairs; i++)
+		check(mntgate_snapshot(&task));
+	ended = now();
+	check(mntgate_thaw(&task, MNTGATE_USER, NULL));
+	check(mntgate_close(&task));
+	return ended - begun;
+}
+
 static long long threads(unsigned size)
 {
 	const struct mntgate_config config = { (uint8_t)(size + 1), (uint8_t)size, 1, 2, 0 };
@@ -166,6 +193,10 @@ int main(int count, char **words)
 		return 2;
 	if (!strcmp(words[1], "freeze")) {
 		printf("%lld\n", freezes(size));
+		return 0;
+	}
+	if (!strcmp(words[1], "snapshot")) {
+		printf("%lld\n", snapshots(size));
 		return 0;
 	}
 	for (unsigned i = 0; i < sizeof bodies / sizeof *bodies; i++)

@@ -379,6 +379,7 @@ static char mntgate_order;
 #define mntgate_end(...) MNTGATE_ORDERED(mntgate_end(__VA_ARGS__))
 #define mntgate_drop_write(...) MNTGATE_ORDERED(mntgate_drop_write(__VA_ARGS__))
 #define mntgate_try_change_mount(...) MNTGATE_ORDERED(mntgate_try_change_mount(__VA_ARGS__))
+#define mntgate_try_snapshot(...) MNTGATE_ORDERED(mntgate_try_snapshot(__VA_ARGS__))
 #define mntgate_wants_hook(...) MNTGATE_ORDERED(mntgate_wants_hook(__VA_ARGS__))
 #define mntgate_want_write_at_once(...) MNTGATE_ORDERED(mntgate_want_write_at_once(__VA_ARGS__))
 #define mntgate_callback_at_once(...) MNTGATE_ORDERED(mntgate_callback_at_once(__VA_ARGS__))
@@ -470,13 +471,14 @@ static inline mntgate_result mntgate_perform(struct mntgate_task *task, const st
 }
 
 /* The operation of a call that has found somebody in its way, in a function of its own, so that the usual way stays short. */
-MNTGATE_COLD mntgate_result mntgate_perform_at(struct mntgate_task *task, uint8_t kind, uint8_t number, uint8_t processor)
+MNTGATE_COLD mntgate_result mntgate_perform_at(struct mntgate_task *task, uint8_t kind, uint8_t number, uint8_t processor, bool choice)
 {
 	struct mntgate_op op = { 0, 0, 0, false, true, 0 };
 
 	op.kind = kind;
 	op.number = number;
 	op.other = processor;
+	op.choice = choice;
 	return mntgate_perform(task, &op, NULL);
 }
 
@@ -485,7 +487,7 @@ static inline mntgate_result mntgate_want(struct mntgate_task *task, uint8_t mou
 {
 	mntgate_result result = mntgate_try_want(task, mount, processor);
 
-	return MNTGATE_UNLIKELY(result == EAGAIN) ? mntgate_perform_at(task, MNTGATE_OP_WANT, mount, processor) : result;
+	return MNTGATE_UNLIKELY(result == EAGAIN) ? mntgate_perform_at(task, MNTGATE_OP_WANT, mount, processor, false) : result;
 }
 
 /* Goes inside a freeze level (sb_start_write, sb_start_pagefault, sb_start_intwrite); waits while a freeze closes it. */
@@ -493,7 +495,7 @@ static inline mntgate_result mntgate_start(struct mntgate_task *task, uint8_t le
 {
 	mntgate_result result = mntgate_try_start(task, level, processor);
 
-	return MNTGATE_UNLIKELY(result == EAGAIN) ? mntgate_perform_at(task, MNTGATE_OP_START, level, processor) : result;
+	return MNTGATE_UNLIKELY(result == EAGAIN) ? mntgate_perform_at(task, MNTGATE_OP_START, level, processor, false) : result;
 }
 
 /* Goes inside level 1 and takes an access at a mount (mnt_want_write); waits for both. EDEADLK inside a level.
@@ -509,9 +511,9 @@ static inline mntgate_result mntgate_want_write(struct mntgate_task *task, uint8
 /* Makes a mount read-only, or writable again; waits for s_umount.   EBUSY  as mntgate_try_change_mount. */
 static inline mntgate_result mntgate_change_mount(struct mntgate_task *task, uint8_t mount, bool read_only)
 {
-	const struct mntgate_op op = { MNTGATE_OP_CHANGE_MOUNT, mount, 0, read_only, true, 0 };
+	mntgate_result result = mntgate_try_change_mount(task, mount, read_only);
 
-	return mntgate_perform(task, &op, NULL);
+	return MNTGATE_UNLIKELY(result == EAGAIN) ? mntgate_perform_at(task, MNTGATE_OP_CHANGE_MOUNT, mount, 0, read_only) : result;
 }
 
 /* Remounts the superblock read-only or writable (reconfigure_super); waits for s_umount. The hook reconfigure is asked once, where the
@@ -595,9 +597,9 @@ static inline mntgate_result mntgate_close_file(struct mntgate_task *task, uint8
 /* Takes a snapshot of the frozen tree; waits for s_umount.   EINVAL  as mntgate_try_snapshot. */
 static inline mntgate_result mntgate_snapshot(struct mntgate_task *task)
 {
-	const struct mntgate_op op = { MNTGATE_OP_SNAPSHOT, 0, 0, false, true, 0 };
+	mntgate_result result = mntgate_try_snapshot(task);
 
-	return mntgate_perform(task, &op, NULL);
+	return MNTGATE_UNLIKELY(result == EAGAIN) ? mntgate_perform_at(task, MNTGATE_OP_SNAPSHOT, 0, 0, false) : result;
 }
 
 #ifdef __cplusplus

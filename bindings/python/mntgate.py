@@ -200,7 +200,14 @@ class Task:
         """Begins an operation that may wait, and does it to its end; the value of its reply."""
         op, outcome, pause = _Op(kind, _u8(number), _u8(other), choice, True, 0), _Outcome(), 0.0
         at_once = {3: ("remount_sb", choice), 6: ("want_write", number, other), 8: ("callback", number), 9: ("freeze", choice), 10: ("thaw", choice)}
+        tries = {0: ("try_want", number, other), 2: ("try_change_mount", number, choice), 4: ("try_start", number, other), 19: ("try_snapshot",)}
         with self._lock:
+            if kind in tries:
+                name, *words = tries[kind]
+                result = self._do(name, *words)
+                if result != errno.EAGAIN:
+                    _raise(result)
+                    return 0
             if hooks is None and kind in at_once:
                 name, *words = at_once[kind]
                 self._ask(f"{name}_at_once", *words, ctypes.byref(outcome))

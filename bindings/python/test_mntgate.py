@@ -72,6 +72,16 @@ class Gates(unittest.TestCase):
         self.task.close_file(file)
         self.other.settle()
 
+    def test_waits(self) -> None:
+        calls = [lambda: self.other.change_mount(0, True), lambda: self.other.change_mount(0, False)]
+        with self.task.frozen():
+            for call in calls:
+                thread = threading.Thread(target=lambda: [call() for _ in range(200)])
+                thread.start()
+                while thread.is_alive():
+                    self.assertEqual(self.task.snapshot().used, 0)
+                thread.join()
+
     def test_threads(self) -> None:
         record, torn = [0, 0], 0
 

@@ -1,7 +1,9 @@
-/* Each call once and its refusals, in one thread. Prints "all calls" where all answer as the header says. */
+/* Each call once and its refusals, and that a call waits. Prints "all calls" where all answer as the header says. */
 #undef NDEBUG
 #include <assert.h>
+#include <pthread.h>
 #include <stdio.h>
+#include <unistd.h>
 
 #include "mntgate.h"
 
@@ -178,6 +180,34 @@ static void test_at_once(struct mntgate_task *task, struct mntgate_task *other)
 	assert(mntgate_remount_sb(task, false, NULL) == 0 && mntgate_want_write(task, 0, 0) == 0 && mntgate_drop_write(task, 0, 1) == 0);
 }
 
+static mntgate_result snapshot_told = 9;
+
+static void *take_snapshot(void *task)
+{
+	mntgate_result told = mntgate_snapshot(task);
+
+	__atomic_store_n(&snapshot_told, told, __ATOMIC_SEQ_CST);
+	return NULL;
+}
+
+/* A snapshot waits while another task owns s_umount. */
+static void test_waits(struct mntgate_task *task, struct mntgate_task *other)
+{
+	const struct mntgate_op change = { MNTGATE_OP_CHANGE_MOUNT, 0, 0, false, false, 0 };
+	struct mntgate_step_done done;
+	struct mntgate_outcome outcome;
+	pthread_t thread;
+
+	assert(mntgate_freeze(task, MNTGATE_USER, NULL) == 0 && mntgate_begin(other, &change) == 0);
+	mntgate_step(other, 0, &done);
+	assert(done.outcome.progress == MNTGATE_GOING && mntgate_try_snapshot(task) == EAGAIN);
+	assert(pthread_create(&thread, NULL, take_snapshot, task) == 0 && usleep(20000) == 0);
+	assert(__atomic_load_n(&snapshot_told, __ATOMIC_SEQ_CST) == 9);
+	mntgate_run(other, 0, 1000, &outcome);
+	assert(outcome.progress == MNTGATE_DONE && outcome.answer == 0 && pthread_join(thread, NULL) == 0 && snapshot_told == 0);
+	assert(mntgate_thaw(task, MNTGATE_USER, NULL) == 0 && mntgate_settle(task) == 0);
+}
+
 int main(void)
 {
 	const struct mntgate_config config = { 2, 2, 1, 4, 10 }, none = { 0, 2, 1, 4, 10 };
@@ -195,6 +225,7 @@ int main(void)
 	test_tree(&task, &other);
 	test_steps(&task, &other);
 	test_at_once(&task, &other);
+	test_waits(&task, &other);
 	assert(mntgate_close(&task) == EDEADLK && task.at != NULL);
 	assert(mntgate_join(&task, &other) == 0 && other.at == NULL);
 	assert(mntgate_close_words(&task, words, 6, values, 5) == EINVAL && task.at != NULL);

@@ -83,7 +83,10 @@ impl Task {
 
     /// Makes a mount read-only, or writable; waits for `s_umount`. `Busy` where it has writers.
     pub fn change_mount(&mut self, mount: u8, read_only: bool) -> Result<(), Error> {
-        self.perform(Op::ChangeMount { mount, read_only, wait: true }, &mut ()).map(drop)
+        match self.try_change_mount(mount, read_only) {
+            Err(Error::Again) => self.perform(Op::ChangeMount { mount, read_only, wait: true }, &mut ()).map(drop),
+            answer => answer,
+        }
     }
 
     /// Makes a mount read-only until the guard is dropped. `Busy` where it has writers.
@@ -156,6 +159,9 @@ impl Task {
 
     /// Takes a snapshot of the frozen tree, which [`Task::tree`] returns; waits for `s_umount`. `Invalid` where nothing is frozen.
     pub fn snapshot(&mut self) -> Result<(), Error> {
-        self.perform(Op::Snapshot { wait: true }, &mut ()).map(drop)
+        match self.try_snapshot() {
+            Err(Error::Again) => self.perform(Op::Snapshot { wait: true }, &mut ()).map(drop),
+            answer => answer,
+        }
     }
 }

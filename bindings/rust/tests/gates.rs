@@ -2,6 +2,7 @@
 use mntgate::{Backoff, Config, Error, Gates, HookKind, Holder, Hooks, Op, Progress, Reply, Task};
 use std::sync::atomic::{AtomicU64, Ordering::Relaxed};
 use std::thread;
+use std::time::Duration;
 
 const CONFIG: Config = Config { tasks: 4, processors: 2, mounts: 1, nodes: 3, capacity: 100 };
 
@@ -192,5 +193,27 @@ fn an_operation_that_is_begun_at_once_is_run_to_its_end() {
     while task.run(Ok(()), 1024) != done {}
     task.thaw(Holder::User, &mut ()).unwrap();
     assert_eq!(task.begin_at_once(Op::Callback { level: 1 }), Ok(Progress::Done(Ok(Reply::Ran(true)))));
+    close(task, other);
+}
+
+#[test]
+fn a_call_waits_for_who_owns_umount() {
+    let (mut task, mut other) = pair();
+    task.freeze(Holder::User, &mut ()).unwrap();
+    let (change, snapshot) = (Op::ChangeMount { mount: 0, read_only: true, wait: false }, Op::Snapshot { wait: false });
+    let calls: [(Op, fn(&mut Task) -> Result<(), Error>); 2] = [(change, Task::snapshot), (snapshot, |task| task.change_mount(0, false))];
+    for (op, call) in calls {
+        other.begin(op).unwrap();
+        assert_eq!(other.step(Ok(())).1, Progress::Going);
+        assert_eq!(task.try_snapshot(), Err(Error::Again));
+        thread::scope(|scope| {
+            let called = scope.spawn(|| call(&mut task));
+            thread::sleep(Duration::from_millis(20));
+            assert!(!called.is_finished());
+            assert!(matches!(other.run(Ok(()), 1024), Progress::Done(Ok(_))));
+            assert_eq!(called.join().unwrap(), Ok(()));
+        });
+    }
+    task.thaw(Holder::User, &mut ()).unwrap();
     close(task, other);
 }
