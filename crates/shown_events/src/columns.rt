@@ -3,8 +3,8 @@
 use crate::forms::Style;
 use crate::listings::Listed;
 use crate::page::{Page, text_of};
-use crate::rows::rows_of;
-use crate::trace::behind_task;
+use crate::rows::Rows;
+use crate::trace::{Entry, behind_task};
 use cpu_words::WORDS;
 use schedule_text::Output;
 use std::alloc::{AllocError, Global};
@@ -70,8 +70,16 @@ impl Columns {
         self.width.saturating_mul(usize::from(task))
     }
 
+    /// Prints an entry in the column of its task.
+    pub(crate) fn show(&self, entry: &Entry, style: Style, page: &mut Page) {
+        let mut line = Output::new(page.alloc);
+        entry.print(&mut line, style);
+        page.note(line.settled());
+        self.line(entry.task, line.bytes.as_slice(), page);
+    }
+
     /// Prints the line of a task in its column, with shorter words where it has to be narrow.
-    pub(crate) fn line(&self, task: u8, line: &[u8], page: &mut Page) {
+    fn line(&self, task: u8, line: &[u8], page: &mut Page) {
         let text = behind_task(line);
         if !self.is_narrow {
             return self.cell(task, text, page);
@@ -85,14 +93,13 @@ impl Columns {
     /// Prints a text in the task's column: what has no room there goes on in the next row, behind a space.
     fn cell(&self, task: u8, text: &[u8], page: &mut Page) {
         let indent = self.indent(task);
-        match rows_of(page.alloc, text, self.width.saturating_sub(1)) {
-            Ok(rows) => {
-                for (number, row) in rows.iter().enumerate() {
-                    page.spaces(indent.saturating_add(number.min(1)));
-                    page.out.line(*row);
-                }
-            }
-            Err(refused) => page.note(Err(refused)),
+        let mut rows = Rows::new(text, self.width.saturating_sub(1));
+        for number in 0..=text.len() {
+            let Some(row) = rows.next() else {
+                break;
+            };
+            page.spaces(indent.saturating_add(number.min(1)));
+            page.out.line(row);
         }
     }
 

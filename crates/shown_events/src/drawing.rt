@@ -5,7 +5,7 @@ use crate::kernel::code_of;
 use crate::layout::{BASE, CODE, HEAD, LINE, Layout, row_height};
 use crate::markup::{attribute, counted, escaped};
 use crate::picture::Begins;
-use crate::rows::rows_of;
+use crate::rows::{Rows, count_rows};
 use crate::trace::{Entry, Happening, Taken, behind_task};
 use crate::waits::{Culprit, Wait};
 use access_model::Action;
@@ -32,9 +32,6 @@ static STAGES: [&str; 5] = ["", "s1", "s2", "s3", "s4"];
 /// The space between the lane's edge and its text, where the bar of a wait has its place.
 const INDENT: u64 = 16;
 
-/// How many tasks a number can tell.
-const TASKS: usize = 256;
-
 /// How wide the letter of an indented row is.
 const LETTER: u64 = 7;
 
@@ -47,8 +44,6 @@ pub(crate) struct Drawing<'a> {
     entries: &'a [Entry],
     /// Where each row begins, and behind them where the last one ends.
     tops: Vec<u64>,
-    /// Of each row the next one of the same task; how many rows there are, if there is none.
-    nexts: Vec<usize>,
 }
 
 /// A strip that tells how long something of the model is so: where it stands, its class, what it tells, and from where on.
@@ -73,35 +68,9 @@ impl<'a> Drawing<'a> {
             style,
             entries,
             tops: Vec::new(alloc),
-            nexts: Vec::new(alloc),
         };
-        let laid = drawing.lay_out();
-        let chained = drawing.chain();
-        laid.and(chained).and(Ok(drawing))
-    }
-
-    /// Finds the next row of each row's task.
-    fn chain(&mut self) -> Result<(), AllocError> {
-        let rows = self.entries.len();
-        let mut behind = [rows; TASKS];
-        self.nexts = vec![in self.alloc; rows; rows]?;
-        for row in (0..rows).rev() {
-            if let (Some(entry), Some(next)) = (self.entries.get(row), self.nexts.get_mut(row))
-                && let Some(last) = behind.get_mut(usize::from(entry.task))
-            {
-                *next = *last;
-                *last = row;
-            }
-        }
-        Ok(())
-    }
-
-    /// The next row of the same task; how many rows there are, if there is none.
-    fn next(&self, row: usize) -> usize {
-        match self.nexts.get(row) {
-            Some(next) => *next,
-            None => self.entries.len(),
-        }
+        drawing.lay_out()?;
+        Ok(drawing)
     }
 
     fn lay_out(&mut self) -> Result<(), AllocError> {
@@ -115,30 +84,37 @@ impl<'a> Drawing<'a> {
         Ok(())
     }
 
+    /// The next row of a task behind a row; how many rows there are, if there is none.
+    fn next(&self, row: usize, task: u8) -> usize {
+        for next in row.saturating_add(1)..self.entries.len() {
+            if self.entries[next].task == task {
+                return next;
+            }
+        }
+        self.entries.len()
+    }
+
     /// How many lines the row of an entry has.
     fn lines_of(&self, entry: &Entry) -> Result<usize, AllocError> {
-        let cell = self.cell_of(entry)?;
-        let lines = self.rows_of(&cell)?.len();
+        let lines = self.count_lines(&self.cell_of(entry))?;
         match entry.wait() {
             Some(wait) => {
-                let more = self.rows_of(&self.wait_of(wait)?)?.len();
+                let more = self.count_lines(&self.wait_of(wait))?;
                 Ok(lines.saturating_add(more))
             }
             None => Ok(lines),
         }
     }
 
-    /// The rows of a text in a lane.
-    fn rows_of<'t>(&self, text: &'t Output) -> Result<Vec<&'t [u8]>, AllocError> {
-        rows_of(
-            self.alloc,
-            behind_task(text.bytes.as_slice()),
-            self.layout.room,
-        )
+    /// How many lines a text has in a lane.
+    fn count_lines(&self, text: &Output) -> Result<usize, AllocError> {
+        text.settled()?;
+        let line = behind_task(text.bytes.as_slice());
+        Ok(count_rows(line, self.layout.room))
     }
 
     /// What stands in the lane for an entry, behind its task.
-    fn cell_of(&self, entry: &Entry) -> Result<Output, AllocError> {
+    fn cell_of(&self, entry: &Entry) -> Output {
         let mut text = Output::new(self.alloc);
         match entry.happens {
             Happening::Steps(taken) => {
@@ -147,17 +123,15 @@ impl<'a> Drawing<'a> {
             }
             _ => entry.print(&mut text, self.style),
         }
-        text.settled()?;
-        Ok(text)
+        text
     }
 
     /// What stands in the lane of a wait, behind nothing.
-    fn wait_of(&self, wait: Wait) -> Result<Output, AllocError> {
+    fn wait_of(&self, wait: Wait) -> Output {
         let mut text = Output::new(self.alloc);
         text.text(b" ");
         wait.print(&mut text, self.style);
-        text.settled()?;
-        Ok(text)
+        text
     }
 
     /// Where a row begins; where the last one ends, if there is none of that number.
@@ -174,12 +148,7 @@ impl<'a> Drawing<'a> {
     }
 
     /// Prints the picture of so many steps, before which the model was so.
-    pub(crate) fn print(
-        &self,
-        begins: Begins,
-        steps: u64,
-        out: &mut Output,
-    ) -> Result<(), AllocError> {
+    pub(crate) fn print(&self, begins: Begins, steps: u64, out: &mut Output) {
         self.print_begin(steps, out);
         self.print_heads(out);
         for row in 0..self.entries.len() {
@@ -197,10 +166,9 @@ impl<'a> Drawing<'a> {
             if let Happening::Steps(_) = entry.happens {
                 step = step.saturating_add(1);
             }
-            self.print_row(row, entry, step, out)?;
+            self.print_row(row, entry, step, out);
         }
         out.text(b"</svg>\n");
-        Ok(())
     }
 
     fn print_begin(&self, steps: u64, out: &mut Output) {
@@ -255,7 +223,7 @@ impl<'a> Drawing<'a> {
         let end = if is_refused {
             row.saturating_add(2)
         } else {
-            self.end_of_call(row)
+            self.end_of_call(row, entry.task)
         };
         let from = self.top(row).saturating_add(2);
         let height = self.top(end).saturating_sub(2).saturating_sub(from);
@@ -267,19 +235,13 @@ impl<'a> Drawing<'a> {
         out.text(b"/>\n");
     }
 
-    /// The row behind the answer of the call that begins in a row.
-    fn end_of_call(&self, row: usize) -> usize {
-        let mut at = self.next(row);
-        for _ in 0..self.entries.len() {
-            match self.entries.get(at) {
-                Some(entry) => {
-                    if let Happening::Answers { .. } = entry.happens {
-                        return at.saturating_add(1);
-                    }
-                }
-                None => break,
+    /// The row behind the answer of the call of a task that begins in a row.
+    fn end_of_call(&self, row: usize, task: u8) -> usize {
+        for at in row.saturating_add(1)..self.entries.len() {
+            let entry = &self.entries[at];
+            if entry.task == task && matches!(entry.happens, Happening::Answers { .. }) {
+                return at + 1;
             }
-            at = self.next(at);
         }
         self.entries.len()
     }
@@ -291,7 +253,7 @@ impl<'a> Drawing<'a> {
         };
         let lane = self.layout.lane_at(entry.task);
         let from = self.top(row).saturating_add(4);
-        let height = self.top(self.next(row)).saturating_sub(from);
+        let height = self.top(self.next(row, entry.task)).saturating_sub(from);
         rect(out, "bar", (lane.saturating_add(5), from), (5, height));
         out.text(b"\n");
         self.print_link(row, entry.task, wait, out);
@@ -344,32 +306,25 @@ impl<'a> Drawing<'a> {
     }
 
     /// Prints the texts of a row: the number of a step, what stands in the lane, what it does to the model, and the kernel's code.
-    fn print_row(
-        &self,
-        row: usize,
-        entry: &Entry,
-        step: u64,
-        out: &mut Output,
-    ) -> Result<(), AllocError> {
+    fn print_row(&self, row: usize, entry: &Entry, step: u64, out: &mut Output) {
         let y = self.top(row).saturating_add(BASE);
         let x = self.layout.lane_at(entry.task).saturating_add(INDENT);
-        let text = self.cell_of(entry)?;
+        let text = self.cell_of(entry);
         let Happening::Steps(taken) = entry.happens else {
-            self.print_rows(class_of(entry), (x, y), &text, out)?;
-            return Ok(());
+            self.print_rows(class_of(entry), x, y, &text, out);
+            return;
         };
         out.text(b"<g>");
         self.print_hover(entry, step, out);
         begin_text(out, "dim", 8, y);
         out.number(step);
         out.text(b"</text>\n");
-        let y = self.print_rows("step", (x, y), &text, out)?;
+        let y = self.print_rows("step", x, y, &text, out);
         if let Some(wait) = taken.wait {
-            self.print_rows("wait", (x, y), &self.wait_of(wait)?, out)?;
+            self.print_rows("wait", x, y, &self.wait_of(wait), out);
         }
         self.print_right(row, &taken, out);
         out.text(b"</g>\n");
-        Ok(())
     }
 
     /// Prints what a step does to the model, and the kernel's code for it.
@@ -402,26 +357,22 @@ impl<'a> Drawing<'a> {
     }
 
     /// Prints a text in rows from a place on; says where the row behind it begins.
-    fn print_rows(
-        &self,
-        class: &'static str,
-        (x, y): (u64, u64),
-        text: &Output,
-        out: &mut Output,
-    ) -> Result<u64, AllocError> {
-        let mut y = y;
-        let mut x = x;
-        let rows = self.rows_of(text)?;
-        for (number, row) in rows.iter().enumerate() {
-            begin_text(out, class, x, y);
-            escaped(out, *row);
+    fn print_rows(&self, class: &str, x: u64, y: u64, text: &Output, out: &mut Output) -> u64 {
+        out.is_whole &= text.is_whole;
+        let line = behind_task(text.bytes.as_slice());
+        let mut rows = Rows::new(line, self.layout.room);
+        let (mut x_of_row, mut y_of_row) = (x, y);
+        for _ in 0..=line.len() {
+            let Some(row) = rows.next() else {
+                break;
+            };
+            begin_text(out, class, x_of_row, y_of_row);
+            escaped(out, row);
             out.text(b"</text>\n");
-            if number == 0 {
-                x = x.saturating_add(LETTER);
-            }
-            y = y.saturating_add(LINE);
+            x_of_row = x.saturating_add(LETTER);
+            y_of_row = y_of_row.saturating_add(LINE);
         }
-        Ok(y)
+        y_of_row
     }
 }
 

@@ -61,10 +61,15 @@ impl Record {
         if number <= EXACT {
             return self.put(name, number.into());
         }
-        match format!(in self.alloc; "{number}") {
-            Ok(digits) => self.text(name, digits.as_str()),
-            Err(_) => self.is_whole = false,
-        }
+        let mut digits = Output::new(self.alloc);
+        digits.number(number);
+        self.printed(name, &digits);
+    }
+
+    /// Puts a text that was printed.
+    fn printed(&mut self, name: &str, text: &Output) {
+        self.is_whole &= text.is_whole;
+        self.text(name, text_of(text.bytes.as_slice()));
     }
 
     /// Puts a yes or no.
@@ -114,8 +119,7 @@ impl Record {
     fn word(&mut self, name: &str, word: WordName, style: Style) {
         let mut out = Output::new(self.alloc);
         style.name(&mut out, word);
-        self.is_whole &= out.is_whole;
-        self.text(name, text_of(out.bytes.as_slice()));
+        self.printed(name, &out);
     }
 
     /// Prints the object on a line of its own; says whether there was memory for it.

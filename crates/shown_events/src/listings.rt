@@ -40,15 +40,23 @@ pub(crate) fn words_of<D: Driver>(
     let mut words = Words {
         session,
         listed: Vec::new(alloc),
+        is_whole: true,
     };
-    let added = match listing {
+    match listing {
         Listing::Words => words.add_gates(),
         Listing::Tree => words.add_tree(),
-        Listing::Model => Ok(()),
-    };
-    let Words { listed, .. } = words;
-    added?;
-    Ok(listed)
+        Listing::Model => {}
+    }
+    let Words {
+        listed,
+        is_whole,
+        ..
+    } = words;
+    if is_whole {
+        Ok(listed)
+    } else {
+        Err(AllocError)
+    }
 }
 
 /// The words of the superblock and of its freeze.
@@ -61,63 +69,59 @@ const SUPERBLOCK: [WordName; 6] = [
     WordName::Removed,
 ];
 
-/// The words that were found so far.
+/// The words that were found so far. Memory that was refused is noted.
 #[derive(Drop)]
 struct Words<'a, D> {
     session: &'a Session<D>,
     listed: Vec<Listed>,
+    is_whole: bool,
 }
 
 impl<'a, D: Driver> Words<'a, D> {
     /// Adds a word, where the configuration has it.
-    fn add(&mut self, word: WordName) -> Result<(), AllocError> {
+    fn add(&mut self, word: WordName) {
         if let Some(value) = self.session.word(word) {
-            self.listed.push(Listed { word, value })?;
+            self.is_whole &= self.listed.push(Listed { word, value }).is_ok();
         }
-        Ok(())
     }
 
-    fn add_gates(&mut self) -> Result<(), AllocError> {
+    fn add_gates(&mut self) {
         for word in &SUPERBLOCK {
-            self.add(*word)?;
+            self.add(*word);
         }
         for mount in 0..8 {
-            self.add_mount(mount)?;
+            self.add_mount(mount);
         }
         for level in 1..4 {
-            self.add_level(level)?;
+            self.add_level(level);
         }
         for task in 0..self.session.tasks() {
-            self.add(WordName::Section(task))?;
+            self.add(WordName::Section(task));
         }
-        Ok(())
     }
 
-    fn add_mount(&mut self, mount: u8) -> Result<(), AllocError> {
-        self.add(WordName::MountFlags(mount))?;
+    fn add_mount(&mut self, mount: u8) {
+        self.add(WordName::MountFlags(mount));
         for cpu in 0..64 {
-            self.add(WordName::MountCount(mount, cpu))?;
+            self.add(WordName::MountCount(mount, cpu));
         }
-        Ok(())
     }
 
-    fn add_level(&mut self, level: u8) -> Result<(), AllocError> {
-        self.add(WordName::Block(level))?;
-        self.add(WordName::Sync(level))?;
+    fn add_level(&mut self, level: u8) {
+        self.add(WordName::Block(level));
+        self.add(WordName::Sync(level));
         for cpu in 0..64 {
-            self.add(WordName::LevelCount(level, cpu))?;
+            self.add(WordName::LevelCount(level, cpu));
         }
-        Ok(())
     }
 
-    fn add_tree(&mut self) -> Result<(), AllocError> {
-        self.add(WordName::Used)?;
+    fn add_tree(&mut self) {
+        self.add(WordName::Used);
         for node in 0..64 {
-            self.add(WordName::Node(node))?;
+            self.add(WordName::Node(node));
         }
         for node in 0..64 {
-            self.add(WordName::Kids(node))?;
+            self.add(WordName::Kids(node));
         }
-        Ok(())
     }
 }

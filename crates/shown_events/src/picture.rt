@@ -83,7 +83,7 @@ impl Picture {
         }
         escaped(out, text.bytes.as_slice());
         out.text(b"</pre>\n");
-        text.settled()?;
+        out.is_whole &= text.is_whole;
         out.settled()
     }
 
@@ -92,10 +92,7 @@ impl Picture {
         let (layout, style) = (self.layout, self.style);
         let entries = self.entries.as_slice();
         match Drawing::new(self.alloc, layout, style, entries) {
-            Ok(drawing) => {
-                let printed = drawing.print(self.begins, self.steps, &mut page.out);
-                page.note(printed);
-            }
+            Ok(drawing) => drawing.print(self.begins, self.steps, &mut page.out),
             Err(refused) => page.note(Err(refused)),
         }
         page.out.text(self.listings.bytes.as_slice());

@@ -37,7 +37,7 @@ pub(crate) enum Reason {
 }
 
 /// What a refused beginning is judged by: the gates, the task, and the call of the task that is under way.
-#[derive(Clone, Copy)]
+#[derive(Drop)]
 pub(crate) struct Asker<'a, D> {
     pub(crate) session: &'a Session<D>,
     pub(crate) task: u8,

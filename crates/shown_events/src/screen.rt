@@ -52,8 +52,6 @@ pub(crate) struct Screen {
     pub(crate) tasks: Option<u8>,
     style: Style,
     printer: Printer,
-    /// A line that isn't in its form yet.
-    text: Output,
     seen: [Seen; TASKS],
 }
 
@@ -77,7 +75,6 @@ impl Screen {
             tasks: None,
             style: look.style,
             printer,
-            text: Output::new(alloc),
             seen: [nothing; TASKS],
         }
     }
@@ -140,12 +137,7 @@ impl Screen {
         let entry = Entry { task, happens };
         match &mut self.printer {
             Printer::Events => entry.print(&mut self.page.out, self.style),
-            Printer::Columns(columns) => {
-                self.text.clear();
-                entry.print(&mut self.text, self.style);
-                self.page.note(self.text.settled());
-                columns.line(task, self.text.bytes.as_slice(), &mut self.page);
-            }
+            Printer::Columns(columns) => columns.show(&entry, self.style, &mut self.page),
             Printer::Json => json::print_entry(&entry, self.style, &mut self.page),
             Printer::Picture(picture) => self.page.note(picture.add(entry)),
             Printer::Waits(waits) => waits[usize::from(task)] = entry.wait(),
@@ -170,9 +162,9 @@ impl Screen {
                 print_words(words, self.style, &mut self.page.out);
             }
             Printer::Picture(picture) => {
-                self.text.clear();
-                print_words(words, self.style, &mut self.text);
-                self.page.note(picture.add_listing(listing, &self.text));
+                let mut text = Output::new(self.page.alloc);
+                print_words(words, self.style, &mut text);
+                self.page.note(picture.add_listing(listing, &text));
             }
             Printer::Waits(_) => {}
         }
@@ -183,10 +175,9 @@ impl Screen {
             Printer::Events | Printer::Columns(_) => session.print_model(&mut self.page.out),
             Printer::Json => json::print_model(session, &mut self.page),
             Printer::Picture(picture) => {
-                self.text.clear();
-                session.print_model(&mut self.text);
-                self.page
-                    .note(picture.add_listing(Listing::Model, &self.text));
+                let mut text = Output::new(self.page.alloc);
+                session.print_model(&mut text);
+                self.page.note(picture.add_listing(Listing::Model, &text));
             }
             Printer::Waits(_) => {}
         }

@@ -36,21 +36,14 @@ impl<D: Driver> Show<D> {
 
     /// Gates that were set up before, with no configuration to be read.
     pub fn over(alloc: Global, look: Look, session: Session<D>) -> Result<Show<D>, AllocError> {
-        match Input::new(alloc) {
-            Ok(input) => {
-                let mut screen = Screen::new(alloc, look);
-                screen.begin(&session);
-                Ok(Show {
-                    input,
-                    session: Some(session),
-                    screen,
-                })
-            }
-            Err(refused) => {
-                drop(session);
-                Err(refused)
-            }
-        }
+        let input = Input::new(alloc)?;
+        let mut screen = Screen::new(alloc, look);
+        screen.begin(&session);
+        Ok(Show {
+            input,
+            session: Some(session),
+            screen,
+        })
     }
 
     /// What was read from the line on that is to be done next; after a fault, from the faulty line on.
