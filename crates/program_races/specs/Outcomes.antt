@@ -10,7 +10,7 @@ use Rattle.exit_status.specs.declared.ends.Ending.TheVariants.{Listed, Refused}
 use Rattle.gate_core.specs.Memory.{Memory}
 use Rattle.outcome_texts.specs.declared.listing.Method.{Method}
 use Rattle.outcome_texts.specs.declared.listing.Method.TheVariants.{Full, Reduced}
-use Rattle.races.specs.declared.calls.Call.{Call}
+use Rattle.race_programs.specs.declared.calls.Call.{Call}
 use Rattle.schedule_lines.specs.bytes.Writing.{AppendsPart}
 use Rattle.program_races.specs.declared.race_texts.details.Details.{Details}
 use Rattle.program_races.specs.declared.race_texts.details.Schedules.{Schedules}

@@ -3,7 +3,7 @@ use Rattle.std.specs.Prelude.{◌≡◌, ℕ, zero, suc, ◌+◌, ◌-◌, List,
 use Rattle.race_files.specs.Calls.{calls_of, is_race, no_calls}
 use Rattle.race_files.specs.declared.faults.RaceFault.{RaceFault}
 use Rattle.race_files.specs.declared.lines.Lines.{Lines}
-use Rattle.races.specs.declared.calls.Call.{Call}
+use Rattle.race_programs.specs.declared.calls.Call.{Call}
 use Rattle.schedule_lines.specs.Lines.{front_of}
 use Rattle.schedule_lines.specs.declared.faults.Fault.{Fault}
 use Rattle.schedule_lines.specs.declared.faults.Fault.TheVariants.{TooManyLines, LineTooLong, CutOff}

@@ -4,7 +4,7 @@ use Rattle.gate_core.specs.Drivers.{CoreShows}
 use Rattle.gate_core.specs.Memory.{Memory}
 use Rattle.race_files.specs.Left.{BeginRace, Left, behind, calls_left}
 use Rattle.race_files.specs.SettingUp.{SetsUp}
-use Rattle.races.specs.declared.calls.Call.{Call}
+use Rattle.race_programs.specs.declared.calls.Call.{Call}
 use Rattle.transcripts.specs.Transcript.{Play}
 
 -- The race in a text: the lines before its first line `race` make of the opening a play, whose world the core shows on which the race begins;

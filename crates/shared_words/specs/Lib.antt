@@ -1,0 +1,2 @@
+pub mod Summaries
+pub mod Same
