@@ -16,12 +16,13 @@ little while the machine does other work: the last line has its load. The exit s
 
 import argparse
 import os
-import re
 import shutil
 import statistics
 import subprocess
 import sys
 import tempfile
+
+from callgrind import instructions
 
 ROOT = os.path.dirname(os.path.dirname(os.path.realpath(__file__)))
 PROGRAM = f"{ROOT}/crates/gate_workbench/out/gate_workbench"
@@ -79,19 +80,6 @@ def measure(programs, turns, words):
     return times
 
 
-def instructions(program, name, size, folder):
-    """Gives the instructions of one round: the difference of two counts."""
-    counts = []
-    for rounds in (200, 1_200):
-        command = ["valgrind", "--tool=callgrind", f"--callgrind-out-file={folder}/callgrind", *program, name, str(size), str(rounds)]
-        ran = subprocess.run(command, capture_output=True, text=True)
-        found = re.search(r"Collected : (\d+)", ran.stderr)
-        if ran.returncode or not found:
-            sys.exit(f"by-turns: {' '.join(command)} ended with status {ran.returncode}: {ran.stderr.strip()}")
-        counts.append(int(found[1]))
-    return (counts[1] - counts[0]) / 1_000
-
-
 def count(programs, only, folder):
     """Prints the instructions of each row that one thread does."""
     print("| What | Size | gate_workbench | By hand |")
@@ -100,7 +88,7 @@ def count(programs, only, folder):
         if only not in name or name == "run":
             continue
         for size in sizes[:1] if sizes == (1, 2, 4) else sizes:
-            ours, by_hand = (instructions(program, name, size, folder) for program in programs)
+            ours, by_hand = (instructions([*program, name, str(size)], folder) for program in programs)
             print(f"| {name} | {size} | {ours:.0f} | {by_hand:.0f} |", flush=True)
 
 

@@ -16,13 +16,15 @@ has to be there. No proof covers these figures."""
 
 import argparse
 import os
-import re
 import statistics
 import subprocess
 import sys
 import tempfile
 
 ROOT = os.path.dirname(os.path.dirname(os.path.dirname(os.path.realpath(__file__))))
+sys.path.insert(0, f"{ROOT}/bench")
+from callgrind import instructions  # noqa: E402
+
 HERE = f"{ROOT}/bench/beside"
 WORKBENCH = f"{ROOT}/crates/gate_workbench/out/gate_workbench"
 THREADS = (1, 2, 4)
@@ -128,19 +130,6 @@ def measure_alone(sides, turns):
         took = {key: [nanos / count / 1e3 for nanos, _ in figures] for key, figures in found.items()}
         table(f"Microseconds for one {what}, of such a size", min, rows, sizes, took)
         print_table("Speed through C", sizes, speeds(what, sides, sizes, took))
-
-
-def instructions(words, folder):
-    """The instructions of one round: the difference of two counts."""
-    counts = []
-    for rounds in (200, 1_200):
-        command = ["valgrind", "--tool=callgrind", f"--callgrind-out-file={folder}/callgrind", *words, str(rounds)]
-        ran = subprocess.run(command, capture_output=True, text=True)
-        found = re.search(r"Collected : (\d+)", ran.stderr)
-        if ran.returncode or not found:
-            sys.exit(f"measure: {command} ended with status {ran.returncode}: {ran.stderr.strip()}")
-        counts.append(int(found[1]))
-    return (counts[1] - counts[0]) / 1_000
 
 
 def count(sides, folder):
