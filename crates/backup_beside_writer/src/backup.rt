@@ -2,7 +2,7 @@
 
 ghost use Rattle.std.specs.Prelude.{◌≡◌, ◌+◌, ℕ, IfErr, OnErr, OnOk};
 ghost use Rattle.vfs_gates.specs.Rounds.{SeatedTask, IsFrom, Rests, Busy, spare_of};
-ghost use Rattle.backup_beside_writer.specs.Told.{Copies, HasCopied};
+ghost use Rattle.backup_beside_writer.specs.Reports.{Copies, HasCopied};
 
 use crate::MOUNT;
 use std::sync::Wait;

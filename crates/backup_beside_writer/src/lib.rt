@@ -4,11 +4,11 @@
 #![tactic(auto)]
 
 mod backup;
+mod report;
 pub mod run;
-mod told;
 mod writer;
 
-pub use told::Told;
+pub use report::Report;
 
 /// The mount at which both work.
 pub const MOUNT: u8 = 0;

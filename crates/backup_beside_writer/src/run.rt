@@ -2,9 +2,9 @@
 
 ghost use Rattle.std.specs.Prelude.{◌≡◌, ◌≤◌, ◌++◌, length, IfOk, IfErr, OnOk};
 ghost use Rattle.vfs_gates.specs.Rounds.{IsFrom, Rests, Busy, spare_of};
-ghost use Rattle.backup_beside_writer.specs.Told.{HasEveryWrite, IsTold};
+ghost use Rattle.backup_beside_writer.specs.Reports.{HasEveryWrite, ReportIsTrue};
 
-use crate::told::Told;
+use crate::report::Report;
 use crate::{backup, writer};
 use std::alloc::Global;
 use std::sync::Wait;
@@ -68,8 +68,8 @@ pub fn copy_at_the_end<R: Wait>(
 /// # Errors
 ///
 /// NoMemory where there is none for the gates or a further task. Order, where a task is left: none is, but no clause says so.
-pub fn run<R: Threads + Wait + Sync>(rt: &R, alloc: Global) -> Result<(Told, Closed), GateError>
-    ensures { IfOk result (λ done. IsTold done.0 done.1) }
+pub fn run<R: Threads + Wait + Sync>(rt: &R, alloc: Global) -> Result<(Report, Closed), GateError>
+    ensures { IfOk result (λ done. ReportIsTrue done.0 done.1) }
 {
     let config = Config {
         tasks: 3,
@@ -90,7 +90,7 @@ pub fn run<R: Threads + Wait + Sync>(rt: &R, alloc: Global) -> Result<(Told, Clo
     let (writer, backup, last) = (first.number(), second.number(), third.number());
     let both = join(&gates, first, second);
     let (task, copied) = copy_at_the_end(rt, &gates, third, both, &file);
-    let told = Told {
+    let told = Report {
         writer,
         writes: WRITES,
         backup,

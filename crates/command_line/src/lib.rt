@@ -4,5 +4,6 @@
 pub mod words;
 
 pub use words::{
-    Asked, Explain, Form, Listing, Numbers, Outcomes, Replay, Schedules, Style, Tells, read_words,
+    Explain, Form, Numbers, OutcomeForm, Outcomes, ProgramRequest, Replay, RunReport, Schedules,
+    Style, read_words,
 };

@@ -128,7 +128,7 @@ const SUBCOMMANDS: [Subcommand; 5] = [
             ),
             Argument::Flag(
                 EXPLAIN,
-                "Tells a fault with its line, and how to mend it, as on a terminal",
+                "RunReport a fault with its line, and how to mend it, as on a terminal",
             ),
         ],
     },
@@ -263,7 +263,7 @@ pub struct Numbers {
 
 /// What is printed of a run.
 #[derive(Clone, Copy)]
-pub enum Tells {
+pub enum RunReport {
     /// What its tasks did, in five lines.
     Totals,
     /// What its tasks did, in five lines, and then what they met on their way.
@@ -324,7 +324,7 @@ pub enum Schedules {
 
 /// In which form the outcomes of a race are told.
 #[derive(Clone, Copy)]
-pub enum Listing {
+pub enum OutcomeForm {
     /// A line for each.
     Text,
     /// A line of JSON for each.
@@ -338,7 +338,7 @@ pub enum Listing {
 pub struct Outcomes<'a> {
     /// The file that has it; standard input, where none is named.
     pub file: Option<&'a str>,
-    pub form: Listing,
+    pub form: OutcomeForm,
     pub style: Style,
     pub schedules: Schedules,
     /// Whether the final model is told.
@@ -355,7 +355,7 @@ pub struct Outcomes<'a> {
 
 /// What the words of a command line ask for.
 #[derive(Drop)]
-pub enum Asked<'a> {
+pub enum ProgramRequest<'a> {
     /// A replay of a schedule.
     Replay(Replay<'a>),
     /// To replay the schedules of these files, and to compare what they print with what they say of it; that of standard input, where none
@@ -368,7 +368,7 @@ pub enum Asked<'a> {
     /// All outcomes of a race.
     Outcomes(Outcomes<'a>),
     /// A run in threads.
-    Run(Numbers, Tells),
+    Run(Numbers, RunReport),
     /// The version, which is this text.
     Told(String),
     /// Nothing: they have a fault, or wish for help.
@@ -385,7 +385,7 @@ pub fn read_words<'a, E: Write>(
     alloc: Global,
     words: &'a [String],
     errors: &mut E,
-) -> Result<Asked<'a>, AllocError>
+) -> Result<ProgramRequest<'a>, AllocError>
     ensures plain { ask_plainly (map string_bytes words.entry.now) ≡ true → IfOk result IsPlainOfInput }
     ensures only { IfOk result (λ asked. IsPlainOfInput asked → MayAskPlainly (map string_bytes words.entry.now)) }
 {
@@ -410,19 +410,19 @@ fn answer_of<'a, E: Write>(
     alloc: Global,
     error: &Error,
     errors: &mut E,
-) -> Result<Asked<'a>, AllocError>
+) -> Result<ProgramRequest<'a>, AllocError>
     ensures memory { kind_of error.now ≡ OutOfMemory → IfOk result (λ asked. ⊥) }
     ensures nothing { IfOk result (λ asked. ¬ IsPlainOfInput asked) }
 {
     match error.kind() {
         ErrorKind::OutOfMemory => Err(AllocError),
-        ErrorKind::DisplayVersion => Ok(Asked::Told(format!(in alloc; "{error}")?)),
+        ErrorKind::DisplayVersion => Ok(ProgramRequest::Told(format!(in alloc; "{error}")?)),
         _ => {
             // It quotes words of the command line.
             for line in format!(in alloc; "{error}")?.lines() {
                 let _ = writeln!(errors, "{}", Printable(line));
             }
-            Ok(Asked::Misused)
+            Ok(ProgramRequest::Misused)
         }
     }
 }
@@ -432,7 +432,7 @@ fn request_of<'a, E: Write>(
     alloc: Global,
     matches: &ArgMatches<'a>,
     errors: &mut E,
-) -> Result<Asked<'a>, AllocError>
+) -> Result<ProgramRequest<'a>, AllocError>
     ensures plain { is_plain_replay (subcommand_rows_of matches.now) ≡ true → IfOk result IsPlainOfInput }
     ensures only { IfOk result (λ asked. IsPlainOfInput asked → IsBareReplay (subcommand_rows_of matches.now)) }
 {
@@ -443,7 +443,7 @@ fn request_of<'a, E: Write>(
         return check_of(alloc, check, errors);
     }
     if let Some(explain) = matches.subcommand_matches("explain") {
-        return Ok(Asked::Explain(Explain {
+        return Ok(ProgramRequest::Explain(Explain {
             call: explain.get_str(CALL),
             refusal: explain.get_str(REFUSAL),
         }));
@@ -454,17 +454,17 @@ fn request_of<'a, E: Write>(
     if let Some(run) = matches.subcommand_matches("run") {
         return Ok(run_of(run));
     }
-    Ok(Asked::Misused)
+    Ok(ProgramRequest::Misused)
 }
 
 /// What `run` asks for, of which the parser has seen to it that each number is there.
-fn run_of<'a>(run: &ArgMatches<'_>) -> Asked<'a>
+fn run_of<'a>(run: &ArgMatches<'_>) -> ProgramRequest<'a>
     ensures { ¬ IsPlainOfInput result }
 {
     let tells = if run.get_flag(DETAILS) {
-        Tells::Details
+        RunReport::Details
     } else {
-        Tells::Totals
+        RunReport::Totals
     };
     match (
         run.get_one("tasks"),
@@ -479,15 +479,15 @@ fn run_of<'a>(run: &ArgMatches<'_>) -> Asked<'a>
                 rounds,
                 freezes,
             };
-            Asked::Run(numbers, tells)
+            ProgramRequest::Run(numbers, tells)
         }
-        _ => Asked::Misused,
+        _ => ProgramRequest::Misused,
     }
 }
 
 /// What `replay` asks for. That of its forms there may be one is told here, since the parser's contract speaks of no argument that excludes
 /// another.
-fn replay_of<'a, E: Write>(replay: &ArgMatches<'a>, errors: &mut E) -> Asked<'a>
+fn replay_of<'a, E: Write>(replay: &ArgMatches<'a>, errors: &mut E) -> ProgramRequest<'a>
     ensures plain { are_plain (rows_of (found_of replay.now)) ≡ true → IsPlainOfInput result }
     ensures only { IsPlainOfInput result → AreBare (rows_of (found_of replay.now)) }
 {
@@ -503,7 +503,7 @@ fn replay_of<'a, E: Write>(replay: &ArgMatches<'a>, errors: &mut E) -> Asked<'a>
             "the arguments '--raw' and '--names' need '--events', '--columns', '--json' or '--html'";
         return misused(why, REPLAY_USAGE, errors);
     }
-    Asked::Replay(Replay {
+    ProgramRequest::Replay(Replay {
         file: replay.get_str(FILE),
         form,
         style,
@@ -557,7 +557,7 @@ fn first_two(matches: &ArgMatches<'_>, flags: &[&'static str]) -> (&'static str,
 }
 
 /// Tells that two flags can't be used together.
-fn excluded<'a, E: Write>(one: &str, other: &str, usage: &str, errors: &mut E) -> Asked<'a>
+fn excluded<'a, E: Write>(one: &str, other: &str, usage: &str, errors: &mut E) -> ProgramRequest<'a>
     ensures { ¬ IsPlainOfInput result }
 {
     let why = format_args!("the argument '--{one}' cannot be used with '--{other}'");
@@ -565,14 +565,18 @@ fn excluded<'a, E: Write>(one: &str, other: &str, usage: &str, errors: &mut E) -
 }
 
 /// Tells a fault that the parser doesn't know, as it tells its own.
-fn misused<'a, D: Display + Drop, E: Write>(why: D, usage: &str, errors: &mut E) -> Asked<'a>
+fn misused<'a, D: Display + Drop, E: Write>(
+    why: D,
+    usage: &str,
+    errors: &mut E,
+) -> ProgramRequest<'a>
     ensures { ¬ IsPlainOfInput result }
 {
     let _ = writeln!(
         errors,
         "error: {why}\n\nUsage: mntgate {usage}\n\nFor more information, try '--help'."
     );
-    Asked::Misused
+    ProgramRequest::Misused
 }
 
 /// What `check` asks for. Standard input can't be written.
@@ -580,19 +584,19 @@ fn check_of<'a, E: Write>(
     alloc: Global,
     check: &ArgMatches<'a>,
     errors: &mut E,
-) -> Result<Asked<'a>, AllocError>
+) -> Result<ProgramRequest<'a>, AllocError>
     ensures { IfOk result (λ asked. ¬ IsPlainOfInput asked) }
 {
     let files = files_of(alloc, check)?;
     if !check.get_flag(BLESS) {
-        return Ok(Asked::Check(files));
+        return Ok(ProgramRequest::Check(files));
     }
     if files.is_empty() || files.contains(&"-") {
         drop(files);
         let why = "the argument '--bless' needs files: standard input can't be written";
         return Ok(misused(why, "check [OPTIONS] [FILE]...", errors));
     }
-    Ok(Asked::Bless(files))
+    Ok(ProgramRequest::Bless(files))
 }
 
 /// What is to be printed of a replay; None where more than one of its flags is given.
@@ -628,7 +632,7 @@ fn is_on(matches: &ArgMatches<'_>, name: &str) -> bool
 }
 
 /// What `outcomes` asks for.
-fn outcomes_asked<'a, E: Write>(outcomes: &ArgMatches<'a>, errors: &mut E) -> Asked<'a>
+fn outcomes_asked<'a, E: Write>(outcomes: &ArgMatches<'a>, errors: &mut E) -> ProgramRequest<'a>
     ensures { ¬ IsPlainOfInput result }
 {
     let Some(form) = listing_of(outcomes) else {
@@ -636,27 +640,27 @@ fn outcomes_asked<'a, E: Write>(outcomes: &ArgMatches<'a>, errors: &mut E) -> As
         return excluded(one, other, OUTCOMES_USAGE, errors);
     };
     match style_of(outcomes) {
-        Some(style) => Asked::Outcomes(outcomes_of(outcomes, form, style)),
+        Some(style) => ProgramRequest::Outcomes(outcomes_of(outcomes, form, style)),
         None => misused(WHOSE, OUTCOMES_USAGE, errors),
     }
 }
 
 /// The form of outcomes; None where more than one is asked for.
-fn listing_of(outcomes: &ArgMatches<'_>) -> Option<Listing> {
+fn listing_of(outcomes: &ArgMatches<'_>) -> Option<OutcomeForm> {
     match (
         outcomes.get_flag(JSON),
         outcomes.get_flag(HTML),
         outcomes.get_flag(COLUMNS),
     ) {
-        (false, false, _) => Some(Listing::Text),
-        (true, false, false) => Some(Listing::Json),
-        (false, true, false) => Some(Listing::Html),
+        (false, false, _) => Some(OutcomeForm::Text),
+        (true, false, false) => Some(OutcomeForm::Json),
+        (false, true, false) => Some(OutcomeForm::Html),
         _ => None,
     }
 }
 
 /// How outcomes are to be told, in this form.
-fn outcomes_of<'a>(outcomes: &ArgMatches<'a>, form: Listing, style: Style) -> Outcomes<'a> {
+fn outcomes_of<'a>(outcomes: &ArgMatches<'a>, form: OutcomeForm, style: Style) -> Outcomes<'a> {
     let schedules = if outcomes.get_flag(COLUMNS) {
         Schedules::Columns
     } else if outcomes.get_flag(SCHEDULES) {

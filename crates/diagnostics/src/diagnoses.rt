@@ -1,13 +1,13 @@
 //! A diagnosis: a fault with its line, and how to mend it.
 
 ghost use Rattle.std.specs.Prelude.{◌≡◌};
-ghost use Rattle.exit_status.specs.declared.ends.Ending.TheVariants.{Refused};
+ghost use Rattle.exit_status.specs.declared.ends.ProgramEnding.TheVariants.{Refused};
 
 use crate::contexts::Context;
 use crate::hints::{find, tell_first_line};
 use crate::places::Place;
 use crate::texts::Text;
-use exit_status::{Ending, SourceName, fault_told, why_told};
+use exit_status::{ProgramEnding, SourceName, fault_told, why_told};
 use schedule_lines::bytes::ReplayFault;
 use schedule_text::{Front, front_of};
 use std::alloc::{AllocError, Global};
@@ -25,7 +25,7 @@ pub struct Faulty<'a> {
 }
 
 /// Tells a fault with its line, and how to mend it; the fault alone if there is no memory for more.
-pub fn tell_faulty<E: Write>(alloc: Global, faulty: Faulty<'_>, errors: &mut E) -> Ending
+pub fn tell_faulty<E: Write>(alloc: Global, faulty: Faulty<'_>, errors: &mut E) -> ProgramEnding
     ensures { result ≡ Refused }
 {
     match diagnosis(alloc, faulty) {

@@ -1,11 +1,11 @@
 -- The endings of replays, and what is read.
 use Rattle.std.specs.Prelude.{◌≡◌, ℕ, List, Option, Some, None, codes}
 use Rattle.std.specs.Borrow.{Bor}
-use Rattle.exit_status.specs.declared.ends.Ending.{Ending}
-use Rattle.exit_status.specs.declared.ends.Ending.TheVariants.{Done, DoneOfFile}
+use Rattle.exit_status.specs.declared.ends.ProgramEnding.{ProgramEnding}
+use Rattle.exit_status.specs.declared.ends.ProgramEnding.TheVariants.{Done, DoneOfFile}
 
 -- the ending of a replay of a file, where it would be this of standard input
-abbrev pub of_file : Ending → Ending
+abbrev pub of_file : ProgramEnding → ProgramEnding
 of_file Done = DoneOfFile
 of_file ending = ending
 

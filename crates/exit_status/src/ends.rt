@@ -1,7 +1,7 @@
 //! How the program ends, and what it tells of a fault.
 
 ghost use Rattle.std.specs.Prelude.{◌≡◌, ◌⊎◌};
-ghost use Rattle.exit_status.specs.declared.ends.Ending.TheVariants.{Done, DoneOfFile, DoneOverGates, Shown, Passed, Blessed, Listed, Ran, Told, Refused, Misused};
+ghost use Rattle.exit_status.specs.declared.ends.ProgramEnding.TheVariants.{Done, DoneOfFile, DoneOverGates, Shown, Passed, Blessed, Listed, Ran, Told, Refused, Misused};
 
 use crate::reading::is_input;
 use access_model::GateError;
@@ -15,7 +15,7 @@ const IS_FOLDER: &str = "it is a folder, and a file is expected";
 
 /// How the program ends.
 #[derive(Clone, Copy)]
-pub enum Ending {
+pub enum ProgramEnding {
     /// The whole schedule of standard input was done.
     Done,
     /// The whole schedule of a file was done.
@@ -40,7 +40,7 @@ pub enum Ending {
     Misused,
 }
 
-impl Ending {
+impl ProgramEnding {
     ghost use Rattle.exit_status.specs.Endings.{of_file};
 
     /// The exit status.
@@ -58,31 +58,34 @@ impl Ending {
         ensures misused { self ≡ Misused → result ≡ 2 }
     {
         match self {
-            Ending::Done | Ending::DoneOfFile | Ending::DoneOverGates | Ending::Shown => 0,
-            Ending::Passed | Ending::Blessed | Ending::Listed => 0,
-            Ending::Ran | Ending::Told => 0,
-            Ending::Refused => 1,
-            Ending::Misused => 2,
+            ProgramEnding::Done
+            | ProgramEnding::DoneOfFile
+            | ProgramEnding::DoneOverGates
+            | ProgramEnding::Shown => 0,
+            ProgramEnding::Passed | ProgramEnding::Blessed | ProgramEnding::Listed => 0,
+            ProgramEnding::Ran | ProgramEnding::Told => 0,
+            ProgramEnding::Refused => 1,
+            ProgramEnding::Misused => 2,
         }
     }
 
     /// Returns how the program ends, if the schedule is that of a file.
-    pub fn of_file(self) -> Ending
+    pub fn of_file(self) -> ProgramEnding
         ensures { result ≡ of_file self }
     {
         match self {
-            Ending::Done => Ending::DoneOfFile,
+            ProgramEnding::Done => ProgramEnding::DoneOfFile,
             ending => ending,
         }
     }
 }
 
 /// Says why the program ends; where that can't be said it ends the same.
-pub fn why_told<D: Display + Drop, E: Write>(why: D, errors: &mut E) -> Ending
+pub fn why_told<D: Display + Drop, E: Write>(why: D, errors: &mut E) -> ProgramEnding
     ensures { result ≡ Refused }
 {
     let _ = writeln!(errors, "{why}");
-    Ending::Refused
+    ProgramEnding::Refused
 }
 
 /// A text in which each control character is told by its number, so that none of them moves a terminal's cursor.
@@ -120,7 +123,7 @@ pub fn why_told_of<D: Display + Drop, E: Write>(
     why: D,
     file: Option<&str>,
     errors: &mut E,
-) -> Ending
+) -> ProgramEnding
     ensures { result ≡ Refused }
 {
     match file {
@@ -130,14 +133,14 @@ pub fn why_told_of<D: Display + Drop, E: Write>(
 }
 
 /// Says at which line a schedule ended, of which file, if it has one, and why.
-pub fn fault_told<E: Write>(fault: ReplayFault, file: Option<&str>, errors: &mut E) -> Ending
+pub fn fault_told<E: Write>(fault: ReplayFault, file: Option<&str>, errors: &mut E) -> ProgramEnding
     ensures { result ≡ Refused }
 {
     why_told_of(fault, file, errors)
 }
 
 /// Says why a file, or standard input where none is named, can't be opened or read.
-pub fn unopened<E: Write>(file: Option<&str>, error: &io::Error, errors: &mut E) -> Ending
+pub fn unopened<E: Write>(file: Option<&str>, error: &io::Error, errors: &mut E) -> ProgramEnding
     ensures { result ≡ Refused }
 {
     let name = SourceName(file);
@@ -149,31 +152,31 @@ pub fn unopened<E: Write>(file: Option<&str>, error: &io::Error, errors: &mut E)
 }
 
 /// Says that a folder was named in the place of a file.
-pub fn folder_told<E: Write>(file: &str, errors: &mut E) -> Ending
+pub fn folder_told<E: Write>(file: &str, errors: &mut E) -> ProgramEnding
     ensures { result ≡ Refused }
 {
     why_told_of(IS_FOLDER, Some(file), errors)
 }
 
 /// Writes the text that was asked for of the program itself: its version.
-pub fn text_told<W: Write, E: Write>(text: &str, writer: &mut W, errors: &mut E) -> Ending
+pub fn text_told<W: Write, E: Write>(text: &str, writer: &mut W, errors: &mut E) -> ProgramEnding
     ensures { (result ≡ Told) ⊎ (result ≡ Refused) }
 {
     match write_out(writer, text.as_bytes()) {
-        Ok(()) => Ending::Told,
+        Ok(()) => ProgramEnding::Told,
         Err(fault) => why_told(fault.text(), errors),
     }
 }
 
 /// Says why a run ended.
-pub fn refused<E: Write>(refusal: GateError, errors: &mut E) -> Ending
+pub fn refused<E: Write>(refusal: GateError, errors: &mut E) -> ProgramEnding
     ensures { result ≡ Refused }
 {
     refused_of(refusal, None, errors)
 }
 
 /// Says why the program ends that was refused something, and of which file, if it is of one.
-pub fn refused_of<E: Write>(refusal: GateError, file: Option<&str>, errors: &mut E) -> Ending
+pub fn refused_of<E: Write>(refusal: GateError, file: Option<&str>, errors: &mut E) -> ProgramEnding
     ensures { result ≡ Refused }
 {
     let (number, name) = (refusal.number(), refusal.name());
@@ -181,7 +184,7 @@ pub fn refused_of<E: Write>(refusal: GateError, file: Option<&str>, errors: &mut
 }
 
 /// Says that there are no words: an argument is no text, or there was no memory for them.
-pub fn unreadable<E: Write>(error: &io::Error, errors: &mut E) -> Ending
+pub fn unreadable<E: Write>(error: &io::Error, errors: &mut E) -> ProgramEnding
     ensures { (result ≡ Refused) ⊎ (result ≡ Misused) }
 {
     match error.kind() {
@@ -190,7 +193,7 @@ pub fn unreadable<E: Write>(error: &io::Error, errors: &mut E) -> Ending
                 "error: invalid UTF-8 was detected in one or more arguments",
                 errors,
             );
-            Ending::Misused
+            ProgramEnding::Misused
         }
         io::ErrorKind::OutOfMemory => refused(GateError::NoMemory, errors),
         _ => why_told(format_args!("error: {error}"), errors),

@@ -6,7 +6,7 @@ pub mod ends;
 pub mod reading;
 
 pub use ends::{
-    Ending, Printable, SourceName, fault_told, folder_told, refused, refused_of, text_told,
+    Printable, ProgramEnding, SourceName, fault_told, folder_told, refused, refused_of, text_told,
     unopened, unreadable, why_told, why_told_of,
 };
 pub use reading::{is_input, read_bytes};

@@ -2,9 +2,9 @@
 
 ghost use Rattle.std.specs.Prelude.{◌≡◌, ◌↔◌, IsTrue, IfOk, IfErr, IfSome};
 ghost use Rattle.exit_status.specs.Endings.{IsInput};
-ghost use Rattle.exit_status.specs.declared.ends.Ending.TheVariants.{Refused};
+ghost use Rattle.exit_status.specs.declared.ends.ProgramEnding.TheVariants.{Refused};
 
-use crate::ends::{Ending, unopened};
+use crate::ends::{ProgramEnding, unopened};
 use std::alloc::Global;
 use std::io::{Read, Write};
 use std::rt::Files;
@@ -31,7 +31,7 @@ pub fn read_bytes<R: Files + Alloc<A = Global>, I: Read, E: Write>(
     file: Option<&str>,
     reader: &mut I,
     errors: &mut E,
-) -> Result<Vec<u8>, Ending>
+) -> Result<Vec<u8>, ProgramEnding>
     ensures read { IfOk result (λ bytes. IsInput file.entry → IfSome (I.remaining reader.old) (λ all. bytes.items ≡ all)) }
     ensures refused { IfErr result (λ ending. ending ≡ Refused) }
 {

@@ -7,7 +7,7 @@ ghost use Rattle.freeze_laws.specs.levels.Events.{SyncLevelHolds};
 ghost use Rattle.freeze_laws.specs.levels.Exchanges.{ExchangesMakeTransitions};
 ghost use Rattle.freeze_laws.specs.levels.Laws.{EventsKeep, EntersAlone, WritersFind, opening};
 ghost use Rattle.freeze_laws.specs.levels.Laws.{FastFindsOpen, StaysSlow, GracesAreWhole, IdleIsEarned};
-ghost use Rattle.freeze_laws.specs.levels.Numbers.{AlwaysGoesOn};
+ghost use Rattle.freeze_laws.specs.levels.Numbers.{TransitionsAreAlwaysDefined};
 ghost use Rattle.freeze_laws.specs.levels.Operations.{DownReadsAreThere, DownWritesAreThere, UpWritesAreThere, CallbacksAreThere};
 
 /// What holds at a level holds at its beginning, and each event there keeps it; a writer that has entered is the only one, and finds
@@ -31,7 +31,7 @@ pub fn operations_are_events_of_their_level()
 /// Wherever a writer or a callback loads the sync word, the transition that it asks for is defined. Does nothing: its contract is the
 /// law.
 pub fn a_loaded_word_has_its_transition()
-    ensures { AlwaysGoesOn }
+    ensures { TransitionsAreAlwaysDefined }
 {}
 
 /// A phase makes its transition by a compare-exchange that finds the number loaded: then it puts the transition of that number, and every

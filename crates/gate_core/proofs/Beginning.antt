@@ -12,7 +12,7 @@ use Rattle.gate_core.proofs.Each.{seat_cases}
 use Rattle.gate_schedules.specs.Answers.{unless_refused, begin_answer}
 use Rattle.gate_core.specs.Memory.{Memory, Represents, IsSound, no_seat, seat_of}
 use Rattle.gate_core.specs.Moves.{refusal_in, begun_of, begun}
-use Rattle.gate_schedules.specs.Seats.{seat_held}
+use Rattle.gate_schedules.specs.TaskStates.{task_holdings}
 use Rattle.gate_schedules.specs.declared.task_states.TaskState.{TaskState}
 
 module _ (memory : Memory) (sound : IsSound memory) (t : ℕ) (lt : t < memory.config.tasks)
@@ -27,31 +27,31 @@ module _ (memory : Memory) (sound : IsSound memory) (t : ℕ) (lt : t < memory.c
 
   -- why the task can't begin the operation
   abbrev seat_refusal : Option GateError
-  seat_refusal = refusal memory.config under_way (seat_held seat) op
+  seat_refusal = refusal memory.config under_way (task_holdings seat) op
 
   -- what its beginning answers
   abbrev pub seat_beginning : Result Phase GateError
-  seat_beginning = beginning memory.config t under_way (seat_held seat) op
+  seat_beginning = beginning memory.config t under_way (task_holdings seat) op
 
   pub refusal_told : refusal_in memory t op ≡ seat_refusal
   refusal_told =
       rw (lt-ltb t memory.config.tasks lt)
-      (ap (λ (s : TaskState). refusal memory.config (is_some s.phase) (seat_held s) op) same_seat ∙
-      ap (λ b. refusal memory.config b (seat_held seat) op) (sym under_way_is))
+      (ap (λ (s : TaskState). refusal memory.config (is_some s.phase) (task_holdings s) op) same_seat ∙
+      ap (λ b. refusal memory.config b (task_holdings seat) op) (sym under_way_is))
 
   module _ (w : World) (shows : Represents memory w) where
     phase_same : seat.phase ≡ (w.views t).phase
     phase_same = ap (λ (s : TaskState). s.phase) (sym same_seat) ∙ shows.phases t lt
 
-    held_agrees : Agree memory.config (seat_held seat) (held_of (w.views t))
-    held_agrees = subst (λ (s : TaskState). Agree memory.config (seat_held s) (held_of (w.views t))) same_seat (shows.held t lt)
+    held_agrees : Agree memory.config (task_holdings seat) (held_of (w.views t))
+    held_agrees = subst (λ (s : TaskState). Agree memory.config (task_holdings s) (held_of (w.views t))) same_seat (shows.held t lt)
 
     pub refusal_same : begin_refusal memory.config w t op ≡ seat_refusal
     refusal_same =
         rw (lt-ltb t memory.config.tasks lt)
-        (sym (ap (λ b. refusal memory.config b (seat_held seat) op)
+        (sym (ap (λ b. refusal memory.config b (task_holdings seat) op)
         (under_way_is ∙ ap (λ (p : Option Phase). is_some p) phase_same) ∙
-        refusal_agree memory.config (seat_held seat) (held_of (w.views t)) held_agrees (is_some (w.views t).phase) op))
+        refusal_agree memory.config (task_holdings seat) (held_of (w.views t)) held_agrees (is_some (w.views t).phase) op))
 
   module _ (refused : GateError) (answered : ◌≡◌ {A = Result Phase GateError} (Err refused) seat_beginning) where
     refused_is : seat_refusal ≡ Some refused
@@ -110,16 +110,16 @@ module _ (memory : Memory) (sound : IsSound memory) (t : ℕ) (lt : t < memory.c
               (λ l. ap (λ p. Some p) phase_is ∙ ap (λ (v : View). v.phase) (sym (update_at w.views t view)))
               (λ ne l. shows.phases x l ∙ ap (λ (v : View). v.phase) (sym (update_off w.views t view x ne))) lx;
           held = λ x lx. seat_cases memory.seats t seat_after some_seat
-              (λ y s. y < memory.config.tasks → Agree memory.config (seat_held s) (held_of (update w.views t view y))) x
-              (λ l. subst (λ (v : View). Agree memory.config (seat_held seat_after) (held_of v)) (sym (update_at w.views t view)) (held_agrees w shows))
-              (λ ne l. subst (λ (v : View). Agree memory.config (seat_held (seat_of memory x)) (held_of v)) (sym (update_off w.views t view x ne))
+              (λ y s. y < memory.config.tasks → Agree memory.config (task_holdings s) (held_of (update w.views t view y))) x
+              (λ l. subst (λ (v : View). Agree memory.config (task_holdings seat_after) (held_of v)) (sym (update_at w.views t view)) (held_agrees w shows))
+              (λ ne l. subst (λ (v : View). Agree memory.config (task_holdings (seat_of memory x)) (held_of v)) (sym (update_off w.views t view x ne))
               (shows.held x l)) lx;
         })
 
-    seat_fits : Fits memory.config t (seat_held seat) (Some phase)
+    seat_fits : Fits memory.config t (task_holdings seat) (Some phase)
     seat_fits =
-        subst (λ p. Fits memory.config t (seat_held seat) (Some p)) (sym phase_is)
-        (first_fits memory.config t under_way (seat_held seat) op (may_begin memory.config under_way (seat_held seat) op none_refused))
+        subst (λ p. Fits memory.config t (task_holdings seat) (Some p)) (sym phase_is)
+        (first_fits memory.config t under_way (task_holdings seat) op (may_begin memory.config under_way (task_holdings seat) op none_refused))
 
     pub begin_sound : IsSound memory_after
     begin_sound = record {
@@ -133,7 +133,7 @@ module _ (memory : Memory) (sound : IsSound memory) (t : ℕ) (lt : t < memory.c
       files = λ x lx. seat_cases memory.seats t seat_after some_seat (λ y s. y < memory.config.tasks → length s.accesses.files ≡ 64) x
           (λ l. ap (λ (s : TaskState). length s.accesses.files) (sym same_seat) ∙ sound.files t lt) (λ ne l. sound.files x l) lx;
       fits = λ x lx. seat_cases memory.seats t seat_after some_seat
-          (λ y s. y < memory.config.tasks → Fits memory.config y (seat_held s) s.phase) x
+          (λ y s. y < memory.config.tasks → Fits memory.config y (task_holdings s) s.phase) x
           (λ l. seat_fits) (λ ne l. sound.fits x l) lx;
       reached = (
         sound.reached.0 ++ Begins t op ∷ [],

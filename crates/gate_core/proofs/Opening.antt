@@ -4,7 +4,7 @@ use Rattle.std.specs.Prelude.{None, slice_index_or, replicate}
 use Rattle.cpu_words.{proofs.Places.opening_listed, specs.{Lists.AreOpening, Names.words_in_all}}
 use Rattle.gate_world.specs.{Configs.{IsWithin, extents_kept}, Fits.Fits, Holdings.{Agree, holdings_of}, Worlds.opening, declared.config.Config.Config}
 use Rattle.gate_schedules.proofs.frames.Places.{are_few}
-use Rattle.gate_schedules.specs.Seats.{idle_seat, seat_held}
+use Rattle.gate_schedules.specs.TaskStates.{idle_task, task_holdings}
 use Rattle.gate_schedules.specs.declared.task_states.TaskState.{TaskState}
 use Rattle.gate_core.specs.Memory.{Memory, Represents, IsSound, no_seat}
 
@@ -16,12 +16,12 @@ one_value (suc n) (suc i) x = one_value n i x
 
 module _ (c : Config) (within : IsWithin c) (words : List ℕ) (opens : AreOpening (λ place. place) words_in_all words) where
   abbrev memory : Memory
-  memory = record { config = c; words = words; seats = replicate c.tasks idle_seat }
+  memory = record { config = c; words = words; seats = replicate c.tasks idle_task }
 
-  at_seat : (P : TaskState → Type 0) → P idle_seat → (t : ℕ) → t < c.tasks → P (slice_index_or (replicate c.tasks idle_seat) t no_seat)
-  at_seat P p t lt = subst P (sym (get_or-replicate c.tasks t idle_seat no_seat lt)) p
+  at_seat : (P : TaskState → Type 0) → P idle_task → (t : ℕ) → t < c.tasks → P (slice_index_or (replicate c.tasks idle_task) t no_seat)
+  at_seat P p t lt = subst P (sym (get_or-replicate c.tasks t idle_task no_seat lt)) p
 
-  none_held : Agree c (seat_held idle_seat) (holdings_of [])
+  none_held : Agree c (task_holdings idle_task) (holdings_of [])
   none_held = record { mounts = λ m lm. one_value 8 m 0; levels = λ i one three. one_value 4 i false; files = λ n. one_value 64 n false }
 
   pub opening_shown : Represents memory opening
@@ -30,17 +30,17 @@ module _ (c : Config) (within : IsWithin c) (words : List ℕ) (opens : AreOpeni
         opening_listed (extents_kept c) (are_few c within) (λ place. place) (λ i j q. q) words_in_all words opens
         (omega (arith, within.some_node));
     phases = λ t lt. at_seat (λ (s : TaskState). s.phase ≡ None) refl t lt;
-    held = at_seat (λ (s : TaskState). Agree c (seat_held s) (holdings_of [])) none_held;
+    held = at_seat (λ (s : TaskState). Agree c (task_holdings s) (holdings_of [])) none_held;
   }
 
   pub opening_sound : IsSound memory
   opening_sound = record {
     within = within;
     words = opens.long;
-    seats = length-replicate c.tasks idle_seat;
+    seats = length-replicate c.tasks idle_task;
     mounts = at_seat (λ (s : TaskState). length s.accesses.mounts ≡ 8) (length-replicate {A = ℕ} 8 0);
     levels = at_seat (λ (s : TaskState). length s.accesses.levels ≡ 4) (length-replicate 4 false);
     files = at_seat (λ (s : TaskState). length s.accesses.files ≡ 64) (length-replicate 64 false);
-    fits = λ t lt. at_seat (λ (s : TaskState). Fits c t (seat_held s) s.phase) tt t lt;
+    fits = λ t lt. at_seat (λ (s : TaskState). Fits c t (task_holdings s) s.phase) tt t lt;
     reached = ([], opening_shown);
   }

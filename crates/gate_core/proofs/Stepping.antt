@@ -17,7 +17,7 @@ use Rattle.gate_schedules.proofs.{frames.Places.are_few, schedules.{Phases.{word
 use Rattle.gate_core.proofs.Each.{seat_cases}
 use Rattle.gate_schedules.specs.Answers.{progress_of, step_answer}
 use Rattle.gate_core.specs.Memory.{Memory, Represents, IsSound, no_seat, seat_of}
-use Rattle.gate_schedules.specs.Seats.{seat_held}
+use Rattle.gate_schedules.specs.TaskStates.{task_holdings}
 use Rattle.gate_core.specs.Moves.{phase_in, stepped_of, stepped, progress_by, progress_in}
 use Rattle.gate_core.specs.Stepped.{IsStep}
 use Rattle.gate_schedules.specs.declared.task_states.TaskState.{TaskState}
@@ -81,7 +81,7 @@ module _ (memory : Memory) (sound : IsSound memory) (t : ℕ) (lt : t < memory.c
   some_seat = omega (arith, sound.seats)
 
   -- what the seat holds then agrees, where what it held does
-  held_then : (seen : Holdings) → Agree config held seen → Agree config (seat_held seat_after) (held_after done.1 seen)
+  held_then : (seen : Holdings) → Agree config held seen → Agree config (task_holdings seat_after) (held_after done.1 seen)
   held_then seen same = agree_after config accesses (sound.mounts t lt) (sound.levels t lt) (sound.files t lt) seen done.1 acts same
 
   pub words_shown : (w : World) → Represents memory w → value ≡ read w.words name
@@ -98,9 +98,9 @@ module _ (memory : Memory) (sound : IsSound memory) (t : ℕ) (lt : t < memory.c
     done_same : done ≡ done_at (read w.words name)
     done_same = ap done_at (words_shown w shows)
 
-    held_shown : Agree config (seat_held seat_after) (held_of view)
+    held_shown : Agree config (task_holdings seat_after) (held_of view)
     held_shown =
-        subst (Agree config (seat_held seat_after))
+        subst (Agree config (task_holdings seat_after))
         (ap (λ (d : Next Phase × Option Action). held_after d.1 (held_of (w.views t))) done_same ∙
         sym (holdings_of_after (done_at (read w.words name)).1 (w.views t).actions))
         (held_then (held_of (w.views t)) (shows.held t lt))
@@ -122,18 +122,18 @@ module _ (memory : Memory) (sound : IsSound memory) (t : ℕ) (lt : t < memory.c
           ap (λ (v : View). v.phase) (sym (update_at w.views t view)))
           (λ ne l. shows.phases x l ∙ ap (λ (v : View). v.phase) (sym (update_off w.views t view x ne))) lx;
       held = λ x lx. seat_cases memory.seats t seat_after some_seat
-          (λ y s. y < config.tasks → Agree config (seat_held s) (held_of (update w.views t view y))) x
-          (λ l. subst (λ (v : View). Agree config (seat_held seat_after) (held_of v)) (sym (update_at w.views t view)) held_shown)
-          (λ ne l. subst (λ (v : View). Agree config (seat_held (seat_of memory x)) (held_of v)) (sym (update_off w.views t view x ne)) (shows.held x l))
+          (λ y s. y < config.tasks → Agree config (task_holdings s) (held_of (update w.views t view y))) x
+          (λ l. subst (λ (v : View). Agree config (task_holdings seat_after) (held_of v)) (sym (update_at w.views t view)) held_shown)
+          (λ ne l. subst (λ (v : View). Agree config (task_holdings (seat_of memory x)) (held_of v)) (sym (update_off w.views t view x ne)) (shows.held x l))
           lx;
     }
 
     pub step_shows : Represents memory_after (happens config w (Steps t hook))
     step_shows = rw (lt-ltb t config.tasks lt, phase_shown w shows) stepped_shown
 
-  seat_fits : Fits config t (seat_held seat_after) (phase_after done.0)
+  seat_fits : Fits config t (task_holdings seat_after) (phase_after done.0)
   seat_fits =
-      fits_agree config t (held_after done.1 held) (seat_held seat_after) (agree_sym (held_then held agree_self))
+      fits_agree config t (held_after done.1 held) (task_holdings seat_after) (agree_sym (held_then held agree_self))
       (phase_after done.0) (fits_after config sound.within t held phase (found_by touch value) hook phase_fits)
 
   -- the memory after the event is sound
@@ -149,7 +149,7 @@ module _ (memory : Memory) (sound : IsSound memory) (t : ℕ) (lt : t < memory.c
     files = λ x lx. seat_cases memory.seats t seat_after some_seat (λ y s. y < config.tasks → length s.accesses.files ≡ 64) x
         (λ l. deep_after accesses done.1 ∙ sound.files t lt) (λ ne l. sound.files x l) lx;
     fits = λ x lx. seat_cases memory.seats t seat_after some_seat
-        (λ y s. y < config.tasks → Fits config y (seat_held s) s.phase) x
+        (λ y s. y < config.tasks → Fits config y (task_holdings s) s.phase) x
         (λ l. seat_fits) (λ ne l. sound.fits x l) lx;
     reached = (
       sound.reached.0 ++ Steps t hook ∷ [],
@@ -194,10 +194,10 @@ module _ (memory : Memory) (sound : IsSound memory) (t : ℕ) (lt : t < memory.c
     same_seat : seat_of memory t ≡ seat
     same_seat = get_or_default memory.seats t no_seat seat (omega (arith, sound.seats)) ∙ sym seat_is
 
-    pub may_act : ActionFits (seat_held seat) done.1
+    pub may_act : ActionFits (task_holdings seat) done.1
     may_act =
-        subst (λ (s : TaskState). ActionFits (seat_held s) done.1) same_seat
-        (subst (λ (d : Next Phase × Option Action). ActionFits (seat_held (seat_of memory t)) d.1) (sym same_done)
+        subst (λ (s : TaskState). ActionFits (task_holdings s) done.1) same_seat
+        (subst (λ (d : Next Phase × Option Action). ActionFits (task_holdings (seat_of memory t)) d.1) (sym same_done)
         (acts memory sound t lt phase its_phase hook))
 
     module _ (progress : Progress × Option Phase) (progress_is : progress ≡ (progress_of done.0, phase_after done.0))

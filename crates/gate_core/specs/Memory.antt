@@ -10,7 +10,7 @@ use Rattle.gate_world.specs.Worlds.{World, run, opening}
 use Rattle.gate_world.specs.declared.entries.Entry.{Entry}
 use Rattle.gate_world.specs.Fits.{Fits}
 use Rattle.gate_schedules.specs.declared.task_states.TaskState.{TaskState}
-use Rattle.gate_schedules.specs.Seats.{seat_held}
+use Rattle.gate_schedules.specs.TaskStates.{task_holdings}
 
 -- the fields of the core
 pub record Memory : Type 0 where
@@ -31,7 +31,7 @@ seat_of memory t = slice_index_or memory.seats t no_seat
 pub record Represents (memory : Memory) (w : World) : Type 0 where
   pub words : (name : WordName) → IsWord (extents_kept memory.config) name → slice_index memory.words (place name) ≡ read w.words name
   pub phases : (t : ℕ) → t < memory.config.tasks → (seat_of memory t).phase ≡ (w.views t).phase
-  pub held : (t : ℕ) → t < memory.config.tasks → Agree memory.config (seat_held (seat_of memory t)) (held_of (w.views t))
+  pub held : (t : ℕ) → t < memory.config.tasks → Agree memory.config (task_holdings (seat_of memory t)) (held_of (w.views t))
 
 -- The lists have their lengths, each phase fits its task, and the memory is what some schedule makes of the opening.
 pub record IsSound (memory : Memory) : Type 0 where
@@ -42,5 +42,5 @@ pub record IsSound (memory : Memory) : Type 0 where
   pub levels : (t : ℕ) → t < memory.config.tasks → length (seat_of memory t).accesses.levels ≡ 4
   pub files : (t : ℕ) → t < memory.config.tasks → length (seat_of memory t).accesses.files ≡ 64
   pub fits : (t : ℕ) → t < memory.config.tasks →
-      Fits memory.config t (seat_held (seat_of memory t)) (seat_of memory t).phase
+      Fits memory.config t (task_holdings (seat_of memory t)) (seat_of memory t).phase
   pub reached : (entries : List Entry) × Represents memory (run memory.config opening entries)

@@ -6,7 +6,7 @@ use Rattle.freeze_levels.specs.declared.hooks.HookKind.{HookKind}
 use Rattle.gate_world.specs.{Accesses.accesses_after, Beginnings.{first_phase, refusal}, Views.phase_after, Work.{next_of, after_of}}
 use Rattle.gate_world.specs.declared.{operations.Op.Op, work.Phase.Phase}
 use Rattle.gate_schedules.specs.Answers.{progress_of, asked_by}
-use Rattle.gate_schedules.specs.Seats.{seat_held}
+use Rattle.gate_schedules.specs.TaskStates.{task_holdings}
 use Rattle.gate_schedules.specs.declared.steps.Progress.{Progress}
 use Rattle.gate_schedules.specs.declared.steps.Progress.TheVariants.{Idle}
 use Rattle.gate_core.specs.Memory.{Memory, seat_of}
@@ -19,7 +19,7 @@ phase_in memory t = if nat_lt t memory.config.tasks then (seat_of memory t).phas
 abbrev pub refusal_in : Memory → ℕ → Op → Option GateError
 refusal_in memory t op =
     if nat_lt t memory.config.tasks then
-    refusal memory.config (is_some (seat_of memory t).phase) (seat_held (seat_of memory t)) op else
+    refusal memory.config (is_some (seat_of memory t).phase) (task_holdings (seat_of memory t)) op else
     Some Invalid
 
 -- the memory after a beginning that is refused for this reason, or not

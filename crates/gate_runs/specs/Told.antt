@@ -6,14 +6,14 @@ use Rattle.run_plans.specs.declared.counts.Totals.{Totals}
 use Rattle.run_plans.specs.Plans.{run_config}
 use Rattle.run_plans.specs.declared.counts.Details.{Details}
 use Rattle.gate_runs.specs.run_threads.Parts.{AllDid, EndsAs}
-use Rattle.gate_runs.specs.run_parts.Ended.{Ended, Ending}
+use Rattle.gate_runs.specs.run_parts.Ended.{Ended, ClosedState}
 
 -- What a run tells of gates that are closed: the blocks that their files have in the end, and that nothing is held. In the world that they
 -- leave, each task has done its part from where it began, and nothing else: the backup all freezes, each with a snapshot, a call of the watch,
 -- a thaw and three callbacks; the remounter all rounds of changes; each writer all its rounds, with a call of the watch between each grant and its
 -- return. As many are told, and just what these calls met.
 pub record TellsRun (held : ℕ → ℕ → Type 0) (seen : ℕ → Type 0) (tasks processors rounds freezes : ℕ) (totals : Totals) (details : Details)
-    (closed : Ending) : Type 0 where
+    (closed : ClosedState) : Type 0 where
   pub config : closed.config ≡ run_config tasks processors rounds
   pub grown : totals.grown ≡ slice_index closed.words (stride * place Used)
   pub none_held : totals.held ≡ 0
@@ -27,5 +27,5 @@ pub record TellsRun (held : ℕ → ℕ → Type 0) (seen : ℕ → Type 0) (tas
 pub record WasRun (held : ℕ → ℕ → Type 0) (seen : ℕ → Type 0) (tasks processors rounds freezes : ℕ) : Type 0 where
   pub totals : Totals
   pub details : Details
-  pub closed : Ending
+  pub closed : ClosedState
   pub tells : TellsRun held seen tasks processors rounds freezes totals details closed

@@ -1,12 +1,12 @@
 //! A run, with what it counted written.
 
 ghost use Rattle.std.specs.Prelude.{◌≡◌, ◌≤◌, ◌⊎◌};
-ghost use Rattle.exit_status.specs.declared.ends.Ending.TheVariants.{Ran, Refused};
+ghost use Rattle.exit_status.specs.declared.ends.ProgramEnding.TheVariants.{Ran, Refused};
 ghost use Rattle.gate_runs.specs.Told.{WasRun};
 
 use crate::runs::run_plan;
 use access_model::GateError;
-use exit_status::{Ending, refused, why_told};
+use exit_status::{ProgramEnding, refused, why_told};
 use run_plans::rows::{ROWS, add_rows};
 use run_plans::{Plan, RunObserver};
 use schedule_lines::bytes::write_out;
@@ -27,7 +27,7 @@ pub fn run_told<R: Threads + Wait + Clock + Sync, P: RunObserver + Sync, W: Writ
     watch: &P,
     writer: &mut W,
     errors: &mut E,
-) -> Ending
+) -> ProgramEnding
     requires { count ≤ ROWS }
     ensures ends { (result ≡ Ran) ⊎ (result ≡ Refused) }
     ensures ran { result ≡ Ran → WasRun (P.held watch.now) (P.seen watch.now) plan.tasks plan.processors plan.rounds plan.freezes }
@@ -46,7 +46,7 @@ pub fn run_told<R: Threads + Wait + Clock + Sync, P: RunObserver + Sync, W: Writ
         return refused(GateError::NoMemory, errors);
     }
     match write_out(writer, lines.as_bytes()) {
-        Ok(()) => Ending::Ran,
+        Ok(()) => ProgramEnding::Ran,
         Err(fault) => why_told(fault.text(), errors),
     }
 }

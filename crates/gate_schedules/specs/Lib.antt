@@ -1,4 +1,4 @@
-pub mod Seats
+pub mod TaskStates
 pub mod Answers
 pub mod operations
 pub mod trees

@@ -9,7 +9,7 @@ ghost use Rattle.gate_world.specs.Headline.{world_after, MovesTheModel, IsOneRun
 ghost use Rattle.gate_world.specs.refusals.Causes.{RefusalsHaveCauses};
 ghost use Rattle.gate_world.specs.LevelRuns.{LevelsAreRuns};
 ghost use Rattle.gate_world.specs.refusals.Waits.{EachWaitHasCulprit};
-ghost use Rattle.gate_schedules.specs.operations.Progress.{EverybodySettles, KeptStaysKept, NobodyIsDeadlocked, RepliesOrIsFrozen};
+ghost use Rattle.gate_schedules.specs.operations.Progress.{EverybodySettles, BlockedStaysBlocked, ReplyOrAllBlocked, RepliesOrIsFrozen};
 ghost use Rattle.gate_schedules.specs.operations.Ranks.{most_events_to_reply, most_events_to_settle};
 
 /// The headline. For every configuration within the limits, and every schedule: any list of beginnings, refused ones included, and of
@@ -68,7 +68,7 @@ ghost use Rattle.gate_schedules.specs.operations.Ranks.{most_events_to_reply, mo
 ///   the hooks answer, after which each operation that was under way has its reply, or all that are left are blocked.
 /// - `replies`: so, with an operation under way, a reply is at most so many events away, or the file system is frozen as a whole, or an idle
 ///   task blocks a freeze that is under way.
-/// - `kept_stays`: and that is exact: where each operation under way is blocked, no event of one of them is a reply, and all stay blocked, as long as
+/// - `blocked_stays`: and that is exact: where each operation under way is blocked, no event of one of them is a reply, and all stay blocked, as long as
 ///   no hook fails.
 ///
 /// It takes nothing, does nothing and answers nothing: its contract is the theorem. `Core` is bound to the same worlds by `Represents`.
@@ -89,10 +89,10 @@ pub fn every_schedule()
     ensures operations { (c : Config) → IsWithin c → (entries : List Entry) (t : ℕ) → OperationsAreKept c entries t }
     ensures causes { (c : Config) → IsWithin c → (entries : List Entry) → RefusalsHaveCauses c entries }
     ensures waits { (c : Config) → IsWithin c → (entries : List Entry) → EachWaitHasCulprit c entries }
-    ensures progress { (c : Config) → IsWithin c → (entries : List Entry) → NobodyIsDeadlocked c (most_events_to_reply c) entries }
+    ensures progress { (c : Config) → IsWithin c → (entries : List Entry) → ReplyOrAllBlocked c (most_events_to_reply c) entries }
     ensures settles { (c : Config) → IsWithin c → (entries : List Entry) → EverybodySettles c (most_events_to_settle c) entries }
     ensures replies { (c : Config) → IsWithin c → (entries : List Entry) → RepliesOrIsFrozen c (most_events_to_reply c) entries }
-    ensures kept_stays { (c : Config) → IsWithin c → (entries : List Entry) → KeptStaysKept c entries }
+    ensures blocked_stays { (c : Config) → IsWithin c → (entries : List Entry) → BlockedStaysBlocked c entries }
 {}
 
 /// The rule from which the headline follows, in every world of every schedule, as above: counts, holdings, the owner's words, the stage, the

@@ -1,7 +1,7 @@
 //! What is kept of one task at run time: its phase and its accesses.
 
 ghost use Rattle.std.specs.Prelude.{◌≡◌};
-ghost use Rattle.gate_schedules.specs.Seats.{idle_seat};
+ghost use Rattle.gate_schedules.specs.TaskStates.{idle_task};
 
 use gate_world::{Accesses, Phase};
 
@@ -15,7 +15,7 @@ pub struct TaskState {
 impl TaskState {
     /// A task that is idle and holds nothing.
     pub fn idle() -> TaskState
-        ensures { result ≡ idle_seat }
+        ensures { result ≡ idle_task }
     {
         TaskState {
             phase: None,

@@ -26,14 +26,14 @@ ghost use Rattle.gated_tree.specs.Phases.{create_next, grow_next, mark_next, mov
 ghost use Rattle.gated_tree.specs.Calls.{TreePhaseFits, phase_role};
 ghost use Rattle.gated_tree.specs.Roles.{AreWithin, Bounds, Role, TreeHolds};
 ghost use Rattle.gate_schedules.specs.trees.Ends.{CreateEnds, CreateKnows, GrowEnds, GrowKnows, MarkEnds, MoveEnds, MoveKnows, OpenEnds, Passed, RemoveEnds, RemoveKnows, SeesMore, SnapshotEnds, SnapshotKnows};
-ghost use Rattle.gate_schedules.specs.trees.Steps.{MayStep, Notes, StepKeeps, found_at, tree_in};
+ghost use Rattle.gate_schedules.specs.trees.Steps.{TreeAllowsStep, Notes, StepKeeps, found_at, tree_in};
 
 /// Each event of each call at the tree, among all words, keeps what holds of the tree. Where it adds an action, the shown tree allows that
 /// and moves by just its effect; else the shown tree stays. The word of the event is there. Does nothing: its contract is the law.
 pub fn each_call_keeps_the_tree()
     ensures events { (c : Bounds) → AreWithin c → (sealed bare : ℕ) (w : Words) (at : ℕ → Role) → TreeHolds c (tree_in sealed bare w at) →
         (t : ℕ) → t < c.tasks → (phase : TreePhase) (values noted : ℕ → ℕ) (hook : HookAnswer) → at t ≡ phase_role values phase →
-        TreePhaseFits c t phase → MayStep c (tree_in sealed bare w at) phase → Notes phase values noted (found_at w (next phase hook)) →
+        TreePhaseFits c t phase → TreeAllowsStep c (tree_in sealed bare w at) phase → Notes phase values noted (found_at w (next phase hook)) →
         StepKeeps c sealed bare w at t phase noted hook }
     ensures words { (c : Bounds) → AreWithin c → (sealed bare : ℕ) (w : Words) (at : ℕ → Role) → TreeHolds c (tree_in sealed bare w at) →
         (t : ℕ) → t < c.tasks → (e : Extents) → e.nodes ≡ c.nodes → (phase : TreePhase) (values : ℕ → ℕ) (hook : HookAnswer) →

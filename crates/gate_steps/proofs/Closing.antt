@@ -8,7 +8,7 @@ use Rattle.atomic_table.proofs.Lists.{at_map}
 use Rattle.std.proofs.Common.{◌≡◌, map}
 use mathlib.Core.Option.{some}
 use lib.ListN.{get_elem?}
-use Rattle.gate_steps.specs.Rules.{Ruled, Held}
+use Rattle.gate_steps.specs.Rules.{Ruled, TableInvariantHolds}
 use Rattle.gate_steps.specs.Tables.{IsClosing}
 use Rattle.gate_steps.proofs.Dealing.{known_here}
 use Rattle.gate_steps.proofs.TableSimulation.{holds}
@@ -18,7 +18,7 @@ pub closes : (c : Config) (id : ℕ) (k : Knowledge) (ws : List ℕ) (slots : Li
     IsClosing c ws k
 closes c id k ws slots final =
     let s = final.0 in
-    let held : Held c s.words s.views = final.1.0 in
+    let held : TableInvariantHolds c s.words s.views = final.1.0 in
     let at : get_elem? (map items_of s.views) id ≡ some k.items = at_map items_of s.views id k final.1.1 in record {
       world = held.world;
       ruled = subst (λ (l : List ℕ). Ruled c l held.world) final.2 held.ruled;

@@ -7,7 +7,7 @@ use lib.ListN.{get_elem?}
 use Rattle.atomic_table.proofs.Lists.{at_set}
 use Rattle.gate_world.specs.declared.views.View.{View}
 use Rattle.gate_steps.specs.declared.seating.Numbered.{Numbered}
-use Rattle.gate_steps.specs.Seating.{SeatItems, numbered, one_if, times, times_all, HaveViews, Dealt}
+use Rattle.gate_steps.specs.Seating.{DealtNumbers, numbered, one_if, times, times_all, HaveViews, Dealt}
 
 pub one_if-same : (n : ℕ) → one_if (eqb n n) ≡ 1
 one_if-same n = ap one_if (eq-eqb n n refl)
@@ -16,28 +16,28 @@ pub one_if-other : (m n : ℕ) → m ≢ n → one_if (eqb m n) ≡ 0
 one_if-other m n ne = ap one_if (ne_eqb m n ne)
 
 -- a number that stands in a list is counted there
-pub times-at : (l : SeatItems) (k : ℕ) (x : Numbered) → get_elem? l k ≡ some x → 1 ≤ times x.number l
+pub times-at : (l : DealtNumbers) (k : ℕ) (x : Numbered) → get_elem? l k ≡ some x → 1 ≤ times x.number l
 times-at [] k x e = absurd (some-ne-none x (sym e))
 times-at (y ∷ ys) zero x e = let same : one_if (eqb y.number x.number) ≡ 1 =
     ap (λ (z : Numbered). one_if (eqb z.number x.number)) (some-injective y x e) ∙ one_if-same x.number in omega arith
 times-at (y ∷ ys) (suc k) x e = let r = times-at ys k x e in omega arith
 
-pub times-append : (n : ℕ) (l m : SeatItems) → times n (l ++ m) ≡ times n l + times n m
+pub times-append : (n : ℕ) (l m : DealtNumbers) → times n (l ++ m) ≡ times n l + times n m
 times-append n [] m = omega arith
 times-append n (x ∷ xs) m = let r = times-append n xs m in omega arith
 
-pub times_all-set : (n : ℕ) (ls : List SeatItems) (i : ℕ) (l m : SeatItems) → get_elem? ls i ≡ some l →
+pub times_all-set : (n : ℕ) (ls : List DealtNumbers) (i : ℕ) (l m : DealtNumbers) → get_elem? ls i ≡ some l →
     times_all n (set ls i m) + times n l ≡ times_all n ls + times n m
 times_all-set n [] i l m e = absurd (some-ne-none l (sym e))
 times_all-set n (y ∷ ys) zero l m e = let same : times n y ≡ times n l = ap (times n) (some-injective y l e) in omega arith
 times_all-set n (y ∷ ys) (suc i) l m e = let r = times_all-set n ys i l m e in omega arith
 
-pub times_all-one : (n : ℕ) (ls : List SeatItems) (i : ℕ) (l : SeatItems) → get_elem? ls i ≡ some l → times n l ≤ times_all n ls
+pub times_all-one : (n : ℕ) (ls : List DealtNumbers) (i : ℕ) (l : DealtNumbers) → get_elem? ls i ≡ some l → times n l ≤ times_all n ls
 times_all-one n [] i l e = absurd (some-ne-none l (sym e))
 times_all-one n (y ∷ ys) zero l e = let same : times n y ≡ times n l = ap (times n) (some-injective y l e) in omega arith
 times_all-one n (y ∷ ys) (suc i) l e = let r = times_all-one n ys i l e in omega arith
 
-pub times_all-two : (n : ℕ) (ls : List SeatItems) (i j : ℕ) (l m : SeatItems) → i ≢ j → get_elem? ls i ≡ some l → get_elem? ls j ≡ some m →
+pub times_all-two : (n : ℕ) (ls : List DealtNumbers) (i j : ℕ) (l m : DealtNumbers) → i ≢ j → get_elem? ls i ≡ some l → get_elem? ls j ≡ some m →
     times n l + times n m ≤ times_all n ls
 times_all-two n [] i j l m ne e f = absurd (some-ne-none l (sym e))
 times_all-two n (y ∷ ys) zero zero l m ne e f = absurd (ne refl)
@@ -47,22 +47,22 @@ times_all-two n (y ∷ ys) (suc i) zero l m ne e f = let same : times n y ≡ ti
     times_all-one n ys i l e in omega arith
 times_all-two n (y ∷ ys) (suc i) (suc j) l m ne e f = let same = times_all-two n ys i j l m (λ q. ne (ap suc q)) e f in omega arith
 
-pub times_all-snoc : (n : ℕ) (ls : List SeatItems) (l : SeatItems) → times_all n (ls ++ l ∷ []) ≡ times_all n ls + times n l
+pub times_all-snoc : (n : ℕ) (ls : List DealtNumbers) (l : DealtNumbers) → times_all n (ls ++ l ∷ []) ≡ times_all n ls + times n l
 times_all-snoc n [] l = omega arith
 times_all-snoc n (y ∷ ys) l = let r = times_all-snoc n ys l in omega arith
 
-module _ (tasks : ℕ) (views : ℕ → View) (seats : List SeatItems) (dealt : Dealt tasks views seats) where
+module _ (tasks : ℕ) (views : ℕ → View) (seats : List DealtNumbers) (dealt : Dealt tasks views seats) where
   -- a number that stands somewhere is counted once, and is a task's
   pub known : (n : ℕ) → 1 ≤ times_all n seats → (n < tasks) × (times_all n seats ≡ 1)
   known n some_there = dite (dec_lt n tasks) (λ lt. (lt, dealt.once n lt))
       (λ ge. let e = dealt.no_other n (omega arith) in absurd (omega arith))
 
-  module _ (id : ℕ) (l : SeatItems) (at : get_elem? seats id ≡ some l) where
+  module _ (id : ℕ) (l : DealtNumbers) (at : get_elem? seats id ≡ some l) where
     pub known_here : (n : ℕ) → 1 ≤ times n l → n < tasks
     known_here n here = let one = times_all-one n seats id l at in (known n (omega arith)).0
 
     -- what stands in another seat is another number
-    pub apart : (n j k : ℕ) (m : SeatItems) (y : Numbered) → 1 ≤ times n l → j ≢ id → get_elem? seats j ≡ some m → get_elem? m k ≡ some y →
+    pub apart : (n j k : ℕ) (m : DealtNumbers) (y : Numbered) → 1 ≤ times n l → j ≢ id → get_elem? seats j ≡ some m → get_elem? m k ≡ some y →
         y.number ≢ n
     apart n j k m y here ne e f q =
         let two = times_all-two n seats j id m l ne e at in
@@ -73,7 +73,7 @@ module _ (tasks : ℕ) (views : ℕ → View) (seats : List SeatItems) (dealt : 
         omega arith
 
     -- the number t, which stands in the first place of the seat id, gets the view w, and no other view changes
-    module _ (t : ℕ) (v w : View) (rest : SeatItems) (is : l ≡ numbered t v ∷ rest) (new : ℕ → View) (mine : new t ≡ w)
+    module _ (t : ℕ) (v w : View) (rest : DealtNumbers) (is : l ≡ numbered t v ∷ rest) (new : ℕ → View) (mine : new t ≡ w)
         (others : (y : ℕ) → (y ≡ t → ⊥) → new y ≡ views y) where
       here : 1 ≤ times t l
       here = subst (λ z. 1 ≤ times t z) (sym is) (omega (arith, one_if-same t))

@@ -22,19 +22,19 @@ use Rattle.gate_steps.specs.declared.seating.Knowledge.{Knowledge}
 use Rattle.gate_steps.specs.Seating.{knows, items_of, HaveSeen, known_kept, known_given, known_both}
 use Rattle.cpu_words.specs.Words.{Words}
 use Rattle.gate_schedules.proofs.frames.Frames.{left_alone, shown_still}
-use Rattle.gate_steps.specs.{Histories.HasHistory, Seating.{SeatItems, numbered, one_if, times, times_all, HaveViews, Dealt, without, view_in, renewed}}
+use Rattle.gate_steps.specs.{Histories.HasHistory, Seating.{DealtNumbers, numbered, one_if, times, times_all, HaveViews, Dealt, without, view_in, renewed}}
 use Rattle.gate_steps.specs.{Seating.{given_of, Spares, trace_kept}, declared.seating.Numbered.Numbered}
 use Rattle.gate_steps.proofs.{Dealing.{one_if-same, one_if-other, times-append, times_all-set, times_all-one, times_all-snoc, known, apart}, TableSimulation.holds}
 use Rattle.gate_steps.proofs.Reaching.{renewed_reached}
 
-pub times-without : (n : ℕ) (l : SeatItems) → times n (without n l) ≡ 0
+pub times-without : (n : ℕ) (l : DealtNumbers) → times n (without n l) ≡ 0
 times-without n [] = refl
 times-without n (x ∷ xs) = dite (ℕ_discrete x.number n)
     (λ yes. ap (λ b. times n (cond b (without n xs) (x ∷ without n xs))) (eq-eqb x.number n yes) ∙ times-without n xs)
     (λ no. ap (λ b. times n (cond b (without n xs) (x ∷ without n xs))) (ne_eqb x.number n no) ∙
     (let r = times-without n xs in omega (arith, one_if-other x.number n no)))
 
-pub times-without_other : (m n : ℕ) (l : SeatItems) → m ≢ n → times m (without n l) ≡ times m l
+pub times-without_other : (m n : ℕ) (l : DealtNumbers) → m ≢ n → times m (without n l) ≡ times m l
 times-without_other m n [] ne = refl
 times-without_other m n (x ∷ xs) ne =
     let r = times-without_other m n xs ne in
@@ -45,15 +45,15 @@ times-without_other m n (x ∷ xs) ne =
     ap (λ (k : ℕ). one_if (eqb x.number m) + k) r)
 
 -- the entry stands in the list, and is another number's
-abbrev IsAmongOthers : SeatItems → ℕ → Numbered → Type 0
+abbrev IsAmongOthers : DealtNumbers → ℕ → Numbered → Type 0
 IsAmongOthers l n y = (j : ℕ) × (get_elem? l j ≡ some y) × (y.number ≢ n)
 
-without-at_kept : (n : ℕ) (x : Numbered) (xs : SeatItems) (k : ℕ) (y : Numbered) → x.number ≢ n → get_elem? (x ∷ without n xs) k ≡ some y →
+without-at_kept : (n : ℕ) (x : Numbered) (xs : DealtNumbers) (k : ℕ) (y : Numbered) → x.number ≢ n → get_elem? (x ∷ without n xs) k ≡ some y →
     ((j : ℕ) (z : Numbered) → get_elem? (without n xs) j ≡ some z → IsAmongOthers xs n z) → IsAmongOthers (x ∷ xs) n y
 without-at_kept n x xs zero y ne e r = (0, e, subst (λ (z : Numbered). z.number ≢ n) (some-injective x y e) ne)
 without-at_kept n x xs (suc k) y ne e r = let t = r k y e in (suc t.0, t.1, t.2)
 
-without-at : (n : ℕ) (l : SeatItems) (k : ℕ) (y : Numbered) → get_elem? (without n l) k ≡ some y → IsAmongOthers l n y
+without-at : (n : ℕ) (l : DealtNumbers) (k : ℕ) (y : Numbered) → get_elem? (without n l) k ≡ some y → IsAmongOthers l n y
 without-at n [] k y e = absurd (some-ne-none y (sym e))
 without-at n (x ∷ xs) k y e = dite (ℕ_discrete x.number n)
     (λ yes. let r = without-at n xs k y (subst (λ b. get_elem? (cond b (without n xs) (x ∷ without n xs)) k ≡ some y)
@@ -62,7 +62,7 @@ without-at n (x ∷ xs) k y e = dite (ℕ_discrete x.number n)
     (ne_eqb x.number n no) e) (without-at n xs))
 
 -- a number that is counted stands there with its view
-pub view_in-at : (n : ℕ) (l : SeatItems) → 1 ≤ times n l → (j : ℕ) × (get_elem? l j ≡ some (numbered n (view_in n l)))
+pub view_in-at : (n : ℕ) (l : DealtNumbers) → 1 ≤ times n l → (j : ℕ) × (get_elem? l j ≡ some (numbered n (view_in n l)))
 view_in-at n [] some_there = absurd (omega arith)
 view_in-at n (x ∷ xs) some_there = dite (ℕ_discrete x.number n)
     (λ yes. (
@@ -74,7 +74,7 @@ view_in-at n (x ∷ xs) some_there = dite (ℕ_discrete x.number n)
     (suc r.0, r.1 ∙ ap (λ b. some (numbered n (cond b x.view (view_in n xs)))) (sym (ne_eqb x.number n no))))
 
 -- so, where the numbers have their views, it is the view of that number
-pub view_in-is : (views : ℕ → View) (l : SeatItems) (n : ℕ) → HaveViews views l → 1 ≤ times n l → views n ≡ view_in n l
+pub view_in-is : (views : ℕ → View) (l : DealtNumbers) (n : ℕ) → HaveViews views l → 1 ≤ times n l → views n ≡ view_in n l
 view_in-is views l n mine some_there = let r = view_in-at n l some_there in mine r.0 (numbered n (view_in n l)) r.1
 
 at_append : {A : Type 0} (l m : List A) (k : ℕ) (y : A) → get_elem? (l ++ m) k ≡ some y →
@@ -83,8 +83,8 @@ at_append [] m k y e = inr (k, e)
 at_append (x ∷ xs) m zero y e = inl e
 at_append (x ∷ xs) m (suc k) y e = at_append xs m k y e
 
-module _ (tasks : ℕ) (views : ℕ → View) (seats : List SeatItems) (dealt : Dealt tasks views seats) (id n : ℕ) (x : Numbered)
-    (xs : SeatItems) (at : get_elem? seats id ≡ some (x ∷ xs)) (spare : 1 ≤ times n xs) where
+module _ (tasks : ℕ) (views : ℕ → View) (seats : List DealtNumbers) (dealt : Dealt tasks views seats) (id n : ℕ) (x : Numbered)
+    (xs : DealtNumbers) (at : get_elem? seats id ≡ some (x ∷ xs)) (spare : 1 ≤ times n xs) where
   only : (times n (x ∷ xs) ≡ 1) × (times n xs ≡ 1) × (x.number ≢ n)
   only =
       let all = times_all-one n seats id (x ∷ xs) at in
@@ -193,26 +193,26 @@ renewed_events : (w : World) (n t : ℕ) → ((renewed_at w n).views t).events �
 renewed_events w n t = each_updated (λ y (u : View). u.events ≡ (w.views y).events) w.views n (renewed (w.views n)) t refl (λ ne. refl)
 
 -- of fewer numbers all is seen, too
-fewer_seen : (now : List Entry) (all some_of : SeatItems) (seen : List (List Entry)) → ((m : ℕ) → 1 ≤ times m some_of → 1 ≤ times m all) →
+fewer_seen : (now : List Entry) (all some_of : DealtNumbers) (seen : List (List Entry)) → ((m : ℕ) → 1 ≤ times m some_of → 1 ≤ times m all) →
     HaveSeen now all seen → HaveSeen now some_of seen
 fewer_seen now all some_of seen fewer have = record { goes_on = have.goes_on; rested = λ m here. have.rested m (fewer m here) }
 
-few_kept : (m n : ℕ) (x : Numbered) (xs : SeatItems) → 1 ≤ times m (x ∷ without n xs) → 1 ≤ times m (x ∷ xs)
+few_kept : (m n : ℕ) (x : Numbered) (xs : DealtNumbers) → 1 ≤ times m (x ∷ without n xs) → 1 ≤ times m (x ∷ xs)
 few_kept m n x xs here = dite (ℕ_discrete m n)
     (λ yes. let e : times m (without n xs) ≡ 0 = subst (λ k. times m (without k xs) ≡ 0) yes (times-without m xs) in omega (arith, here))
     (λ no. omega (arith, here, times-without_other m n xs no))
 
-few_given : (m n : ℕ) (v : View) (x : Numbered) (xs : SeatItems) → 1 ≤ times n xs → 1 ≤ times m (numbered n v ∷ []) → 1 ≤ times m (x ∷ xs)
+few_given : (m n : ℕ) (v : View) (x : Numbered) (xs : DealtNumbers) → 1 ≤ times n xs → 1 ≤ times m (numbered n v ∷ []) → 1 ≤ times m (x ∷ xs)
 few_given m n v x xs spare here = dite (ℕ_discrete n m)
     (λ yes. let e : 1 ≤ times m xs = subst (λ k. 1 ≤ times k xs) yes spare in omega (arith, e))
     (λ no. absurd (omega (arith, here, one_if-other n m no)))
 
 -- a seat gives a number that it has to give
-pub splits : (c : Config) (id n : ℕ) (v : SeatItems) (seen : List (List Entry)) → Spares n v →
+pub splits : (c : Config) (id n : ℕ) (v : DealtNumbers) (seen : List (List Entry)) → Spares n v →
     Splits (holds c) id (knows v seen) (known_kept n (knows v seen)) (known_given n (knows v seen))
 splits c id n [] seen spare s held at = absurd spare
 splits c id n (x ∷ xs) seen spare s held there_is =
-    let seats : List SeatItems = map items_of s.views in
+    let seats : List DealtNumbers = map items_of s.views in
     let at : get_elem? seats id ≡ some (x ∷ xs) = at_map items_of s.views id (knows (x ∷ xs) seen) there_is in
     let kept : Knowledge = knows (x ∷ without n xs) seen in
     let given_one : Knowledge = knows (given_of n (x ∷ xs)) seen in
@@ -250,7 +250,7 @@ splits c id n (x ∷ xs) seen spare s held there_is =
           (at_snoc (set s.views id kept) given_one k j e));
     }
 
-module _ (tasks : ℕ) (views : ℕ → View) (seats : List SeatItems) (dealt : Dealt tasks views seats) (id other : ℕ) (v w : SeatItems)
+module _ (tasks : ℕ) (views : ℕ → View) (seats : List DealtNumbers) (dealt : Dealt tasks views seats) (id other : ℕ) (v w : DealtNumbers)
     (at : get_elem? seats id ≡ some v) (ne : ¬ (other ≡ id)) (at' : get_elem? seats other ≡ some w) where
   merged : Dealt tasks views (set (set seats id (v ++ w)) other [])
   merged =
@@ -284,7 +284,7 @@ seen_nothing : (now : List Entry) → HaveSeen now [] []
 seen_nothing now = record { goes_on = λ k earlier at. absurd (some-ne-none earlier (sym at)); rested = λ n here. absurd (omega (arith, here)) }
 
 -- two seats have seen together what each has
-both_seen : (now : List Entry) (v w : SeatItems) (s r : List (List Entry)) → HaveSeen now v s → HaveSeen now w r →
+both_seen : (now : List Entry) (v w : DealtNumbers) (s r : List (List Entry)) → HaveSeen now v s → HaveSeen now w r →
     HaveSeen now (v ++ w) (s ++ r)
 both_seen now v w s r a b = record {
   goes_on = λ k earlier at. ⊎_elim (λ t. a.goes_on k earlier t) (λ t. b.goes_on t.0 earlier t.1) (at_append s r k earlier at);
@@ -311,7 +311,7 @@ both_seen now v w s r a b = record {
 pub joins : (c : Config) (id other : ℕ) (a b : Knowledge) → Joins (holds c) id a other b (known_both a b) (knows [] [])
 joins c id other a b s held at ne at' = let both : Knowledge = known_both a b in
     let there : get_elem? s.views other ≡ some b = sym (set_else s.views id other both ne) ∙ at' in
-    let seats : List SeatItems = map items_of s.views in record {
+    let seats : List DealtNumbers = map items_of s.views in record {
       world = held.world;
       ruled = held.ruled;
       history = held.history;

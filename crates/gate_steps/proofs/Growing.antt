@@ -10,7 +10,7 @@ use Rattle.gate_world.specs.declared.entries.Entry.{Entry, TheVariants.{Begins, 
 use Rattle.gate_world.specs.declared.{operations.Op.Op, views.View.View}
 use Rattle.gate_steps.specs.declared.seating.{Numbered.Numbered, Knowledge.Knowledge}
 use Rattle.gate_steps.specs.Histories.{then_begins, then_steps}
-use Rattle.gate_steps.specs.Seating.{SeatItems, knows, items_of, times, NoneOf, GoesOn, HaveSeen, Dealt}
+use Rattle.gate_steps.specs.Seating.{DealtNumbers, knows, items_of, times, NoneOf, IsPrefix, HaveSeen, Dealt}
 use Rattle.gate_steps.proofs.Dealing.{times-at, times_all-two, known}
 
 none_append : (n : ℕ) (a b : List Entry) → NoneOf n a → NoneOf n b → NoneOf n (a ++ b)
@@ -32,7 +32,7 @@ none_added t n ne None hook = (ne, tt)
 none_added t n ne (Some op) hook = (ne, (ne, tt))
 
 -- what a seat has seen, it has seen still after an event of a number that it has not
-pub seen_on : (past more now : List Entry) → now ≡ past ++ more → (items : SeatItems) (seen : List (List Entry)) →
+pub seen_on : (past more now : List Entry) → now ≡ past ++ more → (items : DealtNumbers) (seen : List (List Entry)) →
     ((n : ℕ) → 1 ≤ times n items → NoneOf n more) → HaveSeen past items seen → HaveSeen now items seen
 seen_on past more now is items seen others have = record {
   goes_on = λ k earlier at. let g = have.goes_on k earlier at in
@@ -48,11 +48,11 @@ seen_on past more now is items seen others have = record {
 }
 
 -- of the schedule that stands, all is seen
-goes_now : (now : List Entry) (k : ℕ) (earlier : List Entry) → get_elem? (now ∷ []) k ≡ some earlier → GoesOn earlier now
+goes_now : (now : List Entry) (k : ℕ) (earlier : List Entry) → get_elem? (now ∷ []) k ≡ some earlier → IsPrefix earlier now
 goes_now now zero earlier at = ([], some-injective now earlier at ∙ sym (append-nil earlier))
 goes_now now (suc k) earlier at = absurd (some-ne-none earlier (sym at))
 
-pub seen_now : (now : List Entry) (items : SeatItems) → HaveSeen now items (now ∷ [])
+pub seen_now : (now : List Entry) (items : DealtNumbers) → HaveSeen now items (now ∷ [])
 seen_now now items = record {
   goes_on = goes_now now;
   rested = λ n here. record { place = 0; earlier = now; there = refl; since = []; is = sym (append-nil now); none = tt };
@@ -60,9 +60,9 @@ seen_now now items = record {
 
 -- After an event of the first number of a seat, all that each seat has seen then
 pub seen_all : (tasks : ℕ) (views : ℕ → View) (seats : List Knowledge) (dealt : Dealt tasks views (map items_of seats)) (id : ℕ) (x : Numbered)
-    (xs : SeatItems) (seen : List (List Entry)) (at : get_elem? seats id ≡ some (knows (x ∷ xs) seen)) (begins : Option Op)
+    (xs : DealtNumbers) (seen : List (List Entry)) (at : get_elem? seats id ≡ some (knows (x ∷ xs) seen)) (begins : Option Op)
     (hook : HookAnswer) (past now : List Entry) → now ≡ then_steps x.number hook (then_begins x.number begins past) →
-    ((j : ℕ) (k : Knowledge) → get_elem? seats j ≡ some k → HaveSeen past k.items k.seen) → (left : SeatItems) (j : ℕ) (k : Knowledge) →
+    ((j : ℕ) (k : Knowledge) → get_elem? seats j ≡ some k → HaveSeen past k.items k.seen) → (left : DealtNumbers) (j : ℕ) (k : Knowledge) →
     get_elem? (set seats id (knows left (now ∷ []))) j ≡ some k → HaveSeen now k.items k.seen
 seen_all tasks views seats dealt id x xs seen at begins hook past now is have left j k e =
     let t : ℕ = x.number in

@@ -13,8 +13,8 @@ use Rattle.gate_world.specs.Views.{opening_view}
 use Rattle.gate_world.specs.Worlds.{opening}
 use Rattle.gate_schedules.proofs.{frames.Places.are_few, schedules.Schedule.{opening_good, opening_shown}}
 use Rattle.gate_steps.specs.declared.seating.Numbered.{Numbered}
-use Rattle.gate_steps.specs.Seating.{SeatItems, numbered, one_if, times, knows, HaveViews, HaveSeen, deal}
-use Rattle.gate_steps.specs.Rules.{table_index, table_length, TableShows, Held, first_items, first_known}
+use Rattle.gate_steps.specs.Seating.{DealtNumbers, numbered, one_if, times, knows, HaveViews, HaveSeen, deal}
+use Rattle.gate_steps.specs.Rules.{table_index, table_length, TableShows, TableInvariantHolds, first_items, first_known}
 use Rattle.gate_steps.specs.declared.seating.Knowledge.{Knowledge}
 use Rattle.gate_steps.proofs.Dealing.{one_if-same, one_if-other}
 use Rattle.gate_steps.proofs.TableWords.{apart}
@@ -53,12 +53,12 @@ deal-views from (suc k) zero y e = ap (λ (z : Numbered). z.view) (some-injectiv
 deal-views from (suc k) (suc j) y e = deal-views (suc from) k j y e
 
 -- which the first seat knows
-first_views : (n id : ℕ) (l : SeatItems) → get_elem? (deal 0 n ∷ []) id ≡ some l → HaveViews (λ t. opening_view) l
+first_views : (n id : ℕ) (l : DealtNumbers) → get_elem? (deal 0 n ∷ []) id ≡ some l → HaveViews (λ t. opening_view) l
 first_views n zero l e = subst (HaveViews (λ t. opening_view)) (some-injective (deal 0 n) l e) (deal-views 0 n)
 first_views n (suc id) l e = absurd (some-ne-none l (sym e))
 
 -- which has seen the empty schedule
-first_seen : (items : SeatItems) (id : ℕ) (k : Knowledge) → get_elem? (knows items ([] ∷ []) ∷ []) id ≡ some k → HaveSeen [] k.items k.seen
+first_seen : (items : DealtNumbers) (id : ℕ) (k : Knowledge) → get_elem? (knows items ([] ∷ []) ∷ []) id ≡ some k → HaveSeen [] k.items k.seen
 first_seen items zero k e = subst (λ (l : Knowledge). HaveSeen [] l.items l.seen) (some-injective (knows items ([] ∷ [])) k e) (seen_now [] items)
 first_seen items (suc id) k e = absurd (some-ne-none k (sym e))
 
@@ -68,7 +68,7 @@ module _ (c : Config) (lim : IsWithin c) (ws : List ℕ) (opens : AreOpening tab
   shows_opening = opening_listed (extents_kept c) (are_few c lim) table_index apart table_length ws opens (omega (arith, lim.some_node))
 
   -- and its rule holds, with all numbers in the first seat
-  pub opening_held : Held c ws (first_known c ∷ [])
+  pub opening_held : TableInvariantHolds c ws (first_known c ∷ [])
   opening_held = let n : ℕ = c.tasks in record {
     world = opening;
     ruled = record { within = lim; long = opens.long; words = shows_opening; good = opening_good c lim; opens = λ untouched. refl };

@@ -6,9 +6,9 @@ use Rattle.finite_sums.proofs.Totals.{update_at, update_off, each_updated}
 use Rattle.cpu_words.specs.{Hooks.HookAnswer, Touches.event_of}
 use Rattle.access_model.specs.{Histories.Done}
 use Rattle.gate_world.specs.{Beginnings.{first_phase, refusal, view_refusal}, Holdings.holdings_of, Views.{phase_after, actions_after, begun_view}}
-use Rattle.gate_world.specs.{Views.{view_after, view_after_beside, with_hook}, Work.{next_of, after_of}, Worlds.{World, after_begin}}
+use Rattle.gate_world.specs.{Views.{view_after, view_after_with_others, with_hook}, Work.{next_of, after_of}, Worlds.{World, after_begin}}
 use Rattle.gate_world.specs.declared.entries.Entry.{Entry, TheVariants.{Begins, Steps}}
-use Rattle.gate_world.specs.{Worlds.{words_after, after_step, after_step_beside, run, opening, happens, history, with_action, action_of, task_of}}
+use Rattle.gate_world.specs.{Worlds.{words_after, after_step, after_step_with_others, run, opening, happens, history, with_action, action_of, task_of}}
 use Rattle.gate_world.specs.{Worlds.{value_at, found_at, phase_action}, declared.{config.Config.Config, operations.Op.Op}}
 use Rattle.gate_world.specs.declared.{views.{View.View}, work.Phase.Phase}
 use Rattle.gate_schedules.proofs.schedules.Runs.{run_more}
@@ -105,14 +105,14 @@ module _ (c : Config) (log : List Done) (w : World) (reached : IsReached c log w
 
     -- and with the next event of a task
     pub stepped_reached : (others : List (ℕ × ℕ)) (phase : Phase) (hook : HookAnswer) → (w.views t).phase ≡ Some phase →
-        (now : IsReached c (with_action t (phase_action w hook (Some phase)) log) (after_step_beside others w t phase hook)) ×
+        (now : IsReached c (with_action t (phase_action w hook (Some phase)) log) (after_step_with_others others w t phase hook)) ×
         (now.entries ≡ then_steps t hook reached.entries)
     stepped_reached others phase hook at =
         let same : run c opening (reached.entries ++ Steps t hook ∷ []) ≡ after_step there t phase hook =
         run_more c opening reached.entries (Steps t hook) ∙ rw (lt-ltb t c.tasks lt, (reached.views t).phase ∙ at) refl in
         let like = reached.views t in
         let before : View = view_after (there.views t) phase (value_at there.words phase hook) hook in
-        let after : View = view_after_beside others (w.views t) phase (value_at w.words phase hook) hook in
+        let after : View = view_after_with_others others (w.views t) phase (value_at w.words phase hook) hook in
         let stepped : IsLike before after = record {
           phase = λ i. phase_after (after_of phase (found_at (reached.words i) phase hook) hook).0;
           actions = λ i. actions_after (after_of phase (found_at (reached.words i) phase hook) hook).1 (like.actions i);
@@ -126,7 +126,7 @@ module _ (c : Config) (log : List Done) (w : World) (reached : IsReached c log w
           record {
             entries = reached.entries ++ Steps t hook ∷ [];
             words = ap (λ (v : World). v.words) same ∙ (λ i. words_after (reached.words i) phase hook);
-            views = λ x. subst (λ (v : World). IsLike (v.views x) ((after_step_beside others w t phase hook).views x)) (sym same)
+            views = λ x. subst (λ (v : World). IsLike (v.views x) ((after_step_with_others others w t phase hook).views x)) (sym same)
                 (like_update there.views w.views t before after stepped reached.views x);
             made = history_more c opening [] reached.entries (Steps t hook) ∙
                 (λ i. with_action t (acts_there phase hook at i) (reached.made i));

@@ -9,8 +9,8 @@ use Rattle.cpu_words.specs.{Hooks.HookAnswer, Names.{IsWord, place, words_in_all
 use Rattle.cpu_words.specs.declared.{events.Touch.{Touch, TheVariants.Load}, names.WordName.WordName}
 use Rattle.gate_world.specs.{Beginnings.{first_phase, view_refusal}, Configs.{IsWithin, model_limits, extents_kept}, traces.TraceStates.ReadIsValid, Fits.Fits}
 use Rattle.gate_world.specs.{Moments.AllHaveMoments, Rules.{IsGood, Moves, StepKeeps, Fitting}, Shown.shown, traces.Snapshots.{completes, last_snapshot}}
-use Rattle.gate_world.specs.{Views.{begun_view, view_with, view_after_beside, held_of}, Work.{next_of, after_of}, Worlds.{World, words_after, value_at}}
-use Rattle.gate_world.specs.{Worlds.{found_at, after_step, after_step_beside, phase_action, with_action}, declared.{config.Config.Config, operations.Op.Op}}
+use Rattle.gate_world.specs.{Views.{begun_view, view_with, view_after_with_others, held_of}, Work.{next_of, after_of}, Worlds.{World, words_after, value_at}}
+use Rattle.gate_world.specs.{Worlds.{found_at, after_step, after_step_with_others, phase_action, with_action}, declared.{config.Config.Config, operations.Op.Op}}
 use Rattle.gate_world.specs.declared.{views.{View.View, Snapshot.Snapshot}, work.Phase.Phase}
 use Rattle.freeze_laws.specs.moments.Moments.{HaveDone}
 use Rattle.gate_schedules.proofs.{frames.{ValidWords.events_may_be, Snapshots.others_apart}, operations.AllOperations.phase_keeps, schedules.Beginnings.may_begin}
@@ -26,14 +26,14 @@ use Rattle.std.proofs.lemmas.List.{map-set}
 use mathlib.Core.Option.{some}
 use lib.ListN.{get_elem?}
 use Rattle.atomic_table.proofs.Lists.{at_map}
-use Rattle.gate_steps.specs.{Histories.{HasHistory, IsReached, then_begins, then_steps}, Rules.{table_index, table_length, TableShows, Held}, Seating.{SeatItems, knows, items_of, HaveViews, Dealt, MayStep}}
-use Rattle.gate_steps.specs.{Seating.{Acts, entered, world_entered, done_by, items_after, happened}, declared.seating.Numbered.Numbered}
+use Rattle.gate_steps.specs.{Histories.{HasHistory, IsReached, then_begins, then_steps}, Rules.{table_index, table_length, TableShows, TableInvariantHolds}, Seating.{DealtNumbers, knows, items_of, HaveViews, Dealt, NumberMayStep}}
+use Rattle.gate_steps.specs.{Seating.{OwnNumberMayStep, entered, world_entered, done_by, items_after, happened}, declared.seating.Numbered.Numbered}
 
 abbrev pub Carried : Type 0
 Carried = List (ℕ × Unit {0})
 
 abbrev pub holds : Config → State (Unit {0}) Knowledge → Type 0
-holds c s = Held c s.words s.views
+holds c s = TableInvariantHolds c s.words s.views
 
 -- a view depends on a word's value only through what the event says that it found
 view_same : (v : View) (word : WordName) (touch : Touch) (n : ℕ) (hook : HookAnswer) (after : ℕ → Next Phase × Option Action)
@@ -46,13 +46,13 @@ view_same v word Load n hook after last = refl
 view_same v word other n hook after last = refl
 
 pub found_serves : (others : List (ℕ × ℕ)) (v : View) (phase : Phase) (n : ℕ) (hook : HookAnswer) →
-    view_after_beside others v phase (found_by (next_of phase hook).1 n) hook ≡ view_after_beside others v phase n hook
+    view_after_with_others others v phase (found_by (next_of phase hook).1 n) hook ≡ view_after_with_others others v phase n hook
 found_serves others v phase n hook =
     view_same v (next_of phase hook).0 (next_of phase hook).1 n hook (λ k. after_of phase k hook)
     (λ k. last_snapshot (completes phase v.trace k) v.actions others v.snapshot)
 
 -- the numbers that a seat has to give have done what it knows of them
-have_done : (views : ℕ → View) (log : List Done) → IsMerge (λ t. (views t).actions) log → (l : SeatItems) → HaveViews views l →
+have_done : (views : ℕ → View) (log : List Done) → IsMerge (λ t. (views t).actions) log → (l : DealtNumbers) → HaveViews views l →
     HaveDone (done_by l) log
 have_done views log lists [] mine = tt
 have_done views log lists (x ∷ xs) mine = (
@@ -73,7 +73,7 @@ record Entered (c : Config) (w : World) (t : ℕ) (begins : Option Op) (phase : 
   others : (y : ℕ) → (y ≡ t → ⊥) → (world_entered c w t begins).views y ≡ w.views y
 
 enter : (c : Config) (lim : IsWithin c) (w : World) → IsGood c w → (x : Numbered) → x.number < c.tasks → (h : HasHistory c w) →
-    w.views x.number ≡ x.view → (begins : Option Op) (phase : Phase) → MayStep c begins phase x →
+    w.views x.number ≡ x.view → (begins : Option Op) (phase : Phase) → NumberMayStep c begins phase x →
     Entered c w x.number begins phase x.view h.log
 enter c lim w good x lt h mine None phase may = record {
   good = good;
@@ -105,21 +105,21 @@ enter c lim w good x lt h mine (Some op) phase may =
     }
 
 -- a view that has just had an event has had one
-touched : (others : List (ℕ × ℕ)) (u v : View) (phase : Phase) (n : ℕ) (hook : HookAnswer) → u ≡ view_after_beside others v phase n hook →
+touched : (others : List (ℕ × ℕ)) (u v : View) (phase : Phase) (n : ℕ) (hook : HookAnswer) → u ≡ view_after_with_others others v phase n hook →
     u.events ≡ [] → ⊥
 touched others u v phase n hook is none =
-    let both : (view_after_beside others v phase n hook).events ≡ [] = ap (λ (w : View). w.events) (sym is) ∙ none in
+    let both : (view_after_with_others others v phase n hook).events ≡ [] = ap (λ (w : View). w.events) (sym is) ∙ none in
     let no : ⊥ = cc in
     no
 
 -- Whatever the event, the laws of the machine are what the step asks
-pub step_simulates : (c : Config) (slots id : ℕ) (items : SeatItems) (seen : List (List Entry)) (carried : Carried) (begins : Option Op) (phase : Phase) (hook : HookAnswer) →
-    Acts c begins phase items →
+pub step_simulates : (c : Config) (slots id : ℕ) (items : DealtNumbers) (seen : List (List Entry)) (carried : Carried) (begins : Option Op) (phase : Phase) (hook : HookAnswer) →
+    OwnNumberMayStep c begins phase items →
     Allows (holds c) slots id (knows items seen, carried) (table_index (place (next_of phase hook).0)) (left (next_of phase hook).1)
     (λ n. happened c begins phase hook (knows items seen, carried) (found_by (next_of phase hook).1 n))
 step_simulates c slots id [] seen carried begins phase hook acts s held len at small = absurd acts
 step_simulates c slots id (x ∷ xs) seen carried begins phase hook acts s held len there_is small =
-    let seats : List SeatItems = map items_of s.views in
+    let seats : List DealtNumbers = map items_of s.views in
     let at : get_elem? seats id ≡ some (x ∷ xs) = at_map items_of s.views id (knows (x ∷ xs) seen) there_is in
     let t : ℕ = x.number in
     let w : World = held.world in
@@ -133,7 +133,7 @@ step_simulates c slots id (x ∷ xs) seen carried begins phase hook acts s held 
     let name : WordName = (next_of phase hook).0 in
     let touch : Touch = (next_of phase hook).1 in
     let others : List (ℕ × ℕ) = done_by xs in
-    let after : World = after_step_beside others w' t phase hook in
+    let after : World = after_step_with_others others w' t phase hook in
     let a : Option Action = phase_action w' hook (Some phase) in
     let law : StepKeeps c w' t hook phase = (phase_keeps c phase).step lim w' en.good t lt hook en.at_phase in
     let beside : IsGood c after × (shown c (after_step w' t phase hook) ≡ shown c after) = others_apart c others w' t phase hook law.0 in
@@ -149,11 +149,11 @@ step_simulates c slots id (x ∷ xs) seen carried begins phase hook acts s held 
     subst (λ m. TableShows c (set s.words i (left touch n)) (put w'.words name (left touch m))) value
     (table_written c lim s.words w'.words name (left touch n) held.ruled.long there
     (subst (TableShows c s.words) (sym en.words) held.ruled.words)) in
-    let v : View = view_after_beside others (entered x.view begins phase) phase (found_by touch n) hook in
-    let v' : View = view_after_beside others (w'.views t) phase (value_at w'.words phase hook) hook in
+    let v : View = view_after_with_others others (entered x.view begins phase) phase (found_by touch n) hook in
+    let v' : View = view_after_with_others others (w'.views t) phase (value_at w'.words phase hook) hook in
     let own : after.views t ≡ v =
     update_at w'.views t v' ∙
-    ((λ j. view_after_beside others (en.mine j) phase (sym value j) hook) ∙
+    ((λ j. view_after_with_others others (en.mine j) phase (sym value j) hook) ∙
     sym (found_serves others (entered x.view begins phase) phase n hook)) in
     let apart : (y : ℕ) → (y ≡ t → ⊥) → after.views y ≡ w.views y = λ y ne. update_off w'.views t v' y ne ∙ en.others y ne in
     let ends : end_of log ≡ shown c w' = held.history.end ∙ sym en.shows in
@@ -165,7 +165,7 @@ step_simulates c slots id (x ∷ xs) seen carried begins phase hook acts s held 
     let past : List Entry = held.history.reached.entries in
     let now : List Entry = went.0.entries in
     let grown : now ≡ then_steps t hook (then_begins t begins past) = went.1 ∙ ap (then_steps t hook) came.1 in
-    let left_items : SeatItems = items_after begins phase hook (found_by touch n) (x ∷ xs) in
+    let left_items : DealtNumbers = items_after begins phase hook (found_by touch n) (x ∷ xs) in
     let history : HasHistory c after = record {
       log = with_action t a log;
       legal = more.0;
@@ -227,7 +227,7 @@ step_simulates c slots id (x ∷ xs) seen carried begins phase hook acts s held 
 pub lifted_at : (c : Config) (slots words id : ℕ) (me : Me (Unit {0}) Knowledge) (d : Config) (begins starts : Option Op) (p q : Phase)
     (h k : HookAnswer) (r : WordName × Touch) (i : ℕ) (touch : Touch) →
     c ≡ d → begins ≡ starts → p ≡ q → h ≡ k → r ≡ next_of p h → i ≡ table_index (place r.0) → r.1 ≡ touch → words ≡ table_length →
-    place (next_of p h).0 < words_in_all → Acts c begins p me.0.items →
+    place (next_of p h).0 < words_in_all → OwnNumberMayStep c begins p me.0.items →
     (i < words) × Allows (holds c) slots id me i (left touch) (λ n. happened d starts q k me (found_by touch n))
 lifted_at c slots words id me d begins starts p q h k r i touch ec eb ep eh er ei et ew small acts =
     let at : i ≡ table_index (place (next_of p h).0) = ei ∙ ap (λ (z : WordName × Touch). table_index (place z.0)) er in

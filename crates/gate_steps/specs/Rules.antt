@@ -12,7 +12,7 @@ use Rattle.gate_world.specs.Configs.{IsWithin, extents_kept}
 use Rattle.gate_world.specs.Worlds.{World}
 use Rattle.gate_world.specs.Rules.{IsGood}
 use Rattle.gate_steps.specs.Histories.{HasHistory}
-use Rattle.gate_steps.specs.Seating.{SeatItems, knows, items_of, HaveSeen, Dealt, deal}
+use Rattle.gate_steps.specs.Seating.{DealtNumbers, knows, items_of, HaveSeen, Dealt, deal}
 
 -- where the word of a place lies in the table: words lie apart, each in cache lines of its own
 abbrev pub table_index : ℕ → ℕ
@@ -39,7 +39,7 @@ pub record Ruled (c : Config) (ws : List ℕ) (w : World) : Type 0 where
   pub opens : IsUntouched c w.views → w.words ≡ opening_words
 
 -- the rule of the table
-pub record Held (c : Config) (ws : List ℕ) (seats : List Knowledge) : Type 0 where
+pub record TableInvariantHolds (c : Config) (ws : List ℕ) (seats : List Knowledge) : Type 0 where
   pub world : World
   pub ruled : Ruled c ws world
   pub history : HasHistory c world
@@ -47,7 +47,7 @@ pub record Held (c : Config) (ws : List ℕ) (seats : List Knowledge) : Type 0 w
   pub seen : (id : ℕ) (k : Knowledge) → get_elem? seats id ≡ some k → HaveSeen history.reached.entries k.items k.seen
 
 -- what the first seat knows: all numbers
-abbrev pub first_items : Config → SeatItems
+abbrev pub first_items : Config → DealtNumbers
 first_items c = deal 0 c.tasks
 
 -- and the empty schedule

@@ -2,6 +2,7 @@
 use Rattle.std.specs.Prelude.{◌≡◌, ℕ, zero, suc, ◌+◌, ◌==◌, ◌<◌, ◌≤◌, Bool, true, false, cond, Option, Some, None, List, [], ◌∷◌, ◌++◌, length}
 use mathlib.Core.Option.{some}
 use lib.ListN.{get_elem?}
+pub use Rattle.access_model.specs.States.{one_if}
 use Rattle.cpu_words.specs.Hooks.{HookAnswer}
 use Rattle.gate_world.specs.declared.config.Config.{Config}
 use Rattle.gate_world.specs.declared.operations.Op.{Op}
@@ -9,9 +10,9 @@ use Rattle.gate_world.specs.declared.work.Phase.{Phase}
 use Rattle.gate_world.specs.declared.views.View.{View}
 use Rattle.gate_world.specs.declared.views.Traced.{Traced}
 use Rattle.gate_world.specs.Configs.{IsWithin}
-use Rattle.gate_world.specs.Views.{opening_view, begun_view, view_after_beside}
+use Rattle.gate_world.specs.Views.{opening_view, begun_view, view_after_with_others}
 use Rattle.gate_world.specs.Beginnings.{first_phase, view_refusal}
-use Rattle.gate_world.specs.Worlds.{World, after_begin, found_at, after_step_beside, phase_action, task_of, with_action}
+use Rattle.gate_world.specs.Worlds.{World, after_begin, found_at, after_step_with_others, phase_action, task_of, with_action}
 use Rattle.gate_world.specs.declared.entries.Entry.{Entry}
 use Rattle.gate_world.specs.Work.{next_of}
 use Rattle.gate_world.specs.traces.TraceStates.{ReadIsValid}
@@ -21,19 +22,19 @@ use Rattle.gate_steps.specs.Histories.{HasHistory, IsReached, then_begins, then_
 use Rattle.gate_steps.specs.declared.seating.{Numbered.Numbered, Knowledge.Knowledge}
 
 -- the numbers that a seat has
-abbrev pub SeatItems : Type 0
-SeatItems = List Numbered
+abbrev pub DealtNumbers : Type 0
+DealtNumbers = List Numbered
 
 -- a number with its view
 abbrev pub numbered : ℕ → View → Numbered
 numbered n v = record { number = n; view = v }
 
 -- these numbers, and these schedules seen
-abbrev pub knows : SeatItems → List (List Entry) → Knowledge
+abbrev pub knows : DealtNumbers → List (List Entry) → Knowledge
 knows items seen = record { items = items; seen = seen }
 
 -- the numbers of what a seat knows
-abbrev pub items_of : Knowledge → SeatItems
+abbrev pub items_of : Knowledge → DealtNumbers
 items_of k = k.items
 
 -- none of these entries is of that number
@@ -41,9 +42,9 @@ abbrev pub NoneOf : ℕ → List Entry → Type 0
 NoneOf n [] = Unit {0}
 NoneOf n (e ∷ es) = (task_of e ≡ n → ⊥) × NoneOf n es
 
--- a schedule goes on from an earlier one
-abbrev pub GoesOn : List Entry → List Entry → Type 0
-GoesOn earlier now = (since : List Entry) × (now ≡ earlier ++ since)
+-- an earlier schedule is a prefix of this one
+abbrev pub IsPrefix : List Entry → List Entry → Type 0
+IsPrefix earlier now = (since : List Entry) × (now ≡ earlier ++ since)
 
 -- since one of those seen no entry is of that number
 pub record HasRested (n : ℕ) (seen : List (List Entry)) (now : List Entry) : Type 0 where
@@ -54,32 +55,27 @@ pub record HasRested (n : ℕ) (seen : List (List Entry)) (now : List Entry) : T
   pub is : now ≡ earlier ++ since
   pub none : NoneOf n since
 
--- 1 where it is so
-abbrev pub one_if : Bool → ℕ
-one_if true = 1
-one_if false = 0
-
 -- how often a number stands among these
-abbrev pub times : ℕ → SeatItems → ℕ
+abbrev pub times : ℕ → DealtNumbers → ℕ
 times n [] = 0
 times n (x ∷ xs) = one_if (x.number == n) + times n xs
 
 -- the same among several seats
-abbrev pub times_all : ℕ → List SeatItems → ℕ
+abbrev pub times_all : ℕ → List DealtNumbers → ℕ
 times_all n [] = 0
 times_all n (l ∷ ls) = times n l + times_all n ls
 
 -- the numbers of a seat have these views
-abbrev pub HaveViews : (ℕ → View) → SeatItems → Type 0
+abbrev pub HaveViews : (ℕ → View) → DealtNumbers → Type 0
 HaveViews views items = (k : ℕ) (x : Numbered) → get_elem? items k ≡ some x → views x.number ≡ x.view
 
 -- the schedule goes on from each that the seat has seen, and each number of the seat has rested since one of them
-pub record HaveSeen (now : List Entry) (items : SeatItems) (seen : List (List Entry)) : Type 0 where
-  pub goes_on : (k : ℕ) (earlier : List Entry) → get_elem? seen k ≡ some earlier → GoesOn earlier now
+pub record HaveSeen (now : List Entry) (items : DealtNumbers) (seen : List (List Entry)) : Type 0 where
+  pub goes_on : (k : ℕ) (earlier : List Entry) → get_elem? seen k ≡ some earlier → IsPrefix earlier now
   pub rested : (n : ℕ) → 1 ≤ times n items → HasRested n seen now
 
 -- some world that the rule holds of, with one history, in which the numbers of a seat have these views
-pub record HaveHistory (c : Config) (items : SeatItems) (seen : List (List Entry)) : Type 0 where
+pub record HaveHistory (c : Config) (items : DealtNumbers) (seen : List (List Entry)) : Type 0 where
   pub within : IsWithin c
   pub world : World
   pub good : IsGood c world
@@ -88,21 +84,21 @@ pub record HaveHistory (c : Config) (items : SeatItems) (seen : List (List Entry
   pub last : seen ≡ history.reached.entries ∷ []
 
 -- numbers are dealt: each number of a task stands in just one seat, once, there is no other, and what stands beside it is its view
-pub record Dealt (tasks : ℕ) (views : ℕ → View) (seats : List SeatItems) : Type 0 where
+pub record Dealt (tasks : ℕ) (views : ℕ → View) (seats : List DealtNumbers) : Type 0 where
   pub once : (n : ℕ) → n < tasks → times_all n seats ≡ 1
   pub no_other : (n : ℕ) → tasks ≤ n → times_all n seats ≡ 0
-  pub same : (id : ℕ) (items : SeatItems) → get_elem? seats id ≡ some items → HaveViews views items
+  pub same : (id : ℕ) (items : DealtNumbers) → get_elem? seats id ≡ some items → HaveViews views items
 
 -- a number with this view may do the event of this phase: it is at the phase, or the phase is the first of an operation that it
 -- may begin
-abbrev pub MayStep : Config → Option Op → Phase → Numbered → Type 0
-MayStep c None phase x = x.view.phase ≡ Some phase
-MayStep c (Some op) phase x = (view_refusal c x.view op ≡ None) × (phase ≡ first_phase c x.number op)
+abbrev pub NumberMayStep : Config → Option Op → Phase → Numbered → Type 0
+NumberMayStep c None phase x = x.view.phase ≡ Some phase
+NumberMayStep c (Some op) phase x = (view_refusal c x.view op ≡ None) × (phase ≡ first_phase c x.number op)
 
 -- the seat's own number may
-abbrev pub Acts : Config → Option Op → Phase → SeatItems → Type 0
-Acts c begins phase [] = ⊥
-Acts c begins phase (x ∷ xs) = MayStep c begins phase x
+abbrev pub OwnNumberMayStep : Config → Option Op → Phase → DealtNumbers → Type 0
+OwnNumberMayStep c begins phase [] = ⊥
+OwnNumberMayStep c begins phase (x ∷ xs) = NumberMayStep c begins phase x
 
 -- the view with which the event begins
 abbrev pub entered : View → Option Op → Phase → View
@@ -115,31 +111,31 @@ world_entered c w t None = w
 world_entered c w t (Some op) = after_begin c w t op
 
 -- how many actions each of these numbers has done
-abbrev pub done_by : SeatItems → List (ℕ × ℕ)
+abbrev pub done_by : DealtNumbers → List (ℕ × ℕ)
 done_by [] = []
 done_by (x ∷ xs) = (x.number, length x.view.actions) ∷ done_by xs
 
 -- what the seat knows after the event, which found this
-abbrev pub items_after : Option Op → Phase → HookAnswer → ℕ → SeatItems → SeatItems
+abbrev pub items_after : Option Op → Phase → HookAnswer → ℕ → DealtNumbers → DealtNumbers
 items_after begins phase hook found [] = []
 items_after begins phase hook found (x ∷ xs) =
-    numbered x.number (view_after_beside (done_by xs) (entered x.view begins phase) phase found hook) ∷ xs
+    numbered x.number (view_after_with_others (done_by xs) (entered x.view begins phase) phase found hook) ∷ xs
 
 -- the world that the event leaves, of a seat that has these other numbers to give
-abbrev pub world_left : Config → World → Option Op → Phase → HookAnswer → ℕ → SeatItems → World
-world_left c w begins phase hook n others = after_step_beside (done_by others) (world_entered c w n begins) n phase hook
+abbrev pub world_left : Config → World → Option Op → Phase → HookAnswer → ℕ → DealtNumbers → World
+world_left c w begins phase hook n others = after_step_with_others (done_by others) (world_entered c w n begins) n phase hook
 
 -- The event happened in some world that the rule holds of, with one history, in which the seat's numbers have their views, and the seat's own
 -- number may do it. What it left
 -- is such a world too, in which they have the views that the seat knows then. It moves the shown model by its action, and its history is
 -- the one before with this action. What it found is what its word may hold. Its schedule is the one before with the beginning, where the
 -- operation has just begun, and with this event: between the two it makes the world in which the event happened.
-pub record StepWitness (c : Config) (begins : Option Op) (phase : Phase) (hook : HookAnswer) (x : Numbered) (xs : SeatItems)
+pub record StepWitness (c : Config) (begins : Option Op) (phase : Phase) (hook : HookAnswer) (x : Numbered) (xs : DealtNumbers)
     (n : ℕ) (seen left_seen : List (List Entry)) : Type 0 where
   pub within : IsWithin c
   pub world : World
   pub task : x.number < c.tasks
-  pub may : MayStep c begins phase x
+  pub may : NumberMayStep c begins phase x
   pub before : IsGood c world
   pub mine : HaveViews world.views (x ∷ xs)
   pub found : n ≡ found_at world.words phase hook
@@ -159,7 +155,7 @@ pub record StepWitness (c : Config) (begins : Option Op) (phase : Phase) (hook :
   pub left : HaveViews (world_left c world begins phase hook x.number xs).views (items_after begins phase hook n (x ∷ xs))
 
 -- the same of a seat's own number, which is its first
-abbrev pub HasWitness : Config → Option Op → Phase → HookAnswer → SeatItems → ℕ → List (List Entry) → List (List Entry) → Type 0
+abbrev pub HasWitness : Config → Option Op → Phase → HookAnswer → DealtNumbers → ℕ → List (List Entry) → List (List Entry) → Type 0
 HasWitness c begins phase hook [] found seen left = ⊥
 HasWitness c begins phase hook (x ∷ xs) found seen left = StepWitness c begins phase hook x xs found seen left
 
@@ -170,12 +166,12 @@ happened c begins phase hook me found after = (after.0.items ≡ items_after beg
     HasWitness c begins phase hook me.0.items found me.0.seen after.0.seen
 
 -- these numbers but for one
-abbrev pub without : ℕ → SeatItems → SeatItems
+abbrev pub without : ℕ → DealtNumbers → DealtNumbers
 without n [] = []
 without n (x ∷ xs) = cond (x.number == n) (without n xs) (x ∷ without n xs)
 
 -- the view of a number among these
-abbrev pub view_in : ℕ → SeatItems → View
+abbrev pub view_in : ℕ → DealtNumbers → View
 view_in n [] = opening_view
 view_in n (x ∷ xs) = cond (x.number == n) x.view (view_in n xs)
 
@@ -190,12 +186,12 @@ abbrev pub renewed : View → View
 renewed v = record v { op = None; trace = trace_kept v.phase v.trace; snapshot = None }
 
 -- what a seat keeps that gives a number
-abbrev pub kept_of : ℕ → SeatItems → SeatItems
+abbrev pub kept_of : ℕ → DealtNumbers → DealtNumbers
 kept_of n [] = []
 kept_of n (x ∷ xs) = x ∷ without n xs
 
 -- and what it gives
-abbrev pub given_of : ℕ → SeatItems → SeatItems
+abbrev pub given_of : ℕ → DealtNumbers → DealtNumbers
 given_of n [] = []
 given_of n (x ∷ xs) = numbered n (renewed (view_in n xs)) ∷ []
 
@@ -211,11 +207,11 @@ abbrev pub known_both : Knowledge → Knowledge → Knowledge
 known_both mine others = knows (mine.items ++ others.items) (mine.seen ++ others.seen)
 
 -- the number is one that the seat has still to give
-abbrev pub Spares : ℕ → SeatItems → Type 0
+abbrev pub Spares : ℕ → DealtNumbers → Type 0
 Spares n [] = ⊥
 Spares n (x ∷ xs) = 1 ≤ times n xs
 
 -- so many numbers from n on, which have done nothing
-abbrev pub deal : ℕ → ℕ → SeatItems
+abbrev pub deal : ℕ → ℕ → DealtNumbers
 deal n zero = []
 deal n (suc k) = numbered n opening_view ∷ deal (suc n) k

@@ -1,5 +1,5 @@
 pub use Rattle.gate_schedules.specs.Answers
-pub use Rattle.gate_schedules.specs.Seats
+pub use Rattle.gate_schedules.specs.TaskStates
 pub use Rattle.gate_schedules.specs.declared.task_states.TaskState
 pub use Rattle.gate_schedules.specs.declared.steps.Progress
 pub use Rattle.gate_schedules.specs.declared.steps.Step
@@ -19,7 +19,7 @@ pub mod Asking
 pub mod Asked
 pub mod Caused
 pub mod Spans
-pub mod Led
+pub mod KnownSteps
 pub mod Closings
 pub mod CallingBack
 pub mod Remounting

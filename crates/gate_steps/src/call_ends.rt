@@ -8,13 +8,13 @@ ghost use Rattle.gate_world.specs.declared.operations.Op.{Op as OpType};
 ghost use Rattle.gate_world.specs.declared.work.Phase.TheVariants.{Callbacks, Freezes, Remounts, Thaws};
 ghost use Rattle.gate_steps.specs.call_events.CallingBack.{of_callback};
 ghost use Rattle.gate_steps.specs.call_events.Closings.{of_freeze};
-ghost use Rattle.gate_steps.specs.call_events.Led.{Led, LedAsking};
+ghost use Rattle.gate_steps.specs.call_events.KnownSteps.{KnownSteps, KnownStepsAsking};
 ghost use Rattle.gate_steps.specs.call_events.Remounting.{of_remount};
 ghost use Rattle.gate_steps.specs.call_events.Reopenings.{of_thaw};
 ghost use Rattle.gate_steps.specs.call_events.SeatedTasks.{SeatedTask, task_state};
-ghost use Rattle.gate_steps.specs.call_events.Turns.{StateAgrees, StayTied};
-ghost use Rattle.gate_steps.specs.call_events.Runs.{Called, Goes, IsTrying};
-ghost use Rattle.gate_steps.specs.call_events.Asking.{CalledAsking, GoesAsking, WentAsking};
+ghost use Rattle.gate_steps.specs.call_events.Turns.{StateAgrees, AgreesAfter};
+ghost use Rattle.gate_steps.specs.call_events.Runs.{Called, OpUnderWay, IsTrying};
+ghost use Rattle.gate_steps.specs.call_events.Asking.{CalledAsking, OpUnderWayAsking, OpAfterStepAsking};
 
 mod callbacks;
 mod closings;
@@ -28,7 +28,7 @@ use crate::call_ends::freeze_lines::{
 };
 use crate::call_ends::remount_lines::{remount_first, remount_locked};
 use crate::call_ends::thaw_lines::{reopen_all, thaw_first, thaw_locked};
-use crate::call_events::{GateWords, GhostSeat, TimedHooks, Turn, do_event, step_once};
+use crate::call_events::{GateWords, GhostSeat, StepResult, TimedHooks, do_event, step_once};
 use access_model::{GateError, Next, Reply};
 use crossbeam_utils::Backoff;
 use freeze_levels::{Freeze, FreezeStep, HookCall, Thaw, ThawStep};
@@ -44,7 +44,7 @@ pub trait Waiting: PendingOp {
     ghost use Rattle.access_model.specs.Replies.{map_next};
     ghost use Rattle.access_model.specs.declared.replies.Next.TheVariants.{Go};
     ghost use Rattle.gate_steps.specs.call_events.Asking.{call_at};
-    ghost use Rattle.gate_steps.specs.call_events.Led.{LedAsking};
+    ghost use Rattle.gate_steps.specs.call_events.KnownSteps.{KnownStepsAsking};
     ghost use Rattle.gate_steps.specs.call_events.Turns.{StateAgrees};
 
     /// The hook whose answer the next event reads, with what it is asked.
@@ -62,13 +62,13 @@ pub trait Waiting: PendingOp {
         hooks: &mut H,
     ) -> Next<Self>
         requires table { seat.old.table_id ≡ gates.now.table.shared.table_id }
-        requires tied { StateAgrees gates.now.config (Some op) (Some (Self.as_phase self)) accesses.now seat.old.me.0.items }
+        requires agrees { StateAgrees gates.now.config (Some op) (Some (Self.as_phase self)) accesses.now seat.old.me.0.items }
         ensures slots { seat.new.me.1 ≡ seat.old.me.1 }
-        ensures led { LedAsking H.answers gates.now.config (Some op) accesses.now (Go (Self.as_phase self)) seat.old.table_id seat.old.me.0
+        ensures led { KnownStepsAsking H.answers gates.now.config (Some op) accesses.now (Go (Self.as_phase self)) seat.old.table_id seat.old.me.0
             hooks.old (map_next Self.as_phase result) seat.new.table_id seat.new.me.0 hooks.new };
 
     /// Does the steps that come next and stand in a line, likewise; none where the operation stands at none of these.
-    fn go_in_line<H: TimedHooks>(
+    fn run_fast_path<H: TimedHooks>(
         self,
         gates: &GateWords,
         seat: &mut GhostSeat,
@@ -76,9 +76,9 @@ pub trait Waiting: PendingOp {
         hooks: &mut H,
     ) -> Next<Self>
         requires table { seat.old.table_id ≡ gates.now.table.shared.table_id }
-        requires tied { StateAgrees gates.now.config None (Some (Self.as_phase self)) accesses.now seat.old.me.0.items }
+        requires agrees { StateAgrees gates.now.config None (Some (Self.as_phase self)) accesses.now seat.old.me.0.items }
         ensures slots { seat.new.me.1 ≡ seat.old.me.1 }
-        ensures led { LedAsking H.answers gates.now.config None accesses.now (Go (Self.as_phase self)) seat.old.table_id seat.old.me.0
+        ensures led { KnownStepsAsking H.answers gates.now.config None accesses.now (Go (Self.as_phase self)) seat.old.table_id seat.old.me.0
             hooks.old (map_next Self.as_phase result) seat.new.table_id seat.new.me.0 hooks.new };
 }
 
@@ -105,7 +105,7 @@ impl Waiting for Freeze {
     }
 
     #[inline(always)]
-    fn go_in_line<H: TimedHooks>(
+    fn run_fast_path<H: TimedHooks>(
         self,
         gates: &GateWords,
         seat: &mut GhostSeat,
@@ -138,7 +138,7 @@ impl Waiting for Thaw {
     }
 
     #[inline(always)]
-    fn go_in_line<H: TimedHooks>(
+    fn run_fast_path<H: TimedHooks>(
         self,
         gates: &GateWords,
         seat: &mut GhostSeat,
@@ -174,7 +174,7 @@ impl Waiting for Remount {
     }
 
     #[inline(always)]
-    fn go_in_line<H: TimedHooks>(
+    fn run_fast_path<H: TimedHooks>(
         self,
         gates: &GateWords,
         seat: &mut GhostSeat,
@@ -205,7 +205,7 @@ impl Waiting for Callback {
     }
 
     #[inline(always)]
-    fn go_in_line<H: TimedHooks>(
+    fn run_fast_path<H: TimedHooks>(
         self,
         gates: &GateWords,
         seat: &mut GhostSeat,
@@ -227,9 +227,9 @@ fn thaw_in_line<H: TimedHooks>(
     hooks: &mut H,
 ) -> Next<Thaw>
     requires table { seat.old.table_id ≡ gates.now.table.shared.table_id }
-    requires tied { StateAgrees gates.now.config None (Some (Thaws thaw)) accesses.now seat.old.me.0.items }
+    requires agrees { StateAgrees gates.now.config None (Some (Thaws thaw)) accesses.now seat.old.me.0.items }
     ensures slots { seat.new.me.1 ≡ seat.old.me.1 }
-    ensures led { LedAsking H.answers gates.now.config None accesses.now (Go (Thaws thaw)) seat.old.table_id seat.old.me.0 hooks.old
+    ensures led { KnownStepsAsking H.answers gates.now.config None accesses.now (Go (Thaws thaw)) seat.old.table_id seat.old.me.0 hooks.old
         (of_thaw result) seat.new.table_id seat.new.me.0 hooks.new }
 {
     match thaw.step {
@@ -249,9 +249,9 @@ fn remount_in_line<H: TimedHooks>(
     hooks: &mut H,
 ) -> Next<Remount>
     requires table { seat.old.table_id ≡ gates.now.table.shared.table_id }
-    requires tied { StateAgrees gates.now.config None (Some (Remounts remount)) accesses.now seat.old.me.0.items }
+    requires agrees { StateAgrees gates.now.config None (Some (Remounts remount)) accesses.now seat.old.me.0.items }
     ensures slots { seat.new.me.1 ≡ seat.old.me.1 }
-    ensures led { LedAsking H.answers gates.now.config None accesses.now (Go (Remounts remount)) seat.old.table_id seat.old.me.0 hooks.old
+    ensures led { KnownStepsAsking H.answers gates.now.config None accesses.now (Go (Remounts remount)) seat.old.table_id seat.old.me.0 hooks.old
         (of_remount result) seat.new.table_id seat.new.me.0 hooks.new }
 {
     match remount.step {
@@ -269,9 +269,9 @@ fn callback_in_line(
     callback: Callback,
 ) -> Next<Callback>
     requires table { seat.old.table_id ≡ gates.now.table.shared.table_id }
-    requires tied { StateAgrees gates.now.config None (Some (Callbacks callback)) accesses.now seat.old.me.0.items }
+    requires agrees { StateAgrees gates.now.config None (Some (Callbacks callback)) accesses.now seat.old.me.0.items }
     ensures slots { seat.new.me.1 ≡ seat.old.me.1 }
-    ensures led { Led gates.now.config None accesses.now (Go (Callbacks callback)) seat.old.table_id seat.old.me.0
+    ensures led { KnownSteps gates.now.config None accesses.now (Go (Callbacks callback)) seat.old.table_id seat.old.me.0
         (of_callback result) seat.new.table_id seat.new.me.0 }
 {
     match callback.step {
@@ -297,9 +297,9 @@ fn freeze_in_line<H: TimedHooks>(
     hooks: &mut H,
 ) -> Next<Freeze>
     requires table { seat.old.table_id ≡ gates.now.table.shared.table_id }
-    requires tied { StateAgrees gates.now.config None (Some (Freezes freeze)) accesses.now seat.old.me.0.items }
+    requires agrees { StateAgrees gates.now.config None (Some (Freezes freeze)) accesses.now seat.old.me.0.items }
     ensures slots { seat.new.me.1 ≡ seat.old.me.1 }
-    ensures led { LedAsking H.answers gates.now.config None accesses.now (Go (Freezes freeze)) seat.old.table_id seat.old.me.0 hooks.old
+    ensures led { KnownStepsAsking H.answers gates.now.config None accesses.now (Go (Freezes freeze)) seat.old.table_id seat.old.me.0 hooks.old
         (of_freeze result) seat.new.table_id seat.new.me.0 hooks.new }
 {
     match freeze.step {
@@ -321,16 +321,16 @@ fn step_asking<P: Waiting, H: TimedHooks>(
     hooks: &mut H,
 ) -> Next<P>
     requires table { seat.old.table_id ≡ gates.now.table.shared.table_id }
-    requires tied { StateAgrees gates.now.config None (Some (P.as_phase under_way)) accesses.old seat.old.me.0.items }
+    requires agrees { StateAgrees gates.now.config None (Some (P.as_phase under_way)) accesses.old seat.old.me.0.items }
     ensures table { seat.new.table_id ≡ seat.old.table_id }
     ensures slots { seat.new.me.1 ≡ seat.old.me.1 }
-    ensures tied { StayTied gates.now.config None (Some (P.as_phase under_way)) accesses.old seat.old.me.0.items
+    ensures agrees { AgreesAfter gates.now.config None (Some (P.as_phase under_way)) accesses.old seat.old.me.0.items
         (phase_after (map_next P.as_phase result)) accesses.new seat.new.me.0.items }
     ensures still { StateAgrees gates.now.config None (phase_after (map_next P.as_phase result)) accesses.new seat.new.me.0.items }
     ensures asked { (waits : ℕ) (op : OpType) (start : SeatedTask) (before : H) →
-        GoesAsking H.answers waits op start before
+        OpUnderWayAsking H.answers waits op start before
         (task_state seat.old.table_id gates.now.config None (Some (P.as_phase under_way)) seat.old.me.0) hooks.old →
-        WentAsking H.answers waits op start before (map_next P.as_phase result)
+        OpAfterStepAsking H.answers waits op start before (map_next P.as_phase result)
         (task_state seat.new.table_id gates.now.config None (phase_after (map_next P.as_phase result)) seat.new.me.0) hooks.new }
 {
     let hook = match under_way.asks() {
@@ -350,13 +350,13 @@ fn go_on_in_line<P: Waiting, H: TimedHooks>(
     hooks: &mut H,
 ) -> Next<P>
     requires table { seat.old.table_id ≡ gates.now.table.shared.table_id }
-    requires tied { StateAgrees gates.now.config None (phase_after (map_next P.as_phase next)) accesses.now seat.old.me.0.items }
+    requires agrees { StateAgrees gates.now.config None (phase_after (map_next P.as_phase next)) accesses.now seat.old.me.0.items }
     ensures slots { seat.new.me.1 ≡ seat.old.me.1 }
-    ensures led { LedAsking H.answers gates.now.config None accesses.now (map_next P.as_phase next) seat.old.table_id seat.old.me.0 hooks.old
+    ensures led { KnownStepsAsking H.answers gates.now.config None accesses.now (map_next P.as_phase next) seat.old.table_id seat.old.me.0 hooks.old
         (map_next P.as_phase result) seat.new.table_id seat.new.me.0 hooks.new }
 {
     match next {
-        Next::Go(under_way) => under_way.go_in_line(gates, seat, accesses, hooks),
+        Next::Go(under_way) => under_way.run_fast_path(gates, seat, accesses, hooks),
         Next::Wait(under_way) => Next::Wait(under_way),
         Next::Done(answer) => Next::Done(answer),
     }
@@ -372,20 +372,20 @@ pub fn run_to_reply<P: PendingOp>(
     first: P,
 ) -> Result<Reply, GateError>
     requires table { seat.old.table_id ≡ gates.now.table.shared.table_id }
-    requires tied { StateAgrees gates.now.config (Some op) (Some (P.as_phase first)) accesses.old seat.old.me.0.items }
+    requires agrees { StateAgrees gates.now.config (Some op) (Some (P.as_phase first)) accesses.old seat.old.me.0.items }
     requires trying { IsTrying (task_state seat.old.table_id gates.now.config (Some op) (Some (P.as_phase first)) seat.old.me.0) }
     ensures table { seat.new.table_id ≡ seat.old.table_id }
     ensures slots { seat.new.me.1 ≡ seat.old.me.1 }
-    ensures tied { StayTied gates.now.config (Some op) (Some (P.as_phase first)) accesses.old seat.old.me.0.items
+    ensures agrees { AgreesAfter gates.now.config (Some op) (Some (P.as_phase first)) accesses.old seat.old.me.0.items
         None accesses.new seat.new.me.0.items }
     ensures called { (of : OpType) (start : SeatedTask) →
-        Goes of start (task_state seat.old.table_id gates.now.config (Some op) (Some (P.as_phase first)) seat.old.me.0) →
+        OpUnderWay of start (task_state seat.old.table_id gates.now.config (Some op) (Some (P.as_phase first)) seat.old.me.0) →
         Called of start (task_state seat.new.table_id gates.now.config None None seat.new.me.0) result }
 {
     let mut begins = Some(op);
     let mut under_way = first;
     loop {
-        let Turn {
+        let StepResult {
             event: _,
             action: _,
             next,
@@ -413,13 +413,13 @@ fn step_waiting<R: Wait, H: TimedHooks, P: Waiting>(
     hooks: &mut H,
 ) -> (Result<Reply, GateError>, u64)
     requires table { seat.old.table_id ≡ gates.now.table.shared.table_id }
-    requires tied { StateAgrees gates.now.config None (phase_after (map_next P.as_phase begun)) accesses.old seat.old.me.0.items }
+    requires agrees { StateAgrees gates.now.config None (phase_after (map_next P.as_phase begun)) accesses.old seat.old.me.0.items }
     ensures table { seat.new.table_id ≡ seat.old.table_id }
     ensures slots { seat.new.me.1 ≡ seat.old.me.1 }
-    ensures tied { StayTied gates.now.config None (phase_after (map_next P.as_phase begun)) accesses.old seat.old.me.0.items
+    ensures agrees { AgreesAfter gates.now.config None (phase_after (map_next P.as_phase begun)) accesses.old seat.old.me.0.items
         None accesses.new seat.new.me.0.items }
     ensures called { (of : OpType) (start : SeatedTask) (before : H) →
-        WentAsking H.answers 0 of start before (map_next P.as_phase begun)
+        OpAfterStepAsking H.answers 0 of start before (map_next P.as_phase begun)
         (task_state seat.old.table_id gates.now.config None (phase_after (map_next P.as_phase begun)) seat.old.me.0) hooks.old →
         CalledAsking H.answers of start before (task_state seat.new.table_id gates.now.config None None seat.new.me.0) result.0 result.1
         hooks.new }
@@ -456,13 +456,13 @@ pub fn wait_for_reply<R: Wait, H: TimedHooks, P: Waiting>(
     hooks: &mut H,
 ) -> (Result<Reply, GateError>, u64)
     requires table { seat.old.table_id ≡ gates.now.table.shared.table_id }
-    requires tied { StateAgrees gates.now.config (Some op) (Some (P.as_phase first)) accesses.old seat.old.me.0.items }
+    requires agrees { StateAgrees gates.now.config (Some op) (Some (P.as_phase first)) accesses.old seat.old.me.0.items }
     ensures table { seat.new.table_id ≡ seat.old.table_id }
     ensures slots { seat.new.me.1 ≡ seat.old.me.1 }
-    ensures tied { StayTied gates.now.config (Some op) (Some (P.as_phase first)) accesses.old seat.old.me.0.items
+    ensures agrees { AgreesAfter gates.now.config (Some op) (Some (P.as_phase first)) accesses.old seat.old.me.0.items
         None accesses.new seat.new.me.0.items }
     ensures called { (of : OpType) (start : SeatedTask) (before : H) →
-        GoesAsking H.answers 0 of start before
+        OpUnderWayAsking H.answers 0 of start before
         (task_state seat.old.table_id gates.now.config (Some op) (Some (P.as_phase first)) seat.old.me.0) hooks.old →
         CalledAsking H.answers of start before (task_state seat.new.table_id gates.now.config None None seat.new.me.0) result.0 result.1
         hooks.new }

@@ -7,8 +7,8 @@ pub mod laws;
 mod turns;
 mod words;
 
-pub use crate::{Closed, Happens, index_of, word_of};
+pub use crate::{Closed, StepPlay, index_of, word_of};
 pub use gate_schedules::{Progress, Step, TaskState};
 pub use hooks::TimedHooks;
-pub use turns::{Turn, do_event, find, find_asking, find_first, step_once};
+pub use turns::{StepResult, do_event, find, find_asking, find_first, step_once};
 pub use words::{GateWords, GhostSeat};

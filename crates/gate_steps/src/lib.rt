@@ -9,7 +9,7 @@ mod seating;
 mod steps;
 mod tables;
 
-pub use rule::{Given, Gives, Happens, Items, Moment, Rule, TakesBack};
+pub use rule::{Given, Gives, StepInputs, StepPlay, TableInvariant, TakesBack};
 pub use seating::{Knowledge, Numbered};
 pub use steps::{event, give, index_of, take_back, touch};
 pub use tables::{Closed, GateTable, close, open, opening_words, word_of};

@@ -5,23 +5,20 @@ use atomic_table::{Join, Play, Split, TableRule};
 use gate_world::Config;
 use std::marker::{Brand, PhantomData};
 
-/// What a seat knows. The first of its numbers is its own, the others it has still to give; a spent seat has none.
-pub type Items = Knowledge;
-
 /// The rule of the table: the rule of words and views, one history, and numbers that are dealt.
-pub struct Rule;
+pub struct TableInvariant;
 
-impl TableRule<(), Items, Config> for Rule {
-    ghost use Rattle.gate_steps.specs.Rules.{Held, first_known};
+impl TableRule<(), Knowledge, Config> for TableInvariant {
+    ghost use Rattle.gate_steps.specs.Rules.{TableInvariantHolds, first_known};
 
-    ghost holds = { λ c s. Held c s.words s.views };
+    ghost holds = { λ c s. TableInvariantHolds c s.words s.views };
 
     ghost first = { first_known };
 }
 
 /// The config of the table, the operation that begins with an event, the phase that the event is of, and the hook's answer that
 /// it reads. Each call picks them.
-pub trait Moment {
+pub trait StepInputs {
     ghost use Rattle.std.specs.Prelude.{Option};
     ghost use Rattle.cpu_words.specs.Hooks.{HookAnswer};
     ghost use Rattle.gate_world.specs.declared.config.Config.{Config as ConfigType};
@@ -37,7 +34,7 @@ pub trait Moment {
     ghost hook: { HookAnswer };
 }
 
-impl Moment for Brand {
+impl StepInputs for Brand {
     ghost use Rattle.std.specs.Prelude.{None, Ok};
     ghost use Rattle.gate_world.specs.declared.work.Phase.TheVariants.{Mounts};
     ghost use Rattle.mount_counts.specs.declared.phases.MountPhase.TheVariants.{Drop as Drops};
@@ -51,12 +48,12 @@ impl Moment for Brand {
     ghost hook = { Ok tt };
 }
 
-/// The step is the event of that moment.
-pub struct Happens<J> {
+/// The step is the event of these inputs.
+pub struct StepPlay<J> {
     of: PhantomData<J>,
 }
 
-impl<J: Moment> Play<(), Items> for Happens<J> {
+impl<J: StepInputs> Play<(), Knowledge> for StepPlay<J> {
     ghost use Rattle.gate_steps.specs.Seating.{happened};
 
     ghost then = { λ s me found after. happened J.config J.begins J.phase J.hook me found after };
@@ -78,7 +75,7 @@ pub struct Gives<J> {
     of: PhantomData<J>,
 }
 
-impl<J: Given> Split<Items> for Gives<J> {
+impl<J: Given> Split<Knowledge> for Gives<J> {
     ghost use Rattle.gate_steps.specs.Seating.{known_kept, known_given};
 
     ghost left = { known_kept J.number };
@@ -89,7 +86,7 @@ impl<J: Given> Split<Items> for Gives<J> {
 /// All numbers of the joined seat come back.
 pub struct TakesBack;
 
-impl Join<Items> for TakesBack {
+impl Join<Knowledge> for TakesBack {
     ghost use Rattle.std.specs.Prelude.{[]};
     ghost use Rattle.gate_steps.specs.Seating.{knows, known_both};
 

@@ -5,9 +5,10 @@ ghost use Rattle.cpu_words.specs.Names.{place, words_in_all};
 ghost use Rattle.cpu_words.specs.Touches.{event_of, found_by};
 ghost use Rattle.gate_world.specs.Work.{next_of};
 ghost use Rattle.gate_steps.specs.Rules.{table_index, table_length};
-ghost use Rattle.gate_steps.specs.Seating.{Acts, HasWitness, items_after, Spares, known_kept, known_given, known_both};
+ghost use Rattle.gate_steps.specs.Seating.{OwnNumberMayStep, HasWitness, items_after, Spares, known_kept, known_given, known_both};
 
-use crate::rule::{Given, Gives, Happens, Items, Moment, Rule, TakesBack};
+use crate::rule::{Given, Gives, StepInputs, StepPlay, TableInvariant, TakesBack};
+use crate::seating::Knowledge;
 use atomic_table::{Seat, Shared};
 use cpu_words::{Event, STRIDE, Touch, WordName};
 use gate_events::PendingOp;
@@ -24,9 +25,9 @@ pub fn index_of(word: WordName) -> usize
 
 /// The event of that moment, which is known to touch this word so. What it found; of a store, what it wrote.
 #[inline(always)]
-fn touch_at<J: Moment, P: PendingOp>(
-    shared: &Shared<(), Items, Config, Rule>,
-    seat: &mut Seat<(), Items>,
+fn touch_at<J: StepInputs, P: PendingOp>(
+    shared: &Shared<(), Knowledge, Config, TableInvariant>,
+    seat: &mut Seat<(), Knowledge>,
     begins: Option<Op>,
     under_way: P,
     hook: Result<(), u16>,
@@ -41,7 +42,7 @@ fn touch_at<J: Moment, P: PendingOp>(
     requires table { seat.old.table_id ≡ shared.now.table_id }
     requires words { shared.now.table_id.words ≡ table_length }
     requires inside { place (next_of (P.as_phase under_way) hook).0 < words_in_all }
-    requires acts { Acts shared.now.key begins (P.as_phase under_way) seat.old.me.0.items }
+    requires acts { OwnNumberMayStep shared.now.key begins (P.as_phase under_way) seat.old.me.0.items }
     ensures table { seat.new.table_id ≡ seat.old.table_id }
     ensures id { seat.new.id ≡ seat.old.id }
     ensures found { found_by touch result ≡ result }
@@ -52,18 +53,18 @@ fn touch_at<J: Moment, P: PendingOp>(
     let _ = (begins, under_way, hook);
     let i = index_of(word);
     match touch {
-        Touch::Load => shared.load::<Happens<J>>(seat, i),
+        Touch::Load => shared.load::<StepPlay<J>>(seat, i),
         Touch::Store(new) => {
-            shared.store::<Happens<J>>(seat, i, new);
+            shared.store::<StepPlay<J>>(seat, i, new);
             new
         }
-        Touch::Add(by) => shared.fetch_add::<Happens<J>>(seat, i, by),
-        Touch::Sub(by) => shared.fetch_sub::<Happens<J>>(seat, i, by),
-        Touch::Or(bits) => shared.fetch_or::<Happens<J>>(seat, i, bits),
-        Touch::And(bits) => shared.fetch_and::<Happens<J>>(seat, i, bits),
-        Touch::Swap(new) => shared.swap::<Happens<J>>(seat, i, new),
+        Touch::Add(by) => shared.fetch_add::<StepPlay<J>>(seat, i, by),
+        Touch::Sub(by) => shared.fetch_sub::<StepPlay<J>>(seat, i, by),
+        Touch::Or(bits) => shared.fetch_or::<StepPlay<J>>(seat, i, bits),
+        Touch::And(bits) => shared.fetch_and::<StepPlay<J>>(seat, i, bits),
+        Touch::Swap(new) => shared.swap::<StepPlay<J>>(seat, i, new),
         Touch::Cas { expect, put } => {
-            shared.compare_exchange::<Happens<J>>(seat, i, expect, put)
+            shared.compare_exchange::<StepPlay<J>>(seat, i, expect, put)
         }
     }
 }
@@ -72,8 +73,8 @@ fn touch_at<J: Moment, P: PendingOp>(
 /// wrote.
 #[inline(always)]
 pub fn touch<P: PendingOp>(
-    shared: &Shared<(), Items, Config, Rule>,
-    seat: &mut Seat<(), Items>,
+    shared: &Shared<(), Knowledge, Config, TableInvariant>,
+    seat: &mut Seat<(), Knowledge>,
     begins: Option<Op>,
     under_way: P,
     hook: Result<(), u16>,
@@ -84,7 +85,7 @@ pub fn touch<P: PendingOp>(
     requires table { seat.old.table_id ≡ shared.now.table_id }
     requires words { shared.now.table_id.words ≡ table_length }
     requires inside { place (next_of (P.as_phase under_way) hook).0 < words_in_all }
-    requires acts { Acts shared.now.key begins (P.as_phase under_way) seat.old.me.0.items }
+    requires acts { OwnNumberMayStep shared.now.key begins (P.as_phase under_way) seat.old.me.0.items }
     ensures table { seat.new.table_id ≡ seat.old.table_id }
     ensures id { seat.new.id ≡ seat.old.id }
     ensures found { found_by touch result ≡ result }
@@ -99,8 +100,8 @@ pub fn touch<P: PendingOp>(
 /// event, and None stands there from then on.
 #[inline(always)]
 pub fn event<P: PendingOp>(
-    shared: &Shared<(), Items, Config, Rule>,
-    seat: &mut Seat<(), Items>,
+    shared: &Shared<(), Knowledge, Config, TableInvariant>,
+    seat: &mut Seat<(), Knowledge>,
     begins: Option<Op>,
     under_way: P,
     hook: Result<(), u16>,
@@ -108,7 +109,7 @@ pub fn event<P: PendingOp>(
     requires table { seat.old.table_id ≡ shared.now.table_id }
     requires words { shared.now.table_id.words ≡ table_length }
     requires inside { place (next_of (P.as_phase under_way) hook).0 < words_in_all }
-    requires acts { Acts shared.now.key begins (P.as_phase under_way) seat.old.me.0.items }
+    requires acts { OwnNumberMayStep shared.now.key begins (P.as_phase under_way) seat.old.me.0.items }
     ensures table { seat.new.table_id ≡ seat.old.table_id }
     ensures id { seat.new.id ≡ seat.old.id }
     ensures is { result ≡ event_of (next_of (P.as_phase under_way) hook).0 (next_of (P.as_phase under_way) hook).1 result.found }
@@ -122,10 +123,10 @@ pub fn event<P: PendingOp>(
 }
 
 fn give_as<J: Given>(
-    shared: &Shared<(), Items, Config, Rule>,
-    seat: &mut Seat<(), Items>,
+    shared: &Shared<(), Knowledge, Config, TableInvariant>,
+    seat: &mut Seat<(), Knowledge>,
     number: u8,
-) -> Seat<(), Items>
+) -> Seat<(), Knowledge>
     requires number { number ≡ J.number }
     requires table { seat.old.table_id ≡ shared.now.table_id }
     requires words { shared.now.table_id.words ≡ table_length }
@@ -140,10 +141,10 @@ fn give_as<J: Given>(
 
 /// A new seat with one of the numbers that the seat has to give. One load.
 pub fn give(
-    shared: &Shared<(), Items, Config, Rule>,
-    seat: &mut Seat<(), Items>,
+    shared: &Shared<(), Knowledge, Config, TableInvariant>,
+    seat: &mut Seat<(), Knowledge>,
     number: u8,
-) -> Seat<(), Items>
+) -> Seat<(), Knowledge>
     requires table { seat.old.table_id ≡ shared.now.table_id }
     requires words { shared.now.table_id.words ≡ table_length }
     requires spare { Spares number seat.old.me.0.items }
@@ -157,9 +158,9 @@ pub fn give(
 
 /// All numbers of the other seat come back. One load.
 pub fn take_back(
-    shared: &Shared<(), Items, Config, Rule>,
-    seat: &mut Seat<(), Items>,
-    other: Seat<(), Items>,
+    shared: &Shared<(), Knowledge, Config, TableInvariant>,
+    seat: &mut Seat<(), Knowledge>,
+    other: Seat<(), Knowledge>,
 )
     requires table { (seat.old.table_id ≡ shared.now.table_id) × (other.table_id ≡ shared.now.table_id) }
     requires words { shared.now.table_id.words ≡ table_length }

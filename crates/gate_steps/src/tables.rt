@@ -8,7 +8,8 @@ ghost use Rattle.gate_world.specs.Configs.{IsWithin};
 ghost use Rattle.gate_steps.specs.Rules.{table_index, table_length, first_known};
 ghost use Rattle.gate_steps.specs.Tables.{IsClosing};
 
-use crate::rule::{Items, Rule};
+use crate::rule::TableInvariant;
+use crate::seating::Knowledge;
 use crate::steps::index_of;
 use atomic_table::{Seat, Table};
 use cpu_words::{STRIDE, WORDS, WordName};
@@ -16,7 +17,7 @@ use gate_world::Config;
 use std::alloc::{AllocError, Global};
 
 /// The table of all words.
-pub type GateTable = Table<(), Items, Config, Rule, Global>;
+pub type GateTable = Table<(), Knowledge, Config, TableInvariant, Global>;
 
 /// What is left of a table that no thread shares any more.
 pub type Closed = atomic_table::Closed<(), Global>;
@@ -31,7 +32,7 @@ pub fn opening_words(alloc: Global) -> Result<Vec<u64>, AllocError>
 }
 
 /// A table of all words as they begin, and one seat: number 0 is its own, and it has all others to give.
-pub fn open(alloc: Global, config: &Config) -> Result<(GateTable, Seat<(), Items>), AllocError>
+pub fn open(alloc: Global, config: &Config) -> Result<(GateTable, Seat<(), Knowledge>), AllocError>
     requires { IsWithin config.now }
     ensures table { IfOk result (λ t.
         (t.0.shared.key ≡ config.now) × (t.0.shared.table_id.words ≡ table_length) × (t.0.shared.table_id.slots ≡ 0)) }
@@ -44,7 +45,7 @@ pub fn open(alloc: Global, config: &Config) -> Result<(GateTable, Seat<(), Items
 
 /// The words of a table that no thread shares any more. They are those of some world that the rule holds of, in which the
 /// numbers of the seat have their views.
-pub fn close(table: GateTable, seat: Seat<(), Items>) -> Closed
+pub fn close(table: GateTable, seat: Seat<(), Knowledge>) -> Closed
     requires { seat.table_id ≡ table.shared.table_id }
     ensures counts { (slots_len result.words ≡ table.shared.table_id.words) × (slots_len result.slots ≡ table.shared.table_id.slots) }
     ensures full { IsFull result.words × IsFull result.slots }

@@ -6,7 +6,7 @@ use std::fmt;
 
 /// How a call ended that takes memory.
 #[derive(Clone, Copy)]
-pub(crate) enum Ending {
+pub(crate) enum CallEnding {
     /// No growth was refused, and it was done.
     Done,
     /// It was refused for lack of memory, had changed nothing, and was done when it was made again.
@@ -15,28 +15,28 @@ pub(crate) enum Ending {
     Wrong,
 }
 
-impl Ending {
-    ghost use Rattle.gate_workbench.specs.declared.ending.Ending.TheVariants.{Done, Wrong};
+impl CallEnding {
+    ghost use Rattle.gate_workbench.specs.declared.ending.CallEnding.TheVariants.{Done, Wrong};
 
     /// How two calls ended, one after the other, of which at most one may have been refused.
-    pub(crate) fn and(self, other: Ending) -> Ending
+    pub(crate) fn and(self, other: CallEnding) -> CallEnding
         ensures first { self ≡ Done → result ≡ other }
         ensures second { other ≡ Done → result ≡ self }
         ensures both { self ≢ Done → other ≢ Done → result ≡ Wrong }
     {
         match (self, other) {
-            (Ending::Done, ending) | (ending, Ending::Done) => ending,
-            _ => Ending::Wrong,
+            (CallEnding::Done, ending) | (ending, CallEnding::Done) => ending,
+            _ => CallEnding::Wrong,
         }
     }
 }
 
-impl fmt::Display for Ending {
+impl fmt::Display for CallEnding {
     fn fmt<W: fmt::Write>(&self, f: &mut fmt::Formatter<W>) -> fmt::Result {
         f.write_str(match self {
-            Ending::Done => "done",
-            Ending::DoneAgain => "done again",
-            Ending::Wrong => "WRONG",
+            CallEnding::Done => "done",
+            CallEnding::DoneAgain => "done again",
+            CallEnding::Wrong => "WRONG",
         })
     }
 }

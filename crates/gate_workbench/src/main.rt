@@ -40,7 +40,7 @@ backup   Runs a backup beside a writer, and prints what both have done
 both     A backup, and then the growths";
 
 /// What the words of a command line ask for.
-enum Asked {
+enum WorkbenchRequest {
     Measure(Measurement),
     Growths,
     Backup,
@@ -63,19 +63,19 @@ fn main(rt: HostRuntime) -> Result<ExitCode> {
 }
 
 /// What these words ask for, the first of which is the program's name.
-fn read_words(words: &[String]) -> Option<Asked> {
+fn read_words(words: &[String]) -> Option<WorkbenchRequest> {
     let [_program, command, others @ ..] = words else {
         return None;
     };
     match (command.as_str(), others) {
         ("measure", [what, size, count]) => {
             let measurement = Measurement::of(what.as_str(), size.as_str(), count.as_str())?;
-            Some(Asked::Measure(measurement))
+            Some(WorkbenchRequest::Measure(measurement))
         }
-        ("growths", []) => Some(Asked::Growths),
-        ("backup", []) => Some(Asked::Backup),
-        ("both", []) => Some(Asked::Both),
-        ("--help", []) => Some(Asked::Help),
+        ("growths", []) => Some(WorkbenchRequest::Growths),
+        ("backup", []) => Some(WorkbenchRequest::Backup),
+        ("both", []) => Some(WorkbenchRequest::Both),
+        ("--help", []) => Some(WorkbenchRequest::Help),
         _ => None,
     }
 }
@@ -84,18 +84,18 @@ fn read_words(words: &[String]) -> Option<Asked> {
 fn answer<R: Threads + Wait + Clock + Print + Sync, I: Read>(
     rt: &R,
     alloc: Global,
-    asked: Asked,
+    asked: WorkbenchRequest,
     input: &mut I,
 ) -> Result<()> {
     match asked {
-        Asked::Measure(measurement) => print_time(rt, alloc, measurement),
-        Asked::Growths => growths::print_endings(rt, alloc, input),
-        Asked::Backup => back_up(rt, alloc),
-        Asked::Both => {
+        WorkbenchRequest::Measure(measurement) => print_time(rt, alloc, measurement),
+        WorkbenchRequest::Growths => growths::print_endings(rt, alloc, input),
+        WorkbenchRequest::Backup => back_up(rt, alloc),
+        WorkbenchRequest::Both => {
             back_up(rt, alloc)?;
             growths::print_endings(rt, alloc, input)
         }
-        Asked::Help => Ok(rt.println(USAGE)?),
+        WorkbenchRequest::Help => Ok(rt.println(USAGE)?),
     }
 }
 

@@ -1,6 +1,6 @@
 //! The model, and the core.
 
-use crate::ending::Ending;
+use crate::ending::CallEnding;
 use access_model::GateError;
 use gate_core::Core;
 use model_state::Model;
@@ -28,18 +28,18 @@ fn try_core(alloc: Global) -> Result<(), GateError> {
     Ok(())
 }
 
-pub(crate) fn make_model(alloc: Global) -> Ending {
+pub(crate) fn make_model(alloc: Global) -> CallEnding {
     match try_model(alloc) {
-        Ok(()) => Ending::Done,
-        Err(GateError::NoMemory) if try_model(alloc).is_ok() => Ending::DoneAgain,
-        Err(_) => Ending::Wrong,
+        Ok(()) => CallEnding::Done,
+        Err(GateError::NoMemory) if try_model(alloc).is_ok() => CallEnding::DoneAgain,
+        Err(_) => CallEnding::Wrong,
     }
 }
 
-pub(crate) fn make_core(alloc: Global) -> Ending {
+pub(crate) fn make_core(alloc: Global) -> CallEnding {
     match try_core(alloc) {
-        Ok(()) => Ending::Done,
-        Err(GateError::NoMemory) if try_core(alloc).is_ok() => Ending::DoneAgain,
-        Err(_) => Ending::Wrong,
+        Ok(()) => CallEnding::Done,
+        Err(GateError::NoMemory) if try_core(alloc).is_ok() => CallEnding::DoneAgain,
+        Err(_) => CallEnding::Wrong,
     }
 }

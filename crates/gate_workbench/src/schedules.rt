@@ -1,6 +1,6 @@
 //! A replay of a schedule.
 
-use crate::ending::Ending;
+use crate::ending::CallEnding;
 use access_model::GateError;
 use line_replays::ReplayFault;
 use line_replays::replay::replay;
@@ -45,13 +45,13 @@ fn is_refused(fault: &ReplayFault) -> bool {
 }
 
 /// A replay. Where a growth is refused, it ends at the line that needs it and has written nothing.
-pub(crate) fn ending_of_replay(alloc: Global, over: Over) -> Ending {
+pub(crate) fn ending_of_replay(alloc: Global, over: Over) -> CallEnding {
     match replayed(alloc, over) {
-        (Ok(()), PRINTED) => Ending::Done,
+        (Ok(()), PRINTED) => CallEnding::Done,
         (Err(fault), NOTHING) if is_refused(&fault) => match replayed(alloc, over) {
-            (Ok(()), PRINTED) => Ending::DoneAgain,
-            _ => Ending::Wrong,
+            (Ok(()), PRINTED) => CallEnding::DoneAgain,
+            _ => CallEnding::Wrong,
         },
-        _ => Ending::Wrong,
+        _ => CallEnding::Wrong,
     }
 }

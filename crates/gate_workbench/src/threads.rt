@@ -1,6 +1,6 @@
 //! A run of tasks in threads.
 
-use crate::ending::Ending;
+use crate::ending::CallEnding;
 use access_model::GateError;
 use gate_runs::{Meeting, run_with};
 use std::alloc::Global;
@@ -32,10 +32,10 @@ fn try_run<R: Threads + Wait + Sync>(
 
 /// The same. Where a growth is refused, the threads that were started have ended: none of their writers does a round while the run is made
 /// again, and each round of it is done.
-pub(crate) fn run<R: Threads + Wait + Sync>(rt: &R, alloc: Global) -> Ending {
+pub(crate) fn run<R: Threads + Wait + Sync>(rt: &R, alloc: Global) -> CallEnding {
     let (first, second) = (AtomicU32::new(0), AtomicU32::new(0));
     match try_run(rt, alloc, &first) {
-        Ok(()) => Ending::Done,
+        Ok(()) => CallEnding::Done,
         Err(GateError::NoMemory) => {
             let done = first.load(Ordering::SeqCst);
             let is_done = try_run(rt, alloc, &second).is_ok();
@@ -43,11 +43,11 @@ pub(crate) fn run<R: Threads + Wait + Sync>(rt: &R, alloc: Global) -> Ending {
                 && first.load(Ordering::SeqCst) == done
                 && second.load(Ordering::SeqCst) == 200
             {
-                Ending::DoneAgain
+                CallEnding::DoneAgain
             } else {
-                Ending::Wrong
+                CallEnding::Wrong
             }
         }
-        Err(_) => Ending::Wrong,
+        Err(_) => CallEnding::Wrong,
     }
 }

@@ -259,14 +259,14 @@ pub record OpClaims : Type 1 where
   -- a refusal has its cause in the trace, and there is no other refusal
   pub IsHonest : Config → GateError → List Traced → Type 0
   -- a reply says what the trace found
-  pub IsTold : Reply → List Traced → Type 0
+  pub ReplyMatchesTrace : Reply → List Traced → Type 0
   -- it may report that it waits after these events
   pub MayWait : Config → List Traced → Type 0
 
 -- actions of an operation that adds nothing where it is refused
-abbrev pub where_done : List Action → Result Reply GateError → List Action
-where_done actions (Ok reply) = actions
-where_done actions (Err refusal) = []
+abbrev pub actions_if_done : List Action → Result Reply GateError → List Action
+actions_if_done actions (Ok reply) = actions
+actions_if_done actions (Err refusal) = []
 
 -- a want is refused as read-only where it found the mount so, and again where it found HOLD and doesn't wait
 abbrev want_honest : ℕ → Bool → GateError → List Traced → Type 0
@@ -400,9 +400,9 @@ IsUnit reply = reply ≡ UnitReply
 abbrev file_claims : ℕ → ℕ → Action → OpClaims
 file_claims file most action = record {
   most_events = λ c. Some most;
-  actions = λ answer trace. where_done (action ∷ []) answer;
+  actions = λ answer trace. actions_if_done (action ∷ []) answer;
   IsHonest = λ c refusal trace. FileHonest (SeenIn trace) file refusal;
-  IsTold = λ reply trace. IsUnit reply;
+  ReplyMatchesTrace = λ reply trace. IsUnit reply;
   MayWait = λ c trace. ⊥;
 }
 
@@ -431,25 +431,25 @@ abbrev pub claims : Op → OpClaims
 -- a want that is granted has added its grant; one that waits has found HOLD, and nothing else since its addition
 claims (Want m p wait) = record {
   most_events = λ c. if wait then None else Some 6;
-  actions = λ answer trace. where_done (Grant (Mount m) ∷ []) answer;
+  actions = λ answer trace. actions_if_done (Grant (Mount m) ∷ []) answer;
   IsHonest = λ c refusal trace. want_honest m wait refusal trace;
-  IsTold = λ reply trace. Unit {0};
+  ReplyMatchesTrace = λ reply trace. Unit {0};
   MayWait = λ c trace. (wait ≡ true) × (looks_again (finds_hold m) trace ≡ true);
 }
 -- a drop has added its return, and is never refused
 claims (DropMount m p) = record {
   most_events = λ c. Some 1;
-  actions = λ answer trace. where_done (Return (Mount m) ∷ []) answer;
+  actions = λ answer trace. actions_if_done (Return (Mount m) ∷ []) answer;
   IsHonest = λ c refusal trace. ⊥;
-  IsTold = λ reply trace. Unit {0};
+  ReplyMatchesTrace = λ reply trace. Unit {0};
   MayWait = λ c trace. ⊥;
 }
 -- one that waits has found `umount` taken, and nothing else
 claims (ChangeMount m read_only wait) = record {
   most_events = λ c. if wait then None else Some (c.processors + 7);
-  actions = λ answer trace. where_done (unless_so read_only (found_read_only m trace) m) answer;
+  actions = λ answer trace. actions_if_done (unless_so read_only (found_read_only m trace) m) answer;
   IsHonest = λ c refusal trace. change_honest c m wait refusal trace;
-  IsTold = λ reply trace. Unit {0};
+  ReplyMatchesTrace = λ reply trace. Unit {0};
   MayWait = λ c trace. (wait ≡ true) × (each_event finds_taken trace ≡ true);
 }
 -- it waits where it has found `umount` taken, and nothing else
@@ -457,23 +457,23 @@ claims (RemountSb read_only) = record {
   most_events = λ c. None;
   actions = λ answer trace. remount_adds read_only answer trace;
   IsHonest = λ c refusal trace. remount_honest c read_only refusal trace;
-  IsTold = λ reply trace. Unit {0};
+  ReplyMatchesTrace = λ reply trace. Unit {0};
   MayWait = λ c trace. each_event finds_taken trace ≡ true;
 }
 -- a start that is granted has added its grant; one that waits has found the level closed, taken its count back and left its section
 claims (Start i p wait) = record {
   most_events = λ c. if wait then None else Some 6;
-  actions = λ answer trace. where_done (Grant (Level i) ∷ []) answer;
+  actions = λ answer trace. actions_if_done (Grant (Level i) ∷ []) answer;
   IsHonest = λ c refusal trace. start_honest i wait refusal trace;
-  IsTold = λ reply trace. Unit {0};
+  ReplyMatchesTrace = λ reply trace. Unit {0};
   MayWait = λ c trace. (wait ≡ true) × (left_closed i trace ≡ true);
 }
 -- an end has added its return, and is never refused
 claims (End i p) = record {
   most_events = λ c. Some 1;
-  actions = λ answer trace. where_done (Return (Level i) ∷ []) answer;
+  actions = λ answer trace. actions_if_done (Return (Level i) ∷ []) answer;
   IsHonest = λ c refusal trace. ⊥;
-  IsTold = λ reply trace. Unit {0};
+  ReplyMatchesTrace = λ reply trace. Unit {0};
   MayWait = λ c trace. ⊥;
 }
 -- it waits for level 1 as a start does, and then for the mount as a want does
@@ -481,15 +481,15 @@ claims (WantWrite m p) = record {
   most_events = λ c. None;
   actions = λ answer trace. write_adds m answer;
   IsHonest = λ c refusal trace. write_honest m refusal trace;
-  IsTold = λ reply trace. Unit {0};
+  ReplyMatchesTrace = λ reply trace. Unit {0};
   MayWait = λ c trace. (left_closed 1 trace ≡ true) ⊎ (holds_since m trace ≡ true);
 }
 -- a return of write access has added both returns, and is never refused
 claims (DropWrite m p) = record {
   most_events = λ c. Some 2;
-  actions = λ answer trace. where_done (Return (Level 1) ∷ (Return (Mount m) ∷ [])) answer;
+  actions = λ answer trace. actions_if_done (Return (Level 1) ∷ (Return (Mount m) ∷ [])) answer;
   IsHonest = λ c refusal trace. ⊥;
-  IsTold = λ reply trace. Unit {0};
+  ReplyMatchesTrace = λ reply trace. Unit {0};
   MayWait = λ c trace. ⊥;
 }
 -- a callback adds no action and is never refused; it waits where it found a task inside a section
@@ -497,7 +497,7 @@ claims (Callback i) = record {
   most_events = λ c. None;
   actions = λ answer trace. [];
   IsHonest = λ c refusal trace. ⊥;
-  IsTold = λ reply trace. callback_told i reply trace;
+  ReplyMatchesTrace = λ reply trace. callback_told i reply trace;
   MayWait = λ c trace. newest finds_inside trace ≡ true;
 }
 -- it waits where it found `umount` taken, readers or a writer at the level that it closes, or all counts of a level with a sum other than 0
@@ -505,7 +505,7 @@ claims (FreezeOp holder) = record {
   most_events = λ c. None;
   actions = λ answer trace. freeze_adds holder answer trace;
   IsHonest = λ c refusal trace. freeze_honest holder refusal trace;
-  IsTold = λ reply trace. Unit {0};
+  ReplyMatchesTrace = λ reply trace. Unit {0};
   MayWait = λ c trace. (newest finds_taken trace ≡ true) ⊎ ((newest finds_readers trace ≡ true) ⊎ FoundInside c.processors trace);
 }
 -- it waits where it has found `umount` taken, and nothing else
@@ -513,7 +513,7 @@ claims (ThawOp holder) = record {
   most_events = λ c. None;
   actions = λ answer trace. thaw_adds holder answer trace;
   IsHonest = λ c refusal trace. thaw_honest holder refusal trace;
-  IsTold = λ reply trace. Unit {0};
+  ReplyMatchesTrace = λ reply trace. Unit {0};
   MayWait = λ c trace. each_event finds_taken trace ≡ true;
 }
 -- A create is refused where it found its directory free or a file, all nodes taken, or its node taken meanwhile.
@@ -521,24 +521,24 @@ claims (CreateOp d kind) = record {
   most_events = λ c. Some (c.nodes + 3);
   actions = λ answer trace. create_adds d kind answer;
   IsHonest = λ c refusal trace. CreateHonest (SeenIn trace) (first_create c d kind) refusal;
-  IsTold = λ reply trace. IsNodeReply reply;
+  ReplyMatchesTrace = λ reply trace. IsNodeReply reply;
   MayWait = λ c trace. ⊥;
 }
 claims (RemoveOp file) = file_claims file 4 (RemoveAction file)
 -- a grow is refused also where it found no room for its blocks
 claims (GrowOp file blocks) = record {
   most_events = λ c. Some 5;
-  actions = λ answer trace. where_done (GrowAction file blocks ∷ []) answer;
+  actions = λ answer trace. actions_if_done (GrowAction file blocks ∷ []) answer;
   IsHonest = λ c refusal trace. GrowHonest (SeenIn trace) (first_grow c file blocks) refusal;
-  IsTold = λ reply trace. IsUnit reply;
+  ReplyMatchesTrace = λ reply trace. IsUnit reply;
   MayWait = λ c trace. ⊥;
 }
 -- a move also where it found its directory free or a file
 claims (MoveToOp file dir) = record {
   most_events = λ c. Some 5;
-  actions = λ answer trace. where_done (MoveToAction file dir ∷ []) answer;
+  actions = λ answer trace. actions_if_done (MoveToAction file dir ∷ []) answer;
   IsHonest = λ c refusal trace. MoveHonest (SeenIn trace) (first_move file dir) refusal;
-  IsTold = λ reply trace. IsUnit reply;
+  ReplyMatchesTrace = λ reply trace. IsUnit reply;
   MayWait = λ c trace. ⊥;
 }
 claims (FaultOp file) = mark_claims true file
@@ -549,7 +549,7 @@ claims (CloseOp file p wait) = record {
   most_events = λ c. if wait then None else Some 10;
   actions = λ answer trace. close_adds file answer trace;
   IsHonest = λ c refusal trace. close_honest file wait refusal trace;
-  IsTold = λ reply trace. IsUnit reply;
+  ReplyMatchesTrace = λ reply trace. IsUnit reply;
   MayWait = λ c trace. (wait ≡ true) × (left_closed 3 trace ≡ true);
 }
 -- A snapshot has added nothing, and answers a tree. It is refused where it found `umount` taken and doesn't wait, or a stage other than 4;
@@ -558,6 +558,6 @@ claims (SnapshotOp wait) = record {
   most_events = λ c. snapshot_most wait c.nodes;
   actions = λ answer trace. [];
   IsHonest = λ c refusal trace. SnapshotHonest (SeenIn trace) (first_snapshot c 0 wait) refusal;
-  IsTold = λ reply trace. reply ≡ TreeReply;
+  ReplyMatchesTrace = λ reply trace. reply ≡ TreeReply;
   MayWait = λ c trace. (wait ≡ true) × (each_event finds_taken trace ≡ true);
 }

@@ -76,15 +76,15 @@ view_with v next value hook after = record {
 
 -- the view after the next event of a phase, on a word that held this value, where each other number of its task has done so many
 -- actions: a snapshot that the event completes notes them
-abbrev pub view_after_beside : List (ℕ × ℕ) → View → Phase → ℕ → HookAnswer → View
-view_after_beside others v phase value hook =
+abbrev pub view_after_with_others : List (ℕ × ℕ) → View → Phase → ℕ → HookAnswer → View
+view_after_with_others others v phase value hook =
     record (view_with v (next_of phase hook) value hook (after_of phase (found_by (next_of phase hook).1 value) hook)) {
       snapshot = last_snapshot (completes phase v.trace (found_by (next_of phase hook).1 value)) v.actions others v.snapshot;
     }
 
 -- the same, where its task has no other number
 abbrev pub view_after : View → Phase → ℕ → HookAnswer → View
-view_after v phase value hook = view_after_beside [] v phase value hook
+view_after v phase value hook = view_after_with_others [] v phase value hook
 
 -- it holds what it held when its operation began
 abbrev pub HoldsAsBefore : View → Type 0

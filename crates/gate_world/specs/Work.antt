@@ -41,12 +41,12 @@ after_of (Trees phase) found hook = (map_next Trees (tree_after phase found hook
 after_of (Closes phase) found hook = (map_next Closes (close_after phase found).0, (close_after phase found).1)
 
 -- the phase of its own gate at which a taking or a return of write access stands
-abbrev pub plain : WritePhase → Phase
-plain (Takes m r) = DownReads r
-plain (Wants x) = Mounts (PlainWant x)
-plain (GivesBack m p refusal) = UpReads (leaves_on p)
-plain (Drops m p) = Mounts (PlainDrop m p)
-plain (Ends p) = UpReads (leaves_on p)
+abbrev pub inner_phase : WritePhase → Phase
+inner_phase (Takes m r) = DownReads r
+inner_phase (Wants x) = Mounts (PlainWant x)
+inner_phase (GivesBack m p refusal) = UpReads (leaves_on p)
+inner_phase (Drops m p) = Mounts (PlainDrop m p)
+inner_phase (Ends p) = UpReads (leaves_on p)
 
 -- the hook whose answer the next event reads: any other event is the same whatever a hook answers
 abbrev pub hook_of : Phase → Option HookKind

@@ -3,7 +3,7 @@ use Rattle.std.specs.Prelude.{ℕ, nat_lt, if◌then◌else◌, Option, Some, No
 use Rattle.finite_sums.specs.Sums.{update}
 use Rattle.access_model.specs.{Histories.Done, declared.{actions.Action.Action, errors.GateError.{GateError, TheVariants.Invalid}}}
 use Rattle.cpu_words.specs.{Hooks.HookAnswer, Touches.{left, found_by}, Words.{Words, read, put, opening_words}}
-use Rattle.gate_world.specs.{Beginnings.{first_phase, view_refusal}, Views.{opening_view, view_after_beside, begun_view}, Work.{next_of, after_of}}
+use Rattle.gate_world.specs.{Beginnings.{first_phase, view_refusal}, Views.{opening_view, view_after_with_others, begun_view}, Work.{next_of, after_of}}
 use Rattle.gate_world.specs.declared.entries.Entry.{Entry, TheVariants.{Begins, Steps}}
 use Rattle.gate_world.specs.declared.{config.Config.Config, operations.Op.Op, views.View.View, work.Phase.Phase}
 
@@ -33,15 +33,15 @@ abbrev pub found_at : Words → Phase → HookAnswer → ℕ
 found_at w phase hook = found_by (next_of phase hook).1 (value_at w phase hook)
 
 -- the world after the next event of a number that is at this phase, where each other number of its task has done so many actions
-abbrev pub after_step_beside : List (ℕ × ℕ) → World → ℕ → Phase → HookAnswer → World
-after_step_beside others w t phase hook = record {
+abbrev pub after_step_with_others : List (ℕ × ℕ) → World → ℕ → Phase → HookAnswer → World
+after_step_with_others others w t phase hook = record {
   words = words_after w.words phase hook;
-  views = update w.views t (view_after_beside others (w.views t) phase (value_at w.words phase hook) hook);
+  views = update w.views t (view_after_with_others others (w.views t) phase (value_at w.words phase hook) hook);
 }
 
 -- the same of a task that has no other number, as each task of a schedule
 abbrev pub after_step : World → ℕ → Phase → HookAnswer → World
-after_step w t phase hook = after_step_beside [] w t phase hook
+after_step w t phase hook = after_step_with_others [] w t phase hook
 
 -- the same of what a task is at: an idle task does nothing
 abbrev pub step_of : World → ℕ → HookAnswer → Option Phase → World

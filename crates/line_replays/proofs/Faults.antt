@@ -17,7 +17,7 @@ use Rattle.schedule_text.specs.Commands.{verb_of, takes}
 use Rattle.schedule_lines.specs.Numbers.{is_digits}
 use Rattle.transcripts.specs.Limits.{is_config}
 use Rattle.line_replays.specs.Replayed.{IsTranscript, EndsWhole, EndsBy}
-use Rattle.transcripts.specs.Transcript.{Play, line_effect, config_effect}
+use Rattle.transcripts.specs.Transcript.{ReplayState, line_effect, config_effect}
 use Rattle.gate_world.specs.declared.config.Config.{Config}
 
 -- whether a fault is the schedule's own
@@ -315,7 +315,7 @@ expected : (fault : Fault) → Some ConfigExpected ≡ Some fault → is_own fau
 expected fault e = let is : ConfigExpected ≡ fault = cc in subst (λ (f : Fault). is_own f ≡ true) is refl
 
 -- the fault of a line that is understood and refused, which prints nothing
-pub fault_of_effect : (p : Option Play) (line : Line) (fault : Fault) → (line_effect p line).fault ≡ Some fault →
+pub fault_of_effect : (p : Option ReplayState) (line : Line) (fault : Fault) → (line_effect p line).fault ≡ Some fault →
     ((line_effect p line).printed ≡ []) × (is_own fault ≡ true)
 fault_of_effect p Skipped fault e = cc
 fault_of_effect p (ConfigLine c) fault e = config_fault c (is_config c) fault e

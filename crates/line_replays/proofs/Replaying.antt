@@ -16,8 +16,8 @@ use Rattle.schedule_lines.specs.Lines.{is_newline, front_of}
 use Rattle.schedule_text.specs.Parsing.{parsed}
 use Rattle.schedule_lines.specs.bytes.Reading.{ReadsOn}
 use Rattle.line_replays.specs.Replayed.{IsFront, MayGoOn, PrintsBefore, EndsWhole, EndsBy, Reports, Replayed}
-use Rattle.transcripts.specs.Transcript.{Play, Transcript, stops, ends, ends_or, then_prints, tasks_of, line_effect, transcript_from, transcript}
-use Rattle.line_replays.specs.Replaying.{GoesOn, Stops}
+use Rattle.transcripts.specs.Transcript.{ReplayState, Transcript, stops, ends, ends_or, then_prints, tasks_of, line_effect, transcript_from, transcript}
+use Rattle.line_replays.specs.Replaying.{ReplayUnderWay, Stops}
 use Rattle.schedule_lines.specs.bytes.Writing.{AppendsPart}
 use Rattle.schedule_lines.specs.declared.bytes.replay_faults.ReplayFault.{ReplayFault}
 use Rattle.line_replays.proofs.Faults.{is_own, ends_by_own, ends_whole, fault_of_parsed, fault_of_effect}
@@ -82,7 +82,7 @@ line_left done h = omega arith
 -- ---- on the way
 
 -- nothing is done yet
-pub opens : (input held : Option (List ℕ)) → GoesOn input held 0 [] input [] held None
+pub opens : (input held : Option (List ℕ)) → ReplayUnderWay input held 0 [] input [] held None
 unfolding transcript
 opens input held = record {
   whole = [];
@@ -93,8 +93,8 @@ opens input held = record {
   prints = λ more. refl;
 }
 
-module _ {input held left holds : Option (List ℕ)} {done : ℕ} {pending printed : List ℕ} {play : Option Play}
-    (way : GoesOn input held done pending left printed holds play) where
+module _ {input held left holds : Option (List ℕ)} {done : ℕ} {pending printed : List ℕ} {play : Option ReplayState}
+    (way : ReplayUnderWay input held done pending left printed holds play) where
   -- what follows after so many lines
   abbrev rest : List ℕ → Transcript
   rest bytes = transcript_from (1048576 - done) done play bytes
@@ -109,14 +109,14 @@ module _ {input held left holds : Option (List ℕ)} {done : ℕ} {pending print
 
   -- the same bytes in other places
   pub same : (pending_after printed_after : List ℕ) → pending_after ≡ pending → printed_after ≡ printed →
-      GoesOn input held done pending_after left printed_after holds play
+      ReplayUnderWay input held done pending_after left printed_after holds play
   same pending_after printed_after a b =
-      subst (λ (x : List ℕ). GoesOn input held done x left printed_after holds play) (sym a)
-      (subst (λ (x : List ℕ). GoesOn input held done pending left x holds play) (sym b) way)
+      subst (λ (x : List ℕ). ReplayUnderWay input held done x left printed_after holds play) (sym a)
+      (subst (λ (x : List ℕ). ReplayUnderWay input held done pending left x holds play) (sym b) way)
 
   -- more is read
   pub reads_on : (left_after : Option (List ℕ)) (pending_after : List ℕ) (count : ℕ) →
-      ReadsOn left left_after pending pending_after count → GoesOn input held done pending_after left_after printed holds play
+      ReadsOn left left_after pending pending_after count → ReplayUnderWay input held done pending_after left_after printed holds play
   reads_on left_after pending_after count reads =
       let grown : taken ++ reads.more ≡ way.whole ++ pending_after =
       append_assoc way.whole pending reads.more ∙ ap (λ (l : List ℕ). way.whole ++ l) (sym reads.grown) in
@@ -132,7 +132,7 @@ module _ {input held left holds : Option (List ℕ)} {done : ℕ} {pending print
 
   -- what was printed is written
   pub writes_out : (holds_after : Option (List ℕ)) → Appends holds holds_after printed →
-      GoesOn input held done pending left [] holds_after play
+      ReplayUnderWay input held done pending left [] holds_after play
   writes_out holds_after writes = record {
     whole = way.whole;
     written = all_printed;
@@ -216,7 +216,7 @@ module _ {input held left holds : Option (List ℕ)} {done : ℕ} {pending print
       long_fault (1048576 - (done + 1)) done play (pending ++ more) (too_long_stays pending more front))
 
   -- bytes with no line that may follow
-  some_left : (fault : Fault) (p : Option Play) (bytes : List ℕ) → 0 < length bytes → ends_or done p fault bytes ≡ stops done fault
+  some_left : (fault : Fault) (p : Option ReplayState) (bytes : List ℕ) → 0 < length bytes → ends_or done p fault bytes ≡ stops done fault
   some_left fault p [] some = absurd (omega arith)
   some_left fault p (byte ∷ others) some = refl
 
@@ -252,7 +252,7 @@ module _ {input held left holds : Option (List ℕ)} {done : ℕ} {pending print
       stops_by ConfigExpected refl (λ (more : List ℕ) e. all_read more none end e ∙ ap (ends done) without)
 
   -- with a play the end of the input is no fault
-  ends_well : (p : Option Play) → IsSome p → ends done p ≡ record { printed = []; fault = None }
+  ends_well : (p : Option ReplayState) → IsSome p → ends done p ≡ record { printed = []; fault = None }
   ends_well None some = cc
   ends_well (Some p) some = refl
 
@@ -409,7 +409,7 @@ module _ {input held left holds : Option (List ℕ)} {done : ℕ} {pending print
       -- the line is done
       pub line_done : (pending_after printed_after : List ℕ) → pending_after ≡ drop (n + 1) pending →
           printed_after ≡ printed ++ (line_effect play line).printed → (line_effect play line).fault ≡ None →
-          GoesOn input held (done + 1) pending_after left printed_after holds (line_effect play line).play
+          ReplayUnderWay input held (done + 1) pending_after left printed_after holds (line_effect play line).play
       line_done pending_after printed_after left_over more none =
           let e = line_effect play line in
           let whole : taken ≡ (way.whole ++ first) ++ pending_after =

@@ -3,12 +3,12 @@ use Rattle.std.specs.Prelude.{◌≡◌, ℕ, Bool, true, List, [], Option, None
 use Rattle.std.specs.Io.KnownBytes.{IsAtEnd}
 use Rattle.transcripts.specs.Sessions.{Showing, ShowsPlayIfAny}
 use Rattle.schedule_lines.specs.bytes.Pending.{pending}
-use Rattle.line_replays.specs.Replaying.{GoesOn}
-use Rattle.transcripts.specs.Transcript.{Play}
+use Rattle.line_replays.specs.Replaying.{ReplayUnderWay}
+use Rattle.transcripts.specs.Transcript.{ReplayState}
 use Rattle.line_replays.specs.declared.line_replay.LineReplay.{LineReplay}
 
 -- it is known what its gates show, and its session shows this play, where there is one
-pub record ReplayShows {D : Type 0} (is_known : Bool) (shows : Showing D) (replay : LineReplay D) (play : Option Play)
+pub record ReplayShows {D : Type 0} (is_known : Bool) (shows : Showing D) (replay : LineReplay D) (play : Option ReplayState)
     : Type 0 where
   pub known : is_known ≡ true
   pub session : ShowsPlayIfAny shows replay.session play
@@ -16,8 +16,8 @@ pub record ReplayShows {D : Type 0} (is_known : Bool) (shows : Showing D) (repla
 -- It is under way after so many lines, where its reader has this left and its writer holds this, and shows the play.
 pub record ReplayGoesOn {D : Type 0} (is_known : Bool) (gates_show : Showing D) (input held : Option (List ℕ)) (done : ℕ)
     (replay : LineReplay D) (left holds : Option (List ℕ)) : Type 0 where
-  pub play : Option Play
-  pub way : GoesOn input held done (pending replay.input) left replay.output.bytes.items holds play
+  pub play : Option ReplayState
+  pub way : ReplayUnderWay input held done (pending replay.input) left replay.output.bytes.items holds play
   pub shows : ReplayShows is_known gates_show replay play
 
 -- nothing was read or printed yet

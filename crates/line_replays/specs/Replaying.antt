@@ -5,12 +5,12 @@ use Rattle.schedule_lines.specs.Lines.{is_newline}
 use Rattle.schedule_lines.specs.declared.faults.Fault.{Fault}
 use Rattle.schedule_lines.specs.declared.faults.Fault.TheVariants.{WriteFailed}
 use Rattle.line_replays.specs.Replayed.{IsFront, EndsBy}
-use Rattle.transcripts.specs.Transcript.{Play, transcript, transcript_from, then_prints}
+use Rattle.transcripts.specs.Transcript.{ReplayState, transcript, transcript_from, then_prints}
 
 -- After so many lines, at this play: they and what is pending were read, and whatever follows them, the transcript of all is what was
 -- printed so far, and then that of what follows.
-pub record GoesOn (input held : Option (List ℕ)) (done : ℕ) (pending : List ℕ) (left : Option (List ℕ)) (printed : List ℕ)
-    (holds : Option (List ℕ)) (play : Option Play) : Type 0 where
+pub record ReplayUnderWay (input held : Option (List ℕ)) (done : ℕ) (pending : List ℕ) (left : Option (List ℕ)) (printed : List ℕ)
+    (holds : Option (List ℕ)) (play : Option ReplayState) : Type 0 where
   pub whole : List ℕ
   pub written : List ℕ
   pub reads : Consumes input left (whole ++ pending)

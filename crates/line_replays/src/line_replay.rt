@@ -13,7 +13,7 @@ ghost use Rattle.transcripts.specs.Limits.{IsLineNumber};
 ghost use Rattle.schedule_lines.specs.bytes.Pending.{pending, pending_count};
 ghost use Rattle.line_replays.specs.Replayed.{Replayed};
 ghost use Rattle.line_replays.specs.Replaying.{Stops};
-ghost use Rattle.transcripts.specs.Transcript.{Play, line_effect, tasks_of};
+ghost use Rattle.transcripts.specs.Transcript.{ReplayState, line_effect, tasks_of};
 ghost use Rattle.schedule_lines.specs.bytes.Writing.{AppendsPart};
 
 use gate_schedules::Driver;
@@ -198,7 +198,7 @@ impl<D: Driver> LineReplay<D> {
 
     /// How many tasks there are, once there is a configuration.
     pub fn tasks(&self) -> Option<u8>
-        ensures { (p : Option Play) → ShowsPlayIfAny D.shows self.now.session p → result ≡ tasks_of p }
+        ensures { (p : Option ReplayState) → ShowsPlayIfAny D.shows self.now.session p → result ≡ tasks_of p }
     {
         self.session.as_ref().map(|session| session.tasks())
     }
@@ -222,12 +222,12 @@ impl<D: Driver> LineReplay<D> {
 
     /// Does what a line asks for. Where it fails, nothing of it is printed.
     fn do_parsed(&mut self, line: Line) -> Result<(), Fault>
-        ensures prints { (p : Option Play) → ReplayShows D.is_known D.shows self.old p →
+        ensures prints { (p : Option ReplayState) → ReplayShows D.is_known D.shows self.old p →
             OnOk result (self.new.output.bytes.items ≡ self.old.output.bytes.items ++ (line_effect p line).printed) }
-        ensures shows { (p : Option Play) → ReplayShows D.is_known D.shows self.old p →
+        ensures shows { (p : Option ReplayState) → ReplayShows D.is_known D.shows self.old p →
             OnOk result (ReplayShows D.is_known D.shows self.new (line_effect p line).play) }
-        ensures done { (p : Option Play) → ReplayShows D.is_known D.shows self.old p → OnOk result ((line_effect p line).fault ≡ None) }
-        ensures fault { (p : Option Play) → ReplayShows D.is_known D.shows self.old p →
+        ensures done { (p : Option ReplayState) → ReplayShows D.is_known D.shows self.old p → OnOk result ((line_effect p line).fault ≡ None) }
+        ensures fault { (p : Option ReplayState) → ReplayShows D.is_known D.shows self.old p →
             IfErr result (λ fault. (fault ≡ Refused NoMemory) ⊎ ((line_effect p line).fault ≡ Some fault)) }
         ensures kept { OnErr result (self.new.output.bytes.items ≡ self.old.output.bytes.items) }
         ensures input { self.new.input ≡ self.old.input }
@@ -244,13 +244,13 @@ impl<D: Driver> LineReplay<D> {
 
     /// Does what is asked of the gates, once they are set up.
     fn do_request(&mut self, request: Request) -> Result<(), Fault>
-        ensures prints { (p : Option Play) → ReplayShows D.is_known D.shows self.old p →
+        ensures prints { (p : Option ReplayState) → ReplayShows D.is_known D.shows self.old p →
             OnOk result (self.new.output.bytes.items ≡ self.old.output.bytes.items ++ (line_effect p (RequestLine request)).printed) }
-        ensures shows { (p : Option Play) → ReplayShows D.is_known D.shows self.old p →
+        ensures shows { (p : Option ReplayState) → ReplayShows D.is_known D.shows self.old p →
             OnOk result (ReplayShows D.is_known D.shows self.new (line_effect p (RequestLine request)).play) }
-        ensures done { (p : Option Play) → ReplayShows D.is_known D.shows self.old p →
+        ensures done { (p : Option ReplayState) → ReplayShows D.is_known D.shows self.old p →
             OnOk result ((line_effect p (RequestLine request)).fault ≡ None) }
-        ensures fault { (p : Option Play) → ReplayShows D.is_known D.shows self.old p →
+        ensures fault { (p : Option ReplayState) → ReplayShows D.is_known D.shows self.old p →
             IfErr result (λ fault. (fault ≡ Refused NoMemory) ⊎ ((line_effect p (RequestLine request)).fault ≡ Some fault)) }
         ensures kept { OnErr result (self.new.output.bytes.items ≡ self.old.output.bytes.items) }
         ensures input { self.new.input ≡ self.old.input }

@@ -3,16 +3,16 @@ use Rattle.std.proofs.Common.{◌≡◌, ◌⊎◌, inl, inr, refl, sym, ap, sub
 use Rattle.std.specs.Borrow.{Bor}
 use mathlib.Core.Bool.{true≢false}
 use Rattle.command_line.specs.CommandLine.{IsPlainOfInput}
-use Rattle.command_line.specs.declared.words.Asked.{Asked}
-use Rattle.command_line.specs.declared.words.Asked.TheVariants as ask
+use Rattle.command_line.specs.declared.words.ProgramRequest.{ProgramRequest}
+use Rattle.command_line.specs.declared.words.ProgramRequest.TheVariants as ask
 use Rattle.command_line.specs.declared.words.Form.{Form}
 use Rattle.command_line.specs.declared.words.Form.TheVariants.{Plain, Events, Columns, Json, Html}
-use Rattle.command_line.specs.declared.words.Listing.TheVariants.{Text}
+use Rattle.command_line.specs.declared.words.OutcomeForm.TheVariants.{Text}
 use Rattle.command_line.specs.declared.words.Numbers.{Numbers}
 use Rattle.command_line.specs.declared.words.Outcomes.{Outcomes}
 use Rattle.exit_status.specs.Endings.{of_file}
-use Rattle.exit_status.specs.declared.ends.Ending.{Ending}
-use Rattle.exit_status.specs.declared.ends.Ending.TheVariants.{Done, DoneOfFile, DoneOverGates, Shown, Passed, Blessed, Listed, Ran, Told, Refused, Misused}
+use Rattle.exit_status.specs.declared.ends.ProgramEnding.{ProgramEnding}
+use Rattle.exit_status.specs.declared.ends.ProgramEnding.TheVariants.{Done, DoneOfFile, DoneOverGates, Shown, Passed, Blessed, Listed, Ran, Told, Refused, Misused}
 use Rattle.program_races.specs.Checks.{TellsPassed, count_checked}
 use Rattle.program_replay.specs.Replays.{EndsReplayed, done_in, done_of, ending_of}
 use Rattle.program_races.specs.Outcomes.{EndsTold}
@@ -21,7 +21,7 @@ use Rattle.schedule_lines.specs.declared.bytes.replay_faults.ReplayFault.{Replay
 use Rattle.line_replays.specs.Replayed.{Replayed}
 
 -- a file's replay never ends with `Done`
-never_of_file : (ending : Ending) → of_file ending ≡ Done → ⊥
+never_of_file : (ending : ProgramEnding) → of_file ending ≡ Done → ⊥
 never_of_file Done e = cc
 never_of_file DoneOfFile e = cc
 never_of_file DoneOverGates e = cc
@@ -50,7 +50,7 @@ of_input None form over_gates e = let plain = plainly form over_gates e in (plai
 of_input (Some file) form over_gates e = absurd (never_of_file (done_in form over_gates) e)
 
 -- what a replay ends with that was done
-abbrev is_of_replay : Ending → Bool
+abbrev is_of_replay : ProgramEnding → Bool
 is_of_replay Done = true
 is_of_replay DoneOfFile = true
 is_of_replay DoneOverGates = true
@@ -72,26 +72,26 @@ replay_done (Some file) Json over_gates = refl
 replay_done (Some file) Html over_gates = refl
 
 -- what outcomes end with, and whatever is refused
-abbrev is_of_outcomes : Ending → Bool
+abbrev is_of_outcomes : ProgramEnding → Bool
 is_of_outcomes Listed = true
 is_of_outcomes Refused = true
 is_of_outcomes ending = false
 
-outcomes_end : (ending : Ending) → (ending ≡ Listed) ⊎ (ending ≡ Refused) → is_of_outcomes ending ≡ true
+outcomes_end : (ending : ProgramEnding) → (ending ≡ Listed) ⊎ (ending ≡ Refused) → is_of_outcomes ending ≡ true
 outcomes_end ending (inl e) = ap is_of_outcomes e
 outcomes_end ending (inr e) = ap is_of_outcomes e
 
 -- how it ends where outcomes were asked for, unless memory was refused
-pub outcomes_ended : {E : Type 0} (asked : Asked) (race : Outcomes) (input left held holds : Option (List ℕ)) (r : Result Ending E) →
+pub outcomes_ended : {E : Type 0} (asked : ProgramRequest) (race : Outcomes) (input left held holds : Option (List ℕ)) (r : Result ProgramEnding E) →
     asked ≡ ask.Outcomes race → IfOk r (λ ending. (ending ≡ Listed) ⊎ (ending ≡ Refused)) →
     (race.form ≡ Text → race.ends ≡ false → IfOk r (EndsTold race input held holds)) → IfOk r (EndsAsked asked input left held holds)
 outcomes_ended asked race input left held holds (Ok ending) is ends told =
     let ended : EndsOutcomes race input held holds ending = record { ends = ends; told = told } in
-    subst (λ (a : Asked). EndsAsked a input left held holds ending) (sym is) ended
+    subst (λ (a : ProgramRequest). EndsAsked a input left held holds ending) (sym is) ended
 outcomes_ended asked race input left held holds (Err refused) is ends told = tt
 
 -- what ends so ends with none that is otherwise
-otherwise : (is : Ending → Bool) (ending other : Ending) → is ending ≡ true → is other ≡ false → ending ≡ other → ⊥
+otherwise : (is : ProgramEnding → Bool) (ending other : ProgramEnding) → is ending ≡ true → is other ≡ false → ending ≡ other → ⊥
 otherwise is ending other so not same = true≢false (sym so ∙ ap is same ∙ not)
 
 -- one at least is checked
@@ -106,7 +106,7 @@ answered (Err fault) e = cc
 
 module _ (input left held holds : Option (List ℕ)) where
   -- who ends with `Done` was asked for a plain replay of standard input
-  pub done_plainly : (asked : Asked) (ending : Ending) → EndsAsked asked input left held holds ending → ending ≡ Done → IsPlainOfInput asked
+  pub done_plainly : (asked : ProgramRequest) (ending : ProgramEnding) → EndsAsked asked input left held holds ending → ending ≡ Done → IsPlainOfInput asked
   done_plainly (ask.Replay r) ending ends done = elim ends.ends [
     | inl e ↦ (let plain = of_input r.file r.form r.over_gates (sym e ∙ done) in
         record { replay = r; is = refl; plain = record { form = plain.0; core = plain.1 }; of_input = plain.2 })
@@ -126,7 +126,7 @@ module _ (input left held holds : Option (List ℕ)) where
   done_plainly ask.Misused ending e done = cc
 
   -- who ends with `Passed` was asked for checks, and tells of one at least that it passed
-  pub passes : (asked : Asked) (ending : Ending) → EndsAsked asked input left held holds ending → ending ≡ Passed → TellsSomePassed held holds
+  pub passes : (asked : ProgramRequest) (ending : ProgramEnding) → EndsAsked asked input left held holds ending → ending ≡ Passed → TellsSomePassed held holds
   passes (ask.Replay r) ending ends passed = elim ends.ends [
     | inl e ↦ absurd (otherwise is_of_replay ending Passed (ap is_of_replay e ∙ replay_done r.file r.form r.over_gates) refl passed)
     | inr e ↦ cc
@@ -145,7 +145,7 @@ module _ (input left held holds : Option (List ℕ)) where
   passes ask.Misused ending e passed = cc
 
   -- who ends with `Ran` was asked for a run, which ended so
-  pub ran : {P : Type 0} (asked : Asked) (ending : Ending) → ((numbers : Numbers) → EndsRun numbers ending → P) →
+  pub ran : {P : Type 0} (asked : ProgramRequest) (ending : ProgramEnding) → ((numbers : Numbers) → EndsRun numbers ending → P) →
       EndsAsked asked input left held holds ending → ending ≡ Ran → P
   ran (ask.Replay r) ending by ends is = elim ends.ends [
     | inl e ↦ absurd (otherwise is_of_replay ending Ran (ap is_of_replay e ∙ replay_done r.file r.form r.over_gates) refl is)
@@ -165,13 +165,13 @@ module _ (input left held holds : Option (List ℕ)) where
   ran ask.Misused ending by e is = cc
 
   -- a plain replay of standard input is one
-  pub replays : (asked : Asked) → IsPlainOfInput asked → (ending : Ending) → EndsAsked asked input left held holds ending →
+  pub replays : (asked : ProgramRequest) → IsPlainOfInput asked → (ending : ProgramEnding) → EndsAsked asked input left held holds ending →
       EndsReplayed input left held holds ending
   replays asked p ending ends =
-      (subst (λ (a : Asked). EndsAsked a input left held holds ending) p.is ends).plain p.plain p.of_input
+      (subst (λ (a : ProgramRequest). EndsAsked a input left held holds ending) p.is ends).plain p.plain p.of_input
 
   -- what ends with `Done` was a replay that ended well
-  pub replayed : (asked : Asked) (ending : Ending) → EndsAsked asked input left held holds ending → ending ≡ Done →
+  pub replayed : (asked : ProgramRequest) (ending : ProgramEnding) → EndsAsked asked input left held holds ending → ending ≡ Done →
       Replayed input left held holds (Ok tt)
   replayed asked ending ends done =
       let replay = replays asked (done_plainly asked ending ends done) ending ends in

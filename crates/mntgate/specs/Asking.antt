@@ -5,20 +5,20 @@ use Rattle.program_replay.specs.Replays.{EndsReplayed, EndsReplayedFile, EndsRep
 use Rattle.program_races.specs.Checks.{TellsPassed, count_checked}
 use Rattle.program_races.specs.Outcomes.{EndsTold}
 use Rattle.command_line.specs.CommandLine.{IsPlain}
-use Rattle.command_line.specs.declared.words.Listing.TheVariants.{Text}
+use Rattle.command_line.specs.declared.words.OutcomeForm.TheVariants.{Text}
 use Rattle.command_line.specs.declared.words.Numbers.{Numbers}
 use Rattle.command_line.specs.declared.words.Outcomes.{Outcomes}
 use Rattle.command_line.specs.declared.words.Replay.{Replay}
-use Rattle.command_line.specs.declared.words.Asked.{Asked}
-use Rattle.command_line.specs.declared.words.Asked.TheVariants as ask
-use Rattle.exit_status.specs.declared.ends.Ending.{Ending}
-use Rattle.exit_status.specs.declared.ends.Ending.TheVariants.{Listed, Passed, Blessed, Ran, Told, Refused, Misused}
+use Rattle.command_line.specs.declared.words.ProgramRequest.{ProgramRequest}
+use Rattle.command_line.specs.declared.words.ProgramRequest.TheVariants as ask
+use Rattle.exit_status.specs.declared.ends.ProgramEnding.{ProgramEnding}
+use Rattle.exit_status.specs.declared.ends.ProgramEnding.TheVariants.{Listed, Passed, Blessed, Ran, Told, Refused, Misused}
 use Rattle.gate_runs.specs.Told.{WasRun}
 use Rattle.gate_runs.specs.run_parts.Meetings.{unseen}
 use Rattle.run_plans.specs.Plans.{MayRun}
 
 -- How a replay ends, where its reader had and has this left, and its writer held and holds this.
-pub record EndsReplay (r : Replay) (input left held holds : Option (List ℕ)) (ending : Ending) : Type 0 where
+pub record EndsReplay (r : Replay) (input left held holds : Option (List ℕ)) (ending : ProgramEnding) : Type 0 where
   pub ends : (ending ≡ done_of r.file (done_in r.form r.over_gates)) ⊎ (ending ≡ Refused)
   pub plain : IsPlain r → r.file ≡ None → EndsReplayed input left held holds ending
   pub of_file : (file : Bor (List ℕ)) → IsPlain r → r.file ≡ Some file →
@@ -26,12 +26,12 @@ pub record EndsReplay (r : Replay) (input left held holds : Option (List ℕ)) (
   pub named : (file : Bor (List ℕ)) → IsPlain r → r.file ≡ Some file → file.now ≡ codes "-" → EndsReplayedNamed input left held holds ending
 
 -- How checks of so many schedules end: where they passed, what is written ends with the line that says so of as many as were asked for.
-pub record EndsChecks (count : ℕ) (held holds : Option (List ℕ)) (ending : Ending) : Type 0 where
+pub record EndsChecks (count : ℕ) (held holds : Option (List ℕ)) (ending : ProgramEnding) : Type 0 where
   pub ends : (ending ≡ Passed) ⊎ (ending ≡ Refused)
   pub passed : ending ≡ Passed → TellsPassed (count_checked count) held holds
 
 -- How it ends where the outcomes of a race were asked for: as text, they are told.
-pub record EndsOutcomes (race : Outcomes) (input held holds : Option (List ℕ)) (ending : Ending) : Type 0 where
+pub record EndsOutcomes (race : Outcomes) (input held holds : Option (List ℕ)) (ending : ProgramEnding) : Type 0 where
   pub ends : (ending ≡ Listed) ⊎ (ending ≡ Refused)
   pub told : race.form ≡ Text → race.ends ≡ false → EndsTold race input held holds ending
 
@@ -45,12 +45,12 @@ pub record WasWhole (numbers : Numbers) : Type 0 where
   pub was : WasRun unheld unseen numbers.tasks numbers.processors numbers.rounds numbers.freezes
 
 -- How a run of these numbers ends: with `Ran` only where it was done whole.
-pub record EndsRun (numbers : Numbers) (ending : Ending) : Type 0 where
+pub record EndsRun (numbers : Numbers) (ending : ProgramEnding) : Type 0 where
   pub ends : (ending ≡ Ran) ⊎ (ending ≡ Refused)
   pub ran : ending ≡ Ran → WasWhole numbers
 
 -- How it ends, by what was asked for.
-abbrev pub EndsAsked : Asked → (input left held holds : Option (List ℕ)) → Ending → Type 0
+abbrev pub EndsAsked : ProgramRequest → (input left held holds : Option (List ℕ)) → ProgramEnding → Type 0
 EndsAsked (ask.Replay r) input left held holds ending = EndsReplay r input left held holds ending
 EndsAsked (ask.Check files) input left held holds ending = EndsChecks (vec_len files) held holds ending
 EndsAsked (ask.Bless files) input left held holds ending = (ending ≡ Blessed) ⊎ (ending ≡ Refused)

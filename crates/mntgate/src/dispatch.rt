@@ -2,16 +2,16 @@
 
 ghost use Rattle.std.specs.Prelude.{◌≡◌, ◌≤◌, ◌⊎◌, true, IfOk, Ok, map, string_bytes};
 ghost use Rattle.command_line.specs.CommandLine.{MayAskPlainly, ask_plainly};
-ghost use Rattle.exit_status.specs.declared.ends.Ending.TheVariants.{Done, Passed, Ran};
+ghost use Rattle.exit_status.specs.declared.ends.ProgramEnding.TheVariants.{Done, Passed, Ran};
 ghost use Rattle.program_replay.specs.Replays.{EndsReplayed};
 ghost use Rattle.mntgate.specs.Asking.{EndsAsked, EndsRun, TellsSomePassed, WasSomeRun};
 ghost use Rattle.line_replays.specs.Replayed.{Replayed};
 
-use command_line::{Asked, Numbers, Tells, read_words};
-use exit_status::{Ending, refused, text_told};
+use command_line::{Numbers, ProgramRequest, RunReport, read_words};
+use exit_status::{ProgramEnding, refused, text_told};
 use gate_runs::{Plan, run_told};
 use program_races::{run_blessings, run_checks, run_outcomes};
-use program_replay::{Person, run_replay};
+use program_replay::{Terminal, run_replay};
 use refusals::run_explanation;
 use run_plans::Progress;
 use run_plans::rows::ROWS;
@@ -40,8 +40,8 @@ pub fn run<
     reader: &mut I,
     writer: &mut W,
     errors: &mut E,
-    person: Person,
-) -> Result<Ending, AllocError>
+    person: Terminal,
+) -> Result<ProgramEnding, AllocError>
     ensures plain { ask_plainly (map string_bytes words.now) ≡ true → IfOk result (λ ending. EndsReplayed
         (I.remaining reader.old) (I.remaining reader.new) (W.contents writer.old) (W.contents writer.new) ending) }
     ensures only { IfOk result (λ ending. ending ≡ Done → MayAskPlainly (map string_bytes words.now)) }
@@ -65,47 +65,47 @@ fn do_asked<
 >(
     rt: &R,
     alloc: Global,
-    asked: &Asked<'_>,
+    asked: &ProgramRequest<'_>,
     reader: &mut I,
     writer: &mut W,
     errors: &mut E,
-    person: Person,
-) -> Result<Ending, AllocError>
+    person: Terminal,
+) -> Result<ProgramEnding, AllocError>
     ensures { IfOk result (EndsAsked asked.now (I.remaining reader.old) (I.remaining reader.new) (W.contents writer.old) (W.contents writer.new)) }
 {
     match asked {
-        Asked::Replay(replay) => {
+        ProgramRequest::Replay(replay) => {
             Ok(run_replay(rt, alloc, *replay, reader, writer, errors, &person))
         }
-        Asked::Check(files) => {
+        ProgramRequest::Check(files) => {
             Ok(run_checks(rt, alloc, files.as_slice(), reader, writer, errors))
         }
-        Asked::Bless(files) => {
+        ProgramRequest::Bless(files) => {
             Ok(run_blessings(rt, alloc, files.as_slice(), reader, writer, errors))
         }
-        Asked::Explain(explain) => {
+        ProgramRequest::Explain(explain) => {
             Ok(run_explanation(alloc, explain.call, explain.refusal, writer, errors))
         }
-        Asked::Outcomes(asked) => {
+        ProgramRequest::Outcomes(asked) => {
             let watched = person.watches;
             run_outcomes(rt, alloc, *asked, reader, writer, errors, watched)
         }
-        Asked::Run(numbers, tells) => {
+        ProgramRequest::Run(numbers, tells) => {
             let watched = person.watches;
             Ok(run_threads(rt, alloc, *numbers, *tells, writer, errors, watched))
         }
-        Asked::Told(text) => Ok(text_told(text.as_str(), writer, errors)),
-        Asked::Misused => Ok(Ending::Misused),
+        ProgramRequest::Told(text) => Ok(text_told(text.as_str(), writer, errors)),
+        ProgramRequest::Misused => Ok(ProgramEnding::Misused),
     }
 }
 
 /// How many of the rows are told: the first of them tell what all tasks did, the others what they met.
-fn count_of(tells: Tells) -> usize
+fn count_of(tells: RunReport) -> usize
     ensures { result ≤ ROWS }
 {
     match tells {
-        Tells::Totals => 5,
-        Tells::Details => ROWS,
+        RunReport::Totals => 5,
+        RunReport::Details => ROWS,
     }
 }
 
@@ -114,11 +114,11 @@ fn run_threads<R: Threads + Wait + Clock + Sync, W: Write, E: Write>(
     rt: &R,
     alloc: Global,
     numbers: Numbers,
-    tells: Tells,
+    tells: RunReport,
     writer: &mut W,
     errors: &mut E,
     watched: Option<Stderr>,
-) -> Ending
+) -> ProgramEnding
     ensures { EndsRun numbers result }
 {
     let Numbers {

@@ -5,8 +5,8 @@ pub mod dispatch;
 
 use crate::dispatch::run;
 use access_model::GateError;
-use exit_status::{Ending, refused, unreadable};
-use program_replay::Person;
+use exit_status::{ProgramEnding, refused, unreadable};
+use program_replay::Terminal;
 use std::alloc::{AllocError, Global};
 use std::io::{IsTerminal, Stderr};
 use std::process::ExitCode;
@@ -16,7 +16,7 @@ fn main(rt: HostRuntime) -> ExitCode {
     let (mut reader, mut writer, mut errors) = (rt.stdin(), rt.stdout(), rt.stderr());
     let ending = match words_of(&rt, alloc, &mut errors) {
         Ok(words) => {
-            let person = Person {
+            let person = Terminal {
                 watches: if errors.is_terminal() {
                     Some(rt.stderr())
                 } else {
@@ -50,7 +50,11 @@ fn main(rt: HostRuntime) -> ExitCode {
 /// # Errors
 ///
 /// How the program ends if a word is no text, or there is no memory for them, which is told.
-fn words_of(rt: &HostRuntime, alloc: Global, errors: &mut Stderr) -> Result<Vec<String>, Ending> {
+fn words_of(
+    rt: &HostRuntime,
+    alloc: Global,
+    errors: &mut Stderr,
+) -> Result<Vec<String>, ProgramEnding> {
     match std::env::args(rt) {
         Ok(words) => match words.collect(alloc) {
             Ok(words) => Ok(words),

@@ -3,12 +3,12 @@ use Rattle.std.proofs.Common.{ℕ, ◌+◌, ◌<◌, List, length, sym, subst, a
 use Rattle.std.specs.Prelude.{slice_index, slice_index_or, slice_set}
 use mathlib.Core.Logic.{dite}
 use native.Mathlib.Decide.{ℕ_discrete}
-use Rattle.vfs_gates.specs.Ended.{Ending}
+use Rattle.vfs_gates.specs.Ended.{ClosedState}
 use Rattle.mntgate_c.specs.Closings.{IsValue, no_word}
 use Rattle.mntgate_c.specs.declared.events.WordRecord.{WordRecord}
 
 -- one more
-pub told_more : (e : Ending) (asked : List WordRecord) (values : List ℕ) (i v : ℕ) → i < length values → IsValue e (slice_index_or asked i no_word) v →
+pub told_more : (e : ClosedState) (asked : List WordRecord) (values : List ℕ) (i v : ℕ) → i < length values → IsValue e (slice_index_or asked i no_word) v →
     ((k : ℕ) → k < i → IsValue e (slice_index_or asked k no_word) (slice_index values k)) →
     (k : ℕ) → k < i + 1 → IsValue e (slice_index_or asked k no_word) (slice_index (slice_set values i v) k)
 told_more e asked values i v long new old k less = dite (ℕ_discrete k i)

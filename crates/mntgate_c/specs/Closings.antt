@@ -6,7 +6,7 @@ use Rattle.cpu_words.specs.Names.{IsWord, place, stride}
 use Rattle.cpu_words.specs.declared.names.WordName.{WordName}
 use Rattle.finite_sums.specs.Sums.{total}
 use Rattle.gate_world.specs.Configs.{extents_of}
-use Rattle.vfs_gates.specs.Ended.{Ending, EndedWith}
+use Rattle.vfs_gates.specs.Ended.{ClosedState, EndedWith}
 use Rattle.vfs_gates.specs.Sums.{count_word, IsGate}
 use Rattle.vfs_gates.specs.TaskStates.{SeatedTask}
 use Rattle.mntgate_c.specs.Events.{word_at}
@@ -25,7 +25,7 @@ abbrev pub no_word : WordRecord
 no_word = record { kind = 0; first = 0; second = 0 }
 
 -- The value of the word that was asked for, or the wrapping sum of a gate's counts, which is 0; 0 where there is no such word or gate.
-pub record IsValue (e : Ending) (asked : WordRecord) (value : ℕ) : Type 0 where
+pub record IsValue (e : ClosedState) (asked : WordRecord) (value : ℕ) : Type 0 where
   pub word : (name : WordName) → name_asked asked ≡ Some name → IsWord (extents_of e.config) name → value ≡ slice_index e.words (stride * place name)
   pub no_word : (name : WordName) → name_asked asked ≡ Some name → ¬ IsWord (extents_of e.config) name → value ≡ 0
   pub sum : (gate : Gate) → gate_asked asked ≡ Some gate → IsGate e.config gate →
@@ -34,7 +34,7 @@ pub record IsValue (e : Ending) (asked : WordRecord) (value : ℕ) : Type 0 wher
 
 -- The gates of a task were closed, and of each word that was asked for the value was told.
 pub record ClosedWith (last : SeatedTask) (asked : List WordRecord) (values : List ℕ) : Type 0 where
-  pub ending : Ending
+  pub ending : ClosedState
   pub config : ending.config ≡ last.config
   pub ended : EndedWith ending.config ending.words last.items last.seen
   pub told : (k : ℕ) → k < length values → IsValue ending (slice_index_or asked k no_word) (slice_index values k)

@@ -4,7 +4,7 @@ ghost use Rattle.std.specs.Prelude.{◌≡◌, Some};
 ghost use Rattle.gate_schedules.specs.declared.steps.Progress.TheVariants.{Idle};
 ghost use Rattle.gate_world.specs.declared.operations.Op.{Op as OpType};
 ghost use Rattle.gate_world.specs.declared.work.Phase.{Phase as PhaseType};
-ghost use Rattle.gate_steps.specs.call_events.Runs.{Goes, ProgressMatches};
+ghost use Rattle.gate_steps.specs.call_events.Runs.{OpUnderWay, ProgressMatches};
 ghost use Rattle.mntgate_c.specs.Runs.{Runs};
 ghost use Rattle.vfs_gates.specs.TaskStates.{SeatedTask, IsFrom, IsIdle};
 
@@ -18,7 +18,7 @@ pub(crate) fn run(task: &mut Task, gates: &Gates, hook: Result<(), u16>, most: u
     ensures config { task.new.config ≡ task.old.config }
     ensures idle { IsIdle task.old → (task.new ≡ task.old) × (result ≡ Idle) }
     ensures runs { (phase : PhaseType) → task.old.phase ≡ Some phase → Runs phase hook most task.old task.new result }
-    ensures told { (op : OpType) (start : SeatedTask) → Goes op start task.old → ProgressMatches op start result task.new }
+    ensures told { (op : OpType) (start : SeatedTask) → OpUnderWay op start task.old → ProgressMatches op start result task.new }
 {
     let mut progress = task.step(gates, hook).progress;
     for _more in 0..most.saturating_sub(1) {

@@ -4,5 +4,5 @@
 mod listing;
 mod texts;
 
-pub use listing::{Listing, Method, Outcome, SearchPlan, list};
+pub use listing::{Method, Outcome, OutcomeListing, SearchPlan, list};
 pub use texts::outcome_text;

@@ -5,14 +5,18 @@ ghost use Rattle.schedule_lines.specs.Printed.{Prints};
 ghost use Rattle.outcome_texts.specs.Texts.{answer_part, told_answer, course_text, outcome_text};
 
 use access_model::{GateError, Reply};
-use races::{CALLS, Course, Race};
+use races::{CALLS, CallAnswers, Race};
 use schedule_text::Output;
 use std::alloc::{AllocError, Global};
 
 /// The text of an outcome: what the calls of each task have answered, task by task, `T skipped` for each that was skipped, and `T waits` for
 /// each task that has calls left; all joined by `; `.
 #[tactic(auto, unfolding(crate::specs::Texts::outcome_text))]
-pub fn outcome_text(alloc: Global, race: &Race, courses: &[Course]) -> Result<Vec<u8>, AllocError>
+pub fn outcome_text(
+    alloc: Global,
+    race: &Race,
+    courses: &[CallAnswers],
+) -> Result<Vec<u8>, AllocError>
     ensures { IfOk result (λ text. text.items ≡ outcome_text race.now.tasks race.now.calls.items courses.now) }
 {
     let mut out = Output::new(alloc);
@@ -27,7 +31,7 @@ pub fn outcome_text(alloc: Global, race: &Race, courses: &[Course]) -> Result<Ve
 }
 
 /// The course of a task, where there is one.
-fn course_of(courses: &[Course], task: u8) -> Option<Course>
+fn course_of(courses: &[CallAnswers], task: u8) -> Option<CallAnswers>
     ensures { result ≡ slice_get courses.now task }
 {
     courses.get(task as usize).copied()
@@ -35,7 +39,7 @@ fn course_of(courses: &[Course], task: u8) -> Option<Course>
 
 /// Prints what the calls of a task have answered, or that they were skipped, each behind `; `, and that it waits, where it has calls left.
 #[tactic(auto, unfolding(crate::specs::Texts::course_text))]
-fn print_course(out: &mut Output, race: &Race, task: u8, course: Course)
+fn print_course(out: &mut Output, race: &Race, task: u8, course: CallAnswers)
     ensures { Prints out.old out.new (course_text race.now.calls.items task course) }
 {
     let behind = usize::from(course.turn).min(CALLS);

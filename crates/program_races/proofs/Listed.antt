@@ -3,8 +3,8 @@ use Rattle.std.proofs.Common.{◌≡◌, ◌↔◌, ◌<◌, ◌≤◌, ◌∙�
 use Rattle.std.proofs.lemmas.Bool.{cases_lt}
 use Rattle.std.specs.Io.KnownBytes.{Appends, Keeps}
 use Rattle.command_line.specs.declared.words.Outcomes.{Outcomes}
-use Rattle.exit_status.specs.declared.ends.Ending.{Ending}
-use Rattle.exit_status.specs.declared.ends.Ending.TheVariants.{Listed, Refused}
+use Rattle.exit_status.specs.declared.ends.ProgramEnding.{ProgramEnding}
+use Rattle.exit_status.specs.declared.ends.ProgramEnding.TheVariants.{Listed, Refused}
 use Rattle.program_races.specs.Outcomes.{AreRead, EndsTold, TellsAs, TellsRace, details_of, method_of}
 use Rattle.program_races.specs.race_texts.Told.{TellsAll, TellsSome}
 use Rattle.gate_core.specs.Memory.{Memory}
@@ -34,7 +34,7 @@ kept None = tt
 kept (Some bytes) = refl
 
 -- what was told is written, or a write failed
-pub ends_written : (asked : Outcomes) (input held holds : Option (List ℕ)) (ending : Ending) (whole : Bool) (bytes before told : List ℕ) →
+pub ends_written : (asked : Outcomes) (input held holds : Option (List ℕ)) (ending : ProgramEnding) (whole : Bool) (bytes before told : List ℕ) →
     (ending ≡ Listed) ⊎ (ending ≡ Refused) → (ending ≡ Listed → whole ≡ true) → before ≡ [] → AreRead asked input bytes →
     TellsRace asked whole bytes before told → (Appends held holds told) ⊎ ((ending ≡ Refused) × AppendsPart held holds told) →
     EndsTold asked input held holds ending
@@ -49,7 +49,7 @@ ends_written asked input held holds ending whole bytes before told ends all none
     ]
 
 -- the bytes that were to be read, in place of what there was to read
-pub ends_of : (asked : Outcomes) (input held holds : Option (List ℕ)) (bytes : List ℕ) (ending : Ending) → AreRead asked input bytes →
+pub ends_of : (asked : Outcomes) (input held holds : Option (List ℕ)) (bytes : List ℕ) (ending : ProgramEnding) → AreRead asked input bytes →
     EndsTold asked (Some bytes) held holds ending → EndsTold asked input held holds ending
 ends_of asked input held holds bytes ending read (IsWritten found text are tells all e) =
     IsWritten found text (λ none. subst (λ (b : List ℕ). IfSome input (λ all. b ≡ all)) (sym (are none)) (read none)) tells all e

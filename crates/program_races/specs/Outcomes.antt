@@ -5,8 +5,8 @@ use Rattle.command_line.specs.declared.words.Outcomes.{Outcomes}
 use Rattle.command_line.specs.declared.words.Schedules as words
 use Rattle.command_line.specs.declared.words.Schedules.TheVariants as words_as
 use Rattle.exit_status.specs.Endings.{IsInput}
-use Rattle.exit_status.specs.declared.ends.Ending.{Ending}
-use Rattle.exit_status.specs.declared.ends.Ending.TheVariants.{Listed, Refused}
+use Rattle.exit_status.specs.declared.ends.ProgramEnding.{ProgramEnding}
+use Rattle.exit_status.specs.declared.ends.ProgramEnding.TheVariants.{Listed, Refused}
 use Rattle.gate_core.specs.Memory.{Memory}
 use Rattle.outcome_texts.specs.declared.listing.Method.{Method}
 use Rattle.outcome_texts.specs.declared.listing.Method.TheVariants.{Full, Reduced}
@@ -63,7 +63,7 @@ AreRead asked input bytes = IsInput asked.file → IfSome input (λ all. bytes �
 
 -- How it ends where the outcomes of a race were asked for as text. They are written: all of them, if it ends as `Listed`. If it ends as `Refused`,
 -- they are those so far, or a claim is broken; or nothing is written; or a write failed, and the first bytes are written.
-pub data EndsTold (asked : Outcomes) (input held holds : Option (List ℕ)) (ending : Ending) : Type 0 where
+pub data EndsTold (asked : Outcomes) (input held holds : Option (List ℕ)) (ending : ProgramEnding) : Type 0 where
   IsWritten : (bytes text : List ℕ) → AreRead asked input bytes → TellsRace asked true bytes [] text → Appends held holds text →
       ending ≡ Listed → EndsTold asked input held holds ending
   IsPart : (whole : Bool) (bytes text : List ℕ) → AreRead asked input bytes → TellsRace asked whole bytes [] text → Appends held holds text →

@@ -1,13 +1,13 @@
 //! Files that are made to say what they print, from the command line.
 
 ghost use Rattle.std.specs.Prelude.{◌≡◌, ◌⊎◌};
-ghost use Rattle.exit_status.specs.declared.ends.Ending.TheVariants.{Blessed, Refused};
+ghost use Rattle.exit_status.specs.declared.ends.ProgramEnding.TheVariants.{Blessed, Refused};
 
 use crate::race_texts::{STATES, Source, Stopped, blessed};
 use access_model::GateError;
 use diagnostics::tell_faulty;
 use exit_status::{
-    Ending, SourceName, read_bytes, refused, refused_of, unopened, why_told, why_told_of,
+    ProgramEnding, SourceName, read_bytes, refused, refused_of, unopened, why_told, why_told_of,
 };
 use schedule_lines::bytes::write_out;
 use schedule_text::Output;
@@ -26,7 +26,7 @@ struct Counts {
 
 impl Counts {
     /// Counts a file.
-    fn add(&mut self, blessed: Result<bool, Ending>) {
+    fn add(&mut self, blessed: Result<bool, ProgramEnding>) {
         match blessed {
             Ok(true) => self.written = self.written.saturating_add(1),
             Ok(false) => self.unchanged = self.unchanged.saturating_add(1),
@@ -35,7 +35,7 @@ impl Counts {
     }
 
     /// Writes the counts.
-    fn end<W: Write, E: Write>(self, alloc: Global, writer: &mut W, errors: &mut E) -> Ending
+    fn end<W: Write, E: Write>(self, alloc: Global, writer: &mut W, errors: &mut E) -> ProgramEnding
         ensures { (result ≡ Blessed) ⊎ (result ≡ Refused) }
     {
         let mut told = Output::new(alloc);
@@ -47,8 +47,8 @@ impl Counts {
             return refused(GateError::NoMemory, errors);
         }
         match write_out(writer, told.bytes.as_slice()) {
-            Ok(()) if self.failed == 0 => Ending::Blessed,
-            Ok(()) => Ending::Refused,
+            Ok(()) if self.failed == 0 => ProgramEnding::Blessed,
+            Ok(()) => ProgramEnding::Refused,
             Err(fault) => why_told(fault.text(), errors),
         }
     }
@@ -63,7 +63,7 @@ pub fn run_blessings<R: Files + Alloc<A = Global>, I: Read, W: Write, E: Write>(
     reader: &mut I,
     writer: &mut W,
     errors: &mut E,
-) -> Ending
+) -> ProgramEnding
     ensures { (result ≡ Blessed) ⊎ (result ≡ Refused) }
 {
     let mut counts = Counts {
@@ -84,7 +84,7 @@ fn bless<R: Files + Alloc<A = Global>, I: Read, E: Write>(
     file: &str,
     reader: &mut I,
     errors: &mut E,
-) -> Result<bool, Ending> {
+) -> Result<bool, ProgramEnding> {
     let bytes = read_bytes(rt, alloc, Some(file), reader, errors)?;
     let source = Source {
         file: Some(file),
@@ -102,7 +102,7 @@ fn tell_stopped<E: Write>(
     source: Source<'_>,
     stopped: Stopped,
     errors: &mut E,
-) -> Ending {
+) -> ProgramEnding {
     match stopped {
         Stopped::Fault(fault) => tell_faulty(alloc, source.faulty(fault), errors),
         Stopped::TooMany => why_told_of(
@@ -121,7 +121,7 @@ fn write_new<R: Files, E: Write>(
     others: &[u8],
     lines: &Output,
     errors: &mut E,
-) -> Result<bool, Ending> {
+) -> Result<bool, ProgramEnding> {
     if lines.settled().is_err() {
         return Err(refused_of(GateError::NoMemory, Some(file), errors));
     }

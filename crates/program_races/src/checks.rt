@@ -4,11 +4,11 @@ ghost use Rattle.std.specs.Prelude.{◌≡◌, ◌⊎◌, ◌<◌, ◌+◌, ◌^
 ghost use Rattle.std.specs.Io.KnownBytes.{Appends};
 ghost use Rattle.schedule_lines.specs.Printed.{Prints};
 ghost use Rattle.program_races.specs.Checks.{TellsPassed, WritesMore, count_checked, counts_text};
-ghost use Rattle.exit_status.specs.declared.ends.Ending.TheVariants.{Passed, Refused};
+ghost use Rattle.exit_status.specs.declared.ends.ProgramEnding.TheVariants.{Passed, Refused};
 
 use crate::race_texts::{Source, check};
 use access_model::GateError;
-use exit_status::{Ending, read_bytes, refused, refused_of, why_told};
+use exit_status::{ProgramEnding, read_bytes, refused, refused_of, why_told};
 use schedule_lines::bytes::write_out;
 use schedule_text::{Fault, Output};
 use std::alloc::{AllocError, Global};
@@ -85,7 +85,7 @@ impl Checks {
     }
 
     /// Writes how many passed and failed.
-    fn end<W: Write, E: Write>(mut self, writer: &mut W, errors: &mut E) -> Ending
+    fn end<W: Write, E: Write>(mut self, writer: &mut W, errors: &mut E) -> ProgramEnding
         ensures ends { (result ≡ Passed) ⊎ (result ≡ Refused) }
         ensures passed { result ≡ Passed → IsTrue self.is_written × (self.failed ≡ 0)
             × Appends (W.contents writer.old) (W.contents writer.new) (counts_text self.passed 0) }
@@ -100,9 +100,9 @@ impl Checks {
             return why_told(Fault::WriteFailed.text(), errors);
         }
         if self.failed == 0 {
-            Ending::Passed
+            ProgramEnding::Passed
         } else {
-            Ending::Refused
+            ProgramEnding::Refused
         }
     }
 }
@@ -126,7 +126,7 @@ pub fn run_checks<R: Files + Alloc<A = Global>, I: Read, W: Write, E: Write>(
     reader: &mut I,
     writer: &mut W,
     errors: &mut E,
-) -> Ending
+) -> ProgramEnding
     ensures ends { (result ≡ Passed) ⊎ (result ≡ Refused) }
     ensures passed { result ≡ Passed →
         TellsPassed (count_checked (length files.now)) (W.contents writer.old) (W.contents writer.new) }

@@ -2,12 +2,12 @@
 
 ghost use Rattle.std.specs.Prelude.{◌≡◌, ◌<◌, ◌≤◌, ◌*◌, ◌⊎◌, ◌++◌, false, true, Some, All, IfOk, IfErr, OnOk, OnErr, length};
 ghost use Rattle.std.specs.Io.KnownBytes.{Appends, Keeps};
-ghost use Rattle.exit_status.specs.declared.ends.Ending.TheVariants.{Listed, Refused};
+ghost use Rattle.exit_status.specs.declared.ends.ProgramEnding.TheVariants.{Listed, Refused};
 ghost use Rattle.exploration.specs.Tables.{IsTable};
 ghost use Rattle.outcome_texts.specs.Methods.{next_by};
 ghost use Rattle.program_races.specs.Outcomes.{EndsTold, TellsRace, details_of, method_of, schedules_as};
 ghost use Rattle.program_races.specs.race_texts.Told.{TellsAll, TellsSome};
-ghost use Rattle.command_line.specs.declared.words.Listing.TheVariants.{Text};
+ghost use Rattle.command_line.specs.declared.words.OutcomeForm.TheVariants.{Text};
 ghost use Rattle.race_files.specs.Calls.{is_claim};
 ghost use Rattle.race_files.specs.Left.{lines_in};
 ghost use Rattle.race_files.specs.Races.{IsRaceIn};
@@ -20,12 +20,12 @@ use crate::race_texts::{
     show_outcomes, tell, tell_claims, tell_ends,
 };
 use access_model::GateError;
-use command_line::{Listing, Outcomes};
+use command_line::{OutcomeForm, Outcomes};
 use diagnostics::{Context, Faulty, tell_faulty};
-use exit_status::{Ending, read_bytes, refused_of, why_told, why_told_of};
+use exit_status::{ProgramEnding, read_bytes, refused_of, why_told, why_told_of};
 use exploration::{Observer, Stop};
 use gate_core::Core;
-use outcome_texts::{Listing as RaceListing, Method, SearchPlan};
+use outcome_texts::{Method, OutcomeListing as RaceListing, SearchPlan};
 use race_files::{RaceFile, read_race};
 use schedule_lines::bytes::{ReplayFault, write_out};
 use schedule_text::Output;
@@ -45,7 +45,7 @@ pub fn run_outcomes<R: Files + Clock + Alloc<A = Global>, I: Read, W: Write, E: 
     writer: &mut W,
     errors: &mut E,
     watched: Option<Stderr>,
-) -> Result<Ending, AllocError>
+) -> Result<ProgramEnding, AllocError>
     ensures ends { IfOk result (λ ending. (ending ≡ Listed) ⊎ (ending ≡ Refused)) }
     ensures told { asked.entry.form ≡ Text → asked.entry.ends ≡ false →
         IfOk result (EndsTold asked.entry (I.remaining reader.old) (W.contents writer.old) (W.contents writer.new)) }
@@ -74,7 +74,7 @@ fn answer_outcomes<R: Files + Clock + Alloc<A = Global>, W: Write, E: Write>(
     writer: &mut W,
     errors: &mut E,
     watched: Option<Stderr>,
-) -> Ending
+) -> ProgramEnding
     ensures ends { (result ≡ Listed) ⊎ (result ≡ Refused) }
     ensures told { asked.entry.form ≡ Text → asked.entry.ends ≡ false →
         EndsTold asked.entry (Some bytes.now) (W.contents writer.old) (W.contents writer.new) result }
@@ -97,7 +97,7 @@ fn write_told<W: Write, E: Write>(
     answered: &Answered,
     writer: &mut W,
     errors: &mut E,
-) -> Ending
+) -> ProgramEnding
     ensures ends { (result ≡ Listed) ⊎ (result ≡ Refused) }
     ensures whole { result ≡ Listed → answered.now.is_whole ≡ true }
     ensures written { Appends (W.contents writer.old) (W.contents writer.new) told.now.bytes.items
@@ -110,16 +110,16 @@ fn write_told<W: Write, E: Write>(
 }
 
 /// How it ends where all was written that is told.
-fn ending_of(answered: &Answered) -> Ending
+fn ending_of(answered: &Answered) -> ProgramEnding
     ensures ends { (result ≡ Listed) ⊎ (result ≡ Refused) }
     ensures whole { result ≡ Listed → answered.now.is_whole ≡ true }
 {
     if !answered.is_whole {
-        return Ending::Refused;
+        return ProgramEnding::Refused;
     }
     match answered.judged {
-        Judged::Hold => Ending::Listed,
-        Judged::Broken | Judged::Unjudged => Ending::Refused,
+        Judged::Hold => ProgramEnding::Listed,
+        Judged::Broken | Judged::Unjudged => ProgramEnding::Refused,
     }
 }
 
@@ -135,7 +135,7 @@ fn answer_race<R: Files + Clock + Alloc<A = Global>, E: Write>(
     watch: &mut SearchProgress<'_, R>,
     told: &mut Output,
     errors: &mut E,
-) -> Result<Answered, Ending>
+) -> Result<Answered, ProgramEnding>
     ensures ends { IfErr result (λ ending. ending ≡ Refused) }
     ensures told { asked.entry.form ≡ Text → asked.entry.ends ≡ false →
         IfOk result (λ answered. TellsRace asked.entry answered.is_whole bytes.now told.old.bytes.items told.new.bytes.items) }
@@ -156,7 +156,7 @@ fn answer_file<R: Files + Clock + Alloc<A = Global>, E: Write>(
     watch: &mut SearchProgress<'_, R>,
     told: &mut Output,
     errors: &mut E,
-) -> Result<Answered, Ending>
+) -> Result<Answered, ProgramEnding>
     requires { IsRaceIn (lines_in 1048576 bytes.now) file.core file.calls.race.calls.items }
     ensures ends { IfErr result (λ ending. ending ≡ Refused) }
     ensures told { asked.entry.form ≡ Text → asked.entry.ends ≡ false →
@@ -241,7 +241,7 @@ fn judge_claims<W: Observer>(
     } = details_of(asked);
     let form = VerdictForm {
         broken_alone: false,
-        records: matches!(asked.form, Listing::Json),
+        records: matches!(asked.form, OutcomeForm::Json),
         schedules,
         style,
     };
@@ -285,14 +285,14 @@ fn list_race<W: Observer>(
 {
     let (plan, details) = (plan_of(asked), details_of(asked));
     let shape = match asked.form {
-        Listing::Text if asked.ends => {
+        OutcomeForm::Text if asked.ends => {
             let listing = tell_ends(source, &core, plan.limit, details, watch, told);
             drop(core);
             return listing;
         }
-        Listing::Text => return tell(source, core, plan, details, watch, told),
-        Listing::Json => Shape::Records,
-        Listing::Html => Shape::Page(asked.file.unwrap_or("A race")),
+        OutcomeForm::Text => return tell(source, core, plan, details, watch, told),
+        OutcomeForm::Json => Shape::Records,
+        OutcomeForm::Html => Shape::Page(asked.file.unwrap_or("A race")),
     };
     let exhibit = Exhibit {
         shape,
@@ -309,7 +309,7 @@ fn save<R: Files + Alloc<A = Global>, E: Write>(
     listing: &RaceListing,
     asked: Outcomes<'_>,
     errors: &mut E,
-) -> Result<(), Ending>
+) -> Result<(), ProgramEnding>
     requires table { IsTable (next_by listing.now.method source.calls.now.race.calls.items source.calls.now.race.tasks)
         source.calls.now.race.tasks listing.now.all.found.states listing.now.all.found.origins.items listing.now.all.found.edges.items }
     requires rows { length listing.now.all.found.edges.items ≡ listing.now.all.found.expanded * source.calls.now.race.tasks }
@@ -331,8 +331,8 @@ fn tell_verdicts(asked: Outcomes<'_>, verdicts: &Output, told: &mut Output)
     ensures { asked.entry.form ≡ Text → Prints told.old told.new verdicts.now.bytes.items }
 {
     match asked.form {
-        Listing::Text | Listing::Json => told.text(verdicts.bytes.as_slice()),
-        Listing::Html => {
+        OutcomeForm::Text | OutcomeForm::Json => told.text(verdicts.bytes.as_slice()),
+        OutcomeForm::Html => {
             if !verdicts.bytes.is_empty() {
                 html::print_text(told, verdicts.bytes.as_slice());
             }
@@ -348,7 +348,7 @@ fn tell_fault<E: Write>(
     fault: ReplayFault,
     file: Option<&str>,
     errors: &mut E,
-) -> Ending
+) -> ProgramEnding
     ensures { result ≡ Refused }
 {
     let (context, rest) = Context::find(bytes, fault.line);
@@ -362,7 +362,7 @@ fn tell_fault<E: Write>(
 }
 
 /// Tells why the outcomes aren't told.
-fn stopped<E: Write>(stop: Stop, asked: Outcomes<'_>, errors: &mut E) -> Ending
+fn stopped<E: Write>(stop: Stop, asked: Outcomes<'_>, errors: &mut E) -> ProgramEnding
     ensures { result ≡ Refused }
 {
     match stop {

@@ -5,35 +5,35 @@ use Rattle.std.specs.Io.KnownBytes.{Keeps}
 use Rattle.command_line.specs.declared.words.Form.{Form}
 use Rattle.command_line.specs.declared.words.Form.TheVariants.{Plain}
 use Rattle.exit_status.specs.Endings.{of_file}
-use Rattle.exit_status.specs.declared.ends.Ending.{Ending}
-use Rattle.exit_status.specs.declared.ends.Ending.TheVariants.{Done, DoneOverGates, Shown, Refused}
+use Rattle.exit_status.specs.declared.ends.ProgramEnding.{ProgramEnding}
+use Rattle.exit_status.specs.declared.ends.ProgramEnding.TheVariants.{Done, DoneOverGates, Shown, Refused}
 use Rattle.schedule_lines.specs.declared.bytes.replay_faults.ReplayFault.{ReplayFault}
 use Rattle.line_replays.specs.Replayed.{Replayed}
 
 -- how a replay ends that was done, in this form and over these gates, of standard input
-abbrev pub done_in : Form → Bool → Ending
+abbrev pub done_in : Form → Bool → ProgramEnding
 done_in Plain true = DoneOverGates
 done_in Plain false = Done
 done_in _ over_gates = Shown
 
 -- the same, of standard input or of a file
-abbrev pub done_of : Option (Bor (List ℕ)) → Ending → Ending
+abbrev pub done_of : Option (Bor (List ℕ)) → ProgramEnding → ProgramEnding
 done_of None ending = ending
 done_of (Some file) ending = of_file ending
 
 -- how a plain replay ends, by its answer
-abbrev pub ending_of : Result (Unit {0}) ReplayFault → Ending
+abbrev pub ending_of : Result (Unit {0}) ReplayFault → ProgramEnding
 ending_of (Ok done) = Done
 ending_of (Err fault) = Refused
 
 -- A plain replay of standard input: what it read, wrote and answered is a replay's, and the ending says which answer it was.
-pub record EndsReplayed (input left held holds : Option (List ℕ)) (ending : Ending) : Type 0 where
+pub record EndsReplayed (input left held holds : Option (List ℕ)) (ending : ProgramEnding) : Type 0 where
   pub answer : Result (Unit {0}) ReplayFault
   pub replayed : Replayed input left held holds answer
   pub ends : ending ≡ ending_of answer
 
 -- The same of a file, whose bytes no contract tells.
-pub record EndsReplayedFile (held holds : Option (List ℕ)) (ending : Ending) : Type 0 where
+pub record EndsReplayedFile (held holds : Option (List ℕ)) (ending : ProgramEnding) : Type 0 where
   pub input : Option (List ℕ)
   pub left : Option (List ℕ)
   pub answer : Result (Unit {0}) ReplayFault
@@ -41,13 +41,13 @@ pub record EndsReplayedFile (held holds : Option (List ℕ)) (ending : Ending) :
   pub ends : ending ≡ of_file (ending_of answer)
 
 -- A plain replay of standard input that was named `-`: it is that of standard input, and ends as one of a file.
-pub record EndsReplayedNamed (input left held holds : Option (List ℕ)) (ending : Ending) : Type 0 where
-  pub unnamed : Ending
+pub record EndsReplayedNamed (input left held holds : Option (List ℕ)) (ending : ProgramEnding) : Type 0 where
+  pub unnamed : ProgramEnding
   pub replayed : EndsReplayed input left held holds unnamed
   pub ends : ending ≡ of_file unnamed
 
 -- nothing was read or written, and the ending is a refusal
-pub record IsRefusedUnread (input left held holds : Option (List ℕ)) (ending : Ending) : Type 0 where
+pub record IsRefusedUnread (input left held holds : Option (List ℕ)) (ending : ProgramEnding) : Type 0 where
   pub unread : Keeps input left
   pub unwritten : Keeps held holds
   pub ends : ending ≡ Refused

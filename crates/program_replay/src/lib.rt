@@ -7,4 +7,4 @@ pub mod replays;
 mod telling;
 
 pub use gates_driver::{GatesDriver, replay_gates};
-pub use replays::{Person, run_replay};
+pub use replays::{Terminal, run_replay};

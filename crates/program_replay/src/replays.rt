@@ -3,13 +3,13 @@
 ghost use Rattle.std.specs.Prelude.{◌≡◌, ◌⊎◌, ℕ, List, None, Some, IfErr, codes};
 ghost use Rattle.std.specs.Borrow.{Bor};
 ghost use Rattle.command_line.specs.CommandLine.{IsPlain};
-ghost use Rattle.exit_status.specs.declared.ends.Ending.TheVariants.{Refused};
+ghost use Rattle.exit_status.specs.declared.ends.ProgramEnding.TheVariants.{Refused};
 ghost use Rattle.program_replay.specs.Replays.{EndsReplayed, EndsReplayedFile, EndsReplayedNamed, IsRefusedUnread, done_in, done_of};
 
 use crate::gates_driver::GatesDriver;
 use crate::telling::{Telling, replay_told, show_told};
 use command_line::{Form, Replay};
-use exit_status::{Ending, folder_told, unopened};
+use exit_status::{ProgramEnding, folder_told, unopened};
 use gate_core::Core;
 use shown_events::{Look, Style};
 use std::alloc::Global;
@@ -26,7 +26,7 @@ const WIDTH: usize = 100;
 
 /// Where a person is.
 #[derive(Drop)]
-pub struct Person {
+pub struct Terminal {
     /// Standard error, where it is a terminal.
     pub watches: Option<Stderr>,
     /// Whether standard input is one.
@@ -41,8 +41,8 @@ pub fn run_replay<R: Files, I: Read, W: Write, E: Write>(
     reader: &mut I,
     writer: &mut W,
     errors: &mut E,
-    person: &Person,
-) -> Ending
+    person: &Terminal,
+) -> ProgramEnding
     ensures ends { (result ≡ done_of asked.entry.file (done_in asked.entry.form asked.entry.over_gates)) ⊎ (result ≡ Refused) }
     ensures plain { IsPlain asked.entry → asked.entry.file ≡ None → EndsReplayed
         (I.remaining reader.old) (I.remaining reader.new) (W.contents writer.old) (W.contents writer.new) result }
@@ -68,7 +68,11 @@ pub fn run_replay<R: Files, I: Read, W: Write, E: Write>(
 }
 
 /// Opens a file that is no folder, of which no byte could be read.
-fn open_file<R: Files, E: Write>(rt: &R, file: &str, errors: &mut E) -> Result<R::File, Ending>
+fn open_file<R: Files, E: Write>(
+    rt: &R,
+    file: &str,
+    errors: &mut E,
+) -> Result<R::File, ProgramEnding>
     ensures { IfErr result (λ ending. ending ≡ Refused) }
 {
     if let Ok(metadata) = fs::metadata(rt, file)
@@ -89,8 +93,8 @@ fn replay_input<I: Read, W: Write, E: Write>(
     reader: &mut I,
     writer: &mut W,
     errors: &mut E,
-    person: &Person,
-) -> Ending
+    person: &Terminal,
+) -> ProgramEnding
     ensures ends { (result ≡ done_in asked.entry.form asked.entry.over_gates) ⊎ (result ≡ Refused) }
     ensures plain { IsPlain asked.entry → EndsReplayed
         (I.remaining reader.old) (I.remaining reader.new) (W.contents writer.old) (W.contents writer.new) result }
@@ -108,7 +112,7 @@ fn replay_as<I: Read, W: Write, E: Write>(
     reader: &mut I,
     writer: &mut W,
     errors: &mut E,
-) -> Ending
+) -> ProgramEnding
     ensures ends { (result ≡ done_in asked.entry.form asked.entry.over_gates) ⊎ (result ≡ Refused) }
     ensures plain { IsPlain asked.entry → EndsReplayed
         (I.remaining reader.old) (I.remaining reader.new) (W.contents writer.old) (W.contents writer.new) result }
@@ -116,14 +120,14 @@ fn replay_as<I: Read, W: Write, E: Write>(
     let form = match asked.form {
         Form::Plain if asked.over_gates => {
             return match replay_told::<GatesDriver, I, W, E>(telling, reader, writer, errors) {
-                Ok(()) => Ending::DoneOverGates,
-                Err(_) => Ending::Refused,
+                Ok(()) => ProgramEnding::DoneOverGates,
+                Err(_) => ProgramEnding::Refused,
             };
         }
         Form::Plain => {
             return match replay_told::<Core, I, W, E>(telling, reader, writer, errors) {
-                Ok(()) => Ending::Done,
-                Err(_) => Ending::Refused,
+                Ok(()) => ProgramEnding::Done,
+                Err(_) => ProgramEnding::Refused,
             };
         }
         Form::Events => shown_events::Form::Events,
@@ -141,7 +145,7 @@ fn replay_as<I: Read, W: Write, E: Write>(
         show_told::<Core, I, W, E>(look, telling, reader, writer, errors)
     };
     match ended {
-        Ok(()) => Ending::Shown,
-        Err(_) => Ending::Refused,
+        Ok(()) => ProgramEnding::Shown,
+        Err(_) => ProgramEnding::Refused,
     }
 }

@@ -8,7 +8,7 @@ ghost use Rattle.races.specs.Races.{RaceStateIn};
 
 use cpu_words::WordName;
 use gate_world::{Accesses, Config};
-use races::Course;
+use races::CallAnswers;
 
 /// A state of a race, in whatever form it is kept.
 pub trait StateView {
@@ -30,6 +30,6 @@ pub trait StateView {
         ensures { result ≡ (seat_of (state self.now).on task).accesses };
 
     /// How far a task has come; None where there is no such task.
-    fn course(&self, task: u8) -> Option<Course>
+    fn course(&self, task: u8) -> Option<CallAnswers>
         ensures { result ≡ slice_get (state self.now).courses task };
 }

@@ -19,23 +19,23 @@ use Rattle.schedule_text.specs.declared.commands.Line.TheVariants.{Skipped, Conf
 use Rattle.schedule_text.specs.declared.commands.Request.{Request, TheVariants.Task}
 use Rattle.schedule_text.specs.Commands.{takes, verb_of}
 use Rattle.schedule_lines.specs.declared.faults.Fault.TheVariants.{NoSuchTask, UnknownCommand, WrongNumberOfWords}
-use Rattle.transcripts.specs.Transcript.{Play, config_effect, line_effect, opening_play, tasks_of}
+use Rattle.transcripts.specs.Transcript.{ReplayState, config_effect, line_effect, opening_play, tasks_of}
 
 -- lines after others
 none_more : (before : List (List ℕ)) (after : List (List ℕ)) → AreNoRaces before → AreNoRaces after → AreNoRaces (before ++ after)
 none_more [] after none more = more
 none_more (line ∷ lines) after none more = (none.0, none_more lines after none.1 more)
 
-after_more : (p : Option Play) (before after : List (List ℕ)) → after_all p (before ++ after) ≡ after_all (after_all p before) after
+after_more : (p : Option ReplayState) (before after : List (List ℕ)) → after_all p (before ++ after) ≡ after_all (after_all p before) after
 after_more p [] after = refl
 after_more p (line ∷ lines) after = after_more (made_by p (parsed line (tasks_of p))) lines after
 
 -- no line yet
-pub none_yet : (p : Option Play) (all : Left) → SetsUp p p all all
+pub none_yet : (p : Option ReplayState) (all : Left) → SetsUp p p all all
 none_yet p all = record { before = []; lines = refl; none = tt; made = refl }
 
 -- one more
-pub one_more : (from to : Option Play) (all left now : Left) (line : List ℕ) → SetsUp from to all left →
+pub one_more : (from to : Option ReplayState) (all left now : Left) (line : List ℕ) → SetsUp from to all left →
     left.lines ≡ line ∷ (behind left).lines → now ≡ behind left → is_race line ≡ Ok false →
     SetsUp from (made_by to (parsed line (tasks_of to))) all now
 one_more from to all left now line so_far first rest no_race = record {
@@ -43,18 +43,18 @@ one_more from to all left now line so_far first rest no_race = record {
   lines = so_far.lines ∙ (ap (λ (l : List (List ℕ)). so_far.before ++ l) (first ∙ ap (λ (x : Left). line ∷ x.lines) (sym rest)) ∙
       sym (append_assoc so_far.before (line ∷ []) now.lines));
   none = none_more so_far.before (line ∷ []) so_far.none (no_race, tt);
-  made = after_more from so_far.before (line ∷ []) ∙ ap (λ (p : Option Play). made_by p (parsed line (tasks_of p))) so_far.made;
+  made = after_more from so_far.before (line ∷ []) ∙ ap (λ (p : Option ReplayState). made_by p (parsed line (tasks_of p))) so_far.made;
 }
 
 -- and those that come behind
-pub and_more : (from mid to : Option Play) (all left now : Left) → SetsUp from mid all left → SetsUp mid to left now → SetsUp from to all now
+pub and_more : (from mid to : Option ReplayState) (all left now : Left) → SetsUp from mid all left → SetsUp mid to left now → SetsUp from to all now
 and_more from mid to all left now first second = record {
   before = first.before ++ second.before;
   lines = first.lines ∙ (ap (λ (l : List (List ℕ)). first.before ++ l) second.lines ∙
       sym (append_assoc first.before second.before now.lines));
   none = none_more first.before second.before first.none second.none;
   made = after_more from first.before second.before ∙
-      (ap (λ (p : Option Play). after_all p second.before) first.made ∙ second.made);
+      (ap (λ (p : Option ReplayState). after_all p second.before) first.made ∙ second.made);
 }
 
 -- a line whose first word isn't `race`
@@ -167,13 +167,13 @@ parsed_no : (line : List ℕ) (tasks : ℕ) → MakesNoConfig (parsed line (Some
 unfolding parsed
 parsed_no line tasks = either_no (is_skipped line) _ _ (record { none = tt }) (command_no line tasks)
 
-stays_so : (q : Play) (l : Line) → IsNoConfig (Ok l) → ((r : Request) → l ≡ RequestLine r → ⊥) → (line_effect (Some q) l).play ≡ Some q
+stays_so : (q : ReplayState) (l : Line) → IsNoConfig (Ok l) → ((r : Request) → l ≡ RequestLine r → ⊥) → (line_effect (Some q) l).play ≡ Some q
 stays_so q Skipped plain other = refl
 stays_so q (ConfigLine c) plain other = absurd plain
 stays_so q (RequestLine request) plain other = absurd (other request refl)
 
 -- so one that asks for nothing leaves the play
-pub no_request : (q : Play) (line : List ℕ) (l : Line) → parsed line (Some q.config.tasks) ≡ Ok l → ((r : Request) → l ≡ RequestLine r → ⊥) →
+pub no_request : (q : ReplayState) (line : List ℕ) (l : Line) → parsed line (Some q.config.tasks) ≡ Ok l → ((r : Request) → l ≡ RequestLine r → ⊥) →
     made_by (Some q) (parsed line (Some q.config.tasks)) ≡ Some q
 no_request q line l understood other =
     ap (made_by (Some q)) understood ∙ stays_so q l (subst IsNoConfig understood (parsed_no line q.config.tasks).none) other

@@ -5,15 +5,15 @@ use Rattle.race_files.specs.Left.{Left}
 use Rattle.schedule_lines.specs.declared.faults.Fault.{Fault}
 use Rattle.schedule_text.specs.Parsing.{parsed}
 use Rattle.schedule_text.specs.declared.commands.Line.{Line}
-use Rattle.transcripts.specs.Transcript.{Play, line_effect, tasks_of}
+use Rattle.transcripts.specs.Transcript.{ReplayState, line_effect, tasks_of}
 
 -- the play after a line, as its transcript has it; a line with a fault does nothing
-abbrev pub made_by : Option Play → Result Line Fault → Option Play
+abbrev pub made_by : Option ReplayState → Result Line Fault → Option ReplayState
 made_by p (Ok line) = (line_effect p line).play
 made_by p (Err fault) = p
 
 -- the play after these lines
-abbrev pub after_all : Option Play → List (List ℕ) → Option Play
+abbrev pub after_all : Option ReplayState → List (List ℕ) → Option ReplayState
 after_all p [] = p
 after_all p (line ∷ lines) = after_all (made_by p (parsed line (tasks_of p))) lines
 
@@ -23,7 +23,7 @@ AreNoRaces [] = Unit {0}
 AreNoRaces (line ∷ lines) = (is_race line ≡ Ok false) × AreNoRaces lines
 
 -- Of all lines some come before those that are left. None of them is `race`, and they make this of the play that there was, or of none.
-pub record SetsUp (from to : Option Play) (all left : Left) : Type 0 where
+pub record SetsUp (from to : Option ReplayState) (all left : Left) : Type 0 where
   pub before : List (List ℕ)
   pub lines : all.lines ≡ before ++ left.lines
   pub none : AreNoRaces before

@@ -5,7 +5,7 @@ ghost use Rattle.gate_core.specs.Drivers.{CoreShows};
 ghost use Rattle.race_files.specs.Left.{behind, calls_left, left_in, lines_in};
 ghost use Rattle.race_files.specs.Races.{IsRaceIn};
 ghost use Rattle.transcripts.specs.Sessions.{ShowsPlay};
-ghost use Rattle.transcripts.specs.Transcript.{Play};
+ghost use Rattle.transcripts.specs.Transcript.{ReplayState};
 
 use crate::calls::Calls;
 use crate::faults::RaceFault;
@@ -31,7 +31,7 @@ impl RaceFile {
         session: &Session<Core>,
         lines: &mut Lines<'_>,
     ) -> Result<RaceFile, RaceFault>
-        ensures core { (p : Play) → ShowsPlay CoreShows session.now p → IfOk result (λ file. CoreShows file.core p.config p.world) }
+        ensures core { (p : ReplayState) → ShowsPlay CoreShows session.now p → IfOk result (λ file. CoreShows file.core p.config p.world) }
         ensures calls { IfOk result (λ file. calls_left file.core.config.tasks (behind (left_in lines.old)) ≡ Ok file.calls.race.calls.items) }
     {
         expect_idle(session.gates())?;

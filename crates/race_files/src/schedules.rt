@@ -4,7 +4,7 @@ use crate::calls::Calls;
 use access_model::{GateError, Reply};
 use gate_core::Core;
 use gate_schedules::{Progress, Step};
-use races::{Course, Race};
+use races::{CallAnswers, Race};
 use schedule_text::Output;
 use std::alloc::{AllocError, Global};
 use transcripts::Session;
@@ -22,7 +22,7 @@ pub fn print_schedule(
     movers: &[u8],
     out: &mut Output,
 ) -> Result<(), AllocError> {
-    let mut courses = vec![in alloc; Course::new(); usize::from(calls.race.tasks)]?;
+    let mut courses = vec![in alloc; CallAnswers::new(); usize::from(calls.race.tasks)]?;
     for task in movers {
         let task = *task;
         let Some(course) = courses.get_mut(usize::from(task)) else {
@@ -43,7 +43,7 @@ pub fn begin_late(
     session: &mut Session<Core>,
     movers: &[u8],
 ) -> Result<Vec<u8>, AllocError> {
-    let mut courses = vec![in alloc; Course::new(); usize::from(calls.race.tasks)]?;
+    let mut courses = vec![in alloc; CallAnswers::new(); usize::from(calls.race.tasks)]?;
     let mut held = vec![in alloc; false; usize::from(calls.race.tasks)]?;
     let mut late = Vec::new(alloc);
     let mut unread = Output::new(alloc);
@@ -81,7 +81,7 @@ fn hold_or_move(
 }
 
 /// How far a task has come whose next move answered this, or nothing.
-fn course_after(race: &Race, task: u8, course: Course, answer: Option<Answer>) -> Course {
+fn course_after(race: &Race, task: u8, course: CallAnswers, answer: Option<Answer>) -> CallAnswers {
     match (race.calls_of(task), race.call_after(task, course)) {
         (Some(calls), Some(call)) => course.after(calls, call, answer),
         _ => course,

@@ -5,7 +5,7 @@ ghost use Rattle.gate_core.specs.Drivers.{CoreShows};
 ghost use Rattle.race_files.specs.Left.{AreLeftOf, BeginRace, left_in};
 ghost use Rattle.race_files.specs.SettingUp.{SetsUp};
 ghost use Rattle.transcripts.specs.Sessions.{ShowsPlay};
-ghost use Rattle.transcripts.specs.Transcript.{Play};
+ghost use Rattle.transcripts.specs.Transcript.{ReplayState};
 
 use crate::faults::RaceFault;
 use crate::lines::{Lines, is_race};
@@ -34,7 +34,7 @@ impl SetUpObserver for Unobserved {
 /// they print is dropped.
 pub fn set_up(alloc: Global, lines: &mut Lines<'_>) -> Result<Session<Core>, RaceFault>
     ensures begin { IfOk result (λ _. BeginRace (left_in lines.old) (left_in lines.new)) }
-    ensures made { IfOk result (λ session. (p : Play) × SetsUp None (Some p) (left_in lines.old) (left_in lines.new) × ShowsPlay CoreShows session p) }
+    ensures made { IfOk result (λ session. (p : ReplayState) × SetsUp None (Some p) (left_in lines.old) (left_in lines.new) × ShowsPlay CoreShows session p) }
 {
     do_setting(alloc, lines, &mut Output::new(alloc), &mut Unobserved)
 }
@@ -47,7 +47,7 @@ pub fn do_setting<W: SetUpObserver>(
     watch: &mut W,
 ) -> Result<Session<Core>, RaceFault>
     ensures begin { IfOk result (λ _. BeginRace (left_in lines.old) (left_in lines.new)) }
-    ensures made { IfOk result (λ session. (p : Play) × SetsUp None (Some p) (left_in lines.old) (left_in lines.new) × ShowsPlay CoreShows session p) }
+    ensures made { IfOk result (λ session. (p : ReplayState) × SetsUp None (Some p) (left_in lines.old) (left_in lines.new) × ShowsPlay CoreShows session p) }
 {
     let mut session = open(alloc, lines)?;
     let done = do_lines(&mut session, lines, printed, watch);
@@ -57,7 +57,7 @@ pub fn do_setting<W: SetUpObserver>(
 /// Takes the lines up to the configuration.
 fn open(alloc: Global, lines: &mut Lines<'_>) -> Result<Session<Core>, RaceFault>
     ensures left { IfOk result (λ _. AreLeftOf (left_in lines.old) (left_in lines.new)) }
-    ensures made { IfOk result (λ session. (p : Play) × SetsUp None (Some p) (left_in lines.old) (left_in lines.new) × ShowsPlay CoreShows session p) }
+    ensures made { IfOk result (λ session. (p : ReplayState) × SetsUp None (Some p) (left_in lines.old) (left_in lines.new) × ShowsPlay CoreShows session p) }
 {
     while let Some(line) = lines.line()? {
         if let Line::Config(config) = parse(line, None)? {
@@ -78,8 +78,8 @@ fn do_lines<W: SetUpObserver>(
     watch: &mut W,
 ) -> Result<(), RaceFault>
     ensures begin { IfOk result (λ _. BeginRace (left_in lines.old) (left_in lines.new)) }
-    ensures made { (p : Play) → ShowsPlay CoreShows session.old p → OnOk result (
-        (q : Play) × SetsUp (Some p) (Some q) (left_in lines.old) (left_in lines.new) × ShowsPlay CoreShows session.new q) }
+    ensures made { (p : ReplayState) → ShowsPlay CoreShows session.old p → OnOk result (
+        (q : ReplayState) × SetsUp (Some p) (Some q) (left_in lines.old) (left_in lines.new) × ShowsPlay CoreShows session.new q) }
 {
     while let Some(line) = lines.line()? {
         if is_race(line)? {

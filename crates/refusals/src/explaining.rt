@@ -1,7 +1,7 @@
 //! Explanations, from the command line.
 
 ghost use Rattle.std.specs.Prelude.{◌≡◌, ◌⊎◌};
-ghost use Rattle.exit_status.specs.declared.ends.Ending.TheVariants.{Misused, Refused, Told};
+ghost use Rattle.exit_status.specs.declared.ends.ProgramEnding.TheVariants.{Misused, Refused, Told};
 
 use crate::calls::CALLS;
 use crate::causes::{CAUSES, Cause};
@@ -9,7 +9,7 @@ use crate::rows::RefusalRow;
 use crate::table::{gates, tasks, trees};
 use access_model::GateError;
 use diagnostics::Text;
-use exit_status::{Ending, refused, text_told, why_told};
+use exit_status::{ProgramEnding, refused, text_told, why_told};
 use std::alloc::{AllocError, Global};
 use std::io::Write;
 use strsim::osa_distance;
@@ -24,7 +24,7 @@ const FAR: usize = 2;
 
 /// What is asked for.
 #[derive(Clone, Copy)]
-struct Asked<'a> {
+struct RefusalQuery<'a> {
     /// A name of a call; all calls, if there is none.
     call: Option<&'a str>,
     /// A number or a name of a refusal; all refusals, if there is none.
@@ -39,19 +39,19 @@ pub fn run_explanation<W: Write, E: Write>(
     refusal: Option<&str>,
     writer: &mut W,
     errors: &mut E,
-) -> Ending
+) -> ProgramEnding
     ensures { (result ≡ Told) ⊎ (result ≡ Refused) ⊎ (result ≡ Misused) }
 {
     let asked = match (call, refusal) {
-        (Some(word), None) if !is_any_call(word) && is_any_refusal(word) => Asked {
+        (Some(word), None) if !is_any_call(word) && is_any_refusal(word) => RefusalQuery {
             call: None,
             refusal: call,
         },
-        _ => Asked { call, refusal },
+        _ => RefusalQuery { call, refusal },
     };
     let mut text = Text::new(alloc);
     let is_found = match asked {
-        Asked {
+        RefusalQuery {
             call: None,
             refusal: None,
         } => {
@@ -70,14 +70,14 @@ pub fn run_explanation<W: Write, E: Write>(
 }
 
 /// Puts each row that is asked for; whether there are some.
-fn put_rows(text: &mut Text, asked: Asked<'_>) -> bool {
+fn put_rows(text: &mut Text, asked: RefusalQuery<'_>) -> bool {
     let is_found = put_part(text, gates::ROWS, asked, false);
     let is_found = put_part(text, trees::ROWS, asked, is_found);
     put_part(text, tasks::ROWS, asked, is_found)
 }
 
 /// Puts each of these rows that is asked for, behind others, if some were found; whether there are some now.
-fn put_part(text: &mut Text, rows: &'static str, asked: Asked<'_>, others: bool) -> bool {
+fn put_part(text: &mut Text, rows: &'static str, asked: RefusalQuery<'_>, others: bool) -> bool {
     let mut is_found = others;
     for row in rows.split("\n\n") {
         if let Some(row) = RefusalRow::read(row)
@@ -94,7 +94,7 @@ fn put_part(text: &mut Text, rows: &'static str, asked: Asked<'_>, others: bool)
 }
 
 /// Whether a row is asked for.
-fn is_asked(row: &RefusalRow, asked: Asked<'_>) -> bool {
+fn is_asked(row: &RefusalRow, asked: RefusalQuery<'_>) -> bool {
     let is_of_call = match asked.call {
         Some(word) => are_named(row.calls, word),
         None => true,
@@ -225,7 +225,7 @@ fn put_columns(text: &mut Text, cause: GateError, errno: &str) {
 }
 
 /// Tells that a call or a refusal isn't known, or that the call is never refused so.
-fn unknown<E: Write>(alloc: Global, asked: Asked<'_>, errors: &mut E) -> Ending
+fn unknown<E: Write>(alloc: Global, asked: RefusalQuery<'_>, errors: &mut E) -> ProgramEnding
     ensures { (result ≡ Refused) ⊎ (result ≡ Misused) }
 {
     let mut text = Text::new(alloc);
@@ -238,7 +238,7 @@ fn unknown<E: Write>(alloc: Global, asked: Asked<'_>, errors: &mut E) -> Ending
     match text.ended() {
         Ok(text) => {
             let _ = why_told(text.as_str(), errors);
-            Ending::Misused
+            ProgramEnding::Misused
         }
         Err(AllocError) => refused(GateError::NoMemory, errors),
     }
@@ -270,7 +270,7 @@ fn put_unknown_refusal(text: &mut Text, call: Option<&str>, word: &str) {
     text.put(" of '");
     text.bytes(call.as_bytes());
     text.put("', which may be refused as:");
-    let asked = Asked {
+    let asked = RefusalQuery {
         call: Some(call),
         refusal: None,
     };
@@ -280,7 +280,7 @@ fn put_unknown_refusal(text: &mut Text, call: Option<&str>, word: &str) {
 }
 
 /// Puts the refusals of these rows that are asked for, each once.
-fn put_refusals(text: &mut Text, rows: &'static str, asked: Asked<'_>) {
+fn put_refusals(text: &mut Text, rows: &'static str, asked: RefusalQuery<'_>) {
     let mut last = None;
     for row in rows.split("\n\n") {
         if let Some(row) = RefusalRow::read(row)

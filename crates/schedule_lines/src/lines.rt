@@ -38,7 +38,7 @@ fn first_newline(bytes: &[u8]) -> Option<usize>
 }
 
 /// The bytes among which the newline of a line that isn't too long is.
-fn near(bytes: &[u8]) -> &[u8]
+fn line_window(bytes: &[u8]) -> &[u8]
     ensures { result.now ≡ take 257 bytes.now }
 {
     if bytes.len() > LINE_BYTES {
@@ -54,7 +54,7 @@ pub fn front_of(bytes: &[u8]) -> Front
     ensures front { result ≡ front_of bytes.now }
     ensures inside { (n : ℕ) → result ≡ Line n → n < length bytes.now }
 {
-    match first_newline(near(bytes)) {
+    match first_newline(line_window(bytes)) {
         Some(length) => Front::Line(length),
         None if bytes.len() > LINE_BYTES => Front::TooLong,
         None => Front::Part,

@@ -3,4 +3,4 @@
 
 mod words;
 
-pub use words::{Words, mixed};
+pub use words::{StateWords, mixed};

@@ -1,7 +1,7 @@
 //! Records of what is seen, a JSON object on each line.
 
 use crate::forms::Style;
-use crate::listings::{Listed, Listing};
+use crate::listings::{Listed, ListingKind};
 use crate::page::{Page, text_of};
 use crate::terms::{FieldValue, Term, action_term, answer_term, call_term, holder_word, kind_word};
 use crate::trace::{Entry, Happening, Taken, touch_name};
@@ -243,7 +243,7 @@ fn put_wait(record: &mut Record, wait: Wait, style: Style) {
 }
 
 /// Prints the record of listed words, of those that aren't 0.
-pub(crate) fn print_words(listing: Listing, words: &[Listed], style: Style, page: &mut Page) {
+pub(crate) fn print_words(listing: ListingKind, words: &[Listed], style: Style, page: &mut Page) {
     let mut record = record_of(listing.name(), page);
     let mut items = List::new(page.alloc);
     for listed in words {
@@ -260,7 +260,7 @@ pub(crate) fn print_words(listing: Listing, words: &[Listed], style: Style, page
 
 /// Prints the record of the model.
 pub(crate) fn print_model<D: Driver>(session: &Session<D>, page: &mut Page) {
-    let mut record = record_of(Listing::Model.name(), page);
+    let mut record = record_of(ListingKind::Model.name(), page);
     let model = session.model();
     record.number("stage", u64::from(model.stage()));
     record.number("passed", u64::from(model.passed()));

@@ -7,19 +7,19 @@ use transcripts::Session;
 
 /// What a listing is of.
 #[derive(Clone, Copy, PartialEq, Eq)]
-pub(crate) enum Listing {
+pub(crate) enum ListingKind {
     Words,
     Tree,
     Model,
 }
 
-impl Listing {
+impl ListingKind {
     /// The line that asks for it.
     pub(crate) fn name(self) -> &'static str {
         match self {
-            Listing::Words => "words",
-            Listing::Tree => "tree",
-            Listing::Model => "model",
+            ListingKind::Words => "words",
+            ListingKind::Tree => "tree",
+            ListingKind::Model => "model",
         }
     }
 }
@@ -35,19 +35,19 @@ pub(crate) struct Listed {
 pub(crate) fn words_of<D: Driver>(
     alloc: Global,
     session: &Session<D>,
-    listing: Listing,
+    listing: ListingKind,
 ) -> Result<Vec<Listed>, AllocError> {
-    let mut words = Words {
+    let mut words = WordLister {
         session,
         listed: Vec::new(alloc),
         is_whole: true,
     };
     match listing {
-        Listing::Words => words.add_gates(),
-        Listing::Tree => words.add_tree(),
-        Listing::Model => {}
+        ListingKind::Words => words.add_gates(),
+        ListingKind::Tree => words.add_tree(),
+        ListingKind::Model => {}
     }
-    let Words {
+    let WordLister {
         listed,
         is_whole,
         ..
@@ -71,13 +71,13 @@ const SUPERBLOCK: [WordName; 6] = [
 
 /// The words that were found so far. Memory that was refused is noted.
 #[derive(Drop)]
-struct Words<'a, D> {
+struct WordLister<'a, D> {
     session: &'a Session<D>,
     listed: Vec<Listed>,
     is_whole: bool,
 }
 
-impl<'a, D: Driver> Words<'a, D> {
+impl<'a, D: Driver> WordLister<'a, D> {
     /// Adds a word, where the configuration has it.
     fn add(&mut self, word: WordName) {
         if let Some(value) = self.session.word(word) {

@@ -3,7 +3,7 @@
 use crate::drawing::Drawing;
 use crate::forms::Style;
 use crate::layout::Layout;
-use crate::listings::Listing;
+use crate::listings::ListingKind;
 use crate::markup::escaped;
 use crate::page::Page;
 use crate::trace::{Entry, Happening};
@@ -70,7 +70,7 @@ impl Picture {
     /// Takes what was listed.
     pub(crate) fn add_listing(
         &mut self,
-        listing: Listing,
+        listing: ListingKind,
         text: &Output,
     ) -> Result<(), AllocError> {
         let out = &mut self.listings;

@@ -3,7 +3,7 @@
 use crate::columns::Columns;
 use crate::forms::{Form, Look, Style};
 use crate::json;
-use crate::listings::{Listed, Listing, words_of};
+use crate::listings::{Listed, ListingKind, words_of};
 use crate::page::Page;
 use crate::picture::Picture;
 use crate::reasons::Asker;
@@ -119,8 +119,8 @@ impl Screen {
 
     fn do_request<D: Driver>(&mut self, session: &mut Session<D>, request: Request) {
         match request {
-            Request::Words => self.list(session, Listing::Words),
-            Request::Tree => self.list(session, Listing::Tree),
+            Request::Words => self.list(session, ListingKind::Words),
+            Request::Tree => self.list(session, ListingKind::Tree),
             Request::Model => self.show_model(session),
             Request::Task { task, command } => match command {
                 TaskCommand::Begin(op) => self.start(session, task, op),
@@ -145,16 +145,16 @@ impl Screen {
     }
 
     /// Shows the words of a listing. In columns `words` has those that have changed.
-    fn list<D: Driver>(&mut self, session: &Session<D>, listing: Listing) {
+    fn list<D: Driver>(&mut self, session: &Session<D>, listing: ListingKind) {
         match words_of(self.page.alloc, session, listing) {
             Ok(words) => self.show_words(listing, words.as_slice()),
             Err(refused) => self.page.note(Err(refused)),
         }
     }
 
-    fn show_words(&mut self, listing: Listing, words: &[Listed]) {
+    fn show_words(&mut self, listing: ListingKind, words: &[Listed]) {
         match &mut self.printer {
-            Printer::Columns(columns) if listing == Listing::Words => {
+            Printer::Columns(columns) if listing == ListingKind::Words => {
                 columns.changes(words, self.style, &mut self.page);
             }
             Printer::Json => json::print_words(listing, words, self.style, &mut self.page),
@@ -177,7 +177,8 @@ impl Screen {
             Printer::Picture(picture) => {
                 let mut text = Output::new(self.page.alloc);
                 session.print_model(&mut text);
-                self.page.note(picture.add_listing(Listing::Model, &text));
+                self.page
+                    .note(picture.add_listing(ListingKind::Model, &text));
             }
             Printer::Waits(_) => {}
         }

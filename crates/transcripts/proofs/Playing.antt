@@ -16,7 +16,7 @@ use Rattle.gate_world.specs.Shown.{shown}
 use Rattle.gate_schedules.specs.Answers.{step_answer, phase_step, idle_step}
 use Rattle.gate_schedules.specs.declared.steps.Step.{Step}
 use Rattle.gate_schedules.proofs.schedules.HeadlineProof.{whole_run, whole_moves}
-use Rattle.transcripts.specs.Transcript.{Play, played}
+use Rattle.transcripts.specs.Transcript.{ReplayState, played}
 use Rattle.transcripts.specs.Reached.{IsReached}
 
 -- a run of one entry more
@@ -31,7 +31,7 @@ history_more c w earlier [] e = refl
 history_more c w earlier (x ∷ es) e = history_more c (happens c w x) (with_action (task_of x) (action_of c w x) earlier) es e
 
 -- the play after an entry is reached where the play before it is
-pub reached_more : (p : Play) (e : Entry) → IsReached p → IsReached (played p e)
+pub reached_more : (p : ReplayState) (e : Entry) → IsReached p → IsReached (played p e)
 reached_more p e h =
     let now = run p.config opening h.entries in
     record {
@@ -49,7 +49,7 @@ allowed_by : (c : Config) (s new s_new : State) (t : ℕ) (o : Option Action) (a
 allowed_by c s new s_new t o a h e = (subst (λ (x : Option Action). Moves c s t x new) e h).0
 
 -- an action that an event adds is allowed in the state after the actions so far
-pub allowed : (p : Play) (e : Entry) (a : Action) → IsReached p → action_of p.config p.world e ≡ Some a →
+pub allowed : (p : ReplayState) (e : Entry) (a : Action) → IsReached p → action_of p.config p.world e ≡ Some a →
     IsAllowed (model_limits p.config) (end_of p.done) (task_of e) a
 allowed p e a h added =
     let c = p.config in

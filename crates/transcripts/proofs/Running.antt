@@ -10,7 +10,7 @@ use Rattle.gate_world.specs.declared.config.Config.{Config}
 use Rattle.gate_schedules.specs.declared.steps.Progress.TheVariants.{Idle, Going, Waiting, Done as Ended}
 use Rattle.gate_schedules.specs.Answers.{step_answer}
 use Rattle.schedule_text.specs.declared.commands.HookFailure.{HookFailure}
-use Rattle.transcripts.specs.Transcript.{Play, after_event, hook_answer, next_progress, next_play, run_from, run_of}
+use Rattle.transcripts.specs.Transcript.{ReplayState, after_event, hook_answer, next_progress, next_play, run_from, run_of}
 use Rattle.transcripts.specs.Sessions.{ShowsPlay}
 use Rattle.transcripts.specs.declared.session.Session.{Session}
 
@@ -20,18 +20,18 @@ IsLast x = (x ≡ Waiting) ⊎ ((answer : Result Reply GateError) × (x ≡ Ende
 
 -- a run that is on its way, after so many events
 pub record OnTheWay {D : Type 0} (shows : D → Config → World → Type 0) (session : Session D)
-    (p : Play) (t : ℕ) (failure : Option HookFailure) (events : ℕ) : Type 0 where
-  pub now : Play
+    (p : ReplayState) (t : ℕ) (failure : Option HookFailure) (events : ℕ) : Type 0 where
+  pub now : ReplayState
   pub shown : ShowsPlay shows session now
   pub left : run_of p t failure ≡ run_from (1000 - events) now t failure
 
 -- before its first event
-pub starts : {D : Type 0} {shows : D → Config → World → Type 0} (session : Session D) (p : Play) (t : ℕ) (failure : Option HookFailure) →
+pub starts : {D : Type 0} {shows : D → Config → World → Type 0} (session : Session D) (p : ReplayState) (t : ℕ) (failure : Option HookFailure) →
     ShowsPlay shows session p → OnTheWay shows session p t failure 0
 unfolding run_of
 starts session p t failure h = record { now = p; shown = h; left = refl }
 
-module _ {D : Type 0} {shows : D → Config → World → Type 0} (session : Session D) (p : Play) (t : ℕ) (failure : Option HookFailure) (events : ℕ)
+module _ {D : Type 0} {shows : D → Config → World → Type 0} (session : Session D) (p : ReplayState) (t : ℕ) (failure : Option HookFailure) (events : ℕ)
     (way : OnTheWay shows session p t failure events) (hook : HookAnswer) (same : hook ≡ hook_answer way.now t failure) where
   -- a step whose hook answers as the run says is the run's next one
   pub progress_in_run : (step_answer way.now.config way.now.world t hook).progress ≡ next_progress way.now t failure
@@ -42,7 +42,7 @@ module _ {D : Type 0} {shows : D → Config → World → Type 0} (session : Ses
   shows_in_run new h = subst (λ (a : HookAnswer). ShowsPlay shows new (after_event way.now t a)) same h
 
 -- what a run comes to by an event that answers this, where so many more may follow
-abbrev turn : ℕ → Play → ℕ → Option HookFailure → Progress → Progress × Play
+abbrev turn : ℕ → ReplayState → ℕ → Option HookFailure → Progress → Progress × ReplayState
 turn left q t failure x =
     elim x [
       | Idle ↦ (Idle, next_play q t failure)
@@ -52,7 +52,7 @@ turn left q t failure x =
     ]
 
 -- one event more
-one_turn : (p q : Play) (t : ℕ) (failure : Option HookFailure) (events : ℕ) (x : Progress) → events < 1000 →
+one_turn : (p q : ReplayState) (t : ℕ) (failure : Option HookFailure) (events : ℕ) (x : Progress) → events < 1000 →
     run_of p t failure ≡ run_from (1000 - events) q t failure → x ≡ next_progress q t failure →
     run_of p t failure ≡ turn (1000 - (events + 1)) q t failure x
 one_turn p q t failure events x lt left is =
@@ -60,7 +60,7 @@ one_turn p q t failure events x lt left is =
     left ∙ ap (λ (n : ℕ). run_from n q t failure) e ∙ ap (turn (1000 - (events + 1)) q t failure) (sym is)
 
 -- an event after which the operation goes on
-pub goes_on : {D : Type 0} {shows : D → Config → World → Type 0} (session new : Session D) (p : Play) (t : ℕ) (failure : Option HookFailure) (events : ℕ)
+pub goes_on : {D : Type 0} {shows : D → Config → World → Type 0} (session new : Session D) (p : ReplayState) (t : ℕ) (failure : Option HookFailure) (events : ℕ)
     (way : OnTheWay shows session p t failure events) → events < 1000 → Going ≡ next_progress way.now t failure →
     ShowsPlay shows new (next_play way.now t failure) → OnTheWay shows new p t failure (events + 1)
 goes_on session new p t failure events way lt is h = record {
@@ -70,7 +70,7 @@ goes_on session new p t failure events way lt is h = record {
 }
 
 -- an idle task ends the run
-pub is_idle : {D : Type 0} {shows : D → Config → World → Type 0} (session : Session D) (p : Play) (t : ℕ) (failure : Option HookFailure) (events : ℕ)
+pub is_idle : {D : Type 0} {shows : D → Config → World → Type 0} (session : Session D) (p : ReplayState) (t : ℕ) (failure : Option HookFailure) (events : ℕ)
     (way : OnTheWay shows session p t failure events) → events < 1000 → Idle ≡ next_progress way.now t failure →
     run_of p t failure ≡ (Idle, next_play way.now t failure)
 is_idle session p t failure events way lt is = one_turn p way.now t failure events Idle lt way.left is
@@ -81,7 +81,7 @@ going_ends Going = false
 going_ends _ = true
 
 -- the last event of a run
-last_turn : (left : ℕ) (q : Play) (t : ℕ) (failure : Option HookFailure) (x : Progress) → going_ends x ≡ true →
+last_turn : (left : ℕ) (q : ReplayState) (t : ℕ) (failure : Option HookFailure) (x : Progress) → going_ends x ≡ true →
     turn left q t failure x ≡ (x, next_play q t failure)
 last_turn left q t failure Idle a = refl
 last_turn left q t failure Going a = cc
@@ -94,18 +94,18 @@ ended x (inl e) = ap going_ends e
 ended x (inr e) = ap going_ends e.1
 
 -- having to wait or a reply ends the run
-pub stops : {D : Type 0} {shows : D → Config → World → Type 0} (session : Session D) (p : Play) (t : ℕ) (failure : Option HookFailure) (events : ℕ)
+pub stops : {D : Type 0} {shows : D → Config → World → Type 0} (session : Session D) (p : ReplayState) (t : ℕ) (failure : Option HookFailure) (events : ℕ)
     (way : OnTheWay shows session p t failure events) (x : Progress) → events < 1000 → x ≡ next_progress way.now t failure → IsLast x →
     run_of p t failure ≡ (x, next_play way.now t failure)
 stops session p t failure events way x lt is how =
     one_turn p way.now t failure events x lt way.left is ∙ last_turn (1000 - (events + 1)) way.now t failure x (ended x how)
 
 -- how a run ended, where it is known
-pub progress_so : (p : Play) (t : ℕ) (failure : Option HookFailure) (x : Progress) (q : Play) →
+pub progress_so : (p : ReplayState) (t : ℕ) (failure : Option HookFailure) (x : Progress) (q : ReplayState) →
     run_of p t failure ≡ (x, q) → (run_of p t failure).0 ≡ x
-progress_so p t failure x q e = ap (λ (r : Progress × Play). r.0) e
+progress_so p t failure x q e = ap (λ (r : Progress × ReplayState). r.0) e
 
 -- the play that a run ends in, where it is known
-pub shows_so : {D : Type 0} {shows : D → Config → World → Type 0} (session : Session D) (p : Play) (t : ℕ) (failure : Option HookFailure)
-    (x : Progress) (q : Play) → run_of p t failure ≡ (x, q) → ShowsPlay shows session q → ShowsPlay shows session (run_of p t failure).1
-shows_so {shows = shows} session p t failure x q e h = subst (λ (r : Progress × Play). ShowsPlay shows session r.1) (sym e) h
+pub shows_so : {D : Type 0} {shows : D → Config → World → Type 0} (session : Session D) (p : ReplayState) (t : ℕ) (failure : Option HookFailure)
+    (x : Progress) (q : ReplayState) → run_of p t failure ≡ (x, q) → ShowsPlay shows session q → ShowsPlay shows session (run_of p t failure).1
+shows_so {shows = shows} session p t failure x q e h = subst (λ (r : Progress × ReplayState). ShowsPlay shows session r.1) (sym e) h

@@ -17,7 +17,7 @@ use Rattle.gate_schedules.specs.Answers.{step_answer}
 use Rattle.gate_schedules.specs.declared.steps.Progress.{Progress}
 use Rattle.gate_schedules.specs.declared.steps.Step.{Step}
 use Rattle.schedule_lines.specs.declared.faults.Fault.{Fault}
-use Rattle.transcripts.specs.Transcript.{Play, played, after_event}
+use Rattle.transcripts.specs.Transcript.{ReplayState, played, after_event}
 use Rattle.transcripts.specs.Sessions.{ShowsPlay, ShowsPlayIfAny}
 use Rattle.transcripts.specs.declared.session.Session.{Session}
 use Rattle.transcripts.proofs.Playing.{reached_more, allowed, step_adds}
@@ -41,7 +41,7 @@ model_of s c done t o h o_is e = subst (λ (x : Option Action). s ≡ model_afte
 
 module _ {D : Type 0} {shows : D → Config → World → Type 0} where
   -- a session whose gates and model made an entry shows the play after it
-  moved : (old new : Session D) (p : Play) (e : Entry) → ShowsPlay shows old p → new.config ≡ old.config → DriverAfter shows old new e →
+  moved : (old new : Session D) (p : ReplayState) (e : Entry) → ShowsPlay shows old p → new.config ≡ old.config → DriverAfter shows old new e →
       standing_of new.model ≡ model_after p.config p.done (task_of e) (action_of p.config p.world e) → ShowsPlay shows new (played p e)
   moved old new p e h same after model = record {
     config = same ∙ h.config;
@@ -51,17 +51,17 @@ module _ {D : Type 0} {shows : D → Config → World → Type 0} where
   }
 
   -- a beginning adds no action
-  pub after_begin : (old new : Session D) (p : Play) (t : ℕ) (op : Op) → ShowsPlay shows old p → new.config ≡ old.config → new.model ≡ old.model →
+  pub after_begin : (old new : Session D) (p : ReplayState) (t : ℕ) (op : Op) → ShowsPlay shows old p → new.config ≡ old.config → new.model ≡ old.model →
       DriverAfter shows old new (Begins t op) → ShowsPlay shows new (played p (Begins t op))
   after_begin old new p t op h same same_model after = moved old new p (Begins t op) h same after (ap standing_of same_model ∙ h.model)
 
   -- the action of a step that was answered
-  adds : (old : Session D) (p : Play) (t : ℕ) (hook : HookAnswer) (r : Step) → ShowsPlay shows old p → StepAnswers shows old t hook r →
+  adds : (old : Session D) (p : ReplayState) (t : ℕ) (hook : HookAnswer) (r : Step) → ShowsPlay shows old p → StepAnswers shows old t hook r →
       action_of p.config p.world (Steps t hook) ≡ r.action
   adds old p t hook r h is = sym (ap (λ (s : Step). s.action) (is p.config p.world h.driver) ∙ step_adds p.config p.world t hook)
 
   -- a step that adds no action leaves the model
-  pub stepped_none : (old new : Session D) (p : Play) (t : ℕ) (hook : HookAnswer) (r : Step) → ShowsPlay shows old p → new.config ≡ old.config →
+  pub stepped_none : (old new : Session D) (p : ReplayState) (t : ℕ) (hook : HookAnswer) (r : Step) → ShowsPlay shows old p → new.config ≡ old.config →
       StepAnswers shows old t hook r → DriverAfter shows old new (Steps t hook) → r.action ≡ None → new.model ≡ old.model →
       ShowsPlay shows new (after_event p t hook)
   stepped_none old new p t hook r h same is after none same_model =
@@ -70,7 +70,7 @@ module _ {D : Type 0} {shows : D → Config → World → Type 0} where
       (action_of p.config p.world (Steps t hook)) (sym (adds old p t hook r h is ∙ none)))
 
   -- a step that adds an action, which the model makes
-  pub stepped_some : (old new : Session D) (p : Play) (t : ℕ) (hook : HookAnswer) (r : Step) (a : Action) → ShowsPlay shows old p →
+  pub stepped_some : (old new : Session D) (p : ReplayState) (t : ℕ) (hook : HookAnswer) (r : Step) (a : Action) → ShowsPlay shows old p →
       new.config ≡ old.config → StepAnswers shows old t hook r → DriverAfter shows old new (Steps t hook) → r.action ≡ Some a →
       standing_of new.model ≡ standing_after (standing_of old.model) t a → ShowsPlay shows new (after_event p t hook)
   stepped_some old new p t hook r a h same is moves some after =
@@ -79,7 +79,7 @@ module _ {D : Type 0} {shows : D → Config → World → Type 0} where
       (action_of p.config p.world (Steps t hook)) (sym (adds old p t hook r h is ∙ some)))
 
   -- the action of a step is never refused
-  pub not_refused : (old : Session D) (p : Play) (t : ℕ) (hook : HookAnswer) (r : Step) (a : Action) → ShowsPlay shows old p →
+  pub not_refused : (old : Session D) (p : ReplayState) (t : ℕ) (hook : HookAnswer) (r : Step) (a : Action) → ShowsPlay shows old p →
       StepAnswers shows old t hook r → r.action ≡ Some a → IsAllowed (limits_in old.model) (state_of old.model) t a
   not_refused old p t hook r a h is some =
       subst (λ (s : Standing). IsAllowed s.limits s.state t a) (sym h.model)
@@ -107,13 +107,13 @@ pub same_progress : (progress answered : Progress) → stands progress ≡ stand
 same_progress progress answered e = cc
 
 -- with no session there is no play
-pub no_play : {D : Type 0} (shows : D → Config → World → Type 0) (s : Option (Session D)) (p : Option Play) → ShowsPlayIfAny shows s p → s ≡ None → p ≡ None
+pub no_play : {D : Type 0} (shows : D → Config → World → Type 0) (s : Option (Session D)) (p : Option ReplayState) → ShowsPlayIfAny shows s p → s ≡ None → p ≡ None
 no_play shows None None h e = refl
 no_play shows None (Some p) h e = absurd h
 no_play shows (Some s) p h e = cc
 
 -- with a session there is a play
-pub a_play : {D : Type 0} (shows : D → Config → World → Type 0) (s : Option (Session D)) (p : Option Play) → ShowsPlayIfAny shows s p → IsSome s → IsSome p
+pub a_play : {D : Type 0} (shows : D → Config → World → Type 0) (s : Option (Session D)) (p : Option ReplayState) → ShowsPlayIfAny shows s p → IsSome s → IsSome p
 a_play shows None p h k = cc
 a_play shows (Some s) None h k = absurd h
 a_play shows (Some s) (Some p) h k = refl

@@ -14,7 +14,7 @@ use Rattle.gate_world.specs.declared.config.Config.{Config}
 use Rattle.schedule_lines.specs.declared.output.Output.{Output}
 use Rattle.schedule_lines.specs.Printed.{Prints}
 use Rattle.schedule_lines.proofs.Printed.{prints_both, prints_same}
-use Rattle.transcripts.specs.Transcript.{Play, count_up, word_text, texts_of, words_of_all, mount_words, level_words, printed_words, printed_tree_words, word_in, words_text, tree_words_text}
+use Rattle.transcripts.specs.Transcript.{ReplayState, count_up, word_text, texts_of, words_of_all, mount_words, level_words, printed_words, printed_tree_words, word_in, words_text, tree_words_text}
 
 -- the texts of one number more
 pub one_more : (f : ℕ → List ℕ) {old now new : Output} (i : ℕ) → Prints old now (flat_map f (count_up i)) → Prints now new (f i) →
@@ -186,7 +186,7 @@ same_texts value other (name ∷ names) h =
     ap₂ (λ (l m : List ℕ). l ++ m) (ap (word_text name) (All-head (λ n. value n ≡ other n) name names h))
     (same_texts value other names (All-tail (λ n. value n ≡ other n) name names h))
 
-module _ (value : WordName → Option ℕ) (p : Play)
+module _ (value : WordName → Option ℕ) (p : ReplayState)
     (is : (name : WordName) → IsWord (extents_of p.config) name → value name ≡ word_in p name) where
   -- what `words` prints of a play
   pub shown_words : texts_of value (printed_words p.config) ≡ words_text p

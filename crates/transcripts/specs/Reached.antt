@@ -3,10 +3,10 @@ use Rattle.std.specs.Prelude.{◌≡◌, List, []}
 use Rattle.gate_world.specs.Configs.{IsWithin}
 use Rattle.gate_world.specs.Worlds.{run, history, opening}
 use Rattle.gate_world.specs.declared.entries.Entry.{Entry}
-use Rattle.transcripts.specs.Transcript.{Play}
+use Rattle.transcripts.specs.Transcript.{ReplayState}
 
 -- some schedule leads to this play
-pub record IsReached (p : Play) : Type 0 where
+pub record IsReached (p : ReplayState) : Type 0 where
   pub within : IsWithin p.config
   pub entries : List Entry
   pub world : p.world ≡ run p.config opening entries

@@ -6,7 +6,7 @@ use Rattle.gate_world.specs.Configs.{model_limits}
 use Rattle.gate_world.specs.Worlds.{World}
 use Rattle.gate_world.specs.declared.config.Config.{Config}
 use Rattle.transcripts.specs.Reached.{IsReached}
-use Rattle.transcripts.specs.Transcript.{Play}
+use Rattle.transcripts.specs.Transcript.{ReplayState}
 use Rattle.transcripts.specs.declared.session.Session.{Session}
 
 -- what gates of this type show of a world
@@ -14,14 +14,14 @@ abbrev pub Showing : Type 0 → Type 1
 Showing D = D → Config → World → Type 0
 
 -- The session shows this play: its gates show its world, by what they show, the model is where the actions so far lead, and some schedule leads there.
-pub record ShowsPlay {D : Type 0} (shows : Showing D) (session : Session D) (p : Play) : Type 0 where
+pub record ShowsPlay {D : Type 0} (shows : Showing D) (session : Session D) (p : ReplayState) : Type 0 where
   pub config : session.config ≡ p.config
   pub driver : shows session.driver p.config p.world
   pub model : standing_of session.model ≡ record { limits = model_limits p.config; state = end_of p.done }
   pub reached : IsReached p
 
 -- there is a session where there is a play, and it shows this
-abbrev pub ShowsPlayIfAny : {D : Type 0} → Showing D → Option (Session D) → Option Play → Type 0
+abbrev pub ShowsPlayIfAny : {D : Type 0} → Showing D → Option (Session D) → Option ReplayState → Type 0
 ShowsPlayIfAny shows None None = Unit {0}
 ShowsPlayIfAny shows None (Some p) = ⊥
 ShowsPlayIfAny shows (Some session) None = ⊥

@@ -38,21 +38,21 @@ use Rattle.transcripts.specs.Printing.{step_text, ended_text}
 use Rattle.transcripts.specs.Limits.{is_config}
 
 -- a schedule on its way: its configuration, the world, and the actions that its events added so far, the newest first
-pub record Play : Type 0 where
+pub record ReplayState : Type 0 where
   pub config : Config
   pub world : World
   pub done : List Done
 
 -- the play that a configuration opens
-abbrev pub opening_play : Config → Play
+abbrev pub opening_play : Config → ReplayState
 opening_play c = record { config = c; world = opening; done = [] }
 
 -- the play after an entry of its schedule: the same that the headline says of
-abbrev pub played : Play → Entry → Play
+abbrev pub played : ReplayState → Entry → ReplayState
 played p e = record p { world = happens p.config p.world e; done = with_action (task_of e) (action_of p.config p.world e) p.done }
 
 -- the blocks charged, which the reply of a snapshot prints
-abbrev pub used_now : Play → ℕ
+abbrev pub used_now : ReplayState → ℕ
 used_now p = p.world.words.used
 
 -- 0, 1, .. n - 1
@@ -91,15 +91,15 @@ abbrev pub printed_tree_words : Config → List WordName
 printed_tree_words c = (Used ∷ []) ++ map Node (count_up c.nodes) ++ map Kids (count_up c.nodes)
 
 -- the value of a word
-abbrev pub word_in : Play → WordName → Option ℕ
+abbrev pub word_in : ReplayState → WordName → Option ℕ
 word_in p name = Some (read p.world.words name)
 
 -- `words`
-unfoldable pub words_text : Play → List ℕ
+unfoldable pub words_text : ReplayState → List ℕ
 words_text p = texts_of (word_in p) (printed_words p.config)
 
 -- `tree`
-unfoldable pub tree_words_text : Play → List ℕ
+unfoldable pub tree_words_text : ReplayState → List ℕ
 tree_words_text p = texts_of (word_in p) (printed_tree_words p.config)
 
 -- that one holds a freeze, who may
@@ -167,16 +167,16 @@ state_text c s =
     flat_map (task_text c s) (count_up c.tasks) ++ flat_map (tree_line s) (count_up c.nodes)
 
 -- `model`: the state after all actions so far
-unfoldable pub model_text : Play → List ℕ
+unfoldable pub model_text : ReplayState → List ℕ
 model_text p = state_text p.config (end_of p.done)
 
 -- what a request does: the play after it, and what it prints
 pub record Outcome : Type 0 where
-  pub play : Play
+  pub play : ReplayState
   pub printed : List ℕ
 
 -- such an outcome
-abbrev pub outcome : Play → List ℕ → Outcome
+abbrev pub outcome : ReplayState → List ℕ → Outcome
 outcome p printed = record { play = p; printed = printed }
 
 -- a beginning prints nothing, or its refusal
@@ -185,24 +185,24 @@ begin_text t (Ok done) = []
 begin_text t (Err refusal) = refused_line t refusal
 
 -- the play after an event of this task, of which a hook that it asks answers this
-abbrev pub after_event : Play → ℕ → HookAnswer → Play
+abbrev pub after_event : ReplayState → ℕ → HookAnswer → ReplayState
 after_event p t hook = played p (Steps t hook)
 
 -- what the hook answers that the next event of this task asks, where one may fail and all others answer Ok
-abbrev pub hook_answer : Play → ℕ → Option HookFailure → HookAnswer
+abbrev pub hook_answer : ReplayState → ℕ → Option HookFailure → HookAnswer
 hook_answer p t None = Ok tt
 hook_answer p t (Some failure) = failing_answer failure (wanted_hook p.config p.world t)
 
 -- how this task's operation stands after its next event in a run where this hook may fail
-abbrev pub next_progress : Play → ℕ → Option HookFailure → Progress
+abbrev pub next_progress : ReplayState → ℕ → Option HookFailure → Progress
 next_progress p t failure = (step_answer p.config p.world t (hook_answer p t failure)).progress
 
 -- the play after that event
-abbrev pub next_play : Play → ℕ → Option HookFailure → Play
+abbrev pub next_play : ReplayState → ℕ → Option HookFailure → ReplayState
 next_play p t failure = after_event p t (hook_answer p t failure)
 
 -- so many events, up to the reply or the first event that has to wait
-abbrev pub run_from : ℕ → Play → ℕ → Option HookFailure → Progress × Play
+abbrev pub run_from : ℕ → ReplayState → ℕ → Option HookFailure → Progress × ReplayState
 run_from zero p t failure = (Going, p)
 run_from (suc left) p t failure =
     elim (next_progress p t failure) [
@@ -213,22 +213,22 @@ run_from (suc left) p t failure =
     ]
 
 -- a run: 1,000 events at most, where this hook may fail and all others answer Ok
-unfoldable pub run_of : Play → ℕ → Option HookFailure → Progress × Play
+unfoldable pub run_of : ReplayState → ℕ → Option HookFailure → Progress × ReplayState
 run_of p t failure = run_from 1000 p t failure
 
 -- what a run prints, by how it ended and by the play then
-abbrev pub run_outcome : ℕ → Progress × Play → Outcome
+abbrev pub run_outcome : ℕ → Progress × ReplayState → Outcome
 run_outcome t ran = outcome ran.1 (ended_text t ran.0 (used_now ran.1))
 
 -- a command on a task
-abbrev pub command_outcome : Play → ℕ → TaskCommand → Outcome
+abbrev pub command_outcome : ReplayState → ℕ → TaskCommand → Outcome
 command_outcome p t (Begin op) = outcome (played p (Begins t op)) (begin_text t (begin_answer p.config p.world t op))
 command_outcome p t (Step hook) =
     outcome (after_event p t hook) (step_text t (step_answer p.config p.world t hook) (used_now (after_event p t hook)))
 command_outcome p t (Run failure) = run_outcome t (run_of p t failure)
 
 -- a request: what there is to print, or a command on a task
-abbrev pub request_outcome : Play → Request → Outcome
+abbrev pub request_outcome : ReplayState → Request → Outcome
 request_outcome p Words = outcome p (words_text p)
 request_outcome p Tree = outcome p (tree_words_text p)
 request_outcome p Model = outcome p (model_text p)
@@ -236,7 +236,7 @@ request_outcome p (Task t command) = command_outcome p t command
 
 -- what a line does: the play after it, what it prints, and its fault
 pub record Effect : Type 0 where
-  pub play : Option Play
+  pub play : Option ReplayState
   pub printed : List ℕ
   pub fault : Option Fault
 
@@ -245,7 +245,7 @@ abbrev pub effect_of : Outcome → Effect
 effect_of o = record { play = Some o.play; printed = o.printed; fault = None }
 
 -- a line that is refused prints nothing
-abbrev pub faulty : Option Play → Fault → Effect
+abbrev pub faulty : Option ReplayState → Fault → Effect
 faulty p fault = record { play = p; printed = []; fault = Some fault }
 
 -- a configuration, by whether its numbers are within the limits
@@ -254,7 +254,7 @@ config_effect c true = effect_of (outcome (opening_play c) [])
 config_effect c false = faulty None (Refused Invalid)
 
 -- a line, where there is a play, or none yet
-abbrev pub line_effect : Option Play → Line → Effect
+abbrev pub line_effect : Option ReplayState → Line → Effect
 line_effect p Skipped = record { play = p; printed = []; fault = None }
 line_effect p (ConfigLine c) = config_effect c (is_config c)
 line_effect None (RequestLine request) = faulty None ConfigExpected
@@ -270,17 +270,17 @@ abbrev pub stops : ℕ → Fault → Transcript
 stops done fault = record { printed = []; fault = Some (done + 1, fault) }
 
 -- the end of the input after so many lines, which is a fault where no configuration came
-abbrev pub ends : ℕ → Option Play → Transcript
+abbrev pub ends : ℕ → Option ReplayState → Transcript
 ends done None = stops done ConfigExpected
 ends done (Some p) = record { printed = []; fault = None }
 
 -- at the end of the input, and where it ends inside a line
-abbrev pub ends_or : ℕ → Option Play → Fault → List ℕ → Transcript
+abbrev pub ends_or : ℕ → Option ReplayState → Fault → List ℕ → Transcript
 ends_or done p fault [] = ends done p
 ends_or done p fault (byte ∷ rest) = stops done fault
 
 -- how many tasks there are, once there is a configuration
-abbrev pub tasks_of : Option Play → Option ℕ
+abbrev pub tasks_of : Option ReplayState → Option ℕ
 tasks_of None = None
 tasks_of (Some p) = Some p.config.tasks
 
@@ -289,7 +289,7 @@ abbrev pub then_prints : List ℕ → Transcript → Transcript
 then_prints printed rest = record rest { printed = printed ++ rest.printed }
 
 -- the transcript of these bytes, after so many lines, where so many may follow
-unfoldable pub transcript_from : ℕ → ℕ → Option Play → List ℕ → Transcript
+unfoldable pub transcript_from : ℕ → ℕ → Option ReplayState → List ℕ → Transcript
 transcript_from zero done p bytes = ends_or done p TooManyLines bytes
 transcript_from (suc left) done p bytes =
     elim (front_of bytes) [

@@ -60,7 +60,7 @@ impl<D: Driver> Session<D> {
     ghost use Rattle.gate_world.specs.declared.entries.Entry.{TheVariants.{Begins, Steps}};
     ghost use Rattle.transcripts.specs.Limits.{is_config};
     ghost use Rattle.transcripts.specs.Sessions.{ShowsPlay};
-    ghost use Rattle.transcripts.specs.Transcript.{Play, opening_play, played, used_now, begin_text, hook_answer, run_of, command_outcome, request_outcome, word_text, texts_of, words_of_all, mount_words, level_words, printed_words, printed_tree_words, words_text, tree_words_text, count_up, model_text, freezes_text, freeze_line, closed_line, task_text, tree_line, held_line, level_line, open_line};
+    ghost use Rattle.transcripts.specs.Transcript.{ReplayState, opening_play, played, used_now, begin_text, hook_answer, run_of, command_outcome, request_outcome, word_text, texts_of, words_of_all, mount_words, level_words, printed_words, printed_tree_words, words_text, tree_words_text, count_up, model_text, freezes_text, freeze_line, closed_line, task_text, tree_line, held_line, level_line, open_line};
     ghost use Rattle.access_model.specs.Histories.{end_of};
     ghost use Rattle.cpu_words.specs.Names.{IsWord};
     ghost use Rattle.cpu_words.specs.declared.names.WordName.TheVariants.{Section as SectionWord, Node as NodeWord, Kids as KidsWord};
@@ -90,14 +90,14 @@ impl<D: Driver> Session<D> {
 
     /// How many tasks there are.
     pub fn tasks(&self) -> u8
-        ensures { (p : Play) → ShowsPlay D.shows self.now p → result ≡ p.config.tasks }
+        ensures { (p : ReplayState) → ShowsPlay D.shows self.now p → result ≡ p.config.tasks }
     {
         self.config.tasks
     }
 
     /// The gates.
     pub fn gates(&self) -> &D
-        ensures { (p : Play) → ShowsPlay D.shows self.now p → D.shows result.now p.config p.world }
+        ensures { (p : ReplayState) → ShowsPlay D.shows self.now p → D.shows result.now p.config p.world }
     {
         &self.driver
     }
@@ -108,10 +108,10 @@ impl<D: Driver> Session<D> {
             texts_of (D.word_of self.old.driver) (printed_words self.old.config)) }
         ensures tree { request ≡ TreeAsked → OnOk result (out.new.bytes.items ≡ out.old.bytes.items ++
             texts_of (D.word_of self.old.driver) (printed_tree_words self.old.config)) }
-        ensures prints { (p : Play) → ShowsPlay D.shows self.old p →
+        ensures prints { (p : ReplayState) → ShowsPlay D.shows self.old p →
             OnOk result (out.new.bytes.items ≡ out.old.bytes.items ++ (request_outcome p request).printed) }
-        ensures shows { (p : Play) → ShowsPlay D.shows self.old p → OnOk result (ShowsPlay D.shows self.new (request_outcome p request).play) }
-        ensures memory { (p : Play) → ShowsPlay D.shows self.old p → IfErr result (λ fault. fault ≡ Refused NoMemory) }
+        ensures shows { (p : ReplayState) → ShowsPlay D.shows self.old p → OnOk result (ShowsPlay D.shows self.new (request_outcome p request).play) }
+        ensures memory { (p : ReplayState) → ShowsPlay D.shows self.old p → IfErr result (λ fault. fault ≡ Refused NoMemory) }
     {
         match request {
             Request::Words => {
@@ -137,10 +137,10 @@ impl<D: Driver> Session<D> {
         command: TaskCommand,
         out: &mut Output,
     ) -> Result<(), Fault>
-        ensures prints { (p : Play) → ShowsPlay D.shows self.old p →
+        ensures prints { (p : ReplayState) → ShowsPlay D.shows self.old p →
             OnOk result (out.new.bytes.items ≡ out.old.bytes.items ++ (command_outcome p task command).printed) }
-        ensures shows { (p : Play) → ShowsPlay D.shows self.old p → OnOk result (ShowsPlay D.shows self.new (command_outcome p task command).play) }
-        ensures memory { (p : Play) → ShowsPlay D.shows self.old p → IfErr result (λ fault. fault ≡ Refused NoMemory) }
+        ensures shows { (p : ReplayState) → ShowsPlay D.shows self.old p → OnOk result (ShowsPlay D.shows self.new (command_outcome p task command).play) }
+        ensures memory { (p : ReplayState) → ShowsPlay D.shows self.old p → IfErr result (λ fault. fault ≡ Refused NoMemory) }
     {
         match command {
             TaskCommand::Begin(op) => self.begin(task, op, out),
@@ -159,9 +159,9 @@ impl<D: Driver> Session<D> {
 
     /// Begins an operation of a task, and prints the refusal of one that can't begin.
     pub fn begin(&mut self, task: u8, op: Op, out: &mut Output) -> Result<(), Fault>
-        ensures prints { (p : Play) → ShowsPlay D.shows self.old p →
+        ensures prints { (p : ReplayState) → ShowsPlay D.shows self.old p →
             OnOk result (out.new.bytes.items ≡ out.old.bytes.items ++ begin_text task (begin_answer p.config p.world task op)) }
-        ensures shows { (p : Play) → ShowsPlay D.shows self.old p → ShowsPlay D.shows self.new (played p (Begins task op)) }
+        ensures shows { (p : ReplayState) → ShowsPlay D.shows self.old p → ShowsPlay D.shows self.new (played p (Begins task op)) }
         ensures memory { IfErr result (λ fault. fault ≡ Refused NoMemory) }
     {
         match self.try_begin(task, op) {
@@ -179,8 +179,8 @@ impl<D: Driver> Session<D> {
     ///
     /// The refusal of an operation that can't begin; then nothing has changed.
     pub fn try_begin(&mut self, task: u8, op: Op) -> Result<(), GateError>
-        ensures answer { (p : Play) → ShowsPlay D.shows self.old p → result ≡ begin_answer p.config p.world task op }
-        ensures shows { (p : Play) → ShowsPlay D.shows self.old p → ShowsPlay D.shows self.new (played p (Begins task op)) }
+        ensures answer { (p : ReplayState) → ShowsPlay D.shows self.old p → result ≡ begin_answer p.config p.world task op }
+        ensures shows { (p : ReplayState) → ShowsPlay D.shows self.old p → ShowsPlay D.shows self.new (played p (Begins task op)) }
     {
         self.driver.begin(task, op)
     }
@@ -191,8 +191,8 @@ impl<D: Driver> Session<D> {
     ///
     /// Invalid, if the model doesn't allow the action. Gates that are known to show a world add no such action.
     pub fn step(&mut self, task: u8, hook: Result<(), u16>) -> Result<Step, Fault>
-        ensures answer { (p : Play) → ShowsPlay D.shows self.old p → result ≡ Ok (step_answer p.config p.world task hook) }
-        ensures shows { (p : Play) → ShowsPlay D.shows self.old p → ShowsPlay D.shows self.new (played p (Steps task hook)) }
+        ensures answer { (p : ReplayState) → ShowsPlay D.shows self.old p → result ≡ Ok (step_answer p.config p.world task hook) }
+        ensures shows { (p : ReplayState) → ShowsPlay D.shows self.old p → ShowsPlay D.shows self.new (played p (Steps task hook)) }
         ensures refused { IfErr result (λ fault. fault ≡ Refused Invalid) }
     {
         let judged = self.step_judged(task, hook);
@@ -208,9 +208,9 @@ impl<D: Driver> Session<D> {
     /// such action.
     #[inline(always)]
     pub fn step_judged(&mut self, task: u8, hook: Result<(), u16>) -> JudgedStep
-        ensures step { (p : Play) → ShowsPlay D.shows self.old p → result.step ≡ step_answer p.config p.world task hook }
-        ensures allowed { (p : Play) → ShowsPlay D.shows self.old p → result.is_allowed ≡ true }
-        ensures shows { (p : Play) → ShowsPlay D.shows self.old p → ShowsPlay D.shows self.new (played p (Steps task hook)) }
+        ensures step { (p : ReplayState) → ShowsPlay D.shows self.old p → result.step ≡ step_answer p.config p.world task hook }
+        ensures allowed { (p : ReplayState) → ShowsPlay D.shows self.old p → result.is_allowed ≡ true }
+        ensures shows { (p : ReplayState) → ShowsPlay D.shows self.old p → ShowsPlay D.shows self.new (played p (Steps task hook)) }
     {
         let step = self.driver.step(task, hook);
         let is_allowed = match step.action {
@@ -227,8 +227,8 @@ impl<D: Driver> Session<D> {
     /// Invalid, if the model doesn't allow the action. Gates that are known to show a world add no such action.
     #[inline(always)]
     fn advance(&mut self, task: u8, hook: Result<(), u16>) -> Result<Progress, Fault>
-        ensures answer { (p : Play) → ShowsPlay D.shows self.old p → result ≡ Ok (step_answer p.config p.world task hook).progress }
-        ensures shows { (p : Play) → ShowsPlay D.shows self.old p → ShowsPlay D.shows self.new (played p (Steps task hook)) }
+        ensures answer { (p : ReplayState) → ShowsPlay D.shows self.old p → result ≡ Ok (step_answer p.config p.world task hook).progress }
+        ensures shows { (p : ReplayState) → ShowsPlay D.shows self.old p → ShowsPlay D.shows self.new (played p (Steps task hook)) }
         ensures refused { IfErr result (λ fault. fault ≡ Refused Invalid) }
     {
         let judged = self.step_judged(task, hook);
@@ -243,9 +243,9 @@ impl<D: Driver> Session<D> {
     /// may do. A hook may fail; all others answer Ok.
     fn run(&mut self, task: u8, failure: Option<HookFailure>) -> Result<Ran, Fault>
         ensures few { IfOk result (λ ran. ran.events ≤ 1000) }
-        ensures done { (p : Play) → ShowsPlay D.shows self.old p → IsOk result }
-        ensures progress { (p : Play) → ShowsPlay D.shows self.old p → IfOk result (λ ran. ran.progress ≡ (run_of p task failure).0) }
-        ensures shows { (p : Play) → ShowsPlay D.shows self.old p → ShowsPlay D.shows self.new (run_of p task failure).1 }
+        ensures done { (p : ReplayState) → ShowsPlay D.shows self.old p → IsOk result }
+        ensures progress { (p : ReplayState) → ShowsPlay D.shows self.old p → IfOk result (λ ran. ran.progress ≡ (run_of p task failure).0) }
+        ensures shows { (p : ReplayState) → ShowsPlay D.shows self.old p → ShowsPlay D.shows self.new (run_of p task failure).1 }
     {
         for events in 0..EVENTS {
             let hook = self.hook_answer(task, failure);
@@ -269,7 +269,7 @@ impl<D: Driver> Session<D> {
 
     /// What the hook answers that the next event of a task asks, where one may fail and all others answer Ok.
     pub fn hook_answer(&self, task: u8, failure: Option<HookFailure>) -> Result<(), u16>
-        ensures { (p : Play) → ShowsPlay D.shows self.now p → result ≡ hook_answer p task failure }
+        ensures { (p : ReplayState) → ShowsPlay D.shows self.now p → result ≡ hook_answer p task failure }
     {
         match failure {
             Some(failure) => failure.answer(self.driver.wants_hook(task)),
@@ -280,7 +280,7 @@ impl<D: Driver> Session<D> {
     /// The value of a word; None where the configuration has no such word.
     pub fn word(&self, name: WordName) -> Option<u64>
         ensures own { result ≡ D.word_of self.now.driver name }
-        ensures shown { (p : Play) → ShowsPlay D.shows self.now p → IsWord (extents_of p.config) name → result ≡ Some (read p.world.words name) }
+        ensures shown { (p : ReplayState) → ShowsPlay D.shows self.now p → IsWord (extents_of p.config) name → result ≡ Some (read p.world.words name) }
     {
         self.driver.word(name)
     }
@@ -294,7 +294,7 @@ impl<D: Driver> Session<D> {
 
     /// The blocks charged.
     pub fn used(&self) -> u64
-        ensures { (p : Play) → ShowsPlay D.shows self.now p → result ≡ used_now p }
+        ensures { (p : ReplayState) → ShowsPlay D.shows self.now p → result ≡ used_now p }
     {
         self.driver.word(WordName::Used).unwrap_or(0)
     }
@@ -302,7 +302,7 @@ impl<D: Driver> Session<D> {
     /// Prints the words that aren't 0, up to the last section: each with what the gates tell of it.
     pub fn print_words(&self, out: &mut Output)
         ensures own { Prints out.old out.new (texts_of (D.word_of self.now.driver) (printed_words self.now.config)) }
-        ensures shown { (p : Play) → ShowsPlay D.shows self.now p → Prints out.old out.new (words_text p) }
+        ensures shown { (p : ReplayState) → ShowsPlay D.shows self.now p → Prints out.old out.new (words_text p) }
     {
         self.print_words_of_all(out);
         self.print_words_of_mounts(out);
@@ -363,7 +363,7 @@ impl<D: Driver> Session<D> {
     /// Prints the words of the tree that aren't 0: each with what the gates tell of it.
     pub fn print_tree_words(&self, out: &mut Output)
         ensures own { Prints out.old out.new (texts_of (D.word_of self.now.driver) (printed_tree_words self.now.config)) }
-        ensures shown { (p : Play) → ShowsPlay D.shows self.now p → Prints out.old out.new (tree_words_text p) }
+        ensures shown { (p : ReplayState) → ShowsPlay D.shows self.now p → Prints out.old out.new (tree_words_text p) }
     {
         self.print_word(WordName::Used, out);
         self.print_node_words(out);
@@ -401,7 +401,7 @@ impl<D: Driver> Session<D> {
     /// Prints the model.
     #[tactic(auto, unfolding(crate::specs::Transcript::model_text))]
     pub fn print_model(&self, out: &mut Output)
-        ensures { (p : Play) → ShowsPlay D.shows self.now p → Prints out.old out.new (model_text p) }
+        ensures { (p : ReplayState) → ShowsPlay D.shows self.now p → Prints out.old out.new (model_text p) }
     {
         let (stage, passed) = (self.model.stage(), self.model.passed());
         out.model_line(stage, passed, self.model.sb_ro());
@@ -413,14 +413,14 @@ impl<D: Driver> Session<D> {
 
     /// Prints who holds a freeze.
     fn print_freezes(&self, out: &mut Output)
-        ensures { (p : Play) → ShowsPlay D.shows self.now p → Prints out.old out.new (freezes_text (end_of p.done)) }
+        ensures { (p : ReplayState) → ShowsPlay D.shows self.now p → Prints out.old out.new (freezes_text (end_of p.done)) }
     {
         self.print_freeze(Holder::Kernel, out);
         self.print_freeze(Holder::User, out);
     }
 
     fn print_freeze(&self, holder: Holder, out: &mut Output)
-        ensures { (p : Play) → ShowsPlay D.shows self.now p → Prints out.old out.new (freeze_line (end_of p.done) holder) }
+        ensures { (p : ReplayState) → ShowsPlay D.shows self.now p → Prints out.old out.new (freeze_line (end_of p.done) holder) }
     {
         if self.model.holds(holder) {
             out.holder_line(holder);
@@ -429,7 +429,7 @@ impl<D: Driver> Session<D> {
 
     /// Prints the mounts that are read-only.
     fn print_closed_mounts(&self, out: &mut Output)
-        ensures { (p : Play) → ShowsPlay D.shows self.now p →
+        ensures { (p : ReplayState) → ShowsPlay D.shows self.now p →
             Prints out.old out.new (flat_map (closed_line (end_of p.done)) (count_up p.config.mounts)) }
     {
         for mount in 0..self.config.mounts {
@@ -441,7 +441,7 @@ impl<D: Driver> Session<D> {
 
     /// Prints what the tasks hold.
     fn print_holders(&self, out: &mut Output)
-        ensures { (p : Play) → ShowsPlay D.shows self.now p →
+        ensures { (p : ReplayState) → ShowsPlay D.shows self.now p →
             Prints out.old out.new (flat_map (task_text p.config (end_of p.done)) (count_up p.config.tasks)) }
     {
         for task in 0..self.config.tasks {
@@ -451,7 +451,7 @@ impl<D: Driver> Session<D> {
 
     /// Prints the nodes that are not free.
     fn print_tree(&self, out: &mut Output)
-        ensures { (p : Play) → ShowsPlay D.shows self.now p →
+        ensures { (p : ReplayState) → ShowsPlay D.shows self.now p →
             Prints out.old out.new (flat_map (tree_line (end_of p.done)) (count_up p.config.nodes)) }
     {
         for node in 0..self.config.nodes {
@@ -463,7 +463,7 @@ impl<D: Driver> Session<D> {
 
     /// Prints what a task holds.
     fn print_held(&self, task: u8, out: &mut Output)
-        ensures { (p : Play) → ShowsPlay D.shows self.now p → task < p.config.tasks →
+        ensures { (p : ReplayState) → ShowsPlay D.shows self.now p → task < p.config.tasks →
             Prints out.old out.new (task_text p.config (end_of p.done) task) }
     {
         self.print_held_mounts(task, out);
@@ -474,7 +474,7 @@ impl<D: Driver> Session<D> {
     }
 
     fn print_held_mounts(&self, task: u8, out: &mut Output)
-        ensures { (p : Play) → ShowsPlay D.shows self.now p → task < p.config.tasks →
+        ensures { (p : ReplayState) → ShowsPlay D.shows self.now p → task < p.config.tasks →
             Prints out.old out.new (flat_map (held_line (end_of p.done) task) (count_up p.config.mounts)) }
     {
         for mount in 0..self.config.mounts {
@@ -486,7 +486,7 @@ impl<D: Driver> Session<D> {
     }
 
     fn print_open_files(&self, task: u8, out: &mut Output)
-        ensures { (p : Play) → ShowsPlay D.shows self.now p → task < p.config.tasks →
+        ensures { (p : ReplayState) → ShowsPlay D.shows self.now p → task < p.config.tasks →
             Prints out.old out.new (flat_map (open_line (end_of p.done) task) (count_up p.config.nodes)) }
     {
         for node in 0..self.config.nodes {
@@ -497,7 +497,7 @@ impl<D: Driver> Session<D> {
     }
 
     fn print_held_level(&self, task: u8, level: u8, out: &mut Output)
-        ensures { (p : Play) → ShowsPlay D.shows self.now p → task < p.config.tasks → 1 ≤ level → level ≤ 3 →
+        ensures { (p : ReplayState) → ShowsPlay D.shows self.now p → task < p.config.tasks → 1 ≤ level → level ≤ 3 →
             Prints out.old out.new (level_line (end_of p.done) task level) }
     {
         if self.model.held_level(task, level) {

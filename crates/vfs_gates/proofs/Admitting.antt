@@ -4,43 +4,43 @@ use Rattle.std.specs.Prelude.{Option, is_some, Result, Ok, Err}
 use Rattle.access_model.specs.declared.errors.GateError.{GateError}
 use Rattle.gate_world.specs.{Beginnings.{first_phase, refusal, or_refusal, beginning}, Configs.IsWithin, Views.held_of, declared.config.Config.Config}
 use Rattle.gate_world.specs.declared.{operations.Op.Op, work.Phase.Phase}
-use Rattle.gate_steps.specs.call_events.{Answers.unless_refused, TaskState.TaskState, Seating.SeatItems, Seats.seat_held, GhostAgrees.GhostAgrees}
+use Rattle.gate_steps.specs.call_events.{Answers.unless_refused, TaskState.TaskState, Seating.DealtNumbers, TaskStates.task_holdings, GhostAgrees.GhostAgrees}
 use Rattle.gate_steps.proofs.call_events.Beginnings.{refusal_agree, ok_means, err_means}
 use Rattle.vfs_gates.specs.{TaskStates.{SeatedTask, task_state, own_number, own_view, refusal_at, beginning_at}, declared.task.Task.TheInside.Inside}
 
-module _ (number : ℕ) (c : Config) (begins : Option Op) (kept : TaskState) (flags : List Bool) where
+module _ (number : ℕ) (c : Config) (begins : Option Op) (state : TaskState) (flags : List Bool) where
   -- the configuration of a task is within its limits
-  pub within : (l : SeatItems) → GhostAgrees number c begins kept flags l → IsWithin c
+  pub within : (l : DealtNumbers) → GhostAgrees number c begins state flags l → IsWithin c
   within [] t = absurd t
   within (x ∷ xs) t = t.within
 
   -- what is kept of accesses has the same refusal as the view
-  refusal_same : (l : SeatItems) (op : Op) → GhostAgrees number c begins kept flags l →
-      refusal c (is_some kept.phase) (seat_held kept) op ≡
-      refusal c (is_some kept.phase) (held_of (own_view l)) op
+  refusal_same : (l : DealtNumbers) (op : Op) → GhostAgrees number c begins state flags l →
+      refusal c (is_some state.phase) (task_holdings state) op ≡
+      refusal c (is_some state.phase) (held_of (own_view l)) op
   refusal_same [] op t = absurd t
   refusal_same (x ∷ xs) op t =
-      refusal_agree c (seat_held kept) (held_of x.view) t.keeps.held (is_some kept.phase) op
+      refusal_agree c (task_holdings state) (held_of x.view) t.keeps.held (is_some state.phase) op
 
   -- and the same number
-  number_same : (l : SeatItems) → GhostAgrees number c begins kept flags l → number ≡ own_number l
+  number_same : (l : DealtNumbers) → GhostAgrees number c begins state flags l → number ≡ own_number l
   number_same [] t = absurd t
   number_same (x ∷ xs) t = sym t.same_number
 
 -- so the answer that the fields give is the task's
 pub admitted_as : (op : Op) (task : Inside) (start : SeatedTask) →
-    task_state task.seat.table_id task.config task.begins task.kept.phase task.seat.me.0 ≡ start →
-    GhostAgrees task.number task.config task.begins task.kept task.spare task.seat.me.0.items → (under_way : Bool) →
-    under_way ≡ is_some task.kept.phase → (answer : Result Phase GateError) →
-    answer ≡ beginning task.config task.number under_way (seat_held task.kept) op → answer ≡ beginning_at op start
-admitted_as op task start start_is ties under_way under_way_is answer is =
-    let items : SeatItems = task.seat.me.0.items in
-    let refused : refusal task.config under_way (seat_held task.kept) op ≡
-    refusal task.config (is_some task.kept.phase) (held_of (own_view items)) op =
-    ap (λ b. refusal task.config b (seat_held task.kept) op) under_way_is ∙
-    refusal_same task.number task.config task.begins task.kept task.spare items op ties in
+    task_state task.seat.table_id task.config task.begins task.state.phase task.seat.me.0 ≡ start →
+    GhostAgrees task.number task.config task.begins task.state task.spare task.seat.me.0.items → (under_way : Bool) →
+    under_way ≡ is_some task.state.phase → (answer : Result Phase GateError) →
+    answer ≡ beginning task.config task.number under_way (task_holdings task.state) op → answer ≡ beginning_at op start
+admitted_as op task start start_is ghost_agrees under_way under_way_is answer is =
+    let items : DealtNumbers = task.seat.me.0.items in
+    let refused : refusal task.config under_way (task_holdings task.state) op ≡
+    refusal task.config (is_some task.state.phase) (held_of (own_view items)) op =
+    ap (λ b. refusal task.config b (task_holdings task.state) op) under_way_is ∙
+    refusal_same task.number task.config task.begins task.state task.spare items op ghost_agrees in
     is ∙
-    ((λ i. or_refusal (first_phase task.config (number_same task.number task.config task.begins task.kept task.spare items ties i) op)
+    ((λ i. or_refusal (first_phase task.config (number_same task.number task.config task.begins task.state task.spare items ghost_agrees i) op)
     (refused i)) ∙
     ap (beginning_at op) start_is)
 
@@ -65,19 +65,19 @@ admitted_unless op start (Err refused) is granted = absurd (granted refused refl
 
 -- what is the first phase as the task's state says is so as its fields say
 pub first_so : (op : Op) (task : Inside) (start : SeatedTask) →
-    task_state task.seat.table_id task.config task.begins task.kept.phase task.seat.me.0 ≡ start →
-    GhostAgrees task.number task.config task.begins task.kept task.spare task.seat.me.0.items → (phase : Phase) →
+    task_state task.seat.table_id task.config task.begins task.state.phase task.seat.me.0 ≡ start →
+    GhostAgrees task.number task.config task.begins task.state task.spare task.seat.me.0.items → (phase : Phase) →
     phase ≡ first_phase start.config (own_number start.items) op → phase ≡ first_phase task.config task.number op
-first_so op task start start_is ties phase is =
+first_so op task start start_is ghost_agrees phase is =
     is ∙ sym (ap (λ (n : ℕ). first_phase task.config n op)
-    (number_same task.number task.config task.begins task.kept task.spare task.seat.me.0.items ties) ∙
+    (number_same task.number task.config task.begins task.state task.spare task.seat.me.0.items ghost_agrees) ∙
     ap (λ (s : SeatedTask). first_phase s.config (own_number s.items) op) start_is)
 
 -- the phase that was answered is the operation's first
 pub first_by : (op : Op) (task : Inside) (start : SeatedTask) →
-    task_state task.seat.table_id task.config task.begins task.kept.phase task.seat.me.0 ≡ start →
-    GhostAgrees task.number task.config task.begins task.kept task.spare task.seat.me.0.items → (phase : Phase) → Ok phase ≡ beginning_at op start →
+    task_state task.seat.table_id task.config task.begins task.state.phase task.seat.me.0 ≡ start →
+    GhostAgrees task.number task.config task.begins task.state task.spare task.seat.me.0.items → (phase : Phase) → Ok phase ≡ beginning_at op start →
     phase ≡ first_phase task.config task.number op
-first_by op task start start_is ties phase is =
-    first_so op task start start_is ties phase
+first_by op task start start_is ghost_agrees phase is =
+    first_so op task start start_is ghost_agrees phase
     (ok_means (first_phase start.config (own_number start.items) op) (refusal_at op start) phase is).1

@@ -13,26 +13,26 @@ use Rattle.gate_world.specs.declared.accesses.Accesses.{Accesses}
 use Rattle.gate_world.specs.declared.config.Config.{Config}
 use Rattle.gate_world.specs.declared.operations.Op.{Op}
 use Rattle.gate_world.specs.declared.work.Phase.{Phase}
-use Rattle.gate_steps.specs.Seating.{SeatItems}
+use Rattle.gate_steps.specs.Seating.{DealtNumbers}
 use Rattle.gate_steps.specs.declared.seating.Knowledge.{Knowledge}
 use Rattle.gate_steps.specs.call_events.Answers.{unless_refused}
-use Rattle.gate_steps.specs.call_events.Asking.{GoesWith}
-use Rattle.gate_steps.specs.call_events.Led.{LedAsking}
+use Rattle.gate_steps.specs.call_events.Asking.{OpUnderWayWith}
+use Rattle.gate_steps.specs.call_events.KnownSteps.{KnownStepsAsking}
 use Rattle.gate_steps.specs.call_events.Progress.{Progress}
 use Rattle.gate_steps.specs.call_events.Progress.TheVariants.{Idle, Going, Waiting, Done}
-use Rattle.gate_steps.specs.call_events.Runs.{Goes, ProgressMatches}
-use Rattle.gate_steps.specs.call_events.Waited.{WentWaiting}
+use Rattle.gate_steps.specs.call_events.Runs.{OpUnderWay, ProgressMatches}
+use Rattle.gate_steps.specs.call_events.Waited.{OpAfterStepWaiting}
 use Rattle.gate_steps.proofs.call_events.Running.{admitted_some, refused_as, refused_none}
 use Rattle.gate_steps.proofs.call_events.Turning.{unasked}
 use Rattle.vfs_gates.specs.AtOnce.{BeginsAtOnce}
 use Rattle.vfs_gates.specs.TaskStates.{SeatedTask, task_state, refusal_at}
 
 -- an operation went where the steps of a line have led
-pub went_there : {H : Type 0} {answers : HookCall → SeatItems → H → HookAnswer → H → Type 0} {c : Config} {begins : Option Op}
+pub went_there : {H : Type 0} {answers : HookCall → DealtNumbers → H → HookAnswer → H → Type 0} {c : Config} {begins : Option Op}
     {accesses : Accesses} {first : Phase} {next : Next Phase} {table table_left : TableId} {me left : Knowledge} {hooks hooks_left : H}
-    (op : Op) (start : SeatedTask) → LedAsking answers c begins accesses (Go first) table me hooks next table_left left hooks_left →
-    GoesWith [] 0 op start (task_state table c begins (Some first) me) →
-    WentWaiting 0 op start next (task_state table_left c None (phase_after next) left)
+    (op : Op) (start : SeatedTask) → KnownStepsAsking answers c begins accesses (Go first) table me hooks next table_left left hooks_left →
+    OpUnderWayWith [] 0 op start (task_state table c begins (Some first) me) →
+    OpAfterStepWaiting 0 op start next (task_state table_left c None (phase_after next) left)
 went_there {next = next} {hooks = hooks} op start led goes =
     let went = led.went op start hooks 0 ([], goes, refl) in unasked op start next _ went.0 0 went.1
 
@@ -77,7 +77,7 @@ refused_so op old left e None at begins =
 
 -- where it has not ended, it goes on
 pub goes_by : (op : Op) (old left : SeatedTask) (progress : Progress) → ((answer : Result Reply GateError) → progress ≡ Done answer → ⊥) →
-    ProgressMatches op old progress left → Goes op old left
+    ProgressMatches op old progress left → OpUnderWay op old left
 goes_by op old left Idle not told = absurd told
 goes_by op old left Going not told = told
 goes_by op old left Waiting not told = told.0

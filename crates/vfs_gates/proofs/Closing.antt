@@ -7,7 +7,7 @@ use Rattle.gate_world.specs.Views.{opening_view}
 use Rattle.gate_world.specs.Worlds.{World}
 use Rattle.gate_steps.proofs.call_events.OperationLaws.{by_bool}
 use Rattle.gate_steps.specs.Rules.{TableShows, first_items}
-use Rattle.gate_steps.specs.Seating.{SeatItems, numbered, times, view_in, deal}
+use Rattle.gate_steps.specs.Seating.{DealtNumbers, numbered, times, view_in, deal}
 use Rattle.gate_steps.proofs.call_events.Opening.{times-deal}
 use Rattle.gate_steps.specs.Tables.{IsClosing}
 use Rattle.gate_steps.proofs.call_events.Giving.{view_in-at, view_in-is}
@@ -20,7 +20,7 @@ use Rattle.vfs_gates.proofs.Parting.{rest-at}
 pub ended : (c : Config) (k : Knowledge) (ws : List ℕ) → IsClosing c ws k → AllRest c k.items →
     ((n : ℕ) → n < c.tasks → 1 ≤ times n k.items) →
     EndedWith c ws k.items k.seen
-ended c k ws closing rest all = let items : SeatItems = k.items in record {
+ended c k ws closing rest all = let items : DealtNumbers = k.items in record {
   ended = record {
     world = closing.world;
     ruled = closing.ruled;
@@ -60,7 +60,7 @@ left_by_schedule c ws e =
     }
 
 -- and goes on from all that their last task had seen
-pub left_after : (c : Config) (ws : List ℕ) (items : SeatItems) (seen : List (List Entry)) (e : EndedWith c ws items seen) →
+pub left_after : (c : Config) (ws : List ℕ) (items : DealtNumbers) (seen : List (List Entry)) (e : EndedWith c ws items seen) →
     IsLeftAfter c ws e.ended.world items seen
 left_after c ws items seen e =
     let reached : IsReached c e.ended.history.log e.ended.world = e.ended.history.reached in record {

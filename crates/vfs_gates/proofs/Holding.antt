@@ -12,7 +12,7 @@ use Rattle.gate_world.specs.{traces.Found.found_shared, Holdings.{Holdings, hold
 use Rattle.gate_world.specs.declared.operations.Op.{Op, TheVariants.{Want, DropMount, ChangeMount, RemountSb, Start, End, WantWrite, DropWrite}}
 use Rattle.gate_world.specs.declared.{operations.Op.TheVariants.{Freeze, Thaw, Create, Open, Close}, views.Traced.Traced, work.Phase.Phase}
 use Rattle.gate_steps.proofs.call_events.Asked.{either_way}
-use Rattle.gate_steps.specs.call_events.{Runs.{ran_items, IsNextMove, AreMoves, told_as, Called, Replies}, Seating.SeatItems}
+use Rattle.gate_steps.specs.call_events.{Runs.{ran_items, IsNextMove, AreMoves, told_as, Called, Replies}, Seating.DealtNumbers}
 use Rattle.vfs_gates.specs.{Held.{Rests, own_actions, IsAsBefore, takes_nothing}, TaskStates.{SeatedTask, own_number, own_view, refusal_at, IsIdle}}
 
 -- an action that is neither a grant nor a return, and neither opens nor closes a file
@@ -97,7 +97,7 @@ no_move c op (d ∷ ds) e seen gone (Wait phase) h = h.2
 no_move c op earlier e seen gone (Done answer) h = h
 
 -- the own number's actions after a whole operation: those that it has added, and the earlier ones
-acted : (c : Config) (op : Op) (trace : List Traced) (answer : Result Reply GateError) (l : SeatItems) (added : List Action)
+acted : (c : Config) (op : Op) (trace : List Traced) (answer : Result Reply GateError) (l : DealtNumbers) (added : List Action)
     (seen gone : List (List Entry)) → (state_of_trace c (own_number l) op trace).comes ≡ Done answer → AreMoves c op l seen trace gone →
     (state_of_trace c (own_number l) op trace).added ≡ added →
     (own_view (ran_items c op trace l)).actions ≡ added ++ (own_view l).actions
@@ -105,7 +105,7 @@ acted c op [] answer [] added seen gone ends moves is = absurd (let f : ⊥ = cc
 acted c op (e ∷ es) answer [] added seen gone ends moves is = absurd (no_move c op es e moves.0 gone _ moves.1)
 acted c op trace answer (x ∷ xs) added seen gone ends moves is = ap (λ l. l ++ x.view.actions) is
 
-same_own : (c : Config) (op : Op) (trace : List Traced) (l : SeatItems) → own_number (ran_items c op trace l) ≡ own_number l
+same_own : (c : Config) (op : Op) (trace : List Traced) (l : DealtNumbers) → own_number (ran_items c op trace l) ≡ own_number l
 same_own c op trace [] = refl
 same_own c op trace (x ∷ xs) = refl
 

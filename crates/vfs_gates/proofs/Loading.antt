@@ -28,17 +28,17 @@ use Rattle.gate_world.specs.declared.config.Config.{Config}
 use Rattle.gate_world.specs.declared.operations.Op.{Op}
 use Rattle.gate_world.specs.declared.work.Phase.{Phase}
 use Rattle.gate_world.specs.declared.work.Phase.TheVariants.{Trees}
-use Rattle.gate_steps.specs.Seating.{SeatItems, items_after}
+use Rattle.gate_steps.specs.Seating.{DealtNumbers, items_after}
 use Rattle.gate_steps.specs.declared.seating.Knowledge.{Knowledge}
-use Rattle.gate_steps.specs.call_events.Led.{Led}
-use Rattle.gate_steps.specs.call_events.Turns.{StateAgrees, kept_at}
+use Rattle.gate_steps.specs.call_events.KnownSteps.{KnownSteps}
+use Rattle.gate_steps.specs.call_events.Turns.{StateAgrees, state_at}
 use Rattle.gate_steps.proofs.call_events.Leading.{led_on, led_nowhere}
 use Rattle.vfs_gates.specs.declared.buffers.SnapshotBuffers.{SnapshotBuffers}
 use Rattle.vfs_gates.specs.Noted.{Noted, taking_at}
 use Rattle.vfs_gates.specs.Buffers.{BuffersMatch, noted_in}
 use Rattle.gate_steps.proofs.call_events.Turning.{unasked}
 use Rattle.vfs_gates.proofs.Calling.{Call, Left, has_asked_none, idle, items_of, not_begun, same}
-use Rattle.vfs_gates.proofs.Noting.{EndsTaking, GoesOn, follows_taking}
+use Rattle.vfs_gates.proofs.Noting.{EndsTaking, ContinuesTaking, follows_taking}
 use Rattle.vfs_gates.proofs.Waiting.{has_number}
 
 -- no step of a snapshot adds an action
@@ -87,10 +87,10 @@ pub fewer_left : (node nodes next : ℕ) → Some next ≡ node_after node nodes
 fewer_left node nodes next is = grind arith
 
 -- a task has a number
-numbered : {c : Config} {begins : Option Op} {phase : Phase} {accesses : Accesses} {items : SeatItems} →
+numbered : {c : Config} {begins : Option Op} {phase : Phase} {accesses : Accesses} {items : DealtNumbers} →
     StateAgrees c begins (Some phase) accesses items → 1 ≤ length items
-numbered {c} {begins} {phase} {accesses} {items} tied =
-    has_number tied.number c begins (kept_at (Some phase) accesses) tied.flags items tied.ties
+numbered {c} {begins} {phase} {accesses} {items} agrees =
+    has_number agrees.number c begins (state_at (Some phase) accesses) agrees.flags items agrees.ghost_agrees
 
 -- what a line of a snapshot has noted
 module _ {c : Config} {begins : Option Op} {accesses : Accesses} {table : TableId} {me : Knowledge} {buffers : SnapshotBuffers} {left : Knowledge}
@@ -98,18 +98,18 @@ module _ {c : Config} {begins : Option Op} {accesses : Accesses} {table : TableI
   -- a load, which was noted
   pub noted_by : (s : Snapshot) (word : WordName) (found : ℕ) (event : Event) → (word, Load) ≡ snapshot_next s s.step →
       event ≡ event_of word Load found →
-      Led c begins accesses (Go (Trees (Snapshots s))) table me (after_of (Trees (Snapshots s)) found (Ok tt)).0 table_left left →
+      KnownSteps c begins accesses (Go (Trees (Snapshots s))) table me (after_of (Trees (Snapshots s)) found (Ok tt)).0 table_left left →
       left.items ≡ items_after begins (Trees (Snapshots s)) (Ok tt) found me.items →
       StateAgrees c begins (Some (Trees (Snapshots s))) accesses me.items →
-      (loads_last s.nodes s.step ≡ false → GoesOn buffers buffers_left event) → (loads_last s.nodes s.step ≡ true → EndsTaking buffers buffers_left event) →
+      (loads_last s.nodes s.step ≡ false → ContinuesTaking buffers buffers_left event) → (loads_last s.nodes s.step ≡ true → EndsTaking buffers buffers_left event) →
       Noted c begins accesses (Go (Trees (Snapshots s))) table me buffers (after_of (Trees (Snapshots s)) found (Ok tt)).0 table_left left buffers_left
-  noted_by s word found event known is led items tied goes_on ends = record {
+  noted_by s word found event known is led items agrees goes_on ends = record {
     led = led;
     tells = λ h.
         let phase : Phase = Trees (Snapshots s) in
-        let P : ℕ × SeatItems → Type 0 = λ z. BuffersMatch c.nodes buffers_left None (phase_after (after_of phase z.0 (Ok tt)).0) z.1 in
+        let P : ℕ × DealtNumbers → Type 0 = λ z. BuffersMatch c.nodes buffers_left None (phase_after (after_of phase z.0 (Ok tt)).0) z.1 in
         subst P (λ i. (ap (λ (e : Event). e.found) is i, sym items i))
-        (follows_taking buffers buffers_left phase s refl event goes_on ends c.nodes begins (Ok tt) found me.items (numbered tied)
+        (follows_taking buffers buffers_left phase s refl event goes_on ends c.nodes begins (Ok tt) found me.items (numbered agrees)
         (is ∙ ap (λ (z : WordName × Touch). event_of z.0 z.1 found) known) h);
   }
 
@@ -130,18 +130,18 @@ pub unnoted : {c : Config} {begins : Option Op} {accesses : Accesses} {table tab
     noted_in (words_of buffers.next) (event_of (snapshot_next s s.step).0 (snapshot_next s s.step).1 found) ≡ words_of buffers.next →
     phase_after (after_of (Trees (Snapshots s)) (event_of (snapshot_next s s.step).0 (snapshot_next s s.step).1 found).found (Ok tt)).0 ≡
     phase_after (after_of (Trees (Snapshots s)) found (Ok tt)).0 →
-    Led c begins accesses (Go (Trees (Snapshots s))) table me (after_of (Trees (Snapshots s)) found (Ok tt)).0 table_left left →
+    KnownSteps c begins accesses (Go (Trees (Snapshots s))) table me (after_of (Trees (Snapshots s)) found (Ok tt)).0 table_left left →
     left.items ≡ items_after begins (Trees (Snapshots s)) (Ok tt) found me.items → StateAgrees c begins (Some (Trees (Snapshots s))) accesses me.items →
     Noted c begins accesses (Go (Trees (Snapshots s))) table me buffers (after_of (Trees (Snapshots s)) found (Ok tt)).0 table_left left buffers
-unnoted {c} {begins} {me = me} {buffers = buffers} s found goes_on stays comes led items tied = record {
+unnoted {c} {begins} {me = me} {buffers = buffers} s found goes_on stays comes led items agrees = record {
   led = led;
   tells = λ h.
       let phase : Phase = Trees (Snapshots s) in
       let event : Event = event_of (snapshot_next s s.step).0 (snapshot_next s s.step).1 found in
-      let P : Option Phase × SeatItems → Type 0 = λ z. BuffersMatch c.nodes buffers None z.0 z.1 in
+      let P : Option Phase × DealtNumbers → Type 0 = λ z. BuffersMatch c.nodes buffers None z.0 z.1 in
       subst P (λ i. (comes i, sym items i))
       (follows_taking buffers buffers phase s refl event (λ f. (refl, refl, sym stays)) (λ t. absurd (true≢false (sym t ∙ goes_on)))
-      c.nodes begins (Ok tt) found me.items (numbered tied) refl h);
+      c.nodes begins (Ok tt) found me.items (numbered agrees) refl h);
 }
 
 -- no step
@@ -158,15 +158,15 @@ is_frozen s found is = subst (λ n. (after_of (taking_at s LoadsStage) n (Ok tt)
 
 -- a call that takes a snapshot in a line, and what its line has left
 module _ (call : Call) {table : TableId} {known : Knowledge} {begun gone : SnapshotBuffers} (next : Next Phase)
-    (noted : Noted call.gates (Some call.op) call.task.kept.accesses (Go call.first) call.task.seat.table_id call.task.seat.me.0 begun next table
+    (noted : Noted call.gates (Some call.op) call.task.state.accesses (Go call.first) call.task.seat.table_id call.task.seat.me.0 begun next table
     known gone) where
   abbrev pub left_by : Left call
   left_by = record {
     next = next;
-    accesses = call.task.kept.accesses;
+    accesses = call.task.state.accesses;
     known = known;
     table = table;
-    tied = noted.led.tied;
+    agrees = noted.led.agrees;
     waits = 0;
     went = unasked call.op call.start next _ [] 0 (noted.led.went call.op call.start [] 0 (has_asked_none call));
   }
@@ -181,5 +181,5 @@ module _ (call : Call) {table : TableId} {known : Knowledge} {begun gone : Snaps
 
   -- or of none, where it was done
   pub loaded_done : BuffersMatch call.task.config.nodes begun (Some call.op) (Some call.first) (items_of call) → (answer : Result Reply GateError) →
-      next ≡ Done answer → BuffersMatch call.task.config.nodes gone call.task.begins call.task.kept.phase known.items
-  loaded_done h answer is = loaded_buffers h call.task.kept.phase (ap (λ (n : Next Phase). phase_after n) is ∙ sym (idle call))
+      next ≡ Done answer → BuffersMatch call.task.config.nodes gone call.task.begins call.task.state.phase known.items
+  loaded_done h answer is = loaded_buffers h call.task.state.phase (ap (λ (n : Next Phase). phase_after n) is ∙ sym (idle call))

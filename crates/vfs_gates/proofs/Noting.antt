@@ -26,27 +26,27 @@ use Rattle.gate_world.specs.declared.views.Traced.{Traced}
 use Rattle.gate_world.specs.traces.Snapshots.{completes, last_snapshot, loads_noted, noted_last}
 use Rattle.gate_world.specs.Views.{phase_after}
 use Rattle.gate_world.specs.Work.{after_of, next_of}
-use Rattle.gate_steps.specs.Seating.{SeatItems, done_by, items_after}
+use Rattle.gate_steps.specs.Seating.{DealtNumbers, done_by, items_after}
 use Rattle.gate_steps.specs.declared.seating.Numbered.{Numbered}
 use Rattle.vfs_gates.specs.declared.buffers.SnapshotBuffers.{SnapshotBuffers}
 use Rattle.vfs_gates.specs.Buffers.{LastTells, NextTells, BuffersMatch, StepTells, noted_in, trace_so_far}
 use Rattle.vfs_gates.specs.TaskStates.{own_view}
 
 -- what noting an event does to the room, where the snapshot goes on, and where that was its last load
-abbrev pub GoesOn : SnapshotBuffers → SnapshotBuffers → Event → Type 0
-GoesOn r left e = (left.taken ≡ r.taken) × (words_of left.last ≡ words_of r.last) × (words_of left.next ≡ noted_in (words_of r.next) e)
+abbrev pub ContinuesTaking : SnapshotBuffers → SnapshotBuffers → Event → Type 0
+ContinuesTaking r left e = (left.taken ≡ r.taken) × (words_of left.last ≡ words_of r.last) × (words_of left.next ≡ noted_in (words_of r.next) e)
 
 abbrev pub EndsTaking : SnapshotBuffers → SnapshotBuffers → Event → Type 0
 EndsTaking r left e = (left.taken ≡ true) × (words_of left.last ≡ noted_in (words_of r.next) e) × (words_of left.next ≡ words_of r.last)
 
 -- what an event adds to the own view: itself, and the snapshot that it completes
-trace_after : (begins : Option Op) (phase : Phase) (hook : HookAnswer) (found : ℕ) (x : Numbered) (xs : SeatItems) →
+trace_after : (begins : Option Op) (phase : Phase) (hook : HookAnswer) (found : ℕ) (x : Numbered) (xs : DealtNumbers) →
     (own_view (items_after begins phase hook found (x ∷ xs))).trace ≡
     record { event = event_of (next_of phase hook).0 (next_of phase hook).1 found; hook = hook } ∷ trace_so_far begins x.view
 trace_after None phase hook found x xs = refl
 trace_after (Some op) phase hook found x xs = refl
 
-snapshot_after : (begins : Option Op) (phase : Phase) (hook : HookAnswer) (found : ℕ) (x : Numbered) (xs : SeatItems) →
+snapshot_after : (begins : Option Op) (phase : Phase) (hook : HookAnswer) (found : ℕ) (x : Numbered) (xs : DealtNumbers) →
     (own_view (items_after begins phase hook found (x ∷ xs))).snapshot ≡
     last_snapshot (completes phase (trace_so_far begins x.view) (event_of (next_of phase hook).0 (next_of phase hook).1 found).found)
     x.view.actions (done_by xs) x.view.snapshot
@@ -75,7 +75,7 @@ either T false p q hp hq = hq
 abbrev Tells : SnapshotBuffers → List Traced → Next Taking → Type 0
 Tells left trace n = NextTells left trace (phase_after (map_next Trees (map_next Snapshots n)))
 
-module _ (r left : SnapshotBuffers) (nodes : ℕ) (begins : Option Op) (hook : HookAnswer) (found : ℕ) (x : Numbered) (xs : SeatItems) where
+module _ (r left : SnapshotBuffers) (nodes : ℕ) (begins : Option Op) (hook : HookAnswer) (found : ℕ) (x : Numbered) (xs : DealtNumbers) where
   abbrev event_at : Taking → Event
   event_at s = event_of (next_of (Trees (Snapshots s)) hook).0 (next_of (Trees (Snapshots s)) hook).1 found
 
@@ -83,7 +83,7 @@ module _ (r left : SnapshotBuffers) (nodes : ℕ) (begins : Option Op) (hook : H
   trace_at s = record { event = event_at s; hook = hook } ∷ trace_so_far begins x.view
 
   -- a snapshot that goes on
-  going : (s : Taking) → GoesOn r left (event_at s) →
+  going : (s : Taking) → ContinuesTaking r left (event_at s) →
       completes (Trees (Snapshots s)) (trace_so_far begins x.view) (event_at s).found ≡ None →
       length (noted_in (words_of r.next) (event_at s)).nodes ≡ length (words_of r.next).nodes →
       NextTells left (trace_at s) (phase_after (after_of (Trees (Snapshots s)) (event_at s).found hook).0) →
@@ -122,7 +122,7 @@ module _ (r left : SnapshotBuffers) (nodes : ℕ) (begins : Option Op) (hook : H
 
   -- the load of a node's children is its last one, or isn't
   kids : (wait : Bool) (task n node : ℕ) (o : Option ℕ) → node_after node n ≡ o →
-      (loads_last n (LoadsKids node) ≡ false → GoesOn r left (event_at (record { wait = wait; task = task; nodes = n; step = LoadsKids node }))) →
+      (loads_last n (LoadsKids node) ≡ false → ContinuesTaking r left (event_at (record { wait = wait; task = task; nodes = n; step = LoadsKids node }))) →
       (loads_last n (LoadsKids node) ≡ true →
       EndsTaking r left (event_at (record { wait = wait; task = task; nodes = n; step = LoadsKids node }))) →
       BuffersMatch nodes r begins (Some (Trees (Snapshots (record { wait = wait; task = task; nodes = n; step = LoadsKids node })))) (x ∷ xs) →
@@ -132,7 +132,7 @@ module _ (r left : SnapshotBuffers) (nodes : ℕ) (begins : Option Op) (hook : H
   kids wait task n node None is goes_on ends h = ending wait task n node is (ends (ap (λ o. not (is_some o)) is)) h
   kids wait task n node (Some k) is goes_on ends h =
       let s : Taking = record { wait = wait; task = task; nodes = n; step = LoadsKids node } in
-      let note : GoesOn r left (event_at s) = goes_on (ap (λ o. not (is_some o)) is) in
+      let note : ContinuesTaking r left (event_at s) = goes_on (ap (λ o. not (is_some o)) is) in
       going s note
       (ap (λ o. noted_last o (loaded (loads_noted n (trace_so_far begins x.view)) (Kids node) found)) is) refl
       (step_tells n (words_of left.next) (trace_at s) (kids_step (node_after node n))
@@ -140,7 +140,7 @@ module _ (r left : SnapshotBuffers) (nodes : ℕ) (begins : Option Op) (hook : H
 
   -- each of its events
   follows_step : (wait : Bool) (task n : ℕ) (step : SnapshotStep) →
-      (loads_last n step ≡ false → GoesOn r left (event_at (record { wait = wait; task = task; nodes = n; step = step }))) →
+      (loads_last n step ≡ false → ContinuesTaking r left (event_at (record { wait = wait; task = task; nodes = n; step = step }))) →
       (loads_last n step ≡ true → EndsTaking r left (event_at (record { wait = wait; task = task; nodes = n; step = step }))) →
       BuffersMatch nodes r begins (Some (Trees (Snapshots (record { wait = wait; task = task; nodes = n; step = step })))) (x ∷ xs) →
       BuffersMatch nodes left None (phase_after (after_of (Trees (Snapshots (record { wait = wait; task = task; nodes = n; step = step })))
@@ -148,24 +148,24 @@ module _ (r left : SnapshotBuffers) (nodes : ℕ) (begins : Option Op) (hook : H
       (items_after begins (Trees (Snapshots (record { wait = wait; task = task; nodes = n; step = step }))) hook found (x ∷ xs))
   unfolding words_of
   follows_step true task n Locks goes_on ends h =
-      let s : Taking = record { wait = true; task = task; nodes = n; step = Locks } in let note : GoesOn r left (event_at s) = goes_on refl in
+      let s : Taking = record { wait = true; task = task; nodes = n; step = Locks } in let note : ContinuesTaking r left (event_at s) = goes_on refl in
       let told : words_of left.next ≡ loads_noted n (trace_at s) = note.2 ∙ h.next in
       going s note refl refl (either (Tells left (trace_at s)) (found == 0) (Go (at_snapshot s LoadsStage)) (Wait s) told told) h
   follows_step false task n Locks goes_on ends h =
-      let s : Taking = record { wait = false; task = task; nodes = n; step = Locks } in let note : GoesOn r left (event_at s) = goes_on refl in
+      let s : Taking = record { wait = false; task = task; nodes = n; step = Locks } in let note : ContinuesTaking r left (event_at s) = goes_on refl in
       let told : words_of left.next ≡ loads_noted n (trace_at s) = note.2 ∙ h.next in
       going s note refl refl (either (Tells left (trace_at s)) (found == 0) (Go (at_snapshot s LoadsStage)) (Done (Err Again)) told tt) h
   follows_step wait task n LoadsStage goes_on ends h =
-      let s : Taking = record { wait = wait; task = task; nodes = n; step = LoadsStage } in let note : GoesOn r left (event_at s) = goes_on refl in
+      let s : Taking = record { wait = wait; task = task; nodes = n; step = LoadsStage } in let note : ContinuesTaking r left (event_at s) = goes_on refl in
       let told : words_of left.next ≡ loads_noted n (trace_at s) = note.2 ∙ ap (λ (w : TreeWords). noted_in w (event_at s)) h.next in
       going s note refl refl (either (Tells left (trace_at s)) (found == 4) (Go (at_snapshot s LoadsUsed))
       (Go (at_snapshot s (Releases (Err Invalid)))) told tt) h
   follows_step wait task n LoadsUsed goes_on ends h =
-      let s : Taking = record { wait = wait; task = task; nodes = n; step = LoadsUsed } in let note : GoesOn r left (event_at s) = goes_on refl in
+      let s : Taking = record { wait = wait; task = task; nodes = n; step = LoadsUsed } in let note : ContinuesTaking r left (event_at s) = goes_on refl in
       let told : words_of left.next ≡ loads_noted n (trace_at s) = note.2 ∙ ap (λ (w : TreeWords). noted_in w (event_at s)) h.next in
       going s note refl refl told h
   follows_step wait task n (LoadsNode node) goes_on ends h =
-      let s : Taking = record { wait = wait; task = task; nodes = n; step = LoadsNode node } in let note : GoesOn r left (event_at s) = goes_on refl in
+      let s : Taking = record { wait = wait; task = task; nodes = n; step = LoadsNode node } in let note : ContinuesTaking r left (event_at s) = goes_on refl in
       let told : words_of left.next ≡ loads_noted n (trace_at s) = note.2 ∙ ap (λ (w : TreeWords). noted_in w (event_at s)) h.next in
       going s note refl (length-set (words_of r.next).nodes node found)
       (either (Tells left (trace_at s)) (is_some (unpacked found)) (Go (at_snapshot s (node_step (node_after node n))))
@@ -175,9 +175,9 @@ module _ (r left : SnapshotBuffers) (nodes : ℕ) (begins : Option Op) (hook : H
       let s : Taking = record { wait = wait; task = task; nodes = n; step = Releases answer } in going s (goes_on refl) refl refl tt h
 
 -- so it follows what was noted of an event
-follows_at : (r left : SnapshotBuffers) (s : Taking) (event : Event) → (loads_last s.nodes s.step ≡ false → GoesOn r left event) →
+follows_at : (r left : SnapshotBuffers) (s : Taking) (event : Event) → (loads_last s.nodes s.step ≡ false → ContinuesTaking r left event) →
     (loads_last s.nodes s.step ≡ true → EndsTaking r left event) → (nodes : ℕ) (begins : Option Op) (hook : HookAnswer) (found : ℕ)
-    (items : SeatItems) → 1 ≤ length items →
+    (items : DealtNumbers) → 1 ≤ length items →
     event ≡ event_of (next_of (Trees (Snapshots s)) hook).0 (next_of (Trees (Snapshots s)) hook).1 found →
     BuffersMatch nodes r begins (Some (Trees (Snapshots s))) items →
     BuffersMatch nodes left None (phase_after (after_of (Trees (Snapshots s)) event.found hook).0)
@@ -187,11 +187,11 @@ follows_at r left s event goes_on ends nodes begins hook found (x ∷ xs) there 
     subst (λ (e : Event). BuffersMatch nodes left None (phase_after (after_of (Trees (Snapshots s)) e.found hook).0)
     (items_after begins (Trees (Snapshots s)) hook found (x ∷ xs))) (sym is)
     (follows_step r left nodes begins hook found x xs s.wait s.task s.nodes s.step
-    (λ f. subst (GoesOn r left) is (goes_on f)) (λ t. subst (EndsTaking r left) is (ends t)) h)
+    (λ f. subst (ContinuesTaking r left) is (goes_on f)) (λ t. subst (EndsTaking r left) is (ends t)) h)
 
 pub follows_taking : (r left : SnapshotBuffers) (phase : Phase) (s : Taking) → phase ≡ Trees (Snapshots s) → (event : Event) →
-    (loads_last s.nodes s.step ≡ false → GoesOn r left event) → (loads_last s.nodes s.step ≡ true → EndsTaking r left event) → (nodes : ℕ)
-    (begins : Option Op) (hook : HookAnswer) (found : ℕ) (items : SeatItems) → 1 ≤ length items →
+    (loads_last s.nodes s.step ≡ false → ContinuesTaking r left event) → (loads_last s.nodes s.step ≡ true → EndsTaking r left event) → (nodes : ℕ)
+    (begins : Option Op) (hook : HookAnswer) (found : ℕ) (items : DealtNumbers) → 1 ≤ length items →
     event ≡ event_of (next_of phase hook).0 (next_of phase hook).1 found → BuffersMatch nodes r begins (Some phase) items →
     BuffersMatch nodes left None (phase_after (after_of phase event.found hook).0) (items_after begins phase hook found items)
 follows_taking r left phase s at event goes_on ends nodes begins hook found items there =

@@ -8,9 +8,9 @@ use mathlib.Core.Option.{some, some-injective, some-ne-none}
 use native.Mathlib.Decide.{ℕ_discrete, dec_lt}
 use lib.ListN.{get_elem?}
 use Rattle.gate_world.specs.{Configs.IsWithin, Views.opening_view, declared.{config.Config.Config, operations.Op.Op, views.View.View}}
-use Rattle.gate_steps.specs.call_events.{TaskState.TaskState, Seating.{SeatItems, numbered, one_if, times, without, view_in, renewed, kept_of, given_of, deal}}
+use Rattle.gate_steps.specs.call_events.{TaskState.TaskState, Seating.{DealtNumbers, numbered, one_if, times, without, view_in, renewed, kept_of, given_of, deal}}
 use Rattle.gate_steps.specs.declared.seating.Numbered.{Numbered}
-use Rattle.gate_steps.specs.call_events.{Seats.idle_seat, GhostAgrees.{PhaseOk, IsStill, AllRest, Keeps, OwnTies, GhostAgrees}}
+use Rattle.gate_steps.specs.call_events.{TaskStates.idle_task, GhostAgrees.{PhaseOk, IsStill, AllRest, Keeps, OwnNumberAgrees, GhostAgrees}}
 use Rattle.gate_steps.proofs.call_events.{Dealing.{one_if-same, one_if-other, times-append}, Giving.{view_in-at, times-without, times-without_other}}
 use Rattle.gate_steps.proofs.call_events.Opening.{times-deal_below, times-deal_above, times-deal}
 use Rattle.vfs_gates.specs.TaskStates.{spare_of, Empty, IsNothing, own_view}
@@ -31,19 +31,19 @@ no_file files deep none n =
 
 module _ (c : Config) where
   -- where all rest, each does
-  pub rest-at : (l : SeatItems) (k : ℕ) (y : Numbered) → AllRest c l → get_elem? l k ≡ some y → IsStill c y.view
+  pub rest-at : (l : DealtNumbers) (k : ℕ) (y : Numbered) → AllRest c l → get_elem? l k ≡ some y → IsStill c y.view
   rest-at [] k y r e = absurd (some-ne-none y (sym e))
   rest-at (x ∷ xs) zero y r e = subst (λ (z : Numbered). IsStill c z.view) (some-injective x y e) r.0
   rest-at (x ∷ xs) (suc k) y r e = rest-at xs k y r.1 e
 
   -- all rest without one of them
-  rest-without : (n : ℕ) (l : SeatItems) → AllRest c l → AllRest c (without n l)
+  rest-without : (n : ℕ) (l : DealtNumbers) → AllRest c l → AllRest c (without n l)
   rest-without n [] r = tt
   rest-without n (x ∷ xs) r = let t = rest-without n xs r.1 in elim (eqb x.number n) as
       (λ b. AllRest c (cond b (without n xs) (x ∷ without n xs))) [ true ↦ t | false ↦ (r.0, t) ]
 
   -- all of both rest
-  rest-append : (l m : SeatItems) → AllRest c l → AllRest c m → AllRest c (l ++ m)
+  rest-append : (l m : DealtNumbers) → AllRest c l → AllRest c m → AllRest c (l ++ m)
   rest-append [] m r s = s
   rest-append (x ∷ xs) m r s = (r.0, rest-append xs m r.1 s)
 
@@ -53,7 +53,7 @@ module _ (c : Config) where
   rest-deal from (suc k) = ((refl, ((λ m lt. refl), (λ i one three. refl), (λ n. refl))), rest-deal (suc from) k)
 
   -- a view that holds nothing has what an idle seat keeps
-  idle_keeps : (v : View) → Empty c v → c.mounts ≤ 8 → Keeps c idle_seat v
+  idle_keeps : (v : View) → Empty c v → c.mounts ≤ 8 → Keeps c idle_task v
   idle_keeps v e few = record {
     long = refl;
     wide = refl;
@@ -66,9 +66,9 @@ module _ (c : Config) where
   }
 
   -- the own view of a task that rests is still
-  still-own : (number : ℕ) (begins : Option Op) (kept : TaskState) (flags : List Bool) (x : Numbered) (xs : SeatItems) →
-      OwnTies number c begins kept flags x xs → kept.phase ≡ None → Empty c x.view → IsStill c x.view
-  still-own number begins kept flags x xs t idle e = let may : PhaseOk c begins None x = subst (λ o. PhaseOk c begins o x) idle t.may in
+  still-own : (number : ℕ) (begins : Option Op) (state : TaskState) (flags : List Bool) (x : Numbered) (xs : DealtNumbers) →
+      OwnNumberAgrees number c begins state flags x xs → state.phase ≡ None → Empty c x.view → IsStill c x.view
+  still-own number begins state flags x xs t idle e = let may : PhaseOk c begins None x = subst (λ o. PhaseOk c begins o x) idle t.may in
       (may.1, e)
 
 -- what isn't one or more is none
@@ -76,9 +76,9 @@ no_more : (m : ℕ) → (1 ≤ m → ⊥) → m ≡ 0
 no_more zero none = refl
 no_more (suc m) none = absurd (none (omega arith))
 
-module _ (number : ℕ) (c : Config) (begins : Option Op) (kept : TaskState) (flags : List Bool) where
+module _ (number : ℕ) (c : Config) (begins : Option Op) (state : TaskState) (flags : List Bool) where
   -- the lowest number that is marked is the lowest that there is to give
-  pub lowest_there : (l : SeatItems) (n : ℕ) → GhostAgrees number c begins kept flags l → IsSet flags n →
+  pub lowest_there : (l : DealtNumbers) (n : ℕ) → GhostAgrees number c begins state flags l → IsSet flags n →
       ((k : ℕ) → k < n → get_or flags k false ≡ false) →
       (1 ≤ times n (spare_of l)) × ((k : ℕ) → k < n → times k (spare_of l) ≡ 0)
   lowest_there [] n t on low = absurd t
@@ -88,19 +88,19 @@ module _ (number : ℕ) (c : Config) (begins : Option Op) (kept : TaskState) (fl
   )
 
   -- where no flag is set, it has none to give
-  pub none_there : (l : SeatItems) → GhostAgrees number c begins kept flags l → ((k : ℕ) → get_or flags k false ≡ false) → (n : ℕ) →
+  pub none_there : (l : DealtNumbers) → GhostAgrees number c begins state flags l → ((k : ℕ) → get_or flags k false ≡ false) → (n : ℕ) →
       times n (spare_of l) ≡ 0
   none_there [] t low n = absurd t
   none_there (x ∷ xs) t low n = no_more (times n xs) (λ some. false_true (sym (low n) ∙ (t.marks n).1 some))
 
   -- a task that is idle has begun nothing
-  pub none_begun : (l : SeatItems) → GhostAgrees number c begins kept flags l → kept.phase ≡ None → begins ≡ None
+  pub none_begun : (l : DealtNumbers) → GhostAgrees number c begins state flags l → state.phase ≡ None → begins ≡ None
   none_begun [] t idle = absurd t
   none_begun (x ∷ xs) t idle = let may : PhaseOk c begins None x = subst (λ o. PhaseOk c begins o x) idle t.may in may.0
 
-  -- the giver is tied without the number
-  pub split_self : (l : SeatItems) (n : ℕ) → GhostAgrees number c begins kept flags l → n < length flags →
-      GhostAgrees number c begins kept (set flags n false) (kept_of n l)
+  -- the giver's fields agree without the number
+  pub split_self : (l : DealtNumbers) (n : ℕ) → GhostAgrees number c begins state flags l → n < length flags →
+      GhostAgrees number c begins state (set flags n false) (kept_of n l)
   split_self [] n t lt = absurd t
   split_self (x ∷ xs) n t lt = record {
     within = t.within;
@@ -121,9 +121,9 @@ module _ (number : ℕ) (c : Config) (begins : Option Op) (kept : TaskState) (fl
         ));
   }
 
-  -- the new task is tied to the number that it was given
-  pub split_new : (l : SeatItems) (n : ℕ) (none : List Bool) (idle : TaskState) → GhostAgrees number c begins kept flags l → IsSet flags n → n < 64 →
-      ((k : ℕ) → get_or none k false ≡ false) → idle ≡ idle_seat →
+  -- the new task's fields agree with the number that it was given
+  pub split_new : (l : DealtNumbers) (n : ℕ) (none : List Bool) (idle : TaskState) → GhostAgrees number c begins state flags l → IsSet flags n → n < 64 →
+      ((k : ℕ) → get_or none k false ≡ false) → idle ≡ idle_task →
       GhostAgrees n c None idle none (given_of n l)
   split_new [] n none idle t on lt off still = absurd t
   split_new (x ∷ xs) n none idle t on lt off still =
@@ -141,18 +141,18 @@ module _ (number : ℕ) (c : Config) (begins : Option Op) (kept : TaskState) (fl
       })
 
   -- a number is below 64
-  pub below : (l : SeatItems) → GhostAgrees number c begins kept flags l → number < 64
+  pub below : (l : DealtNumbers) → GhostAgrees number c begins state flags l → number < 64
   below [] t = absurd t
   below (x ∷ xs) t = t.below
 
   -- nothing is kept just where nothing is held
-  pub holds_same : (l : SeatItems) → GhostAgrees number c begins kept flags l → IsNothing kept.accesses c.mounts ↔ Empty c (own_view l)
+  pub holds_same : (l : DealtNumbers) → GhostAgrees number c begins state flags l → IsNothing state.accesses c.mounts ↔ Empty c (own_view l)
   holds_same [] t = absurd t
   holds_same (x ∷ xs) t = (
     (λ h. (
       λ m lt. sym (t.keeps.held.mounts m lt) ∙ h.0 m lt,
       λ i one three. sym (t.keeps.held.levels i one three) ∙ h.1 i one three,
-      λ n. sym (t.keeps.held.files n) ∙ no_file kept.accesses.files t.keeps.deep h.2 n,
+      λ n. sym (t.keeps.held.files n) ∙ no_file state.accesses.files t.keeps.deep h.2 n,
     )),
     (λ h. (
       λ m lt. t.keeps.held.mounts m lt ∙ h.0 m lt,
@@ -162,12 +162,12 @@ module _ (number : ℕ) (c : Config) (begins : Option Op) (kept : TaskState) (fl
   )
 
   -- what a task that rests knows rests
-  pub all_rest : (l : SeatItems) → GhostAgrees number c begins kept flags l → kept.phase ≡ None → Empty c (own_view l) → AllRest c l
+  pub all_rest : (l : DealtNumbers) → GhostAgrees number c begins state flags l → state.phase ≡ None → Empty c (own_view l) → AllRest c l
   all_rest [] t idle e = absurd t
-  all_rest (x ∷ xs) t idle e = (still-own c number begins kept flags x xs t idle e, t.rest)
+  all_rest (x ∷ xs) t idle e = (still-own c number begins state flags x xs t idle e, t.rest)
 
   -- all numbers are there just where each other number is marked
-  pub all_marked : (l : SeatItems) → GhostAgrees number c begins kept flags l →
+  pub all_marked : (l : DealtNumbers) → GhostAgrees number c begins state flags l →
       ((k : ℕ) → k < c.tasks → (k ≡ number) ⊎ IsSet flags k) ↔ ((n : ℕ) → n < c.tasks → 1 ≤ times n l)
   all_marked [] t = absurd t
   all_marked (x ∷ xs) t = (
@@ -178,11 +178,11 @@ module _ (number : ℕ) (c : Config) (begins : Option Op) (kept : TaskState) (fl
   )
 
   module _ (number' : ℕ) (begins' : Option Op) (kept' : TaskState) (flags' all : List Bool) where
-    -- a task is tied to its numbers and those that it took back
-    pub join_self : (l m : SeatItems) → GhostAgrees number c begins kept flags l → GhostAgrees number' c begins' kept' flags' m → kept'.phase ≡ None →
+    -- a task's fields agree with its numbers and those that it took back
+    pub join_self : (l m : DealtNumbers) → GhostAgrees number c begins state flags l → GhostAgrees number' c begins' kept' flags' m → kept'.phase ≡ None →
         Empty c (own_view m) →
         ((k : ℕ) → IsSet all k ↔ (IsSet flags k ⊎ IsSet flags' k)) → number' < length all →
-        GhostAgrees number c begins kept (set all number' true) (l ++ m)
+        GhostAgrees number c begins state (set all number' true) (l ++ m)
     join_self [] m p q idle none both lt = absurd p
     join_self (x ∷ xs) [] p q idle none both lt = absurd q
     join_self (x ∷ xs) (y ∷ ys) p q idle none both lt = record {
@@ -208,10 +208,10 @@ module _ (number : ℕ) (c : Config) (begins : Option Op) (kept : TaskState) (fl
     }
 
 -- the first task has all other numbers to give
-pub first_ties : (c : Config) (idle : TaskState) (n : ℕ) (flags : List Bool) → IsWithin c → idle ≡ idle_seat → 1 ≤ n → n ≤ 64 →
+pub first_ghost_agrees : (c : Config) (idle : TaskState) (n : ℕ) (flags : List Bool) → IsWithin c → idle ≡ idle_task → 1 ≤ n → n ≤ 64 →
     ((k : ℕ) → IsSet flags k ↔ ((0 < k) × (k < n))) → GhostAgrees 0 c None idle flags (deal 0 n)
-first_ties c idle zero flags within still some_there few set_are = absurd (omega arith)
-first_ties c idle (suc n) flags within still some_there few set_are = subst (λ (s : TaskState). GhostAgrees 0 c None s flags (deal 0 (suc n)))
+first_ghost_agrees c idle zero flags within still some_there few set_are = absurd (omega arith)
+first_ghost_agrees c idle (suc n) flags within still some_there few set_are = subst (λ (s : TaskState). GhostAgrees 0 c None s flags (deal 0 (suc n)))
     (sym still) (record {
       within = within;
       same_number = refl;
@@ -230,7 +230,7 @@ first_ties c idle (suc n) flags within still some_there few set_are = subst (λ 
     })
 
 -- a task has a number of its own
-pub has_own : (number : ℕ) (c : Config) (begins : Option Op) (kept : TaskState) (flags : List Bool) (items : SeatItems) →
-    GhostAgrees number c begins kept flags items → 1 ≤ length items
-has_own number c begins kept flags [] h = absurd h
-has_own number c begins kept flags (x ∷ xs) h = omega arith
+pub has_own : (number : ℕ) (c : Config) (begins : Option Op) (state : TaskState) (flags : List Bool) (items : DealtNumbers) →
+    GhostAgrees number c begins state flags items → 1 ≤ length items
+has_own number c begins state flags [] h = absurd h
+has_own number c begins state flags (x ∷ xs) h = omega arith

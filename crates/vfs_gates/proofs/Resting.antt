@@ -15,7 +15,7 @@ use Rattle.atomic_table.specs.Seated.{TableId}
 use Rattle.gate_steps.specs.Rules.{first_known}
 use Rattle.gate_steps.specs.call_events.Runs.{told_as, unit_of, Called, Performs}
 use Rattle.gate_steps.specs.call_events.TaskState.{TaskState}
-use Rattle.gate_steps.specs.Seating.{SeatItems, HaveViews, numbered, times, view_in, kept_of, given_of, deal}
+use Rattle.gate_steps.specs.Seating.{DealtNumbers, HaveViews, numbered, times, view_in, kept_of, given_of, deal}
 use Rattle.gate_steps.specs.call_events.GhostAgrees.{GhostAgrees}
 use Rattle.gate_steps.proofs.call_events.Giving.{view_in-at}
 use Rattle.vfs_gates.specs.declared.gates.Gates.{Gates}
@@ -104,16 +104,16 @@ module _ (m p : ℕ) (old left : SeatedTask) (refusal : GateError) (rests : Rest
 
 -- The numbers of two tasks that were joined have in the end the views that the two knew.
 module _ (views : ℕ → View) where
-  pub first_ends : (l m : SeatItems) → 1 ≤ length l → HaveViews views (l ++ m) → views (own_number l) ≡ own_view l
+  pub first_ends : (l m : DealtNumbers) → 1 ≤ length l → HaveViews views (l ++ m) → views (own_number l) ≡ own_view l
   first_ends [] m there have = absurd (omega arith)
   first_ends (x ∷ xs) m there have = have 0 x refl
 
-  pub second_ends : (l m : SeatItems) → 1 ≤ length m → HaveViews views (l ++ m) → views (own_number m) ≡ own_view m
+  pub second_ends : (l m : DealtNumbers) → 1 ≤ length m → HaveViews views (l ++ m) → views (own_number m) ≡ own_view m
   second_ends [] [] there have = absurd (omega arith)
   second_ends [] (y ∷ ys) there have = have 0 y refl
   second_ends (x ∷ xs) m there have = second_ends xs m there (λ k y e. have (suc k) y e)
 
-pub both_end : (c : Config) (ws : List ℕ) (first second : SeatItems) (seen : List (List Entry)) (e : EndedWith c ws (first ++ second) seen) →
+pub both_end : (c : Config) (ws : List ℕ) (first second : DealtNumbers) (seen : List (List Entry)) (e : EndedWith c ws (first ++ second) seen) →
     1 ≤ length first → 1 ≤ length second →
     (e.ended.world.views (own_number first) ≡ own_view first) × (e.ended.world.views (own_number second) ≡ own_view second)
 both_end c ws first second seen e some_first some_second = (
@@ -122,11 +122,11 @@ both_end c ws first second seen e some_first some_second = (
 )
 
 -- a number that was given rests
-pub given_empty : (number : ℕ) (c : Config) (begins : Option Op) (kept : TaskState) (flags : List Bool) (l : SeatItems) (n : ℕ) →
-    GhostAgrees number c begins kept flags l → 1 ≤ times n (spare_of l) → Empty c (own_view (given_of n l))
-given_empty number c begins kept flags [] n ties there = absurd ties
-given_empty number c begins kept flags (x ∷ xs) n ties there =
-    let at = view_in-at n xs there in (rest-at c xs at.0 (numbered n (view_in n xs)) ties.rest at.1).1
+pub given_empty : (number : ℕ) (c : Config) (begins : Option Op) (state : TaskState) (flags : List Bool) (l : DealtNumbers) (n : ℕ) →
+    GhostAgrees number c begins state flags l → 1 ≤ times n (spare_of l) → Empty c (own_view (given_of n l))
+given_empty number c begins state flags [] n ghost_agrees there = absurd ghost_agrees
+given_empty number c begins state flags (x ∷ xs) n ghost_agrees there =
+    let at = view_in-at n xs there in (rest-at c xs at.0 (numbered n (view_in n xs)) ghost_agrees.rest at.1).1
 
 -- and so does the number to which all are dealt
 pub first_empty : (c : Config) (k : ℕ) → Empty c (own_view (deal 0 k))

@@ -23,7 +23,7 @@ use Rattle.gate_world.specs.Beginnings.{first_phase}
 use Rattle.gate_world.specs.traces.Snapshots.{completes, last_snapshot}
 use Rattle.gate_world.specs.Views.{phase_after}
 use Rattle.gate_world.specs.Work.{after_of, next_of}
-use Rattle.gate_steps.specs.Seating.{SeatItems, deal, done_by, given_of, items_after, kept_of}
+use Rattle.gate_steps.specs.Seating.{DealtNumbers, deal, done_by, given_of, items_after, kept_of}
 use Rattle.gate_steps.specs.Rules.{first_items}
 use Rattle.gate_steps.specs.declared.seating.Numbered.{Numbered}
 use Rattle.gate_steps.specs.call_events.TaskState.{TaskState}
@@ -38,7 +38,7 @@ use Rattle.gate_world.specs.traces.TraceStates.{trace_state_after, state_of_trac
 use Rattle.vfs_gates.specs.declared.buffers.SnapshotBuffers.{SnapshotBuffers}
 use Rattle.vfs_gates.specs.Buffers.{HasSnapshotRoom, LastTells, NextTells, BuffersMatch, is_of_snapshot, last_in, trace_so_far}
 use Rattle.vfs_gates.specs.TaskStates.{SeatedTask, own_number, own_view, task_state}
-use Rattle.gate_steps.specs.call_events.Runs.{Called, Goes, completed_by, items_at, ran_items, ran_snapshot}
+use Rattle.gate_steps.specs.call_events.Runs.{Called, OpUnderWay, completed_by, items_at, ran_items, ran_snapshot}
 use Rattle.gate_steps.specs.call_events.Stepped.{Stepped}
 use Rattle.gate_steps.specs.call_events.GhostAgrees.{GhostAgrees}
 use Rattle.gate_steps.specs.call_events.Turns.{step_was}
@@ -153,24 +153,24 @@ module _ (c : Config) (t : ℕ) (op : Op) (other : is_of_snapshot (first_phase c
       (completed_other (state_of_trace c t op earlier).comes earlier e (stays_other earlier)) ∙ ran_other others earlier v
 
 -- of a task's numbers
-items_other : (c : Config) (op : Op) (items : SeatItems) → is_of_snapshot (first_phase c (own_number items) op) ≡ false →
+items_other : (c : Config) (op : Op) (items : DealtNumbers) → is_of_snapshot (first_phase c (own_number items) op) ≡ false →
     (trace : List Traced) → (own_view (ran_items c op trace items)).snapshot ≡ (own_view items).snapshot
 items_other c op [] other trace = refl
 items_other c op (x ∷ xs) other trace = ran_other c x.number op other (done_by xs) trace x.view
 
-items_at_other : (c : Config) (op : Op) (items : SeatItems) → is_of_snapshot (first_phase c (own_number items) op) ≡ false →
+items_at_other : (c : Config) (op : Op) (items : DealtNumbers) → is_of_snapshot (first_phase c (own_number items) op) ≡ false →
     (trace : List Traced) → (own_view (items_at c op trace items)).snapshot ≡ (own_view items).snapshot
 items_at_other c op items other [] = refl
 items_at_other c op items other (e ∷ earlier) = items_other c op items other (e ∷ earlier)
 
 -- so the room tells of a task whose operation goes on
 goes_room : (nodes : ℕ) (r : SnapshotBuffers) (op : Op) (start now : SeatedTask) (begins left : Option Op) (phase : Option Phase) →
-    is_of_snapshot (first_phase start.config (own_number start.items) op) ≡ false → Goes op start now →
+    is_of_snapshot (first_phase start.config (own_number start.items) op) ≡ false → OpUnderWay op start now →
     BuffersMatch nodes r begins phase start.items → BuffersMatch nodes r left now.phase now.items
 goes_room nodes r op start now begins left phase other goes h = record {
   room = h.room;
   last = subst (LastTells r)
-      (sym (ap (λ (l : SeatItems). (own_view l).snapshot) goes.items ∙ items_at_other start.config op start.items other goes.trace)) h.last;
+      (sym (ap (λ (l : DealtNumbers). (own_view l).snapshot) goes.items ∙ items_at_other start.config op start.items other goes.trace)) h.last;
   next = subst (NextTells r (trace_so_far left (own_view now.items))) (sym goes.phase)
       (next_tells r (trace_so_far left (own_view now.items)) (state_of_trace start.config (own_number start.items) op goes.trace).comes
       (stays_other start.config (own_number start.items) op other goes.trace));
@@ -197,55 +197,55 @@ begun_in call r h =
 
 -- of a call that does its events in a line
 module _ (call : Call) (r : SnapshotBuffers) (other : is_of_snapshot call.first ≡ false)
-    (h : BuffersMatch call.task.config.nodes r call.task.begins call.task.kept.phase call.task.seat.me.0.items) where
+    (h : BuffersMatch call.task.config.nodes r call.task.begins call.task.state.phase call.task.seat.me.0.items) where
   other_start : is_of_snapshot (first_phase call.start.config (own_number call.start.items) call.op) ≡ false
   other_start =
       sym (ap (λ (s : SeatedTask). is_of_snapshot (first_phase s.config (own_number s.items) call.op)) call.start_is) ∙
       (ap (λ n. is_of_snapshot (first_phase call.task.config n call.op)) (own_is call) ∙ (sym (ap is_of_snapshot call.first_is) ∙ other))
 
-  start_room : BuffersMatch call.task.config.nodes r call.task.begins call.task.kept.phase call.start.items
-  start_room = subst (λ (s : SeatedTask). BuffersMatch call.task.config.nodes r call.task.begins call.task.kept.phase s.items) call.start_is h
+  start_room : BuffersMatch call.task.config.nodes r call.task.begins call.task.state.phase call.start.items
+  start_room = subst (λ (s : SeatedTask). BuffersMatch call.task.config.nodes r call.task.begins call.task.state.phase s.items) call.start_is h
 
   -- it goes on at this phase
   pub room_at : (left : Left call) (phase : Phase) → phase_after left.next ≡ Some phase →
       BuffersMatch call.task.config.nodes r call.task.begins (Some phase) left.known.items
   room_at left phase is =
-      goes_room call.task.config.nodes r call.op call.start _ call.task.begins call.task.begins call.task.kept.phase other_start
+      goes_room call.task.config.nodes r call.op call.start _ call.task.begins call.task.begins call.task.state.phase other_start
       (goes_at call left phase is) start_room
 
   -- or was done
   pub room_done : (left : Left call) (answer : Result Reply GateError) → left.next ≡ Done answer →
-      BuffersMatch call.task.config.nodes r call.task.begins call.task.kept.phase left.known.items
+      BuffersMatch call.task.config.nodes r call.task.begins call.task.state.phase left.known.items
   room_done left answer is =
-      called_room call.task.config.nodes r call.op call.start _ answer call.task.begins call.task.begins call.task.kept.phase
-      call.task.kept.phase other_start (ended_at call left answer is) (idle call) start_room
+      called_room call.task.config.nodes r call.op call.start _ answer call.task.begins call.task.begins call.task.state.phase
+      call.task.state.phase other_start (ended_at call left answer is) (idle call) start_room
 
 -- what the room tells follows an event that found this
-abbrev pub FollowsBy : SnapshotBuffers → SnapshotBuffers → Event → Phase → ℕ → Option Op → HookAnswer → ℕ → SeatItems → Type 0
+abbrev pub FollowsBy : SnapshotBuffers → SnapshotBuffers → Event → Phase → ℕ → Option Op → HookAnswer → ℕ → DealtNumbers → Type 0
 FollowsBy r left event phase nodes begins hook found items =
     1 ≤ length items → event ≡ event_of (next_of phase hook).0 (next_of phase hook).1 found → BuffersMatch nodes r begins (Some phase) items →
     BuffersMatch nodes left None (phase_after (after_of phase event.found hook).0) (items_after begins phase hook found items)
 
 -- an event of a task, which follows the room
 pub stepped_room : {seen gone : List (List Entry)} (nodes : ℕ) (r left : SnapshotBuffers) (begins : Option Op) (phase : Phase) (hook : HookAnswer) (table table_left : TableId)
-    (c : Config) (items items_left : SeatItems) (event : Event) (action : Option Action) (next : Next Phase) (number : ℕ) (kept : TaskState)
-    (flags : List Bool) → GhostAgrees number c begins kept flags items →
+    (c : Config) (items items_left : DealtNumbers) (event : Event) (action : Option Action) (next : Next Phase) (number : ℕ) (state : TaskState)
+    (flags : List Bool) → GhostAgrees number c begins state flags items →
     Stepped phase hook (task_state table c begins (Some phase) (knows items seen)) (step_was event action next)
     (task_state table_left c None (phase_after next) (knows items_left gone)) → BuffersMatch nodes r begins (Some phase) items →
     ((found : ℕ) → 1 ≤ length items → event ≡ event_of (next_of phase hook).0 (next_of phase hook).1 found →
     BuffersMatch nodes r begins (Some phase) items →
     BuffersMatch nodes left None (phase_after (after_of phase event.found hook).0) (items_after begins phase hook found items)) →
     BuffersMatch nodes left None (phase_after next) items_left
-stepped_room nodes r left begins phase hook table table_left c [] items_left event action next number kept flags ties stepped h follows =
-    absurd ties
-stepped_room nodes r left begins phase hook table table_left c (x ∷ xs) items_left event action next number kept flags ties stepped h follows =
+stepped_room nodes r left begins phase hook table table_left c [] items_left event action next number state flags ghost_agrees stepped h follows =
+    absurd ghost_agrees
+stepped_room nodes r left begins phase hook table table_left c (x ∷ xs) items_left event action next number state flags ghost_agrees stepped h follows =
     let same_event : Some event ≡ Some (event_of (next_of phase hook).0 (next_of phase hook).1 stepped.found) =
     ap (λ (s : Step). s.event) stepped.step in
     let is : event ≡ event_of (next_of phase hook).0 (next_of phase hook).1 stepped.found = cc in
     let stands : phase_after next ≡ phase_after (after_of phase event.found hook).0 =
     ap (λ (s : SeatedTask). s.phase) stepped.new ∙ ap (λ (e : Event). phase_after (after_of phase e.found hook).0) (sym is) in
     let there : items_left ≡ items_after begins phase hook stepped.found (x ∷ xs) = ap (λ (s : SeatedTask). s.items) stepped.new in
-    let P : Option Phase × SeatItems → Type 0 = λ z. BuffersMatch nodes left None z.0 z.1 in
+    let P : Option Phase × DealtNumbers → Type 0 = λ z. BuffersMatch nodes left None z.0 z.1 in
     subst P (λ i. (sym stands i, sym there i)) (follows stepped.found (omega arith) is h)
 
 -- a phase that is no call at the tree, and a call that is no snapshot
@@ -272,7 +272,7 @@ not_snapshot (Snapshots x) not = absurd (not x refl)
 not_snapshot (TreeClears x) not = refl
 
 -- an event of an operation that is no snapshot leaves the last snapshot
-leaves_last : (begins : Option Op) (phase : Phase) (hook : HookAnswer) (found : ℕ) (x : Numbered) (xs : SeatItems) → is_of_snapshot phase ≡ false →
+leaves_last : (begins : Option Op) (phase : Phase) (hook : HookAnswer) (found : ℕ) (x : Numbered) (xs : DealtNumbers) → is_of_snapshot phase ≡ false →
     (own_view (items_after begins phase hook found (x ∷ xs))).snapshot ≡ x.view.snapshot
 leaves_last None phase hook found x xs other =
     ap (λ taken. last_snapshot taken x.view.actions (done_by xs) x.view.snapshot)
@@ -283,7 +283,7 @@ leaves_last (Some op) phase hook found x xs other =
 
 -- so the room stays as it is
 pub follows_other : (r : SnapshotBuffers) (phase : Phase) (found_there : ℕ) → is_of_snapshot phase ≡ false → (nodes : ℕ) (begins : Option Op)
-    (hook : HookAnswer) (found : ℕ) (items : SeatItems) → 1 ≤ length items → BuffersMatch nodes r begins (Some phase) items →
+    (hook : HookAnswer) (found : ℕ) (items : DealtNumbers) → 1 ≤ length items → BuffersMatch nodes r begins (Some phase) items →
     BuffersMatch nodes r None (phase_after (after_of phase found_there hook).0) (items_after begins phase hook found items)
 follows_other r phase found_there other nodes begins hook found [] there h = absurd (omega arith)
 follows_other r phase found_there other nodes begins hook found (x ∷ xs) there h = record {
@@ -294,7 +294,7 @@ follows_other r phase found_there other nodes begins hook found (x ∷ xs) there
 }
 
 -- a room that has nothing yet, of a task that has none
-pub room_new : (nodes : ℕ) (r : SnapshotBuffers) (begins : Option Op) (phase : Option Phase) (items : SeatItems) → HasSnapshotRoom nodes r →
+pub room_new : (nodes : ℕ) (r : SnapshotBuffers) (begins : Option Op) (phase : Option Phase) (items : DealtNumbers) → HasSnapshotRoom nodes r →
     r.taken ≡ false → (own_view items).snapshot ≡ None → phase ≡ None → BuffersMatch nodes r begins phase items
 room_new nodes r begins phase items room taken none idle = record {
   room = room;
@@ -303,7 +303,7 @@ room_new nodes r begins phase items room taken none idle = record {
 }
 
 -- a task whose own view is the same
-pub room_same : (nodes : ℕ) (r : SnapshotBuffers) (begins : Option Op) (phase : Option Phase) (items items_left : SeatItems) →
+pub room_same : (nodes : ℕ) (r : SnapshotBuffers) (begins : Option Op) (phase : Option Phase) (items items_left : DealtNumbers) →
     own_view items_left ≡ own_view items → BuffersMatch nodes r begins phase items → BuffersMatch nodes r begins phase items_left
 room_same nodes r begins phase items items_left same h = record {
   room = h.room;
@@ -312,17 +312,17 @@ room_same nodes r begins phase items items_left same h = record {
 }
 
 -- so it is where a number was given, or others were taken back
-pub kept_view : (n : ℕ) (l : SeatItems) → own_view (kept_of n l) ≡ own_view l
+pub kept_view : (n : ℕ) (l : DealtNumbers) → own_view (kept_of n l) ≡ own_view l
 kept_view n [] = refl
 kept_view n (x ∷ xs) = refl
 
-pub joined_view : (number : ℕ) (c : Config) (begins : Option Op) (kept : TaskState) (flags : List Bool) (l k : SeatItems) →
-    GhostAgrees number c begins kept flags l → own_view (l ++ k) ≡ own_view l
-joined_view number c begins kept flags [] k ties = absurd ties
-joined_view number c begins kept flags (x ∷ xs) k ties = refl
+pub joined_view : (number : ℕ) (c : Config) (begins : Option Op) (state : TaskState) (flags : List Bool) (l k : DealtNumbers) →
+    GhostAgrees number c begins state flags l → own_view (l ++ k) ≡ own_view l
+joined_view number c begins state flags [] k ghost_agrees = absurd ghost_agrees
+joined_view number c begins state flags (x ∷ xs) k ghost_agrees = refl
 
 -- a number that was given has no snapshot, nor has one that has done nothing
-pub given_unseen : (n : ℕ) (l : SeatItems) → (own_view (given_of n l)).snapshot ≡ None
+pub given_unseen : (n : ℕ) (l : DealtNumbers) → (own_view (given_of n l)).snapshot ≡ None
 given_unseen n [] = refl
 given_unseen n (x ∷ xs) = refl
 

@@ -8,7 +8,7 @@ use Rattle.access_model.specs.declared.replies.{Reply.Reply}
 use Rattle.gate_world.specs.declared.operations.Op.TheVariants.{Want, DropMount}
 use Rattle.gate_steps.specs.Rules.{first_known}
 use Rattle.gate_steps.specs.call_events.Runs.{ran_items, told_as, unit_of}
-use Rattle.gate_steps.specs.Seating.{SeatItems, HaveViews, kept_of}
+use Rattle.gate_steps.specs.Seating.{DealtNumbers, HaveViews, kept_of}
 use Rattle.gate_world.specs.declared.views.{Traced.Traced, View.View}
 use Rattle.gate_world.specs.declared.config.Config.{Config}
 use Rattle.vfs_gates.specs.Held.{own_actions, IsGivenBack, takes_nothing}
@@ -63,7 +63,7 @@ reopened {m = m} {old = old} {there = there} rests closed call =
 
 -- Two tasks, the first of some gates and one that was split off it, did this each, were joined, and closed the gates: their numbers have it in the
 -- end, from where they had done nothing.
-pub joined_did : {c : Config} {ws : List ℕ} {items : SeatItems} {seen : List (List Entry)} {one two : ℕ} {opening : Config} {id : TableId} {old f s : SeatedTask}
+pub joined_did : {c : Config} {ws : List ℕ} {items : DealtNumbers} {seen : List (List Entry)} {one two : ℕ} {opening : Config} {id : TableId} {old f s : SeatedTask}
     (F S : SeatedTask → SeatedTask → Type 0) (first second : SeatedTask) → old ≡ task_state id opening None None (first_known opening) → SplitOf old f s →
     (e : EndedWith c ws items seen) → items ≡ first.items ++ second.items → one ≡ own_number first.items → 1 ≤ length first.items →
     two ≡ own_number second.items → 1 ≤ length second.items → F f first → S s second →
@@ -83,7 +83,7 @@ pub done_after : {op : Op} {other joined left : SeatedTask} (first : SeatedTask)
 done_after {op = op} {other = other} {joined = joined} {left = left} first is some_first some_other call =
     let was = was_done op joined left call in comes_after op first other joined left (Ok was.reply) is some_first some_other was.called
 
-own_same : (l m : SeatItems) → 1 ≤ length l → own_view l ≡ own_view (l ++ m)
+own_same : (l m : DealtNumbers) → 1 ≤ length l → own_view l ≡ own_view (l ++ m)
 own_same [] m there = absurd (omega arith)
 own_same (x ∷ xs) m there = refl
 
@@ -99,7 +99,7 @@ pub joined_there : (first other joined : SeatedTask) → joined.items ≡ first.
 joined_there first other joined is there = let more = length-append first.items other.items in omega (arith, ap length is, more, there)
 
 -- A call leaves the numbers that its task has to give as they were.
-ran_spare : (c : Config) (op : Op) (trace : List Traced) (l : SeatItems) → spare_of (ran_items c op trace l) ≡ spare_of l
+ran_spare : (c : Config) (op : Op) (trace : List Traced) (l : DealtNumbers) → spare_of (ran_items c op trace l) ≡ spare_of l
 ran_spare c op trace [] = refl
 ran_spare c op trace (x ∷ xs) = refl
 
@@ -119,18 +119,18 @@ pub spare_stays_on : {one two : Op} {old there left : SeatedTask} {answer outcom
 spare_stays_on first second = spare_stays second ∙ spare_stays first
 
 -- Of views that a task knows, those of the second of two lists of its numbers.
-have_second : (views : ℕ → View) (l m : SeatItems) → HaveViews views (l ++ m) → HaveViews views m
+have_second : (views : ℕ → View) (l m : DealtNumbers) → HaveViews views (l ++ m) → HaveViews views m
 have_second views [] m have = have
 have_second views (x ∷ xs) m have = have_second views xs m (λ k. have (suc k))
 
-have_spare : (views : ℕ → View) (items mine others : SeatItems) → spare_of items ≡ spare_of (mine ++ others) → 1 ≤ length mine →
+have_spare : (views : ℕ → View) (items mine others : DealtNumbers) → spare_of items ≡ spare_of (mine ++ others) → 1 ≤ length mine →
     HaveViews views items → HaveViews views others
 have_spare views items [] others same there have = absurd (omega arith)
 have_spare views [] (x ∷ xs) others same there have = have_second views xs others (subst (HaveViews views) same have)
 have_spare views (y ∷ ys) (x ∷ xs) others same there have =
     have_second views xs others (subst (HaveViews views) same (λ k. have (suc k)))
 
-kept_same : (n : ℕ) (l : SeatItems) → own_view (kept_of n l) ≡ own_view l
+kept_same : (n : ℕ) (l : DealtNumbers) → own_view (kept_of n l) ≡ own_view l
 kept_same n [] = refl
 kept_same n (x ∷ xs) = refl
 
@@ -146,7 +146,7 @@ granted_alone {opening = opening} {id = id} {old = old} {f = f} {g = g} {s = s} 
     (granted ∙ (ap (λ l. n + granted_in gate l) none ∙ add-zero n))
 
 -- The same of two tasks that were joined to a third, which was split off behind them, and called then itself.
-pub handed_did : {c : Config} {ws : List ℕ} {items : SeatItems} {seen : List (List Entry)} {one two : ℕ} {opening : Config} {id : TableId}
+pub handed_did : {c : Config} {ws : List ℕ} {items : DealtNumbers} {seen : List (List Entry)} {one two : ℕ} {opening : Config} {id : TableId}
     {old f g s t : SeatedTask} (F S : SeatedTask → SeatedTask → Type 0) (first second both : SeatedTask) →
     old ≡ task_state id opening None None (first_known opening) → SplitOf old f s → SplitOf f g t → (e : EndedWith c ws items seen) →
     spare_of items ≡ spare_of (t.items ++ both.items) → both.items ≡ first.items ++ second.items → 1 ≤ length t.items →

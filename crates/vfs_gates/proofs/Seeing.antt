@@ -17,13 +17,13 @@ use Rattle.gate_world.specs.traces.Snapshots.{last_snapshot}
 use Rattle.gated_tree.specs.Trees.{node_at}
 use Rattle.gate_world.specs.Moments.{HasMoment}
 use Rattle.gate_world.specs.traces.TraceStates.{state_of_trace}
-use Rattle.gate_steps.specs.Seating.{SeatItems, HaveHistory, done_by}
+use Rattle.gate_steps.specs.Seating.{DealtNumbers, HaveHistory, done_by}
 use Rattle.vfs_gates.specs.TaskStates.{SeatedTask, own_number, own_view, spare_of}
 use Rattle.vfs_gates.specs.Seen.{IsOfAMoment}
 use Rattle.gate_steps.specs.call_events.Runs.{completed_by, ran_snapshot, ran_items, Called}
 
 -- in any history of a task's numbers
-pub saw_a_moment : (c : Config) (items : SeatItems) (last_seen : List (List Entry)) (all : HaveHistory c items last_seen)
+pub saw_a_moment : (c : Config) (items : DealtNumbers) (last_seen : List (List Entry)) (all : HaveHistory c items last_seen)
     (s : Snapshot) → 1 ≤ length items →
     (own_view items).snapshot ≡ Some s → IsOfAMoment c (own_number items) items s
 saw_a_moment c [] last_seen all s some_there e = absurd (omega arith)
@@ -41,7 +41,7 @@ saw_a_moment c (x ∷ xs) last_seen all s some_there e =
     }
 
 -- a task whose number ran an operation is there, with the same number
-pub same_own : (c : Config) (op : Op) (trace : List Traced) (items : SeatItems) → 1 ≤ length items →
+pub same_own : (c : Config) (op : Op) (trace : List Traced) (items : DealtNumbers) → 1 ≤ length items →
     (own_number (ran_items c op trace items) ≡ own_number items) × (1 ≤ length (ran_items c op trace items)) ×
     ((own_view (ran_items c op trace items)).snapshot ≡
     ran_snapshot c (own_number items) op (done_by (spare_of items)) trace (own_view items))
@@ -76,7 +76,7 @@ module _ (c : Config) (t : ℕ) (op : Op) (others : List (ℕ × ℕ)) (e : Trac
       ap (λ o. before o (state_of_trace c t op earlier).added) taken ∙ ap (before (Some loaded)) none
 
 -- what a task notes that had done what it did before a call
-abbrev pub noted_by : SeatItems → TreeWords → Snapshot
+abbrev pub noted_by : DealtNumbers → TreeWords → Snapshot
 noted_by before loaded = record { loaded = loaded; done = length (own_view before).actions; others = done_by (spare_of before) }
 
 -- a whole call whose last event but one completed a snapshot, and which had added nothing before it

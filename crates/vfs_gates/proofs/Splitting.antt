@@ -5,7 +5,7 @@ use native.Mathlib.Decide.{ℕ_discrete, dec_lt}
 use Rattle.access_model.specs.declared.errors.GateError.{GateError, TheVariants.{Order, TooMany, NoMemory}}
 use Rattle.gate_world.specs.declared.config.Config.{Config}
 use Rattle.gate_steps.specs.Rules.{first_items}
-use Rattle.gate_steps.specs.Seating.{SeatItems, times, kept_of, given_of, deal, view_in, without}
+use Rattle.gate_steps.specs.Seating.{DealtNumbers, times, kept_of, given_of, deal, view_in, without}
 use Rattle.gate_steps.proofs.call_events.Giving.{times-without, times-without_other}
 use Rattle.gate_steps.proofs.call_events.Opening.{times-deal, times-deal_below}
 use Rattle.vfs_gates.specs.Parts.{SplitOf, SplitRefused}
@@ -33,12 +33,12 @@ begins_dealt zero some = absurd (omega (arith, some))
 begins_dealt (suc count) some = (omega arith, refl)
 
 -- who gives a number keeps its own
-own_kept : (n : ℕ) (items : SeatItems) → own_number (kept_of n items) ≡ own_number items
+own_kept : (n : ℕ) (items : DealtNumbers) → own_number (kept_of n items) ≡ own_number items
 own_kept n [] = refl
 own_kept n (x ∷ xs) = refl
 
 -- who is given a number has it
-own_given : (n : ℕ) (items : SeatItems) → 1 ≤ times n (spare_of items) → own_number (given_of n items) ≡ n
+own_given : (n : ℕ) (items : DealtNumbers) → 1 ≤ times n (spare_of items) → own_number (given_of n items) ≡ n
 own_given n [] there = absurd (omega (arith, there))
 own_given n (x ∷ xs) there = refl
 
@@ -53,39 +53,39 @@ none_later zero = tt
 none_later (suc count) = none_dealt 1 count
 
 -- nor those that are left without one
-none_without : (n : ℕ) (items : SeatItems) → HaveDoneNothing items → HaveDoneNothing (without n items)
+none_without : (n : ℕ) (items : DealtNumbers) → HaveDoneNothing items → HaveDoneNothing (without n items)
 none_without n [] none = tt
 none_without n (x ∷ xs) none =
     let rest = none_without n xs none.1 in
     elim (eqb x.number n) as (λ b. HaveDoneNothing (cond b (without n xs) (x ∷ without n xs))) [ true ↦ rest | false ↦ (none.0, rest) ]
 
 -- nor has one of them
-none_in : (n : ℕ) (items : SeatItems) → HaveDoneNothing items → (view_in n items).actions ≡ []
+none_in : (n : ℕ) (items : DealtNumbers) → HaveDoneNothing items → (view_in n items).actions ≡ []
 none_in n [] none = refl
 none_in n (x ∷ xs) none =
     let rest = none_in n xs none.1 in
     elim (eqb x.number n) as (λ b. (cond b x.view (view_in n xs)).actions ≡ []) [ true ↦ none.0 | false ↦ rest ]
 
 -- who keeps the others
-none_kept : (n : ℕ) (items : SeatItems) → HaveDoneNothing (spare_of items) →
+none_kept : (n : ℕ) (items : DealtNumbers) → HaveDoneNothing (spare_of items) →
     HaveDoneNothing (spare_of (kept_of n items))
 none_kept n [] none = none
 none_kept n (x ∷ xs) none = none_without n xs none
 
 -- who is given one
-none_given : (n : ℕ) (items : SeatItems) → HaveDoneNothing (spare_of items) → (own_view (given_of n items)).actions ≡ []
+none_given : (n : ℕ) (items : DealtNumbers) → HaveDoneNothing (spare_of items) → (own_view (given_of n items)).actions ≡ []
 none_given n [] none = refl
 none_given n (x ∷ xs) none = none_in n xs none
 
 -- the first task has all numbers but its own to give
 pub gives_all : (first : SeatedTask) (c : Config) → 1 ≤ c.tasks → IsIdle first → first.items ≡ first_items c → Gives first 1 c.tasks
 gives_all first c some idle all = record {
-  there = subst (λ (l : SeatItems). 1 ≤ length l) (sym all) (begins_dealt c.tasks some).0;
+  there = subst (λ (l : DealtNumbers). 1 ≤ length l) (sym all) (begins_dealt c.tasks some).0;
   own = ap own_number all ∙ own_dealt c.tasks;
   idle = idle;
-  later = λ (k : ℕ) from below. ap (λ (l : SeatItems). times k (spare_of l)) all ∙ later_dealt c.tasks k from below;
-  earlier = λ (k : ℕ) below. ap (λ (l : SeatItems). times k (spare_of l)) all ∙ earlier_dealt c.tasks k below;
-  nothing = subst (λ (l : SeatItems). HaveDoneNothing (spare_of l)) (sym all) (none_later c.tasks);
+  later = λ (k : ℕ) from below. ap (λ (l : DealtNumbers). times k (spare_of l)) all ∙ later_dealt c.tasks k from below;
+  earlier = λ (k : ℕ) below. ap (λ (l : DealtNumbers). times k (spare_of l)) all ∙ earlier_dealt c.tasks k below;
+  nothing = subst (λ (l : DealtNumbers). HaveDoneNothing (spare_of l)) (sym all) (none_later c.tasks);
 }
 
 -- the lowest number is the next one
@@ -108,7 +108,7 @@ has_next first left other from count gives below s =
     ∙ next_number first left other from count gives below s
 
 -- who is given a number has one
-there_given : (n : ℕ) (items : SeatItems) → 1 ≤ times n (spare_of items) → 1 ≤ length (given_of n items)
+there_given : (n : ℕ) (items : DealtNumbers) → 1 ≤ times n (spare_of items) → 1 ≤ length (given_of n items)
 there_given n [] there = absurd (omega (arith, there))
 there_given n (x ∷ xs) there = omega arith
 
@@ -128,17 +128,17 @@ numbered_more from [] t are is = (omega (arith, is), _)
 numbered_more from (x ∷ xs) t are is = (are.0, numbered_more (from + 1) xs t are.1 (omega (arith, is)))
 
 -- what a task has to give that gave a number away
-spare_left : (n : ℕ) (items : SeatItems) (k : ℕ) → k ≢ n → times k (spare_of (kept_of n items)) ≡ times k (spare_of items)
+spare_left : (n : ℕ) (items : DealtNumbers) (k : ℕ) → k ≢ n → times k (spare_of (kept_of n items)) ≡ times k (spare_of items)
 spare_left n [] k other = refl
 spare_left n (x ∷ xs) k other = times-without_other k n xs other
 
 -- it has not that number
-spare_gone : (n : ℕ) (items : SeatItems) → times n (spare_of (kept_of n items)) ≡ 0
+spare_gone : (n : ℕ) (items : DealtNumbers) → times n (spare_of (kept_of n items)) ≡ 0
 spare_gone n [] = refl
 spare_gone n (x ∷ xs) = times-without n xs
 
 -- it is still there
-there_kept : (n : ℕ) (items : SeatItems) → 1 ≤ length items → 1 ≤ length (kept_of n items)
+there_kept : (n : ℕ) (items : DealtNumbers) → 1 ≤ length items → 1 ≤ length (kept_of n items)
 there_kept n [] there = there
 there_kept n (x ∷ xs) there = omega arith
 
@@ -149,18 +149,18 @@ gives_on first left other from count gives below s =
     let is = next_number first left other from count gives below s in
     let kept : left.items ≡ kept_of s.number first.items = ap (λ (t : SeatedTask). t.items) s.kept in
     let same = λ (k : ℕ) (ne : k ≢ s.number).
-    ap (λ (l : SeatItems). times k (spare_of l)) kept ∙ spare_left s.number first.items k ne in
+    ap (λ (l : DealtNumbers). times k (spare_of l)) kept ∙ spare_left s.number first.items k ne in
     record {
-      there = subst (λ (l : SeatItems). 1 ≤ length l) (sym kept) (there_kept s.number first.items gives.there);
+      there = subst (λ (l : DealtNumbers). 1 ≤ length l) (sym kept) (there_kept s.number first.items gives.there);
       own = ap own_number kept ∙ own_kept s.number first.items ∙ gives.own;
       idle = ap (λ (t : SeatedTask). t.phase) s.kept ∙ gives.idle;
       later = λ (k : ℕ) (low : from + 1 ≤ k) (high : k < count).
           let ne : k ≢ s.number = omega arith in same k ne ∙ gives.later k (omega arith) high;
       earlier = λ (k : ℕ) (low : k < from + 1). dite (ℕ_discrete k s.number)
-          (λ yes. ap (λ (l : SeatItems). times k (spare_of l)) kept
+          (λ yes. ap (λ (l : DealtNumbers). times k (spare_of l)) kept
           ∙ ap (λ (n : ℕ). times n (spare_of (kept_of s.number first.items))) yes ∙ spare_gone s.number first.items)
           (λ ne. same k ne ∙ gives.earlier k (omega arith));
-      nothing = subst (λ (l : SeatItems). HaveDoneNothing (spare_of l)) (sym kept) (none_kept s.number first.items gives.nothing);
+      nothing = subst (λ (l : DealtNumbers). HaveDoneNothing (spare_of l)) (sym kept) (none_kept s.number first.items gives.nothing);
     }
 
 -- while a number is left, a split is refused for memory alone
@@ -178,7 +178,7 @@ refused_for_memory first from count _ gives below h = absurd h
 pub first_begins : (first : SeatedTask) (c : Config) → 1 ≤ c.tasks → first.items ≡ first_items c → HasBegun 0 first
 first_begins first c some all =
     let dealt = begins_dealt c.tasks some in record {
-      there = subst (λ (l : SeatItems). 1 ≤ length l) (sym all) dealt.0;
+      there = subst (λ (l : DealtNumbers). 1 ≤ length l) (sym all) dealt.0;
       own = ap own_number all ∙ own_dealt c.tasks;
-      nothing = ap (λ (l : SeatItems). (own_view l).actions) all ∙ dealt.1;
+      nothing = ap (λ (l : DealtNumbers). (own_view l).actions) all ∙ dealt.1;
     }

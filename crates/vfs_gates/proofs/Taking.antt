@@ -27,7 +27,7 @@ use Rattle.gate_world.specs.declared.views.Snapshot.{Snapshot as Noted}
 use Rattle.gate_world.specs.Views.{actions_after}
 use Rattle.gate_world.specs.traces.TraceStates.{state_of_trace, trace_state_after, IsNext, IsTrace}
 use Rattle.gate_world.specs.traces.Snapshots.{last_snapshot, noted_last, snapshot_completes}
-use Rattle.gate_steps.specs.Seating.{SeatItems, done_by}
+use Rattle.gate_steps.specs.Seating.{DealtNumbers, done_by}
 use Rattle.vfs_gates.specs.TaskStates.{SeatedTask, own_number, own_view, refusal_at, spare_of}
 use Rattle.gate_steps.specs.call_events.Runs.{Called, Performs, completed_by, ran_items, ran_snapshot, told_as, unit_of}
 use Rattle.vfs_gates.specs.Seen.{HasTaken}
@@ -168,7 +168,7 @@ abbrev pub HasWhole : SeatedTask → Type 0
 HasWhole left = (s : Noted) × ((own_view left.items).snapshot ≡ Some s) × LoadedSound s.loaded × LoadedClean s.loaded
 
 -- what has run has the numbers that it had
-some_before : (c : Config) (op : Op) (trace : List Traced) (items : SeatItems) → 1 ≤ length (ran_items c op trace items) → 1 ≤ length items
+some_before : (c : Config) (op : Op) (trace : List Traced) (items : DealtNumbers) → 1 ≤ length (ran_items c op trace items) → 1 ≤ length items
 some_before c op trace [] h = h
 some_before c op trace (x ∷ xs) h = omega arith
 

@@ -17,7 +17,7 @@ use Rattle.gate_world.specs.declared.operations.Op.TheVariants.{Snapshot as Snap
 use Rattle.gate_world.specs.declared.views.Snapshot.{Snapshot as Noted}
 use Rattle.gate_world.specs.declared.views.Traced.{Traced}
 use Rattle.gate_world.specs.declared.views.View.{View}
-use Rattle.gate_steps.specs.Seating.{SeatItems, done_by}
+use Rattle.gate_steps.specs.Seating.{DealtNumbers, done_by}
 use Rattle.gate_steps.specs.declared.seating.Numbered.{Numbered}
 use Rattle.gate_steps.specs.call_events.Grown.{StaySeen}
 use Rattle.gate_steps.specs.call_events.Runs.{completed_by, ran_items, ran_snapshot, AreMoves, Called}
@@ -94,19 +94,19 @@ taken_during wait old left reply s some_there called shows =
     (subst (λ l. AreMoves c op old.items old.seen l left.seen) done.3 called.moves) done.4)
 
 -- what stands in the second of two lists stands in both
-second_place : (mine : SeatItems) (y : Numbered) (ys : SeatItems) → (k : ℕ) × (get_elem? (mine ++ y ∷ ys) k ≡ some y)
+second_place : (mine : DealtNumbers) (y : Numbered) (ys : DealtNumbers) → (k : ℕ) × (get_elem? (mine ++ y ∷ ys) k ≡ some y)
 second_place [] y ys = (0, refl)
 second_place (x ∷ mine) y ys = let r = second_place mine y ys in (suc r.0, r.1)
 
-other_behind : (c : Config) (items mine others : SeatItems) (before : List Done) → items ≡ mine ++ others → 1 ≤ length others →
+other_behind : (c : Config) (items mine others : DealtNumbers) (before : List Done) → items ≡ mine ++ others → 1 ≤ length others →
     ((k : ℕ) (x : Numbered) → get_elem? items k ≡ some x → own_part x.number before ≡ x.view.actions) →
     own_part (own_number others) before ≡ (own_view others).actions
 other_behind c items mine [] before is there had = absurd (omega arith)
 other_behind c items mine (y ∷ ys) before is there had =
-    let at = second_place mine y ys in had at.0 y (ap (λ (l : SeatItems). get_elem? l at.0) is ∙ at.1)
+    let at = second_place mine y ys in had at.0 y (ap (λ (l : DealtNumbers). get_elem? l at.0) is ∙ at.1)
 
 -- what a task's own number has done after an operation
-ran_actions : (c : Config) (op : Op) (trace : List Traced) (items mine others : SeatItems) → items ≡ mine ++ others → 1 ≤ length mine →
+ran_actions : (c : Config) (op : Op) (trace : List Traced) (items mine others : DealtNumbers) → items ≡ mine ++ others → 1 ≤ length mine →
     (own_view (ran_items c op trace items)).actions ≡ (state_of_trace c (own_number items) op trace).added ++ (own_view items).actions
 ran_actions c op trace [] [] others is there = absurd (omega arith)
 ran_actions c op trace [] (x ∷ mine) others is there = absurd (let no : ⊥ = cc in no)

@@ -15,7 +15,7 @@ use Rattle.gate_world.specs.declared.views.Traced.{Traced}
 use Rattle.gate_world.specs.declared.views.Snapshot.{Snapshot}
 use Rattle.gate_world.specs.traces.Found.{is_load}
 use Rattle.gate_world.specs.traces.Snapshots.{loads_noted}
-use Rattle.gate_steps.specs.Seating.{SeatItems}
+use Rattle.gate_steps.specs.Seating.{DealtNumbers}
 use Rattle.vfs_gates.specs.declared.buffers.SnapshotBuffers.{SnapshotBuffers}
 use Rattle.vfs_gates.specs.TaskStates.{own_view}
 
@@ -62,7 +62,7 @@ NextTells r trace (Some (Trees x)) = CallTells (words_of r.next) trace x
 NextTells r trace phase = Unit {0}
 
 -- What the room for snapshots tells of a task's own number.
-pub record BuffersMatch (nodes : ℕ) (r : SnapshotBuffers) (begins : Option Op) (phase : Option Phase) (items : SeatItems) : Type 0 where
+pub record BuffersMatch (nodes : ℕ) (r : SnapshotBuffers) (begins : Option Op) (phase : Option Phase) (items : DealtNumbers) : Type 0 where
   pub room : HasSnapshotRoom nodes r
   pub last : LastTells r (own_view items).snapshot
   pub next : NextTells r (trace_so_far begins (own_view items)) phase

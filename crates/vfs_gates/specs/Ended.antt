@@ -11,7 +11,7 @@ use Rattle.gate_world.specs.Headline.{world_after}
 use Rattle.gate_world.specs.Worlds.{World}
 use Rattle.gate_world.specs.declared.entries.Entry.{Entry}
 use Rattle.gate_steps.specs.Histories.{HasHistory}
-use Rattle.gate_steps.specs.Seating.{SeatItems, HaveViews, HaveSeen, times}
+use Rattle.gate_steps.specs.Seating.{DealtNumbers, HaveViews, HaveSeen, times}
 use Rattle.gate_steps.specs.Rules.{TableShows, Ruled}
 use Rattle.vfs_gates.specs.TaskStates.{SeatedTask, IsIdle, HoldsNothing}
 use Rattle.gate_steps.specs.call_events.GhostAgrees.{IsStill}
@@ -21,7 +21,7 @@ abbrev pub HasAll : SeatedTask → Type 0
 HasAll s = IsIdle s × HoldsNothing s × ((n : ℕ) → n < s.config.tasks → 1 ≤ times n s.items)
 
 -- what callers know of closed gates
-pub record Ending : Type 0 where
+pub record ClosedState : Type 0 where
   pub config : Config
   pub words : List ℕ
 
@@ -45,13 +45,13 @@ pub record IsLeftBySchedule (c : Config) (ws : List ℕ) (w : World) : Type 0 wh
 
 -- In that world the numbers that the task brought have the views that it knew: closing adds no event and no action to any list. Its schedule
 -- goes on from each that the task had seen, and so from all that was seen by those that were joined.
-pub record EndedWith (c : Config) (ws : List ℕ) (items : SeatItems) (seen : List (List Entry)) : Type 0 where
+pub record EndedWith (c : Config) (ws : List ℕ) (items : DealtNumbers) (seen : List (List Entry)) : Type 0 where
   pub ended : Ended c ws
   pub mine : HaveViews ended.world.views items
   pub goes_on : HaveSeen ended.history.reached.entries items seen
 
 -- Gates whose last task knows these numbers would close with all words as they begin.
-abbrev pub HasOpeningWords : Config → SeatItems → Type 0
+abbrev pub HasOpeningWords : Config → DealtNumbers → Type 0
 HasOpeningWords c items = (ws : List ℕ) (seen : List (List Entry)) → EndedWith c ws items seen → TableShows c ws opening_words
 
 -- The tree of these words is sound: the blocks charged are those of all files, the children charged to each node are its children, and each
@@ -63,6 +63,6 @@ LeavesSoundTree c ws =
 
 -- A schedule leaves closed gates which goes on from each that these numbers' task had seen, and each of these numbers has no entry behind one of
 -- them.
-pub record IsLeftAfter (c : Config) (ws : List ℕ) (w : World) (items : SeatItems) (seen : List (List Entry)) : Type 0 where
+pub record IsLeftAfter (c : Config) (ws : List ℕ) (w : World) (items : DealtNumbers) (seen : List (List Entry)) : Type 0 where
   pub left : IsLeftBySchedule c ws w
   pub goes_on : HaveSeen left.entries items seen

@@ -15,7 +15,7 @@ use Rattle.gate_world.specs.declared.work.Phase.{Phase}
 use Rattle.gate_world.specs.declared.work.Phase.TheVariants.{Trees}
 use Rattle.gate_world.specs.Views.{phase_after}
 use Rattle.gate_steps.specs.declared.seating.Knowledge.{Knowledge}
-use Rattle.gate_steps.specs.call_events.Led.{Led}
+use Rattle.gate_steps.specs.call_events.KnownSteps.{KnownSteps}
 use Rattle.vfs_gates.specs.declared.buffers.SnapshotBuffers.{SnapshotBuffers}
 use Rattle.vfs_gates.specs.Buffers.{BuffersMatch}
 
@@ -36,5 +36,5 @@ nodes_loaded s None = taking_at s (LoadsKids 0)
 -- of the task's numbers before, it tells of them after.
 pub record Noted (c : Config) (begins : Option Op) (accesses : Accesses) (next : Next Phase) (table : TableId) (me : Knowledge) (buffers : SnapshotBuffers)
     (further : Next Phase) (table_left : TableId) (left : Knowledge) (buffers_left : SnapshotBuffers) : Type 0 where
-  pub led : Led c begins accesses next table me further table_left left
+  pub led : KnownSteps c begins accesses next table me further table_left left
   pub tells : BuffersMatch c.nodes buffers begins (phase_after next) me.items → BuffersMatch c.nodes buffers_left None (phase_after further) left.items

@@ -7,7 +7,7 @@ use Rattle.freeze_levels.specs.declared.hooks.HookCall.{HookCall}
 use Rattle.gate_world.specs.declared.operations.Op.TheVariants.{WantWrite, DropWrite, Freeze, Thaw}
 use Rattle.gate_steps.specs.call_events.Asking.{PerformsAsking}
 use Rattle.gate_steps.specs.call_events.Runs.{Performs}
-use Rattle.gate_steps.specs.Seating.{SeatItems}
+use Rattle.gate_steps.specs.Seating.{DealtNumbers}
 use Rattle.vfs_gates.specs.TaskStates.{SeatedTask}
 
 module _ {T : Type 0} (between : SeatedTask → T → SeatedTask → Type 0) where
@@ -24,7 +24,7 @@ module _ {T : Type 0} (between : SeatedTask → T → SeatedTask → Type 0) whe
     pub takes : Performs (WantWrite m p) old there took
     pub then : WrittenFrom m p there took left outcome
 
-  module _ {H : Type 0} (answers : HookCall → SeatItems → H → HookAnswer → H → Type 0) where
+  module _ {H : Type 0} (answers : HookCall → DealtNumbers → H → HookAnswer → H → Type 0) where
     -- after a freeze that ended so: what comes between and a thaw by the same holder, whose outcome is told; nothing, where it was refused
     abbrev pub FrozenFrom : Holder → SeatedTask → Result (Unit {0}) GateError → SeatedTask → Result (T × Result (Unit {0}) GateError) GateError →
         H → H → Type 0

@@ -10,7 +10,7 @@ pub use Rattle.access_model.specs.declared.errors.GateError.TheVariants.{Busy, R
 pub use Rattle.gate_world.specs.declared.operations.Op.{Op}
 pub use Rattle.gate_world.specs.declared.operations.Op.TheVariants.{ChangeMount}
 pub use Rattle.gate_steps.specs.call_events.Runs.{Performs}
-pub use Rattle.vfs_gates.specs.Ended.{Ended, Ending}
+pub use Rattle.vfs_gates.specs.Ended.{Ended, ClosedState}
 pub use Rattle.vfs_gates.specs.Handed.{ComesAfter}
 pub use Rattle.vfs_gates.specs.Held.{Rests, own_actions}
 pub use Rattle.vfs_gates.specs.TaskStates.{SeatedTask, IsFrom, own_view, spare_of}

@@ -1,6 +1,6 @@
 -- What the first task of some gates has to give while tasks are split off, one after the other.
 use Rattle.std.specs.Prelude.{◌≡◌, ℕ, ◌+◌, ◌<◌, ◌≤◌, List, [], ◌∷◌, length}
-use Rattle.gate_steps.specs.Seating.{SeatItems, times}
+use Rattle.gate_steps.specs.Seating.{DealtNumbers, times}
 use Rattle.vfs_gates.specs.TaskStates.{SeatedTask, IsIdle, own_number, own_view, spare_of}
 
 -- these have the numbers from this one on, each the next
@@ -9,7 +9,7 @@ AreNumbered from [] = Unit {0}
 AreNumbered from (t ∷ ts) = (own_number t.items ≡ from) × AreNumbered (from + 1) ts
 
 -- none of these numbers has done anything
-abbrev pub HaveDoneNothing : SeatItems → Type 0
+abbrev pub HaveDoneNothing : DealtNumbers → Type 0
 HaveDoneNothing [] = Unit {0}
 HaveDoneNothing (x ∷ xs) = (x.view.actions ≡ []) × HaveDoneNothing xs
 

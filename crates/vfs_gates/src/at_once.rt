@@ -37,13 +37,13 @@ impl Task {
         if let Err(refusal) = self.admit(op) {
             return Err(refusal);
         }
-        let accesses = &mut self.kept.accesses;
+        let accesses = &mut self.state.accesses;
         let next = first.begin_in_line(&gates.words, &mut self.seat, accesses, op, &mut ());
         self.waited = waits(&next);
         match next {
             Next::Done(answer) => Ok(Progress::Done(answer)),
             Next::Go(under_way) | Next::Wait(under_way) => {
-                self.kept.phase = Some(under_way.phase());
+                self.state.phase = Some(under_way.phase());
                 Ok(Progress::Going)
             }
         }
@@ -65,13 +65,13 @@ impl Task {
         if let Err(refusal) = self.admit(op) {
             return Err(refusal);
         }
-        let accesses = &mut self.kept.accesses;
-        let next = first.go_in_line(&gates.words, &mut self.seat, accesses, Some(op));
+        let accesses = &mut self.state.accesses;
+        let next = first.run_fast_path(&gates.words, &mut self.seat, accesses, Some(op));
         self.waited = waits(&next);
         match next {
             Next::Done(answer) => Ok(Progress::Done(answer)),
             Next::Go(under_way) | Next::Wait(under_way) => {
-                self.kept.phase = Some(under_way.phase());
+                self.state.phase = Some(under_way.phase());
                 Ok(Progress::Going)
             }
         }
@@ -89,13 +89,13 @@ impl Task {
         }
         let first = self.first_snapshot(wait);
         self.buffers.begin(op);
-        let (seat, accesses) = (&mut self.seat, &self.kept.accesses);
+        let (seat, accesses) = (&mut self.seat, &self.state.accesses);
         let next = snapshot_first(&gates.words, seat, accesses, &mut self.buffers, op, first);
         self.waited = waits(&next);
         match next {
             Next::Done(answer) => Ok(Progress::Done(answer)),
             Next::Go(under_way) | Next::Wait(under_way) => {
-                self.kept.phase = Some(under_way.phase());
+                self.state.phase = Some(under_way.phase());
                 Ok(Progress::Going)
             }
         }

@@ -10,7 +10,7 @@ ghost use Rattle.gate_world.specs.declared.work.Phase.{Phase as PhaseType};
 ghost use Rattle.gate_world.specs.Beginnings.{first_phase};
 ghost use Rattle.gate_world.specs.Views.{phase_after};
 ghost use Rattle.gate_world.specs.Work.{after_of, next_of};
-ghost use Rattle.gate_steps.specs.Seating.{SeatItems, items_after};
+ghost use Rattle.gate_steps.specs.Seating.{DealtNumbers, items_after};
 ghost use Rattle.vfs_gates.specs.Buffers.{HasSnapshotRoom, BuffersMatch, last_in, noted_in};
 
 use cpu_words::{Event, Touch};
@@ -86,7 +86,7 @@ impl SnapshotBuffers {
 
     /// An operation begins. A snapshot needs room for its words.
     pub fn begin(&mut self, op: Op)
-        ensures { (config : ConfigType) (begins : Option OpType) (phase : Option PhaseType) (items : SeatItems) (task : ℕ) →
+        ensures { (config : ConfigType) (begins : Option OpType) (phase : Option PhaseType) (items : DealtNumbers) (task : ℕ) →
             BuffersMatch config.nodes self.old begins phase items →
             BuffersMatch config.nodes self.new (Some op) (Some (first_phase config task op)) items }
     {
@@ -97,7 +97,7 @@ impl SnapshotBuffers {
 
     /// An event of an operation under way was done, which stood at this phase. Those of a snapshot are noted.
     pub fn follow(&mut self, phase: Phase, event: Event)
-        ensures { (nodes : ℕ) (begins : Option OpType) (hook : HookAnswer) (found : ℕ) (items : SeatItems) → 1 ≤ length items →
+        ensures { (nodes : ℕ) (begins : Option OpType) (hook : HookAnswer) (found : ℕ) (items : DealtNumbers) → 1 ≤ length items →
             event ≡ event_of (next_of phase hook).0 (next_of phase hook).1 found →
             BuffersMatch nodes self.old begins (Some phase) items →
             BuffersMatch nodes self.new None (phase_after (after_of phase event.found hook).0) (items_after begins phase hook found items) }

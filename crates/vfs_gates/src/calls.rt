@@ -5,7 +5,7 @@ ghost use Rattle.access_model.specs.Replies.{map_next};
 ghost use Rattle.gate_world.specs.declared.operations.Op.{Op as OpType};
 ghost use Rattle.vfs_gates.specs.TaskStates.{SeatedTask};
 ghost use Rattle.vfs_gates.specs.Waits.{is_wait};
-ghost use Rattle.gate_steps.specs.call_events.Runs.{told_as, unit_of, Goes};
+ghost use Rattle.gate_steps.specs.call_events.Runs.{told_as, unit_of, OpUnderWay};
 
 use crate::fast_paths::FastPath;
 use crate::gates::Gates;
@@ -55,13 +55,13 @@ impl Task {
     pub(crate) fn admit(&self, op: Op) -> Result<Phase, GateError>
         ensures { result ≡ beginning_at op self.now }
     {
-        let under_way = self.kept.phase.is_some();
+        let under_way = self.state.phase.is_some();
         begin(
             op,
             &self.config,
             self.number,
             under_way,
-            &self.kept.accesses,
+            &self.state.accesses,
         )
     }
 
@@ -71,7 +71,7 @@ impl Task {
     pub(crate) fn finish(&mut self, gates: &Gates) -> Result<Reply, GateError>
         requires from { IsFrom self.old gates.now }
         requires trying { IsTrying self.old }
-        ensures { (op : OpType) (start : SeatedTask) → Goes op start self.old → Called op start self.new result }
+        ensures { (op : OpType) (start : SeatedTask) → OpUnderWay op start self.old → Called op start self.new result }
     {
         loop {
             let step = self.step(gates, Ok(()));
@@ -99,13 +99,13 @@ impl Task {
         if let Err(refusal) = self.admit(op) {
             return Err(refusal);
         }
-        let accesses = &mut self.kept.accesses;
-        let next = first.go_in_line(&gates.words, &mut self.seat, accesses, Some(op));
+        let accesses = &mut self.state.accesses;
+        let next = first.run_fast_path(&gates.words, &mut self.seat, accesses, Some(op));
         self.waited = waits(&next);
         match next {
             Next::Done(answer) => outcome(answer),
             Next::Go(under_way) | Next::Wait(under_way) => {
-                self.kept.phase = Some(under_way.phase());
+                self.state.phase = Some(under_way.phase());
                 outcome(self.finish(gates))
             }
         }

@@ -35,9 +35,9 @@ impl Model for Closed {
     ghost use Rattle.std.specs.Slots.{slots_items, slots_len, IsFull};
     ghost use Rattle.gate_world.specs.Configs.{IsWithin};
     ghost use Rattle.gate_steps.specs.Rules.{table_length};
-    ghost use Rattle.vfs_gates.specs.Ended.{Ending, Ended};
+    ghost use Rattle.vfs_gates.specs.Ended.{ClosedState, Ended};
 
-    ghost Value = { Ending };
+    ghost Value = { ClosedState };
 
     ghost view = { λ c. record { config = c.config; words = slots_items c.closed.words } };
 

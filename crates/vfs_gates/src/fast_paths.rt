@@ -8,9 +8,9 @@ ghost use Rattle.gate_world.specs.Views.{phase_after};
 ghost use Rattle.gate_world.specs.declared.operations.Op.{Op as OpType};
 ghost use Rattle.gate_world.specs.declared.work.Phase.TheVariants.{Writes};
 ghost use Rattle.gate_steps.specs.call_events.SeatedTasks.{SeatedTask, task_state};
-ghost use Rattle.gate_steps.specs.call_events.Turns.{StateAgrees, StayTied, of_write};
+ghost use Rattle.gate_steps.specs.call_events.Turns.{StateAgrees, AgreesAfter, of_write};
 ghost use Rattle.composite_ops.specs.declared.write_access.phases.WritePhase.TheVariants.{Drops, Takes};
-ghost use Rattle.gate_steps.specs.call_events.Waited.{GoesWaiting, WentWaiting};
+ghost use Rattle.gate_steps.specs.call_events.Waited.{OpUnderWayWaiting, OpAfterStepWaiting};
 ghost use Rattle.vfs_gates.specs.Lines.{done_or, of_read, of_want, taking_first};
 
 mod changes;
@@ -31,12 +31,12 @@ pub trait FastPath: PendingOp {
     ghost use Rattle.gate_world.specs.Views.{phase_after};
     ghost use Rattle.gate_world.specs.declared.operations.Op.{Op as OpType};
     ghost use Rattle.gate_steps.specs.call_events.SeatedTasks.{SeatedTask, task_state};
-    ghost use Rattle.gate_steps.specs.call_events.Turns.{StateAgrees, StayTied};
-    ghost use Rattle.gate_steps.specs.call_events.Waited.{GoesWaiting, WentWaiting};
+    ghost use Rattle.gate_steps.specs.call_events.Turns.{StateAgrees, AgreesAfter};
+    ghost use Rattle.gate_steps.specs.call_events.Waited.{OpUnderWayWaiting, OpAfterStepWaiting};
 
     /// The events up to the operation's usual end; where one of them finds something else, the events up to it. What comes after the
     /// last of them.
-    fn go_in_line(
+    fn run_fast_path(
         self,
         gates: &GateWords,
         seat: &mut GhostSeat,
@@ -44,14 +44,14 @@ pub trait FastPath: PendingOp {
         begins: Option<Op>,
     ) -> Next<Self>
         requires table { seat.old.table_id ≡ gates.now.table.shared.table_id }
-        requires tied { StateAgrees gates.now.config begins (Some (Self.as_phase self)) accesses.old seat.old.me.0.items }
+        requires agrees { StateAgrees gates.now.config begins (Some (Self.as_phase self)) accesses.old seat.old.me.0.items }
         ensures table { seat.new.table_id ≡ seat.old.table_id }
         ensures slots { seat.new.me.1 ≡ seat.old.me.1 }
-        ensures tied { StayTied gates.now.config begins (Some (Self.as_phase self)) accesses.old seat.old.me.0.items
+        ensures agrees { AgreesAfter gates.now.config begins (Some (Self.as_phase self)) accesses.old seat.old.me.0.items
             (phase_after (map_next Self.as_phase result)) accesses.new seat.new.me.0.items }
         ensures went { (waits : ℕ) (op : OpType) (start : SeatedTask) →
-            GoesWaiting waits op start (task_state seat.old.table_id gates.now.config begins (Some (Self.as_phase self)) seat.old.me.0) →
-            WentWaiting waits op start (map_next Self.as_phase result)
+            OpUnderWayWaiting waits op start (task_state seat.old.table_id gates.now.config begins (Some (Self.as_phase self)) seat.old.me.0) →
+            OpAfterStepWaiting waits op start (map_next Self.as_phase result)
             (task_state seat.new.table_id gates.now.config None (phase_after (map_next Self.as_phase result)) seat.new.me.0) };
 }
 
@@ -74,16 +74,16 @@ pub(crate) fn step_if_at<P: Checkpointed>(
     place: P::Place,
 ) -> Next<P>
     requires table { seat.old.table_id ≡ gates.now.table.shared.table_id }
-    requires tied { StateAgrees gates.now.config None (phase_after (map_next P.as_phase next)) accesses.old seat.old.me.0.items }
+    requires agrees { StateAgrees gates.now.config None (phase_after (map_next P.as_phase next)) accesses.old seat.old.me.0.items }
     ensures table { seat.new.table_id ≡ seat.old.table_id }
     ensures slots { seat.new.me.1 ≡ seat.old.me.1 }
-    ensures tied { StayTied gates.now.config None (phase_after (map_next P.as_phase next)) accesses.old seat.old.me.0.items
+    ensures agrees { AgreesAfter gates.now.config None (phase_after (map_next P.as_phase next)) accesses.old seat.old.me.0.items
         (phase_after (map_next P.as_phase result)) accesses.new seat.new.me.0.items }
     ensures still { StateAgrees gates.now.config None (phase_after (map_next P.as_phase result)) accesses.new seat.new.me.0.items }
     ensures went { (waits : ℕ) (op : OpType) (start : SeatedTask) →
-        WentWaiting waits op start (map_next P.as_phase next)
+        OpAfterStepWaiting waits op start (map_next P.as_phase next)
         (task_state seat.old.table_id gates.now.config None (phase_after (map_next P.as_phase next)) seat.old.me.0) →
-        WentWaiting waits op start (map_next P.as_phase result)
+        OpAfterStepWaiting waits op start (map_next P.as_phase result)
         (task_state seat.new.table_id gates.now.config None (phase_after (map_next P.as_phase result)) seat.new.me.0) }
 {
     match next {
@@ -154,15 +154,15 @@ fn ask_in_line(
     next: Next<Want>,
 ) -> Next<Want>
     requires table { seat.old.table_id ≡ gates.now.table.shared.table_id }
-    requires tied { StateAgrees gates.now.config None (phase_after (of_want next)) accesses.old seat.old.me.0.items }
+    requires agrees { StateAgrees gates.now.config None (phase_after (of_want next)) accesses.old seat.old.me.0.items }
     ensures table { seat.new.table_id ≡ seat.old.table_id }
     ensures slots { seat.new.me.1 ≡ seat.old.me.1 }
-    ensures tied { StayTied gates.now.config None (phase_after (of_want next)) accesses.old seat.old.me.0.items
+    ensures agrees { AgreesAfter gates.now.config None (phase_after (of_want next)) accesses.old seat.old.me.0.items
         (phase_after (of_want result)) accesses.new seat.new.me.0.items }
     ensures went { (waits : ℕ) (op : OpType) (start : SeatedTask) →
-        WentWaiting waits op start (of_want next)
+        OpAfterStepWaiting waits op start (of_want next)
         (task_state seat.old.table_id gates.now.config None (phase_after (of_want next)) seat.old.me.0) →
-        WentWaiting waits op start (of_want result)
+        OpAfterStepWaiting waits op start (of_want result)
         (task_state seat.new.table_id gates.now.config None (phase_after (of_want result)) seat.new.me.0) }
 {
     let next = step_if_at(gates, seat, accesses, next, WantStep::LoadsRemount);
@@ -179,15 +179,15 @@ fn count_in_line(
     next: Next<DownRead>,
 ) -> Next<DownRead>
     requires table { seat.old.table_id ≡ gates.now.table.shared.table_id }
-    requires tied { StateAgrees gates.now.config None (phase_after (of_read next)) accesses.old seat.old.me.0.items }
+    requires agrees { StateAgrees gates.now.config None (phase_after (of_read next)) accesses.old seat.old.me.0.items }
     ensures table { seat.new.table_id ≡ seat.old.table_id }
     ensures slots { seat.new.me.1 ≡ seat.old.me.1 }
-    ensures tied { StayTied gates.now.config None (phase_after (of_read next)) accesses.old seat.old.me.0.items
+    ensures agrees { AgreesAfter gates.now.config None (phase_after (of_read next)) accesses.old seat.old.me.0.items
         (phase_after (of_read result)) accesses.new seat.new.me.0.items }
     ensures went { (waits : ℕ) (op : OpType) (start : SeatedTask) →
-        WentWaiting waits op start (of_read next)
+        OpAfterStepWaiting waits op start (of_read next)
         (task_state seat.old.table_id gates.now.config None (phase_after (of_read next)) seat.old.me.0) →
-        WentWaiting waits op start (of_read result)
+        OpAfterStepWaiting waits op start (of_read result)
         (task_state seat.new.table_id gates.now.config None (phase_after (of_read result)) seat.new.me.0) }
 {
     let next = step_if_at(gates, seat, accesses, next, DownReadStep::LoadsSync);
@@ -197,7 +197,7 @@ fn count_in_line(
 
 impl FastPath for Want {
     #[inline(always)]
-    fn go_in_line(
+    fn run_fast_path(
         self,
         gates: &GateWords,
         seat: &mut GhostSeat,
@@ -212,7 +212,7 @@ impl FastPath for Want {
 
 impl FastPath for MountPhase {
     #[inline(always)]
-    fn go_in_line(
+    fn run_fast_path(
         self,
         gates: &GateWords,
         seat: &mut GhostSeat,
@@ -225,7 +225,7 @@ impl FastPath for MountPhase {
 
 impl FastPath for DownRead {
     #[inline(always)]
-    fn go_in_line(
+    fn run_fast_path(
         self,
         gates: &GateWords,
         seat: &mut GhostSeat,
@@ -239,7 +239,7 @@ impl FastPath for DownRead {
 
 impl FastPath for UpRead {
     #[inline(always)]
-    fn go_in_line(
+    fn run_fast_path(
         self,
         gates: &GateWords,
         seat: &mut GhostSeat,
@@ -259,15 +259,15 @@ fn want_then(
     next: Next<WritePhase>,
 ) -> Next<WritePhase>
     requires table { seat.old.table_id ≡ gates.now.table.shared.table_id }
-    requires tied { StateAgrees gates.now.config None (phase_after (of_write next)) accesses.old seat.old.me.0.items }
+    requires agrees { StateAgrees gates.now.config None (phase_after (of_write next)) accesses.old seat.old.me.0.items }
     ensures table { seat.new.table_id ≡ seat.old.table_id }
     ensures slots { seat.new.me.1 ≡ seat.old.me.1 }
-    ensures tied { StayTied gates.now.config None (phase_after (of_write next)) accesses.old seat.old.me.0.items
+    ensures agrees { AgreesAfter gates.now.config None (phase_after (of_write next)) accesses.old seat.old.me.0.items
         (phase_after (of_write result)) accesses.new seat.new.me.0.items }
     ensures went { (waits : ℕ) (op : OpType) (start : SeatedTask) →
-        WentWaiting waits op start (of_write next)
+        OpAfterStepWaiting waits op start (of_write next)
         (task_state seat.old.table_id gates.now.config None (phase_after (of_write next)) seat.old.me.0) →
-        WentWaiting waits op start (of_write result)
+        OpAfterStepWaiting waits op start (of_write result)
         (task_state seat.new.table_id gates.now.config None (phase_after (of_write result)) seat.new.me.0) }
 {
     let place = WritePlace::Wants(WantStep::CountsUp);
@@ -334,14 +334,14 @@ fn take_write(
     rest: &mut Next<WritePhase>,
 ) -> bool
     requires table { seat.old.table_id ≡ gates.now.table.shared.table_id }
-    requires tied { StateAgrees gates.now.config begins (Some (taking_first writer)) accesses.old seat.old.me.0.items }
+    requires agrees { StateAgrees gates.now.config begins (Some (taking_first writer)) accesses.old seat.old.me.0.items }
     ensures table { seat.new.table_id ≡ seat.old.table_id }
     ensures slots { seat.new.me.1 ≡ seat.old.me.1 }
-    ensures tied { StayTied gates.now.config begins (Some (taking_first writer)) accesses.old seat.old.me.0.items
+    ensures agrees { AgreesAfter gates.now.config begins (Some (taking_first writer)) accesses.old seat.old.me.0.items
         (phase_after (of_write (done_or result rest.new))) accesses.new seat.new.me.0.items }
     ensures went { (waits : ℕ) (op : OpType) (start : SeatedTask) →
-        GoesWaiting waits op start (task_state seat.old.table_id gates.now.config begins (Some (taking_first writer)) seat.old.me.0) →
-        WentWaiting waits op start (of_write (done_or result rest.new))
+        OpUnderWayWaiting waits op start (task_state seat.old.table_id gates.now.config begins (Some (taking_first writer)) seat.old.me.0) →
+        OpAfterStepWaiting waits op start (of_write (done_or result rest.new))
         (task_state seat.new.table_id gates.now.config None (phase_after (of_write (done_or result rest.new))) seat.new.me.0) }
 {
     let Writer { mount, cpu, task } = writer;
@@ -372,14 +372,14 @@ fn give_in_line(
     cpu: u8,
 ) -> Next<WritePhase>
     requires table { seat.old.table_id ≡ gates.now.table.shared.table_id }
-    requires tied { StateAgrees gates.now.config begins (Some (Writes (Drops mount cpu))) accesses.old seat.old.me.0.items }
+    requires agrees { StateAgrees gates.now.config begins (Some (Writes (Drops mount cpu))) accesses.old seat.old.me.0.items }
     ensures table { seat.new.table_id ≡ seat.old.table_id }
     ensures slots { seat.new.me.1 ≡ seat.old.me.1 }
-    ensures tied { StayTied gates.now.config begins (Some (Writes (Drops mount cpu))) accesses.old seat.old.me.0.items
+    ensures agrees { AgreesAfter gates.now.config begins (Some (Writes (Drops mount cpu))) accesses.old seat.old.me.0.items
         (phase_after (of_write result)) accesses.new seat.new.me.0.items }
     ensures went { (waits : ℕ) (op : OpType) (start : SeatedTask) →
-        GoesWaiting waits op start (task_state seat.old.table_id gates.now.config begins (Some (Writes (Drops mount cpu))) seat.old.me.0) →
-        WentWaiting waits op start (of_write result)
+        OpUnderWayWaiting waits op start (task_state seat.old.table_id gates.now.config begins (Some (Writes (Drops mount cpu))) seat.old.me.0) →
+        OpAfterStepWaiting waits op start (of_write result)
         (task_state seat.new.table_id gates.now.config None (phase_after (of_write result)) seat.new.me.0) }
 {
     let phase = WritePhase::Drops { mount, cpu };
@@ -391,7 +391,7 @@ fn give_in_line(
 /// to be put in line.
 #[cold]
 #[inline(never)]
-fn go_on_apart(
+fn step_out_of_line(
     gates: &GateWords,
     seat: &mut GhostSeat,
     accesses: &mut Accesses,
@@ -399,14 +399,14 @@ fn go_on_apart(
     phase: WritePhase,
 ) -> Next<WritePhase>
     requires table { seat.old.table_id ≡ gates.now.table.shared.table_id }
-    requires tied { StateAgrees gates.now.config begins (Some (Writes phase)) accesses.old seat.old.me.0.items }
+    requires agrees { StateAgrees gates.now.config begins (Some (Writes phase)) accesses.old seat.old.me.0.items }
     ensures table { seat.new.table_id ≡ seat.old.table_id }
     ensures slots { seat.new.me.1 ≡ seat.old.me.1 }
-    ensures tied { StayTied gates.now.config begins (Some (Writes phase)) accesses.old seat.old.me.0.items
+    ensures agrees { AgreesAfter gates.now.config begins (Some (Writes phase)) accesses.old seat.old.me.0.items
         (phase_after (of_write result)) accesses.new seat.new.me.0.items }
     ensures went { (waits : ℕ) (op : OpType) (start : SeatedTask) →
-        GoesWaiting waits op start (task_state seat.old.table_id gates.now.config begins (Some (Writes phase)) seat.old.me.0) →
-        WentWaiting waits op start (of_write result)
+        OpUnderWayWaiting waits op start (task_state seat.old.table_id gates.now.config begins (Some (Writes phase)) seat.old.me.0) →
+        OpAfterStepWaiting waits op start (of_write result)
         (task_state seat.new.table_id gates.now.config None (phase_after (of_write result)) seat.new.me.0) }
 {
     step_once(gates, seat, accesses, begins, phase, Ok(()))
@@ -414,7 +414,7 @@ fn go_on_apart(
 
 impl FastPath for WritePhase {
     #[inline(always)]
-    fn go_in_line(
+    fn run_fast_path(
         self,
         gates: &GateWords,
         seat: &mut GhostSeat,
@@ -424,7 +424,7 @@ impl FastPath for WritePhase {
         match self {
             WritePhase::Takes { mount, read } => {
                 let Some(writer) = first_writer(mount, read) else {
-                    return go_on_apart(gates, seat, accesses, begins, self);
+                    return step_out_of_line(gates, seat, accesses, begins, self);
                 };
                 let mut rest = Next::Done(Ok(Reply::Unit));
                 if take_write(gates, seat, accesses, begins, writer, &mut rest) {
@@ -435,7 +435,7 @@ impl FastPath for WritePhase {
             WritePhase::Drops { mount, cpu } => {
                 give_in_line(gates, seat, accesses, begins, mount, cpu)
             }
-            phase => go_on_apart(gates, seat, accesses, begins, phase),
+            phase => step_out_of_line(gates, seat, accesses, begins, phase),
         }
     }
 }

@@ -10,7 +10,7 @@ ghost use Rattle.gate_world.specs.declared.views.Snapshot.{Snapshot};
 ghost use Rattle.gate_world.specs.declared.views.Traced.{Traced};
 ghost use Rattle.gated_tree.specs.declared.trees.TreeWords.{TreeWords};
 ghost use Rattle.gate_world.specs.traces.TraceStates.{state_of_trace};
-ghost use Rattle.gate_steps.specs.Seating.{SeatItems, done_by};
+ghost use Rattle.gate_steps.specs.Seating.{DealtNumbers, done_by};
 ghost use Rattle.vfs_gates.specs.TaskStates.{SeatedTask, own_number, own_view, spare_of, IsIdle};
 ghost use Rattle.vfs_gates.specs.Held.{Rests, own_actions, IsAsBefore, IsGivenBack, takes_nothing};
 ghost use Rattle.gate_steps.specs.call_events.Caused.{HasItsCause};
@@ -114,7 +114,7 @@ pub fn a_call_that_takes_nothing_leaves_a_task_as_it_was()
 /// Where two tasks were joined and the gates closed, each of their own numbers has in the world that is left the view that its task knew. Does
 /// nothing: its contract is the law.
 pub fn joined_tasks_end_as_they_were()
-    ensures { (c : Config) (ws : List ℕ) (first second : SeatItems) (seen : List (List Entry))
+    ensures { (c : Config) (ws : List ℕ) (first second : DealtNumbers) (seen : List (List Entry))
         (e : EndedWith c ws (first ++ second) seen) → 1 ≤ length first → 1 ≤ length second →
         (e.ended.world.views (own_number first) ≡ own_view first) × (e.ended.world.views (own_number second) ≡ own_view second) }
 {}

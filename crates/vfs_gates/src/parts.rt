@@ -47,7 +47,7 @@ impl Task {
             number,
             config: self.config,
             begins: None,
-            kept: TaskState::idle(),
+            state: TaskState::idle(),
             spare: none(),
             buffers,
             waited: 0,

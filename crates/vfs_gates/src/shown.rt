@@ -20,8 +20,8 @@ impl Debug for Task {
     fn fmt<W: fmt::Write>(&self, f: &mut fmt::Formatter<W>) -> fmt::Result {
         f.debug_struct("Task")
             .field("number", &self.number)
-            .field("under_way", &self.kept.phase.is_some())
-            .field("accesses", &self.kept.accesses)
+            .field("under_way", &self.state.phase.is_some())
+            .field("accesses", &self.state.accesses)
             .finish_non_exhaustive()
     }
 }

@@ -55,7 +55,7 @@ fn find_noting(
 ) -> u64
     requires known { (word, Load) ≡ snapshot_next snapshot snapshot.step }
     requires table { seat.old.table_id ≡ gates.now.table.shared.table_id }
-    requires tied { StateAgrees gates.now.config None (Some (Trees (Snapshots snapshot))) accesses.now seat.old.me.0.items }
+    requires agrees { StateAgrees gates.now.config None (Some (Trees (Snapshots snapshot))) accesses.now seat.old.me.0.items }
     ensures slots { seat.new.me.1 ≡ seat.old.me.1 }
     ensures noted { Noted gates.now.config None accesses.now (Go (Trees (Snapshots snapshot))) seat.old.table_id seat.old.me.0 buffers.old
         (after_of (Trees (Snapshots snapshot)) result (Ok tt)).0 seat.new.table_id seat.new.me.0 buffers.new }
@@ -83,7 +83,7 @@ fn load_nodes(
     snapshot: Snapshot,
 ) -> Option<u8>
     requires table { seat.old.table_id ≡ gates.now.table.shared.table_id }
-    requires tied { StateAgrees gates.now.config None (Some (taking_at snapshot (LoadsNode 0))) accesses.now seat.old.me.0.items }
+    requires agrees { StateAgrees gates.now.config None (Some (taking_at snapshot (LoadsNode 0))) accesses.now seat.old.me.0.items }
     ensures slots { seat.new.me.1 ≡ seat.old.me.1 }
     ensures noted { Noted gates.now.config None accesses.now (Go (taking_at snapshot (LoadsNode 0))) seat.old.table_id seat.old.me.0 buffers.old
         (Go (nodes_loaded snapshot result)) seat.new.table_id seat.new.me.0 buffers.new }
@@ -114,7 +114,7 @@ fn load_kids(
     snapshot: Snapshot,
 )
     requires table { seat.old.table_id ≡ gates.now.table.shared.table_id }
-    requires tied { StateAgrees gates.now.config None (Some (taking_at snapshot (LoadsKids 0))) accesses.now seat.old.me.0.items }
+    requires agrees { StateAgrees gates.now.config None (Some (taking_at snapshot (LoadsKids 0))) accesses.now seat.old.me.0.items }
     ensures slots { seat.new.me.1 ≡ seat.old.me.1 }
     ensures noted { Noted gates.now.config None accesses.now (Go (taking_at snapshot (LoadsKids 0))) seat.old.table_id seat.old.me.0 buffers.old
         (Go (taking_at snapshot (Releases (Ok TreeReply)))) seat.new.table_id seat.new.me.0 buffers.new }
@@ -141,7 +141,7 @@ fn load_tree(
     snapshot: Snapshot,
 ) -> Next<TreePhase>
     requires table { seat.old.table_id ≡ gates.now.table.shared.table_id }
-    requires tied { StateAgrees gates.now.config None (Some (taking_at snapshot LoadsUsed)) accesses.now seat.old.me.0.items }
+    requires agrees { StateAgrees gates.now.config None (Some (taking_at snapshot LoadsUsed)) accesses.now seat.old.me.0.items }
     ensures slots { seat.new.me.1 ≡ seat.old.me.1 }
     ensures noted { Noted gates.now.config None accesses.now (Go (taking_at snapshot LoadsUsed)) seat.old.table_id seat.old.me.0 buffers.old
         (of_tree result) seat.new.table_id seat.new.me.0 buffers.new }
@@ -178,7 +178,7 @@ pub(crate) fn snapshot_first(
     snapshot: Snapshot,
 ) -> Next<TreePhase>
     requires table { seat.old.table_id ≡ gates.now.table.shared.table_id }
-    requires tied { StateAgrees gates.now.config (Some op) (Some (taking_at snapshot Locks)) accesses.now seat.old.me.0.items }
+    requires agrees { StateAgrees gates.now.config (Some op) (Some (taking_at snapshot Locks)) accesses.now seat.old.me.0.items }
     ensures slots { seat.new.me.1 ≡ seat.old.me.1 }
     ensures noted { Noted gates.now.config (Some op) accesses.now (Go (taking_at snapshot Locks)) seat.old.table_id seat.old.me.0 buffers.old
         (of_tree result) seat.new.table_id seat.new.me.0 buffers.new }

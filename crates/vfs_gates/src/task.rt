@@ -17,7 +17,7 @@ use crate::numbers::{Numbers, add_all, are_all, others_of};
 use access_model::{GateError, Next};
 use freeze_levels::HookKind;
 use gate_events::PendingOp;
-use gate_steps::call_events::{GhostSeat, Progress, Step, TaskState, Turn, do_event};
+use gate_steps::call_events::{GhostSeat, Progress, Step, StepResult, TaskState, do_event};
 use gate_world::{Accesses, Config, Op, Phase};
 use gated_tree::Tree;
 use mount_counts::MountPhase;
@@ -54,7 +54,7 @@ pub struct Task {
     pub(crate) config: Config,
     /// The operation that has begun, until its first event.
     pub(crate) begins: Option<Op>,
-    pub(crate) kept: TaskState,
+    pub(crate) state: TaskState,
     /// The numbers that it has to give.
     pub(crate) spare: Numbers,
     pub(crate) buffers: SnapshotBuffers,
@@ -72,10 +72,10 @@ impl Model for Task {
 
     ghost Value = { SeatedTask };
 
-    ghost view = { λ t. task_state t.seat.table_id t.config t.begins t.kept.phase t.seat.me.0 };
+    ghost view = { λ t. task_state t.seat.table_id t.config t.begins t.state.phase t.seat.me.0 };
 
-    ghost invariant = { λ t. GhostAgrees t.number t.config t.begins t.kept t.spare t.seat.me.0.items × (t.seat.me.1 ≡ [])
-        × BuffersMatch t.config.nodes t.buffers t.begins t.kept.phase t.seat.me.0.items
+    ghost invariant = { λ t. GhostAgrees t.number t.config t.begins t.state t.spare t.seat.me.0.items × (t.seat.me.1 ≡ [])
+        × BuffersMatch t.config.nodes t.buffers t.begins t.state.phase t.seat.me.0.items
         × WaitsTell t.config (own_number t.seat.me.0.items) (own_view t.seat.me.0.items) t.waited };
 }
 
@@ -86,7 +86,7 @@ impl Drop for Task {
             number: _,
             config: _,
             begins: _,
-            kept: _,
+            state: _,
             spare: _,
             buffers: _,
             waited: _,
@@ -102,7 +102,7 @@ impl Task {
     ghost use Rattle.gate_world.specs.Views.{held_at, holds_level as has_level, has_open as opens_file};
     ghost use Rattle.vfs_gates.specs.TaskStates.{task_state, IsFrom, own_number, own_view, refusal_at, IsIdle, HoldsNothing};
     ghost use Rattle.gate_steps.specs.call_events.Stepped.{Stepped};
-    ghost use Rattle.gate_steps.specs.call_events.Runs.{Goes, ProgressMatches};
+    ghost use Rattle.gate_steps.specs.call_events.Runs.{OpUnderWay, ProgressMatches};
     ghost use Rattle.vfs_gates.specs.Ended.{HasAll};
     ghost use Rattle.vfs_gates.specs.Waits.{waited_at};
     ghost use Rattle.gate_steps.specs.call_events.GhostAgrees.{AllRest};
@@ -119,7 +119,7 @@ impl Task {
             number: 0,
             config,
             begins: None,
-            kept: TaskState::idle(),
+            state: TaskState::idle(),
             spare: others_of(config.tasks),
             buffers,
             waited: 0,
@@ -139,7 +139,7 @@ impl Task {
     pub fn is_idle(&self) -> bool
         ensures { IsTrue result ↔ IsIdle self.now }
     {
-        self.kept.phase.is_none()
+        self.state.phase.is_none()
     }
 
     /// How many accesses the task holds at a mount: 0 to 1,024, and 0 where there is no such mount.
@@ -148,7 +148,7 @@ impl Task {
         ensures not_there { self.now.config.mounts ≤ mount → result ≡ 0 }
     {
         if mount < self.config.mounts {
-            self.kept.accesses.mounts[mount as usize]
+            self.state.accesses.mounts[mount as usize]
         } else {
             0
         }
@@ -159,7 +159,7 @@ impl Task {
         ensures there { (1 ≤ level) × (level ≤ 3) → result ≡ has_level (own_view self.now.items) level }
         ensures not_there { ¬ ((1 ≤ level) × (level ≤ 3)) → result ≡ false }
     {
-        (1..=3).contains(&level) && self.kept.accesses.levels[level as usize]
+        (1..=3).contains(&level) && self.state.accesses.levels[level as usize]
     }
 
     /// Whether the task has a file open; false where there is no such node.
@@ -167,7 +167,7 @@ impl Task {
         ensures there { node < self.now.config.nodes → result ≡ opens_file (own_view self.now.items) node }
         ensures not_there { self.now.config.nodes ≤ node → result ≡ false }
     {
-        node < self.config.nodes && self.kept.accesses.files[node as usize]
+        node < self.config.nodes && self.state.accesses.files[node as usize]
     }
 
     /// How often the task's last operation came to a wait: how many of its events found what it waits for. It stands still at 2^64 - 1. Until an
@@ -204,12 +204,12 @@ impl Task {
         }) }
         ensures refused { OnErr result (self.new ≡ self.old) }
         // From here on each step says how far the operation has come, and the last one what it was as a whole (`step`, clause `told`).
-        ensures goes { OnOk result (Goes op self.old self.new) }
+        ensures goes { OnOk result (OpUnderWay op self.old self.new) }
     {
         let phase = self.admit(op)?;
         self.buffers.begin(op);
         self.begins = Some(op);
-        self.kept.phase = Some(phase);
+        self.state.phase = Some(phase);
         Ok(())
     }
 
@@ -217,7 +217,7 @@ impl Task {
     pub fn wants_hook(&self) -> Option<HookKind>
         ensures { result ≡ asked_by self.now.phase }
     {
-        self.kept.phase?.wants_hook()
+        self.state.phase?.wants_hook()
     }
 
     /// Does the next event of the operation that has begun, in one atomic step, where a hook of the file system answers this. An idle
@@ -229,9 +229,9 @@ impl Task {
         ensures idle { IsIdle self.old → (self.new ≡ self.old) × (result ≡ idle_step) }
         ensures event { (phase : PhaseType) → self.old.phase ≡ Some phase → Stepped phase hook self.old result self.new }
         // An operation that has begun so goes on, says that it waits only where it may, or was done whole.
-        ensures told { (op : OpType) (start : SeatedTask) → Goes op start self.old → ProgressMatches op start result.progress self.new }
+        ensures told { (op : OpType) (start : SeatedTask) → OpUnderWay op start self.old → ProgressMatches op start result.progress self.new }
     {
-        let Some(phase) = self.kept.phase else {
+        let Some(phase) = self.state.phase else {
             return Step::idle();
         };
         self.step_there(gates, phase, hook)
@@ -272,8 +272,8 @@ impl Task {
         ensures event { (p : PhaseType) → self.old.phase ≡ Some p → Stepped p hook self.old result self.new }
     {
         let begins = self.begins;
-        let accesses = &mut self.kept.accesses;
-        let Turn {
+        let accesses = &mut self.state.accesses;
+        let StepResult {
             event,
             action,
             next,
@@ -290,7 +290,7 @@ impl Task {
         self.waited = so_far.saturating_add(waits(&next));
         let (progress, phase) = standing(next);
         self.begins = None;
-        self.kept.phase = phase;
+        self.state.phase = phase;
         Step {
             event: Some(event),
             action,
@@ -302,7 +302,7 @@ impl Task {
     pub fn rests(&self) -> bool
         ensures { IsTrue result ↔ (IsIdle self.now × HoldsNothing self.now) }
     {
-        self.is_idle() && holds_nothing(&self.kept.accesses, self.config.mounts)
+        self.is_idle() && holds_nothing(&self.state.accesses, self.config.mounts)
     }
 
     /// Whether the task rests, and all other numbers are its to give: then `Gates::close` is not refused.
@@ -323,7 +323,7 @@ impl Task {
             number,
             config: _,
             begins: _,
-            kept: _,
+            state: _,
             spare,
             buffers: _,
             waited: _,
@@ -343,7 +343,7 @@ impl Task {
             number: _,
             config: _,
             begins: _,
-            kept: _,
+            state: _,
             spare: _,
             buffers: _,
             waited: _,

@@ -67,7 +67,7 @@ impl Task {
         run_to_reply(
             &gates.words,
             &mut self.seat,
-            &mut self.kept.accesses,
+            &mut self.state.accesses,
             op,
             first,
         )

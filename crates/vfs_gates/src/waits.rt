@@ -3,7 +3,7 @@
 ghost use Rattle.std.specs.Prelude.{◌≡◌, true, false, IfOk};
 ghost use Rattle.gate_world.specs.declared.operations.Op.{Op as OpType};
 ghost use Rattle.vfs_gates.specs.TaskStates.{SeatedTask};
-ghost use Rattle.gate_steps.specs.call_events.Runs.{told_as, ran_of, IsRanReply, Goes};
+ghost use Rattle.gate_steps.specs.call_events.Runs.{told_as, ran_of, IsRanReply, OpUnderWay};
 
 use crate::calls::{outcome, waits};
 use crate::fast_paths::FastPath;
@@ -50,7 +50,7 @@ impl Task {
         gates: &Gates,
     ) -> Result<Reply, GateError>
         requires { IsFrom self.old gates.now }
-        ensures { (op : OpType) (start : SeatedTask) → Goes op start self.old → Called op start self.new result }
+        ensures { (op : OpType) (start : SeatedTask) → OpUnderWay op start self.old → Called op start self.new result }
     {
         let backoff = Backoff::new();
         for _ in rt.forever() {
@@ -84,7 +84,7 @@ impl Task {
         if let Err(refusal) = self.admit(op) {
             return Err(refusal);
         }
-        let accesses = &mut self.kept.accesses;
+        let accesses = &mut self.state.accesses;
         let seat = &mut self.seat;
         let (answer, waited) = wait_for_reply(rt, &gates.words, seat, accesses, op, first, hooks);
         self.waited = waited;
@@ -109,13 +109,13 @@ impl Task {
         if let Err(refusal) = self.admit(op) {
             return Err(refusal);
         }
-        let accesses = &mut self.kept.accesses;
-        let next = first.go_in_line(&gates.words, &mut self.seat, accesses, Some(op));
+        let accesses = &mut self.state.accesses;
+        let next = first.run_fast_path(&gates.words, &mut self.seat, accesses, Some(op));
         self.waited = waits(&next);
         match next {
             Next::Done(answer) => outcome(answer),
             Next::Go(under_way) | Next::Wait(under_way) => {
-                self.kept.phase = Some(under_way.phase());
+                self.state.phase = Some(under_way.phase());
                 outcome(self.finish_waiting(rt, gates))
             }
         }

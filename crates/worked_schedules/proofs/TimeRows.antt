@@ -13,7 +13,7 @@ use Rattle.gate_world.specs.declared.{operations.Op.Op, views.Traced.Traced, wor
 use Rattle.gate_world.specs.declared.entries.Entry.{Entry, TheVariants.{Begins}}
 use Rattle.gate_schedules.specs.Answers.{step_answer}
 use Rattle.gate_schedules.specs.declared.steps.Progress.{Progress}
-use Rattle.gate_steps.specs.Seating.{SeatItems, GoesOn}
+use Rattle.gate_steps.specs.Seating.{DealtNumbers, IsPrefix}
 use Rattle.gate_steps.specs.call_events.Caused.{IsCausedBy}
 use Rattle.gate_steps.specs.call_events.Spans.{IsEventDuring, IsCausedDuring, IsTreeDuring}
 use Rattle.gate_steps.specs.call_events.SeatedTasks.{own_number}
@@ -27,10 +27,10 @@ task_at (e ∷ es) zero = task_of e
 task_at (e ∷ es) (suc k) = task_at es k
 
 -- an event of a call, whose task had seen a schedule, stands in one that goes on from it
-during_goes_on : (items : SeatItems) (op : Op) (earlier : List Traced) (e : Traced) (seen : List Entry) (left : List (List Entry))
-    (during : IsEventDuring small items op earlier e (seen ∷ []) left) → GoesOn seen during.entries
+during_goes_on : (items : DealtNumbers) (op : Op) (earlier : List Traced) (e : Traced) (seen : List Entry) (left : List (List Entry))
+    (during : IsEventDuring small items op earlier e (seen ∷ []) left) → IsPrefix seen during.entries
 during_goes_on items op earlier e seen left during =
-    let on : GoesOn seen during.began = during.begins.saw 0 seen refl in
+    let on : IsPrefix seen during.began = during.begins.saw 0 seen refl in
     let begun : List Entry = Begins (own_number items) op ∷ during.since in
     (on.0 ++ begun, during.is ∙ (ap (λ (l : List Entry). l ++ begun) on.1 ∙ append_assoc seen on.0 begun))
 
@@ -98,10 +98,10 @@ reopens_flags : (run small opening reopens).words.flags 0 ≡ 0
 reopens_flags = refl
 
 -- whose task has seen that is not refused for what was before: that schedule does not go on from what it had seen
-refuses_apart : GoesOn reopens refuses → ⊥
+refuses_apart : IsPrefix reopens refuses → ⊥
 refuses_apart on = let no : 1 ≡ 0 = ap (λ (l : List Entry). task_at l 10) on.1 in omega (arith, no)
 
-earlier_cause_never : (items : SeatItems) (op : Op) (earlier : List Traced) (last : Traced) (left : List (List Entry))
+earlier_cause_never : (items : DealtNumbers) (op : Op) (earlier : List Traced) (last : Traced) (left : List (List Entry))
     (caused : IsCausedDuring small items op earlier last GateError.ReadOnly (reopens ∷ []) left) → caused.during.entries ≡ refuses → ⊥
 earlier_cause_never items op earlier last left caused is =
     let on = during_goes_on items op earlier last reopens left caused.during in refuses_apart (on.0, sym is ∙ on.1)
@@ -136,10 +136,10 @@ thawed_never : IsPresentTree small (run small opening thawed).words loaded → �
 thawed_never tree = omega (arith, tree.frozen)
 
 -- and not by the schedule in which the snapshot came before it
-older_apart : GoesOn thawed snapshots → ⊥
+older_apart : IsPrefix thawed snapshots → ⊥
 older_apart on = let no : 2 ≡ 1 = ap (λ (l : List Entry). task_at l 67) on.1 in omega (arith, no)
 
-older_never : (items : SeatItems) (op : Op) (left : List (List Entry)) (taken : IsTreeDuring small items op (thawed ∷ []) left loaded) →
+older_never : (items : DealtNumbers) (op : Op) (left : List (List Entry)) (taken : IsTreeDuring small items op (thawed ∷ []) left loaded) →
     taken.during.entries ≡ snapshots → ⊥
 older_never items op left taken is =
     let on = during_goes_on items op taken.earlier taken.last thawed left taken.during in older_apart (on.0, sym is ∙ on.1)

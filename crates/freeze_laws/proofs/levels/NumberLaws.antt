@@ -8,7 +8,7 @@ use Rattle.percpu_rwsem.specs.SyncWords.{is_queued, entered_state, emptied_state
 use Rattle.percpu_rwsem.specs.declared.sync_word.{GpState.GpState, SyncWord.SyncWord}
 use Rattle.freeze_laws.proofs.levels.TransitionLaws.{enters, claims_defined}
 use Rattle.freeze_laws.specs.levels.Changes.{Leaves, put_by, transition_of, transition, state_found_in, state_found, role_entered, role_found}
-use Rattle.freeze_laws.specs.levels.{Numbers.{CanGoOn, GoesOn, AlwaysGoesOn}, Roles.{SyncRole, Out, Past, Entered, Claimed, Ready, entered, SyncHolds, SyncNumberHolds}}
+use Rattle.freeze_laws.specs.levels.{Numbers.{CanGoOn, TransitionsAreDefined, TransitionsAreAlwaysDefined}, Roles.{SyncRole, Out, Past, Entered, Claimed, Ready, entered, SyncHolds, SyncNumberHolds}}
 use Rattle.freeze_laws.proofs.levels.EventLaws
 
 puts : (P : SyncWord → Type 0) (o : Option SyncWord) → Leaves o P → (put : ℕ) × (put_by o ≡ Some put)
@@ -52,7 +52,7 @@ module _ (tasks sync block full : ℕ) (section : ℕ → ℕ) (at : ℕ → Syn
   none_entered : total tasks (λ x. entered (at x)) + full ≡ 0 → level.word.count ≡ 0
   none_entered none = omega (arith, level.holds.count)
 
-  pub goes_on : GoesOn tasks sync full at
+  pub goes_on : TransitionsAreDefined tasks sync full at
   goes_on = record {
     enters = λ none. can_go_on on_enter (λ w. Unit {0})
         (subst (λ o. Leaves o (λ w. Unit {0}))
@@ -102,5 +102,5 @@ module _ (tasks sync block full : ℕ) (section : ℕ → ℕ) (at : ℕ → Syn
         (update at t Out)
         (EventLaws.call_keeps tasks level.word block full section at level.holds t lt here) put e
 
-pub always_goes_on : AlwaysGoesOn
+pub always_goes_on : TransitionsAreAlwaysDefined
 always_goes_on tasks sync block full section at level = goes_on tasks sync block full section at level

@@ -4,7 +4,7 @@ use Rattle.access_model.specs.declared.actions.Action.{Action}
 use Rattle.access_model.specs.Histories.{mounts_of, levels_of, opens_of}
 use Rattle.gate_runs.specs.run_parts.TaskStates.{SeatedTask, IsIdle, HoldsNothing, own_view}
 use Rattle.gate_runs.specs.run_parts.Splitting.{HasBegun}
-use Rattle.gate_runs.specs.run_parts.Seating.{SeatItems}
+use Rattle.gate_runs.specs.run_parts.Seating.{DealtNumbers}
 use Rattle.vfs_gates.specs.Held.{Rests}
 
 -- a task that is idle and has done nothing rests
@@ -20,7 +20,7 @@ begun_rests number s idle begun =
     )
 
 -- and one that took back the numbers of another holds what it held
-own_still : (items more : SeatItems) → 1 ≤ length items → own_view (items ++ more) ≡ own_view items
+own_still : (items more : DealtNumbers) → 1 ≤ length items → own_view (items ++ more) ≡ own_view items
 own_still [] more there = absurd (omega arith)
 own_still (x ∷ xs) more there = refl
 
@@ -34,7 +34,7 @@ joined_rests old other new there rests is =
     ) in
     subst Rests (sym is) (rests.0, same)
 
-there_still : (items more : SeatItems) → 1 ≤ length items → 1 ≤ length (items ++ more)
+there_still : (items more : DealtNumbers) → 1 ≤ length items → 1 ≤ length (items ++ more)
 there_still [] more there = absurd (omega arith)
 there_still (x ∷ xs) more there = omega arith
 

@@ -10,7 +10,7 @@ use Rattle.gate_world.specs.declared.operations.Op.TheVariants.{WantWrite}
 use Rattle.gate_world.specs.declared.views.Traced.{Traced}
 use Rattle.gate_world.specs.declared.views.View.{View}
 use Rattle.std.proofs.lemmas.Bool.{eq-eqb}
-use Rattle.gate_runs.specs.run_parts.Seating.{SeatItems, HaveViews, numbered, times}
+use Rattle.gate_runs.specs.run_parts.Seating.{DealtNumbers, HaveViews, numbered, times}
 use Rattle.gate_runs.specs.run_parts.TaskStates.{SeatedTask, own_number, own_view, spare_of, refusal_at}
 use Rattle.gate_runs.specs.run_parts.Runs.{Replies, ran_items}
 use Rattle.run_plans.specs.declared.counts.Copies.{Copies}
@@ -36,15 +36,15 @@ stays_on one two = record {
 }
 
 -- what has run has its numbers
-own_ran : (c : Config) (op : Op) (trace : List Traced) (items : SeatItems) → own_number (ran_items c op trace items) ≡ own_number items
+own_ran : (c : Config) (op : Op) (trace : List Traced) (items : DealtNumbers) → own_number (ran_items c op trace items) ≡ own_number items
 own_ran c op trace [] = refl
 own_ran c op trace (x ∷ xs) = refl
 
-spare_ran : (c : Config) (op : Op) (trace : List Traced) (items : SeatItems) → spare_of (ran_items c op trace items) ≡ spare_of items
+spare_ran : (c : Config) (op : Op) (trace : List Traced) (items : DealtNumbers) → spare_of (ran_items c op trace items) ≡ spare_of items
 spare_ran c op trace [] = refl
 spare_ran c op trace (x ∷ xs) = refl
 
-there_ran : (c : Config) (op : Op) (trace : List Traced) (items : SeatItems) → 1 ≤ length items → 1 ≤ length (ran_items c op trace items)
+there_ran : (c : Config) (op : Op) (trace : List Traced) (items : DealtNumbers) → 1 ≤ length items → 1 ≤ length (ran_items c op trace items)
 there_ran c op trace [] h = h
 there_ran c op trace (x ∷ xs) h = omega arith
 
@@ -58,7 +58,7 @@ call_stays read op first last outcome did None e =
       own = ap own_number items ∙ own_ran first.config op called.trace first.items;
       spare = ap spare_of items ∙ spare_ran first.config op called.trace first.items;
       idle = λ i. ap (λ (s : SeatedTask). s.phase) called.after;
-      there = λ h. subst (λ (l : SeatItems). 1 ≤ length l) (sym items) (there_ran first.config op called.trace first.items h);
+      there = λ h. subst (λ (l : DealtNumbers). 1 ≤ length l) (sym items) (there_ran first.config op called.trace first.items h);
     }
 call_stays read op first last outcome did (Some refusal) e = subst (KeepsNumbers first) (sym (did.refused refusal e).1) (stays_so first)
 
@@ -114,21 +114,21 @@ module _ {N : Type 0} (link : SeatedTask → ℕ → N → N → Type 0) where
       (was.thawed, 0, with_waits (with_waits (with_waits x.2.waits was.frozen) was.copied) was.thawed) (y.0, was.ran, was.waits) was.calls_back)))) freezes first last did
 
 -- who stands among these does so among more
-pub among_more : (s : SeatedTask) (items more : SeatItems) → Among items s → Among (items ++ more) s
+pub among_more : (s : SeatedTask) (items more : DealtNumbers) → Among items s → Among (items ++ more) s
 among_more s [] more h = absurd h
 among_more s (x ∷ xs) more (inl is) = inl is
 among_more s (x ∷ xs) more (inr h) = inr (among_more s xs more h)
 
 -- and who joins them does
-own_among : (s : SeatedTask) (items : SeatItems) → 1 ≤ length items → s.items ≡ items → Among items s
+own_among : (s : SeatedTask) (items : DealtNumbers) → 1 ≤ length items → s.items ≡ items → Among items s
 own_among s [] there is = absurd (omega arith)
 own_among s (x ∷ xs) there is = inl (sym (ap (λ l. numbered (own_number l) (own_view l)) is))
 
-among_behind : (s : SeatedTask) (items more : SeatItems) → Among more s → Among (items ++ more) s
+among_behind : (s : SeatedTask) (items more : DealtNumbers) → Among more s → Among (items ++ more) s
 among_behind s [] more h = h
 among_behind s (x ∷ xs) more h = inr (among_behind s xs more h)
 
-pub joins_them : (s : SeatedTask) (items : SeatItems) → 1 ≤ length s.items → Among (items ++ s.items) s
+pub joins_them : (s : SeatedTask) (items : DealtNumbers) → 1 ≤ length s.items → Among (items ++ s.items) s
 joins_them s items there = among_behind s items s.items (own_among s s.items there refl)
 
 pub is_among : (s : SeatedTask) → 1 ≤ length s.items → Among s.items s
@@ -141,7 +141,7 @@ each_on Is Other on n [] each = tt
 each_on Is Other on n (x ∷ xs) each = (on n x each.0, each_on Is Other on (suc n) xs each.1)
 
 -- in the end its number has the view that it knew
-pub ends_as : (views : ℕ → View) (items : SeatItems) (s : SeatedTask) → HaveViews views items → Among items s → EndsAs views s
+pub ends_as : (views : ℕ → View) (items : DealtNumbers) (s : SeatedTask) → HaveViews views items → Among items s → EndsAs views s
 ends_as views [] s have h = absurd h
 ends_as views (x ∷ xs) s have (inl is) = subst (λ y. views y.number ≡ y.view) is (have 0 x refl)
 ends_as views (x ∷ xs) s have (inr h) = ends_as views xs s (λ k y e. have (suc k) y e) h
@@ -283,7 +283,7 @@ gives_stay first last from count stayed gives = record {
 }
 
 -- who stands among these numbers is counted there
-among_counted : (items : SeatItems) (s : SeatedTask) (n : ℕ) → own_number s.items ≡ n → Among items s → 1 ≤ times n items
+among_counted : (items : DealtNumbers) (s : SeatedTask) (n : ℕ) → own_number s.items ≡ n → Among items s → 1 ≤ times n items
 among_counted [] s n own h = absurd h
 among_counted (x ∷ xs) s n own (inl is) =
     let here : x.number ≡ n = ap (λ y. y.number) is ∙ own in rw (eq-eqb x.number n here) (omega arith)
@@ -298,7 +298,7 @@ each_at Is n (x ∷ xs) each (suc k) lt =
     let rest = each_at Is (suc n) xs each.1 k (omega arith) in (rest.0, subst (λ j. Is j rest.0) e rest.1)
 
 -- so where all have done their part, all numbers are back
-pub all_back : (items : SeatItems) (held : ℕ → ℕ → Type 0) (seen : ℕ → Type 0) (tasks processors rounds freezes : ℕ) (details : Details) → 3 ≤ tasks →
+pub all_back : (items : DealtNumbers) (held : ℕ → ℕ → Type 0) (seen : ℕ → Type 0) (tasks processors rounds freezes : ℕ) (details : Details) → 3 ≤ tasks →
     AllDid (Among items) held seen tasks processors rounds freezes details → (n : ℕ) → n < tasks → 1 ≤ times n items
 all_back items held seen tasks processors rounds freezes details some did zero lt =
     among_counted items did.backup.last 0 did.backup.own did.backup.ends

@@ -1,7 +1,7 @@
 -- What each task of a run has done, from where it began, and how it stands at the end.
 use Rattle.std.specs.Prelude.{◌≡◌, ℕ, suc, ◌+◌, ◌-◌, ◌≤◌, ◌⊎◌, List, [], ◌∷◌, length}
 use Rattle.gate_world.specs.declared.views.View.{View}
-use Rattle.gate_runs.specs.run_parts.Seating.{SeatItems, numbered}
+use Rattle.gate_runs.specs.run_parts.Seating.{DealtNumbers, numbered}
 use Rattle.gate_runs.specs.run_parts.TaskStates.{SeatedTask, IsIdle, own_number, own_view, spare_of}
 use Rattle.run_plans.specs.declared.counts.Copies.{Copies}
 use Rattle.run_plans.specs.declared.counts.Details.{Details}
@@ -18,7 +18,7 @@ EachFrom Is n [] = Unit {0}
 EachFrom Is n (x ∷ xs) = Is n x × EachFrom Is (suc n) xs
 
 -- the task's own number stands among these, with its view
-abbrev pub Among : SeatItems → SeatedTask → Type 0
+abbrev pub Among : DealtNumbers → SeatedTask → Type 0
 Among [] s = ⊥
 Among (x ∷ xs) s = (x ≡ numbered (own_number s.items) (own_view s.items)) ⊎ Among xs s
 

@@ -2,7 +2,7 @@
 use Rattle.access_model.specs.declared.{actions.Action.Action, replies.Next.Next}
 use Rattle.cpu_words.specs.{Hooks.HookAnswer, declared.{events.Touch.Touch, names.WordName.WordName}}
 use Rattle.finite_sums.proofs.Totals.{update_at}
-use Rattle.gate_schedules.proofs.frames.{SameRolesOffTree.{made, made_again, made_keeps_beside, rephased_beside}, Frames.left_alone}
+use Rattle.gate_schedules.proofs.frames.{SameRolesOffTree.{made, made_again, made_keeps_off_tree, rephased_off_tree}, Frames.left_alone}
 use Rattle.gate_world.specs.{SameRoles.{SameRoles, Roles, at_phase, off_tree, rephased, roles_of}, Fits.Fits, Holdings.held_after, Rules.Files}
 use Rattle.gate_world.specs.{Rules.{Holds, IsGood, Moves, Tree}, Shown.shown, Views.{held_of, phase_after}, Worlds.World, declared.config.Config.Config}
 use Rattle.gate_world.specs.declared.{views.View.View, work.Phase.Phase}
@@ -21,7 +21,7 @@ module _ (c : Config) (w : World) (t : ℕ) (lt : t < c.tasks) (q : Option Phase
   rephased_files h = left_alone c w t lt Files w.words (at_phase (w.views t) q) refl (refl, λ j. (same j).file) h
 
   pub rephased_good : Fits c t (held_of (w.views t)) q → IsGood c w → IsGood c (rephased w t q)
-  rephased_good fits good = rephased_beside c w t lt q (λ j. off_tree (same j)) fits good (rephased_tree (good Tree)) (rephased_files (good Files))
+  rephased_good fits good = rephased_off_tree c w t lt q (λ j. off_tree (same j)) fits good (rephased_tree (good Tree)) (rephased_files (good Files))
 
 -- an event of a task that stands at one phase, and of the same task at another phase that is alike
 module _ (c : Config) (w : World) (t : ℕ) (lt : t < c.tasks) (p : Option Phase) (n : WordName × Touch) (hook : HookAnswer)
@@ -42,7 +42,7 @@ module _ (c : Config) (w : World) (t : ℕ) (lt : t < c.tasks) (p : Option Phase
       law (rephased_good c w t lt p before fits good) (ap (λ (x : View). x.phase) (update_at w.views t (at_phase (w.views t) p))) in
       let same : SameRoles (there.views t).phase (phase_after b) =
       alike_of (ap (λ (x : View). x.phase) (update_at first.views t _)) after in
-      made_keeps_beside c w t lt p n hook a b action good (λ j. off_tree (before j)) fits (rephased_tree c w t lt p before (good Tree))
+      made_keeps_off_tree c w t lt p n hook a b action good (λ j. off_tree (before j)) fits (rephased_tree c w t lt p before (good Tree))
       (rephased_files c w t lt p before (good Files)) law (λ j. off_tree (after j)) fits_after
       (subst (λ x. Holds c x Tree) again (rephased_tree c there t lt (phase_after b) same (l.0 Tree)))
       (subst (λ x. Holds c x Files) again (rephased_files c there t lt (phase_after b) same (l.0 Files)))

@@ -16,16 +16,16 @@ use Rattle.freeze_laws.specs.levels.Events.{SyncStep}
 use Rattle.std.proofs.{Common.{Bool, ap, false, refl, subst, sym, true, true≢false, ℕ, ◌<◌, ◌∙◌, ◌≡◌}}
 use Rattle.std.specs.Prelude.{Option, if◌then◌else◌}
 
-pub beside_of : {p q : Option Phase} {r : Roles} → p ≡ q → r ≡ off_tree (roles_of q) → r ≡ off_tree (roles_of p)
-beside_of e h = h ∙ sym (ap (λ p. off_tree (roles_of p)) e)
+pub roles_off_tree : {p q : Option Phase} {r : Roles} → p ≡ q → r ≡ off_tree (roles_of q) → r ≡ off_tree (roles_of p)
+roles_off_tree e h = h ∙ sym (ap (λ p. off_tree (roles_of p)) e)
 
 -- the parts that read of a view no more than its accesses, its net additions and its roles but those at the tree
-abbrev is_beside : Part → Bool
-is_beside Fitting = false
-is_beside Known = false
-is_beside Tree = false
-is_beside Files = false
-is_beside part = true
+abbrev is_off_tree : Part → Bool
+is_off_tree Fitting = false
+is_off_tree Known = false
+is_off_tree Tree = false
+is_off_tree Files = false
+is_off_tree part = true
 
 -- a view holds what the other holds, and has counted what the other has
 pub record SameCounts (old new : View) : Type 0 where
@@ -38,42 +38,42 @@ pub record SameCounts (old new : View) : Type 0 where
 -- One law for what changes no word and of roles only those at the tree, be it a beginning, a load or a phase that stands for another.
 module _ (c : Config) (w : World) (t : ℕ) (lt : t < c.tasks) (v : View) (counts : SameCounts (w.views t) v)
     (same : SameRolesOffTree (w.views t).phase v.phase) where
-  seen_beside : (part : Part) → is_beside part ≡ true → SameView (w.views t) v part
-  seen_beside Owner h = (λ j. (same j).owns, λ j. (same j).remounts)
-  seen_beside Stages h = λ j. (same j).stage
-  seen_beside Holding h = λ j. (same j).holder
-  seen_beside (AtMount m) h = λ j. record {
+  seen_off_tree : (part : Part) → is_off_tree part ≡ true → SameView (w.views t) v part
+  seen_off_tree Owner h = (λ j. (same j).owns, λ j. (same j).remounts)
+  seen_off_tree Stages h = λ j. (same j).stage
+  seen_off_tree Holding h = λ j. (same j).holder
+  seen_off_tree (AtMount m) h = λ j. record {
     held = (counts.held_same j).mounts m;
     added = counts.added_same j m;
     taken = counts.taken_same j m;
     role = (same j).mount m;
   }
-  seen_beside (AtLevel i) h = λ j. record {
+  seen_off_tree (AtLevel i) h = λ j. record {
     held = if (counts.held_same j).levels i then 1 else 0;
     added = counts.level_added_same j i;
     taken = counts.level_taken_same j i;
     role = (same j).count i;
   }
-  seen_beside (SyncAt i) h = λ j. (same j).sync i
-  seen_beside Sections h = λ j. (same j).inside
-  seen_beside part h = absurd (true≢false (sym h))
+  seen_off_tree (SyncAt i) h = λ j. (same j).sync i
+  seen_off_tree Sections h = λ j. (same j).inside
+  seen_off_tree part h = absurd (true≢false (sym h))
 
   -- each part of the rule holds with it, where the four others do
-  pub beside_good : ViewFits c t v → IsGood c w → Holds c (record { words = w.words; views = update w.views t v }) Known →
+  pub good_off_tree : ViewFits c t v → IsGood c w → Holds c (record { words = w.words; views = update w.views t v }) Known →
       Holds c (record { words = w.words; views = update w.views t v }) Tree →
       Holds c (record { words = w.words; views = update w.views t v }) Files →
       (part : Part) → Holds c (record { words = w.words; views = update w.views t v }) part
-  beside_good fits good known tree files Fitting = λ x lx.
+  good_off_tree fits good known tree files Fitting = λ x lx.
       each_updated (λ y (u : View). ViewFits c y u) w.views t v x fits (λ ne. good Fitting x lx)
-  beside_good fits good known tree files Known = known
-  beside_good fits good known tree files Tree = tree
-  beside_good fits good known tree files Files = files
-  beside_good fits good known tree files part =
-      left_alone c w t lt part w.words v (same_words w.words part) (seen_beside part refl) (good part)
+  good_off_tree fits good known tree files Known = known
+  good_off_tree fits good known tree files Tree = tree
+  good_off_tree fits good known tree files Files = files
+  good_off_tree fits good known tree files part =
+      left_alone c w t lt part w.words v (same_words w.words part) (seen_off_tree part refl) (good part)
 
   -- the shown model is the same
-  pub beside_shown : shown c (record { words = w.words; views = update w.views t v }) ≡ shown c w
-  beside_shown =
+  pub view_shown_off_tree : shown c (record { words = w.words; views = update w.views t v }) ≡ shown c w
+  view_shown_off_tree =
       shown_still c w t lt w.words v refl refl refl refl refl refl refl (closing_as _ _ (λ j. (same j).stage)) counts.held_same
 
 -- the same accesses and events count the same
@@ -82,21 +82,21 @@ same_counts v q = assumption
 
 module _ (c : Config) (w : World) (t : ℕ) (lt : t < c.tasks) (q : Option Phase) (same : SameRolesOffTree (w.views t).phase q) where
   -- what an owner knows, its trace tells
-  known_beside : Holds c w Known → Holds c (rephased w t q) Known
-  known_beside = left_alone c w t lt Known w.words (at_phase (w.views t) q) (same_words w.words Known) (λ j. (same j).owns, refl)
+  known_off_tree : Holds c w Known → Holds c (rephased w t q) Known
+  known_off_tree = left_alone c w t lt Known w.words (at_phase (w.views t) q) (same_words w.words Known) (λ j. (same j).owns, refl)
 
   -- so with the other phase, where the tree and the open files do
-  pub rephased_beside : Fits c t (held_of (w.views t)) q → IsGood c w → Holds c (rephased w t q) Tree →
+  pub rephased_off_tree : Fits c t (held_of (w.views t)) q → IsGood c w → Holds c (rephased w t q) Tree →
       Holds c (rephased w t q) Files → IsGood c (rephased w t q)
-  rephased_beside fits good tree files =
-      beside_good c w t lt (at_phase (w.views t) q) (same_counts (w.views t) q) same fits good (known_beside (good Known)) tree files
+  rephased_off_tree fits good tree files =
+      good_off_tree c w t lt (at_phase (w.views t) q) (same_counts (w.views t) q) same fits good (known_off_tree (good Known)) tree files
 
-  pub shown_beside : shown c (rephased w t q) ≡ shown c w
-  shown_beside = beside_shown c w t lt (at_phase (w.views t) q) (same_counts (w.views t) q) same
+  pub shown_off_tree : shown c (rephased w t q) ≡ shown c w
+  shown_off_tree = view_shown_off_tree c w t lt (at_phase (w.views t) q) (same_counts (w.views t) q) same
 
-pub beside_level : (w : World) (t : ℕ) (q : Option Phase) → SameRolesOffTree (w.views t).phase q → (i : ℕ) →
+pub level_off_tree : (w : World) (t : ℕ) (q : Option Phase) → SameRolesOffTree (w.views t).phase q → (i : ℕ) →
     level_in (rephased w t q) i ≡ level_in w i
-beside_level w t q same i =
+level_off_tree w t q same i =
     level_kept w t i w.words (at_phase (w.views t) q) refl refl refl refl (λ j. (same j).inside) (λ j. (same j).sync i)
 
 pub update_twice : {A : Type 0} (f : ℕ → A) (t : ℕ) (u v : A) → update (update f t u) t v ≡ update f t v
@@ -132,7 +132,7 @@ module _ (c : Config) (w : World) (t : ℕ) (lt : t < c.tasks) (p : Option Phase
 
   -- so what the law of the first says of the rule and of the shown model, it says of the second, where the tree and the open files hold with the
   -- first phase before the event, and with the second's after it
-  pub made_keeps_beside : IsGood c w → SameRolesOffTree (w.views t).phase p → Fits c t (held_of (w.views t)) p →
+  pub made_keeps_off_tree : IsGood c w → SameRolesOffTree (w.views t).phase p → Fits c t (held_of (w.views t)) p →
       Holds c (rephased w t p) Tree → Holds c (rephased w t p) Files →
       (IsGood c (rephased w t p) → ((rephased w t p).views t).phase ≡ p →
       IsGood c (made (rephased w t p) t n hook a action) ×
@@ -141,35 +141,35 @@ module _ (c : Config) (w : World) (t : ℕ) (lt : t < c.tasks) (p : Option Phase
       Fits c t (held_after action (held_of (w.views t))) (phase_after b) →
       Holds c (made w t n hook b action) Tree → Holds c (made w t n hook b action) Files →
       IsGood c (made w t n hook b action) × Moves c (shown c w) t action (shown c (made w t n hook b action))
-  made_keeps_beside good before fits tree files law after fits_after tree_then files_then =
+  made_keeps_off_tree good before fits tree files law after fits_after tree_then files_then =
       let v : View = at_phase (w.views t) p in
       let u : View = view_with v n (read w.words n.0) hook (a, action) in
       let first : World = rephased w t p in
       let there : World = made first t n hook a action in
       let again : rephased there t (phase_after b) ≡ made w t n hook b action = made_again in
       let l : IsGood c there × Moves c (shown c first) t action (shown c there) =
-      law (rephased_beside c w t lt p before fits good tree files) (ap (λ (x : View). x.phase) (update_at w.views t v)) in
+      law (rephased_off_tree c w t lt p before fits good tree files) (ap (λ (x : View). x.phase) (update_at w.views t v)) in
       let is : there.views t ≡ u = update_at first.views t _ ∙ ap (λ x. view_with x n (read w.words n.0) hook (a, action))
       (update_at w.views t v) in
-      let same : SameRolesOffTree (there.views t).phase (phase_after b) = beside_of (ap (λ (x : View). x.phase) is) after in
+      let same : SameRolesOffTree (there.views t).phase (phase_after b) = roles_off_tree (ap (λ (x : View). x.phase) is) after in
       let fit : Fits c t (held_of u) (phase_after b) =
       subst (λ h. Fits c t h (phase_after b)) (sym (holdings_of_after action (w.views t).actions)) fits_after in
       let fit_there : Fits c t (held_of (there.views t)) (phase_after b) =
       subst (λ (x : View). Fits c t (held_of x) (phase_after b)) (sym is) fit in (
-        subst (λ x. IsGood c x) again (rephased_beside c there t lt (phase_after b) same fit_there l.0
+        subst (λ x. IsGood c x) again (rephased_off_tree c there t lt (phase_after b) same fit_there l.0
             (subst (λ x. Holds c x Tree) (sym again) tree_then) (subst (λ x. Holds c x Files) (sym again) files_then)),
-        subst (λ s. Moves c s t action (shown c (made w t n hook b action))) (shown_beside c w t lt p before)
-            (subst (λ s. Moves c (shown c first) t action s) (sym (shown_beside c there t lt (phase_after b) same) ∙
+        subst (λ s. Moves c s t action (shown c (made w t n hook b action))) (shown_off_tree c w t lt p before)
+            (subst (λ s. Moves c (shown c first) t action s) (sym (shown_off_tree c there t lt (phase_after b) same) ∙
             ap (shown c) again) l.1),
       )
 
   -- and where the event of the first is one of this level's, so is that of the second
-  pub made_runs_beside : (i : ℕ) → SameRolesOffTree (w.views t).phase p →
+  pub made_runs_off_tree : (i : ℕ) → SameRolesOffTree (w.views t).phase p →
       SyncStep c.tasks (level_in (rephased w t p) i) (level_in (made (rephased w t p) t n hook a action) i) →
       SameRolesOffTree (phase_after a) (phase_after b) → SyncStep c.tasks (level_in w i) (level_in (made w t n hook b action) i)
-  made_runs_beside i before runs after =
+  made_runs_off_tree i before runs after =
       let there : World = made (rephased w t p) t n hook a action in
       let is : (there.views t).phase ≡ phase_after a = ap (λ (u : View). u.phase) (update_at (rephased w t p).views t _) in
-      subst (λ l. SyncStep c.tasks l (level_in (made w t n hook b action) i)) (beside_level w t p before i)
+      subst (λ l. SyncStep c.tasks l (level_in (made w t n hook b action) i)) (level_off_tree w t p before i)
       (subst (SyncStep c.tasks (level_in (rephased w t p) i))
-      (sym (beside_level there t (phase_after b) (beside_of is after) i) ∙ ap (λ y. level_in y i) made_again) runs)
+      (sym (level_off_tree there t (phase_after b) (roles_off_tree is after) i) ∙ ap (λ y. level_in y i) made_again) runs)

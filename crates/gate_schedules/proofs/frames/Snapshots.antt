@@ -4,27 +4,27 @@ use Rattle.std.specs.Prelude.{None, is_some, List}
 use Rattle.finite_sums.specs.Sums.{update}
 use Rattle.cpu_words.specs.{Hooks.HookAnswer, Touches.found_by, Words.Words}
 use Rattle.gate_world.specs.{Moments.CompletesNow, Rules.{Part, Owner, Holds, IsGood}, Shown.shown, traces.Snapshots.completes}
-use Rattle.gate_world.specs.{Views.{view_with, view_after, view_after_beside}, Work.{next_of, after_of}}
-use Rattle.gate_world.specs.Worlds.{World, value_at, found_at, words_after, after_step, after_step_beside}
+use Rattle.gate_world.specs.{Views.{view_with, view_after, view_after_with_others}, Work.{next_of, after_of}}
+use Rattle.gate_world.specs.Worlds.{World, value_at, found_at, words_after, after_step, after_step_with_others}
 use Rattle.gate_world.specs.declared.{config.Config.Config, views.{Traced.Traced, View.View}, work.Phase.Phase}
 
 -- a view, and a world, without their snapshots
-abbrev bare_view : View → View
-bare_view v = record v { snapshot = None }
+abbrev view_without_snapshot : View → View
+view_without_snapshot v = record v { snapshot = None }
 
 abbrev bare : World → World
-bare w = record { words = w.words; views = λ t. bare_view (w.views t) }
+bare w = record { words = w.words; views = λ t. view_without_snapshot (w.views t) }
 
 bare_part : (c : Config) (w : World) (part : Part) → Holds c (bare w) part ≡ Holds c w part
 bare_part c w Owner = refl
 bare_part c w other = refl
 
-bare_views : (f : ℕ → View) (t : ℕ) (u v : View) → bare_view u ≡ bare_view v → (x : ℕ) →
-    bare_view (update f t u x) ≡ bare_view (update f t v x)
+bare_views : (f : ℕ → View) (t : ℕ) (u v : View) → view_without_snapshot u ≡ view_without_snapshot v → (x : ℕ) →
+    view_without_snapshot (update f t u x) ≡ view_without_snapshot (update f t v x)
 bare_views f t u v e x = elim (eqb_tells x t) [ inl h ↦ rw (h.0, update) e | inr h ↦ rw (h.0, update) refl ]
 
 -- views that differ in their snapshot alone serve alike: in each part of the rule, and in the shown model
-module _ (c : Config) (ws : Words) (f : ℕ → View) (t : ℕ) (u v : View) (same : bare_view u ≡ bare_view v) where
+module _ (c : Config) (ws : Words) (f : ℕ → View) (t : ℕ) (u v : View) (same : view_without_snapshot u ≡ view_without_snapshot v) where
   abbrev old : World
   old = record { words = ws; views = update f t u }
 
@@ -47,13 +47,13 @@ module _ (c : Config) (ws : Words) (f : ℕ → View) (t : ℕ) (u v : View) (sa
 -- what the other numbers of a task have done is noted in its snapshot alone: the rule and the shown model are as without them
 pub others_apart : (c : Config) (others : List (ℕ × ℕ)) (w : World) (t : ℕ) (phase : Phase) (hook : HookAnswer) →
     IsGood c (after_step w t phase hook) →
-    IsGood c (after_step_beside others w t phase hook) ×
-    (shown c (after_step w t phase hook) ≡ shown c (after_step_beside others w t phase hook))
+    IsGood c (after_step_with_others others w t phase hook) ×
+    (shown c (after_step w t phase hook) ≡ shown c (after_step_with_others others w t phase hook))
 others_apart c others w t phase hook good =
     let ws : Words = words_after w.words phase hook in
     let value : ℕ = value_at w.words phase hook in
     let alone : View = view_after (w.views t) phase value hook in
-    let beside : View = view_after_beside others (w.views t) phase value hook in
+    let beside : View = view_after_with_others others (w.views t) phase value hook in
     (λ part. part_apart c ws w.views t alone beside refl part (good part), shown_apart c ws w.views t alone beside refl)
 
 -- the view, and the world, after an event where a snapshot that it completes is not noted

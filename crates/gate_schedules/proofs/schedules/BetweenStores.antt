@@ -23,16 +23,16 @@ abbrev bit : Bool → ℕ
 bit b = if b then 1 else 0
 
 -- of a phase after this trace, the role and the newest event say the same
-abbrev IsTold : Option Phase → List Traced → Type 0
-IsTold p trace = between (holder_role_of p) ≡ bit (is_between p trace)
+abbrev RoleMatchesTrace : Option Phase → List Traced → Type 0
+RoleMatchesTrace p trace = between (holder_role_of p) ≡ bit (is_between p trace)
 
 -- so it is of each task
 abbrev pub AllTold : World → Type 0
-AllTold w = (t : ℕ) → IsTold (w.views t).phase (w.views t).trace
+AllTold w = (t : ℕ) → RoleMatchesTrace (w.views t).phase (w.views t).trace
 
 -- an operation that is neither a freeze nor a thaw is never between two stores
-quiet : {A : Type 0} (to : A → Phase) → ((x : A) (trace : List Traced) → IsTold (Some (to x)) trace) → (next : Next A) (trace : List Traced) →
-    IsTold (phase_after (map_next to next)) trace
+quiet : {A : Type 0} (to : A → Phase) → ((x : A) (trace : List Traced) → RoleMatchesTrace (Some (to x)) trace) → (next : Next A) (trace : List Traced) →
+    RoleMatchesTrace (phase_after (map_next to next)) trace
 quiet to each next trace = grind arith
 
 -- an event leaves the stage and the holders as they are, and is the first of no two stores
@@ -54,7 +54,7 @@ up_write_spares w u (UpWriteStep.Exits transition) = transition_spares w u.level
 
 -- a freeze, or a thaw, that is not between two stores after an event that is the first of none
 freeze_unstored : (next : Next Freeze) (e : Traced) (trace : List Traced) → stores_stage 4 e.event.word e.event.touch ≡ false →
-    between (holder_role_of (phase_after (map_next Phase.Freezes next))) ≡ 0 → IsTold (phase_after (map_next Phase.Freezes next)) (e ∷ trace)
+    between (holder_role_of (phase_after (map_next Phase.Freezes next))) ≡ 0 → RoleMatchesTrace (phase_after (map_next Phase.Freezes next)) (e ∷ trace)
 freeze_unstored next e trace none zero_is = grind arith
 
 not_nobody : (word : ℕ) → is_held word ≡ 1 → (word == 0) ≡ false
@@ -68,7 +68,7 @@ not_nobody word some = elim (eqb_tells word 0) [
 module _ (c : Config) (w : World) (good : IsGood c w) (t : ℕ) (lt : t < c.tasks) where
   -- of the view after the next event of a phase, the role and the newest event say the same
   abbrev IsToldAfter : Phase → HookAnswer → Type 0
-  IsToldAfter phase hook = IsTold (view_after (w.views t) phase (value_at w.words phase hook) hook).phase
+  IsToldAfter phase hook = RoleMatchesTrace (view_after (w.views t) phase (value_at w.words phase hook) hook).phase
       (view_after (w.views t) phase (value_at w.words phase hook) hook).trace
 
   -- an event that spares the stage and the holders leaves its task between two stores or not
@@ -152,7 +152,7 @@ module _ (c : Config) (w : World) (good : IsGood c w) (t : ℕ) (lt : t < c.task
       AllTold (step_of w t hook p)
   step_told hook None e after told x = told x
   step_told hook (Some phase) e after told x =
-      each_updated (λ y (v : View). IsTold v.phase v.trace) w.views t
+      each_updated (λ y (v : View). RoleMatchesTrace v.phase v.trace) w.views t
       (view_after (w.views t) phase (value_at w.words phase hook) hook) x (phase_told phase hook e after) (λ ne. told x)
 
 none_yet : (phase : Phase) → is_between (Some phase) [] ≡ false

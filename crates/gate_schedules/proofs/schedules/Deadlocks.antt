@@ -2,16 +2,16 @@
 use Rattle.std.specs.Prelude.{List}
 use Rattle.gate_world.specs.{Configs.IsWithin, Headline.world_after, declared.config.Config.Config}
 use Rattle.gate_world.specs.declared.entries.Entry.{Entry}
-use Rattle.gate_schedules.proofs.operations.{AllOperations.{phase_ends, phase_keeps}, deadlocks.{BlockedIsStable.kept_stays, RepliesOrFrozen.world_replies, Settles.world_settles}}
+use Rattle.gate_schedules.proofs.operations.{AllOperations.{phase_ends, phase_keeps}, deadlocks.{BlockedIsStable.blocked_stays, RepliesOrFrozen.world_replies, Settles.world_settles}}
 use Rattle.gate_schedules.proofs.{operations.deadlocks.BlockedOrProgress.world_goes, schedules.HeadlineProof.whole_rule}
-use Rattle.gate_schedules.specs.operations.Progress.{EventsKeepRule, EventsMoveModel, EverybodySettles, KeptStaysKept, NobodyIsDeadlocked, RepliesOrIsFrozen}
+use Rattle.gate_schedules.specs.operations.Progress.{EventsKeepRule, EventsMoveModel, EverybodySettles, BlockedStaysBlocked, ReplyOrAllBlocked, RepliesOrIsFrozen}
 use Rattle.gate_schedules.specs.operations.Ranks.{most_events_to_reply, most_events_to_settle}
 
 module _ (c : Config) (lim : IsWithin c) where
   events_keep_rule : EventsKeepRule c
   events_keep_rule w good t lt hook phase at = ((phase_keeps c phase).step lim w good t lt hook at).0
 
-  pub whole_progress : (es : List Entry) → NobodyIsDeadlocked c (most_events_to_reply c) es
+  pub whole_progress : (es : List Entry) → ReplyOrAllBlocked c (most_events_to_reply c) es
   whole_progress es = world_goes c lim events_keep_rule (phase_ends c) (world_after c es) (whole_rule c lim es)
 
   pub whole_settles : (es : List Entry) → EverybodySettles c (most_events_to_settle c) es
@@ -23,5 +23,5 @@ module _ (c : Config) (lim : IsWithin c) where
   events_move_model : EventsMoveModel c
   events_move_model w good t lt hook phase at = ((phase_keeps c phase).step lim w good t lt hook at).1
 
-  pub whole_kept : (es : List Entry) → KeptStaysKept c es
-  whole_kept es = kept_stays c events_move_model (world_after c es) (whole_rule c lim es)
+  pub whole_kept : (es : List Entry) → BlockedStaysBlocked c es
+  whole_kept es = blocked_stays c events_move_model (world_after c es) (whole_rule c lim es)

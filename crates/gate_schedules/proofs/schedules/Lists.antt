@@ -5,7 +5,7 @@ use Rattle.std.specs.Prelude.{nat_lt, Option, Some, None, List, [], ◌∷◌}
 use Rattle.access_model.specs.{Histories.{Done, IsMerge}, declared.{actions.Action.Action, errors.GateError.GateError}}
 use Rattle.cpu_words.specs.Hooks.{HookAnswer}
 use Rattle.gate_world.specs.{Beginnings.{view_refusal}}
-use Rattle.gate_world.specs.Worlds.{World, begin_of, after_step_beside, step_of, happens, phase_action, action_of, task_of, with_action}
+use Rattle.gate_world.specs.Worlds.{World, begin_of, after_step_with_others, step_of, happens, phase_action, action_of, task_of, with_action}
 use Rattle.gate_world.specs.declared.entries.Entry.{Entry, TheVariants.{Begins, Steps}}
 use Rattle.gate_world.specs.Worlds.{run, history}
 use Rattle.gate_world.specs.declared.{config.Config.Config, operations.Op.Op, work.Phase.Phase}
@@ -17,7 +17,7 @@ lists w t = (w.views t).actions
 -- after an event, also one of a task that has other numbers
 pub beside_lists : (others : List (ℕ × ℕ)) (w : World) (earlier : List Done) (t : ℕ) (hook : HookAnswer) (phase : Phase) →
     IsMerge (lists w) earlier →
-    IsMerge (lists (after_step_beside others w t phase hook)) (with_action t (phase_action w hook (Some phase)) earlier)
+    IsMerge (lists (after_step_with_others others w t phase hook)) (with_action t (phase_action w hook (Some phase)) earlier)
 beside_lists others w earlier t hook phase m x = grind arith
 
 step_lists : (w : World) (earlier : List Done) (t : ℕ) (hook : HookAnswer) (p : Option Phase) → IsMerge (lists w) earlier →

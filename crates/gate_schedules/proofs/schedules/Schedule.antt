@@ -5,7 +5,7 @@ use Rattle.cpu_words.specs.Hooks.{HookAnswer}
 use Rattle.finite_sums.proofs.Totals.{each_updated, total_bound, total_none, total_same}
 use Rattle.finite_sums.specs.Sums.{total, update}
 use Rattle.gate_schedules.proofs.operations.AllOperations.{op_keeps, phase_keeps}
-use Rattle.gate_schedules.proofs.frames.{SameRolesOffTree.{SameCounts, beside_good, beside_of, beside_shown}, Frames.{left_alone, opens_left, same_words}}
+use Rattle.gate_schedules.proofs.frames.{SameRolesOffTree.{SameCounts, good_off_tree, roles_off_tree, view_shown_off_tree}, Frames.{left_alone, opens_left, same_words}}
 use Rattle.gate_schedules.proofs.{schedules.Beginnings.{MayBegin, first_fits, may_begin}, trees.worlds.Trees.tree_within}
 use Rattle.cpu_words.proofs.gate_counts.{Events.words_sum, Flags.gate_begins, Numbers.below_le}
 use Rattle.cpu_words.specs.gate_counts.{Gates.{below, counted as counted_of}, Levels.{level_as_gate, processor_of as level_processor}}
@@ -42,7 +42,7 @@ module _ (c : Config) (lim : IsWithin c) (w : World) (good : IsGood c w) (t : �
 
   -- an operation that begins has no role, but that it may rely on a file
   begins_aside : (op : Op) → MayBeginAt c (w.views t) op → SameRolesOffTree (w.views t).phase (Some (first_phase c t op))
-  begins_aside op h = beside_of (idle_is (w.views t).phase h.idle) (λ j. off_tree ((op_keeps c op).starts_aside t j))
+  begins_aside op h = roles_off_tree (idle_is (w.views t).phase h.idle) (λ j. off_tree ((op_keeps c op).starts_aside t j))
 
   -- so a beginning leaves each part of the rule but that of its own phase
   pub begun_keeps : (op : Op) → MayBeginAt c (w.views t) op → IsGood c (after_begin c w t op) × (shown c (after_begin c w t op) ≡ shown c w)
@@ -57,12 +57,12 @@ module _ (c : Config) (lim : IsWithin c) (w : World) (good : IsGood c w) (t : �
         own = λ y ly. each_updated (λ z (u : View). HasFile (has_open u) (file_of u.phase)) w.views t v y
             ((op_keeps c op).file t (held_of (w.views t)) h.order h.room) (λ ne. (good Files).own y ly);
       } in (
-        beside_good c w t lt v counts (begins_aside op h)
+        good_off_tree c w t lt v counts (begins_aside op h)
             (first_fits c t (is_some (w.views t).phase) (held_of (w.views t)) op h) good known
             (left_alone c w t lt Tree w.words v (same_words w.words Tree)
             ((λ j. ((op_keeps c op).starts_aside t j).tree []) ∙ sym (ap (tree_role_of (w.views t).trace) (idle_is (w.views t).phase h.idle)))
             (good Tree)) files,
-        beside_shown c w t lt v counts (begins_aside op h),
+        view_shown_off_tree c w t lt v counts (begins_aside op h),
       )
 
 module _ (c : Config) (lim : IsWithin c) where

@@ -10,8 +10,8 @@ use Rattle.cpu_words.specs.Hooks.{HookAnswer}
 use Rattle.gated_tree.specs.{Trees.{node_at, is_child, HasDirectory, IsSound, LoadedSound, LoadedClean}, declared.trees.TreeWords.TreeWords}
 use Rattle.gate_world.specs.{Beginnings.{view_refusal}, Configs.{IsWithin, model_limits}, Headline.FrozenTreeIsWhole}
 use Rattle.gate_world.specs.{Moments.{HasMoment, AllHaveMoments, IsPresentTree, CompletesNow}, Rules.{IsGood, Moves}, Shown.shown}
-use Rattle.gate_world.specs.{traces.Snapshots.{completes, last_snapshot}, Views.{view_after_beside}}
-use Rattle.gate_world.specs.Worlds.{World, begin_of, after_step_beside, step_of, happens, phase_action, action_of, task_of, with_action}
+use Rattle.gate_world.specs.{traces.Snapshots.{completes, last_snapshot}, Views.{view_after_with_others}}
+use Rattle.gate_world.specs.Worlds.{World, begin_of, after_step_with_others, step_of, happens, phase_action, action_of, task_of, with_action}
 use Rattle.gate_world.specs.declared.entries.Entry.{Entry, TheVariants.{Begins, Steps}}
 use Rattle.gate_world.specs.Worlds.{found_at, value_at, run, history}
 use Rattle.gate_world.specs.declared.{config.Config.Config, operations.Op.Op, views.{Snapshot.Snapshot, View.View}, work.Phase.Phase}
@@ -88,13 +88,13 @@ module _ (c : Config) where
     -- after an event, also one of a task that has other numbers
     pub beside_moments : (others : List (ℕ × ℕ)) (t : ℕ) (hook : HookAnswer) (phase : Phase) → IsMerge (lists w) log → HaveDone others log →
         CompletesNow c w t hook phase → AllHaveMoments c log w →
-        AllHaveMoments c (with_action t (phase_action w hook (Some phase)) log) (after_step_beside others w t phase hook)
+        AllHaveMoments c (with_action t (phase_action w hook (Some phase)) log) (after_step_with_others others w t phase hook)
     beside_moments others t hook phase merge done now all x =
         let a : Option Action = phase_action w hook (Some phase) in
         let v : View = w.views t in
         let taken : Option TreeWords = completes phase v.trace (found_at w.words phase hook) in
         each_updated (λ y (u : View). HasMoment c (with_action t a log) y u.snapshot) w.views t
-        (view_after_beside others v phase (value_at w.words phase hook) hook) x
+        (view_after_with_others others v phase (value_at w.words phase hook) hook) x
         (moment_stays log t (last_snapshot taken v.actions others v.snapshot)
         (last_moment t taken v.actions others v.snapshot (merge t) done now (all t)) t a)
         (λ ne. moment_stays log x (w.views x).snapshot (all x) t a)

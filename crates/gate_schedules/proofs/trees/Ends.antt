@@ -19,8 +19,8 @@ use Rattle.gated_tree.specs.declared.growth.GrowStep.{GrowStep}
 use Rattle.gated_tree.specs.declared.marks.Mark.{Mark}
 use Rattle.gated_tree.specs.declared.marks.MarkStep.{MarkStep}
 use Rattle.gated_tree.specs.declared.{opens.{OpenFile.OpenFile, OpenStep.OpenStep}, snapshots.{Snapshot.Snapshot, SnapshotStep.SnapshotStep}}
-use Rattle.gate_schedules.specs.trees.Ends.{where_done, remove_added, move_added, create_adds, IsReply, IsNodeReply, CreateKnows, RemoveKnows, GrowKnows, MoveAnswers}
-use Rattle.gate_schedules.specs.trees.Ends.{MoveKnows, SnapshotAnswers, SnapshotKnows, EndsWell, SeesMore, CreateEnds, RemoveEnds, GrowEnds, MoveEnds, MarkEnds, OpenEnds}
+use Rattle.gate_schedules.specs.trees.Ends.{action_if_done, remove_added, move_added, create_adds, IsReply, IsNodeReply, CreateKnows, RemoveKnows, GrowKnows, MoveAnswers}
+use Rattle.gate_schedules.specs.trees.Ends.{MoveKnows, SnapshotAnswers, SnapshotKnows, NextIsJustified, SeesMore, CreateEnds, RemoveEnds, GrowEnds, MoveEnds, MarkEnds, OpenEnds}
 use Rattle.gate_schedules.specs.trees.Ends.{SnapshotEnds}
 
 both : (a b : Bool) → a ≡ true → b ≡ true → (a && b) ≡ true
@@ -39,13 +39,13 @@ module _ (Seen More : (Event → Bool) → Type 0) where
       (r : Option (Result NodeWord GateError)) →
       Knows again × (actions ≡ added again) → ((node : NodeWord) → r ≡ Some (Ok node) → Knows (to node) × (actions ≡ added (to node))) →
       ((refusal : GateError) → r ≡ Some (Err refusal) → IsHonest refusal × (actions ≡ adds (Err refusal))) →
-      EndsWell Knows added IsOne IsHonest adds (after_look again to r) actions
+      NextIsJustified Knows added IsOne IsHonest adds (after_look again to r) actions
   look_ends Knows added IsOne IsHonest adds again to actions r stays found refused = grind arith
 
   create_seen : (x : Create) (node value : ℕ) → CreateKnows Seen x (CreateStep.LoadsNode node) →
       SeesMore Seen More (event_of (create_next x (CreateStep.LoadsNode node)).0 (create_next x (CreateStep.LoadsNode node)).1 value) →
       (r : Option NodeWord) → unpacked value ≡ r →
-      EndsWell (λ (y : Create). CreateKnows More y y.step) (λ y. []) IsNodeReply (CreateHonest More x) (create_adds x)
+      NextIsJustified (λ (y : Create). CreateKnows More y y.step) (λ y. []) IsNodeReply (CreateHonest More x) (create_adds x)
       (create_looked x node r) []
   create_seen x node value knows sees None was = (λ n some below. sees.earlier _ (knows n some below), refl)
   create_seen x node value knows sees (Some found) was = elim (cases_Bool (is_some found.kind)) [
@@ -98,7 +98,7 @@ module _ (Seen More : (Event → Bool) → Type 0) where
       RemoveEnds More x step (found_by (remove_next x step).1 value)
   remove_ends x RemoveStep.LoadsFile value knows sees =
       look_ends (λ (y : Remove). RemoveKnows More y y.step) (λ y. remove_added y y.step) (IsReply Reply.Unit) (FileHonest More x.file)
-      (where_done (Action.Remove x.file)) (at_remove x RemoveStep.LoadsFile) (λ file. at_remove x (removes_file file file.opens)) [] (file_in value)
+      (action_if_done (Action.Remove x.file)) (at_remove x RemoveStep.LoadsFile) (λ file. at_remove x (removes_file file file.opens)) [] (file_in value)
       (tt, refl)
       (λ file e. removes_end x file file.opens)
       (λ refusal e. (
@@ -131,7 +131,7 @@ module _ (Seen More : (Event → Bool) → Type 0) where
       GrowEnds More x step (found_by (grow_next x step).1 value)
   grow_ends x GrowStep.LoadsFile value knows sees =
       look_ends (λ (y : Grow). GrowKnows More y y.step) (λ y. []) (IsReply Reply.Unit) (GrowHonest More x)
-      (where_done (Action.Grow x.file x.blocks)) (at_grow x GrowStep.LoadsFile) (λ file. at_grow x (GrowStep.LoadsUsed file)) [] (file_in value)
+      (action_if_done (Action.Grow x.file x.blocks)) (at_grow x GrowStep.LoadsFile) (λ file. at_grow x (GrowStep.LoadsUsed file)) [] (file_in value)
       (tt, refl)
       (λ file e. (
         λ large. sees.now (finds_large x.file x.blocks x.capacity) (both _ _ (here x.file)
@@ -172,8 +172,8 @@ module _ (Seen More : (Event → Bool) → Type 0) where
   grow_ends x GrowStep.RefundsBlocks value knows sees = (inl (sees.earlier finds_other knows), refl)
 
   move_answers : (x : MoveTo) (answer : Result Reply GateError) (e : Event) → MoveAnswers Seen answer → SeesMore Seen More e →
-      EndsWell (λ (y : MoveTo). MoveKnows More y y.step) (λ y. move_added y y.step) (IsReply Reply.Unit) (MoveHonest More x)
-      (where_done (Action.MoveTo x.file x.dir)) (Next.Done answer) (where_done (Action.MoveTo x.file x.dir) answer)
+      NextIsJustified (λ (y : MoveTo). MoveKnows More y y.step) (λ y. move_added y y.step) (IsReply Reply.Unit) (MoveHonest More x)
+      (action_if_done (Action.MoveTo x.file x.dir)) (Next.Done answer) (action_if_done (Action.MoveTo x.file x.dir) answer)
   move_answers x answer e knows sees = grind arith
 
   pub move_ends : (x : MoveTo) (step : MoveStep) (value : ℕ) → MoveKnows Seen x step →
@@ -181,7 +181,7 @@ module _ (Seen More : (Event → Bool) → Type 0) where
       MoveEnds More x step (found_by (move_next x step).1 value)
   move_ends x MoveStep.LoadsFile value knows sees =
       look_ends (λ (y : MoveTo). MoveKnows More y y.step) (λ y. move_added y y.step) (IsReply Reply.Unit) (MoveHonest More x)
-      (where_done (Action.MoveTo x.file x.dir)) (at_move x MoveStep.LoadsFile) (λ file. at_move x (MoveStep.LoadsDirectory file)) [] (file_in value)
+      (action_if_done (Action.MoveTo x.file x.dir)) (at_move x MoveStep.LoadsFile) (λ file. at_move x (MoveStep.LoadsDirectory file)) [] (file_in value)
       (tt, refl)
       (λ file e. (tt, refl))
       (λ refusal e. (
@@ -194,7 +194,7 @@ module _ (Seen More : (Event → Bool) → Type 0) where
       ))
   move_ends x (MoveStep.LoadsDirectory file) value knows sees =
       look_ends (λ (y : MoveTo). MoveKnows More y y.step) (λ y. move_added y y.step) (IsReply Reply.Unit) (MoveHonest More x)
-      (where_done (Action.MoveTo x.file x.dir)) (at_move x (MoveStep.LoadsDirectory file)) (λ dir. at_move x (MoveStep.ChargesChild file)) []
+      (action_if_done (Action.MoveTo x.file x.dir)) (at_move x (MoveStep.LoadsDirectory file)) (λ dir. at_move x (MoveStep.ChargesChild file)) []
       (directory_in value)
       (tt, refl) (λ dir e. (tt, refl))
       (λ refusal e. (
@@ -217,7 +217,7 @@ module _ (Seen More : (Event → Bool) → Type 0) where
   pub mark_ends : (x : Mark) (step : MarkStep) (value : ℕ) → SeesMore Seen More (event_of (mark_next x step).0 (mark_next x step).1 value) →
       MarkEnds More x step (found_by (mark_next x step).1 value)
   mark_ends x MarkStep.LoadsFile value sees =
-      look_ends (λ (y : Mark). Unit {0}) (λ y. []) (IsReply Reply.Unit) (FileHonest More x.file) (where_done (mark_done x.dirty x.file))
+      look_ends (λ (y : Mark). Unit {0}) (λ y. []) (IsReply Reply.Unit) (FileHonest More x.file) (action_if_done (mark_done x.dirty x.file))
       (at_mark x MarkStep.LoadsFile) (λ file. at_mark x (MarkStep.MarksFile file)) [] (file_in value) (tt, refl) (λ file e. (tt, refl))
       (λ refusal e. (
         elim (file_refused value refusal e) [
@@ -238,7 +238,7 @@ module _ (Seen More : (Event → Bool) → Type 0) where
       SeesMore Seen More (event_of (open_next x step).0 (open_next x step).1 value) →
       OpenEnds More x step (found_by (open_next x step).1 value)
   open_ends x OpenStep.LoadsFile value sees =
-      look_ends (λ (y : OpenFile). Unit {0}) (λ y. []) (IsReply Reply.Unit) (FileHonest More x.file) (where_done (Action.Open x.file))
+      look_ends (λ (y : OpenFile). Unit {0}) (λ y. []) (IsReply Reply.Unit) (FileHonest More x.file) (action_if_done (Action.Open x.file))
       (at_open x OpenStep.LoadsFile) (λ file. at_open x (opens_from file (nat_lt file.opens 64))) [] (file_in value) (tt, refl)
       (λ file e. (tt, refl))
       (λ refusal e. (
@@ -258,13 +258,13 @@ module _ (Seen More : (Event → Bool) → Type 0) where
 
   -- a snapshot that finds `umount` taken, and one that answers
   locked_out : (x : Snapshot) (wait : Bool) → x.wait ≡ wait → More finds_owner →
-      EndsWell (λ (y : Snapshot). SnapshotKnows More y y.step) (λ y. []) (IsReply Reply.Tree) (SnapshotHonest More x) (λ answer. [])
+      NextIsJustified (λ (y : Snapshot). SnapshotKnows More y y.step) (λ y. []) (IsReply Reply.Tree) (SnapshotHonest More x) (λ answer. [])
       (snapshot_locked_out x wait) []
   locked_out x true is owned = (tt, refl)
   locked_out x false is owned = ((is, owned), refl)
 
   snapshot_answers : (x : Snapshot) (answer : Result Reply GateError) (e : Event) → SnapshotAnswers Seen answer → SeesMore Seen More e →
-      EndsWell (λ (y : Snapshot). SnapshotKnows More y y.step) (λ y. []) (IsReply Reply.Tree) (SnapshotHonest More x) (λ answer. [])
+      NextIsJustified (λ (y : Snapshot). SnapshotKnows More y y.step) (λ y. []) (IsReply Reply.Tree) (SnapshotHonest More x) (λ answer. [])
       (Next.Done answer) []
   snapshot_answers x answer e knows sees = grind arith
 

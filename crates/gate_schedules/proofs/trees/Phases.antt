@@ -9,7 +9,7 @@ use Rattle.gated_tree.specs.declared.changes.{Create.Create, CreateStep.CreateSt
 use Rattle.gated_tree.specs.declared.{growth.{Grow.Grow, GrowStep.GrowStep}, marks.{Mark.Mark, MarkStep.MarkStep}, opens.{OpenFile.OpenFile, OpenStep.OpenStep}}
 use Rattle.gated_tree.specs.declared.{phases.TreePhase.TreePhase, snapshots.{Snapshot.Snapshot, SnapshotStep.SnapshotStep}}
 use Rattle.gate_schedules.proofs.trees.{Steps.{create_step, remove_step, grow_step, move_step, mark_step, open_step}, Sweeps.{clear_step, snapshot_step}}
-use Rattle.gate_schedules.specs.trees.Steps.{tree_in, found_at, EventKeeps, MayStep, Notes, StepKeeps}
+use Rattle.gate_schedules.specs.trees.Steps.{tree_in, found_at, EventKeeps, TreeAllowsStep, Notes, StepKeeps}
 
 -- what comes after an event has the same role as a phase of one call and of all
 role_mapped : {P : Type 0} (to : P → TreePhase) (role : TreePhase → Role) (n : Next P) →
@@ -26,7 +26,7 @@ module _ (c : Bounds) (within : AreWithin c) (sealed bare : ℕ) (w : Words) (at
   -- each event of each call
   pub each_phase : (phase : TreePhase) (values noted : ℕ → ℕ) (hook : HookAnswer) → at t ≡ phase_role values phase →
       TreePhaseFits c t phase →
-      MayStep c (tree_in sealed bare w at) phase → Notes phase values noted (found_at w (next phase hook)) →
+      TreeAllowsStep c (tree_in sealed bare w at) phase → Notes phase values noted (found_at w (next phase hook)) →
       StepKeeps c sealed bare w at t phase noted hook
   each_phase (TreePhase.Create x) values noted hook is fits may notes =
       with_role (create_next x x.step) _ _ _ (role_mapped TreePhase.Create (phase_role noted) _)

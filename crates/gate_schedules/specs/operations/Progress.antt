@@ -204,8 +204,8 @@ EventsMoveModel c = (w : World) → IsGood c w → (t : ℕ) → t < c.tasks →
     (w.views t).phase ≡ Some phase → Moves c (shown c w) t (phase_action w hook (Some phase)) (shown c (after_step w t phase hook))
 
 -- the four of a schedule
-abbrev pub NobodyIsDeadlocked : Config → ℕ → List Entry → Type 0
-NobodyIsDeadlocked c n entries = Progresses c n (world_after c entries)
+abbrev pub ReplyOrAllBlocked : Config → ℕ → List Entry → Type 0
+ReplyOrAllBlocked c n entries = Progresses c n (world_after c entries)
 
 abbrev pub EverybodySettles : Config → ℕ → List Entry → Type 0
 EverybodySettles c n entries = SettlesWithin c n (world_after c entries)
@@ -213,5 +213,5 @@ EverybodySettles c n entries = SettlesWithin c n (world_after c entries)
 abbrev pub RepliesOrIsFrozen : Config → ℕ → List Entry → Type 0
 RepliesOrIsFrozen c n entries = ReplyOrFrozen c n (world_after c entries)
 
-abbrev pub KeptStaysKept : Config → List Entry → Type 0
-KeptStaysKept c entries = BlockedIsStable c (world_after c entries)
+abbrev pub BlockedStaysBlocked : Config → List Entry → Type 0
+BlockedStaysBlocked c entries = BlockedIsStable c (world_after c entries)

@@ -24,9 +24,9 @@ with_action None added = added
 with_action (Some action) added = action ∷ added
 
 -- an action of a call that is done, and none of one that is refused
-abbrev pub where_done : Action → Result Reply GateError → List Action
-where_done action (Ok reply) = action ∷ []
-where_done action (Err refusal) = []
+abbrev pub action_if_done : Action → Result Reply GateError → List Action
+action_if_done action (Ok reply) = action ∷ []
+action_if_done action (Err refusal) = []
 
 -- what a remove and a move have added so far
 abbrev pub remove_added : Remove → RemoveStep → List Action
@@ -39,7 +39,7 @@ remove_added x (RefundsItsBlocks file) = RemoveAction x.file ∷ []
 remove_added x (RefundsItsChild file) = RemoveAction x.file ∷ []
 
 abbrev pub move_added : MoveTo → MoveStep → List Action
-move_added x (RefundsOne dir answer) = where_done (MoveToAction x.file x.dir) answer
+move_added x (RefundsOne dir answer) = action_if_done (MoveToAction x.file x.dir) answer
 move_added x step = []
 
 -- what a create has added, by its answer: the node that it names
@@ -96,12 +96,12 @@ module _ (Seen : (Event → Bool) → Type 0) where
 
 -- What comes after an event of a call, and the actions added with it: a phase of which `Knows` holds and which has added just those; or an
 -- answer with its actions, of which a reply is one of the call's, and a refusal has its cause.
-abbrev pub EndsWell : {P : Type 0} → (P → Type 0) → (P → List Action) → (Reply → Type 0) → (GateError → Type 0) →
+abbrev pub NextIsJustified : {P : Type 0} → (P → Type 0) → (P → List Action) → (Reply → Type 0) → (GateError → Type 0) →
     (Result Reply GateError → List Action) → Next P → List Action → Type 0
-EndsWell Knows added IsOne IsHonest adds (Go phase) actions = Knows phase × (actions ≡ added phase)
-EndsWell Knows added IsOne IsHonest adds (Wait phase) actions = Knows phase × (actions ≡ added phase)
-EndsWell Knows added IsOne IsHonest adds (Done (Ok reply)) actions = IsOne reply × (actions ≡ adds (Ok reply))
-EndsWell Knows added IsOne IsHonest adds (Done (Err refusal)) actions = IsHonest refusal × (actions ≡ adds (Err refusal))
+NextIsJustified Knows added IsOne IsHonest adds (Go phase) actions = Knows phase × (actions ≡ added phase)
+NextIsJustified Knows added IsOne IsHonest adds (Wait phase) actions = Knows phase × (actions ≡ added phase)
+NextIsJustified Knows added IsOne IsHonest adds (Done (Ok reply)) actions = IsOne reply × (actions ≡ adds (Ok reply))
+NextIsJustified Knows added IsOne IsHonest adds (Done (Err refusal)) actions = IsHonest refusal × (actions ≡ adds (Err refusal))
 
 -- what was seen is seen still, and what this event shows is seen too
 pub record SeesMore (Seen More : (Event → Bool) → Type 0) (e : Event) : Type 0 where
@@ -116,41 +116,41 @@ module _ (More : (Event → Bool) → Type 0) where
   -- after the event of a create that found this value: it is done with a node, which it has created, or refused, with a cause
   abbrev pub CreateEnds : Create → CreateStep → ℕ → Type 0
   CreateEnds x step found =
-      EndsWell (λ (y : Create). CreateKnows More y y.step) (λ y. []) IsNodeReply (CreateHonest More x) (create_adds x)
+      NextIsJustified (λ (y : Create). CreateKnows More y y.step) (λ y. []) IsNodeReply (CreateHonest More x) (create_adds x)
       (create_after x step found).0 (with_action (create_after x step found).1 [])
 
   -- of a remove: its file is removed
   abbrev pub RemoveEnds : Remove → RemoveStep → ℕ → Type 0
   RemoveEnds x step found =
-      EndsWell (λ (y : Remove). RemoveKnows More y y.step) (λ y. remove_added y y.step) (IsReply UnitReply) (FileHonest More x.file)
-      (where_done (RemoveAction x.file)) (remove_after x step found).0 (with_action (remove_after x step found).1 (remove_added x step))
+      NextIsJustified (λ (y : Remove). RemoveKnows More y y.step) (λ y. remove_added y y.step) (IsReply UnitReply) (FileHonest More x.file)
+      (action_if_done (RemoveAction x.file)) (remove_after x step found).0 (with_action (remove_after x step found).1 (remove_added x step))
 
   -- of a grow: its file has grown
   abbrev pub GrowEnds : Grow → GrowStep → ℕ → Type 0
   GrowEnds x step found =
-      EndsWell (λ (y : Grow). GrowKnows More y y.step) (λ y. []) (IsReply UnitReply) (GrowHonest More x)
-      (where_done (GrowAction x.file x.blocks)) (grow_after x step found).0 (with_action (grow_after x step found).1 [])
+      NextIsJustified (λ (y : Grow). GrowKnows More y y.step) (λ y. []) (IsReply UnitReply) (GrowHonest More x)
+      (action_if_done (GrowAction x.file x.blocks)) (grow_after x step found).0 (with_action (grow_after x step found).1 [])
 
   -- of a move: its file has moved
   abbrev pub MoveEnds : MoveTo → MoveStep → ℕ → Type 0
   MoveEnds x step found =
-      EndsWell (λ (y : MoveTo). MoveKnows More y y.step) (λ y. move_added y y.step) (IsReply UnitReply) (MoveHonest More x)
-      (where_done (MoveToAction x.file x.dir)) (move_after x step found).0 (with_action (move_after x step found).1 (move_added x step))
+      NextIsJustified (λ (y : MoveTo). MoveKnows More y y.step) (λ y. move_added y y.step) (IsReply UnitReply) (MoveHonest More x)
+      (action_if_done (MoveToAction x.file x.dir)) (move_after x step found).0 (with_action (move_after x step found).1 (move_added x step))
 
   -- of a page fault or a write-back: its file is dirty, or clean
   abbrev pub MarkEnds : Mark → MarkStep → ℕ → Type 0
   MarkEnds x step found =
-      EndsWell (λ (y : Mark). Unit {0}) (λ y. []) (IsReply UnitReply) (FileHonest More x.file) (where_done (mark_done x.dirty x.file))
+      NextIsJustified (λ (y : Mark). Unit {0}) (λ y. []) (IsReply UnitReply) (FileHonest More x.file) (action_if_done (mark_done x.dirty x.file))
       (mark_after x step found).0 (with_action (mark_after x step found).1 [])
 
   -- of an open: its file is open
   abbrev pub OpenEnds : OpenFile → OpenStep → ℕ → Type 0
   OpenEnds x step found =
-      EndsWell (λ (y : OpenFile). Unit {0}) (λ y. []) (IsReply UnitReply) (FileHonest More x.file) (where_done (OpenAction x.file))
+      NextIsJustified (λ (y : OpenFile). Unit {0}) (λ y. []) (IsReply UnitReply) (FileHonest More x.file) (action_if_done (OpenAction x.file))
       (open_after x step found).0 (with_action (open_after x step found).1 [])
 
   -- of a snapshot: it has added nothing
   abbrev pub SnapshotEnds : Snapshot → SnapshotStep → ℕ → Type 0
   SnapshotEnds x step found =
-      EndsWell (λ (y : Snapshot). SnapshotKnows More y y.step) (λ y. []) (IsReply TreeReply) (SnapshotHonest More x) (λ answer. [])
+      NextIsJustified (λ (y : Snapshot). SnapshotKnows More y y.step) (λ y. []) (IsReply TreeReply) (SnapshotHonest More x) (λ answer. [])
       (snapshot_after x step found).0 (with_action (snapshot_after x step found).1 [])

@@ -42,15 +42,15 @@ MayMark true c s = NobodyReads c s × MayDirty c s
 MayMark false c s = MayClean c s
 
 -- what an event of a phase asks of the other tasks
-abbrev pub MayStep : Bounds → TreeState → TreePhase → Type 0
-MayStep c s (Creates x) = NobodyReads c s
-MayStep c s (Removes x) = NobodyReads c s × MayRemove c s
-MayStep c s (Grows x) = NobodyReads c s × MayDirty c s
-MayStep c s (Moves x) = NobodyReads c s
-MayStep c s (Marks x) = MayMark x.dirty c s
-MayStep c s (OpensOne x) = Unit {0}
-MayStep c s (Snapshots x) = Unit {0}
-MayStep c s (Clears x) = MayClean c s
+abbrev pub TreeAllowsStep : Bounds → TreeState → TreePhase → Type 0
+TreeAllowsStep c s (Creates x) = NobodyReads c s
+TreeAllowsStep c s (Removes x) = NobodyReads c s × MayRemove c s
+TreeAllowsStep c s (Grows x) = NobodyReads c s × MayDirty c s
+TreeAllowsStep c s (Moves x) = NobodyReads c s
+TreeAllowsStep c s (Marks x) = MayMark x.dirty c s
+TreeAllowsStep c s (OpensOne x) = Unit {0}
+TreeAllowsStep c s (Snapshots x) = Unit {0}
+TreeAllowsStep c s (Clears x) = MayClean c s
 
 -- these values are the earlier ones, with one more that an event found
 abbrev pub NotesOne : ℕ → (ℕ → ℕ) → (ℕ → ℕ) → ℕ → Type 0

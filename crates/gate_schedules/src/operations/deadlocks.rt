@@ -33,6 +33,6 @@ pub fn nobody_is_deadlocked()
 
 /// The converse, so that what is blocked is just that: where each operation under way is blocked, no event of one of them is a reply, and all stay
 /// blocked, as long as no hook fails. It takes nothing, does nothing and answers nothing: its contract is the theorem.
-pub fn what_is_kept_stays_so()
+pub fn what_is_blocked_stays_so()
     ensures { (c : Config) → EventsMoveModel c → (w : World) → IsGood c w → BlockedIsStable c w }
 {}

@@ -19,13 +19,13 @@ use Rattle.mount_counts.specs.declared.remounts.RemountStep.TheVariants.{Locks a
 use Rattle.percpu_rwsem.specs.declared.callbacks.Callback.{Callback}
 use Rattle.percpu_rwsem.specs.declared.callbacks.CallbackStep.{CallbackStep, TheVariants.{Claims}}
 use Rattle.percpu_rwsem.specs.declared.transitions.Transition.TheVariants.{Loads}
-use Rattle.gate_steps.specs.Seating.{SeatItems}
+use Rattle.gate_steps.specs.Seating.{DealtNumbers}
 use Rattle.gate_steps.specs.call_events.CallingBack.{calling_at}
 use Rattle.gate_steps.specs.call_events.Closings.{standing}
 use Rattle.gate_steps.specs.call_events.Remounting.{remounting_at}
 use Rattle.gate_steps.specs.call_events.Reopenings.{thaw_at}
 use Rattle.gate_steps.specs.call_events.GhostAgrees.{GhostAgrees}
-use Rattle.gate_steps.specs.call_events.Turns.{StateAgrees, kept_at}
+use Rattle.gate_steps.specs.call_events.Turns.{StateAgrees, state_at}
 
 -- where one that may wait begins
 abbrev IsFirst : Phase → Type 0
@@ -57,27 +57,27 @@ is_first c n (Open file) = tt
 is_first c n (Close file cpu wait) = tt
 is_first c n (Snapshot wait) = tt
 
-begun_items : (number : ℕ) (c : Config) (op : Op) (phase : Phase) (accesses : Accesses) (flags : List Bool) (items : SeatItems) →
-    GhostAgrees number c (Some op) (kept_at (Some phase) accesses) flags items → IsFirst phase
-begun_items number c op phase accesses flags [] ties = absurd ties
-begun_items number c op phase accesses flags (x ∷ xs) ties = subst IsFirst (sym ties.may.1) (is_first c x.number op)
+begun_items : (number : ℕ) (c : Config) (op : Op) (phase : Phase) (accesses : Accesses) (flags : List Bool) (items : DealtNumbers) →
+    GhostAgrees number c (Some op) (state_at (Some phase) accesses) flags items → IsFirst phase
+begun_items number c op phase accesses flags [] ghost_agrees = absurd ghost_agrees
+begun_items number c op phase accesses flags (x ∷ xs) ghost_agrees = subst IsFirst (sym ghost_agrees.may.1) (is_first c x.number op)
 
-begun : {c : Config} {op : Op} {phase : Phase} {accesses : Accesses} {items : SeatItems} → StateAgrees c (Some op) (Some phase) accesses items → IsFirst phase
-begun {c} {op} {phase} {accesses} {items} tied = begun_items tied.number c op phase accesses tied.flags items tied.ties
+begun : {c : Config} {op : Op} {phase : Phase} {accesses : Accesses} {items : DealtNumbers} → StateAgrees c (Some op) (Some phase) accesses items → IsFirst phase
+begun {c} {op} {phase} {accesses} {items} agrees = begun_items agrees.number c op phase accesses agrees.flags items agrees.ghost_agrees
 
 -- so each form of one does
-module _ {c : Config} {op : Op} {accesses : Accesses} {items : SeatItems} where
+module _ {c : Config} {op : Op} {accesses : Accesses} {items : DealtNumbers} where
   pub freeze_begun : (x : Freeze) → StateAgrees c (Some op) (Some (Freezes x)) accesses items → Go (standing x FreezeLocks) ≡ Go (Freezes x)
-  freeze_begun x tied = ap (λ s. Go (standing x s)) (sym (begun tied))
+  freeze_begun x agrees = ap (λ s. Go (standing x s)) (sym (begun agrees))
 
   pub thaw_begun : (x : Thaw) → StateAgrees c (Some op) (Some (Thaws x)) accesses items → Go (thaw_at x ThawLocks) ≡ Go (Thaws x)
-  thaw_begun x tied = ap (λ s. Go (thaw_at x s)) (sym (begun tied))
+  thaw_begun x agrees = ap (λ s. Go (thaw_at x s)) (sym (begun agrees))
 
   pub remount_begun : (x : Remount) → StateAgrees c (Some op) (Some (Remounts x)) accesses items → Go (remounting_at x RemountLocks) ≡ Go (Remounts x)
-  remount_begun x tied = ap (λ s. Go (remounting_at x s)) (sym (begun tied))
+  remount_begun x agrees = ap (λ s. Go (remounting_at x s)) (sym (begun agrees))
 
   pub callback_begun : (x : Callback) → StateAgrees c (Some op) (Some (Callbacks x)) accesses items → Go (calling_at x.level x.tasks (Claims Loads)) ≡ Go (Callbacks x)
-  callback_begun x tied = ap (λ s. Go (calling_at x.level x.tasks s)) (sym (begun tied))
+  callback_begun x agrees = ap (λ s. Go (calling_at x.level x.tasks s)) (sym (begun agrees))
 
 -- a callback stands at a step
 pub callback_stands : (x : Callback) (s : CallbackStep) → x.step ≡ s → Go (calling_at x.level x.tasks s) ≡ Go (Callbacks x)

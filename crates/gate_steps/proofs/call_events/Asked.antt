@@ -13,7 +13,7 @@ use Rattle.gate_world.specs.Beginnings.{first_phase}
 use Rattle.gate_world.specs.traces.TraceStates.{trace_state_after, state_of_trace}
 use Rattle.gate_world.specs.Views.{actions_after}
 use Rattle.gate_world.specs.Work.{after_of}
-use Rattle.gate_steps.specs.Seating.{SeatItems}
+use Rattle.gate_steps.specs.Seating.{DealtNumbers}
 use Rattle.gate_steps.specs.call_events.Asking.{Ask, asks_with, asks_of, call_at, next_call}
 use Rattle.gate_steps.specs.call_events.Runs.{items_at}
 use Rattle.gate_steps.specs.call_events.SeatedTasks.{own_number}
@@ -25,17 +25,17 @@ either_way P false x y is other = other
 
 module _ (I : Next Phase → List Action → List Ask → Type 0)
     (waits_so : (p : Phase) (added : List Action) (asks : List Ask) → I (Wait p) added asks → I (Go p) added asks)
-    (keeps : (p : Phase) (found : ℕ) (hook : HookAnswer) (at : SeatItems) (added : List Action) (asks : List Ask) → I (Go p) added asks →
+    (keeps : (p : Phase) (found : ℕ) (hook : HookAnswer) (at : DealtNumbers) (added : List Action) (asks : List Ask) → I (Go p) added asks →
     I (after_of p found hook).0 (actions_after (after_of p found hook).1 added) (asks_with (call_at p) at hook asks)) where
   -- one event more
-  one_more : (comes : Next Phase) (added : List Action) (e : Traced) (at : SeatItems) (asks : List Ask) → I comes added asks →
+  one_more : (comes : Next Phase) (added : List Action) (e : Traced) (at : DealtNumbers) (asks : List Ask) → I comes added asks →
       I (trace_state_after comes added e).comes (trace_state_after comes added e).added (asks_with (next_call comes) at e.hook asks)
   one_more (Go p) added e at asks is = keeps p e.event.found e.hook at added asks is
   one_more (Wait p) added e at asks is = keeps p e.event.found e.hook at added asks (waits_so p added asks is)
   one_more (Done answer) added e at asks is = is
 
   -- so it is after each trace
-  pub asked_after : (c : Config) (op : Op) (items : SeatItems) → I (Go (first_phase c (own_number items) op)) [] [] → (trace : List Traced) →
+  pub asked_after : (c : Config) (op : Op) (items : DealtNumbers) → I (Go (first_phase c (own_number items) op)) [] [] → (trace : List Traced) →
       I (state_of_trace c (own_number items) op trace).comes (state_of_trace c (own_number items) op trace).added (asks_of c op items trace)
   asked_after c op items first [] = first
   asked_after c op items first (e ∷ earlier) =

@@ -10,30 +10,30 @@ use Rattle.gate_steps.specs.call_events.SeatedTasks.{SeatedTask, refusal_at}
 use Rattle.gate_steps.proofs.call_events.Running.{was_refused, was_done, was_told}
 use Rattle.cpu_words.specs.Hooks.{HookAnswer}
 use Rattle.freeze_levels.specs.declared.hooks.HookCall.{HookCall}
-use Rattle.gate_steps.specs.Seating.{SeatItems}
+use Rattle.gate_steps.specs.Seating.{DealtNumbers}
 use Rattle.gate_steps.specs.call_events.Asking.{Ask, asks_with, WereAsked, CalledAsking, RepliesAsking}
 
-module _ {H : Type 0} (answers : HookCall → SeatItems → H → HookAnswer → H → Type 0) where
+module _ {H : Type 0} (answers : HookCall → DealtNumbers → H → HookAnswer → H → Type 0) where
   -- the hook that is wanted was asked at this moment, and no other
-  abbrev pub AskedFor : Option HookCall → SeatItems → HookAnswer → H → H → Type 0
+  abbrev pub AskedFor : Option HookCall → DealtNumbers → HookAnswer → H → H → Type 0
   AskedFor None at hook h left = left ≡ h
   AskedFor (Some call) at hook h left = answers call at h hook left
 
   -- so one more stands among all
-  pub asks_more : (wanted : Option HookCall) (at : SeatItems) (hook : HookAnswer) (earlier : List Ask) (before h left : H) →
+  pub asks_more : (wanted : Option HookCall) (at : DealtNumbers) (hook : HookAnswer) (earlier : List Ask) (before h left : H) →
       WereAsked answers earlier before h → AskedFor wanted at hook h left → WereAsked answers (asks_with wanted at hook earlier) before left
   asks_more None at hook earlier before h left were asked = subst (WereAsked answers earlier before) (sym asked) were
   asks_more (Some call) at hook earlier before h left were asked = (h, were, asked)
 
   -- where a hook is wanted, and this one was asked
-  pub was_asked : (wanted : Option HookCall) (at : SeatItems) (call : HookCall) → wanted ≡ Some call → (hook : HookAnswer) (h left : H)
+  pub was_asked : (wanted : Option HookCall) (at : DealtNumbers) (call : HookCall) → wanted ≡ Some call → (hook : HookAnswer) (h left : H)
       (answer : HookAnswer) → hook ≡ answer → (after : H) → left ≡ after → answers call at h answer after → AskedFor wanted at hook h left
   was_asked wanted at call is hook h left answer hook_is after left_is asked =
       let P : Option HookCall × HookAnswer × H → Type 0 = λ z. AskedFor z.0 at z.1 h z.2 in
       subst P (λ i. (sym is i, sym hook_is i, sym left_is i)) asked
 
   -- and where none is, and none was
-  pub was_not : (wanted : Option HookCall) (at : SeatItems) → wanted ≡ None → (hook : HookAnswer) (h left : H) → left ≡ h →
+  pub was_not : (wanted : Option HookCall) (at : DealtNumbers) → wanted ≡ None → (hook : HookAnswer) (h left : H) → left ≡ h →
       AskedFor wanted at hook h left
   was_not wanted at is hook h left same = subst (λ w. AskedFor w at hook h left) (sym is) same
 

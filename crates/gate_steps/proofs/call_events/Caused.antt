@@ -13,7 +13,7 @@ use Rattle.gate_world.specs.traces.Snapshots.{completes}
 use Rattle.gated_tree.specs.declared.trees.TreeWords.{TreeWords}
 use Rattle.gate_world.specs.declared.entries.Entry.{Entry}
 use Rattle.gate_world.specs.declared.{config.Config.Config, operations.Op.Op, views.Traced.Traced}
-use Rattle.gate_steps.specs.Seating.{SeatItems}
+use Rattle.gate_steps.specs.Seating.{DealtNumbers}
 use Rattle.gate_steps.specs.call_events.Caused.{IsCausedBy, HasItsCause}
 use Rattle.gate_steps.specs.call_events.Runs.{completed_by, AreMoves, Called}
 use Rattle.gate_steps.specs.call_events.Spans.{HappensAfter, IsEventDuring, IsCausedDuring, HasItsCauseDuring, IsTreeDuring}
@@ -32,7 +32,7 @@ says : (c : Config) (n : ℕ) (op : Op) (earlier : List Traced) (e : Traced) (en
 says c n op earlier e entries h =
     ap (λ (f : Traced). f.event.found) h.finds ∙ found_again (next_of h.phase e.hook).1 _
 
-module _ (c : Config) (items : SeatItems) (op : Op) (earlier : List Traced) (e : Traced) (refusal : GateError)
+module _ (c : Config) (items : DealtNumbers) (op : Op) (earlier : List Traced) (e : Traced) (refusal : GateError)
     (seen gone : List (List Entry)) where
   abbrev n : ℕ
   n = own_number items
@@ -70,7 +70,7 @@ module _ (c : Config) (items : SeatItems) (op : Op) (earlier : List Traced) (e :
         cause = subst (λ (worlds : List World). HasCause c n worlds during.happens.phase refusal) (sym during.moments) caused.cause;
       }
 
-trace_caused : (c : Config) (items : SeatItems) (op : Op) (refusal : GateError) (seen gone : List (List Entry)) (trace : List Traced) →
+trace_caused : (c : Config) (items : DealtNumbers) (op : Op) (refusal : GateError) (seen gone : List (List Entry)) (trace : List Traced) →
     (state_of_trace c (own_number items) op trace).comes ≡ Done (Err refusal) → AreMoves c op items seen trace gone →
     HasItsCauseDuring c items op trace refusal seen gone
 trace_caused c items op refusal seen gone [] ends moves = let no : ⊥ = cc in no
@@ -78,7 +78,7 @@ trace_caused c items op refusal seen gone (e ∷ earlier) ends moves =
     let last = last_event c op items seen gone e earlier moves in
     refused_during c items op earlier e refusal seen gone last.0 last.1 ends
 
-all_alone : (c : Config) (items : SeatItems) (op : Op) (refusal : GateError) (seen gone : List (List Entry)) (trace : List Traced) →
+all_alone : (c : Config) (items : DealtNumbers) (op : Op) (refusal : GateError) (seen gone : List (List Entry)) (trace : List Traced) →
     HasItsCauseDuring c items op trace refusal seen gone → HasItsCause c (own_number items) op trace refusal
 all_alone c items op refusal seen gone [] h = h
 all_alone c items op refusal seen gone (e ∷ earlier) h = alone c items op earlier e refusal seen gone h
@@ -95,7 +95,7 @@ call_caused op old left refusal called =
     all_alone old.config old.items op refusal old.seen left.seen called.trace (call_caused_during op old left refusal called)
 
 -- and where an event of a call has completed a snapshot, that is of the tree of its moment
-pub tree_during : (c : Config) (items : SeatItems) (op : Op) (seen gone : List (List Entry)) (loaded : TreeWords)
+pub tree_during : (c : Config) (items : DealtNumbers) (op : Op) (seen gone : List (List Entry)) (loaded : TreeWords)
     (later : List Traced) (e : Traced) (earlier : List Traced) → AreMoves c op items seen (later ++ e ∷ earlier) gone →
     completed_by (state_of_trace c (own_number items) op earlier).comes earlier e ≡ Some loaded → IsTreeDuring c items op seen gone loaded
 tree_during c items op seen gone loaded later e earlier moves completed =

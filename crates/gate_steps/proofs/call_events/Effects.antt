@@ -13,7 +13,7 @@ use Rattle.gate_world.specs.traces.TraceStates.{state_of_trace}
 use Rattle.gate_world.specs.Headline.{world_after, actions_so_far, actions_since}
 use Rattle.gate_world.specs.declared.entries.Entry.{Entry, TheVariants.{Begins, Steps}}
 use Rattle.gate_world.specs.declared.{config.Config.Config, operations.Op.Op, views.{Traced.Traced, View.View}, work.Phase.Phase}
-use Rattle.gate_steps.specs.Seating.{SeatItems, HaveViews, HaveHistory, GoesOn}
+use Rattle.gate_steps.specs.Seating.{DealtNumbers, HaveViews, HaveHistory, IsPrefix}
 use Rattle.gate_steps.specs.call_events.Grown.{HasSeen}
 use Rattle.gate_steps.specs.call_events.Runs.{ran_items, IsNextMove, AreMoves, Called}
 use Rattle.gate_steps.specs.call_events.Spans.{GoesOnFromSeen, IsEventDuring, TakesEffect, AreInOrder}
@@ -42,7 +42,7 @@ since_then n log later before all added was is whole ends had =
 
 module _ (c : Config) (op : Op) (seen gone : List (List Entry)) (e : Traced) (earlier : List Traced) where
   -- what the own number has done in the one history that is left
-  has_done : (items left : SeatItems) → left ≡ ran_items c op (e ∷ earlier) items → AreMoves c op items seen (e ∷ earlier) gone →
+  has_done : (items left : DealtNumbers) → left ≡ ran_items c op (e ∷ earlier) items → AreMoves c op items seen (e ∷ earlier) gone →
       (h : HaveHistory c left gone) →
       own_part (own_number items) h.history.log ≡ (state_of_trace c (own_number items) op (e ∷ earlier)).added ++ (own_view items).actions
   has_done [] left is moves h = absurd (none_moves c op earlier e moves.0 gone (state_of_trace c 0 op earlier).comes moves.1)
@@ -51,12 +51,12 @@ module _ (c : Config) (op : Op) (seen gone : List (List Entry)) (e : Traced) (ea
       h.history.lists x.number ∙ ap (λ (v : View). v.actions) (mine 0 _ refl)
 
   -- and what it had done in the one with which the call began
-  had_done : (items : SeatItems) (began : List Entry) → AreMoves c op items seen (e ∷ earlier) gone → GoesOnFromSeen c items seen began →
+  had_done : (items : DealtNumbers) (began : List Entry) → AreMoves c op items seen (e ∷ earlier) gone → GoesOnFromSeen c items seen began →
       ((world_after c began).views (own_number items)).actions ≡ (own_view items).actions
   had_done [] began moves h = absurd (none_moves c op earlier e moves.0 gone (state_of_trace c 0 op earlier).comes moves.1)
   had_done (x ∷ xs) began moves h = h.lists 0 x refl
 
-  trace_effect : (items left : SeatItems) → left ≡ ran_items c op (e ∷ earlier) items → AreMoves c op items seen (e ∷ earlier) gone →
+  trace_effect : (items left : DealtNumbers) → left ≡ ran_items c op (e ∷ earlier) items → AreMoves c op items seen (e ∷ earlier) gone →
       (h : HaveHistory c left gone) → TakesEffect c items op (e ∷ earlier) seen gone h.history.log
   trace_effect items left is moves h =
       let n : ℕ = own_number items in
@@ -86,7 +86,7 @@ module _ (c : Config) (op : Op) (seen gone : List (List Entry)) (e : Traced) (ea
             ((whole_run c one.within one.began).lists n ∙ had_done items one.began moves one.begins);
       }
 
-any_effect : (c : Config) (op : Op) (items left : SeatItems) (seen gone : List (List Entry)) (answer : Result Reply GateError)
+any_effect : (c : Config) (op : Op) (items left : DealtNumbers) (seen gone : List (List Entry)) (answer : Result Reply GateError)
     (trace : List Traced) → (state_of_trace c (own_number items) op trace).comes ≡ Ended answer → left ≡ ran_items c op trace items →
     AreMoves c op items seen trace gone → (h : HaveHistory c left gone) → TakesEffect c items op trace seen gone h.history.log
 any_effect c op items left seen gone answer [] ends is moves h = absurd (let no : ⊥ = cc in no)
@@ -100,7 +100,7 @@ call_effect op old left answer called =
     (ap (λ (s : SeatedTask). s.items) called.after) called.moves called.history
 
 -- and two of which the later one has seen what the earlier one left
-pub in_order : (c : Config) (items others : SeatItems) (one two : Op) (first second : List Traced) (seen left begins ends : List (List Entry))
+pub in_order : (c : Config) (items others : DealtNumbers) (one two : Op) (first second : List Traced) (seen left begins ends : List (List Entry))
     (log now : List Done) → TakesEffect c items one first seen left log → TakesEffect c others two second begins ends now →
     ((k : ℕ) (there : List Entry) → get_elem? left k ≡ some there → HasSeen there begins) →
     AreInOrder (own_number items) (state_of_trace c (own_number items) one first).added (own_number others)
@@ -108,8 +108,8 @@ pub in_order : (c : Config) (items others : SeatItems) (one two : Op) (first sec
 in_order c items others one two first second seen left begins ends log now f s all =
     let there : List Entry = f.began ++ f.since in
     let known : HasSeen there begins = all 0 there (ap (λ l. get_elem? l 0) f.leaves) in
-    let on : GoesOn there known.1 = known.3 in
-    let more : GoesOn known.1 s.began = s.begins.saw known.0 known.1 known.2 in
+    let on : IsPrefix there known.1 = known.3 in
+    let more : IsPrefix known.1 s.began = s.begins.saw known.0 known.1 known.2 in
     let gap : List Entry = on.0 ++ more.0 in
     let began : s.began ≡ there ++ gap =
     more.1 ∙ (ap (λ (l : List Entry). l ++ more.0) on.1 ∙ append_assoc there on.0 more.0) in record {

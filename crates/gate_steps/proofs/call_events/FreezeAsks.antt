@@ -54,7 +54,7 @@ use Rattle.gate_world.specs.declared.work.Phase.TheVariants.{Freezes}
 use Rattle.gate_world.specs.traces.Traces.{actions_of}
 use Rattle.gate_world.specs.Views.{actions_after}
 use Rattle.gate_world.specs.Work.{after_of}
-use Rattle.gate_steps.specs.Seating.{SeatItems}
+use Rattle.gate_steps.specs.Seating.{DealtNumbers}
 use Rattle.access_model.specs.declared.actions.Holder.{Holder}
 use Rattle.gate_steps.specs.call_events.Asked.{agreed, OnceAsked, stored_third_stage, AskedByFreeze}
 use Rattle.gate_steps.specs.call_events.Asking.{Ask, asks_with, asks_of, call_at}
@@ -183,7 +183,7 @@ reopening_next x level code (Done answer) added asks =
     either_way (λ step. AtStep step added asks) ((level - 1) == 0) (Releases (Err _)) (Reopens _ code) tt tt
 
 -- one event more
-step_keeps : (x : Freeze) (step : FreezeStep) (found : ℕ) (hook : HookAnswer) (at : SeatItems) (added : List Action) (asks : List Ask) →
+step_keeps : (x : Freeze) (step : FreezeStep) (found : ℕ) (hook : HookAnswer) (at : DealtNumbers) (added : List Action) (asks : List Ask) →
     AtStep step added asks → AtNext (freeze_after x step found hook).0 (actions_after (freeze_after x step found hook).1 added)
     (asks_with (call_at (Freezes (at_freeze x step))) at hook asks)
 step_keeps x Locks found hook at added asks is =
@@ -219,7 +219,7 @@ step_keeps x (Reopens u code) found hook at added asks is =
 step_keeps x (Releases (Ok reply)) found hook at added asks is = is
 step_keeps x (Releases (Err refusal)) found hook at added asks is = is
 
-keeps : (p : Phase) (found : ℕ) (hook : HookAnswer) (at : SeatItems) (added : List Action) (asks : List Ask) → At (Go p) added asks →
+keeps : (p : Phase) (found : ℕ) (hook : HookAnswer) (at : DealtNumbers) (added : List Action) (asks : List Ask) → At (Go p) added asks →
     At (after_of p found hook).0 (actions_after (after_of p found hook).1 added) (asks_with (call_at p) at hook asks)
 keeps (Freezes x) found hook at added asks is =
     as_phases (freeze_after x x.step found hook).0 (actions_after (freeze_after x x.step found hook).1 added)

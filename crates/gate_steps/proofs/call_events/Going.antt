@@ -7,18 +7,18 @@ use Rattle.access_model.specs.declared.{actions.Action.Action, replies.Next.Next
 use Rattle.cpu_words.specs.{Hooks.HookAnswer, Touches.{found_by, event_of}, declared.events.Touch.{Touch, TheVariants.{Load, Store, Add, Sub, Or, And, Swap}}}
 use Rattle.cpu_words.specs.declared.{events.{Touch.TheVariants.Cas, Event.Event}, names.WordName.WordName}
 use Rattle.gate_world.specs.{Accesses.accesses_after, Fits.{PhaseFits, Fits, ActionFits}, Holdings.{Agree, holdings_of, held_after}, Views.held_of}
-use Rattle.gate_world.specs.{Views.{phase_after, view_after_beside}, Work.{next_of, after_of}, Worlds.{World, value_at, found_at}}
+use Rattle.gate_world.specs.{Views.{phase_after, view_after_with_others}, Work.{next_of, after_of}, Worlds.{World, value_at, found_at}}
 use Rattle.gate_world.specs.declared.{accesses.Accesses.Accesses, config.Config.Config, operations.Op.Op, views.View.View, work.Phase.Phase}
 use Rattle.gate_schedules.specs.Answers.{progress_of, phase_step}
-use Rattle.gate_schedules.specs.Seats.{seat_held}
+use Rattle.gate_schedules.specs.TaskStates.{task_holdings}
 use Rattle.gate_schedules.specs.declared.task_states.TaskState.{TaskState}
 use Rattle.gate_schedules.specs.declared.steps.Progress.{Progress}
 use Rattle.gate_schedules.specs.declared.steps.Step.{Step}
 use Rattle.gate_schedules.proofs.frames.{Accesses.{holdings_of_after, long_after, wide_after, deep_after, agree_after}, Agreeing.agree_sym}
 use Rattle.gate_schedules.proofs.schedules.Phases.{action_fits, fits_after, fits_agree}
-use Rattle.gate_steps.specs.{Seating.{SeatItems, numbered, entered, done_by, items_after, HasWitness}, declared.seating.Numbered.Numbered}
+use Rattle.gate_steps.specs.{Seating.{DealtNumbers, numbered, entered, done_by, items_after, HasWitness}, declared.seating.Numbered.Numbered}
 use Rattle.atomic_table.specs.Seated.{TableId}
-use Rattle.gate_steps.specs.call_events.{Stepped.{found_step, state_after, ToldIn, Stepped}, SeatedTasks.{SeatedTask, task_state}, GhostAgrees.{PhaseOk, OwnTies, GhostAgrees}}
+use Rattle.gate_steps.specs.call_events.{Stepped.{found_step, state_after, ToldIn, Stepped}, SeatedTasks.{SeatedTask, task_state}, GhostAgrees.{PhaseOk, OwnNumberAgrees, GhostAgrees}}
 
 -- a view stands where its phase says
 phase_ok : (c : Config) (n : ℕ) (v : View) (o : Option Phase) → v.phase ≡ o → PhaseOk c None o (numbered n v)
@@ -30,7 +30,7 @@ entered_actions : (v : View) (begins : Option Op) (phase : Phase) → (entered v
 entered_actions v None phase = refl
 entered_actions v (Some op) phase = refl
 
-module _ (number : ℕ) (c : Config) (begins : Option Op) (kept : TaskState) (flags : List Bool) (phase : Phase) (is : kept.phase ≡ Some phase)
+module _ (number : ℕ) (c : Config) (begins : Option Op) (state : TaskState) (flags : List Bool) (phase : Phase) (is : state.phase ≡ Some phase)
     (hook : HookAnswer) (found : ℕ) where
   -- what comes after the event, and its action
   abbrev done : Next Phase × Option Action
@@ -38,28 +38,28 @@ module _ (number : ℕ) (c : Config) (begins : Option Op) (kept : TaskState) (fl
 
   -- what is kept after it
   abbrev kept_after : TaskState
-  kept_after = record { phase = phase_after done.0; accesses = accesses_after kept.accesses done.1 }
+  kept_after = record { phase = phase_after done.0; accesses = accesses_after state.accesses done.1 }
 
-  module _ (x : Numbered) (xs : SeatItems) (ties : OwnTies number c begins kept flags x xs) where
+  module _ (x : Numbered) (xs : DealtNumbers) (ghost_agrees : OwnNumberAgrees number c begins state flags x xs) where
     -- the own view with which the event begins
     abbrev v : View
     v = entered x.view begins phase
 
     -- and after it
     abbrev seen : View
-    seen = view_after_beside (done_by xs) v phase found hook
+    seen = view_after_with_others (done_by xs) v phase found hook
 
     -- the phase fits the view
     fits_seen : PhaseFits c x.number (held_of x.view) phase
-    fits_seen = subst (Fits c x.number (held_of x.view)) is ties.fits
+    fits_seen = subst (Fits c x.number (held_of x.view)) is ghost_agrees.fits
 
     -- and what is kept
-    fits_kept : PhaseFits c x.number (seat_held kept) phase
-    fits_kept = fits_agree c x.number (held_of x.view) (seat_held kept) (agree_sym ties.keeps.held) (Some phase) fits_seen
+    fits_kept : PhaseFits c x.number (task_holdings state) phase
+    fits_kept = fits_agree c x.number (held_of x.view) (task_holdings state) (agree_sym ghost_agrees.keeps.held) (Some phase) fits_seen
 
     -- the action can be done on what is kept
-    acts_kept : ActionFits (seat_held kept) done.1
-    acts_kept = action_fits c ties.within x.number (seat_held kept) phase (found_by (next_of phase hook).1 found) hook fits_kept
+    acts_kept : ActionFits (task_holdings state) done.1
+    acts_kept = action_fits c ghost_agrees.within x.number (task_holdings state) phase (found_by (next_of phase hook).1 found) hook fits_kept
 
     -- what the view holds after the action
     held_seen : held_of seen ≡ held_after done.1 (held_of x.view)
@@ -67,34 +67,34 @@ module _ (number : ℕ) (c : Config) (begins : Option Op) (kept : TaskState) (fl
         (entered_actions x.view begins phase)
 
     -- the fields and the own view agree after the event
-    ties_after : OwnTies number c None kept_after flags (numbered x.number seen) xs
-    ties_after = record {
-      within = ties.within;
-      same_number = ties.same_number;
-      below = ties.below;
+    ghost_agrees_after : OwnNumberAgrees number c None kept_after flags (numbered x.number seen) xs
+    ghost_agrees_after = record {
+      within = ghost_agrees.within;
+      same_number = ghost_agrees.same_number;
+      below = ghost_agrees.below;
       may = phase_ok c x.number seen (phase_after done.0) refl;
       fits =
           subst (λ h. Fits c x.number h (phase_after done.0)) (sym held_seen)
-          (fits_after c ties.within x.number (held_of x.view) phase (found_by (next_of phase hook).1 found) hook fits_seen);
+          (fits_after c ghost_agrees.within x.number (held_of x.view) phase (found_by (next_of phase hook).1 found) hook fits_seen);
       keeps = record {
-        long = long_after kept.accesses done.1 ∙ ties.keeps.long;
-        wide = wide_after kept.accesses done.1 ∙ ties.keeps.wide;
-        deep = deep_after kept.accesses done.1 ∙ ties.keeps.deep;
-        held = subst (Agree c (seat_held kept_after)) (sym held_seen)
-            (agree_after c kept.accesses ties.keeps.long ties.keeps.wide ties.keeps.deep (held_of x.view) done.1 acts_kept ties.keeps.held);
+        long = long_after state.accesses done.1 ∙ ghost_agrees.keeps.long;
+        wide = wide_after state.accesses done.1 ∙ ghost_agrees.keeps.wide;
+        deep = deep_after state.accesses done.1 ∙ ghost_agrees.keeps.deep;
+        held = subst (Agree c (task_holdings kept_after)) (sym held_seen)
+            (agree_after c state.accesses ghost_agrees.keeps.long ghost_agrees.keeps.wide ghost_agrees.keeps.deep (held_of x.view) done.1 acts_kept ghost_agrees.keeps.held);
       };
-      rest = ties.rest;
-      marks = ties.marks;
+      rest = ghost_agrees.rest;
+      marks = ghost_agrees.marks;
     }
 
   -- the fields that follow an event are what the seat knows after it
-  pub matches_after : (items : SeatItems) → GhostAgrees number c begins kept flags items →
+  pub matches_after : (items : DealtNumbers) → GhostAgrees number c begins state flags items →
       GhostAgrees number c None kept_after flags (items_after begins phase hook found items)
   matches_after [] t = absurd t
-  matches_after (x ∷ xs) t = ties_after x xs t
+  matches_after (x ∷ xs) t = ghost_agrees_after x xs t
 
   -- and the action can be done
-  pub acts_after : (items : SeatItems) → GhostAgrees number c begins kept flags items → ActionFits (seat_held kept) done.1
+  pub acts_after : (items : DealtNumbers) → GhostAgrees number c begins state flags items → ActionFits (task_holdings state) done.1
   acts_after [] t = absurd t
   acts_after (x ∷ xs) t = acts_kept x xs t
 
@@ -122,7 +122,7 @@ step_in w phase hook =
     }
 
 -- so it is told in the world of the event
-told_in : (c : Config) (begins : Option Op) (phase : Phase) (hook : HookAnswer) (found : ℕ) (items : SeatItems)
+told_in : (c : Config) (begins : Option Op) (phase : Phase) (hook : HookAnswer) (found : ℕ) (items : DealtNumbers)
     (seen gone : List (List Entry)) (move : HasWitness c begins phase hook items found seen gone) (step : Step) →
     step ≡ found_step phase hook found → ToldIn c begins phase hook found items seen gone move step
 told_in c begins phase hook found [] seen gone move step is = absurd move
@@ -143,8 +143,8 @@ was_stepped phase hook old done left found step new moves =
     }
 
 -- the same of the values that the code has
-module _ (number : ℕ) (c : Config) (begins : Option Op) (kept : TaskState) (flags : List Bool) (phase : Phase) (is : kept.phase ≡ Some phase)
-    (hook : HookAnswer) (items : SeatItems) (ties : GhostAgrees number c begins kept flags items)
+module _ (number : ℕ) (c : Config) (begins : Option Op) (state : TaskState) (flags : List Bool) (phase : Phase) (is : state.phase ≡ Some phase)
+    (hook : HookAnswer) (items : DealtNumbers) (ghost_agrees : GhostAgrees number c begins state flags items)
     (next : WordName × Touch) (next_is : next ≡ next_of phase hook) (found : ℕ) (event : Event)
     (event_is : event ≡ event_of next.0 next.1 found)
     (done : Next Phase × Option Action) (done_is : done ≡ after_of phase event.found hook) where
@@ -157,27 +157,27 @@ module _ (number : ℕ) (c : Config) (begins : Option Op) (kept : TaskState) (fl
   same_done = done_is ∙ ap (λ (e : Event). after_of phase e.found hook) same_event
 
   -- its action can be done
-  pub may_add : ActionFits (seat_held kept) done.1
-  may_add = subst (λ (d : Next Phase × Option Action). ActionFits (seat_held kept) d.1) (sym same_done)
-      (acts_after number c begins kept flags phase is hook found items ties)
+  pub may_add : ActionFits (task_holdings state) done.1
+  may_add = subst (λ (d : Next Phase × Option Action). ActionFits (task_holdings state) d.1) (sym same_done)
+      (acts_after number c begins state flags phase is hook found items ghost_agrees)
 
   module _ (progress : Progress × Option Phase) (progress_is : progress ≡ (progress_of done.0, phase_after done.0)) (accesses : Accesses)
-      (accesses_is : accesses ≡ accesses_after kept.accesses done.1)
-      (after : SeatItems) (after_is : after ≡ items_after begins phase hook found items) where
+      (accesses_is : accesses ≡ accesses_after state.accesses done.1)
+      (after : DealtNumbers) (after_is : after ≡ items_after begins phase hook found items) where
     -- the phase after it
     same_phase : progress.1 ≡ phase_after (after_of phase (found_by (next_of phase hook).1 found) hook).0
     same_phase = ap (λ (p : Progress × Option Phase). p.1) progress_is ∙ ap (λ (d : Next Phase × Option Action). phase_after d.0) same_done
 
     -- the accesses after it
-    same_accesses : accesses ≡ accesses_after kept.accesses (after_of phase (found_by (next_of phase hook).1 found) hook).1
-    same_accesses = accesses_is ∙ ap (λ (d : Next Phase × Option Action). accesses_after kept.accesses d.1) same_done
+    same_accesses : accesses ≡ accesses_after state.accesses (after_of phase (found_by (next_of phase hook).1 found) hook).1
+    same_accesses = accesses_is ∙ ap (λ (d : Next Phase × Option Action). accesses_after state.accesses d.1) same_done
 
     -- the fields that are left agree with the seat
-    pub ties_left : GhostAgrees number c None (record { phase = progress.1; accesses = accesses }) flags after
-    ties_left =
-        let P : Option Phase × Accesses × SeatItems → Type 0 = λ z. GhostAgrees number c None (record { phase = z.0; accesses = z.1 }) flags z.2 in
+    pub ghost_agrees_left : GhostAgrees number c None (record { phase = progress.1; accesses = accesses }) flags after
+    ghost_agrees_left =
+        let P : Option Phase × Accesses × DealtNumbers → Type 0 = λ z. GhostAgrees number c None (record { phase = z.0; accesses = z.1 }) flags z.2 in
         subst P (λ j. (sym same_phase j, sym same_accesses j, sym after_is j))
-        (matches_after number c begins kept flags phase is hook found items ties)
+        (matches_after number c begins state flags phase is hook found items ghost_agrees)
 
     -- the step is the one that the phase has
     pub step_is : ◌≡◌ {A = Step} (record { event = Some event; action = done.1; progress = progress.0 }) (found_step phase hook found)
@@ -192,13 +192,13 @@ module _ (number : ℕ) (c : Config) (begins : Option Op) (kept : TaskState) (fl
 
     -- the state that is left
     pub left_is : (seen gone : List (List Entry)) (table before : TableId) → table ≡ before → task_state table c None progress.1 (knows after gone) ≡
-        state_after (task_state before c begins kept.phase (knows items seen)) phase hook found gone
+        state_after (task_state before c begins state.phase (knows items seen)) phase hook found gone
     left_is seen gone table before same =
         λ i. record { table = same i; config = c; begins = None; phase = same_phase i; items = after_is i; seen = gone }
 
     -- the step that the code has done, where the seat's event was such a move
     pub stepped_here : (seen gone : List (List Entry)) (table before : TableId) (now : SeatedTask) → table ≡ before →
-        task_state before c begins kept.phase (knows items seen) ≡ now → HasWitness c begins phase hook items found seen gone →
+        task_state before c begins state.phase (knows items seen) ≡ now → HasWitness c begins phase hook items found seen gone →
         (p : Phase) → now.phase ≡ Some p → Stepped p hook now (record { event = Some event; action = done.1; progress = progress.0 })
         (task_state table c None progress.1 (knows after gone))
     stepped_here seen gone table before now same view moves p at =
@@ -208,4 +208,4 @@ module _ (number : ℕ) (c : Config) (begins : Option Op) (kept : TaskState) (fl
         let left : SeatedTask = task_state table c None progress.1 (knows after gone) in
         subst (λ (q : Phase). Stepped q hook now step left) same_p
         (subst (λ (s : SeatedTask). Stepped phase hook s step left) view
-        (was_stepped phase hook (task_state before c begins kept.phase (knows items seen)) step left found step_is (left_is seen gone table before same) moves))
+        (was_stepped phase hook (task_state before c begins state.phase (knows items seen)) step left found step_is (left_is seen gone table before same) moves))

@@ -11,15 +11,15 @@ use Rattle.cpu_words.specs.Hooks.{HookAnswer}
 use Rattle.gate_world.specs.declared.{config.Config.Config, entries.Entry.Entry, operations.Op.Op, views.Traced.Traced, work.Phase.Phase}
 use Rattle.gate_world.specs.traces.TraceStates.{state_of_trace}
 use Rattle.gate_steps.specs.Histories.{then_begins}
-use Rattle.gate_steps.specs.Seating.{SeatItems, GoesOn, HasWitness}
+use Rattle.gate_steps.specs.Seating.{DealtNumbers, IsPrefix, HasWitness}
 use Rattle.gate_steps.specs.call_events.Grown.{AllGoOn, StaySeen}
 use Rattle.gate_steps.specs.call_events.Runs.{items_at, begins_at, IsNextMove, AreMoves, Called}
 use Rattle.gate_steps.specs.call_events.SeatedTasks.{SeatedTask, own_number}
 
-pub after_more : (a b c : List Entry) → GoesOn a b → GoesOn b c → GoesOn a c
+pub after_more : (a b c : List Entry) → IsPrefix a b → IsPrefix b c → IsPrefix a c
 after_more a b c g h = (g.0 ++ h.0, h.1 ∙ (ap (λ (l : List Entry). l ++ h.0) g.1 ∙ append_assoc a g.0 h.0))
 
-begins_more : (t : ℕ) (begins : Option Op) (now : List Entry) → GoesOn now (then_begins t begins now)
+begins_more : (t : ℕ) (begins : Option Op) (now : List Entry) → IsPrefix now (then_begins t begins now)
 begins_more t None now = ([], sym (append-nil now))
 begins_more t (Some op) now = (_, refl)
 
@@ -28,30 +28,30 @@ only last zero later at = some-injective last later at
 only last (suc j) later at = absurd (some-ne-none later (sym at))
 
 -- the schedules that an event leaves go on from all seen before it
-pub moved_on : (c : Config) (begins : Option Op) (phase : Phase) (hook : HookAnswer) (items : SeatItems) (found : ℕ) (seen gone : List (List Entry)) →
+pub moved_on : (c : Config) (begins : Option Op) (phase : Phase) (hook : HookAnswer) (items : DealtNumbers) (found : ℕ) (seen gone : List (List Entry)) →
     HasWitness c begins phase hook items found seen gone → AllGoOn seen gone
 moved_on c begins phase hook [] found seen gone move k earlier at j later there = absurd move
 moved_on c begins phase hook (x ∷ xs) found seen gone move k earlier at j later there =
     let last : List Entry = move.history.reached.entries in
     let is : last ≡ later = only last j later (subst (λ l. get_elem? l j ≡ some later) move.leaves there) in
-    let g : GoesOn earlier move.past.reached.entries = move.from.goes_on k earlier at in
-    let h : GoesOn move.past.reached.entries move.reached.entries =
-    subst (GoesOn move.past.reached.entries) (sym move.begun) (begins_more x.number begins move.past.reached.entries) in
-    let s : GoesOn move.reached.entries last = (_, move.stepped) in
-    subst (GoesOn earlier) is (after_more earlier move.reached.entries last
+    let g : IsPrefix earlier move.past.reached.entries = move.from.goes_on k earlier at in
+    let h : IsPrefix move.past.reached.entries move.reached.entries =
+    subst (IsPrefix move.past.reached.entries) (sym move.begun) (begins_more x.number begins move.past.reached.entries) in
+    let s : IsPrefix move.reached.entries last = (_, move.stepped) in
+    subst (IsPrefix earlier) is (after_more earlier move.reached.entries last
     (after_more earlier move.past.reached.entries move.reached.entries g h) s)
 
 abbrev HasOne : List (List Entry) → Type 0
 HasOne gone = (l : List Entry) × (get_elem? gone 0 ≡ some l)
 
-one_left : (c : Config) (begins : Option Op) (phase : Phase) (hook : HookAnswer) (items : SeatItems) (found : ℕ) (seen gone : List (List Entry)) →
+one_left : (c : Config) (begins : Option Op) (phase : Phase) (hook : HookAnswer) (items : DealtNumbers) (found : ℕ) (seen gone : List (List Entry)) →
     HasWitness c begins phase hook items found seen gone → HasOne gone
 one_left c begins phase hook [] found seen gone move = absurd move
 one_left c begins phase hook (x ∷ xs) found seen gone move =
     (move.history.reached.entries, ap (λ l. get_elem? l 0) move.leaves)
 
 -- where a trace of moves leaves one schedule, it goes on from all seen before
-pub next_on : (c : Config) (op : Op) (items : SeatItems) (earlier : List Traced) (e : Traced) (seen gone : List (List Entry)) (comes : Next Phase) →
+pub next_on : (c : Config) (op : Op) (items : DealtNumbers) (earlier : List Traced) (e : Traced) (seen gone : List (List Entry)) (comes : Next Phase) →
     IsNextMove c op items earlier e seen gone comes → AllGoOn seen gone × HasOne gone
 next_on c op items earlier e seen gone (Go phase) m = (
   moved_on c (begins_at op earlier) phase e.hook (items_at c op earlier items) m.0 seen gone m.2,
@@ -63,7 +63,7 @@ next_on c op items earlier e seen gone (Wait phase) m = (
 )
 next_on c op items earlier e seen gone (Done answer) m = absurd m
 
-pub moves_on : (c : Config) (op : Op) (items : SeatItems) (seen : List (List Entry)) (e : Traced) (earlier : List Traced)
+pub moves_on : (c : Config) (op : Op) (items : DealtNumbers) (seen : List (List Entry)) (e : Traced) (earlier : List Traced)
     (gone : List (List Entry)) → AreMoves c op items seen (e ∷ earlier) gone → AllGoOn seen gone
 moves_on c op items seen e [] gone m =
     let n = next_on c op items [] e m.0 gone (state_of_trace c (own_number items) op []).comes m.1 in
@@ -75,7 +75,7 @@ moves_on c op items seen e (d ∷ earlier) gone m =
     λ k a at j b there. let o = before.1 in
     after_more a o.0 b (r k a at 0 o.0 o.1) (n.0 0 o.0 o.1 j b there)
 
-trace_goes_on : (c : Config) (op : Op) (items : SeatItems) (seen gone : List (List Entry)) (answer : Result Reply GateError) (trace : List Traced) →
+trace_goes_on : (c : Config) (op : Op) (items : DealtNumbers) (seen gone : List (List Entry)) (answer : Result Reply GateError) (trace : List Traced) →
     (state_of_trace c (own_number items) op trace).comes ≡ Done answer → AreMoves c op items seen trace gone → AllGoOn seen gone
 trace_goes_on c op items seen gone answer [] ends moves = absurd (let no : ⊥ = cc in no)
 trace_goes_on c op items seen gone answer (e ∷ earlier) ends moves = moves_on c op items seen e earlier gone moves
@@ -85,11 +85,11 @@ pub call_goes_on : (op : Op) (old left : SeatedTask) (answer : Result Reply Gate
 call_goes_on op old left answer called = trace_goes_on old.config op old.items old.seen left.seen answer called.trace called.ends called.moves
 
 -- what was seen
-pub only_seen : (earlier : List Entry) → GoesOn earlier earlier
+pub only_seen : (earlier : List Entry) → IsPrefix earlier earlier
 only_seen earlier = ([], sym (append-nil earlier))
 
 -- stays so over a call
-trace_leaves : (c : Config) (op : Op) (items : SeatItems) (seen gone : List (List Entry)) (answer : Result Reply GateError) (trace : List Traced) →
+trace_leaves : (c : Config) (op : Op) (items : DealtNumbers) (seen gone : List (List Entry)) (answer : Result Reply GateError) (trace : List Traced) →
     (state_of_trace c (own_number items) op trace).comes ≡ Done answer → AreMoves c op items seen trace gone → HasOne gone
 trace_leaves c op items seen gone answer [] ends moves = absurd (let no : ⊥ = cc in no)
 trace_leaves c op items seen gone answer (e ∷ earlier) ends moves =

@@ -13,18 +13,18 @@ use Rattle.cpu_words.specs.Hooks.{HookAnswer}
 use Rattle.cpu_words.specs.declared.events.Event.{Event}
 use Rattle.gate_schedules.specs.Answers.{progress_of}
 use Rattle.gate_schedules.specs.declared.steps.Progress.TheVariants.{Done as Ended}
-use Rattle.gate_steps.specs.Seating.{SeatItems}
+use Rattle.gate_steps.specs.Seating.{DealtNumbers}
 use Rattle.gate_world.specs.Configs.{IsWithin}
 use Rattle.gate_world.specs.Views.{phase_after}
 use Rattle.gate_world.specs.declared.accesses.Accesses.{Accesses}
 use Rattle.gate_world.specs.declared.config.Config.{Config}
 use Rattle.gate_world.specs.declared.operations.Op.{Op}
 use Rattle.gate_world.specs.declared.work.Phase.{Phase}
-use Rattle.gate_steps.specs.call_events.Runs.{Goes, Went, Called, IsTrying}
+use Rattle.gate_steps.specs.call_events.Runs.{OpUnderWay, OpAfterStep, Called, IsTrying}
 use Rattle.gate_steps.specs.call_events.Stepped.{Stepped}
 use Rattle.gate_steps.specs.call_events.SeatedTasks.{SeatedTask, task_state}
 use Rattle.gate_steps.specs.call_events.GhostAgrees.{GhostAgrees}
-use Rattle.gate_steps.specs.call_events.Turns.{kept_at, step_was}
+use Rattle.gate_steps.specs.call_events.Turns.{state_at, step_was}
 use Rattle.gate_steps.proofs.call_events.Running.{events_left, falls}
 use Rattle.gate_steps.proofs.call_events.Turning.{went_so}
 
@@ -41,7 +41,7 @@ done_at as_phase next answer is = ap (λ n. map_next as_phase n) is
 
 -- where a phase comes next, the operation goes on
 pub goes_where : (op : Op) (start now : SeatedTask) (next : Next Phase) (phase : Phase) → phase_after next ≡ Some phase →
-    Went op start next now → Goes op start now
+    OpAfterStep op start next now → OpUnderWay op start now
 goes_where op start now (Go q) phase is went = went
 goes_where op start now (Wait q) phase is went = went
 goes_where op start now (Done answer) phase is went = absurd (let f : ⊥ = cc in f)
@@ -67,9 +67,9 @@ module _ (c : Config) (within : IsWithin c) (event : Event) (action : Option Act
   after = task_state left_table c None (phase_after next) left
 
   -- the operation goes on
-  pub goes_so : (op : Op) (start : SeatedTask) → Goes op start before → Goes op start (task_state left_table c None (Some further) left)
+  pub goes_so : (op : Op) (start : SeatedTask) → OpUnderWay op start before → OpUnderWay op start (task_state left_table c None (Some further) left)
   goes_so op start goes =
-      subst (λ (o : Option Phase). Goes op start (task_state left_table c None o left)) is
+      subst (λ (o : Option Phase). OpUnderWay op start (task_state left_table c None o left)) is
       (goes_where op start after next further is (went_so c within op start event action next hook goes after_step))
 
   -- it still has a most number of events
@@ -85,14 +85,14 @@ module _ (c : Config) (within : IsWithin c) (event : Event) (action : Option Act
       (subst IsWithin t.goes.config within) t.tries (not_ended next further is))
 
 -- the fields of a task whose operation stands there
-pub tied_so : (number : ℕ) (c : Config) (accesses : Accesses) (flags : List Bool) (items : SeatItems) (o p : Option Phase) → o ≡ p →
-    GhostAgrees number c None (kept_at o accesses) flags items → GhostAgrees number c None (kept_at p accesses) flags items
-tied_so number c accesses flags items o p is ties =
-    subst (λ (q : Option Phase). GhostAgrees number c None (kept_at q accesses) flags items) is ties
+pub agrees_so : (number : ℕ) (c : Config) (accesses : Accesses) (flags : List Bool) (items : DealtNumbers) (o p : Option Phase) → o ≡ p →
+    GhostAgrees number c None (state_at o accesses) flags items → GhostAgrees number c None (state_at p accesses) flags items
+agrees_so number c accesses flags items o p is ghost_agrees =
+    subst (λ (q : Option Phase). GhostAgrees number c None (state_at q accesses) flags items) is ghost_agrees
 
 -- an operation that replied was done whole
 pub called_so : (op : Op) (start : SeatedTask) (next : Next Phase) (answer : Result Reply GateError) (table : TableId) (c : Config)
-    (items : Knowledge) → next ≡ Done answer → Went op start next (task_state table c None (phase_after next) items) →
+    (items : Knowledge) → next ≡ Done answer → OpAfterStep op start next (task_state table c None (phase_after next) items) →
     Called op start (task_state table c None None items) answer
 called_so op start (Go q) answer table c items is went = absurd (let f : ⊥ = cc in f)
 called_so op start (Wait q) answer table c items is went = absurd (let f : ⊥ = cc in f)

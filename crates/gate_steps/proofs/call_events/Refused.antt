@@ -12,7 +12,7 @@ use Rattle.gate_world.specs.{traces.Found.{clean_found, cleans, stored_stage}, H
 use Rattle.gate_world.specs.declared.{config.Config.Config, operations.Op.{Op, TheVariants.{RemountSb, WantWrite, Freeze as FreezeOp}}, views.Traced.Traced}
 use Rattle.gate_world.specs.declared.work.Phase.{Phase}
 use Rattle.gate_schedules.proofs.operations.AllOperations.{op_keeps}
-use Rattle.gate_steps.specs.Seating.{SeatItems}
+use Rattle.gate_steps.specs.Seating.{DealtNumbers}
 use Rattle.gate_steps.specs.call_events.{Refused.{LeavesTree, IsUnchanged, IsHonestWait, WaitsHonestly}, Runs.ran_items, SeatedTasks.{own_number, own_view}}
 use Rattle.gate_steps.proofs.call_events.Asked.{either_way}
 
@@ -75,7 +75,7 @@ leaves : (op : Op) (refusal : GateError) (trace : List Traced) → All LeavesTre
 leaves op refusal trace = All-from_recursion LeavesTree (actions_of op (Err refusal) trace) (each_leaves op refusal trace)
 
 -- so a refusal leaves all unchanged, where the operation was in order
-pub is_unchanged : (c : Config) (op : Op) (refusal : GateError) (trace : List Traced) (l : SeatItems) →
+pub is_unchanged : (c : Config) (op : Op) (refusal : GateError) (trace : List Traced) (l : DealtNumbers) →
     is_in_order c (held_of (own_view l)) op ≡ true →
     (state_of_trace c (own_number l) op trace).added ≡ actions_of op (Err refusal) trace →
     IsUnchanged (state_of_trace c (own_number l) op trace).added (own_view l) (own_view (ran_items c op trace l))

@@ -42,7 +42,7 @@ use Rattle.gate_world.specs.declared.work.Phase.TheVariants.{Remounts}
 use Rattle.gate_world.specs.traces.TraceStates.{state_of_trace}
 use Rattle.gate_world.specs.Views.{actions_after}
 use Rattle.gate_world.specs.Work.{after_of}
-use Rattle.gate_steps.specs.Seating.{SeatItems}
+use Rattle.gate_steps.specs.Seating.{DealtNumbers}
 use Rattle.gate_steps.specs.call_events.Asked.{agreed, OnceAsked, AtMostAsked}
 use Rattle.gate_steps.specs.call_events.Asking.{Ask, asks_with, asks_of, call_at}
 use Rattle.gate_steps.specs.call_events.Runs.{Called}
@@ -108,12 +108,12 @@ module _ (read_only : Bool) where
       (past_so mounts m (with_mount held m) asks is) (give_up_so m (with_mount held m) asks is)
 
   -- the hook that was asked, which has agreed
-  asked_so : (x : Remount) (at : SeatItems) (asks : List Ask) → x.read_only ≡ read_only → asks ≡ [] →
+  asked_so : (x : Remount) (at : DealtNumbers) (asks : List Ask) → x.read_only ≡ read_only → asks ≡ [] →
       OnceAsked (ReconfigureCall read_only) (agreed (ReconfigureCall x.read_only) at ∷ asks)
   asked_so x at asks same is = (at, λ i. agreed (ReconfigureCall (same i)) at ∷ is i)
 
   -- one event more
-  step_keeps : (x : Remount) (step : RemountStep) (found : ℕ) (hook : HookAnswer) (at : SeatItems) (asks : List Ask) →
+  step_keeps : (x : Remount) (step : RemountStep) (found : ℕ) (hook : HookAnswer) (at : DealtNumbers) (asks : List Ask) →
       x.read_only ≡ read_only → AtStep step asks →
       AtNext (remount_after x step found hook).0 (asks_with (call_at (Remounts (at_remount x step))) at hook asks)
   step_keeps x Locks found hook at asks same is =
@@ -146,7 +146,7 @@ module _ (read_only : Bool) where
   step_keeps x (Releases (Ok reply)) found hook at asks same is = is
   step_keeps x (Releases (Err refusal)) found hook at asks same is = is
 
-  keeps : (p : Phase) (found : ℕ) (hook : HookAnswer) (at : SeatItems) (added : List Action) (asks : List Ask) → At (Go p) added asks →
+  keeps : (p : Phase) (found : ℕ) (hook : HookAnswer) (at : DealtNumbers) (added : List Action) (asks : List Ask) → At (Go p) added asks →
       At (after_of p found hook).0 (actions_after (after_of p found hook).1 added) (asks_with (call_at p) at hook asks)
   keeps (Remounts x) found hook at added asks is =
       as_phases (remount_after x x.step found hook).0 (actions_after (remount_after x x.step found hook).1 added)

@@ -18,40 +18,40 @@ use Rattle.gate_world.specs.declared.views.Traced.{Traced}
 use Rattle.gate_world.specs.declared.views.View.{View}
 use Rattle.gate_world.specs.Configs.{IsWithin}
 use Rattle.gate_world.specs.traces.Snapshots.{completes, last_snapshot}
-use Rattle.gate_world.specs.Views.{phase_after, actions_after, view_after_beside, with_hook, held_of}
+use Rattle.gate_world.specs.Views.{phase_after, actions_after, view_after_with_others, with_hook, held_of}
 use Rattle.gate_world.specs.Work.{next_of, after_of}
 use Rattle.gate_world.specs.Beginnings.{first_phase}
 use Rattle.gate_world.specs.traces.TraceStates.{TraceState, trace_state_with, trace_state_after, state_of_trace, IsEventOf, IsNext, IsTrace, ReadIsValid}
-use Rattle.gate_world.specs.traces.Traces.{actions_of, Tells, IsHonestAnswer, IsTold, most_events, IsShort, MayWait}
+use Rattle.gate_world.specs.traces.Traces.{actions_of, Tells, IsHonestAnswer, ReplyMatchesTrace, most_events, IsShort, MayWait}
 use Rattle.gate_schedules.proofs.{frames.OperationLaws.{most_events_of_all, IsSmall}, schedules.Beginnings.may_begin}
 use Rattle.gate_schedules.proofs.operations.AllOperations.{op_keeps}
 use Rattle.gate_schedules.specs.declared.steps.Progress.{Progress}
 use Rattle.gate_schedules.specs.declared.steps.Progress.TheVariants.{Done as Ended, Waiting}
 use Rattle.gate_schedules.specs.declared.steps.Step.{Step}
 use Rattle.gate_schedules.specs.Answers.{progress_of, unless_refused}
-use Rattle.gate_steps.specs.Seating.{SeatItems, numbered, HaveHistory, entered, done_by, items_after, world_left, HasWitness}
+use Rattle.gate_steps.specs.Seating.{DealtNumbers, numbered, HaveHistory, entered, done_by, items_after, world_left, HasWitness}
 use Rattle.gate_steps.specs.call_events.SeatedTasks.{SeatedTask, own_number, own_view, refusal_at}
 use Rattle.gate_steps.specs.call_events.Stepped.{Stepped}
-use Rattle.gate_steps.specs.call_events.Asking.{Ask, asks_of, asks_with, call_at, next_call, GoesWith, WentWith}
+use Rattle.gate_steps.specs.call_events.Asking.{Ask, asks_of, asks_with, call_at, next_call, OpUnderWayWith, OpAfterStepWith}
 use Rattle.gate_steps.specs.call_events.Waited.{is_wait, waits_in}
 use Rattle.gate_steps.specs.call_events.Refused.{IsUnchanged, IsUnchangedBy, IsHonestWait}
 use Rattle.gate_steps.proofs.call_events.Refused.{is_unchanged, waits_honestly}
-use Rattle.gate_steps.specs.call_events.Runs.{events_onto, completed_by, ran_snapshot, ran_view, ran_items, begins_at, items_at, IsMoveOf, IsNextMove, AreMoves, IsBounded, IsRanReply, told_as, the_reply, Goes, Went, ProgressMatches, Called, Replies}
+use Rattle.gate_steps.specs.call_events.Runs.{events_onto, completed_by, ran_snapshot, ran_view, ran_items, begins_at, items_at, IsMoveOf, IsNextMove, AreMoves, IsBounded, IsRanReply, told_as, the_reply, OpUnderWay, OpAfterStep, ProgressMatches, Called, Replies}
 
 -- the numbers of a task whose own number has begun the operation
-abbrev pub entered_items : Option Op → Option Phase → SeatItems → SeatItems
+abbrev pub entered_items : Option Op → Option Phase → DealtNumbers → DealtNumbers
 entered_items begins None l = l
 entered_items begins (Some p) [] = []
 entered_items begins (Some p) (x ∷ xs) = numbered x.number (entered x.view begins p) ∷ xs
 
 -- nothing begins where no operation has just begun
-not_entered : (o : Option Phase) (l : SeatItems) → entered_items None o l ≡ l
+not_entered : (o : Option Phase) (l : DealtNumbers) → entered_items None o l ≡ l
 not_entered None l = refl
 not_entered (Some p) [] = refl
 not_entered (Some p) (x ∷ xs) = refl
 
 -- an event that begins an operation is one of the numbers that have begun it
-after_entered : (begins : Option Op) (p : Phase) (h : HookAnswer) (found : ℕ) (l : SeatItems) →
+after_entered : (begins : Option Op) (p : Phase) (h : HookAnswer) (found : ℕ) (l : DealtNumbers) →
     items_after None p h found (entered_items begins (Some p) l) ≡ items_after begins p h found l
 after_entered begins p h found [] = refl
 after_entered begins p h found (x ∷ xs) = refl
@@ -63,20 +63,20 @@ next_is (Wait q) p e is h = subst (λ r. IsEventOf r e) (let f : p ≡ q = cc in
 next_is (Done a) p e is h = absurd (let f : ⊥ = cc in f)
 
 -- and so does its move
-move_is : (c : Config) (op : Op) (items : SeatItems) (earlier : List Traced) (e : Traced) (seen gone : List (List Entry)) (s : Next Phase) (p : Phase) →
+move_is : (c : Config) (op : Op) (items : DealtNumbers) (earlier : List Traced) (e : Traced) (seen gone : List (List Entry)) (s : Next Phase) (p : Phase) →
     phase_after s ≡ Some p → IsMoveOf c op items earlier e seen gone p → IsNextMove c op items earlier e seen gone s
 move_is c op items earlier e seen gone (Go q) p is h = subst (IsMoveOf c op items earlier e seen gone) (let f : p ≡ q = cc in f) h
 move_is c op items earlier e seen gone (Wait q) p is h = subst (IsMoveOf c op items earlier e seen gone) (let f : p ≡ q = cc in f) h
 move_is c op items earlier e seen gone (Done a) p is h = absurd (let f : ⊥ = cc in f)
 
 -- what an event found is what its word may hold
-move_holds : (c : Config) (begins : Option Op) (p : Phase) (hook : HookAnswer) (items : SeatItems) (found : ℕ)
+move_holds : (c : Config) (begins : Option Op) (p : Phase) (hook : HookAnswer) (items : DealtNumbers) (found : ℕ)
     (seen gone : List (List Entry)) → HasWitness c begins p hook items found seen gone → ReadIsValid p (next_of p hook).0 found
 move_holds c begins p hook [] found seen gone move = absurd move
 move_holds c begins p hook (x ∷ xs) found seen gone move = move.holds
 
 -- an event leaves one history
-move_has_history : (c : Config) (begins : Option Op) (p : Phase) (hook : HookAnswer) (items : SeatItems) (found : ℕ)
+move_has_history : (c : Config) (begins : Option Op) (p : Phase) (hook : HookAnswer) (items : DealtNumbers) (found : ℕ)
     (seen gone : List (List Entry)) → HasWitness c begins p hook items found seen gone → HaveHistory c (items_after begins p hook found items) gone
 move_has_history c begins p hook [] found seen gone move = absurd move
 move_has_history c begins p hook (x ∷ xs) found seen gone move =
@@ -175,13 +175,13 @@ admitted_some o r is at =
     no
 
 -- the numbers of an operation that has just begun
-begun_items : (c : Config) (op : Op) (l : SeatItems) → entered_items (Some op) (Some (first_phase c (own_number l) op)) l ≡
+begun_items : (c : Config) (op : Op) (l : DealtNumbers) → entered_items (Some op) (Some (first_phase c (own_number l) op)) l ≡
     ran_items c op [] l
 begun_items c op [] = refl
 begun_items c op (x ∷ xs) = refl
 
 -- the numbers of an operation after these events
-entered_at : (c : Config) (op : Op) (trace : List Traced) (l : SeatItems) →
+entered_at : (c : Config) (op : Op) (trace : List Traced) (l : DealtNumbers) →
     entered_items (begins_at op trace) (phase_after (state_of_trace c (own_number l) op trace).comes) (items_at c op trace l) ≡
     ran_items c op trace l
 entered_at c op [] l = begun_items c op l
@@ -189,7 +189,7 @@ entered_at c op (e ∷ earlier) l = not_entered (phase_after (state_of_trace c (
     (ran_items c op (e ∷ earlier) l)
 
 -- and of one under way
-ran_so_far : (op : Op) (start now : SeatedTask) (goes : Goes op start now) → entered_items now.begins now.phase now.items ≡
+ran_so_far : (op : Op) (start now : SeatedTask) (goes : OpUnderWay op start now) → entered_items now.begins now.phase now.items ≡
     ran_items start.config op goes.trace start.items
 ran_so_far op start now goes =
     let same : entered_items now.begins now.phase now.items ≡
@@ -203,8 +203,8 @@ pub starts_asking_none : (op : Op) (start now : SeatedTask) → Ok tt ≡ unless
   begins = Some op;
   phase =
       Some (first_phase start.config (own_number start.items) op);
-} → GoesWith [] 0 op start now
-starts_asking_none op start now admitted is = subst (GoesWith [] 0 op start) (sym is) (
+} → OpUnderWayWith [] 0 op start now
+starts_asking_none op start now admitted is = subst (OpUnderWayWith [] 0 op start) (sym is) (
   record {
     trace = [];
     admitted = not_refused (refusal_at op start) admitted;
@@ -225,11 +225,11 @@ pub starts : (op : Op) (start now : SeatedTask) → Ok tt ≡ unless_refused (re
   begins = Some op;
   phase =
       Some (first_phase start.config (own_number start.items) op);
-} → Goes op start now
+} → OpUnderWay op start now
 starts op start now admitted is = (starts_asking_none op start now admitted is).0
 
 -- one step of it, where a hook of the file system answers this
-module _ (op : Op) (start now left : SeatedTask) (step : Step) (h : HookAnswer) (goes : Goes op start now)
+module _ (op : Op) (start now left : SeatedTask) (step : Step) (h : HookAnswer) (goes : OpUnderWay op start now)
     (after_step : (p : Phase) → now.phase ≡ Some p → Stepped p h now step left) where
   -- the configuration
   abbrev c : Config
@@ -281,7 +281,7 @@ module _ (op : Op) (start now left : SeatedTask) (step : Step) (h : HookAnswer) 
 
   -- a view after it
   ran_more : (others : List (ℕ × ℕ)) (x : View) →
-      view_after_beside others (ran_view c n op others goes.trace x) p found h ≡ ran_view c n op others trace x
+      view_after_with_others others (ran_view c n op others goes.trace x) p found h ≡ ran_view c n op others trace x
   ran_more others x = λ i. record {
     op = Some op;
     phase = phase_after (sym course_here i).comes;
@@ -295,7 +295,7 @@ module _ (op : Op) (start now left : SeatedTask) (step : Step) (h : HookAnswer) 
   }
 
   -- all numbers after it
-  ran_all : (l : SeatItems) → own_number l ≡ n → items_after None p h found (ran_items c op goes.trace l) ≡ ran_items c op trace l
+  ran_all : (l : DealtNumbers) → own_number l ≡ n → items_after None p h found (ran_items c op goes.trace l) ≡ ran_items c op trace l
   ran_all [] same = refl
   ran_all (x ∷ xs) same =
       let before : ℕ → View = λ k. ran_view c k op (done_by xs) goes.trace x.view in
@@ -334,7 +334,7 @@ module _ (op : Op) (start now left : SeatedTask) (step : Step) (h : HookAnswer) 
   -- each event was a move
   moves_then : AreMoves c op start.items start.seen trace left.seen
   moves_then =
-      let P : Config × Option Op × SeatItems → Type 0 = λ z. HasWitness z.0 z.1 p h z.2 found now.seen left.seen in
+      let P : Config × Option Op × DealtNumbers → Type 0 = λ z. HasWitness z.0 z.1 p h z.2 found now.seen left.seen in
       let moved : HasWitness c (begins_at op goes.trace) p h (items_at c op goes.trace start.items) found now.seen left.seen =
       subst P (λ j. (goes.config j, goes.begins j, goes.items j)) did.moves in
       (now.seen, move_is c op start.items goes.trace e now.seen left.seen (state_of_trace c n op goes.trace).comes p stands_there (found, refl, moved), goes.moves)
@@ -348,7 +348,7 @@ module _ (op : Op) (start now left : SeatedTask) (step : Step) (h : HookAnswer) 
       (subst (λ l. HaveHistory now.config l left.seen) (ap (λ (s : SeatedTask). s.items) (sym did.new)) history)
 
   -- where it does not reply, it goes on, with this event more
-  goes_with_it : ((a : Result Reply GateError) → step.progress ≡ Ended a → ⊥) → (goes : Goes op start left) × (goes.trace ≡ trace)
+  goes_with_it : ((a : Result Reply GateError) → step.progress ≡ Ended a → ⊥) → (goes : OpUnderWay op start left) × (goes.trace ≡ trace)
   goes_with_it not = (
     record {
       trace = trace;
@@ -367,7 +367,7 @@ module _ (op : Op) (start now left : SeatedTask) (step : Step) (h : HookAnswer) 
     refl,
   )
 
-  pub goes_further : ((a : Result Reply GateError) → step.progress ≡ Ended a → ⊥) → Goes op start left
+  pub goes_further : ((a : Result Reply GateError) → step.progress ≡ Ended a → ⊥) → OpUnderWay op start left
   goes_further not = (goes_with_it not).0
 
   -- a refusal leaves all unchanged
@@ -436,7 +436,7 @@ module _ (op : Op) (start now left : SeatedTask) (step : Step) (h : HookAnswer) 
   -- so it went, by what comes after the event
   pub went_asking : (asks : List Ask) (waits : ℕ) → asks_of c op start.items goes.trace ≡ asks → waits_in c n op goes.trace ≡ waits →
       IsWithin c → (next : Next Phase) → step.progress ≡ progress_of next →
-      WentWith (asks_with (call_at p) now.items h asks) waits op start next left
+      OpAfterStepWith (asks_with (call_at p) now.items h asks) waits op start next left
   went_asking asks waits is came within (Go q) at =
       let g = goes_with_it (λ a ended. absurd (let f : ⊥ = cc in f)) in (
         g.0,
@@ -454,7 +454,7 @@ module _ (op : Op) (start now left : SeatedTask) (step : Step) (h : HookAnswer) 
       )
 
   -- and its trace has one event more
-  grown : (begins : Option Op) (o : Option Phase) (l : SeatItems) → o ≡ Some p →
+  grown : (begins : Option Op) (o : Option Phase) (l : DealtNumbers) → o ≡ Some p →
       HasWitness now.config begins p h l found now.seen left.seen →
       length (own_view (items_after begins p h found l)).trace ≡ length (own_view (entered_items begins o l)).trace + 1
   grown begins o [] is moves = absurd moves
@@ -474,12 +474,12 @@ few None trace bounded short small = absurd bounded
 few (Some most) trace bounded short small = omega (arith, short, small)
 
 -- the own view's trace is the operation's
-own_trace : (c : Config) (op : Op) (trace : List Traced) (l : SeatItems) → length (own_view (ran_items c op trace l)).trace ≤ length trace
+own_trace : (c : Config) (op : Op) (trace : List Traced) (l : DealtNumbers) → length (own_view (ran_items c op trace l)).trace ≤ length trace
 own_trace c op trace [] = omega arith
 own_trace c op trace (x ∷ xs) = omega arith
 
 -- an operation that has a most number of events has no more than the most of all
-pub few_steps : (op : Op) (start now : SeatedTask) → IsWithin start.config → IsBounded (most_events start.config op) → Goes op start now →
+pub few_steps : (op : Op) (start now : SeatedTask) → IsWithin start.config → IsBounded (most_events start.config op) → OpUnderWay op start now →
     steps_of now ≤ most_events_of_all
 few_steps op start now within tries goes =
     let c : Config = start.config in
@@ -491,9 +491,9 @@ few_steps op start now within tries goes =
     omega (arith, short, own, same)
 
 -- what comes after the event tells whether it goes on
-pub went_on : (op : Op) (start now left : SeatedTask) (step : Step) (hook : HookAnswer) (goes : Goes op start now)
+pub went_on : (op : Op) (start now left : SeatedTask) (step : Step) (hook : HookAnswer) (goes : OpUnderWay op start now)
     (after_step : (p : Phase) → now.phase ≡ Some p → Stepped p hook now step left) → IsWithin start.config →
-    (next : Next Phase) → step.progress ≡ progress_of next → Went op start next left
+    (next : Next Phase) → step.progress ≡ progress_of next → OpAfterStep op start next left
 went_on op start now left step hook goes after_step within (Go q) is =
     goes_further op start now left step hook goes after_step (λ a ended. absurd (let f : ⊥ = cc in f))
 went_on op start now left step hook goes after_step within (Wait q) is =
@@ -501,7 +501,7 @@ went_on op start now left step hook goes after_step within (Wait q) is =
 went_on op start now left step hook goes after_step within (Done a) is = ends_there op start now left step hook goes after_step within a is
 
 -- fewer events are left after each
-pub falls : (op : Op) (start now left : SeatedTask) (step : Step) (hook : HookAnswer) (goes : Goes op start now)
+pub falls : (op : Op) (start now left : SeatedTask) (step : Step) (hook : HookAnswer) (goes : OpUnderWay op start now)
     (after_step : (p : Phase) → now.phase ≡ Some p → Stepped p hook now step left) → IsWithin start.config →
     IsBounded (most_events start.config op) →
     ((a : Result Reply GateError) → step.progress ≡ Ended a → ⊥) → events_left left < events_left now
@@ -557,13 +557,13 @@ was_told read op old left answer outcome replies told = record {
 
 -- a whole reply is one that its operation gives
 reply_told : (P : Reply → Type 0) (c : Config) (op : Op) (events : List Traced) →
-    ((reply : Reply) → IsTold op reply events → P reply) → (answer : Result Reply GateError) → IsHonestAnswer c op answer events →
+    ((reply : Reply) → ReplyMatchesTrace op reply events → P reply) → (answer : Result Reply GateError) → IsHonestAnswer c op answer events →
     IfOk (told_as the_reply answer) P
 reply_told P c op events says (Ok reply) honest = says reply honest
 reply_told P c op events says (Err refusal) honest = tt
 
 reply_at : (P : Reply → Type 0) (op : Op) (old left : SeatedTask) (outcome : Result Reply GateError) →
-    ((reply : Reply) (events : List Traced) → IsTold op reply events → P reply) → Replies the_reply op old left outcome →
+    ((reply : Reply) (events : List Traced) → ReplyMatchesTrace op reply events → P reply) → Replies the_reply op old left outcome →
     (o : Option GateError) → refusal_at op old ≡ o → IfOk outcome P
 reply_at P op old left outcome says replies (Some r) at = subst (λ x. IfOk x P) (sym (replies.refused r at).0) tt
 reply_at P op old left outcome says replies None at =
@@ -572,7 +572,7 @@ reply_at P op old left outcome says replies None at =
     (reply_told P old.config op done.2.trace (λ reply told. says reply done.2.trace told) done.0 done.2.honest)
 
 -- a callback's
-pub ran_told : (level : ℕ) (reply : Reply) (events : List Traced) → IsTold (Callback level) reply events → IsRanReply reply
+pub ran_told : (level : ℕ) (reply : Reply) (events : List Traced) → ReplyMatchesTrace (Callback level) reply events → IsRanReply reply
 ran_told level (Ran true) events told = tt
 ran_told level (Ran false) events told = tt
 ran_told level reply events told = absurd told

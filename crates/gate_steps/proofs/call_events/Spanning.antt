@@ -16,7 +16,7 @@ use Rattle.gate_world.specs.Worlds.{World, happens, run, opening, found_at}
 use Rattle.gate_world.specs.declared.entries.Entry.{Entry, TheVariants.{Begins, Steps}}
 use Rattle.gate_world.specs.declared.{config.Config.Config, operations.Op.Op, views.{Traced.Traced, View.View}, work.Phase.Phase}
 use Rattle.gate_steps.specs.Histories.{IsLike}
-use Rattle.gate_steps.specs.Seating.{SeatItems, numbered, GoesOn, HasRested, done_by, entered, world_entered, StepWitness}
+use Rattle.gate_steps.specs.Seating.{DealtNumbers, numbered, IsPrefix, HasRested, done_by, entered, world_entered, StepWitness}
 use Rattle.gate_steps.specs.declared.seating.Numbered.{Numbered}
 use Rattle.gate_steps.specs.call_events.Grown.{AllGoOn}
 use Rattle.gate_steps.specs.call_events.Runs.{ran_view, IsMoveOf, IsNextMove, AreMoves}
@@ -38,7 +38,7 @@ none_of (Some phase) is = absurd (let no : ⊥ = cc in no)
 
 -- the moment of an event that was a move of a phase, of an operation that was under way with these earlier events
 happens_after : (c : Config) (op : Op) (earlier : List Traced) (e : Traced) (begins : Option Op) (phase : Phase) (x : Numbered)
-    (xs : SeatItems) (found : ℕ) (seen gone : List (List Entry)) →
+    (xs : DealtNumbers) (found : ℕ) (seen gone : List (List Entry)) →
     phase_after (state_of_trace c x.number op earlier).comes ≡ Some phase →
     e ≡ with_hook (event_of (next_of phase e.hook).0 (next_of phase e.hook).1 found) e.hook →
     (move : StepWitness c begins phase e.hook x xs found seen gone) → (entered x.view begins phase).phase ≡ Some phase →
@@ -61,16 +61,16 @@ happens_after c op earlier e begins phase x xs found seen gone comes is move at 
     }
 
 -- the schedule that an event leaves
-leaves_so : (c : Config) (begins : Option Op) (phase : Phase) (hook : HookAnswer) (x : Numbered) (xs : SeatItems) (found : ℕ)
+leaves_so : (c : Config) (begins : Option Op) (phase : Phase) (hook : HookAnswer) (x : Numbered) (xs : DealtNumbers) (found : ℕ)
     (seen gone : List (List Entry)) (move : StepWitness c begins phase hook x xs found seen gone) →
     gone ≡ (move.reached.entries ++ Steps x.number hook ∷ []) ∷ []
 leaves_so c begins phase hook x xs found seen gone move = move.leaves ∙ ap (λ (l : List Entry). l ∷ []) move.stepped
 
 -- the task of the last event has seen all up to it
-abbrev IsLast : (c : Config) (items : SeatItems) (op : Op) (earlier : List Traced) (e : Traced) (seen gone : List (List Entry)) → Type 0
+abbrev IsLast : (c : Config) (items : DealtNumbers) (op : Op) (earlier : List Traced) (e : Traced) (seen gone : List (List Entry)) → Type 0
 IsLast c items op earlier e seen gone = (d : IsEventDuring c items op earlier e seen gone) × (d.rest ≡ [])
 
-module _ (c : Config) (op : Op) (x : Numbered) (xs : SeatItems) (e : Traced) (phase : Phase) (found : ℕ) where
+module _ (c : Config) (op : Op) (x : Numbered) (xs : DealtNumbers) (e : Traced) (phase : Phase) (found : ℕ) where
   abbrev n : ℕ
   n = x.number
 
@@ -179,14 +179,14 @@ module _ (c : Config) (op : Op) (x : Numbered) (xs : SeatItems) (e : Traced) (ph
 
 -- the event of this phase, after those before it
 module _ (c : Config) (op : Op) (e : Traced) (phase : Phase) (seen gone : List (List Entry)) where
-  move_first : (items : SeatItems) (before : List (List Entry)) → before ≡ seen →
+  move_first : (items : DealtNumbers) (before : List (List Entry)) → before ≡ seen →
       phase_after (state_of_trace c (own_number items) op []).comes ≡ Some phase → IsMoveOf c op items [] e before gone phase →
       IsLast c items op [] e seen gone
   move_first [] before same comes m = absurd m.2
   move_first (x ∷ xs) before same comes m = subst (λ l. IsLast c (x ∷ xs) op [] e l gone) same
       (first_event c op x xs e phase m.0 before gone comes m.1 m.2)
 
-  move_next : (items : SeatItems) (before : List (List Entry)) (d : Traced) (ds : List Traced) → IsLast c items op ds d seen before →
+  move_next : (items : DealtNumbers) (before : List (List Entry)) (d : Traced) (ds : List Traced) → IsLast c items op ds d seen before →
       phase_after (state_of_trace c (own_number items) op (d ∷ ds)).comes ≡ Some phase → IsMoveOf c op items (d ∷ ds) e before gone phase →
       IsLast c items op (d ∷ ds) e seen gone
   move_next [] before d ds last comes m = absurd m.2
@@ -195,14 +195,14 @@ module _ (c : Config) (op : Op) (e : Traced) (phase : Phase) (seen gone : List (
       m.2 last
 
 -- and of whatever came next
-comes_first : (c : Config) (op : Op) (items : SeatItems) (e : Traced) (seen before gone : List (List Entry)) (comes : Next Phase) →
+comes_first : (c : Config) (op : Op) (items : DealtNumbers) (e : Traced) (seen before gone : List (List Entry)) (comes : Next Phase) →
     (state_of_trace c (own_number items) op []).comes ≡ comes → before ≡ seen → IsNextMove c op items [] e before gone comes →
     IsLast c items op [] e seen gone
 comes_first c op items e seen before gone (Go phase) is same m = move_first c op e phase seen gone items before same (ap phase_after is) m
 comes_first c op items e seen before gone (Wait phase) is same m = move_first c op e phase seen gone items before same (ap phase_after is) m
 comes_first c op items e seen before gone (Done answer) is same m = absurd m
 
-comes_next : (c : Config) (op : Op) (items : SeatItems) (e d : Traced) (ds : List Traced) (seen before gone : List (List Entry))
+comes_next : (c : Config) (op : Op) (items : DealtNumbers) (e d : Traced) (ds : List Traced) (seen before gone : List (List Entry))
     (comes : Next Phase) → (state_of_trace c (own_number items) op (d ∷ ds)).comes ≡ comes → IsLast c items op ds d seen before →
     IsNextMove c op items (d ∷ ds) e before gone comes → IsLast c items op (d ∷ ds) e seen gone
 comes_next c op items e d ds seen before gone (Go phase) is last m =
@@ -212,7 +212,7 @@ comes_next c op items e d ds seen before gone (Wait phase) is last m =
 comes_next c op items e d ds seen before gone (Done answer) is last m = absurd m
 
 -- so of the last event of any trace
-pub last_event : (c : Config) (op : Op) (items : SeatItems) (seen gone : List (List Entry)) (e : Traced) (earlier : List Traced) →
+pub last_event : (c : Config) (op : Op) (items : DealtNumbers) (seen gone : List (List Entry)) (e : Traced) (earlier : List Traced) →
     AreMoves c op items seen (e ∷ earlier) gone → (during : IsEventDuring c items op earlier e seen gone) × (during.rest ≡ [])
 last_event c op items seen gone e [] m =
     comes_first c op items e seen m.0 gone (state_of_trace c (own_number items) op []).comes refl m.2 m.1
@@ -221,13 +221,13 @@ last_event c op items seen gone e (d ∷ ds) m =
     (last_event c op items seen m.0 d ds m.2) m.1
 
 -- what an event leaves goes on from where the one before it did
-goes_on_from : (c : Config) (items : SeatItems) (op : Op) (earlier : List Traced) (e : Traced) (seen before gone : List (List Entry)) →
+goes_on_from : (c : Config) (items : DealtNumbers) (op : Op) (earlier : List Traced) (e : Traced) (seen before gone : List (List Entry)) →
     IsEventDuring c items op earlier e seen before → AllGoOn before gone → (last : List Entry) → gone ≡ last ∷ [] →
     IsEventDuring c items op earlier e seen gone
 goes_on_from c items op earlier e seen before gone one all last only_one =
     let n : ℕ = own_number items in
     let so_far : List Entry = one.entries ++ Steps n e.hook ∷ one.rest in
-    let on : GoesOn so_far last = all 0 so_far (ap (λ l. get_elem? l 0) one.leaves) 0 last (ap (λ l. get_elem? l 0) only_one) in record {
+    let on : IsPrefix so_far last = all 0 so_far (ap (λ l. get_elem? l 0) one.leaves) 0 last (ap (λ l. get_elem? l 0) only_one) in record {
       within = one.within;
       task = one.task;
       began = one.began;
@@ -244,7 +244,7 @@ goes_on_from c items op earlier e seen before gone one all last only_one =
     }
 
 -- and of each event before it
-pub each_event : (c : Config) (op : Op) (items : SeatItems) (seen gone : List (List Entry)) (later : List Traced) (e : Traced)
+pub each_event : (c : Config) (op : Op) (items : DealtNumbers) (seen gone : List (List Entry)) (later : List Traced) (e : Traced)
     (earlier : List Traced) → AreMoves c op items seen (later ++ e ∷ earlier) gone → IsEventDuring c items op earlier e seen gone
 each_event c op items seen gone [] e earlier m = (last_event c op items seen gone e earlier m).0
 each_event c op items seen gone (f ∷ later) e earlier m =

@@ -36,7 +36,7 @@ use Rattle.gate_world.specs.declared.work.Phase.TheVariants.{Thaws}
 use Rattle.gate_world.specs.traces.TraceStates.{state_of_trace}
 use Rattle.gate_world.specs.Views.{actions_after}
 use Rattle.gate_world.specs.Work.{after_of}
-use Rattle.gate_steps.specs.Seating.{SeatItems}
+use Rattle.gate_steps.specs.Seating.{DealtNumbers}
 use Rattle.gate_steps.specs.call_events.Asked.{agreed, OnceAsked, AtMostAsked}
 use Rattle.gate_steps.specs.call_events.Asking.{Ask, asks_with, asks_of, call_at}
 use Rattle.gate_steps.specs.call_events.Runs.{Called}
@@ -83,7 +83,7 @@ opening_next x level (Done answer) asks is =
     either_way (λ step. AtStep step asks) ((level - 1) == 0) (Releases (Ok _)) (Reopens (reopening (level - 1))) (inr is) is
 
 -- one event more
-step_keeps : (x : Thaw) (step : ThawStep) (found : ℕ) (hook : HookAnswer) (at : SeatItems) (asks : List Ask) → AtStep step asks →
+step_keeps : (x : Thaw) (step : ThawStep) (found : ℕ) (hook : HookAnswer) (at : DealtNumbers) (asks : List Ask) → AtStep step asks →
     AtNext (thaw_after x step found hook).0 (asks_with (call_at (Thaws (at_thaw x step))) at hook asks)
 step_keeps x Locks found hook at asks is =
     either_way (λ n. AtNext n asks) (found == 0) (Go (at_thaw x LoadsStage)) (Wait (at_thaw x Locks)) is is
@@ -106,7 +106,7 @@ step_keeps x (Reopens u) found hook at asks is = opening_next x u.level (up_writ
 step_keeps x (Releases (Ok reply)) found hook at asks is = is
 step_keeps x (Releases (Err refusal)) found hook at asks is = is
 
-keeps : (p : Phase) (found : ℕ) (hook : HookAnswer) (at : SeatItems) (added : List Action) (asks : List Ask) → At (Go p) added asks →
+keeps : (p : Phase) (found : ℕ) (hook : HookAnswer) (at : DealtNumbers) (added : List Action) (asks : List Ask) → At (Go p) added asks →
     At (after_of p found hook).0 (actions_after (after_of p found hook).1 added) (asks_with (call_at p) at hook asks)
 keeps (Thaws x) found hook at added asks is =
     as_phases (thaw_after x x.step found hook).0 (actions_after (thaw_after x x.step found hook).1 added)

@@ -13,67 +13,67 @@ use Rattle.gate_schedules.specs.Answers.{progress_of}
 use Rattle.gate_schedules.specs.declared.task_states.TaskState.{TaskState}
 use Rattle.gate_schedules.specs.declared.steps.Step.{Step}
 use Rattle.gate_schedules.proofs.schedules.Phases.{word_placed}
-use Rattle.gate_steps.specs.Seating.{SeatItems, Acts, items_after, HasWitness}
+use Rattle.gate_steps.specs.Seating.{DealtNumbers, OwnNumberMayStep, items_after, HasWitness}
 use Rattle.atomic_table.specs.Seated.{TableId}
-use Rattle.gate_steps.specs.call_events.{Asking.{Ask, asks_with, call_at, GoesWith, WentWith}, Runs.{Goes, Went}, Stepped.Stepped, Waited.{GoesWaiting, WentWaiting}, SeatedTasks.{SeatedTask, task_state}}
-use Rattle.gate_steps.specs.call_events.{GhostAgrees.GhostAgrees, Turns.{kept_at, StateAgrees, step_was}}
-use Rattle.gate_steps.proofs.call_events.{Going.{may_add, ties_left, stepped_here}, Running.{went_on, went_asking}}
+use Rattle.gate_steps.specs.call_events.{Asking.{Ask, asks_with, call_at, OpUnderWayWith, OpAfterStepWith}, Runs.{OpUnderWay, OpAfterStep}, Stepped.Stepped, Waited.{OpUnderWayWaiting, OpAfterStepWaiting}, SeatedTasks.{SeatedTask, task_state}}
+use Rattle.gate_steps.specs.call_events.{GhostAgrees.GhostAgrees, Turns.{state_at, StateAgrees, step_was}}
+use Rattle.gate_steps.proofs.call_events.{Going.{may_add, ghost_agrees_left, stepped_here}, Running.{went_on, went_asking}}
 
 -- before the event: the word is one of the table's, and the number may do the event
 module _ (number : ℕ) (c : Config) (begins : Option Op) (phase : Phase) (accesses : Accesses) (flags : List Bool) (hook : HookAnswer) where
   -- the word of the event is one of the table's
-  word_inside : (l : SeatItems) → GhostAgrees number c begins (kept_at (Some phase) accesses) flags l → place (next_of phase hook).0 < words_in_all
+  word_inside : (l : DealtNumbers) → GhostAgrees number c begins (state_at (Some phase) accesses) flags l → place (next_of phase hook).0 < words_in_all
   word_inside [] t = absurd t
   word_inside (x ∷ xs) t =
       word_placed c t.within x.number (held_of x.view) (omega (arith, t.below, t.same_number)) phase hook t.fits
 
   -- the own number may do the event
-  may_act : (l : SeatItems) → GhostAgrees number c begins (kept_at (Some phase) accesses) flags l → Acts c begins phase l
+  may_act : (l : DealtNumbers) → GhostAgrees number c begins (state_at (Some phase) accesses) flags l → OwnNumberMayStep c begins phase l
   may_act [] t = absurd t
   may_act (x ∷ xs) t = t.may
 
 -- the same of the configuration as the table names it
-module _ (c key : Config) (same_key : key ≡ c) (begins : Option Op) (phase : Phase) (accesses : Accesses) (items : SeatItems)
-    (tied : StateAgrees c begins (Some phase) accesses items) (hook : HookAnswer) where
+module _ (c key : Config) (same_key : key ≡ c) (begins : Option Op) (phase : Phase) (accesses : Accesses) (items : DealtNumbers)
+    (agrees : StateAgrees c begins (Some phase) accesses items) (hook : HookAnswer) where
   -- the word is inside
   pub inside_so : place (next_of phase hook).0 < words_in_all
-  inside_so = word_inside tied.number c begins phase accesses tied.flags hook items tied.ties
+  inside_so = word_inside agrees.number c begins phase accesses agrees.flags hook items agrees.ghost_agrees
 
   -- the number may act
-  pub acts_so : Acts key begins phase items
+  pub acts_so : OwnNumberMayStep key begins phase items
   acts_so =
-      subst (λ (k : Config). Acts k begins phase items) (sym same_key)
-      (may_act tied.number c begins phase accesses tied.flags hook items tied.ties)
+      subst (λ (k : Config). OwnNumberMayStep k begins phase items) (sym same_key)
+      (may_act agrees.number c begins phase accesses agrees.flags hook items agrees.ghost_agrees)
 
   -- what the event adds can be done on the accesses
   pub adds_so : (found : ℕ) (event : Event) → event ≡ event_of (next_of phase hook).0 (next_of phase hook).1 found →
       (done : Next Phase × Option Action) → done ≡ after_of phase event.found hook → ActionFits (held_in accesses) done.1
   adds_so found event event_is done done_is =
-      may_add tied.number c begins (kept_at (Some phase) accesses) tied.flags phase refl hook items tied.ties
+      may_add agrees.number c begins (state_at (Some phase) accesses) agrees.flags phase refl hook items agrees.ghost_agrees
       (next_of phase hook) refl found event event_is done done_is
 
 -- of the values that the code has
 module _ (c key : Config) (same_key : key ≡ c) (begins : Option Op) (phase : Phase)
-    (accesses accesses_left : Accesses) (hook : HookAnswer) (items left : SeatItems) (found : ℕ) (event : Event)
+    (accesses accesses_left : Accesses) (hook : HookAnswer) (items left : DealtNumbers) (found : ℕ) (event : Event)
     (event_is : event ≡ event_of (next_of phase hook).0 (next_of phase hook).1 found)
     (done : Next Phase × Option Action) (done_is : done ≡ after_of phase event.found hook)
     (accesses_is : accesses_left ≡ accesses_after accesses done.1) (left_is : left ≡ items_after begins phase hook found items) where
-  -- the fields stay tied
-  pub stay_tied : (number : ℕ) (flags : List Bool) → GhostAgrees number c begins (kept_at (Some phase) accesses) flags items →
-      GhostAgrees number c None (kept_at (phase_after done.0) accesses_left) flags left
-  stay_tied number flags ties =
-      ties_left number c begins (kept_at (Some phase) accesses) flags phase refl hook items ties (next_of phase hook) refl found event event_is
+  -- the fields agree after it
+  pub stay_agrees : (number : ℕ) (flags : List Bool) → GhostAgrees number c begins (state_at (Some phase) accesses) flags items →
+      GhostAgrees number c None (state_at (phase_after done.0) accesses_left) flags left
+  stay_agrees number flags ghost_agrees =
+      ghost_agrees_left number c begins (state_at (Some phase) accesses) flags phase refl hook items ghost_agrees (next_of phase hook) refl found event event_is
       done done_is
       (progress_of done.0, phase_after done.0) refl accesses_left accesses_is left left_is
 
   -- the event was a step
-  pub stepped_so : (number : ℕ) (flags : List Bool) → GhostAgrees number c begins (kept_at (Some phase) accesses) flags items →
+  pub stepped_so : (number : ℕ) (flags : List Bool) → GhostAgrees number c begins (state_at (Some phase) accesses) flags items →
       (seen gone : List (List Entry)) → HasWitness key begins phase hook items found seen gone → (table before : TableId) → table ≡ before →
       Stepped phase hook (task_state before c begins (Some phase) (knows items seen)) (step_was event done.1 done.0)
       (task_state table c None (phase_after done.0) (knows left gone))
-  stepped_so number flags ties seen gone moves table before same =
+  stepped_so number flags ghost_agrees seen gone moves table before same =
       let here : HasWitness c begins phase hook items found seen gone = subst (λ (k : Config). HasWitness k begins phase hook items found seen gone) same_key moves in
-      stepped_here number c begins (kept_at (Some phase) accesses) flags phase refl hook items ties (next_of phase hook) refl found event
+      stepped_here number c begins (state_at (Some phase) accesses) flags phase refl hook items ghost_agrees (next_of phase hook) refl found event
       event_is done done_is
       (progress_of done.0, phase_after done.0) refl accesses_left accesses_is left left_is
       seen gone table before (task_state before c begins (Some phase) (knows items seen)) same refl here phase refl
@@ -82,10 +82,10 @@ module _ (c key : Config) (same_key : key ≡ c) (begins : Option Op) (phase : P
 pub went_so : (c : Config) → IsWithin c → (op : Op) (start : SeatedTask) (event : Event) (action : Option Action) (next : Next Phase)
     (hook : HookAnswer)
     {table left_table : TableId} {begins : Option Op} {phase : Phase} {items left : Knowledge} →
-    Goes op start (task_state table c begins (Some phase) items) →
+    OpUnderWay op start (task_state table c begins (Some phase) items) →
     Stepped phase hook (task_state table c begins (Some phase) items) (step_was event action next)
     (task_state left_table c None (phase_after next) left) →
-    Went op start next (task_state left_table c None (phase_after next) left)
+    OpAfterStep op start next (task_state left_table c None (phase_after next) left)
 went_so c within op start event action next hook {table} {left_table} {begins} {phase} {items} {left} goes after_step =
     let now : SeatedTask = task_state table c begins (Some phase) items in
     let after : SeatedTask = task_state left_table c None (phase_after next) left in
@@ -98,23 +98,23 @@ went_so c within op start event action next hook {table} {left_table} {begins} {
 pub went_with_so : (c : Config) → IsWithin c → (op : Op) (start : SeatedTask) (event : Event) (action : Option Action) (next : Next Phase)
     (hook : HookAnswer) (asks : List Ask) (waits : ℕ)
     {table left_table : TableId} {begins : Option Op} {phase : Phase} {items left : Knowledge} →
-    GoesWith asks waits op start (task_state table c begins (Some phase) items) →
+    OpUnderWayWith asks waits op start (task_state table c begins (Some phase) items) →
     Stepped phase hook (task_state table c begins (Some phase) items) (step_was event action next)
     (task_state left_table c None (phase_after next) left) →
-    WentWith (asks_with (call_at phase) items.items hook asks) waits op start next (task_state left_table c None (phase_after next) left)
+    OpAfterStepWith (asks_with (call_at phase) items.items hook asks) waits op start next (task_state left_table c None (phase_after next) left)
 went_with_so c within op start event action next hook asks waits {table} {left_table} {begins} {phase} {items} {left} goes after_step =
     let now : SeatedTask = task_state table c begins (Some phase) items in
     let after : SeatedTask = task_state left_table c None (phase_after next) left in
     let step : Step = step_was event action next in
     let same : goes.0.going.0 ≡ phase = let at : Some phase ≡ Some goes.0.going.0 = goes.0.going.1 in cc in
-    subst (λ (p : Phase). WentWith (asks_with (call_at p) items.items hook asks) waits op start next after) same
+    subst (λ (p : Phase). OpAfterStepWith (asks_with (call_at p) items.items hook asks) waits op start next after) same
     (went_asking op start now after step hook goes.0
     (λ p is. subst (λ (q : Phase). Stepped q hook now step after) (let other : phase ≡ p = cc in other) after_step)
     asks waits goes.1 goes.2 (subst IsWithin goes.0.config within) next refl)
 
 -- of which the hooks may be left out
 pub unasked : (op : Op) (start : SeatedTask) (next : Next Phase) (now : SeatedTask) (asks : List Ask) (waits : ℕ) →
-    WentWith asks waits op start next now → WentWaiting waits op start next now
+    OpAfterStepWith asks waits op start next now → OpAfterStepWaiting waits op start next now
 unasked op start (Go q) now asks waits went = (went.0, went.2)
 unasked op start (Wait q) now asks waits went = (went.0, went.2)
 unasked op start (Done a) now asks waits went = (went.0, went.2)
@@ -122,21 +122,21 @@ unasked op start (Done a) now asks waits went = (went.0, went.2)
 pub went_waiting_so : (c : Config) → IsWithin c → (waits : ℕ) (op : Op) (start : SeatedTask) (event : Event) (action : Option Action)
     (next : Next Phase) (hook : HookAnswer)
     {table left_table : TableId} {begins : Option Op} {phase : Phase} {items left : Knowledge} →
-    GoesWaiting waits op start (task_state table c begins (Some phase) items) →
+    OpUnderWayWaiting waits op start (task_state table c begins (Some phase) items) →
     Stepped phase hook (task_state table c begins (Some phase) items) (step_was event action next)
     (task_state left_table c None (phase_after next) left) →
-    WentWaiting waits op start next (task_state left_table c None (phase_after next) left)
+    OpAfterStepWaiting waits op start next (task_state left_table c None (phase_after next) left)
 went_waiting_so c within waits op start event action next hook goes after_step =
     unasked op start next _ _ waits
     (went_with_so c within op start event action next hook _ waits (goes.0, refl, goes.1) after_step)
 
 -- a task's fields, said with another name of the config and of the phase
-pub tied_at : (number : ℕ) {c d : Config} (begins : Option Op) (flags : List Bool) (items : SeatItems) (kept : TaskState)
-    (phase : Option Phase) → GhostAgrees number c begins kept flags items → c ≡ d → kept.phase ≡ phase →
-    GhostAgrees number d begins (kept_at phase kept.accesses) flags items
-tied_at number {c} {d} begins flags items kept phase ties same is =
-    let P : Config × Option Phase → Type 0 = λ z. GhostAgrees number z.0 begins (kept_at z.1 kept.accesses) flags items in
-    subst P (λ i. (same i, is i)) ties
+pub agrees_at : (number : ℕ) {c d : Config} (begins : Option Op) (flags : List Bool) (items : DealtNumbers) (state : TaskState)
+    (phase : Option Phase) → GhostAgrees number c begins state flags items → c ≡ d → state.phase ≡ phase →
+    GhostAgrees number d begins (state_at phase state.accesses) flags items
+agrees_at number {c} {d} begins flags items state phase ghost_agrees same is =
+    let P : Config × Option Phase → Type 0 = λ z. GhostAgrees number z.0 begins (state_at z.1 state.accesses) flags items in
+    subst P (λ i. (same i, is i)) ghost_agrees
 
 -- a step, said with other names of what it was
 pub stepped_there : {phase : Phase} {hook : HookAnswer} {old old_now left left_now : SeatedTask} {done done_now : Step} →

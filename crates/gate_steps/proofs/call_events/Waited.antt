@@ -11,9 +11,9 @@ use Rattle.gate_world.specs.Views.{phase_after}
 use Rattle.gate_world.specs.declared.config.Config.{Config}
 use Rattle.gate_world.specs.declared.operations.Op.{Op}
 use Rattle.gate_world.specs.declared.work.Phase.{Phase}
-use Rattle.gate_steps.specs.Seating.{SeatItems}
+use Rattle.gate_steps.specs.Seating.{DealtNumbers}
 use Rattle.gate_steps.specs.declared.seating.Knowledge.{Knowledge}
-use Rattle.gate_steps.specs.call_events.Asking.{CalledAsking, GoesAsking, WentAsking, WereAsked}
+use Rattle.gate_steps.specs.call_events.Asking.{CalledAsking, OpUnderWayAsking, OpAfterStepAsking, WereAsked}
 use Rattle.gate_steps.specs.call_events.SeatedTasks.{SeatedTask, task_state}
 use Rattle.gate_steps.specs.call_events.Waited.{counted}
 
@@ -26,20 +26,20 @@ pub one_more : (waits before after : ℕ) → before ≡ counted waits → after
 one_more waits before after had more = more ∙ (ap (λ n. counted (n + 1)) had ∙ counted_more waits)
 
 -- Where an operation stands after a line: it goes on, or waits, or was done whole.
-module _ {H : Type 0} (answers : HookCall → SeatItems → H → HookAnswer → H → Type 0) (waits : ℕ) {op : Op} {start : SeatedTask} {before hooks : H}
+module _ {H : Type 0} (answers : HookCall → DealtNumbers → H → HookAnswer → H → Type 0) (waits : ℕ) {op : Op} {start : SeatedTask} {before hooks : H}
     {c : Config} {table : TableId} {me : Knowledge} {next : Next Phase} where
-  pub going_on : {phase : Phase} → next ≡ Go phase → WentAsking answers waits op start before next (task_state table c None (phase_after next) me) hooks →
-      GoesAsking answers waits op start before (task_state table c None (Some phase) me) hooks
-  going_on is went = subst (λ n. WentAsking answers waits op start before n (task_state table c None (phase_after n) me) hooks) is went
+  pub going_on : {phase : Phase} → next ≡ Go phase → OpAfterStepAsking answers waits op start before next (task_state table c None (phase_after next) me) hooks →
+      OpUnderWayAsking answers waits op start before (task_state table c None (Some phase) me) hooks
+  going_on is went = subst (λ n. OpAfterStepAsking answers waits op start before n (task_state table c None (phase_after n) me) hooks) is went
 
-  pub waiting_on : {phase : Phase} → next ≡ Wait phase → WentAsking answers waits op start before next (task_state table c None (phase_after next) me) hooks →
-      GoesAsking answers (waits + 1) op start before (task_state table c None (Some phase) me) hooks
-  waiting_on is went = subst (λ n. WentAsking answers waits op start before n (task_state table c None (phase_after n) me) hooks) is went
+  pub waiting_on : {phase : Phase} → next ≡ Wait phase → OpAfterStepAsking answers waits op start before next (task_state table c None (phase_after next) me) hooks →
+      OpUnderWayAsking answers (waits + 1) op start before (task_state table c None (Some phase) me) hooks
+  waiting_on is went = subst (λ n. OpAfterStepAsking answers waits op start before n (task_state table c None (phase_after n) me) hooks) is went
 
-  pub replied : {answer : Result Reply GateError} (waited : ℕ) → waited ≡ counted waits → next ≡ Done answer → WentAsking answers waits op start before next (task_state table c None (phase_after next) me) hooks →
+  pub replied : {answer : Result Reply GateError} (waited : ℕ) → waited ≡ counted waits → next ≡ Done answer → OpAfterStepAsking answers waits op start before next (task_state table c None (phase_after next) me) hooks →
       CalledAsking answers op start before (task_state table c None None me) answer waited hooks
   replied {answer} waited told is went =
-      let done : WentAsking answers waits op start before (Done answer) (task_state table c None None me) hooks = subst (λ n. WentAsking answers waits op start before n (task_state table c None (phase_after n) me) hooks) is went in (
+      let done : OpAfterStepAsking answers waits op start before (Done answer) (task_state table c None None me) hooks = subst (λ n. OpAfterStepAsking answers waits op start before n (task_state table c None (phase_after n) me) hooks) is went in (
         done.1.0,
         subst (λ asks. WereAsked answers asks before hooks) (sym done.1.1) done.2,
         told ∙ ap (λ n. counted n) (sym done.1.2),

@@ -4,16 +4,16 @@ use Rattle.access_model.specs.declared.actions.Action.{Action}
 use Rattle.access_model.specs.declared.actions.Action.TheVariants.{Stage as StageAction}
 use Rattle.freeze_levels.specs.declared.hooks.HookCall.{HookCall}
 use Rattle.freeze_levels.specs.declared.hooks.HookCall.TheVariants.{Sync as SyncCall, FreezeFs as FreezeCall}
-use Rattle.gate_steps.specs.Seating.{SeatItems}
+use Rattle.gate_steps.specs.Seating.{DealtNumbers}
 use Rattle.gate_steps.specs.call_events.Asking.{Ask}
 
 -- a hook that was asked at this moment, and has agreed
-abbrev pub agreed : HookCall → SeatItems → Ask
+abbrev pub agreed : HookCall → DealtNumbers → Ask
 agreed call at = record { call = call; at = at; answer = Ok tt }
 
 -- this hook was asked once, and has agreed
 abbrev pub OnceAsked : HookCall → List Ask → Type 0
-OnceAsked call asks = (at : SeatItems) × (asks ≡ agreed call at ∷ [])
+OnceAsked call asks = (at : DealtNumbers) × (asks ≡ agreed call at ∷ [])
 
 -- none was asked, or this one once, which has agreed
 abbrev pub AtMostAsked : HookCall → List Ask → Type 0
@@ -21,7 +21,7 @@ AtMostAsked call asks = (asks ≡ []) ⊎ OnceAsked call asks
 
 -- `sync` was asked once, and then `freeze_fs`, and both have agreed
 abbrev pub BothAsked : List Ask → Type 0
-BothAsked asks = (last first : SeatItems) × (asks ≡ agreed FreezeCall last ∷ (agreed SyncCall first ∷ []))
+BothAsked asks = (last first : DealtNumbers) × (asks ≡ agreed FreezeCall last ∷ (agreed SyncCall first ∷ []))
 
 -- whether stage 3 was stored
 abbrev pub is_third_stage : Action → Bool

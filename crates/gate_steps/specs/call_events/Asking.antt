@@ -16,8 +16,8 @@ use Rattle.gate_world.specs.declared.work.Phase.{Phase}
 use Rattle.gate_world.specs.declared.work.Phase.TheVariants.{Remounts}
 use Rattle.gate_world.specs.traces.TraceStates.{state_of_trace}
 use Rattle.gate_world.specs.Work.{hook_of}
-use Rattle.gate_steps.specs.Seating.{SeatItems}
-use Rattle.gate_steps.specs.call_events.Runs.{items_at, unit_of, Goes, Called, Replies}
+use Rattle.gate_steps.specs.Seating.{DealtNumbers}
+use Rattle.gate_steps.specs.call_events.Runs.{items_at, unit_of, OpUnderWay, Called, Replies}
 use Rattle.gate_steps.specs.call_events.SeatedTasks.{SeatedTask, own_number, refusal_at}
 use Rattle.gate_steps.specs.call_events.Waited.{counted, waits_in}
 
@@ -46,29 +46,29 @@ next_call (Done answer) = None
 -- A hook that was asked, the numbers of the task that asked as they stood then, and its answer.
 pub record Ask : Type 0 where
   pub call : HookCall
-  pub at : SeatItems
+  pub at : DealtNumbers
   pub answer : HookAnswer
 
 -- one ask more, where a hook was asked
-abbrev pub asks_with : Option HookCall → SeatItems → HookAnswer → List Ask → List Ask
+abbrev pub asks_with : Option HookCall → DealtNumbers → HookAnswer → List Ask → List Ask
 asks_with None at answer earlier = earlier
 asks_with (Some call) at answer earlier = record { call = call; at = at; answer = answer } ∷ earlier
 
 -- The hooks whose answers the events of a trace read, the newest first: each was asked where the events before had led, with the answer that
 -- stands in the trace.
-abbrev pub asks_of : Config → Op → SeatItems → List Traced → List Ask
+abbrev pub asks_of : Config → Op → DealtNumbers → List Traced → List Ask
 asks_of c op items [] = []
 asks_of c op items (e ∷ earlier) =
     asks_with (next_call (state_of_trace c (own_number items) op earlier).comes) (items_at c op earlier items) e.hook (asks_of c op items earlier)
 
 -- the hooks were asked just these, each once, in this order
-abbrev pub WereAsked : {H : Type 0} → (HookCall → SeatItems → H → HookAnswer → H → Type 0) → List Ask → H → H → Type 0
+abbrev pub WereAsked : {H : Type 0} → (HookCall → DealtNumbers → H → HookAnswer → H → Type 0) → List Ask → H → H → Type 0
 WereAsked {H} answers [] old new = new ≡ old
 WereAsked {H} answers (a ∷ earlier) old new = (mid : H) × WereAsked answers earlier old mid × answers a.call a.at mid a.answer new
 
 -- an operation under way, of whose events these read an answer, and so many came to a wait
-abbrev pub GoesWith : List Ask → ℕ → Op → SeatedTask → SeatedTask → Type 0
-GoesWith asks waits op start now = (goes : Goes op start now) × (asks_of start.config op start.items goes.trace ≡ asks)
+abbrev pub OpUnderWayWith : List Ask → ℕ → Op → SeatedTask → SeatedTask → Type 0
+OpUnderWayWith asks waits op start now = (goes : OpUnderWay op start now) × (asks_of start.config op start.items goes.trace ≡ asks)
     × (waits_in start.config (own_number start.items) op goes.trace ≡ waits)
 
 -- one that was done whole
@@ -78,24 +78,24 @@ CalledWith asks waits op start left answer = (called : Called op start left answ
     × (waits_in start.config (own_number start.items) op called.trace ≡ waits)
 
 -- the same by what comes after the last event, before which so many came to a wait
-abbrev pub WentWith : List Ask → ℕ → Op → SeatedTask → Next Phase → SeatedTask → Type 0
-WentWith asks waits op start (Go phase) now = GoesWith asks waits op start now
-WentWith asks waits op start (Wait phase) now = GoesWith asks (waits + 1) op start now
-WentWith asks waits op start (Done answer) now = CalledWith asks waits op start now answer
+abbrev pub OpAfterStepWith : List Ask → ℕ → Op → SeatedTask → Next Phase → SeatedTask → Type 0
+OpAfterStepWith asks waits op start (Go phase) now = OpUnderWayWith asks waits op start now
+OpAfterStepWith asks waits op start (Wait phase) now = OpUnderWayWith asks (waits + 1) op start now
+OpAfterStepWith asks waits op start (Done answer) now = CalledWith asks waits op start now answer
 
 -- an operation under way, which has asked just the hooks whose answers its events read
-abbrev pub GoesAsking : {H : Type 0} → (HookCall → SeatItems → H → HookAnswer → H → Type 0) → ℕ → Op → SeatedTask → H → SeatedTask → H → Type 0
-GoesAsking answers waits op start before now hooks =
-    (asks : List Ask) × GoesWith asks waits op start now × WereAsked answers asks before hooks
+abbrev pub OpUnderWayAsking : {H : Type 0} → (HookCall → DealtNumbers → H → HookAnswer → H → Type 0) → ℕ → Op → SeatedTask → H → SeatedTask → H → Type 0
+OpUnderWayAsking answers waits op start before now hooks =
+    (asks : List Ask) × OpUnderWayWith asks waits op start now × WereAsked answers asks before hooks
 
 -- the same by what comes after the last event
-abbrev pub WentAsking : {H : Type 0} → (HookCall → SeatItems → H → HookAnswer → H → Type 0) → ℕ → Op → SeatedTask → H → Next Phase →
+abbrev pub OpAfterStepAsking : {H : Type 0} → (HookCall → DealtNumbers → H → HookAnswer → H → Type 0) → ℕ → Op → SeatedTask → H → Next Phase →
     SeatedTask → H → Type 0
-WentAsking answers waits op start before next now hooks =
-    (asks : List Ask) × WentWith asks waits op start next now × WereAsked answers asks before hooks
+OpAfterStepAsking answers waits op start before next now hooks =
+    (asks : List Ask) × OpAfterStepWith asks waits op start next now × WereAsked answers asks before hooks
 
 -- one that was done whole, has asked just these, and tells how many of its events came to a wait
-abbrev pub CalledAsking : {H : Type 0} → (HookCall → SeatItems → H → HookAnswer → H → Type 0) → Op → SeatedTask → H → SeatedTask →
+abbrev pub CalledAsking : {H : Type 0} → (HookCall → DealtNumbers → H → HookAnswer → H → Type 0) → Op → SeatedTask → H → SeatedTask →
     Result Reply GateError → ℕ → H → Type 0
 CalledAsking answers op start before left answer waited hooks =
     (called : Called op start left answer) × WereAsked answers (asks_of start.config op start.items called.trace) before hooks
@@ -103,7 +103,7 @@ CalledAsking answers op start before left answer waited hooks =
 
 -- A call that asks hooks. Where its beginning is refused, none is asked; else just those are whose answers the events of its trace read, each
 -- once, in their order, where the events before had led, with the answer that stands in the trace.
-pub record RepliesAsking {A H : Type 0} (answers : HookCall → SeatItems → H → HookAnswer → H → Type 0) (read : Reply → A) (op : Op)
+pub record RepliesAsking {A H : Type 0} (answers : HookCall → DealtNumbers → H → HookAnswer → H → Type 0) (read : Reply → A) (op : Op)
     (old left : SeatedTask) (outcome : Result A GateError) (before hooks : H) : Type 0 where
   pub replies : Replies read op old left outcome
   pub refused : (refusal : GateError) → refusal_at op old ≡ Some refusal → hooks ≡ before
@@ -111,6 +111,6 @@ pub record RepliesAsking {A H : Type 0} (answers : HookCall → SeatItems → H 
       WereAsked answers (asks_of old.config op old.items (replies.done admitted).2.trace) before hooks
 
 -- the same of a call that tells only whether the operation was done
-abbrev pub PerformsAsking : {H : Type 0} → (HookCall → SeatItems → H → HookAnswer → H → Type 0) → Op → SeatedTask → SeatedTask →
+abbrev pub PerformsAsking : {H : Type 0} → (HookCall → DealtNumbers → H → HookAnswer → H → Type 0) → Op → SeatedTask → SeatedTask →
     Result (Unit {0}) GateError → H → H → Type 0
 PerformsAsking answers op old left outcome before hooks = RepliesAsking answers unit_of op old left outcome before hooks

@@ -20,7 +20,7 @@ use Rattle.gate_world.specs.Views.{phase_after, with_hook}
 use Rattle.gate_world.specs.Work.{next_of}
 use Rattle.gate_world.specs.traces.TraceStates.{state_of_trace, IsTrace}
 use Rattle.gate_world.specs.traces.Traces.{actions_of, IsHonestAnswer, most_events, IsShort, MayWait}
-use Rattle.gate_steps.specs.Seating.{SeatItems, numbered, HaveHistory, done_by, HasWitness}
+use Rattle.gate_steps.specs.Seating.{DealtNumbers, numbered, HaveHistory, done_by, HasWitness}
 use Rattle.gate_schedules.specs.declared.steps.Progress.{Progress}
 use Rattle.gate_schedules.specs.declared.steps.Progress.TheVariants.{Idle, Going, Waiting, Done as Ended}
 use Rattle.gate_steps.specs.call_events.Refused.{IsUnchangedBy, WaitsHonestly}
@@ -58,7 +58,7 @@ ran_view c t op others trace v = record {
 }
 
 -- the numbers of a task whose own number did so
-abbrev pub ran_items : Config → Op → List Traced → SeatItems → SeatItems
+abbrev pub ran_items : Config → Op → List Traced → DealtNumbers → DealtNumbers
 ran_items c op trace [] = []
 ran_items c op trace (x ∷ xs) = numbered x.number (ran_view c x.number op (done_by xs) trace x.view) ∷ xs
 
@@ -68,26 +68,26 @@ begins_at op [] = Some op
 begins_at op (e ∷ earlier) = None
 
 -- the numbers as they stand before the next event
-abbrev pub items_at : Config → Op → List Traced → SeatItems → SeatItems
+abbrev pub items_at : Config → Op → List Traced → DealtNumbers → DealtNumbers
 items_at c op [] items = items
 items_at c op (e ∷ earlier) items = ran_items c op (e ∷ earlier) items
 
 -- the event was one of this phase in a world that the rule holds of, in which the numbers have their views, and it moved the shown model
 -- by its action
-abbrev pub IsMoveOf : Config → Op → SeatItems → List Traced → Traced → List (List Entry) → List (List Entry) → Phase → Type 0
+abbrev pub IsMoveOf : Config → Op → DealtNumbers → List Traced → Traced → List (List Entry) → List (List Entry) → Phase → Type 0
 IsMoveOf c op items earlier e seen left phase =
     (found : ℕ) × (e ≡ with_hook (event_of (next_of phase e.hook).0 (next_of phase e.hook).1 found) e.hook)
     × HasWitness c (begins_at op earlier) phase e.hook (items_at c op earlier items) found seen left
 
 -- the event was such a move of the phase that comes next
-abbrev pub IsNextMove : Config → Op → SeatItems → List Traced → Traced → List (List Entry) → List (List Entry) → Next Phase → Type 0
+abbrev pub IsNextMove : Config → Op → DealtNumbers → List Traced → Traced → List (List Entry) → List (List Entry) → Next Phase → Type 0
 IsNextMove c op items earlier e seen left (Go phase) = IsMoveOf c op items earlier e seen left phase
 IsNextMove c op items earlier e seen left (Wait phase) = IsMoveOf c op items earlier e seen left phase
 IsNextMove c op items earlier e seen left (Done answer) = ⊥
 
 -- Each event was such a move of the phase that came next before it, from what the one before has seen: so each one's schedule goes on from
 -- that of the one before, and the first from what the task had seen.
-abbrev pub AreMoves : Config → Op → SeatItems → List (List Entry) → List Traced → List (List Entry) → Type 0
+abbrev pub AreMoves : Config → Op → DealtNumbers → List (List Entry) → List Traced → List (List Entry) → Type 0
 AreMoves c op items seen [] left = left ≡ seen
 AreMoves c op items seen (e ∷ earlier) left = (before : List (List Entry)) ×
     IsNextMove c op items earlier e before left (state_of_trace c (own_number items) op earlier).comes × AreMoves c op items seen earlier before
@@ -154,7 +154,7 @@ abbrev pub Performs : Op → SeatedTask → SeatedTask → Result (Unit {0}) Gat
 Performs op old left outcome = Replies unit_of op old left outcome
 
 -- an operation under way, after these events
-pub record Goes (op : Op) (start now : SeatedTask) : Type 0 where
+pub record OpUnderWay (op : Op) (start now : SeatedTask) : Type 0 where
   pub trace : List Traced
   pub admitted : refusal_at op start ≡ None
   pub table : now.table ≡ start.table
@@ -167,21 +167,21 @@ pub record Goes (op : Op) (start now : SeatedTask) : Type 0 where
   pub moves : AreMoves start.config op start.items start.seen trace now.seen
 
 -- what comes after the last event: it goes on, or it was done whole
-abbrev pub Went : Op → SeatedTask → Next Phase → SeatedTask → Type 0
-Went op start (Go phase) now = Goes op start now
-Went op start (Wait phase) now = Goes op start now
-Went op start (Done answer) now = Called op start now answer
+abbrev pub OpAfterStep : Op → SeatedTask → Next Phase → SeatedTask → Type 0
+OpAfterStep op start (Go phase) now = OpUnderWay op start now
+OpAfterStep op start (Wait phase) now = OpUnderWay op start now
+OpAfterStep op start (Done answer) now = Called op start now answer
 
 -- The same as a step tells it: the operation goes on, or waits for others where it may, or was done whole.
 abbrev pub ProgressMatches : Op → SeatedTask → Progress → SeatedTask → Type 0
 ProgressMatches op start Idle now = ⊥
-ProgressMatches op start Going now = Goes op start now
-ProgressMatches op start Waiting now = (goes : Goes op start now) × MayWait start.config op goes.trace
+ProgressMatches op start Going now = OpUnderWay op start now
+ProgressMatches op start Waiting now = (goes : OpUnderWay op start now) × MayWait start.config op goes.trace
 ProgressMatches op start (Ended answer) now = Called op start now answer
 
 -- some operation that has a most number of events is under way here
 pub record IsTrying (now : SeatedTask) : Type 0 where
   pub op : Op
   pub start : SeatedTask
-  pub goes : Goes op start now
+  pub goes : OpUnderWay op start now
   pub tries : IsBounded (most_events start.config op)

@@ -5,7 +5,7 @@ use Rattle.access_model.specs.declared.errors.GateError.{GateError}
 use Rattle.gate_world.specs.{Beginnings.{refusal, beginning}, Views.{opening_view, held_at, holds_level, has_open, held_of}}
 use Rattle.gate_world.specs.declared.{accesses.Accesses.Accesses, config.Config.Config, operations.Op.Op, views.View.View, work.Phase.Phase}
 use Rattle.gate_world.specs.declared.entries.Entry.{Entry}
-use Rattle.gate_steps.specs.Seating.{SeatItems}
+use Rattle.gate_steps.specs.Seating.{DealtNumbers}
 use Rattle.gate_steps.specs.declared.seating.Knowledge.{Knowledge}
 
 -- the table, the configuration, the operation that has begun and has had no event, the phase of the operation under way, and the
@@ -15,7 +15,7 @@ pub record SeatedTask : Type 0 where
   pub config : Config
   pub begins : Option Op
   pub phase : Option Phase
-  pub items : SeatItems
+  pub items : DealtNumbers
   pub seen : List (List Entry)
 
 -- of these parts
@@ -23,17 +23,17 @@ abbrev pub task_state : TableId → Config → Option Op → Option Phase → Kn
 task_state t c b p k = record { table = t; config = c; begins = b; phase = p; items = k.items; seen = k.seen }
 
 -- its own number
-abbrev pub own_number : SeatItems → ℕ
+abbrev pub own_number : DealtNumbers → ℕ
 own_number [] = 0
 own_number (x ∷ xs) = x.number
 
 -- and its view
-abbrev pub own_view : SeatItems → View
+abbrev pub own_view : DealtNumbers → View
 own_view [] = opening_view
 own_view (x ∷ xs) = x.view
 
 -- the numbers that it has to give
-abbrev pub spare_of : SeatItems → SeatItems
+abbrev pub spare_of : DealtNumbers → DealtNumbers
 spare_of [] = []
 spare_of (x ∷ xs) = xs
 

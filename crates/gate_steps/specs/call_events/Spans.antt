@@ -18,7 +18,7 @@ use Rattle.gate_world.specs.Work.{next_of, after_of}
 use Rattle.gate_world.specs.Worlds.{World, found_at, task_of}
 use Rattle.gate_world.specs.declared.entries.Entry.{Entry, TheVariants.{Begins, Steps}}
 use Rattle.gate_world.specs.declared.{config.Config.Config, operations.Op.Op, views.Traced.Traced, work.Phase.Phase}
-use Rattle.gate_steps.specs.Seating.{SeatItems, GoesOn, HasRested}
+use Rattle.gate_steps.specs.Seating.{DealtNumbers, IsPrefix, HasRested}
 use Rattle.gate_steps.specs.declared.seating.Numbered.{Numbered}
 use Rattle.gate_steps.specs.call_events.SeatedTasks.{own_number}
 
@@ -38,8 +38,8 @@ worlds_since c began n op since = trail c [] (world_after c (began ++ Begins n o
 
 -- A schedule goes on from all that a task had seen. The task's own number has no entry behind one of these and is idle, and each of its numbers
 -- has done just what the task knew.
-pub record GoesOnFromSeen (c : Config) (items : SeatItems) (seen : List (List Entry)) (began : List Entry) : Type 0 where
-  pub saw : (k : ℕ) (earlier : List Entry) → get_elem? seen k ≡ some earlier → GoesOn earlier began
+pub record GoesOnFromSeen (c : Config) (items : DealtNumbers) (seen : List (List Entry)) (began : List Entry) : Type 0 where
+  pub saw : (k : ℕ) (earlier : List Entry) → get_elem? seen k ≡ some earlier → IsPrefix earlier began
   pub rested : HasRested (own_number items) seen began
   pub idle : ((world_after c began).views (own_number items)).phase ≡ None
   pub lists : (k : ℕ) (x : Numbered) → get_elem? items k ≡ some x → ((world_after c began).views x.number).actions ≡ x.view.actions
@@ -58,7 +58,7 @@ pub record HappensAfter (c : Config) (n : ℕ) (op : Op) (earlier : List Traced)
 -- An event of a call has its moment between call and return. The call began after a schedule that goes on from all that its task had seen. From
 -- there to the event the task has no entry but the beginning and the call's earlier events; the worlds in between are those since the task
 -- began the operation, as the causes of refusals speak of them. And the schedule with which the call returns goes on from the event.
-pub record IsEventDuring (c : Config) (items : SeatItems) (op : Op) (earlier : List Traced) (e : Traced)
+pub record IsEventDuring (c : Config) (items : DealtNumbers) (op : Op) (earlier : List Traced) (e : Traced)
     (seen left : List (List Entry)) : Type 0 where
   pub within : IsWithin c
   pub task : own_number items < c.tasks
@@ -74,7 +74,7 @@ pub record IsEventDuring (c : Config) (items : SeatItems) (op : Op) (earlier : L
   pub leaves : left ≡ (entries ++ Steps (own_number items) e.hook ∷ rest) ∷ []
 
 -- A refusal has its cause between call and return: among the worlds from the call's beginning to its last event, with which it returns.
-pub record IsCausedDuring (c : Config) (items : SeatItems) (op : Op) (earlier : List Traced) (last : Traced) (refusal : GateError)
+pub record IsCausedDuring (c : Config) (items : DealtNumbers) (op : Op) (earlier : List Traced) (last : Traced) (refusal : GateError)
     (seen left : List (List Entry)) : Type 0 where
   pub during : IsEventDuring c items op earlier last seen left
   pub returns : during.rest ≡ []
@@ -83,12 +83,12 @@ pub record IsCausedDuring (c : Config) (items : SeatItems) (op : Op) (earlier : 
   pub cause : HasCause c (own_number items) (worlds_since c during.began (own_number items) op during.since) during.happens.phase refusal
 
 -- the same of an operation's whole trace
-abbrev pub HasItsCauseDuring : Config → SeatItems → Op → List Traced → GateError → List (List Entry) → List (List Entry) → Type 0
+abbrev pub HasItsCauseDuring : Config → DealtNumbers → Op → List Traced → GateError → List (List Entry) → List (List Entry) → Type 0
 HasItsCauseDuring c items op [] refusal seen left = ⊥
 HasItsCauseDuring c items op (last ∷ earlier) refusal seen left = IsCausedDuring c items op earlier last refusal seen left
 
 -- What a call has loaded is the tree of a moment between call and return, at which everything was frozen.
-pub record IsTreeDuring (c : Config) (items : SeatItems) (op : Op) (seen left : List (List Entry)) (loaded : TreeWords) : Type 0 where
+pub record IsTreeDuring (c : Config) (items : DealtNumbers) (op : Op) (seen left : List (List Entry)) (loaded : TreeWords) : Type 0 where
   pub earlier : List Traced
   pub last : Traced
   pub during : IsEventDuring c items op earlier last seen left
@@ -98,7 +98,7 @@ pub record IsTreeDuring (c : Config) (items : SeatItems) (op : Op) (seen left : 
 -- one that goes on from there, in which its task has no other entry than the beginning and the call's events, each once and in their order. The
 -- actions of the history that it leaves are, the newest first, those that were added since it began, and then all that stood there when it did,
 -- among which is all that each of its numbers had done; and its own among those added since are exactly the call's.
-pub record TakesEffect (c : Config) (items : SeatItems) (op : Op) (trace : List Traced) (seen left : List (List Entry))
+pub record TakesEffect (c : Config) (items : DealtNumbers) (op : Op) (trace : List Traced) (seen left : List (List Entry))
     (log : List Done) : Type 0 where
   pub began : List Entry
   pub begins : GoesOnFromSeen c items seen began

@@ -10,7 +10,7 @@ use Rattle.gate_world.specs.Views.{phase_after}
 use Rattle.gate_world.specs.Work.{next_of, after_of}
 use Rattle.gate_schedules.specs.declared.steps.Step.{Step}
 use Rattle.gate_schedules.specs.Answers.{progress_of, phase_step}
-use Rattle.gate_steps.specs.Seating.{SeatItems, items_after, HasWitness}
+use Rattle.gate_steps.specs.Seating.{DealtNumbers, items_after, HasWitness}
 use Rattle.gate_steps.specs.call_events.SeatedTasks.{SeatedTask}
 
 -- the step of the event of a phase that found this
@@ -31,7 +31,7 @@ state_after old phase hook found seen = record old {
 }
 
 -- the step is the one that the phase has in the world of this event
-abbrev pub ToldIn : (c : Config) (begins : Option Op) (phase : Phase) (hook : HookAnswer) (found : ℕ) (items : SeatItems)
+abbrev pub ToldIn : (c : Config) (begins : Option Op) (phase : Phase) (hook : HookAnswer) (found : ℕ) (items : DealtNumbers)
     (seen left : List (List Entry)) → HasWitness c begins phase hook items found seen left → Step → Type 0
 ToldIn c begins phase hook found [] seen left move step = ⊥
 ToldIn c begins phase hook found (x ∷ xs) seen left move step = step ≡ phase_step move.world hook (Some phase)

@@ -16,25 +16,25 @@ use Rattle.gate_schedules.specs.declared.task_states.TaskState.{TaskState}
 use Rattle.gate_world.specs.declared.accesses.Accesses.{Accesses}
 use Rattle.gate_schedules.specs.declared.steps.Step.{Step}
 use Rattle.gate_schedules.specs.Answers.{progress_of}
-use Rattle.gate_steps.specs.Seating.{SeatItems}
+use Rattle.gate_steps.specs.Seating.{DealtNumbers}
 use Rattle.gate_steps.specs.call_events.GhostAgrees.{GhostAgrees}
 use Rattle.composite_ops.specs.declared.write_access.phases.WritePhase.{WritePhase}
 
 -- what is kept of a task whose operation stands there
-abbrev pub kept_at : Option Phase → Accesses → TaskState
-kept_at phase accesses = record { phase = phase; accesses = accesses }
+abbrev pub state_at : Option Phase → Accesses → TaskState
+state_at phase accesses = record { phase = phase; accesses = accesses }
 
 -- some task's fields are what its seat at the table knows, and its operation stands there
-pub record StateAgrees (c : Config) (begins : Option Op) (phase : Option Phase) (accesses : Accesses) (items : SeatItems) : Type 0 where
+pub record StateAgrees (c : Config) (begins : Option Op) (phase : Option Phase) (accesses : Accesses) (items : DealtNumbers) : Type 0 where
   pub number : ℕ
   pub flags : List Bool
-  pub ties : GhostAgrees number c begins (kept_at phase accesses) flags items
+  pub ghost_agrees : GhostAgrees number c begins (state_at phase accesses) flags items
 
 -- the fields of a task that were what its seat knew are so again
-abbrev pub StayTied : Config → Option Op → Option Phase → Accesses → SeatItems → Option Phase → Accesses → SeatItems → Type 0
-StayTied c begins phase accesses items left accesses_left items_left =
-    (number : ℕ) (flags : List Bool) → GhostAgrees number c begins (kept_at phase accesses) flags items →
-    GhostAgrees number c None (kept_at left accesses_left) flags items_left
+abbrev pub AgreesAfter : Config → Option Op → Option Phase → Accesses → DealtNumbers → Option Phase → Accesses → DealtNumbers → Type 0
+AgreesAfter c begins phase accesses items left accesses_left items_left =
+    (number : ℕ) (flags : List Bool) → GhostAgrees number c begins (state_at phase accesses) flags items →
+    GhostAgrees number c None (state_at left accesses_left) flags items_left
 
 -- the step that an event was
 abbrev pub step_was : Event → Option Action → Next Phase → Step

@@ -4,7 +4,7 @@ use Rattle.access_model.specs.declared.errors.GateError.{GateError}
 use Rattle.access_model.specs.declared.replies.Next.{Next}
 use Rattle.access_model.specs.declared.replies.Next.TheVariants.{Go, Wait, Done}
 use Rattle.access_model.specs.declared.replies.Reply.{Reply}
-use Rattle.gate_steps.specs.Seating.{SeatItems}
+use Rattle.gate_steps.specs.Seating.{DealtNumbers}
 use Rattle.gate_world.specs.declared.config.Config.{Config}
 use Rattle.gate_world.specs.declared.operations.Op.{Op}
 use Rattle.gate_world.specs.declared.views.Traced.{Traced}
@@ -12,7 +12,7 @@ use Rattle.gate_world.specs.declared.views.View.{View}
 use Rattle.gate_world.specs.declared.work.Phase.{Phase}
 use Rattle.gate_world.specs.traces.TraceStates.{state_of_trace}
 pub use Rattle.gate_world.specs.Counted.{counted}
-use Rattle.gate_steps.specs.call_events.Runs.{Called, Goes}
+use Rattle.gate_steps.specs.call_events.Runs.{Called, OpUnderWay}
 use Rattle.gate_steps.specs.call_events.SeatedTasks.{SeatedTask, own_number, own_view}
 
 -- 1 where an event came to a wait
@@ -34,7 +34,7 @@ abbrev pub waits_of : Config → ℕ → View → ℕ
 waits_of c t v = waits_by c t v.op v.trace
 
 -- how often the last operation of a task with these numbers came to a wait
-abbrev pub waited_of : Config → SeatItems → ℕ
+abbrev pub waited_of : Config → DealtNumbers → ℕ
 waited_of c items = counted (waits_of c (own_number items) (own_view items))
 
 -- the same of a task that stands so
@@ -42,9 +42,9 @@ abbrev pub waited_at : SeatedTask → ℕ
 waited_at s = waited_of s.config s.items
 
 -- an operation under way, of whose events so many came to a wait
-abbrev pub GoesWaiting : ℕ → Op → SeatedTask → SeatedTask → Type 0
-GoesWaiting waits op start now =
-    (goes : Goes op start now) × (waits_in start.config (own_number start.items) op goes.trace ≡ waits)
+abbrev pub OpUnderWayWaiting : ℕ → Op → SeatedTask → SeatedTask → Type 0
+OpUnderWayWaiting waits op start now =
+    (goes : OpUnderWay op start now) × (waits_in start.config (own_number start.items) op goes.trace ≡ waits)
 
 -- one that was done whole
 abbrev pub CalledWaiting : ℕ → Op → SeatedTask → SeatedTask → Result Reply GateError → Type 0
@@ -52,7 +52,7 @@ CalledWaiting waits op start left answer =
     (called : Called op start left answer) × (waits_in start.config (own_number start.items) op called.trace ≡ waits)
 
 -- the same by what comes after the last event, before which so many came to one
-abbrev pub WentWaiting : ℕ → Op → SeatedTask → Next Phase → SeatedTask → Type 0
-WentWaiting waits op start (Go phase) now = GoesWaiting waits op start now
-WentWaiting waits op start (Wait phase) now = GoesWaiting (waits + 1) op start now
-WentWaiting waits op start (Done answer) now = CalledWaiting waits op start now answer
+abbrev pub OpAfterStepWaiting : ℕ → Op → SeatedTask → Next Phase → SeatedTask → Type 0
+OpAfterStepWaiting waits op start (Go phase) now = OpUnderWayWaiting waits op start now
+OpAfterStepWaiting waits op start (Wait phase) now = OpUnderWayWaiting (waits + 1) op start now
+OpAfterStepWaiting waits op start (Done answer) now = CalledWaiting waits op start now answer

@@ -5,7 +5,7 @@ ghost use Rattle.access_model.specs.declared.replies.Next.TheVariants.{Go};
 ghost use Rattle.percpu_rwsem.specs.declared.callbacks.CallbackStep.TheVariants.{AwaitsSections, CallsBack, Claims};
 ghost use Rattle.percpu_rwsem.specs.declared.transitions.Transition.TheVariants.{Loads};
 ghost use Rattle.gate_steps.specs.call_events.CallingBack.{called_or, calling_at, of_callback, sections_ended};
-ghost use Rattle.gate_steps.specs.call_events.Led.{Led};
+ghost use Rattle.gate_steps.specs.call_events.KnownSteps.{KnownSteps};
 ghost use Rattle.gate_steps.specs.call_events.Turns.{StateAgrees};
 
 use crate::call_events::{GateWords, GhostSeat, find, find_first};
@@ -26,9 +26,9 @@ fn await_sections(
     mut grace: Grace,
 ) -> Option<Grace>
     requires table { seat.old.table_id ≡ gates.now.table.shared.table_id }
-    requires tied { StateAgrees gates.now.config None (Some (calling_at level tasks (AwaitsSections grace))) accesses.now seat.old.me.0.items }
+    requires agrees { StateAgrees gates.now.config None (Some (calling_at level tasks (AwaitsSections grace))) accesses.now seat.old.me.0.items }
     ensures slots { seat.new.me.1 ≡ seat.old.me.1 }
-    ensures led { Led gates.now.config None accesses.now (Go (calling_at level tasks (AwaitsSections grace))) seat.old.table_id seat.old.me.0
+    ensures led { KnownSteps gates.now.config None accesses.now (Go (calling_at level tasks (AwaitsSections grace))) seat.old.table_id seat.old.me.0
         (sections_ended level tasks result) seat.new.table_id seat.new.me.0 }
 {
     loop {
@@ -56,9 +56,9 @@ fn call_back(
     rest: &mut Next<Callback>,
 ) -> bool
     requires table { seat.old.table_id ≡ gates.now.table.shared.table_id }
-    requires tied { StateAgrees gates.now.config None (Some (calling_at level tasks (CallsBack Loads))) accesses.now seat.old.me.0.items }
+    requires agrees { StateAgrees gates.now.config None (Some (calling_at level tasks (CallsBack Loads))) accesses.now seat.old.me.0.items }
     ensures slots { seat.new.me.1 ≡ seat.old.me.1 }
-    ensures led { Led gates.now.config None accesses.now (Go (calling_at level tasks (CallsBack Loads))) seat.old.table_id seat.old.me.0
+    ensures led { KnownSteps gates.now.config None accesses.now (Go (calling_at level tasks (CallsBack Loads))) seat.old.table_id seat.old.me.0
         (called_or result rest.new) seat.new.table_id seat.new.me.0 }
 {
     let sync = WordName::Sync(level);
@@ -97,9 +97,9 @@ pub(crate) fn run_callback(
     rest: &mut Next<Callback>,
 ) -> bool
     requires table { seat.old.table_id ≡ gates.now.table.shared.table_id }
-    requires tied { StateAgrees gates.now.config None (Some (calling_at level tasks (AwaitsSections grace))) accesses.now seat.old.me.0.items }
+    requires agrees { StateAgrees gates.now.config None (Some (calling_at level tasks (AwaitsSections grace))) accesses.now seat.old.me.0.items }
     ensures slots { seat.new.me.1 ≡ seat.old.me.1 }
-    ensures led { Led gates.now.config None accesses.now (Go (calling_at level tasks (AwaitsSections grace))) seat.old.table_id seat.old.me.0
+    ensures led { KnownSteps gates.now.config None accesses.now (Go (calling_at level tasks (AwaitsSections grace))) seat.old.table_id seat.old.me.0
         (called_or result rest.new) seat.new.table_id seat.new.me.0 }
 {
     if let Some(further) = await_sections(gates, seat, accesses, level, tasks, grace) {
@@ -121,9 +121,9 @@ pub(crate) fn callback_first(
     tasks: u8,
 ) -> Next<Callback>
     requires table { seat.old.table_id ≡ gates.now.table.shared.table_id }
-    requires tied { StateAgrees gates.now.config (Some op) (Some (calling_at level tasks (Claims Loads))) accesses.now seat.old.me.0.items }
+    requires agrees { StateAgrees gates.now.config (Some op) (Some (calling_at level tasks (Claims Loads))) accesses.now seat.old.me.0.items }
     ensures slots { seat.new.me.1 ≡ seat.old.me.1 }
-    ensures led { Led gates.now.config (Some op) accesses.now (Go (calling_at level tasks (Claims Loads))) seat.old.table_id seat.old.me.0
+    ensures led { KnownSteps gates.now.config (Some op) accesses.now (Go (calling_at level tasks (Claims Loads))) seat.old.table_id seat.old.me.0
         (of_callback result) seat.new.table_id seat.new.me.0 }
 {
     let sync = WordName::Sync(level);

@@ -8,7 +8,7 @@ ghost use Rattle.percpu_rwsem.specs.declared.writers.DownWriteStep.TheVariants.{
 ghost use Rattle.percpu_rwsem.specs.declared.transitions.Transition.TheVariants.{Loads};
 ghost use Rattle.percpu_rwsem.specs.Writers.{entered_from};
 ghost use Rattle.gate_steps.specs.call_events.Closings.{awaited, closed_or, closing_at, standing, summed};
-ghost use Rattle.gate_steps.specs.call_events.Led.{Led};
+ghost use Rattle.gate_steps.specs.call_events.KnownSteps.{KnownSteps};
 ghost use Rattle.gate_steps.specs.call_events.Turns.{StateAgrees};
 
 use crate::call_events::{GateWords, GhostSeat, find};
@@ -77,9 +77,9 @@ fn enter(
     level: u8,
 ) -> DownWriteStep
     requires table { seat.old.table_id ≡ gates.now.table.shared.table_id }
-    requires tied { StateAgrees gates.now.config None (Some (closing_at freeze.now level (Enters Loads))) accesses.now seat.old.me.0.items }
+    requires agrees { StateAgrees gates.now.config None (Some (closing_at freeze.now level (Enters Loads))) accesses.now seat.old.me.0.items }
     ensures slots { seat.new.me.1 ≡ seat.old.me.1 }
-    ensures led { Led gates.now.config None accesses.now (Go (closing_at freeze.now level (Enters Loads))) seat.old.table_id seat.old.me.0
+    ensures led { KnownSteps gates.now.config None accesses.now (Go (closing_at freeze.now level (Enters Loads))) seat.old.table_id seat.old.me.0
         (Go (closing_at freeze.now level result)) seat.new.table_id seat.new.me.0 }
 {
     let sync = WordName::Sync(level);
@@ -124,9 +124,9 @@ fn await_sections(
     mut grace: Grace,
 ) -> Option<Grace>
     requires table { seat.old.table_id ≡ gates.now.table.shared.table_id }
-    requires tied { StateAgrees gates.now.config None (Some (closing_at freeze.now level (AwaitsSections grace))) accesses.now seat.old.me.0.items }
+    requires agrees { StateAgrees gates.now.config None (Some (closing_at freeze.now level (AwaitsSections grace))) accesses.now seat.old.me.0.items }
     ensures slots { seat.new.me.1 ≡ seat.old.me.1 }
-    ensures led { Led gates.now.config None accesses.now (Go (closing_at freeze.now level (AwaitsSections grace))) seat.old.table_id seat.old.me.0
+    ensures led { KnownSteps gates.now.config None accesses.now (Go (closing_at freeze.now level (AwaitsSections grace))) seat.old.table_id seat.old.me.0
         (awaited freeze.now level result) seat.new.table_id seat.new.me.0 }
 {
     loop {
@@ -166,9 +166,9 @@ fn call_back(
     level: u8,
 ) -> DownWriteStep
     requires table { seat.old.table_id ≡ gates.now.table.shared.table_id }
-    requires tied { StateAgrees gates.now.config None (Some (closing_at freeze.now level (CallsBack Loads))) accesses.now seat.old.me.0.items }
+    requires agrees { StateAgrees gates.now.config None (Some (closing_at freeze.now level (CallsBack Loads))) accesses.now seat.old.me.0.items }
     ensures slots { seat.new.me.1 ≡ seat.old.me.1 }
-    ensures led { Led gates.now.config None accesses.now (Go (closing_at freeze.now level (CallsBack Loads))) seat.old.table_id seat.old.me.0
+    ensures led { KnownSteps gates.now.config None accesses.now (Go (closing_at freeze.now level (CallsBack Loads))) seat.old.table_id seat.old.me.0
         (Go (closing_at freeze.now level result)) seat.new.table_id seat.new.me.0 }
 {
     let sync = WordName::Sync(level);
@@ -212,9 +212,9 @@ fn sum_counts(
     mut sum: Sum,
 ) -> bool
     requires table { seat.old.table_id ≡ gates.now.table.shared.table_id }
-    requires tied { StateAgrees gates.now.config None (Some (closing_at freeze.now level (Sums sum))) accesses.now seat.old.me.0.items }
+    requires agrees { StateAgrees gates.now.config None (Some (closing_at freeze.now level (Sums sum))) accesses.now seat.old.me.0.items }
     ensures slots { seat.new.me.1 ≡ seat.old.me.1 }
-    ensures led { Led gates.now.config None accesses.now (Go (closing_at freeze.now level (Sums sum))) seat.old.table_id seat.old.me.0
+    ensures led { KnownSteps gates.now.config None accesses.now (Go (closing_at freeze.now level (Sums sum))) seat.old.table_id seat.old.me.0
         (summed freeze.now level result) seat.new.table_id seat.new.me.0 }
 {
     loop {
@@ -249,9 +249,9 @@ fn sum(
     rest: &mut Next<Freeze>,
 ) -> bool
     requires table { seat.old.table_id ≡ gates.now.table.shared.table_id }
-    requires tied { StateAgrees gates.now.config None (Some (closing_at freeze.now level (Sums so_far))) accesses.now seat.old.me.0.items }
+    requires agrees { StateAgrees gates.now.config None (Some (closing_at freeze.now level (Sums so_far))) accesses.now seat.old.me.0.items }
     ensures slots { seat.new.me.1 ≡ seat.old.me.1 }
-    ensures led { Led gates.now.config None accesses.now (Go (closing_at freeze.now level (Sums so_far))) seat.old.table_id seat.old.me.0
+    ensures led { KnownSteps gates.now.config None accesses.now (Go (closing_at freeze.now level (Sums so_far))) seat.old.table_id seat.old.me.0
         (closed_or freeze.now level result rest.new) seat.new.table_id seat.new.me.0 }
 {
     if sum_counts(gates, seat, accesses, freeze, level, so_far) {
@@ -272,9 +272,9 @@ fn block(
     rest: &mut Next<Freeze>,
 ) -> bool
     requires table { seat.old.table_id ≡ gates.now.table.shared.table_id }
-    requires tied { StateAgrees gates.now.config None (Some (closing_at freeze.now level SetsBlock)) accesses.now seat.old.me.0.items }
+    requires agrees { StateAgrees gates.now.config None (Some (closing_at freeze.now level SetsBlock)) accesses.now seat.old.me.0.items }
     ensures slots { seat.new.me.1 ≡ seat.old.me.1 }
-    ensures led { Led gates.now.config None accesses.now (Go (closing_at freeze.now level SetsBlock)) seat.old.table_id seat.old.me.0
+    ensures led { KnownSteps gates.now.config None accesses.now (Go (closing_at freeze.now level SetsBlock)) seat.old.table_id seat.old.me.0
         (closed_or freeze.now level result rest.new) seat.new.table_id seat.new.me.0 }
 {
     let step = DownWriteStep::SetsBlock;
@@ -308,9 +308,9 @@ fn pass(
     rest: &mut Next<Freeze>,
 ) -> bool
     requires table { seat.old.table_id ≡ gates.now.table.shared.table_id }
-    requires tied { StateAgrees gates.now.config None (Some (closing_at freeze.now level (AwaitsSections grace))) accesses.now seat.old.me.0.items }
+    requires agrees { StateAgrees gates.now.config None (Some (closing_at freeze.now level (AwaitsSections grace))) accesses.now seat.old.me.0.items }
     ensures slots { seat.new.me.1 ≡ seat.old.me.1 }
-    ensures led { Led gates.now.config None accesses.now (Go (closing_at freeze.now level (AwaitsSections grace))) seat.old.table_id seat.old.me.0
+    ensures led { KnownSteps gates.now.config None accesses.now (Go (closing_at freeze.now level (AwaitsSections grace))) seat.old.table_id seat.old.me.0
         (closed_or freeze.now level result rest.new) seat.new.table_id seat.new.me.0 }
 {
     match await_sections(gates, seat, accesses, freeze, level, grace) {
@@ -337,9 +337,9 @@ pub(crate) fn close_level(
     rest: &mut Next<Freeze>,
 ) -> bool
     requires table { seat.old.table_id ≡ gates.now.table.shared.table_id }
-    requires tied { StateAgrees gates.now.config None (Some (standing freeze.now (freeze_closes freeze.now level))) accesses.now seat.old.me.0.items }
+    requires agrees { StateAgrees gates.now.config None (Some (standing freeze.now (freeze_closes freeze.now level))) accesses.now seat.old.me.0.items }
     ensures slots { seat.new.me.1 ≡ seat.old.me.1 }
-    ensures led { Led gates.now.config None accesses.now (Go (standing freeze.now (freeze_closes freeze.now level))) seat.old.table_id seat.old.me.0
+    ensures led { KnownSteps gates.now.config None accesses.now (Go (standing freeze.now (freeze_closes freeze.now level))) seat.old.table_id seat.old.me.0
         (closed_or freeze.now level result rest.new) seat.new.table_id seat.new.me.0 }
 {
     match enter(gates, seat, accesses, freeze, level) {
@@ -363,9 +363,9 @@ pub(crate) fn go_on_closing(
     rest: &mut Next<Freeze>,
 ) -> bool
     requires table { seat.old.table_id ≡ gates.now.table.shared.table_id }
-    requires tied { StateAgrees gates.now.config None (Some (closing_at freeze.now level step)) accesses.now seat.old.me.0.items }
+    requires agrees { StateAgrees gates.now.config None (Some (closing_at freeze.now level step)) accesses.now seat.old.me.0.items }
     ensures slots { seat.new.me.1 ≡ seat.old.me.1 }
-    ensures led { Led gates.now.config None accesses.now (Go (closing_at freeze.now level step)) seat.old.table_id seat.old.me.0
+    ensures led { KnownSteps gates.now.config None accesses.now (Go (closing_at freeze.now level step)) seat.old.table_id seat.old.me.0
         (closed_or freeze.now level result rest.new) seat.new.table_id seat.new.me.0 }
 {
     match step {

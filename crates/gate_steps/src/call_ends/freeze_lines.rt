@@ -17,7 +17,7 @@ ghost use Rattle.freeze_levels.specs.declared.freezes.FreezeStep.TheVariants.{
   SetsWrite,
 };
 ghost use Rattle.gate_steps.specs.call_events.Closings.{of_freeze, standing};
-ghost use Rattle.gate_steps.specs.call_events.Led.{Led, LedAsking};
+ghost use Rattle.gate_steps.specs.call_events.KnownSteps.{KnownSteps, KnownStepsAsking};
 ghost use Rattle.gate_steps.specs.call_events.Turns.{StateAgrees};
 
 use crate::call_ends::closings::{close_level, go_on_closing};
@@ -53,9 +53,9 @@ pub(crate) fn freeze_first<H: TimedHooks>(
     hooks: &mut H,
 ) -> Next<Freeze>
     requires table { seat.old.table_id ≡ gates.now.table.shared.table_id }
-    requires tied { StateAgrees gates.now.config (Some op) (Some (standing freeze.now Locks)) accesses.now seat.old.me.0.items }
+    requires agrees { StateAgrees gates.now.config (Some op) (Some (standing freeze.now Locks)) accesses.now seat.old.me.0.items }
     ensures slots { seat.new.me.1 ≡ seat.old.me.1 }
-    ensures led { LedAsking H.answers gates.now.config (Some op) accesses.now (Go (standing freeze.now Locks)) seat.old.table_id seat.old.me.0
+    ensures led { KnownStepsAsking H.answers gates.now.config (Some op) accesses.now (Go (standing freeze.now Locks)) seat.old.table_id seat.old.me.0
         hooks.old (of_freeze result) seat.new.table_id seat.new.me.0 hooks.new }
 {
     let locks = Freeze {
@@ -88,9 +88,9 @@ pub(crate) fn freeze_locked<H: TimedHooks>(
     hooks: &mut H,
 ) -> Next<Freeze>
     requires table { seat.old.table_id ≡ gates.now.table.shared.table_id }
-    requires tied { StateAgrees gates.now.config None (Some (standing freeze.now LoadsStage)) accesses.now seat.old.me.0.items }
+    requires agrees { StateAgrees gates.now.config None (Some (standing freeze.now LoadsStage)) accesses.now seat.old.me.0.items }
     ensures slots { seat.new.me.1 ≡ seat.old.me.1 }
-    ensures led { LedAsking H.answers gates.now.config None accesses.now (Go (standing freeze.now LoadsStage)) seat.old.table_id seat.old.me.0
+    ensures led { KnownStepsAsking H.answers gates.now.config None accesses.now (Go (standing freeze.now LoadsStage)) seat.old.table_id seat.old.me.0
         hooks.old (of_freeze result) seat.new.table_id seat.new.me.0 hooks.new }
 {
     let here = Freeze {
@@ -122,9 +122,9 @@ fn close_first<H: TimedHooks>(
     hooks: &mut H,
 ) -> Next<Freeze>
     requires table { seat.old.table_id ≡ gates.now.table.shared.table_id }
-    requires tied { StateAgrees gates.now.config None (Some (standing freeze.now SetsWrite)) accesses.now seat.old.me.0.items }
+    requires agrees { StateAgrees gates.now.config None (Some (standing freeze.now SetsWrite)) accesses.now seat.old.me.0.items }
     ensures slots { seat.new.me.1 ≡ seat.old.me.1 }
-    ensures led { LedAsking H.answers gates.now.config None accesses.now (Go (standing freeze.now SetsWrite)) seat.old.table_id seat.old.me.0
+    ensures led { KnownStepsAsking H.answers gates.now.config None accesses.now (Go (standing freeze.now SetsWrite)) seat.old.table_id seat.old.me.0
         hooks.old (of_freeze result) seat.new.table_id seat.new.me.0 hooks.new }
 {
     let here = Freeze {
@@ -156,9 +156,9 @@ fn lock_again<H: TimedHooks>(
     hooks: &mut H,
 ) -> Next<Freeze>
     requires table { seat.old.table_id ≡ gates.now.table.shared.table_id }
-    requires tied { StateAgrees gates.now.config None (Some (standing freeze.now LocksAgain)) accesses.now seat.old.me.0.items }
+    requires agrees { StateAgrees gates.now.config None (Some (standing freeze.now LocksAgain)) accesses.now seat.old.me.0.items }
     ensures slots { seat.new.me.1 ≡ seat.old.me.1 }
-    ensures led { LedAsking H.answers gates.now.config None accesses.now (Go (standing freeze.now LocksAgain)) seat.old.table_id seat.old.me.0
+    ensures led { KnownStepsAsking H.answers gates.now.config None accesses.now (Go (standing freeze.now LocksAgain)) seat.old.table_id seat.old.me.0
         hooks.old (of_freeze result) seat.new.table_id seat.new.me.0 hooks.new }
 {
     let again = Freeze {
@@ -184,9 +184,9 @@ pub(crate) fn close_second<H: TimedHooks>(
     hooks: &mut H,
 ) -> Next<Freeze>
     requires table { seat.old.table_id ≡ gates.now.table.shared.table_id }
-    requires tied { StateAgrees gates.now.config None (Some (standing freeze.now SetsPageFault)) accesses.now seat.old.me.0.items }
+    requires agrees { StateAgrees gates.now.config None (Some (standing freeze.now SetsPageFault)) accesses.now seat.old.me.0.items }
     ensures slots { seat.new.me.1 ≡ seat.old.me.1 }
-    ensures led { LedAsking H.answers gates.now.config None accesses.now (Go (standing freeze.now SetsPageFault)) seat.old.table_id seat.old.me.0
+    ensures led { KnownStepsAsking H.answers gates.now.config None accesses.now (Go (standing freeze.now SetsPageFault)) seat.old.table_id seat.old.me.0
         hooks.old (of_freeze result) seat.new.table_id seat.new.me.0 hooks.new }
 {
     let here = Freeze {
@@ -212,9 +212,9 @@ fn clean(
     mut clearing: ClearMarks,
 )
     requires table { seat.old.table_id ≡ gates.now.table.shared.table_id }
-    requires tied { StateAgrees gates.now.config None (Some (standing freeze.now (Cleans clearing))) accesses.now seat.old.me.0.items }
+    requires agrees { StateAgrees gates.now.config None (Some (standing freeze.now (Cleans clearing))) accesses.now seat.old.me.0.items }
     ensures slots { seat.new.me.1 ≡ seat.old.me.1 }
-    ensures led { Led gates.now.config None accesses.now (Go (standing freeze.now (Cleans clearing))) seat.old.table_id seat.old.me.0
+    ensures led { KnownSteps gates.now.config None accesses.now (Go (standing freeze.now (Cleans clearing))) seat.old.table_id seat.old.me.0
         (Go (standing freeze.now SetsFs)) seat.new.table_id seat.new.me.0 }
 {
     loop {
@@ -240,9 +240,9 @@ fn sync<H: TimedHooks>(
     hooks: &mut H,
 ) -> Next<Freeze>
     requires table { seat.old.table_id ≡ gates.now.table.shared.table_id }
-    requires tied { StateAgrees gates.now.config None (Some (standing freeze.now (level_closed 2 freeze.now.nodes))) accesses.now seat.old.me.0.items }
+    requires agrees { StateAgrees gates.now.config None (Some (standing freeze.now (level_closed 2 freeze.now.nodes))) accesses.now seat.old.me.0.items }
     ensures slots { seat.new.me.1 ≡ seat.old.me.1 }
-    ensures led { LedAsking H.answers gates.now.config None accesses.now (Go (standing freeze.now (level_closed 2 freeze.now.nodes))) seat.old.table_id seat.old.me.0
+    ensures led { KnownStepsAsking H.answers gates.now.config None accesses.now (Go (standing freeze.now (level_closed 2 freeze.now.nodes))) seat.old.table_id seat.old.me.0
         hooks.old (of_freeze result) seat.new.table_id seat.new.me.0 hooks.new }
 {
     let clearing = ClearMarks::start(freeze.nodes);
@@ -260,9 +260,9 @@ fn close_third<H: TimedHooks>(
     hooks: &mut H,
 ) -> Next<Freeze>
     requires table { seat.old.table_id ≡ gates.now.table.shared.table_id }
-    requires tied { StateAgrees gates.now.config None (Some (standing freeze.now SetsFs)) accesses.now seat.old.me.0.items }
+    requires agrees { StateAgrees gates.now.config None (Some (standing freeze.now SetsFs)) accesses.now seat.old.me.0.items }
     ensures slots { seat.new.me.1 ≡ seat.old.me.1 }
-    ensures led { LedAsking H.answers gates.now.config None accesses.now (Go (standing freeze.now SetsFs)) seat.old.table_id seat.old.me.0
+    ensures led { KnownStepsAsking H.answers gates.now.config None accesses.now (Go (standing freeze.now SetsFs)) seat.old.table_id seat.old.me.0
         hooks.old (of_freeze result) seat.new.table_id seat.new.me.0 hooks.new }
 {
     let here = Freeze {
@@ -290,9 +290,9 @@ fn complete<H: TimedHooks>(
     hooks: &mut H,
 ) -> Next<Freeze>
     requires table { seat.old.table_id ≡ gates.now.table.shared.table_id }
-    requires tied { StateAgrees gates.now.config None (Some (standing freeze.now SetsComplete)) accesses.now seat.old.me.0.items }
+    requires agrees { StateAgrees gates.now.config None (Some (standing freeze.now SetsComplete)) accesses.now seat.old.me.0.items }
     ensures slots { seat.new.me.1 ≡ seat.old.me.1 }
-    ensures led { LedAsking H.answers gates.now.config None accesses.now (Go (standing freeze.now SetsComplete)) seat.old.table_id seat.old.me.0
+    ensures led { KnownStepsAsking H.answers gates.now.config None accesses.now (Go (standing freeze.now SetsComplete)) seat.old.table_id seat.old.me.0
         hooks.old (of_freeze result) seat.new.table_id seat.new.me.0 hooks.new }
 {
     let here = Freeze {
@@ -330,9 +330,9 @@ pub(crate) fn go_on_level<H: TimedHooks>(
     hooks: &mut H,
 ) -> Next<Freeze>
     requires table { seat.old.table_id ≡ gates.now.table.shared.table_id }
-    requires tied { StateAgrees gates.now.config None (Some (standing freeze.now (Closes write))) accesses.now seat.old.me.0.items }
+    requires agrees { StateAgrees gates.now.config None (Some (standing freeze.now (Closes write))) accesses.now seat.old.me.0.items }
     ensures slots { seat.new.me.1 ≡ seat.old.me.1 }
-    ensures led { LedAsking H.answers gates.now.config None accesses.now (Go (standing freeze.now (Closes write))) seat.old.table_id seat.old.me.0
+    ensures led { KnownStepsAsking H.answers gates.now.config None accesses.now (Go (standing freeze.now (Closes write))) seat.old.table_id seat.old.me.0
         hooks.old (of_freeze result) seat.new.table_id seat.new.me.0 hooks.new }
 {
     // A freeze closes each level among its own tasks and processors.
@@ -359,9 +359,9 @@ fn go_on_closed<H: TimedHooks>(
     hooks: &mut H,
 ) -> Next<Freeze>
     requires table { seat.old.table_id ≡ gates.now.table.shared.table_id }
-    requires tied { StateAgrees gates.now.config None (Some (standing freeze.now (level_closed level freeze.now.nodes))) accesses.now seat.old.me.0.items }
+    requires agrees { StateAgrees gates.now.config None (Some (standing freeze.now (level_closed level freeze.now.nodes))) accesses.now seat.old.me.0.items }
     ensures slots { seat.new.me.1 ≡ seat.old.me.1 }
-    ensures led { LedAsking H.answers gates.now.config None accesses.now (Go (standing freeze.now (level_closed level freeze.now.nodes))) seat.old.table_id seat.old.me.0
+    ensures led { KnownStepsAsking H.answers gates.now.config None accesses.now (Go (standing freeze.now (level_closed level freeze.now.nodes))) seat.old.table_id seat.old.me.0
         hooks.old (of_freeze result) seat.new.table_id seat.new.me.0 hooks.new }
 {
     if level == 1 {
@@ -383,9 +383,9 @@ pub(crate) fn end_freeze(
     beside: Holders,
 ) -> Next<Freeze>
     requires table { seat.old.table_id ≡ gates.now.table.shared.table_id }
-    requires tied { StateAgrees gates.now.config None (Some (standing freeze.now (Holds beside))) accesses.now seat.old.me.0.items }
+    requires agrees { StateAgrees gates.now.config None (Some (standing freeze.now (Holds beside))) accesses.now seat.old.me.0.items }
     ensures slots { seat.new.me.1 ≡ seat.old.me.1 }
-    ensures led { Led gates.now.config None accesses.now (Go (standing freeze.now (Holds beside))) seat.old.table_id seat.old.me.0
+    ensures led { KnownSteps gates.now.config None accesses.now (Go (standing freeze.now (Holds beside))) seat.old.table_id seat.old.me.0
         (of_freeze result) seat.new.table_id seat.new.me.0 }
 {
     let here = Freeze {

@@ -16,7 +16,7 @@ ghost use Rattle.mount_counts.specs.declared.remounts.RemountStep.TheVariants.{
   SetsWritable,
 };
 ghost use Rattle.gate_steps.specs.call_events.Remounting.{done_remount, first_count, held_or, of_remount, past_or, remounting_at, summed_or};
-ghost use Rattle.gate_steps.specs.call_events.Led.{Led, LedAsking};
+ghost use Rattle.gate_steps.specs.call_events.KnownSteps.{KnownSteps, KnownStepsAsking};
 ghost use Rattle.gate_steps.specs.call_events.Turns.{StateAgrees};
 
 use crate::call_events::{GateWords, GhostSeat, TimedHooks, find, find_asking, find_first};
@@ -53,9 +53,9 @@ fn sum_mount(
     rest: &mut Next<Remount>,
 ) -> bool
     requires table { seat.old.table_id ≡ gates.now.table.shared.table_id }
-    requires tied { StateAgrees gates.now.config None (Some (remounting_at remount (first_count mount held))) accesses.now seat.old.me.0.items }
+    requires agrees { StateAgrees gates.now.config None (Some (remounting_at remount (first_count mount held))) accesses.now seat.old.me.0.items }
     ensures slots { seat.new.me.1 ≡ seat.old.me.1 }
-    ensures led { Led gates.now.config None accesses.now (Go (remounting_at remount (first_count mount held))) seat.old.table_id seat.old.me.0
+    ensures led { KnownSteps gates.now.config None accesses.now (Go (remounting_at remount (first_count mount held))) seat.old.table_id seat.old.me.0
         (summed_or remount mount held result rest.new) seat.new.table_id seat.new.me.0 }
 {
     let mut sum = Sum::start();
@@ -90,9 +90,9 @@ fn hold_mount(
     rest: &mut Next<Remount>,
 ) -> Option<MountSet>
     requires table { seat.old.table_id ≡ gates.now.table.shared.table_id }
-    requires tied { StateAgrees gates.now.config None (Some (remounting_at remount (LoadsFlags mount held))) accesses.now seat.old.me.0.items }
+    requires agrees { StateAgrees gates.now.config None (Some (remounting_at remount (LoadsFlags mount held))) accesses.now seat.old.me.0.items }
     ensures slots { seat.new.me.1 ≡ seat.old.me.1 }
-    ensures led { Led gates.now.config None accesses.now (Go (remounting_at remount (LoadsFlags mount held))) seat.old.table_id seat.old.me.0
+    ensures led { KnownSteps gates.now.config None accesses.now (Go (remounting_at remount (LoadsFlags mount held))) seat.old.table_id seat.old.me.0
         (past_or remount mount result rest.new) seat.new.table_id seat.new.me.0 }
 {
     let step = RemountStep::LoadsFlags { mount, held };
@@ -123,9 +123,9 @@ fn hold_mounts(
     rest: &mut Next<Remount>,
 ) -> Option<MountSet>
     requires table { seat.old.table_id ≡ gates.now.table.shared.table_id }
-    requires tied { StateAgrees gates.now.config None (Some (remounting_at remount (LoadsFlags 0 no_mounts))) accesses.now seat.old.me.0.items }
+    requires agrees { StateAgrees gates.now.config None (Some (remounting_at remount (LoadsFlags 0 no_mounts))) accesses.now seat.old.me.0.items }
     ensures slots { seat.new.me.1 ≡ seat.old.me.1 }
-    ensures led { Led gates.now.config None accesses.now (Go (remounting_at remount (LoadsFlags 0 no_mounts))) seat.old.table_id seat.old.me.0
+    ensures led { KnownSteps gates.now.config None accesses.now (Go (remounting_at remount (LoadsFlags 0 no_mounts))) seat.old.table_id seat.old.me.0
         (held_or remount result rest.new) seat.new.table_id seat.new.me.0 }
 {
     let mut mount = 0u8;
@@ -152,9 +152,9 @@ fn let_mounts_go(
     mut held: MountSet,
 )
     requires table { seat.old.table_id ≡ gates.now.table.shared.table_id }
-    requires tied { StateAgrees gates.now.config None (Some (remounting_at remount (let_go held))) accesses.now seat.old.me.0.items }
+    requires agrees { StateAgrees gates.now.config None (Some (remounting_at remount (let_go held))) accesses.now seat.old.me.0.items }
     ensures slots { seat.new.me.1 ≡ seat.old.me.1 }
-    ensures led { Led gates.now.config None accesses.now (Go (remounting_at remount (let_go held))) seat.old.table_id seat.old.me.0
+    ensures led { KnownSteps gates.now.config None accesses.now (Go (remounting_at remount (let_go held))) seat.old.table_id seat.old.me.0
         (Go (remounting_at remount (ClearsMark 1))) seat.new.table_id seat.new.me.0 }
 {
     while held.bits != 0 {
@@ -171,9 +171,9 @@ fn let_mounts_go(
 #[inline(always)]
 fn clean(gates: &GateWords, seat: &mut GhostSeat, accesses: &Accesses, remount: Remount)
     requires table { seat.old.table_id ≡ gates.now.table.shared.table_id }
-    requires tied { StateAgrees gates.now.config None (Some (remounting_at remount (ClearsMark 1))) accesses.now seat.old.me.0.items }
+    requires agrees { StateAgrees gates.now.config None (Some (remounting_at remount (ClearsMark 1))) accesses.now seat.old.me.0.items }
     ensures slots { seat.new.me.1 ≡ seat.old.me.1 }
-    ensures led { Led gates.now.config None accesses.now (Go (remounting_at remount (ClearsMark 1))) seat.old.table_id seat.old.me.0
+    ensures led { KnownSteps gates.now.config None accesses.now (Go (remounting_at remount (ClearsMark 1))) seat.old.table_id seat.old.me.0
         (Go (remounting_at remount SetsReadOnly)) seat.new.table_id seat.new.me.0 }
 {
     let mut node = 1u8;
@@ -198,9 +198,9 @@ fn release(
     remount: Remount,
 ) -> Next<Remount>
     requires table { seat.old.table_id ≡ gates.now.table.shared.table_id }
-    requires tied { StateAgrees gates.now.config None (Some (remounting_at remount done_remount)) accesses.now seat.old.me.0.items }
+    requires agrees { StateAgrees gates.now.config None (Some (remounting_at remount done_remount)) accesses.now seat.old.me.0.items }
     ensures slots { seat.new.me.1 ≡ seat.old.me.1 }
-    ensures led { Led gates.now.config None accesses.now (Go (remounting_at remount done_remount)) seat.old.table_id seat.old.me.0
+    ensures led { KnownSteps gates.now.config None accesses.now (Go (remounting_at remount done_remount)) seat.old.table_id seat.old.me.0
         (of_remount result) seat.new.table_id seat.new.me.0 }
 {
     let step = RemountStep::Releases(Ok(Reply::Unit));
@@ -220,9 +220,9 @@ fn end_read_only<H: TimedHooks>(
     hooks: &mut H,
 ) -> Next<Remount>
     requires table { seat.old.table_id ≡ gates.now.table.shared.table_id }
-    requires tied { StateAgrees gates.now.config None (Some (remounting_at remount SetsReadOnly)) accesses.now seat.old.me.0.items }
+    requires agrees { StateAgrees gates.now.config None (Some (remounting_at remount SetsReadOnly)) accesses.now seat.old.me.0.items }
     ensures slots { seat.new.me.1 ≡ seat.old.me.1 }
-    ensures led { LedAsking H.answers gates.now.config None accesses.now (Go (remounting_at remount SetsReadOnly)) seat.old.table_id seat.old.me.0
+    ensures led { KnownStepsAsking H.answers gates.now.config None accesses.now (Go (remounting_at remount SetsReadOnly)) seat.old.table_id seat.old.me.0
         hooks.old (of_remount result) seat.new.table_id seat.new.me.0 hooks.new }
 {
     let read_only = remount.read_only;
@@ -252,9 +252,9 @@ fn bar_writers<H: TimedHooks>(
     hooks: &mut H,
 ) -> Next<Remount>
     requires table { seat.old.table_id ≡ gates.now.table.shared.table_id }
-    requires tied { StateAgrees gates.now.config None (Some (remounting_at remount (LoadsRemovedAgain held))) accesses.now seat.old.me.0.items }
+    requires agrees { StateAgrees gates.now.config None (Some (remounting_at remount (LoadsRemovedAgain held))) accesses.now seat.old.me.0.items }
     ensures slots { seat.new.me.1 ≡ seat.old.me.1 }
-    ensures led { LedAsking H.answers gates.now.config None accesses.now (Go (remounting_at remount (LoadsRemovedAgain held))) seat.old.table_id seat.old.me.0
+    ensures led { KnownStepsAsking H.answers gates.now.config None accesses.now (Go (remounting_at remount (LoadsRemovedAgain held))) seat.old.table_id seat.old.me.0
         hooks.old (of_remount result) seat.new.table_id seat.new.me.0 hooks.new }
 {
     let step = RemountStep::LoadsRemovedAgain { held };
@@ -282,9 +282,9 @@ fn make_read_only<H: TimedHooks>(
     hooks: &mut H,
 ) -> Next<Remount>
     requires table { seat.old.table_id ≡ gates.now.table.shared.table_id }
-    requires tied { StateAgrees gates.now.config None (Some (remounting_at remount LoadsRemoved)) accesses.now seat.old.me.0.items }
+    requires agrees { StateAgrees gates.now.config None (Some (remounting_at remount LoadsRemoved)) accesses.now seat.old.me.0.items }
     ensures slots { seat.new.me.1 ≡ seat.old.me.1 }
-    ensures led { LedAsking H.answers gates.now.config None accesses.now (Go (remounting_at remount LoadsRemoved)) seat.old.table_id seat.old.me.0
+    ensures led { KnownStepsAsking H.answers gates.now.config None accesses.now (Go (remounting_at remount LoadsRemoved)) seat.old.table_id seat.old.me.0
         hooks.old (of_remount result) seat.new.table_id seat.new.me.0 hooks.new }
 {
     let step = RemountStep::LoadsRemoved;
@@ -310,9 +310,9 @@ fn make_writable<H: TimedHooks>(
     hooks: &mut H,
 ) -> Next<Remount>
     requires table { seat.old.table_id ≡ gates.now.table.shared.table_id }
-    requires tied { StateAgrees gates.now.config None (Some (remounting_at remount SetsWritable)) accesses.now seat.old.me.0.items }
+    requires agrees { StateAgrees gates.now.config None (Some (remounting_at remount SetsWritable)) accesses.now seat.old.me.0.items }
     ensures slots { seat.new.me.1 ≡ seat.old.me.1 }
-    ensures led { LedAsking H.answers gates.now.config None accesses.now (Go (remounting_at remount SetsWritable)) seat.old.table_id seat.old.me.0
+    ensures led { KnownStepsAsking H.answers gates.now.config None accesses.now (Go (remounting_at remount SetsWritable)) seat.old.table_id seat.old.me.0
         hooks.old (of_remount result) seat.new.table_id seat.new.me.0 hooks.new }
 {
     let read_only = remount.read_only;
@@ -336,9 +336,9 @@ pub(crate) fn remount_locked<H: TimedHooks>(
     hooks: &mut H,
 ) -> Next<Remount>
     requires table { seat.old.table_id ≡ gates.now.table.shared.table_id }
-    requires tied { StateAgrees gates.now.config None (Some (remounting_at remount LoadsStage)) accesses.now seat.old.me.0.items }
+    requires agrees { StateAgrees gates.now.config None (Some (remounting_at remount LoadsStage)) accesses.now seat.old.me.0.items }
     ensures slots { seat.new.me.1 ≡ seat.old.me.1 }
-    ensures led { LedAsking H.answers gates.now.config None accesses.now (Go (remounting_at remount LoadsStage)) seat.old.table_id seat.old.me.0
+    ensures led { KnownStepsAsking H.answers gates.now.config None accesses.now (Go (remounting_at remount LoadsStage)) seat.old.table_id seat.old.me.0
         hooks.old (of_remount result) seat.new.table_id seat.new.me.0 hooks.new }
 {
     let step = RemountStep::LoadsStage;
@@ -373,9 +373,9 @@ pub(crate) fn remount_first<H: TimedHooks>(
     hooks: &mut H,
 ) -> Next<Remount>
     requires table { seat.old.table_id ≡ gates.now.table.shared.table_id }
-    requires tied { StateAgrees gates.now.config (Some op) (Some (remounting_at remount Locks)) accesses.now seat.old.me.0.items }
+    requires agrees { StateAgrees gates.now.config (Some op) (Some (remounting_at remount Locks)) accesses.now seat.old.me.0.items }
     ensures slots { seat.new.me.1 ≡ seat.old.me.1 }
-    ensures led { LedAsking H.answers gates.now.config (Some op) accesses.now (Go (remounting_at remount Locks)) seat.old.table_id seat.old.me.0
+    ensures led { KnownStepsAsking H.answers gates.now.config (Some op) accesses.now (Go (remounting_at remount Locks)) seat.old.table_id seat.old.me.0
         hooks.old (of_remount result) seat.new.table_id seat.new.me.0 hooks.new }
 {
     let step = RemountStep::Locks;

@@ -7,7 +7,7 @@ ghost use Rattle.freeze_levels.specs.declared.thaws.ThawStep.TheVariants.{Leaves
 ghost use Rattle.percpu_rwsem.specs.declared.writers.UpWriteStep.TheVariants.{ClearsBlock, Exits};
 ghost use Rattle.percpu_rwsem.specs.declared.transitions.Transition.TheVariants.{Loads};
 ghost use Rattle.gate_steps.specs.call_events.Reopenings.{opening_at, of_thaw, reopened, thaw_at};
-ghost use Rattle.gate_steps.specs.call_events.Led.{Led, LedAsking};
+ghost use Rattle.gate_steps.specs.call_events.KnownSteps.{KnownSteps, KnownStepsAsking};
 ghost use Rattle.gate_steps.specs.call_events.Turns.{StateAgrees};
 
 use crate::call_events::{GateWords, GhostSeat, TimedHooks, find, find_asking, find_first};
@@ -45,9 +45,9 @@ fn exit_again(thaw: Thaw, level: u8) -> Next<Thaw>
 #[inline(always)]
 fn exit(gates: &GateWords, seat: &mut GhostSeat, accesses: &Accesses, thaw: Thaw, level: u8) -> bool
     requires table { seat.old.table_id ≡ gates.now.table.shared.table_id }
-    requires tied { StateAgrees gates.now.config None (Some (opening_at thaw level (Exits Loads))) accesses.now seat.old.me.0.items }
+    requires agrees { StateAgrees gates.now.config None (Some (opening_at thaw level (Exits Loads))) accesses.now seat.old.me.0.items }
     ensures slots { seat.new.me.1 ≡ seat.old.me.1 }
-    ensures led { Led gates.now.config None accesses.now (Go (opening_at thaw level (Exits Loads))) seat.old.table_id seat.old.me.0
+    ensures led { KnownSteps gates.now.config None accesses.now (Go (opening_at thaw level (Exits Loads))) seat.old.table_id seat.old.me.0
         (Go (reopened thaw level result)) seat.new.table_id seat.new.me.0 }
 {
     let sync = WordName::Sync(level);
@@ -90,9 +90,9 @@ fn reopen(
     level: u8,
 ) -> bool
     requires table { seat.old.table_id ≡ gates.now.table.shared.table_id }
-    requires tied { StateAgrees gates.now.config None (Some (opening_at thaw level ClearsBlock)) accesses.now seat.old.me.0.items }
+    requires agrees { StateAgrees gates.now.config None (Some (opening_at thaw level ClearsBlock)) accesses.now seat.old.me.0.items }
     ensures slots { seat.new.me.1 ≡ seat.old.me.1 }
-    ensures led { Led gates.now.config None accesses.now (Go (opening_at thaw level ClearsBlock)) seat.old.table_id seat.old.me.0
+    ensures led { KnownSteps gates.now.config None accesses.now (Go (opening_at thaw level ClearsBlock)) seat.old.table_id seat.old.me.0
         (Go (reopened thaw level result)) seat.new.table_id seat.new.me.0 }
 {
     let step = UpWriteStep::ClearsBlock;
@@ -120,9 +120,9 @@ pub(crate) fn reopen_all(
     thaw: Thaw,
 ) -> Next<Thaw>
     requires table { seat.old.table_id ≡ gates.now.table.shared.table_id }
-    requires tied { StateAgrees gates.now.config None (Some (thaw_at thaw SetsUnfrozen)) accesses.now seat.old.me.0.items }
+    requires agrees { StateAgrees gates.now.config None (Some (thaw_at thaw SetsUnfrozen)) accesses.now seat.old.me.0.items }
     ensures slots { seat.new.me.1 ≡ seat.old.me.1 }
-    ensures led { Led gates.now.config None accesses.now (Go (thaw_at thaw SetsUnfrozen)) seat.old.table_id seat.old.me.0
+    ensures led { KnownSteps gates.now.config None accesses.now (Go (thaw_at thaw SetsUnfrozen)) seat.old.table_id seat.old.me.0
         (of_thaw result) seat.new.table_id seat.new.me.0 }
 {
     let here = Thaw {
@@ -172,9 +172,9 @@ pub(crate) fn thaw_first<H: TimedHooks>(
     hooks: &mut H,
 ) -> Next<Thaw>
     requires table { seat.old.table_id ≡ gates.now.table.shared.table_id }
-    requires tied { StateAgrees gates.now.config (Some op) (Some (thaw_at thaw Locks)) accesses.now seat.old.me.0.items }
+    requires agrees { StateAgrees gates.now.config (Some op) (Some (thaw_at thaw Locks)) accesses.now seat.old.me.0.items }
     ensures slots { seat.new.me.1 ≡ seat.old.me.1 }
-    ensures led { LedAsking H.answers gates.now.config (Some op) accesses.now (Go (thaw_at thaw Locks)) seat.old.table_id seat.old.me.0
+    ensures led { KnownStepsAsking H.answers gates.now.config (Some op) accesses.now (Go (thaw_at thaw Locks)) seat.old.table_id seat.old.me.0
         hooks.old (of_thaw result) seat.new.table_id seat.new.me.0 hooks.new }
 {
     let locks = Thaw {
@@ -207,9 +207,9 @@ pub(crate) fn thaw_locked<H: TimedHooks>(
     hooks: &mut H,
 ) -> Next<Thaw>
     requires table { seat.old.table_id ≡ gates.now.table.shared.table_id }
-    requires tied { StateAgrees gates.now.config None (Some (thaw_at thaw LoadsStage)) accesses.now seat.old.me.0.items }
+    requires agrees { StateAgrees gates.now.config None (Some (thaw_at thaw LoadsStage)) accesses.now seat.old.me.0.items }
     ensures slots { seat.new.me.1 ≡ seat.old.me.1 }
-    ensures led { LedAsking H.answers gates.now.config None accesses.now (Go (thaw_at thaw LoadsStage)) seat.old.table_id seat.old.me.0
+    ensures led { KnownStepsAsking H.answers gates.now.config None accesses.now (Go (thaw_at thaw LoadsStage)) seat.old.table_id seat.old.me.0
         hooks.old (of_thaw result) seat.new.table_id seat.new.me.0 hooks.new }
 {
     let here = Thaw {
@@ -256,9 +256,9 @@ fn thaw_last<H: TimedHooks>(
     hooks: &mut H,
 ) -> Next<Thaw>
     requires table { seat.old.table_id ≡ gates.now.table.shared.table_id }
-    requires tied { StateAgrees gates.now.config None (Some (thaw_at thaw LeavesLast)) accesses.now seat.old.me.0.items }
+    requires agrees { StateAgrees gates.now.config None (Some (thaw_at thaw LeavesLast)) accesses.now seat.old.me.0.items }
     ensures slots { seat.new.me.1 ≡ seat.old.me.1 }
-    ensures led { LedAsking H.answers gates.now.config None accesses.now (Go (thaw_at thaw LeavesLast)) seat.old.table_id seat.old.me.0
+    ensures led { KnownStepsAsking H.answers gates.now.config None accesses.now (Go (thaw_at thaw LeavesLast)) seat.old.table_id seat.old.me.0
         hooks.old (of_thaw result) seat.new.table_id seat.new.me.0 hooks.new }
 {
     let here = Thaw {

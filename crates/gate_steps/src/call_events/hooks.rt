@@ -7,10 +7,10 @@ use freeze_levels::{FsHooks, HookCall};
 pub trait TimedHooks {
     ghost use Rattle.cpu_words.specs.Hooks.{HookAnswer};
     ghost use Rattle.freeze_levels.specs.declared.hooks.HookCall.{HookCall as HookCallType};
-    ghost use Rattle.gate_steps.specs.Seating.{SeatItems};
+    ghost use Rattle.gate_steps.specs.Seating.{DealtNumbers};
 
     /// What a hook may answer that is asked where the numbers of the task stand so, and what the file system may be then.
-    ghost answers: { HookCallType → SeatItems → Self → HookAnswer → Self → Type 0 };
+    ghost answers: { HookCallType → DealtNumbers → Self → HookAnswer → Self → Type 0 };
 
     /// Asks a hook, by the seat of the task that asks: Ok, or Err with the code of its failure. Nobody has the seat as it stands after an
     /// event before that event.

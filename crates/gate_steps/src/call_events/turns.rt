@@ -7,14 +7,14 @@ ghost use Rattle.cpu_words.specs.Hooks.{HookAnswer};
 ghost use Rattle.gate_world.specs.Accesses.{accesses_after};
 ghost use Rattle.gate_world.specs.Work.{next_of, after_of};
 ghost use Rattle.gate_steps.specs.Seating.{items_after};
-ghost use Rattle.gate_steps.specs.call_events.Led.{Led, LedAsking};
+ghost use Rattle.gate_steps.specs.call_events.KnownSteps.{KnownSteps, KnownStepsAsking};
 ghost use Rattle.gate_world.specs.Views.{phase_after};
 ghost use Rattle.access_model.specs.Replies.{map_next};
 ghost use Rattle.gate_steps.specs.call_events.SeatedTasks.{task_state};
 ghost use Rattle.gate_steps.specs.call_events.Stepped.{Stepped};
-ghost use Rattle.gate_steps.specs.call_events.Turns.{StateAgrees, StayTied, step_was};
-ghost use Rattle.gate_steps.specs.call_events.Waited.{GoesWaiting, WentWaiting};
-ghost use Rattle.gate_steps.specs.call_events.Asking.{Ask, asks_with, call_at, GoesWith, WentWith};
+ghost use Rattle.gate_steps.specs.call_events.Turns.{StateAgrees, AgreesAfter, step_was};
+ghost use Rattle.gate_steps.specs.call_events.Waited.{OpUnderWayWaiting, OpAfterStepWaiting};
+ghost use Rattle.gate_steps.specs.call_events.Asking.{Ask, asks_with, call_at, OpUnderWayWith, OpAfterStepWith};
 ghost use Rattle.gate_steps.specs.call_events.SeatedTasks.{SeatedTask};
 ghost use Rattle.gate_world.specs.declared.operations.Op.{Op as OpType};
 
@@ -27,7 +27,7 @@ use gate_events::PendingOp;
 use gate_world::{Accesses, Op};
 
 /// An event, the action that it added, and what comes after it.
-pub struct Turn<P> {
+pub struct StepResult<P> {
     /// The event.
     pub event: Event,
     /// The action, where it added one.
@@ -45,12 +45,12 @@ pub fn do_event<P: PendingOp>(
     begins: Option<Op>,
     under_way: P,
     hook: Result<(), u16>,
-) -> Turn<P>
+) -> StepResult<P>
     requires table { seat.old.table_id ≡ gates.now.table.shared.table_id }
-    requires tied { StateAgrees gates.now.config begins (Some (P.as_phase under_way)) accesses.old seat.old.me.0.items }
+    requires agrees { StateAgrees gates.now.config begins (Some (P.as_phase under_way)) accesses.old seat.old.me.0.items }
     ensures table { seat.new.table_id ≡ seat.old.table_id }
     ensures slots { seat.new.me.1 ≡ seat.old.me.1 }
-    ensures tied { StayTied gates.now.config begins (Some (P.as_phase under_way)) accesses.old seat.old.me.0.items
+    ensures agrees { AgreesAfter gates.now.config begins (Some (P.as_phase under_way)) accesses.old seat.old.me.0.items
         (phase_after (map_next P.as_phase result.next)) accesses.new seat.new.me.0.items }
     ensures stepped { Stepped (P.as_phase under_way) hook
         (task_state seat.old.table_id gates.now.config begins (Some (P.as_phase under_way)) seat.old.me.0)
@@ -60,7 +60,7 @@ pub fn do_event<P: PendingOp>(
     let event = gates.event(seat, begins, under_way, hook);
     let (next, action) = under_way.after(event.found, hook);
     accesses.apply(action);
-    Turn {
+    StepResult {
         event,
         action,
         next,
@@ -78,22 +78,22 @@ pub fn step_once<P: PendingOp>(
     hook: Result<(), u16>,
 ) -> Next<P>
     requires table { seat.old.table_id ≡ gates.now.table.shared.table_id }
-    requires tied { StateAgrees gates.now.config begins (Some (P.as_phase under_way)) accesses.old seat.old.me.0.items }
+    requires agrees { StateAgrees gates.now.config begins (Some (P.as_phase under_way)) accesses.old seat.old.me.0.items }
     ensures table { seat.new.table_id ≡ seat.old.table_id }
     ensures slots { seat.new.me.1 ≡ seat.old.me.1 }
-    ensures tied { StayTied gates.now.config begins (Some (P.as_phase under_way)) accesses.old seat.old.me.0.items
+    ensures agrees { AgreesAfter gates.now.config begins (Some (P.as_phase under_way)) accesses.old seat.old.me.0.items
         (phase_after (map_next P.as_phase result)) accesses.new seat.new.me.0.items }
     ensures still { StateAgrees gates.now.config None (phase_after (map_next P.as_phase result)) accesses.new seat.new.me.0.items }
     ensures went { (waits : ℕ) (op : OpType) (start : SeatedTask) →
-        GoesWaiting waits op start (task_state seat.old.table_id gates.now.config begins (Some (P.as_phase under_way)) seat.old.me.0) →
-        WentWaiting waits op start (map_next P.as_phase result)
+        OpUnderWayWaiting waits op start (task_state seat.old.table_id gates.now.config begins (Some (P.as_phase under_way)) seat.old.me.0) →
+        OpAfterStepWaiting waits op start (map_next P.as_phase result)
         (task_state seat.new.table_id gates.now.config None (phase_after (map_next P.as_phase result)) seat.new.me.0) }
     ensures asks { (op : OpType) (start : SeatedTask) (asks : List Ask) (waits : ℕ) →
-        GoesWith asks waits op start (task_state seat.old.table_id gates.now.config begins (Some (P.as_phase under_way)) seat.old.me.0) →
-        WentWith (asks_with (call_at (P.as_phase under_way)) seat.old.me.0.items hook asks) waits op start (map_next P.as_phase result)
+        OpUnderWayWith asks waits op start (task_state seat.old.table_id gates.now.config begins (Some (P.as_phase under_way)) seat.old.me.0) →
+        OpAfterStepWith (asks_with (call_at (P.as_phase under_way)) seat.old.me.0.items hook asks) waits op start (map_next P.as_phase result)
         (task_state seat.new.table_id gates.now.config None (phase_after (map_next P.as_phase result)) seat.new.me.0) }
 {
-    let Turn {
+    let StepResult {
         event: _,
         action: _,
         next,
@@ -116,9 +116,9 @@ pub fn find<P: PendingOp>(
     requires unasked { call_at (P.as_phase under_way) ≡ None }
     requires leaves { (found : ℕ) → accesses.now ≡ accesses_after accesses.now (after_of (P.as_phase under_way) found (Ok tt)).1 }
     requires table { seat.old.table_id ≡ gates.now.table.shared.table_id }
-    requires tied { StateAgrees gates.now.config None (Some (P.as_phase under_way)) accesses.now seat.old.me.0.items }
+    requires agrees { StateAgrees gates.now.config None (Some (P.as_phase under_way)) accesses.now seat.old.me.0.items }
     ensures slots { seat.new.me.1 ≡ seat.old.me.1 }
-    ensures led { Led gates.now.config None accesses.now (Go (P.as_phase under_way)) seat.old.table_id seat.old.me.0
+    ensures led { KnownSteps gates.now.config None accesses.now (Go (P.as_phase under_way)) seat.old.table_id seat.old.me.0
         (after_of (P.as_phase under_way) result (Ok tt)).0 seat.new.table_id seat.new.me.0 }
     ensures items { seat.new.me.0.items ≡ items_after None (P.as_phase under_way) (Ok tt) result seat.old.me.0.items }
 {
@@ -141,9 +141,9 @@ pub fn find_first<P: PendingOp>(
     requires unasked { call_at (P.as_phase under_way) ≡ None }
     requires leaves { (found : ℕ) → accesses.now ≡ accesses_after accesses.now (after_of (P.as_phase under_way) found (Ok tt)).1 }
     requires table { seat.old.table_id ≡ gates.now.table.shared.table_id }
-    requires tied { StateAgrees gates.now.config (Some op) (Some (P.as_phase under_way)) accesses.now seat.old.me.0.items }
+    requires agrees { StateAgrees gates.now.config (Some op) (Some (P.as_phase under_way)) accesses.now seat.old.me.0.items }
     ensures slots { seat.new.me.1 ≡ seat.old.me.1 }
-    ensures led { Led gates.now.config (Some op) accesses.now (Go (P.as_phase under_way)) seat.old.table_id seat.old.me.0
+    ensures led { KnownSteps gates.now.config (Some op) accesses.now (Go (P.as_phase under_way)) seat.old.table_id seat.old.me.0
         (after_of (P.as_phase under_way) result (Ok tt)).0 seat.new.table_id seat.new.me.0 }
     ensures items { seat.new.me.0.items ≡ items_after (Some op) (P.as_phase under_way) (Ok tt) result seat.old.me.0.items }
 {
@@ -165,9 +165,9 @@ pub fn find_asking<P: PendingOp, H: TimedHooks>(
     requires wanted { call_at (P.as_phase under_way) ≡ Some call }
     requires leaves { (found : ℕ) (hook : HookAnswer) → accesses.now ≡ accesses_after accesses.now (after_of (P.as_phase under_way) found hook).1 }
     requires table { seat.old.table_id ≡ gates.now.table.shared.table_id }
-    requires tied { StateAgrees gates.now.config None (Some (P.as_phase under_way)) accesses.now seat.old.me.0.items }
+    requires agrees { StateAgrees gates.now.config None (Some (P.as_phase under_way)) accesses.now seat.old.me.0.items }
     ensures slots { seat.new.me.1 ≡ seat.old.me.1 }
-    ensures led { (found : ℕ) × LedAsking H.answers gates.now.config None accesses.now (Go (P.as_phase under_way)) seat.old.table_id
+    ensures led { (found : ℕ) × KnownStepsAsking H.answers gates.now.config None accesses.now (Go (P.as_phase under_way)) seat.old.table_id
         seat.old.me.0 hooks.old (after_of (P.as_phase under_way) found result).0 seat.new.table_id seat.new.me.0 hooks.new }
 {
     let _ = accesses;

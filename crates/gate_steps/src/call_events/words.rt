@@ -8,16 +8,16 @@ ghost use Rattle.gate_world.specs.Configs.{IsWithin};
 ghost use Rattle.gate_world.specs.Work.{next_of};
 ghost use Rattle.gate_steps.specs.Rules.{first_known, table_length};
 ghost use Rattle.gate_steps.specs.Tables.{IsClosing};
-ghost use Rattle.gate_steps.specs.Seating.{Acts, HasWitness, items_after, Spares, known_kept, known_given, known_both};
+ghost use Rattle.gate_steps.specs.Seating.{OwnNumberMayStep, HasWitness, items_after, Spares, known_kept, known_given, known_both};
 
-use crate::{Closed, GateTable, Items};
+use crate::{Closed, GateTable, Knowledge};
 use cpu_words::{Event, Touch, WordName};
 use gate_events::PendingOp;
 use gate_world::{Config, Op};
 use std::alloc::{AllocError, Global};
 
 /// The seat of a task at the table.
-pub type GhostSeat = atomic_table::Seat<(), Items>;
+pub type GhostSeat = atomic_table::Seat<(), Knowledge>;
 
 /// All words of the gates, with the configuration that they have. Nothing outside this file reaches the table: a word is loaded or changed by
 /// `event` alone, in one atomic step that stands in its task's trace.
@@ -55,7 +55,7 @@ impl GateWords {
     ) -> Event
         requires table { seat.old.table_id ≡ self.now.table.shared.table_id }
         requires inside { place (next_of (P.as_phase under_way) hook).0 < words_in_all }
-        requires acts { Acts self.now.table.shared.key begins (P.as_phase under_way) seat.old.me.0.items }
+        requires acts { OwnNumberMayStep self.now.table.shared.key begins (P.as_phase under_way) seat.old.me.0.items }
         ensures table { seat.new.table_id ≡ seat.old.table_id }
         ensures is { result ≡ event_of (next_of (P.as_phase under_way) hook).0 (next_of (P.as_phase under_way) hook).1 result.found }
         ensures event { seat.new.me.0.items ≡ items_after begins (P.as_phase under_way) hook result.found seat.old.me.0.items }
@@ -79,7 +79,7 @@ impl GateWords {
         requires known { (word, touch) ≡ next_of (P.as_phase under_way) hook }
         requires table { seat.old.table_id ≡ self.now.table.shared.table_id }
         requires inside { place (next_of (P.as_phase under_way) hook).0 < words_in_all }
-        requires acts { Acts self.now.table.shared.key begins (P.as_phase under_way) seat.old.me.0.items }
+        requires acts { OwnNumberMayStep self.now.table.shared.key begins (P.as_phase under_way) seat.old.me.0.items }
         ensures table { seat.new.table_id ≡ seat.old.table_id }
         ensures found { found_by touch result ≡ result }
         ensures event { seat.new.me.0.items ≡ items_after begins (P.as_phase under_way) hook result seat.old.me.0.items }

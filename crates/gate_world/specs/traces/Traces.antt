@@ -12,12 +12,12 @@ abbrev pub IsHonest : Config → Op → GateError → List Traced → Type 0
 IsHonest c op refusal trace = (claims op).IsHonest c refusal trace
 
 -- a reply says what the trace found
-abbrev pub IsTold : Op → Reply → List Traced → Type 0
-IsTold op reply trace = (claims op).IsTold reply trace
+abbrev pub ReplyMatchesTrace : Op → Reply → List Traced → Type 0
+ReplyMatchesTrace op reply trace = (claims op).ReplyMatchesTrace reply trace
 
 -- an answer is honest where it is a reply that says what was found, or a refusal that has its cause
 abbrev pub IsHonestAnswer : Config → Op → Result Reply GateError → List Traced → Type 0
-IsHonestAnswer c op (Ok reply) trace = IsTold op reply trace
+IsHonestAnswer c op (Ok reply) trace = ReplyMatchesTrace op reply trace
 IsHonestAnswer c op (Err refusal) trace = IsHonest c op refusal trace
 
 -- the most events of an operation, where it waits for nobody

@@ -6,7 +6,7 @@ ghost use Rattle.gate_schedules.specs.Answers.{unless_refused, asked_by, idle_st
 ghost use Rattle.gate_schedules.specs.declared.steps.Progress.TheVariants.{Idle};
 ghost use Rattle.gate_world.specs.declared.operations.Op.{Op as OpType};
 ghost use Rattle.gate_world.specs.declared.work.Phase.{Phase as PhaseType};
-ghost use Rattle.gate_steps.specs.call_events.Runs.{Goes, ProgressMatches};
+ghost use Rattle.gate_steps.specs.call_events.Runs.{OpUnderWay, ProgressMatches};
 ghost use Rattle.gate_steps.specs.call_events.Stepped.{Stepped};
 ghost use Rattle.vfs_gates.specs.TaskStates.{SeatedTask, refusal_at, IsIdle};
 ghost use Rattle.mntgate_c.specs.Codes.{answer_of, hook_answer, hook_at, progress_at};
@@ -28,7 +28,7 @@ pub extern "C" fn mntgate_begin(task: &mut TaskHandle, op: &OpRecord) -> u32
     requires { task.old.full ≡ true }
     ensures full { task.new.full ≡ true }
     ensures answer { (of : OpType) → op_at op.now ≡ Some of → answer_of result ≡ unless_refused (refusal_at of task.old.state) }
-    ensures goes { (of : OpType) → op_at op.now ≡ Some of → OnOk (answer_of result) (Goes of task.old.state task.new.state) }
+    ensures goes { (of : OpType) → op_at op.now ≡ Some of → OnOk (answer_of result) (OpUnderWay of task.old.state task.new.state) }
     ensures unknown { op_at op.now ≡ None → answer_of result ≡ Err Invalid }
     ensures refused { OnErr (answer_of result) (task.new.state ≡ task.old.state) }
 {
@@ -47,7 +47,7 @@ pub extern "C" fn mntgate_step(task: &mut TaskHandle, hook: u16, step: &mut Step
     ensures idle { IsIdle task.old.state → (task.new.state ≡ task.old.state) × (step_at step.new ≡ idle_step) }
     ensures event { (phase : PhaseType) → task.old.state.phase ≡ Some phase →
         Stepped phase (hook_answer hook) task.old.state (step_at step.new) task.new.state }
-    ensures told { (op : OpType) (start : SeatedTask) → Goes op start task.old.state →
+    ensures told { (op : OpType) (start : SeatedTask) → OpUnderWay op start task.old.state →
         ProgressMatches op start (step_at step.new).progress task.new.state }
 {
     let Member { gates, task } = task.member();
@@ -63,7 +63,7 @@ pub extern "C" fn mntgate_run(task: &mut TaskHandle, hook: u16, most: u32, outco
     ensures idle { IsIdle task.old.state → (task.new.state ≡ task.old.state) × (progress_at outcome.new ≡ Idle) }
     ensures runs { (phase : PhaseType) → task.old.state.phase ≡ Some phase →
         Runs phase (hook_answer hook) most task.old.state task.new.state (progress_at outcome.new) }
-    ensures told { (op : OpType) (start : SeatedTask) → Goes op start task.old.state → ProgressMatches op start (progress_at outcome.new) task.new.state }
+    ensures told { (op : OpType) (start : SeatedTask) → OpUnderWay op start task.old.state → ProgressMatches op start (progress_at outcome.new) task.new.state }
 {
     let Member { gates, task } = task.member();
     *outcome = tell(run(task, gates, answer(hook), most));

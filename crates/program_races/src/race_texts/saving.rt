@@ -1,15 +1,15 @@
 //! A schedule of each outcome of a race, as a file that a replay takes.
 
 ghost use Rattle.std.specs.Prelude.{◌≡◌, ◌<◌, ◌≤◌, ◌*◌, All, IfErr, length};
-ghost use Rattle.exit_status.specs.declared.ends.Ending.TheVariants.{Refused};
+ghost use Rattle.exit_status.specs.declared.ends.ProgramEnding.TheVariants.{Refused};
 ghost use Rattle.exploration.specs.Tables.{IsTable};
 ghost use Rattle.outcome_texts.specs.Methods.{next_by};
 
 use crate::race_texts::details::RaceSource;
 use crate::race_texts::executions::{gates_of, movers_to, print_execution, runs_for, set_up_in};
 use access_model::GateError;
-use exit_status::{Ending, refused_of, unopened};
-use outcome_texts::{Listing, Outcome};
+use exit_status::{ProgramEnding, refused_of, unopened};
+use outcome_texts::{Outcome, OutcomeListing};
 use schedule_text::Output;
 use shown_events::Style;
 use std::alloc::{AllocError, Global};
@@ -26,11 +26,11 @@ use std::rt::Files;
 pub fn save_outcomes<R: Files + Alloc<A = Global>, E: Write>(
     rt: &R,
     source: RaceSource<'_>,
-    listing: &Listing,
+    listing: &OutcomeListing,
     style: Style,
     folder: &str,
     errors: &mut E,
-) -> Result<(), Ending>
+) -> Result<(), ProgramEnding>
     requires table { IsTable (next_by listing.now.method source.calls.now.race.calls.items source.calls.now.race.tasks)
         source.calls.now.race.tasks listing.now.all.found.states listing.now.all.found.origins.items listing.now.all.found.edges.items }
     requires rows { length listing.now.all.found.edges.items ≡ listing.now.all.found.expanded * source.calls.now.race.tasks }
@@ -74,7 +74,7 @@ fn write_file<R: Files, E: Write>(
     place: (&str, u64),
     bytes: &[u8],
     errors: &mut E,
-) -> Result<(), Ending>
+) -> Result<(), ProgramEnding>
     ensures { IfErr result (λ ending. ending ≡ Refused) }
 {
     let (folder, number) = place;

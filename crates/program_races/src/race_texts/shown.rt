@@ -10,7 +10,7 @@ use crate::race_texts::finals::{FinalModel, Finals, list_ends};
 use crate::race_texts::telling::print_model_behind;
 use exploration::{Observer, Stop};
 use gate_core::Core;
-use outcome_texts::{Listing, Outcome, SearchPlan, list};
+use outcome_texts::{Outcome, OutcomeListing, SearchPlan, list};
 use race_files::schedules::print_schedule;
 use schedule_text::Output;
 use shown_events::{Form, Look, html, records};
@@ -47,7 +47,7 @@ pub fn show_outcomes<W: Observer>(
     exhibit: Exhibit<'_>,
     watch: &mut W,
     out: &mut Output,
-) -> Result<Listing, Stop>
+) -> Result<OutcomeListing, Stop>
     requires { source.calls.now.race.tasks ≡ core.config.tasks }
     ensures table { IfOk result (λ listing. IsTable (next_by listing.method source.entry.calls.now.race.calls.items source.entry.calls.now.race.tasks)
         source.entry.calls.now.race.tasks listing.all.found.states listing.all.found.origins.items listing.all.found.edges.items) }
@@ -80,7 +80,7 @@ fn listed<W: Observer>(
     plan: SearchPlan,
     ends: bool,
     watch: &mut W,
-) -> Result<Listing, Stop>
+) -> Result<OutcomeListing, Stop>
     requires { source.calls.now.race.tasks ≡ core.config.tasks }
     ensures table { IfOk result (λ listing. IsTable (next_by listing.method source.entry.calls.now.race.calls.items source.entry.calls.now.race.tasks)
         source.entry.calls.now.race.tasks listing.all.found.states listing.all.found.origins.items listing.all.found.edges.items) }
@@ -99,7 +99,7 @@ fn listed<W: Observer>(
 /// Shows what was listed.
 fn show_listing(
     source: RaceSource<'_>,
-    listing: &Listing,
+    listing: &OutcomeListing,
     exhibit: Exhibit<'_>,
     finals: &Finals,
     out: &mut Output,
@@ -144,7 +144,12 @@ fn show_listing(
 }
 
 /// Prints what stands above all outcomes.
-fn print_head(source: RaceSource<'_>, listing: &Listing, exhibit: Exhibit<'_>, out: &mut Output) {
+fn print_head(
+    source: RaceSource<'_>,
+    listing: &OutcomeListing,
+    exhibit: Exhibit<'_>,
+    out: &mut Output,
+) {
     let states = listing.all.found.states.len() as u64;
     let count = listing.outcomes.len() as u64;
     let is_whole = listing.all.found.is_whole();

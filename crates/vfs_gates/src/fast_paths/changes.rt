@@ -6,8 +6,8 @@ ghost use Rattle.gate_world.specs.declared.operations.Op.{Op as OpType};
 ghost use Rattle.gate_world.specs.declared.work.Phase.TheVariants.{Mounts};
 ghost use Rattle.mount_counts.specs.declared.phases.MountPhase.TheVariants.{Change as Changes};
 ghost use Rattle.gate_steps.specs.call_events.SeatedTasks.{SeatedTask, task_state};
-ghost use Rattle.gate_steps.specs.call_events.Turns.{StateAgrees, StayTied, of_change};
-ghost use Rattle.gate_steps.specs.call_events.Waited.{GoesWaiting, WentWaiting};
+ghost use Rattle.gate_steps.specs.call_events.Turns.{StateAgrees, AgreesAfter, of_change};
+ghost use Rattle.gate_steps.specs.call_events.Waited.{OpUnderWayWaiting, OpAfterStepWaiting};
 
 use crate::fast_paths::{Checkpointed, FastPath, step_if_at};
 use access_model::Next;
@@ -57,15 +57,15 @@ fn begin_change(
     change: Change,
 ) -> Next<Change>
     requires table { seat.old.table_id ≡ gates.now.table.shared.table_id }
-    requires tied { StateAgrees gates.now.config begins (Some (Mounts (Changes change))) accesses.old seat.old.me.0.items }
+    requires agrees { StateAgrees gates.now.config begins (Some (Mounts (Changes change))) accesses.old seat.old.me.0.items }
     ensures table { seat.new.table_id ≡ seat.old.table_id }
     ensures slots { seat.new.me.1 ≡ seat.old.me.1 }
-    ensures tied { StayTied gates.now.config begins (Some (Mounts (Changes change))) accesses.old seat.old.me.0.items
+    ensures agrees { AgreesAfter gates.now.config begins (Some (Mounts (Changes change))) accesses.old seat.old.me.0.items
         (phase_after (of_change result)) accesses.new seat.new.me.0.items }
     ensures still { StateAgrees gates.now.config None (phase_after (of_change result)) accesses.new seat.new.me.0.items }
     ensures went { (waits : ℕ) (op : OpType) (start : SeatedTask) →
-        GoesWaiting waits op start (task_state seat.old.table_id gates.now.config begins (Some (Mounts (Changes change))) seat.old.me.0) →
-        WentWaiting waits op start (of_change result)
+        OpUnderWayWaiting waits op start (task_state seat.old.table_id gates.now.config begins (Some (Mounts (Changes change))) seat.old.me.0) →
+        OpAfterStepWaiting waits op start (of_change result)
         (task_state seat.new.table_id gates.now.config None (phase_after (of_change result)) seat.new.me.0) }
 {
     let next = step_once(gates, seat, accesses, begins, change, Ok(()));
@@ -84,16 +84,16 @@ fn add_counts(
     processors: u8,
 ) -> Next<Change>
     requires table { seat.old.table_id ≡ gates.now.table.shared.table_id }
-    requires tied { StateAgrees gates.now.config None (phase_after (of_change next)) accesses.old seat.old.me.0.items }
+    requires agrees { StateAgrees gates.now.config None (phase_after (of_change next)) accesses.old seat.old.me.0.items }
     ensures table { seat.new.table_id ≡ seat.old.table_id }
     ensures slots { seat.new.me.1 ≡ seat.old.me.1 }
-    ensures tied { StayTied gates.now.config None (phase_after (of_change next)) accesses.old seat.old.me.0.items
+    ensures agrees { AgreesAfter gates.now.config None (phase_after (of_change next)) accesses.old seat.old.me.0.items
         (phase_after (of_change result)) accesses.new seat.new.me.0.items }
     ensures still { StateAgrees gates.now.config None (phase_after (of_change result)) accesses.new seat.new.me.0.items }
     ensures went { (waits : ℕ) (op : OpType) (start : SeatedTask) →
-        WentWaiting waits op start (of_change next)
+        OpAfterStepWaiting waits op start (of_change next)
         (task_state seat.old.table_id gates.now.config None (phase_after (of_change next)) seat.old.me.0) →
-        WentWaiting waits op start (of_change result)
+        OpAfterStepWaiting waits op start (of_change result)
         (task_state seat.new.table_id gates.now.config None (phase_after (of_change result)) seat.new.me.0) }
 {
     for _cpu in 0..processors {
@@ -112,15 +112,15 @@ fn end_change(
     next: Next<Change>,
 ) -> Next<Change>
     requires table { seat.old.table_id ≡ gates.now.table.shared.table_id }
-    requires tied { StateAgrees gates.now.config None (phase_after (of_change next)) accesses.old seat.old.me.0.items }
+    requires agrees { StateAgrees gates.now.config None (phase_after (of_change next)) accesses.old seat.old.me.0.items }
     ensures table { seat.new.table_id ≡ seat.old.table_id }
     ensures slots { seat.new.me.1 ≡ seat.old.me.1 }
-    ensures tied { StayTied gates.now.config None (phase_after (of_change next)) accesses.old seat.old.me.0.items
+    ensures agrees { AgreesAfter gates.now.config None (phase_after (of_change next)) accesses.old seat.old.me.0.items
         (phase_after (of_change result)) accesses.new seat.new.me.0.items }
     ensures went { (waits : ℕ) (op : OpType) (start : SeatedTask) →
-        WentWaiting waits op start (of_change next)
+        OpAfterStepWaiting waits op start (of_change next)
         (task_state seat.old.table_id gates.now.config None (phase_after (of_change next)) seat.old.me.0) →
-        WentWaiting waits op start (of_change result)
+        OpAfterStepWaiting waits op start (of_change result)
         (task_state seat.new.table_id gates.now.config None (phase_after (of_change result)) seat.new.me.0) }
 {
     let next = step_if_at(gates, seat, accesses, next, ChangePlace::SetsReadOnly);
@@ -131,7 +131,7 @@ fn end_change(
 
 impl FastPath for Change {
     #[inline(always)]
-    fn go_in_line(
+    fn run_fast_path(
         self,
         gates: &GateWords,
         seat: &mut GhostSeat,

@@ -6,8 +6,8 @@ ghost use Rattle.gate_world.specs.declared.operations.Op.{Op as OpType};
 ghost use Rattle.gate_world.specs.declared.work.Phase.TheVariants.{Trees};
 ghost use Rattle.gated_tree.specs.declared.phases.TreePhase.TheVariants.{Grow as Grows};
 ghost use Rattle.gate_steps.specs.call_events.SeatedTasks.{SeatedTask, task_state};
-ghost use Rattle.gate_steps.specs.call_events.Turns.{StateAgrees, StayTied, of_grow};
-ghost use Rattle.gate_steps.specs.call_events.Waited.{GoesWaiting, WentWaiting};
+ghost use Rattle.gate_steps.specs.call_events.Turns.{StateAgrees, AgreesAfter, of_grow};
+ghost use Rattle.gate_steps.specs.call_events.Waited.{OpUnderWayWaiting, OpAfterStepWaiting};
 
 use crate::fast_paths::{Checkpointed, FastPath, step_if_at};
 use access_model::Next;
@@ -47,14 +47,14 @@ fn grow_in_line(
     grow: Grow,
 ) -> Next<Grow>
     requires table { seat.old.table_id ≡ gates.now.table.shared.table_id }
-    requires tied { StateAgrees gates.now.config begins (Some (Trees (Grows grow))) accesses.old seat.old.me.0.items }
+    requires agrees { StateAgrees gates.now.config begins (Some (Trees (Grows grow))) accesses.old seat.old.me.0.items }
     ensures table { seat.new.table_id ≡ seat.old.table_id }
     ensures slots { seat.new.me.1 ≡ seat.old.me.1 }
-    ensures tied { StayTied gates.now.config begins (Some (Trees (Grows grow))) accesses.old seat.old.me.0.items
+    ensures agrees { AgreesAfter gates.now.config begins (Some (Trees (Grows grow))) accesses.old seat.old.me.0.items
         (phase_after (of_grow result)) accesses.new seat.new.me.0.items }
     ensures went { (waits : ℕ) (op : OpType) (start : SeatedTask) →
-        GoesWaiting waits op start (task_state seat.old.table_id gates.now.config begins (Some (Trees (Grows grow))) seat.old.me.0) →
-        WentWaiting waits op start (of_grow result)
+        OpUnderWayWaiting waits op start (task_state seat.old.table_id gates.now.config begins (Some (Trees (Grows grow))) seat.old.me.0) →
+        OpAfterStepWaiting waits op start (of_grow result)
         (task_state seat.new.table_id gates.now.config None (phase_after (of_grow result)) seat.new.me.0) }
 {
     let next = step_once(gates, seat, accesses, begins, grow, Ok(()));
@@ -65,7 +65,7 @@ fn grow_in_line(
 
 impl FastPath for Grow {
     #[inline(always)]
-    fn go_in_line(
+    fn run_fast_path(
         self,
         gates: &GateWords,
         seat: &mut GhostSeat,

@@ -11,7 +11,7 @@ ghost use Rattle.gate_world.specs.declared.entries.Entry.{Entry};
 ghost use Rattle.gate_world.specs.declared.operations.Op.{Op};
 ghost use Rattle.gate_world.specs.declared.operations.Op.TheVariants.{Snapshot as SnapshotOp};
 ghost use Rattle.gate_world.specs.declared.views.Snapshot.{Snapshot};
-ghost use Rattle.gate_steps.specs.Seating.{SeatItems};
+ghost use Rattle.gate_steps.specs.Seating.{DealtNumbers};
 ghost use Rattle.gate_steps.specs.call_events.Grown.{StaySeen};
 ghost use Rattle.gate_steps.specs.call_events.Runs.{Called};
 ghost use Rattle.gate_steps.specs.call_events.Spans.{AreInOrder, HasItsCauseDuring, IsTreeDuring, TakesEffect};
@@ -36,7 +36,7 @@ pub fn what_was_seen_stays_seen()
 /// The schedule that closed gates leave goes on from each that their last task had seen, and so from all that was seen by the tasks that were
 /// joined to it.
 pub fn closed_gates_are_left_after_all_that_was_seen()
-    ensures { (c : Config) (ws : List ℕ) (items : SeatItems) (seen : List (List Entry)) (e : EndedWith c ws items seen) →
+    ensures { (c : Config) (ws : List ℕ) (items : DealtNumbers) (seen : List (List Entry)) (e : EndedWith c ws items seen) →
         IsLeftAfter c ws e.ended.world items seen }
 {}
 

@@ -1,6 +1,6 @@
 -- The task comes from the gates, rests, and has made all copies so far, of which no more are torn.
 use Rattle.vfs_gates.proofs.Rounds.{◌≤◌, IsFrom, Rests}
-use Rattle.backup_beside_writer.specs.Told.{Copies}
+use Rattle.backup_beside_writer.specs.Reports.{Copies}
 use Rattle.backup_beside_writer.proofs.backup.back_up.Given as goal
 
 abbrev pub invariant-loop : goal.invariant-loop

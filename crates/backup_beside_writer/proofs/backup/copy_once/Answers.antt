@@ -1,6 +1,6 @@
 -- The second change is done, and both leave a task that rests, and are a copy.
 use Rattle.vfs_gates.proofs.Rounds.{ℕ, SeatedTask, rules, refused, reopened, round, spare_stays, spare_stays_on}
-use Rattle.backup_beside_writer.specs.Told.{Copies}
+use Rattle.backup_beside_writer.specs.Reports.{Copies}
 use Rattle.backup_beside_writer.proofs.backup.copy_once.Goals as goal
 
 pub returns-in_err-change_mount-clause-copied_nothing : goal.returns-in_err-change_mount-clause-copied_nothing

@@ -1,7 +1,7 @@
 -- The backup's task rests once the writer's is joined to it, and its first change comes after all that the writer had done.
 use Rattle.std.specs.Prelude.{Bool, Result, Ok, Err, OnOk}
 use Rattle.vfs_gates.proofs.Rounds.{GateError, SeatedTask, done_after, joined_rests}
-use Rattle.backup_beside_writer.specs.Told.{HasEveryWrite, HasCopied}
+use Rattle.backup_beside_writer.specs.Reports.{HasEveryWrite, HasCopied}
 use Rattle.backup_beside_writer.proofs.run.copy_at_the_end.Goals as goal
 
 -- where a copy was made, it is one of all writes

@@ -3,7 +3,7 @@ use Rattle.std.proofs.Common.{sym, subst}
 use Rattle.std.specs.Prelude.{Bool, Result, Ok, Err, Option, IfSome, OnOk}
 use Rattle.std.specs.Result.{result_ok}
 use Rattle.vfs_gates.proofs.Rounds.{rules, handed_did, granted_alone, joined_rests, GateError, Granted, Mount}
-use Rattle.backup_beside_writer.specs.Told.{Copies, HasAllWrites}
+use Rattle.backup_beside_writer.specs.Reports.{Copies, HasAllWrites}
 use Rattle.backup_beside_writer.proofs.run.run.Goals as goal
 
 pub copy_at_the_end-task-requires-clause-rests : goal.copy_at_the_end-task-requires-clause-rests

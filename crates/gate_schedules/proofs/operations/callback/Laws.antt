@@ -1,7 +1,7 @@
 -- All that is proved of a callback.
 use Rattle.access_model.specs.{Replies.map_next, declared.{actions.Action.Action, replies.Next.Next}}
 use Rattle.gate_schedules.proofs.frames.{Frames.sync_none, OperationLaws.{OpLaws, PhaseLaws, word_among}, Snapshots.completes_none}
-use Rattle.gate_schedules.proofs.operations.callback.{Events.callback_keeps, Trace.{CallbackAt, callback_kept}}
+use Rattle.gate_schedules.proofs.operations.callback.{Events.callback_keeps, Trace.{CallbackAt, callback_inductive}}
 use Rattle.gate_schedules.proofs.operations.readers.{Fits.{callback_acts_none, callback_goes, callback_there, level_there}, Runs.callback_runs}
 use Rattle.gate_schedules.proofs.{operations.readers.Waits.callback_waits, traces.TraceInvariant.{is_short, tells}}
 use Rattle.gate_world.specs.{SameRoles.no_roles, Fits.{ActionFits, Fits}, Holdings.held_after, refusals.KeptCauses.CauseOf, Rules.Fitting, Views.{held_of, phase_after}}
@@ -50,7 +50,7 @@ callback_op c i = record {
   room_agrees = λ held seen same there. refl;
   restores = λ refusal trace before order. refl;
   file = λ t held order room. tt;
-  tells = λ within t trace h. tells (CallbackAt i c.tasks) c t (Op.Callback i) (callback_kept c t i) trace h;
-  short = λ within t trace h. is_short (CallbackAt i c.tasks) c t (Op.Callback i) (callback_kept c t i) trace h;
+  tells = λ within t trace h. tells (CallbackAt i c.tasks) c t (Op.Callback i) (callback_inductive c t i) trace h;
+  short = λ within t trace h. is_short (CallbackAt i c.tasks) c t (Op.Callback i) (callback_inductive c t i) trace h;
   most_small = λ within. tt;
 }

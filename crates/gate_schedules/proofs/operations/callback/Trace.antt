@@ -33,18 +33,18 @@ module _ (c : Config) (i tasks value : ℕ) (hook : HookAnswer) (earlier : List 
       (map_next Phase.Callbacks n) added
 
   -- what the trace says after the event of a step
-  abbrev After : CallbackStep → Type 0
-  After s = InvariantAfterStep (CallbackAt i tasks) c (Op.Callback i) (Phase.Callbacks (callback_on i tasks s)) value hook earlier added
+  abbrev TraceAfterStep : CallbackStep → Type 0
+  TraceAfterStep s = InvariantAfterStep (CallbackAt i tasks) c (Op.Callback i) (Phase.Callbacks (callback_on i tasks s)) value hook earlier added
 
   passed : (g : Grace) → transitions_made i earlier ≡ 1 →
       SaysNow (CallbackStep.AwaitsSections g) (callback_looked (callback_on i tasks (CallbackStep.AwaitsSections g)) (passed_on g))
   passed g h = grind arith
 
-  callback_event : (s : CallbackStep) → transitions_made i earlier ≡ made_before s → After s
+  callback_event : (s : CallbackStep) → transitions_made i earlier ≡ made_before s → TraceAfterStep s
   callback_event s h = grind arith
 
-pub callback_kept : (c : Config) (t i : ℕ) → IsInductive (CallbackAt i c.tasks) c t (Op.Callback i)
-callback_kept c t i = record {
+pub callback_inductive : (c : Config) (t i : ℕ) → IsInductive (CallbackAt i c.tasks) c t (Op.Callback i)
+callback_inductive c t i = record {
   first = (CallbackStep.Claims Transition.Loads, refl, refl, refl);
   more = λ phase value hook earlier added here.
       subst (λ (x : Phase). InvariantAfterStep (CallbackAt i c.tasks) c (Op.Callback i) x value hook earlier added) (sym here.1)

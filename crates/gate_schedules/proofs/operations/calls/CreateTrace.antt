@@ -31,8 +31,8 @@ events_before c (CreateStep.TakesNode node) = c.nodes + 1
 events_before c CreateStep.RefundsChild = c.nodes + 2
 
 -- what a create knows at its step
-abbrev Knows : ((Event → Bool) → Type 0) → Create → Type 0
-Knows seen x = CreateKnows seen x x.step
+abbrev KnowsAtStep : ((Event → Bool) → Type 0) → Create → Type 0
+KnowsAtStep seen x = CreateKnows seen x x.step
 
 -- it has added nothing before its end
 abbrev so_far : Create → List Action
@@ -45,11 +45,11 @@ module _ (c : Config) (d : ℕ) (kind : Kind) where
 
   -- what its trace says at a phase
   abbrev CreateAt : List Traced → Phase → List Action → Type 0
-  CreateAt = CallAt Create CreateStep TreePhase.Create create_of Knows so_far (StepInvariant c) (events_before c) (c.nodes + 3) false c (Op.Create d kind)
+  CreateAt = CallAt Create CreateStep TreePhase.Create create_of KnowsAtStep so_far (StepInvariant c) (events_before c) (c.nodes + 3) false c (Op.Create d kind)
 
   -- what comes after so many events
   abbrev NextInvariant : List Traced → ℕ → Next Create → Type 0
-  NextInvariant = GoesOnOrEnds Create CreateStep TreePhase.Create create_of Knows so_far (StepInvariant c) (events_before c) (c.nodes + 3) false c (Op.Create d kind)
+  NextInvariant = GoesOnOrEnds Create CreateStep TreePhase.Create create_of KnowsAtStep so_far (StepInvariant c) (events_before c) (c.nodes + 3) false c (Op.Create d kind)
 
   node_looked : (trace : List Traced) (node : ℕ) (r : Option NodeWord) → node < c.nodes → is_some r ≡ true →
       NextInvariant trace node (create_looked (create_of (CreateStep.LoadsNode node)) node r)
@@ -79,13 +79,13 @@ module _ (c : Config) (d : ℕ) (kind : Kind) where
 
   -- so the trace of a create says what its row asks for
   create_answers : (s : CreateStep) (trace : List Traced) →
-      Answers Create CreateStep TreePhase.Create create_of Knows so_far (StepInvariant c) (events_before c) (c.nodes + 3) false c (Op.Create d kind)
+      Answers Create CreateStep TreePhase.Create create_of KnowsAtStep so_far (StepInvariant c) (events_before c) (c.nodes + 3) false c (Op.Create d kind)
       IsNodeReply (CreateHonest (SeenIn trace) (create_of s)) (create_adds (create_of s)) trace
   create_answers s trace = grind arith
 
   -- and keeps it along
-  create_kept : IsWithin c → (t : ℕ) → IsInductiveGivenReads CreateAt c t (Op.Create d kind)
-  create_kept lim t = record {
+  create_inductive : IsWithin c → (t : ℕ) → IsInductiveGivenReads CreateAt c t (Op.Create d kind)
+  create_inductive lim t = record {
     first = (CreateStep.LoadsDirectory, refl, (tt, tt, refl, λ q. omega arith));
     more = λ phase value hook earlier added may here.
         let s : CreateStep = here.0 in
@@ -94,7 +94,7 @@ module _ (c : Config) (d : ℕ) (kind : Kind) where
         subst (λ (p : Phase). ReadIsValid p (next_of p hook).0 value → InvariantAfterStep CreateAt c (Op.Create d kind) p value hook earlier added)
         (sym here.1)
         (λ holds.
-        call_says Create CreateStep TreePhase.Create create_of Knows so_far (StepInvariant c) (events_before c) (c.nodes + 3) false c (Op.Create d kind)
+        call_says Create CreateStep TreePhase.Create create_of KnowsAtStep so_far (StepInvariant c) (events_before c) (c.nodes + 3) false c (Op.Create d kind)
         IsNodeReply (CreateHonest (SeenIn (e ∷ earlier)) (create_of s)) (create_adds (create_of s)) e earlier
         (create_answers s (e ∷ earlier)) (events_before c s) here.2.3
         (create_after (create_of s) s (found_by (create_next (create_of s) s).1 value)).0
@@ -107,8 +107,8 @@ module _ (c : Config) (d : ℕ) (kind : Kind) where
 
 pub create_tells : (d : ℕ) (kind : Kind) (c : Config) → IsWithin c → (t : ℕ) (trace : List Traced) → IsTrace c t (Op.Create d kind) trace →
     Tells c (Op.Create d kind) trace (state_of_trace c t (Op.Create d kind) trace).comes (state_of_trace c t (Op.Create d kind) trace).added
-create_tells d kind c lim t trace h = tells_well (CreateAt c d kind) c t (Op.Create d kind) (create_kept c d kind lim t) trace h
+create_tells d kind c lim t trace h = tells_well (CreateAt c d kind) c t (Op.Create d kind) (create_inductive c d kind lim t) trace h
 
 pub create_short : (d : ℕ) (kind : Kind) (c : Config) → IsWithin c → (t : ℕ) (trace : List Traced) → IsTrace c t (Op.Create d kind) trace →
     IsShort (most_events c (Op.Create d kind)) trace
-create_short d kind c lim t trace h = is_short_well (CreateAt c d kind) c t (Op.Create d kind) (create_kept c d kind lim t) trace h
+create_short d kind c lim t trace h = is_short_well (CreateAt c d kind) c t (Op.Create d kind) (create_inductive c d kind lim t) trace h

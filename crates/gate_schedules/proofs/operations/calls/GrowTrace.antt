@@ -6,7 +6,7 @@ use Rattle.cpu_words.specs.{Touches.found_by, declared.events.Event.Event}
 use Rattle.gated_tree.specs.Phases.{at_grow, grow_after, grow_next}
 use Rattle.gated_tree.specs.Refusals.{GrowHonest}
 use Rattle.gated_tree.specs.declared.{growth.{Grow.Grow, GrowStep.GrowStep}, phases.TreePhase.TreePhase}
-use Rattle.gate_schedules.{proofs.trees.Ends.grow_ends, specs.trees.Ends.{GrowKnows, IsReply, where_done}}
+use Rattle.gate_schedules.{proofs.trees.Ends.grow_ends, specs.trees.Ends.{GrowKnows, IsReply, action_if_done}}
 use Rattle.gate_world.specs.{Configs.IsWithin, traces.TraceStates.{IsTrace, WordIsValid, ReadIsValid, state_of_trace}, traces.Found.SeenIn, Operations.first_grow}
 use Rattle.gate_world.specs.{traces.Traces.{actions_of, IsHonest, IsShort, Tells, most_events}, Views.with_hook, Work.next_of}
 use Rattle.gate_world.specs.declared.{config.Config.Config, operations.Op.Op, views.Traced.Traced, work.Phase.Phase}
@@ -22,8 +22,8 @@ events_before (GrowStep.GrowsFile file) = 3
 events_before GrowStep.RefundsBlocks = 4
 
 -- what a grow knows at its step, and what it has added
-abbrev Knows : ((Event → Bool) → Type 0) → Grow → Type 0
-Knows seen x = GrowKnows seen x x.step
+abbrev KnowsAtStep : ((Event → Bool) → Type 0) → Grow → Type 0
+KnowsAtStep seen x = GrowKnows seen x x.step
 
 abbrev so_far : Grow → List Action
 so_far x = []
@@ -39,11 +39,11 @@ module _ (c : Config) (file blocks : ℕ) where
 
   -- what its trace says at a phase
   abbrev GrowAt : List Traced → Phase → List Action → Type 0
-  GrowAt = CallAt Grow GrowStep TreePhase.Grow grow_of Knows so_far StepInvariant events_before 5 false c (Op.Grow file blocks)
+  GrowAt = CallAt Grow GrowStep TreePhase.Grow grow_of KnowsAtStep so_far StepInvariant events_before 5 false c (Op.Grow file blocks)
 
   -- what comes after so many events
   abbrev NextInvariant : List Traced → ℕ → Next Grow → Type 0
-  NextInvariant = GoesOnOrEnds Grow GrowStep TreePhase.Grow grow_of Knows so_far StepInvariant events_before 5 false c (Op.Grow file blocks)
+  NextInvariant = GoesOnOrEnds Grow GrowStep TreePhase.Grow grow_of KnowsAtStep so_far StepInvariant events_before 5 false c (Op.Grow file blocks)
 
   -- each event is followed by a later step of the grow, or by its end
   grow_goes : (s : GrowStep) (value : ℕ) (trace : List Traced) → WordIsValid (grow_next (grow_of s) s).0 value →
@@ -57,14 +57,14 @@ module _ (c : Config) (file blocks : ℕ) where
 
   -- what it has added, said both ways
   grow_actions : (trace : List Traced) (answer : Result Reply GateError) →
-      where_done (Action.Grow file blocks) answer ≡ actions_of (Op.Grow file blocks) answer trace
+      action_if_done (Action.Grow file blocks) answer ≡ actions_of (Op.Grow file blocks) answer trace
   grow_actions trace (Ok reply) = refl
   grow_actions trace (Err refusal) = refl
 
   -- so the trace of a grow says what its row asks for
   grow_answers : (s : GrowStep) (trace : List Traced) →
-      Answers Grow GrowStep TreePhase.Grow grow_of Knows so_far StepInvariant events_before 5 false c (Op.Grow file blocks)
-      (IsReply Reply.Unit) (GrowHonest (SeenIn trace) (grow_of s)) (where_done (Action.Grow file blocks)) trace
+      Answers Grow GrowStep TreePhase.Grow grow_of KnowsAtStep so_far StepInvariant events_before 5 false c (Op.Grow file blocks)
+      (IsReply Reply.Unit) (GrowHonest (SeenIn trace) (grow_of s)) (action_if_done (Action.Grow file blocks)) trace
   grow_answers s trace = record {
     told = λ reply h. h;
     honest = grow_cause s trace;
@@ -78,8 +78,8 @@ module _ (c : Config) (file blocks : ℕ) where
   grow_within other trace h = omega (arith, h)
 
   -- and keeps it along
-  grow_kept : (t : ℕ) → IsInductiveGivenReads GrowAt c t (Op.Grow file blocks)
-  grow_kept t = record {
+  grow_inductive : (t : ℕ) → IsInductiveGivenReads GrowAt c t (Op.Grow file blocks)
+  grow_inductive t = record {
     first = (GrowStep.LoadsFile, refl, (tt, tt, refl, λ q. omega arith));
     more = λ phase value hook earlier added may here.
         let s : GrowStep = here.0 in
@@ -88,8 +88,8 @@ module _ (c : Config) (file blocks : ℕ) where
         subst (λ (p : Phase). ReadIsValid p (next_of p hook).0 value → InvariantAfterStep GrowAt c (Op.Grow file blocks) p value hook earlier added)
         (sym here.1)
         (λ holds.
-        call_says Grow GrowStep TreePhase.Grow grow_of Knows so_far StepInvariant events_before 5 false c (Op.Grow file blocks)
-        (IsReply Reply.Unit) (GrowHonest (SeenIn (e ∷ earlier)) (grow_of s)) (where_done (Action.Grow file blocks)) e earlier
+        call_says Grow GrowStep TreePhase.Grow grow_of KnowsAtStep so_far StepInvariant events_before 5 false c (Op.Grow file blocks)
+        (IsReply Reply.Unit) (GrowHonest (SeenIn (e ∷ earlier)) (grow_of s)) (action_if_done (Action.Grow file blocks)) e earlier
         (grow_answers s (e ∷ earlier)) (events_before s) here.2.3
         (grow_after (grow_of s) s (found_by (grow_next (grow_of s) s).1 value)).0
         (grow_after (grow_of s) s (found_by (grow_next (grow_of s) s).1 value)).1 ([]) added here.2.2
@@ -101,8 +101,8 @@ module _ (c : Config) (file blocks : ℕ) where
 
 pub grow_tells : (file blocks : ℕ) (c : Config) → IsWithin c → (t : ℕ) (trace : List Traced) → IsTrace c t (Op.Grow file blocks) trace →
     Tells c (Op.Grow file blocks) trace (state_of_trace c t (Op.Grow file blocks) trace).comes (state_of_trace c t (Op.Grow file blocks) trace).added
-grow_tells file blocks c lim t trace h = tells_well (GrowAt c file blocks) c t (Op.Grow file blocks) (grow_kept c file blocks t) trace h
+grow_tells file blocks c lim t trace h = tells_well (GrowAt c file blocks) c t (Op.Grow file blocks) (grow_inductive c file blocks t) trace h
 
 pub grow_short : (file blocks : ℕ) (c : Config) → IsWithin c → (t : ℕ) (trace : List Traced) → IsTrace c t (Op.Grow file blocks) trace →
     IsShort (most_events c (Op.Grow file blocks)) trace
-grow_short file blocks c lim t trace h = is_short_well (GrowAt c file blocks) c t (Op.Grow file blocks) (grow_kept c file blocks t) trace h
+grow_short file blocks c lim t trace h = is_short_well (GrowAt c file blocks) c t (Op.Grow file blocks) (grow_inductive c file blocks t) trace h

@@ -7,7 +7,7 @@ use Rattle.node_words.specs.Nodes.{word_of, as_file, unpacked, file_in}
 use Rattle.gated_tree.specs.Phases.{at_mark, mark_after, mark_done, mark_next}
 use Rattle.gated_tree.specs.Refusals.{FileHonest}
 use Rattle.gated_tree.specs.declared.{marks.{Mark.Mark, MarkStep.MarkStep}, phases.TreePhase.TreePhase}
-use Rattle.gate_schedules.{proofs.trees.Ends.mark_ends, specs.trees.Ends.{IsReply, where_done}}
+use Rattle.gate_schedules.{proofs.trees.Ends.mark_ends, specs.trees.Ends.{IsReply, action_if_done}}
 use Rattle.gate_world.specs.{Beginnings.first_phase, Configs.IsWithin, traces.TraceStates.{IsTrace, WordIsValid, ReadIsValid, state_of_trace}, traces.Found.SeenIn, Operations.first_mark}
 use Rattle.gate_world.specs.{traces.Traces.{IsShort, Tells, most_events}, Views.with_hook, Work.next_of}
 use Rattle.gate_world.specs.declared.{config.Config.Config, operations.Op.Op, views.Traced.Traced, work.Phase.Phase}
@@ -20,8 +20,8 @@ events_before MarkStep.LoadsFile = 0
 events_before (MarkStep.MarksFile file) = 1
 
 -- what one knows at its step, and what it has added
-abbrev Knows : ((Event → Bool) → Type 0) → Mark → Type 0
-Knows seen x = Unit {0}
+abbrev KnowsNothing : ((Event → Bool) → Type 0) → Mark → Type 0
+KnowsNothing seen x = Unit {0}
 
 abbrev so_far : Mark → List Action
 so_far x = []
@@ -52,11 +52,11 @@ module _ (c : Config) (file : ℕ) (dirty : Bool) where
 
   -- what its trace says at a phase
   abbrev MarkAt : List Traced → Phase → List Action → Type 0
-  MarkAt = CallAt Mark MarkStep TreePhase.Mark mark_of Knows so_far StepInvariant events_before 2 false c (mark_op file dirty)
+  MarkAt = CallAt Mark MarkStep TreePhase.Mark mark_of KnowsNothing so_far StepInvariant events_before 2 false c (mark_op file dirty)
 
   -- what comes after so many events
   abbrev NextInvariant : List Traced → ℕ → Next Mark → Type 0
-  NextInvariant = GoesOnOrEnds Mark MarkStep TreePhase.Mark mark_of Knows so_far StepInvariant events_before 2 false c (mark_op file dirty)
+  NextInvariant = GoesOnOrEnds Mark MarkStep TreePhase.Mark mark_of KnowsNothing so_far StepInvariant events_before 2 false c (mark_op file dirty)
 
   -- each event is followed by a later step of the mark, or by its end
   mark_goes : (s : MarkStep) (value : ℕ) (trace : List Traced) → WordIsValid (mark_next (mark_of s) s).0 value →
@@ -72,8 +72,8 @@ module _ (c : Config) (file : ℕ) (dirty : Bool) where
 
   -- so the trace of a mark says what its row asks for
   mark_answers : (trace : List Traced) →
-      Answers Mark MarkStep TreePhase.Mark mark_of Knows so_far StepInvariant events_before 2 false c (mark_op file dirty)
-      (IsReply Reply.Unit) (FileHonest (SeenIn trace) file) (where_done (mark_done dirty file)) trace
+      Answers Mark MarkStep TreePhase.Mark mark_of KnowsNothing so_far StepInvariant events_before 2 false c (mark_op file dirty)
+      (IsReply Reply.Unit) (FileHonest (SeenIn trace) file) (action_if_done (mark_done dirty file)) trace
   mark_answers trace = grind arith
 
   -- a step comes after at most that many events
@@ -82,8 +82,8 @@ module _ (c : Config) (file : ℕ) (dirty : Bool) where
   mark_within (MarkStep.MarksFile file) trace h = omega (arith, h)
 
   -- and keeps it along
-  mark_kept : (t : ℕ) → IsInductiveGivenReads MarkAt c t (mark_op file dirty)
-  mark_kept t = record {
+  mark_inductive : (t : ℕ) → IsInductiveGivenReads MarkAt c t (mark_op file dirty)
+  mark_inductive t = record {
     first = (MarkStep.LoadsFile, mark_first c t file dirty, (tt, tt, refl, λ q. omega arith));
     more = λ phase value hook earlier added may here.
         let s : MarkStep = here.0 in
@@ -92,8 +92,8 @@ module _ (c : Config) (file : ℕ) (dirty : Bool) where
         subst (λ (p : Phase). ReadIsValid p (next_of p hook).0 value → InvariantAfterStep MarkAt c (mark_op file dirty) p value hook earlier added)
         (sym here.1)
         (λ holds.
-        call_says Mark MarkStep TreePhase.Mark mark_of Knows so_far StepInvariant events_before 2 false c (mark_op file dirty)
-        (IsReply Reply.Unit) (FileHonest (SeenIn (e ∷ earlier)) file) (where_done (mark_done dirty file)) e earlier
+        call_says Mark MarkStep TreePhase.Mark mark_of KnowsNothing so_far StepInvariant events_before 2 false c (mark_op file dirty)
+        (IsReply Reply.Unit) (FileHonest (SeenIn (e ∷ earlier)) file) (action_if_done (mark_done dirty file)) e earlier
         (mark_answers (e ∷ earlier)) (events_before s) here.2.3
         (mark_after (mark_of s) s (found_by (mark_next (mark_of s) s).1 value)).0
         (mark_after (mark_of s) s (found_by (mark_next (mark_of s) s).1 value)).1 ([]) added here.2.2
@@ -105,16 +105,16 @@ module _ (c : Config) (file : ℕ) (dirty : Bool) where
 
 pub fault_tells : (file : ℕ) (c : Config) → IsWithin c → (t : ℕ) (trace : List Traced) → IsTrace c t (Op.Fault file) trace →
     Tells c (Op.Fault file) trace (state_of_trace c t (Op.Fault file) trace).comes (state_of_trace c t (Op.Fault file) trace).added
-fault_tells file c lim t trace h = tells_well (MarkAt c file true) c t (Op.Fault file) (mark_kept c file true t) trace h
+fault_tells file c lim t trace h = tells_well (MarkAt c file true) c t (Op.Fault file) (mark_inductive c file true t) trace h
 
 pub fault_short : (file : ℕ) (c : Config) → IsWithin c → (t : ℕ) (trace : List Traced) → IsTrace c t (Op.Fault file) trace →
     IsShort (most_events c (Op.Fault file)) trace
-fault_short file c lim t trace h = is_short_well (MarkAt c file true) c t (Op.Fault file) (mark_kept c file true t) trace h
+fault_short file c lim t trace h = is_short_well (MarkAt c file true) c t (Op.Fault file) (mark_inductive c file true t) trace h
 
 pub flush_tells : (file : ℕ) (c : Config) → IsWithin c → (t : ℕ) (trace : List Traced) → IsTrace c t (Op.Flush file) trace →
     Tells c (Op.Flush file) trace (state_of_trace c t (Op.Flush file) trace).comes (state_of_trace c t (Op.Flush file) trace).added
-flush_tells file c lim t trace h = tells_well (MarkAt c file false) c t (Op.Flush file) (mark_kept c file false t) trace h
+flush_tells file c lim t trace h = tells_well (MarkAt c file false) c t (Op.Flush file) (mark_inductive c file false t) trace h
 
 pub flush_short : (file : ℕ) (c : Config) → IsWithin c → (t : ℕ) (trace : List Traced) → IsTrace c t (Op.Flush file) trace →
     IsShort (most_events c (Op.Flush file)) trace
-flush_short file c lim t trace h = is_short_well (MarkAt c file false) c t (Op.Flush file) (mark_kept c file false t) trace h
+flush_short file c lim t trace h = is_short_well (MarkAt c file false) c t (Op.Flush file) (mark_inductive c file false t) trace h

@@ -6,7 +6,7 @@ use Rattle.cpu_words.specs.{Touches.found_by, declared.events.Event.Event}
 use Rattle.node_words.specs.Nodes.{word_of, as_file, as_directory, unpacked, file_in, directory_in}
 use Rattle.gated_tree.specs.Phases.{at_move, move_after, move_next}
 use Rattle.gated_tree.specs.{Refusals.MoveHonest, declared.{changes.{MoveStep.MoveStep, MoveTo.MoveTo}, phases.TreePhase.TreePhase}}
-use Rattle.gate_schedules.{proofs.trees.Ends.move_ends, specs.trees.Ends.{IsReply, MoveKnows, move_added, where_done}}
+use Rattle.gate_schedules.{proofs.trees.Ends.move_ends, specs.trees.Ends.{IsReply, MoveKnows, move_added, action_if_done}}
 use Rattle.gate_world.specs.{Configs.IsWithin, traces.TraceStates.{IsTrace, WordIsValid, ReadIsValid, state_of_trace}, traces.Found.SeenIn, Operations.first_move}
 use Rattle.gate_world.specs.{traces.Traces.{IsShort, Tells, most_events}, Views.with_hook, Work.next_of}
 use Rattle.gate_world.specs.declared.{config.Config.Config, operations.Op.Op, views.Traced.Traced, work.Phase.Phase}
@@ -22,8 +22,8 @@ events_before (MoveStep.MovesFile file) = 3
 events_before (MoveStep.RefundsChild dir answer) = 4
 
 -- what a move knows at its step, and what it has added
-abbrev Knows : ((Event → Bool) → Type 0) → MoveTo → Type 0
-Knows seen x = MoveKnows seen x x.step
+abbrev KnowsAtStep : ((Event → Bool) → Type 0) → MoveTo → Type 0
+KnowsAtStep seen x = MoveKnows seen x x.step
 
 abbrev so_far : MoveTo → List Action
 so_far x = move_added x x.step
@@ -39,11 +39,11 @@ module _ (c : Config) (file dir : ℕ) where
 
   -- what its trace says at a phase
   abbrev MoveAt : List Traced → Phase → List Action → Type 0
-  MoveAt = CallAt MoveTo MoveStep TreePhase.MoveTo move_of Knows so_far StepInvariant events_before 5 false c (Op.MoveTo file dir)
+  MoveAt = CallAt MoveTo MoveStep TreePhase.MoveTo move_of KnowsAtStep so_far StepInvariant events_before 5 false c (Op.MoveTo file dir)
 
   -- what comes after so many events
   abbrev NextInvariant : List Traced → ℕ → Next MoveTo → Type 0
-  NextInvariant = GoesOnOrEnds MoveTo MoveStep TreePhase.MoveTo move_of Knows so_far StepInvariant events_before 5 false c (Op.MoveTo file dir)
+  NextInvariant = GoesOnOrEnds MoveTo MoveStep TreePhase.MoveTo move_of KnowsAtStep so_far StepInvariant events_before 5 false c (Op.MoveTo file dir)
 
   -- each event is followed by a later step of the move, or by its end
   move_goes : (s : MoveStep) (value : ℕ) (trace : List Traced) → WordIsValid (move_next (move_of s) s).0 value →
@@ -65,8 +65,8 @@ module _ (c : Config) (file dir : ℕ) where
 
   -- so the trace of a move says what its row asks for
   move_answers : (s : MoveStep) (trace : List Traced) →
-      Answers MoveTo MoveStep TreePhase.MoveTo move_of Knows so_far StepInvariant events_before 5 false c (Op.MoveTo file dir)
-      (IsReply Reply.Unit) (MoveHonest (SeenIn trace) (move_of s)) (where_done (Action.MoveTo file dir)) trace
+      Answers MoveTo MoveStep TreePhase.MoveTo move_of KnowsAtStep so_far StepInvariant events_before 5 false c (Op.MoveTo file dir)
+      (IsReply Reply.Unit) (MoveHonest (SeenIn trace) (move_of s)) (action_if_done (Action.MoveTo file dir)) trace
   move_answers s trace = grind arith
 
   -- a step comes after at most that many events
@@ -75,8 +75,8 @@ module _ (c : Config) (file dir : ℕ) where
   move_within other trace h = omega (arith, h)
 
   -- and keeps it along
-  move_kept : (t : ℕ) → IsInductiveGivenReads MoveAt c t (Op.MoveTo file dir)
-  move_kept t = record {
+  move_inductive : (t : ℕ) → IsInductiveGivenReads MoveAt c t (Op.MoveTo file dir)
+  move_inductive t = record {
     first = (MoveStep.LoadsFile, refl, (tt, tt, refl, λ q. omega arith));
     more = λ phase value hook earlier added may here.
         let s : MoveStep = here.0 in
@@ -85,8 +85,8 @@ module _ (c : Config) (file dir : ℕ) where
         subst (λ (p : Phase). ReadIsValid p (next_of p hook).0 value → InvariantAfterStep MoveAt c (Op.MoveTo file dir) p value hook earlier added)
         (sym here.1)
         (λ holds.
-        call_says MoveTo MoveStep TreePhase.MoveTo move_of Knows so_far StepInvariant events_before 5 false c (Op.MoveTo file dir)
-        (IsReply Reply.Unit) (MoveHonest (SeenIn (e ∷ earlier)) (move_of s)) (where_done (Action.MoveTo file dir)) e earlier
+        call_says MoveTo MoveStep TreePhase.MoveTo move_of KnowsAtStep so_far StepInvariant events_before 5 false c (Op.MoveTo file dir)
+        (IsReply Reply.Unit) (MoveHonest (SeenIn (e ∷ earlier)) (move_of s)) (action_if_done (Action.MoveTo file dir)) e earlier
         (move_answers s (e ∷ earlier)) (events_before s) here.2.3
         (move_after (move_of s) s (found_by (move_next (move_of s) s).1 value)).0
         (move_after (move_of s) s (found_by (move_next (move_of s) s).1 value)).1 (move_added (move_of s) s) added here.2.2
@@ -98,8 +98,8 @@ module _ (c : Config) (file dir : ℕ) where
 
 pub move_tells : (file dir : ℕ) (c : Config) → IsWithin c → (t : ℕ) (trace : List Traced) → IsTrace c t (Op.MoveTo file dir) trace →
     Tells c (Op.MoveTo file dir) trace (state_of_trace c t (Op.MoveTo file dir) trace).comes (state_of_trace c t (Op.MoveTo file dir) trace).added
-move_tells file dir c lim t trace h = tells_well (MoveAt c file dir) c t (Op.MoveTo file dir) (move_kept c file dir t) trace h
+move_tells file dir c lim t trace h = tells_well (MoveAt c file dir) c t (Op.MoveTo file dir) (move_inductive c file dir t) trace h
 
 pub move_short : (file dir : ℕ) (c : Config) → IsWithin c → (t : ℕ) (trace : List Traced) → IsTrace c t (Op.MoveTo file dir) trace →
     IsShort (most_events c (Op.MoveTo file dir)) trace
-move_short file dir c lim t trace h = is_short_well (MoveAt c file dir) c t (Op.MoveTo file dir) (move_kept c file dir t) trace h
+move_short file dir c lim t trace h = is_short_well (MoveAt c file dir) c t (Op.MoveTo file dir) (move_inductive c file dir t) trace h

@@ -12,7 +12,7 @@ use Rattle.gated_tree.specs.Refusals.{FileHonest}
 use Rattle.gated_tree.specs.declared.opens.OpenFile.{OpenFile}
 use Rattle.gated_tree.specs.declared.opens.OpenStep.{OpenStep}
 use Rattle.gated_tree.specs.declared.phases.TreePhase.{TreePhase}
-use Rattle.gate_schedules.{proofs.trees.Ends.open_ends, specs.trees.Ends.{IsReply, where_done}}
+use Rattle.gate_schedules.{proofs.trees.Ends.open_ends, specs.trees.Ends.{IsReply, action_if_done}}
 use Rattle.gate_world.specs.{Configs.IsWithin, traces.TraceStates.{IsTrace, ReadIsValid, OpenReadIsValid, state_of_trace}, traces.Found.SeenIn, Operations.first_open}
 use Rattle.gate_world.specs.{traces.Traces.{IsShort, Tells, most_events}, Views.with_hook, Work.next_of}
 use Rattle.gate_world.specs.declared.{config.Config.Config, operations.Op.Op, views.Traced.Traced, work.Phase.Phase}
@@ -25,8 +25,8 @@ events_before OpenStep.LoadsFile = 0
 events_before (OpenStep.OpensFile file) = 1
 
 -- what an open knows at its step, and what it has added
-abbrev Knows : ((Event → Bool) → Type 0) → OpenFile → Type 0
-Knows seen x = Unit {0}
+abbrev KnowsNothing : ((Event → Bool) → Type 0) → OpenFile → Type 0
+KnowsNothing seen x = Unit {0}
 
 abbrev so_far : OpenFile → List Action
 so_far x = []
@@ -42,11 +42,11 @@ module _ (c : Config) (file : ℕ) where
 
   -- what its trace says at a phase
   abbrev OpenAt : List Traced → Phase → List Action → Type 0
-  OpenAt = CallAt OpenFile OpenStep TreePhase.OpenFile open_of Knows so_far StepInvariant events_before 2 false c (Op.Open file)
+  OpenAt = CallAt OpenFile OpenStep TreePhase.OpenFile open_of KnowsNothing so_far StepInvariant events_before 2 false c (Op.Open file)
 
   -- what comes after so many events
   abbrev NextInvariant : List Traced → ℕ → Next OpenFile → Type 0
-  NextInvariant = GoesOnOrEnds OpenFile OpenStep TreePhase.OpenFile open_of Knows so_far StepInvariant events_before 2 false c (Op.Open file)
+  NextInvariant = GoesOnOrEnds OpenFile OpenStep TreePhase.OpenFile open_of KnowsNothing so_far StepInvariant events_before 2 false c (Op.Open file)
 
   -- a look that finds its file room goes on
   look_goes : (value : ℕ) (trace : List Traced) (r : Option (Result NodeWord GateError)) → file_in value ≡ r → is_some r ≡ true →
@@ -66,8 +66,8 @@ module _ (c : Config) (file : ℕ) where
 
   -- so the trace of an open says what its row asks for
   open_answers : (trace : List Traced) →
-      Answers OpenFile OpenStep TreePhase.OpenFile open_of Knows so_far StepInvariant events_before 2 false c (Op.Open file)
-      (IsReply Reply.Unit) (FileHonest (SeenIn trace) file) (where_done (Action.Open file)) trace
+      Answers OpenFile OpenStep TreePhase.OpenFile open_of KnowsNothing so_far StepInvariant events_before 2 false c (Op.Open file)
+      (IsReply Reply.Unit) (FileHonest (SeenIn trace) file) (action_if_done (Action.Open file)) trace
   open_answers trace = grind arith
 
   -- a step comes after at most that many events
@@ -76,8 +76,8 @@ module _ (c : Config) (file : ℕ) where
   open_within (OpenStep.OpensFile file) trace h = omega (arith, h)
 
   -- and keeps it along
-  open_kept : (t : ℕ) → IsInductiveGivenReads OpenAt c t (Op.Open file)
-  open_kept t = record {
+  open_inductive : (t : ℕ) → IsInductiveGivenReads OpenAt c t (Op.Open file)
+  open_inductive t = record {
     first = (OpenStep.LoadsFile, refl, (tt, tt, refl, λ q. omega arith));
     more = λ phase value hook earlier added may here.
         let s : OpenStep = here.0 in
@@ -86,8 +86,8 @@ module _ (c : Config) (file : ℕ) where
         subst (λ (p : Phase). ReadIsValid p (next_of p hook).0 value → InvariantAfterStep OpenAt c (Op.Open file) p value hook earlier added)
         (sym here.1)
         (λ holds.
-        call_says OpenFile OpenStep TreePhase.OpenFile open_of Knows so_far StepInvariant events_before 2 false c (Op.Open file)
-        (IsReply Reply.Unit) (FileHonest (SeenIn (e ∷ earlier)) file) (where_done (Action.Open file)) e earlier
+        call_says OpenFile OpenStep TreePhase.OpenFile open_of KnowsNothing so_far StepInvariant events_before 2 false c (Op.Open file)
+        (IsReply Reply.Unit) (FileHonest (SeenIn (e ∷ earlier)) file) (action_if_done (Action.Open file)) e earlier
         (open_answers (e ∷ earlier)) (events_before s) here.2.3
         (open_after (open_of s) s (found_by (open_next (open_of s) s).1 value)).0
         (open_after (open_of s) s (found_by (open_next (open_of s) s).1 value)).1 ([]) added here.2.2
@@ -99,8 +99,8 @@ module _ (c : Config) (file : ℕ) where
 
 pub open_tells : (file : ℕ) (c : Config) → IsWithin c → (t : ℕ) (trace : List Traced) → IsTrace c t (Op.Open file) trace →
     Tells c (Op.Open file) trace (state_of_trace c t (Op.Open file) trace).comes (state_of_trace c t (Op.Open file) trace).added
-open_tells file c lim t trace h = tells_well (OpenAt c file) c t (Op.Open file) (open_kept c file t) trace h
+open_tells file c lim t trace h = tells_well (OpenAt c file) c t (Op.Open file) (open_inductive c file t) trace h
 
 pub open_short : (file : ℕ) (c : Config) → IsWithin c → (t : ℕ) (trace : List Traced) → IsTrace c t (Op.Open file) trace →
     IsShort (most_events c (Op.Open file)) trace
-open_short file c lim t trace h = is_short_well (OpenAt c file) c t (Op.Open file) (open_kept c file t) trace h
+open_short file c lim t trace h = is_short_well (OpenAt c file) c t (Op.Open file) (open_inductive c file t) trace h

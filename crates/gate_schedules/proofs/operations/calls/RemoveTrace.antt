@@ -10,7 +10,7 @@ use Rattle.node_words.specs.declared.nodes.NodeWord.{NodeWord}
 use Rattle.gated_tree.specs.declared.changes.Remove.{Remove}
 use Rattle.gated_tree.specs.declared.changes.RemoveStep.{RemoveStep}
 use Rattle.gated_tree.specs.declared.phases.TreePhase.{TreePhase}
-use Rattle.gate_schedules.{proofs.trees.Ends.remove_ends, specs.trees.Ends.{IsReply, RemoveKnows, remove_added, where_done}}
+use Rattle.gate_schedules.{proofs.trees.Ends.remove_ends, specs.trees.Ends.{IsReply, RemoveKnows, remove_added, action_if_done}}
 use Rattle.gate_world.specs.{Configs.IsWithin, traces.TraceStates.{IsTrace, WordIsValid, ReadIsValid, state_of_trace}, traces.Found.SeenIn, Operations.first_remove}
 use Rattle.gate_world.specs.{traces.Traces.{IsShort, Tells, most_events}, Views.with_hook, Work.next_of}
 use Rattle.gate_world.specs.declared.{config.Config.Config, operations.Op.Op, views.Traced.Traced, work.Phase.Phase}
@@ -31,8 +31,8 @@ removes_later : (file : NodeWord) (opens : ℕ) → 0 < events_before (removes_f
 removes_later file opens = elim (cases_Bool (opens == 0)) [ inl e ↦ rw e (omega arith) | inr e ↦ rw e (omega arith) ]
 
 -- what a remove knows at its step, and what it has added
-abbrev Knows : ((Event → Bool) → Type 0) → Remove → Type 0
-Knows seen x = RemoveKnows seen x x.step
+abbrev KnowsAtStep : ((Event → Bool) → Type 0) → Remove → Type 0
+KnowsAtStep seen x = RemoveKnows seen x x.step
 
 abbrev so_far : Remove → List Action
 so_far x = remove_added x x.step
@@ -48,11 +48,11 @@ module _ (c : Config) (file : ℕ) where
 
   -- what its trace says at a phase
   abbrev RemoveAt : List Traced → Phase → List Action → Type 0
-  RemoveAt = CallAt Remove RemoveStep TreePhase.Remove remove_of Knows so_far StepInvariant events_before 4 false c (Op.Remove file)
+  RemoveAt = CallAt Remove RemoveStep TreePhase.Remove remove_of KnowsAtStep so_far StepInvariant events_before 4 false c (Op.Remove file)
 
   -- what comes after so many events
   abbrev NextInvariant : List Traced → ℕ → Next Remove → Type 0
-  NextInvariant = GoesOnOrEnds Remove RemoveStep TreePhase.Remove remove_of Knows so_far StepInvariant events_before 4 false c (Op.Remove file)
+  NextInvariant = GoesOnOrEnds Remove RemoveStep TreePhase.Remove remove_of KnowsAtStep so_far StepInvariant events_before 4 false c (Op.Remove file)
 
   -- each event is followed by a later step of the remove, or by its end
   remove_goes : (s : RemoveStep) (value : ℕ) (trace : List Traced) → WordIsValid (remove_next (remove_of s) s).0 value →
@@ -76,8 +76,8 @@ module _ (c : Config) (file : ℕ) where
 
   -- so the trace of a remove says what its row asks for
   remove_answers : (trace : List Traced) →
-      Answers Remove RemoveStep TreePhase.Remove remove_of Knows so_far StepInvariant events_before 4 false c (Op.Remove file)
-      (IsReply Reply.Unit) (FileHonest (SeenIn trace) file) (where_done (Action.Remove file)) trace
+      Answers Remove RemoveStep TreePhase.Remove remove_of KnowsAtStep so_far StepInvariant events_before 4 false c (Op.Remove file)
+      (IsReply Reply.Unit) (FileHonest (SeenIn trace) file) (action_if_done (Action.Remove file)) trace
   remove_answers trace = grind arith
 
   -- a step comes after at most that many events
@@ -86,8 +86,8 @@ module _ (c : Config) (file : ℕ) where
   remove_within other trace h = omega (arith, h)
 
   -- and keeps it along
-  remove_kept : (t : ℕ) → IsInductiveGivenReads RemoveAt c t (Op.Remove file)
-  remove_kept t = record {
+  remove_inductive : (t : ℕ) → IsInductiveGivenReads RemoveAt c t (Op.Remove file)
+  remove_inductive t = record {
     first = (RemoveStep.LoadsFile, refl, (tt, tt, refl, λ q. omega arith));
     more = λ phase value hook earlier added may here.
         let s : RemoveStep = here.0 in
@@ -96,8 +96,8 @@ module _ (c : Config) (file : ℕ) where
         subst (λ (p : Phase). ReadIsValid p (next_of p hook).0 value → InvariantAfterStep RemoveAt c (Op.Remove file) p value hook earlier added)
         (sym here.1)
         (λ holds.
-        call_says Remove RemoveStep TreePhase.Remove remove_of Knows so_far StepInvariant events_before 4 false c (Op.Remove file)
-        (IsReply Reply.Unit) (FileHonest (SeenIn (e ∷ earlier)) file) (where_done (Action.Remove file)) e earlier
+        call_says Remove RemoveStep TreePhase.Remove remove_of KnowsAtStep so_far StepInvariant events_before 4 false c (Op.Remove file)
+        (IsReply Reply.Unit) (FileHonest (SeenIn (e ∷ earlier)) file) (action_if_done (Action.Remove file)) e earlier
         (remove_answers (e ∷ earlier)) (events_before s) here.2.3
         (remove_after (remove_of s) s (found_by (remove_next (remove_of s) s).1 value)).0
         (remove_after (remove_of s) s (found_by (remove_next (remove_of s) s).1 value)).1 (remove_added (remove_of s) s) added here.2.2
@@ -109,8 +109,8 @@ module _ (c : Config) (file : ℕ) where
 
 pub remove_tells : (file : ℕ) (c : Config) → IsWithin c → (t : ℕ) (trace : List Traced) → IsTrace c t (Op.Remove file) trace →
     Tells c (Op.Remove file) trace (state_of_trace c t (Op.Remove file) trace).comes (state_of_trace c t (Op.Remove file) trace).added
-remove_tells file c lim t trace h = tells_well (RemoveAt c file) c t (Op.Remove file) (remove_kept c file t) trace h
+remove_tells file c lim t trace h = tells_well (RemoveAt c file) c t (Op.Remove file) (remove_inductive c file t) trace h
 
 pub remove_short : (file : ℕ) (c : Config) → IsWithin c → (t : ℕ) (trace : List Traced) → IsTrace c t (Op.Remove file) trace →
     IsShort (most_events c (Op.Remove file)) trace
-remove_short file c lim t trace h = is_short_well (RemoveAt c file) c t (Op.Remove file) (remove_kept c file t) trace h
+remove_short file c lim t trace h = is_short_well (RemoveAt c file) c t (Op.Remove file) (remove_inductive c file t) trace h

@@ -5,8 +5,8 @@ use Rattle.access_model.specs.{Replies.map_next, declared.{actions.Action.Action
 use Rattle.cpu_words.specs.declared.events.Event.{Event}
 use Rattle.node_words.specs.Phases.{after_look}
 use Rattle.gated_tree.specs.declared.phases.TreePhase.{TreePhase}
-use Rattle.gate_schedules.specs.trees.Ends.{with_action, EndsWell, SeesMore}
-use Rattle.gate_world.specs.{traces.Found.SeenIn, traces.Traces.{actions_of, IsHonest, IsTold, most_events, IsShort, MayWait}, Views.actions_after}
+use Rattle.gate_schedules.specs.trees.Ends.{with_action, NextIsJustified, SeesMore}
+use Rattle.gate_world.specs.{traces.Found.SeenIn, traces.Traces.{actions_of, IsHonest, ReplyMatchesTrace, most_events, IsShort, MayWait}, Views.actions_after}
 use Rattle.gate_world.specs.declared.{config.Config.Config, operations.Op.Op, views.Traced.Traced, work.Phase.Phase}
 use Rattle.gate_schedules.proofs.traces.TraceInvariant.{InvariantAfter}
 
@@ -58,7 +58,7 @@ module _ (P S : Type 0) (to : P → TreePhase) (at : S → P) (Knows : ((Event �
   -- what is known, told and added by an answer is what the operation's row asks for
   pub record Answers (IsOne : Reply → Type 0) (Honest : GateError → Type 0) (adds : Result Reply GateError → List Action)
       (trace : List Traced) : Type 0 where
-    pub told : (reply : Reply) → IsOne reply → IsTold op reply trace
+    pub told : (reply : Reply) → IsOne reply → ReplyMatchesTrace op reply trace
     pub honest : (refusal : GateError) → Honest refusal → IsHonest c op refusal trace
     pub actions : (answer : Result Reply GateError) → adds answer ≡ actions_of op answer trace
     pub short : (waits ≡ false → length trace ≤ most) → IsShort (most_events c op) trace
@@ -67,13 +67,13 @@ module _ (P S : Type 0) (to : P → TreePhase) (at : S → P) (Knows : ((Event �
       (earlier : List Traced) (answers : Answers IsOne Honest adds (e ∷ earlier)) (n : ℕ)
       (within : waits ≡ false → length earlier ≤ n) where
     -- what is known and what comes say what the trace says after an event
-    next_says : (next : Next P) (added : List Action) → EndsWell (Knows (SeenIn (e ∷ earlier))) so_far IsOne Honest adds next added →
+    next_says : (next : Next P) (added : List Action) → NextIsJustified (Knows (SeenIn (e ∷ earlier))) so_far IsOne Honest adds next added →
         GoesOnOrEnds (e ∷ earlier) n next → InvariantAfter CallAt c op (e ∷ earlier) (map_next Phase.Trees (map_next to next)) added
     next_says next added h stays = grind arith
 
     -- the same, of what the event added on top of what was added before
     pub call_says : (next : Next P) (action : Option Action) (before added : List Action) → added ≡ before →
-        EndsWell (Knows (SeenIn (e ∷ earlier))) so_far IsOne Honest adds next (with_action action before) → GoesOnOrEnds (e ∷ earlier) n next →
+        NextIsJustified (Knows (SeenIn (e ∷ earlier))) so_far IsOne Honest adds next (with_action action before) → GoesOnOrEnds (e ∷ earlier) n next →
         InvariantAfter CallAt c op (e ∷ earlier) (map_next Phase.Trees (map_next to next)) (actions_after action added)
     call_says next action before added same ends stays =
         subst (InvariantAfter CallAt c op (e ∷ earlier) (map_next Phase.Trees (map_next to next)))

@@ -28,50 +28,50 @@ use Rattle.gate_schedules.proofs.operations.calls.NodeCauses.{is_of_node, call_r
 use Rattle.gate_schedules.proofs.operations.calls.NodeCauses.{clear_node}
 
 -- what comes is no wait
-abbrev GoesOn : {P : Type 0} → Next P → Type 0
-GoesOn (Next.Go p) = Unit {0}
-GoesOn (Next.Wait p) = ⊥
-GoesOn (Next.Done answer) = Unit {0}
+abbrev IsNoWait : {P : Type 0} → Next P → Type 0
+IsNoWait (Next.Go p) = Unit {0}
+IsNoWait (Next.Wait p) = ⊥
+IsNoWait (Next.Done answer) = Unit {0}
 
-either : {P : Type 0} (b : Bool) (n m : Next P) → GoesOn n → GoesOn m → GoesOn (if b then n else m)
+either : {P : Type 0} (b : Bool) (n m : Next P) → IsNoWait n → IsNoWait m → IsNoWait (if b then n else m)
 either true n m h k = h
 either false n m h k = k
 
-look_goes : {A : Type 0} {P : Type 0} (again : P) (to : A → P) (r : Option (Result A GateError)) → GoesOn (after_look again to r)
+look_goes : {A : Type 0} {P : Type 0} (again : P) (to : A → P) (r : Option (Result A GateError)) → IsNoWait (after_look again to r)
 look_goes again to r = grind arith
 
 -- or it has looked at a node
-create_seen : (x : Create) (node : ℕ) (found : Option NodeWord) → GoesOn (create_looked x node found)
+create_seen : (x : Create) (node : ℕ) (found : Option NodeWord) → IsNoWait (create_looked x node found)
 create_seen x node found = grind arith
 
 -- so it never waits
-create_goes_on : (x : Create) (s : CreateStep) (found : ℕ) → GoesOn (create_after x s found).0
+create_goes_on : (x : Create) (s : CreateStep) (found : ℕ) → IsNoWait (create_after x s found).0
 create_goes_on x s found = grind (arith, common_steps)
 
-remove_goes_on : (x : Remove) (s : RemoveStep) (found : ℕ) → GoesOn (remove_after x s found).0
+remove_goes_on : (x : Remove) (s : RemoveStep) (found : ℕ) → IsNoWait (remove_after x s found).0
 remove_goes_on x s found = grind (arith, common_steps)
 
-grow_goes_on : (x : Grow) (s : GrowStep) (found : ℕ) → GoesOn (grow_after x s found).0
+grow_goes_on : (x : Grow) (s : GrowStep) (found : ℕ) → IsNoWait (grow_after x s found).0
 grow_goes_on x s found = grind (arith, common_steps)
 
-move_goes_on : (x : MoveTo) (s : MoveStep) (found : ℕ) → GoesOn (move_after x s found).0
+move_goes_on : (x : MoveTo) (s : MoveStep) (found : ℕ) → IsNoWait (move_after x s found).0
 move_goes_on x s found = grind (arith, common_steps)
 
-mark_goes_on : (x : Mark) (s : MarkStep) (found : ℕ) → GoesOn (mark_after x s found).0
+mark_goes_on : (x : Mark) (s : MarkStep) (found : ℕ) → IsNoWait (mark_after x s found).0
 mark_goes_on x MarkStep.LoadsFile found = look_goes _ _ (file_in found)
 mark_goes_on x (MarkStep.MarksFile file) found = either (found == word_of file) _ _ tt tt
 
-open_goes_on : (x : OpenFile) (s : OpenStep) (found : ℕ) → GoesOn (open_after x s found).0
+open_goes_on : (x : OpenFile) (s : OpenStep) (found : ℕ) → IsNoWait (open_after x s found).0
 open_goes_on x OpenStep.LoadsFile found = look_goes _ _ (file_in found)
 open_goes_on x (OpenStep.OpensFile file) found = either (found == word_of file) _ _ tt tt
 
-clear_goes_on : (x : ClearMarks) (o : Option ℕ) → GoesOn (clears_at x o)
+clear_goes_on : (x : ClearMarks) (o : Option ℕ) → IsNoWait (clears_at x o)
 clear_goes_on x None = tt
 clear_goes_on x (Some node) = tt
 
 module _ (c : Config) (w : World) (earlier : List World) (t : ℕ) where
   -- what is no wait waits for nobody, and a refusal of a call that is no snapshot has its cause at its own event
-  no_wait : {P : Type 0} (to : P → TreePhase) (x : TreePhase) (n : Next P) → GoesOn n →
+  no_wait : {P : Type 0} (to : P → TreePhase) (x : TreePhase) (n : Next P) → IsNoWait n →
       ((refusal : GateError) → CallRefused c (w ∷ earlier) x refusal → TreeRefused c t (w ∷ earlier) x refusal) →
       ((refusal : GateError) → map_next Phase.Trees (map_next to n) ≡ Next.Done (Err refusal) → is_of_node refusal ≡ true →
       (m : ℕ) × (tree_sees x ≡ Some m) × TellsOf ((shown c w).tree m) refusal) →

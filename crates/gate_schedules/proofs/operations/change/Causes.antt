@@ -19,18 +19,18 @@ module _ (c : Config) (t : ℕ) (w next : World) (earlier : List World) where
 
 module _ (c : Config) (t : ℕ) (w next : World) (earlier : List World) (good : IsGood c next) where
   -- the cause of each step stays
-  pub change_kept : (m : ℕ) (ro wait : Bool) (task processors : ℕ) (s : ChangeStep) → m < c.mounts →
+  pub change_cause_stays : (m : ℕ) (ro wait : Bool) (task processors : ℕ) (s : ChangeStep) → m < c.mounts →
       (next.views t).phase ≡ Some (Phase.Mounts (change m ro wait task processors s)) →
       (w.views t).phase ≡ Some (Phase.Mounts (change m ro wait task processors s)) →
       (all_counted c m w ≡ 0 → all_counted c m next ≡ 0 → next.words.count m ≡ w.words.count m) → ChangeCause c t w earlier m s →
       ChangeCause c t next (w ∷ earlier) m s
-  change_kept m ro wait task processors (ChangeStep.Sums sum) lm e was quiet h =
+  change_cause_stays m ro wait task processors (ChangeStep.Sums sum) lm e was quiet h =
       sum_stays c t m w next earlier sum h good lm (ap words_read e) (ap words_read was) quiet
-  change_kept m ro wait task processors (ChangeStep.ClearsHold answer) lm e was quiet h =
+  change_cause_stays m ro wait task processors (ChangeStep.ClearsHold answer) lm e was quiet h =
       answer_stays c t w next earlier m answer (ap words_read e) h
-  change_kept m ro wait task processors (ChangeStep.Releases answer) lm e was quiet h =
+  change_cause_stays m ro wait task processors (ChangeStep.Releases answer) lm e was quiet h =
       answer_stays c t w next earlier m answer (ap words_read e) h
-  change_kept m ro wait task processors other lm e was quiet h = tt
+  change_cause_stays m ro wait task processors other lm e was quiet h = tt
 
 -- the task that steps: what its next phase says, in the world after the event
 module _ (c : Config) (t : ℕ) (lt : t < c.tasks) (w next : World) (earlier : List World) (good : IsGood c w) (after : IsGood c next)

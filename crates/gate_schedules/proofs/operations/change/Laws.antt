@@ -1,8 +1,8 @@
 -- All that is proved of a change.
 use Rattle.gate_schedules.proofs.frames.{Agreeing.none_agree, Frames.role_none, OperationLaws.{IsSmall, OpLaws, PhaseLaws, by_bool, word_among}}
-use Rattle.gate_schedules.proofs.{frames.Snapshots.completes_none, mounts.Runs.mounts_run, operations.change.Causes.{change_kept, change_own}}
+use Rattle.gate_schedules.proofs.{frames.Snapshots.completes_none, mounts.Runs.mounts_run, operations.change.Causes.{change_cause_stays, change_own}}
 use Rattle.gate_schedules.proofs.operations.change.{Events.change_keeps, Fits.{change_acts, change_goes, change_there}}
-use Rattle.gate_schedules.proofs.{operations.change.{Trace.{ChangeAt, change_kept as change_traced}, Waits.change_waits}, traces.TraceInvariant.{is_short, tells}}
+use Rattle.gate_schedules.proofs.{operations.change.{Trace.{ChangeAt, change_inductive as change_traced}, Waits.change_waits}, traces.TraceInvariant.{is_short, tells}}
 use Rattle.gate_world.specs.{SameRoles.no_roles, Fits.Fits, Rules.Fitting, traces.Traces.most_events, Views.held_of, Worlds.after_step, declared.config.Config.Config}
 use Rattle.gate_world.specs.declared.{operations.Op.Op, work.Phase.Phase}
 use Rattle.mount_counts.specs.declared.phases.{Change.Change, MountPhase.MountPhase}
@@ -18,7 +18,7 @@ change_phase c x = record {
   acts = λ lim t held found hook f. change_acts c lim t held x x.step found;
   goes = λ lim t held found hook f. change_goes c lim t held x x.step found f;
   agrees = λ t held seen same fits. (fits.0, fits.1, fits.2, rw (← none_agree held.levels seen.levels same.levels) fits.3, fits.4);
-  stays = λ w next earlier after t f e was quiet h. change_kept c t w next earlier after x.mount x.read_only x.wait x.task x.processors
+  stays = λ w next earlier after t f e was quiet h. change_cause_stays c t w next earlier after x.mount x.read_only x.wait x.task x.processors
       x.step f.0 e was (quiet.mounts x.mount) h;
   causes = λ w earlier good t lt hook e after is h.
       let f : Fits c t (held_of (w.views t)) (Some (Phase.Mounts (MountPhase.Change x))) =

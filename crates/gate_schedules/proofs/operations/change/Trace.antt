@@ -96,8 +96,8 @@ module _ (c : Config) (lim : IsWithin c) (t m : ℕ) (ro : Bool) (value : ℕ) (
   longer wait step = with_hook (event_at (change c t m ro wait step) value hook) hook ∷ earlier
 
   -- what the trace says after the event of a step
-  abbrev After : Bool → ChangeStep → Type 0
-  After wait step = InvariantAfterStep (ChangeAt c t m ro wait) c (Op.ChangeMount m ro wait) (change c t m ro wait step) value hook earlier added
+  abbrev TraceAfterStep : Bool → ChangeStep → Type 0
+  TraceAfterStep wait step = InvariantAfterStep (ChangeAt c t m ro wait) c (Op.ChangeMount m ro wait) (change c t m ro wait step) value hook earlier added
 
   -- an event that clears HOLD leaves what is told
   hold_leaves : (wait : Bool) (answer : Result Reply GateError) → Answers c m ro wait answer earlier added →
@@ -109,14 +109,14 @@ module _ (c : Config) (lim : IsWithin c) (t m : ℕ) (ro : Bool) (value : ℕ) (
       Answers c m ro wait answer (longer wait (ChangeStep.Releases answer)) added
   lock_leaves wait answer h = grind arith
 
-  lock_taken : (wait : Bool) → ChangeSays c m ro wait ChangeStep.Locks earlier added → (value == 0) ≡ false → After wait ChangeStep.Locks
+  lock_taken : (wait : Bool) → ChangeSays c m ro wait ChangeStep.Locks earlier added → (value == 0) ≡ false → TraceAfterStep wait ChangeStep.Locks
   lock_taken true h f = rw f ((ChangeStep.Locks, refl, (λ q. absurd (cc), (rw f h.1.0, h.1.1))), (refl, rw f h.1.0))
   lock_taken false h f = rw f ((h.1.1.0, (refl, rw f refl)), omega (arith, h.0 refl))
 
-  locks : (wait : Bool) → ChangeSays c m ro wait ChangeStep.Locks earlier added → After wait ChangeStep.Locks
+  locks : (wait : Bool) → ChangeSays c m ro wait ChangeStep.Locks earlier added → TraceAfterStep wait ChangeStep.Locks
   locks wait h = grind arith
 
-  loads_flags : (wait : Bool) → ChangeSays c m ro wait ChangeStep.LoadsFlags earlier added → After wait ChangeStep.LoadsFlags
+  loads_flags : (wait : Bool) → ChangeSays c m ro wait ChangeStep.LoadsFlags earlier added → TraceAfterStep wait ChangeStep.LoadsFlags
   loads_flags wait h =
       elim (cases_Bool (has_flag value 1)) [
         | inl f ↦ rw f (
@@ -128,15 +128,15 @@ module _ (c : Config) (lim : IsWithin c) (t m : ℕ) (ro : Bool) (value : ℕ) (
         | inr f ↦ rw f (ChangeStep.LoadsSuperblock, refl, (λ q. omega (arith, h.0 q), (h.1.0, rw (eq-eqb m m refl, f) h.1.1, h.1.2)))
       ]
 
-  loads_superblock : (wait : Bool) → ChangeSays c m ro wait ChangeStep.LoadsSuperblock earlier added → After wait ChangeStep.LoadsSuperblock
+  loads_superblock : (wait : Bool) → ChangeSays c m ro wait ChangeStep.LoadsSuperblock earlier added → TraceAfterStep wait ChangeStep.LoadsSuperblock
   loads_superblock wait h = grind arith
 
   -- a change to writable, of a mount that was found read-only, is done
-  clears_read_only : (wait : Bool) → ChangeSays c m ro wait ChangeStep.ClearsReadOnly earlier added → After wait ChangeStep.ClearsReadOnly
+  clears_read_only : (wait : Bool) → ChangeSays c m ro wait ChangeStep.ClearsReadOnly earlier added → TraceAfterStep wait ChangeStep.ClearsReadOnly
   clears_read_only wait h = grind arith
 
   -- the sum begins with no count loaded
-  sets_hold : (wait : Bool) → ChangeSays c m ro wait ChangeStep.SetsHold earlier added → After wait ChangeStep.SetsHold
+  sets_hold : (wait : Bool) → ChangeSays c m ro wait ChangeStep.SetsHold earlier added → TraceAfterStep wait ChangeStep.SetsHold
   sets_hold wait h = grind arith
 
   -- one count more is loaded
@@ -145,7 +145,7 @@ module _ (c : Config) (lim : IsWithin c) (t m : ℕ) (ro : Bool) (value : ℕ) (
       (wrap_add sum.total value ≡ sum_loaded (counts_loaded m (longer wait (ChangeStep.Sums sum))))
   count_loaded wait sum h = rw (eq-eqb m m refl) ((refl, h.1), sum_more sum.words value sum.total (counts_loaded m earlier) h.2)
 
-  sums : (wait : Bool) (sum : Sum) → ChangeSays c m ro wait (ChangeStep.Sums sum) earlier added → After wait (ChangeStep.Sums sum)
+  sums : (wait : Bool) (sum : Sum) → ChangeSays c m ro wait (ChangeStep.Sums sum) earlier added → TraceAfterStep wait (ChangeStep.Sums sum)
   sums wait sum h =
       let now : IsEachCount (suc sum.words) (counts_loaded m (longer wait (ChangeStep.Sums sum))) ×
       (wrap_add sum.total value ≡ sum_loaded (counts_loaded m (longer wait (ChangeStep.Sums sum)))) = count_loaded wait sum h.1.3 in
@@ -190,10 +190,10 @@ module _ (c : Config) (lim : IsWithin c) (t m : ℕ) (ro : Bool) (value : ℕ) (
       ]
 
   -- a change to read-only, of a mount that was found writable, is done
-  sets_read_only : (wait : Bool) → ChangeSays c m ro wait ChangeStep.SetsReadOnly earlier added → After wait ChangeStep.SetsReadOnly
+  sets_read_only : (wait : Bool) → ChangeSays c m ro wait ChangeStep.SetsReadOnly earlier added → TraceAfterStep wait ChangeStep.SetsReadOnly
   sets_read_only wait h = grind arith
 
-  change_event : (wait : Bool) (step : ChangeStep) → ChangeSays c m ro wait step earlier added → After wait step
+  change_event : (wait : Bool) (step : ChangeStep) → ChangeSays c m ro wait step earlier added → TraceAfterStep wait step
   change_event wait ChangeStep.Locks h = locks wait h
   change_event wait ChangeStep.LoadsFlags h = loads_flags wait h
   change_event wait ChangeStep.LoadsSuperblock h = loads_superblock wait h
@@ -207,8 +207,8 @@ module _ (c : Config) (lim : IsWithin c) (t m : ℕ) (ro : Bool) (value : ℕ) (
     change_short c m ro wait (longer wait (ChangeStep.Releases answer)) (λ q. omega (arith, h.0 q)),
   )
 
-pub change_kept : (c : Config) → IsWithin c → (t m : ℕ) (ro wait : Bool) → IsInductive (ChangeAt c t m ro wait) c t (Op.ChangeMount m ro wait)
-change_kept c lim t m ro wait = record {
+pub change_inductive : (c : Config) → IsWithin c → (t m : ℕ) (ro wait : Bool) → IsInductive (ChangeAt c t m ro wait) c t (Op.ChangeMount m ro wait)
+change_inductive c lim t m ro wait = record {
   first = (ChangeStep.Locks, refl, (λ q. omega arith, (refl, (refl, refl, refl))));
   more = λ phase value hook earlier added here.
       subst (λ (x : Phase). InvariantAfterStep (ChangeAt c t m ro wait) c (Op.ChangeMount m ro wait) x value hook earlier added) (sym here.1)

@@ -5,7 +5,7 @@ use Rattle.cpu_words.specs.{Hooks.HookAnswer, Words.{Words, read}}
 use Rattle.composite_ops.specs.{file_closes.Phases.{leaves_on, then_frees}, declared.file_closes.phases.ClosePhase.ClosePhase}
 use Rattle.finite_sums.proofs.Totals.{each_updated, update_at}
 use Rattle.finite_sums.specs.Sums.{update}
-use Rattle.gate_schedules.proofs.frames.{Accesses.holdings_of_after, SameRolesOffTree.{beside_of, made, made_keeps_beside, made_runs_beside, rephased_beside}}
+use Rattle.gate_schedules.proofs.frames.{Accesses.holdings_of_after, SameRolesOffTree.{roles_off_tree, made, made_keeps_off_tree, made_runs_off_tree, rephased_off_tree}}
 use Rattle.gate_schedules.proofs.{frames.Frames.{left_alone, opens_left}, operations.{close.Fits.enters_fits, readers.Laws.{end_phase, read_phase}}}
 use Rattle.gate_schedules.proofs.trees.worlds.Trees.{tree_holds}
 use Rattle.gate_world.specs.{SameRoles.{SameRolesOffTree, at_phase, rephased}, Configs.IsWithin, Fits.{CloseFits, Fits, HasFile, file_of}, Holdings.Holdings}
@@ -109,7 +109,7 @@ module _ (c : Config) (w : World) (good : IsGood c w) (t : ℕ) (lt : t < c.task
         Holds c (made_in w coming) Tree → Holds c (made_in w coming) Files →
         IsGood c (made_in w coming) × Moves c (shown c w) t plain_action (shown c (made_in w coming))
     beside_step law coming after fit tree_then files_then =
-        made_keeps_beside c w t lt (Some q) (next_of q hook) hook plain_after coming plain_action good before fits tree files law after fit
+        made_keeps_off_tree c w t lt (Some q) (next_of q hook) hook plain_after coming plain_action good before fits tree files law after fit
         tree_then files_then
 
 -- its phase fits its accesses
@@ -135,7 +135,7 @@ module _ (c : Config) (lim : IsWithin c) (w : World) (good : IsGood c w) (t : �
       ap (λ (h : Holdings). h.files) (holdings_of_after (down_read_after r r.step found).1 (w.views t).actions) ∙
       read_opens (held_of (w.views t)) r r.step found in
       let before : SameRolesOffTree (w.views t).phase (Some (Phase.DownReads r)) =
-      beside_of e refl in
+      roles_off_tree e refl in
       let same : SameWords w.words ws Tree = read_tree w.words r r.step hook in
       beside_step c w good t lt hook (Phase.DownReads r) before f.2
       (tree_left c w good t lt file node is w.words (at_phase (w.views t) (Some (Phase.DownReads r))) (refl, refl, refl, refl, refl, refl) refl)
@@ -158,7 +158,7 @@ module _ (c : Config) (lim : IsWithin c) (w : World) (good : IsGood c w) (t : �
       let v : View = view_with (w.views t) (next_of q hook) (read w.words (next_of q hook).0) hook
       (coming, (after_of q found hook).1) in
       let is : tree_roles w t ≡ OffTree = ap (tree_role_of (w.views t).trace) e in
-      let before : SameRolesOffTree (w.views t).phase (Some q) = beside_of e refl in
+      let before : SameRolesOffTree (w.views t).phase (Some q) = roles_off_tree e refl in
       beside_step c w good t lt hook q before (omega arith, omega arith, f.0, f.1)
       (left_alone c w t lt Tree w.words (at_phase (w.views t) (Some q)) (refl, refl, refl, refl, refl, refl) (sym is) (good Tree))
       (files_still c w good t lt w.words (at_phase (w.views t) (Some q)) refl refl tt)
@@ -189,7 +189,7 @@ module _ (c : Config) (w : World) (t : ℕ) (lt : t < c.tasks) (hook : HookAnswe
       SyncStep c.tasks (level_in (rephased w t (Some q)) i) (level_in (then_in (rephased w t (Some q)) own_next) i)) →
       SyncStep c.tasks (level_in w i) (level_in (then_in w coming) i)
   beside_runs i runs =
-      made_runs_beside c w t lt (Some q) (next_of q hook) hook own_next coming own_action i before (runs good stands_there) after
+      made_runs_off_tree c w t lt (Some q) (next_of q hook) hook own_next coming own_action i before (runs good stands_there) after
 
 -- the worlds in which a close at level 3 stands at the level's phase: the rule holds there
 module _ (c : Config) (w : World) (good : IsGood c w) (t : ℕ) (lt : t < c.tasks) where
@@ -200,9 +200,9 @@ module _ (c : Config) (w : World) (good : IsGood c w) (t : ℕ) (lt : t < c.task
       subst (Fits c t (held_of (w.views t))) e (good Fitting t lt) in
       let is : tree_roles w t ≡ Freeing file node = ap (tree_role_of (w.views t).trace) e in
       let before : SameRolesOffTree (w.views t).phase (Some (Phase.DownReads r)) =
-      beside_of e refl in (
+      roles_off_tree e refl in (
         before,
-        rephased_beside c w t lt (Some (Phase.DownReads r)) before f.2 good
+        rephased_off_tree c w t lt (Some (Phase.DownReads r)) before f.2 good
             (tree_left c w good t lt file node is w.words (at_phase (w.views t) (Some (Phase.DownReads r))) (refl, refl, refl, refl, refl, refl) refl)
             (files_still c w good t lt w.words (at_phase (w.views t) (Some (Phase.DownReads r))) refl refl tt),
       )
@@ -214,9 +214,9 @@ module _ (c : Config) (w : World) (good : IsGood c w) (t : ℕ) (lt : t < c.task
       subst (Fits c t (held_of (w.views t))) e (good Fitting t lt) in
       let is : tree_roles w t ≡ OffTree = ap (tree_role_of (w.views t).trace) e in
       let q : Phase = Phase.UpReads (leaves_on p) in
-      let before : SameRolesOffTree (w.views t).phase (Some q) = beside_of e refl in (
+      let before : SameRolesOffTree (w.views t).phase (Some q) = roles_off_tree e refl in (
         before,
-        rephased_beside c w t lt (Some q) before (omega arith, omega arith, f.0, f.1) good
+        rephased_off_tree c w t lt (Some q) before (omega arith, omega arith, f.0, f.1) good
             (left_alone c w t lt Tree w.words (at_phase (w.views t) (Some q)) (refl, refl, refl, refl, refl, refl) (sym is) (good Tree))
             (files_still c w good t lt w.words (at_phase (w.views t) (Some q)) refl refl tt),
       )

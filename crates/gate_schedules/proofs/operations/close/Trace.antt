@@ -75,8 +75,8 @@ module _ (c : Config) (file p t : ℕ) (wait : Bool) where
 
 module _ (c : Config) (file p t : ℕ) (wait : Bool) (value : ℕ) (hook : HookAnswer) where
   -- what the trace says after the event of a phase
-  abbrev After : ClosePhase → List Traced → List Action → Type 0
-  After x earlier added = InvariantAfterStep (CloseAt file p t wait) c (Op.Close file p wait) (Phase.Closes x) value hook earlier added
+  abbrev TraceAfterStep : ClosePhase → List Traced → List Action → Type 0
+  TraceAfterStep x earlier added = InvariantAfterStep (CloseAt file p t wait) c (Op.Close file p wait) (Phase.Closes x) value hook earlier added
 
   -- the close as it begins, and the load of its file
   abbrev looks : ClosePhase
@@ -89,14 +89,14 @@ module _ (c : Config) (file p t : ℕ) (wait : Bool) (value : ℕ) (hook : HookA
       NextInvariant c file p t wait (loaded ∷ []) (after_look looks (closed_from (first_close file p t wait)) r) []
   looked_says r e some opens = grind (arith, common_steps)
 
-  loads_event : CloseReadIsValid looks value → After looks [] []
+  loads_event : CloseReadIsValid looks value → TraceAfterStep looks [] []
   loads_event may =
       looked_says (any_file_in value) refl (made_some (λ node. as_any_file node node.kind) (unpacked value) may.0) may.1
 
   module _ (earlier : List Traced) (added : List Action) where
     -- the count is lowered, or has changed
     lowers_event : (node : NodeWord) → HasAdded file p t wait [] false 1 earlier added →
-        After (ClosePhase.LowersCount (first_close file p t wait) node) earlier added
+        TraceAfterStep (ClosePhase.LowersCount (first_close file p t wait) node) earlier added
     lowers_event node h = elim (cases_Bool (value == word_of node)) [
       | inl same ↦
           rw (same, h.1)
@@ -106,7 +106,7 @@ module _ (c : Config) (file p t : ℕ) (wait : Bool) (value : ℕ) (hook : HookA
 
     -- an event at level 3
     enters_event : (node : NodeWord) (s : DownReadStep) → WordIsValid (down_read_next (read_at 3 p t wait s) s).0 value →
-        ReadSays 1 3 wait s earlier added → found_dropped earlier ≡ false → After (ClosePhase.Enters file node (read_at 3 p t wait s)) earlier added
+        ReadSays 1 3 wait s earlier added → found_dropped earlier ≡ false → TraceAfterStep (ClosePhase.Enters file node (read_at 3 p t wait s)) earlier added
     enters_event node s may h none =
         let r : DownRead = read_at 3 p t wait s in
         let found : ℕ = found_by (down_read_next r s).1 value in
@@ -114,18 +114,18 @@ module _ (c : Config) (file p t : ℕ) (wait : Bool) (value : ℕ) (hook : HookA
         (actions_after (down_read_after r s found).1 added) (down_read_after r s found).0
         (read_event 1 3 p t value hook earlier added wait s may h) (read_dropped r s value hook earlier ∙ none)
 
-    close_event : (x : ClosePhase) → CloseReadIsValid x value → CloseSays file p t wait x earlier added → After x earlier added
+    close_event : (x : ClosePhase) → CloseReadIsValid x value → CloseSays file p t wait x earlier added → TraceAfterStep x earlier added
     close_event (ClosePhase.LoadsFile x) may h =
-        let start : After looks earlier added =
-        subst (λ l. After looks l added) (sym h.1) (subst (λ l. After looks [] l) (sym h.2) (loads_event may)) in
-        subst (λ y. After (ClosePhase.LoadsFile y) earlier added) (sym h.0) start
-    close_event (ClosePhase.LowersCount x node) may h = subst (λ y. After (ClosePhase.LowersCount y node) earlier added) (sym h.0) (lowers_event node h.1)
+        let start : TraceAfterStep looks earlier added =
+        subst (λ l. TraceAfterStep looks l added) (sym h.1) (subst (λ l. TraceAfterStep looks [] l) (sym h.2) (loads_event may)) in
+        subst (λ y. TraceAfterStep (ClosePhase.LoadsFile y) earlier added) (sym h.0) start
+    close_event (ClosePhase.LowersCount x node) may h = subst (λ y. TraceAfterStep (ClosePhase.LowersCount y node) earlier added) (sym h.0) (lowers_event node h.1)
     close_event (ClosePhase.Enters f node r) may h =
-        subst (λ y. After (ClosePhase.Enters y node r) earlier added) (sym h.0)
-        (subst (λ (y : DownRead). WordIsValid (down_read_next y y.step).0 value → After (ClosePhase.Enters file node y) earlier added) (sym h.1.1)
+        subst (λ y. TraceAfterStep (ClosePhase.Enters y node r) earlier added) (sym h.0)
+        (subst (λ (y : DownRead). WordIsValid (down_read_next y y.step).0 value → TraceAfterStep (ClosePhase.Enters file node y) earlier added) (sym h.1.1)
         (λ holds. enters_event node h.1.0 holds h.1.2 h.2) may)
     close_event (ClosePhase.FreesNode f q node) may h =
-        subst (λ y. After (ClosePhase.FreesNode y q node) earlier added) (sym h.0)
+        subst (λ y. TraceAfterStep (ClosePhase.FreesNode y q node) earlier added) (sym h.0)
         (
         rw (eq-eqb value (word_of node) may)
         (ClosePhase.RefundsBlocks q node.size, refl, (ap (λ (l : List Action). Action.Close file ∷ l) h.1.0, h.1.1, λ r. omega (arith, h.1.2 r)))
@@ -137,8 +137,8 @@ module _ (c : Config) (file p t : ℕ) (wait : Bool) (value : ℕ) (hook : HookA
       close_short c file p wait _ (λ r. omega (arith, h.2 r)),
     )
 
-pub close_kept : (c : Config) (file p t : ℕ) (wait : Bool) → IsInductiveGivenReads (CloseAt file p t wait) c t (Op.Close file p wait)
-close_kept c file p t wait = record {
+pub close_inductive : (c : Config) (file p t : ℕ) (wait : Bool) → IsInductiveGivenReads (CloseAt file p t wait) c t (Op.Close file p wait)
+close_inductive c file p t wait = record {
   first = (ClosePhase.LoadsFile (first_close file p t wait), refl, (refl, refl, refl));
   more = λ phase value hook earlier added may here.
       subst (λ (x : Phase). ReadIsValid x (next_of x hook).0 value → InvariantAfterStep (CloseAt file p t wait) c (Op.Close file p wait) x value hook
@@ -151,5 +151,5 @@ close_kept c file p t wait = record {
 pub close_op : (c : Config) (file p : ℕ) (wait : Bool) → OpLaws c (Op.Close file p wait)
 close_op c file p wait =
     close_op_from c file p wait
-    (λ lim t trace h. tells_well (CloseAt file p t wait) c t (Op.Close file p wait) (close_kept c file p t wait) trace h)
-    (λ lim t trace h. is_short_well (CloseAt file p t wait) c t (Op.Close file p wait) (close_kept c file p t wait) trace h)
+    (λ lim t trace h. tells_well (CloseAt file p t wait) c t (Op.Close file p wait) (close_inductive c file p t wait) trace h)
+    (λ lim t trace h. is_short_well (CloseAt file p t wait) c t (Op.Close file p wait) (close_inductive c file p t wait) trace h)

@@ -620,7 +620,7 @@ module _ (c : Config) (w : World) (good : IsGood c w) (t : ℕ) (lt : t < c.task
         ],
       )
 
-pub kept_stays : (c : Config) → EventsMoveModel c → (w : World) → IsGood c w → BlockedIsStable c w
-kept_stays c moves w good all t lt phase at hook agreed =
+pub blocked_stays : (c : Config) → EventsMoveModel c → (w : World) → IsGood c w → BlockedIsStable c w
+blocked_stays c moves w good all t lt phase at hook agreed =
     subst (λ (next : World). (HasReply next t → ⊥) × AllAreBlocked c next) (sym (happens_is c w t lt hook phase at))
     (all_stay c w good t lt hook phase at agreed (moves w good t lt hook phase at) all)

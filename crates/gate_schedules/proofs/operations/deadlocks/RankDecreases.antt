@@ -3,7 +3,7 @@ use Rattle.std.{proofs.{Common.{◌≡◌, ℕ, zero, suc, ◌<◌, ◌≤◌, a
 use Rattle.finite_sums.proofs.Totals.{update_at}
 use Rattle.access_model.specs.{Replies.map_next, declared.replies.Next.Next}
 use Rattle.cpu_words.specs.{Hooks.HookAnswer, Touches.left, Words.{Words, read, put}, declared.{events.Touch.Touch, names.WordName.WordName}}
-use Rattle.gate_world.specs.{Configs.IsWithin, Rules.IsGood, Views.{phase_after, view_after_beside}, Work.after_of}
+use Rattle.gate_world.specs.{Configs.IsWithin, Rules.IsGood, Views.{phase_after, view_after_with_others}, Work.after_of}
 use Rattle.gate_world.specs.Worlds.{World, step_of, after_step, value_at, found_at, happens}
 use Rattle.gate_world.specs.declared.entries.Entry.{TheVariants.{Steps}}
 use Rattle.gate_world.specs.declared.{config.Config.Config, views.View.View, work.Phase.Phase}
@@ -24,7 +24,7 @@ module _ (c : Config) (w : World) (t : ℕ) (lt : t < c.tasks) (hook : HookAnswe
 
   pub stands_after : ((after_step w t phase hook).views t).phase ≡ phase_after (after_of phase (found_at w.words phase hook) hook).0
   stands_after =
-      ap (λ (v : View). v.phase) (update_at w.views t (view_after_beside [] (w.views t) phase (value_at w.words phase hook) hook))
+      ap (λ (v : View). v.phase) (update_at w.views t (view_after_with_others [] (w.views t) phase (value_at w.words phase hook) hook))
 
 pub no_further : (c : Config) (n m : ℕ) (w : World) → n ≤ m → ReplyWithin c n w → ReplyWithin c m w
 no_further c zero m w le h = absurd h

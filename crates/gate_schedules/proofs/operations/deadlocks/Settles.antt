@@ -3,7 +3,7 @@ use Rattle.std.{proofs.Common.{◌≡◌, ℕ, zero, suc, ◌+◌, ◌*◌, ◌<
 use Rattle.finite_sums.specs.Sums.{total}
 use Rattle.finite_sums.proofs.Totals.{total_at, total_bound, total_updated, update_at}
 use Rattle.cpu_words.specs.Hooks.{HookAnswer}
-use Rattle.gate_world.specs.{Configs.IsWithin, Rules.IsGood, Views.view_after_beside, Worlds.{World, after_step, value_at, happens}}
+use Rattle.gate_world.specs.{Configs.IsWithin, Rules.IsGood, Views.view_after_with_others, Worlds.{World, after_step, value_at, happens}}
 use Rattle.gate_world.specs.declared.entries.Entry.{TheVariants.{Steps}}
 use Rattle.gate_world.specs.declared.{config.Config.Config, views.View.View, work.Phase.Phase}
 use Rattle.gate_schedules.proofs.operations.{AllOperations.phase_ends, deadlocks.{RankDecreases.happens_is, BlockedOrProgress.world_goes}}
@@ -46,7 +46,7 @@ module _ (c : Config) (keeps : EventsKeepRule c) (w : World) (good : IsGood c w)
   -- an event leaves as many under way, but for its own task
   going_after : going_in c (after_step w t phase hook) + 1 ≡ going_in c w + is_going ((after_step w t phase hook).views t).phase
   going_after =
-      let v : View = view_after_beside [] (w.views t) phase (value_at w.words phase hook) hook in
+      let v : View = view_after_with_others [] (w.views t) phase (value_at w.words phase hook) hook in
       let one : is_going (w.views t).phase ≡ 1 = ap is_going at in
       let sum : total c.tasks (λ x. is_going ((after_step w t phase hook).views x).phase) + is_going (w.views t).phase ≡
       going_in c w + is_going v.phase = total_updated (λ (u : View). is_going u.phase) c.tasks t w.views v lt in

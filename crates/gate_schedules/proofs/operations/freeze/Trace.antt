@@ -153,18 +153,18 @@ module _ (c : Config) (lim : IsWithin c) (t : ℕ) (holder : Holder) (value : �
   longer hook step = with_hook (event_at (freeze_at c t holder step) value hook) hook ∷ earlier
 
   -- what the trace says after the event of a step
-  abbrev After : HookAnswer → FreezeStep → Type 0
-  After hook step = InvariantAfterStep (FreezeAt c t holder) c (Op.Freeze holder) (freeze_at c t holder step) value hook earlier added
+  abbrev TraceAfterStep : HookAnswer → FreezeStep → Type 0
+  TraceAfterStep hook step = InvariantAfterStep (FreezeAt c t holder) c (Op.Freeze holder) (freeze_at c t holder step) value hook earlier added
 
   -- `umount` is tried
-  locks : (hook : HookAnswer) → StepSays c holder FreezeStep.Locks earlier added → After hook FreezeStep.Locks
+  locks : (hook : HookAnswer) → StepSays c holder FreezeStep.Locks earlier added → TraceAfterStep hook FreezeStep.Locks
   locks hook h = grind arith
 
   -- and again, with level 1 closed
-  locks_again : (hook : HookAnswer) → StepSays c holder FreezeStep.LocksAgain earlier added → After hook FreezeStep.LocksAgain
+  locks_again : (hook : HookAnswer) → StepSays c holder FreezeStep.LocksAgain earlier added → TraceAfterStep hook FreezeStep.LocksAgain
   locks_again hook h = grind arith
 
-  loads_stage : (hook : HookAnswer) → StepSays c holder FreezeStep.LoadsStage earlier added → After hook FreezeStep.LoadsStage
+  loads_stage : (hook : HookAnswer) → StepSays c holder FreezeStep.LoadsStage earlier added → TraceAfterStep hook FreezeStep.LoadsStage
   loads_stage hook h =
       elim (eqb_tells value 0) [
         | inl f ↦ rw f.0 (
@@ -178,18 +178,18 @@ module _ (c : Config) (lim : IsWithin c) (t : ℕ) (holder : Holder) (value : �
         ]
       ]
 
-  loads_holders : (hook : HookAnswer) → StepSays c holder FreezeStep.LoadsHolders earlier added → After hook FreezeStep.LoadsHolders
+  loads_holders : (hook : HookAnswer) → StepSays c holder FreezeStep.LoadsHolders earlier added → TraceAfterStep hook FreezeStep.LoadsHolders
   loads_holders hook h = grind arith
 
-  loads_superblock : (hook : HookAnswer) → StepSays c holder FreezeStep.LoadsSuperblock earlier added → After hook FreezeStep.LoadsSuperblock
+  loads_superblock : (hook : HookAnswer) → StepSays c holder FreezeStep.LoadsSuperblock earlier added → TraceAfterStep hook FreezeStep.LoadsSuperblock
   loads_superblock hook h = grind arith
 
   -- an event of the closing of a level
-  closes : (hook : HookAnswer) (d : DownWrite) → ClosesSay c d earlier added → After hook (FreezeStep.Closes d)
+  closes : (hook : HookAnswer) (d : DownWrite) → ClosesSay c d earlier added → TraceAfterStep hook (FreezeStep.Closes d)
   closes hook d h =
       let i : ℕ = h.0 in
       let s : DownWriteStep = h.1 in
-      subst (λ (x : DownWrite). After hook (FreezeStep.Closes x)) (sym h.2) (
+      subst (λ (x : DownWrite). TraceAfterStep hook (FreezeStep.Closes x)) (sym h.2) (
       let closing : DownWrite = closing_at c i s in
       let found : ℕ = closing_found c lim i value hook earlier s in
       closing_says c t holder i s (with_hook (event_at (freeze_at c t holder (FreezeStep.Closes closing)) value hook) hook) earlier added
@@ -205,7 +205,7 @@ module _ (c : Config) (lim : IsWithin c) (t : ℕ) (holder : Holder) (value : �
   node_says marks trace actions h = grind arith
 
   -- a mark was found set, or clear
-  clears : (hook : HookAnswer) (marks : ClearMarks) → StepSays c holder (FreezeStep.Cleans marks) earlier added → After hook (FreezeStep.Cleans marks)
+  clears : (hook : HookAnswer) (marks : ClearMarks) → StepSays c holder (FreezeStep.Cleans marks) earlier added → TraceAfterStep hook (FreezeStep.Cleans marks)
   clears hook marks h =
       let trace : List Traced = longer hook (FreezeStep.Cleans marks) in
       elim (cases_Bool (has_flag value 4)) [
@@ -216,10 +216,10 @@ module _ (c : Config) (lim : IsWithin c) (t : ℕ) (holder : Holder) (value : �
         | inr f ↦ rw (mark_bit value ∙ f) (node_says marks trace added (rw f h.0, h.1, h.2))
       ]
 
-  sets_fs : (hook : HookAnswer) → StepSays c holder FreezeStep.SetsFs earlier added → After hook FreezeStep.SetsFs
+  sets_fs : (hook : HookAnswer) → StepSays c holder FreezeStep.SetsFs earlier added → TraceAfterStep hook FreezeStep.SetsFs
   sets_fs hook h = grind arith
 
-  sets_complete : (hook : HookAnswer) → StepSays c holder FreezeStep.SetsComplete earlier added → After hook FreezeStep.SetsComplete
+  sets_complete : (hook : HookAnswer) → StepSays c holder FreezeStep.SetsComplete earlier added → TraceAfterStep hook FreezeStep.SetsComplete
   sets_complete hook h = grind arith
 
   -- a level is being left, or it is left and the level below it comes
@@ -254,7 +254,7 @@ module _ (c : Config) (lim : IsWithin c) (t : ℕ) (holder : Holder) (value : �
   reopens hook (suc (suc (suc i))) h = absurd h
 
   reopening_event : (hook : HookAnswer) (code i : ℕ) (s : UpWriteStep) → IsReopening i s earlier added →
-      ReadAnswer WordName.Stage (Err code) earlier → After hook (FreezeStep.Reopens (record { level = i; step = s }) code)
+      ReadAnswer WordName.Stage (Err code) earlier → TraceAfterStep hook (FreezeStep.Reopens (record { level = i; step = s }) code)
   reopening_event hook code zero s h said = absurd h
   reopening_event hook code (suc i) (UpWriteStep.Exits transition) h said =
       leaves_on i code transition (longer hook (FreezeStep.Reopens (record { level = suc i; step = UpWriteStep.Exits transition }) code))
@@ -266,7 +266,7 @@ module _ (c : Config) (lim : IsWithin c) (t : ℕ) (holder : Holder) (value : �
     (suc i, UpWriteStep.Exits Transition.Loads, refl, reopens hook i h, inr said),
   )
 
-  freeze_event : (hook : HookAnswer) (step : FreezeStep) → StepSays c holder step earlier added → After hook step
+  freeze_event : (hook : HookAnswer) (step : FreezeStep) → StepSays c holder step earlier added → TraceAfterStep hook step
   freeze_event hook FreezeStep.Locks h = locks hook h
   freeze_event hook FreezeStep.LoadsStage h = loads_stage hook h
   freeze_event hook FreezeStep.LoadsSuperblock h = loads_superblock hook h
@@ -287,11 +287,11 @@ module _ (c : Config) (lim : IsWithin c) (t : ℕ) (holder : Holder) (value : �
   freeze_event hook FreezeStep.SetsFs h = sets_fs hook h
   freeze_event hook FreezeStep.SetsComplete h = sets_complete hook h
   freeze_event hook (FreezeStep.Reopens u code) h =
-      subst (λ (x : UpWrite). After hook (FreezeStep.Reopens x code)) (sym h.2) (reopening_event hook code h.0 h.1 h.3 h.4)
+      subst (λ (x : UpWrite). TraceAfterStep hook (FreezeStep.Reopens x code)) (sym h.2) (reopening_event hook code h.0 h.1 h.3 h.4)
   freeze_event hook (FreezeStep.Releases answer) h = (lock_leaves c holder answer value hook earlier added h, tt)
 
-pub freeze_kept : (c : Config) → IsWithin c → (t : ℕ) (holder : Holder) → IsInductive (FreezeAt c t holder) c t (Op.Freeze holder)
-freeze_kept c lim t holder = record {
+pub freeze_inductive : (c : Config) → IsWithin c → (t : ℕ) (holder : Holder) → IsInductive (FreezeAt c t holder) c t (Op.Freeze holder)
+freeze_inductive c lim t holder = record {
   first = (FreezeStep.Locks, refl, ((refl, (refl, refl), refl), refl));
   more = λ phase value hook earlier added here.
       subst (λ (x : Phase). InvariantAfterStep (FreezeAt c t holder) c (Op.Freeze holder) x value hook earlier added) (sym here.1)
@@ -302,11 +302,11 @@ freeze_kept c lim t holder = record {
 -- every trace of a freeze tells what is to be told
 pub freeze_tells : (c : Config) (holder : Holder) → IsWithin c → (t : ℕ) (trace : List Traced) → IsTrace c t (Op.Freeze holder) trace →
     Tells c (Op.Freeze holder) trace (state_of_trace c t (Op.Freeze holder) trace).comes (state_of_trace c t (Op.Freeze holder) trace).added
-freeze_tells c holder lim t trace h = tells (FreezeAt c t holder) c t (Op.Freeze holder) (freeze_kept c lim t holder) trace h
+freeze_tells c holder lim t trace h = tells (FreezeAt c t holder) c t (Op.Freeze holder) (freeze_inductive c lim t holder) trace h
 
 pub freeze_short : (c : Config) (holder : Holder) → IsWithin c → (t : ℕ) (trace : List Traced) → IsTrace c t (Op.Freeze holder) trace →
     IsShort (most_events c (Op.Freeze holder)) trace
-freeze_short c holder lim t trace h = is_short (FreezeAt c t holder) c t (Op.Freeze holder) (freeze_kept c lim t holder) trace h
+freeze_short c holder lim t trace h = is_short (FreezeAt c t holder) c t (Op.Freeze holder) (freeze_inductive c lim t holder) trace h
 
 -- what a freeze has added where it is refused leaves what its task held
 pub freeze_restores : (holder : Holder) (refusal : GateError) (trace : List Traced) (before : List Action) →

@@ -4,7 +4,7 @@ use Rattle.gate_schedules.proofs.operations.readers.{Causes.{asks_next, next_cau
 use Rattle.gate_schedules.proofs.operations.readers.Events.{read_keeps}
 use Rattle.gate_schedules.proofs.operations.readers.Fits.{none_from_agree, read_acts, read_fits, read_goes, read_step_agrees}
 use Rattle.gate_schedules.proofs.operations.readers.Fits.{read_there}
-use Rattle.gate_schedules.proofs.operations.readers.{Runs.{end_runs, read_runs}, Trace.{EndAt, StartAt, end_kept, start_kept}, Waits.{read_waits, start_waits}}
+use Rattle.gate_schedules.proofs.operations.readers.{Runs.{end_runs, read_runs}, Trace.{EndAt, StartAt, end_inductive, start_inductive}, Waits.{read_waits, start_waits}}
 use Rattle.gate_schedules.proofs.traces.TraceInvariant.{is_short, is_short_well, tells, tells_well}
 use Rattle.gate_world.specs.{SameRoles.no_roles, refusals.Causes.asks_level, Fits.Fits, Holdings.held_after, Levels.sync_role_of, Operations.is_level_number}
 use Rattle.gate_world.specs.{Rules.Fitting, traces.Traces.most_events, Views.held_of, Worlds.{World, after_step, found_at}, declared.config.Config.Config}
@@ -72,8 +72,8 @@ start_op c i p wait = record {
   room_agrees = λ held seen same there. refl;
   restores = λ refusal trace before order. refl;
   file = λ t held order room. tt;
-  tells = λ within t trace h. tells_well (StartAt i p t wait) c t (Start i p wait) (start_kept c t i p wait) trace h;
-  short = λ within t trace h. is_short_well (StartAt i p t wait) c t (Start i p wait) (start_kept c t i p wait) trace h;
+  tells = λ within t trace h. tells_well (StartAt i p t wait) c t (Start i p wait) (start_inductive c t i p wait) trace h;
+  short = λ within t trace h. is_short_well (StartAt i p t wait) c t (Start i p wait) (start_inductive c t i p wait) trace h;
   most_small = λ within. by_bool wait (λ b. IsSmall (most_events c (Start i p b))) tt (omega arith);
 }
 
@@ -89,7 +89,7 @@ end_op c i p = record {
   room_agrees = λ held seen same there. refl;
   restores = λ refusal trace before order. refl;
   file = λ t held order room. tt;
-  tells = λ within t trace h. tells (EndAt i p) c t (End i p) (end_kept c t i p) trace h;
-  short = λ within t trace h. is_short (EndAt i p) c t (End i p) (end_kept c t i p) trace h;
+  tells = λ within t trace h. tells (EndAt i p) c t (End i p) (end_inductive c t i p) trace h;
+  short = λ within t trace h. is_short (EndAt i p) c t (End i p) (end_inductive c t i p) trace h;
   most_small = λ within. omega arith;
 }

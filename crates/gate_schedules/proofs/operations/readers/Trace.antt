@@ -67,21 +67,21 @@ by_word P again fast slow (Some word) = by_state P fast slow word.state
 
 module _ (base i p t : ℕ) (value : ℕ) (hook : HookAnswer) (earlier : List Traced) (added : List Action) where
   -- what the trace says after the event of a step
-  abbrev pub After : Bool → DownReadStep → Type 0
-  After wait s =
+  abbrev pub TraceAfterStep : Bool → DownReadStep → Type 0
+  TraceAfterStep wait s =
       let r : DownRead = read_at i p t wait s in
       let found : ℕ = found_by (down_read_next r s).1 value in
       ReadNext base i p t wait (with_hook (event_of (down_read_next r s).0 (down_read_next r s).1 value) hook ∷ earlier)
       (actions_after (down_read_after r s found).1 added) (down_read_after r s found).0
 
   -- it left its section, blocked
-  blocked : (wait : Bool) → ReadSays base i wait LeavesBlocked earlier added → After wait LeavesBlocked
+  blocked : (wait : Bool) → ReadSays base i wait LeavesBlocked earlier added → TraceAfterStep wait LeavesBlocked
   blocked true h = ((EntersSection, refl, (h.0, λ q. absurd (cc), tt)), refl, h.2.0)
   blocked false h = (h.0, (refl, h.2.1), λ q. omega (arith, h.1 q))
 
   -- each event of a down-read keeps what its trace says: its sync word is one, so it is loaded once
   pub read_event : (wait : Bool) (s : DownReadStep) → WordIsValid (down_read_next (read_at i p t wait s) s).0 value →
-      ReadSays base i wait s earlier added → After wait s
+      ReadSays base i wait s earlier added → TraceAfterStep wait s
   read_event wait s may h = grind arith
 
 -- what a start's trace says at a phase
@@ -106,8 +106,8 @@ start_says : (c : Config) (i p t : ℕ) (wait : Bool) (e : Traced) (earlier : Li
 start_says c i p t wait e earlier added n h = grind arith
 
 -- so it is kept along every trace of a start
-pub start_kept : (c : Config) (t i p : ℕ) (wait : Bool) → IsInductiveGivenReads (StartAt i p t wait) c t (Start i p wait)
-start_kept c t i p wait = record {
+pub start_inductive : (c : Config) (t i p : ℕ) (wait : Bool) → IsInductiveGivenReads (StartAt i p t wait) c t (Start i p wait)
+start_inductive c t i p wait = record {
   first = (EntersSection, refl, (refl, λ q. omega arith, tt));
   more = λ phase value hook earlier added may here.
       subst (λ (x : Phase). ReadIsValid x (next_of x hook).0 value → InvariantAfterStep (StartAt i p t wait) c (Start i p wait) x value hook earlier added)
@@ -127,8 +127,8 @@ abbrev pub EndAt : ℕ → ℕ → List Traced → Phase → List Action → Typ
 EndAt i p trace phase added = (phase ≡ UpReads (record { level = i; cpu = p })) × (trace ≡ []) × (added ≡ [])
 
 -- its one event is its last
-pub end_kept : (c : Config) (t i p : ℕ) → IsInductive (EndAt i p) c t (End i p)
-end_kept c t i p = record {
+pub end_inductive : (c : Config) (t i p : ℕ) → IsInductive (EndAt i p) c t (End i p)
+end_inductive c t i p = record {
   first = (refl, refl, refl);
   more = λ phase value hook earlier added here.
       subst (λ (x : Phase). InvariantAfterStep (EndAt i p) c (End i p) x value hook earlier added) (sym here.0)

@@ -10,7 +10,7 @@ use Rattle.gate_schedules.proofs.mounts.{Loads.{after_load, steady}, Parts.is_kn
 use Rattle.gate_schedules.proofs.operations.remount.Fits.{give_up_fits, leave_holds_fits, leaves_below, let_go_fits, none_below, past_node_fits, state_fits}
 use Rattle.gate_schedules.proofs.operations.remount.Loop.{give_up_on, give_up_stays, leave_holds_on, leave_holds_stays, let_go_on, let_go_stage, let_go_stays}
 use Rattle.gate_schedules.proofs.operations.remount.Loop.{loads_flags, past_node_stage, past_node_stays, sets_hold, sums}
-use Rattle.gate_schedules.proofs.operations.remount.Parts.{GoesOn, Mount, PartsHold, RemountKeeps, StageHolds, StaysAtStep, flags_change, here_cleared, here_fits}
+use Rattle.gate_schedules.proofs.operations.remount.Parts.{NextRoleHolds, Mount, PartsHold, RemountKeeps, StageHolds, StaysAtStep, flags_change, here_cleared, here_fits}
 use Rattle.gate_schedules.proofs.operations.remount.Parts.{here_knows, load_event, load_found, mount_stays, node_changes, owner_on, role_stays, role_was}
 use Rattle.gate_schedules.proofs.operations.remount.Parts.{stage_holds, stores, tree_by, tree_by_two, tree_stays, tree_was, tree_where, umount_changes}
 use Rattle.gate_schedules.proofs.operations.remount.Parts.{whole_remount}
@@ -164,7 +164,7 @@ module _ (c : Config) (lim : IsWithin c) (w : World) (good : IsGood c w) (t : �
       has_hold (remount_role (lowest held) s) ≡ 1 → remount_role (lowest held) s' ≡ Out →
       ((n : ℕ) → (n ≡ lowest held → ⊥) → remount_role n s' ≡ remount_role n s) →
       RemountFits c s' → remount_owns s ≡ 1 → StaysAtStep x.nodes s' (remount_sets s) (remount_tree_role x.nodes s) →
-      GoesOn (remount_stage_role x.nodes s) x.nodes s' w.words.stage w.words.sb (marks_of w.words) →
+      NextRoleHolds (remount_stage_role x.nodes s) x.nodes s' w.words.stage w.words.sb (marks_of w.words) →
       let m : ℕ = lowest held in
       let v : View = view_with (w.views t) (WordName.MountFlags m, Touch.And 18446744073709551613) (w.words.flags m) hook
       (Next.Go (Phase.Remounts (at_remount x s')), None) in
@@ -423,7 +423,7 @@ module _ (c : Config) (lim : IsWithin c) (w : World) (good : IsGood c w) (t : �
   -- a load by the owner that has no role, before and after it
   still_load : (hook : HookAnswer) (name : WordName) (s s' : RemountStep) (e : IsHere s) → remount_owns s ≡ 1 →
       StaysAtStep x.nodes s' (remount_sets s) (remount_tree_role x.nodes s) →
-      GoesOn (remount_stage_role x.nodes s) x.nodes s' w.words.stage w.words.sb (marks_of w.words) →
+      NextRoleHolds (remount_stage_role x.nodes s) x.nodes s' w.words.stage w.words.sb (marks_of w.words) →
       RemountFits c s' → ((m : ℕ) → remount_role m s' ≡ remount_role m s) →
       let coming : Next Phase = Next.Go (Phase.Remounts (at_remount x s')) in
       ((part : Part) → is_known_part part ≡ false → Holds c (after_load w t name hook coming) part) ×
@@ -445,7 +445,7 @@ module _ (c : Config) (lim : IsWithin c) (w : World) (good : IsGood c w) (t : �
 
   -- what is to hold of a step for which the stage and the flags were found
   abbrev FromState : RemountStep → Type 0
-  FromState s = StaysAtStep x.nodes s 0 OffTree × GoesOn (Owning (Some 0) None) x.nodes s w.words.stage w.words.sb (marks_of w.words) ×
+  FromState s = StaysAtStep x.nodes s 0 OffTree × NextRoleHolds (Owning (Some 0) None) x.nodes s w.words.stage w.words.sb (marks_of w.words) ×
       ((m : ℕ) → remount_role m s ≡ Out)
 
   -- it goes on as an owner that relies on this

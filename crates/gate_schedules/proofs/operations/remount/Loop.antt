@@ -2,7 +2,7 @@
 use Rattle.access_model.specs.declared.{replies.Next.Next}
 use Rattle.cpu_words.specs.{Hooks.HookAnswer, Touches.wrap_add, declared.{events.Touch.Touch, names.WordName.WordName, sums.Sum.Sum}}
 use Rattle.gate_schedules.proofs.{frames.{OperationLaws.by_bool, Owners.no_hold}, operations.remount.Fits.{give_up_fits, joins_below, past_mount_fits}}
-use Rattle.gate_schedules.proofs.operations.remount.Parts.{GoesOn, Mount, RemountKeeps, StaysAtStep, flags_change, here_fits, here_knows, in_loop}
+use Rattle.gate_schedules.proofs.operations.remount.Parts.{NextRoleHolds, Mount, RemountKeeps, StaysAtStep, flags_change, here_fits, here_knows, in_loop}
 use Rattle.gate_schedules.proofs.operations.remount.Parts.{load_event, mount_stays, owner_on, role_was}
 use Rattle.gate_schedules.proofs.operations.remount.Roles.{give_up_role, not_passed, passed_here, passed_there, past_mount_role, remount_seeks, summing_here}
 use Rattle.gate_schedules.proofs.operations.remount.Roles.{summing_there}
@@ -48,16 +48,16 @@ module _ (nodes stage sb : ℕ) (dirty : ℕ → ℕ) (a : stage ≡ 0) (b : sb 
   pub loop_on : SameDuties in_loop in_loop × ((stage ≡ 0) × (sb ≡ 0)) × CleanBelow 0 dirty
   loop_on = owner_on (Some 0) (Some 0) (Some 0) (Some 0) stage sb dirty a b
 
-  past_mount_on : (mounts m : ℕ) (held : MountSet) → GoesOn in_loop nodes (past_mount mounts m held) stage sb dirty
+  past_mount_on : (mounts m : ℕ) (held : MountSet) → NextRoleHolds in_loop nodes (past_mount mounts m held) stage sb dirty
   past_mount_on mounts m held = grind arith
 
-  pub give_up_on : (m : ℕ) (held : MountSet) → GoesOn in_loop nodes (give_up m held) stage sb dirty
+  pub give_up_on : (m : ℕ) (held : MountSet) → NextRoleHolds in_loop nodes (give_up m held) stage sb dirty
   give_up_on m held = grind arith
 
-  pub leave_holds_on : (held : MountSet) → GoesOn in_loop nodes (leave_holds held) stage sb dirty
+  pub leave_holds_on : (held : MountSet) → NextRoleHolds in_loop nodes (leave_holds held) stage sb dirty
   leave_holds_on held = grind arith
 
-  pub let_go_on : (held : MountSet) → CleanBelow 1 dirty → GoesOn (Remounting 0 1) nodes (let_go held) stage sb dirty
+  pub let_go_on : (held : MountSet) → CleanBelow 1 dirty → NextRoleHolds (Remounting 0 1) nodes (let_go held) stage sb dirty
   let_go_on held clean = grind arith
 
 -- a mount that is held is empty before and after a sum that was not 0, but that of the sum; one that isn't held is left

@@ -56,8 +56,8 @@ StaysAtStep nodes s set role = (remount_owns s ≡ 1) × (remount_sets s ≡ set
 
 -- A step to which a remount in this role goes on without a change of the stage and the flags: its role is alike, and what it relies on is
 -- so of this stage, these flags and these marks.
-abbrev pub GoesOn : StageRole → ℕ → RemountStep → ℕ → ℕ → (ℕ → ℕ) → Type 0
-GoesOn old nodes s stage sb dirty =
+abbrev pub NextRoleHolds : StageRole → ℕ → RemountStep → ℕ → ℕ → (ℕ → ℕ) → Type 0
+NextRoleHolds old nodes s stage sb dirty =
     SameDuties old (remount_stage_role nodes s) × KnowsStage stage sb (remount_stage_role nodes s) ×
     CleanBelow (clean_by (remount_stage_role nodes s)) dirty
 
@@ -174,7 +174,7 @@ module _ (c : Config) (w : World) (good : IsGood c w) (t : ℕ) (lt : t < c.task
 
   -- and after an event on the flags of a mount, or on none, with which the remount goes on
   pub goes_on : (flags : ℕ → ℕ) (s' : RemountStep) (v : View) → v.phase ≡ Some (Phase.Remounts (at_remount x s')) →
-      GoesOn (remount_stage_role x.nodes s) x.nodes s' w.words.stage w.words.sb (marks_of w.words) →
+      NextRoleHolds (remount_stage_role x.nodes s) x.nodes s' w.words.stage w.words.sb (marks_of w.words) →
       StageHolds (record w.words { flags = flags }) v
   goes_on flags s' v is on =
       stage_holds (record w.words { flags = flags }) v (Recalls (remount_stage_role x.nodes s) (remount_stage_role x.nodes s'))
@@ -262,7 +262,7 @@ module _ (c : Config) (w : World) (good : IsGood c w) (t : ℕ) (lt : t < c.task
 
     -- an event on the flags of one mount, which leaves READONLY
     pub flags_change : (at f : ℕ) → StaysAtStep x.nodes s' (remount_sets s) (remount_tree_role x.nodes s) →
-        GoesOn (remount_stage_role x.nodes s) x.nodes s' w.words.stage w.words.sb (marks_of w.words) →
+        NextRoleHolds (remount_stage_role x.nodes s) x.nodes s' w.words.stage w.words.sb (marks_of w.words) →
         ro_bit f ≡ ro_bit (w.words.flags at) →
         (at < c.mounts → Mount at f w.words.remount w.words.sb (remount_role at s')) →
         ((m : ℕ) → (m ≡ at → ⊥) → remount_role m s' ≡ remount_role m s) →
@@ -332,7 +332,7 @@ module _ (c : Config) (w : World) (good : IsGood c w) (t : ℕ) (lt : t < c.task
   pub load_found : (name : WordName) (hook : HookAnswer) (s' : RemountStep) → remount_owns s ≡ 1 → remount_owns s' ≡ 1 →
       remount_sets s' ≡ remount_sets s →
       TreeIsRight w.words (view_with (w.views t) (name, Touch.Load) (read w.words name) hook (Next.Go (Phase.Remounts (at_remount x s')), None)) →
-      GoesOn (remount_stage_role x.nodes s) x.nodes s' w.words.stage w.words.sb (marks_of w.words) →
+      NextRoleHolds (remount_stage_role x.nodes s) x.nodes s' w.words.stage w.words.sb (marks_of w.words) →
       RemountFits c s' → ((m : ℕ) → m < c.mounts → Mount m (w.words.flags m) w.words.remount w.words.sb (remount_role m s')) →
       let coming : Next Phase = Next.Go (Phase.Remounts (at_remount x s')) in
       ((part : Part) → is_known_part part ≡ false → Holds c (after_load w t name hook coming) part) ×
@@ -355,7 +355,7 @@ module _ (c : Config) (w : World) (good : IsGood c w) (t : ℕ) (lt : t < c.task
   -- a load by the owner, after which this step comes, as its event
   pub load_event : (name : WordName) (hook : HookAnswer) (s' : RemountStep) → remount_owns s ≡ 1 →
       StaysAtStep x.nodes s' (remount_sets s) (remount_tree_role x.nodes s) →
-      GoesOn (remount_stage_role x.nodes s) x.nodes s' w.words.stage w.words.sb (marks_of w.words) →
+      NextRoleHolds (remount_stage_role x.nodes s) x.nodes s' w.words.stage w.words.sb (marks_of w.words) →
       RemountFits c s' → ((m : ℕ) → m < c.mounts → Mount m (w.words.flags m) w.words.remount w.words.sb (remount_role m s')) →
       let coming : Next Phase = Next.Go (Phase.Remounts (at_remount x s')) in
       ((part : Part) → is_known_part part ≡ false → Holds c (after_load w t name hook coming) part) ×

@@ -127,29 +127,29 @@ module _ (c : Config) (lim : IsWithin c) (t : ℕ) (ro : Bool) (value : ℕ) (ea
   longer hook step = with_hook (event_at (remount c t ro step) value hook) hook ∷ earlier
 
   -- what the trace says after the event of a step
-  abbrev After : HookAnswer → RemountStep → Type 0
-  After hook step = InvariantAfterStep (RemountAt c t ro) c (Op.RemountSb ro) (remount c t ro step) value hook earlier added
+  abbrev TraceAfterStep : HookAnswer → RemountStep → Type 0
+  TraceAfterStep hook step = InvariantAfterStep (RemountAt c t ro) c (Op.RemountSb ro) (remount c t ro step) value hook earlier added
 
-  locks : (hook : HookAnswer) → StepSays c ro RemountStep.Locks earlier added → After hook RemountStep.Locks
+  locks : (hook : HookAnswer) → StepSays c ro RemountStep.Locks earlier added → TraceAfterStep hook RemountStep.Locks
   locks hook h = grind arith
 
-  loads_stage : (hook : HookAnswer) → StepSays c ro RemountStep.LoadsStage earlier added → After hook RemountStep.LoadsStage
+  loads_stage : (hook : HookAnswer) → StepSays c ro RemountStep.LoadsStage earlier added → TraceAfterStep hook RemountStep.LoadsStage
   loads_stage hook h = grind arith
 
-  loads_superblock : (hook : HookAnswer) → StepSays c ro RemountStep.LoadsSuperblock earlier added → After hook RemountStep.LoadsSuperblock
+  loads_superblock : (hook : HookAnswer) → StepSays c ro RemountStep.LoadsSuperblock earlier added → TraceAfterStep hook RemountStep.LoadsSuperblock
   loads_superblock hook h = grind arith
 
-  sets_writable : (hook : HookAnswer) → StepSays c ro RemountStep.SetsWritable earlier added → After hook RemountStep.SetsWritable
+  sets_writable : (hook : HookAnswer) → StepSays c ro RemountStep.SetsWritable earlier added → TraceAfterStep hook RemountStep.SetsWritable
   sets_writable (Ok answer) h = (RemountStep.Releases (Ok Reply.Unit), refl, (rw (h.1, h.2) (ap (λ (l : List Action). Action.SbRw ∷ l) h.0), tt))
   sets_writable (Err code) h = ((rw h.1 h.0, rw h.1 (inl (refl, refl, refl))), tt)
 
   -- no file is found removed, or one is
-  loads_removed : (hook : HookAnswer) → StepSays c ro RemountStep.LoadsRemoved earlier added → After hook RemountStep.LoadsRemoved
+  loads_removed : (hook : HookAnswer) → StepSays c ro RemountStep.LoadsRemoved earlier added → TraceAfterStep hook RemountStep.LoadsRemoved
   loads_removed hook h = grind arith
 
   -- the same with each mount held or read-only
   loads_removed_again : (hook : HookAnswer) (held : MountSet) → StepSays c ro (RemountStep.LoadsRemovedAgain held) earlier added →
-      After hook (RemountStep.LoadsRemovedAgain held)
+      TraceAfterStep hook (RemountStep.LoadsRemovedAgain held)
   loads_removed_again hook held h =
       elim (cases_Bool (value == 0)) [
         | inl f ↦ rw f (RemountStep.SetsRemount held, refl, h)
@@ -163,12 +163,12 @@ module _ (c : Config) (lim : IsWithin c) (t : ℕ) (ro : Bool) (value : ℕ) (ea
 
   -- a mount is found read-only, or writable
   loads_flags : (hook : HookAnswer) (m : ℕ) (held : MountSet) → StepSays c ro (RemountStep.LoadsFlags m held) earlier added →
-      After hook (RemountStep.LoadsFlags m held)
+      TraceAfterStep hook (RemountStep.LoadsFlags m held)
   loads_flags hook m held h = grind arith
 
   -- its sum begins with no count loaded
   sets_hold : (hook : HookAnswer) (m : ℕ) (held : MountSet) → StepSays c ro (RemountStep.SetsHold m held) earlier added →
-      After hook (RemountStep.SetsHold m held)
+      TraceAfterStep hook (RemountStep.SetsHold m held)
   sets_hold hook m held h = grind arith
 
   -- one count more is loaded
@@ -180,7 +180,7 @@ module _ (c : Config) (lim : IsWithin c) (t : ℕ) (ro : Bool) (value : ℕ) (ea
 
   -- the sum goes on, or it is a sum of all counts: 0, or not
   sums : (hook : HookAnswer) (m : ℕ) (held : MountSet) (sum : Sum) → StepSays c ro (RemountStep.Sums m held sum) earlier added →
-      After hook (RemountStep.Sums m held sum)
+      TraceAfterStep hook (RemountStep.Sums m held sum)
   sums hook m held sum h =
       let trace : List Traced = longer hook (RemountStep.Sums m held sum) in
       let way : IsOnItsWay ro trace added = h.0 in
@@ -214,10 +214,10 @@ module _ (c : Config) (lim : IsWithin c) (t : ℕ) (ro : Bool) (value : ℕ) (ea
       ]
 
   -- `remount` is set, and `sb ro` is added before any mark is cleared
-  sets_remount : (hook : HookAnswer) (held : MountSet) → StepSays c ro (RemountStep.SetsRemount held) earlier added → After hook (RemountStep.SetsRemount held)
+  sets_remount : (hook : HookAnswer) (held : MountSet) → StepSays c ro (RemountStep.SetsRemount held) earlier added → TraceAfterStep hook (RemountStep.SetsRemount held)
   sets_remount hook held h = grind arith
 
-  clears_mark : (hook : HookAnswer) (n : ℕ) → StepSays c ro (RemountStep.ClearsMark n) earlier added → After hook (RemountStep.ClearsMark n)
+  clears_mark : (hook : HookAnswer) (n : ℕ) → StepSays c ro (RemountStep.ClearsMark n) earlier added → TraceAfterStep hook (RemountStep.ClearsMark n)
   clears_mark hook n h =
       elim (cases_Bool (has_flag value 4)) [
         | inl f ↦ rw f (
@@ -234,10 +234,10 @@ module _ (c : Config) (lim : IsWithin c) (t : ℕ) (ro : Bool) (value : ℕ) (ea
       ]
 
   -- the file system has answered, on the way to read-only
-  sets_read_only : (hook : HookAnswer) → StepSays c ro RemountStep.SetsReadOnly earlier added → After hook RemountStep.SetsReadOnly
+  sets_read_only : (hook : HookAnswer) → StepSays c ro RemountStep.SetsReadOnly earlier added → TraceAfterStep hook RemountStep.SetsReadOnly
   sets_read_only hook h = grind arith
 
-  remount_event : (hook : HookAnswer) (step : RemountStep) → StepSays c ro step earlier added → After hook step
+  remount_event : (hook : HookAnswer) (step : RemountStep) → StepSays c ro step earlier added → TraceAfterStep hook step
   remount_event hook RemountStep.Locks h = locks hook h
   remount_event hook RemountStep.LoadsStage h = loads_stage hook h
   remount_event hook RemountStep.LoadsSuperblock h = loads_superblock hook h
@@ -270,8 +270,8 @@ module _ (c : Config) (lim : IsWithin c) (t : ℕ) (ro : Bool) (value : ℕ) (ea
   remount_event hook RemountStep.ClearsRemount h = (RemountStep.Releases (Ok Reply.Unit), refl, (rw (h.1, h.2) h.0, tt))
   remount_event hook (RemountStep.Releases answer) h = (lock_leaves c ro answer value hook earlier added h, tt)
 
-pub remount_kept : (c : Config) → IsWithin c → (t : ℕ) (ro : Bool) → IsInductive (RemountAt c t ro) c t (Op.RemountSb ro)
-remount_kept c lim t ro = record {
+pub remount_inductive : (c : Config) → IsWithin c → (t : ℕ) (ro : Bool) → IsInductive (RemountAt c t ro) c t (Op.RemountSb ro)
+remount_inductive c lim t ro = record {
   first = (RemountStep.Locks, refl, (refl, (refl, refl, refl, λ m. refl)));
   more = λ phase value hook earlier added here.
       subst (λ (x : Phase). InvariantAfterStep (RemountAt c t ro) c (Op.RemountSb ro) x value hook earlier added) (sym here.1)

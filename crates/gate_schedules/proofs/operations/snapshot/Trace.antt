@@ -29,8 +29,8 @@ events_before c (SnapshotStep.LoadsKids node) = c.nodes + node + 3
 events_before c (SnapshotStep.Releases answer) = 2 * c.nodes + 3
 
 -- what a snapshot knows at its step
-abbrev Knows : ((Event → Bool) → Type 0) → Snapshot → Type 0
-Knows seen x = SnapshotKnows seen x x.step
+abbrev KnowsAtStep : ((Event → Bool) → Type 0) → Snapshot → Type 0
+KnowsAtStep seen x = SnapshotKnows seen x x.step
 
 -- it adds nothing
 abbrev so_far : Snapshot → List Action
@@ -52,12 +52,12 @@ module _ (c : Config) (t : ℕ) (wait : Bool) where
 
   -- what its trace says at a phase
   abbrev SnapshotAt : List Traced → Phase → List Action → Type 0
-  SnapshotAt = CallAt Snapshot SnapshotStep TreePhase.Snapshot snapshot_of Knows so_far (StepInvariant c) (events_before c) (2 * c.nodes + 4) wait c
+  SnapshotAt = CallAt Snapshot SnapshotStep TreePhase.Snapshot snapshot_of KnowsAtStep so_far (StepInvariant c) (events_before c) (2 * c.nodes + 4) wait c
       (Op.Snapshot wait)
 
   -- what comes after so many events
   abbrev NextInvariant : List Traced → ℕ → Next Snapshot → Type 0
-  NextInvariant = GoesOnOrEnds Snapshot SnapshotStep TreePhase.Snapshot snapshot_of Knows so_far (StepInvariant c) (events_before c) (2 * c.nodes + 4) wait c
+  NextInvariant = GoesOnOrEnds Snapshot SnapshotStep TreePhase.Snapshot snapshot_of KnowsAtStep so_far (StepInvariant c) (events_before c) (2 * c.nodes + 4) wait c
       (Op.Snapshot wait)
 
   -- `umount` was found taken, as it was before: a snapshot waits, or is refused
@@ -75,7 +75,7 @@ module _ (c : Config) (t : ℕ) (wait : Bool) where
 
   -- so the trace of a snapshot says what its row asks for
   snapshot_answers : (s : SnapshotStep) (trace : List Traced) →
-      Answers Snapshot SnapshotStep TreePhase.Snapshot snapshot_of Knows so_far (StepInvariant c) (events_before c) (2 * c.nodes + 4) wait c
+      Answers Snapshot SnapshotStep TreePhase.Snapshot snapshot_of KnowsAtStep so_far (StepInvariant c) (events_before c) (2 * c.nodes + 4) wait c
       (Op.Snapshot wait) (IsReply Reply.Tree) (SnapshotHonest (SeenIn trace) (snapshot_of s)) (λ answer. []) trace
   snapshot_answers s trace = grind arith
 
@@ -85,8 +85,8 @@ module _ (c : Config) (t : ℕ) (wait : Bool) where
   snapshot_within s trace there h = grind arith
 
   -- and keeps it along
-  snapshot_kept : IsWithin c → IsInductiveGivenReads SnapshotAt c t (Op.Snapshot wait)
-  snapshot_kept lim = record {
+  snapshot_inductive : IsWithin c → IsInductiveGivenReads SnapshotAt c t (Op.Snapshot wait)
+  snapshot_inductive lim = record {
     first = (SnapshotStep.Locks, refl, (refl, tt, refl, λ q. omega arith));
     more = λ phase value hook earlier added may here.
         let s : SnapshotStep = here.0 in
@@ -95,7 +95,7 @@ module _ (c : Config) (t : ℕ) (wait : Bool) where
         subst (λ (p : Phase). ReadIsValid p (next_of p hook).0 value → InvariantAfterStep SnapshotAt c (Op.Snapshot wait) p value hook earlier added)
         (sym here.1)
         (λ holds.
-        call_says Snapshot SnapshotStep TreePhase.Snapshot snapshot_of Knows so_far (StepInvariant c) (events_before c) (2 * c.nodes + 4) wait c
+        call_says Snapshot SnapshotStep TreePhase.Snapshot snapshot_of KnowsAtStep so_far (StepInvariant c) (events_before c) (2 * c.nodes + 4) wait c
         (Op.Snapshot wait) (IsReply Reply.Tree) (SnapshotHonest (SeenIn (e ∷ earlier)) (snapshot_of s)) (λ answer. []) e earlier
         (snapshot_answers s (e ∷ earlier)) (events_before c s) here.2.3
         (snapshot_after (snapshot_of s) s (found_by (snapshot_next (snapshot_of s) s).1 value)).0
@@ -109,8 +109,8 @@ module _ (c : Config) (t : ℕ) (wait : Bool) where
 -- so a snapshot's trace tells what it is to tell, and is short where it doesn't wait
 pub snapshot_tells : (wait : Bool) (c : Config) → IsWithin c → (t : ℕ) (trace : List Traced) → IsTrace c t (Op.Snapshot wait) trace →
     Tells c (Op.Snapshot wait) trace (state_of_trace c t (Op.Snapshot wait) trace).comes (state_of_trace c t (Op.Snapshot wait) trace).added
-snapshot_tells wait c lim t trace h = tells_well (SnapshotAt c t wait) c t (Op.Snapshot wait) (snapshot_kept c t wait lim) trace h
+snapshot_tells wait c lim t trace h = tells_well (SnapshotAt c t wait) c t (Op.Snapshot wait) (snapshot_inductive c t wait lim) trace h
 
 pub snapshot_short : (wait : Bool) (c : Config) → IsWithin c → (t : ℕ) (trace : List Traced) → IsTrace c t (Op.Snapshot wait) trace →
     IsShort (most_events c (Op.Snapshot wait)) trace
-snapshot_short wait c lim t trace h = is_short_well (SnapshotAt c t wait) c t (Op.Snapshot wait) (snapshot_kept c t wait lim) trace h
+snapshot_short wait c lim t trace h = is_short_well (SnapshotAt c t wait) c t (Op.Snapshot wait) (snapshot_inductive c t wait lim) trace h

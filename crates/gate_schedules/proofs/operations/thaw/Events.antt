@@ -75,12 +75,12 @@ tree_comes trace (Next.Go x) = refl
 tree_comes trace other = refl
 
 -- a role that is like this one, relies on what is so, and has cleared nodes that are clean
-abbrev GoesOn : StageRole → ℕ → ℕ → (ℕ → ℕ) → StageRole → Type 0
-GoesOn old stage sb dirty r = SameDuties old r × KnowsStage stage sb r × CleanBelow (clean_by r) dirty
+abbrev NextRoleHolds : StageRole → ℕ → ℕ → (ℕ → ℕ) → StageRole → Type 0
+NextRoleHolds old stage sb dirty r = SameDuties old r × KnowsStage stage sb r × CleanBelow (clean_by r) dirty
 
 -- so it does after an event of the exchange of a level that is open
 exit_on : (x : Thaw) (level : ℕ) (s : UpWriteStep) (n : TransitionNext) (stage sb : ℕ) (dirty : ℕ → ℕ) → level ≤ 3 → stage ≡ 0 →
-    GoesOn (Reopening (level - 1)) stage sb dirty
+    NextRoleHolds (Reopening (level - 1)) stage sb dirty
     (stage_role_of (phase_after (map_next Phase.Thaws (after_opening x level (exit_made (record { level = level; step = s }) n)))))
 exit_on x level s n stage sb dirty l3 z = grind arith
 
@@ -457,7 +457,7 @@ module _ (c : Config) (lim : IsWithin c) (w : World) (good : IsGood c w) (t : �
 
     -- where the level is open and it leaves the words of the stage, the thaw goes on to the next level or to its release
     leaves_law : (e : IsHere (ThawStep.Reopens u)) → thaw_stage_role (ThawStep.Reopens u) ≡ Reopening (u.level - 1) → None ≡ next_here.1 →
-        GoesOn (Reopening (u.level - 1)) w.words.stage w.words.sb (marks_of w.words) (stage_role_of view_here.phase) →
+        NextRoleHolds (Reopening (u.level - 1)) w.words.stage w.words.sb (marks_of w.words) (stage_role_of view_here.phase) →
         SameStageWords w.words words_here → WriterLaw c w t words_here view_here next_here.1
     leaves_law e role none on same =
         reopens_law e (Recalls (Reopening (u.level - 1)) (stage_role_of view_here.phase)) (

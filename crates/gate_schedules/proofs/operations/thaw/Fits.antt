@@ -37,12 +37,12 @@ module _ (c : Config) (t : ℕ) (held : Holdings) (x : Thaw) (same : x.task ≡ 
   NextFits next = Fits c t held (phase_after (map_next Phase.Thaws next))
 
   -- after an event of a thaw, what comes fits the accesses that its action leaves
-  abbrev GoesOn : ThawStep → ℕ → HookAnswer → Type 0
-  GoesOn s found hook =
+  abbrev FitsAfterStep : ThawStep → ℕ → HookAnswer → Type 0
+  FitsAfterStep s found hook =
       Fits c t (held_after (thaw_after x s found hook).1 held)
       (phase_after (map_next Phase.Thaws (thaw_after x s found hook).0))
 
-  step_goes : (s : ThawStep) (found : ℕ) (hook : HookAnswer) → ThawFits x.holder s → GoesOn s found hook
+  step_goes : (s : ThawStep) (found : ℕ) (hook : HookAnswer) → ThawFits x.holder s → FitsAfterStep s found hook
   step_goes s found hook f = grind arith
 
 -- what comes after each event of a thaw fits

@@ -3,7 +3,7 @@ use Rattle.access_model.specs.declared.actions.Holder.{Holder}
 use Rattle.freeze_levels.specs.declared.thaws.Thaw.{Thaw}
 use Rattle.gate_schedules.proofs.frames.{Agreeing.none_agree, OperationLaws.{OpLaws, PhaseLaws, word_among}, Snapshots.completes_none}
 use Rattle.gate_schedules.proofs.operations.thaw.{Causes.{thaw_own, thaw_stays}, Events.thaw_keeps, Fits.{thaw_acts, thaw_goes, thaw_there}, Runs.thaw_runs}
-use Rattle.gate_schedules.proofs.{operations.thaw.{Trace.{ThawAt, thaw_kept}, Waits.thaw_waits}, traces.TraceInvariant.{is_short, tells}}
+use Rattle.gate_schedules.proofs.{operations.thaw.{Trace.{ThawAt, thaw_inductive}, Waits.thaw_waits}, traces.TraceInvariant.{is_short, tells}}
 use Rattle.gate_world.specs.{Worlds.after_step, declared.{config.Config.Config, operations.Op.Op, work.Phase.Phase}}
 use Rattle.std.proofs.Common.{refl}
 
@@ -30,7 +30,7 @@ thaw_op c holder = record {
   room_agrees = λ held seen same there. refl;
   restores = λ refusal trace before order. refl;
   file = λ t held order room. tt;
-  tells = λ lim t trace h. tells (ThawAt c t holder) c t (Op.Thaw holder) (thaw_kept c t holder) trace h;
-  short = λ lim t trace h. is_short (ThawAt c t holder) c t (Op.Thaw holder) (thaw_kept c t holder) trace h;
+  tells = λ lim t trace h. tells (ThawAt c t holder) c t (Op.Thaw holder) (thaw_inductive c t holder) trace h;
+  short = λ lim t trace h. is_short (ThawAt c t holder) c t (Op.Thaw holder) (thaw_inductive c t holder) trace h;
   most_small = λ lim. tt;
 }

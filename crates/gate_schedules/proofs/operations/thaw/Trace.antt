@@ -64,32 +64,32 @@ module _ (c : Config) (t : ℕ) (holder : Holder) (value : ℕ) (earlier : List 
   longer hook step = with_hook (event_at (Phase.Thaws (thaw_of t holder step)) value hook) hook ∷ earlier
 
   -- what the trace says after the event of a step
-  abbrev After : HookAnswer → ThawStep → Type 0
-  After hook step = InvariantAfterStep (ThawAt c t holder) c (Op.Thaw holder) (Phase.Thaws (thaw_of t holder step)) value hook earlier added
+  abbrev TraceAfterStep : HookAnswer → ThawStep → Type 0
+  TraceAfterStep hook step = InvariantAfterStep (ThawAt c t holder) c (Op.Thaw holder) (Phase.Thaws (thaw_of t holder step)) value hook earlier added
 
-  locks : (hook : HookAnswer) → StepSays c holder ThawStep.Locks earlier added → After hook ThawStep.Locks
+  locks : (hook : HookAnswer) → StepSays c holder ThawStep.Locks earlier added → TraceAfterStep hook ThawStep.Locks
   locks hook h = grind arith
 
-  loads_stage : (hook : HookAnswer) → StepSays c holder ThawStep.LoadsStage earlier added → After hook ThawStep.LoadsStage
+  loads_stage : (hook : HookAnswer) → StepSays c holder ThawStep.LoadsStage earlier added → TraceAfterStep hook ThawStep.LoadsStage
   loads_stage hook h = grind arith
 
-  loads_holders : (hook : HookAnswer) → StepSays c holder ThawStep.LoadsHolders earlier added → After hook ThawStep.LoadsHolders
+  loads_holders : (hook : HookAnswer) → StepSays c holder ThawStep.LoadsHolders earlier added → TraceAfterStep hook ThawStep.LoadsHolders
   loads_holders hook h = grind arith
 
-  loads_superblock : (hook : HookAnswer) → StepSays c holder ThawStep.LoadsSuperblock earlier added → After hook ThawStep.LoadsSuperblock
+  loads_superblock : (hook : HookAnswer) → StepSays c holder ThawStep.LoadsSuperblock earlier added → TraceAfterStep hook ThawStep.LoadsSuperblock
   loads_superblock hook h = grind arith
 
-  leaves_last : (hook : HookAnswer) → StepSays c holder ThawStep.LeavesLast earlier added → After hook ThawStep.LeavesLast
+  leaves_last : (hook : HookAnswer) → StepSays c holder ThawStep.LeavesLast earlier added → TraceAfterStep hook ThawStep.LeavesLast
   leaves_last (Ok answer) h = (ThawStep.SetsUnfrozen, refl, (ap (λ (l : List Action). Action.Leave holder ∷ l) h.0, h.1, h.2))
   leaves_last (Err code) h = ((h.0, inl (refl, refl, refl)), tt)
 
   -- each event of an up-write
   reopens : (hook : HookAnswer) (level : ℕ) (s : UpWriteStep) → StepSays c holder (ThawStep.Reopens (record { level = level; step = s })) earlier added →
-      After hook (ThawStep.Reopens (record { level = level; step = s }))
+      TraceAfterStep hook (ThawStep.Reopens (record { level = level; step = s }))
   reopens hook level s h = grind arith
 
-  thaw_event : (hook : HookAnswer) (step : ThawStep) → StepSays c holder step earlier added → After hook step
+  thaw_event : (hook : HookAnswer) (step : ThawStep) → StepSays c holder step earlier added → TraceAfterStep hook step
   thaw_event hook step h = grind arith
 
-pub thaw_kept : (c : Config) (t : ℕ) (holder : Holder) → IsInductive (ThawAt c t holder) c t (Op.Thaw holder)
-thaw_kept c t holder = grind arith
+pub thaw_inductive : (c : Config) (t : ℕ) (holder : Holder) → IsInductive (ThawAt c t holder) c t (Op.Thaw holder)
+thaw_inductive c t holder = grind arith

@@ -13,10 +13,10 @@ use Rattle.gate_schedules.proofs.{frames.Owners.who_holds, traces.Moments.{or_tr
 -- a task whose next event is that of a want's step, in its own operation or in a longer one, and which another entry leaves alone
 module _ (c : Config) (t : ℕ) (w next : World) (earlier : List World) where
   -- keeps the cause of a refusal that is to come
-  pub want_kept : (m : ℕ) (s : WantStep) → asks (next.views t).phase ≡ want_asks s → WantCause c t w earlier m s →
+  pub want_cause_stays : (m : ℕ) (s : WantStep) → asks (next.views t).phase ≡ want_asks s → WantCause c t w earlier m s →
       WantCause c t next (w ∷ earlier) m s
-  want_kept m (WantStep.CountsDown refusal) e h = subst (λ q. WantRefused c t m q refusal) (sym (question_skips t next (w ∷ earlier) e)) h
-  want_kept m other e h = tt
+  want_cause_stays m (WantStep.CountsDown refusal) e h = subst (λ q. WantRefused c t m q refusal) (sym (question_skips t next (w ∷ earlier) e)) h
+  want_cause_stays m other e h = tt
 
 -- whether what comes after an event of a want asks the read-only question
 abbrev pub next_asks : Next Want → Bool

@@ -1,9 +1,9 @@
 -- All that is proved of a want and of a drop.
 use Rattle.access_model.specs.declared.replies.Next.{Next}
 use Rattle.gate_schedules.proofs.frames.{Frames.role_none, OperationLaws.{IsSmall, OpLaws, PhaseLaws, by_bool, word_among}, Snapshots.completes_none}
-use Rattle.gate_schedules.proofs.{mounts.Runs.mounts_run, operations.want.Causes.{next_asked, next_cause, want_kept, want_own}}
+use Rattle.gate_schedules.proofs.{mounts.Runs.mounts_run, operations.want.Causes.{next_asked, next_cause, want_cause_stays, want_own}}
 use Rattle.gate_schedules.proofs.operations.want.{Events.{drop_keeps, want_keeps}, Fits.{want_acts, want_goes, want_there}, Loads.want_here}
-use Rattle.gate_schedules.proofs.operations.want.{Trace.{DropAt, WantAt, drop_kept, want_kept as want_traced}, Waits.{next_waits, want_waits}}
+use Rattle.gate_schedules.proofs.operations.want.{Trace.{DropAt, WantAt, drop_inductive, want_inductive as want_traced}, Waits.{next_waits, want_waits}}
 use Rattle.gate_schedules.proofs.{traces.TraceInvariant.{is_short, tells}, trees.worlds.Holders.both_true}
 use Rattle.gate_world.specs.{SameRoles.no_roles, refusals.Causes.asks, Fits.Fits, Rules.Fitting, traces.Traces.most_events, Views.held_of, Worlds.{World, after_step, found_at}}
 use Rattle.gate_world.specs.declared.{config.Config.Config, operations.Op.Op, work.Phase.Phase}
@@ -20,7 +20,7 @@ want_phase c x = record {
   acts = λ lim t held found hook f. want_acts c lim t held x x.step found (omega (arith, f.0, lim.mounts)) f.2;
   goes = λ lim t held found hook f. want_goes c lim t held x x.step found f;
   agrees = λ t held seen same fits. (fits.0, fits.1, omega (arith, fits.2, same.mounts x.mount fits.0));
-  stays = λ w next earlier after t f e was quiet h. want_kept c t w next earlier x.mount x.step (ap asks e) h;
+  stays = λ w next earlier after t f e was quiet h. want_cause_stays c t w next earlier x.mount x.step (ap asks e) h;
   causes = λ w earlier good t lt hook e after is h.
       let f : Fits c t (held_of (w.views t)) (Some (Phase.Mounts (MountPhase.Want x))) =
       subst (Fits c t (held_of (w.views t))) e (good Fitting t lt) in
@@ -78,7 +78,7 @@ drop_op c m p = record {
   room_agrees = λ held seen same there. refl;
   restores = λ refusal trace before order. refl;
   file = λ t held order room. tt;
-  tells = λ lim t trace h. tells (DropAt m p) c t (Op.DropMount m p) (drop_kept c t m p) trace h;
-  short = λ lim t trace h. is_short (DropAt m p) c t (Op.DropMount m p) (drop_kept c t m p) trace h;
+  tells = λ lim t trace h. tells (DropAt m p) c t (Op.DropMount m p) (drop_inductive c t m p) trace h;
+  short = λ lim t trace h. is_short (DropAt m p) c t (Op.DropMount m p) (drop_inductive c t m p) trace h;
   most_small = λ lim. omega arith;
 }

@@ -157,8 +157,8 @@ want_says : (c : Config) (m p : ℕ) (wait : Bool) (e : Traced) (earlier : List 
     InvariantAfter (WantAt c m p wait) c (Op.Want m p wait) (e ∷ earlier) (map_next Phase.Mounts (map_next MountPhase.Want n)) added
 want_says c m p wait e earlier added n h = grind arith
 
-pub want_kept : (c : Config) (t m p : ℕ) (wait : Bool) → IsInductive (WantAt c m p wait) c t (Op.Want m p wait)
-want_kept c t m p wait = record {
+pub want_inductive : (c : Config) (t m p : ℕ) (wait : Bool) → IsInductive (WantAt c m p wait) c t (Op.Want m p wait)
+want_inductive c t m p wait = record {
   first = (WantStep.CountsUp, refl, (refl, λ q. omega arith, refl));
   more = λ phase value hook earlier added here.
       let x : Want = want_at m p wait here.0 in
@@ -174,5 +174,5 @@ want_kept c t m p wait = record {
 abbrev pub DropAt : ℕ → ℕ → List Traced → Phase → List Action → Type 0
 DropAt m p trace phase added = (phase ≡ Phase.Mounts (MountPhase.Drop m p)) × (trace ≡ []) × (added ≡ [])
 
-pub drop_kept : (c : Config) (t m p : ℕ) → IsInductive (DropAt m p) c t (Op.DropMount m p)
-drop_kept c t m p = grind arith
+pub drop_inductive : (c : Config) (t m p : ℕ) → IsInductive (DropAt m p) c t (Op.DropMount m p)
+drop_inductive c t m p = grind arith

@@ -3,7 +3,7 @@
 use Rattle.access_model.specs.{Replies.map_next, declared.replies.Next.Next}
 use Rattle.std.proofs.Common.{arith}
 use Rattle.gate_schedules.proofs.{frames.Frames.role_none}
-use Rattle.gate_world.specs.{SameRoles.{SameRoles, no_roles}, Views.phase_after, Work.plain}
+use Rattle.gate_world.specs.{SameRoles.{SameRoles, no_roles}, Views.phase_after, Work.inner_phase}
 use Rattle.gate_world.specs.declared.work.Phase.{Phase}
 use Rattle.mount_counts.specs.declared.phases.{MountPhase.MountPhase, Want.Want}
 use Rattle.percpu_rwsem.specs.declared.readers.DownRead.{DownRead}
@@ -11,7 +11,7 @@ use Rattle.std.proofs.Common.{refl, ℕ}
 use Rattle.std.specs.Prelude.{Ok, Some}
 use Rattle.composite_ops.specs.{write_access.Phases.{then_gives_back, then_wants}, declared.write_access.phases.WritePhase.WritePhase}
 
-pub alike_plain : (x : WritePhase) → SameRoles (Some (Phase.Writes x)) (Some (plain x))
+pub alike_plain : (x : WritePhase) → SameRoles (Some (Phase.Writes x)) (Some (inner_phase x))
 alike_plain (WritePhase.Takes m r) = refl
 alike_plain other = refl
 

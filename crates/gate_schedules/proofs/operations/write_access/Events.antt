@@ -2,10 +2,10 @@
 use Rattle.access_model.specs.declared.{actions.Action.Action, replies.Next.Next}
 use Rattle.cpu_words.specs.Hooks.{HookAnswer}
 use Rattle.finite_sums.proofs.Totals.{update_at}
-use Rattle.gate_schedules.proofs.frames.{SameRolesOffTree.{made, made_runs_beside}, PhaseSubstitution.{alike_of, made_keeps, rephased_good}}
+use Rattle.gate_schedules.proofs.frames.{SameRolesOffTree.{made, made_runs_off_tree}, PhaseSubstitution.{alike_of, made_keeps, rephased_good}}
 use Rattle.gate_schedules.proofs.operations.write_access.Alike.{alike_plain}
 use Rattle.gate_world.specs.{SameRoles.{SameRoles, at_phase, off_tree, rephased}, Fits.{Fits, PhaseFits, WriteFits}, Holdings.{Holdings, held_after}}
-use Rattle.gate_world.specs.{LevelRuns.level_in, Rules.{Fitting, IsGood, Moves}, Shown.shown, Views.{held_of, phase_after}, Work.{after_of, next_of, plain}}
+use Rattle.gate_world.specs.{LevelRuns.level_in, Rules.{Fitting, IsGood, Moves}, Shown.shown, Views.{held_of, phase_after}, Work.{after_of, next_of, inner_phase}}
 use Rattle.gate_world.specs.{Worlds.{World, found_at}, declared.{config.Config.Config, views.View.View, work.Phase.Phase}}
 use Rattle.freeze_laws.specs.levels.Events.{SyncStep}
 use Rattle.std.proofs.Common.{ap, arith, subst, ℕ, ◌<◌, ◌≡◌}
@@ -13,7 +13,7 @@ use Rattle.std.specs.Prelude.{Option, Some}
 use Rattle.composite_ops.specs.declared.write_access.phases.WritePhase.{WritePhase}
 
 -- the phase of its gate fits
-pub plain_fits : (c : Config) (t : ℕ) (held : Holdings) (x : WritePhase) → WriteFits c t held x → PhaseFits c t held (plain x)
+pub plain_fits : (c : Config) (t : ℕ) (held : Holdings) (x : WritePhase) → WriteFits c t held x → PhaseFits c t held (inner_phase x)
 plain_fits c t held x f = grind arith
 
 module _ (c : Config) (w : World) (good : IsGood c w) (t : ℕ) (lt : t < c.tasks) (hook : HookAnswer) (x : WritePhase)
@@ -21,31 +21,31 @@ module _ (c : Config) (w : World) (good : IsGood c w) (t : ℕ) (lt : t < c.task
   pub write_fits_now : WriteFits c t (held_of (w.views t)) x
   write_fits_now = subst (Fits c t (held_of (w.views t))) e (good Fitting t lt)
 
-  before : SameRoles (w.views t).phase (Some (plain x))
+  before : SameRoles (w.views t).phase (Some (inner_phase x))
   before = alike_of e (alike_plain x)
 
-  fits_plain : Fits c t (held_of (w.views t)) (Some (plain x))
+  fits_plain : Fits c t (held_of (w.views t)) (Some (inner_phase x))
   fits_plain = plain_fits c t (held_of (w.views t)) x write_fits_now
 
   -- what comes after the gate's event in the gate's own operation, and the action that it adds
   abbrev pub plain_after : Next Phase
-  plain_after = (after_of (plain x) (found_at w.words (plain x) hook) hook).0
+  plain_after = (after_of (inner_phase x) (found_at w.words (inner_phase x) hook) hook).0
 
   -- the action that it adds
   abbrev pub plain_action : Option Action
-  plain_action = (after_of (plain x) (found_at w.words (plain x) hook) hook).1
+  plain_action = (after_of (inner_phase x) (found_at w.words (inner_phase x) hook) hook).1
 
   -- the same event in a world with these words, after which this comes
   abbrev pub made_in : World → Next Phase → World
-  made_in first coming = made first t (next_of (plain x) hook) hook coming plain_action
+  made_in first coming = made first t (next_of (inner_phase x) hook) hook coming plain_action
 
   -- the task stands at the gate's phase
   abbrev pub first_world : World
-  first_world = rephased w t (Some (plain x))
+  first_world = rephased w t (Some (inner_phase x))
 
   -- where the rule holds of that world, the law of the gate's event
   abbrev pub PlainLaw : Type 0
-  PlainLaw = IsGood c first_world → (first_world.views t).phase ≡ Some (plain x) →
+  PlainLaw = IsGood c first_world → (first_world.views t).phase ≡ Some (inner_phase x) →
       IsGood c (made_in first_world plain_after) ×
       Moves c (shown c first_world) t plain_action (shown c (made_in first_world plain_after))
 
@@ -54,18 +54,18 @@ module _ (c : Config) (w : World) (good : IsGood c w) (t : ℕ) (lt : t < c.task
       Fits c t (held_after plain_action (held_of (w.views t))) (phase_after coming) →
       IsGood c (made_in w coming) × Moves c (shown c w) t plain_action (shown c (made_in w coming))
   write_step law coming after fits =
-      made_keeps c w t lt (Some (plain x)) (next_of (plain x) hook) hook plain_after coming plain_action good before fits_plain law after
+      made_keeps c w t lt (Some (inner_phase x)) (next_of (inner_phase x) hook) hook plain_after coming plain_action good before fits_plain law after
       fits
 
   -- where the rule holds of that world, the gate's event there is one of this level's
   abbrev pub PlainRuns : ℕ → Type 0
-  PlainRuns i = IsGood c first_world → (first_world.views t).phase ≡ Some (plain x) →
+  PlainRuns i = IsGood c first_world → (first_world.views t).phase ≡ Some (inner_phase x) →
       SyncStep c.tasks (level_in first_world i) (level_in (made_in first_world plain_after) i)
 
   -- so the event of the longer operation is the same kind of event of the level
   pub write_runs : (coming : Next Phase) → SameRoles (phase_after plain_after) (phase_after coming) → (i : ℕ) → PlainRuns i →
       SyncStep c.tasks (level_in w i) (level_in (made_in w coming) i)
   write_runs coming after i runs =
-      made_runs_beside c w t lt (Some (plain x)) (next_of (plain x) hook) hook plain_after coming plain_action i (λ j. off_tree (before j))
-      (runs (rephased_good c w t lt (Some (plain x)) before fits_plain good)
-      (ap (λ (u : View). u.phase) (update_at w.views t (at_phase (w.views t) (Some (plain x)))))) (λ j. off_tree (after j))
+      made_runs_off_tree c w t lt (Some (inner_phase x)) (next_of (inner_phase x) hook) hook plain_after coming plain_action i (λ j. off_tree (before j))
+      (runs (rephased_good c w t lt (Some (inner_phase x)) before fits_plain good)
+      (ap (λ (u : View). u.phase) (update_at w.views t (at_phase (w.views t) (Some (inner_phase x)))))) (λ j. off_tree (after j))

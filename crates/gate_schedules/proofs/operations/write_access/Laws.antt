@@ -6,11 +6,11 @@ use Rattle.finite_sums.specs.Sums.{update}
 use Rattle.gate_schedules.proofs.frames.{Agreeing.none_agree, SameRolesOffTree.update_twice, Frames.{count_none, role_on, sync_none}, OperationLaws.{OpLaws, PhaseLaws}}
 use Rattle.gate_schedules.proofs.{frames.Snapshots.completes_none, operations.readers.Causes.{read_not_closed, read_own, read_stays}}
 use Rattle.gate_schedules.proofs.operations.readers.{Laws.{end_phase, read_phase}, Waits.read_waits}
-use Rattle.gate_schedules.proofs.operations.want.{Causes.{want_kept, want_own}, Laws.{drop_phase, want_phase}, Waits.want_waits}
+use Rattle.gate_schedules.proofs.operations.want.{Causes.{want_cause_stays, want_own}, Laws.{drop_phase, want_phase}, Waits.want_waits}
 use Rattle.gate_schedules.proofs.operations.write_access.Alike.{alike_takes, alike_wants}
 use Rattle.gate_schedules.proofs.operations.write_access.Causes.{takes_asks, takes_cause, takes_waits, wants_asked, wants_cause, wants_waits}
 use Rattle.gate_schedules.proofs.operations.write_access.Events.{first_world, write_fits_now, write_runs, write_step}
-use Rattle.gate_schedules.proofs.operations.write_access.Trace.{DropAt, WriteAt, drop_kept, write_kept}
+use Rattle.gate_schedules.proofs.operations.write_access.Trace.{DropAt, WriteAt, drop_inductive, write_inductive}
 use Rattle.gate_schedules.proofs.{traces.TraceInvariant.{is_short, is_short_well, tells, tells_well}, trees.worlds.Holders.both_true}
 use Rattle.gate_world.specs.{refusals.Causes.{asks, asks_level}, Configs.IsWithin, Fits.{Fits, WriteFits}, Holdings.{Holdings, held_after, holdings_of}}
 use Rattle.gate_world.specs.{SameRoles.no_roles, LevelRuns.level_in, Levels.sync_role_of, Rules.{IsGood, StepKeeps, role_of}, Views.{held_of, phase_after}}
@@ -124,7 +124,7 @@ wants_phase c x = record {
   goes = λ lim t held found hook f. wants_fits c lim t held x found hook f;
   agrees = λ t held seen same fits.
       ((want_phase c x).agrees t held seen same fits.0, sym (same.levels 1 (omega arith) (omega arith)) ∙ fits.1);
-  stays = λ w next earlier good t f e was quiet h. want_kept c t w next earlier x.mount x.step (ap asks e) h;
+  stays = λ w next earlier good t f e was quiet h. want_cause_stays c t w next earlier x.mount x.step (ap asks e) h;
   causes = λ w earlier good t lt hook e after is h.
       let f : WriteFits c t (held_of (w.views t)) (WritePhase.Wants x) = write_fits_now c w good t lt hook (WritePhase.Wants x) e in
       let next : World = after_step w t (Phase.Writes (WritePhase.Wants x)) hook in
@@ -148,7 +148,7 @@ gives_back_phase c m p refusal = record {
   acts = λ lim t held found hook f. (omega arith, omega arith);
   goes = λ lim t held found hook f. tt;
   agrees = λ t held seen same fits. (fits.0, fits.1, sym (same.levels 1 (omega arith) (omega arith)) ∙ fits.2);
-  stays = λ w next earlier good t f e was quiet h. want_kept c t w next earlier m (WantStep.CountsDown refusal) (ap asks e) h;
+  stays = λ w next earlier good t f e was quiet h. want_cause_stays c t w next earlier m (WantStep.CountsDown refusal) (ap asks e) h;
   causes = λ w earlier good t lt hook e after is h. tt;
   reasons = λ lim w earlier good t lt hook e cause. cause;
 }
@@ -214,8 +214,8 @@ want_write_op c m p = record {
       both_true (not (levels_of before 1)) (not (levels_of before 2) && not (levels_of before 3)) order in
       λ j. record (holdings_of before) { levels = level_restored (levels_of before) (is_false (levels_of before 1) none.0) j };
   file = λ t held order room. tt;
-  tells = λ lim t trace h. tells_well (WriteAt c m p t) c t (Op.WantWrite m p) (write_kept c t m p) trace h;
-  short = λ lim t trace h. is_short_well (WriteAt c m p t) c t (Op.WantWrite m p) (write_kept c t m p) trace h;
+  tells = λ lim t trace h. tells_well (WriteAt c m p t) c t (Op.WantWrite m p) (write_inductive c t m p) trace h;
+  short = λ lim t trace h. is_short_well (WriteAt c m p t) c t (Op.WantWrite m p) (write_inductive c t m p) trace h;
   most_small = λ lim. tt;
 }
 
@@ -231,7 +231,7 @@ drop_write_op c m p = record {
   room_agrees = λ held seen same there. refl;
   restores = λ refusal trace before order. refl;
   file = λ t held order room. tt;
-  tells = λ lim t trace h. tells (DropAt m p) c t (Op.DropWrite m p) (drop_kept c t m p) trace h;
-  short = λ lim t trace h. is_short (DropAt m p) c t (Op.DropWrite m p) (drop_kept c t m p) trace h;
+  tells = λ lim t trace h. tells (DropAt m p) c t (Op.DropWrite m p) (drop_inductive c t m p) trace h;
+  short = λ lim t trace h. is_short (DropAt m p) c t (Op.DropWrite m p) (drop_inductive c t m p) trace h;
   most_small = λ lim. omega arith;
 }

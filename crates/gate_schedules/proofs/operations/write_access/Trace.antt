@@ -46,12 +46,12 @@ module _ (c : Config) (m p t : ℕ) (e : Traced) (earlier : List Traced) (added 
 
 module _ (c : Config) (m p t : ℕ) (value : ℕ) (hook : HookAnswer) (earlier : List Traced) (added : List Action) where
   -- what the trace says after the event of a phase
-  abbrev After : WritePhase → Type 0
-  After x = InvariantAfterStep (WriteAt c m p t) c (Op.WantWrite m p) (Phase.Writes x) value hook earlier added
+  abbrev TraceAfterStep : WritePhase → Type 0
+  TraceAfterStep x = InvariantAfterStep (WriteAt c m p t) c (Op.WantWrite m p) (Phase.Writes x) value hook earlier added
 
   -- an event at level 1
   takes_event : (s : DownReadStep) → WordIsValid (down_read_next (read_at 1 p t true s) s).0 value → ReadSays 0 1 true s earlier added →
-      After (WritePhase.Takes m (read_at 1 p t true s))
+      TraceAfterStep (WritePhase.Takes m (read_at 1 p t true s))
   takes_event s may h =
       let r : DownRead = read_at 1 p t true s in
       let found : ℕ = found_by (down_read_next r s).1 value in
@@ -61,7 +61,7 @@ module _ (c : Config) (m p t : ℕ) (value : ℕ) (hook : HookAnswer) (earlier :
 
   -- an event at the mount
   wants_event : (below : List Traced) (s : WantStep) → WantSays c m p true level_taken below s earlier added →
-      After (WritePhase.Wants (want_at m p true s))
+      TraceAfterStep (WritePhase.Wants (want_at m p true s))
   wants_event below s h =
       let x : Want = want_at m p true s in
       let found : ℕ = found_by (want_next x s).1 value in
@@ -75,18 +75,18 @@ module _ (c : Config) (m p t : ℕ) (value : ℕ) (hook : HookAnswer) (earlier :
   cause_stays n q GateError.ReadOnly h = h
   cause_stays n q refusal h = h
 
-  write_event : (x : WritePhase) → WordIsValid (write_next x).0 value → WriteSays c m p t x earlier added → After x
+  write_event : (x : WritePhase) → WordIsValid (write_next x).0 value → WriteSays c m p t x earlier added → TraceAfterStep x
   write_event (WritePhase.Takes n r) may h =
-      subst (λ y. After (WritePhase.Takes y r)) (sym h.0)
-      (subst (λ (y : DownRead). WordIsValid (down_read_next y y.step).0 value → After (WritePhase.Takes m y)) (sym h.1.1)
+      subst (λ y. TraceAfterStep (WritePhase.Takes y r)) (sym h.0)
+      (subst (λ (y : DownRead). WordIsValid (down_read_next y y.step).0 value → TraceAfterStep (WritePhase.Takes m y)) (sym h.1.1)
       (λ holds. takes_event h.1.0 holds h.1.2) may)
-  write_event (WritePhase.Wants x) may h = subst (λ y. After (WritePhase.Wants y)) (sym h.2) (wants_event h.0 h.1 h.3)
+  write_event (WritePhase.Wants x) may h = subst (λ y. TraceAfterStep (WritePhase.Wants y)) (sym h.2) (wants_event h.0 h.1 h.3)
   write_event (WritePhase.GivesBack n q refusal) may h = ((ap (λ (l : List Action). Action.Return (Gate.Level 1) ∷ l) h.0, cause_stays n q refusal h.1), tt)
   write_event (WritePhase.Drops n q) may h = absurd h
   write_event (WritePhase.Ends q) may h = absurd h
 
-pub write_kept : (c : Config) (t m p : ℕ) → IsInductiveGivenReads (WriteAt c m p t) c t (Op.WantWrite m p)
-write_kept c t m p = record {
+pub write_inductive : (c : Config) (t m p : ℕ) → IsInductiveGivenReads (WriteAt c m p t) c t (Op.WantWrite m p)
+write_inductive c t m p = record {
   first = (WritePhase.Takes m (read_at 1 p t true DownReadStep.EntersSection), refl, (refl, (DownReadStep.EntersSection, refl, (refl, λ q. omega arith, tt))));
   more = λ phase value hook earlier added may here.
       subst (λ (x : Phase). ReadIsValid x (next_of x hook).0 value → InvariantAfterStep (WriteAt c m p t) c (Op.WantWrite m p) x value hook earlier added)
@@ -104,5 +104,5 @@ DropSays m p other trace added = ⊥
 abbrev pub DropAt : ℕ → ℕ → List Traced → Phase → List Action → Type 0
 DropAt m p trace phase added = (x : WritePhase) × (phase ≡ Phase.Writes x) × DropSays m p x trace added
 
-pub drop_kept : (c : Config) (t m p : ℕ) → IsInductive (DropAt m p) c t (Op.DropWrite m p)
-drop_kept c t m p = grind arith
+pub drop_inductive : (c : Config) (t m p : ℕ) → IsInductive (DropAt m p) c t (Op.DropWrite m p)
+drop_inductive c t m p = grind arith

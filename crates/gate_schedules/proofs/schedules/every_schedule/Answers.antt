@@ -61,5 +61,5 @@ returns-clause-settles c = whole_settles
 pub returns-clause-replies : goal.returns-clause-replies
 returns-clause-replies c = whole_replies
 
-pub returns-clause-kept_stays : goal.returns-clause-kept_stays
-returns-clause-kept_stays c = whole_kept
+pub returns-clause-blocked_stays : goal.returns-clause-blocked_stays
+returns-clause-blocked_stays c = whole_kept

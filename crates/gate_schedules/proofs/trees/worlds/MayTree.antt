@@ -23,7 +23,7 @@ use Rattle.mount_counts.specs.{Roles.{barring_of, mount_as_gate, skips}, Sets.ha
 use Rattle.freeze_laws.specs.stages.Roles.{passed_by}
 use Rattle.std.proofs.{Common.{Bool, ap, arith, false, inl, inr, leb-true, refl, subst, true, ℕ, ◌<◌, ◌≡◌, ◌≤◌}, lemmas.Bool.{cases_Bool, Decides.eqb_tells}}
 use Rattle.std.specs.Prelude.{List, None, Option, Some, if◌then◌else◌, nat_le, ◌==◌}
-use Rattle.gate_schedules.specs.trees.{Events.{HasLeave, MayClean}, Steps.{MayMark, MayStep}}
+use Rattle.gate_schedules.specs.trees.{Events.{HasLeave, MayClean}, Steps.{MayMark, TreeAllowsStep}}
 
 pub open_unsealed : (sb stage : ℕ) → sb ≡ 0 → stage < 3 → sealed_by sb stage ≡ 0
 open_unsealed sb stage writable low =
@@ -118,7 +118,7 @@ module _ (c : Config) (w : World) (good : IsGood c w) where
 
     -- nor of any call
     pub may_go : (x : TreePhase) → TreeAccess c (held_of (w.views t)) x →
-        MayStep (tree_bounds c) (tree_of w) x
+        TreeAllowsStep (tree_bounds c) (tree_of w) x
     may_go (TreePhase.Create x) may = open_unread 1 (writer_open may)
     may_go (TreePhase.Remove x) may = (open_unread 1 (writer_open may), may_remove may)
     may_go (TreePhase.Grow x) may = (open_unread 1 (writer_open may), may_dirty 1 (omega arith) (writer_open may))
@@ -133,7 +133,7 @@ module _ (c : Config) (w : World) (good : IsGood c w) where
         PhaseFits c t (held_of (w.views t)) (Phase.Trees x)
     call_fits x e = subst (Fits c t (held_of (w.views t))) e (good Fitting t lt)
 
-    pub may_step : (x : TreePhase) → (w.views t).phase ≡ Some (Phase.Trees x) → MayStep (tree_bounds c) (tree_of w) x
+    pub may_step : (x : TreePhase) → (w.views t).phase ≡ Some (Phase.Trees x) → TreeAllowsStep (tree_bounds c) (tree_of w) x
     may_step x e = may_go x (call_fits x e).1
 
     -- the model gives leave to an action, if there is one

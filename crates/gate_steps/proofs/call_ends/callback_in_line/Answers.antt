@@ -1,13 +1,13 @@
 -- the callback stands in its grace period
 use Rattle.percpu_rwsem.specs.declared.callbacks.CallbackStep.TheVariants.{AwaitsSections}
-use Rattle.gate_steps.proofs.call_events.Leading.{led_from, led_to, tied_from}
+use Rattle.gate_steps.proofs.call_events.Leading.{led_from, led_to, agrees_from}
 use Rattle.gate_steps.proofs.call_ends.Beginning.{callback_stands}
 use Rattle.gate_steps.proofs.call_ends.CallingBack.{called_false, called_true}
 use Rattle.gate_steps.proofs.call_ends.callback_in_line.Goals as goal
 
-pub run_callback-requires-clause-tied : goal.run_callback-requires-clause-tied
-run_callback-requires-clause-tied c =
-    tied_from (callback_stands c.args.callback (AwaitsSections c.in-AwaitsSections.grace) c.in-AwaitsSections.is) c.requires.tied
+pub run_callback-requires-clause-agrees : goal.run_callback-requires-clause-agrees
+run_callback-requires-clause-agrees c =
+    agrees_from (callback_stands c.args.callback (AwaitsSections c.in-AwaitsSections.grace) c.in-AwaitsSections.is) c.requires.agrees
 
 pub returns-then-run_callback-clause-led : goal.returns-then-run_callback-clause-led
 returns-then-run_callback-clause-led c =

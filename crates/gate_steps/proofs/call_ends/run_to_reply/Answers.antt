@@ -4,7 +4,7 @@ use Rattle.std.specs.Prelude.{None}
 use Rattle.access_model.specs.Replies.{map_next}
 use Rattle.gate_world.specs.Views.{phase_after}
 use Rattle.gate_steps.proofs.call_events.Onward.{stands_at, done_at}
-use Rattle.gate_steps.proofs.call_events.Onward.{goes_so, tries_so, falls_so, tied_so, called_so}
+use Rattle.gate_steps.proofs.call_events.Onward.{goes_so, tries_so, falls_so, agrees_so, called_so}
 use Rattle.gate_steps.proofs.call_events.Turning.{went_so}
 use Rattle.gate_steps.proofs.call_ends.run_to_reply.Goals as goal
 
@@ -12,17 +12,17 @@ pub loop-answer-init : goal.loop-answer-init
 loop-answer-init g c = record {
   table = refl;
   slots = refl;
-  tied = c.requires.tied;
+  agrees = c.requires.agrees;
   trying = c.requires.trying;
-  stay = λ number flags ties. ties;
+  stay = λ number flags ghost_agrees. ghost_agrees;
   goes = λ of start goes. goes;
 }
 
-pub returns-in-Done-clause-tied : goal.returns-in-Done-clause-tied
-returns-in-Done-clause-tied g c number flags ties =
-    tied_so number c.args.gates.now.config c.do_event-next.new.accesses flags c.do_event-next.new.seat.me.0.items _ None
+pub returns-in-Done-clause-agrees : goal.returns-in-Done-clause-agrees
+returns-in-Done-clause-agrees g c number flags ghost_agrees =
+    agrees_so number c.args.gates.now.config c.do_event-next.new.accesses flags c.do_event-next.new.seat.me.0.items _ None
     (ap (λ n. phase_after n) (done_at g.P.PendingOp.as_phase c.do_event-next.result.next c.in-Done.answer c.in-Done.is))
-    (c.do_event-next.ensures.tied number flags (c.loop-answer.invariant.stay number flags ties))
+    (c.do_event-next.ensures.agrees number flags (c.loop-answer.invariant.stay number flags ghost_agrees))
 
 pub returns-in-Done-clause-called : goal.returns-in-Done-clause-called
 returns-in-Done-clause-called g c of start goes =
@@ -59,9 +59,9 @@ loop-answer-preserved-in-Go g c =
     record {
       table = left.table ∙ now.table;
       slots = left.slots ∙ now.slots;
-      tied = record { number = now.tied.number; flags = now.tied.flags; ties = tied_so _ config accesses _ items _ _ is (left.tied _ _ now.tied.ties) };
+      agrees = record { number = now.agrees.number; flags = now.agrees.flags; ghost_agrees = agrees_so _ config accesses _ items _ _ is (left.agrees _ _ now.agrees.ghost_agrees) };
       trying = tries_so config within event action next _ left.stepped _ is now.trying;
-      stay = λ number flags ties. tied_so number config accesses flags items _ _ is (left.tied number flags (now.stay number flags ties));
+      stay = λ number flags ghost_agrees. agrees_so number config accesses flags items _ _ is (left.agrees number flags (now.stay number flags ghost_agrees));
       goes = λ of start goes. goes_so config within event action next _ left.stepped _ is of start (now.goes of start goes);
     }
 
@@ -80,8 +80,8 @@ loop-answer-preserved g c =
     record {
       table = left.table ∙ now.table;
       slots = left.slots ∙ now.slots;
-      tied = record { number = now.tied.number; flags = now.tied.flags; ties = tied_so _ config accesses _ items _ _ is (left.tied _ _ now.tied.ties) };
+      agrees = record { number = now.agrees.number; flags = now.agrees.flags; ghost_agrees = agrees_so _ config accesses _ items _ _ is (left.agrees _ _ now.agrees.ghost_agrees) };
       trying = tries_so config within event action next _ left.stepped _ is now.trying;
-      stay = λ number flags ties. tied_so number config accesses flags items _ _ is (left.tied number flags (now.stay number flags ties));
+      stay = λ number flags ghost_agrees. agrees_so number config accesses flags items _ _ is (left.agrees number flags (now.stay number flags ghost_agrees));
       goes = λ of start goes. goes_so config within event action next _ left.stepped _ is of start (now.goes of start goes);
     }

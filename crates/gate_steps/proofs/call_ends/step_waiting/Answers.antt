@@ -5,11 +5,11 @@ use Rattle.access_model.specs.Replies.{map_next}
 use Rattle.access_model.specs.declared.replies.Next.TheVariants.{Go, Wait}
 use Rattle.gate_world.specs.Views.{phase_after}
 use Rattle.gate_world.specs.declared.operations.Op.{Op}
-use Rattle.gate_steps.specs.call_events.Asking.{GoesAsking, WentAsking}
+use Rattle.gate_steps.specs.call_events.Asking.{OpUnderWayAsking, OpAfterStepAsking}
 use Rattle.gate_steps.specs.call_events.SeatedTasks.{SeatedTask, task_state}
-use Rattle.gate_steps.specs.call_events.Turns.{StayTied}
+use Rattle.gate_steps.specs.call_events.Turns.{AgreesAfter}
 use Rattle.gate_steps.specs.call_events.Waited.{counted}
-use Rattle.gate_steps.proofs.call_events.Leading.{asking_tied}
+use Rattle.gate_steps.proofs.call_events.Leading.{asking_agrees}
 use Rattle.gate_steps.proofs.call_events.Waited.{one_more, going_on, replied, waiting_on}
 use Rattle.gate_steps.proofs.call_ends.step_waiting.Goals.{in-Go, in-Wait}
 use Rattle.gate_steps.proofs.call_ends.step_waiting.Goals as goal
@@ -20,8 +20,8 @@ loop-init g c = record {
   finite = tt;
   table = refl;
   slots = refl;
-  tied = c.requires.tied;
-  stay = λ number flags ties. ties;
+  agrees = c.requires.agrees;
+  stay = λ number flags ghost_agrees. ghost_agrees;
   went = λ of start before went. (0, refl, went);
 }
 
@@ -35,9 +35,9 @@ loop-preserved g c =
       | in-Go w ↦ ap (λ n. phase_after (map_next g.P.PendingOp.as_phase n)) w.in-Go.is ∙ ap (λ u. Some (g.P.PendingOp.as_phase u)) (sym w.under_way-is)
       | in-Wait w ↦ ap (λ n. phase_after (map_next g.P.PendingOp.as_phase n)) w.in-Wait.is ∙ ap (λ u. Some (g.P.PendingOp.as_phase u)) (sym w.under_way-is)
     ] in
-    let goes : (of : Op) (start : SeatedTask) (before : _) → WentAsking g.H.TimedHooks.answers 0 of start before (map_next g.P.PendingOp.as_phase c.args.begun)
+    let goes : (of : Op) (start : SeatedTask) (before : _) → OpAfterStepAsking g.H.TimedHooks.answers 0 of start before (map_next g.P.PendingOp.as_phase c.args.begun)
     (task_state c.args.seat.now.table_id c.args.gates.now.config None (phase_after (map_next g.P.PendingOp.as_phase c.args.begun)) c.args.seat.now.me.0)
-    c.args.hooks.now → (waits : ℕ) × (c.match-next-2.waited ≡ counted waits) × GoesAsking g.H.TimedHooks.answers waits of start before
+    c.args.hooks.now → (waits : ℕ) × (c.match-next-2.waited ≡ counted waits) × OpUnderWayAsking g.H.TimedHooks.answers waits of start before
     (task_state c.loop.seat.table_id c.args.gates.now.config None (Some (g.P.PendingOp.as_phase c.match-next-2.under_way)) c.loop.seat.me.0) c.loop.hooks =
     λ of start before began.
     let had = now.went of start before began in
@@ -58,18 +58,18 @@ loop-preserved g c =
       finite = tt;
       table = left.led.same_table ∙ (asked.table ∙ now.table);
       slots = left.slots ∙ (asked.slots ∙ now.slots);
-      tied = asking_tied left.led asked.still;
-      stay = λ number flags ties. left.led.tied number flags (asked.tied number flags
-          (subst (λ p. StayTied c.args.gates.now.config None (phase_after (map_next g.P.PendingOp.as_phase c.args.begun)) c.args.accesses.now
-          c.args.seat.now.me.0.items p c.loop.accesses c.loop.seat.me.0.items) stands now.stay number flags ties));
+      agrees = asking_agrees left.led asked.still;
+      stay = λ number flags ghost_agrees. left.led.agrees number flags (asked.agrees number flags
+          (subst (λ p. AgreesAfter c.args.gates.now.config None (phase_after (map_next g.P.PendingOp.as_phase c.args.begun)) c.args.accesses.now
+          c.args.seat.now.me.0.items p c.loop.accesses c.loop.seat.me.0.items) stands now.stay number flags ghost_agrees));
       went = λ of start before began.
           let had = goes of start before began in
           (had.0, had.1, left.led.went of start before had.0 (asked.asked had.0 of start before had.2));
     }
 
-pub returns-in-Done-clause-tied : goal.returns-in-Done-clause-tied
-returns-in-Done-clause-tied g c =
-    subst (λ n. StayTied c.args.gates.now.config None (phase_after (map_next g.P.PendingOp.as_phase c.args.begun)) c.args.accesses.now
+pub returns-in-Done-clause-agrees : goal.returns-in-Done-clause-agrees
+returns-in-Done-clause-agrees g c =
+    subst (λ n. AgreesAfter c.args.gates.now.config None (phase_after (map_next g.P.PendingOp.as_phase c.args.begun)) c.args.accesses.now
     c.args.seat.now.me.0.items (phase_after (map_next g.P.PendingOp.as_phase n)) c.loop.accesses c.loop.seat.me.0.items) c.in-Done.is
     c.loop.invariant.stay
 

@@ -1,10 +1,10 @@
 use Rattle.std.proofs.Common.{ℕ, List, [], ◌∷◌, sym, subst}
-use Rattle.gate_steps.specs.Rules.{Held, first_known}
+use Rattle.gate_steps.specs.Rules.{TableInvariantHolds, first_known}
 use Rattle.gate_steps.proofs.Opening.{opening_held}
 use Rattle.gate_steps.proofs.tables.open.Goals as goal
 
 pub of_words-requires : goal.of_words-requires
 of_words-requires c =
     let config = c.args.config.now in
-    subst (λ (l : List ℕ). Held config l (first_known config ∷ [])) (sym c.deref.ensures.value)
+    subst (λ (l : List ℕ). TableInvariantHolds config l (first_known config ∷ [])) (sym c.deref.ensures.value)
     (opening_held config c.requires c.in_ok-words.words.items c.in_ok-words.ensures)

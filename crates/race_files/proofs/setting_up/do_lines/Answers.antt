@@ -4,7 +4,7 @@ use Rattle.race_files.proofs.{Reading.{all_left, one_less}, SettingUp.{no_reques
 use Rattle.race_files.specs.Calls.{is_race}
 use Rattle.race_files.specs.SettingUp.{SetsUp, made_by}
 use Rattle.schedule_text.specs.Parsing.{parsed}
-use Rattle.transcripts.specs.Transcript.{Play, request_outcome}
+use Rattle.transcripts.specs.Transcript.{ReplayState, request_outcome}
 use Rattle.race_files.proofs.setting_up.do_lines.Goals as goal
 use Rattle.race_files.proofs.setting_up.do_lines.Goals.{in-Request+in_ok-do_request, in_default-2}
 
@@ -22,7 +22,7 @@ loop-line-preserved g c =
       left = one_less _ _ _ c.loop-line.invariant.left c.take-in-Some.ensures.left;
       made = λ p shows.
           let so_far = c.loop-line.invariant.made p shows in
-          let q : Play = so_far.0 in
+          let q : ReplayState = so_far.0 in
           let understood : parsed line (Some q.config.tasks) ≡ Ok c.in_ok-request.field-0 =
           ap (λ n. parsed line (Some n)) (sym (c.tasks.ensures q so_far.2)) ∙ (sym c.parse.ensures ∙ c.in_ok-request.was) in
           let set_up : SetsUp (Some p) (made_by (Some q) (parsed line (Some q.config.tasks))) (left_in c.args.lines.now)

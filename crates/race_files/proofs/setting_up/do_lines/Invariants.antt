@@ -3,15 +3,15 @@ use Rattle.gate_core.specs.Drivers.{CoreShows}
 use Rattle.race_files.specs.Left.{AreLeftOf, left_in}
 use Rattle.race_files.specs.SettingUp.{SetsUp}
 use Rattle.transcripts.specs.Sessions.{ShowsPlay}
-use Rattle.transcripts.specs.Transcript.{Play}
+use Rattle.transcripts.specs.Transcript.{ReplayState}
 use Rattle.race_files.proofs.setting_up.do_lines.Given as goal
 
 -- some lines were taken, and the session shows what they make
 abbrev pub invariant-loop-line : goal.invariant-loop-line
 invariant-loop-line g l = record {
   left : AreLeftOf (left_in l.initial.lines) (left_in l.lines);
-  made : (p : Play) → ShowsPlay CoreShows l.initial.session p →
-      (q : Play) × SetsUp (Some p) (Some q) (left_in l.initial.lines) (left_in l.lines) × ShowsPlay CoreShows l.session q;
+  made : (p : ReplayState) → ShowsPlay CoreShows l.initial.session p →
+      (q : ReplayState) × SetsUp (Some p) (Some q) (left_in l.initial.lines) (left_in l.lines) × ShowsPlay CoreShows l.session q;
 }
 
 abbrev pub decreases-loop-line : goal.decreases-loop-line

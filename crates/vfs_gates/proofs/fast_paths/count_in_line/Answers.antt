@@ -1,11 +1,11 @@
 -- each event of the line goes on from what the one before it left
 use Rattle.vfs_gates.proofs.fast_paths.count_in_line.Goals as goal
 
-pub returns-clause-tied : goal.returns-clause-tied
-returns-clause-tied c number flags ties =
-    c.step_if_at.ensures.tied number flags
-    (c.step_if_at-next-2.ensures.tied number flags
-    (c.step_if_at-next.ensures.tied number flags ties))
+pub returns-clause-agrees : goal.returns-clause-agrees
+returns-clause-agrees c number flags ghost_agrees =
+    c.step_if_at.ensures.agrees number flags
+    (c.step_if_at-next-2.ensures.agrees number flags
+    (c.step_if_at-next.ensures.agrees number flags ghost_agrees))
 
 pub returns-clause-went : goal.returns-clause-went
 returns-clause-went c waits op start went =

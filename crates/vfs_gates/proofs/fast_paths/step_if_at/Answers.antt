@@ -5,68 +5,68 @@ use Rattle.access_model.specs.Replies.{map_next}
 use Rattle.gate_world.specs.Views.{phase_after}
 use Rattle.gate_steps.specs.call_events.SeatedTasks.{task_state}
 use Rattle.gate_steps.specs.call_events.GhostAgrees.{GhostAgrees}
-use Rattle.gate_steps.specs.call_events.Turns.{kept_at, StateAgrees}
-use Rattle.gate_steps.specs.call_events.Waited.{WentWaiting}
+use Rattle.gate_steps.specs.call_events.Turns.{state_at, StateAgrees}
+use Rattle.gate_steps.specs.call_events.Waited.{OpAfterStepWaiting}
 use Rattle.vfs_gates.proofs.fast_paths.step_if_at.Goals as goal
 
-pub returns-then-goes_on-clause-tied : goal.returns-then-goes_on-clause-tied
-returns-then-goes_on-clause-tied g c number flags ties =
-    c.step_once.ensures.tied number flags
-    (subst (λ n. GhostAgrees number c.args.gates.now.config None (kept_at (phase_after (map_next g.P.PendingOp.as_phase n)) c.args.accesses.now) flags
-    c.args.seat.now.me.0.items) c.in-Go.is ties)
+pub returns-then-goes_on-clause-agrees : goal.returns-then-goes_on-clause-agrees
+returns-then-goes_on-clause-agrees g c number flags ghost_agrees =
+    c.step_once.ensures.agrees number flags
+    (subst (λ n. GhostAgrees number c.args.gates.now.config None (state_at (phase_after (map_next g.P.PendingOp.as_phase n)) c.args.accesses.now) flags
+    c.args.seat.now.me.0.items) c.in-Go.is ghost_agrees)
 
 pub returns-then-goes_on-clause-went : goal.returns-then-goes_on-clause-went
 returns-then-goes_on-clause-went g c waits op start went =
     c.step_once.ensures.went waits op start
-    (subst (λ n. WentWaiting waits op start (map_next g.P.PendingOp.as_phase n) (task_state c.args.seat.now.table_id c.args.gates.now.config None
+    (subst (λ n. OpAfterStepWaiting waits op start (map_next g.P.PendingOp.as_phase n) (task_state c.args.seat.now.table_id c.args.gates.now.config None
     (phase_after (map_next g.P.PendingOp.as_phase n)) c.args.seat.now.me.0)) c.in-Go.is went)
 
 pub returns-else-goes_on-clause-went : goal.returns-else-goes_on-clause-went
 returns-else-goes_on-clause-went g c waits op start went =
-    subst (λ n. WentWaiting waits op start (map_next g.P.PendingOp.as_phase n) (task_state c.args.seat.now.table_id c.args.gates.now.config None
+    subst (λ n. OpAfterStepWaiting waits op start (map_next g.P.PendingOp.as_phase n) (task_state c.args.seat.now.table_id c.args.gates.now.config None
     (phase_after (map_next g.P.PendingOp.as_phase n)) c.args.seat.now.me.0)) c.in-Go.is went
 
 pub returns-in-Wait-clause-went : goal.returns-in-Wait-clause-went
 returns-in-Wait-clause-went g c waits op start went =
-    subst (λ n. WentWaiting waits op start (map_next g.P.PendingOp.as_phase n) (task_state c.args.seat.now.table_id c.args.gates.now.config None
+    subst (λ n. OpAfterStepWaiting waits op start (map_next g.P.PendingOp.as_phase n) (task_state c.args.seat.now.table_id c.args.gates.now.config None
     (phase_after (map_next g.P.PendingOp.as_phase n)) c.args.seat.now.me.0)) c.in-Wait.is went
 
 pub returns-in-Done-clause-went : goal.returns-in-Done-clause-went
 returns-in-Done-clause-went g c waits op start went =
-    subst (λ n. WentWaiting waits op start (map_next g.P.PendingOp.as_phase n) (task_state c.args.seat.now.table_id c.args.gates.now.config None
+    subst (λ n. OpAfterStepWaiting waits op start (map_next g.P.PendingOp.as_phase n) (task_state c.args.seat.now.table_id c.args.gates.now.config None
     (phase_after (map_next g.P.PendingOp.as_phase n)) c.args.seat.now.me.0)) c.in-Done.is went
 
-pub step_once-requires-clause-tied : goal.step_once-requires-clause-tied
-step_once-requires-clause-tied g c =
+pub step_once-requires-clause-agrees : goal.step_once-requires-clause-agrees
+step_once-requires-clause-agrees g c =
     subst (λ n. StateAgrees c.args.gates.now.config None (phase_after (map_next g.P.PendingOp.as_phase n)) c.args.accesses.now c.args.seat.now.me.0.items)
-    c.in-Go.is c.requires.tied
+    c.in-Go.is c.requires.agrees
 
-pub returns-else-goes_on-clause-tied : goal.returns-else-goes_on-clause-tied
-returns-else-goes_on-clause-tied g c number flags ties =
-    subst (λ n. GhostAgrees number c.args.gates.now.config None (kept_at (phase_after (map_next g.P.PendingOp.as_phase n)) c.args.accesses.now) flags
-    c.args.seat.now.me.0.items) c.in-Go.is ties
+pub returns-else-goes_on-clause-agrees : goal.returns-else-goes_on-clause-agrees
+returns-else-goes_on-clause-agrees g c number flags ghost_agrees =
+    subst (λ n. GhostAgrees number c.args.gates.now.config None (state_at (phase_after (map_next g.P.PendingOp.as_phase n)) c.args.accesses.now) flags
+    c.args.seat.now.me.0.items) c.in-Go.is ghost_agrees
 
 pub returns-else-goes_on-clause-still : goal.returns-else-goes_on-clause-still
 returns-else-goes_on-clause-still g c =
     subst (λ n. StateAgrees c.args.gates.now.config None (phase_after (map_next g.P.PendingOp.as_phase n)) c.args.accesses.now c.args.seat.now.me.0.items)
-    c.in-Go.is c.requires.tied
+    c.in-Go.is c.requires.agrees
 
-pub returns-in-Wait-clause-tied : goal.returns-in-Wait-clause-tied
-returns-in-Wait-clause-tied g c number flags ties =
-    subst (λ n. GhostAgrees number c.args.gates.now.config None (kept_at (phase_after (map_next g.P.PendingOp.as_phase n)) c.args.accesses.now) flags
-    c.args.seat.now.me.0.items) c.in-Wait.is ties
+pub returns-in-Wait-clause-agrees : goal.returns-in-Wait-clause-agrees
+returns-in-Wait-clause-agrees g c number flags ghost_agrees =
+    subst (λ n. GhostAgrees number c.args.gates.now.config None (state_at (phase_after (map_next g.P.PendingOp.as_phase n)) c.args.accesses.now) flags
+    c.args.seat.now.me.0.items) c.in-Wait.is ghost_agrees
 
 pub returns-in-Wait-clause-still : goal.returns-in-Wait-clause-still
 returns-in-Wait-clause-still g c =
     subst (λ n. StateAgrees c.args.gates.now.config None (phase_after (map_next g.P.PendingOp.as_phase n)) c.args.accesses.now c.args.seat.now.me.0.items)
-    c.in-Wait.is c.requires.tied
+    c.in-Wait.is c.requires.agrees
 
-pub returns-in-Done-clause-tied : goal.returns-in-Done-clause-tied
-returns-in-Done-clause-tied g c number flags ties =
-    subst (λ n. GhostAgrees number c.args.gates.now.config None (kept_at (phase_after (map_next g.P.PendingOp.as_phase n)) c.args.accesses.now) flags
-    c.args.seat.now.me.0.items) c.in-Done.is ties
+pub returns-in-Done-clause-agrees : goal.returns-in-Done-clause-agrees
+returns-in-Done-clause-agrees g c number flags ghost_agrees =
+    subst (λ n. GhostAgrees number c.args.gates.now.config None (state_at (phase_after (map_next g.P.PendingOp.as_phase n)) c.args.accesses.now) flags
+    c.args.seat.now.me.0.items) c.in-Done.is ghost_agrees
 
 pub returns-in-Done-clause-still : goal.returns-in-Done-clause-still
 returns-in-Done-clause-still g c =
     subst (λ n. StateAgrees c.args.gates.now.config None (phase_after (map_next g.P.PendingOp.as_phase n)) c.args.accesses.now c.args.seat.now.me.0.items)
-    c.in-Done.is c.requires.tied
+    c.in-Done.is c.requires.agrees

@@ -4,23 +4,23 @@ use Rattle.std.specs.Prelude.{None}
 use Rattle.gate_world.specs.Views.{phase_after}
 use Rattle.gate_steps.specs.call_events.SeatedTasks.{task_state}
 use Rattle.gate_steps.specs.call_events.GhostAgrees.{GhostAgrees}
-use Rattle.gate_steps.specs.call_events.Turns.{kept_at, of_write}
-use Rattle.gate_steps.specs.call_events.Waited.{WentWaiting}
+use Rattle.gate_steps.specs.call_events.Turns.{state_at, of_write}
+use Rattle.gate_steps.specs.call_events.Waited.{OpAfterStepWaiting}
 use Rattle.vfs_gates.proofs.fast_paths.take_write.Goals as goal
 
-pub returns-then-is_granted-clause-tied : goal.returns-then-is_granted-clause-tied
-returns-then-is_granted-clause-tied c number flags ties =
-    subst (λ n. GhostAgrees number c.args.gates.now.config None (kept_at (phase_after (of_write n)) c.want_then-next.new.accesses) flags
+pub returns-then-is_granted-clause-agrees : goal.returns-then-is_granted-clause-agrees
+returns-then-is_granted-clause-agrees c number flags ghost_agrees =
+    subst (λ n. GhostAgrees number c.args.gates.now.config None (state_at (phase_after (of_write n)) c.want_then-next.new.accesses) flags
     c.want_then-next.new.seat.me.0.items) (c.is_granted.ensures c.if-is_granted.true)
-    (c.want_then-next.ensures.tied number flags
-    (c.step_if_at-next-3.ensures.tied number flags
-    (c.step_if_at-next-2.ensures.tied number flags
-    (c.step_if_at-next.ensures.tied number flags
-    (c.step_once-next.ensures.tied number flags ties)))))
+    (c.want_then-next.ensures.agrees number flags
+    (c.step_if_at-next-3.ensures.agrees number flags
+    (c.step_if_at-next-2.ensures.agrees number flags
+    (c.step_if_at-next.ensures.agrees number flags
+    (c.step_once-next.ensures.agrees number flags ghost_agrees)))))
 
 pub returns-then-is_granted-clause-went : goal.returns-then-is_granted-clause-went
 returns-then-is_granted-clause-went c waits op start goes =
-    subst (λ n. WentWaiting waits op start (of_write n) (task_state c.want_then-next.new.seat.table_id c.args.gates.now.config None
+    subst (λ n. OpAfterStepWaiting waits op start (of_write n) (task_state c.want_then-next.new.seat.table_id c.args.gates.now.config None
     (phase_after (of_write n)) c.want_then-next.new.seat.me.0)) (c.is_granted.ensures c.if-is_granted.true)
     (c.want_then-next.ensures.went waits op start
     (c.step_if_at-next-3.ensures.went waits op start
@@ -34,13 +34,13 @@ returns-then-is_granted-clause-table c = c.want_then-next.ensures.table ∙ (c.s
 pub returns-then-is_granted-clause-slots : goal.returns-then-is_granted-clause-slots
 returns-then-is_granted-clause-slots c = c.want_then-next.ensures.slots ∙ (c.step_if_at-next-3.ensures.slots ∙ (c.step_if_at-next-2.ensures.slots ∙ (c.step_if_at-next.ensures.slots ∙ c.step_once-next.ensures.slots)))
 
-pub returns-clause-tied : goal.returns-clause-tied
-returns-clause-tied c number flags ties =
-    c.want_then-next.ensures.tied number flags
-    (c.step_if_at-next-3.ensures.tied number flags
-    (c.step_if_at-next-2.ensures.tied number flags
-    (c.step_if_at-next.ensures.tied number flags
-    (c.step_once-next.ensures.tied number flags ties))))
+pub returns-clause-agrees : goal.returns-clause-agrees
+returns-clause-agrees c number flags ghost_agrees =
+    c.want_then-next.ensures.agrees number flags
+    (c.step_if_at-next-3.ensures.agrees number flags
+    (c.step_if_at-next-2.ensures.agrees number flags
+    (c.step_if_at-next.ensures.agrees number flags
+    (c.step_once-next.ensures.agrees number flags ghost_agrees))))
 
 pub returns-clause-went : goal.returns-clause-went
 returns-clause-went c waits op start goes =
@@ -59,23 +59,23 @@ returns-clause-slots c = c.want_then-next.ensures.slots ∙ (c.step_if_at-next-3
 pub step_if_at-next-requires-clause-table : goal.step_if_at-next-requires-clause-table
 step_if_at-next-requires-clause-table c = c.step_once-next.ensures.table ∙ c.requires.table
 
-pub step_if_at-next-requires-clause-tied : goal.step_if_at-next-requires-clause-tied
-step_if_at-next-requires-clause-tied c = c.step_once-next.ensures.still
+pub step_if_at-next-requires-clause-agrees : goal.step_if_at-next-requires-clause-agrees
+step_if_at-next-requires-clause-agrees c = c.step_once-next.ensures.still
 
 pub step_if_at-next-requires-2-clause-table : goal.step_if_at-next-requires-2-clause-table
 step_if_at-next-requires-2-clause-table c = c.step_if_at-next.ensures.table ∙ (c.step_once-next.ensures.table ∙ c.requires.table)
 
-pub step_if_at-next-requires-2-clause-tied : goal.step_if_at-next-requires-2-clause-tied
-step_if_at-next-requires-2-clause-tied c = c.step_if_at-next.ensures.still
+pub step_if_at-next-requires-2-clause-agrees : goal.step_if_at-next-requires-2-clause-agrees
+step_if_at-next-requires-2-clause-agrees c = c.step_if_at-next.ensures.still
 
 pub step_if_at-next-requires-3-clause-table : goal.step_if_at-next-requires-3-clause-table
 step_if_at-next-requires-3-clause-table c = c.step_if_at-next-2.ensures.table ∙ (c.step_if_at-next.ensures.table ∙ (c.step_once-next.ensures.table ∙ c.requires.table))
 
-pub step_if_at-next-requires-3-clause-tied : goal.step_if_at-next-requires-3-clause-tied
-step_if_at-next-requires-3-clause-tied c = c.step_if_at-next-2.ensures.still
+pub step_if_at-next-requires-3-clause-agrees : goal.step_if_at-next-requires-3-clause-agrees
+step_if_at-next-requires-3-clause-agrees c = c.step_if_at-next-2.ensures.still
 
 pub want_then-next-requires-clause-table : goal.want_then-next-requires-clause-table
 want_then-next-requires-clause-table c = c.step_if_at-next-3.ensures.table ∙ (c.step_if_at-next-2.ensures.table ∙ (c.step_if_at-next.ensures.table ∙ (c.step_once-next.ensures.table ∙ c.requires.table)))
 
-pub want_then-next-requires-clause-tied : goal.want_then-next-requires-clause-tied
-want_then-next-requires-clause-tied c = c.step_if_at-next-3.ensures.still
+pub want_then-next-requires-clause-agrees : goal.want_then-next-requires-clause-agrees
+want_then-next-requires-clause-agrees c = c.step_if_at-next-3.ensures.still

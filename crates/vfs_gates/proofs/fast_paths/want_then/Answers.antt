@@ -2,13 +2,13 @@
 use Rattle.std.proofs.Common.{◌∙◌}
 use Rattle.vfs_gates.proofs.fast_paths.want_then.Goals as goal
 
-pub returns-clause-tied : goal.returns-clause-tied
-returns-clause-tied c number flags ties =
-    c.step_if_at.ensures.tied number flags
-    (c.step_if_at-next-4.ensures.tied number flags
-    (c.step_if_at-next-3.ensures.tied number flags
-    (c.step_if_at-next-2.ensures.tied number flags
-    (c.step_if_at-next.ensures.tied number flags ties))))
+pub returns-clause-agrees : goal.returns-clause-agrees
+returns-clause-agrees c number flags ghost_agrees =
+    c.step_if_at.ensures.agrees number flags
+    (c.step_if_at-next-4.ensures.agrees number flags
+    (c.step_if_at-next-3.ensures.agrees number flags
+    (c.step_if_at-next-2.ensures.agrees number flags
+    (c.step_if_at-next.ensures.agrees number flags ghost_agrees))))
 
 pub returns-clause-went : goal.returns-clause-went
 returns-clause-went c waits op start went =
@@ -21,26 +21,26 @@ returns-clause-went c waits op start went =
 pub step_if_at-next-requires-2-clause-table : goal.step_if_at-next-requires-2-clause-table
 step_if_at-next-requires-2-clause-table c = c.step_if_at-next.ensures.table ∙ c.requires.table
 
-pub step_if_at-next-requires-2-clause-tied : goal.step_if_at-next-requires-2-clause-tied
-step_if_at-next-requires-2-clause-tied c = c.step_if_at-next.ensures.still
+pub step_if_at-next-requires-2-clause-agrees : goal.step_if_at-next-requires-2-clause-agrees
+step_if_at-next-requires-2-clause-agrees c = c.step_if_at-next.ensures.still
 
 pub step_if_at-next-requires-3-clause-table : goal.step_if_at-next-requires-3-clause-table
 step_if_at-next-requires-3-clause-table c = c.step_if_at-next-2.ensures.table ∙ (c.step_if_at-next.ensures.table ∙ c.requires.table)
 
-pub step_if_at-next-requires-3-clause-tied : goal.step_if_at-next-requires-3-clause-tied
-step_if_at-next-requires-3-clause-tied c = c.step_if_at-next-2.ensures.still
+pub step_if_at-next-requires-3-clause-agrees : goal.step_if_at-next-requires-3-clause-agrees
+step_if_at-next-requires-3-clause-agrees c = c.step_if_at-next-2.ensures.still
 
 pub step_if_at-next-requires-4-clause-table : goal.step_if_at-next-requires-4-clause-table
 step_if_at-next-requires-4-clause-table c = c.step_if_at-next-3.ensures.table ∙ (c.step_if_at-next-2.ensures.table ∙ (c.step_if_at-next.ensures.table ∙ c.requires.table))
 
-pub step_if_at-next-requires-4-clause-tied : goal.step_if_at-next-requires-4-clause-tied
-step_if_at-next-requires-4-clause-tied c = c.step_if_at-next-3.ensures.still
+pub step_if_at-next-requires-4-clause-agrees : goal.step_if_at-next-requires-4-clause-agrees
+step_if_at-next-requires-4-clause-agrees c = c.step_if_at-next-3.ensures.still
 
 pub step_if_at-requires-clause-table : goal.step_if_at-requires-clause-table
 step_if_at-requires-clause-table c = c.step_if_at-next-4.ensures.table ∙ (c.step_if_at-next-3.ensures.table ∙ (c.step_if_at-next-2.ensures.table ∙ (c.step_if_at-next.ensures.table ∙ c.requires.table)))
 
-pub step_if_at-requires-clause-tied : goal.step_if_at-requires-clause-tied
-step_if_at-requires-clause-tied c = c.step_if_at-next-4.ensures.still
+pub step_if_at-requires-clause-agrees : goal.step_if_at-requires-clause-agrees
+step_if_at-requires-clause-agrees c = c.step_if_at-next-4.ensures.still
 
 pub returns-clause-table : goal.returns-clause-table
 returns-clause-table c = c.step_if_at.ensures.table ∙ (c.step_if_at-next-4.ensures.table ∙ (c.step_if_at-next-3.ensures.table ∙ (c.step_if_at-next-2.ensures.table ∙ c.step_if_at-next.ensures.table)))

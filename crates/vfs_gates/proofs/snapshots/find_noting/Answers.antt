@@ -8,4 +8,4 @@ find-found-requires-clause-leaves c found = taking_leaves c.args.accesses.now c.
 pub returns-clause-noted : goal.returns-clause-noted
 returns-clause-noted c =
     noted_by c.args.snapshot c.args.word c.find-found.result c.event.result c.requires.known c.event.ensures c.find-found.ensures.led
-    c.find-found.ensures.items c.requires.tied c.note.ensures.goes_on c.note.ensures.ends
+    c.find-found.ensures.items c.requires.agrees c.note.ensures.goes_on c.note.ensures.ends

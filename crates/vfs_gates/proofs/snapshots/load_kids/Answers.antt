@@ -2,7 +2,7 @@
 use Rattle.std.proofs.Common.{refl, ◌∙◌}
 use Rattle.access_model.specs.declared.replies.Next.TheVariants.{Go}
 use Rattle.gated_tree.specs.declared.snapshots.SnapshotStep.TheVariants.{LoadsKids}
-use Rattle.gate_steps.proofs.call_events.Leading.{still_tied}
+use Rattle.gate_steps.proofs.call_events.Leading.{still_agrees}
 use Rattle.vfs_gates.specs.Noted.{taking_at}
 use Rattle.vfs_gates.proofs.Loading.{fewer_left, kids_last, kids_on, noted_nowhere, noted_on, noted_to}
 use Rattle.vfs_gates.proofs.snapshots.load_kids.Goals as goal
@@ -17,8 +17,8 @@ loop-next-init c = record {
 pub find_noting-found-requires-clause-table : goal.find_noting-found-requires-clause-table
 find_noting-found-requires-clause-table c = c.loop-next.invariant.noted.led.same_table ∙ c.requires.table
 
-pub find_noting-found-requires-clause-tied : goal.find_noting-found-requires-clause-tied
-find_noting-found-requires-clause-tied c = still_tied c.loop-next.invariant.noted.led c.requires.tied
+pub find_noting-found-requires-clause-agrees : goal.find_noting-found-requires-clause-agrees
+find_noting-found-requires-clause-agrees c = still_agrees c.loop-next.invariant.noted.led c.requires.agrees
 
 pub loop-next-smaller : goal.loop-next-smaller
 loop-next-smaller c = fewer_left c.loop-next.node c.args.snapshot.nodes c.in-Some.next c.in-Some.ensures

@@ -2,7 +2,7 @@
 use Rattle.std.proofs.Common.{refl, sym, ◌∙◌}
 use Rattle.access_model.specs.declared.replies.Next.TheVariants.{Go}
 use Rattle.gated_tree.specs.declared.snapshots.SnapshotStep.TheVariants.{LoadsNode}
-use Rattle.gate_steps.proofs.call_events.Leading.{still_tied}
+use Rattle.gate_steps.proofs.call_events.Leading.{still_agrees}
 use Rattle.vfs_gates.specs.Noted.{taking_at}
 use Rattle.vfs_gates.proofs.Loading.{fewer_left, node_last, node_none, node_on, noted_nowhere, noted_on, noted_to}
 use Rattle.vfs_gates.proofs.snapshots.load_nodes.Goals as goal
@@ -17,8 +17,8 @@ loop-snapshot-init c = record {
 pub find_noting-found-requires-clause-table : goal.find_noting-found-requires-clause-table
 find_noting-found-requires-clause-table c = c.loop-snapshot.invariant.noted.led.same_table ∙ c.requires.table
 
-pub find_noting-found-requires-clause-tied : goal.find_noting-found-requires-clause-tied
-find_noting-found-requires-clause-tied c = still_tied c.loop-snapshot.invariant.noted.led c.requires.tied
+pub find_noting-found-requires-clause-agrees : goal.find_noting-found-requires-clause-agrees
+find_noting-found-requires-clause-agrees c = still_agrees c.loop-snapshot.invariant.noted.led c.requires.agrees
 
 pub loop-snapshot-smaller : goal.loop-snapshot-smaller
 loop-snapshot-smaller c = fewer_left c.loop-snapshot.node c.args.snapshot.nodes c.in-Some.next c.in-Some.ensures

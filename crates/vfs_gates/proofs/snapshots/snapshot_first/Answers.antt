@@ -2,7 +2,7 @@
 use Rattle.std.proofs.Common.{arith, refl, sym}
 use Rattle.gated_tree.specs.declared.snapshots.SnapshotStep.TheVariants.{Locks, LoadsStage}
 use Rattle.gated_tree.specs.Phases.{at_snapshot}
-use Rattle.gate_steps.proofs.call_events.Leading.{still_tied, led_to}
+use Rattle.gate_steps.proofs.call_events.Leading.{still_agrees, led_to}
 use Rattle.vfs_gates.proofs.Loading.{is_frozen, lock_free, noted_on, noted_to, unnoted}
 use Rattle.vfs_gates.proofs.snapshots.snapshot_first.Goals as goal
 
@@ -10,33 +10,33 @@ pub returns-then-taken-ne0-clause-noted : goal.returns-then-taken-ne0-clause-not
 returns-then-taken-ne0-clause-noted c =
     noted_to (sym c.leave.ensures)
     (unnoted (at_snapshot c.args.snapshot Locks) c.find_first-taken.result refl refl refl c.find_first-taken.ensures.led
-    c.find_first-taken.ensures.items c.requires.tied)
+    c.find_first-taken.ensures.items c.requires.agrees)
 
-pub find-stage-requires-clause-tied : goal.find-stage-requires-clause-tied
-find-stage-requires-clause-tied c =
-    still_tied (led_to (lock_free c.args.snapshot c.find_first-taken.result (omega arith)) c.find_first-taken.ensures.led) c.requires.tied
+pub find-stage-requires-clause-agrees : goal.find-stage-requires-clause-agrees
+find-stage-requires-clause-agrees c =
+    still_agrees (led_to (lock_free c.args.snapshot c.find_first-taken.result (omega arith)) c.find_first-taken.ensures.led) c.requires.agrees
 
 pub returns-then-stage-ne-FROZEN-clause-noted : goal.returns-then-stage-ne-FROZEN-clause-noted
 returns-then-stage-ne-FROZEN-clause-noted c =
     let locked = noted_to (lock_free c.args.snapshot c.find_first-taken.result (omega arith))
     (unnoted (at_snapshot c.args.snapshot Locks) c.find_first-taken.result refl refl refl c.find_first-taken.ensures.led
-    c.find_first-taken.ensures.items c.requires.tied) in
+    c.find_first-taken.ensures.items c.requires.agrees) in
     noted_on locked
     (noted_to (sym c.leave-then-stage-ne-FROZEN.ensures)
     (unnoted (at_snapshot c.args.snapshot LoadsStage) c.find-stage.result refl refl refl c.find-stage.ensures.led c.find-stage.ensures.items
-    (still_tied locked.led c.requires.tied)))
+    (still_agrees locked.led c.requires.agrees)))
 
-pub load_tree-requires-clause-tied : goal.load_tree-requires-clause-tied
-load_tree-requires-clause-tied c =
+pub load_tree-requires-clause-agrees : goal.load_tree-requires-clause-agrees
+load_tree-requires-clause-agrees c =
     let locked = led_to (lock_free c.args.snapshot c.find_first-taken.result (omega arith)) c.find_first-taken.ensures.led in
-    still_tied (led_to (is_frozen c.args.snapshot c.find-stage.result (omega arith)) c.find-stage.ensures.led) (still_tied locked c.requires.tied)
+    still_agrees (led_to (is_frozen c.args.snapshot c.find-stage.result (omega arith)) c.find-stage.ensures.led) (still_agrees locked c.requires.agrees)
 
 pub returns-clause-noted : goal.returns-clause-noted
 returns-clause-noted c =
     let locked = noted_to (lock_free c.args.snapshot c.find_first-taken.result (omega arith))
     (unnoted (at_snapshot c.args.snapshot Locks) c.find_first-taken.result refl refl refl c.find_first-taken.ensures.led
-    c.find_first-taken.ensures.items c.requires.tied) in
+    c.find_first-taken.ensures.items c.requires.agrees) in
     noted_on locked
     (noted_on (noted_to (is_frozen c.args.snapshot c.find-stage.result (omega arith))
     (unnoted (at_snapshot c.args.snapshot LoadsStage) c.find-stage.result refl refl refl c.find-stage.ensures.led c.find-stage.ensures.items
-    (still_tied locked.led c.requires.tied))) c.load_tree.ensures.noted)
+    (still_agrees locked.led c.requires.agrees))) c.load_tree.ensures.noted)

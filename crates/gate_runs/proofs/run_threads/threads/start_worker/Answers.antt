@@ -1,12 +1,12 @@
 -- the next number goes to a task that begins
 use Rattle.std.proofs.Common.{◌≡◌, ℕ, ap, refl, ◌∙◌, [], ◌∷◌}
 use Rattle.gate_runs.proofs.run_parts.Splitting.{gives_on, has_begun}
-use Rattle.gate_runs.specs.run_parts.Seating.{SeatItems, kept_of}
+use Rattle.gate_runs.specs.run_parts.Seating.{DealtNumbers, kept_of}
 use Rattle.gate_runs.specs.run_parts.Splitting.{HasBegun}
 use Rattle.gate_runs.specs.run_parts.TaskStates.{SeatedTask, own_view}
 use Rattle.gate_runs.proofs.run_threads.threads.start_worker.Goals as goal
 
-own_kept : (n : ℕ) (items : SeatItems) → own_view (kept_of n items) ≡ own_view items
+own_kept : (n : ℕ) (items : DealtNumbers) → own_view (kept_of n items) ≡ own_view items
 own_kept n [] = refl
 own_kept n (x ∷ xs) = refl
 

@@ -1,13 +1,13 @@
 -- the exchange goes on from the load
 use Rattle.std.proofs.Common.{sym, ◌∙◌}
-use Rattle.gate_steps.proofs.call_events.Leading.{led_on, led_to, still_tied}
+use Rattle.gate_steps.proofs.call_events.Leading.{led_on, led_to, still_agrees}
 use Rattle.gate_steps.proofs.call_ends.CallingBack.{calls_on, called_so, called_not}
 use Rattle.gate_steps.proofs.call_ends.callbacks.call_back.Goals as goal
 
-pub find-found-requires-clause-tied : goal.find-found-requires-clause-tied
-find-found-requires-clause-tied c =
-    still_tied (led_to (calls_on c.args.level c.args.tasks c.find-expect.result c.in-Some.from c.in-Some-on_callback.to c.in-Some.ensures.word
-    c.in-Some-on_callback.ensures.word) c.find-expect.ensures.led) c.requires.tied
+pub find-found-requires-clause-agrees : goal.find-found-requires-clause-agrees
+find-found-requires-clause-agrees c =
+    still_agrees (led_to (calls_on c.args.level c.args.tasks c.find-expect.result c.in-Some.from c.in-Some-on_callback.to c.in-Some.ensures.word
+    c.in-Some-on_callback.ensures.word) c.find-expect.ensures.led) c.requires.agrees
 
 pub returns-then-found-expect-clause-led : goal.returns-then-found-expect-clause-led
 returns-then-found-expect-clause-led c =

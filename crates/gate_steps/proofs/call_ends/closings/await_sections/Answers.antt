@@ -3,7 +3,7 @@ use Rattle.std.proofs.Common.{refl, ◌∙◌}
 use Rattle.access_model.specs.declared.replies.Next.TheVariants.{Go}
 use Rattle.percpu_rwsem.specs.declared.writers.DownWriteStep.TheVariants.{AwaitsSections}
 use Rattle.gate_steps.specs.call_events.Closings.{closing_at}
-use Rattle.gate_steps.proofs.call_events.Leading.{led_on, led_to, led_nowhere, still_tied}
+use Rattle.gate_steps.proofs.call_events.Leading.{led_on, led_to, led_nowhere, still_agrees}
 use Rattle.gate_steps.proofs.call_ends.Closing.{looks_on, looks_in_vain, looks_last, fewer_tasks}
 use Rattle.gate_steps.proofs.call_ends.closings.await_sections.Goals as goal
 
@@ -17,8 +17,8 @@ loop-further-init c = record {
 pub find-found-requires-clause-table : goal.find-found-requires-clause-table
 find-found-requires-clause-table c = c.loop-further.invariant.led.same_table ∙ c.requires.table
 
-pub find-found-requires-clause-tied : goal.find-found-requires-clause-tied
-find-found-requires-clause-tied c = still_tied c.loop-further.invariant.led c.requires.tied
+pub find-found-requires-clause-agrees : goal.find-found-requires-clause-agrees
+find-found-requires-clause-agrees c = still_agrees c.loop-further.invariant.led c.requires.agrees
 
 pub loop-further-smaller : goal.loop-further-smaller
 loop-further-smaller c = fewer_tasks c.loop-further.grace c.in-More.further c.find-found.result c.in-More.ensures

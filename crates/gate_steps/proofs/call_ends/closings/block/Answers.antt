@@ -1,13 +1,13 @@
 -- the sum goes on from the exchange
 use Rattle.std.proofs.Common.{arith, sym, ◌∙◌}
-use Rattle.gate_steps.proofs.call_events.Leading.{led_on, led_to, still_tied}
+use Rattle.gate_steps.proofs.call_events.Leading.{led_on, led_to, still_agrees}
 use Rattle.gate_steps.proofs.call_ends.Closing.{blocked, blocks}
 use Rattle.gate_steps.proofs.call_ends.closings.block.Goals as goal
 
-pub sum-requires-clause-tied : goal.sum-requires-clause-tied
-sum-requires-clause-tied c =
-    still_tied (led_to (blocks c.args.freeze.now c.args.level c.find-found.result (omega arith) c.start.result c.start.ensures) c.find-found.ensures.led)
-    c.requires.tied
+pub sum-requires-clause-agrees : goal.sum-requires-clause-agrees
+sum-requires-clause-agrees c =
+    still_agrees (led_to (blocks c.args.freeze.now c.args.level c.find-found.result (omega arith) c.start.result c.start.ensures) c.find-found.ensures.led)
+    c.requires.agrees
 
 pub returns-clause-led : goal.returns-clause-led
 returns-clause-led c =

@@ -2,20 +2,20 @@
 use Rattle.std.proofs.Common.{ap, sym}
 use Rattle.access_model.specs.declared.replies.Next.TheVariants.{Go}
 use Rattle.gate_steps.specs.call_events.Closings.{closing_at}
-use Rattle.gate_steps.proofs.call_events.Leading.{led_on, led_to, still_tied}
+use Rattle.gate_steps.proofs.call_events.Leading.{led_on, led_to, still_agrees}
 use Rattle.gate_steps.proofs.call_ends.closings.close_level.Goals as goal
 
-pub block-requires-clause-tied : goal.block-requires-clause-tied
-block-requires-clause-tied c =
-    still_tied (led_to (ap (λ s. Go (closing_at c.args.freeze.now c.args.level s)) c.in-SetsBlock.is) c.enter.ensures.led) c.requires.tied
+pub block-requires-clause-agrees : goal.block-requires-clause-agrees
+block-requires-clause-agrees c =
+    still_agrees (led_to (ap (λ s. Go (closing_at c.args.freeze.now c.args.level s)) c.in-SetsBlock.is) c.enter.ensures.led) c.requires.agrees
 
 pub returns-in-SetsBlock-clause-led : goal.returns-in-SetsBlock-clause-led
 returns-in-SetsBlock-clause-led c =
     led_on (led_to (ap (λ s. Go (closing_at c.args.freeze.now c.args.level s)) c.in-SetsBlock.is) c.enter.ensures.led) c.block.ensures.led
 
-pub pass-requires-clause-tied : goal.pass-requires-clause-tied
-pass-requires-clause-tied c =
-    still_tied (led_to (ap (λ s. Go (closing_at c.args.freeze.now c.args.level s)) c.in-AwaitsSections.is) c.enter.ensures.led) c.requires.tied
+pub pass-requires-clause-agrees : goal.pass-requires-clause-agrees
+pass-requires-clause-agrees c =
+    still_agrees (led_to (ap (λ s. Go (closing_at c.args.freeze.now c.args.level s)) c.in-AwaitsSections.is) c.enter.ensures.led) c.requires.agrees
 
 pub returns-in-AwaitsSections-clause-led : goal.returns-in-AwaitsSections-clause-led
 returns-in-AwaitsSections-clause-led c =

@@ -2,14 +2,14 @@
 use Rattle.std.proofs.Common.{sym, ap, ◌∙◌}
 use Rattle.access_model.specs.declared.replies.Next.TheVariants.{Go}
 use Rattle.gate_steps.specs.call_events.Closings.{closing_at}
-use Rattle.gate_steps.proofs.call_events.Leading.{led_on, led_to, still_tied}
+use Rattle.gate_steps.proofs.call_events.Leading.{led_on, led_to, still_agrees}
 use Rattle.gate_steps.proofs.call_ends.Closing.{enters_on, entered_so, entered_not}
 use Rattle.gate_steps.proofs.call_ends.closings.enter.Goals as goal
 
-pub find-found-requires-clause-tied : goal.find-found-requires-clause-tied
-find-found-requires-clause-tied c =
-    still_tied (led_to (enters_on c.args.freeze.now c.args.level c.find-expect.result c.in-Some.from c.in-Some-on_enter.to c.in-Some.ensures.word
-    c.in-Some-on_enter.ensures.word) c.find-expect.ensures.led) c.requires.tied
+pub find-found-requires-clause-agrees : goal.find-found-requires-clause-agrees
+find-found-requires-clause-agrees c =
+    still_agrees (led_to (enters_on c.args.freeze.now c.args.level c.find-expect.result c.in-Some.from c.in-Some-on_enter.to c.in-Some.ensures.word
+    c.in-Some-on_enter.ensures.word) c.find-expect.ensures.led) c.requires.agrees
 
 pub returns-then-found-expect-clause-led : goal.returns-then-found-expect-clause-led
 returns-then-found-expect-clause-led c =

@@ -3,34 +3,34 @@ use Rattle.std.proofs.Common.{sym}
 use Rattle.access_model.specs.declared.replies.Next.TheVariants.{Go}
 use Rattle.percpu_rwsem.specs.declared.writers.DownWriteStep.TheVariants.{AwaitsSections, Enters, SetsBlock, Sums}
 use Rattle.gate_steps.specs.call_events.Closings.{closing_at}
-use Rattle.gate_steps.proofs.call_events.Leading.{led_from, led_nowhere, led_to, tied_from}
+use Rattle.gate_steps.proofs.call_events.Leading.{led_from, led_nowhere, led_to, agrees_from}
 use Rattle.gate_steps.proofs.call_ends.Closing.{closing_stands, closing_enters}
 use Rattle.gate_steps.proofs.call_ends.closings.go_on_closing.Goals as goal
 
-pub close_level-requires-clause-tied : goal.close_level-requires-clause-tied
-close_level-requires-clause-tied c =
-    tied_from (closing_enters c.args.freeze.now c.args.level c.in-Enters.transition c.args.step c.in-Enters.is c.in-Loads.is) c.requires.tied
+pub close_level-requires-clause-agrees : goal.close_level-requires-clause-agrees
+close_level-requires-clause-agrees c =
+    agrees_from (closing_enters c.args.freeze.now c.args.level c.in-Enters.transition c.args.step c.in-Enters.is c.in-Loads.is) c.requires.agrees
 
 pub returns-in-Loads-clause-led : goal.returns-in-Loads-clause-led
 returns-in-Loads-clause-led c =
     led_from (closing_enters c.args.freeze.now c.args.level c.in-Enters.transition c.args.step c.in-Enters.is c.in-Loads.is) c.close_level.ensures.led
 
-pub pass-requires-clause-tied : goal.pass-requires-clause-tied
-pass-requires-clause-tied c =
-    tied_from (closing_stands c.args.freeze.now c.args.level (AwaitsSections c.in-AwaitsSections.grace) c.args.step c.in-AwaitsSections.is) c.requires.tied
+pub pass-requires-clause-agrees : goal.pass-requires-clause-agrees
+pass-requires-clause-agrees c =
+    agrees_from (closing_stands c.args.freeze.now c.args.level (AwaitsSections c.in-AwaitsSections.grace) c.args.step c.in-AwaitsSections.is) c.requires.agrees
 
 pub returns-in-AwaitsSections-clause-led : goal.returns-in-AwaitsSections-clause-led
 returns-in-AwaitsSections-clause-led c =
     led_from (closing_stands c.args.freeze.now c.args.level (AwaitsSections c.in-AwaitsSections.grace) c.args.step c.in-AwaitsSections.is) c.pass.ensures.led
 
-pub block-requires-clause-tied : goal.block-requires-clause-tied
-block-requires-clause-tied c = tied_from (closing_stands c.args.freeze.now c.args.level SetsBlock c.args.step c.in-SetsBlock.is) c.requires.tied
+pub block-requires-clause-agrees : goal.block-requires-clause-agrees
+block-requires-clause-agrees c = agrees_from (closing_stands c.args.freeze.now c.args.level SetsBlock c.args.step c.in-SetsBlock.is) c.requires.agrees
 
 pub returns-in-SetsBlock-clause-led : goal.returns-in-SetsBlock-clause-led
 returns-in-SetsBlock-clause-led c = led_from (closing_stands c.args.freeze.now c.args.level SetsBlock c.args.step c.in-SetsBlock.is) c.block.ensures.led
 
-pub sum-requires-clause-tied : goal.sum-requires-clause-tied
-sum-requires-clause-tied c = tied_from (closing_stands c.args.freeze.now c.args.level (Sums c.in-Sums.so_far) c.args.step c.in-Sums.is) c.requires.tied
+pub sum-requires-clause-agrees : goal.sum-requires-clause-agrees
+sum-requires-clause-agrees c = agrees_from (closing_stands c.args.freeze.now c.args.level (Sums c.in-Sums.so_far) c.args.step c.in-Sums.is) c.requires.agrees
 
 pub returns-in-Sums-clause-led : goal.returns-in-Sums-clause-led
 returns-in-Sums-clause-led c =

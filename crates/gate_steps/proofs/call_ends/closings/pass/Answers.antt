@@ -2,16 +2,16 @@
 use Rattle.std.proofs.Common.{ap, sym, ◌∙◌}
 use Rattle.access_model.specs.declared.replies.Next.TheVariants.{Go}
 use Rattle.gate_steps.specs.call_events.Closings.{closing_at}
-use Rattle.gate_steps.proofs.call_events.Leading.{led_on, led_to, still_tied}
+use Rattle.gate_steps.proofs.call_events.Leading.{led_on, led_to, still_agrees}
 use Rattle.gate_steps.proofs.call_ends.closings.pass.Goals as goal
 
-pub call_back-requires-clause-tied : goal.call_back-requires-clause-tied
-call_back-requires-clause-tied c = still_tied c.in-None.ensures.led c.requires.tied
+pub call_back-requires-clause-agrees : goal.call_back-requires-clause-agrees
+call_back-requires-clause-agrees c = still_agrees c.in-None.ensures.led c.requires.agrees
 
-pub block-requires-clause-tied : goal.block-requires-clause-tied
-block-requires-clause-tied c =
-    still_tied (led_on c.in-None.ensures.led
-    (led_to (ap (λ s. Go (closing_at c.args.freeze.now c.args.level s)) c.in-SetsBlock.is) c.call_back.ensures.led)) c.requires.tied
+pub block-requires-clause-agrees : goal.block-requires-clause-agrees
+block-requires-clause-agrees c =
+    still_agrees (led_on c.in-None.ensures.led
+    (led_to (ap (λ s. Go (closing_at c.args.freeze.now c.args.level s)) c.in-SetsBlock.is) c.call_back.ensures.led)) c.requires.agrees
 
 pub returns-in-SetsBlock-clause-led : goal.returns-in-SetsBlock-clause-led
 returns-in-SetsBlock-clause-led c =

@@ -3,7 +3,7 @@ use Rattle.std.proofs.Common.{refl, ◌∙◌}
 use Rattle.access_model.specs.declared.replies.Next.TheVariants.{Go}
 use Rattle.freeze_levels.specs.declared.freezes.FreezeStep.TheVariants.{Cleans}
 use Rattle.gate_steps.specs.call_events.Closings.{standing}
-use Rattle.gate_steps.proofs.call_events.Leading.{led_on, led_to, led_nowhere, still_tied}
+use Rattle.gate_steps.proofs.call_events.Leading.{led_on, led_to, led_nowhere, still_agrees}
 use Rattle.gate_steps.proofs.call_ends.Closing.{cleans_leave, cleans_on, cleans_last, fewer_nodes}
 use Rattle.gate_steps.proofs.call_ends.freeze_lines.clean.Goals as goal
 
@@ -20,8 +20,8 @@ find-cleaned-requires-clause-leaves c found = cleans_leave c.args.freeze.now c.a
 pub find-cleaned-requires-clause-table : goal.find-cleaned-requires-clause-table
 find-cleaned-requires-clause-table c = c.loop-node.invariant.led.same_table ∙ c.requires.table
 
-pub find-cleaned-requires-clause-tied : goal.find-cleaned-requires-clause-tied
-find-cleaned-requires-clause-tied c = still_tied c.loop-node.invariant.led c.requires.tied
+pub find-cleaned-requires-clause-agrees : goal.find-cleaned-requires-clause-agrees
+find-cleaned-requires-clause-agrees c = still_agrees c.loop-node.invariant.led c.requires.agrees
 
 pub loop-node-smaller : goal.loop-node-smaller
 loop-node-smaller c = fewer_nodes c.loop-node.clearing.node c.loop-node.clearing.nodes c.in-Some.node c.in-Some.ensures

@@ -1,16 +1,16 @@
 -- the closing goes on from the store
 use Rattle.std.proofs.Common.{refl}
-use Rattle.gate_steps.proofs.call_events.Leading.{asking_on, led_on, led_to, led_unasked, still_tied}
+use Rattle.gate_steps.proofs.call_events.Leading.{asking_on, led_on, led_to, led_unasked, still_agrees}
 use Rattle.gate_steps.proofs.call_ends.Closing.{closed_so, not_closed}
 use Rattle.gate_steps.proofs.call_ends.freeze_lines.close_second.Goals as goal
 
-pub close_level-requires-clause-tied : goal.close_level-requires-clause-tied
-close_level-requires-clause-tied g c =
-    still_tied c.find-stored.ensures.led c.requires.tied
+pub close_level-requires-clause-agrees : goal.close_level-requires-clause-agrees
+close_level-requires-clause-agrees g c =
+    still_agrees c.find-stored.ensures.led c.requires.agrees
 
-pub sync-requires-clause-tied : goal.sync-requires-clause-tied
-sync-requires-clause-tied g c =
-    still_tied (led_on c.find-stored.ensures.led (led_to (closed_so c.args.freeze.now 2 c.close_level.result c.close_level.new.rest c.if-close_level.true) c.close_level.ensures.led)) c.requires.tied
+pub sync-requires-clause-agrees : goal.sync-requires-clause-agrees
+sync-requires-clause-agrees g c =
+    still_agrees (led_on c.find-stored.ensures.led (led_to (closed_so c.args.freeze.now 2 c.close_level.result c.close_level.new.rest c.if-close_level.true) c.close_level.ensures.led)) c.requires.agrees
 
 pub returns-then-close_level-clause-led : goal.returns-then-close_level-clause-led
 returns-then-close_level-clause-led g c =

@@ -1,7 +1,7 @@
 -- the closing goes on from what `sync` has answered
 use Rattle.std.proofs.Common.{ap, refl, sym}
 use Rattle.gate_steps.specs.call_events.Closings.{of_freeze}
-use Rattle.gate_steps.proofs.call_events.Leading.{asking_on, asking_tied, asking_to, led_to, led_unasked, still_tied}
+use Rattle.gate_steps.proofs.call_events.Leading.{asking_on, asking_agrees, asking_to, led_to, led_unasked, still_agrees}
 use Rattle.gate_steps.proofs.call_ends.Closing.{closed_so, not_closed, syncs_leave}
 use Rattle.gate_steps.proofs.call_ends.freeze_lines.close_third.Goals as goal
 
@@ -13,13 +13,13 @@ pub returns-in-Err-clause-led : goal.returns-in-Err-clause-led
 returns-in-Err-clause-led g c =
     asking_to (ap of_freeze (sym c.fail.ensures)) c.in-Err.ensures.led.1
 
-pub close_level-requires-clause-tied : goal.close_level-requires-clause-tied
-close_level-requires-clause-tied g c =
-    asking_tied c.in_default.ensures.led.1 c.requires.tied
+pub close_level-requires-clause-agrees : goal.close_level-requires-clause-agrees
+close_level-requires-clause-agrees g c =
+    asking_agrees c.in_default.ensures.led.1 c.requires.agrees
 
-pub complete-requires-clause-tied : goal.complete-requires-clause-tied
-complete-requires-clause-tied g c =
-    still_tied (led_to (closed_so c.args.freeze.now 3 c.close_level.result c.close_level.new.rest c.if-close_level.true) c.close_level.ensures.led) (asking_tied c.in_default.ensures.led.1 c.requires.tied)
+pub complete-requires-clause-agrees : goal.complete-requires-clause-agrees
+complete-requires-clause-agrees g c =
+    still_agrees (led_to (closed_so c.args.freeze.now 3 c.close_level.result c.close_level.new.rest c.if-close_level.true) c.close_level.ensures.led) (asking_agrees c.in_default.ensures.led.1 c.requires.agrees)
 
 pub returns-then-close_level-clause-led : goal.returns-then-close_level-clause-led
 returns-then-close_level-clause-led g c =

@@ -3,7 +3,7 @@ use Rattle.std.proofs.Common.{ap, refl, sym}
 use Rattle.access_model.specs.declared.replies.Next.TheVariants.{Go}
 use Rattle.freeze_levels.specs.declared.freezes.FreezeStep.TheVariants.{Holds}
 use Rattle.gate_steps.specs.call_events.Closings.{of_freeze, standing}
-use Rattle.gate_steps.proofs.call_events.Leading.{asking_on, asking_tied, asking_to, led_unasked}
+use Rattle.gate_steps.proofs.call_events.Leading.{asking_on, asking_agrees, asking_to, led_unasked}
 use Rattle.gate_steps.proofs.call_ends.Closing.{completes_leave}
 use Rattle.gate_steps.proofs.call_ends.freeze_lines.complete.Goals as goal
 
@@ -15,9 +15,9 @@ pub returns-in-Err-clause-led : goal.returns-in-Err-clause-led
 returns-in-Err-clause-led g c =
     asking_to (ap of_freeze (sym c.fail.ensures)) c.in-Err.ensures.led.1
 
-pub end_freeze-requires-clause-tied : goal.end_freeze-requires-clause-tied
-end_freeze-requires-clause-tied g c =
-    asking_tied (asking_to (ap (λ h. Go (standing c.args.freeze.now (Holds h))) (sym c.none.ensures)) c.in_default.ensures.led.1) c.requires.tied
+pub end_freeze-requires-clause-agrees : goal.end_freeze-requires-clause-agrees
+end_freeze-requires-clause-agrees g c =
+    asking_agrees (asking_to (ap (λ h. Go (standing c.args.freeze.now (Holds h))) (sym c.none.ensures)) c.in_default.ensures.led.1) c.requires.agrees
 
 pub returns-clause-led : goal.returns-clause-led
 returns-clause-led g c =

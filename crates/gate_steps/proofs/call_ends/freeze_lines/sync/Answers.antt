@@ -3,16 +3,16 @@ use Rattle.std.proofs.Common.{ap, refl}
 use Rattle.access_model.specs.declared.replies.Next.TheVariants.{Go}
 use Rattle.freeze_levels.specs.declared.freezes.FreezeStep.TheVariants.{Cleans}
 use Rattle.gate_steps.specs.call_events.Closings.{standing}
-use Rattle.gate_steps.proofs.call_events.Leading.{asking_on, led_from, led_unasked, still_tied, tied_from}
+use Rattle.gate_steps.proofs.call_events.Leading.{asking_on, led_from, led_unasked, still_agrees, agrees_from}
 use Rattle.gate_steps.proofs.call_ends.freeze_lines.sync.Goals as goal
 
-pub clean-requires-clause-tied : goal.clean-requires-clause-tied
-clean-requires-clause-tied g c =
-    tied_from (ap (λ m. Go (standing c.args.freeze.now (Cleans m))) c.start-clearing.ensures) c.requires.tied
+pub clean-requires-clause-agrees : goal.clean-requires-clause-agrees
+clean-requires-clause-agrees g c =
+    agrees_from (ap (λ m. Go (standing c.args.freeze.now (Cleans m))) c.start-clearing.ensures) c.requires.agrees
 
-pub close_third-requires-clause-tied : goal.close_third-requires-clause-tied
-close_third-requires-clause-tied g c =
-    still_tied (led_from (ap (λ m. Go (standing c.args.freeze.now (Cleans m))) c.start-clearing.ensures) c.clean.ensures.led) c.requires.tied
+pub close_third-requires-clause-agrees : goal.close_third-requires-clause-agrees
+close_third-requires-clause-agrees g c =
+    still_agrees (led_from (ap (λ m. Go (standing c.args.freeze.now (Cleans m))) c.start-clearing.ensures) c.clean.ensures.led) c.requires.agrees
 
 pub returns-clause-led : goal.returns-clause-led
 returns-clause-led g c =

@@ -1,14 +1,14 @@
 -- each step goes on from what the one before it left
 use Rattle.std.proofs.Common.{◌∙◌}
-use Rattle.gate_steps.proofs.call_events.Leading.{led_on, led_to, still_tied}
+use Rattle.gate_steps.proofs.call_events.Leading.{led_on, led_to, still_agrees}
 use Rattle.gate_steps.proofs.call_ends.Remounting.{cleans_leave, cleans_on, cleans_last}
 use Rattle.gate_steps.proofs.call_ends.remount_lines.clean.Goals as goal
 
 pub find-cleaned-requires-clause-leaves : goal.find-cleaned-requires-clause-leaves
 find-cleaned-requires-clause-leaves c found = cleans_leave c.args.remount c.args.accesses.now c.loop-next.node found
 
-pub find-cleaned-requires-clause-tied : goal.find-cleaned-requires-clause-tied
-find-cleaned-requires-clause-tied c = still_tied c.loop-next.invariant.led c.requires.tied
+pub find-cleaned-requires-clause-agrees : goal.find-cleaned-requires-clause-agrees
+find-cleaned-requires-clause-agrees c = still_agrees c.loop-next.invariant.led c.requires.agrees
 
 pub loop-next-preserved : goal.loop-next-preserved
 loop-next-preserved c = record {

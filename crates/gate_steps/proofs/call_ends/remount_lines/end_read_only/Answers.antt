@@ -1,13 +1,13 @@
 -- the stores go on from what `reconfigure` has answered
 use Rattle.std.proofs.Common.{refl}
-use Rattle.gate_steps.proofs.call_events.Leading.{asking_on, asking_tied, led_on, led_unasked, still_tied}
+use Rattle.gate_steps.proofs.call_events.Leading.{asking_on, asking_agrees, led_on, led_unasked, still_agrees}
 use Rattle.gate_steps.proofs.call_ends.remount_lines.end_read_only.Goals as goal
 
-pub find-cleared-requires-clause-tied : goal.find-cleared-requires-clause-tied
-find-cleared-requires-clause-tied g c = asking_tied c.in_default.ensures.led.1 c.requires.tied
+pub find-cleared-requires-clause-agrees : goal.find-cleared-requires-clause-agrees
+find-cleared-requires-clause-agrees g c = asking_agrees c.in_default.ensures.led.1 c.requires.agrees
 
-pub release-requires-clause-tied : goal.release-requires-clause-tied
-release-requires-clause-tied g c = still_tied c.find-cleared.ensures.led (asking_tied c.in_default.ensures.led.1 c.requires.tied)
+pub release-requires-clause-agrees : goal.release-requires-clause-agrees
+release-requires-clause-agrees g c = still_agrees c.find-cleared.ensures.led (asking_agrees c.in_default.ensures.led.1 c.requires.agrees)
 
 pub returns-clause-led : goal.returns-clause-led
 returns-clause-led g c =

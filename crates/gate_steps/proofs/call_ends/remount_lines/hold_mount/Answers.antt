@@ -3,20 +3,20 @@ use Rattle.std.proofs.Common.{sym, ap}
 use Rattle.access_model.specs.declared.replies.Next.TheVariants.{Go}
 use Rattle.mount_counts.specs.Remounts.{past_mount}
 use Rattle.gate_steps.specs.call_events.Remounting.{remounting_at}
-use Rattle.gate_steps.proofs.call_events.Leading.{led_on, led_to, still_tied}
+use Rattle.gate_steps.proofs.call_events.Leading.{led_on, led_to, still_agrees}
 use Rattle.gate_steps.proofs.call_ends.Remounting.{holds_on}
 use Rattle.gate_steps.proofs.call_ends.remount_lines.hold_mount.Goals as goal
 
-pub find-held-requires-clause-tied : goal.find-held-requires-clause-tied
-find-held-requires-clause-tied c =
-    still_tied (led_to (holds_on c.args.remount c.args.mount c.args.held c.find-found.result c.from_bits_retain-flags.result.0
-    c.contains.result (c.from_bits_retain-flags.ensures tt) (c.contains.ensures tt) c.if-contains.false) c.find-found.ensures.led) c.requires.tied
+pub find-held-requires-clause-agrees : goal.find-held-requires-clause-agrees
+find-held-requires-clause-agrees c =
+    still_agrees (led_to (holds_on c.args.remount c.args.mount c.args.held c.find-found.result c.from_bits_retain-flags.result.0
+    c.contains.result (c.from_bits_retain-flags.ensures tt) (c.contains.ensures tt) c.if-contains.false) c.find-found.ensures.led) c.requires.agrees
 
-pub sum_mount-requires-clause-tied : goal.sum_mount-requires-clause-tied
-sum_mount-requires-clause-tied c =
-    still_tied (led_on (led_to (holds_on c.args.remount c.args.mount c.args.held c.find-found.result c.from_bits_retain-flags.result.0
+pub sum_mount-requires-clause-agrees : goal.sum_mount-requires-clause-agrees
+sum_mount-requires-clause-agrees c =
+    still_agrees (led_on (led_to (holds_on c.args.remount c.args.mount c.args.held c.find-found.result c.from_bits_retain-flags.result.0
     c.contains.result (c.from_bits_retain-flags.ensures tt) (c.contains.ensures tt) c.if-contains.false) c.find-found.ensures.led)
-    c.find-held.ensures.led) c.requires.tied
+    c.find-held.ensures.led) c.requires.agrees
 
 pub returns-then-sum_mount-clause-led : goal.returns-then-sum_mount-clause-led
 returns-then-sum_mount-clause-led c =

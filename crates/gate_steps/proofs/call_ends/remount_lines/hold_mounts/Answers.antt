@@ -4,7 +4,7 @@ use Rattle.access_model.specs.declared.replies.Next.TheVariants.{Go}
 use Rattle.mount_counts.specs.Sets.{no_mounts}
 use Rattle.mount_counts.specs.declared.remounts.RemountStep.TheVariants.{LoadsFlags}
 use Rattle.gate_steps.specs.call_events.Remounting.{remounting_at}
-use Rattle.gate_steps.proofs.call_events.Leading.{led_on, led_to, led_nowhere, still_tied}
+use Rattle.gate_steps.proofs.call_events.Leading.{led_on, led_to, led_nowhere, still_agrees}
 use Rattle.gate_steps.proofs.call_ends.Remounting.{past_on, past_last}
 use Rattle.gate_steps.proofs.call_ends.remount_lines.hold_mounts.Goals as goal
 
@@ -16,8 +16,8 @@ loop-further-init c = record {
       c.args.seat.now.table_id c.args.seat.now.me.0);
 }
 
-pub hold_mount-requires-clause-tied : goal.hold_mount-requires-clause-tied
-hold_mount-requires-clause-tied c = still_tied c.loop-further.invariant.led c.requires.tied
+pub hold_mount-requires-clause-agrees : goal.hold_mount-requires-clause-agrees
+hold_mount-requires-clause-agrees c = still_agrees c.loop-further.invariant.led c.requires.agrees
 
 pub returns-in_default-clause-led : goal.returns-in_default-clause-led
 returns-in_default-clause-led c = led_on c.loop-further.invariant.led c.in_default.ensures.led

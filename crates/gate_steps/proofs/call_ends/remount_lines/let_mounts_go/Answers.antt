@@ -3,13 +3,13 @@ use Rattle.std.proofs.Common.{sym, ap, ◌∙◌, arith}
 use Rattle.access_model.specs.declared.replies.Next.TheVariants.{Go}
 use Rattle.mount_counts.specs.Remounts.{let_go}
 use Rattle.gate_steps.specs.call_events.Remounting.{remounting_at}
-use Rattle.gate_steps.proofs.call_events.Leading.{led_on, led_to, still_tied}
+use Rattle.gate_steps.proofs.call_events.Leading.{led_on, led_to, still_agrees}
 use Rattle.gate_steps.proofs.call_ends.Remounting.{none_held, some_held, holds_left}
 use Rattle.gate_steps.proofs.call_ends.remount_lines.let_mounts_go.Goals as goal
 
-pub find-cleared-requires-clause-tied : goal.find-cleared-requires-clause-tied
-find-cleared-requires-clause-tied c =
-    still_tied (led_to (some_held c.args.remount c.loop-held.held (λ is. omega arith)) c.loop-held.invariant.led) c.requires.tied
+pub find-cleared-requires-clause-agrees : goal.find-cleared-requires-clause-agrees
+find-cleared-requires-clause-agrees c =
+    still_agrees (led_to (some_held c.args.remount c.loop-held.held (λ is. omega arith)) c.loop-held.invariant.led) c.requires.agrees
 
 pub loop-held-smaller : goal.loop-held-smaller
 loop-held-smaller c = holds_left c.loop-held.held c.without_lowest-held.result c.without_lowest-held.ensures (λ is. omega arith) (omega arith)

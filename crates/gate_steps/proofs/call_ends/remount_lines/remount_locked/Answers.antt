@@ -1,7 +1,7 @@
 -- each step goes on from what the one before it left
 use Rattle.std.proofs.Common.{arith, refl, sym, ap, true, false}
 use Rattle.std.specs.Prelude.{not}
-use Rattle.gate_steps.proofs.call_events.Leading.{asking_on, led_on, led_to, led_unasked, still_tied}
+use Rattle.gate_steps.proofs.call_events.Leading.{asking_on, led_on, led_to, led_unasked, still_agrees}
 use Rattle.gate_steps.proofs.call_ends.Closing.{same_number, other_number}
 use Rattle.gate_steps.proofs.call_ends.Remounting.{stage_free, state_found}
 use Rattle.gate_steps.proofs.call_ends.remount_lines.remount_locked.Goals as goal
@@ -9,24 +9,24 @@ use Rattle.gate_steps.proofs.call_ends.remount_lines.remount_locked.Goals as goa
 pub returns-then-stage-ne0-clause-led : goal.returns-then-stage-ne0-clause-led
 returns-then-stage-ne0-clause-led g c = led_unasked (led_to (sym c.leave.ensures) c.find-stage.ensures.led) refl
 
-pub find-flags-requires-clause-tied : goal.find-flags-requires-clause-tied
-find-flags-requires-clause-tied g c = still_tied (led_to (stage_free c.args.remount c.find-stage.result (omega arith)) c.find-stage.ensures.led) c.requires.tied
+pub find-flags-requires-clause-agrees : goal.find-flags-requires-clause-agrees
+find-flags-requires-clause-agrees g c = still_agrees (led_to (stage_free c.args.remount c.find-stage.result (omega arith)) c.find-stage.ensures.led) c.requires.agrees
 
-pub release-requires-clause-tied : goal.release-requires-clause-tied
-release-requires-clause-tied g c = still_tied (led_on (led_to (stage_free c.args.remount c.find-stage.result (omega arith)) c.find-stage.ensures.led)
-    (led_to (state_found c.args.remount c.find-flags.result true true c.if-remount.true (ap not (other_number c.find-flags.result 0 (λ is. omega arith)))) c.find-flags.ensures.led)) c.requires.tied
+pub release-requires-clause-agrees : goal.release-requires-clause-agrees
+release-requires-clause-agrees g c = still_agrees (led_on (led_to (stage_free c.args.remount c.find-stage.result (omega arith)) c.find-stage.ensures.led)
+    (led_to (state_found c.args.remount c.find-flags.result true true c.if-remount.true (ap not (other_number c.find-flags.result 0 (λ is. omega arith)))) c.find-flags.ensures.led)) c.requires.agrees
 
-pub make_read_only-requires-clause-tied : goal.make_read_only-requires-clause-tied
-make_read_only-requires-clause-tied g c = still_tied (led_on (led_to (stage_free c.args.remount c.find-stage.result (omega arith)) c.find-stage.ensures.led)
-    (led_to (state_found c.args.remount c.find-flags.result true false c.if-remount.true (ap not (same_number c.find-flags.result 0 (omega arith)))) c.find-flags.ensures.led)) c.requires.tied
+pub make_read_only-requires-clause-agrees : goal.make_read_only-requires-clause-agrees
+make_read_only-requires-clause-agrees g c = still_agrees (led_on (led_to (stage_free c.args.remount c.find-stage.result (omega arith)) c.find-stage.ensures.led)
+    (led_to (state_found c.args.remount c.find-flags.result true false c.if-remount.true (ap not (same_number c.find-flags.result 0 (omega arith)))) c.find-flags.ensures.led)) c.requires.agrees
 
-pub release-requires-then-flags-eq0-clause-tied : goal.release-requires-then-flags-eq0-clause-tied
-release-requires-then-flags-eq0-clause-tied g c = still_tied (led_on (led_to (stage_free c.args.remount c.find-stage.result (omega arith)) c.find-stage.ensures.led)
-    (led_to (state_found c.args.remount c.find-flags.result false false c.if-remount.false (ap not (same_number c.find-flags.result 0 (omega arith)))) c.find-flags.ensures.led)) c.requires.tied
+pub release-requires-then-flags-eq0-clause-agrees : goal.release-requires-then-flags-eq0-clause-agrees
+release-requires-then-flags-eq0-clause-agrees g c = still_agrees (led_on (led_to (stage_free c.args.remount c.find-stage.result (omega arith)) c.find-stage.ensures.led)
+    (led_to (state_found c.args.remount c.find-flags.result false false c.if-remount.false (ap not (same_number c.find-flags.result 0 (omega arith)))) c.find-flags.ensures.led)) c.requires.agrees
 
-pub make_writable-requires-clause-tied : goal.make_writable-requires-clause-tied
-make_writable-requires-clause-tied g c = still_tied (led_on (led_to (stage_free c.args.remount c.find-stage.result (omega arith)) c.find-stage.ensures.led)
-    (led_to (state_found c.args.remount c.find-flags.result false true c.if-remount.false (ap not (other_number c.find-flags.result 0 (λ is. omega arith)))) c.find-flags.ensures.led)) c.requires.tied
+pub make_writable-requires-clause-agrees : goal.make_writable-requires-clause-agrees
+make_writable-requires-clause-agrees g c = still_agrees (led_on (led_to (stage_free c.args.remount c.find-stage.result (omega arith)) c.find-stage.ensures.led)
+    (led_to (state_found c.args.remount c.find-flags.result false true c.if-remount.false (ap not (other_number c.find-flags.result 0 (λ is. omega arith)))) c.find-flags.ensures.led)) c.requires.agrees
 
 pub returns-then-flags-ne0-clause-led : goal.returns-then-flags-ne0-clause-led
 returns-then-flags-ne0-clause-led g c = led_unasked (led_on (led_on (led_to (stage_free c.args.remount c.find-stage.result (omega arith)) c.find-stage.ensures.led)

@@ -3,7 +3,7 @@ use Rattle.std.proofs.Common.{refl, sym, ap, ◌∙◌, arith}
 use Rattle.access_model.specs.declared.replies.Next.TheVariants.{Go}
 use Rattle.mount_counts.specs.declared.remounts.RemountStep.TheVariants.{Sums}
 use Rattle.gate_steps.specs.call_events.Remounting.{first_count, remounting_at}
-use Rattle.gate_steps.proofs.call_events.Leading.{led_on, led_to, led_nowhere, still_tied}
+use Rattle.gate_steps.proofs.call_events.Leading.{led_on, led_to, led_nowhere, still_agrees}
 use Rattle.gate_steps.proofs.call_ends.Closing.{fewer_words}
 use Rattle.gate_steps.proofs.call_ends.Remounting.{sums_on, sums_none}
 use Rattle.gate_steps.proofs.call_ends.remount_lines.sum_mount.Goals as goal
@@ -19,8 +19,8 @@ loop-further-init c = record {
 pub find-found-requires-clause-table : goal.find-found-requires-clause-table
 find-found-requires-clause-table c = c.loop-further.invariant.led.same_table ∙ c.requires.table
 
-pub find-found-requires-clause-tied : goal.find-found-requires-clause-tied
-find-found-requires-clause-tied c = still_tied c.loop-further.invariant.led c.requires.tied
+pub find-found-requires-clause-agrees : goal.find-found-requires-clause-agrees
+find-found-requires-clause-agrees c = still_agrees c.loop-further.invariant.led c.requires.agrees
 
 pub loop-further-smaller : goal.loop-further-smaller
 loop-further-smaller c = fewer_words c.loop-further.sum c.in-More.further c.find-found.result c.args.remount.processors c.in-More.ensures.step

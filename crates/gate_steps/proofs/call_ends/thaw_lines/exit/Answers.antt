@@ -1,11 +1,11 @@
 -- the exchange goes on from the load
-use Rattle.gate_steps.proofs.call_events.Leading.{led_on, led_to, still_tied}
+use Rattle.gate_steps.proofs.call_events.Leading.{led_on, led_to, still_agrees}
 use Rattle.gate_steps.proofs.call_ends.Reopening.{exits_on, exits_last}
 use Rattle.gate_steps.proofs.call_ends.thaw_lines.exit.Goals as goal
 
-pub find-found-requires-clause-tied : goal.find-found-requires-clause-tied
-find-found-requires-clause-tied c = still_tied (led_to (exits_on c.args.thaw c.args.level c.find-expect.result c.in-Some.from c.in-Some-on_exit.to c.in-Some.ensures.word
-    c.in-Some-on_exit.ensures.word) c.find-expect.ensures.led) c.requires.tied
+pub find-found-requires-clause-agrees : goal.find-found-requires-clause-agrees
+find-found-requires-clause-agrees c = still_agrees (led_to (exits_on c.args.thaw c.args.level c.find-expect.result c.in-Some.from c.in-Some-on_exit.to c.in-Some.ensures.word
+    c.in-Some-on_exit.ensures.word) c.find-expect.ensures.led) c.requires.agrees
 
 pub returns-clause-led : goal.returns-clause-led
 returns-clause-led c =

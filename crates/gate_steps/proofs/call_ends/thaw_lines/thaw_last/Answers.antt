@@ -1,6 +1,6 @@
 -- the reopening goes on from what `unfreeze_fs` has answered
 use Rattle.std.proofs.Common.{refl}
-use Rattle.gate_steps.proofs.call_events.Leading.{asking_on, asking_tied, led_unasked}
+use Rattle.gate_steps.proofs.call_events.Leading.{asking_on, asking_agrees, led_unasked}
 use Rattle.gate_steps.proofs.call_ends.Reopening.{leaves_last}
 use Rattle.gate_steps.proofs.call_ends.thaw_lines.thaw_last.Goals as goal
 
@@ -8,9 +8,9 @@ pub find_asking-answer-requires-clause-leaves : goal.find_asking-answer-requires
 find_asking-answer-requires-clause-leaves g c =
     λ found hook. leaves_last c.args.thaw c.args.accesses.now found hook
 
-pub reopen_all-requires-clause-tied : goal.reopen_all-requires-clause-tied
-reopen_all-requires-clause-tied g c =
-    asking_tied c.in_default.ensures.led.1 c.requires.tied
+pub reopen_all-requires-clause-agrees : goal.reopen_all-requires-clause-agrees
+reopen_all-requires-clause-agrees g c =
+    asking_agrees c.in_default.ensures.led.1 c.requires.agrees
 
 pub returns-clause-led : goal.returns-clause-led
 returns-clause-led g c =

@@ -1,6 +1,6 @@
 -- each step goes on from what the one before it left
 use Rattle.std.proofs.Common.{arith, refl, sym}
-use Rattle.gate_steps.proofs.call_events.Leading.{asking_on, led_on, led_to, led_unasked, still_tied}
+use Rattle.gate_steps.proofs.call_events.Leading.{asking_on, led_on, led_to, led_unasked, still_agrees}
 use Rattle.gate_steps.proofs.call_ends.Reopening.{stage_frozen, held_by_this, flag_clear}
 use Rattle.gate_steps.proofs.call_ends.thaw_lines.thaw_locked.Goals as goal
 
@@ -8,9 +8,9 @@ pub returns-then-stage-ne4-clause-led : goal.returns-then-stage-ne4-clause-led
 returns-then-stage-ne4-clause-led g c =
     led_unasked (led_to (sym c.leave.ensures) c.find-stage.ensures.led) refl
 
-pub find-word-requires-clause-tied : goal.find-word-requires-clause-tied
-find-word-requires-clause-tied g c =
-    still_tied (led_to (stage_frozen c.args.thaw c.find-stage.result (omega arith)) c.find-stage.ensures.led) c.requires.tied
+pub find-word-requires-clause-agrees : goal.find-word-requires-clause-agrees
+find-word-requires-clause-agrees g c =
+    still_agrees (led_to (stage_frozen c.args.thaw c.find-stage.result (omega arith)) c.find-stage.ensures.led) c.requires.agrees
 
 pub returns-then-not-is_holder-clause-led : goal.returns-then-not-is_holder-clause-led
 returns-then-not-is_holder-clause-led g c =
@@ -22,10 +22,10 @@ returns-then-not-is_last-clause-led g c =
     led_unasked (led_on (led_to (stage_frozen c.args.thaw c.find-stage.result (omega arith)) c.find-stage.ensures.led)
     (led_to (sym c.leave-then-not-is_last.ensures) c.find-word.ensures.led)) refl
 
-pub find-flags-requires-clause-tied : goal.find-flags-requires-clause-tied
-find-flags-requires-clause-tied g c =
-    still_tied (led_on (led_to (stage_frozen c.args.thaw c.find-stage.result (omega arith)) c.find-stage.ensures.led)
-    (led_to (held_by_this c.args.thaw c.find-word.result c.unpack-held.result c.unpack-held.ensures c.has-is_holder.result c.has-is_holder.ensures c.if-not-is_holder.false c.without-others.result c.without-others.ensures c.is_none-is_last.result c.is_none-is_last.ensures c.if-not-is_last.false) c.find-word.ensures.led)) c.requires.tied
+pub find-flags-requires-clause-agrees : goal.find-flags-requires-clause-agrees
+find-flags-requires-clause-agrees g c =
+    still_agrees (led_on (led_to (stage_frozen c.args.thaw c.find-stage.result (omega arith)) c.find-stage.ensures.led)
+    (led_to (held_by_this c.args.thaw c.find-word.result c.unpack-held.result c.unpack-held.ensures c.has-is_holder.result c.has-is_holder.ensures c.if-not-is_holder.false c.without-others.result c.without-others.ensures c.is_none-is_last.result c.is_none-is_last.ensures c.if-not-is_last.false) c.find-word.ensures.led)) c.requires.agrees
 
 pub returns-then-flags-ne0-clause-led : goal.returns-then-flags-ne0-clause-led
 returns-then-flags-ne0-clause-led g c =
@@ -33,11 +33,11 @@ returns-then-flags-ne0-clause-led g c =
     (led_to (held_by_this c.args.thaw c.find-word.result c.unpack-held.result c.unpack-held.ensures c.has-is_holder.result c.has-is_holder.ensures c.if-not-is_holder.false c.without-others.result c.without-others.ensures c.is_none-is_last.result c.is_none-is_last.ensures c.if-not-is_last.false) c.find-word.ensures.led))
     (led_to (sym c.leave-then-flags-ne0.ensures) c.find-flags.ensures.led)) refl
 
-pub thaw_last-requires-clause-tied : goal.thaw_last-requires-clause-tied
-thaw_last-requires-clause-tied g c =
-    still_tied (led_on (led_on (led_to (stage_frozen c.args.thaw c.find-stage.result (omega arith)) c.find-stage.ensures.led)
+pub thaw_last-requires-clause-agrees : goal.thaw_last-requires-clause-agrees
+thaw_last-requires-clause-agrees g c =
+    still_agrees (led_on (led_on (led_to (stage_frozen c.args.thaw c.find-stage.result (omega arith)) c.find-stage.ensures.led)
     (led_to (held_by_this c.args.thaw c.find-word.result c.unpack-held.result c.unpack-held.ensures c.has-is_holder.result c.has-is_holder.ensures c.if-not-is_holder.false c.without-others.result c.without-others.ensures c.is_none-is_last.result c.is_none-is_last.ensures c.if-not-is_last.false) c.find-word.ensures.led))
-    (led_to (flag_clear c.args.thaw c.find-flags.result (omega arith)) c.find-flags.ensures.led)) c.requires.tied
+    (led_to (flag_clear c.args.thaw c.find-flags.result (omega arith)) c.find-flags.ensures.led)) c.requires.agrees
 
 pub returns-clause-led : goal.returns-clause-led
 returns-clause-led g c =

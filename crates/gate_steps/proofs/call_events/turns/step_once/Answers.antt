@@ -8,15 +8,15 @@ returns-clause-went g c waits op start goes =
     (map_next g.P.PendingOp.as_phase c.do_event-next.result.next) c.args.hook
     goes c.do_event-next.ensures.stepped
 
-pub do_event-next-requires-clause-tied : goal.do_event-next-requires-clause-tied
-do_event-next-requires-clause-tied g c = c.requires.tied
+pub do_event-next-requires-clause-agrees : goal.do_event-next-requires-clause-agrees
+do_event-next-requires-clause-agrees g c = c.requires.agrees
 
-pub returns-clause-tied : goal.returns-clause-tied
-returns-clause-tied g c = c.do_event-next.ensures.tied
+pub returns-clause-agrees : goal.returns-clause-agrees
+returns-clause-agrees g c = c.do_event-next.ensures.agrees
 
 pub returns-clause-still : goal.returns-clause-still
-returns-clause-still g c = let t = c.requires.tied in
-    record { number = t.number; flags = t.flags; ties = c.do_event-next.ensures.tied t.number t.flags t.ties }
+returns-clause-still g c = let t = c.requires.agrees in
+    record { number = t.number; flags = t.flags; ghost_agrees = c.do_event-next.ensures.agrees t.number t.flags t.ghost_agrees }
 
 pub returns-clause-asks : goal.returns-clause-asks
 returns-clause-asks g c op start asks waits goes =

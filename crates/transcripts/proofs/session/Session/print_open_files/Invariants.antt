@@ -3,10 +3,10 @@ use Rattle.std.specs.List.{flat_map}
 use Rattle.access_model.specs.Histories.{end_of}
 use Rattle.schedule_lines.specs.Printed.{Prints}
 use Rattle.transcripts.specs.Sessions.{ShowsPlay}
-use Rattle.transcripts.specs.Transcript.{Play, count_up, open_line}
+use Rattle.transcripts.specs.Transcript.{ReplayState, count_up, open_line}
 use Rattle.transcripts.proofs.session.Session.print_open_files.Given as goal
 
 -- what the files so far print
 abbrev pub invariant-loop-node : goal.invariant-loop-node
-invariant-loop-node g l = (p : Play) → ShowsPlay g.D.Driver.shows l.self p → l.task < p.config.tasks →
+invariant-loop-node g l = (p : ReplayState) → ShowsPlay g.D.Driver.shows l.self p → l.task < p.config.tasks →
     Prints l.initial.out l.out (flat_map (open_line (end_of p.done) l.task) (count_up l.node))

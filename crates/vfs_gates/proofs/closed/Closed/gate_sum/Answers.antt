@@ -9,14 +9,14 @@ use Rattle.gate_world.specs.Configs.{extents_of, extents_kept}
 use Rattle.gate_steps.specs.Rules.{table_index}
 use Rattle.gate_steps.proofs.TableWords.{lies_inside}
 use Rattle.vfs_gates.specs.Sums.{IsGate, count_word}
-use Rattle.vfs_gates.specs.Ended.{Ending}
+use Rattle.vfs_gates.specs.Ended.{ClosedState}
 use Rattle.vfs_gates.proofs.Ending.{sums_to_none, level_sums_to_none}
 use Rattle.vfs_gates.proofs.Gating.{has_count, is_gate, counts_on, counts_one_more}
 use Rattle.vfs_gates.proofs.closed.Closed.gate_sum.Goals as goal
 
 pub returns-clause-mounts : goal.returns-clause-mounts
 returns-clause-mounts c m is lt = let w = c.self.inside in let ws = slots_items w.closed.words in
-    let there : m < w.config.mounts = subst (λ (e : Ending). m < e.config.mounts) (sym c.self.view_is) lt in
+    let there : m < w.config.mounts = subst (λ (e : ClosedState). m < e.config.mounts) (sym c.self.view_is) lt in
     let all : c.loop-cpu.cpu ≡ w.config.processors = (let x = c.loop-cpu.auto in let y = c.loop-cpu-test.false in omega arith) in
     let sum : ℕ → Gate → ℕ = λ n g. total n (λ p. slice_index ws (stride * place (count_word g p))) % 18446744073709551616 in
     ap (λ (v : ℕ). Some v)
@@ -34,14 +34,14 @@ returns-clause-levels c i is l1 l3 = let w = c.self.inside in let ws = slots_ite
 pub returns-clause-there : goal.returns-clause-there
 returns-clause-there c there = let w = c.self.inside in
     let all : c.loop-cpu.cpu ≡ w.config.processors = (let x = c.loop-cpu.auto in let y = c.loop-cpu-test.false in omega arith) in
-    subst (λ (e : Ending). Some c.loop-cpu.sum ≡
+    subst (λ (e : ClosedState). Some c.loop-cpu.sum ≡
     Some (total e.config.processors (λ p. slice_index e.words (stride * place (count_word c.args.gate p))) % 18446744073709551616)) c.self.view_is
     (ap (λ (v : ℕ). Some v) (c.loop-cpu.invariant ∙
     ap (λ (n : ℕ). total n (λ p. slice_index (slots_items w.closed.words) (stride * place (count_word c.args.gate p))) % 18446744073709551616) all))
 
 pub returns-then-not-has_word-clause-there : goal.returns-then-not-has_word-clause-there
 returns-then-not-has_word-clause-there c there = let w = c.self.inside in
-    let gate : IsGate w.config c.args.gate = subst (λ (e : Ending). IsGate e.config c.args.gate) (sym c.self.view_is) there in
+    let gate : IsGate w.config c.args.gate = subst (λ (e : ClosedState). IsGate e.config c.args.gate) (sym c.self.view_is) there in
     let word : IsWord (extents_of w.config) c.count_of.result =
     subst (λ (n : WordName). IsWord (extents_of w.config) n) (sym c.count_of.ensures) (has_count w.config c.self.invariant.0 c.args.gate gate) in
     absurd (true≢false (sym (c.if-not-has_word.ensures.1 word)))
@@ -50,12 +50,12 @@ pub returns-clause-not_there : goal.returns-clause-not_there
 returns-clause-not_there c not_there = let w = c.self.inside in
     let word : IsWord (extents_of w.config) (count_word c.args.gate 0) =
     subst (λ (n : WordName). IsWord (extents_of w.config) n) c.count_of.ensures (c.if-not-has_word.ensures.0 refl) in
-    absurd (not_there (subst (λ (e : Ending). IsGate e.config c.args.gate) c.self.view_is (is_gate w.config c.args.gate word)))
+    absurd (not_there (subst (λ (e : ClosedState). IsGate e.config c.args.gate) c.self.view_is (is_gate w.config c.args.gate word)))
 
 pub returns-then-not-has_word-clause-mounts : goal.returns-then-not-has_word-clause-mounts
 returns-then-not-has_word-clause-mounts c m is lt = let w = c.self.inside in
     let gate : IsGate w.config c.args.gate = subst (λ (g : Gate). IsGate w.config g) (sym is)
-    (subst (λ (e : Ending). m < e.config.mounts) (sym c.self.view_is) lt) in
+    (subst (λ (e : ClosedState). m < e.config.mounts) (sym c.self.view_is) lt) in
     let word : IsWord (extents_of w.config) c.count_of.result =
     subst (λ (n : WordName). IsWord (extents_of w.config) n) (sym c.count_of.ensures) (has_count w.config c.self.invariant.0 c.args.gate gate) in
     absurd (true≢false (sym (c.if-not-has_word.ensures.1 word)))

@@ -6,7 +6,7 @@ pub loop-cpu-preserved : goal.loop-cpu-preserved
 loop-cpu-preserved c = let now = c.loop-cpu.invariant in record {
   table = c.step_if_at-next.ensures.table ∙ now.table;
   slots = c.step_if_at-next.ensures.slots ∙ now.slots;
-  tied = λ number flags ties. c.step_if_at-next.ensures.tied number flags (now.tied number flags ties);
+  agrees = λ number flags ghost_agrees. c.step_if_at-next.ensures.agrees number flags (now.agrees number flags ghost_agrees);
   still = c.step_if_at-next.ensures.still;
   went = λ waits op start went. c.step_if_at-next.ensures.went waits op start (now.went waits op start went);
 }

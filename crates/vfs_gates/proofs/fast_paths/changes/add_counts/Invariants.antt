@@ -4,20 +4,20 @@ use Rattle.std.specs.Prelude.{None}
 use Rattle.gate_world.specs.Views.{phase_after}
 use Rattle.gate_world.specs.declared.operations.Op.{Op}
 use Rattle.gate_steps.specs.call_events.SeatedTasks.{SeatedTask, task_state}
-use Rattle.gate_steps.specs.call_events.Turns.{StateAgrees, StayTied, of_change}
-use Rattle.gate_steps.specs.call_events.Waited.{WentWaiting}
+use Rattle.gate_steps.specs.call_events.Turns.{StateAgrees, AgreesAfter, of_change}
+use Rattle.gate_steps.specs.call_events.Waited.{OpAfterStepWaiting}
 use Rattle.vfs_gates.proofs.fast_paths.changes.add_counts.Given as goal
 
 abbrev pub invariant-loop-cpu : goal.invariant-loop-cpu
 invariant-loop-cpu l = record {
   table : l.seat.table_id ≡ l.fn.seat.table_id;
   slots : l.seat.me.1 ≡ l.fn.seat.me.1;
-  tied : StayTied l.fn.gates.config None (phase_after (of_change l.fn.next)) l.fn.accesses l.fn.seat.me.0.items
+  agrees : AgreesAfter l.fn.gates.config None (phase_after (of_change l.fn.next)) l.fn.accesses l.fn.seat.me.0.items
       (phase_after (of_change l.next)) l.accesses l.seat.me.0.items;
   still : StateAgrees l.fn.gates.config None (phase_after (of_change l.next)) l.accesses l.seat.me.0.items;
   went : (waits : ℕ) (op : Op) (start : SeatedTask) →
-      WentWaiting waits op start (of_change l.fn.next)
+      OpAfterStepWaiting waits op start (of_change l.fn.next)
       (task_state l.fn.seat.table_id l.fn.gates.config None (phase_after (of_change l.fn.next)) l.fn.seat.me.0) →
-      WentWaiting waits op start (of_change l.next)
+      OpAfterStepWaiting waits op start (of_change l.next)
       (task_state l.seat.table_id l.fn.gates.config None (phase_after (of_change l.next)) l.seat.me.0);
 }

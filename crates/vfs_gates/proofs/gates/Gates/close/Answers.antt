@@ -2,7 +2,7 @@
 use Rattle.std.proofs.Common.{ℕ, ◌<◌, ◌≤◌, List, refl, sym, ◌∙◌, subst}
 use Rattle.std.specs.Slots.{slots_items}
 use Rattle.gate_world.specs.declared.{config.Config.Config, entries.Entry.Entry}
-use Rattle.gate_steps.specs.Seating.{SeatItems, times}
+use Rattle.gate_steps.specs.Seating.{DealtNumbers, times}
 use Rattle.gate_steps.specs.Tables.{IsClosing}
 use Rattle.gate_steps.specs.call_events.GhostAgrees.{AllRest}
 use Rattle.vfs_gates.specs.Ended.{EndedWith}
@@ -17,9 +17,9 @@ ends c =
     let seat = c.into_seat.result in
     let has = c.if-not-has_all.ensures.0 refl in
     let all : (n : ℕ) → n < config.tasks → 1 ≤ times n seat.me.0.items =
-    λ n lt. subst (λ (l : SeatItems). 1 ≤ times n l) (sym c.into_seat.ensures.items.0)
+    λ n lt. subst (λ (l : DealtNumbers). 1 ≤ times n l) (sym c.into_seat.ensures.items.0)
     (has.2 n (subst (λ (k : Config). n < k.tasks) (sym c.requires.1) lt)) in
-    let P : SeatItems × List (List Entry) → Type 0 = λ z. EndedWith config (slots_items c.close.result.words) z.0 z.1 in
+    let P : DealtNumbers × List (List Entry) → Type 0 = λ z. EndedWith config (slots_items c.close.result.words) z.0 z.1 in
     subst P (λ i. (c.into_seat.ensures.items.0 i, c.into_seat.ensures.items.1 i))
     (ended config seat.me.0 (slots_items c.close.result.words)
     (subst (λ (k : Config). IsClosing k (slots_items c.close.result.words) seat.me.0) c.args.self.words.key c.close.ensures.closing)

@@ -3,10 +3,10 @@ use Rattle.vfs_gates.proofs.Admitting.{within, admitted_as}
 use Rattle.vfs_gates.proofs.task.Task.admit.Goals as goal
 
 pub begin-requires-clause-mounts : goal.begin-requires-clause-mounts
-begin-requires-clause-mounts c = let t = c.self.inside in (within t.number t.config t.begins t.kept t.spare t.seat.me.0.items c.self.invariant.0).mounts
+begin-requires-clause-mounts c = let t = c.self.inside in (within t.number t.config t.begins t.state t.spare t.seat.me.0.items c.self.invariant.0).mounts
 
 pub begin-requires-clause-nodes : goal.begin-requires-clause-nodes
-begin-requires-clause-nodes c = let t = c.self.inside in (within t.number t.config t.begins t.kept t.spare t.seat.me.0.items c.self.invariant.0).nodes
+begin-requires-clause-nodes c = let t = c.self.inside in (within t.number t.config t.begins t.state t.spare t.seat.me.0.items c.self.invariant.0).nodes
 
 pub returns : goal.returns
 returns c =

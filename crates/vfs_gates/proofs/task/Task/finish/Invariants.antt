@@ -1,7 +1,7 @@
 use Rattle.std.proofs.Common.{◌≡◌}
 use Rattle.gate_world.specs.declared.operations.Op.{Op}
 use Rattle.vfs_gates.specs.TaskStates.{SeatedTask}
-use Rattle.gate_steps.specs.call_events.Runs.{Goes, IsTrying}
+use Rattle.gate_steps.specs.call_events.Runs.{OpUnderWay, IsTrying}
 use Rattle.gate_steps.proofs.call_events.Running.{events_left}
 use Rattle.vfs_gates.proofs.task.Task.finish.Given as goal
 
@@ -10,7 +10,7 @@ invariant-loop-answer l = record {
   table : l.self.table ≡ l.fn.self.table;
   config : l.self.config ≡ l.fn.self.config;
   trying : IsTrying l.self;
-  goes : (op : Op) (start : SeatedTask) → Goes op start l.fn.self → Goes op start l.self;
+  goes : (op : Op) (start : SeatedTask) → OpUnderWay op start l.fn.self → OpUnderWay op start l.self;
 }
 
 abbrev pub decreases-loop-answer : goal.decreases-loop-answer

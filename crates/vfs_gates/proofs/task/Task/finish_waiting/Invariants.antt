@@ -1,7 +1,7 @@
 use Rattle.std.proofs.Common.{◌≡◌}
 use Rattle.gate_world.specs.declared.operations.Op.{Op}
 use Rattle.vfs_gates.specs.TaskStates.{SeatedTask}
-use Rattle.gate_steps.specs.call_events.Runs.{Goes}
+use Rattle.gate_steps.specs.call_events.Runs.{OpUnderWay}
 use Rattle.vfs_gates.proofs.task.Task.finish_waiting.Given as goal
 
 abbrev pub invariant-loop : goal.invariant-loop
@@ -10,5 +10,5 @@ invariant-loop g l = record {
   finite : (goal.iterator-loop g).is_finite l.iterator';
   table : l.self.table ≡ l.fn.self.table;
   config : l.self.config ≡ l.fn.self.config;
-  goes : (op : Op) (start : SeatedTask) → Goes op start l.fn.self → Goes op start l.self;
+  goes : (op : Op) (start : SeatedTask) → OpUnderWay op start l.fn.self → OpUnderWay op start l.self;
 }

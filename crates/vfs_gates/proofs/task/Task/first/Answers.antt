@@ -1,7 +1,7 @@
 use Rattle.std.proofs.Common.{ap, sym, subst, ◌∙◌, None}
-use Rattle.gate_steps.specs.Seating.{SeatItems}
+use Rattle.gate_steps.specs.Seating.{DealtNumbers}
 use Rattle.gate_steps.specs.call_events.GhostAgrees.{GhostAgrees}
-use Rattle.vfs_gates.proofs.Parting.{first_ties}
+use Rattle.vfs_gates.proofs.Parting.{first_ghost_agrees}
 use Rattle.gate_steps.specs.call_events.TaskState.{TaskState}
 use Rattle.vfs_gates.specs.TaskStates.{own_view}
 use Rattle.vfs_gates.proofs.Rooming.{first_unseen, room_new}
@@ -10,9 +10,9 @@ use Rattle.vfs_gates.proofs.task.Task.first.Goals as goal
 
 pub invariant_of-result : goal.invariant_of-result
 invariant_of-result c = let within = c.requires.within in
-    let m = first_ties c.args.config c.idle.result c.args.config.tasks c.others_of.result within c.idle.ensures within.some_task
+    let m = first_ghost_agrees c.args.config c.idle.result c.args.config.tasks c.others_of.result within c.idle.ensures within.some_task
     within.tasks c.others_of.ensures in (
-      subst (λ (l : SeatItems). GhostAgrees 0 c.args.config None c.idle.result c.others_of.result l) (sym (ap (λ z. z.0.items) c.requires.seat)) m,
+      subst (λ (l : DealtNumbers). GhostAgrees 0 c.args.config None c.idle.result c.others_of.result l) (sym (ap (λ z. z.0.items) c.requires.seat)) m,
       ap (λ z. z.1) c.requires.seat,
       room_new c.args.config.nodes c.args.buffers None c.idle.result.phase c.args.seat.me.0.items c.requires.room.0 c.requires.room.1
           (ap (λ z. (own_view z.0.items).snapshot) c.requires.seat ∙ first_unseen c.args.config) (ap (λ (k : TaskState). k.phase) c.idle.ensures),

@@ -11,7 +11,7 @@ use Rattle.vfs_gates.specs.Noted.{of_tree, taking_at}
 use Rattle.vfs_gates.specs.Buffers.{BuffersMatch}
 use Rattle.vfs_gates.proofs.Admitting.{refused_by}
 use Rattle.vfs_gates.proofs.AtOnce.{refused_at_once, told_at_once}
-use Rattle.vfs_gates.proofs.Calling.{Call, Left, call_with, is_tied, items_of, not_begun, ties_at, ties_done, goes_at, ended_at}
+use Rattle.vfs_gates.proofs.Calling.{Call, Left, call_with, is_agrees, items_of, not_begun, ghost_agrees_at, ghost_agrees_done, goes_at, ended_at}
 use Rattle.vfs_gates.proofs.Loading.{left_by, loaded_done, loaded_buffers}
 use Rattle.vfs_gates.proofs.Rooming.{begun_in}
 use Rattle.vfs_gates.proofs.Waiting.{left_tells, once}
@@ -31,12 +31,12 @@ left c = left_by (call c) (of_tree c.snapshot_first-next.result) c.snapshot_firs
 -- as the call begins, its buffers tell of the operation's first phase
 begun : (c : After-snapshot_first-next) →
     BuffersMatch (call c).task.config.nodes c.begin.new.self (Some (call c).op) (Some (call c).first) (items_of (call c))
-begun c = begun_in (call c) _ (c.begin.ensures c.self.inside.config c.self.inside.begins c.self.inside.kept.phase c.self.inside.seat.me.0.items
+begun c = begun_in (call c) _ (c.begin.ensures c.self.inside.config c.self.inside.begins c.self.inside.state.phase c.self.inside.seat.me.0.items
     c.self.inside.number c.self.invariant.2)
 
-pub snapshot_first-next-requires-clause-tied : goal.snapshot_first-next-requires-clause-tied
-snapshot_first-next-requires-clause-tied c =
-    is_tied (call_with (SnapshotOp c.args.wait) c.self.inside c.args.gates.now.words.config c.args.self.now c.self.view_is c.requires.1
+pub snapshot_first-next-requires-clause-agrees : goal.snapshot_first-next-requires-clause-agrees
+snapshot_first-next-requires-clause-agrees c =
+    is_agrees (call_with (SnapshotOp c.args.wait) c.self.inside c.args.gates.now.words.config c.args.self.now c.self.view_is c.requires.1
     c.self.invariant.0 c.admit.result c.admit.ensures c.in_default.not-Err (taking_at c.first_snapshot-first.result Locks)
     c.first_snapshot-first.ensures)
 
@@ -44,7 +44,7 @@ pub invariant_of-self : goal.invariant_of-self
 invariant_of-self c =
     let d = (goal.at.invariant_of-self c).After-snapshot_first-next in
     let done = done_at Trees c.snapshot_first-next.result c.in-Done.answer c.in-Done.is in (
-      ties_done (call d) (left d) c.in-Done.answer done,
+      ghost_agrees_done (call d) (left d) c.in-Done.answer done,
       c.snapshot_first-next.ensures.slots ∙ c.self.invariant.1,
       loaded_done (call d) _ c.snapshot_first-next.ensures.noted (begun d) c.in-Done.answer done,
       left_tells (call d) (left d) c.waits-self-inside.result (once (of_tree c.snapshot_first-next.result) c.waits-self-inside.result c.waits-self-inside.ensures),
@@ -54,7 +54,7 @@ pub invariant_of-self-in-Go : goal.invariant_of-self-in-Go
 invariant_of-self-in-Go c =
     let d = (goal.at.invariant_of-self-in-Go c).After-snapshot_first-next in
     let stands = stands_at Trees c.snapshot_first-next.result c.in-Go.under_way c.in-Go.is ∙ ap (λ (p : Phase). Some p) (sym c.phase.ensures) in (
-      ties_at (call d) (left d) _ stands,
+      ghost_agrees_at (call d) (left d) _ stands,
       c.snapshot_first-next.ensures.slots ∙ c.self.invariant.1,
       loaded_buffers (call d) _ c.snapshot_first-next.ensures.noted (begun d) _ stands,
       left_tells (call d) (left d) c.waits-self-inside.result (once (of_tree c.snapshot_first-next.result) c.waits-self-inside.result c.waits-self-inside.ensures),

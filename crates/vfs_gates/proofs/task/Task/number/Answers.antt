@@ -9,4 +9,4 @@ pub returns-clause-there : goal.returns-clause-there
 returns-clause-there c =
     let t = c.self.inside in
     subst (λ (s : SeatedTask). 1 ≤ length s.items) c.self.view_is
-    (has_own t.number t.config t.begins t.kept t.spare t.seat.me.0.items c.self.invariant.0)
+    (has_own t.number t.config t.begins t.state t.spare t.seat.me.0.items c.self.invariant.0)

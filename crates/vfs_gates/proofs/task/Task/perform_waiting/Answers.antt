@@ -4,7 +4,7 @@ use Rattle.std.specs.Prelude.{None}
 use Rattle.access_model.specs.declared.replies.Next.TheVariants.{Done}
 use Rattle.gate_steps.specs.call_events.Runs.{the_reply}
 use Rattle.vfs_gates.proofs.Admitting.{refused_by}
-use Rattle.vfs_gates.proofs.Calling.{Call, Left, call_with, is_tied, has_asked_none, ties_done, ended_asking}
+use Rattle.vfs_gates.proofs.Calling.{Call, Left, call_with, is_agrees, has_asked_none, ghost_agrees_done, ended_asking}
 use Rattle.vfs_gates.proofs.Rooming.{room_done}
 use Rattle.gate_steps.specs.call_events.Asking.{CalledAsking}
 use Rattle.gate_steps.proofs.call_events.Asking.{was_refused_asking, was_done_asking}
@@ -34,20 +34,20 @@ left g c = record {
   accesses = c.wait_for_reply-answer.new.accesses;
   known = c.wait_for_reply-answer.new.seat.me.0;
   table = c.wait_for_reply-answer.new.seat.table_id;
-  tied = c.wait_for_reply-answer.ensures.tied;
+  agrees = c.wait_for_reply-answer.ensures.agrees;
   waits = waits_in (call g c).start.config (own_number (call g c).start.items) (call g c).op (asking g c).0.trace;
   went = ((asking g c).0, refl);
 }
 
-pub wait_for_reply-answer-requires-clause-tied : goal.wait_for_reply-answer-requires-clause-tied
-wait_for_reply-answer-requires-clause-tied g c =
-    is_tied (call_with c.args.op c.self.inside c.args.gates.now.words.config c.args.self.now c.self.view_is c.requires.from.1 c.self.invariant.0
+pub wait_for_reply-answer-requires-clause-agrees : goal.wait_for_reply-answer-requires-clause-agrees
+wait_for_reply-answer-requires-clause-agrees g c =
+    is_agrees (call_with c.args.op c.self.inside c.args.gates.now.words.config c.args.self.now c.self.view_is c.requires.from.1 c.self.invariant.0
     c.admit.result c.admit.ensures c.in_default.not-Err (g.P.PendingOp.as_phase c.args.first) c.requires.first)
 
 pub invariant_of-self : goal.invariant_of-self
 invariant_of-self g c =
     let d = (goal.at.invariant_of-self g c).After-wait_for_reply-answer in (
-      ties_done (call g d) (left g d) c.wait_for_reply-answer.result.0 refl,
+      ghost_agrees_done (call g d) (left g d) c.wait_for_reply-answer.result.0 refl,
       c.wait_for_reply-answer.ensures.slots ∙ c.self.invariant.1,
       room_done (call g d) _ c.requires.other c.self.invariant.2 (left g d) c.wait_for_reply-answer.result.0 refl,
       left_tells (call g d) (left g d) c.wait_for_reply-answer.result.1 ((asking g d).2 ∙ ap (λ n. counted n) (sym (add-zero (left g d).waits))),

@@ -4,8 +4,8 @@ use Rattle.std.specs.Prelude.{Option, Some, None}
 use Rattle.access_model.specs.declared.replies.Next.{Next}
 use Rattle.gate_world.specs.declared.work.Phase.{Phase}
 use Rattle.vfs_gates.specs.TaskStates.{SeatedTask, task_state}
-use Rattle.gate_steps.specs.call_events.Turns.{kept_at}
-use Rattle.gate_steps.proofs.call_events.Turning.{tied_at, stepped_there}
+use Rattle.gate_steps.specs.call_events.Turns.{state_at}
+use Rattle.gate_steps.proofs.call_events.Turning.{agrees_at, stepped_there}
 use Rattle.access_model.specs.Replies.{map_next}
 use Rattle.vfs_gates.specs.Buffers.{BuffersMatch}
 use Rattle.vfs_gates.proofs.Rooming.{FollowsBy, stepped_room}
@@ -14,16 +14,16 @@ use Rattle.vfs_gates.proofs.Waiting.{noted_tells, since, since_begun, since_goin
 use Rattle.vfs_gates.proofs.task.Task.step_as.Goals.{then-is_some, else-is_some}
 use Rattle.vfs_gates.proofs.task.Task.step_as.Goals as goal
 
-pub do_event-action-requires-clause-tied : goal.do_event-action-requires-clause-tied
-do_event-action-requires-clause-tied g c =
+pub do_event-action-requires-clause-agrees : goal.do_event-action-requires-clause-agrees
+do_event-action-requires-clause-agrees g c =
     let t = c.self.inside in
     let phase : Phase = g.P.PendingOp.as_phase c.args.under_way in
-    let at : t.kept.phase ≡ Some phase = ap (λ (s : SeatedTask). s.phase) c.self.view_is ∙ c.requires.at in
+    let at : t.state.phase ≡ Some phase = ap (λ (s : SeatedTask). s.phase) c.self.view_is ∙ c.requires.at in
     let same : t.config ≡ c.args.gates.now.words.config = ap (λ (s : SeatedTask). s.config) c.self.view_is ∙ c.requires.from.1 in
     record {
       number = t.number;
       flags = t.spare;
-      ties = tied_at t.number t.begins t.spare t.seat.me.0.items t.kept (Some phase)
+      ghost_agrees = agrees_at t.number t.begins t.spare t.seat.me.0.items t.state (Some phase)
           c.self.invariant.0 same at;
     }
 
@@ -31,19 +31,19 @@ pub invariant_of-self : goal.invariant_of-self
 invariant_of-self g c =
     let t = c.self.inside in
     let phase : Phase = g.P.PendingOp.as_phase c.args.under_way in
-    let at : t.kept.phase ≡ Some phase = ap (λ (s : SeatedTask). s.phase) c.self.view_is ∙ c.requires.at in
+    let at : t.state.phase ≡ Some phase = ap (λ (s : SeatedTask). s.phase) c.self.view_is ∙ c.requires.at in
     let same : t.config ≡ c.args.gates.now.words.config = ap (λ (s : SeatedTask). s.config) c.self.view_is ∙ c.requires.from.1 in
     let next : Next Phase = map_next g.P.PendingOp.as_phase c.do_event-action.result.next in
     let stands = sym (ap (λ p. p.1) c.standing-progress.ensures) in
-    let tied = c.do_event-action.ensures.tied t.number t.spare
-    (tied_at t.number t.begins t.spare t.seat.me.0.items t.kept (Some phase) c.self.invariant.0 same at) in
+    let agrees = c.do_event-action.ensures.agrees t.number t.spare
+    (agrees_at t.number t.begins t.spare t.seat.me.0.items t.state (Some phase) c.self.invariant.0 same at) in
     let so_far : c.if-is_some.so_far ≡ since t.begins t.waited = elim c.if-is_some.branch [
       | then-is_some w ↦ w.so_far-is ∙ sym (since_begun t.begins t.waited (sym c.is_some.ensures ∙ w.if-is_some.true))
       | else-is_some w ↦ w.so_far-is ∙ sym (since_going t.begins t.waited (sym c.is_some.ensures ∙ w.if-is_some.false))
     ] in
     let noted : c.saturating_add-self-inside.result ≡ counted (since t.begins t.waited + is_wait next) =
     c.saturating_add-self-inside.ensures ∙ ((λ i. counted (so_far i + c.waits.ensures i))) in (
-      tied_at t.number None t.spare c.do_event-action.new.seat.me.0.items (kept_at _ c.do_event-action.new.accesses) c.standing-progress.result.1 tied
+      agrees_at t.number None t.spare c.do_event-action.new.seat.me.0.items (state_at _ c.do_event-action.new.accesses) c.standing-progress.result.1 agrees
           (sym same) stands,
       c.do_event-action.ensures.slots ∙ c.self.invariant.1,
       subst (λ (o : Option Phase). BuffersMatch t.config.nodes c.follow.new.self None o c.do_event-action.new.seat.me.0.items)
@@ -51,16 +51,16 @@ invariant_of-self g c =
           (stepped_room t.config.nodes t.buffers c.follow.new.self t.begins phase c.args.hook t.seat.table_id
           c.do_event-action.new.seat.table_id c.args.gates.now.words.config t.seat.me.0.items c.do_event-action.new.seat.me.0.items
           c.do_event-action.result.event c.do_event-action.result.action next t.number
-          (kept_at (Some phase) t.kept.accesses) t.spare
-          (tied_at t.number t.begins t.spare t.seat.me.0.items t.kept (Some phase) c.self.invariant.0 same at)
+          (state_at (Some phase) t.state.accesses) t.spare
+          (agrees_at t.number t.begins t.spare t.seat.me.0.items t.state (Some phase) c.self.invariant.0 same at)
           c.do_event-action.ensures.stepped
           (subst (λ (o : Option Phase). BuffersMatch t.config.nodes t.buffers t.begins o t.seat.me.0.items) at c.self.invariant.2)
           (λ found. subst (λ (p : Phase). FollowsBy c.self.inside.buffers c.follow.new.self c.do_event-action.result.event p t.config.nodes t.begins c.args.hook found t.seat.me.0.items) c.phase.ensures
           (c.follow.ensures t.config.nodes t.begins c.args.hook found t.seat.me.0.items))),
       noted_tells same t.begins phase c.args.hook t.seat.table_id c.do_event-action.new.seat.table_id t.seat.me.0.items
           c.do_event-action.new.seat.me.0.items c.do_event-action.result.event c.do_event-action.result.action next
-          t.number t.waited c.saturating_add-self-inside.result t.kept.accesses t.spare
-          (tied_at t.number t.begins t.spare t.seat.me.0.items t.kept (Some phase) c.self.invariant.0 same at)
+          t.number t.waited c.saturating_add-self-inside.result t.state.accesses t.spare
+          (agrees_at t.number t.begins t.spare t.seat.me.0.items t.state (Some phase) c.self.invariant.0 same at)
           c.do_event-action.ensures.stepped c.self.invariant.3 noted,
     )
 
@@ -68,7 +68,7 @@ pub returns-clause-event : goal.returns-clause-event
 returns-clause-event g c =
     let t = c.self.inside in
     let phase : Phase = g.P.PendingOp.as_phase c.args.under_way in
-    let at : t.kept.phase ≡ Some phase = ap (λ (s : SeatedTask). s.phase) c.self.view_is ∙ c.requires.at in
+    let at : t.state.phase ≡ Some phase = ap (λ (s : SeatedTask). s.phase) c.self.view_is ∙ c.requires.at in
     let same : t.config ≡ c.args.gates.now.words.config = ap (λ (s : SeatedTask). s.config) c.self.view_is ∙ c.requires.from.1 in
     let next : Next Phase = map_next g.P.PendingOp.as_phase c.do_event-action.result.next in
     let stands = sym (ap (λ p. p.1) c.standing-progress.ensures) in

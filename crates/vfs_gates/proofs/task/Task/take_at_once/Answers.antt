@@ -7,65 +7,65 @@ use Rattle.gate_steps.specs.call_events.Progress.TheVariants.{Going, Done}
 use Rattle.gate_world.specs.declared.work.Phase.{Phase}
 use Rattle.vfs_gates.proofs.Admitting.{refused_by}
 use Rattle.vfs_gates.proofs.AtOnce.{refused_at_once, told_at_once}
-use Rattle.vfs_gates.proofs.Calling.{Call, Left, call_with, is_tied, has_not_waited, not_begun, ties_at, ties_done, goes_at, ended_at}
+use Rattle.vfs_gates.proofs.Calling.{Call, Left, call_with, is_agrees, has_not_waited, not_begun, ghost_agrees_at, ghost_agrees_done, goes_at, ended_at}
 use Rattle.vfs_gates.proofs.Rooming.{room_at, room_done}
 use Rattle.vfs_gates.proofs.Waiting.{left_tells, once}
 use Rattle.vfs_gates.proofs.task.Task.take_at_once.Goals as goal
-use Rattle.vfs_gates.proofs.task.Task.take_at_once.Goals.{After-go_in_line-next}
+use Rattle.vfs_gates.proofs.task.Task.take_at_once.Goals.{After-run_fast_path-next}
 
 -- the call, and what its line has left
-abbrev call : (g : _) → After-go_in_line-next g → Call
+abbrev call : (g : _) → After-run_fast_path-next g → Call
 call g c =
     call_with c.args.op c.self.inside c.args.gates.now.words.config c.args.self.now c.self.view_is c.requires.from.1 c.self.invariant.0
     c.admit.result c.admit.ensures c.in_default.not-Err (g.P.PendingOp.as_phase c.args.first) c.requires.first
 
-abbrev left : (g : _) (c : After-go_in_line-next g) → Left (call g c)
+abbrev left : (g : _) (c : After-run_fast_path-next g) → Left (call g c)
 left g c = record {
-  next = map_next g.P.PendingOp.as_phase c.go_in_line-next.result;
-  accesses = c.go_in_line-next.new.accesses;
-  known = c.go_in_line-next.new.seat.me.0;
-  table = c.go_in_line-next.new.seat.table_id;
-  tied = c.go_in_line-next.ensures.tied;
+  next = map_next g.P.PendingOp.as_phase c.run_fast_path-next.result;
+  accesses = c.run_fast_path-next.new.accesses;
+  known = c.run_fast_path-next.new.seat.me.0;
+  table = c.run_fast_path-next.new.seat.table_id;
+  agrees = c.run_fast_path-next.ensures.agrees;
   waits = 0;
-  went = c.go_in_line-next.ensures.went 0 (call g c).op (call g c).start (has_not_waited (call g c));
+  went = c.run_fast_path-next.ensures.went 0 (call g c).op (call g c).start (has_not_waited (call g c));
 }
 
-pub go_in_line-next-requires-clause-tied : goal.go_in_line-next-requires-clause-tied
-go_in_line-next-requires-clause-tied g c =
-    is_tied (call_with c.args.op c.self.inside c.args.gates.now.words.config c.args.self.now c.self.view_is c.requires.from.1 c.self.invariant.0
+pub run_fast_path-next-requires-clause-agrees : goal.run_fast_path-next-requires-clause-agrees
+run_fast_path-next-requires-clause-agrees g c =
+    is_agrees (call_with c.args.op c.self.inside c.args.gates.now.words.config c.args.self.now c.self.view_is c.requires.from.1 c.self.invariant.0
     c.admit.result c.admit.ensures c.in_default.not-Err (g.P.PendingOp.as_phase c.args.first) c.requires.first)
 
 pub invariant_of-self : goal.invariant_of-self
 invariant_of-self g c =
-    let d = (goal.at.invariant_of-self g c).After-go_in_line-next in (
-      ties_done (call g d) (left g d) c.in-Done.answer (done_at g.P.PendingOp.as_phase c.go_in_line-next.result c.in-Done.answer c.in-Done.is),
-      c.go_in_line-next.ensures.slots ∙ c.self.invariant.1,
+    let d = (goal.at.invariant_of-self g c).After-run_fast_path-next in (
+      ghost_agrees_done (call g d) (left g d) c.in-Done.answer (done_at g.P.PendingOp.as_phase c.run_fast_path-next.result c.in-Done.answer c.in-Done.is),
+      c.run_fast_path-next.ensures.slots ∙ c.self.invariant.1,
       room_done (call g d) _ c.requires.other c.self.invariant.2 (left g d) c.in-Done.answer
-          (done_at g.P.PendingOp.as_phase c.go_in_line-next.result c.in-Done.answer c.in-Done.is),
-      left_tells (call g d) (left g d) c.waits-self-inside.result (once (map_next g.P.PendingOp.as_phase c.go_in_line-next.result) c.waits-self-inside.result c.waits-self-inside.ensures),
+          (done_at g.P.PendingOp.as_phase c.run_fast_path-next.result c.in-Done.answer c.in-Done.is),
+      left_tells (call g d) (left g d) c.waits-self-inside.result (once (map_next g.P.PendingOp.as_phase c.run_fast_path-next.result) c.waits-self-inside.result c.waits-self-inside.ensures),
     )
 
 pub invariant_of-self-in-Go : goal.invariant_of-self-in-Go
 invariant_of-self-in-Go g c =
-    let d = (goal.at.invariant_of-self-in-Go g c).After-go_in_line-next in
-    let stands = stands_at g.P.PendingOp.as_phase c.go_in_line-next.result c.in-Go.under_way c.in-Go.is ∙ ap (λ (p : Phase). Some p) (sym c.phase.ensures) in (
-      ties_at (call g d) (left g d) _ stands,
-      c.go_in_line-next.ensures.slots ∙ c.self.invariant.1,
+    let d = (goal.at.invariant_of-self-in-Go g c).After-run_fast_path-next in
+    let stands = stands_at g.P.PendingOp.as_phase c.run_fast_path-next.result c.in-Go.under_way c.in-Go.is ∙ ap (λ (p : Phase). Some p) (sym c.phase.ensures) in (
+      ghost_agrees_at (call g d) (left g d) _ stands,
+      c.run_fast_path-next.ensures.slots ∙ c.self.invariant.1,
       room_at (call g d) _ c.requires.other c.self.invariant.2 (left g d) _ stands,
-      left_tells (call g d) (left g d) c.waits-self-inside.result (once (map_next g.P.PendingOp.as_phase c.go_in_line-next.result) c.waits-self-inside.result c.waits-self-inside.ensures),
+      left_tells (call g d) (left g d) c.waits-self-inside.result (once (map_next g.P.PendingOp.as_phase c.run_fast_path-next.result) c.waits-self-inside.result c.waits-self-inside.ensures),
     )
 
 pub returns-in-Done : goal.returns-in-Done
 returns-in-Done g c =
-    let d = (goal.at.returns-in-Done g c).After-go_in_line-next in
-    let called = ended_at (call g d) (left g d) c.in-Done.answer (done_at g.P.PendingOp.as_phase c.go_in_line-next.result c.in-Done.answer c.in-Done.is) in
+    let d = (goal.at.returns-in-Done g c).After-run_fast_path-next in
+    let called = ended_at (call g d) (left g d) c.in-Done.answer (done_at g.P.PendingOp.as_phase c.run_fast_path-next.result c.in-Done.answer c.in-Done.is) in
     told_at_once (call g d).op (call g d).start _ (call g d).admitted (ap (λ s. s.table) called.after) (ap (λ s. s.config) called.after)
     (not_begun (call g d)) (Done c.in-Done.answer) called
 
 pub returns-in-Go : goal.returns-in-Go
 returns-in-Go g c =
-    let d = (goal.at.returns-in-Go g c).After-go_in_line-next in
-    let goes = goes_at (call g d) (left g d) c.phase.result (stands_at g.P.PendingOp.as_phase c.go_in_line-next.result c.in-Go.under_way c.in-Go.is ∙
+    let d = (goal.at.returns-in-Go g c).After-run_fast_path-next in
+    let goes = goes_at (call g d) (left g d) c.phase.result (stands_at g.P.PendingOp.as_phase c.run_fast_path-next.result c.in-Go.under_way c.in-Go.is ∙
     ap (λ (p : Phase). Some p) (sym c.phase.ensures)) in
     told_at_once (call g d).op (call g d).start _ (call g d).admitted goes.table goes.config (not_begun (call g d)) Going goes
 

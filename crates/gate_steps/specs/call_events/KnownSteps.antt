@@ -9,30 +9,30 @@ use Rattle.gate_world.specs.declared.config.Config.{Config}
 use Rattle.gate_world.specs.declared.operations.Op.{Op}
 use Rattle.gate_world.specs.declared.work.Phase.{Phase}
 use Rattle.gate_world.specs.Views.{phase_after}
-use Rattle.gate_steps.specs.Seating.{SeatItems}
+use Rattle.gate_steps.specs.Seating.{DealtNumbers}
 use Rattle.gate_steps.specs.declared.seating.Knowledge.{Knowledge}
-use Rattle.gate_steps.specs.call_events.Asking.{Ask, WentWith, WentAsking}
+use Rattle.gate_steps.specs.call_events.Asking.{Ask, OpAfterStepWith, OpAfterStepAsking}
 use Rattle.gate_steps.specs.call_events.SeatedTasks.{SeatedTask, task_state}
-use Rattle.gate_steps.specs.call_events.Turns.{StayTied}
+use Rattle.gate_steps.specs.call_events.Turns.{AgreesAfter}
 
 -- Steps that ask no hook have led an operation from where it stood, at a table and with what its seat knew, to where it stands: it is the same
 -- table, the fields of the task are what its seat knows, as before, and whichever operation has gone there with these asks has come here with
 -- no other. Where it had begun and had no step yet, it has had its first.
-pub record Led (c : Config) (begins : Option Op) (accesses : Accesses) (next : Next Phase) (table : TableId) (me : Knowledge)
+pub record KnownSteps (c : Config) (begins : Option Op) (accesses : Accesses) (next : Next Phase) (table : TableId) (me : Knowledge)
     (further : Next Phase) (table_left : TableId) (left : Knowledge) : Type 0 where
   pub same_table : table_left ≡ table
-  pub tied : StayTied c begins (phase_after next) accesses me.items (phase_after further) accesses left.items
+  pub agrees : AgreesAfter c begins (phase_after next) accesses me.items (phase_after further) accesses left.items
   pub went : (op : Op) (start : SeatedTask) (asks : List Ask) (waits : ℕ) →
-      WentWith asks waits op start next (task_state table c begins (phase_after next) me) →
-      WentWith asks waits op start further (task_state table_left c None (phase_after further) left)
+      OpAfterStepWith asks waits op start next (task_state table c begins (phase_after next) me) →
+      OpAfterStepWith asks waits op start further (task_state table_left c None (phase_after further) left)
 
 -- Steps that may ask hooks, likewise: whichever operation has gone there, and has asked just the hooks whose answers its steps read, has come
 -- here, and has asked just those.
-pub record LedAsking {H : Type 0} (answers : HookCall → SeatItems → H → HookAnswer → H → Type 0) (c : Config) (begins : Option Op)
+pub record KnownStepsAsking {H : Type 0} (answers : HookCall → DealtNumbers → H → HookAnswer → H → Type 0) (c : Config) (begins : Option Op)
     (accesses : Accesses) (next : Next Phase) (table : TableId) (me : Knowledge) (hooks : H) (further : Next Phase) (table_left : TableId)
     (left : Knowledge) (hooks_left : H) : Type 0 where
   pub same_table : table_left ≡ table
-  pub tied : StayTied c begins (phase_after next) accesses me.items (phase_after further) accesses left.items
+  pub agrees : AgreesAfter c begins (phase_after next) accesses me.items (phase_after further) accesses left.items
   pub went : (op : Op) (start : SeatedTask) (before : H) (waits : ℕ) →
-      WentAsking answers waits op start before next (task_state table c begins (phase_after next) me) hooks →
-      WentAsking answers waits op start before further (task_state table_left c None (phase_after further) left) hooks_left
+      OpAfterStepAsking answers waits op start before next (task_state table c begins (phase_after next) me) hooks →
+      OpAfterStepAsking answers waits op start before further (task_state table_left c None (phase_after further) left) hooks_left

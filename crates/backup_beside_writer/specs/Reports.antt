@@ -1,7 +1,7 @@
 -- What the program tells of its run: what the lists of its two tasks have in the end.
 use Rattle.std.specs.Prelude.{◌≡◌, ◌++◌, ℕ, true, false, Ok, IfSome}
-use Rattle.vfs_gates.specs.Rounds.{Rounds, BothDone, Did, Granted, SeatedTask, Ended, Ending, Mount, ChangeMount, ComesAfter, Performs, granted_in, own_actions}
-use Rattle.backup_beside_writer.specs.declared.told.Told.{Told}
+use Rattle.vfs_gates.specs.Rounds.{Rounds, BothDone, Did, Granted, SeatedTask, Ended, ClosedState, Mount, ChangeMount, ComesAfter, Performs, granted_in, own_actions}
+use Rattle.backup_beside_writer.specs.declared.report.Report.{Report}
 
 -- a copy: the mount was made read-only and then writable, and neither was refused
 abbrev pub HasCopied : SeatedTask → SeatedTask → Type 0
@@ -31,7 +31,7 @@ pub record HasAllWrites (writes : ℕ) : Type 0 where
 
 -- In the closed gates' world the writer was granted an access for each write that is told, and the backup made all copies told, each from no action; and
 -- the last copy, where it is told whether it was torn, has all writes told.
-pub record IsTold (told : Told) (closed : Ending) : Type 0 where
+pub record ReportIsTrue (told : Report) (closed : ClosedState) : Type 0 where
   pub ended : Ended closed.config closed.words
   pub writes : Did (ended.world.views told.writer) (Granted (Mount 0) told.writes)
   pub copies : Did (ended.world.views told.backup) (Copies told.copies)

@@ -4,7 +4,7 @@ use std::fmt;
 
 /// What the two tasks have done, each with its number.
 #[derive(Clone, Copy)]
-pub struct Told {
+pub struct Report {
     /// The number of the writer's task.
     pub writer: u8,
     /// How often it wrote.
@@ -21,7 +21,7 @@ pub struct Told {
     pub last_torn: Option<bool>,
 }
 
-impl fmt::Display for Told {
+impl fmt::Display for Report {
     ghost use Rattle.std.specs.Prelude.{Some, ◌++◌, codes};
     ghost use Rattle.std.specs.Fmt.{decimal};
 
