@@ -1,6 +1,7 @@
 -- A snapshot whose steps stand in a line: where they lead, and what its task notes of them.
-use Rattle.std.proofs.Common.{◌≡◌, ℕ, ◌-◌, ◌<◌, ◌≤◌, refl, sym, ap, ◌∙◌, subst, arith, true, false, true≢false}
-use Rattle.std.specs.Prelude.{Option, Some, None, Result, Ok, is_some, if◌then◌else◌, length, []}
+use Rattle.std.proofs.Common.{◌≡◌, ℕ, ◌+◌, ◌-◌, ◌<◌, ◌≤◌, refl, sym, ap, ◌∙◌, subst, arith, Bool, true, false}
+use Rattle.std.specs.Prelude.{Option, Some, None, Result, Ok, List, is_some, if◌then◌else◌, length, [], not, slice_set as set}
+use Rattle.std.proofs.lemmas.Bool.Decides.{nat_tests}
 use Rattle.atomic_table.specs.Seated.{TableId}
 use Rattle.access_model.specs.declared.replies.Next.{Next}
 use Rattle.access_model.specs.Replies.{map_next}
@@ -10,12 +11,9 @@ use Rattle.access_model.specs.declared.replies.Reply.{Reply}
 use Rattle.access_model.specs.declared.replies.Reply.TheVariants.{Tree as TreeReply}
 use Rattle.cpu_words.specs.Touches.{event_of}
 use Rattle.cpu_words.specs.declared.events.Event.{Event}
-use Rattle.cpu_words.specs.declared.events.Touch.{Touch}
-use Rattle.cpu_words.specs.declared.events.Touch.TheVariants.{Load}
-use Rattle.cpu_words.specs.declared.names.WordName.{WordName}
 use Rattle.node_words.specs.Nodes.{node_after, unpacked}
 use Rattle.gated_tree.specs.Phases.{at_snapshot, kids_step, node_step, snapshot_after, snapshot_next}
-use Rattle.gated_tree.specs.Trees.{loads_last, words_of}
+use Rattle.gated_tree.specs.declared.trees.TreeWords.{TreeWords}
 use Rattle.gated_tree.specs.declared.phases.TreePhase.TheVariants.{Snapshot as Snapshots}
 use Rattle.gated_tree.specs.declared.snapshots.Snapshot.{Snapshot}
 use Rattle.gated_tree.specs.declared.snapshots.SnapshotStep.{SnapshotStep}
@@ -26,6 +24,8 @@ use Rattle.gate_world.specs.Work.{after_of}
 use Rattle.gate_world.specs.declared.accesses.Accesses.{Accesses}
 use Rattle.gate_world.specs.declared.config.Config.{Config}
 use Rattle.gate_world.specs.declared.operations.Op.{Op}
+use Rattle.gate_world.specs.Beginnings.{first_phase}
+use Rattle.gate_world.specs.declared.operations.Op.TheVariants.{Snapshot as SnapshotOp}
 use Rattle.gate_world.specs.declared.work.Phase.{Phase}
 use Rattle.gate_world.specs.declared.work.Phase.TheVariants.{Trees}
 use Rattle.gate_steps.specs.Seating.{DealtNumbers, items_after}
@@ -33,12 +33,11 @@ use Rattle.gate_steps.specs.declared.seating.Knowledge.{Knowledge}
 use Rattle.gate_steps.specs.call_events.KnownSteps.{KnownSteps}
 use Rattle.gate_steps.specs.call_events.Turns.{StateAgrees, state_at}
 use Rattle.gate_steps.proofs.call_events.Leading.{led_on, led_nowhere}
-use Rattle.vfs_gates.specs.declared.buffers.SnapshotBuffers.{SnapshotBuffers}
-use Rattle.vfs_gates.specs.Noted.{Noted, taking_at}
-use Rattle.vfs_gates.specs.Buffers.{BuffersMatch, noted_in}
+use Rattle.vfs_gates.specs.Noted.{Noted, taking_at, with_kids, with_nodes}
+use Rattle.vfs_gates.specs.Buffers.{BufferWords, BuffersMatch, after_noting, completed, with_words}
 use Rattle.gate_steps.proofs.call_events.Turning.{unasked}
 use Rattle.vfs_gates.proofs.Calling.{Call, Left, has_asked_none, idle, items_of, not_begun, same}
-use Rattle.vfs_gates.proofs.Noting.{EndsTaking, ContinuesTaking, follows_taking}
+use Rattle.vfs_gates.proofs.Noting.{follows_taking}
 use Rattle.vfs_gates.proofs.Waiting.{has_number}
 
 -- no step of a snapshot adds an action
@@ -93,61 +92,102 @@ numbered {c} {begins} {phase} {accesses} {items} agrees =
     has_number agrees.number c begins (state_at (Some phase) accesses) agrees.flags items agrees.ghost_agrees
 
 -- what a line of a snapshot has noted
-module _ {c : Config} {begins : Option Op} {accesses : Accesses} {table : TableId} {me : Knowledge} {buffers : SnapshotBuffers} {left : Knowledge}
-    {table_left : TableId} {buffers_left : SnapshotBuffers} where
-  -- a load, which was noted
-  pub noted_by : (s : Snapshot) (word : WordName) (found : ℕ) (event : Event) → (word, Load) ≡ snapshot_next s s.step →
-      event ≡ event_of word Load found →
+module _ {c : Config} {begins : Option Op} {accesses : Accesses} {table : TableId} {me : Knowledge} {left : Knowledge} {table_left : TableId} where
+  -- a step, which was noted
+  noted_by : (s : Snapshot) (found : ℕ) →
+      after_of (Trees (Snapshots s)) (event_of (snapshot_next s s.step).0 (snapshot_next s s.step).1 found).found (Ok tt) ≡
+      after_of (Trees (Snapshots s)) found (Ok tt) →
       KnownSteps c begins accesses (Go (Trees (Snapshots s))) table me (after_of (Trees (Snapshots s)) found (Ok tt)).0 table_left left →
       left.items ≡ items_after begins (Trees (Snapshots s)) (Ok tt) found me.items →
       StateAgrees c begins (Some (Trees (Snapshots s))) accesses me.items →
-      (loads_last s.nodes s.step ≡ false → ContinuesTaking buffers buffers_left event) → (loads_last s.nodes s.step ≡ true → EndsTaking buffers buffers_left event) →
-      Noted c begins accesses (Go (Trees (Snapshots s))) table me buffers (after_of (Trees (Snapshots s)) found (Ok tt)).0 table_left left buffers_left
-  noted_by s word found event known is led items agrees goes_on ends = record {
+      Noted c begins accesses (Go (Trees (Snapshots s))) table me (λ r. Unit {0}) (after_of (Trees (Snapshots s)) found (Ok tt)).0 table_left left
+      (after_noting s (event_of (snapshot_next s s.step).0 (snapshot_next s s.step).1 found))
+  noted_by s found comes led items agrees = record {
     led = led;
-    tells = λ h.
+    tells = λ r were h.
         let phase : Phase = Trees (Snapshots s) in
-        let P : ℕ × DealtNumbers → Type 0 = λ z. BuffersMatch c.nodes buffers_left None (phase_after (after_of phase z.0 (Ok tt)).0) z.1 in
-        subst P (λ i. (ap (λ (e : Event). e.found) is i, sym items i))
-        (follows_taking buffers buffers_left phase s refl event goes_on ends c.nodes begins (Ok tt) found me.items (numbered agrees)
-        (is ∙ ap (λ (z : WordName × Touch). event_of z.0 z.1 found) known) h);
+        let event : Event = event_of (snapshot_next s s.step).0 (snapshot_next s s.step).1 found in
+        let P : Next Phase × DealtNumbers → Type 0 = λ z. BuffersMatch c.nodes (after_noting s event r) None (phase_after z.0) z.1 in
+        subst P (λ i. ((comes i).0, sym items i))
+        (follows_taking r phase s refl event c.nodes begins (Ok tt) found me.items (numbered agrees) refl h);
+  }
+
+  -- what was before, and what the steps have made of it, said otherwise
+  pub noted_as : {a b : Next Phase} {Were Are : BufferWords → Type 0} {made gives : BufferWords → BufferWords} →
+      ((r : BufferWords) → Are r → Were r × (made r ≡ gives r)) → Noted c begins accesses a table me Were b table_left left made →
+      Noted c begins accesses a table me Are b table_left left gives
+  noted_as {b = b} same noted = record {
+    led = noted.led;
+    tells = λ r were h.
+        subst (λ (z : BufferWords). BuffersMatch c.nodes z None (phase_after b) left.items) (same r were).1 (noted.tells r (same r were).0 h);
   }
 
   -- what comes next, said otherwise
-  pub noted_to : {a b d : Next Phase} → b ≡ d → Noted c begins accesses a table me buffers b table_left left buffers_left →
-      Noted c begins accesses a table me buffers d table_left left buffers_left
-  noted_to {a} is noted = subst (λ (n : Next Phase). Noted c begins accesses a table me buffers n table_left left buffers_left) is noted
+  pub noted_to : {a b d : Next Phase} {Were : BufferWords → Type 0} {made : BufferWords → BufferWords} → b ≡ d →
+      Noted c begins accesses a table me Were b table_left left made → Noted c begins accesses a table me Were d table_left left made
+  noted_to {a} {Were = Were} {made = made} is noted =
+      subst (λ (n : Next Phase). Noted c begins accesses a table me Were n table_left left made) is noted
 
   -- one line after the other
-  pub noted_on : {a b d : Next Phase} {td : TableId} {ld : Knowledge} {rd : SnapshotBuffers} →
-      Noted c begins accesses a table me buffers b table_left left buffers_left → Noted c None accesses b table_left left buffers_left d td ld rd →
-      Noted c begins accesses a table me buffers d td ld rd
-  noted_on one two = record { led = led_on one.led two.led; tells = λ h. two.tells (one.tells h) }
+  pub noted_on : {a b d : Next Phase} {td : TableId} {ld : Knowledge} {Were Are : BufferWords → Type 0} {made gives : BufferWords → BufferWords} →
+      Noted c begins accesses a table me Were b table_left left made → ((r : BufferWords) → Were r → Are (made r)) →
+      Noted c None accesses b table_left left Are d td ld gives → Noted c begins accesses a table me Were d td ld (λ r. gives (made r))
+  noted_on {made = made} one on two = record {
+    led = led_on one.led two.led;
+    tells = λ r were h. two.tells (made r) (on r were) (one.tells r were h);
+  }
 
--- a step that loads no word of the tree leaves the buffers as they are
-pub unnoted : {c : Config} {begins : Option Op} {accesses : Accesses} {table table_left : TableId} {me left : Knowledge} {buffers : SnapshotBuffers}
-    (s : Snapshot) (found : ℕ) → loads_last s.nodes s.step ≡ false →
-    noted_in (words_of buffers.next) (event_of (snapshot_next s s.step).0 (snapshot_next s s.step).1 found) ≡ words_of buffers.next →
-    phase_after (after_of (Trees (Snapshots s)) (event_of (snapshot_next s s.step).0 (snapshot_next s s.step).1 found).found (Ok tt)).0 ≡
-    phase_after (after_of (Trees (Snapshots s)) found (Ok tt)).0 →
-    KnownSteps c begins accesses (Go (Trees (Snapshots s))) table me (after_of (Trees (Snapshots s)) found (Ok tt)).0 table_left left →
-    left.items ≡ items_after begins (Trees (Snapshots s)) (Ok tt) found me.items → StateAgrees c begins (Some (Trees (Snapshots s))) accesses me.items →
-    Noted c begins accesses (Go (Trees (Snapshots s))) table me buffers (after_of (Trees (Snapshots s)) found (Ok tt)).0 table_left left buffers
-unnoted {c} {begins} {me = me} {buffers = buffers} s found goes_on stays comes led items agrees = record {
-  led = led;
-  tells = λ h.
-      let phase : Phase = Trees (Snapshots s) in
-      let event : Event = event_of (snapshot_next s s.step).0 (snapshot_next s s.step).1 found in
-      let P : Option Phase × DealtNumbers → Type 0 = λ z. BuffersMatch c.nodes buffers None z.0 z.1 in
-      subst P (λ i. (comes i, sym items i))
-      (follows_taking buffers buffers phase s refl event (λ f. (refl, refl, sym stays)) (λ t. absurd (true≢false (sym t ∙ goes_on)))
-      c.nodes begins (Ok tt) found me.items (numbered agrees) refl h);
-}
+  -- a step that loads no word of the tree leaves the buffers as they are
+  pub unnoted : {Were : BufferWords → Type 0} (s : Snapshot) (found : ℕ) →
+      ((r : BufferWords) → after_noting s (event_of (snapshot_next s s.step).0 (snapshot_next s s.step).1 found) r ≡ r) →
+      after_of (Trees (Snapshots s)) (event_of (snapshot_next s s.step).0 (snapshot_next s s.step).1 found).found (Ok tt) ≡
+      after_of (Trees (Snapshots s)) found (Ok tt) →
+      KnownSteps c begins accesses (Go (Trees (Snapshots s))) table me (after_of (Trees (Snapshots s)) found (Ok tt)).0 table_left left →
+      left.items ≡ items_after begins (Trees (Snapshots s)) (Ok tt) found me.items →
+      StateAgrees c begins (Some (Trees (Snapshots s))) accesses me.items →
+      Noted c begins accesses (Go (Trees (Snapshots s))) table me Were (after_of (Trees (Snapshots s)) found (Ok tt)).0 table_left left (λ r. r)
+  unnoted s found stays comes led items agrees = noted_as (λ r were. (tt, stays r)) (noted_by s found comes led items agrees)
+
+  -- the loads of the blocks charged, of a node, and of its children, which are the last ones or not
+  pub used_noted : (s : Snapshot) (found : ℕ) (words : TreeWords) →
+      KnownSteps c begins accesses (Go (taking_at s LoadsUsed)) table me (after_of (taking_at s LoadsUsed) found (Ok tt)).0 table_left left →
+      left.items ≡ items_after begins (taking_at s LoadsUsed) (Ok tt) found me.items →
+      StateAgrees c begins (Some (taking_at s LoadsUsed)) accesses me.items →
+      Noted c begins accesses (Go (taking_at s LoadsUsed)) table me (λ r. r.next ≡ words) (after_of (taking_at s LoadsUsed) found (Ok tt)).0
+      table_left left (with_words (record words { used = found }))
+  used_noted s found words led items agrees =
+      noted_as (λ r were. (tt, λ i. with_words (record (were i) { used = found }) r)) (noted_by (at_snapshot s LoadsUsed) found refl led items agrees)
+
+  pub node_noted : (s : Snapshot) (node found : ℕ) (nodes : List ℕ) →
+      KnownSteps c begins accesses (Go (taking_at s (LoadsNode node))) table me (after_of (taking_at s (LoadsNode node)) found (Ok tt)).0 table_left left →
+      left.items ≡ items_after begins (taking_at s (LoadsNode node)) (Ok tt) found me.items →
+      StateAgrees c begins (Some (taking_at s (LoadsNode node))) accesses me.items →
+      Noted c begins accesses (Go (taking_at s (LoadsNode node))) table me (λ r. r.next.nodes ≡ nodes)
+      (after_of (taking_at s (LoadsNode node)) found (Ok tt)).0 table_left left (with_nodes (set nodes node found))
+  node_noted s node found nodes led items agrees =
+      noted_as (λ r were. (tt, λ i. with_nodes (set (were i) node found) r)) (noted_by (at_snapshot s (LoadsNode node)) found refl led items agrees)
+
+  pub kids_noted : (s : Snapshot) (node found : ℕ) (kids : List ℕ) (o : Option ℕ) → o ≡ node_after node s.nodes →
+      KnownSteps c begins accesses (Go (taking_at s (LoadsKids node))) table me (after_of (taking_at s (LoadsKids node)) found (Ok tt)).0 table_left left →
+      left.items ≡ items_after begins (taking_at s (LoadsKids node)) (Ok tt) found me.items →
+      StateAgrees c begins (Some (taking_at s (LoadsKids node))) accesses me.items →
+      Noted c begins accesses (Go (taking_at s (LoadsKids node))) table me (λ r. r.next.kids ≡ kids)
+      (after_of (taking_at s (LoadsKids node)) found (Ok tt)).0 table_left left
+      (λ r. if not (is_some o) then completed (with_kids (set kids node found) r) else with_kids (set kids node found) r)
+  kids_noted s node found kids o is led items agrees =
+      noted_as (λ r were. (
+        tt,
+        λ i. if not (is_some (sym is i)) then completed (with_kids (set (were i) node found) r) else
+            with_kids (set (were i) node found) r,
+      )) (noted_by (at_snapshot s (LoadsKids node)) found refl led items agrees)
 
 -- no step
-pub noted_nowhere : (c : Config) (accesses : Accesses) (a : Next Phase) (table : TableId) (me : Knowledge) (buffers : SnapshotBuffers) →
-    Noted c None accesses a table me buffers a table me buffers
-noted_nowhere c accesses a table me buffers = record { led = led_nowhere c accesses a table me; tells = λ h. h }
+pub noted_nowhere : {Were : BufferWords → Type 0} {made : BufferWords → BufferWords} (c : Config) (accesses : Accesses) (a : Next Phase)
+    (table : TableId) (me : Knowledge) → ((r : BufferWords) → Were r → r ≡ made r) → Noted c None accesses a table me Were a table me made
+noted_nowhere c accesses a table me same = record {
+  led = led_nowhere c accesses a table me;
+  tells = λ r were h. subst (λ (z : BufferWords). BuffersMatch c.nodes z None (phase_after a) me.items) (same r were) h;
+}
 
 -- `umount` was free, and the stage is the last
 pub lock_free : (s : Snapshot) (found : ℕ) → found ≡ 0 → (after_of (taking_at s Locks) found (Ok tt)).0 ≡ Go (taking_at s LoadsStage)
@@ -156,10 +196,26 @@ lock_free s found is = subst (λ n. (after_of (taking_at s Locks) n (Ok tt)).0 �
 pub is_frozen : (s : Snapshot) (found : ℕ) → found ≡ 4 → (after_of (taking_at s LoadsStage) found (Ok tt)).0 ≡ Go (taking_at s LoadsUsed)
 is_frozen s found is = subst (λ n. (after_of (taking_at s LoadsStage) n (Ok tt)).0 ≡ Go (taking_at s LoadsUsed)) (sym is) refl
 
+-- the last load of a row of nodes, and no last one
+pub last_node : (node nodes : ℕ) → None ≡ node_after node nodes → nodes ≤ node + 1
+last_node node nodes is = grind (arith, nat_tests)
+
+pub next_node : (node next nodes : ℕ) → Some next ≡ node_after node nodes → next < nodes
+next_node node next nodes is = grind (arith, nat_tests)
+
+-- a snapshot is of as many nodes as there are
+nodes_in : Phase → ℕ
+nodes_in (Trees (Snapshots s)) = s.nodes
+nodes_in phase = 0
+
+pub nodes_as_begun : (s : Snapshot) (c : Config) (t : ℕ) (wait : Bool) → taking_at s Locks ≡ first_phase c t (SnapshotOp wait) → s.nodes ≡ c.nodes
+unfolding nodes_in
+nodes_as_begun s c t wait is = ap nodes_in is
+
 -- a call that takes a snapshot in a line, and what its line has left
-module _ (call : Call) {table : TableId} {known : Knowledge} {begun gone : SnapshotBuffers} (next : Next Phase)
-    (noted : Noted call.gates (Some call.op) call.task.state.accesses (Go call.first) call.task.seat.table_id call.task.seat.me.0 begun next table
-    known gone) where
+module _ (call : Call) {table : TableId} {known : Knowledge} {begun gone : BufferWords} (next : Next Phase)
+    (noted : Noted call.gates (Some call.op) call.task.state.accesses (Go call.first) call.task.seat.table_id call.task.seat.me.0 (λ r. r ≡ begun) next
+    table known (λ r. gone)) where
   abbrev pub left_by : Left call
   left_by = record {
     next = next;
@@ -177,7 +233,7 @@ module _ (call : Call) {table : TableId} {known : Knowledge} {begun gone : Snaps
   loaded_buffers h o is =
       let P : Config × Option Op × Option Phase → Type 0 = λ z. BuffersMatch z.0.nodes gone z.1 z.2 known.items in
       subst P (λ i. (sym (same call) i, sym (not_begun call) i, is i))
-      (noted.tells (subst (λ (d : Config). BuffersMatch d.nodes begun (Some call.op) (Some call.first) (items_of call)) (same call) h))
+      (noted.tells begun refl (subst (λ (d : Config). BuffersMatch d.nodes begun (Some call.op) (Some call.first) (items_of call)) (same call) h))
 
   -- or of none, where it was done
   pub loaded_done : BuffersMatch call.task.config.nodes begun (Some call.op) (Some call.first) (items_of call) → (answer : Result Reply GateError) →

@@ -1,18 +1,22 @@
 -- The room for snapshots follows an event of a snapshot: what the event has loaded is noted there.
-use Rattle.std.proofs.Common.{◌≡◌, ℕ, ◌≤◌, refl, sym, ap, ◌∙◌, subst, arith, Bool}
-use Rattle.std.specs.Prelude.{◌==◌, Option, Some, None, Err, List, [], ◌∷◌, true, false, if◌then◌else◌, is_some, not, length}
-use Rattle.std.proofs.lemmas.List.{length-set}
+use Rattle.std.proofs.Common.{◌≡◌, ℕ, zero, suc, ◌+◌, ◌≤◌, refl, sym, ap, ◌∙◌, subst, arith, Bool, add-one, inl, inr}
+use Rattle.std.specs.Prelude.{◌==◌, Option, Some, None, Err, List, [], ◌∷◌, true, false, if◌then◌else◌, is_some, not, length, take, slice_set as set}
+use Rattle.std.proofs.lemmas.List.{length-replicate, length-set, take-set, take_all}
+use Rattle.std.proofs.lemmas.Bool.{cases_Bool}
+use Rattle.std.proofs.lemmas.Bool.Decides.{nat_tests}
+use Rattle.std.proofs.lemmas.Grind.{common_steps}
 use Rattle.access_model.specs.declared.replies.Next.{Next}
 use Rattle.access_model.specs.declared.replies.Next.TheVariants.{Go, Wait, Done}
 use Rattle.access_model.specs.Replies.{map_next}
 use Rattle.cpu_words.specs.Hooks.{HookAnswer}
 use Rattle.cpu_words.specs.Touches.{event_of}
 use Rattle.cpu_words.specs.declared.events.Event.{Event}
+use Rattle.cpu_words.specs.declared.names.WordName.{WordName}
 use Rattle.cpu_words.specs.declared.names.WordName.TheVariants.{Kids}
 use Rattle.access_model.specs.declared.errors.GateError.TheVariants.{Again, Invalid}
 use Rattle.node_words.specs.Nodes.{node_after, unpacked}
 use Rattle.gated_tree.specs.Phases.{at_snapshot, kids_step, node_step}
-use Rattle.gated_tree.specs.Trees.{loaded, loads_last, words_of}
+use Rattle.gated_tree.specs.Trees.{loaded}
 use Rattle.gated_tree.specs.declared.phases.TreePhase.TheVariants.{Snapshot as Snapshots}
 use Rattle.gated_tree.specs.declared.snapshots.Snapshot.{Snapshot as Taking}
 use Rattle.gated_tree.specs.declared.snapshots.SnapshotStep.{SnapshotStep}
@@ -23,21 +27,14 @@ use Rattle.gate_world.specs.declared.work.Phase.{Phase}
 use Rattle.gate_world.specs.declared.work.Phase.TheVariants.{Trees}
 use Rattle.gate_world.specs.declared.views.Snapshot.{Snapshot as Noted}
 use Rattle.gate_world.specs.declared.views.Traced.{Traced}
+use Rattle.gate_world.specs.traces.Found.{is_load}
 use Rattle.gate_world.specs.traces.Snapshots.{completes, last_snapshot, loads_noted, noted_last}
 use Rattle.gate_world.specs.Views.{phase_after}
 use Rattle.gate_world.specs.Work.{after_of, next_of}
 use Rattle.gate_steps.specs.Seating.{DealtNumbers, done_by, items_after}
 use Rattle.gate_steps.specs.declared.seating.Numbered.{Numbered}
-use Rattle.vfs_gates.specs.declared.buffers.SnapshotBuffers.{SnapshotBuffers}
-use Rattle.vfs_gates.specs.Buffers.{LastTells, NextTells, BuffersMatch, StepTells, noted_in, trace_so_far}
+use Rattle.vfs_gates.specs.Buffers.{BufferWords, BuffersMatch, HasNodes, IsSized, LastTells, NextTells, StepTells, after_noting, completed, noted_in, trace_so_far, with_words}
 use Rattle.vfs_gates.specs.TaskStates.{own_view}
-
--- what noting an event does to the room, where the snapshot goes on, and where that was its last load
-abbrev pub ContinuesTaking : SnapshotBuffers → SnapshotBuffers → Event → Type 0
-ContinuesTaking r left e = (left.taken ≡ r.taken) × (words_of left.last ≡ words_of r.last) × (words_of left.next ≡ noted_in (words_of r.next) e)
-
-abbrev pub EndsTaking : SnapshotBuffers → SnapshotBuffers → Event → Type 0
-EndsTaking r left e = (left.taken ≡ true) × (words_of left.last ≡ noted_in (words_of r.next) e) × (words_of left.next ≡ words_of r.last)
 
 -- what an event adds to the own view: itself, and the snapshot that it completes
 trace_after : (begins : Option Op) (phase : Phase) (hook : HookAnswer) (found : ℕ) (x : Numbered) (xs : DealtNumbers) →
@@ -53,148 +50,191 @@ snapshot_after : (begins : Option Op) (phase : Phase) (hook : HookAnswer) (found
 snapshot_after None phase hook found x xs = refl
 snapshot_after (Some op) phase hook found x xs = refl
 
+-- the same first elements, with one more that was set in both; and the same lists, where these are all
+prefix_set : (n v : ℕ) (a b : List ℕ) → length a ≡ length b → take n a ≡ take n b → take (suc n) (set a n v) ≡ take (suc n) (set b n v)
+prefix_set n v [] [] long same = refl
+prefix_set n v [] (y ∷ b) long same = absurd (omega arith)
+prefix_set n v (x ∷ a) [] long same = absurd (omega arith)
+prefix_set zero v (x ∷ a) (y ∷ b) long same = refl
+prefix_set (suc n) v (x ∷ a) (y ∷ b) long same =
+    let t : take n a ≡ take n b = cc in
+    let u : take (suc n) (set a n v) ≡ take (suc n) (set b n v) = prefix_set n v a b (omega arith) t in
+    cc
+
+prefix_more : (n v : ℕ) (a b : List ℕ) → length a ≡ length b → take n a ≡ take n b → take (n + 1) (set a n v) ≡ take (n + 1) (set b n v)
+prefix_more n v a b long same = rw (add-one n) (prefix_set n v a b long same)
+
+whole : (n v : ℕ) (a b : List ℕ) (nodes : ℕ) → length a ≡ nodes → length b ≡ nodes → nodes ≤ n + 1 → take n a ≡ take n b → set a n v ≡ set b n v
+whole n v a b nodes long_a long_b few same =
+    sym (take_all (n + 1) (set a n v) (omega (arith, length-set a n v))) ∙
+    (prefix_more n v a b (long_a ∙ sym long_b) same ∙ take_all (n + 1) (set b n v) (omega (arith, length-set b n v)))
+
+-- the node after this one, or none, among so many
+after_is : (node nodes next : ℕ) → node_after node nodes ≡ Some next → next ≡ node + 1
+after_is node nodes next is = grind (arith, nat_tests)
+
+after_none : (node nodes : ℕ) → node_after node nodes ≡ None → nodes ≤ node + 1
+after_none node nodes is = grind (arith, nat_tests)
+
+-- what was loaded is of so many nodes
+loaded_sized : (nodes : ℕ) (words : TreeWords) (name : WordName) (value : ℕ) → IsSized nodes words → IsSized nodes (loaded words name value)
+loaded_sized nodes words name value sized = grind (arith, common_steps)
+
+noted_sized : (nodes : ℕ) (trace : List Traced) → IsSized nodes (loads_noted nodes trace)
+noted_sized nodes [] = (length-replicate {A = ℕ} nodes 0, length-replicate {A = ℕ} nodes 0)
+noted_sized nodes (e ∷ earlier) =
+    elim (cases_Bool (is_load e.event.touch)) [
+      | inl h ↦ rw h (loaded_sized nodes (loads_noted nodes earlier) e.event.word e.event.found (noted_sized nodes earlier))
+      | inr h ↦ rw h (noted_sized nodes earlier)
+    ]
+
 -- the last snapshot stays
-last_same : (r left : SnapshotBuffers) (o : Option Noted) → left.taken ≡ r.taken → words_of left.last ≡ words_of r.last → LastTells r o → LastTells left o
-last_same r left None taken last h = taken ∙ h
-last_same r left (Some s) taken last h = (taken ∙ h.0, last ∙ h.1)
+last_same : (words : TreeWords) (r : BufferWords) (o : Option Noted) → LastTells r o → LastTells (with_words words r) o
+last_same words r None h = h
+last_same words r (Some s) h = h
 
--- the room tells of each step that may come
-step_tells : (n : ℕ) (words : TreeWords) (trace : List Traced) (step : SnapshotStep) → words ≡ loads_noted n trace → StepTells n words trace step
-step_tells n words trace Locks h = h
-step_tells n words trace LoadsStage h = h
-step_tells n words trace LoadsUsed h = h
-step_tells n words trace (LoadsNode node) h = h
-step_tells n words trace (LoadsKids node) h = h
-step_tells n words trace (Releases answer) h = tt
-
--- and of either of two
+-- the room tells of either of two
 either : {A : Type 0} (T : A → Type 0) (b : Bool) (p q : A) → T p → T q → T (if b then p else q)
 either T true p q hp hq = hp
 either T false p q hp hq = hq
 
-abbrev Tells : SnapshotBuffers → List Traced → Next Taking → Type 0
-Tells left trace n = NextTells left trace (phase_after (map_next Trees (map_next Snapshots n)))
+abbrev Tells : ℕ → BufferWords → List Traced → Next Taking → Type 0
+Tells nodes r trace n = NextTells nodes r trace (phase_after (map_next Trees (map_next Snapshots n)))
 
-module _ (r left : SnapshotBuffers) (nodes : ℕ) (begins : Option Op) (hook : HookAnswer) (found : ℕ) (x : Numbered) (xs : DealtNumbers) where
+module _ (r : BufferWords) (nodes : ℕ) (begins : Option Op) (hook : HookAnswer) (found : ℕ) (x : Numbered) (xs : DealtNumbers) where
+  -- a snapshot of so many nodes
+  abbrev taking : Bool → ℕ → SnapshotStep → Taking
+  taking wait task step = record { wait = wait; task = task; nodes = nodes; step = step }
+
   abbrev event_at : Taking → Event
   event_at s = event_of (next_of (Trees (Snapshots s)) hook).0 (next_of (Trees (Snapshots s)) hook).1 found
 
   abbrev trace_at : Taking → List Traced
   trace_at s = record { event = event_at s; hook = hook } ∷ trace_so_far begins x.view
 
+  -- what has been loaded before, and the room after the event where the snapshot goes on
+  abbrev before : TreeWords
+  before = loads_noted nodes (trace_so_far begins x.view)
+
+  abbrev left_at : Taking → BufferWords
+  left_at s = with_words (noted_in r.next (event_at s)) r
+
+  abbrev Matches : Taking → BufferWords → Option Phase → Type 0
+  Matches s left phase = BuffersMatch nodes left None phase (items_after begins (Trees (Snapshots s)) hook found (x ∷ xs))
+
+  abbrev comes_at : Taking → Option Phase
+  comes_at s = phase_after (after_of (Trees (Snapshots s)) (event_at s).found hook).0
+
   -- a snapshot that goes on
-  going : (s : Taking) → ContinuesTaking r left (event_at s) →
-      completes (Trees (Snapshots s)) (trace_so_far begins x.view) (event_at s).found ≡ None →
-      length (noted_in (words_of r.next) (event_at s)).nodes ≡ length (words_of r.next).nodes →
-      NextTells left (trace_at s) (phase_after (after_of (Trees (Snapshots s)) (event_at s).found hook).0) →
-      BuffersMatch nodes r begins (Some (Trees (Snapshots s))) (x ∷ xs) →
-      BuffersMatch nodes left None (phase_after (after_of (Trees (Snapshots s)) (event_at s).found hook).0)
-      (items_after begins (Trees (Snapshots s)) hook found (x ∷ xs))
-  going s note none long next h = record {
-    room = (ap (λ (w : TreeWords). length w.nodes) note.1 ∙ h.room.0, ap (λ (w : TreeWords). length w.nodes) note.2 ∙ (long ∙ h.room.1));
-    last = subst (LastTells left)
+  going : (s : Taking) → completes (Trees (Snapshots s)) (trace_so_far begins x.view) (event_at s).found ≡ None →
+      IsSized nodes (noted_in r.next (event_at s)) → (phase : Option Phase) → NextTells nodes (left_at s) (trace_at s) phase →
+      BuffersMatch nodes r begins (Some (Trees (Snapshots s))) (x ∷ xs) → Matches s (left_at s) phase
+  going s none sized phase next h = record {
+    room = (h.room.0, sized);
+    last = subst (LastTells (left_at s))
         (sym (snapshot_after begins (Trees (Snapshots s)) hook found x xs ∙
         ap (λ o. last_snapshot o x.view.actions (done_by xs) x.view.snapshot) none))
-        (last_same r left x.view.snapshot note.0 note.1 h.last);
-    next = subst (λ trace. NextTells left trace (phase_after (after_of (Trees (Snapshots s)) (event_at s).found hook).0))
-        (sym (trace_after begins (Trees (Snapshots s)) hook found x xs)) next;
+        (last_same (noted_in r.next (event_at s)) r x.view.snapshot h.last);
+    next = subst (λ trace. NextTells nodes (left_at s) trace phase) (sym (trace_after begins (Trees (Snapshots s)) hook found x xs)) next;
   }
 
-  -- after its last load it is the last one
-  ending : (wait : Bool) (task n node : ℕ) → node_after node n ≡ None →
-      EndsTaking r left (event_at (record { wait = wait; task = task; nodes = n; step = LoadsKids node })) →
-      BuffersMatch nodes r begins (Some (Trees (Snapshots (record { wait = wait; task = task; nodes = n; step = LoadsKids node })))) (x ∷ xs) →
-      BuffersMatch nodes left None (phase_after (after_of (Trees (Snapshots (record { wait = wait; task = task; nodes = n; step = LoadsKids node })))
-      found hook).0)
-      (items_after begins (Trees (Snapshots (record { wait = wait; task = task; nodes = n; step = LoadsKids node }))) hook found (x ∷ xs))
-  unfolding words_of
-  ending wait task n node is note h = let s : Taking = record { wait = wait; task = task; nodes = n; step = LoadsKids node } in record {
-    room = (ap (λ (w : TreeWords). length w.nodes) note.1 ∙ h.room.1, ap (λ (w : TreeWords). length w.nodes) note.2 ∙ h.room.0);
-    last = subst (LastTells left)
-        (sym (snapshot_after begins (Trees (Snapshots s)) hook found x xs ∙
-        ap (λ o. last_snapshot (noted_last o (loaded (loads_noted n (trace_so_far begins x.view)) (Kids node) found)) x.view.actions (done_by xs)
-        x.view.snapshot) is))
-        (note.0, note.1 ∙ ap (λ (w : TreeWords). noted_in w (event_at s)) h.next);
-    next = subst (λ trace. NextTells left trace (phase_after (after_of (Trees (Snapshots s)) found hook).0))
-        (sym (trace_after begins (Trees (Snapshots s)) hook found x xs))
-        (subst (λ o. StepTells n (words_of left.next) (trace_at s) (kids_step o)) (sym is) tt);
-  }
+  -- a node that was loaded is one more, or the last
+  node_tells : (wait : Bool) (task node : ℕ) (o : Option ℕ) → node_after node nodes ≡ o → HasNodes node r.next before → IsSized nodes r.next →
+      StepTells nodes (left_at (taking wait task (LoadsNode node))).next (trace_at (taking wait task (LoadsNode node))) (node_step o)
+  node_tells wait task node (Some next) is h sized = (
+    h.0,
+    subst (λ k. take k (set r.next.nodes node found) ≡ take k (set before.nodes node found)) (sym (after_is node nodes next is))
+        (prefix_more node found r.next.nodes before.nodes (sized.0 ∙ sym (noted_sized nodes (trace_so_far begins x.view)).0) h.1),
+  )
+  node_tells wait task node None is h sized =
+      (h.0, whole node found r.next.nodes before.nodes nodes sized.0 (noted_sized nodes (trace_so_far begins x.view)).0 (after_none node nodes is) h.1, refl)
 
-  -- the load of a node's children is its last one, or isn't
-  kids : (wait : Bool) (task n node : ℕ) (o : Option ℕ) → node_after node n ≡ o →
-      (loads_last n (LoadsKids node) ≡ false → ContinuesTaking r left (event_at (record { wait = wait; task = task; nodes = n; step = LoadsKids node }))) →
-      (loads_last n (LoadsKids node) ≡ true →
-      EndsTaking r left (event_at (record { wait = wait; task = task; nodes = n; step = LoadsKids node }))) →
-      BuffersMatch nodes r begins (Some (Trees (Snapshots (record { wait = wait; task = task; nodes = n; step = LoadsKids node })))) (x ∷ xs) →
-      BuffersMatch nodes left None (phase_after (after_of (Trees (Snapshots (record { wait = wait; task = task; nodes = n; step = LoadsKids node })))
-      found hook).0)
-      (items_after begins (Trees (Snapshots (record { wait = wait; task = task; nodes = n; step = LoadsKids node }))) hook found (x ∷ xs))
-  kids wait task n node None is goes_on ends h = ending wait task n node is (ends (ap (λ o. not (is_some o)) is)) h
-  kids wait task n node (Some k) is goes_on ends h =
-      let s : Taking = record { wait = wait; task = task; nodes = n; step = LoadsKids node } in
-      let note : ContinuesTaking r left (event_at s) = goes_on (ap (λ o. not (is_some o)) is) in
-      going s note
-      (ap (λ o. noted_last o (loaded (loads_noted n (trace_so_far begins x.view)) (Kids node) found)) is) refl
-      (step_tells n (words_of left.next) (trace_at s) (kids_step (node_after node n))
-      (note.2 ∙ ap (λ (w : TreeWords). noted_in w (event_at s)) h.next)) h
+  -- the load of a node's children is its last one, after which it is complete, or isn't
+  kids : (wait : Bool) (task node : ℕ) (o : Option ℕ) → node_after node nodes ≡ o →
+      BuffersMatch nodes r begins (Some (Trees (Snapshots (taking wait task (LoadsKids node))))) (x ∷ xs) →
+      Matches (taking wait task (LoadsKids node))
+      (if not (is_some o) then completed (left_at (taking wait task (LoadsKids node))) else left_at (taking wait task (LoadsKids node)))
+      (Some (Trees (Snapshots (taking wait task (kids_step o)))))
+  kids wait task node (Some next) is h =
+      let s : Taking = taking wait task (LoadsKids node) in
+      let same : length r.next.kids ≡ length before.kids = h.room.1.1 ∙ sym (noted_sized nodes (trace_so_far begins x.view)).1 in
+      going s (ap (λ o. noted_last o (loaded before (Kids node) found)) is) (h.room.1.0, length-set r.next.kids node found ∙ h.room.1.1)
+      (Some (Trees (Snapshots (taking wait task (LoadsKids next))))) (
+        refl,
+        (
+          h.next.1.0,
+          h.next.1.1,
+          subst (λ k. take k (set r.next.kids node found) ≡ take k (set before.kids node found))
+              (sym (after_is node nodes next is)) (prefix_more node found r.next.kids before.kids same h.next.1.2),
+        ),
+      ) h
+  kids wait task node None is h =
+      let s : Taking = taking wait task (LoadsKids node) in
+      let same : set r.next.kids node found ≡ set before.kids node found =
+      whole node found r.next.kids before.kids nodes h.room.1.1 (noted_sized nodes (trace_so_far begins x.view)).1 (after_none node nodes is) h.next.1.2 in
+      record {
+        room = ((h.room.1.0, length-set r.next.kids node found ∙ h.room.1.1), h.room.0);
+        last = subst (LastTells (completed (left_at s)))
+            (sym (snapshot_after begins (Trees (Snapshots s)) hook found x xs ∙
+            ap (λ o. last_snapshot (noted_last o (loaded before (Kids node) found)) x.view.actions (done_by xs) x.view.snapshot) is))
+            (refl, λ i. record { used = h.next.1.0 i; nodes = h.next.1.1 i; kids = same i });
+        next = subst (λ trace. NextTells nodes (completed (left_at s)) trace (Some (Trees (Snapshots (taking wait task (kids_step None))))))
+            (sym (trace_after begins (Trees (Snapshots s)) hook found x xs)) (refl, tt);
+      }
 
   -- each of its events
-  follows_step : (wait : Bool) (task n : ℕ) (step : SnapshotStep) →
-      (loads_last n step ≡ false → ContinuesTaking r left (event_at (record { wait = wait; task = task; nodes = n; step = step }))) →
-      (loads_last n step ≡ true → EndsTaking r left (event_at (record { wait = wait; task = task; nodes = n; step = step }))) →
-      BuffersMatch nodes r begins (Some (Trees (Snapshots (record { wait = wait; task = task; nodes = n; step = step })))) (x ∷ xs) →
-      BuffersMatch nodes left None (phase_after (after_of (Trees (Snapshots (record { wait = wait; task = task; nodes = n; step = step })))
-      (event_at (record { wait = wait; task = task; nodes = n; step = step })).found hook).0)
-      (items_after begins (Trees (Snapshots (record { wait = wait; task = task; nodes = n; step = step }))) hook found (x ∷ xs))
-  unfolding words_of
-  follows_step true task n Locks goes_on ends h =
-      let s : Taking = record { wait = true; task = task; nodes = n; step = Locks } in let note : ContinuesTaking r left (event_at s) = goes_on refl in
-      let told : words_of left.next ≡ loads_noted n (trace_at s) = note.2 ∙ h.next in
-      going s note refl refl (either (Tells left (trace_at s)) (found == 0) (Go (at_snapshot s LoadsStage)) (Wait s) told told) h
-  follows_step false task n Locks goes_on ends h =
-      let s : Taking = record { wait = false; task = task; nodes = n; step = Locks } in let note : ContinuesTaking r left (event_at s) = goes_on refl in
-      let told : words_of left.next ≡ loads_noted n (trace_at s) = note.2 ∙ h.next in
-      going s note refl refl (either (Tells left (trace_at s)) (found == 0) (Go (at_snapshot s LoadsStage)) (Done (Err Again)) told tt) h
-  follows_step wait task n LoadsStage goes_on ends h =
-      let s : Taking = record { wait = wait; task = task; nodes = n; step = LoadsStage } in let note : ContinuesTaking r left (event_at s) = goes_on refl in
-      let told : words_of left.next ≡ loads_noted n (trace_at s) = note.2 ∙ ap (λ (w : TreeWords). noted_in w (event_at s)) h.next in
-      going s note refl refl (either (Tells left (trace_at s)) (found == 4) (Go (at_snapshot s LoadsUsed))
-      (Go (at_snapshot s (Releases (Err Invalid)))) told tt) h
-  follows_step wait task n LoadsUsed goes_on ends h =
-      let s : Taking = record { wait = wait; task = task; nodes = n; step = LoadsUsed } in let note : ContinuesTaking r left (event_at s) = goes_on refl in
-      let told : words_of left.next ≡ loads_noted n (trace_at s) = note.2 ∙ ap (λ (w : TreeWords). noted_in w (event_at s)) h.next in
-      going s note refl refl told h
-  follows_step wait task n (LoadsNode node) goes_on ends h =
-      let s : Taking = record { wait = wait; task = task; nodes = n; step = LoadsNode node } in let note : ContinuesTaking r left (event_at s) = goes_on refl in
-      let told : words_of left.next ≡ loads_noted n (trace_at s) = note.2 ∙ ap (λ (w : TreeWords). noted_in w (event_at s)) h.next in
-      going s note refl (length-set (words_of r.next).nodes node found)
-      (either (Tells left (trace_at s)) (is_some (unpacked found)) (Go (at_snapshot s (node_step (node_after node n))))
-      (Go (at_snapshot s (LoadsNode node))) (step_tells n (words_of left.next) (trace_at s) (node_step (node_after node n)) told) told) h
-  follows_step wait task n (LoadsKids node) goes_on ends h = kids wait task n node (node_after node n) refl goes_on ends h
-  follows_step wait task n (Releases answer) goes_on ends h =
-      let s : Taking = record { wait = wait; task = task; nodes = n; step = Releases answer } in going s (goes_on refl) refl refl tt h
+  follows_sized : (wait : Bool) (task : ℕ) (step : SnapshotStep) →
+      BuffersMatch nodes r begins (Some (Trees (Snapshots (taking wait task step)))) (x ∷ xs) →
+      Matches (taking wait task step) (after_noting (taking wait task step) (event_at (taking wait task step)) r) (comes_at (taking wait task step))
+  follows_sized true task Locks h =
+      let s : Taking = taking true task Locks in
+      going s refl h.room.1 (comes_at s)
+      (either (Tells nodes (left_at s) (trace_at s)) (found == 0) (Go (at_snapshot s LoadsStage)) (Wait s) (refl, tt) (refl, tt)) h
+  follows_sized false task Locks h =
+      let s : Taking = taking false task Locks in
+      going s refl h.room.1 (comes_at s)
+      (either (Tells nodes (left_at s) (trace_at s)) (found == 0) (Go (at_snapshot s LoadsStage)) (Done (Err Again)) (refl, tt) tt) h
+  follows_sized wait task LoadsStage h =
+      let s : Taking = taking wait task LoadsStage in
+      going s refl h.room.1 (comes_at s)
+      (either (Tells nodes (left_at s) (trace_at s)) (found == 4) (Go (at_snapshot s LoadsUsed)) (Go (at_snapshot s (Releases (Err Invalid))))
+      (refl, tt) (refl, tt)) h
+  follows_sized wait task LoadsUsed h =
+      let s : Taking = taking wait task LoadsUsed in going s refl h.room.1 (comes_at s) (refl, (refl, refl)) h
+  follows_sized wait task (LoadsNode node) h =
+      let s : Taking = taking wait task (LoadsNode node) in
+      going s refl (length-set r.next.nodes node found ∙ h.room.1.0, h.room.1.1) (comes_at s)
+      (either (Tells nodes (left_at s) (trace_at s)) (is_some (unpacked found)) (Go (at_snapshot s (node_step (node_after node nodes))))
+      (Go (at_snapshot s (LoadsNode node)))
+      (refl, node_tells wait task node (node_after node nodes) refl h.next.1 h.room.1)
+      (refl, (h.next.1.0, take-set r.next.nodes node found ∙ (h.next.1.1 ∙ sym (take-set before.nodes node found))))) h
+  follows_sized wait task (LoadsKids node) h = kids wait task node (node_after node nodes) refl h
+  follows_sized wait task (Releases answer) h = let s : Taking = taking wait task (Releases answer) in going s refl h.room.1 (comes_at s) tt h
+
+  -- it is of as many nodes as there is room for
+  follows_step : (s : Taking) → BuffersMatch nodes r begins (Some (Trees (Snapshots s))) (x ∷ xs) →
+      Matches s (after_noting s (event_at s) r) (comes_at s)
+  follows_step s h =
+      subst (λ n. BuffersMatch nodes r begins (Some (Trees (Snapshots (record s { nodes = n })))) (x ∷ xs) →
+      Matches (record s { nodes = n }) (after_noting (record s { nodes = n }) (event_at (record s { nodes = n })) r) (comes_at (record s { nodes = n })))
+      (sym h.next.0) (follows_sized s.wait s.task s.step) h
 
 -- so it follows what was noted of an event
-follows_at : (r left : SnapshotBuffers) (s : Taking) (event : Event) → (loads_last s.nodes s.step ≡ false → ContinuesTaking r left event) →
-    (loads_last s.nodes s.step ≡ true → EndsTaking r left event) → (nodes : ℕ) (begins : Option Op) (hook : HookAnswer) (found : ℕ)
-    (items : DealtNumbers) → 1 ≤ length items →
-    event ≡ event_of (next_of (Trees (Snapshots s)) hook).0 (next_of (Trees (Snapshots s)) hook).1 found →
+follows_at : (r : BufferWords) (s : Taking) (event : Event) (nodes : ℕ) (begins : Option Op) (hook : HookAnswer) (found : ℕ) (items : DealtNumbers) →
+    1 ≤ length items → event ≡ event_of (next_of (Trees (Snapshots s)) hook).0 (next_of (Trees (Snapshots s)) hook).1 found →
     BuffersMatch nodes r begins (Some (Trees (Snapshots s))) items →
-    BuffersMatch nodes left None (phase_after (after_of (Trees (Snapshots s)) event.found hook).0)
+    BuffersMatch nodes (after_noting s event r) None (phase_after (after_of (Trees (Snapshots s)) event.found hook).0)
     (items_after begins (Trees (Snapshots s)) hook found items)
-follows_at r left s event goes_on ends nodes begins hook found [] there is h = absurd (omega arith)
-follows_at r left s event goes_on ends nodes begins hook found (x ∷ xs) there is h =
-    subst (λ (e : Event). BuffersMatch nodes left None (phase_after (after_of (Trees (Snapshots s)) e.found hook).0)
-    (items_after begins (Trees (Snapshots s)) hook found (x ∷ xs))) (sym is)
-    (follows_step r left nodes begins hook found x xs s.wait s.task s.nodes s.step
-    (λ f. subst (ContinuesTaking r left) is (goes_on f)) (λ t. subst (EndsTaking r left) is (ends t)) h)
+follows_at r s event nodes begins hook found [] there is h = absurd (omega arith)
+follows_at r s event nodes begins hook found (x ∷ xs) there is h =
+    subst (λ (e : Event). BuffersMatch nodes (after_noting s e r) None (phase_after (after_of (Trees (Snapshots s)) e.found hook).0)
+    (items_after begins (Trees (Snapshots s)) hook found (x ∷ xs))) (sym is) (follows_step r nodes begins hook found x xs s h)
 
-pub follows_taking : (r left : SnapshotBuffers) (phase : Phase) (s : Taking) → phase ≡ Trees (Snapshots s) → (event : Event) →
-    (loads_last s.nodes s.step ≡ false → ContinuesTaking r left event) → (loads_last s.nodes s.step ≡ true → EndsTaking r left event) → (nodes : ℕ)
-    (begins : Option Op) (hook : HookAnswer) (found : ℕ) (items : DealtNumbers) → 1 ≤ length items →
+pub follows_taking : (r : BufferWords) (phase : Phase) (s : Taking) → phase ≡ Trees (Snapshots s) → (event : Event) (nodes : ℕ) (begins : Option Op)
+    (hook : HookAnswer) (found : ℕ) (items : DealtNumbers) → 1 ≤ length items →
     event ≡ event_of (next_of phase hook).0 (next_of phase hook).1 found → BuffersMatch nodes r begins (Some phase) items →
-    BuffersMatch nodes left None (phase_after (after_of phase event.found hook).0) (items_after begins phase hook found items)
-follows_taking r left phase s at event goes_on ends nodes begins hook found items there =
+    BuffersMatch nodes (after_noting s event r) None (phase_after (after_of phase event.found hook).0) (items_after begins phase hook found items)
+follows_taking r phase s at event nodes begins hook found items there =
     subst (λ (p : Phase). event ≡ event_of (next_of p hook).0 (next_of p hook).1 found → BuffersMatch nodes r begins (Some p) items →
-    BuffersMatch nodes left None (phase_after (after_of p event.found hook).0) (items_after begins p hook found items)) (sym at)
-    (follows_at r left s event goes_on ends nodes begins hook found items there)
+    BuffersMatch nodes (after_noting s event r) None (phase_after (after_of p event.found hook).0) (items_after begins p hook found items)) (sym at)
+    (follows_at r s event nodes begins hook found items there)

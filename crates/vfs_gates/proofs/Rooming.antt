@@ -16,6 +16,9 @@ use Rattle.gated_tree.specs.declared.trees.TreeWords.{TreeWords}
 use Rattle.percpu_rwsem.specs.Readers.{up_read_after}
 use Rattle.gate_world.specs.declared.config.Config.{Config}
 use Rattle.gate_world.specs.declared.operations.Op.{Op}
+use Rattle.gate_world.specs.declared.operations.Op.TheVariants.{Want, DropMount, ChangeMount, RemountSb, Start, End, WantWrite, DropWrite, Callback, Freeze as FreezeOp, Thaw as ThawOp}
+use Rattle.gate_world.specs.declared.operations.Op.TheVariants.{Create as CreateOp, Remove as RemoveOp, Grow as GrowOp, MoveTo as MoveToOp, Fault as FaultOp}
+use Rattle.gate_world.specs.declared.operations.Op.TheVariants.{Flush as FlushOp, Open as OpenOp, Close as CloseOp, Snapshot as SnapshotOp}
 use Rattle.gate_world.specs.declared.work.Phase.{Phase}
 use Rattle.gate_world.specs.declared.work.Phase.TheVariants.{Mounts, Remounts, DownReads, UpReads, Callbacks, Writes, Freezes, Thaws, Trees, Closes}
 use Rattle.gate_world.specs.declared.views.Traced.{Traced}
@@ -35,8 +38,7 @@ use Rattle.access_model.specs.declared.replies.Reply.{Reply}
 use Rattle.gate_world.specs.declared.views.View.{View}
 use Rattle.gate_world.specs.declared.views.Snapshot.{Snapshot as Noted}
 use Rattle.gate_world.specs.traces.TraceStates.{trace_state_after, state_of_trace}
-use Rattle.vfs_gates.specs.declared.buffers.SnapshotBuffers.{SnapshotBuffers}
-use Rattle.vfs_gates.specs.Buffers.{HasSnapshotRoom, LastTells, NextTells, BuffersMatch, is_of_snapshot, last_in, trace_so_far}
+use Rattle.vfs_gates.specs.Buffers.{BufferWords, HasSnapshotRoom, LastTells, NextTells, BuffersMatch, is_of_snapshot, last_in, trace_so_far}
 use Rattle.vfs_gates.specs.TaskStates.{SeatedTask, own_number, own_view, task_state}
 use Rattle.gate_steps.specs.call_events.Runs.{Called, OpUnderWay, completed_by, items_at, ran_items, ran_snapshot}
 use Rattle.gate_steps.specs.call_events.Stepped.{Stepped}
@@ -84,29 +86,29 @@ goes_on_other (Trees (TreeClears x)) found hook h = other_call TreeClears (λ p.
 goes_on_other (Closes x) found hook h = other_next Closes (λ p. refl) _
 
 -- its room has nothing to tell of what it has loaded
-pub other_tells : (r : SnapshotBuffers) (trace : List Traced) (phase : Phase) → is_of_snapshot phase ≡ false → NextTells r trace (Some phase)
-other_tells r trace (Mounts x) h = tt
-other_tells r trace (Remounts x) h = tt
-other_tells r trace (DownReads x) h = tt
-other_tells r trace (UpReads x) h = tt
-other_tells r trace (Callbacks x) h = tt
-other_tells r trace (Writes x) h = tt
-other_tells r trace (Freezes x) h = tt
-other_tells r trace (Thaws x) h = tt
-other_tells r trace (Trees (Creates x)) h = tt
-other_tells r trace (Trees (Removes x)) h = tt
-other_tells r trace (Trees (Grows x)) h = tt
-other_tells r trace (Trees (Moves x)) h = tt
-other_tells r trace (Trees (TreeMarks x)) h = tt
-other_tells r trace (Trees (OpensOne x)) h = tt
-other_tells r trace (Trees (Snapshots x)) h = absurd (true≢false h)
-other_tells r trace (Trees (TreeClears x)) h = tt
-other_tells r trace (Closes x) h = tt
+pub other_tells : (nodes : ℕ) (r : BufferWords) (trace : List Traced) (phase : Phase) → is_of_snapshot phase ≡ false → NextTells nodes r trace (Some phase)
+other_tells nodes r trace (Mounts x) h = tt
+other_tells nodes r trace (Remounts x) h = tt
+other_tells nodes r trace (DownReads x) h = tt
+other_tells nodes r trace (UpReads x) h = tt
+other_tells nodes r trace (Callbacks x) h = tt
+other_tells nodes r trace (Writes x) h = tt
+other_tells nodes r trace (Freezes x) h = tt
+other_tells nodes r trace (Thaws x) h = tt
+other_tells nodes r trace (Trees (Creates x)) h = tt
+other_tells nodes r trace (Trees (Removes x)) h = tt
+other_tells nodes r trace (Trees (Grows x)) h = tt
+other_tells nodes r trace (Trees (Moves x)) h = tt
+other_tells nodes r trace (Trees (TreeMarks x)) h = tt
+other_tells nodes r trace (Trees (OpensOne x)) h = tt
+other_tells nodes r trace (Trees (Snapshots x)) h = absurd (true≢false h)
+other_tells nodes r trace (Trees (TreeClears x)) h = tt
+other_tells nodes r trace (Closes x) h = tt
 
-pub next_tells : (r : SnapshotBuffers) (trace : List Traced) (n : Next Phase) → NextIsOther n → NextTells r trace (phase_after n)
-next_tells r trace (Go phase) h = other_tells r trace phase h
-next_tells r trace (Wait phase) h = other_tells r trace phase h
-next_tells r trace (Done answer) h = tt
+pub next_tells : (nodes : ℕ) (r : BufferWords) (trace : List Traced) (n : Next Phase) → NextIsOther n → NextTells nodes r trace (phase_after n)
+next_tells nodes r trace (Go phase) h = other_tells nodes r trace phase h
+next_tells nodes r trace (Wait phase) h = other_tells nodes r trace phase h
+next_tells nodes r trace (Done answer) h = tt
 
 -- nor does it complete one
 pub other_completes : (phase : Phase) (trace : List Traced) (found : ℕ) → is_of_snapshot phase ≡ false → completes phase trace found ≡ None
@@ -164,20 +166,20 @@ items_at_other c op items other [] = refl
 items_at_other c op items other (e ∷ earlier) = items_other c op items other (e ∷ earlier)
 
 -- so the room tells of a task whose operation goes on
-goes_room : (nodes : ℕ) (r : SnapshotBuffers) (op : Op) (start now : SeatedTask) (begins left : Option Op) (phase : Option Phase) →
+goes_room : (nodes : ℕ) (r : BufferWords) (op : Op) (start now : SeatedTask) (begins left : Option Op) (phase : Option Phase) →
     is_of_snapshot (first_phase start.config (own_number start.items) op) ≡ false → OpUnderWay op start now →
     BuffersMatch nodes r begins phase start.items → BuffersMatch nodes r left now.phase now.items
 goes_room nodes r op start now begins left phase other goes h = record {
   room = h.room;
   last = subst (LastTells r)
       (sym (ap (λ (l : DealtNumbers). (own_view l).snapshot) goes.items ∙ items_at_other start.config op start.items other goes.trace)) h.last;
-  next = subst (NextTells r (trace_so_far left (own_view now.items))) (sym goes.phase)
-      (next_tells r (trace_so_far left (own_view now.items)) (state_of_trace start.config (own_number start.items) op goes.trace).comes
+  next = subst (NextTells nodes r (trace_so_far left (own_view now.items))) (sym goes.phase)
+      (next_tells nodes r (trace_so_far left (own_view now.items)) (state_of_trace start.config (own_number start.items) op goes.trace).comes
       (stays_other start.config (own_number start.items) op other goes.trace));
 }
 
 -- and of one whose operation was done
-called_room : (nodes : ℕ) (r : SnapshotBuffers) (op : Op) (start now : SeatedTask) (answer : Result Reply GateError) (begins left : Option Op)
+called_room : (nodes : ℕ) (r : BufferWords) (op : Op) (start now : SeatedTask) (answer : Result Reply GateError) (begins left : Option Op)
     (phase stands : Option Phase) → is_of_snapshot (first_phase start.config (own_number start.items) op) ≡ false →
     Called op start now answer → stands ≡ None → BuffersMatch nodes r begins phase start.items → BuffersMatch nodes r left stands now.items
 called_room nodes r op start now answer begins left phase stands other called none h = record {
@@ -185,18 +187,43 @@ called_room nodes r op start now answer begins left phase stands other called no
   last = subst (LastTells r)
       (sym (ap (λ (s : SeatedTask). (own_view s.items).snapshot) called.after ∙
       items_other start.config op start.items other called.trace)) h.last;
-  next = subst (NextTells r (trace_so_far left (own_view now.items))) (sym none) tt;
+  next = subst (NextTells nodes r (trace_so_far left (own_view now.items))) (sym none) tt;
 }
 
--- as a task begins an operation, its room tells of the operation's first phase
-pub begun_in : (call : Call) (r : SnapshotBuffers) →
-    BuffersMatch call.task.config.nodes r (Some call.op) (Some (first_phase call.task.config call.task.number call.op)) call.task.seat.me.0.items →
+-- an operation that begins has loaded nothing yet
+begun_tells : (config : Config) (t : ℕ) (r : BufferWords) (trace : List Traced) (op : Op) →
+    NextTells config.nodes r trace (Some (first_phase config t op))
+begun_tells config t r trace (Want x y z) = tt
+begun_tells config t r trace (DropMount x y) = tt
+begun_tells config t r trace (ChangeMount x y z) = tt
+begun_tells config t r trace (RemountSb x) = tt
+begun_tells config t r trace (Start x y z) = tt
+begun_tells config t r trace (End x y) = tt
+begun_tells config t r trace (WantWrite x y) = tt
+begun_tells config t r trace (DropWrite x y) = tt
+begun_tells config t r trace (Callback x) = tt
+begun_tells config t r trace (FreezeOp x) = tt
+begun_tells config t r trace (ThawOp x) = tt
+begun_tells config t r trace (CreateOp x y) = tt
+begun_tells config t r trace (RemoveOp x) = tt
+begun_tells config t r trace (GrowOp x y) = tt
+begun_tells config t r trace (MoveToOp x y) = tt
+begun_tells config t r trace (FaultOp x) = tt
+begun_tells config t r trace (FlushOp x) = tt
+begun_tells config t r trace (OpenOp x) = tt
+begun_tells config t r trace (CloseOp x y z) = tt
+begun_tells config t r trace (SnapshotOp wait) = (refl, tt)
+
+-- so as a task begins an operation, its room tells of the operation's first phase
+pub begun_in : (call : Call) (r : BufferWords) (begins : Option Op) (phase : Option Phase) →
+    BuffersMatch call.task.config.nodes r begins phase call.task.seat.me.0.items →
     BuffersMatch call.task.config.nodes r (Some call.op) (Some call.first) call.task.seat.me.0.items
-begun_in call r h =
-    subst (λ (p : Phase). BuffersMatch call.task.config.nodes r (Some call.op) (Some p) call.task.seat.me.0.items) (sym call.first_is) h
+begun_in call r begins phase h =
+    subst (λ (p : Phase). BuffersMatch call.task.config.nodes r (Some call.op) (Some p) call.task.seat.me.0.items) (sym call.first_is)
+    (record { room = h.room; last = h.last; next = begun_tells call.task.config call.task.number r [] call.op })
 
 -- of a call that does its events in a line
-module _ (call : Call) (r : SnapshotBuffers) (other : is_of_snapshot call.first ≡ false)
+module _ (call : Call) (r : BufferWords) (other : is_of_snapshot call.first ≡ false)
     (h : BuffersMatch call.task.config.nodes r call.task.begins call.task.state.phase call.task.seat.me.0.items) where
   other_start : is_of_snapshot (first_phase call.start.config (own_number call.start.items) call.op) ≡ false
   other_start =
@@ -221,13 +248,13 @@ module _ (call : Call) (r : SnapshotBuffers) (other : is_of_snapshot call.first 
       call.task.state.phase other_start (ended_at call left answer is) (idle call) start_room
 
 -- what the room tells follows an event that found this
-abbrev pub FollowsBy : SnapshotBuffers → SnapshotBuffers → Event → Phase → ℕ → Option Op → HookAnswer → ℕ → DealtNumbers → Type 0
+abbrev pub FollowsBy : BufferWords → BufferWords → Event → Phase → ℕ → Option Op → HookAnswer → ℕ → DealtNumbers → Type 0
 FollowsBy r left event phase nodes begins hook found items =
     1 ≤ length items → event ≡ event_of (next_of phase hook).0 (next_of phase hook).1 found → BuffersMatch nodes r begins (Some phase) items →
     BuffersMatch nodes left None (phase_after (after_of phase event.found hook).0) (items_after begins phase hook found items)
 
 -- an event of a task, which follows the room
-pub stepped_room : {seen gone : List (List Entry)} (nodes : ℕ) (r left : SnapshotBuffers) (begins : Option Op) (phase : Phase) (hook : HookAnswer) (table table_left : TableId)
+pub stepped_room : {seen gone : List (List Entry)} (nodes : ℕ) (r left : BufferWords) (begins : Option Op) (phase : Phase) (hook : HookAnswer) (table table_left : TableId)
     (c : Config) (items items_left : DealtNumbers) (event : Event) (action : Option Action) (next : Next Phase) (number : ℕ) (state : TaskState)
     (flags : List Bool) → GhostAgrees number c begins state flags items →
     Stepped phase hook (task_state table c begins (Some phase) (knows items seen)) (step_was event action next)
@@ -282,33 +309,33 @@ leaves_last (Some op) phase hook found x xs other =
     (other_completes phase [] (found_by (next_of phase hook).1 found) other)
 
 -- so the room stays as it is
-pub follows_other : (r : SnapshotBuffers) (phase : Phase) (found_there : ℕ) → is_of_snapshot phase ≡ false → (nodes : ℕ) (begins : Option Op)
+pub follows_other : (r : BufferWords) (phase : Phase) (found_there : ℕ) → is_of_snapshot phase ≡ false → (nodes : ℕ) (begins : Option Op)
     (hook : HookAnswer) (found : ℕ) (items : DealtNumbers) → 1 ≤ length items → BuffersMatch nodes r begins (Some phase) items →
     BuffersMatch nodes r None (phase_after (after_of phase found_there hook).0) (items_after begins phase hook found items)
 follows_other r phase found_there other nodes begins hook found [] there h = absurd (omega arith)
 follows_other r phase found_there other nodes begins hook found (x ∷ xs) there h = record {
   room = h.room;
   last = subst (LastTells r) (sym (leaves_last begins phase hook found x xs other)) h.last;
-  next = next_tells r (trace_so_far None (own_view (items_after begins phase hook found (x ∷ xs)))) (after_of phase found_there hook).0
+  next = next_tells nodes r (trace_so_far None (own_view (items_after begins phase hook found (x ∷ xs)))) (after_of phase found_there hook).0
       (goes_on_other phase found_there hook other);
 }
 
 -- a room that has nothing yet, of a task that has none
-pub room_new : (nodes : ℕ) (r : SnapshotBuffers) (begins : Option Op) (phase : Option Phase) (items : DealtNumbers) → HasSnapshotRoom nodes r →
+pub room_new : (nodes : ℕ) (r : BufferWords) (begins : Option Op) (phase : Option Phase) (items : DealtNumbers) → HasSnapshotRoom nodes r →
     r.taken ≡ false → (own_view items).snapshot ≡ None → phase ≡ None → BuffersMatch nodes r begins phase items
 room_new nodes r begins phase items room taken none idle = record {
   room = room;
   last = subst (LastTells r) (sym none) taken;
-  next = subst (NextTells r (trace_so_far begins (own_view items))) (sym idle) tt;
+  next = subst (NextTells nodes r (trace_so_far begins (own_view items))) (sym idle) tt;
 }
 
 -- a task whose own view is the same
-pub room_same : (nodes : ℕ) (r : SnapshotBuffers) (begins : Option Op) (phase : Option Phase) (items items_left : DealtNumbers) →
+pub room_same : (nodes : ℕ) (r : BufferWords) (begins : Option Op) (phase : Option Phase) (items items_left : DealtNumbers) →
     own_view items_left ≡ own_view items → BuffersMatch nodes r begins phase items → BuffersMatch nodes r begins phase items_left
 room_same nodes r begins phase items items_left same h = record {
   room = h.room;
   last = subst (λ (v : View). LastTells r v.snapshot) (sym same) h.last;
-  next = subst (λ (v : View). NextTells r (trace_so_far begins v) phase) (sym same) h.next;
+  next = subst (λ (v : View). NextTells nodes r (trace_so_far begins v) phase) (sym same) h.next;
 }
 
 -- so it is where a number was given, or others were taken back
@@ -334,6 +361,6 @@ pub first_unseen : (c : Config) → (own_view (first_items c)).snapshot ≡ None
 first_unseen c = dealt_unseen 0 c.tasks
 
 -- what the room shows is the view's last snapshot
-pub shows_last : (r : SnapshotBuffers) (o : Option Noted) → LastTells r o → last_in r ≡ option_map (λ (s : Noted). s.loaded) o
+pub shows_last : (r : BufferWords) (o : Option Noted) → LastTells r o → last_in r ≡ option_map (λ (s : Noted). s.loaded) o
 shows_last r None h = rw h refl
 shows_last r (Some s) h = rw h.0 (ap (λ (w : TreeWords). Some w) h.1)

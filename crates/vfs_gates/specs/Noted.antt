@@ -1,13 +1,15 @@
 -- Lines of steps of a snapshot, whose loads its task notes in its buffers, and where they have led.
-use Rattle.std.specs.Prelude.{ℕ, Option, Some, None}
+use Rattle.std.specs.Prelude.{ℕ, List, Option, Some, None, Ok}
 use Rattle.atomic_table.specs.Seated.{TableId}
 use Rattle.access_model.specs.Replies.{map_next}
 use Rattle.access_model.specs.declared.replies.Next.{Next}
+use Rattle.access_model.specs.declared.replies.Reply.TheVariants.{Tree as TreeReply}
 use Rattle.gated_tree.specs.declared.phases.TreePhase.{TreePhase}
 use Rattle.gated_tree.specs.declared.phases.TreePhase.TheVariants.{Snapshot as Snapshots}
 use Rattle.gated_tree.specs.declared.snapshots.Snapshot.{Snapshot}
 use Rattle.gated_tree.specs.declared.snapshots.SnapshotStep.{SnapshotStep}
-use Rattle.gated_tree.specs.declared.snapshots.SnapshotStep.TheVariants.{LoadsNode, LoadsKids}
+use Rattle.gated_tree.specs.declared.snapshots.SnapshotStep.TheVariants.{LoadsNode, LoadsKids, Releases}
+use Rattle.gated_tree.specs.declared.trees.TreeWords.{TreeWords}
 use Rattle.gate_world.specs.declared.accesses.Accesses.{Accesses}
 use Rattle.gate_world.specs.declared.config.Config.{Config}
 use Rattle.gate_world.specs.declared.operations.Op.{Op}
@@ -16,8 +18,7 @@ use Rattle.gate_world.specs.declared.work.Phase.TheVariants.{Trees}
 use Rattle.gate_world.specs.Views.{phase_after}
 use Rattle.gate_steps.specs.declared.seating.Knowledge.{Knowledge}
 use Rattle.gate_steps.specs.call_events.KnownSteps.{KnownSteps}
-use Rattle.vfs_gates.specs.declared.buffers.SnapshotBuffers.{SnapshotBuffers}
-use Rattle.vfs_gates.specs.Buffers.{BuffersMatch}
+use Rattle.vfs_gates.specs.Buffers.{BufferWords, BuffersMatch, completed, with_words}
 
 -- what comes next of a call at the tree, as phases
 abbrev pub of_tree : Next TreePhase → Next Phase
@@ -32,9 +33,27 @@ abbrev pub nodes_loaded : Snapshot → Option ℕ → Phase
 nodes_loaded s (Some node) = taking_at s (LoadsNode node)
 nodes_loaded s None = taking_at s (LoadsKids 0)
 
--- Steps have led a snapshot from where it stood to where it stands, and its task has noted in its buffers what they have loaded: what these told
--- of the task's numbers before, it tells of them after.
-pub record Noted (c : Config) (begins : Option Op) (accesses : Accesses) (next : Next Phase) (table : TableId) (me : Knowledge) (buffers : SnapshotBuffers)
-    (further : Next Phase) (table_left : TableId) (left : Knowledge) (buffers_left : SnapshotBuffers) : Type 0 where
+-- one that has loaded all words, or its nodes up to this one
+abbrev pub words_loaded : Snapshot → Option ℕ → Phase
+words_loaded s (Some node) = taking_at s (LoadsNode node)
+words_loaded s None = taking_at s (Releases (Ok TreeReply))
+
+-- the buffers with these words of the nodes, of their children, or of the whole tree
+abbrev pub with_nodes : List ℕ → BufferWords → BufferWords
+with_nodes nodes r = record r { next = record r.next { nodes = nodes } }
+
+abbrev pub with_kids : List ℕ → BufferWords → BufferWords
+with_kids kids r = record r { next = record r.next { kids = kids } }
+
+-- with the words of the whole tree, which are those of a complete snapshot unless a node's word was none
+abbrev pub with_loaded : Option ℕ → TreeWords → BufferWords → BufferWords
+with_loaded (Some node) words r = with_words words r
+with_loaded None words r = completed (with_words words r)
+
+-- Steps have led a snapshot from where it stood to where it stands, and what they have loaded was noted: what a task's buffers told of its
+-- numbers before, if they were like this, they tell of them after, as this makes them.
+pub record Noted (c : Config) (begins : Option Op) (accesses : Accesses) (next : Next Phase) (table : TableId) (me : Knowledge) (Were : BufferWords → Type 0)
+    (further : Next Phase) (table_left : TableId) (left : Knowledge) (made : BufferWords → BufferWords) : Type 0 where
   pub led : KnownSteps c begins accesses next table me further table_left left
-  pub tells : BuffersMatch c.nodes buffers begins (phase_after next) me.items → BuffersMatch c.nodes buffers_left None (phase_after further) left.items
+  pub tells : (r : BufferWords) → Were r → BuffersMatch c.nodes r begins (phase_after next) me.items →
+      BuffersMatch c.nodes (made r) None (phase_after further) left.items

@@ -88,7 +88,6 @@ impl Task {
             return Err(refusal);
         }
         let first = self.first_snapshot(wait);
-        self.buffers.begin(op);
         let (seat, accesses) = (&mut self.seat, &self.state.accesses);
         let next = snapshot_first(&gates.words, seat, accesses, &mut self.buffers, op, first);
         self.waited = waits(&next);

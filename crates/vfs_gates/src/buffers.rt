@@ -1,97 +1,68 @@
 //! Room for snapshots.
 
-ghost use Rattle.std.specs.Prelude.{◌≡◌, ◌≤◌, ℕ, IfOk, Option, option_map, Some, None, false, true, length};
-ghost use Rattle.gated_tree.specs.Trees.{loads_last, unloaded, words_of};
+ghost use Rattle.std.specs.Prelude.{◌≡◌, ◌≤◌, ℕ, IfOk, Option, option_map, Some, None, false, length};
+ghost use Rattle.gated_tree.specs.Trees.{words_of};
 ghost use Rattle.cpu_words.specs.Hooks.{HookAnswer};
 ghost use Rattle.cpu_words.specs.Touches.{event_of};
-ghost use Rattle.gate_world.specs.declared.config.Config.{Config as ConfigType};
 ghost use Rattle.gate_world.specs.declared.operations.Op.{Op as OpType};
-ghost use Rattle.gate_world.specs.declared.work.Phase.{Phase as PhaseType};
-ghost use Rattle.gate_world.specs.Beginnings.{first_phase};
 ghost use Rattle.gate_world.specs.Views.{phase_after};
 ghost use Rattle.gate_world.specs.Work.{after_of, next_of};
 ghost use Rattle.gate_steps.specs.Seating.{DealtNumbers, items_after};
-ghost use Rattle.vfs_gates.specs.Buffers.{HasSnapshotRoom, BuffersMatch, last_in, noted_in};
+ghost use Rattle.vfs_gates.specs.Buffers.{HasSnapshotRoom, BuffersMatch, after_noting, completed, last_in, words_in};
 
 use cpu_words::{Event, Touch};
-use gate_steps::call_events::following;
-use gate_world::{Op, Phase};
-use gated_tree::{Snapshot, SnapshotStep, Tree, TreePhase};
+use gate_world::Phase;
+use gated_tree::{Snapshot, Tree, TreePhase};
 use std::alloc::{AllocError, Global};
 use std::mem::swap;
 
-/// Room for a task's two snapshots, the last one and the one that is being taken, and whether there is a last one.
+/// Room for a task's two snapshots, the last one and the one that is being taken, and whether there is a last one. Each is behind a pointer,
+/// so that one exchange of pointers makes a complete snapshot the last one.
 #[derive(Drop)]
 pub struct SnapshotBuffers {
     taken: bool,
-    last: Tree,
-    next: Tree,
-}
-
-/// The same as `Snapshot::loads_last`, in line, since each load of a snapshot asks it: whether the next event is the load of its last word.
-#[inline(always)]
-fn is_last_load(snapshot: Snapshot) -> bool
-    ensures { result ≡ loads_last snapshot.nodes snapshot.step }
-{
-    match snapshot.step {
-        SnapshotStep::LoadsKids(node) => following(node, snapshot.nodes).is_none(),
-        _ => false,
-    }
+    last: Box<Tree>,
+    /// Until a snapshot has loaded a word, the word may be one of an earlier snapshot.
+    pub(crate) next: Box<Tree>,
 }
 
 impl SnapshotBuffers {
     /// Room for two snapshots of so many nodes. Where a growth of memory is refused, there is none.
     pub fn new(alloc: Global, nodes: u8) -> Result<SnapshotBuffers, AllocError>
-        ensures { IfOk result (λ buffers. HasSnapshotRoom nodes buffers × (buffers.taken ≡ false)) }
+        ensures { IfOk result (λ buffers. HasSnapshotRoom nodes (words_in buffers) × (buffers.taken ≡ false)) }
     {
         Ok(SnapshotBuffers {
             taken: false,
-            last: Tree::new(alloc, nodes)?,
-            next: Tree::new(alloc, nodes)?,
+            last: Box::new(alloc, Tree::new(alloc, nodes)?)?,
+            next: Box::new(alloc, Tree::new(alloc, nodes)?)?,
         })
     }
 
     /// The last snapshot.
     pub fn last(&self) -> Option<&Tree>
-        ensures { option_map (λ tree. words_of tree.now) result ≡ last_in self.now }
+        ensures { option_map (λ tree. words_of tree.now) result ≡ last_in (words_in self.now) }
     {
         if self.taken { Some(&self.last) } else { None }
     }
 
-    /// Makes room for the words of a snapshot that begins.
-    fn clear(&mut self)
-        ensures next { words_of self.new.next ≡ unloaded (length (words_of self.old.next).nodes) }
-        ensures last { words_of self.new.last ≡ words_of self.old.last }
-        ensures taken { self.new.taken ≡ self.old.taken }
+    /// The snapshot that is being taken is complete, and becomes the last one.
+    #[inline(always)]
+    pub(crate) fn complete(&mut self)
+        ensures { words_in self.new ≡ completed (words_in self.old) }
     {
-        self.next.clear();
+        swap(&mut self.last, &mut self.next);
+        self.taken = true;
     }
 
     /// Notes an event of a snapshot. With the load of its last word it is the last snapshot.
-    #[inline(always)]
-    pub(crate) fn note(&mut self, snapshot: Snapshot, event: Event)
-        ensures goes_on { loads_last snapshot.nodes snapshot.step ≡ false → (self.new.taken ≡ self.old.taken)
-            × (words_of self.new.last ≡ words_of self.old.last) × (words_of self.new.next ≡ noted_in (words_of self.old.next) event) }
-        ensures ends { loads_last snapshot.nodes snapshot.step ≡ true → (self.new.taken ≡ true)
-            × (words_of self.new.last ≡ noted_in (words_of self.old.next) event) × (words_of self.new.next ≡ words_of self.old.last) }
+    fn note(&mut self, snapshot: Snapshot, event: Event)
+        ensures { words_in self.new ≡ after_noting snapshot event (words_in self.old) }
     {
         if let Touch::Load = event.touch {
             self.next.load(event.word, event.found);
         }
-        if is_last_load(snapshot) {
-            swap(&mut self.last, &mut self.next);
-            self.taken = true;
-        }
-    }
-
-    /// An operation begins. A snapshot needs room for its words.
-    pub fn begin(&mut self, op: Op)
-        ensures { (config : ConfigType) (begins : Option OpType) (phase : Option PhaseType) (items : DealtNumbers) (task : ℕ) →
-            BuffersMatch config.nodes self.old begins phase items →
-            BuffersMatch config.nodes self.new (Some op) (Some (first_phase config task op)) items }
-    {
-        if let Op::Snapshot { .. } = op {
-            self.clear();
+        if snapshot.loads_last() {
+            self.complete();
         }
     }
 
@@ -99,8 +70,8 @@ impl SnapshotBuffers {
     pub fn follow(&mut self, phase: Phase, event: Event)
         ensures { (nodes : ℕ) (begins : Option OpType) (hook : HookAnswer) (found : ℕ) (items : DealtNumbers) → 1 ≤ length items →
             event ≡ event_of (next_of phase hook).0 (next_of phase hook).1 found →
-            BuffersMatch nodes self.old begins (Some phase) items →
-            BuffersMatch nodes self.new None (phase_after (after_of phase event.found hook).0) (items_after begins phase hook found items) }
+            BuffersMatch nodes (words_in self.old) begins (Some phase) items →
+            BuffersMatch nodes (words_in self.new) None (phase_after (after_of phase event.found hook).0) (items_after begins phase hook found items) }
     {
         let Phase::Trees(call) = phase else {
             return;

@@ -1,24 +1,23 @@
 //! The steps of a snapshot, in a line: it loads all words of the tree, and notes each in its task's buffers.
 
-ghost use Rattle.std.specs.Prelude.{◌≡◌, Some, None, Ok, is_some};
+ghost use Rattle.std.specs.Prelude.{◌≡◌, ◌≤◌, Some, None, Ok, is_some, length};
 ghost use Rattle.access_model.specs.declared.replies.Next.TheVariants.{Go};
 ghost use Rattle.access_model.specs.declared.replies.Reply.TheVariants.{Tree as TreeReply};
-ghost use Rattle.cpu_words.specs.declared.events.Touch.TheVariants.{Load};
 ghost use Rattle.gate_world.specs.Work.{after_of};
-ghost use Rattle.gate_world.specs.declared.work.Phase.TheVariants.{Trees};
-ghost use Rattle.gated_tree.specs.Phases.{snapshot_next};
-ghost use Rattle.gated_tree.specs.declared.phases.TreePhase.TheVariants.{Snapshot as Snapshots};
+ghost use Rattle.gated_tree.specs.Trees.{words_of};
 ghost use Rattle.gated_tree.specs.declared.snapshots.SnapshotStep.TheVariants.{LoadsKids, LoadsNode, LoadsUsed, Locks, Releases};
 ghost use Rattle.node_words.specs.Nodes.{unpacked};
 ghost use Rattle.gate_steps.specs.call_events.Turns.{StateAgrees};
-ghost use Rattle.vfs_gates.specs.Noted.{Noted, nodes_loaded, of_tree, taking_at};
+ghost use Rattle.vfs_gates.specs.Buffers.{IsSized, completed, words_in};
+ghost use Rattle.vfs_gates.specs.Noted.{Noted, nodes_loaded, of_tree, taking_at, with_kids, with_loaded, with_nodes, words_loaded};
 
 use crate::buffers::SnapshotBuffers;
 use access_model::{Next, Reply};
 use cpu_words::{Touch, WordName};
-use gate_steps::call_events::{GateWords, GhostSeat, find, find_first, following};
+use gate_steps::call_events::{GateWords, GhostSeat, find, find_first};
 use gate_world::{Accesses, Op};
-use gated_tree::{NodeWord, Snapshot, SnapshotStep, TreePhase};
+use gated_tree::{NodeWord, Snapshot, SnapshotStep, Tree, TreePhase};
+use node_words::following;
 
 /// The stage at which all is frozen (`SB_FREEZE_COMPLETE`).
 const FROZEN: u64 = 4;
@@ -43,56 +42,29 @@ fn is_node(word: u64) -> bool
     word == 0 || NodeWord::unpack(word).is_some()
 }
 
-/// Does the next step of a snapshot, which is known to load this word, and notes what it has found, which it returns.
+/// Loads one node after the other, and notes the word of each. Where the word of one is no node's, which.
 #[inline(always)]
-fn find_noting(
-    gates: &GateWords,
-    seat: &mut GhostSeat,
-    accesses: &Accesses,
-    buffers: &mut SnapshotBuffers,
-    snapshot: Snapshot,
-    word: WordName,
-) -> u64
-    requires known { (word, Load) ≡ snapshot_next snapshot snapshot.step }
-    requires table { seat.old.table_id ≡ gates.now.table.shared.table_id }
-    requires agrees { StateAgrees gates.now.config None (Some (Trees (Snapshots snapshot))) accesses.now seat.old.me.0.items }
-    ensures slots { seat.new.me.1 ≡ seat.old.me.1 }
-    ensures noted { Noted gates.now.config None accesses.now (Go (Trees (Snapshots snapshot))) seat.old.table_id seat.old.me.0 buffers.old
-        (after_of (Trees (Snapshots snapshot)) result (Ok tt)).0 seat.new.table_id seat.new.me.0 buffers.new }
-{
-    let touch = Touch::Load;
-    let found = find(
-        gates,
-        seat,
-        accesses,
-        TreePhase::Snapshot(snapshot),
-        word,
-        touch,
-    );
-    buffers.note(snapshot, touch.event(word, found));
-    found
-}
-
-/// Loads one node after the other. Where the word of one is no node's, which.
-#[inline(never)]
 fn load_nodes(
     gates: &GateWords,
     seat: &mut GhostSeat,
     accesses: &Accesses,
-    buffers: &mut SnapshotBuffers,
+    nodes: &mut [u64],
     snapshot: Snapshot,
 ) -> Option<u8>
+    requires many { (length nodes.old ≡ snapshot.nodes) × (1 ≤ snapshot.nodes) }
     requires table { seat.old.table_id ≡ gates.now.table.shared.table_id }
     requires agrees { StateAgrees gates.now.config None (Some (taking_at snapshot (LoadsNode 0))) accesses.now seat.old.me.0.items }
     ensures slots { seat.new.me.1 ≡ seat.old.me.1 }
-    ensures noted { Noted gates.now.config None accesses.now (Go (taking_at snapshot (LoadsNode 0))) seat.old.table_id seat.old.me.0 buffers.old
-        (Go (nodes_loaded snapshot result)) seat.new.table_id seat.new.me.0 buffers.new }
+    ensures noted { Noted gates.now.config None accesses.now (Go (taking_at snapshot (LoadsNode 0))) seat.old.table_id seat.old.me.0
+        (λ r. r.next.nodes ≡ nodes.old) (Go (nodes_loaded snapshot result)) seat.new.table_id seat.new.me.0 (with_nodes nodes.new) }
 {
     let mut node = 0;
     loop {
         let step = SnapshotStep::LoadsNode(node);
-        let here = Snapshot { step, ..snapshot };
-        let found = find_noting(gates, seat, accesses, buffers, here, WordName::Node(node));
+        let here = TreePhase::Snapshot(Snapshot { step, ..snapshot });
+        let word = WordName::Node(node);
+        let found = find(gates, seat, accesses, here, word, Touch::Load);
+        nodes[node as usize] = found;
         let is_there = is_node(found);
         if !is_there {
             return Some(node);
@@ -104,31 +76,63 @@ fn load_nodes(
     }
 }
 
-/// Loads the children that are charged to one node after the other.
-#[inline(never)]
+/// Loads the children that are charged to one node after the other, and notes them. Then the snapshot is complete.
+#[inline(always)]
 fn load_kids(
     gates: &GateWords,
     seat: &mut GhostSeat,
     accesses: &Accesses,
-    buffers: &mut SnapshotBuffers,
+    kids: &mut [u64],
     snapshot: Snapshot,
 )
+    requires many { (length kids.old ≡ snapshot.nodes) × (1 ≤ snapshot.nodes) }
     requires table { seat.old.table_id ≡ gates.now.table.shared.table_id }
     requires agrees { StateAgrees gates.now.config None (Some (taking_at snapshot (LoadsKids 0))) accesses.now seat.old.me.0.items }
     ensures slots { seat.new.me.1 ≡ seat.old.me.1 }
-    ensures noted { Noted gates.now.config None accesses.now (Go (taking_at snapshot (LoadsKids 0))) seat.old.table_id seat.old.me.0 buffers.old
-        (Go (taking_at snapshot (Releases (Ok TreeReply)))) seat.new.table_id seat.new.me.0 buffers.new }
+    ensures noted { Noted gates.now.config None accesses.now (Go (taking_at snapshot (LoadsKids 0))) seat.old.table_id seat.old.me.0
+        (λ r. r.next.kids ≡ kids.old) (Go (taking_at snapshot (Releases (Ok TreeReply)))) seat.new.table_id seat.new.me.0
+        (λ r. completed (with_kids kids.new r)) }
 {
     let mut node = 0;
     loop {
         let step = SnapshotStep::LoadsKids(node);
-        let here = Snapshot { step, ..snapshot };
-        let _found = find_noting(gates, seat, accesses, buffers, here, WordName::Kids(node));
+        let here = TreePhase::Snapshot(Snapshot { step, ..snapshot });
+        let word = WordName::Kids(node);
+        let found = find(gates, seat, accesses, here, word, Touch::Load);
+        kids[node as usize] = found;
         match following(node, snapshot.nodes) {
             Some(next) => node = next,
             None => return,
         }
     }
+}
+
+/// Loads the blocks that are charged, the nodes and their children, and notes them. Where the word of one node is no node's, which.
+#[inline(always)]
+fn load_words(
+    gates: &GateWords,
+    seat: &mut GhostSeat,
+    accesses: &Accesses,
+    tree: &mut Tree,
+    snapshot: Snapshot,
+) -> Option<u8>
+    requires many { IsSized snapshot.nodes (words_of tree.old) × (1 ≤ snapshot.nodes) }
+    requires table { seat.old.table_id ≡ gates.now.table.shared.table_id }
+    requires agrees { StateAgrees gates.now.config None (Some (taking_at snapshot LoadsUsed)) accesses.now seat.old.me.0.items }
+    ensures slots { seat.new.me.1 ≡ seat.old.me.1 }
+    ensures noted { Noted gates.now.config None accesses.now (Go (taking_at snapshot LoadsUsed)) seat.old.table_id seat.old.me.0
+        (λ r. r.next ≡ words_of tree.old) (Go (words_loaded snapshot result)) seat.new.table_id seat.new.me.0
+        (with_loaded result (words_of tree.new)) }
+{
+    let step = SnapshotStep::LoadsUsed;
+    let here = TreePhase::Snapshot(Snapshot { step, ..snapshot });
+    let used = find(gates, seat, accesses, here, WordName::Used, Touch::Load);
+    tree.load(WordName::Used, used);
+    if let Some(node) = load_nodes(gates, seat, accesses, tree.nodes_mut(), snapshot) {
+        return Some(node);
+    }
+    load_kids(gates, seat, accesses, tree.kids_mut(), snapshot);
+    None
 }
 
 /// Loads the tree of a file system that is frozen, and gives `umount` back. What comes after the last step.
@@ -140,20 +144,19 @@ fn load_tree(
     buffers: &mut SnapshotBuffers,
     snapshot: Snapshot,
 ) -> Next<TreePhase>
+    requires many { IsSized snapshot.nodes (words_in buffers.old).next × (1 ≤ snapshot.nodes) }
     requires table { seat.old.table_id ≡ gates.now.table.shared.table_id }
     requires agrees { StateAgrees gates.now.config None (Some (taking_at snapshot LoadsUsed)) accesses.now seat.old.me.0.items }
     ensures slots { seat.new.me.1 ≡ seat.old.me.1 }
-    ensures noted { Noted gates.now.config None accesses.now (Go (taking_at snapshot LoadsUsed)) seat.old.table_id seat.old.me.0 buffers.old
-        (of_tree result) seat.new.table_id seat.new.me.0 buffers.new }
+    ensures noted { Noted gates.now.config None accesses.now (Go (taking_at snapshot LoadsUsed)) seat.old.table_id seat.old.me.0
+        (λ r. r ≡ words_in buffers.old) (of_tree result) seat.new.table_id seat.new.me.0 (λ r. words_in buffers.new) }
 {
-    let step = SnapshotStep::LoadsUsed;
-    let here = Snapshot { step, ..snapshot };
-    let _used = find_noting(gates, seat, accesses, buffers, here, WordName::Used);
-    if let Some(node) = load_nodes(gates, seat, accesses, buffers, snapshot) {
+    let tree = &mut buffers.next;
+    if let Some(node) = load_words(gates, seat, accesses, tree, snapshot) {
         let step = SnapshotStep::LoadsNode(node);
         return Next::Go(TreePhase::Snapshot(Snapshot { step, ..snapshot }));
     }
-    load_kids(gates, seat, accesses, buffers, snapshot);
+    buffers.complete();
     let step = SnapshotStep::Releases(Ok(Reply::Tree));
     let here = TreePhase::Snapshot(Snapshot { step, ..snapshot });
     let _freed = find(
@@ -178,10 +181,11 @@ pub(crate) fn snapshot_first(
     snapshot: Snapshot,
 ) -> Next<TreePhase>
     requires table { seat.old.table_id ≡ gates.now.table.shared.table_id }
+    requires many { IsSized snapshot.nodes (words_in buffers.old).next × (1 ≤ snapshot.nodes) }
     requires agrees { StateAgrees gates.now.config (Some op) (Some (taking_at snapshot Locks)) accesses.now seat.old.me.0.items }
     ensures slots { seat.new.me.1 ≡ seat.old.me.1 }
-    ensures noted { Noted gates.now.config (Some op) accesses.now (Go (taking_at snapshot Locks)) seat.old.table_id seat.old.me.0 buffers.old
-        (of_tree result) seat.new.table_id seat.new.me.0 buffers.new }
+    ensures noted { Noted gates.now.config (Some op) accesses.now (Go (taking_at snapshot Locks)) seat.old.table_id seat.old.me.0
+        (λ r. r ≡ words_in buffers.old) (of_tree result) seat.new.table_id seat.new.me.0 (λ r. words_in buffers.new) }
 {
     let step = SnapshotStep::Locks;
     let locks = TreePhase::Snapshot(Snapshot { step, ..snapshot });

@@ -66,7 +66,7 @@ pub struct Task {
 impl Model for Task {
     ghost use Rattle.std.specs.Prelude.{◌≡◌, []};
     ghost use Rattle.vfs_gates.specs.TaskStates.{SeatedTask, own_number, own_view, task_state};
-    ghost use Rattle.vfs_gates.specs.Buffers.{BuffersMatch};
+    ghost use Rattle.vfs_gates.specs.Buffers.{BuffersMatch, words_in};
     ghost use Rattle.vfs_gates.specs.Waits.{WaitsTell};
     ghost use Rattle.gate_steps.specs.call_events.GhostAgrees.{GhostAgrees};
 
@@ -75,7 +75,7 @@ impl Model for Task {
     ghost view = { λ t. task_state t.seat.table_id t.config t.begins t.state.phase t.seat.me.0 };
 
     ghost invariant = { λ t. GhostAgrees t.number t.config t.begins t.state t.spare t.seat.me.0.items × (t.seat.me.1 ≡ [])
-        × BuffersMatch t.config.nodes t.buffers t.begins t.state.phase t.seat.me.0.items
+        × BuffersMatch t.config.nodes (words_in t.buffers) t.begins t.state.phase t.seat.me.0.items
         × WaitsTell t.config (own_number t.seat.me.0.items) (own_view t.seat.me.0.items) t.waited };
 }
 
@@ -96,7 +96,7 @@ impl Drop for Task {
 }
 
 impl Task {
-    ghost use Rattle.vfs_gates.specs.Buffers.{HasSnapshotRoom};
+    ghost use Rattle.vfs_gates.specs.Buffers.{HasSnapshotRoom, words_in};
     ghost use Rattle.gate_steps.specs.call_events.Answers.{idle_step, unless_refused, asked_by};
     ghost use Rattle.gate_world.specs.Beginnings.{first_phase as the_first_phase};
     ghost use Rattle.gate_world.specs.Views.{held_at, holds_level as has_level, has_open as opens_file};
@@ -112,7 +112,7 @@ impl Task {
     pub(crate) fn first(config: Config, seat: GhostSeat, buffers: SnapshotBuffers) -> Task
         requires within { IsWithin config }
         requires seat { seat.me ≡ (first_known config, []) }
-        requires room { HasSnapshotRoom config.nodes buffers × (buffers.taken ≡ false) }
+        requires room { HasSnapshotRoom config.nodes (words_in buffers) × (buffers.taken ≡ false) }
         ensures { result ≡ task_state seat.table_id config None None (first_known config) }
     {
         Task {
@@ -207,7 +207,6 @@ impl Task {
         ensures goes { OnOk result (OpUnderWay op self.old self.new) }
     {
         let phase = self.admit(op)?;
-        self.buffers.begin(op);
         self.begins = Some(op);
         self.state.phase = Some(phase);
         Ok(())

@@ -1,25 +1,25 @@
--- each part goes on from what the one before it left
-use Rattle.std.proofs.Common.{refl}
+-- what was loaded becomes the last snapshot, and the lock is given back
+use Rattle.std.proofs.Common.{◌≡◌, refl, sym, ap, ◌∙◌}
+use Rattle.std.specs.Prelude.{Ok}
+use Rattle.access_model.specs.declared.replies.Reply.TheVariants.{Tree as TreeReply}
+use Rattle.gated_tree.specs.declared.snapshots.SnapshotStep.TheVariants.{Releases}
+use Rattle.gated_tree.specs.Phases.{at_snapshot}
+use Rattle.gated_tree.specs.Trees.{words_of}
 use Rattle.gate_steps.proofs.call_events.Leading.{still_agrees}
-use Rattle.vfs_gates.proofs.Loading.{noted_on, unnoted}
+use Rattle.vfs_gates.specs.Buffers.{BufferWords, completed, with_words, words_in}
+use Rattle.vfs_gates.proofs.Loading.{noted_as, noted_on, unnoted}
 use Rattle.vfs_gates.proofs.snapshots.load_tree.Goals as goal
 
-pub load_nodes-requires-clause-agrees : goal.load_nodes-requires-clause-agrees
-load_nodes-requires-clause-agrees c = still_agrees c.find_noting-used.ensures.noted.led c.requires.agrees
-
-pub returns-in-Some-clause-noted : goal.returns-in-Some-clause-noted
-returns-in-Some-clause-noted c = noted_on c.find_noting-used.ensures.noted c.in-Some.ensures.noted
-
-pub load_kids-requires-clause-agrees : goal.load_kids-requires-clause-agrees
-load_kids-requires-clause-agrees c =
-    still_agrees (noted_on c.find_noting-used.ensures.noted c.in_default.ensures.noted).led c.requires.agrees
-
 pub find-freed-requires-clause-agrees : goal.find-freed-requires-clause-agrees
-find-freed-requires-clause-agrees c =
-    still_agrees (noted_on (noted_on c.find_noting-used.ensures.noted c.in_default.ensures.noted) c.load_kids.ensures.noted).led c.requires.agrees
+find-freed-requires-clause-agrees c = still_agrees c.in_default.ensures.noted.led c.requires.agrees
 
 pub returns-clause-noted : goal.returns-clause-noted
 returns-clause-noted c =
-    let loaded = noted_on (noted_on c.find_noting-used.ensures.noted c.in_default.ensures.noted) c.load_kids.ensures.noted in
-    noted_on loaded
-    (unnoted _ c.find-freed.result refl refl refl c.find-freed.ensures.led c.find-freed.ensures.items (still_agrees loaded.led c.requires.agrees))
+    let loaded = c.in_default.ensures.noted in
+    noted_as {Are = λ r. r ≡ words_in c.args.buffers.now} (λ (r : BufferWords) were. (
+      ap (λ (z : BufferWords). z.next) were ∙ ap words_of (sym c.deref_mut.ensures.value),
+      ap (λ (z : BufferWords). completed (with_words (words_of c.load_words.new.tree) z)) were ∙ sym c.complete.ensures,
+    ))
+    (noted_on loaded (λ r were. refl)
+    (unnoted {Were = λ r. r ≡ r} (at_snapshot c.args.snapshot (Releases (Ok TreeReply))) c.find-freed.result (λ r. refl) refl
+    c.find-freed.ensures.led c.find-freed.ensures.items (still_agrees loaded.led c.requires.agrees)))

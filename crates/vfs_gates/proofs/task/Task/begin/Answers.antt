@@ -33,8 +33,8 @@ pub invariant_of-self : goal.invariant_of-self
 invariant_of-self c = (
   begun (call (goal.at.invariant_of-self c).In_ok-phase),
   c.self.invariant.1,
-  begun_in (call (goal.at.invariant_of-self c).In_ok-phase) _ (c.begin.ensures c.self.inside.config c.self.inside.begins
-      c.self.inside.state.phase c.self.inside.seat.me.0.items c.self.inside.number c.self.invariant.2),
+  begun_in (call (goal.at.invariant_of-self c).In_ok-phase) _ c.self.inside.begins c.self.inside.state.phase
+      c.self.invariant.2,
   c.self.invariant.3,
 )
 

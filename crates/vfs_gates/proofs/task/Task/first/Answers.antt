@@ -3,6 +3,7 @@ use Rattle.gate_steps.specs.Seating.{DealtNumbers}
 use Rattle.gate_steps.specs.call_events.GhostAgrees.{GhostAgrees}
 use Rattle.vfs_gates.proofs.Parting.{first_ghost_agrees}
 use Rattle.gate_steps.specs.call_events.TaskState.{TaskState}
+use Rattle.vfs_gates.specs.Buffers.{words_in}
 use Rattle.vfs_gates.specs.TaskStates.{own_view}
 use Rattle.vfs_gates.proofs.Rooming.{first_unseen, room_new}
 use Rattle.vfs_gates.proofs.Waiting.{first_tells}
@@ -14,7 +15,7 @@ invariant_of-result c = let within = c.requires.within in
     within.tasks c.others_of.ensures in (
       subst (λ (l : DealtNumbers). GhostAgrees 0 c.args.config None c.idle.result c.others_of.result l) (sym (ap (λ z. z.0.items) c.requires.seat)) m,
       ap (λ z. z.1) c.requires.seat,
-      room_new c.args.config.nodes c.args.buffers None c.idle.result.phase c.args.seat.me.0.items c.requires.room.0 c.requires.room.1
+      room_new c.args.config.nodes (words_in c.args.buffers) None c.idle.result.phase c.args.seat.me.0.items c.requires.room.0 c.requires.room.1
           (ap (λ z. (own_view z.0.items).snapshot) c.requires.seat ∙ first_unseen c.args.config) (ap (λ (k : TaskState). k.phase) c.idle.ensures),
       first_tells c.args.config c.args.seat.me.0.items (ap (λ z. z.0.items) c.requires.seat),
     )

@@ -4,6 +4,7 @@ use Rattle.gate_steps.specs.Seating.{DealtNumbers}
 use Rattle.vfs_gates.specs.TaskStates.{SeatedTask, Empty, own_number, own_view}
 use Rattle.gate_steps.specs.call_events.GhostAgrees.{GhostAgrees}
 use Rattle.vfs_gates.proofs.Parting.{join_self, below}
+use Rattle.vfs_gates.specs.Buffers.{words_in}
 use Rattle.vfs_gates.proofs.Rooming.{joined_view, room_same}
 use Rattle.vfs_gates.proofs.Waiting.{joined_number, tell_same}
 use Rattle.vfs_gates.proofs.task.Task.leave_to.Goals as goal
@@ -26,7 +27,7 @@ invariant_of-task c = let mine = c.task.inside in let others = c.self.inside in 
       subst (λ (l : DealtNumbers). GhostAgrees mine.number mine.config mine.begins mine.state (set c.add_all.new.numbers others.number true) l)
           (sym (ap (λ z. z.0.items) joined)) m,
       ap (λ z. z.1) joined ∙ c.task.invariant.1,
-      room_same mine.config.nodes mine.buffers mine.begins mine.state.phase mine.seat.me.0.items c.take_back.new.seat.me.0.items
+      room_same mine.config.nodes (words_in mine.buffers) mine.begins mine.state.phase mine.seat.me.0.items c.take_back.new.seat.me.0.items
           (ap (λ z. own_view z.0.items) joined ∙ joined_view mine.number mine.config mine.begins mine.state mine.spare mine.seat.me.0.items
           others.seat.me.0.items c.task.invariant.0) c.task.invariant.2,
       tell_same mine.config mine.seat.me.0.items c.take_back.new.seat.me.0.items mine.waited

@@ -1,18 +1,20 @@
 -- a beginning, and a line of steps whose loads are noted
-use Rattle.std.proofs.Common.{sym, ap, ◌∙◌}
+use Rattle.std.proofs.Common.{◌≡◌, ◌≤◌, arith, sym, ap, subst, ◌∙◌}
 use Rattle.std.specs.Prelude.{Some}
 use Rattle.gate_steps.proofs.call_events.Onward.{stands_at, done_at}
 use Rattle.gate_steps.specs.call_events.Progress.TheVariants.{Going, Done}
 use Rattle.gate_world.specs.declared.operations.Op.TheVariants.{Snapshot as SnapshotOp}
+use Rattle.gate_world.specs.declared.config.Config.{Config}
 use Rattle.gate_world.specs.declared.work.Phase.{Phase}
 use Rattle.gate_world.specs.declared.work.Phase.TheVariants.{Trees}
 use Rattle.gated_tree.specs.declared.snapshots.SnapshotStep.TheVariants.{Locks}
 use Rattle.vfs_gates.specs.Noted.{of_tree, taking_at}
-use Rattle.vfs_gates.specs.Buffers.{BuffersMatch}
+use Rattle.vfs_gates.specs.TaskStates.{SeatedTask}
+use Rattle.vfs_gates.specs.Buffers.{BuffersMatch, IsSized, words_in}
 use Rattle.vfs_gates.proofs.Admitting.{refused_by}
 use Rattle.vfs_gates.proofs.AtOnce.{refused_at_once, told_at_once}
 use Rattle.vfs_gates.proofs.Calling.{Call, Left, call_with, is_agrees, items_of, not_begun, ghost_agrees_at, ghost_agrees_done, goes_at, ended_at}
-use Rattle.vfs_gates.proofs.Loading.{left_by, loaded_done, loaded_buffers}
+use Rattle.vfs_gates.proofs.Loading.{left_by, loaded_done, loaded_buffers, nodes_as_begun}
 use Rattle.vfs_gates.proofs.Rooming.{begun_in}
 use Rattle.vfs_gates.proofs.Waiting.{left_tells, once}
 use Rattle.vfs_gates.proofs.task.Task.load_at_once.Goals as goal
@@ -30,15 +32,26 @@ left c = left_by (call c) (of_tree c.snapshot_first-next.result) c.snapshot_firs
 
 -- as the call begins, its buffers tell of the operation's first phase
 begun : (c : After-snapshot_first-next) →
-    BuffersMatch (call c).task.config.nodes c.begin.new.self (Some (call c).op) (Some (call c).first) (items_of (call c))
-begun c = begun_in (call c) _ (c.begin.ensures c.self.inside.config c.self.inside.begins c.self.inside.state.phase c.self.inside.seat.me.0.items
-    c.self.inside.number c.self.invariant.2)
+    BuffersMatch (call c).task.config.nodes (words_in c.self.inside.buffers) (Some (call c).op) (Some (call c).first) (items_of (call c))
+begun c = begun_in (call c) (words_in c.self.inside.buffers) c.self.inside.begins c.self.inside.state.phase c.self.invariant.2
 
 pub snapshot_first-next-requires-clause-agrees : goal.snapshot_first-next-requires-clause-agrees
 snapshot_first-next-requires-clause-agrees c =
     is_agrees (call_with (SnapshotOp c.args.wait) c.self.inside c.args.gates.now.words.config c.args.self.now c.self.view_is c.requires.1
     c.self.invariant.0 c.admit.result c.admit.ensures c.in_default.not-Err (taking_at c.first_snapshot-first.result Locks)
     c.first_snapshot-first.ensures)
+
+-- there is room for as many nodes as it loads
+pub snapshot_first-next-requires-clause-many : goal.snapshot_first-next-requires-clause-many
+snapshot_first-next-requires-clause-many c =
+    let nodes : c.first_snapshot-first.result.nodes ≡ c.self.inside.config.nodes =
+    nodes_as_begun c.first_snapshot-first.result c.args.self.now.config _ c.args.wait c.first_snapshot-first.ensures ∙
+    sym (ap (λ (s : SeatedTask). s.config.nodes) c.self.view_is) in
+    let same : c.self.inside.config ≡ c.args.gates.now.words.config = ap (λ (s : SeatedTask). s.config) c.self.view_is ∙ c.requires.1 in
+    let some : 2 ≤ c.self.inside.config.nodes = subst (λ (d : Config). 2 ≤ d.nodes) (sym same) c.args.gates.now.words.within.some_node in (
+      subst (λ n. IsSized n (words_in c.self.inside.buffers).next) (sym nodes) c.self.invariant.2.room.1,
+      omega arith,
+    )
 
 pub invariant_of-self : goal.invariant_of-self
 invariant_of-self c =

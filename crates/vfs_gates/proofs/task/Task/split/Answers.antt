@@ -4,6 +4,7 @@ use Rattle.gate_steps.specs.Seating.{DealtNumbers, times}
 use Rattle.gate_steps.specs.call_events.GhostAgrees.{GhostAgrees}
 use Rattle.vfs_gates.proofs.Parting.{split_self, split_new, lowest_there, none_begun, none_there}
 use Rattle.gate_steps.specs.call_events.TaskState.{TaskState}
+use Rattle.vfs_gates.specs.Buffers.{words_in}
 use Rattle.vfs_gates.specs.TaskStates.{SeatedTask, task_state, own_number, own_view, spare_of, Empty}
 use Rattle.vfs_gates.specs.Parts.{SplitOf}
 use Rattle.vfs_gates.proofs.Rooming.{given_unseen, kept_view, room_new, room_same}
@@ -32,7 +33,7 @@ invariant_of-self c = let old = c.self.inside in let n : ℕ = c.in-Some.number 
     let kept = c.give-seat.ensures.kept in (
       subst (λ (l : DealtNumbers). GhostAgrees old.number old.config old.begins old.state (set old.spare n false) l) (sym (ap (λ z. z.0.items) kept)) m,
       ap (λ z. z.1) kept ∙ c.self.invariant.1,
-      room_same old.config.nodes old.buffers old.begins old.state.phase old.seat.me.0.items c.give-seat.new.seat.me.0.items
+      room_same old.config.nodes (words_in old.buffers) old.begins old.state.phase old.seat.me.0.items c.give-seat.new.seat.me.0.items
           (ap (λ z. own_view z.0.items) kept ∙ kept_view n old.seat.me.0.items) c.self.invariant.2,
       tell_same old.config old.seat.me.0.items c.give-seat.new.seat.me.0.items old.waited
           (ap (λ z. own_number z.0.items) kept ∙ kept_number n old.seat.me.0.items)

@@ -7,7 +7,7 @@ use Rattle.vfs_gates.specs.TaskStates.{SeatedTask, task_state}
 use Rattle.gate_steps.specs.call_events.Turns.{state_at}
 use Rattle.gate_steps.proofs.call_events.Turning.{agrees_at, stepped_there}
 use Rattle.access_model.specs.Replies.{map_next}
-use Rattle.vfs_gates.specs.Buffers.{BuffersMatch}
+use Rattle.vfs_gates.specs.Buffers.{BuffersMatch, words_in}
 use Rattle.vfs_gates.proofs.Rooming.{FollowsBy, stepped_room}
 use Rattle.vfs_gates.specs.Waits.{counted, is_wait}
 use Rattle.vfs_gates.proofs.Waiting.{noted_tells, since, since_begun, since_going}
@@ -46,16 +46,16 @@ invariant_of-self g c =
       agrees_at t.number None t.spare c.do_event-action.new.seat.me.0.items (state_at _ c.do_event-action.new.accesses) c.standing-progress.result.1 agrees
           (sym same) stands,
       c.do_event-action.ensures.slots ∙ c.self.invariant.1,
-      subst (λ (o : Option Phase). BuffersMatch t.config.nodes c.follow.new.self None o c.do_event-action.new.seat.me.0.items)
+      subst (λ (o : Option Phase). BuffersMatch t.config.nodes (words_in c.follow.new.self) None o c.do_event-action.new.seat.me.0.items)
           stands
-          (stepped_room t.config.nodes t.buffers c.follow.new.self t.begins phase c.args.hook t.seat.table_id
+          (stepped_room t.config.nodes (words_in t.buffers) (words_in c.follow.new.self) t.begins phase c.args.hook t.seat.table_id
           c.do_event-action.new.seat.table_id c.args.gates.now.words.config t.seat.me.0.items c.do_event-action.new.seat.me.0.items
           c.do_event-action.result.event c.do_event-action.result.action next t.number
           (state_at (Some phase) t.state.accesses) t.spare
           (agrees_at t.number t.begins t.spare t.seat.me.0.items t.state (Some phase) c.self.invariant.0 same at)
           c.do_event-action.ensures.stepped
-          (subst (λ (o : Option Phase). BuffersMatch t.config.nodes t.buffers t.begins o t.seat.me.0.items) at c.self.invariant.2)
-          (λ found. subst (λ (p : Phase). FollowsBy c.self.inside.buffers c.follow.new.self c.do_event-action.result.event p t.config.nodes t.begins c.args.hook found t.seat.me.0.items) c.phase.ensures
+          (subst (λ (o : Option Phase). BuffersMatch t.config.nodes (words_in t.buffers) t.begins o t.seat.me.0.items) at c.self.invariant.2)
+          (λ found. subst (λ (p : Phase). FollowsBy (words_in c.self.inside.buffers) (words_in c.follow.new.self) c.do_event-action.result.event p t.config.nodes t.begins c.args.hook found t.seat.me.0.items) c.phase.ensures
           (c.follow.ensures t.config.nodes t.begins c.args.hook found t.seat.me.0.items))),
       noted_tells same t.begins phase c.args.hook t.seat.table_id c.do_event-action.new.seat.table_id t.seat.me.0.items
           c.do_event-action.new.seat.me.0.items c.do_event-action.result.event c.do_event-action.result.action next

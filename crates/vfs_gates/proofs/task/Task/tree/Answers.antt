@@ -2,6 +2,7 @@
 use Rattle.std.proofs.Common.{◌≤◌, ap, subst, ◌∙◌}
 use Rattle.std.specs.Prelude.{length, option_map}
 use Rattle.gate_world.specs.declared.views.Snapshot.{Snapshot}
+use Rattle.vfs_gates.specs.Buffers.{words_in}
 use Rattle.vfs_gates.specs.TaskStates.{SeatedTask, own_view}
 use Rattle.vfs_gates.proofs.Parting.{has_own}
 use Rattle.vfs_gates.proofs.Rooming.{shows_last}
@@ -10,7 +11,7 @@ use Rattle.vfs_gates.proofs.task.Task.tree.Goals as goal
 pub returns-clause-last : goal.returns-clause-last
 returns-clause-last c =
     let t = c.self.inside in
-    c.last.ensures ∙ (shows_last t.buffers (own_view t.seat.me.0.items).snapshot c.self.invariant.2.last ∙
+    c.last.ensures ∙ (shows_last (words_in t.buffers) (own_view t.seat.me.0.items).snapshot c.self.invariant.2.last ∙
     ap (λ (s : SeatedTask). option_map (λ (n : Snapshot). n.loaded) (own_view s.items).snapshot) c.self.view_is)
 
 pub returns-clause-there : goal.returns-clause-there
