@@ -1,7 +1,12 @@
 -- What the program tells of its run: what the lists of its two tasks have in the end.
 use Rattle.std.specs.Prelude.{◌≡◌, ◌++◌, ℕ, true, false, Ok, IfSome}
 use Rattle.vfs_gates.specs.Rounds.{Rounds, BothDone, Did, Granted, SeatedTask, Ended, ClosedState, Mount, ChangeMount, ComesAfter, Performs, granted_in, own_actions}
+use Rattle.vfs_gates.specs.Seating.{times}
 use Rattle.backup_beside_writer.specs.declared.report.Report.{Report}
+
+-- the same numbers, whatever these have done
+abbrev pub SameNumbers : SeatedTask → SeatedTask → Type 0
+SameNumbers first last = (n : ℕ) → times n last.items ≡ times n first.items
 
 -- a copy: the mount was made read-only and then writable, and neither was refused
 abbrev pub HasCopied : SeatedTask → SeatedTask → Type 0

@@ -2,7 +2,7 @@
 
 ghost use Rattle.std.specs.Prelude.{◌≡◌, ◌+◌, ℕ, IfErr, OnErr, OnOk};
 ghost use Rattle.vfs_gates.specs.Rounds.{SeatedTask, IsFrom, Rests, Busy, spare_of};
-ghost use Rattle.backup_beside_writer.specs.Reports.{Copies, HasCopied};
+ghost use Rattle.backup_beside_writer.specs.Reports.{Copies, HasCopied, SameNumbers};
 
 use crate::MOUNT;
 use std::sync::Wait;
@@ -20,6 +20,7 @@ pub(crate) fn copy_once<R: Wait>(
     requires rests { Rests task.old }
     ensures from { IsFrom task.new gates.now }
     ensures rests { Rests task.new }
+    ensures numbers { SameNumbers task.old task.new }
     ensures refused { IfErr result (λ refusal. refusal ≡ Busy) }
     ensures others { spare_of task.new.items ≡ spare_of task.old.items }
     ensures made { OnOk result (HasCopied task.old task.new) }
@@ -46,6 +47,7 @@ pub(crate) fn back_up<R: Wait>(
     requires rests { Rests task }
     ensures from { IsFrom result.0 gates.now }
     ensures rests { Rests result.0 }
+    ensures numbers { SameNumbers task result.0 }
     ensures copied { Copies copies task result.0 }
 {
     let mut made = 0;

@@ -1,7 +1,8 @@
 //! Both at once, and the end.
 
-ghost use Rattle.std.specs.Prelude.{◌≡◌, ◌≤◌, ◌++◌, length, IfOk, IfErr, OnOk};
-ghost use Rattle.vfs_gates.specs.Rounds.{IsFrom, Rests, Busy, spare_of};
+ghost use Rattle.std.specs.Prelude.{◌≡◌, ◌≤◌, ◌+◌, ◌++◌, ℕ, length, IfOk, IfErr, OnOk};
+ghost use Rattle.vfs_gates.specs.Rounds.{IsFrom, Rests, Busy, NoMemory, spare_of};
+ghost use Rattle.vfs_gates.specs.Seating.{times};
 ghost use Rattle.backup_beside_writer.specs.Reports.{HasEveryWrite, ReportIsTrue};
 
 use crate::report::Report;
@@ -55,6 +56,7 @@ pub fn copy_at_the_end<R: Wait>(
     ensures rests { Rests result.0 }
     ensures refused { IfErr result.1 (λ refusal. refusal ≡ Busy) }
     ensures others { spare_of result.0.items ≡ spare_of (backup.items ++ writer.items) }
+    ensures numbers { (n : ℕ) → times n result.0.items ≡ times n backup.items + times n writer.items }
     ensures every_write { OnOk result.1 (HasEveryWrite backup writer result.0) }
 {
     let mut task = join(gates, backup, writer);
@@ -67,9 +69,10 @@ pub fn copy_at_the_end<R: Wait>(
 ///
 /// # Errors
 ///
-/// NoMemory where there is none for the gates or a further task. Order, where a task is left: none is, but no clause says so.
+/// NoMemory if there is none for the gates or a further task.
 pub fn run<R: Threads + Wait + Sync>(rt: &R, alloc: Global) -> Result<(Report, Closed), GateError>
-    ensures { IfOk result (λ done. ReportIsTrue done.0 done.1) }
+    ensures told { IfOk result (λ done. ReportIsTrue done.0 done.1) }
+    ensures refused { IfErr result (λ refusal. refusal ≡ NoMemory) }
 {
     let config = Config {
         tasks: 3,
@@ -100,7 +103,7 @@ pub fn run<R: Threads + Wait + Sync>(rt: &R, alloc: Global) -> Result<(Report, C
         last_torn: copied.ok(),
     };
     let Ok(closed) = gates.close(task) else {
-        return Err(GateError::Order);
+        unreachable!()
     };
     Ok((told, closed))
 }

@@ -2,6 +2,7 @@
 
 ghost use Rattle.std.specs.Prelude.{◌≡◌, IfErr, OnErr, OnOk};
 ghost use Rattle.vfs_gates.specs.Rounds.{IsFrom, Rests, Granted, Mount, ReadOnly, own_actions};
+ghost use Rattle.backup_beside_writer.specs.Reports.{SameNumbers};
 
 use crate::MOUNT;
 use std::sync::Wait;
@@ -22,6 +23,7 @@ pub(crate) fn write_once<R: Wait>(
     requires rests { Rests task.old }
     ensures from { IsFrom task.new gates.now }
     ensures rests { Rests task.new }
+    ensures numbers { SameNumbers task.old task.new }
     ensures refused { IfErr result (λ refusal. refusal ≡ ReadOnly) }
     ensures wrote { OnOk result (Granted (Mount 0) 1 task.old task.new) }
     ensures wrote_nothing { OnErr result (own_actions task.new ≡ own_actions task.old) }
@@ -43,6 +45,7 @@ pub(crate) fn write<R: Wait>(
     requires rests { Rests task }
     ensures from { IsFrom result gates.now }
     ensures rests { Rests result }
+    ensures numbers { SameNumbers task result }
     ensures wrote { Granted (Mount 0) writes task result }
 {
     let mut wrote = 0;

@@ -1,3 +1,4 @@
 pub mod Homes
 pub mod Staying
 pub mod Resting
+pub mod Joining

@@ -6,4 +6,5 @@ pub use Rattle.vfs_gates.specs.TaskStates
 pub mod Meetings
 pub mod Counts
 pub mod Rounds
+pub mod Keeping
 pub mod Refusals

@@ -53,7 +53,7 @@ fn close(gates: Gates, task: Task) -> Closed
 ///
 /// # Errors
 ///
-/// As `run_with`. A plan's numbers are within their limits, so Invalid comes only from a snapshot or a thaw.
+/// As `run_with`, but never Invalid, as a plan's numbers are within their limits.
 pub fn run_plan<R: Threads + Wait + Sync, W: RunObserver + Sync>(
     rt: &R,
     alloc: Global,
@@ -62,17 +62,21 @@ pub fn run_plan<R: Threads + Wait + Sync, W: RunObserver + Sync>(
 ) -> Result<(Totals, Details, Closed), GateError>
     ensures tells { IfOk result (λ r. TellsRun (W.held watch.now) (W.seen watch.now) plan.tasks plan.processors plan.rounds plan.freezes r.0 r.1 r.2) }
     ensures refused { IfErr result (RunRefused (run_config plan.tasks plan.processors plan.rounds) plan.tasks) }
-    ensures in_order { IfErr result (λ refusal. (refusal ≢ Order) × (refusal ≢ TooMany)) }
+    ensures in_order { IfErr result (λ refusal. (refusal ≢ Order) × (refusal ≢ TooMany) × (refusal ≢ Invalid)) }
 {
     let (gates, task) = match Gates::new(alloc, plan.config()) {
         Ok(made) => made,
         Err(refusal) => return Err(refusal),
     };
-    let (task, details) = match in_threads(rt, alloc, &gates, plan, watch, task) {
-        Ok(ended) => ended,
+    let (task, met) = match in_threads(rt, alloc, &gates, plan, watch, task) {
+        Ok(joined) => joined,
         Err(refusal) => return Err(refusal),
     };
     let closed = close(gates, task);
+    let details = match met {
+        Ok(details) => details,
+        Err(refusal) => return Err(refusal),
+    };
     let totals = Totals {
         grown: closed.word(WordName::Used).unwrap_or(0),
         frozen: u64::from(details.copies.frozen),
@@ -99,11 +103,12 @@ pub fn run_plan<R: Threads + Wait + Sync, W: RunObserver + Sync>(
 /// - the creation of a file: NoEntry, NotDir, NoSpace or Again;
 /// - the growth of a file: NoEntry, IsDir or NoSpace;
 /// - a freeze: Busy, or what a hook answered;
-/// - a snapshot: Invalid, if it found that not all was frozen;
-/// - a thaw: Invalid, if it found that not all was frozen or that its holder holds no freeze, or what a hook answered.
+/// - a thaw: what a hook answered.
 ///
-/// The writers' write access, the changes of the mount and the callbacks end no run. None is refused as Order or as TooMany: each
-/// task makes a call only when it may. All threads that were started have ended when it returns.
+/// The writers' write access, the changes of the mount, the snapshots and the callbacks end no run. None is refused as Order or as
+/// TooMany, because each task makes a call only when it may. None is refused as Invalid within the limits, because only the backup
+/// freezes and thaws, so what it has frozen stands. All threads that were started have ended when it returns; unless memory, a file or a
+/// thread was refused before the backup began, all tasks are joined and the gates closed.
 pub fn run_with<R: Threads + Wait + Sync, M: Meeting + Sync>(
     rt: &R,
     alloc: Global,
@@ -117,6 +122,7 @@ pub fn run_with<R: Threads + Wait + Sync, M: Meeting + Sync>(
     ensures invalid { ¬ MayRun tasks processors rounds freezes → result ≡ Err Invalid }
     ensures refused { MayRun tasks processors rounds freezes → IfErr result (RunRefused (run_config tasks processors rounds) tasks) }
     ensures in_order { IfErr result (λ refusal. (refusal ≢ Order) × (refusal ≢ TooMany)) }
+    ensures frozen { MayRun tasks processors rounds freezes → IfErr result (λ refusal. refusal ≢ Invalid) }
     ensures tells { IfOk result (λ r. (details : DetailsType) × TellsRun (M.held meeting.now) unseen tasks processors rounds freezes r.0 details r.1) }
 {
     let plan = Plan::new(tasks, processors, rounds, freezes)?;

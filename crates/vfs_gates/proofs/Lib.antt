@@ -14,9 +14,11 @@ pub mod Seeing
 pub mod Taking
 pub mod Timing
 pub mod Holding
+pub mod Standing
 pub mod Returning
 pub mod Resting
 pub mod Reopening
 pub mod Rounds
 pub mod CallingBack
 pub mod AtOnce
+pub use Rattle.gate_steps.proofs.call_events.Grown

@@ -1,16 +1,18 @@
 -- Laws for a caller, with the words that its proofs cite them by. Their arguments are found from what its calls ensure.
 pub use Rattle.std.proofs.Common.{ℕ, ◌≤◌, rules}
 use Rattle.std.proofs.Common.{◌≡◌, ◌<◌, ◌+◌, suc, arith, add-zero, length-append, Bool, true, false, List, [], ◌∷◌, ◌++◌, length, refl, sym, ap, ◌∙◌, subst}
-use Rattle.std.proofs.lemmas.Bool.{and_parts, ltb-true}
+use Rattle.std.proofs.lemmas.Bool.{and_parts, eq-eqb, ltb-true}
 use Rattle.std.specs.Prelude.{Option, Some, None, Result, Ok, nat_lt}
-use Rattle.atomic_table.specs.Seated.{TableId}
+pub use Rattle.atomic_table.specs.Seated.{TableId}
 use Rattle.access_model.specs.declared.replies.{Reply.Reply}
 use Rattle.gate_world.specs.declared.operations.Op.TheVariants.{Want, DropMount}
-use Rattle.gate_steps.specs.Rules.{first_known}
+pub use Rattle.gate_steps.specs.Rules.{first_known}
 use Rattle.gate_steps.specs.call_events.Runs.{ran_items, told_as, unit_of}
-use Rattle.gate_steps.specs.Seating.{DealtNumbers, HaveViews, kept_of}
+use Rattle.gate_steps.specs.Seating.{DealtNumbers, HaveViews, kept_of, times}
+pub use Rattle.gate_steps.proofs.call_events.Dealing.{times-append}
 use Rattle.gate_world.specs.declared.views.{Traced.Traced, View.View}
-use Rattle.gate_world.specs.declared.config.Config.{Config}
+pub use Rattle.gate_world.specs.Configs.{IsWithin}
+pub use Rattle.gate_world.specs.declared.config.Config.{Config}
 use Rattle.vfs_gates.specs.Held.{own_actions, IsGivenBack, takes_nothing}
 use Rattle.gate_world.specs.declared.entries.Entry.{Entry}
 use Rattle.vfs_gates.specs.Ended.{EndedWith}
@@ -18,7 +20,8 @@ pub use Rattle.vfs_gates.specs.Rounds.{GateError, Mount, Op, ChangeMount, Perfor
 use Rattle.access_model.specs.declared.actions.Gate.{Gate}
 use Rattle.vfs_gates.specs.Rounds.{granted_in}
 use Rattle.vfs_gates.specs.Parts.{SplitOf}
-use Rattle.vfs_gates.specs.TaskStates.{own_number, own_view, refusal_at, spare_of, task_state, Empty}
+use Rattle.vfs_gates.specs.TaskStates.{own_number, own_view, refusal_at, spare_of, Empty}
+pub use Rattle.vfs_gates.specs.TaskStates.{task_state}
 use Rattle.vfs_gates.proofs.Holding.{keeps, rests_on}
 use Rattle.vfs_gates.proofs.Reopening.{Opens, opens}
 use Rattle.vfs_gates.proofs.Resting.{both_end, first_ends, second_ends, change_begins, split_done_nothing}
@@ -117,6 +120,31 @@ spare_stays {op = op} {old = old} {left = left} {outcome = outcome} call = spare
 pub spare_stays_on : {one two : Op} {old there left : SeatedTask} {answer outcome : Result (Unit {0}) GateError} →
     Performs one old there answer → Performs two there left outcome → spare_of left.items ≡ spare_of old.items
 spare_stays_on first second = spare_stays second ∙ spare_stays first
+
+-- Nor does it take or give a number.
+ran_times : (n : ℕ) (c : Config) (op : Op) (trace : List Traced) (l : DealtNumbers) → times n (ran_items c op trace l) ≡ times n l
+ran_times n c op trace [] = refl
+ran_times n c op trace (x ∷ xs) = refl
+
+times_by : (op : Op) (old left : SeatedTask) (outcome : Result (Unit {0}) GateError) → Performs op old left outcome → (n : ℕ) →
+    (o : Option GateError) → refusal_at op old ≡ o → times n left.items ≡ times n old.items
+times_by op old left outcome call n None at =
+    let called = (call.done at).2 in
+    ap (λ (s : SeatedTask). times n s.items) called.after ∙ ran_times n old.config op called.trace old.items
+times_by op old left outcome call n (Some refusal) at = ap (λ (s : SeatedTask). times n s.items) (call.refused refusal at).1
+
+pub times_stay : {op : Op} {old left : SeatedTask} {outcome : Result (Unit {0}) GateError} → Performs op old left outcome → (n : ℕ) →
+    times n left.items ≡ times n old.items
+times_stay {op = op} {old = old} {left = left} {outcome = outcome} call n = times_by op old left outcome call n (refusal_at op old) refl
+
+pub times_stay_on : {one two : Op} {old there left : SeatedTask} {answer outcome : Result (Unit {0}) GateError} →
+    Performs one old there answer → Performs two there left outcome → (n : ℕ) → times n left.items ≡ times n old.items
+times_stay_on first second n = times_stay second n ∙ times_stay first n
+
+-- A task's own number is among its numbers.
+pub own_times : (n : ℕ) (items : DealtNumbers) → own_number items ≡ n → 1 ≤ length items → 1 ≤ times n items
+own_times n [] own there = absurd (omega arith)
+own_times n (x ∷ xs) own there = rw (eq-eqb x.number n own) (omega arith)
 
 -- Of views that a task knows, those of the second of two lists of its numbers.
 have_second : (views : ℕ → View) (l m : DealtNumbers) → HaveViews views (l ++ m) → HaveViews views m

@@ -19,6 +19,7 @@ pub mod Sums
 pub mod Ended
 pub mod Seen
 pub mod Held
+pub mod Frozen
 pub mod Pairs
 pub mod Settled
 pub mod Taken
@@ -27,3 +28,4 @@ pub mod Rounds
 pub mod AtOnce
 pub use Rattle.gate_steps.specs.call_events.Runs
 pub use Rattle.gate_steps.specs.call_events.Asking
+pub use Rattle.gate_steps.specs.call_events.Grown

@@ -6,13 +6,14 @@ pub use Rattle.access_model.specs.declared.actions.Action.TheVariants.{Grant}
 pub use Rattle.access_model.specs.declared.actions.Gate.{Gate}
 pub use Rattle.access_model.specs.declared.actions.Gate.TheVariants.{Mount, Level}
 pub use Rattle.access_model.specs.declared.errors.GateError.{GateError}
-pub use Rattle.access_model.specs.declared.errors.GateError.TheVariants.{Busy, ReadOnly}
+pub use Rattle.access_model.specs.declared.errors.GateError.TheVariants.{Busy, NoMemory, ReadOnly}
 pub use Rattle.gate_world.specs.declared.operations.Op.{Op}
 pub use Rattle.gate_world.specs.declared.operations.Op.TheVariants.{ChangeMount}
 pub use Rattle.gate_steps.specs.call_events.Runs.{Performs}
 pub use Rattle.vfs_gates.specs.Ended.{Ended, ClosedState}
 pub use Rattle.vfs_gates.specs.Handed.{ComesAfter}
 pub use Rattle.vfs_gates.specs.Held.{Rests, own_actions}
+pub use Rattle.gate_steps.specs.Seating.{times}
 pub use Rattle.vfs_gates.specs.TaskStates.{SeatedTask, IsFrom, own_view, spare_of}
 
 -- two calls that were done, one right after the other

@@ -1,7 +1,9 @@
 -- What the calls of a run's tasks answer, and how they leave their tasks: at rest, or with the write access that was granted.
-use Rattle.std.proofs.Common.{◌≡◌, ◌≢◌, inl, inr, ℕ, zero, suc, ◌+◌, ◌<◌, true, List, refl, ap, ◌∙◌, subst, arith, lt-ltb}
-use Rattle.std.specs.Prelude.{None, Some, Result, Ok, Err}
+use Rattle.std.proofs.Common.{◌≡◌, ◌≢◌, inl, inr, ℕ, zero, suc, ◌+◌, ◌<◌, true, List, refl, sym, ap, ◌∙◌, subst, arith, lt-ltb}
+use Rattle.std.specs.Prelude.{◌⊎◌, None, Some, Result, Ok, Err}
+use Rattle.access_model.specs.Holders.{held_by}
 use Rattle.access_model.specs.Histories.{mounts_of, levels_of}
+use Rattle.access_model.specs.declared.actions.Action.{Action}
 use Rattle.access_model.specs.declared.actions.Action.TheVariants.{Grant}
 use Rattle.access_model.specs.declared.actions.Gate.TheVariants.{Mount, Level}
 use Rattle.access_model.specs.declared.actions.Holder.TheVariants.{User}
@@ -18,11 +20,15 @@ use Rattle.gate_world.specs.declared.operations.Op.TheVariants.{WantWrite, DropW
 use Rattle.gate_world.specs.declared.views.Traced.{Traced}
 use Rattle.gate_runs.specs.run_parts.Refusals.{EndsCreate, EndsFreeze, EndsGrow, EndsThaw, HasWriteAccess, MayEnd, MetBy, RunRefused, StandsFor, WasRefused}
 use Rattle.gate_runs.specs.run_parts.Rounds.{Does, IsRefused}
+use Rattle.vfs_gates.specs.Frozen.{holders_of}
+use Rattle.vfs_gates.specs.Grown.{StaySeen}
 use Rattle.vfs_gates.specs.Held.{Rests, own_actions, takes_nothing}
 use Rattle.vfs_gates.specs.Runs.{Called, Performs, Replies, told_as}
 use Rattle.vfs_gates.specs.TaskStates.{SeatedTask, refusal_at}
+use Rattle.vfs_gates.proofs.Grown.{call_stays_seen}
 use Rattle.vfs_gates.proofs.Holding.{adds, as_before_twice, keeps, refused_call_keeps, rests_on, unchanged}
 use Rattle.vfs_gates.proofs.Returning.{done_idle, return_restores, was_done}
+use Rattle.gate_runs.proofs.run_parts.Keeping.{either_way}
 
 -- a call that takes nothing leaves a task at rest, whatever it answers
 pub rests_by : {A : Type 0} (read : Reply → A) (op : Op) (first last : SeatedTask) (outcome : Result A GateError) → takes_nothing op ≡ true →
@@ -203,12 +209,14 @@ freeze_ends c trace refusal honest = absurd honest
 pub freeze_refused : (first last : SeatedTask) (refusal : GateError) → Called (Freeze User) first last (Err refusal) → EndsFreeze refusal
 freeze_refused first last refusal k = freeze_ends first.config k.trace refusal k.honest
 
-thaw_ends : (c : Config) (trace : List Traced) (refusal : GateError) → IsHonestAnswer c (Thaw User) (Err refusal) trace → EndsThaw refusal
-thaw_ends c trace Invalid honest = tt
-thaw_ends c trace (Hook code) honest = tt
+thaw_ends : (c : Config) (trace : List Traced) (refusal : GateError) → IsHonestAnswer c (Thaw User) (Err refusal) trace →
+    EndsThaw refusal ⊎ (refusal ≡ Invalid)
+thaw_ends c trace Invalid honest = inr refl
+thaw_ends c trace (Hook code) honest = inl tt
 thaw_ends c trace refusal honest = absurd honest
 
-pub thaw_refused : (first last : SeatedTask) (refusal : GateError) → Called (Thaw User) first last (Err refusal) → EndsThaw refusal
+pub thaw_refused : (first last : SeatedTask) (refusal : GateError) → Called (Thaw User) first last (Err refusal) →
+    EndsThaw refusal ⊎ (refusal ≡ Invalid)
 thaw_refused first last refusal k = thaw_ends first.config k.trace refusal k.honest
 
 snapshot_ends : (c : Config) (trace : List Traced) (refusal : GateError) → IsHonestAnswer c (Snapshot true) (Err refusal) trace → refusal ≡ Invalid
@@ -219,28 +227,56 @@ snapshot_ends c trace refusal honest = absurd honest
 pub snapshot_refused : (first last : SeatedTask) (refusal : GateError) → Called (Snapshot true) first last (Err refusal) → refusal ≡ Invalid
 snapshot_refused first last refusal k = snapshot_ends first.config k.trace refusal k.honest
 
--- No call ends a run as Order, nor as TooMany.
-not_order : (tasks : ℕ) (op : Op) → MayEnd tasks op Order → ⊥
+-- A granted freeze stands in its task's list, and a snapshot leaves the list, whatever it answers.
+pub freezes_list : (first last : SeatedTask) → Does (Freeze User) first last → held_by (holders_of (own_actions last)) User ≡ true
+freezes_list first last did =
+    let was = was_done (Freeze User) first last did in
+    subst (λ (l : List Action). held_by (holders_of l) User ≡ true) (sym (adds (Freeze User) first last (Ok was.reply) was.called)) refl
+
+pub snapshot_list : {A : Type 0} (read : Reply → A) (first last : SeatedTask) (outcome : Result A GateError) →
+    Replies read (Snapshot true) first last outcome → own_actions last ≡ own_actions first
+snapshot_list read first last outcome did = either_way read (Snapshot true) first last outcome did (λ (s : SeatedTask). own_actions s ≡ own_actions first)
+    refl (λ answer called. adds (Snapshot true) first last answer called)
+
+-- what a task has seen it has seen still after a call that was done
+pub done_stays_seen : (op : Op) (first last : SeatedTask) → Does op first last → StaySeen first.seen last.seen
+done_stays_seen op first last did =
+    let was = was_done op first last did in call_stays_seen op first last (Ok was.reply) was.called
+
+-- No call ends a run as Order, TooMany or Invalid.
+abbrev NeverEnds : GateError → Type 0
+NeverEnds refusal = (tasks : ℕ) (op : Op) → MayEnd tasks op refusal → ⊥
+
+not_order : NeverEnds Order
 not_order tasks (WantWrite m p) its = let is : Order ≡ ReadOnly = its.2 in let f : ⊥ = cc in f
 not_order tasks (Create d kind) its = its.2
 not_order tasks (Grow file blocks) its = its.3
 not_order tasks (Freeze holder) its = its.1
-not_order tasks (Snapshot wait) its = let is : Order ≡ Invalid = its.1 in let f : ⊥ = cc in f
 not_order tasks (Thaw holder) its = its.1
 not_order tasks op its = its
 
-not_too_many : (tasks : ℕ) (op : Op) → MayEnd tasks op TooMany → ⊥
+not_too_many : NeverEnds TooMany
 not_too_many tasks (WantWrite m p) its = let is : TooMany ≡ ReadOnly = its.2 in let f : ⊥ = cc in f
 not_too_many tasks (Create d kind) its = its.2
 not_too_many tasks (Grow file blocks) its = its.3
 not_too_many tasks (Freeze holder) its = its.1
-not_too_many tasks (Snapshot wait) its = let is : TooMany ≡ Invalid = its.1 in let f : ⊥ = cc in f
 not_too_many tasks (Thaw holder) its = its.1
 not_too_many tasks op its = its
 
-pub in_order : (config : Config) (tasks : ℕ) (refusal : GateError) → RunRefused config tasks refusal → (refusal ≢ Order) × (refusal ≢ TooMany)
-in_order config tasks refusal (inl memory) = ((λ is. let f : ⊥ = cc in f), (λ is. let f : ⊥ = cc in f))
+not_invalid : NeverEnds Invalid
+not_invalid tasks (WantWrite m p) its = let is : Invalid ≡ ReadOnly = its.2 in let f : ⊥ = cc in f
+not_invalid tasks (Create d kind) its = its.2
+not_invalid tasks (Grow file blocks) its = its.3
+not_invalid tasks (Freeze holder) its = its.1
+not_invalid tasks (Thaw holder) its = its.1
+not_invalid tasks op its = its
+
+pub in_order : (config : Config) (tasks : ℕ) (refusal : GateError) → RunRefused config tasks refusal →
+    (refusal ≢ Order) × (refusal ≢ TooMany) × (refusal ≢ Invalid)
+in_order config tasks refusal (inl memory) =
+    ((λ is. let f : ⊥ = cc in f), (λ is. let f : ⊥ = cc in f), (λ is. let f : ⊥ = cc in f))
 in_order config tasks refusal (inr by) = (
   (λ is. not_order tasks by.op (subst (MayEnd tasks by.op) is by.its)),
   (λ is. not_too_many tasks by.op (subst (MayEnd tasks by.op) is by.its)),
+  (λ is. not_invalid tasks by.op (subst (MayEnd tasks by.op) is by.its)),
 )

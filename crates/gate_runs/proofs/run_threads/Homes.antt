@@ -1,6 +1,6 @@
 -- What a task that came home has done, once its number was taken back, and what all have done together.
-use Rattle.std.proofs.Common.{◌≡◌, ℕ, suc, ◌+◌, ◌-◌, subst, arith, inr}
-use Rattle.std.specs.Prelude.{Result, Ok, Err, IfErr, IfOk}
+use Rattle.std.proofs.Common.{◌≡◌, ℕ, suc, ◌+◌, ◌-◌, refl, subst, sym, arith, inl, inr}
+use Rattle.std.specs.Prelude.{◌⊎◌, Result, Ok, Err, IfErr, IfOk}
 use Rattle.access_model.specs.declared.errors.GateError.{GateError}
 use Rattle.run_plans.specs.declared.counts.Remounts.{Remounts}
 use Rattle.run_plans.specs.declared.counts.Writes.{Writes}
@@ -10,9 +10,9 @@ use Rattle.gate_runs.specs.run_parts.Meetings.{was_held}
 use Rattle.gate_runs.specs.run_parts.Refusals.{RunRefused}
 use Rattle.gate_runs.specs.declared.run_threads.threads.Met.{Met}
 use Rattle.gate_runs.specs.declared.run_threads.threads.Met.TheVariants.{Remounter, Writer}
-use Rattle.gate_runs.specs.run_threads.Homes.{ComesHome, DoesRounds, TaskShare}
+use Rattle.gate_runs.specs.run_threads.Homes.{ComesHome, DoesRounds, TaskShare, TookBack, with_met}
 use Rattle.gate_runs.specs.run_threads.Parts.{Among, Remounted, Wrote, AllWrote}
-use Rattle.gate_runs.proofs.run_threads.Staying.{TookBack, all_wrote_before, all_wrote_on, remounted_on, remounter_part, writer_part}
+use Rattle.gate_runs.proofs.run_threads.Staying.{all_wrote_before, all_wrote_on, remounted_on, remounter_part, writer_part}
 use Rattle.vfs_gates.specs.declared.Gates.{Gates}
 use Rattle.gate_runs.specs.run_parts.Splitting.{HasBegun}
 use Rattle.gate_runs.specs.run_parts.TaskStates.{SeatedTask}
@@ -32,14 +32,14 @@ pub came_home : (held : ℕ → ℕ → Type 0) (gates : Gates) (plan : Plan) (n
     ComesHome held gates plan number last met → TookBack old last new →
     IfOk met (TaskShare (Among new.items) held plan.processors plan.rounds number)
 came_home held gates plan number last old new (Ok m) home took =
-    part_of held plan.processors plan.rounds number home.2.0 last old new m home.2.1 home.2.2 took
+    part_of held plan.processors plan.rounds number home.3.0 last old new m home.3.1 home.3.2 took
 came_home held gates plan number last old new (Err e) home took = tt
 
 -- why it was refused
 pub home_refused : (held : ℕ → ℕ → Type 0) (gates : Gates) (plan : Plan) (number : ℕ) (last : SeatedTask) (met : Result Met GateError) →
     ComesHome held gates plan number last met → IfErr met (RunRefused gates.words.config plan.tasks)
 home_refused held gates plan number last (Ok m) home = tt
-home_refused held gates plan number last (Err e) home = inr home.3
+home_refused held gates plan number last (Err e) home = inr home.4
 
 -- what was met by those that were joined, while so many are left: the first of all is the remounter
 pub record Joined (Ends : SeatedTask → Type 0) (held : ℕ → ℕ → Type 0) (processors rounds left count : ℕ) (remounts : Remounts) (writes : Writes) :
@@ -48,7 +48,7 @@ pub record Joined (Ends : SeatedTask → Type 0) (held : ℕ → ℕ → Type 0)
   pub wrote : AllWrote Ends (was_held held) processors rounds (left - 1) count tt tt writes
 
 -- the remounter is the last of all
-pub joined_remounter : (Ends : SeatedTask → Type 0) (held : ℕ → ℕ → Type 0) (processors rounds left place count number : ℕ) (remounts its : Remounts)
+joined_remounter : (Ends : SeatedTask → Type 0) (held : ℕ → ℕ → Type 0) (processors rounds left place count number : ℕ) (remounts its : Remounts)
     (writes : Writes) → left ≡ suc place → number ≡ place + 1 → TaskShare Ends held processors rounds number (Remounter its) →
     Joined Ends held processors rounds left count remounts writes → Joined Ends held processors rounds place count its writes
 joined_remounter Ends held processors rounds left place count number remounts its writes next is part before =
@@ -59,7 +59,7 @@ joined_remounter Ends held processors rounds left place count number remounts it
     }
 
 -- and a writer comes before those that were joined
-pub joined_writer : (Ends : SeatedTask → Type 0) (held : ℕ → ℕ → Type 0) (processors rounds left place count number : ℕ) (remounts : Remounts)
+joined_writer : (Ends : SeatedTask → Type 0) (held : ℕ → ℕ → Type 0) (processors rounds left place count number : ℕ) (remounts : Remounts)
     (its writes all : Writes) → left ≡ suc place → number ≡ place + 1 → TaskShare Ends held processors rounds number (Writer its) →
     Joined Ends held processors rounds left count remounts writes → all ≡ both its writes →
     Joined Ends held processors rounds place count remounts all
@@ -71,11 +71,75 @@ joined_writer Ends held processors rounds left place count number remounts its w
           (subst (λ n. Wrote Ends (was_held held) processors rounds n tt tt its) own part.2) before.wrote sum;
     }
 
+-- whichever it is
+pub joined_more : (Ends : SeatedTask → Type 0) (held : ℕ → ℕ → Type 0) (processors rounds left place count number : ℕ) (before : Remounts × Writes)
+    (met : Met) → left ≡ suc place → number ≡ place + 1 → TaskShare Ends held processors rounds number met →
+    Joined Ends held processors rounds left count before.0 before.1 →
+    Joined Ends held processors rounds place count (with_met before met).0 (with_met before met).1
+joined_more Ends held processors rounds left place count number before (Remounter its) next is part joined =
+    joined_remounter Ends held processors rounds left place count number before.0 its before.1 next is part joined
+joined_more Ends held processors rounds left place count number before (Writer its) next is part joined =
+    joined_writer Ends held processors rounds left place count number before.0 its before.1 (both its before.1) next is part joined refl
+
 -- the same where those who end so end otherwise
-pub joined_on : (Ends Other : SeatedTask → Type 0) → ((s : SeatedTask) → Ends s → Other s) → (held : ℕ → ℕ → Type 0)
+joined_on : (Ends Other : SeatedTask → Type 0) → ((s : SeatedTask) → Ends s → Other s) → (held : ℕ → ℕ → Type 0)
     (processors rounds left count : ℕ) (remounts : Remounts) (writes : Writes) →
     Joined Ends held processors rounds left count remounts writes → Joined Other held processors rounds left count remounts writes
 joined_on Ends Other on held processors rounds left count remounts writes before = record {
   remounted = λ none. remounted_on Ends Other on rounds remounts (before.remounted none);
   wrote = all_wrote_on Ends Other on (was_held held) processors rounds tt tt (left - 1) count writes before.wrote;
 }
+
+-- so of what was met by all that were joined, unless one of them was refused
+module _ (Ends : SeatedTask → Type 0) (held : ℕ → ℕ → Type 0) (processors rounds : ℕ) where
+  abbrev pub AreJoined : ℕ → ℕ → Result (Remounts × Writes) GateError → Type 0
+  AreJoined left count met = IfOk met (λ m. Joined Ends held processors rounds left count m.0 m.1)
+
+  pub all_parts : (left place count number : ℕ) (before : Result (Remounts × Writes) GateError) (its : Result Met GateError)
+      (all : Result (Remounts × Writes) GateError) → left ≡ suc place → number ≡ place + 1 →
+      ((m : Met) → its ≡ Ok m → TaskShare Ends held processors rounds number m) → AreJoined left count before →
+      IfOk all (λ met. (b : Remounts × Writes) × (m : Met) × (before ≡ Ok b) × (its ≡ Ok m) × (met ≡ with_met b m)) → AreJoined place count all
+  all_parts left place count number before its (Err refusal) next is part joined done = tt
+  all_parts left place count number before its (Ok met) next is part joined done =
+      subst (λ (m : Remounts × Writes). Joined Ends held processors rounds place count m.0 m.1) (sym done.4)
+      (joined_more Ends held processors rounds left place count number done.0 done.1 next is (part done.1 done.3)
+      (subst (AreJoined left count) done.2 joined))
+
+  pub remounted_of : (left count : ℕ) (met : Result (Remounts × Writes) GateError) → left ≡ 0 → AreJoined left count met →
+      IfOk met (λ m. Remounted Ends rounds m.0)
+  remounted_of left count (Err refusal) none joined = tt
+  remounted_of left count (Ok m) none joined = joined.remounted none
+
+  pub wrote_of : (left count : ℕ) (met : Result (Remounts × Writes) GateError) → left ≡ 0 → AreJoined left count met →
+      IfOk met (λ m. AllWrote Ends (was_held held) processors rounds 0 count tt tt m.1)
+  wrote_of left count (Err refusal) none joined = tt
+  wrote_of left count (Ok m) none joined =
+      let first : left - 1 ≡ 0 = omega (arith, none) in
+      subst (λ n. AllWrote Ends (was_held held) processors rounds n count tt tt m.1) first joined.wrote
+
+pub parts_on : (Ends Other : SeatedTask → Type 0) → ((s : SeatedTask) → Ends s → Other s) → (held : ℕ → ℕ → Type 0)
+    (processors rounds left count : ℕ) (met : Result (Remounts × Writes) GateError) → AreJoined Ends held processors rounds left count met →
+    AreJoined Other held processors rounds left count met
+parts_on Ends Other on held processors rounds left count (Err refusal) joined = tt
+parts_on Ends Other on held processors rounds left count (Ok m) joined =
+    joined_on Ends Other on held processors rounds left count m.0 m.1 joined
+
+-- a refusal of either is one of both
+pub either_refused : {A B C : Type 0} (Refused : GateError → Type 0) (one : Result A GateError) (two : Result B GateError) (both : Result C GateError) →
+    IfErr one Refused → IfErr two Refused → IfErr both (λ refusal. (one ≡ Err refusal) ⊎ (two ≡ Err refusal)) → IfErr both Refused
+either_refused Refused one two (Ok c) first second was = tt
+either_refused {A} {B} Refused one two (Err refusal) first second (inl is) = subst (λ (r : Result A GateError). IfErr r Refused) is first
+either_refused {A} {B} Refused one two (Err refusal) first second (inr is) = subst (λ (r : Result B GateError). IfErr r Refused) is second
+
+-- what is said of an answer that was granted, and of a refusal
+pub where_ok : {A : Type 0} (P : A → Type 0) (answer : Result A GateError) (a : A) → answer ≡ Ok a → IfOk answer P → P a
+where_ok {A} P answer a is holds = subst (λ (r : Result A GateError). IfOk r P) is holds
+
+pub each_ok : {A : Type 0} (P Q : A → Type 0) (answer : Result A GateError) → ((a : A) → P a → Q a) → IfOk answer P → IfOk answer Q
+each_ok P Q (Ok a) on holds = on a holds
+each_ok P Q (Err refusal) on holds = tt
+
+pub each_err : {A : Type 0} (P Q : GateError → Type 0) (answer : Result A GateError) → ((refusal : GateError) → P refusal → Q refusal) →
+    IfErr answer P → IfErr answer Q
+each_err P Q (Ok a) on holds = tt
+each_err P Q (Err refusal) on holds = on refusal holds

@@ -1,15 +1,18 @@
 -- Why a run is refused whose numbers are within their limits.
 use Rattle.std.specs.Prelude.{◌≡◌, ℕ, ◌+◌, ◌<◌, ◌≤◌, ◌⊎◌, None, Err, true}
+use Rattle.access_model.specs.Holders.{held_by}
 use Rattle.access_model.specs.declared.actions.Holder.TheVariants.{User}
 use Rattle.access_model.specs.declared.actions.Kind.TheVariants.{File}
 use Rattle.access_model.specs.declared.errors.GateError.{GateError}
 use Rattle.access_model.specs.declared.errors.GateError.TheVariants.{Again, Busy, Hook, Invalid, IsDir, NoEntry, NoMemory, NoSpace, NotDir, ReadOnly}
 use Rattle.gate_world.specs.declared.config.Config.{Config}
 use Rattle.gate_world.specs.declared.operations.Op.{Op}
-use Rattle.gate_world.specs.declared.operations.Op.TheVariants.{WantWrite, Freeze, Thaw, Create, Grow, Snapshot}
-use Rattle.vfs_gates.specs.Held.{Rests, IsAsBefore}
+use Rattle.gate_world.specs.declared.operations.Op.TheVariants.{WantWrite, Freeze, Thaw, Create, Grow}
+use Rattle.vfs_gates.specs.Frozen.{NeedsFreeze, holders_of}
+use Rattle.vfs_gates.specs.Grown.{StaySeen}
+use Rattle.vfs_gates.specs.Held.{Rests, IsAsBefore, own_actions}
 use Rattle.vfs_gates.specs.Runs.{Called}
-use Rattle.vfs_gates.specs.TaskStates.{SeatedTask, refusal_at}
+use Rattle.vfs_gates.specs.TaskStates.{SeatedTask, own_number, refusal_at}
 use Rattle.gate_runs.specs.run_parts.Rounds.{Does}
 
 -- A task that was granted write access when it rested, and holds since then just what the grant left it.
@@ -48,21 +51,18 @@ EndsFreeze Busy = Unit {0}
 EndsFreeze (Hook code) = Unit {0}
 EndsFreeze refusal = ⊥
 
--- the refusals that end a thaw
+-- the refusal that ends a thaw
 abbrev pub EndsThaw : GateError → Type 0
-EndsThaw Invalid = Unit {0}
 EndsThaw (Hook code) = Unit {0}
 EndsThaw refusal = ⊥
 
 -- The calls of a run whose refusal ends it, and with which refusals: the backup's taking of write access for the files that it creates, and each
--- creation; the growth of a writer's file; and the backup's freeze, snapshot and thaw. No other call of a run ends it, and none as Order or as
--- TooMany. Invalid says here that the file system was not frozen.
+-- creation; the growth of a writer's file; and the backup's freeze and thaw. No other call of a run ends it, and none as Order, TooMany or Invalid.
 abbrev pub MayEnd : ℕ → Op → GateError → Type 0
 MayEnd tasks (WantWrite mount cpu) refusal = (mount ≡ 0) × (cpu ≡ 0) × (refusal ≡ ReadOnly)
 MayEnd tasks (Create dir kind) refusal = (dir ≡ 0) × (kind ≡ File) × EndsCreate refusal
 MayEnd tasks (Grow file blocks) refusal = (1 ≤ file) × (file + 1 < tasks) × (blocks ≡ 1) × EndsGrow refusal
 MayEnd tasks (Freeze holder) refusal = (holder ≡ User) × EndsFreeze refusal
-MayEnd tasks (Snapshot wait) refusal = (wait ≡ true) × (refusal ≡ Invalid)
 MayEnd tasks (Thaw holder) refusal = (holder ≡ User) × EndsThaw refusal
 MayEnd tasks op refusal = ⊥
 
@@ -85,3 +85,15 @@ pub record MetBy (config : Config) (tasks : ℕ) (refusal : GateError) : Type 0 
 -- memory or a thread was refused; or a call of a task was refused so
 abbrev pub RunRefused : Config → ℕ → GateError → Type 0
 RunRefused config tasks refusal = (refusal ≡ NoMemory) ⊎ MetBy config tasks refusal
+
+-- A call of this task's number found thawed what its own list had frozen: a snapshot, or a thaw, was refused as Invalid.
+pub record FoundThawed (s : SeatedTask) : Type 0 where
+  pub op : Op
+  pub first : SeatedTask
+  pub last : SeatedTask
+  pub config : first.config ≡ s.config
+  pub own : own_number first.items ≡ own_number s.items
+  pub needs : NeedsFreeze User op
+  pub holds : held_by (holders_of (own_actions first)) User ≡ true
+  pub refused : Called op first last (Err Invalid)
+  pub seen : StaySeen last.seen s.seen

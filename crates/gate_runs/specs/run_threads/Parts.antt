@@ -1,8 +1,8 @@
 -- What each task of a run has done, from where it began, and how it stands at the end.
-use Rattle.std.specs.Prelude.{◌≡◌, ℕ, suc, ◌+◌, ◌-◌, ◌≤◌, ◌⊎◌, List, [], ◌∷◌, length}
+use Rattle.std.specs.Prelude.{◌≡◌, ℕ, suc, ◌+◌, ◌-◌, ◌⊎◌, List, [], ◌∷◌, length}
 use Rattle.gate_world.specs.declared.views.View.{View}
 use Rattle.gate_runs.specs.run_parts.Seating.{DealtNumbers, numbered}
-use Rattle.gate_runs.specs.run_parts.TaskStates.{SeatedTask, IsIdle, own_number, own_view, spare_of}
+use Rattle.gate_runs.specs.run_parts.TaskStates.{SeatedTask, own_number, own_view}
 use Rattle.run_plans.specs.declared.counts.Copies.{Copies}
 use Rattle.run_plans.specs.declared.counts.Details.{Details}
 use Rattle.run_plans.specs.declared.counts.Remounts.{Remounts}
@@ -25,14 +25,6 @@ Among (x ∷ xs) s = (x ≡ numbered (own_number s.items) (own_view s.items)) �
 -- its own number has in the end the view that it knew
 abbrev pub EndsAs : (ℕ → View) → SeatedTask → Type 0
 EndsAs views s = views (own_number s.items) ≡ own_view s.items
-
--- calls of its own leave a task its number, and the others that it has to give
-pub record KeepsNumbers (first last : SeatedTask) : Type 0 where
-  pub config : last.config ≡ first.config
-  pub own : own_number last.items ≡ own_number first.items
-  pub spare : spare_of last.items ≡ spare_of first.items
-  pub idle : IsIdle first → IsIdle last
-  pub there : 1 ≤ length first.items → 1 ≤ length last.items
 
 -- What each task has done. `Ends` says of the last state of each how it stands at the end.
 module _ (Ends : SeatedTask → Type 0) where

@@ -1,15 +1,17 @@
 //! What each task of a run does.
 
-ghost use Rattle.std.specs.Prelude.{◌≡◌, ◌+◌, ◌-◌, ◌<◌, ◌≤◌, ℕ, IfErr, IfOk, OnOk, Some, length, true};
+ghost use Rattle.std.specs.Prelude.{◌≡◌, ◌+◌, ◌-◌, ◌<◌, ◌≤◌, ◌⊎◌, ℕ, Err, IfErr, IfOk, OnOk, Some, length, true};
 ghost use Rattle.access_model.specs.declared.errors.GateError.TheVariants.{Again, Invalid, ReadOnly};
 ghost use Rattle.gated_tree.specs.Trees.{LoadedClean, LoadedSound};
 ghost use Rattle.gate_runs.specs.run_parts.Counts.{blocks_of, counted, no_copies, no_remounts, no_writes, with_waits};
-ghost use Rattle.gate_runs.specs.run_parts.Refusals.{EndsGrow, HasWriteAccess, MetBy, WasRefused};
+ghost use Rattle.gate_runs.specs.run_parts.Keeping.{KeepsNumbers, ThawsNothing};
+ghost use Rattle.gate_runs.specs.run_parts.Refusals.{EndsGrow, FoundThawed, HasWriteAccess, MetBy, WasRefused};
 ghost use Rattle.gate_runs.specs.run_parts.Rounds.{BackupRound, CallsBack, Closes, CreatesFiles, Does, RemountRound, Repeats, Retries, Takes, WriterRound};
 ghost use Rattle.gate_world.specs.declared.operations.Op.TheVariants.{Grow, Snapshot as SnapshotOp};
 ghost use Rattle.gate_world.specs.declared.views.Snapshot.{Snapshot};
 ghost use Rattle.run_plans.specs.Plans.{run_config};
-ghost use Rattle.vfs_gates.specs.Held.{Rests};
+ghost use Rattle.vfs_gates.specs.Held.{Rests, own_actions};
+ghost use Rattle.vfs_gates.specs.Runs.{Called};
 ghost use Rattle.vfs_gates.specs.TaskStates.{IsFrom, own_number, own_view};
 
 use crate::run_parts::meetings::NotedObserver;
@@ -90,6 +92,7 @@ fn grow<R: Wait>(rt: &R, gates: &Gates, task: &mut Task, file: u8) -> Result<u64
     requires file { file < gates.now.words.config.nodes }
     ensures from { IsFrom task.new gates.now }
     ensures inside { HasWriteAccess task.new }
+    ensures thaws { ThawsNothing task.old task.new }
     ensures grew { IfOk result (λ raced. (grew : Retries (Grow file 1) Again task.old task.new) × (raced ≡ counted grew.0)) }
     ensures refused { IfErr result (λ refusal. EndsGrow refusal × WasRefused gates.now.words.config (Grow file 1) refusal) }
 {
@@ -120,6 +123,7 @@ pub fn write<R: Wait, W: NotedObserver>(
     requires rests { Rests task.old }
     ensures from { IsFrom task.new gates.now }
     ensures rests { Rests task.new }
+    ensures thaws { ThawsNothing task.old task.new }
     ensures rounds { IfOk result (λ writes. Repeats (WriterRound (W.meets watch.now) plan.processors writer) plan.rounds
         (task.old, notes.old, no_writes) (task.new, notes.new, writes)) }
     ensures refused { IfErr result (MetBy gates.now.words.config plan.tasks) }
@@ -193,7 +197,7 @@ fn whole_blocks(task: &Task) -> Option<u64>
     }
 }
 
-/// Takes a snapshot, and tells its blocks, where it is sound and clean.
+/// Takes a snapshot, and tells its blocks, where it is sound and clean. It adds nothing to its task's list.
 fn take_snapshot<R: Wait>(rt: &R, gates: &Gates, task: &mut Task) -> Result<Option<u64>, GateError>
     requires from { IsFrom task.old gates.now }
     requires rests { Rests task.old }
@@ -201,7 +205,9 @@ fn take_snapshot<R: Wait>(rt: &R, gates: &Gates, task: &mut Task) -> Result<Opti
     ensures rests { Rests task.new }
     ensures whole { IfOk result (λ blocks. blocks ≡ Some (blocks_of task.new)) }
     ensures took { OnOk result (Does (SnapshotOp true) task.old task.new) }
-    ensures refused { IfErr result (λ refusal. (refusal ≡ Invalid) × WasRefused gates.now.words.config (SnapshotOp true) refusal) }
+    ensures stays { KeepsNumbers task.old task.new }
+    ensures list { own_actions task.new ≡ own_actions task.old }
+    ensures refused { IfErr result (λ refusal. (refusal ≡ Invalid) × Called (SnapshotOp true) task.old task.new (Err Invalid)) }
 {
     task.snapshot(rt, gates)?;
     Ok(whole_blocks(task))
@@ -232,7 +238,8 @@ fn call_back<R: Wait>(
 }
 
 /// Freezes, takes a snapshot, meets, thaws, and calls back what the levels have queued, so often. Counts the freezes, the snapshots that
-/// were sound and clean, their blocks, the callbacks that ran, and the waits of all these calls.
+/// were sound and clean, their blocks, the callbacks that ran, and the waits of all these calls. If another task thawed what it has frozen, it may find
+/// that.
 pub fn back_up<R: Wait, W: NotedObserver>(
     rt: &R,
     gates: &Gates,
@@ -245,10 +252,11 @@ pub fn back_up<R: Wait, W: NotedObserver>(
     requires rests { Rests task.old }
     ensures from { IsFrom task.new gates.now }
     ensures rests { Rests task.new }
+    ensures stays { KeepsNumbers task.old task.new }
     ensures all { IfOk result (λ copies. (copies.frozen ≡ plan.freezes) × (copies.snapshots ≡ plan.freezes)) }
     ensures rounds { IfOk result (λ copies. Repeats (BackupRound (W.sees watch.now)) plan.freezes
         (task.old, notes.old, no_copies) (task.new, notes.new, copies)) }
-    ensures refused { IfErr result (MetBy gates.now.words.config plan.tasks) }
+    ensures refused { IfErr result (λ refusal. MetBy gates.now.words.config plan.tasks refusal ⊎ FoundThawed task.new) }
 {
     let mut copies = Copies::none();
     for freeze in 0..plan.freezes() {

@@ -1,9 +1,15 @@
 //! The threads of a run: started, and joined.
 
-ghost use Rattle.std.specs.Prelude.{◌≡◌, ◌+◌, ◌-◌, ◌<◌, ◌≤◌, [], IfErr, IfOk, OnOk, length, vec_len};
+ghost use Rattle.std.specs.Prelude.{◌≡◌, ◌+◌, ◌-◌, ◌<◌, ◌≤◌, ◌⊎◌, [], Err, IfErr, IfOk, Ok, OnOk, length, vec_len};
 ghost use Rattle.access_model.specs.declared.errors.GateError.TheVariants.{NoMemory};
-ghost use Rattle.gate_runs.specs.run_threads.Homes.{ComesHome, DoesRounds, TaskShare};
-ghost use Rattle.gate_runs.specs.run_threads.Parts.{AllDid, AllWrote, Among, EachFrom, Remounted};
+ghost use Rattle.gate_runs.specs.run_threads.Ends.{AllJoined};
+ghost use Rattle.gate_runs.specs.declared.run_threads.threads.Met.{Met as MetType};
+ghost use Rattle.run_plans.specs.declared.counts.Remounts.{Remounts as RemountsType};
+ghost use Rattle.run_plans.specs.declared.counts.Writes.{Writes as WritesType};
+ghost use Rattle.gate_runs.specs.run_threads.Homes.{ComesHome, DoesRounds, HasBack, NeverThawed, TaskShare, TookBack, with_met};
+ghost use Rattle.gate_runs.specs.run_threads.Parts.{AllWrote, Among, EachFrom, Remounted};
+ghost use Rattle.gate_runs.specs.run_parts.Counts.{remounts_of};
+ghost use Rattle.gate_runs.specs.run_parts.Keeping.{HaveNotThawed, ThawsNothing};
 ghost use Rattle.gate_runs.specs.run_parts.Meetings.{was_held};
 ghost use Rattle.gate_runs.specs.run_parts.Refusals.{MetBy, RunRefused};
 ghost use Rattle.gate_runs.specs.run_parts.Splitting.{Gives, HasBegun};
@@ -13,7 +19,7 @@ ghost use Rattle.vfs_gates.specs.Held.{Rests};
 
 use crate::run_parts::{Gates, Task, back_up, create_files, remount, write};
 use access_model::GateError;
-use run_plans::{Details, FIRST_WRITER, Plan, Remounts, RunObserver, Writes};
+use run_plans::{Copies, Details, FIRST_WRITER, Plan, Remounts, RunObserver, Writes};
 use std::alloc::Global;
 use std::sync::Wait;
 use std::thread;
@@ -95,6 +101,7 @@ fn work<R: Wait, W: RunObserver>(
     requires rests { Rests task.old }
     ensures from { IsFrom task.new gates.now }
     ensures rests { Rests task.new }
+    ensures thaws { ThawsNothing task.old task.new }
     ensures does { IfOk result (λ m. DoesRounds (W.held watch.now) plan.processors plan.rounds number task.old task.new m) }
     ensures refused { IfErr result (MetBy gates.now.words.config plan.tasks) }
 {
@@ -144,6 +151,7 @@ fn start_worker<'s, E, R: Wait + Sync, W: RunObserver + Sync>(
         requires begun { HasBegun number other }
         requires number { (1 ≤ number) × (number < plan.tasks) }
         requires rests { Rests other }
+        requires thawed { HaveNotThawed other.items }
         ensures { ComesHome (W.held watch.entry.now) gates.entry.now plan number result.task result.met }
     {
         let mut task = other;
@@ -205,6 +213,7 @@ fn join_worker<R: Threads, W: RunObserver>(
     ensures from { IsFrom task.new gates.now }
     ensures rests { Rests task.new × (1 ≤ length task.new.items) }
     ensures others { (s : SeatedTask) → Among task.old.items s → Among task.new.items s }
+    ensures took { (other : SeatedTask) × NeverThawed worker.entry.promise.number other × TookBack task.old other task.new }
     ensures part { IfOk result (TaskShare (Among task.new.items) (W.held worker.entry.promise.watch.now)
         worker.entry.promise.plan.processors worker.entry.promise.plan.rounds worker.entry.promise.number) }
     ensures refused { IfErr result (RunRefused gates.now.words.config worker.entry.promise.plan.tasks) }
@@ -216,7 +225,22 @@ fn join_worker<R: Threads, W: RunObserver>(
     met
 }
 
-/// Joins all threads, of this plan and watch, and tells what the remounter met, and the writers together. The first refusal that is met ends it.
+/// What the tasks that were joined have met, with one more. The first refusal stays.
+fn with_worker(
+    so_far: Result<(Remounts, Writes), GateError>,
+    its: Result<Met, GateError>,
+) -> Result<(Remounts, Writes), GateError>
+    ensures done { IfOk result (λ met. (before : RemountsType × WritesType) × (m : MetType) × (so_far ≡ Ok before) × (its ≡ Ok m) × (met ≡ with_met before m)) }
+    ensures refused { IfErr result (λ refusal. (so_far ≡ Err refusal) ⊎ (its ≡ Err refusal)) }
+{
+    let (remounts, writes) = so_far?;
+    match its? {
+        Met::Remounter(its) => Ok((its, writes)),
+        Met::Writer(its) => Ok((remounts, its.and(writes))),
+    }
+}
+
+/// Joins all threads, of this plan and watch, whatever they met, and tells what the remounter met, and the writers together, or the first refusal.
 fn join_workers<R: Threads, W: RunObserver>(
     rt: &R,
     gates: &Gates,
@@ -234,49 +258,30 @@ fn join_workers<R: Threads, W: RunObserver>(
     requires there { 1 ≤ length task.old.items }
     ensures from { IsFrom task.new gates.now }
     ensures rests { Rests task.new }
+    ensures back { HasBack 1 (vec_len workers.old + 1) task.old task.new }
     ensures others { (s : SeatedTask) → Among task.old.items s → Among task.new.items s }
     ensures remounted { IfOk result (λ met. Remounted (Among task.new.items) _plan.rounds met.0) }
     ensures wrote { IfOk result (λ met. AllWrote (Among task.new.items) (was_held (W.held _watch.now)) _plan.processors _plan.rounds
         0 (vec_len workers.old - 1) tt tt met.1) }
     ensures refused { IfErr result (RunRefused gates.now.words.config _plan.tasks) }
 {
-    let mut remounts = Remounts::none();
-    let mut writes = Writes::none();
+    let mut met = Ok((Remounts::none(), Writes::none()));
     while let Some(worker) = workers.pop() {
-        match join_worker(rt, gates, task, worker)? {
-            Met::Remounter(its) => remounts = its,
-            Met::Writer(its) => writes = its.and(writes),
-        }
+        met = with_worker(met, join_worker(rt, gates, task, worker));
     }
-    Ok((remounts, writes))
+    met
 }
 
-/// Creates the files, starts the threads of all other tasks, backs up beside them, and joins them.
-fn run_threads<'s, E, R: Threads + Wait + Sync, W: RunObserver + Sync>(
-    starter: &Starter<'_, 's, E, R>,
-    gates: &'s Gates,
-    plan: Plan,
-    watch: &'s W,
-    task: &mut Task,
-    workers: &mut Vec<Worker<'s, W>>,
+/// What all tasks of a run have met. A refusal of the backup comes first.
+fn details_of(
+    copies: Result<Copies, GateError>,
+    others: Result<(Remounts, Writes), GateError>,
 ) -> Result<Details, GateError>
-    requires from { IsFrom task.old gates.now }
-    requires planned { gates.now.words.config ≡ run_config plan.tasks plan.processors plan.rounds }
-    requires begins { HasBegun 0 task.old }
-    requires gives { Gives task.old 1 plan.tasks }
-    requires none { workers.old.items ≡ [] }
-    ensures from { IsFrom task.new gates.now }
-    ensures rests { OnOk result (Rests task.new) }
-    ensures copies { IfOk result (λ d. (d.copies.frozen ≡ plan.freezes) × (d.copies.snapshots ≡ plan.freezes)) }
-    ensures all { IfOk result (AllDid (Among task.new.items) (W.held watch.now) (W.seen watch.now) plan.tasks plan.processors plan.rounds
-        plan.freezes) }
-    ensures refused { IfErr result (RunRefused gates.now.words.config plan.tasks) }
+    ensures done { IfOk result (λ d. (copies ≡ Ok d.copies) × (others ≡ Ok (remounts_of d, d.writes))) }
+    ensures refused { IfErr result (λ refusal. (copies ≡ Err refusal) ⊎ (others ≡ Err refusal)) }
 {
-    let rt = starter.rt;
-    create_files(rt, gates, plan, task)?;
-    start_workers(starter, gates, plan, watch, task, workers)?;
-    let copies = back_up(rt, gates, plan, watch, task, &mut ())?;
-    let (remounts, writes) = join_workers(rt, gates, plan, watch, task, workers)?;
+    let copies = copies?;
+    let (remounts, writes) = others?;
     Ok(Details {
         writes,
         busy: remounts.busy,
@@ -285,7 +290,34 @@ fn run_threads<'s, E, R: Threads + Wait + Sync, W: RunObserver + Sync>(
     })
 }
 
-/// Does a run in a scope of threads: all of them have ended when it returns, whatever it answers.
+/// Creates the files, starts the threads of all other tasks, backs up beside them, and joins them, whatever they and the backup met. It is refused
+/// itself if a file can't be created or a thread can't be started.
+fn run_threads<'s, E, R: Threads + Wait + Sync, W: RunObserver + Sync>(
+    starter: &Starter<'_, 's, E, R>,
+    gates: &'s Gates,
+    plan: Plan,
+    watch: &'s W,
+    task: &mut Task,
+    workers: &mut Vec<Worker<'s, W>>,
+) -> Result<Result<Details, GateError>, GateError>
+    requires from { IsFrom task.old gates.now }
+    requires planned { gates.now.words.config ≡ run_config plan.tasks plan.processors plan.rounds }
+    requires begins { HasBegun 0 task.old }
+    requires gives { Gives task.old 1 plan.tasks }
+    requires none { workers.old.items ≡ [] }
+    ensures joined { IfOk result (AllJoined (W.held watch.now) (W.seen watch.now) gates.now plan task.new) }
+    ensures refused { IfErr result (RunRefused gates.now.words.config plan.tasks) }
+{
+    let rt = starter.rt;
+    create_files(rt, gates, plan, task)?;
+    start_workers(starter, gates, plan, watch, task, workers)?;
+    let copies = back_up(rt, gates, plan, watch, task, &mut ());
+    let others = join_workers(rt, gates, plan, watch, task, workers);
+    Ok(details_of(copies, others))
+}
+
+/// Does a run in a scope of threads, and tells what its tasks met: all threads have ended when it returns, whatever it answers, and all tasks were
+/// joined to the one that it gives back. It is refused itself if a file can't be created or a thread can't be started.
 pub fn in_threads<R: Threads + Wait + Sync, W: RunObserver + Sync>(
     rt: &R,
     alloc: Global,
@@ -293,40 +325,32 @@ pub fn in_threads<R: Threads + Wait + Sync, W: RunObserver + Sync>(
     plan: Plan,
     watch: &W,
     task: Task,
-) -> Result<(Task, Details), GateError>
+) -> Result<(Task, Result<Details, GateError>), GateError>
     requires from { IsFrom task gates.now }
     requires planned { gates.now.words.config ≡ run_config plan.tasks plan.processors plan.rounds }
     requires begins { HasBegun 0 task }
     requires gives { Gives task 1 plan.tasks }
-    ensures from { IfOk result (λ r. IsFrom r.0 gates.now) }
-    ensures rests { IfOk result (λ r. Rests r.0) }
-    ensures copies { IfOk result (λ r. (r.1.copies.frozen ≡ plan.freezes) × (r.1.copies.snapshots ≡ plan.freezes)) }
-    ensures all { IfOk result (λ r. AllDid (Among r.0.items) (W.held watch.now) (W.seen watch.now) plan.tasks plan.processors plan.rounds
-        plan.freezes r.1) }
+    ensures joined { IfOk result (λ r. AllJoined (W.held watch.now) (W.seen watch.now) gates.now plan r.0 r.1) }
     ensures refused { IfErr result (RunRefused gates.now.words.config plan.tasks) }
 {
     thread::scope(
         thread::scope_env(),
         rt,
-        move |scope| -> Result<(Task, Details), GateError>
+        move |scope| -> Result<(Task, Result<Details, GateError>), GateError>
             requires from { IsFrom task gates.now }
             requires planned { gates.now.words.config ≡ run_config plan.tasks plan.processors plan.rounds }
             requires begins { HasBegun 0 task }
             requires gives { Gives task 1 plan.tasks }
-            ensures from { IfOk result (λ r. IsFrom r.0 gates.entry.now) }
-            ensures rests { IfOk result (λ r. Rests r.0) }
-            ensures copies { IfOk result (λ r. (r.1.copies.frozen ≡ plan.freezes) × (r.1.copies.snapshots ≡ plan.freezes)) }
-            ensures all { IfOk result (λ r. AllDid (Among r.0.items) (W.held watch.entry.now) (W.seen watch.entry.now) plan.tasks plan.processors
-                plan.rounds plan.freezes r.1) }
+            ensures joined { IfOk result (λ r. AllJoined (W.held watch.entry.now) (W.seen watch.entry.now) gates.entry.now plan r.0 r.1) }
             ensures refused { IfErr result (RunRefused gates.entry.now.words.config plan.tasks) }
         {
             let mut task = task;
             let mut workers = Vec::new(alloc);
             let starter = Starter { scope, rt, alloc };
-            let details = run_threads(&starter, gates, plan, watch, &mut task, &mut workers);
+            let met = run_threads(&starter, gates, plan, watch, &mut task, &mut workers);
             drop(workers);
-            let details = details?;
-            Ok((task, details))
+            let met = met?;
+            Ok((task, met))
         },
     )
 }

@@ -2,8 +2,11 @@
 //! was joined to it or that it was split off. Each later moment's schedule goes on from these. Only the handing over of tasks is order: of two
 //! threads that talk by other means nothing is said here. The functions do nothing: their contracts are the laws.
 
-ghost use Rattle.std.specs.Prelude.{◌≡◌, ◌≤◌, ℕ, Bool, Some, Ok, Err, Result, List, ◌++◌, length};
+ghost use Rattle.std.specs.Prelude.{◌≡◌, ◌<◌, ◌≤◌, ℕ, Bool, true, Some, Ok, Err, Result, List, ◌++◌, length};
+ghost use Rattle.access_model.specs.Holders.{held_by};
+ghost use Rattle.access_model.specs.declared.actions.Holder.{Holder};
 ghost use Rattle.access_model.specs.declared.errors.GateError.{GateError};
+ghost use Rattle.access_model.specs.declared.errors.GateError.TheVariants.{Invalid};
 ghost use Rattle.access_model.specs.declared.replies.Reply.{Reply};
 ghost use Rattle.gate_world.specs.traces.TraceStates.{state_of_trace};
 ghost use Rattle.gate_world.specs.declared.config.Config.{Config};
@@ -16,7 +19,9 @@ ghost use Rattle.gate_steps.specs.call_events.Grown.{StaySeen};
 ghost use Rattle.gate_steps.specs.call_events.Runs.{Called};
 ghost use Rattle.gate_steps.specs.call_events.Spans.{AreInOrder, HasItsCauseDuring, IsTreeDuring, TakesEffect};
 ghost use Rattle.vfs_gates.specs.Ended.{EndedWith, IsLeftAfter};
+ghost use Rattle.vfs_gates.specs.Frozen.{NeedsFreeze, NeverThaws, holders_of};
 ghost use Rattle.vfs_gates.specs.Handed.{ComesAfter};
+ghost use Rattle.vfs_gates.specs.Held.{own_actions};
 ghost use Rattle.vfs_gates.specs.Parts.{SplitOf};
 ghost use Rattle.vfs_gates.specs.TaskStates.{SeatedTask, own_number, own_view};
 
@@ -76,6 +81,16 @@ pub fn a_snapshot_is_of_a_freeze_that_stood_during_the_call()
     ensures { (wait : Bool) (old left : SeatedTask) (reply : Reply) (s : Snapshot) → 1 ≤ length old.items →
         Called (SnapshotOp wait) old left (Ok reply) → (own_view left.items).snapshot ≡ Some s →
         IsTreeDuring old.config old.items (SnapshotOp wait) old.seen left.seen s.loaded }
+{}
+
+/// A freeze stands until it is thawed. If a task's own list leaves its holder a freeze, then its snapshot and its thaw for that holder aren't refused
+/// as Invalid, unless another number thaws for that holder. Closed gates tell, whose last task has seen what the call left: in the list of some other
+/// number that holder has left.
+pub fn a_freeze_stands_until_it_is_thawed()
+    ensures { (h : Holder) (op : Op) (old left : SeatedTask) → Called op old left (Err Invalid) → NeedsFreeze h op →
+        (ws : List ℕ) (items : DealtNumbers) (seen : List (List Entry)) (e : EndedWith old.config ws items seen) →
+        held_by (holders_of (own_actions old)) h ≡ true → StaySeen left.seen seen →
+        ((t : ℕ) → t < old.config.tasks → (t ≡ own_number old.items → ⊥) → NeverThaws h (e.ended.world.views t).actions) → ⊥ }
 {}
 
 /// A call of a task to which another was joined comes after all that the other had done: in the history that the

@@ -1,6 +1,8 @@
 -- The backup's task rests once the writer's is joined to it, and its first change comes after all that the writer had done.
+use Rattle.std.proofs.Common.{ap, ◌∙◌}
 use Rattle.std.specs.Prelude.{Bool, Result, Ok, Err, OnOk}
-use Rattle.vfs_gates.proofs.Rounds.{GateError, SeatedTask, done_after, joined_rests}
+use Rattle.vfs_gates.specs.Seating.{times}
+use Rattle.vfs_gates.proofs.Rounds.{GateError, SeatedTask, done_after, joined_rests, times-append}
 use Rattle.backup_beside_writer.specs.Reports.{HasEveryWrite, HasCopied}
 use Rattle.backup_beside_writer.proofs.run.copy_at_the_end.Goals as goal
 
@@ -25,3 +27,7 @@ returns-clause-every_write g c =
       opens = made.2;
     })
     c.copy_once-copied.ensures.made
+
+pub returns-clause-numbers : goal.returns-clause-numbers
+returns-clause-numbers g c = λ n.
+    c.copy_once-copied.ensures.numbers n ∙ (ap (times n) c.join-task.ensures.numbers ∙ times-append n c.args.backup.items c.args.writer.items)

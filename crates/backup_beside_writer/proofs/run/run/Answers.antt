@@ -1,9 +1,15 @@
 -- Each task ends in the closed gates' world with the list that it brought back, which it had begun with none.
-use Rattle.std.proofs.Common.{sym, subst}
-use Rattle.std.specs.Prelude.{Bool, Result, Ok, Err, Option, IfSome, OnOk}
+use Rattle.std.proofs.Common.{◌≡◌, ◌+◌, ◌<◌, arith, ap, sym, subst, suc, zero, ◌∙◌}
+use Rattle.std.proofs.lemmas.Result.{err_from_is_err_and}
+use Rattle.std.specs.Prelude.{Bool, Result, Ok, Err, Option, None, IfSome, OnOk}
 use Rattle.std.specs.Result.{result_ok}
-use Rattle.vfs_gates.proofs.Rounds.{rules, handed_did, granted_alone, joined_rests, GateError, Granted, Mount}
-use Rattle.backup_beside_writer.specs.Reports.{Copies, HasAllWrites}
+use Rattle.vfs_gates.proofs.Rounds.{Config, IsWithin, TableId, first_known, task_state}
+use Rattle.vfs_gates.specs.Parts.{SplitOf}
+use Rattle.vfs_gates.specs.Seating.{times}
+use Rattle.vfs_gates.specs.Splitting.{Gives}
+use Rattle.vfs_gates.proofs.Rounds.{◌≤◌, ℕ, rules, handed_did, granted_alone, joined_rests, own_times, times-append, GateError, Granted, Mount, SeatedTask}
+use Rattle.vfs_gates.proofs.Splitting.{gives_all, gives_on, has_begun, refused_for_memory}
+use Rattle.backup_beside_writer.specs.Reports.{Copies, HasAllWrites, SameNumbers}
 use Rattle.backup_beside_writer.proofs.run.run.Goals as goal
 
 pub copy_at_the_end-task-requires-clause-rests : goal.copy_at_the_end-task-requires-clause-rests
@@ -22,8 +28,8 @@ with_writes : (copied : Result Bool GateError) (P Q : Type 0) → (P → Q) → 
 with_writes (Ok torn) P Q more made = more made
 with_writes (Err refusal) P Q more made = tt
 
-pub returns : goal.returns
-returns g c =
+pub returns-clause-told : goal.returns-clause-told
+returns-clause-told g c =
     let did = handed_did (Granted (Mount 0) 10000) (Copies 100) c.join-first.result.0 c.join-first.result.1.0 c.join-both.result
     c.in_ok-gates.ensures.made.1 c.in_ok-second.ensures.made c.in_ok-third.ensures.made c.in-Ok.ensures.closed.2
     c.copy_at_the_end-task.ensures.others c.join-both.ensures.numbers c.number-last.ensures.there c.number-writer.ensures.own
@@ -49,3 +55,74 @@ returns g c =
       every_write = subst (λ (o : Option Bool). IfSome o (λ torn. HasAllWrites 10000)) (sym c.ok.ensures.value)
           (where_told c.copy_at_the_end-task.result.1 (HasAllWrites 10000) last);
     }
+
+-- The numbers 0, 1 and 2 go to the three tasks, and no split is refused but for memory.
+run_within : IsWithin (record { tasks = 3; processors = 2; mounts = 1; nodes = 2; capacity = 0 })
+run_within = record {
+  some_task = omega arith;
+  tasks = omega arith;
+  some_processor = omega arith;
+  processors = omega arith;
+  some_mount = omega arith;
+  mounts = omega arith;
+  some_node = omega arith;
+  nodes = omega arith;
+  capacity = omega arith;
+}
+
+module _ {id : TableId} {first : SeatedTask}
+    (made : first ≡ task_state id (record { tasks = 3; processors = 2; mounts = 1; nodes = 2; capacity = 0 }) None None
+    (first_known (record { tasks = 3; processors = 2; mounts = 1; nodes = 2; capacity = 0 }))) where
+  gives : Gives first 1 3
+  gives = gives_all first (record { tasks = 3; processors = 2; mounts = 1; nodes = 2; capacity = 0 }) (omega arith)
+      (ap (λ (t : SeatedTask). t.phase) made) (ap (λ (t : SeatedTask). t.items) made)
+
+  gives_more : {left second : SeatedTask} → SplitOf first left second → Gives left 2 3
+  gives_more {left} {second} split = gives_on first left second 1 3 gives (omega arith) split
+
+  -- so three tasks that have these numbers have all
+  has_three : {left second kept third : SeatedTask} → SplitOf first left second → SplitOf left kept third → (n : ℕ) → n < 3 →
+      1 ≤ times n third.items + (times n kept.items + times n second.items)
+  has_three {left} {second} {kept} {third} split more zero lt =
+      let left_over = gives_on left kept third 2 3 (gives_more split) (omega arith) more in
+      let its = own_times 0 kept.items left_over.own left_over.there in omega (arith, its)
+  has_three {left} {second} {kept} {third} split more (suc zero) lt =
+      let begun = has_begun first left second 1 3 gives (omega arith) split in
+      let its = own_times 1 second.items begun.own begun.there in omega (arith, its)
+  has_three {left} {second} {kept} {third} split more (suc (suc zero)) lt =
+      let begun = has_begun left kept third 2 3 (gives_more split) (omega arith) more in
+      let its = own_times 2 third.items begun.own begun.there in omega (arith, its)
+  has_three split more (suc (suc (suc n))) lt = absurd (omega (arith, lt))
+
+pub returns-in_err-gates-clause-refused : goal.returns-in_err-gates-clause-refused
+returns-in_err-gates-clause-refused g c =
+    let p = err_from_is_err_and c.from_residual.result c.from_residual.ensures.1 in rw (p.1, p.2) (c.in_err-gates.ensures.memory run_within)
+
+pub returns-in_err-second-clause-refused : goal.returns-in_err-second-clause-refused
+returns-in_err-second-clause-refused g c =
+    let p = err_from_is_err_and c.from_residual-in_err-second.result c.from_residual-in_err-second.ensures.1 in
+    rw (p.1, p.2) (refused_for_memory _ 1 3 _ (gives c.in_ok-gates.ensures.made.1) (omega arith) c.in_err-second.ensures.refused.1)
+
+pub returns-in_err-third-clause-refused : goal.returns-in_err-third-clause-refused
+returns-in_err-third-clause-refused g c =
+    let p = err_from_is_err_and c.from_residual-in_err-third.result c.from_residual-in_err-third.ensures.1 in
+    rw (p.1, p.2) (refused_for_memory _ 2 3 _ (gives_more c.in_ok-gates.ensures.made.1 c.in_ok-second.ensures.made) (omega arith)
+    c.in_err-third.ensures.refused.1)
+
+pub unreachable-requires : goal.unreachable-requires
+unreachable-requires g c =
+    let task = c.copy_at_the_end-task.result.0 in
+    let tasks : task.config.tasks ≡ 3 = ap (λ (d : Config). d.tasks) (c.copy_at_the_end-task.ensures.from.1 ∙ c.in_ok-gates.ensures.made.0) in
+    let first = c.join-first.result.0 in
+    let second = c.join-first.result.1.0 in
+    let firsts = let same : SameNumbers c.split-2.new.self first = search (rules, c.join-first.ensures.first) in same in
+    let seconds = let same : SameNumbers c.in_ok-second.second second = search (rules, c.join-first.ensures.second) in same in
+    c.in_default.ensures.refused.3 (
+      c.copy_at_the_end-task.ensures.rests.0,
+      c.copy_at_the_end-task.ensures.rests.1,
+      λ n lt.
+          let some = has_three c.in_ok-gates.ensures.made.1 c.in_ok-second.ensures.made c.in_ok-third.ensures.made n (omega (arith, tasks, lt)) in
+          let all = c.copy_at_the_end-task.ensures.numbers n in
+          let both = ap (times n) c.join-both.ensures.numbers ∙ times-append n first.items second.items in
+          omega (arith, some, all, both, firsts n, seconds n),
+    )

@@ -73,4 +73,13 @@ returns-in_err-plan-clause-in_order g c =
 pub returns-in_err-totals-clause-in_order : goal.returns-in_err-totals-clause-in_order
 returns-in_err-totals-clause-in_order g c =
     let p = err_from_is_err_and c.from_residual-in_err-totals.result c.from_residual-in_err-totals.ensures.1 in
-    rw (p.1, p.2) c.in_err-totals.ensures.in_order
+    rw (p.1, p.2) (c.in_err-totals.ensures.in_order.0, c.in_err-totals.ensures.in_order.1)
+
+-- within the limits it isn't Invalid
+pub returns-in_err-plan-clause-frozen : goal.returns-in_err-plan-clause-frozen
+returns-in_err-plan-clause-frozen g c = λ within. absurd (c.in_err-plan.ensures.refused.1 within)
+
+pub returns-in_err-totals-clause-frozen : goal.returns-in_err-totals-clause-frozen
+returns-in_err-totals-clause-frozen g c = λ within.
+    let p = err_from_is_err_and c.from_residual-in_err-totals.result c.from_residual-in_err-totals.ensures.1 in
+    rw (p.1, p.2) c.in_err-totals.ensures.in_order.2

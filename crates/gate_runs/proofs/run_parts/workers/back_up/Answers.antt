@@ -1,19 +1,27 @@
 -- one freeze more
-use Rattle.std.proofs.Common.{◌≡◌, ◌+◌, ap, arith, refl, subst, ◌∙◌}
+use Rattle.std.proofs.Common.{◌≡◌, ℕ, ◌+◌, List, ap, arith, inl, inr, refl, subst, sym, ◌∙◌}
 use Rattle.std.proofs.lemmas.Result.{err_from_is_err_and}
-use Rattle.std.specs.Prelude.{true, Result}
+use Rattle.std.specs.Prelude.{◌⊎◌, true, Err, Result}
+use Rattle.access_model.specs.Holders.{held_by}
+use Rattle.access_model.specs.declared.actions.Action.{Action}
 use Rattle.access_model.specs.declared.errors.GateError.{GateError}
+use Rattle.access_model.specs.declared.errors.GateError.TheVariants.{Invalid}
 use Rattle.access_model.specs.declared.actions.Holder.TheVariants.{User}
+use Rattle.gate_world.specs.declared.config.Config.{Config}
 use Rattle.gate_world.specs.declared.operations.Op.TheVariants.{Freeze, Snapshot, Thaw}
 use Rattle.run_plans.specs.declared.counts.Copies.{Copies}
-use Rattle.vfs_gates.specs.Held.{Rests}
-use Rattle.vfs_gates.specs.Runs.{Performs}
+use Rattle.vfs_gates.specs.Frozen.{holders_of}
+use Rattle.vfs_gates.specs.Held.{Rests, own_actions}
+use Rattle.vfs_gates.specs.Runs.{Called, Performs}
 use Rattle.vfs_gates.specs.TaskStates.{SeatedTask}
-use Rattle.gate_runs.specs.run_parts.Refusals.{WasRefused}
-use Rattle.gate_runs.proofs.run_parts.Answering.{freeze_begins, freeze_refused, met, rests_by, thaw_begins, thaw_refused, was_refused}
+use Rattle.vfs_gates.proofs.Grown.{same_stays_seen}
+use Rattle.gate_runs.specs.run_parts.Refusals.{FoundThawed, MetBy, WasRefused}
+use Rattle.gate_runs.proofs.run_parts.Answering.{done_stays_seen, freeze_begins, freeze_refused, freezes_list, met, rests_by, thaw_begins}
+use Rattle.gate_runs.proofs.run_parts.Answering.{thaw_refused, was_refused, was_whole}
+use Rattle.gate_runs.proofs.run_parts.Keeping.{backs_stay, called_stays, stays, stays_on}
 use Rattle.gate_runs.proofs.run_parts.Repeating.{one_more}
 use Rattle.gate_runs.specs.run_parts.Counts.{blocks_of, no_copies, with_copy, with_waits}
-use Rattle.gate_runs.specs.run_parts.Rounds.{BackupRound, CallsBack, Repeats}
+use Rattle.gate_runs.specs.run_parts.Rounds.{BackupRound, CallsBack, Does, IsRefused, Repeats}
 use Rattle.gate_runs.proofs.run_parts.workers.back_up.Goals as goal
 
 -- a freeze and a thaw leave the task at rest
@@ -22,6 +30,45 @@ frozen_rests first last outcome rests did = rests_by _ (Freeze User) first last 
 
 thawed_rests : (first last : SeatedTask) (outcome : Result (Unit {0}) GateError) → Rests first → Performs (Thaw User) first last outcome → Rests last
 thawed_rests first last outcome rests did = rests_by _ (Thaw User) first last outcome refl rests did
+
+-- what is found of a freeze that a task's own list has: a thaw that is refused as Invalid found thawed what was frozen
+thaw_found : (config : Config) (tasks : ℕ) (first frozen copied thawed : SeatedTask) (refusal : GateError) → copied.config ≡ config → Rests copied →
+    Does (Freeze User) first frozen → own_actions copied ≡ own_actions frozen → IsRefused (Thaw User) refusal copied thawed →
+    MetBy config tasks refusal ⊎ FoundThawed thawed
+thaw_found config tasks first frozen copied thawed refusal of rests freezes same refused =
+    let began = thaw_begins copied rests in
+    let called = was_whole _ (Thaw User) copied thawed refusal began refused in
+    let stayed = called_stays (Thaw User) copied thawed (Err refusal) called in
+    elim (thaw_refused copied thawed refusal called) [
+      | inl ends ↦ inl (met config tasks (Thaw User) refusal (refl, ends) (was_refused _ config (Thaw User) copied thawed refusal of rests began refused))
+      | inr invalid ↦ inr (record {
+        op = Thaw User;
+        first = copied;
+        last = thawed;
+        config = sym stayed.config;
+        own = sym stayed.own;
+        needs = refl;
+        holds = subst (λ (l : List Action). held_by (holders_of l) User ≡ true) (sym same) (freezes_list first frozen freezes);
+        refused = subst (λ e. Called (Thaw User) copied thawed (Err e)) invalid called;
+        seen = same_stays_seen thawed.seen;
+      })
+    ]
+
+-- and so did a snapshot
+snapshot_found : (first frozen copied thawed : SeatedTask) → Does (Freeze User) first frozen → Called (Snapshot true) frozen copied (Err Invalid) →
+    Does (Thaw User) copied thawed → FoundThawed thawed
+snapshot_found first frozen copied thawed freezes refused thaws =
+    let stayed = stays_on (called_stays (Snapshot true) frozen copied (Err Invalid) refused) (stays _ (Thaw User) copied thawed _ thaws) in record {
+      op = Snapshot true;
+      first = frozen;
+      last = copied;
+      config = sym stayed.config;
+      own = sym stayed.own;
+      needs = tt;
+      holds = freezes_list first frozen freezes;
+      refused = refused;
+      seen = done_stays_seen (Thaw User) copied thawed thaws;
+    }
 
 pub freeze-requires : goal.freeze-requires
 freeze-requires g c = c.loop-freeze.invariant.from
@@ -57,7 +104,7 @@ returns-in_err-freeze-clause-refused g c =
     let was : WasRefused c.args.gates.now.words.config (Freeze User) c.in_err-freeze.field-0.0 = was_refused _ _ (Freeze User) c.loop-freeze.task
     c.freeze.new.self _ c.loop-freeze.invariant.from.1 c.loop-freeze.invariant.rests (freeze_begins c.loop-freeze.task c.loop-freeze.invariant.rests)
     c.in_err-freeze.ensures.replies in
-    rw (p.1, p.2) (met _ c.args.plan.tasks (Freeze User) _ (refl, freeze_refused _ _ _ was.refused) was)
+    rw (p.1, p.2) (inl (met _ c.args.plan.tasks (Freeze User) _ (refl, freeze_refused _ _ _ was.refused) was))
 
 pub returns-in_err-thaw-clause-from : goal.returns-in_err-thaw-clause-from
 returns-in_err-thaw-clause-from g c =
@@ -73,11 +120,9 @@ returns-in_err-thaw-clause-rounds g c =
 pub returns-in_err-thaw-clause-refused : goal.returns-in_err-thaw-clause-refused
 returns-in_err-thaw-clause-refused g c =
     let p = err_from_is_err_and c.from_residual-in_err-thaw.result c.from_residual-in_err-thaw.ensures.1 in
-    let copied = c.take_snapshot-taken.new.task in
     let taken = c.take_snapshot-taken.ensures in
-    let was : WasRefused c.args.gates.now.words.config (Thaw User) c.in_err-thaw.field-0.0 = was_refused _ _ (Thaw User) copied c.thaw.new.self _
-    taken.from.1 taken.rests (thaw_begins copied taken.rests) c.in_err-thaw.ensures.replies in
-    rw (p.1, p.2) (met _ c.args.plan.tasks (Thaw User) _ (refl, thaw_refused _ _ _ was.refused) was)
+    rw (p.1, p.2) (thaw_found c.args.gates.now.words.config c.args.plan.tasks c.loop-freeze.task c.freeze.new.self c.take_snapshot-taken.new.task
+    c.thaw.new.self c.in_err-thaw.field-0.0 taken.from.1 taken.rests c.in_ok-freeze.ensures.replies taken.list c.in_err-thaw.ensures.replies)
 
 pub returns-in_err-blocks-clause-from : goal.returns-in_err-blocks-clause-from
 returns-in_err-blocks-clause-from g c =
@@ -94,8 +139,8 @@ returns-in_err-blocks-clause-rounds g c =
 pub returns-in_err-blocks-clause-refused : goal.returns-in_err-blocks-clause-refused
 returns-in_err-blocks-clause-refused g c =
     let p = err_from_is_err_and c.from_residual-in_err-blocks.result c.from_residual-in_err-blocks.ensures.1 in
-    let refused = c.in_err-blocks.ensures.refused in
-    rw (p.1, p.2) (met c.args.gates.now.words.config c.args.plan.tasks (Snapshot true) _ (refl, refused.0) refused.1)
+    rw (p.1, p.2) (inr (snapshot_found c.loop-freeze.task c.freeze.new.self c.take_snapshot-taken.new.task c.thaw.new.self
+    c.in_ok-freeze.ensures.replies c.in_err-blocks.ensures.refused.1 c.in_ok-thaw.ensures.replies))
 
 pub returns-in_err-ran-clause-from : goal.returns-in_err-ran-clause-from
 returns-in_err-ran-clause-from g c = c.call_back.ensures.from
@@ -108,6 +153,34 @@ returns-in_err-ran-clause-rounds g c = let p = err_from_is_err_and c.from_residu
 
 pub returns-in_err-ran-clause-refused : goal.returns-in_err-ran-clause-refused
 returns-in_err-ran-clause-refused g c = absurd c.in_err-ran.ensures.answered
+
+-- the task has its numbers, whatever it met
+pub returns-clause-stays : goal.returns-clause-stays
+returns-clause-stays g c = backs_stay (g.W.NotedObserver.sees c.args.watch.now) c.loop-freeze.freeze (c.args.task.now, c.args.notes.now, no_copies)
+    (c.loop-freeze.task, c.loop-freeze.notes, c.loop-freeze.copies) c.loop-freeze.invariant.did
+
+pub returns-in_err-freeze-clause-stays : goal.returns-in_err-freeze-clause-stays
+returns-in_err-freeze-clause-stays g c =
+    let so_far = backs_stay (g.W.NotedObserver.sees c.args.watch.now) c.loop-freeze.freeze (c.args.task.now, c.args.notes.now, no_copies)
+    (c.loop-freeze.task, c.loop-freeze.notes, c.loop-freeze.copies) c.loop-freeze.invariant.did in
+    stays_on so_far (stays _ (Freeze User) c.loop-freeze.task c.freeze.new.self _ c.freeze.ensures.replies)
+
+pub returns-in_err-thaw-clause-stays : goal.returns-in_err-thaw-clause-stays
+returns-in_err-thaw-clause-stays g c =
+    let so_far = backs_stay (g.W.NotedObserver.sees c.args.watch.now) c.loop-freeze.freeze (c.args.task.now, c.args.notes.now, no_copies)
+    (c.loop-freeze.task, c.loop-freeze.notes, c.loop-freeze.copies) c.loop-freeze.invariant.did in
+    stays_on so_far (stays_on (stays _ (Freeze User) c.loop-freeze.task c.freeze.new.self _ c.freeze.ensures.replies)
+    (stays_on c.take_snapshot-taken.ensures.stays (stays _ (Thaw User) c.take_snapshot-taken.new.task c.thaw.new.self _ c.thaw.ensures.replies)))
+
+pub returns-in_err-blocks-clause-stays : goal.returns-in_err-blocks-clause-stays
+returns-in_err-blocks-clause-stays g c =
+    let so_far = backs_stay (g.W.NotedObserver.sees c.args.watch.now) c.loop-freeze.freeze (c.args.task.now, c.args.notes.now, no_copies)
+    (c.loop-freeze.task, c.loop-freeze.notes, c.loop-freeze.copies) c.loop-freeze.invariant.did in
+    stays_on so_far (stays_on (stays _ (Freeze User) c.loop-freeze.task c.freeze.new.self _ c.freeze.ensures.replies)
+    (stays_on c.take_snapshot-taken.ensures.stays (stays _ (Thaw User) c.take_snapshot-taken.new.task c.thaw.new.self _ c.thaw.ensures.replies)))
+
+pub returns-in_err-ran-clause-stays : goal.returns-in_err-ran-clause-stays
+returns-in_err-ran-clause-stays g c = absurd c.in_err-ran.ensures.answered
 
 -- the task rests, whatever it met
 pub returns-clause-rests : goal.returns-clause-rests

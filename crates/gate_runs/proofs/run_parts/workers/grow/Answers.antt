@@ -6,6 +6,7 @@ use Rattle.gate_world.specs.declared.operations.Op.TheVariants.{Grow}
 use Rattle.vfs_gates.proofs.Resting.{some_mount}
 use Rattle.gate_runs.specs.run_parts.Refusals.{WasRefused}
 use Rattle.gate_runs.proofs.run_parts.Answering.{grow_begins, grow_refused, inside_by, was_refused}
+use Rattle.gate_runs.proofs.run_parts.Keeping.{refusals_thaw_none, thaws_none_on, thaws_nothing}
 use Rattle.gate_runs.proofs.run_parts.Repeating.{answered, counted_more, one_more}
 use Rattle.gate_runs.specs.run_parts.Rounds.{IsRefused}
 use Rattle.gate_runs.proofs.run_parts.workers.grow.Goals as goal
@@ -46,3 +47,16 @@ returns-in-Err-clause-refused g c =
     before.0.1 before.1 began c.in-Err.ensures in
     let other : ¬ (c.in-Err.refusal ≡ Again) = search rules in
     (grow_refused c.args.file _ _ _ other was.refused, was)
+
+-- whatever it answers it thaws nothing
+pub returns-in-Ok-clause-thaws : goal.returns-in-Ok-clause-thaws
+returns-in-Ok-clause-thaws g c =
+    let before = c.loop.invariant in
+    thaws_none_on (refusals_thaw_none (Grow c.args.file 1) tt Again before.2 c.args.task.now c.loop.task before.3)
+    (thaws_nothing _ (Grow c.args.file 1) tt c.loop.task c.grow.new.self _ c.grow.ensures)
+
+pub returns-in-Err-clause-thaws : goal.returns-in-Err-clause-thaws
+returns-in-Err-clause-thaws g c =
+    let before = c.loop.invariant in
+    thaws_none_on (refusals_thaw_none (Grow c.args.file 1) tt Again before.2 c.args.task.now c.loop.task before.3)
+    (thaws_nothing _ (Grow c.args.file 1) tt c.loop.task c.grow.new.self _ c.grow.ensures)

@@ -1,12 +1,13 @@
 -- a snapshot that was taken is sound and clean
-use Rattle.std.proofs.Common.{rules, subst, true, ap, refl, sym, ◌∙◌}
-use Rattle.std.specs.Prelude.{Some}
+use Rattle.std.proofs.Common.{subst, true, ap, refl, sym, ◌∙◌}
+use Rattle.std.proofs.lemmas.Result.{err_from_is_err_and}
+use Rattle.std.specs.Prelude.{Err, Some}
 use Rattle.gate_runs.specs.run_parts.Counts.{blocks_in}
 use Rattle.gate_world.specs.declared.operations.Op.TheVariants.{Snapshot as SnapshotOp}
-use Rattle.vfs_gates.specs.Runs.{Performs}
+use Rattle.vfs_gates.specs.Runs.{Called, Performs}
 use Rattle.vfs_gates.proofs.Taking.{took_whole}
-use Rattle.gate_runs.proofs.run_parts.Answering.{rests_by, snapshot_begins, snapshot_refused, was_refused}
-use Rattle.gate_runs.specs.run_parts.Refusals.{WasRefused}
+use Rattle.gate_runs.proofs.run_parts.Answering.{rests_by, snapshot_begins, snapshot_list, snapshot_refused, was_whole}
+use Rattle.gate_runs.proofs.run_parts.Keeping.{stays}
 use Rattle.gate_runs.proofs.run_parts.workers.take_snapshot.Goals as goal
 
 pub returns-clause-whole : goal.returns-clause-whole
@@ -23,6 +24,21 @@ returns-in_err-snapshot-clause-rests g c = rests_by _ (SnapshotOp true) c.args.t
 
 pub returns-in_err-snapshot-clause-refused : goal.returns-in_err-snapshot-clause-refused
 returns-in_err-snapshot-clause-refused g c =
-    let was : WasRefused c.args.gates.now.words.config (SnapshotOp true) c.in_err-snapshot.field-0.0 = was_refused _ _ (SnapshotOp true) c.args.task.now c.snapshot.new.self _
-    c.requires.from.1 c.requires.rests (snapshot_begins c.args.task.now c.requires.rests) c.in_err-snapshot.ensures in
-    search (rules, was, snapshot_refused _ _ _ was.refused)
+    let p = err_from_is_err_and c.from_residual.result c.from_residual.ensures.1 in
+    let was = was_whole _ (SnapshotOp true) c.args.task.now c.snapshot.new.self c.in_err-snapshot.field-0.0
+    (snapshot_begins c.args.task.now c.requires.rests) c.in_err-snapshot.ensures in
+    let is = snapshot_refused c.args.task.now c.snapshot.new.self c.in_err-snapshot.field-0.0 was in
+    rw (p.1, p.2) (is, subst (λ e. Called (SnapshotOp true) c.args.task.now c.snapshot.new.self (Err e)) is was)
+
+-- whatever it answers it leaves the task's numbers and its list
+pub returns-clause-stays : goal.returns-clause-stays
+returns-clause-stays g c = stays _ (SnapshotOp true) c.args.task.now c.snapshot.new.self _ c.snapshot.ensures
+
+pub returns-in_err-snapshot-clause-stays : goal.returns-in_err-snapshot-clause-stays
+returns-in_err-snapshot-clause-stays g c = stays _ (SnapshotOp true) c.args.task.now c.snapshot.new.self _ c.snapshot.ensures
+
+pub returns-clause-list : goal.returns-clause-list
+returns-clause-list g c = snapshot_list _ c.args.task.now c.snapshot.new.self _ c.snapshot.ensures
+
+pub returns-in_err-snapshot-clause-list : goal.returns-in_err-snapshot-clause-list
+returns-in_err-snapshot-clause-list g c = snapshot_list _ c.args.task.now c.snapshot.new.self _ c.snapshot.ensures

@@ -12,8 +12,9 @@ use Rattle.vfs_gates.specs.TaskStates.{SeatedTask}
 use Rattle.vfs_gates.proofs.CallingBack.{none_err}
 use Rattle.gate_runs.specs.run_parts.Refusals.{HasWriteAccess}
 use Rattle.gate_runs.proofs.run_parts.Answering.{gives_back, met}
+use Rattle.gate_runs.proofs.run_parts.Keeping.{takes_thaw_none, thaws_none_on, thaws_nothing, writes_thaw_none}
 use Rattle.gate_runs.proofs.run_parts.Repeating.{one_more}
-use Rattle.gate_runs.specs.run_parts.Counts.{counted}
+use Rattle.gate_runs.specs.run_parts.Counts.{counted, no_writes}
 use Rattle.gate_runs.specs.run_parts.Rounds.{Does, Takes, WriterRound}
 use Rattle.gate_runs.proofs.run_parts.workers.write.Goals as goal
 
@@ -85,6 +86,29 @@ returns-in_err-grown-clause-rests g c = (given_back c.processor.result c.args.ga
     (on_processor (c.args.writer + (c.loop-round.round + 1)) c.args.plan.processors c.processor.result c.args.gates.now.words.config
     (ap (λ (d : Config). d.processors) c.requires.planned) c.args.plan.within.processors_from c.processor.ensures)
     c.grow-grown.ensures.from.1 c.grow-grown.ensures.inside c.in_ok-drop_write.ensures).1
+
+-- it thaws nothing, whatever it answers
+pub returns-clause-thaws : goal.returns-clause-thaws
+returns-clause-thaws g c = writes_thaw_none (g.W.NotedObserver.meets c.args.watch.now) c.args.plan.processors c.args.writer c.loop-round.round
+    (c.args.task.now, c.args.notes.now, no_writes) (c.loop-round.task, c.loop-round.notes, c.loop-round.writes) c.loop-round.invariant.2
+
+pub returns-in_err-denied-clause-thaws : goal.returns-in_err-denied-clause-thaws
+returns-in_err-denied-clause-thaws g c = absurd c.in_err-denied.ensures.granted
+
+pub returns-in_err-drop_write-clause-thaws : goal.returns-in_err-drop_write-clause-thaws
+returns-in_err-drop_write-clause-thaws g c = absurd (none_err _ (given_back c.processor.result c.args.gates.now.words.config c.grow-grown.new.task c.drop_write.new.self (Err c.in_err-drop_write.field-0.0)
+    (on_processor (c.args.writer + (c.loop-round.round + 1)) c.args.plan.processors c.processor.result c.args.gates.now.words.config
+    (ap (λ (d : Config). d.processors) c.requires.planned) c.args.plan.within.processors_from c.processor.ensures)
+    c.grow-grown.ensures.from.1 c.grow-grown.ensures.inside c.in_err-drop_write.ensures).0)
+
+pub returns-in_err-grown-clause-thaws : goal.returns-in_err-grown-clause-thaws
+returns-in_err-grown-clause-thaws g c =
+    let so_far = writes_thaw_none (g.W.NotedObserver.meets c.args.watch.now) c.args.plan.processors c.args.writer c.loop-round.round
+    (c.args.task.now, c.args.notes.now, no_writes) (c.loop-round.task, c.loop-round.notes, c.loop-round.writes) c.loop-round.invariant.2 in
+    let took = takes_thaw_none c.processor-cpu.result (c.loop-round.task, c.loop-round.writes.waits) (c.want_write.new.task, c.in_ok-denied.waits)
+    c.in_ok-denied.ensures.took.0 in
+    let gave = thaws_nothing _ (DropWrite 0 c.processor.result) tt c.grow-grown.new.task c.drop_write.new.self _ c.in_ok-drop_write.ensures in
+    thaws_none_on so_far (thaws_none_on took (thaws_none_on c.grow-grown.ensures.thaws gave))
 
 pub returns-clause-rests : goal.returns-clause-rests
 returns-clause-rests g c = c.loop-round.invariant.1

@@ -31,3 +31,6 @@ returns-clause-refused g c =
 
 pub unreachable-requires : goal.unreachable-requires
 unreachable-requires g c = c.in_default.ensures.refused.3 (c.requires.rests.0, c.requires.rests.1, c.join-other.ensures.1.0, c.join-other.ensures.1.1)
+
+pub returns-clause-took : goal.returns-clause-took
+returns-clause-took g c = (c.join-other.result.task, c.join-other.ensures.2, c.in-Ok.ensures.joined.4)

@@ -1,7 +1,10 @@
--- All threads that were joined are those of the last tasks, and each of these has done its part, with what they met together.
+-- All threads that were joined are those of the last tasks. Each of these has done its part, with what they met together, or a call was refused.
 use Rattle.std.proofs.Common.{◌≡◌, ◌+◌, ◌-◌, ◌≤◌, length, vec_len}
+use Rattle.std.specs.Prelude.{IfErr, IfOk}
+use Rattle.gate_runs.specs.run_parts.Refusals.{RunRefused}
 use Rattle.gate_runs.specs.run_parts.TaskStates.{IsFrom, SeatedTask}
 use Rattle.vfs_gates.specs.Held.{Rests}
+use Rattle.gate_runs.specs.run_threads.Homes.{HasBack}
 use Rattle.gate_runs.specs.run_threads.Parts.{Among, EachFrom}
 use Rattle.gate_runs.proofs.run_threads.Homes.{Joined}
 use Rattle.gate_runs.proofs.run_threads.threads.join_workers.Given as goal
@@ -15,8 +18,10 @@ invariant-loop-worker g l = record {
       (λ place w. (w.promise.gates.now ≡ l.fn.gates) × (w.promise.plan ≡ l.fn._plan) × (w.promise.watch.now ≡ l.fn._watch)
       × (w.promise.number ≡ place + 1)) 0 l.workers.items;
   others : (s : SeatedTask) → Among l.fn.task.items s → Among l.task.items s;
-  parts : Joined (Among l.task.items) (g.W.RunObserver.held l.fn._watch) l.fn._plan.processors l.fn._plan.rounds
-      (vec_len l.workers) (vec_len l.fn.workers - 1) l.remounts l.writes;
+  back : HasBack (vec_len l.workers + 1) (vec_len l.fn.workers + 1) l.fn.task l.task;
+  parts : IfOk l.met (λ m. Joined (Among l.task.items) (g.W.RunObserver.held l.fn._watch) l.fn._plan.processors l.fn._plan.rounds
+      (vec_len l.workers) (vec_len l.fn.workers - 1) m.0 m.1);
+  refused : IfErr l.met (RunRefused l.fn.gates.words.config l.fn._plan.tasks);
 }
 
 abbrev pub decreases-loop-worker : goal.decreases-loop-worker
