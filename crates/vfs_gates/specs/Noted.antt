@@ -1,8 +1,9 @@
 -- Lines of steps of a snapshot, whose loads its task notes in its buffers, and where they have led.
-use Rattle.std.specs.Prelude.{ℕ, List, Option, Some, None, Ok}
+use Rattle.std.specs.Prelude.{ℕ, Bool, true, false, List, Option, Some, None, Ok}
 use Rattle.atomic_table.specs.Seated.{TableId}
 use Rattle.access_model.specs.Replies.{map_next}
 use Rattle.access_model.specs.declared.replies.Next.{Next}
+use Rattle.access_model.specs.declared.replies.Next.TheVariants.{Done}
 use Rattle.access_model.specs.declared.replies.Reply.TheVariants.{Tree as TreeReply}
 use Rattle.gated_tree.specs.declared.phases.TreePhase.{TreePhase}
 use Rattle.gated_tree.specs.declared.phases.TreePhase.TheVariants.{Snapshot as Snapshots}
@@ -23,6 +24,11 @@ use Rattle.vfs_gates.specs.Buffers.{BufferWords, BuffersMatch, completed, with_w
 -- what comes next of a call at the tree, as phases
 abbrev pub of_tree : Next TreePhase → Next Phase
 of_tree next = map_next Trees next
+
+-- after the line of a snapshot: it is taken, or this comes next
+abbrev pub taken_or : Bool → Next TreePhase → Next Phase
+taken_or true rest = Done (Ok TreeReply)
+taken_or false rest = of_tree rest
 
 -- a snapshot with this step to come
 abbrev pub taking_at : Snapshot → SnapshotStep → Phase

@@ -9,7 +9,7 @@ ghost use Rattle.gated_tree.specs.declared.snapshots.SnapshotStep.TheVariants.{L
 ghost use Rattle.node_words.specs.Nodes.{unpacked};
 ghost use Rattle.gate_steps.specs.call_events.Turns.{StateAgrees};
 ghost use Rattle.vfs_gates.specs.Buffers.{IsSized, completed, words_in};
-ghost use Rattle.vfs_gates.specs.Noted.{Noted, nodes_loaded, of_tree, taking_at, with_kids, with_loaded, with_nodes, words_loaded};
+ghost use Rattle.vfs_gates.specs.Noted.{Noted, nodes_loaded, of_tree, taken_or, taking_at, with_kids, with_loaded, with_nodes, words_loaded};
 
 use crate::buffers::SnapshotBuffers;
 use access_model::{Next, Reply};
@@ -22,16 +22,28 @@ use node_words::following;
 /// The stage at which all is frozen (`SB_FREEZE_COMPLETE`).
 const FROZEN: u64 = 4;
 
-/// What comes after a step that has found this, where that leads out of the line. It stands apart, and takes the step by itself, so that nothing is
+/// Leaves the line, after a step that has found this, to what `rest` says then. It stands apart, and takes the step by itself, so that nothing is
 /// written to memory where the line goes on.
 #[cold]
 #[inline(never)]
-fn leave(snapshot: Snapshot, step: SnapshotStep, found: u64) -> Next<TreePhase>
-    ensures { of_tree result ≡ (after_of (taking_at snapshot step) found (Ok tt)).0 }
+fn leave(snapshot: Snapshot, step: SnapshotStep, found: u64, rest: &mut Next<TreePhase>) -> bool
+    ensures { taken_or result rest.new ≡ (after_of (taking_at snapshot step) found (Ok tt)).0 }
 {
     let here = TreePhase::Snapshot(Snapshot { step, ..snapshot });
     let (next, _action) = here.after(found, Ok(()));
-    next
+    *rest = next;
+    false
+}
+
+/// Leaves the line, to load this node again, likewise.
+#[cold]
+#[inline(never)]
+fn leave_at_node(snapshot: Snapshot, node: u8, rest: &mut Next<TreePhase>) -> bool
+    ensures { taken_or result rest.new ≡ Go (taking_at snapshot (LoadsNode node)) }
+{
+    let step = SnapshotStep::LoadsNode(node);
+    *rest = Next::Go(TreePhase::Snapshot(Snapshot { step, ..snapshot }));
+    false
 }
 
 /// Whether a word is a node's. That of a free one is 0, which is seen first.
@@ -135,7 +147,7 @@ fn load_words(
     None
 }
 
-/// Loads the tree of a file system that is frozen, and gives `umount` back. What comes after the last step.
+/// Loads the tree of a file system that is frozen, and gives `umount` back. Whether it is taken; if not, what comes next is left in `rest`.
 #[inline(always)]
 fn load_tree(
     gates: &GateWords,
@@ -143,18 +155,18 @@ fn load_tree(
     accesses: &Accesses,
     buffers: &mut SnapshotBuffers,
     snapshot: Snapshot,
-) -> Next<TreePhase>
+    rest: &mut Next<TreePhase>,
+) -> bool
     requires many { IsSized snapshot.nodes (words_in buffers.old).next × (1 ≤ snapshot.nodes) }
     requires table { seat.old.table_id ≡ gates.now.table.shared.table_id }
     requires agrees { StateAgrees gates.now.config None (Some (taking_at snapshot LoadsUsed)) accesses.now seat.old.me.0.items }
     ensures slots { seat.new.me.1 ≡ seat.old.me.1 }
     ensures noted { Noted gates.now.config None accesses.now (Go (taking_at snapshot LoadsUsed)) seat.old.table_id seat.old.me.0
-        (λ r. r ≡ words_in buffers.old) (of_tree result) seat.new.table_id seat.new.me.0 (λ r. words_in buffers.new) }
+        (λ r. r ≡ words_in buffers.old) (taken_or result rest.new) seat.new.table_id seat.new.me.0 (λ r. words_in buffers.new) }
 {
     let tree = &mut buffers.next;
     if let Some(node) = load_words(gates, seat, accesses, tree, snapshot) {
-        let step = SnapshotStep::LoadsNode(node);
-        return Next::Go(TreePhase::Snapshot(Snapshot { step, ..snapshot }));
+        return leave_at_node(snapshot, node, rest);
     }
     buffers.complete();
     let step = SnapshotStep::Releases(Ok(Reply::Tree));
@@ -167,11 +179,47 @@ fn load_tree(
         WordName::Umount,
         Touch::Store(0),
     );
-    Next::Done(Ok(Reply::Tree))
+    true
+}
+
+/// Takes a snapshot, from the first step on. Whether it is taken; if not, what comes next is left in `rest`. So the usual answer is one bit, and
+/// nothing of what comes next is written to memory.
+#[inline(never)]
+fn take_snapshot(
+    gates: &GateWords,
+    seat: &mut GhostSeat,
+    accesses: &Accesses,
+    buffers: &mut SnapshotBuffers,
+    op: Op,
+    snapshot: Snapshot,
+    rest: &mut Next<TreePhase>,
+) -> bool
+    requires table { seat.old.table_id ≡ gates.now.table.shared.table_id }
+    requires many { IsSized snapshot.nodes (words_in buffers.old).next × (1 ≤ snapshot.nodes) }
+    requires agrees { StateAgrees gates.now.config (Some op) (Some (taking_at snapshot Locks)) accesses.now seat.old.me.0.items }
+    ensures slots { seat.new.me.1 ≡ seat.old.me.1 }
+    ensures noted { Noted gates.now.config (Some op) accesses.now (Go (taking_at snapshot Locks)) seat.old.table_id seat.old.me.0
+        (λ r. r ≡ words_in buffers.old) (taken_or result rest.new) seat.new.table_id seat.new.me.0 (λ r. words_in buffers.new) }
+{
+    let step = SnapshotStep::Locks;
+    let locks = TreePhase::Snapshot(Snapshot { step, ..snapshot });
+    let put = u64::from(snapshot.task) + 1;
+    let touch = Touch::Cas { expect: 0, put };
+    let taken = find_first(gates, seat, accesses, op, locks, WordName::Umount, touch);
+    if taken != 0 {
+        return leave(snapshot, SnapshotStep::Locks, taken, rest);
+    }
+    let step = SnapshotStep::LoadsStage;
+    let here = TreePhase::Snapshot(Snapshot { step, ..snapshot });
+    let stage = find(gates, seat, accesses, here, WordName::Stage, Touch::Load);
+    if stage != FROZEN {
+        return leave(snapshot, SnapshotStep::LoadsStage, stage, rest);
+    }
+    load_tree(gates, seat, accesses, buffers, snapshot, rest)
 }
 
 /// Takes a snapshot, from the first step on. What comes after the last one that stands in the line.
-#[inline(never)]
+#[inline(always)]
 pub(crate) fn snapshot_first(
     gates: &GateWords,
     seat: &mut GhostSeat,
@@ -187,19 +235,9 @@ pub(crate) fn snapshot_first(
     ensures noted { Noted gates.now.config (Some op) accesses.now (Go (taking_at snapshot Locks)) seat.old.table_id seat.old.me.0
         (λ r. r ≡ words_in buffers.old) (of_tree result) seat.new.table_id seat.new.me.0 (λ r. words_in buffers.new) }
 {
-    let step = SnapshotStep::Locks;
-    let locks = TreePhase::Snapshot(Snapshot { step, ..snapshot });
-    let put = u64::from(snapshot.task) + 1;
-    let touch = Touch::Cas { expect: 0, put };
-    let taken = find_first(gates, seat, accesses, op, locks, WordName::Umount, touch);
-    if taken != 0 {
-        return leave(snapshot, SnapshotStep::Locks, taken);
+    let mut rest = Next::Done(Ok(Reply::Tree));
+    if take_snapshot(gates, seat, accesses, buffers, op, snapshot, &mut rest) {
+        return Next::Done(Ok(Reply::Tree));
     }
-    let step = SnapshotStep::LoadsStage;
-    let here = TreePhase::Snapshot(Snapshot { step, ..snapshot });
-    let stage = find(gates, seat, accesses, here, WordName::Stage, Touch::Load);
-    if stage != FROZEN {
-        return leave(snapshot, SnapshotStep::LoadsStage, stage);
-    }
-    load_tree(gates, seat, accesses, buffers, snapshot)
+    rest
 }

@@ -125,18 +125,10 @@ pub(crate) fn reopen_all(
     ensures led { KnownSteps gates.now.config None accesses.now (Go (thaw_at thaw SetsUnfrozen)) seat.old.table_id seat.old.me.0
         (of_thaw result) seat.new.table_id seat.new.me.0 }
 {
-    let here = Thaw {
-        step: ThawStep::SetsUnfrozen,
-        ..thaw
-    };
-    let _stored = find(
-        gates,
-        seat,
-        accesses,
-        here,
-        WordName::Stage,
-        Touch::Store(0),
-    );
+    let clear = Touch::Store(0);
+    let step = ThawStep::SetsUnfrozen;
+    let here = Thaw { step, ..thaw };
+    let _stored = find(gates, seat, accesses, here, WordName::Stage, clear);
     if !reopen(gates, seat, accesses, thaw, 3) {
         return exit_again(thaw, 3);
     }
@@ -146,18 +138,9 @@ pub(crate) fn reopen_all(
     if !reopen(gates, seat, accesses, thaw, 1) {
         return exit_again(thaw, 1);
     }
-    let here = Thaw {
-        step: ThawStep::Releases(Ok(Reply::Unit)),
-        ..thaw
-    };
-    let _freed = find(
-        gates,
-        seat,
-        accesses,
-        here,
-        WordName::Umount,
-        Touch::Store(0),
-    );
+    let step = ThawStep::Releases(Ok(Reply::Unit));
+    let here = Thaw { step, ..thaw };
+    let _freed = find(gates, seat, accesses, here, WordName::Umount, clear);
     Next::Done(Ok(Reply::Unit))
 }
 
@@ -212,36 +195,29 @@ pub(crate) fn thaw_locked<H: TimedHooks>(
     ensures led { KnownStepsAsking H.answers gates.now.config None accesses.now (Go (thaw_at thaw LoadsStage)) seat.old.table_id seat.old.me.0
         hooks.old (of_thaw result) seat.new.table_id seat.new.me.0 hooks.new }
 {
-    let here = Thaw {
-        step: ThawStep::LoadsStage,
-        ..thaw
-    };
+    let step = ThawStep::LoadsStage;
+    let here = Thaw { step, ..thaw };
     let stage = find(gates, seat, accesses, here, WordName::Stage, Touch::Load);
     if stage != 4 {
-        return leave(thaw, ThawStep::LoadsStage, stage);
+        return leave(thaw, step, stage);
     }
-    let here = Thaw {
-        step: ThawStep::LoadsHolders,
-        ..thaw
-    };
+    let step = ThawStep::LoadsHolders;
+    let here = Thaw { step, ..thaw };
     let word = find(gates, seat, accesses, here, WordName::Holders, Touch::Load);
     let held = unpack(word);
     let is_holder = held.has(thaw.holder);
     if !is_holder {
-        return leave(thaw, ThawStep::LoadsHolders, word);
+        return leave(thaw, step, word);
     }
-    let others = held.without(thaw.holder);
-    let is_last = others.is_none();
+    let is_last = held.without(thaw.holder).is_none();
     if !is_last {
-        return leave(thaw, ThawStep::LoadsHolders, word);
+        return leave(thaw, step, word);
     }
-    let here = Thaw {
-        step: ThawStep::LoadsSuperblock,
-        ..thaw
-    };
+    let step = ThawStep::LoadsSuperblock;
+    let here = Thaw { step, ..thaw };
     let flags = find(gates, seat, accesses, here, WordName::SbFlags, Touch::Load);
     if flags != 0 {
-        return leave(thaw, ThawStep::LoadsSuperblock, flags);
+        return leave(thaw, step, flags);
     }
     thaw_last(gates, seat, accesses, thaw, hooks)
 }

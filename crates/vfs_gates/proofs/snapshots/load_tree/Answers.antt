@@ -7,7 +7,7 @@ use Rattle.gated_tree.specs.Phases.{at_snapshot}
 use Rattle.gated_tree.specs.Trees.{words_of}
 use Rattle.gate_steps.proofs.call_events.Leading.{still_agrees}
 use Rattle.vfs_gates.specs.Buffers.{BufferWords, completed, with_words, words_in}
-use Rattle.vfs_gates.proofs.Loading.{noted_as, noted_on, unnoted}
+use Rattle.vfs_gates.proofs.Loading.{noted_as, noted_on, noted_to, unnoted}
 use Rattle.vfs_gates.proofs.snapshots.load_tree.Goals as goal
 
 pub find-freed-requires-clause-agrees : goal.find-freed-requires-clause-agrees
@@ -23,3 +23,11 @@ returns-clause-noted c =
     (noted_on loaded (λ r were. refl)
     (unnoted {Were = λ r. r ≡ r} (at_snapshot c.args.snapshot (Releases (Ok TreeReply))) c.find-freed.result (λ r. refl) refl
     c.find-freed.ensures.led c.find-freed.ensures.items (still_agrees loaded.led c.requires.agrees)))
+
+pub returns-in-Some-clause-noted : goal.returns-in-Some-clause-noted
+returns-in-Some-clause-noted c =
+    noted_as {Are = λ r. r ≡ words_in c.args.buffers.now} (λ (r : BufferWords) were. (
+      ap (λ (z : BufferWords). z.next) were ∙ ap words_of (sym c.deref_mut.ensures.value),
+      ap (λ (z : BufferWords). with_words (words_of c.load_words.new.tree) z) were,
+    ))
+    (noted_to (sym c.leave_at_node.ensures) c.in-Some.ensures.noted)

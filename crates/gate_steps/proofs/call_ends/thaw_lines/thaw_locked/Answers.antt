@@ -25,22 +25,22 @@ returns-then-not-is_last-clause-led g c =
 pub find-flags-requires-clause-agrees : goal.find-flags-requires-clause-agrees
 find-flags-requires-clause-agrees g c =
     still_agrees (led_on (led_to (stage_frozen c.args.thaw c.find-stage.result (omega arith)) c.find-stage.ensures.led)
-    (led_to (held_by_this c.args.thaw c.find-word.result c.unpack-held.result c.unpack-held.ensures c.has-is_holder.result c.has-is_holder.ensures c.if-not-is_holder.false c.without-others.result c.without-others.ensures c.is_none-is_last.result c.is_none-is_last.ensures c.if-not-is_last.false) c.find-word.ensures.led)) c.requires.agrees
+    (led_to (held_by_this c.args.thaw c.find-word.result c.unpack-held.result c.unpack-held.ensures c.has-is_holder.result c.has-is_holder.ensures c.if-not-is_holder.false c.without.result c.without.ensures c.is_none-is_last.result c.is_none-is_last.ensures c.if-not-is_last.false) c.find-word.ensures.led)) c.requires.agrees
 
 pub returns-then-flags-ne0-clause-led : goal.returns-then-flags-ne0-clause-led
 returns-then-flags-ne0-clause-led g c =
     led_unasked (led_on (led_on (led_to (stage_frozen c.args.thaw c.find-stage.result (omega arith)) c.find-stage.ensures.led)
-    (led_to (held_by_this c.args.thaw c.find-word.result c.unpack-held.result c.unpack-held.ensures c.has-is_holder.result c.has-is_holder.ensures c.if-not-is_holder.false c.without-others.result c.without-others.ensures c.is_none-is_last.result c.is_none-is_last.ensures c.if-not-is_last.false) c.find-word.ensures.led))
+    (led_to (held_by_this c.args.thaw c.find-word.result c.unpack-held.result c.unpack-held.ensures c.has-is_holder.result c.has-is_holder.ensures c.if-not-is_holder.false c.without.result c.without.ensures c.is_none-is_last.result c.is_none-is_last.ensures c.if-not-is_last.false) c.find-word.ensures.led))
     (led_to (sym c.leave-then-flags-ne0.ensures) c.find-flags.ensures.led)) refl
 
 pub thaw_last-requires-clause-agrees : goal.thaw_last-requires-clause-agrees
 thaw_last-requires-clause-agrees g c =
     still_agrees (led_on (led_on (led_to (stage_frozen c.args.thaw c.find-stage.result (omega arith)) c.find-stage.ensures.led)
-    (led_to (held_by_this c.args.thaw c.find-word.result c.unpack-held.result c.unpack-held.ensures c.has-is_holder.result c.has-is_holder.ensures c.if-not-is_holder.false c.without-others.result c.without-others.ensures c.is_none-is_last.result c.is_none-is_last.ensures c.if-not-is_last.false) c.find-word.ensures.led))
+    (led_to (held_by_this c.args.thaw c.find-word.result c.unpack-held.result c.unpack-held.ensures c.has-is_holder.result c.has-is_holder.ensures c.if-not-is_holder.false c.without.result c.without.ensures c.is_none-is_last.result c.is_none-is_last.ensures c.if-not-is_last.false) c.find-word.ensures.led))
     (led_to (flag_clear c.args.thaw c.find-flags.result (omega arith)) c.find-flags.ensures.led)) c.requires.agrees
 
 pub returns-clause-led : goal.returns-clause-led
 returns-clause-led g c =
     asking_on (led_unasked (led_on (led_on (led_to (stage_frozen c.args.thaw c.find-stage.result (omega arith)) c.find-stage.ensures.led)
-    (led_to (held_by_this c.args.thaw c.find-word.result c.unpack-held.result c.unpack-held.ensures c.has-is_holder.result c.has-is_holder.ensures c.if-not-is_holder.false c.without-others.result c.without-others.ensures c.is_none-is_last.result c.is_none-is_last.ensures c.if-not-is_last.false) c.find-word.ensures.led))
+    (led_to (held_by_this c.args.thaw c.find-word.result c.unpack-held.result c.unpack-held.ensures c.has-is_holder.result c.has-is_holder.ensures c.if-not-is_holder.false c.without.result c.without.ensures c.is_none-is_last.result c.is_none-is_last.ensures c.if-not-is_last.false) c.find-word.ensures.led))
     (led_to (flag_clear c.args.thaw c.find-flags.result (omega arith)) c.find-flags.ensures.led)) refl) c.thaw_last.ensures.led

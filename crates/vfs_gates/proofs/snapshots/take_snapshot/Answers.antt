@@ -5,7 +5,7 @@ use Rattle.gated_tree.specs.Phases.{at_snapshot}
 use Rattle.gate_steps.proofs.call_events.Leading.{still_agrees, led_to}
 use Rattle.vfs_gates.specs.Buffers.{BufferWords, words_in}
 use Rattle.vfs_gates.proofs.Loading.{is_frozen, lock_free, noted_as, noted_on, noted_to, unnoted}
-use Rattle.vfs_gates.proofs.snapshots.snapshot_first.Goals as goal
+use Rattle.vfs_gates.proofs.snapshots.take_snapshot.Goals as goal
 
 pub returns-then-taken-ne0-clause-noted : goal.returns-then-taken-ne0-clause-noted
 returns-then-taken-ne0-clause-noted c =
