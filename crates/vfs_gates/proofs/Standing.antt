@@ -19,11 +19,11 @@ use Rattle.freeze_levels.specs.Holders.{holders_in}
 use Rattle.gated_tree.specs.Refusals.{finds_thawed, loads_stage}
 use Rattle.gate_world.specs.{Configs.{IsWithin, model_limits}, Headline.{world_after, actions_so_far, actions_since, IsOneRun}, Shown.shown}
 use Rattle.gate_world.specs.traces.{Found.{is_load, says_incomplete, says_unheld, some_event}, TraceStates.state_of_trace, Traces.{actions_of, IsHonestAnswer}}
-use Rattle.gate_world.specs.{Work.next_of, Worlds.World}
+use Rattle.gate_world.specs.{Work.next_of}
 use Rattle.gate_world.specs.declared.entries.Entry.{Entry, TheVariants.{Begins, Steps}}
 use Rattle.gate_world.specs.declared.{config.Config.Config, operations.Op.{Op, TheVariants.{Snapshot, Thaw}}, views.{Traced.Traced, View.View}}
 use Rattle.gate_schedules.proofs.schedules.HeadlineProof.{whole_run}
-use Rattle.gate_steps.specs.Seating.{DealtNumbers, HaveHistory, HaveViews, IsPrefix}
+use Rattle.gate_steps.specs.Seating.{DealtNumbers, HaveHistory, IsPrefix}
 use Rattle.gate_steps.specs.declared.seating.Numbered.{Numbered}
 use Rattle.gate_steps.specs.call_events.{Grown.{HasSeen, StaySeen}, Runs.{ran_items, AreMoves, Called}, Spans.IsEventDuring}
 use Rattle.gate_steps.proofs.call_events.{Grown.{after_more, only}, Moments.{actions_append, part_more}, Spanning.each_event}

@@ -1,21 +1,31 @@
 -- What a task that came home has done, once its number was taken back, and what all have done together.
-use Rattle.std.proofs.Common.{◌≡◌, ℕ, suc, ◌+◌, ◌-◌, refl, subst, sym, arith, inl, inr}
+use Rattle.std.proofs.Common.{◌≡◌, ℕ, suc, ◌+◌, ◌-◌, refl, subst, sym, ◌∙◌, arith, inl, inr}
 use Rattle.std.specs.Prelude.{◌⊎◌, Result, Ok, Err, IfErr, IfOk}
 use Rattle.access_model.specs.declared.errors.GateError.{GateError}
 use Rattle.run_plans.specs.declared.counts.Remounts.{Remounts}
 use Rattle.run_plans.specs.declared.counts.Writes.{Writes}
 use Rattle.run_plans.specs.declared.plans.Plan.{Plan}
 use Rattle.gate_runs.specs.run_parts.Counts.{both}
+use Rattle.gate_runs.specs.run_parts.Keeping.{ThawsNothing}
 use Rattle.gate_runs.specs.run_parts.Meetings.{was_held}
 use Rattle.gate_runs.specs.run_parts.Refusals.{RunRefused}
 use Rattle.gate_runs.specs.declared.run_threads.threads.Met.{Met}
 use Rattle.gate_runs.specs.declared.run_threads.threads.Met.TheVariants.{Remounter, Writer}
-use Rattle.gate_runs.specs.run_threads.Homes.{ComesHome, DoesRounds, TaskShare, TookBack, with_met}
+use Rattle.gate_runs.specs.run_threads.Homes.{ComesHome, DoesRounds, IsReady, NeverThawed, TaskShare, TookBack, with_met}
 use Rattle.gate_runs.specs.run_threads.Parts.{Among, Remounted, Wrote, AllWrote}
 use Rattle.gate_runs.proofs.run_threads.Staying.{all_wrote_before, all_wrote_on, remounted_on, remounter_part, writer_part}
 use Rattle.vfs_gates.specs.declared.Gates.{Gates}
 use Rattle.gate_runs.specs.run_parts.Splitting.{HasBegun}
 use Rattle.gate_runs.specs.run_parts.TaskStates.{SeatedTask}
+
+-- a task that thaws nothing comes back with its number
+pub comes_back : (gates : Gates) (plan : Plan) (number : ℕ) (first last : SeatedTask) → IsReady gates plan number first → ThawsNothing first last →
+    NeverThawed number last
+comes_back gates plan number first last ready thaws = record {
+  there = thaws.numbers.there ready.begun.there;
+  own = thaws.numbers.own ∙ ready.begun.own;
+  none = thaws.none ready.none;
+}
 
 -- its part, once its number was taken back
 part_of : (held : ℕ → ℕ → Type 0) (processors rounds number : ℕ) (first last old new : SeatedTask) (met : Met) → HasBegun number first →

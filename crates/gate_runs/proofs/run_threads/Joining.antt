@@ -1,15 +1,11 @@
 -- What a task has that took back the numbers of others, and why it found nothing thawed.
-use Rattle.std.proofs.Common.{◌≡◌, ℕ, zero, suc, ◌+◌, ◌<◌, ◌≤◌, Bool, true, false, List, [], ◌∷◌, ◌++◌, length, refl, sym, ap, ◌∙◌, subst, inl, inr, arith}
+use Rattle.std.proofs.Common.{◌≡◌, ℕ, zero, suc, ◌+◌, ◌<◌, ◌≤◌, false, List, [], ◌∷◌, ◌++◌, length, refl, sym, ◌∙◌, subst, inl, inr, arith}
 use Rattle.std.proofs.lemmas.Bool.Decides.{eqb_tells}
-use Rattle.std.specs.Prelude.{◌==◌, ◌⊎◌, Err}
 use Rattle.access_model.specs.declared.actions.Holder.TheVariants.{User}
-use Rattle.access_model.specs.declared.errors.GateError.{GateError, TheVariants.Invalid}
 use Rattle.gate_world.specs.declared.config.Config.{Config}
 use Rattle.gate_world.specs.declared.views.View.{View}
 use Rattle.vfs_gates.specs.Frozen.{NeverThaws}
 use Rattle.vfs_gates.specs.Grown.{StaySeen}
-use Rattle.vfs_gates.specs.Runs.{Called}
-use Rattle.vfs_gates.specs.declared.Gates.{Gates}
 use Rattle.vfs_gates.proofs.Grown.{both_stay_seen, same_stays_seen, stays_seen_on}
 use Rattle.vfs_gates.proofs.Rounds.{own_times, times-append}
 use Rattle.vfs_gates.proofs.Standing.{stands}

@@ -1,6 +1,7 @@
 -- What the task of a thread comes home with: the remounter, which has number 1, and each writer.
 use Rattle.std.specs.Prelude.{◌≡◌, ℕ, ◌+◌, ◌<◌, ◌≤◌, ◌++◌, Result, IfErr, IfOk, length}
 use Rattle.access_model.specs.declared.errors.GateError.{GateError}
+use Rattle.run_plans.specs.Plans.{run_config}
 use Rattle.run_plans.specs.declared.plans.Plan.{Plan}
 use Rattle.run_plans.specs.declared.counts.Remounts.{Remounts}
 use Rattle.run_plans.specs.declared.counts.Writes.{Writes}
@@ -25,6 +26,16 @@ DoesRounds held processors rounds number first last (Remounter met) =
     (number ≡ 1) × Repeats RemountRound rounds (first, no_remounts) (last, met)
 DoesRounds held processors rounds number first last (Writer met) = (writer : ℕ) × (number ≡ writer + 2)
     × Repeats (WriterRound (was_held held) processors writer) rounds (first, tt, no_writes) (last, tt, met)
+
+-- a task that may do the rounds of this number: it comes from gates of this plan, rests, and has done nothing
+pub record IsReady (gates : Gates) (plan : Plan) (number : ℕ) (s : SeatedTask) : Type 0 where
+  pub from : IsFrom s gates
+  pub planned : gates.words.config ≡ run_config plan.tasks plan.processors plan.rounds
+  pub first : 1 ≤ number
+  pub last : number < plan.tasks
+  pub begun : HasBegun number s
+  pub rests : Rests s
+  pub none : HaveNotThawed s.items
 
 -- a task with this number, none of whose numbers has thawed
 pub record NeverThawed (number : ℕ) (s : SeatedTask) : Type 0 where

@@ -6,12 +6,11 @@ ghost use Rattle.gate_runs.specs.run_threads.Ends.{AllJoined};
 ghost use Rattle.gate_runs.specs.declared.run_threads.threads.Met.{Met as MetType};
 ghost use Rattle.run_plans.specs.declared.counts.Remounts.{Remounts as RemountsType};
 ghost use Rattle.run_plans.specs.declared.counts.Writes.{Writes as WritesType};
-ghost use Rattle.gate_runs.specs.run_threads.Homes.{ComesHome, DoesRounds, HasBack, NeverThawed, TaskShare, TookBack, with_met};
+ghost use Rattle.gate_runs.specs.run_threads.Homes.{ComesHome, HasBack, IsReady, NeverThawed, TaskShare, TookBack, with_met};
 ghost use Rattle.gate_runs.specs.run_threads.Parts.{AllWrote, Among, EachFrom, Remounted};
 ghost use Rattle.gate_runs.specs.run_parts.Counts.{remounts_of};
-ghost use Rattle.gate_runs.specs.run_parts.Keeping.{HaveNotThawed, ThawsNothing};
 ghost use Rattle.gate_runs.specs.run_parts.Meetings.{was_held};
-ghost use Rattle.gate_runs.specs.run_parts.Refusals.{MetBy, RunRefused};
+ghost use Rattle.gate_runs.specs.run_parts.Refusals.{RunRefused};
 ghost use Rattle.gate_runs.specs.run_parts.Splitting.{Gives, HasBegun};
 ghost use Rattle.gate_runs.specs.run_parts.TaskStates.{IsFrom, SeatedTask, own_view};
 ghost use Rattle.run_plans.specs.Plans.{run_config};
@@ -95,15 +94,8 @@ fn work<R: Wait, W: RunObserver>(
     number: u8,
     task: &mut Task,
 ) -> Result<Met, GateError>
-    requires from { IsFrom task.old gates.now }
-    requires planned { gates.now.words.config ≡ run_config plan.tasks plan.processors plan.rounds }
-    requires number { (1 ≤ number) × (number < plan.tasks) }
-    requires rests { Rests task.old }
-    ensures from { IsFrom task.new gates.now }
-    ensures rests { Rests task.new }
-    ensures thaws { ThawsNothing task.old task.new }
-    ensures does { IfOk result (λ m. DoesRounds (W.held watch.now) plan.processors plan.rounds number task.old task.new m) }
-    ensures refused { IfErr result (MetBy gates.now.words.config plan.tasks) }
+    requires ready { IsReady gates.now plan number task.old }
+    ensures home { ComesHome (W.held watch.now) gates.now plan number task.new result }
 {
     if number == REMOUNTER {
         return Ok(Met::Remounter(remount(rt, gates, plan, task)?));
@@ -113,7 +105,42 @@ fn work<R: Wait, W: RunObserver>(
     Ok(Met::Writer(writes))
 }
 
-/// Splits the next task off, and starts its thread. NoMemory where it can't be started, or a growth was refused.
+/// Starts the thread of a task. NoMemory if it can't be started.
+fn spawn_worker<'s, E, R: Wait + Sync, W: RunObserver + Sync>(
+    starter: &Starter<'_, 's, E, R>,
+    gates: &'s Gates,
+    plan: Plan,
+    watch: &'s W,
+    number: u8,
+    task: Task,
+) -> Result<Worker<'s, W>, GateError>
+    requires ready { IsReady gates.now plan number task }
+    ensures home { IfOk result (λ w. (w.promise.gates.now ≡ gates.now) × (w.promise.plan ≡ plan) × (w.promise.watch.now ≡ watch.now)
+        × (w.promise.number ≡ number)) }
+    ensures refused { IfErr result (λ e. e ≡ NoMemory) }
+{
+    let home = Home {
+        gates,
+        plan,
+        watch,
+        number,
+    };
+    let rt = starter.rt;
+    let run = move || -> Worked
+        requires ready { IsReady gates.now plan number task }
+        ensures { ComesHome (W.held watch.entry.now) gates.entry.now plan number result.task result.met }
+    {
+        let mut task = task;
+        let met = work(rt, gates, plan, watch, number, &mut task);
+        Worked { task, met }
+    };
+    match starter.scope.spawn_with(home, run) {
+        Ok(worker) => Ok(worker),
+        Err(_) => Err(GateError::NoMemory),
+    }
+}
+
+/// Splits the next task off, and starts its thread. NoMemory if it can't be started, or a growth was refused.
 fn start_worker<'s, E, R: Wait + Sync, W: RunObserver + Sync>(
     starter: &Starter<'_, 's, E, R>,
     gates: &'s Gates,
@@ -138,30 +165,7 @@ fn start_worker<'s, E, R: Wait + Sync, W: RunObserver + Sync>(
     let Ok(other) = task.split(starter.alloc, gates) else {
         return Err(GateError::NoMemory);
     };
-    let home = Home {
-        gates,
-        plan,
-        watch,
-        number,
-    };
-    let rt = starter.rt;
-    let run = move || -> Worked
-        requires from { IsFrom other gates.now }
-        requires planned { gates.now.words.config ≡ run_config plan.tasks plan.processors plan.rounds }
-        requires begun { HasBegun number other }
-        requires number { (1 ≤ number) × (number < plan.tasks) }
-        requires rests { Rests other }
-        requires thawed { HaveNotThawed other.items }
-        ensures { ComesHome (W.held watch.entry.now) gates.entry.now plan number result.task result.met }
-    {
-        let mut task = other;
-        let met = work(rt, gates, plan, watch, number, &mut task);
-        Worked { task, met }
-    };
-    match starter.scope.spawn_with(home, run) {
-        Ok(worker) => Ok(worker),
-        Err(_) => Err(GateError::NoMemory),
-    }
+    spawn_worker(starter, gates, plan, watch, number, other)
 }
 
 /// Splits off all other tasks, in their order, and starts their threads.

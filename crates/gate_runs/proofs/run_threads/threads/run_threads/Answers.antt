@@ -1,5 +1,5 @@
 -- each task has done its part, and stands among the numbers that were taken back
-use Rattle.std.proofs.Common.{◌≡◌, ℕ, ◌+◌, ◌-◌, ◌≤◌, ap, arith, inl, inr, length, subst, sym, vec_len, ◌∙◌}
+use Rattle.std.proofs.Common.{◌≡◌, ◌+◌, ◌-◌, ◌≤◌, ap, arith, inl, inr, length, subst, sym, vec_len, ◌∙◌}
 use Rattle.std.proofs.lemmas.Result.{err_from_is_err_and}
 use Rattle.std.specs.Prelude.{◌⊎◌, Ok}
 use Rattle.access_model.specs.declared.errors.GateError.{GateError}
