@@ -7,7 +7,7 @@
 # Prints a line for each growth. The last line says whether all is well, and so does the status.
 set -u
 WORDS=5
-LAST=65
+LAST=83
 root=$(cd "$(dirname "$0")/.." && pwd)
 ROOM=$(mktemp -d)
 trap 'rm -rf "$ROOM"' EXIT

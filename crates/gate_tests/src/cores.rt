@@ -3,6 +3,7 @@
 use access_model::Reply;
 use cpu_words::WordName;
 use gate_core::{Config, Core, Op, Progress, words_at_start};
+use std::alloc::Global;
 use std::test::Fail;
 
 /// Two tasks at one mount, with one processor.
@@ -29,23 +30,33 @@ fn ask_until_done(core: &mut Core) -> Option<u32> {
     None
 }
 
+/// Whether the core begins with all words as they open, and a task for each number.
+fn is_opening(alloc: Global, core: &Core) -> bool {
+    match words_at_start(alloc) {
+        Ok(words) => core.words() == words.as_slice() && core.seats().len() == 2,
+        Err(_) => false,
+    }
+}
+
+/// Whether the first task of a core makes the superblock read-only, and asks a hook once, while a twin that was made meanwhile stands as it stood.
+fn remounts(core: &mut Core) -> bool {
+    let begun = core.begin(0, Op::RemountSb { read_only: true });
+    let Ok(twin) = core.twin() else {
+        return false;
+    };
+    let asked = ask_until_done(core);
+    let under_way = [core.is_under_way(0), twin.is_under_way(0)];
+    let flags = [core.word(WordName::SbFlags), twin.word(WordName::SbFlags)];
+    drop(twin);
+    begun == Ok(()) && asked == Some(1) && under_way == [false, true] && flags == [Some(1), Some(0)]
+}
+
 #[test]
 fn a_core_makes_a_file_system_read_only(rt: HostRuntime) -> Result<(), Fail> {
     let mut core = Core::new(rt.alloc(), CONFIG)?;
-    let opening = words_at_start(rt.alloc())?;
-    let is_opening = core.words() == opening.as_slice() && core.seats().len() == 2;
-    let begun = core.begin(0, Op::RemountSb { read_only: true });
-    let twin = core.twin()?;
-    let asked = ask_until_done(&mut core);
-    let under_way = [core.is_under_way(0), twin.is_under_way(0)];
-    let flags = [core.word(WordName::SbFlags), twin.word(WordName::SbFlags)];
-    if is_opening
-        && begun == Ok(())
-        && asked == Some(1)
-        && under_way == [false, true]
-        && flags == [Some(1), Some(0)]
-        && core.config().tasks == 2
-    {
+    let is_so = is_opening(rt.alloc(), &core) && remounts(&mut core) && core.config().tasks == 2;
+    drop(core);
+    if is_so {
         Ok(())
     } else {
         Err(Fail::new("remounted otherwise"))
