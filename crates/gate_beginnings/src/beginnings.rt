@@ -6,7 +6,7 @@ ghost use Rattle.gate_world.specs.Accesses.{held_in};
 ghost use Rattle.gate_world.specs.Beginnings.{beginning, first_phase, is_in_range, is_in_order, is_within_room};
 
 use access_model::GateError;
-use composite_ops::{ClosePhase, Closing, WritePhase};
+use composite_ops::{ClosePhase, WritePhase};
 use freeze_levels::{Freeze, Thaw};
 use gate_world::{Accesses, Config, Op, Phase};
 use gated_tree::{Create, Grow, Mark, MoveTo, OpenFile, Remove, Snapshot, TreePhase};
@@ -20,14 +20,14 @@ use percpu_rwsem::{Callback, DownRead, UpRead};
 #[inline(always)]
 pub fn begin(
     op: Op,
-    config: Config,
+    config: &Config,
     task: u8,
     under_way: bool,
     held: &Accesses,
 ) -> Result<Phase, GateError>
-    requires mounts { config.mounts ≤ 8 }
-    requires nodes { config.nodes ≤ 64 }
-    ensures { result ≡ beginning config task under_way (held_in held.now) op }
+    requires mounts { config.now.mounts ≤ 8 }
+    requires nodes { config.now.nodes ≤ 64 }
+    ensures { result ≡ beginning config.now task under_way (held_in held.now) op }
 {
     if under_way {
         Err(GateError::Order)
@@ -44,8 +44,8 @@ pub fn begin(
 
 /// Whether its numbers are in range.
 #[inline(always)]
-fn is_in_range(op: Op, config: Config) -> bool
-    ensures { result ≡ is_in_range config op }
+fn is_in_range(op: Op, config: &Config) -> bool
+    ensures { result ≡ is_in_range config.now op }
 {
     match op {
         Op::Want { mount, cpu, .. }
@@ -71,11 +71,11 @@ fn is_in_range(op: Op, config: Config) -> bool
 
 /// Whether the task holds what the operation gives back or works on, and nothing that it must not find held.
 #[inline(always)]
-fn is_in_order(op: Op, config: Config, held: &Accesses) -> bool
-    requires mounts { config.mounts ≤ 8 }
-    requires nodes { config.nodes ≤ 64 }
-    requires range { is_in_range config op ≡ true }
-    ensures { result ≡ is_in_order config (held_in held.now) op }
+fn is_in_order(op: Op, config: &Config, held: &Accesses) -> bool
+    requires mounts { config.now.mounts ≤ 8 }
+    requires nodes { config.now.nodes ≤ 64 }
+    requires range { is_in_range config.now op ≡ true }
+    ensures { result ≡ is_in_order config.now (held_in held.now) op }
 {
     match op {
         Op::Want { .. } | Op::Callback { .. } | Op::Open { .. } => true,
@@ -100,10 +100,10 @@ fn is_in_order(op: Op, config: Config, held: &Accesses) -> bool
 
 /// Whether the task may have one access more at its mount, or has its file not open yet.
 #[inline(always)]
-fn is_within_room(op: Op, config: Config, held: &Accesses) -> bool
-    requires mounts { config.mounts ≤ 8 }
-    requires nodes { config.nodes ≤ 64 }
-    requires range { is_in_range config op ≡ true }
+fn is_within_room(op: Op, config: &Config, held: &Accesses) -> bool
+    requires mounts { config.now.mounts ≤ 8 }
+    requires nodes { config.now.nodes ≤ 64 }
+    requires range { is_in_range config.now op ≡ true }
     ensures { result ≡ is_within_room (held_in held.now) op }
 {
     let _ = config;
@@ -116,8 +116,8 @@ fn is_within_room(op: Op, config: Config, held: &Accesses) -> bool
 
 /// Its first phase.
 #[inline(always)]
-fn first_phase(op: Op, config: Config, task: u8) -> Phase
-    ensures { result ≡ first_phase config task op }
+fn first_phase(op: Op, config: &Config, task: u8) -> Phase
+    ensures { result ≡ first_phase config.now task op }
 {
     let (cpus, nodes, room) = (config.processors, config.nodes, config.capacity);
     match op {
@@ -135,10 +135,7 @@ fn first_phase(op: Op, config: Config, task: u8) -> Phase
         }
         Op::Start { level, cpu, wait } => Phase::DownReads(DownRead::new(level, cpu, task, wait)),
         Op::End { level, cpu } => Phase::UpReads(UpRead { level, cpu }),
-        Op::WantWrite { mount, cpu } => {
-            let read = DownRead::new(1, cpu, task, true);
-            Phase::Writes(WritePhase::Takes { mount, read })
-        }
+        Op::WantWrite { mount, cpu } => Phase::Writes(WritePhase::new(mount, cpu, task)),
         Op::DropWrite { mount, cpu } => Phase::Writes(WritePhase::Drops { mount, cpu }),
         Op::Callback { level } => Phase::Callbacks(Callback::new(level, config.tasks)),
         Op::Freeze { holder } => {
@@ -152,9 +149,7 @@ fn first_phase(op: Op, config: Config, task: u8) -> Phase
         Op::Fault { file } => Phase::Trees(TreePhase::Mark(Mark::new(file, true))),
         Op::Flush { file } => Phase::Trees(TreePhase::Mark(Mark::new(file, false))),
         Op::Open { file } => Phase::Trees(TreePhase::OpenFile(OpenFile::new(file))),
-        Op::Close { file, cpu, wait } => {
-            Phase::Closes(ClosePhase::LoadsFile(Closing::new(file, cpu, task, wait)))
-        }
+        Op::Close { file, cpu, wait } => Phase::Closes(ClosePhase::new(file, cpu, task, wait)),
         Op::Snapshot { wait } => Phase::Trees(TreePhase::Snapshot(Snapshot::new(
             wait, task, nodes,
         ))),
@@ -170,9 +165,9 @@ fn is_level(level: u8) -> bool
 }
 
 /// Whether a task may change the tree: it is inside level 1, and holds an access at some mount.
-fn may_write(config: Config, held: &Accesses) -> bool
-    requires { config.mounts ≤ 8 }
-    ensures { result ≡ is_writer config (held_in held.now) }
+fn may_write(config: &Config, held: &Accesses) -> bool
+    requires { config.now.mounts ≤ 8 }
+    ensures { result ≡ is_writer config.now (held_in held.now) }
 {
     held.levels[1] && held.holds_some_mount(config.mounts)
 }

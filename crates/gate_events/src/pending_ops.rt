@@ -28,8 +28,12 @@ pub trait PendingOp: Copy {
         ensures { result ≡ as_phase self };
 
     /// The word and the touch of the next event, where a hook answers this: what each operation does of its own, with no look at others.
+    #[inline(always)]
     fn next(self, hook: Result<(), u16>) -> (WordName, Touch)
-        ensures { result ≡ next_of (as_phase self) hook };
+        ensures { result ≡ next_of (as_phase self) hook }
+    {
+        next_event(&self.phase(), hook)
+    }
 
     /// What comes after the event, which found this, and the action that it adds.
     fn after(self, found: u64, hook: Result<(), u16>) -> (Next<Self>, Option<Action>)
@@ -83,11 +87,6 @@ impl PendingOp for Phase {
     }
 
     #[inline(always)]
-    fn next(self, hook: Result<(), u16>) -> (WordName, Touch) {
-        next_event(&self, hook)
-    }
-
-    #[inline(always)]
     fn after(self, found: u64, hook: Result<(), u16>) -> (Next<Phase>, Option<Action>) {
         after_event(self, found, hook)
     }
@@ -102,12 +101,6 @@ impl PendingOp for Want {
     #[inline(always)]
     fn phase(self) -> Phase {
         Phase::Mounts(MountPhase::Want(self))
-    }
-
-    #[inline(always)]
-    fn next(self, hook: Result<(), u16>) -> (WordName, Touch) {
-        let _ = hook;
-        self.next()
     }
 
     #[inline(always)]
@@ -128,11 +121,6 @@ impl PendingOp for MountPhase {
     }
 
     #[inline(always)]
-    fn next(self, hook: Result<(), u16>) -> (WordName, Touch) {
-        MountPhase::next(&self, hook)
-    }
-
-    #[inline(always)]
     fn after(self, found: u64, hook: Result<(), u16>) -> (Next<MountPhase>, Option<Action>) {
         self.after(found, hook)
     }
@@ -147,11 +135,6 @@ impl PendingOp for Change {
     #[inline(always)]
     fn phase(self) -> Phase {
         Phase::Mounts(MountPhase::Change(self))
-    }
-
-    #[inline(always)]
-    fn next(self, hook: Result<(), u16>) -> (WordName, Touch) {
-        MountPhase::next(&MountPhase::Change(self), hook)
     }
 
     #[inline(always)]
@@ -172,12 +155,6 @@ impl PendingOp for DownRead {
     }
 
     #[inline(always)]
-    fn next(self, hook: Result<(), u16>) -> (WordName, Touch) {
-        let _ = hook;
-        self.next()
-    }
-
-    #[inline(always)]
     fn after(self, found: u64, hook: Result<(), u16>) -> (Next<DownRead>, Option<Action>) {
         let _ = hook;
         self.after(found)
@@ -192,12 +169,6 @@ impl PendingOp for UpRead {
     #[inline(always)]
     fn phase(self) -> Phase {
         Phase::UpReads(self)
-    }
-
-    #[inline(always)]
-    fn next(self, hook: Result<(), u16>) -> (WordName, Touch) {
-        let _ = hook;
-        self.next()
     }
 
     #[inline(always)]
@@ -218,12 +189,6 @@ impl PendingOp for WritePhase {
     }
 
     #[inline(always)]
-    fn next(self, hook: Result<(), u16>) -> (WordName, Touch) {
-        let _ = hook;
-        self.next()
-    }
-
-    #[inline(always)]
     fn after(self, found: u64, hook: Result<(), u16>) -> (Next<WritePhase>, Option<Action>) {
         let _ = hook;
         self.after(found)
@@ -241,11 +206,6 @@ impl PendingOp for Remount {
     }
 
     #[inline(always)]
-    fn next(self, hook: Result<(), u16>) -> (WordName, Touch) {
-        self.next(hook)
-    }
-
-    #[inline(always)]
     fn after(self, found: u64, hook: Result<(), u16>) -> (Next<Remount>, Option<Action>) {
         self.after(found, hook)
     }
@@ -259,12 +219,6 @@ impl PendingOp for Callback {
     #[inline(always)]
     fn phase(self) -> Phase {
         Phase::Callbacks(self)
-    }
-
-    #[inline(always)]
-    fn next(self, hook: Result<(), u16>) -> (WordName, Touch) {
-        let _ = hook;
-        self.next()
     }
 
     #[inline(always)]
@@ -285,11 +239,6 @@ impl PendingOp for Freeze {
     }
 
     #[inline(always)]
-    fn next(self, hook: Result<(), u16>) -> (WordName, Touch) {
-        self.next(hook)
-    }
-
-    #[inline(always)]
     fn after(self, found: u64, hook: Result<(), u16>) -> (Next<Freeze>, Option<Action>) {
         self.after(found, hook)
     }
@@ -306,11 +255,6 @@ impl PendingOp for Thaw {
     }
 
     #[inline(always)]
-    fn next(self, hook: Result<(), u16>) -> (WordName, Touch) {
-        self.next(hook)
-    }
-
-    #[inline(always)]
     fn after(self, found: u64, hook: Result<(), u16>) -> (Next<Thaw>, Option<Action>) {
         self.after(found, hook)
     }
@@ -324,11 +268,6 @@ impl PendingOp for TreePhase {
     #[inline(always)]
     fn phase(self) -> Phase {
         Phase::Trees(self)
-    }
-
-    #[inline(always)]
-    fn next(self, hook: Result<(), u16>) -> (WordName, Touch) {
-        TreePhase::next(&self, hook)
     }
 
     #[inline(always)]
@@ -349,11 +288,6 @@ impl PendingOp for Grow {
     }
 
     #[inline(always)]
-    fn next(self, hook: Result<(), u16>) -> (WordName, Touch) {
-        TreePhase::next(&TreePhase::Grow(self), hook)
-    }
-
-    #[inline(always)]
     fn after(self, found: u64, hook: Result<(), u16>) -> (Next<Grow>, Option<Action>) {
         let _ = hook;
         self.after(found)
@@ -368,12 +302,6 @@ impl PendingOp for ClosePhase {
     #[inline(always)]
     fn phase(self) -> Phase {
         Phase::Closes(self)
-    }
-
-    #[inline(always)]
-    fn next(self, hook: Result<(), u16>) -> (WordName, Touch) {
-        let _ = hook;
-        self.next()
     }
 
     #[inline(always)]

@@ -4,13 +4,11 @@
 
 mod hooks;
 pub mod laws;
-mod rows;
 mod turns;
 mod words;
 
 pub use crate::{Closed, Happens, index_of, word_of};
 pub use gate_schedules::{Progress, Step, TaskState};
 pub use hooks::TimedHooks;
-pub use rows::following;
 pub use turns::{Turn, do_event, find, find_asking, find_first, step_once};
 pub use words::{GateWords, GhostSeat};

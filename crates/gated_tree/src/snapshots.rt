@@ -56,6 +56,7 @@ impl Snapshot {
     }
 
     /// Whether the next event is the load of its last word: of the children that are charged to the last node.
+    #[inline(always)]
     pub fn loads_last(self) -> bool
         ensures { result ≡ loads_last self.nodes self.step }
     {

@@ -2,6 +2,7 @@
 #![tactic(auto, unfolding(crate::specs::Trees::words_of))]
 
 ghost use Rattle.std.specs.Prelude.{◌≡◌, ◌<◌, ◌^◌, ◌↔◌, IsTrue, IfOk, OnSome, length, slice_index, vec_len};
+ghost use Rattle.std.specs.Borrow.{sem};
 ghost use Rattle.access_model.specs.States.{is_dirty};
 
 use access_model::{Kind, NodeInfo};
@@ -30,6 +31,7 @@ pub struct Tree {
 }
 
 impl Tree {
+    ghost use Rattle.gated_tree.specs.Lending.{LendsKids, LendsNodes};
     ghost use Rattle.gated_tree.specs.Trees.{CountsChildren, HasDirectories, HasDirectory, LoadedClean, LoadedSound, blocks_in, children_in, loaded, node_at, unloaded, words_of};
 
     /// Room for the words of so many nodes, of which none was loaded: all are 0. Where a growth of memory is refused, there is none.
@@ -43,7 +45,26 @@ impl Tree {
         })
     }
 
+    /// Lends the words of the nodes, for a line of loads that notes each where it stands. There are as many as `new` was told.
+    #[inline(always)]
+    pub fn nodes_mut(&mut self) -> &mut [u64]
+        ensures* lends { sem 𝓛 (LendsNodes self.entry result) }
+        ensures words { result.now ≡ (words_of self.old).nodes }
+    {
+        self.nodes.as_mut_slice()
+    }
+
+    /// Lends the words of the children that are charged to each node, likewise.
+    #[inline(always)]
+    pub fn kids_mut(&mut self) -> &mut [u64]
+        ensures* lends { sem 𝓛 (LendsKids self.entry result) }
+        ensures words { result.now ≡ (words_of self.old).kids }
+    {
+        self.kids.as_mut_slice()
+    }
+
     /// Notes that a word was loaded and had this value. A word that is none of the tree's changes nothing. Takes no memory.
+    #[inline(always)]
     pub fn load(&mut self, word: WordName, value: u64)
         ensures { words_of self.new ≡ loaded (words_of self.old) word value }
     {
@@ -61,15 +82,6 @@ impl Tree {
             }
             _ => {}
         }
-    }
-
-    /// Makes the room that of a snapshot which has loaded nothing: all words are 0 again. Takes no memory.
-    pub fn clear(&mut self)
-        ensures { words_of self.new ≡ unloaded (length (words_of self.old).nodes) }
-    {
-        self.used = 0;
-        self.nodes.fill(0);
-        self.kids.fill(0);
     }
 
     /// The blocks that were charged.

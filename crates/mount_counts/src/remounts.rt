@@ -1,10 +1,11 @@
 //! The order of events of a remount of the superblock.
 
-ghost use Rattle.std.specs.Prelude.{◌≡◌};
+ghost use Rattle.std.specs.Prelude.{◌≡◌, if◌then◌else◌};
 ghost use Rattle.access_model.specs.declared.actions.Action.TheVariants.{Clean};
 ghost use Rattle.access_model.specs.declared.replies.Next.TheVariants.{Go};
 ghost use Rattle.mount_counts.specs.Remounts.{remount_next, remount_after, remount_from, past_mount, let_go, leave_holds, give_up, at_remount, remount_summed, past_node, mark_cleared};
-ghost use Rattle.mount_counts.specs.declared.remounts.RemountStep.TheVariants.{Locks};
+ghost use Rattle.mount_counts.specs.Phases.{has_flag};
+ghost use Rattle.mount_counts.specs.declared.remounts.RemountStep.TheVariants.{Locks, SetsHold};
 
 use crate::flags::MountFlags;
 use crate::sets::MountSet;
@@ -93,10 +94,7 @@ impl Remount {
             }
             RemountStep::LoadsStage => (WordName::Stage, Touch::Load),
             RemountStep::LoadsSuperblock => (WordName::SbFlags, Touch::Load),
-            RemountStep::SetsWritable => match hook {
-                Ok(()) => (WordName::SbFlags, Touch::Store(0)),
-                Err(_) => (WordName::Umount, Touch::Store(0)),
-            },
+            RemountStep::SetsWritable if hook.is_ok() => (WordName::SbFlags, Touch::Store(0)),
             RemountStep::LoadsRemoved | RemountStep::LoadsRemovedAgain { .. } => {
                 (WordName::Removed, Touch::Load)
             }
@@ -119,12 +117,13 @@ impl Remount {
                 WordName::Node(node),
                 Touch::And(!NodeWord::DIRTY),
             ),
-            RemountStep::SetsReadOnly => match hook {
-                Ok(()) => (WordName::SbFlags, Touch::Store(1)),
-                Err(_) => (WordName::Remount, Touch::Store(0)),
-            },
-            RemountStep::ClearsRemount => (WordName::Remount, Touch::Store(0)),
-            RemountStep::Releases(_) => (WordName::Umount, Touch::Store(0)),
+            RemountStep::SetsReadOnly if hook.is_ok() => (WordName::SbFlags, Touch::Store(1)),
+            RemountStep::SetsReadOnly | RemountStep::ClearsRemount => {
+                (WordName::Remount, Touch::Store(0))
+            }
+            RemountStep::SetsWritable | RemountStep::Releases(_) => {
+                (WordName::Umount, Touch::Store(0))
+            }
         }
     }
 
@@ -148,6 +147,17 @@ impl Remount {
             RemountStep::LoadsFlags { mount, held }
         } else {
             RemountStep::LoadsRemovedAgain { held }
+        }
+    }
+
+    /// What comes after a mount's flags were found: one that is read-only already is passed over.
+    fn flagged(self, mount: u8, held: MountSet, found: u64) -> RemountStep
+        ensures { result ≡ (if has_flag found 1 then past_mount self.mounts mount held else SetsHold mount held) }
+    {
+        if MountFlags::from_bits_retain(found).contains(MountFlags::READONLY) {
+            self.past(mount, held)
+        } else {
+            RemountStep::SetsHold { mount, held }
         }
     }
 
@@ -186,7 +196,7 @@ impl Remount {
         ensures { result ≡ (remount_after self self.step found hook).0 }
     {
         let done = RemountStep::Releases(Ok(Reply::Unit));
-        let flags = MountFlags::from_bits_retain(found);
+        let sum = Sum::start();
         self.at(match self.step {
             RemountStep::Locks if found == 0 => RemountStep::LoadsStage,
             RemountStep::Locks => return Next::Wait(self),
@@ -202,17 +212,8 @@ impl Remount {
                 held: MountSet::empty(),
             },
             RemountStep::LoadsRemoved => RemountStep::Releases(Err(GateError::Busy)),
-            RemountStep::LoadsFlags { mount, held } => {
-                if flags.contains(MountFlags::READONLY) {
-                    self.past(mount, held)
-                } else {
-                    RemountStep::SetsHold { mount, held }
-                }
-            }
-            RemountStep::SetsHold { mount, held } => {
-                let sum = Sum::start();
-                RemountStep::Sums { mount, held, sum }
-            }
+            RemountStep::LoadsFlags { mount, held } => self.flagged(mount, held, found),
+            RemountStep::SetsHold { mount, held } => RemountStep::Sums { mount, held, sum },
             RemountStep::Sums { mount, held, sum } => self.summed(mount, held, sum, found),
             RemountStep::LoadsRemovedAgain { held } if found == 0 => {
                 RemountStep::SetsRemount { held }

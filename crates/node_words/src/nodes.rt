@@ -177,12 +177,15 @@ impl NodeWord {
     }
 }
 
-/// The number of the next of so many nodes, if there is one.
+/// The number of the next of so many nodes, or of so many of anything else, if there is one. It stands in line, since each step of a row
+/// of steps asks it.
+#[inline(always)]
 pub fn following(node: u8, nodes: u8) -> Option<u8>
     ensures { result ≡ node_after node nodes }
 {
-    match node.checked_add(1) {
-        Some(next) if next < nodes => Some(next),
-        _ => None,
+    if u16::from(node) + 1 < u16::from(nodes) {
+        Some(node + 1)
+    } else {
+        None
     }
 }

@@ -56,7 +56,13 @@ impl Task {
         ensures { result ≡ beginning_at op self.now }
     {
         let under_way = self.kept.phase.is_some();
-        begin(op, self.config, self.number, under_way, &self.kept.accesses)
+        begin(
+            op,
+            &self.config,
+            self.number,
+            under_way,
+            &self.kept.accesses,
+        )
     }
 
     /// Does the events of the operation that has begun, which has a most number of them and asks no hook, until it replies.

@@ -10,10 +10,11 @@ ghost use Rattle.vfs_gates.specs.Noted.{taking_at};
 use crate::task::Task;
 use access_model::Holder;
 use composite_ops::WritePhase;
-use freeze_levels::{Freeze, FreezeStep, Thaw, ThawStep};
-use gated_tree::{Snapshot, SnapshotStep};
-use mount_counts::{Remount, RemountStep};
-use percpu_rwsem::{Callback, CallbackStep, DownRead, DownReadStep, Transition};
+use freeze_levels::{Freeze, Thaw};
+use gate_world::Config;
+use gated_tree::Snapshot;
+use mount_counts::Remount;
+use percpu_rwsem::Callback;
 
 impl Task {
     ghost use Rattle.vfs_gates.specs.TaskStates.{own_number};
@@ -23,14 +24,7 @@ impl Task {
     pub(crate) fn first_taking(&self, mount: u8, cpu: u8) -> WritePhase
         ensures { Writes result ≡ first_phase self.now.config (own_number self.now.items) (WantWrite mount cpu) }
     {
-        let read = DownRead {
-            level: 1,
-            cpu,
-            task: self.number(),
-            wait: true,
-            step: DownReadStep::EntersSection,
-        };
-        WritePhase::Takes { mount, read }
+        WritePhase::new(mount, cpu, self.number())
     }
 
     /// A callback, likewise.
@@ -38,11 +32,7 @@ impl Task {
     pub(crate) fn first_callback(&self, level: u8) -> Callback
         ensures { Callbacks result ≡ first_phase self.now.config (own_number self.now.items) (CallbackOp level) }
     {
-        Callback {
-            level,
-            tasks: self.config.tasks,
-            step: CallbackStep::Claims(Transition::Loads),
-        }
+        Callback::new(level, self.config.tasks)
     }
 
     /// A remount, likewise.
@@ -50,14 +40,13 @@ impl Task {
     pub(crate) fn first_remount(&self, read_only: bool) -> Remount
         ensures { Remounts result ≡ first_phase self.now.config (own_number self.now.items) (RemountSb read_only) }
     {
-        Remount {
-            read_only,
-            task: self.number(),
-            processors: self.config.processors,
-            mounts: self.config.mounts,
-            nodes: self.config.nodes,
-            step: RemountStep::Locks,
-        }
+        let Config {
+            processors,
+            mounts,
+            nodes,
+            ..
+        } = self.config;
+        Remount::new(read_only, self.number(), processors, mounts, nodes)
     }
 
     /// A freeze, likewise.
@@ -65,14 +54,13 @@ impl Task {
     pub(crate) fn first_freeze(&self, holder: Holder) -> Freeze
         ensures { Freezes result ≡ first_phase self.now.config (own_number self.now.items) (FreezeOp holder) }
     {
-        Freeze {
-            task: self.number(),
-            tasks: self.config.tasks,
-            processors: self.config.processors,
-            nodes: self.config.nodes,
-            holder,
-            step: FreezeStep::Locks,
-        }
+        let Config {
+            tasks,
+            processors,
+            nodes,
+            ..
+        } = self.config;
+        Freeze::new(holder, self.number(), tasks, processors, nodes)
     }
 
     /// A thaw, likewise.
@@ -80,11 +68,7 @@ impl Task {
     pub(crate) fn first_thaw(&self, holder: Holder) -> Thaw
         ensures { Thaws result ≡ first_phase self.now.config (own_number self.now.items) (ThawOp holder) }
     {
-        Thaw {
-            task: self.number(),
-            holder,
-            step: ThawStep::Locks,
-        }
+        Thaw::new(holder, self.number())
     }
 
     /// A snapshot, likewise.
@@ -92,11 +76,6 @@ impl Task {
     pub(crate) fn first_snapshot(&self, wait: bool) -> Snapshot
         ensures { taking_at result Locks ≡ first_phase self.now.config (own_number self.now.items) (SnapshotOp wait) }
     {
-        Snapshot {
-            wait,
-            task: self.number(),
-            nodes: self.config.nodes,
-            step: SnapshotStep::Locks,
-        }
+        Snapshot::new(wait, self.number(), self.config.nodes)
     }
 }

@@ -75,19 +75,6 @@ fn closed(node: NodeWord) -> NodeWord
 }
 
 impl Closing {
-    /// A close before its first event.
-    #[inline(always)]
-    pub fn new(file: u8, cpu: u8, task: u8, wait: bool) -> Closing
-        ensures { result ≡ record { file = file; cpu = cpu; task = task; wait = wait } }
-    {
-        Closing {
-            file,
-            cpu,
-            task,
-            wait,
-        }
-    }
-
     /// The begin of a down-read of level 3.
     fn enters(self, node: NodeWord) -> ClosePhase
         ensures { result ≡ enters self node }
@@ -137,6 +124,19 @@ fn frees_then(file: u8, node: NodeWord, cpu: u8, next: Next<DownRead>) -> Next<C
 }
 
 impl ClosePhase {
+    /// A close before its first event.
+    #[inline(always)]
+    pub fn new(file: u8, cpu: u8, task: u8, wait: bool) -> ClosePhase
+        ensures { result ≡ LoadsFile record { file = file; cpu = cpu; task = task; wait = wait } }
+    {
+        ClosePhase::LoadsFile(Closing {
+            file,
+            cpu,
+            task,
+            wait,
+        })
+    }
+
     /// The word and the touch of the next event.
     pub fn next(self) -> (WordName, Touch)
         ensures { result ≡ next self }

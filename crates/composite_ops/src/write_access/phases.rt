@@ -1,6 +1,8 @@
 //! The orders of events of the two, each one gate's after the other's.
 
-ghost use Rattle.std.specs.Prelude.{◌≡◌};
+ghost use Rattle.std.specs.Prelude.{◌≡◌, true};
+ghost use Rattle.percpu_rwsem.specs.declared.readers.DownReadStep.TheVariants.{EntersSection};
+ghost use Rattle.composite_ops.specs.declared.write_access.phases.WritePhase.TheVariants.{Takes};
 ghost use Rattle.composite_ops.specs.write_access.Phases.{next, after, then_wants, then_gives_back};
 
 use access_model::{Action, Gate, GateError, Next, Reply};
@@ -80,6 +82,15 @@ fn gives_back_then(mount: u8, cpu: u8, next: Next<Want>) -> Next<WritePhase>
 }
 
 impl WritePhase {
+    /// A taking before its first event: of level 1, where it waits while the level is closed, and then of this mount.
+    #[inline(always)]
+    pub fn new(mount: u8, cpu: u8, task: u8) -> WritePhase
+        ensures { result ≡ Takes mount record { level = 1; cpu = cpu; task = task; wait = true; step = EntersSection } }
+    {
+        let read = DownRead::new(1, cpu, task, true);
+        WritePhase::Takes { mount, read }
+    }
+
     /// The word and the touch of the next event.
     #[inline(always)]
     pub fn next(self) -> (WordName, Touch)

@@ -1,5 +1,5 @@
 -- the laws that the contracts name
-use Rattle.std.{proofs.Common.{◌≡◌, ℕ, suc, ◌+◌, refl, ap, inl, inr, arith}, specs.Prelude.{◌⊎◌, Some, true, false}}
+use Rattle.std.{proofs.Common.{◌≡◌, ℕ, suc, ◌+◌, refl, ap, arith}, specs.Prelude.{◌⊎◌, Some, true, false}}
 use Rattle.finite_sums.{proofs.Totals.{total_zero, total_at}, specs.Sums.total}
 use Rattle.percpu_rwsem.specs.{SyncWords.is_queued, declared.sync_word.GpState.GpState}
 use Rattle.freeze_laws.proofs.levels.{EventLaws.{fast_finds, entered_finds}, GraceLaws.graces_are_whole, IdleLaws.only_callbacks_idle, Runs.{event_keeps, run_is_right}}
@@ -43,9 +43,7 @@ enters_alone tasks l right t u lt lu ne = (
 -- a state in which readers may be fast
 idle_or_enter : (n : ℕ) (s : GpState) → state_found n ≡ Some s → idle_bit s + enter_bit s ≡ 1 →
     (state_found n ≡ Some GpState.Idle) ⊎ (state_found n ≡ Some GpState.Enter)
-idle_or_enter n GpState.Idle f e = inl f
-idle_or_enter n GpState.Enter f e = inr f
-idle_or_enter n other f e = absurd (omega arith)
+idle_or_enter n other f e = grind arith
 
 pub fast_finds_open : FastFindsOpen
 fast_finds_open tasks l right t lt here =
@@ -55,11 +53,7 @@ fast_finds_open tasks l right t lt here =
 -- a state in which readers are slow
 passed_or_queued : (n : ℕ) (s : GpState) → state_found n ≡ Some s → idle_bit s + enter_bit s ≡ 0 →
     (state_found n ≡ Some GpState.Passed) ⊎ (is_queued s ≡ true)
-passed_or_queued n GpState.Idle f e = absurd (omega arith)
-passed_or_queued n GpState.Enter f e = absurd (omega arith)
-passed_or_queued n GpState.Passed f e = inl f
-passed_or_queued n GpState.Exit f e = inr refl
-passed_or_queued n GpState.Replay f e = inr refl
+passed_or_queued n role f e = grind arith
 
 pub writers_find : WritersFind
 writers_find tasks l right t lt e n =

@@ -1,13 +1,13 @@
 -- each kind of event at one level keeps its predicate
 use Rattle.std.proofs.{Common.{◌≡◌, ℕ, true, false, ◌+◌, ◌%◌, ◌<◌, ◌≤◌, refl, sym, ap, subst, ◌∙◌, inl, inr, arith}, lemmas.Bool.Decides.{eqb_tells, nat_tests}}
-use Rattle.std.specs.Prelude.{Bool, Option, Some, None, ◌==◌, ◌&&◌, nat_lt, if◌then◌else◌}
+use Rattle.std.specs.Prelude.{Bool, Option, ◌==◌, ◌&&◌, nat_lt, if◌then◌else◌}
 use Rattle.finite_sums.{proofs.Totals.{update_off, each_updated, total_updated, total_at, total_none}, specs.Sums.{update, total}}
 use Rattle.cpu_words.specs.Touches.{wrap_add}
 use Rattle.percpu_rwsem.proofs.SyncWords.{bit_small}
 use Rattle.percpu_rwsem.specs.Graces.{is_first, started, looked}
 use Rattle.percpu_rwsem.specs.SyncWords.{bit, is_queued, entered_state, left_state, emptied_state, on_enter, on_exit, on_claim, on_callback}
 use Rattle.percpu_rwsem.specs.declared.{grace.{Grace.Grace, GraceNext.GraceNext}, sync_word.{GpState.GpState, SyncWord.SyncWord}}
-use Rattle.freeze_laws.proofs.levels.SyncLaws.{fast_small, role_kept, role_free, says, parts_of, open_while_fast, moves}
+use Rattle.freeze_laws.proofs.levels.SyncLaws.{role_kept, role_free, says, parts_of, open_while_fast, moves}
 use Rattle.freeze_laws.proofs.levels.TransitionLaws.{Enters, enters, Exits, exits, passes, Calls, calls, Claims, claims_queued}
 use Rattle.freeze_laws.specs.levels.Changes.{Leaves, role_entered, waits, claims}
 use Rattle.freeze_laws.specs.levels.Roles.{SyncRole, Out, Fast, Waiting, Past, Entered, Closed, Claimed, Ready, fast, entering, entered, closed, claimed, enter_bit}
@@ -23,12 +23,7 @@ entered_says section at tasks some other = tt
 not_waiting : (section : ℕ → ℕ) (at : ℕ → SyncRole) (j found : ℕ) (o : Option ℕ) → StillFirst section at j o → section j ≡ found →
     fast (at j) ≤ found % 2 →
     (found % 2 == 1) && is_first o found ≡ false → fast (at j) ≡ 0
-not_waiting section at j found None h s f e = grind (arith, nat_tests)
-not_waiting section at j found (Some first) h s f e =
-    elim (eqb_tells (fast (at j)) 1) [
-      | inl q ↦ let p : section j ≡ first = h q.1 in absurd (grind (arith, nat_tests))
-      | inr q ↦ omega (arith, q.1, fast_small (at j))
-    ]
+not_waiting section at j found next h s f e = grind arith
 
 pub by_test : {A : Type 0} (P : A → Type 0) (b : Bool) (x y : A) → (b ≡ true → P x) → (b ≡ false → P y) → P (if b then x else y)
 by_test P true x y f g = f refl
@@ -54,16 +49,12 @@ looked_says section at tasks g f h =
 -- the numbers of a role, by what its load led to
 pub waits_entering : (n : GraceNext) →
     (entering (waits n) ≡ 1) × (entered (waits n) ≡ 1) × (claimed (waits n) ≡ 0) × (closed (waits n) ≡ 0) × (fast (waits n) ≡ 0)
-waits_entering (GraceNext.More g) = (refl, refl, refl, refl, refl)
-waits_entering (GraceNext.Wait g) = (refl, refl, refl, refl, refl)
-waits_entering GraceNext.Ended = (refl, refl, refl, refl, refl)
+waits_entering role = grind arith
 
 -- the same, of a callback
 pub claims_claimed : (n : GraceNext) →
     (entering (claims n) ≡ 0) × (entered (claims n) ≡ 0) × (claimed (claims n) ≡ 1) × (closed (claims n) ≡ 0) × (fast (claims n) ≡ 0)
-claims_claimed (GraceNext.More g) = (refl, refl, refl, refl, refl)
-claims_claimed (GraceNext.Wait g) = (refl, refl, refl, refl, refl)
-claims_claimed GraceNext.Ended = (refl, refl, refl, refl, refl)
+claims_claimed role = grind arith
 
 module _ (tasks : ℕ) (word : SyncWord) (block full : ℕ) (section : ℕ → ℕ) (at : ℕ → SyncRole)
     (good : SyncHolds tasks word block full section at) (t : ℕ) (lt : t < tasks) where

@@ -3,7 +3,6 @@ use Rattle.std.proofs.Common.{◌≡◌, ℕ, zero, suc, false, ◌+◌, ◌-◌
 use Rattle.std.proofs.lemmas.Bool.Decides.{eqb_tells, nat_tests}
 use Rattle.std.specs.Prelude.{Option, Some, None, ◌==◌, ◌&&◌, ◌⊎◌, nat_lt}
 use Rattle.finite_sums.{proofs.Totals.update_off, specs.Sums.update}
-use Rattle.cpu_words.specs.Touches.{wrap_add}
 use Rattle.percpu_rwsem.specs.{Graces.{is_first, started, looked}, declared.{grace.{Grace.Grace, GraceNext.GraceNext}, sync_word.GpState.GpState}}
 use Rattle.freeze_laws.proofs.levels.{EventLaws.{by_test, waits_entering, claims_claimed}, Runs.run_is_right}
 use Rattle.freeze_laws.specs.levels.Changes.{state_found, role_found, waits, claims}
@@ -15,25 +14,7 @@ use Rattle.freeze_laws.specs.levels.Roles.{SyncRole, Out, Fast, Waiting, Past, E
 -- an event that changes the section word of a task begins or ends its section
 event_turns : (tasks t : ℕ) → (l l' : SyncLevel) (k : SyncEvent) → Happens tasks t l l' k → (u : ℕ) → l.inside u ≤ 1 →
     (l'.section u ≡ l.section u) ⊎ ((l.inside u ≡ 0) ⊎ (l'.inside u ≡ 0))
-event_turns tasks t l l' TurnsSection h u small =
-    elim (eqb_tells u t) [
-      | inl e ↦ elim (eqb_tells (l.inside u) 0) [
-        | inl z ↦ inr (inl z.1)
-        | inr z ↦
-            let one : update l.inside t (1 - l.inside t) u ≡ 1 - l.inside t = rw (e.0, update) in
-            let same : l.inside u ≡ l.inside t = ap l.inside e.1 in
-            inr (inr (ap (λ (x : SyncLevel). x.inside u) h.1 ∙ (one ∙ omega (arith, z.1))))
-      ]
-      | inr e ↦ inl (ap (λ (x : SyncLevel). x.section u) h.1 ∙ update_off l.section t (wrap_add (l.section t) 1) u e.1)
-    ]
-event_turns tasks t l l' FindsIdle h u small = inl (ap (λ (x : SyncLevel). x.section u) h.3)
-event_turns tasks t l l' AddsFast h u small = inl (ap (λ (x : SyncLevel). x.section u) h.1)
-event_turns tasks t l l' Enters h u small = inl (ap (λ (x : SyncLevel). x.section u) h.3)
-event_turns tasks t l l' Swaps h u small = inl (ap (λ (x : SyncLevel). x.section u) h.1)
-event_turns tasks t l l' Opens h u small = inl (ap (λ (x : SyncLevel). x.section u) h.1)
-event_turns tasks t l l' Freezes h u small = inl (ap (λ (x : SyncLevel). x.section u) h.1)
-event_turns tasks t l l' Stays h u small = inl (ap (λ (x : SyncLevel). x.section u) h)
-event_turns tasks t l l' other h u small = inl (ap (λ (x : SyncLevel). x.section u) h.2)
+event_turns tasks t l l' other h u small = grind arith
 
 -- what an event makes of one task's role, as far as grace periods go
 data Turn (tasks : ℕ) (l l' : SyncLevel) (t : ℕ) : Type 0 where
@@ -59,12 +40,7 @@ quiet : (tasks : ℕ) (l l' : SyncLevel) (t : ℕ) (r : SyncRole) → entering r
 quiet tasks l l' t r e c h = Quiet (ap entering h ∙ e) (ap claimed h ∙ c)
 
 found_turn : (tasks : ℕ) (l l' : SyncLevel) (t : ℕ) (o : Option GpState) → l'.at t ≡ role_found tasks o → Turn tasks l l' t
-found_turn tasks l l' t None h = quiet tasks l l' t Out refl refl h
-found_turn tasks l l' t (Some GpState.Idle) h = Starts h
-found_turn tasks l l' t (Some GpState.Enter) h = quiet tasks l l' t Entered refl refl h
-found_turn tasks l l' t (Some GpState.Passed) h = quiet tasks l l' t Entered refl refl h
-found_turn tasks l l' t (Some GpState.Exit) h = quiet tasks l l' t Entered refl refl h
-found_turn tasks l l' t (Some GpState.Replay) h = quiet tasks l l' t Entered refl refl h
+found_turn tasks l l' t found h = grind arith
 
 event_turn : (tasks s : ℕ) → (l l' : SyncLevel) (k : SyncEvent) → Happens tasks s l l' k → (t : ℕ) → Turn tasks l l' t
 event_turn tasks s l l' TurnsSection h t = Same (ap (λ (x : SyncLevel). x.at t) h.1)
@@ -143,24 +119,16 @@ Says tasks m t i r = Unit {0}
 -- the role that the load leads to says the same, of a writer
 waits_says : (tasks : ℕ) (m : ℕ → SyncLevel) (t i : ℕ) (n : GraceNext) → NextSays tasks m t (Waiting (started tasks)) entering i n →
     Says tasks m t i (waits n)
-waits_says tasks m t i (GraceNext.More g) h = h
-waits_says tasks m t i (GraceNext.Wait g) h = h
-waits_says tasks m t i GraceNext.Ended h = h
+waits_says tasks m t i next h = grind arith
 
 -- and of a callback
 claims_says : (tasks : ℕ) (m : ℕ → SyncLevel) (t i : ℕ) (n : GraceNext) → NextSays tasks m t (Claimed (started tasks)) claimed i n →
     Says tasks m t i (claims n)
-claims_says tasks m t i (GraceNext.More g) h = h
-claims_says tasks m t i (GraceNext.Wait g) h = h
-claims_says tasks m t i GraceNext.Ended h = h
+claims_says tasks m t i next h = grind arith
 
 -- a role that is in no grace period says nothing
 quiet_says : (tasks : ℕ) (m : ℕ → SyncLevel) (t i : ℕ) (r : SyncRole) → entering r ≡ 0 → claimed r ≡ 0 → Says tasks m t i r
-quiet_says tasks m t i (Waiting g) e c = absurd (omega arith)
-quiet_says tasks m t i Past e c = absurd (omega arith)
-quiet_says tasks m t i (Claimed g) e c = absurd (omega arith)
-quiet_says tasks m t i Ready e c = absurd (omega arith)
-quiet_says tasks m t i r e c = tt
+quiet_says tasks m t i r e c = grind arith
 
 -- one moment more of a kind
 stays_more : (m : ℕ → SyncLevel) (t a i : ℕ) (kind : SyncRole → ℕ) → ((k : ℕ) → a ≤ k → k ≤ i → kind ((m k).at t) ≡ 1) →

@@ -1,10 +1,10 @@
 -- the laws of the transitions, of the sync word as a number
-use Rattle.std.proofs.Common.{◌≡◌, ℕ, zero, suc, true, false, ◌+◌, ◌<◌, refl, sym, ap, subst, inl, inr, arith}
-use Rattle.std.specs.Prelude.{Bool, Option, Some, None, ◌⊎◌, nat_lt, if◌then◌else◌}
+use Rattle.std.proofs.Common.{◌≡◌, ℕ, true, ◌+◌, ◌<◌, refl, sym, ap, subst, arith}
+use Rattle.std.specs.Prelude.{Option, Some, None, nat_lt, if◌then◌else◌}
 use Rattle.finite_sums.specs.Sums.{update, total}
 use Rattle.percpu_rwsem.proofs.SyncWords.{unpack_pack}
 use Rattle.percpu_rwsem.specs.Graces.{started}
-use Rattle.percpu_rwsem.specs.SyncWords.{is_lawful, is_queued, entered_state, emptied_state, pack, unpack, on_enter, on_exit, on_claim, on_callback}
+use Rattle.percpu_rwsem.specs.SyncWords.{is_queued, entered_state, emptied_state, pack, unpack, on_enter, on_exit, on_claim, on_callback}
 use Rattle.percpu_rwsem.specs.declared.sync_word.{GpState.GpState, SyncWord.SyncWord}
 use Rattle.freeze_laws.proofs.levels.TransitionLaws.{enters, claims_defined}
 use Rattle.freeze_laws.specs.levels.Changes.{Leaves, put_by, transition_of, transition, state_found_in, state_found, role_entered, role_found}

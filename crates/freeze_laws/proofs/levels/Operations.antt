@@ -1,12 +1,12 @@
 -- each event of an operation at a level is one of the level
-use Rattle.std.proofs.{Common.{◌≡◌, ℕ, true, false, ◌+◌, ◌<◌, refl, sym, ap, subst, ◌∙◌}, lemmas.Bool.eq-eqb}
-use Rattle.std.specs.Prelude.{Option, Some, None, Ok, ◌==◌, if◌then◌else◌}
+use Rattle.std.proofs.{Common.{◌≡◌, ℕ, true, ◌+◌, ◌<◌, refl, sym, ap, subst, ◌∙◌}, lemmas.Bool.eq-eqb}
+use Rattle.std.proofs.Common.{arith}
+use Rattle.std.specs.Prelude.{Option, Some, ◌==◌}
 use Rattle.finite_sums.{proofs.Totals.update_same, specs.Sums.{update, total}}
-use Rattle.access_model.specs.declared.replies.{Next.Next, Reply.Reply}
 use Rattle.cpu_words.specs.{Sums.sum_taking, Touches.left, declared.sums.Taken.Taken}
 use Rattle.percpu_rwsem.specs.{Callbacks.{claimed as claim_made, callback_looked, called_back}, Graces.looked}
-use Rattle.percpu_rwsem.specs.{SyncWords.{unpack, is_passed, on_enter, on_exit, on_claim, on_callback}, Transitions.{transition_next, transition_after}}
-use Rattle.percpu_rwsem.specs.Writers.{at_down_write, sum_begun, entered_from, enter_step, callback_step, sections_awaited, passed_awaited, down_write_summed}
+use Rattle.percpu_rwsem.specs.{SyncWords.{unpack, on_enter, on_exit, on_claim, on_callback}, Transitions.{transition_next, transition_after}}
+use Rattle.percpu_rwsem.specs.Writers.{entered_from, enter_step, callback_step, sections_awaited, passed_awaited, down_write_summed}
 use Rattle.percpu_rwsem.specs.Writers.{exit_made}
 use Rattle.percpu_rwsem.specs.declared.{callbacks.{Callback.Callback, CallbackStep.CallbackStep}, grace.GraceNext.GraceNext}
 use Rattle.percpu_rwsem.specs.declared.{sync_word.{GpState.GpState, SyncWord.SyncWord}, transitions.{Transition.Transition, TransitionNext.TransitionNext}}
@@ -66,60 +66,39 @@ module _ (tasks t : ℕ) (lt : t < tasks) (l : SyncLevel) where
       subst (SyncStep tasks l) p (step_by _ k h)
 
 pub enter_knows : (tasks found v : ℕ) (n : TransitionNext) → MakesTransition on_enter found v n → KnowsDownWrite (enter_step tasks n)
-enter_knows tasks found v (TransitionNext.More x) h = h.1
-enter_knows tasks found v TransitionNext.Undefined h = tt
-enter_knows tasks found v (TransitionNext.Made s) h = knows_from tasks s
+enter_knows tasks found v next h = grind arith
 
 pub callback_knows : (found v : ℕ) (n : TransitionNext) → MakesTransition on_callback found v n → KnowsDownWrite (callback_step n)
-callback_knows found v (TransitionNext.More x) h = h.1
-callback_knows found v TransitionNext.Undefined h = tt
-callback_knows found v (TransitionNext.Made s) h = tt
+callback_knows found v next h = grind arith
 
 -- a down-write goes on with its grace period, or to its transition
 looked_role : (d : DownWrite) (n : GraceNext) → by_next (λ (x : DownWrite). down_write_role x.step) Closed (sections_awaited d n) ≡ waits n
-looked_role d (GraceNext.More g) = refl
-looked_role d (GraceNext.Wait g) = refl
-looked_role d GraceNext.Ended = refl
+looked_role d next = grind arith
 
 -- and no exchange is to come yet
 looked_knows : (d : DownWrite) (n : GraceNext) →
     HoldsOfNext (λ (x : DownWrite). (x.tasks ≡ d.tasks) × KnowsDownWrite x.step) (sections_awaited d n)
-looked_knows d (GraceNext.More g) = (refl, tt)
-looked_knows d (GraceNext.Wait g) = (refl, tt)
-looked_knows d GraceNext.Ended = (refl, tt)
+looked_knows d next = grind arith
 
 -- a load for GP_PASSED leaves it entered
 passed_role : (d : DownWrite) (o : Option SyncWord) →
     by_next (λ (x : DownWrite). down_write_role x.step) Closed (passed_awaited d o) ≡ Entered
-passed_role d None = refl
-passed_role d (Some w) = elim (is_passed w.state) as (λ b. by_next (λ (x : DownWrite). down_write_role x.step) Closed
-    (if b then Next.Go (at_down_write d DownWriteStep.SetsBlock)
-    else Next.Wait (at_down_write d DownWriteStep.AwaitsPassed)) ≡ Entered) [ true ↦ refl | false ↦ refl ]
+passed_role d found = grind arith
 
 -- and no exchange is to come
 passed_knows : (d : DownWrite) (o : Option SyncWord) →
     HoldsOfNext (λ (x : DownWrite). (x.tasks ≡ d.tasks) × KnowsDownWrite x.step) (passed_awaited d o)
-passed_knows d None = (refl, tt)
-passed_knows d (Some w) = elim (is_passed w.state) as (λ b. HoldsOfNext (λ (x : DownWrite). (x.tasks ≡ d.tasks) × KnowsDownWrite x.step)
-    (if b then Next.Go (at_down_write d DownWriteStep.SetsBlock) else Next.Wait (at_down_write d DownWriteStep.AwaitsPassed))) [
-      | true ↦ (refl, tt)
-      | false ↦
-          (refl, tt)
-    ]
+passed_knows d found = grind arith
 
 -- a word more of the sum leaves the level closed
 summed_role : (d : DownWrite) (taken : Taken) →
     by_next (λ (x : DownWrite). down_write_role x.step) Closed (down_write_summed d taken).0 ≡ Closed
-summed_role d (Taken.More sum) = refl
-summed_role d (Taken.Total total) = elim (total == 0) as (λ b. by_next (λ (x : DownWrite). down_write_role x.step) Closed
-    (if b then Next.Done (Ok Reply.Unit) else Next.Wait (at_down_write d sum_begun)) ≡ Closed) [ true ↦ refl | false ↦ refl ]
+summed_role d taken = grind arith
 
 -- and no exchange is to come
 summed_knows : (d : DownWrite) (taken : Taken) →
     HoldsOfNext (λ (x : DownWrite). (x.tasks ≡ d.tasks) × KnowsDownWrite x.step) (down_write_summed d taken).0
-summed_knows d (Taken.More sum) = (refl, tt)
-summed_knows d (Taken.Total total) = elim (total == 0) as (λ b. HoldsOfNext (λ (x : DownWrite). (x.tasks ≡ d.tasks) × KnowsDownWrite x.step)
-    (if b then Next.Done (Ok Reply.Unit) else Next.Wait (at_down_write d sum_begun))) [ true ↦ tt | false ↦ (refl, tt) ]
+summed_knows d taken = grind arith
 
 module _ (t other : ℕ) (l : SyncLevel) (d : DownWrite) (lt : t < d.tasks) where
   -- an event of the enter
@@ -177,9 +156,7 @@ down_writes_are_there t other l d lt right here k none = down_write_there t othe
 -- an up-write that goes on knows what is to come
 exit_knows : (u : UpWrite) (found v : ℕ) (n : TransitionNext) → MakesTransition on_exit found v n →
     HoldsOfNext (λ (x : UpWrite). KnowsUpWrite x.step) (exit_made u n)
-exit_knows u found v (TransitionNext.More x) h = h.1
-exit_knows u found v TransitionNext.Undefined h = tt
-exit_knows u found v (TransitionNext.Made s) h = tt
+exit_knows u found v next h = grind arith
 
 module _ (tasks t other : ℕ) (l : SyncLevel) (u : UpWrite) (lt : t < tasks) where
   -- an event of the exit
@@ -206,29 +183,21 @@ up_writes_are_there tasks t other l u lt here k = up_write_there tasks t other l
 -- a callback that has claimed waits for its grace period, and one that claims knows what is to come
 claim_knows : (b : Callback) (found v : ℕ) (n : TransitionNext) → MakesTransition on_claim found v n →
     HoldsOfNext (λ (x : Callback). (x.tasks ≡ b.tasks) × KnowsCallback x.step) (claim_made b n)
-claim_knows b found v (TransitionNext.More x) h = (refl, h.1)
-claim_knows b found v TransitionNext.Undefined h = tt
-claim_knows b found v (TransitionNext.Made s) h = (refl, tt)
+claim_knows b found v next h = grind arith
 
 -- one past its grace period knows it too
 call_knows : (b : Callback) (found v : ℕ) (n : TransitionNext) → MakesTransition on_callback found v n →
     HoldsOfNext (λ (x : Callback). (x.tasks ≡ b.tasks) × KnowsCallback x.step) (called_back b n)
-call_knows b found v (TransitionNext.More x) h = (refl, h.1)
-call_knows b found v TransitionNext.Undefined h = (refl, tt)
-call_knows b found v (TransitionNext.Made s) h = tt
+call_knows b found v next h = grind arith
 
 -- a callback goes on with its grace period, or to its transition
 grace_role : (b : Callback) (n : GraceNext) → by_next (λ (x : Callback). callback_role x.step) Out (callback_looked b n) ≡ claims n
-grace_role b (GraceNext.More g) = refl
-grace_role b (GraceNext.Wait g) = refl
-grace_role b GraceNext.Ended = refl
+grace_role b next = grind arith
 
 -- and no exchange is to come yet
 grace_knows : (b : Callback) (n : GraceNext) →
     HoldsOfNext (λ (x : Callback). (x.tasks ≡ b.tasks) × KnowsCallback x.step) (callback_looked b n)
-grace_knows b (GraceNext.More g) = (refl, tt)
-grace_knows b (GraceNext.Wait g) = (refl, tt)
-grace_knows b GraceNext.Ended = (refl, tt)
+grace_knows b next = grind arith
 
 module _ (t other : ℕ) (l : SyncLevel) (b : Callback) (lt : t < b.tasks) where
   -- an event of the claim

@@ -1,5 +1,5 @@
 -- each event of a level keeps what is right of it
-use Rattle.std.{proofs.Common.{◌≡◌, ℕ, zero, suc, ◌-◌, ◌<◌, ◌≤◌, refl, sym, subst, arith}, specs.Prelude.{Option, Some, None}}
+use Rattle.std.{proofs.Common.{◌≡◌, ℕ, zero, suc, ◌-◌, ◌<◌, ◌≤◌, sym, subst, arith}, specs.Prelude.{Option}}
 use Rattle.finite_sums.specs.Sums.{update}
 use Rattle.cpu_words.specs.Touches.{wrap_add}
 use Rattle.percpu_rwsem.specs.{Graces.{started, looked}, declared.sync_word.GpState.GpState}
@@ -11,12 +11,7 @@ use Rattle.freeze_laws.proofs.levels.EventLaws
 use Rattle.freeze_laws.proofs.levels.NumberLaws
 
 pub found_slow : (tasks : ℕ) (o : Option GpState) → fast (role_found tasks o) ≡ 0
-found_slow tasks None = refl
-found_slow tasks (Some GpState.Idle) = refl
-found_slow tasks (Some GpState.Enter) = refl
-found_slow tasks (Some GpState.Passed) = refl
-found_slow tasks (Some GpState.Exit) = refl
-found_slow tasks (Some GpState.Replay) = refl
+found_slow tasks found = grind arith
 
 pub event_keeps : (tasks t : ℕ) → t < tasks → (l l' : SyncLevel) (k : SyncEvent) → SyncLevelHolds tasks l → Happens tasks t l l' k →
     SyncLevelHolds tasks l'

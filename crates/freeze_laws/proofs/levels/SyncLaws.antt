@@ -2,7 +2,7 @@
 use Rattle.std.{proofs.{Common.{◌≡◌, ℕ, true, false, ◌+◌, ◌<◌, ◌≤◌, refl, ◌∙◌, arith}, lemmas.Bool.Decides.nat_tests}, specs.Prelude.{Bool, Option, Some, None}}
 use Rattle.finite_sums.{proofs.Totals.{update_off, each_updated, total_updated, total_le, total_add, total_at}, specs.Sums.{update, total}}
 use Rattle.percpu_rwsem.{proofs.SyncWords.bit_small, specs.{SyncWords.{bit, is_lawful}, declared.sync_word.{GpState.GpState, SyncWord.SyncWord}}}
-use Rattle.freeze_laws.specs.levels.Roles.{SyncRole, Fast, Waiting, Past, Closed, fast, entering, entered, closed, claimed, enter_bit, idle_bit, StillFirst, RoleHolds}
+use Rattle.freeze_laws.specs.levels.Roles.{SyncRole, Fast, Closed, fast, entering, entered, closed, claimed, enter_bit, idle_bit, StillFirst, RoleHolds}
 use Rattle.freeze_laws.specs.levels.Roles.{SyncHolds}
 
 -- what a lawful word with a count of at most 1 says in numbers
@@ -34,15 +34,10 @@ still_kept section section' at at' less same j (Some f) h = λ e. same j e ∙ h
 pub role_kept : (section section' : ℕ → ℕ) (at at' : ℕ → SyncRole) → ((u : ℕ) → fast (at' u) ≤ fast (at u)) →
     ((u : ℕ) → fast (at' u) ≡ 1 → section' u ≡ section u) →
     (tasks : ℕ) (r : SyncRole) → RoleHolds section at tasks r → RoleHolds section' at' tasks r
-role_kept section section' at at' less same tasks (Waiting g) h =
-    (h.0, h.1, λ u l. omega (arith, h.2 u l, less u), still_kept section section' at at' less same g.task g.first h.3)
-role_kept section section' at at' less same tasks Past h = λ u l. omega (arith, h u l, less u)
-role_kept section section' at at' less same tasks r h = tt
+role_kept section section' at at' less same tasks r h = grind arith
 
 pub role_free : (section : ℕ → ℕ) (at : ℕ → SyncRole) (tasks : ℕ) (r : SyncRole) → entering r ≡ 0 → RoleHolds section at tasks r
-role_free section at tasks (Waiting g) e = absurd (omega arith)
-role_free section at tasks Past e = absurd (omega arith)
-role_free section at tasks r e = tt
+role_free section at tasks r e = grind arith
 
 pub parts_entered : (r : SyncRole) → closed r + entering r ≤ entered r
 parts_entered Closed = omega arith

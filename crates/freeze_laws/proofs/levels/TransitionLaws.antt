@@ -75,11 +75,7 @@ calls GpState.Replay true (suc zero) m b f l = record { puts = refl; lawful = re
 
 -- only GP_EXIT becomes GP_IDLE by it
 pub calls_idle : (s : GpState) (c : ℕ) → is_queued s ≡ true → c ≤ 1 → (if nat_lt 0 c then GpState.Passed else emptied_state s) ≡ GpState.Idle → s ≡ GpState.Exit
-calls_idle GpState.Exit c q m e = refl
-calls_idle GpState.Replay zero q m e = cc
-calls_idle GpState.Replay (suc zero) q m e = cc
-calls_idle GpState.Replay (suc (suc c)) q m e = absurd (omega arith)
-calls_idle other c q m e = cc
+calls_idle other c q m e = grind arith
 
 pub entered_not_idle : (s : GpState) → entered_state s ≡ GpState.Idle → ⊥
 entered_not_idle GpState.Idle e = cc

@@ -2,15 +2,13 @@
 use Rattle.std.{proofs.Common.{◌≡◌, ℕ, ◌+◌, ◌*◌, ◌<◌, ◌≤◌, ap, ◌∙◌, inl, inr, arith}, specs.Prelude.◌⊎◌}
 use Rattle.finite_sums.{proofs.Totals.{each_updated, total_updated, total_at, update_off}, specs.Sums.{update, total}}
 use Rattle.freeze_laws.proofs.stages.Positions.{other_owns, passed_is}
-use Rattle.freeze_laws.specs.stages.Roles.{StageRole, Aside, Freezing, owns, freezes, remounts, closes, passed_by, under_way, is_full, KnowsStage, StagesHold}
+use Rattle.freeze_laws.specs.stages.Roles.{StageRole, Aside, owns, freezes, remounts, closes, passed_by, under_way, is_full, KnowsStage, StagesHold}
 use Rattle.freeze_laws.specs.stages.Shown.{passed_shown}
 
 -- who doesn't own `umount` relies at most on the stage that it stored
 free_knows : (stage sb stage' sb' : ℕ) (r : StageRole) → owns r ≡ 0 → (freezes r ≡ 0) ⊎ (stage' ≡ stage) → KnowsStage stage sb r →
     KnowsStage stage' sb' r
-free_knows stage sb stage' sb' Aside o h k = tt
-free_knows stage sb stage' sb' (Freezing known place owner) o h k = elim h [ inl e ↦ absurd (omega (arith, e)) | inr e ↦ e ∙ k ]
-free_knows stage sb stage' sb' r o h k = absurd (omega (arith, o))
+free_knows stage sb stage' sb' r o h k = grind arith
 
 module _ (tasks stage sb remount : ℕ) (block : ℕ → ℕ) (at : ℕ → StageRole) (good : StagesHold tasks stage sb remount block at) (t : ℕ)
     (lt : t < tasks) where

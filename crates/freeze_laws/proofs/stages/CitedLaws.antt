@@ -1,18 +1,15 @@
 -- What the stage says at one moment, and who moves it.
-use Rattle.std.proofs.{Common.{◌≡◌, ℕ, ◌<◌, ◌≤◌, refl, sym, ap, ◌∙◌, inl, inr, arith}, lemmas.Bool.Decides.eqb_tells}
-use Rattle.std.specs.Prelude.{◌⊎◌, Bool, true, Option, Some}
+use Rattle.std.proofs.{Common.{◌≡◌, ℕ, ◌<◌, ◌≤◌, refl, sym, ◌∙◌, inl, inr, arith}, lemmas.Bool.Decides.eqb_tells}
+use Rattle.std.specs.Prelude.{Bool, Some}
 use Rattle.finite_sums.proofs.Totals.{total_none, total_zero, total_at, HasPlace, total_place}
 use Rattle.freeze_laws.proofs.stages.{Allowed.may, EachEvent.after_kind, Effects.effect, Facts.{up_to_off, freeze_role}}
 use Rattle.freeze_laws.proofs.stages.Positions.{block_at, block_idle, not_full, one_position, other_position, passed_idle, passed_own, who_freezes, way, nobody_at_four}
 use Rattle.freeze_laws.proofs.stages.Positions.{passed_in_order}
 use Rattle.freeze_laws.proofs.stages.StageLaws.{freeze_bound, relied_on}
-use Rattle.freeze_laws.specs.stages.Events.{Stages, Holds, StageEvent, Happens, Advances, Begins, CancelsRemount, ClearsBlock, ClearsMark, ClearsMarkReadOnly}
-use Rattle.freeze_laws.specs.stages.Events.{ClearsRemount, Completes, Fails, FreezesAtOnce, HoldsOne, LeavesOne, LetsGo, LoadsSb, LoadsStage, Locks, LocksAgain}
-use Rattle.freeze_laws.specs.stages.Events.{MarksNode, Passes, Recalls, Releases, ReleasesOpen, SetsBlock, SetsReadOnly, SetsRemount, SetsWritable, Stays, Syncs, Thaws}
-use Rattle.freeze_laws.specs.stages.Events.{ThawsAtOnce, WashesNode}
+use Rattle.freeze_laws.specs.stages.Events.{Stages, Holds, StageEvent, Happens}
 use Rattle.freeze_laws.specs.stages.Laws.{opening, EventsKeep, ActionsAreAllowed, ActionsHaveTheirEffect, FreezeIsUnderWay, FreezeKeepsOthersOut, FrozenAsAWhole}
 use Rattle.freeze_laws.specs.stages.Laws.{OnlyTheFreezeMovesTheStage, OpenElsewhere, PositionsAreAlone, PositionsTellTheLevels, LevelsPassInOrder, NobodyAtStageFour}
-use Rattle.freeze_laws.specs.stages.Roles.{StageRole, Aside, Owning, Remounting, Freezing, HasPassed, KnowsStage, Place, closes, freezes, has_position, is_full}
+use Rattle.freeze_laws.specs.stages.Roles.{StageRole, Aside, Owning, Remounting, Freezing, KnowsStage, Place, closes, freezes, has_position, is_full}
 use Rattle.freeze_laws.specs.stages.Roles.{remounts}
 
 pub opening_is_right : (tasks nodes : ℕ) → Holds tasks nodes opening
@@ -123,47 +120,8 @@ open_elsewhere tasks nodes x h none full = (
 -- a store of a stage asks for what is said of it: at stages 1 to 3 nobody but the freeze can be there
 module _ (tasks nodes : ℕ) (x : Stages) (h : Holds tasks nodes x) (t : ℕ) (lt : t < tasks) (low : 1 ≤ x.stage) (high : x.stage ≤ 3)
     (out : freezes (x.at t) ≡ 0) where
-  -- an owner relies on no other stage
-  not_at : (k : ℕ) (b : Option ℕ) (C : Type 0) → x.at t ≡ Owning (Some k) b → (k ≡ 0) ⊎ (k ≡ 4) → C
-  not_at k b C e o =
-      let z : x.stage ≡ k = (relied_on tasks x h.stages t lt (Owning (Some k) b) e).0 in
-      elim o [ inl q ↦ absurd (omega (arith, z, q, low)) | inr q ↦ absurd (omega (arith, z, q, high)) ]
-
-  not_in : (C : Type 0) (s : ℕ) (p : Place) (o : Bool) → x.at t ≡ Freezing s p o → C
-  not_in C s p o e = absurd (omega (arith, out, ap freezes e))
-
   pub stage_stays : (kind : StageEvent) (x' : Stages) → Happens tasks nodes t x x' kind → x'.stage ≡ x.stage
-  stage_stays Begins x' (e, p) = not_at 0 (Some 0) (x'.stage ≡ x.stage) e (inl refl)
-  stage_stays (Advances clean) x' (e, p) = not_in (x'.stage ≡ x.stage) 1 (HasPassed clean) true e
-  stage_stays (Syncs clean) x' (e, all, p) = not_in (x'.stage ≡ x.stage) 2 (HasPassed clean) true e
-  stage_stays (Completes clean) x' (e, p) = not_in (x'.stage ≡ x.stage) 3 (HasPassed clean) true e
-  stage_stays (Fails stage clean) x' (e, l, p) = not_in (x'.stage ≡ x.stage) stage (HasPassed clean) true e
-  stage_stays FreezesAtOnce x' (e, p) = not_at 0 (Some 1) (x'.stage ≡ x.stage) e (inl refl)
-  stage_stays Thaws x' (e, p) = not_at 4 (Some 0) (x'.stage ≡ x.stage) e (inr refl)
-  stage_stays ThawsAtOnce x' (e, p) = not_at 4 (Some 1) (x'.stage ≡ x.stage) e (inr refl)
-  stage_stays Locks x' (e, o, p) = ap (λ y. y.stage) p
-  stage_stays (LocksAgain stage place) x' (e, o, p) = ap (λ y. y.stage) p
-  stage_stays (Releases stage sb) x' (e, p) = ap (λ y. y.stage) p
-  stage_stays (LetsGo stage place) x' (e, p) = ap (λ y. y.stage) p
-  stage_stays ReleasesOpen x' (e, p) = ap (λ y. y.stage) p
-  stage_stays (LoadsStage stage sb) x' (e, p) = ap (λ y. y.stage) p
-  stage_stays (LoadsSb stage sb) x' (e, p) = ap (λ y. y.stage) p
-  stage_stays (SetsBlock level owner) x' (e, p) = ap (λ y. y.stage) p
-  stage_stays (Passes level clean owner) x' (e, c, p) = ap (λ y. y.stage) p
-  stage_stays (ClearsBlock below) x' (e, p) = ap (λ y. y.stage) p
-  stage_stays (SetsRemount clean) x' (e, c, p) = ap (λ y. y.stage) p
-  stage_stays (SetsReadOnly clean) x' (e, all, p) = ap (λ y. y.stage) p
-  stage_stays (ClearsRemount clean) x' (e, p) = ap (λ y. y.stage) p
-  stage_stays (CancelsRemount clean) x' (e, p) = ap (λ y. y.stage) p
-  stage_stays (SetsWritable sb) x' (e, p) = ap (λ y. y.stage) p
-  stage_stays (ClearsMark node) x' (e, p) = ap (λ y. y.stage) p
-  stage_stays (ClearsMarkReadOnly sb node) x' (e, p) = ap (λ y. y.stage) p
-  stage_stays (MarksNode node mark) x' (l, r, b, p) = ap (λ y. y.stage) p
-  stage_stays (WashesNode node) x' p = ap (λ y. y.stage) p
-  stage_stays (Recalls old new) x' (e, a, k, c, p) = ap (λ y. y.stage) p
-  stage_stays (HoldsOne holder sb new) x' (e, a, k, c, p) = ap (λ y. y.stage) p
-  stage_stays (LeavesOne holder sb new) x' (e, a, k, c, p) = ap (λ y. y.stage) p
-  stage_stays Stays x' p = ap (λ y. y.stage) p
+  stage_stays kind x' happens = grind arith
 
 -- only the freeze under way moves the stage
 pub only_the_freeze_moves_the_stage : OnlyTheFreezeMovesTheStage

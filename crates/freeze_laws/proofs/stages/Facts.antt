@@ -3,7 +3,7 @@ use Rattle.std.proofs.Common.{◌≡◌, ℕ, zero, suc, ◌+◌, ◌*◌, ◌-�
 use Rattle.std.proofs.lemmas.Bool.{le-leb, lt-leb, Decides.{nat_tests, eqb_tells}}
 use Rattle.std.specs.Prelude.{◌==◌, ◌&&◌, if◌then◌else◌}
 use Rattle.finite_sums.{proofs.Totals.{update_off, each_updated, total_same, total_updated, total_zero, total_at}, specs.Sums.{update, total}}
-use Rattle.freeze_laws.specs.stages.Roles.{Place, Before, Closing, HasPassed, StageRole, Aside, Freezing, Reopening, bit, owns, freezes, reopens, has_position}
+use Rattle.freeze_laws.specs.stages.Roles.{Place, StageRole, Freezing, Reopening, bit, owns, freezes, reopens, has_position}
 use Rattle.freeze_laws.specs.stages.Roles.{remounts, closed_at, passed_at, passed_by, up_to, closes, passes, sums, under_way, is_full, KnowsStage}
 
 pub bit_le : (b : Bool) → bit b ≤ 1
@@ -11,20 +11,14 @@ bit_le true = omega arith
 bit_le false = omega arith
 
 pub owns_le : (r : StageRole) → owns r ≤ 1
-owns_le Aside = omega arith
-owns_le (Freezing stage place owner) = bit_le owner
-owns_le r = omega arith
+owns_le r = grind arith
 
 -- only an owner opens levels or has `remount` set
 pub owner_only : (r : StageRole) → (reopens r + remounts r ≤ owns r) × (freezes r + reopens r + remounts r ≤ 1)
-owner_only Aside = omega arith
-owner_only (Freezing stage place owner) = omega arith
-owner_only r = omega arith
+owner_only r = grind arith
 
 place_le : (stage : ℕ) (p : Place) → (passed_at stage p ≤ closed_at stage p) × (closed_at stage p ≤ stage)
-place_le stage Before = omega arith
-place_le stage Closing = omega arith
-place_le stage (HasPassed clean) = omega arith
+place_le stage place = grind arith
 
 pub up_to_le : (i n : ℕ) → i ≤ n → up_to i n ≡ 1
 up_to_le i n h = rw (le-leb i n h) refl
@@ -46,19 +40,14 @@ three (suc (suc (suc zero))) h = refl
 three (suc (suc (suc (suc n)))) h = absurd (omega (arith, h))
 
 pub closes_le : (i : ℕ) → 1 ≤ i → (r : StageRole) → closes i r ≤ has_position r
-closes_le i low (Freezing stage place owner) = omega (arith, up_to_grows i (closed_at stage place) (closed_at stage place) (omega arith))
-closes_le i low (Reopening closed) = omega (arith, up_to_grows i closed closed (omega arith))
-closes_le i low r = omega (arith, up_to_off i 0 (omega (arith, low)))
+closes_le i low r = grind arith
 
 sums_one : (i stage : ℕ) → 1 ≤ i → (if i == stage then 1 else 0) + up_to i (stage - 1) ≡ up_to i stage
 sums_one i stage low = grind (arith, nat_tests, low)
 
 -- a level that is closed is passed, or its sum is still to be 0
 pub parts : (i : ℕ) → 1 ≤ i → (r : StageRole) → sums i r + passes i r ≡ closes i r
-parts i low (Freezing stage Before owner) = omega arith
-parts i low (Freezing stage Closing owner) = sums_one i stage low
-parts i low (Freezing stage (HasPassed clean) owner) = omega arith
-parts i low r = omega arith
+parts i low r = grind arith
 
 pub reopens_at : (stage sb : ℕ) (r : StageRole) → KnowsStage stage sb r → 0 < reopens r → stage ≡ 0
 reopens_at stage sb (Reopening closed) k h = k.0
@@ -66,9 +55,7 @@ reopens_at stage sb r k h = absurd (omega (arith, h))
 
 -- a freeze knows the stage, and passes at most as many levels; nobody passes more than 3
 pub passed_three : (stage sb : ℕ) (r : StageRole) → KnowsStage stage sb r → stage * freezes r ≤ 3 → passed_by r ≤ 3
-passed_three stage sb (Freezing known place owner) k h = omega (arith, place_le known place, k, h)
-passed_three stage sb (Reopening closed) k h = k.1
-passed_three stage sb r k h = omega arith
+passed_three stage sb r k h = grind arith
 
 pub way_is : (stage : ℕ) → stage ≤ 4 → under_way stage ≡ (stage % 4 + 3) / 4
 way_is zero h = refl
@@ -123,9 +110,7 @@ stage_bound stage (suc zero) h k n = elim (eqb_tells stage 4) [ inl e ↦ absurd
 stage_bound stage (suc (suc f)) h k n = absurd (omega (arith, k))
 
 pub no_levels : (r : StageRole) → has_position r ≡ 0 → passed_by r ≡ 0
-no_levels (Freezing stage place owner) h = absurd (omega (arith, h))
-no_levels (Reopening closed) h = absurd (omega (arith, h))
-no_levels r h = refl
+no_levels r h = grind arith
 
 pub up_to_below : (i n : ℕ) → 1 ≤ n → (i ≡ n → ⊥) → up_to i n ≡ up_to i (n - 1)
 up_to_below i zero h ne = absurd (omega (arith, h))
@@ -137,9 +122,7 @@ full_levels i low high (suc zero) le = sym (up_to_le i 3 high)
 full_levels i low high (suc (suc n)) le = absurd (omega (arith, le))
 
 pub some_position : (r : StageRole) → (has_position r ≡ 0 → ⊥) → has_position r ≡ 1
-some_position (Freezing stage place owner) h = refl
-some_position (Reopening closed) h = refl
-some_position r h = absurd (h refl)
+some_position r h = grind arith
 
 -- who is in a freeze at this stage has stored it last
 pub freeze_role : (stage sb : ℕ) (r : StageRole) → KnowsStage stage sb r → freezes r ≡ 1 →

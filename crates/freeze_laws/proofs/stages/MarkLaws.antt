@@ -4,7 +4,7 @@ use Rattle.finite_sums.{proofs.Totals.{each_updated, total_at}, specs.Sums.updat
 use Rattle.freeze_laws.proofs.stages.{Facts.owner_only, Positions.{way, who_freezes, passed_own, passed_is}}
 use Rattle.freeze_laws.specs.stages.Events.{Stages, Holds}
 use Rattle.freeze_laws.specs.stages.Roles.{StageRole, StagesHold, CleanBelow, MarksHold, Place, clean_by, KnowsStage, under_way, clean_at, remounts, freezes, passed_at}
-use Rattle.freeze_laws.specs.stages.Roles.{passed_by, HasPassed, has_position, Freezing, is_full, Remounting, Before, Closing}
+use Rattle.freeze_laws.specs.stages.Roles.{passed_by, HasPassed, has_position, is_full, Before, Closing}
 use Rattle.freeze_laws.specs.stages.Shown.{passed_shown}
 
 still_clean : (n node : ℕ) (dirty : ℕ → ℕ) → CleanBelow n dirty → CleanBelow n (update dirty node 0)
@@ -21,15 +21,10 @@ cleared_two (suc (suc s)) Before h = absurd (omega (arith, h))
 cleared_two (suc (suc s)) Closing h = absurd (omega (arith, h))
 
 cleared_by : (r : StageRole) → 0 < clean_by r → remounts r ≡ 0 → (2 ≤ passed_by r) × (has_position r ≡ 1)
-cleared_by (Freezing stage place owner) h n = (cleared_two stage place h, refl)
-cleared_by (Remounting sb clean) h n = absurd (omega (arith, n))
-cleared_by r h n = absurd (omega (arith, h))
+cleared_by r h n = grind arith
 
 passed_third : (r : StageRole) (stage sb : ℕ) → KnowsStage stage sb r → freezes r ≡ 1 → stage ≡ 3 → 2 ≤ passed_by r
-passed_third (Freezing known Before owner) stage sb k f e = omega (arith, k, e)
-passed_third (Freezing known Closing owner) stage sb k f e = omega (arith, k, e)
-passed_third (Freezing known (HasPassed clean) owner) stage sb k f e = omega (arith, k, e)
-passed_third r stage sb k f e = absurd (omega (arith, f))
+passed_third r stage sb k f e = grind arith
 
 -- where the marks hold, another role that has cleared as many changes nothing
 pub cleared_anew : (tasks nodes stage sb stage' sb' : ℕ) (dirty : ℕ → ℕ) (at : ℕ → StageRole) (t : ℕ) (new : StageRole) →

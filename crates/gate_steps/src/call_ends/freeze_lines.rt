@@ -21,15 +21,13 @@ ghost use Rattle.gate_steps.specs.call_events.Led.{Led, LedAsking};
 ghost use Rattle.gate_steps.specs.call_events.Turns.{StateAgrees};
 
 use crate::call_ends::closings::{close_level, go_on_closing};
-use crate::call_events::{
-    GateWords, GhostSeat, TimedHooks, find, find_asking, find_first, following,
-};
+use crate::call_events::{GateWords, GhostSeat, TimedHooks, find, find_asking, find_first};
 use access_model::{Holders, Next, Reply};
 use cpu_words::{Touch, WordName};
 use freeze_levels::holders::pack;
 use freeze_levels::{Freeze, FreezeStep, HookCall};
 use gate_world::{Accesses, Op};
-use node_words::{ClearMarks, NodeWord};
+use node_words::{ClearMarks, NodeWord, following};
 use percpu_rwsem::{DownWrite, UpWrite, UpWriteStep};
 
 /// What comes after a step that has found this, where that leads out of the line. It stands apart, and takes the step by itself, so that nothing is

@@ -19,16 +19,14 @@ ghost use Rattle.gate_steps.specs.call_events.Remounting.{done_remount, first_co
 ghost use Rattle.gate_steps.specs.call_events.Led.{Led, LedAsking};
 ghost use Rattle.gate_steps.specs.call_events.Turns.{StateAgrees};
 
-use crate::call_events::{
-    GateWords, GhostSeat, TimedHooks, find, find_asking, find_first, following,
-};
+use crate::call_events::{GateWords, GhostSeat, TimedHooks, find, find_asking, find_first};
 use access_model::{GateError, Next, Reply};
 use bitflags::Flags;
 use cpu_words::{Sum, Taken, Touch, WordName};
 use freeze_levels::HookCall;
 use gate_world::{Accesses, Op};
 use mount_counts::{MountFlags, MountSet, Remount, RemountStep};
-use node_words::NodeWord;
+use node_words::{NodeWord, following};
 
 /// What comes after a step that has found this, where that leads out of the line. It stands apart, and takes the step by itself, so that nothing is
 /// written to memory where the line goes on.
