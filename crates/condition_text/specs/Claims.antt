@@ -1,21 +1,13 @@
 -- The lines of a race's file that claim something.
-use Rattle.std.specs.Prelude.{ℕ, if◌then◌else◌, List, codes, bytes_eq, Option, Some, None, Result, Ok, Err}
+use Rattle.std.specs.Prelude.{ℕ, List, Option, Some, None, Result, Ok, Err}
 use Rattle.gate_world.specs.declared.config.Config.{Config}
+use Rattle.race_conditions.specs.Claims.{kind_named}
 use Rattle.race_conditions.specs.Conditions.{Formula, formula_of}
 use Rattle.condition_text.specs.Parsing.{condition_in}
 use Rattle.race_conditions.specs.declared.claims.Claim.{Claim}
 use Rattle.race_conditions.specs.declared.claims.ClaimKind.{ClaimKind}
-use Rattle.race_conditions.specs.declared.claims.ClaimKind.TheVariants.{Never, Sometimes, Always, Invariant}
 use Rattle.condition_text.specs.declared.faults.Unexpected.{Unexpected}
 use Rattle.schedule_lines.specs.Words.{first_word, after_word}
-
--- what a word claims
-unfoldable pub kind_of : List ℕ → Option ClaimKind
-kind_of word =
-    if bytes_eq word (codes "never") then Some Never else
-    if bytes_eq word (codes "sometimes") then Some Sometimes else
-    if bytes_eq word (codes "always") then Some Always else
-    if bytes_eq word (codes "invariant") then Some Invariant else None
 
 -- a claim: what is claimed, and of which condition
 abbrev pub told_of : Claim → ClaimKind × Formula
@@ -31,4 +23,4 @@ claim_by c calls line (Some kind) = claimed kind (condition_in (after_word line)
 
 -- what a line claims, if it claims something: its first word says what, and the condition stands behind it
 unfoldable pub claim_of : Config → List ℕ → List ℕ → Result (Option (ClaimKind × Formula)) Unexpected
-claim_of c calls line = claim_by c calls line (kind_of (first_word line))
+claim_of c calls line = claim_by c calls line (kind_named (first_word line))

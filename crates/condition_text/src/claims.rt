@@ -1,7 +1,7 @@
 //! The lines of a race's file that claim something.
 
 ghost use Rattle.std.specs.Prelude.{◌≡◌, ◌≤◌, IfOk, IfErr, IfSome, Ok, option_map};
-ghost use Rattle.condition_text.specs.Claims.{claim_of, kind_of, told_of};
+ghost use Rattle.condition_text.specs.Claims.{claim_of, told_of};
 ghost use Rattle.race_conditions.specs.Conditions.{formula_of};
 ghost use Rattle.race_conditions.specs.Named.{AllNamed};
 ghost use Rattle.condition_text.specs.Parsing.{IsFaultOf};
@@ -9,7 +9,7 @@ ghost use Rattle.condition_text.specs.Parsing.{IsFaultOf};
 use crate::faults::ConditionFault;
 use crate::parsing::{Names, parse};
 use race_conditions::{Claim, ClaimKind};
-use schedule_lines::words::{after_word, first_word, is_word};
+use schedule_lines::words::{after_word, first_word};
 use std::alloc::Global;
 
 /// Reads what a line claims of a race that has these names; None where it claims nothing. The first word says what is claimed, and the
@@ -29,27 +29,9 @@ pub fn parse_claim(
     ensures named { IfOk result (λ found. IfSome found (λ claim. AllNamed names.now.config (formula_of claim.condition))) }
     ensures fault { IfErr result (IsFaultOf (claim_of names.now.config names.now.calls.items line.now)) }
 {
-    let Some(kind) = kind_of(first_word(line)) else {
+    let Some(kind) = ClaimKind::named(first_word(line)) else {
         return Ok(None);
     };
     let condition = parse(alloc, names, after_word(line))?;
     Ok(Some(Claim { kind, condition }))
-}
-
-/// What a word claims.
-#[tactic(auto, unfolding(crate::specs::Claims::kind_of))]
-pub fn kind_of(word: &[u8]) -> Option<ClaimKind>
-    ensures { result ≡ kind_of word.now }
-{
-    if is_word(word, "never") {
-        Some(ClaimKind::Never)
-    } else if is_word(word, "sometimes") {
-        Some(ClaimKind::Sometimes)
-    } else if is_word(word, "always") {
-        Some(ClaimKind::Always)
-    } else if is_word(word, "invariant") {
-        Some(ClaimKind::Invariant)
-    } else {
-        None
-    }
 }

@@ -6,6 +6,6 @@ pub mod faults;
 pub mod parsing;
 pub mod pieces;
 
-pub use claims::{kind_of, parse_claim};
+pub use claims::parse_claim;
 pub use faults::{ConditionFault, Expected, Unexpected};
 pub use parsing::{Names, parse};

@@ -2,7 +2,7 @@
 use Rattle.std.specs.Prelude.{◌≡◌, ◌⊎◌, ℕ, suc, false, List, Option, Some, None, codes, vec_len}
 use Rattle.std.specs.Borrow.{Bor}
 use Rattle.program_replay.specs.Replays.{EndsReplayed, EndsReplayedFile, EndsReplayedNamed, IsRefusedUnread, done_in, done_of}
-use Rattle.program_races.specs.Checks.{TellsPassed, count_checked}
+use Rattle.program_checks.specs.Checks.{TellsPassed, count_checked}
 use Rattle.program_races.specs.Outcomes.{EndsTold}
 use Rattle.command_line.specs.CommandLine.{IsPlain}
 use Rattle.command_line.specs.declared.words.OutcomeForm.TheVariants.{Text}

@@ -1,3 +1,4 @@
 pub mod Mapped
 pub mod Complete
 pub mod Ordered
+pub mod OutcomeLines

@@ -1,3 +1,4 @@
 pub mod Texts
 pub mod Methods
 pub mod Outcomes
+pub mod Briefly

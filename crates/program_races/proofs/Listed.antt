@@ -6,7 +6,7 @@ use Rattle.command_line.specs.declared.words.Outcomes.{Outcomes}
 use Rattle.exit_status.specs.declared.ends.ProgramEnding.{ProgramEnding}
 use Rattle.exit_status.specs.declared.ends.ProgramEnding.TheVariants.{Listed, Refused}
 use Rattle.program_races.specs.Outcomes.{AreRead, EndsTold, TellsAs, TellsRace, details_of, method_of}
-use Rattle.program_races.specs.race_texts.Told.{TellsAll, TellsSome}
+use Rattle.shown_outcomes.specs.Told.{TellsAll, TellsSome}
 use Rattle.gate_core.specs.Memory.{Memory}
 use Rattle.race_programs.specs.declared.calls.Call.{Call}
 use Rattle.program_races.specs.Outcomes.EndsTold.{IsWritten, IsPart, IsRefused, IsCutOff}

@@ -1,3 +1,1 @@
-pub mod race_texts
-pub mod Checks
 pub mod Outcomes

@@ -12,11 +12,11 @@ use Rattle.outcome_texts.specs.declared.listing.Method.{Method}
 use Rattle.outcome_texts.specs.declared.listing.Method.TheVariants.{Full, Reduced}
 use Rattle.race_programs.specs.declared.calls.Call.{Call}
 use Rattle.schedule_lines.specs.bytes.Writing.{AppendsPart}
-use Rattle.program_races.specs.declared.race_texts.details.Details.{Details}
-use Rattle.program_races.specs.declared.race_texts.details.Schedules.{Schedules}
-use Rattle.program_races.specs.declared.race_texts.details.Schedules.TheVariants.{Untold, Lines, Columns}
+use Rattle.shown_outcomes.specs.declared.details.Details.{Details}
+use Rattle.shown_outcomes.specs.declared.details.Schedules.{Schedules}
+use Rattle.shown_outcomes.specs.declared.details.Schedules.TheVariants.{Untold, Lines, Columns}
 use Rattle.race_files.specs.{Calls.is_claim, Left.lines_in, Races.IsRaceIn}
-use Rattle.program_races.specs.race_texts.Told.{TellsAll, TellsSome}
+use Rattle.shown_outcomes.specs.Told.{TellsAll, TellsSome}
 use Rattle.shown_events.specs.Styles.{style_of}
 
 -- in which form schedules are told

@@ -1,13 +1,7 @@
-//! What the program does with the races and schedules of files, or of standard input, beyond a replay: checks them, makes them say what they print, and lists all outcomes
-//! of a race.
+//! What the program does with a race beyond a replay: it lists all outcomes, with the verdicts on what the file claims.
 #![tactic(auto)]
 
-mod blessings;
-mod checks;
 mod outcomes;
 mod progress;
-mod race_texts;
 
-pub use blessings::run_blessings;
-pub use checks::run_checks;
 pub use outcomes::run_outcomes;

@@ -6,7 +6,7 @@ ghost use Rattle.exit_status.specs.declared.ends.ProgramEnding.TheVariants.{List
 ghost use Rattle.exploration.specs.Tables.{IsTable};
 ghost use Rattle.outcome_texts.specs.Methods.{next_by};
 ghost use Rattle.program_races.specs.Outcomes.{EndsTold, TellsRace, details_of, method_of, schedules_as};
-ghost use Rattle.program_races.specs.race_texts.Told.{TellsAll, TellsSome};
+ghost use Rattle.shown_outcomes.specs.Told.{TellsAll, TellsSome};
 ghost use Rattle.command_line.specs.declared.words.OutcomeForm.TheVariants.{Text};
 ghost use Rattle.race_files.specs.Calls.{is_claim};
 ghost use Rattle.race_files.specs.Left.{lines_in};
@@ -15,10 +15,6 @@ ghost use Rattle.schedule_lines.specs.Printed.{Prints};
 ghost use Rattle.schedule_lines.specs.bytes.Writing.{AppendsPart};
 
 use crate::progress::SearchProgress;
-use crate::race_texts::{
-    Details, Exhibit, Judged, RaceSource, Schedules, Shape, VerdictForm, save_outcomes,
-    show_outcomes, tell, tell_claims, tell_ends,
-};
 use access_model::GateError;
 use command_line::{OutcomeForm, Outcomes};
 use diagnostics::{Context, Faulty, tell_faulty};
@@ -26,10 +22,14 @@ use exit_status::{ProgramEnding, read_bytes, refused_of, why_told, why_told_of};
 use exploration::{Observer, Stop};
 use gate_core::Core;
 use outcome_texts::{Method, OutcomeListing as RaceListing, SearchPlan};
-use race_files::{RaceFile, read_race};
+use program_checks::{Judged, VerdictForm, tell_claims};
+use race_files::{RaceFile, RaceSource, read_race};
 use schedule_lines::bytes::{ReplayFault, write_out};
 use schedule_text::Output;
 use shown_events::{Style, html};
+use shown_outcomes::{
+    Details, Exhibit, Schedules, Shape, save_outcomes, show_outcomes, tell, tell_ends,
+};
 use std::alloc::{AllocError, Global};
 use std::io::{Read, Stderr, Write};
 use std::rt::{Clock, Files};
@@ -242,7 +242,9 @@ fn judge_claims<W: Observer>(
     let form = VerdictForm {
         broken_alone: false,
         records: matches!(asked.form, OutcomeForm::Json),
-        schedules,
+        has_schedules: schedules.are_told(),
+        mark: schedules.mark(),
+        margin: schedules.margin(),
         style,
     };
     tell_claims(source, core, plan_of(asked).limit, form, watch, verdicts)

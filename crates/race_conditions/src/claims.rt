@@ -1,9 +1,10 @@
 //! What is claimed of a race.
 
 ghost use Rattle.std.specs.Prelude.{◌≡◌};
-ghost use Rattle.race_conditions.specs.Claims.{passes};
+ghost use Rattle.race_conditions.specs.Claims.{kind_named, passes};
 
 use crate::conditions::Condition;
+use schedule_lines::words::is_word;
 
 /// What is claimed of a condition. An end is a state from which no move that can still come changes what has been answered, nor the shown
 /// model.
@@ -20,6 +21,24 @@ pub enum ClaimKind {
 }
 
 impl ClaimKind {
+    /// Returns what a line claims that has this word first; None if it claims nothing.
+    #[tactic(auto, unfolding(crate::specs::Claims::kind_named))]
+    pub fn named(word: &[u8]) -> Option<ClaimKind>
+        ensures { result ≡ kind_named word.now }
+    {
+        if is_word(word, "never") {
+            Some(ClaimKind::Never)
+        } else if is_word(word, "sometimes") {
+            Some(ClaimKind::Sometimes)
+        } else if is_word(word, "always") {
+            Some(ClaimKind::Always)
+        } else if is_word(word, "invariant") {
+            Some(ClaimKind::Invariant)
+        } else {
+            None
+        }
+    }
+
     /// Whether a claim of this kind is so: where a schedule was found that meets it, of `Sometimes`; where none was found that breaks it, of
     /// the others.
     pub fn passes(self, is_found: bool) -> bool

@@ -8,11 +8,13 @@ pub mod faults;
 pub mod files;
 pub mod lines;
 mod prefixes;
-pub mod schedules;
+mod schedules;
 pub mod setting_up;
+pub mod sources;
 
 pub use calls::{CallLine, Calls};
 pub use faults::RaceFault;
 pub use files::{RaceFile, read_race};
 pub use lines::{Lines, is_claim, is_race};
 pub use setting_up::set_up;
+pub use sources::RaceSource;

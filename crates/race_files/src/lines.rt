@@ -4,7 +4,7 @@ ghost use Rattle.std.specs.Prelude.{◌≡◌, ◌<◌, ◌≤◌, ◌+◌, leng
 ghost use Rattle.race_files.specs.Calls.{is_claim, is_race};
 
 use crate::faults::RaceFault;
-use condition_text::kind_of;
+use race_conditions::ClaimKind;
 use schedule_lines::bytes::ReplayFault;
 use schedule_lines::words::{first_word, word_count};
 use schedule_text::{Fault, Front, LINES, front_of};
@@ -143,5 +143,5 @@ pub fn is_race(line: &[u8]) -> Result<bool, Fault>
 pub fn is_claim(line: &[u8]) -> bool
     ensures { result ≡ is_claim line.now }
 {
-    kind_of(first_word(line)).is_some()
+    ClaimKind::named(first_word(line)).is_some()
 }

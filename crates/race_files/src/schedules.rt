@@ -12,10 +12,8 @@ use transcripts::Session;
 /// What a call answers.
 type Answer = Result<Reply, GateError>;
 
-/// Moves gates that were set up as these movers do, and prints a line for each move, which a replay takes: a beginning as it stands in the
-/// file, `T step`, or `T step CODE` where the hook fails that the event asks. An action that the model forbids, which only a build that isn't
-/// proved can add, is told in a comment under its step.
-pub fn print_schedule(
+/// Moves gates that were set up as these movers do, and prints a line for each move.
+pub(crate) fn print_schedule(
     alloc: Global,
     calls: &Calls,
     session: &mut Session<Core>,
@@ -35,9 +33,8 @@ pub fn print_schedule(
 }
 
 /// Moves gates that were set up as these movers do, and returns moves that lead to the same answers, where each task begins a call right before the
-/// call's first step; a beginning that no step follows is left out. A beginning touches no word, so it is no matter what others do before and after
-/// it. No contract says that the answers are the same.
-pub fn begin_late(
+/// call's first step.
+pub(crate) fn begin_late(
     alloc: Global,
     calls: &Calls,
     session: &mut Session<Core>,

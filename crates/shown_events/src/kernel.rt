@@ -13,6 +13,9 @@ const HOLD: u64 = 2;
 /// What stands for a step of a call at the tree that another one came before.
 static SHUT_OUT: &str = "none: inode_lock shuts others out";
 
+/// What stands for a step of a level's callback.
+static SYNC_FUNC: &str = "rcu_sync_func: gp_state = ..";
+
 /// The code of the kernel that a step stands for; empty, where it has none.
 pub(crate) fn code_of(taken: &Taken) -> &'static str {
     let event = taken.event;
@@ -126,11 +129,9 @@ fn section_code(event: Event) -> &'static str {
 /// The code of a step at an `rcu_sync`: by who looks, and by what became of its state and its count.
 fn sync_code(call: Option<Op>, event: Event) -> &'static str {
     if let Touch::Cas { .. } = event.touch {
-        return match (SyncWord::unpack(event.found), SyncWord::unpack(event.left)) {
-            (Some(found), Some(left)) if found.count < left.count => "rcu_sync_enter: gp_count++",
-            (Some(found), Some(left)) if left.count < found.count => "rcu_sync_exit: --gp_count",
-            (Some(found), Some(left)) if !found.taken && left.taken => "call_rcu",
-            _ => "rcu_sync_func: gp_state = ..",
+        return match SyncWord::unpack(event.found) {
+            Some(found) => sync_change_code(found, event.left),
+            None => SYNC_FUNC,
         };
     }
     match call {
@@ -138,6 +139,16 @@ fn sync_code(call: Option<Op>, event: Event) -> &'static str {
             "rcu_sync_is_idle(&sem->rss)"
         }
         _ => "READ_ONCE(rsp->gp_state)",
+    }
+}
+
+/// The code of a change of this `rcu_sync`, by what was left of it.
+fn sync_change_code(found: SyncWord, left: u64) -> &'static str {
+    match SyncWord::unpack(left) {
+        Some(left) if found.count < left.count => "rcu_sync_enter: gp_count++",
+        Some(left) if left.count < found.count => "rcu_sync_exit: --gp_count",
+        Some(left) if !found.taken && left.taken => "call_rcu",
+        _ => SYNC_FUNC,
     }
 }
 

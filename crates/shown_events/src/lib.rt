@@ -25,4 +25,4 @@ mod values;
 mod waits;
 
 pub use forms::{Form, Look, Names, Style};
-pub use show::Show;
+pub use show::{Show, shown_of, with_waits};

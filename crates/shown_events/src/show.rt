@@ -3,11 +3,11 @@
 ghost use Rattle.std.specs.Prelude.{◌<◌};
 ghost use Rattle.schedule_lines.specs.bytes.Pending.{pending_count};
 
-use crate::forms::Look;
+use crate::forms::{Form, Look, Style};
 use crate::screen::Screen;
 use gate_schedules::Driver;
 use schedule_lines::bytes::{Input, ReplayFault, fault_after};
-use schedule_text::{Fault, Front, LINE_BYTES, LINES, parse};
+use schedule_text::{Fault, Front, LINE_BYTES, LINES, Output, parse};
 use std::alloc::{AllocError, Global};
 use std::io::{Read, Write};
 use transcripts::Session;
@@ -118,10 +118,14 @@ impl<D: Driver> Show<D> {
         writer: &mut W,
     ) -> Result<bool, Fault> {
         self.screen.page.write_out(writer)?;
-        match self.input.read(reader)? {
-            0 if !self.input.is_empty() => Err(Fault::CutOff),
-            0 if self.session.is_none() => Err(Fault::ConfigExpected),
-            count => Ok(count > 0),
+        if self.input.read(reader)? > 0 {
+            Ok(true)
+        } else if !self.input.is_empty() {
+            Err(Fault::CutOff)
+        } else if self.session.is_none() {
+            Err(Fault::ConfigExpected)
+        } else {
+            Ok(false)
         }
     }
 
@@ -136,4 +140,37 @@ impl<D: Driver> Show<D> {
         self.input.take(length + 1);
         Ok(())
     }
+}
+
+/// Returns what a replay of a schedule shows, on gates that were set up.
+pub fn shown_of<D: Driver>(
+    alloc: Global,
+    look: Look,
+    session: Session<D>,
+    schedule: &Output,
+) -> Result<Vec<u8>, AllocError> {
+    let mut show = Show::over(alloc, look, session)?;
+    let mut shown = Vec::new(alloc);
+    let mut lines = schedule.bytes.as_slice();
+    let done = show.do_lines(&mut lines, &mut shown);
+    done.or(Err(AllocError))
+        .and(schedule.settled())
+        .and(Ok(shown))
+}
+
+/// Returns a schedule, and behind it a comment for each task whose last step has to wait, on gates that were set up: for what, and for whom.
+pub fn with_waits<D: Driver>(
+    alloc: Global,
+    style: Style,
+    session: Session<D>,
+    mut schedule: Output,
+) -> Result<Output, AllocError> {
+    let look = Look {
+        form: Form::Waits,
+        style,
+    };
+    let waits = shown_of(alloc, look, session, &schedule)?;
+    schedule.text(waits.as_slice());
+    schedule.settled()?;
+    Ok(schedule)
 }

@@ -1,0 +1,19 @@
+use Rattle.std.proofs.Common.{◌≡◌, ◌∙◌, List, ap, length}
+use Rattle.std.specs.List.{flat_map}
+use Rattle.schedule_lines.proofs.Printed.{prints_same}
+use Rattle.outcome_texts.specs.Briefly.{line_of}
+use Rattle.outcome_texts.specs.declared.listing.Outcome.{Outcome}
+use Rattle.outcome_texts.proofs.OutcomeLines.{told_briefly}
+use Rattle.outcome_texts.proofs.Ordered.{written}
+use Rattle.outcome_texts.proofs.briefly.print_briefly.Goals as goal
+
+pub returns-in-Ok : goal.returns-in-Ok
+returns-in-Ok c = λ are_all.
+    let listing = c.in_ok-listing.listing in
+    let whole : listing.all.found.expanded ≡ length listing.all.found.states =
+    c.is_whole-are_all.ensures.0 are_all ∙ c.in_ok-listing.ensures.table.lengths in
+    told_briefly c.args.core c.args.race.now.calls.items listing.all.found.states listing.outcomes.items c.args.out.now c.print_counts.new.out
+    c.print_lines.new.out (c.in_ok-listing.ensures.states whole) (c.in_ok-listing.ensures.outcomes whole) c.in_ok-listing.ensures.each
+    c.print_counts.ensures
+    (prints_same c.print_lines.ensures (ap (λ (outcomes : List Outcome). flat_map line_of (written outcomes)) c.as_slice.ensures.value))
+    c.in-Ok.ensures.whole

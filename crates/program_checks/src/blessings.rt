@@ -1,0 +1,147 @@
+//! Files that are made to say what they print, from the command line.
+
+ghost use Rattle.std.specs.Prelude.{◌≡◌, ◌⊎◌};
+ghost use Rattle.exit_status.specs.declared.ends.ProgramEnding.TheVariants.{Blessed, Refused};
+
+use crate::blessed::blessed;
+use crate::playing::{STATES, Source, Stopped};
+use access_model::GateError;
+use diagnostics::tell_faulty;
+use exit_status::{
+    ProgramEnding, SourceName, read_bytes, refused, refused_of, unopened, why_told, why_told_of,
+};
+use schedule_lines::bytes::write_out;
+use schedule_text::Output;
+use std::alloc::Global;
+use std::io::{Read, Write};
+use std::rt::Files;
+use std::{fs, io};
+
+/// How many files were written, stayed as they were, and failed.
+#[derive(Drop)]
+struct Counts {
+    written: u64,
+    unchanged: u64,
+    failed: u64,
+}
+
+impl Counts {
+    /// Counts a file.
+    fn add(&mut self, blessed: Result<bool, ProgramEnding>) {
+        match blessed {
+            Ok(true) => self.written = self.written.saturating_add(1),
+            Ok(false) => self.unchanged = self.unchanged.saturating_add(1),
+            Err(_) => self.failed = self.failed.saturating_add(1),
+        }
+    }
+
+    /// Writes the counts.
+    fn end<W: Write, E: Write>(self, alloc: Global, writer: &mut W, errors: &mut E) -> ProgramEnding
+        ensures { (result ≡ Blessed) ⊎ (result ≡ Refused) }
+    {
+        let mut told = Output::new(alloc);
+        told.number(self.written);
+        told.numbered(b" written, ", self.unchanged);
+        told.numbered(b" unchanged, ", self.failed);
+        told.text(b" failed\n");
+        if told.settled().is_err() {
+            return refused(GateError::NoMemory, errors);
+        }
+        match write_out(writer, told.bytes.as_slice()) {
+            Ok(()) if self.failed == 0 => ProgramEnding::Blessed,
+            Ok(()) => ProgramEnding::Refused,
+            Err(fault) => why_told(fault.text(), errors),
+        }
+    }
+}
+
+/// Writes what the schedules and races of some files print into them, in the place of what they say of it. Writes how many were written, stayed as
+/// they were, and failed; a file that has a fault, or can't be read or written, is told on the writer of faults, and stays as it is.
+pub fn run_blessings<R: Files + Alloc<A = Global>, I: Read, W: Write, E: Write>(
+    rt: &R,
+    alloc: Global,
+    files: &[&str],
+    reader: &mut I,
+    writer: &mut W,
+    errors: &mut E,
+) -> ProgramEnding
+    ensures { (result ≡ Blessed) ⊎ (result ≡ Refused) }
+{
+    let mut counts = Counts {
+        written: 0,
+        unchanged: 0,
+        failed: 0,
+    };
+    for file in files {
+        counts.add(bless(rt, alloc, file, reader, errors));
+    }
+    counts.end(alloc, writer, errors)
+}
+
+/// Writes what a file prints into it, unless it says so already; whether it was written.
+fn bless<R: Files + Alloc<A = Global>, I: Read, E: Write>(
+    rt: &R,
+    alloc: Global,
+    file: &str,
+    reader: &mut I,
+    errors: &mut E,
+) -> Result<bool, ProgramEnding> {
+    let bytes = read_bytes(rt, alloc, Some(file), reader, errors)?;
+    let source = Source {
+        file: Some(file),
+        bytes: bytes.as_slice(),
+    };
+    match blessed(alloc, source) {
+        Ok(lines) => write_new(rt, alloc, file, source.bytes, &lines, errors),
+        Err(stopped) => Err(tell_stopped(alloc, source, stopped, errors)),
+    }
+}
+
+/// Tells why a file can't be made to say what it prints.
+fn tell_stopped<E: Write>(
+    alloc: Global,
+    source: Source<'_>,
+    stopped: Stopped,
+    errors: &mut E,
+) -> ProgramEnding {
+    match stopped {
+        Stopped::Fault(fault) => tell_faulty(alloc, source.faulty(fault), errors),
+        Stopped::TooMany => why_told_of(
+            format_args!("more than {STATES} states"),
+            source.file,
+            errors,
+        ),
+    }
+}
+
+/// Writes these lines into a file that has others, unless they are the same; whether it was written.
+fn write_new<R: Files, E: Write>(
+    rt: &R,
+    alloc: Global,
+    file: &str,
+    others: &[u8],
+    lines: &Output,
+    errors: &mut E,
+) -> Result<bool, ProgramEnding> {
+    if lines.settled().is_err() {
+        return Err(refused_of(GateError::NoMemory, Some(file), errors));
+    }
+    if lines.bytes.as_slice() == others {
+        return Ok(false);
+    }
+    match replace(rt, alloc, file, lines.bytes.as_slice()) {
+        Ok(()) => Ok(true),
+        Err(error) => Err(unopened(Some(file), &error, errors)),
+    }
+}
+
+/// Writes a file beside this one, and puts it in its place, so that none is lost if a write fails.
+fn replace<R: Files>(rt: &R, alloc: Global, file: &str, bytes: &[u8]) -> io::Result<()> {
+    let new = format!(in alloc; "{file}.blessed")?;
+    let written = fs::write(rt, new.as_str(), bytes);
+    let replaced = written.and_then(|_| fs::rename(rt, new.as_str(), file));
+    if replaced.is_err() {
+        let _ = fs::remove_file(rt, new.as_str());
+    }
+    replaced
+}

@@ -1,0 +1,153 @@
+//! The lines of a file, done one by one.
+
+use crate::claims::claims_some;
+use access_model::GateError;
+use diagnostics::{Context, Faulty};
+use exploration::Stop;
+use gate_core::Core;
+use outcome_texts::print_briefly;
+use race_files::setting_up::{SetUpObserver, do_setting};
+use race_files::{Lines, RaceFault, RaceFile};
+use schedule_lines::bytes::ReplayFault;
+use schedule_text::{Fault, LINES, Output};
+use std::alloc::Global;
+use transcripts::Session;
+
+/// How many states a race may have here.
+pub const STATES: usize = 100_000;
+
+/// What a file's name ends with that is to have a race.
+const RACE: &str = ".race";
+
+/// What a file says first of what its race prints, where it says the outcomes alone.
+const OUTCOMES: &[u8] = b"outcomes:";
+
+/// Why a file was not done to its end.
+#[derive(Clone, Copy)]
+pub enum Stopped {
+    /// The fault of a line.
+    Fault(ReplayFault),
+    /// Its race has more states than it may have here.
+    TooMany,
+}
+
+/// A file, by its name if it has one, and all its bytes.
+#[derive(Clone, Copy)]
+pub struct Source<'a> {
+    pub file: Option<&'a str>,
+    pub bytes: &'a [u8],
+}
+
+impl<'a> Source<'a> {
+    /// Returns what a person is told of a fault.
+    pub fn faulty(self, fault: ReplayFault) -> Faulty<'a> {
+        let (context, rest) = Context::find(self.bytes, fault.line);
+        Faulty {
+            file: self.file,
+            fault,
+            context,
+            rest,
+        }
+    }
+
+    /// Does the lines of a schedule, or of a race, whose outcomes are what its line `race` prints, for one who looks at what each line prints. A file
+    /// that is named as a race has to be one. Where the first line that says what the race prints is `#> outcomes:`, the race prints that line
+    /// in the place of the one that counts states and outcomes. A race of which something is claimed prints nothing where no line says what.
+    pub fn play<W: SetUpObserver>(self, alloc: Global, watch: &mut W) -> Result<(), Stopped> {
+        let mut lines = Lines::new(self.bytes);
+        let mut printed = Output::new(alloc);
+        let set_up = do_setting(alloc, &mut lines, &mut printed, watch);
+        watch.take(&lines, &mut printed);
+        match set_up {
+            Ok(session) => {
+                let done = print_race(alloc, &session, &mut lines, &mut printed);
+                drop(session);
+                watch.take(&lines, &mut printed);
+                done
+            }
+            Err(RaceFault::RaceExpected) if !self.is_named_race() => Ok(()),
+            Err(fault) => Err(Stopped::Fault(lines.fault(fault))),
+        }
+    }
+
+    /// Whether the file is named as a race.
+    fn is_named_race(self) -> bool {
+        match self.file {
+            Some(file) => file.ends_with(RACE),
+            None => false,
+        }
+    }
+}
+
+/// Reads a race, and prints its outcomes, if they are to be printed.
+fn print_race(
+    alloc: Global,
+    session: &Session<Core>,
+    lines: &mut Lines<'_>,
+    printed: &mut Output,
+) -> Result<(), Stopped> {
+    let rest = lines.rest();
+    let said = first_said(rest);
+    let file = match RaceFile::read(alloc, session, lines) {
+        Ok(file) => file,
+        Err(fault) => return Err(Stopped::Fault(lines.fault(fault))),
+    };
+    if said.is_none() && claims_some(rest) {
+        drop(file);
+        return Ok(());
+    }
+    match print_outcomes(alloc, file, printed) {
+        Ok(true) => {
+            if said == Some(OUTCOMES) {
+                leave_counts_out(alloc, printed);
+            }
+            Ok(())
+        }
+        Ok(false) => {
+            printed.clear();
+            Err(Stopped::TooMany)
+        }
+        Err(Stop::TooMany) => Err(Stopped::TooMany),
+        Err(Stop::NoMemory) => {
+            let refused = RaceFault::Schedule(Fault::Refused(GateError::NoMemory));
+            Err(Stopped::Fault(lines.fault(refused)))
+        }
+    }
+}
+
+/// Prints the outcomes of a race briefly. Whether these are all.
+fn print_outcomes(alloc: Global, file: RaceFile, printed: &mut Output) -> Result<bool, Stop> {
+    let RaceFile { core, calls } = file;
+    print_briefly(alloc, &calls.race, core, STATES, printed)
+}
+
+/// Returns what the first line `#> TEXT` says that is printed; None where there is no such line.
+fn first_said(bytes: &[u8]) -> Option<&[u8]> {
+    let mut lines = Lines::new(bytes);
+    for _ in 0..LINES {
+        let line = lines.next()?;
+        if let Some(text) = expected_in(Some(line)) {
+            return Some(text);
+        }
+    }
+    None
+}
+
+/// Puts the line `outcomes:` in the place of the first line, which says how many states and outcomes there are.
+fn leave_counts_out(alloc: Global, printed: &mut Output) {
+    let mut lines = Lines::new(printed.bytes.as_slice());
+    let _ = lines.next();
+    let mut outcomes = Output::new(alloc);
+    outcomes.line(OUTCOMES);
+    outcomes.text(lines.rest());
+    outcomes.is_whole &= printed.is_whole;
+    *printed = outcomes;
+}
+
+/// Returns what a line `#> TEXT` says that is printed.
+pub fn expected_in(line: Option<&[u8]>) -> Option<&[u8]> {
+    match line {
+        Some([b'#', b'>', text @ ..]) => Some(text.strip_prefix(b" ").unwrap_or(text)),
+        _ => None,
+    }
+}

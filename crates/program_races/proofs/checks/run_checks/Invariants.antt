@@ -1,9 +1,0 @@
-use Rattle.std.proofs.Common.{◌≡◌, ◌+◌, IsTrue}
-use Rattle.program_races.specs.Checks.{WritesMore}
-use Rattle.program_races.proofs.checks.run_checks.Given as goal
-
--- each file so far is counted, and what was to be told of them is written
-abbrev pub invariant-loop-number : goal.invariant-loop-number
-invariant-loop-number g l =
-    (l.checks.passed + l.checks.failed ≡ l.number)
-    × (IsTrue l.checks.is_written → WritesMore (g.W.Write.contents l.initial.writer) (g.W.Write.contents l.writer))

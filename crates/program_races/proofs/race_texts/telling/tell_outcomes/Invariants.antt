@@ -1,8 +1,0 @@
-use Rattle.program_races.specs.race_texts.Told.{AsksNone, margin_of, mark_of}
-use Rattle.program_races.proofs.race_texts.Parts.{ToldSoFar}
-use Rattle.program_races.proofs.race_texts.telling.tell_outcomes.Given as goal
-
--- the lines and details so far
-abbrev pub invariant-loop-outcome : goal.invariant-loop-outcome
-invariant-loop-outcome l =
-    ToldSoFar (mark_of l.details.schedules) (margin_of l.details.schedules) (AsksNone l.details) l.outcome-items l.outcome-index l.initial.out l.out

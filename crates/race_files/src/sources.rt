@@ -1,0 +1,67 @@
+//! A race that was read, and gates that are set up for it anew.
+
+use crate::calls::Calls;
+use crate::lines::{Lines, is_race};
+use crate::schedules::{begin_late, print_schedule};
+use crate::setting_up::set_up;
+use gate_core::Core;
+use schedule_text::{LINES, Output};
+use std::alloc::{AllocError, Global};
+use transcripts::Session;
+
+/// The bytes of a race, and the calls that were read from them.
+#[derive(Clone, Copy)]
+pub struct RaceSource<'a> {
+    pub alloc: Global,
+    pub bytes: &'a [u8],
+    pub calls: &'a Calls,
+}
+
+impl<'a> RaceSource<'a> {
+    /// Returns the lines before the first line `race`.
+    pub fn set_up_lines(self) -> &'a [u8] {
+        let mut lines = Lines::new(self.bytes);
+        for _ in 0..LINES {
+            let before = self.bytes.len().saturating_sub(lines.rest().len());
+            match lines.next() {
+                Some(line) if matches!(is_race(line), Ok(true)) => return &self.bytes[..before],
+                Some(_) => {}
+                None => break,
+            }
+        }
+        self.bytes
+    }
+
+    /// Sets up the gates of the race anew.
+    pub fn gates(self) -> Result<Session<Core>, AllocError> {
+        set_up(self.alloc, &mut Lines::new(self.bytes)).or(Err(AllocError))
+    }
+
+    /// Returns the gates of the race behind these moves.
+    pub fn gates_behind(self, movers: &[u8]) -> Result<Session<Core>, AllocError> {
+        let mut session = self.gates()?;
+        let mut unread = Output::new(self.alloc);
+        let moved = print_schedule(self.alloc, self.calls, &mut session, movers, &mut unread);
+        moved.and(Ok(session))
+    }
+
+    /// Returns a line for each of these moves, which a replay takes: a beginning as it stands in the file, `T step`, or `T step CODE` where the hook
+    /// fails that the event asks. An action that the model forbids, which only a build that isn't proved can add, is told in a comment under its step.
+    pub fn schedule(self, movers: &[u8]) -> Result<Output, AllocError> {
+        let mut session = self.gates()?;
+        let mut schedule = Output::new(self.alloc);
+        let printed = print_schedule(self.alloc, self.calls, &mut session, movers, &mut schedule);
+        drop(session);
+        printed.and(Ok(schedule))
+    }
+
+    /// Returns moves that lead to the same answers as these, where each task begins a call right before the call's first step; a beginning that no step
+    /// follows is left out. A beginning touches no word, so it is no matter what others do before and after it. No contract says that the answers
+    /// are the same.
+    pub fn begun_late(self, movers: &[u8]) -> Result<Vec<u8>, AllocError> {
+        let mut session = self.gates()?;
+        let late = begin_late(self.alloc, self.calls, &mut session, movers);
+        drop(session);
+        late
+    }
+}
