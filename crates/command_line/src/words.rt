@@ -128,7 +128,7 @@ const SUBCOMMANDS: [Subcommand; 5] = [
             ),
             Argument::Flag(
                 EXPLAIN,
-                "RunReport a fault with its line, and how to mend it, as on a terminal",
+                "Tells a fault with its line, and how to mend it, as on a terminal",
             ),
         ],
     },
