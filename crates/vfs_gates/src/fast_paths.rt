@@ -345,7 +345,14 @@ fn take_write(
         (task_state seat.new.table_id gates.now.config None (phase_after (of_write (done_or result rest.new))) seat.new.me.0) }
 {
     let Writer { mount, cpu, task } = writer;
-    let phase = WritePhase::new(mount, cpu, task);
+    let read = DownRead {
+        level: 1,
+        cpu,
+        task,
+        wait: true,
+        step: DownReadStep::EntersSection,
+    };
+    let phase = WritePhase::Takes { mount, read };
     let next = step_once(gates, seat, accesses, begins, phase, Ok(()));
     let place = WritePlace::Enters(DownReadStep::LoadsSync);
     let next = step_if_at(gates, seat, accesses, next, place);
