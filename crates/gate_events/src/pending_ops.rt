@@ -222,6 +222,12 @@ impl PendingOp for Callback {
     }
 
     #[inline(always)]
+    fn next(self, hook: Result<(), u16>) -> (WordName, Touch) {
+        let _ = hook;
+        self.next()
+    }
+
+    #[inline(always)]
     fn after(self, found: u64, hook: Result<(), u16>) -> (Next<Callback>, Option<Action>) {
         let _ = hook;
         self.after(found)
@@ -239,6 +245,11 @@ impl PendingOp for Freeze {
     }
 
     #[inline(always)]
+    fn next(self, hook: Result<(), u16>) -> (WordName, Touch) {
+        self.next(hook)
+    }
+
+    #[inline(always)]
     fn after(self, found: u64, hook: Result<(), u16>) -> (Next<Freeze>, Option<Action>) {
         self.after(found, hook)
     }
@@ -252,6 +263,11 @@ impl PendingOp for Thaw {
     #[inline(always)]
     fn phase(self) -> Phase {
         Phase::Thaws(self)
+    }
+
+    #[inline(always)]
+    fn next(self, hook: Result<(), u16>) -> (WordName, Touch) {
+        self.next(hook)
     }
 
     #[inline(always)]

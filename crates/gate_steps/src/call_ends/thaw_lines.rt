@@ -199,7 +199,7 @@ pub(crate) fn thaw_locked<H: TimedHooks>(
     let here = Thaw { step, ..thaw };
     let stage = find(gates, seat, accesses, here, WordName::Stage, Touch::Load);
     if stage != 4 {
-        return leave(thaw, step, stage);
+        return leave(thaw, ThawStep::LoadsStage, stage);
     }
     let step = ThawStep::LoadsHolders;
     let here = Thaw { step, ..thaw };
@@ -207,17 +207,17 @@ pub(crate) fn thaw_locked<H: TimedHooks>(
     let held = unpack(word);
     let is_holder = held.has(thaw.holder);
     if !is_holder {
-        return leave(thaw, step, word);
+        return leave(thaw, ThawStep::LoadsHolders, word);
     }
     let is_last = held.without(thaw.holder).is_none();
     if !is_last {
-        return leave(thaw, step, word);
+        return leave(thaw, ThawStep::LoadsHolders, word);
     }
     let step = ThawStep::LoadsSuperblock;
     let here = Thaw { step, ..thaw };
     let flags = find(gates, seat, accesses, here, WordName::SbFlags, Touch::Load);
     if flags != 0 {
-        return leave(thaw, step, flags);
+        return leave(thaw, ThawStep::LoadsSuperblock, flags);
     }
     thaw_last(gates, seat, accesses, thaw, hooks)
 }
