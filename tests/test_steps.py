@@ -5,7 +5,8 @@
 
 A block of the page that begins with ```text and a line `$ bin/without ..` has what this command prints: a line `...` stands for any lines. Each names a
 mutant and a race that exist. Those whose command has one of the words are run; with --all all of them, and each builds its mutant, if that isn't
-kept: about a minute. What bin/without refuses is tried in any case. Prints what is wrong; the exit status is 1 then."""
+kept: about a minute. What bin/without refuses is tried in any case, and that the mutants of docs/steps fit their crates: CI builds none of those.
+Prints what is wrong; the exit status is 1 then."""
 
 import difflib
 import glob
@@ -21,7 +22,7 @@ RACE = "examples/races/steps/want-change.race"
 REFUSED = [
     (["sums_before_hold"], "a mutant and a race are needed"),
     (["sums_befor_hold", RACE], "no mutant sums_befor_hold; the nearest: mount_counts/sums_before_hold"),
-    (["zzz", RACE], "no mutant zzz; ls crates/*/must-fail lists all"),
+    (["zzz", RACE], "no mutant zzz; ls {crates,docs/steps}/*/must-fail lists all"),
     (["mntgate_c/a_hook_is_told_as_an_errno", RACE], "mntgate doesn't stand on that crate, so no race shows it"),
     (["sums_before_hold", "no.race"], "no race no.race"),
     (["--limit", "10", "sums_before_hold", RACE], f"{RACE}: more than 10 states"),
@@ -39,6 +40,26 @@ def refusals():
         ran = run(words)
         if ran.returncode != 2 or ran.stdout or why not in ran.stderr:
             yield f"bin/without {' '.join(words)}: status {ran.returncode}, and not 2 with: {why}\n{ran.stdout}{ran.stderr}"
+
+
+def unfit():
+    """The mutants of docs/steps whose text isn't that of their crates any more."""
+    for path in sorted(glob.glob(f"{ROOT}/docs/steps/*/must-fail/*.edit")):
+        with open(path, encoding="utf-8") as it:
+            lines = [line.partition(": ") for line in it.read().splitlines()]
+        name, crate = os.path.relpath(path, ROOT), path.split("/")[-3]
+        text = ""
+        for word, _, rest in lines:
+            if word == "file":
+                with open(f"{ROOT}/crates/{crate}/{rest}", encoding="utf-8") as it:
+                    text = it.read()
+            elif word == "old" and text.count(rest) != 1:
+                yield f"{name}: its crate has {text.count(rest)} times, and not once: {rest}"
+
+
+def mutants(name):
+    """The files of the mutants of this name."""
+    return [path for where in ("crates", "docs/steps") for path in glob.glob(f"{ROOT}/{where}/*/must-fail/{name}.edit")]
 
 
 def commands():
@@ -62,9 +83,9 @@ def fault(number, words, wanted):
 def main(asked):
     """Tests what is asked for; the exit status."""
     every = list(commands())
-    faults = list(refusals())
+    faults = [*refusals(), *unfit()]
     for number, (*_, mutant, race), _ in every:
-        if len(glob.glob(f"{ROOT}/crates/*/must-fail/{mutant}.edit")) != 1 or not os.path.exists(f"{ROOT}/{race}"):
+        if len(mutants(mutant)) != 1 or not os.path.exists(f"{ROOT}/{race}"):
             faults.append(f"{PAGE}:{number}: no mutant {mutant}, or no race {race}")
     chosen = [it for it in every if "--all" in asked or any(word in " ".join(it[1]) for word in asked)]
     faults += filter(None, (fault(*it) for it in chosen))
