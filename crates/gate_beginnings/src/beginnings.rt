@@ -114,9 +114,9 @@ fn is_within_room(op: Op, config: &Config, held: &Accesses) -> bool
     }
 }
 
-/// Its first phase.
+/// Returns the first phase of an operation that begins.
 #[inline(always)]
-fn first_phase(op: Op, config: &Config, task: u8) -> Phase
+pub fn first_phase(op: Op, config: &Config, task: u8) -> Phase
     ensures { result ≡ first_phase config.now task op }
 {
     let (cpus, nodes, room) = (config.processors, config.nodes, config.capacity);

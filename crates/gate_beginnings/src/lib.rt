@@ -3,4 +3,4 @@
 
 mod beginnings;
 
-pub use beginnings::begin;
+pub use beginnings::{begin, first_phase};
