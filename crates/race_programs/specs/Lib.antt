@@ -1,2 +1,1 @@
 pub mod Courses
-pub mod Leaders
