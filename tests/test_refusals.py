@@ -14,10 +14,13 @@ import textwrap
 
 ROOT = os.path.dirname(os.path.dirname(os.path.realpath(__file__)))
 CRATE = f"{ROOT}/crates/refusals/src"
+VERBS = f"{ROOT}/crates/schedule_text/src/verbs.rt"
 PAGE = f"{ROOT}/docs/refusals.md"
 # The section on the page, from its heading to the next one.
 SECTION = re.compile(r"(?ms)^## The calls\n.*?(?=^## )")
 TEXT = r'(?s:"((?:[^"\\]|\\.)*)")'
+# A row of the table of verbs: the name of one, and the call that it begins, if it begins one.
+VERB = re.compile(r'VerbRow::\w+\(\s*"(\w+)",[^)]*?"([^"]*)",?\s*\)')
 # A row: its calls, its refusal, when it comes, and a line for each text.
 ROW = re.compile(r"(.+?): (\w+)(?:, (.+))?")
 # The parts of the table, with their headings and what stands under them.
@@ -46,7 +49,8 @@ def table_of(path):
 
 def names_of_calls():
     """The first name of each call."""
-    return [line.split()[0] for line in table_of("calls").split("\n")]
+    begun = [name for name, call in VERB.findall(text_of(VERBS)) if call]
+    return begun + [line.split()[0] for line in table_of("calls").split("\n")]
 
 
 def errnos():

@@ -1,9 +1,9 @@
 -- How a condition is read whose parts are read one level less deep.
 use Rattle.std.proofs.Common.{zero, suc, ◌≡◌, ℕ, ◌<◌, ◌-◌, refl, sym, ap, ◌∙◌, arith}
-use Rattle.std.specs.Prelude.{Bool, true, false, List, codes, Result, Ok, Err}
+use Rattle.std.specs.Prelude.{true, false, List, codes, Result, Ok, Err}
 use Rattle.gate_world.specs.declared.config.Config.{Config}
-use Rattle.race_conditions.specs.Conditions.{Formula, Is, Not, And, Or}
-use Rattle.condition_text.specs.Parsing.{◌>>=◌, Read, IsFaultOf, after_piece, condition_at, fact_at, joined_at, joined, read_by}
+use Rattle.race_conditions.specs.Conditions.{Formula, Is, Not}
+use Rattle.condition_text.specs.Parsing.{◌>>=◌, Read, IsFaultOf, after_piece, both, condition_at, fact_at, joined, part_of, read_by, sign_text}
 use Rattle.condition_text.specs.Pieces.{end_of, is_next, unexpected}
 use Rattle.race_conditions.specs.declared.conditions.Fact.{Fact}
 use Rattle.condition_text.specs.declared.faults.ConditionFault.{ConditionFault}
@@ -11,7 +11,9 @@ use Rattle.condition_text.specs.declared.faults.ConditionFault.TheVariants.{Unex
 use Rattle.condition_text.specs.declared.faults.Expected.TheVariants as expect
 use Rattle.condition_text.specs.declared.faults.Unexpected.{Unexpected}
 use Rattle.condition_text.specs.declared.parsing.Rank.{Rank}
-use Rattle.condition_text.specs.declared.parsing.Rank.TheVariants.{Any, All, One}
+use Rattle.condition_text.specs.declared.parsing.Rank.TheVariants.{Joined, One}
+use Rattle.condition_text.specs.declared.parsing.Sign.{Sign}
+use Rattle.condition_text.specs.declared.parsing.Sign.TheVariants.{Or as OrSign}
 
 -- a fault of what fails with another one is one of that
 pub carried : {A B : Type 0} (part : Result A Unexpected) (whole : Result B Unexpected) (fault : ConditionFault) →
@@ -37,58 +39,34 @@ module _ (text : List ℕ) (c : Config) (calls : List ℕ) where
         by zero h = absurd (omega arith)
         by (suc d) h = let e : d ≡ suc d - 1 = omega arith in ap (λ k. read_by text c calls (condition_at text c calls k) rank at) e
 
-    -- conditions with a sign between them
-    joins : (join : Formula → Formula → Formula) (sign : List ℕ) (rank : Rank) (one other : Formula) (at to : ℕ) → is_next text at sign ≡ true →
-        part rank (end_of text at) ≡ Ok (other, to) → joined text c calls part join sign rank (one, at) ≡ Ok (join one other, to)
-    joins join sign rank one other at to is e = rw is (ap (λ r. r >>= λ read. Ok (join one read.0, read.1)) e)
+    -- conditions with a sign between them, each of this rank
+    module _ (rank inner : Rank) (sign : Sign) (at : ℕ) (is : rank ≡ Joined sign) (of : inner ≡ part_of sign) where
+      first : condition_at text c calls depth rank at ≡ (part inner at >>= joined text c calls part sign)
+      first =
+          is_read rank at ∙ ap (λ r. read_by text c calls part r at) is ∙
+          ap (λ r. part r at >>= joined text c calls part sign) (sym of)
 
-    fails : (join : Formula → Formula → Formula) (sign : List ℕ) (rank : Rank) (one : Formula) (at : ℕ) (f : Unexpected) →
-        is_next text at sign ≡ true → part rank (end_of text at) ≡ Err f → joined text c calls part join sign rank (one, at) ≡ Err f
-    fails join sign rank one at f is e = rw is (ap (λ r. r >>= λ read. Ok (join one read.0, read.1)) e)
+      pub joined_failed : (f : Unexpected) → part inner at ≡ Err f → condition_at text c calls depth rank at ≡ Err f
+      joined_failed f e = first ∙ ap (λ r. r >>= joined text c calls part sign) e
 
-    module _ (rank : Rank) (at : ℕ) (is : rank ≡ Any) where
-      any_first : condition_at text c calls depth rank at ≡ (part All at >>= joined text c calls part Or (codes "|") Any)
-      any_first = is_read rank at ∙ ap (λ r. read_by text c calls part r at) is
+      module _ (one : Formula) (to : ℕ) (e : part inner at ≡ Ok (one, to)) where
+        behind_first : condition_at text c calls depth rank at ≡ joined text c calls part sign (one, to)
+        behind_first = first ∙ ap (λ r. r >>= joined text c calls part sign) e
 
-      pub any_failed : (f : Unexpected) → part All at ≡ Err f → condition_at text c calls depth rank at ≡ Err f
-      any_failed f e = any_first ∙ ap (λ r. r >>= joined text c calls part Or (codes "|") Any) e
+        pub joined_alone : is_next text to (sign_text sign) ≡ false → condition_at text c calls depth rank at ≡ Ok (one, to)
+        joined_alone off = behind_first ∙ rw off refl
 
-      module _ (one : Formula) (to : ℕ) (e : part All at ≡ Ok (one, to)) where
-        any_behind : condition_at text c calls depth rank at ≡ joined text c calls part Or (codes "|") Any (one, to)
-        any_behind = any_first ∙ ap (λ r. r >>= joined text c calls part Or (codes "|") Any) e
+        module _ (on : is_next text to (sign_text sign) ≡ true) where
+          behind_sign : condition_at text c calls depth rank at ≡
+              (part (Joined sign) (end_of text to) >>= λ read. Ok (both sign one read.0, read.1))
+          behind_sign = behind_first ∙ rw on refl
 
-        pub any_alone : is_next text to (codes "|") ≡ false → condition_at text c calls depth rank at ≡ Ok (one, to)
-        any_alone off = any_behind ∙ rw off refl
+          pub joined_both : (other : Formula) (end : ℕ) → part (Joined sign) (end_of text to) ≡ Ok (other, end) →
+              condition_at text c calls depth rank at ≡ Ok (both sign one other, end)
+          joined_both other end next = behind_sign ∙ ap (λ r. r >>= λ read. Ok (both sign one read.0, read.1)) next
 
-        pub any_joined : (other : Formula) (end : ℕ) → is_next text to (codes "|") ≡ true → part Any (end_of text to) ≡ Ok (other, end) →
-            condition_at text c calls depth rank at ≡ Ok (Or one other, end)
-        any_joined other end on next = any_behind ∙ joins Or (codes "|") Any one other to end on next
-
-        pub any_broken : (f : Unexpected) → is_next text to (codes "|") ≡ true → part Any (end_of text to) ≡ Err f →
-            condition_at text c calls depth rank at ≡ Err f
-        any_broken f on next = any_behind ∙ fails Or (codes "|") Any one to f on next
-
-    module _ (rank : Rank) (at : ℕ) (is : rank ≡ All) where
-      all_first : condition_at text c calls depth rank at ≡ (part One at >>= joined text c calls part And (codes "&") All)
-      all_first = is_read rank at ∙ ap (λ r. read_by text c calls part r at) is
-
-      pub all_failed : (f : Unexpected) → part One at ≡ Err f → condition_at text c calls depth rank at ≡ Err f
-      all_failed f e = all_first ∙ ap (λ r. r >>= joined text c calls part And (codes "&") All) e
-
-      module _ (one : Formula) (to : ℕ) (e : part One at ≡ Ok (one, to)) where
-        all_behind : condition_at text c calls depth rank at ≡ joined text c calls part And (codes "&") All (one, to)
-        all_behind = all_first ∙ ap (λ r. r >>= joined text c calls part And (codes "&") All) e
-
-        pub all_alone : is_next text to (codes "&") ≡ false → condition_at text c calls depth rank at ≡ Ok (one, to)
-        all_alone off = all_behind ∙ rw off refl
-
-        pub all_joined : (other : Formula) (end : ℕ) → is_next text to (codes "&") ≡ true → part All (end_of text to) ≡ Ok (other, end) →
-            condition_at text c calls depth rank at ≡ Ok (And one other, end)
-        all_joined other end on next = all_behind ∙ joins And (codes "&") All one other to end on next
-
-        pub all_broken : (f : Unexpected) → is_next text to (codes "&") ≡ true → part All (end_of text to) ≡ Err f →
-            condition_at text c calls depth rank at ≡ Err f
-        all_broken f on next = all_behind ∙ fails And (codes "&") All one to f on next
+          pub joined_broken : (f : Unexpected) → part (Joined sign) (end_of text to) ≡ Err f → condition_at text c calls depth rank at ≡ Err f
+          joined_broken f next = behind_sign ∙ ap (λ r. r >>= λ read. Ok (both sign one read.0, read.1)) next
 
     module _ (rank : Rank) (at : ℕ) (is : rank ≡ One) where
       one_of : condition_at text c calls depth rank at ≡ read_by text c calls part One at
@@ -105,12 +83,12 @@ module _ (text : List ℕ) (c : Config) (calls : List ℕ) where
       module _ (off : is_next text at (codes "!") ≡ false) where
         -- in parentheses
         module _ (on : is_next text at (codes "(") ≡ true) where
-          pub enclosed_failed : (f : Unexpected) → part Any (end_of text at) ≡ Err f → condition_at text c calls depth rank at ≡ Err f
+          pub enclosed_failed : (f : Unexpected) → part (Joined OrSign) (end_of text at) ≡ Err f → condition_at text c calls depth rank at ≡ Err f
           enclosed_failed f e =
               one_of ∙ rw (off, on)
               (ap (λ r. r >>= λ read. after_piece text (codes ")") read.1 expect.Close >>= λ closed. Ok (read.0, closed)) e)
 
-          module _ (a : Formula) (to : ℕ) (e : part Any (end_of text at) ≡ Ok (a, to)) where
+          module _ (a : Formula) (to : ℕ) (e : part (Joined OrSign) (end_of text at) ≡ Ok (a, to)) where
             behind : condition_at text c calls depth rank at ≡ (after_piece text (codes ")") to expect.Close >>= λ closed. Ok (a, closed))
             behind =
                 one_of ∙ rw (off, on)

@@ -12,7 +12,7 @@
 --   kind       'free', 'file', 'dir', 'dirty', or 'removed'
 --
 -- So `!` binds most, and `&` more than `|`.
-use Rattle.std.specs.Prelude.{◌≡◌, ◌⊎◌, ℕ, zero, suc, ◌+◌, ◌==◌, nat_lt, Bool, true, false, if◌then◌else◌, List, [], ◌∷◌, codes, bytes_eq, find, Option, Some, None, Result, Ok, Err, length, slice_index}
+use Rattle.std.specs.Prelude.{◌≡◌, ℕ, zero, suc, nat_lt, Bool, true, false, if◌then◌else◌, List, [], ◌∷◌, codes, bytes_eq, find, Option, Some, None, Result, Ok, Err, slice_index}
 use Rattle.access_model.specs.Errors.{name_of}
 use Rattle.access_model.specs.declared.actions.Gate.TheVariants.{Mount as MountGate, Level as LevelGate}
 use Rattle.access_model.specs.declared.actions.Holder.{Holder}
@@ -34,7 +34,9 @@ use Rattle.condition_text.specs.declared.faults.Expected.{Expected}
 use Rattle.condition_text.specs.declared.faults.Expected.TheVariants as expect
 use Rattle.condition_text.specs.declared.faults.Unexpected.{Unexpected}
 use Rattle.condition_text.specs.declared.parsing.Rank.{Rank}
-use Rattle.condition_text.specs.declared.parsing.Rank.TheVariants.{Any, All, One}
+use Rattle.condition_text.specs.declared.parsing.Rank.TheVariants.{Joined, One}
+use Rattle.condition_text.specs.declared.parsing.Sign.{Sign}
+use Rattle.condition_text.specs.declared.parsing.Sign.TheVariants.{Or as OrSign, And as AndSign}
 use Rattle.schedule_lines.specs.Numbers.{code_of, is_digits, number_of}
 
 -- one after the other, up to the first fault
@@ -46,6 +48,19 @@ abbrev pub ◌>>=◌ : {A B : Type 0} → Result A Unexpected → (A → Result 
 -- what was read, and where the text goes on
 abbrev pub Read : Type 0 → Type 0
 Read A = Result (A × ℕ) Unexpected
+
+-- how a sign is written, the rank of the conditions that it stands between, and what two of them say with it
+abbrev pub sign_text : Sign → List ℕ
+sign_text OrSign = codes "|"
+sign_text AndSign = codes "&"
+
+abbrev pub part_of : Sign → Rank
+part_of OrSign = Joined AndSign
+part_of AndSign = One
+
+abbrev pub both : Sign → Formula → Formula → Formula
+both OrSign one other = Or one other
+both AndSign one other = And one other
 
 -- a number from here up to below there
 abbrev pub between : ℕ → ℕ → Option ℕ → Option ℕ
@@ -209,15 +224,15 @@ module _ (text : List ℕ) where
       -- a condition of each rank, where one that is a part of it is read so
       module _ (part : Rank → ℕ → Read Formula) where
         -- behind a condition and a sign: another condition
-        abbrev pub joined_at : (Formula → Formula → Formula) → Rank → Formula → ℕ → Read Formula
-        joined_at join rank first at = do
-          other ← part rank at
-          Ok (join first other.0, other.1)
+        abbrev pub joined_at : Sign → Formula → ℕ → Read Formula
+        joined_at sign first at = do
+          other ← part (Joined sign) at
+          Ok (both sign first other.0, other.1)
 
         -- behind a condition: this sign and another condition, or neither
-        abbrev pub joined : (Formula → Formula → Formula) → List ℕ → Rank → Formula × ℕ → Read Formula
-        joined join sign rank first =
-            if is_next text first.1 sign then joined_at join rank first.0 (end_of text first.1) else Ok first
+        abbrev pub joined : Sign → Formula × ℕ → Read Formula
+        joined sign first =
+            if is_next text first.1 (sign_text sign) then joined_at sign first.0 (end_of text first.1) else Ok first
 
         abbrev pub denied : ℕ → Read Formula
         denied at = do
@@ -226,7 +241,7 @@ module _ (text : List ℕ) where
 
         abbrev pub enclosed : ℕ → Read Formula
         enclosed at = do
-          condition ← part Any at
+          condition ← part (Joined OrSign) at
           closed ← after_piece (codes ")") condition.1 expect.Close
           Ok (condition.0, closed)
 
@@ -236,8 +251,7 @@ module _ (text : List ℕ) where
           Ok (Is fact.0, fact.1)
 
         abbrev pub read_by : Rank → ℕ → Read Formula
-        read_by Any at = part All at >>= joined Or (codes "|") Any
-        read_by All at = part One at >>= joined And (codes "&") All
+        read_by (Joined sign) at = part (part_of sign) at >>= joined sign
         read_by One at =
             if is_next text at (codes "!") then denied (end_of text at) else
             if is_next text at (codes "(") then enclosed (end_of text at) else stated at
@@ -252,7 +266,7 @@ module _ (text : List ℕ) where
       whole read = if bytes_eq (piece_at text read.1) [] then Ok read.0 else Err (unexpected text read.1 expect.End)
 
       unfoldable pub condition_in : Result Formula Unexpected
-      condition_in = condition_at 1000 Any 0 >>= whole
+      condition_in = condition_at 1000 (Joined OrSign) 0 >>= whole
 
 -- memory was refused, or this is the fault
 abbrev pub IsFaultOf : {A : Type 0} → Result A Unexpected → ConditionFault → Type 0

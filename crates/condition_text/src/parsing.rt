@@ -1,11 +1,11 @@
 //! The text of a condition.
 
 ghost use Rattle.std.specs.Prelude.{◌≡◌, ◌≤◌, ◌<◌, IfOk, IfErr, Ok, slice_index};
-ghost use Rattle.race_conditions.specs.Conditions.{And, formula_of, Not, Or};
+ghost use Rattle.race_conditions.specs.Conditions.{formula_of, Not};
 ghost use Rattle.race_conditions.specs.Named.{AllNamed, IsNamed};
 ghost use Rattle.condition_text.specs.Pieces.{piece_at};
 ghost use Rattle.schedule_lines.specs.Numbers.{code_of};
-ghost use Rattle.condition_text.specs.Parsing.{access_at, after_piece, answer_at, behind_task, call_fact_at, condition_at, condition_in, coded, fact_at, held_at, held_file_at, held_level_at, held_mount_at, holder_at, holder_fact_at, IsFaultOf, mount_fact_at, node_fact, node_fact_at, number_at, numbered_call_at, reason_of, refusal_at, stage_fact_at, superblock_fact_at, task_fact_at};
+ghost use Rattle.condition_text.specs.Parsing.{access_at, after_piece, answer_at, behind_task, both, call_fact_at, condition_at, condition_in, coded, fact_at, held_at, held_file_at, held_level_at, held_mount_at, holder_at, holder_fact_at, IsFaultOf, mount_fact_at, node_fact, node_fact_at, number_at, numbered_call_at, part_of, reason_of, refusal_at, sign_text, stage_fact_at, superblock_fact_at, task_fact_at};
 
 use crate::faults::{ConditionFault, Expected, Unexpected};
 use crate::pieces::{end_of, is_next, piece_at, unexpected};
@@ -19,6 +19,9 @@ use std::alloc::{AllocError, Global};
 /// How deep the parts of a condition may be nested.
 const DEPTH: u16 = 1000;
 
+/// The rank of a whole condition, and of what is in parentheses.
+const ANY: Rank = Rank::Joined(Sign::Or);
+
 /// What a condition may name: what the configuration has, and so many calls of each task.
 #[derive(Drop)]
 pub struct Names {
@@ -26,15 +29,54 @@ pub struct Names {
     pub calls: Vec<u8>,
 }
 
+/// What stands between two conditions.
+#[derive(Clone, Copy)]
+pub enum Sign {
+    Or,
+    And,
+}
+
 /// What a part of a condition may be.
 #[derive(Clone, Copy)]
 pub enum Rank {
-    /// Conditions with `|` between them.
-    Any,
-    /// Conditions with `&` between them.
-    All,
+    /// Conditions with this sign between them.
+    Joined(Sign),
     /// A fact, or what is in parentheses or behind `!`.
     One,
+}
+
+impl Sign {
+    /// How it is written.
+    fn text(self) -> &'static str
+        ensures { result.now ≡ sign_text self }
+    {
+        match self {
+            Sign::Or => "|",
+            Sign::And => "&",
+        }
+    }
+
+    /// The rank of the conditions that it stands between.
+    fn part(self) -> Rank
+        ensures { result ≡ part_of self }
+    {
+        match self {
+            Sign::Or => Rank::Joined(Sign::And),
+            Sign::And => Rank::One,
+        }
+    }
+
+    /// The two conditions with it between them.
+    fn join(self, alloc: Global, one: Condition, other: Condition) -> Result<Condition, AllocError>
+        ensures { IfOk result (λ condition. formula_of condition ≡ both self (formula_of one) (formula_of other)) }
+    {
+        let one = Box::new(alloc, one)?;
+        let other = Box::new(alloc, other)?;
+        Ok(match self {
+            Sign::Or => Condition::Or(one, other),
+            Sign::And => Condition::And(one, other),
+        })
+    }
 }
 
 /// The reasons of refusals that have no code.
@@ -64,7 +106,7 @@ pub fn parse(alloc: Global, names: &Names, text: &[u8]) -> Result<Condition, Con
     ensures named { IfOk result (λ condition. AllNamed names.now.config (formula_of condition)) }
     ensures fault { IfErr result (IsFaultOf (condition_in text.now names.now.config names.now.calls.items)) }
 {
-    let (condition, at) = condition_at(alloc, names, text, DEPTH, Rank::Any, 0)?;
+    let (condition, at) = condition_at(alloc, names, text, DEPTH, ANY, 0)?;
     if piece_at(text, at).is_empty() {
         Ok(condition)
     } else {
@@ -92,81 +134,30 @@ fn condition_at(
     }
     let depth = depth - 1;
     match rank {
-        Rank::Any => {
-            let (one, at) = condition_at(alloc, names, text, depth, Rank::All, at)?;
-            if !is_next(text, at, "|") {
+        Rank::Joined(sign) => {
+            let (one, at) = condition_at(alloc, names, text, depth, sign.part(), at)?;
+            if !is_next(text, at, sign.text()) {
                 return Ok((one, at));
             }
-            match condition_at(alloc, names, text, depth, Rank::Any, end_of(text, at)) {
-                Ok((other, at)) => Ok((or_of(alloc, one, other)?, at)),
-                Err(fault) => {
-                    drop(one);
-                    Err(fault)
-                }
-            }
-        }
-        Rank::All => {
-            let (one, at) = condition_at(alloc, names, text, depth, Rank::One, at)?;
-            if !is_next(text, at, "&") {
-                return Ok((one, at));
-            }
-            match condition_at(alloc, names, text, depth, Rank::All, end_of(text, at)) {
-                Ok((other, at)) => Ok((and_of(alloc, one, other)?, at)),
-                Err(fault) => {
-                    drop(one);
-                    Err(fault)
-                }
-            }
+            let (other, at) = condition_at(alloc, names, text, depth, rank, end_of(text, at))?;
+            Ok((sign.join(alloc, one, other)?, at))
         }
         Rank::One if is_next(text, at, "!") => {
-            let (condition, at) = condition_at(
-                alloc,
-                names,
-                text,
-                depth,
-                Rank::One,
-                end_of(text, at),
-            )?;
+            let behind = end_of(text, at);
+            let (condition, at) = condition_at(alloc, names, text, depth, Rank::One, behind)?;
             Ok((not_of(alloc, condition)?, at))
         }
         Rank::One if is_next(text, at, "(") => {
-            let (condition, at) = condition_at(
-                alloc,
-                names,
-                text,
-                depth,
-                Rank::Any,
-                end_of(text, at),
-            )?;
-            match after_piece(text, ")", at, Expected::Close) {
-                Ok(at) => Ok((condition, at)),
-                Err(fault) => {
-                    drop(condition);
-                    Err(ConditionFault::Unexpected(fault))
-                }
-            }
+            let behind = end_of(text, at);
+            let (condition, at) = condition_at(alloc, names, text, depth, ANY, behind)?;
+            let at = after_piece(text, ")", at, Expected::Close)?;
+            Ok((condition, at))
         }
         Rank::One => {
             let (fact, at) = fact_at(names, text, at)?;
             Ok((Condition::Is(fact), at))
         }
     }
-}
-
-fn or_of(alloc: Global, one: Condition, other: Condition) -> Result<Condition, AllocError>
-    ensures { IfOk result (λ condition. formula_of condition ≡ Or (formula_of one) (formula_of other)) }
-{
-    let one = Box::new(alloc, one)?;
-    let other = Box::new(alloc, other)?;
-    Ok(Condition::Or(one, other))
-}
-
-fn and_of(alloc: Global, one: Condition, other: Condition) -> Result<Condition, AllocError>
-    ensures { IfOk result (λ condition. formula_of condition ≡ And (formula_of one) (formula_of other)) }
-{
-    let one = Box::new(alloc, one)?;
-    let other = Box::new(alloc, other)?;
-    Ok(Condition::And(one, other))
 }
 
 fn not_of(alloc: Global, condition: Condition) -> Result<Condition, AllocError>

@@ -1,5 +1,9 @@
 //! The forms of commands, as they are told to a person.
 
+use crate::texts::Text;
+use schedule_lines::words::word_count;
+use schedule_text::Verb;
+
 /// A word, and what is told of it.
 pub(crate) type Form = (&'static str, &'static str);
 
@@ -20,42 +24,10 @@ pub(crate) static CONFIGS: [Form; 1] = [("config", CONFIG)];
 /// The commands that stand alone on their line, which is their form.
 pub(crate) static ALONE: [Form; 3] = [("words", "words"), ("tree", "tree"), ("model", "model")];
 
-/// Each command on a task, with its form: in brackets the arguments that may be left out, and with a bar between them the words of which one
-/// stands there. All others are numbers.
-pub(crate) static VERBS: [Form; 27] = [
-    ("want", "T want M C"),
-    ("trywant", "T trywant M C"),
-    ("drop", "T drop M C"),
-    ("start", "T start L C"),
-    ("trystart", "T trystart L C"),
-    ("end", "T end L C"),
-    ("wantwrite", "T wantwrite M C"),
-    ("dropwrite", "T dropwrite M C"),
-    ("change", "T change M ro|rw"),
-    ("trychange", "T trychange M ro|rw"),
-    ("remount", "T remount ro|rw"),
-    ("callback", "T callback L"),
-    ("freeze", "T freeze [kernel|user]"),
-    ("thaw", "T thaw [kernel|user]"),
-    ("create", "T create D file|dir"),
-    ("remove", "T remove N"),
-    ("grow", "T grow N B"),
-    ("move", "T move N D"),
-    ("fault", "T fault N"),
-    ("flush", "T flush N"),
-    ("open", "T open N"),
-    ("close", "T close N C"),
-    ("tryclose", "T tryclose N C"),
-    ("snapshot", "T snapshot"),
-    ("trysnapshot", "T trysnapshot"),
-    ("step", "T step [CODE]"),
-    ("run", "T run [sync|freeze|unfreeze|reconfigure CODE]"),
-];
+/// The arguments of `hook`, the line of a race by which a hook fails in a task's last call.
+pub(crate) const HOOK: &str = "sync|freeze|unfreeze|reconfigure CODE";
 
-/// The line of a race by which a hook fails in a task's last call.
-pub(crate) const HOOK: &str = "T hook sync|freeze|unfreeze|reconfigure CODE";
-
-/// The commands that stand behind the number of a task only in a race.
+/// The commands that stand behind the number of a task only in a race, with their arguments.
 pub(crate) static HOOKS: [Form; 1] = [("hook", HOOK)];
 
 /// Words that people type at a prompt, with what helps them.
@@ -93,4 +65,33 @@ pub(crate) fn told_of(forms: &[Form], word: &[u8]) -> Option<&'static str> {
         }
     }
     None
+}
+
+/// Returns the arguments of a command that stands behind the number of a task, in a schedule or in a race.
+pub(crate) fn arguments_of(word: &[u8]) -> Option<&'static str> {
+    match Verb::of(word) {
+        Some(verb) => Some(verb.row().arguments),
+        None => told_of(HOOKS.as_slice(), word),
+    }
+}
+
+/// Returns how many words a line has with all these arguments: its task and its command stand before them.
+pub(crate) fn words_with(arguments: &str) -> usize {
+    if arguments.is_empty() {
+        2
+    } else {
+        word_count(arguments.as_bytes()).saturating_add(2)
+    }
+}
+
+/// Puts the form of a line on a task in quotes, behind another text.
+pub(crate) fn put_form(help: &mut Text, before: &str, command: &[u8], arguments: &str) {
+    help.put(before);
+    help.put(" 'T ");
+    help.bytes(command);
+    if !arguments.is_empty() {
+        help.put(" ");
+        help.put(arguments);
+    }
+    help.put("'");
 }

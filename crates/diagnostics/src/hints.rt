@@ -1,7 +1,10 @@
 //! What is wrong with a line, and how to mend it.
 
 use crate::contexts::Context;
-use crate::forms::{ALONE, CHOICES, CONFIG, CONFIGS, HOOKS, LIMITS, TYPED, VERBS, told_of};
+use crate::forms::{
+    ALONE, CHOICES, CONFIG, CONFIGS, HOOKS, LIMITS, TYPED, arguments_of, put_form, told_of,
+    words_with,
+};
 use crate::places::{Place, byte_in, comment_in, empty_word, end_of, word_after, words_from};
 use crate::race_hints::{find_in_race, prefix_length};
 use crate::texts::Text;
@@ -186,7 +189,7 @@ fn tell_no_command(help: &mut Text, line: &[u8]) {
     if let Some(text) = told_of(TYPED.as_slice(), word) {
         return help.put(text);
     }
-    if told_of(VERBS.as_slice(), word).is_some() || told_of(HOOKS.as_slice(), word).is_some() {
+    if arguments_of(word).is_some() {
         help.put("a line begins with the number of a task: '0 ");
         help.bytes(line);
         return help.put("'");
@@ -194,7 +197,7 @@ fn tell_no_command(help: &mut Text, line: &[u8]) {
     if let Some(name) = help.nearest(word, ALONE.as_slice()) {
         return tell_near(help, name);
     }
-    match help.nearest(word, VERBS.as_slice()) {
+    match help.nearest_verb(word) {
         Some(name) => {
             help.quoted("did you mean", name);
             help.put(", behind the number of a task?");
@@ -241,7 +244,7 @@ fn find_verb<'a>(help: &mut Text, place: Place<'a>, is_race: bool) -> Place<'a> 
     } else {
         None
     };
-    match near.or(help.nearest(place.part, VERBS.as_slice())) {
+    match near.or(help.nearest_verb(place.part)) {
         Some(name) => tell_near(help, name),
         None => help.put("there is no such command on a task"),
     }
@@ -261,21 +264,20 @@ fn tell_tasks(help: &mut Text, tasks: u8) {
 /// Finds what is wrong with the arguments of a command on a task. A code is the last of them.
 fn find_argument<'a>(help: &mut Text, fault: &str, line: &'a [u8]) -> Place<'a> {
     let verb = word_after(line, 1);
-    let Some(form) = told_of(VERBS.as_slice(), verb.part).or(told_of(HOOKS.as_slice(), verb.part))
-    else {
+    let Some(arguments) = arguments_of(verb.part) else {
         help.put("a command follows the number of its task");
         return verb;
     };
     match fault {
-        "bad word" => find_choice(help, line, form),
-        "bad number" if form.ends_with("CODE]") || form.ends_with(" CODE") => {
+        "bad word" => find_choice(help, line, arguments),
+        "bad number" if arguments.ends_with("CODE]") || arguments.ends_with(" CODE") => {
             help.put("a code is a number from 1 to 65535");
             word_after(line, word_count(line).saturating_sub(1))
         }
         "bad number" => find_number(help, line, 2),
         _ => {
-            help.quoted("its form is", form);
-            end_or_rest(line, word_count(form.as_bytes()))
+            put_form(help, "its form is", verb.part, arguments);
+            end_or_rest(line, words_with(arguments))
         }
     }
 }
@@ -303,11 +305,12 @@ fn find_number<'a>(help: &mut Text, line: &'a [u8], before: usize) -> Place<'a> 
 }
 
 /// Finds the word in whose place one of some words has to stand.
-fn find_choice<'a>(help: &mut Text, line: &'a [u8], form: &str) -> Place<'a> {
-    for number in 2..word_count(form.as_bytes()) {
-        if let Some(text) = told_of(CHOICES.as_slice(), word_after(form.as_bytes(), number).part) {
+fn find_choice<'a>(help: &mut Text, line: &'a [u8], arguments: &str) -> Place<'a> {
+    let arguments = arguments.as_bytes();
+    for number in 0..word_count(arguments) {
+        if let Some(text) = told_of(CHOICES.as_slice(), word_after(arguments, number).part) {
             help.put(text);
-            return word_after(line, number);
+            return word_after(line, number.saturating_add(2));
         }
     }
     end_of(line)

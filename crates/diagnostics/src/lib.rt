@@ -6,10 +6,12 @@ mod contexts;
 mod diagnoses;
 mod forms;
 mod hints;
+mod nearest;
 mod places;
 mod race_hints;
 mod texts;
 
 pub use contexts::Context;
 pub use diagnoses::{Faulty, diagnosis, tell_faulty};
+pub use nearest::Nearest;
 pub use texts::Text;

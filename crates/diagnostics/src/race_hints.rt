@@ -1,6 +1,6 @@
 //! What is wrong with a line behind `race`, and how to mend it.
 
-use crate::forms::HOOK;
+use crate::forms::{HOOK, put_form};
 use crate::places::{Place, word_after};
 use crate::texts::Text;
 
@@ -70,10 +70,8 @@ fn tell_no_call(help: &mut Text, line: &[u8]) {
         help.bytes(word_after(line, 0).part);
         help.put(" first");
     } else {
-        help.quoted(
-            "behind 'race' a line is a task's call, as '0 freeze', or",
-            HOOK,
-        );
+        let told = "behind 'race' a line is a task's call, as '0 freeze', or";
+        put_form(help, told, b"hook", HOOK);
         help.put("; every interleaving is tried, so no line takes steps");
     }
 }

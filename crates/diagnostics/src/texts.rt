@@ -1,12 +1,10 @@
 //! A text that is put together.
 
 use crate::forms::Form;
+use crate::nearest::Nearest;
+use schedule_text::Verb;
 use std::alloc::{AllocError, Global};
 use std::fmt::Display;
-use strsim::osa_distance;
-
-/// How many letters a word may differ in from the one that was meant.
-const FAR: usize = 2;
 
 /// A text that is put together. Whether there was memory for it is asked once, at its end.
 #[derive(Drop)]
@@ -62,24 +60,34 @@ impl Text {
 
     /// Returns the nearest of the names of some forms to a word, if one is near. Capital letters count as small ones.
     pub(crate) fn nearest(&mut self, word: &[u8], forms: &[Form]) -> Option<&'static str> {
+        let shown = self.in_small_letters(word);
+        let mut nearest = Nearest::new(self.alloc, shown.text.as_str());
+        for (name, _) in forms {
+            nearest.compare(*name);
+        }
+        self.is_refused |= nearest.is_refused;
+        nearest.name
+    }
+
+    /// Returns the nearest of the verbs to a word in the same way.
+    pub(crate) fn nearest_verb(&mut self, word: &[u8]) -> Option<&'static str> {
+        let shown = self.in_small_letters(word);
+        let mut nearest = Nearest::new(self.alloc, shown.text.as_str());
+        for verb in &Verb::ALL {
+            nearest.compare(verb.name());
+        }
+        self.is_refused |= nearest.is_refused;
+        nearest.name
+    }
+
+    /// Returns a word in small letters.
+    fn in_small_letters(&mut self, word: &[u8]) -> Text {
         let mut shown = Text::new(self.alloc);
         for byte in word {
             shown.bytes(&[byte.to_ascii_lowercase()]);
         }
         self.is_refused |= shown.is_refused;
-        let mut nearest = None;
-        let mut least = FAR.saturating_add(1).min(shown.text.len());
-        for (name, _) in forms {
-            match osa_distance(self.alloc, shown.text.as_str(), name) {
-                Ok(distance) if distance < least => {
-                    nearest = Some(*name);
-                    least = distance;
-                }
-                Ok(_) => {}
-                Err(AllocError) => self.is_refused = true,
-            }
-        }
-        nearest
+        shown
     }
 
     /// Returns the text.

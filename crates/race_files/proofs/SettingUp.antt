@@ -17,7 +17,7 @@ use Rattle.gate_world.specs.declared.config.Config.{Config}
 use Rattle.schedule_text.specs.declared.commands.Line.{Line}
 use Rattle.schedule_text.specs.declared.commands.Line.TheVariants.{Skipped, Config as ConfigLine, Request as RequestLine}
 use Rattle.schedule_text.specs.declared.commands.Request.{Request, TheVariants.Task}
-use Rattle.schedule_text.specs.Commands.{takes, verb_of}
+use Rattle.schedule_text.specs.Verbs.{takes, verb_of}
 use Rattle.schedule_lines.specs.declared.faults.Fault.TheVariants.{NoSuchTask, UnknownCommand, WrongNumberOfWords}
 use Rattle.transcripts.specs.Transcript.{ReplayState, config_effect, line_effect, opening_play, tasks_of}
 

@@ -1,35 +1,63 @@
 //! The names of the calls.
 
-/// All calls, on a line each: its names, first that of a schedule's command, then those of the library and of the kernel.
-pub(crate) const CALLS: &str = "\
-want mnt_want_write
-trywant try_want
-wantwrite want_write
-drop drop_mount mnt_drop_write
-dropwrite drop_write
-start sb_start_write
-trystart try_start sb_start_write_trylock
-end sb_end_write
-callback
-change change_mount mnt_make_readonly
-trychange try_change_mount
-remount remount_sb reconfigure_super
-freeze freeze_super
-thaw thaw_super
-create
-remove
-grow
-move move_to
-fault
-flush
-open open_file
-close close_file
-tryclose try_close_file
-snapshot
-trysnapshot try_snapshot
+use diagnostics::Nearest;
+use schedule_text::Verb;
+use std::alloc::Global;
+
+/// The calls that no command of a schedule begins, on a line each, by their names.
+pub(crate) const OTHERS: &str = "\
 Gates::new
 split Task::split
 join Task::join
 Gates::close
 run run_with
 ";
+
+/// Returns the first name of the call that has this name: that of a schedule's command, or else the library's.
+pub(crate) fn call_named(word: &str) -> Option<&'static str> {
+    for verb in &Verb::ALL {
+        let row = verb.row();
+        if !row.call.is_empty() && (row.name == word || is_named(row.call, word)) {
+            return Some(row.name);
+        }
+    }
+    for call in OTHERS.lines() {
+        if is_named(call, word) {
+            return Some(first_name(call));
+        }
+    }
+    None
+}
+
+/// Returns the name of a call that is nearest to a word, if one is near and there is memory to find it.
+pub(crate) fn nearest_call(alloc: Global, word: &str) -> Option<&'static str> {
+    let mut nearest = Nearest::new(alloc, word);
+    for verb in &Verb::ALL {
+        let row = verb.row();
+        if !row.call.is_empty() {
+            nearest.compare(row.name);
+            compare_names(&mut nearest, row.call);
+        }
+    }
+    for call in OTHERS.lines() {
+        compare_names(&mut nearest, call);
+    }
+    nearest.name
+}
+
+/// Compares each of these names.
+fn compare_names(nearest: &mut Nearest<'_>, names: &'static str) {
+    for name in names.split(' ') {
+        nearest.compare(name);
+    }
+}
+
+/// Whether a name is among these.
+pub(crate) fn is_named(names: &str, word: &str) -> bool {
+    names.split(' ').any(|name| name == word)
+}
+
+/// Returns the first of a call's names.
+pub(crate) fn first_name(call: &'static str) -> &'static str {
+    call.split_once(' ').unwrap_or((call, "")).0
+}

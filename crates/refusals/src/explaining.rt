@@ -3,24 +3,21 @@
 ghost use Rattle.std.specs.Prelude.{◌≡◌, ◌⊎◌};
 ghost use Rattle.exit_status.specs.declared.ends.ProgramEnding.TheVariants.{Misused, Refused, Told};
 
-use crate::calls::CALLS;
+use crate::calls::{OTHERS, call_named, first_name, is_named, nearest_call};
 use crate::causes::{CAUSES, Cause};
 use crate::rows::RefusalRow;
 use crate::table::{gates, tasks, trees};
 use access_model::GateError;
 use diagnostics::Text;
 use exit_status::{ProgramEnding, refused, text_told, why_told};
+use schedule_text::Verb;
 use std::alloc::{AllocError, Global};
 use std::io::Write;
-use strsim::osa_distance;
 
 /// At which column the lines of an explanation end, and at which its texts begin.
 const WIDTH: usize = 78;
 
 const MARGIN: usize = 13;
-
-/// How many letters a name may differ in from the one that was meant.
-const FAR: usize = 2;
 
 /// What is asked for.
 #[derive(Clone, Copy)]
@@ -43,7 +40,7 @@ pub fn run_explanation<W: Write, E: Write>(
     ensures { (result ≡ Told) ⊎ (result ≡ Refused) ⊎ (result ≡ Misused) }
 {
     let asked = match (call, refusal) {
-        (Some(word), None) if !is_any_call(word) && is_any_refusal(word) => RefusalQuery {
+        (Some(word), None) if call_named(word).is_none() && is_any_refusal(word) => RefusalQuery {
             call: None,
             refusal: call,
         },
@@ -205,8 +202,13 @@ fn put_index(text: &mut Text) {
     }
     text.put("\n'mntgate explain CALL REFUSAL' tells what to do about one. The calls:\n");
     let mut lines = Lines::new(text, "");
-    for call in CALLS.lines() {
-        lines.put_word(name_of(call));
+    for verb in &Verb::ALL {
+        if !verb.row().call.is_empty() {
+            lines.put_word(verb.name());
+        }
+    }
+    for call in OTHERS.lines() {
+        lines.put_word(first_name(call));
     }
     lines.end();
 }
@@ -231,7 +233,7 @@ fn unknown<E: Write>(alloc: Global, asked: RefusalQuery<'_>, errors: &mut E) -> 
     let mut text = Text::new(alloc);
     text.put("error: ");
     match asked.call {
-        Some(word) if !is_any_call(word) => put_unknown_call(alloc, &mut text, word),
+        Some(word) if call_named(word).is_none() => put_unknown_call(alloc, &mut text, word),
         call => put_unknown_refusal(&mut text, call, asked.refusal.unwrap_or("")),
     }
     text.put("\n\nUsage: mntgate explain [CALL] [REFUSAL]\n\nFor more information, try '--help'.");
@@ -249,7 +251,7 @@ fn put_unknown_call(alloc: Global, text: &mut Text, word: &str) {
     text.put("there is no call or refusal '");
     text.bytes(word.as_bytes());
     text.put("'");
-    match nearest(alloc, word) {
+    match nearest_call(alloc, word) {
         Some(name) => {
             text.put("; did you mean '");
             text.put(name);
@@ -294,46 +296,12 @@ fn put_refusals(text: &mut Text, rows: &'static str, asked: RefusalQuery<'_>) {
     }
 }
 
-/// Returns the name of a call that is nearest to a word, if one is near and there is memory to find it.
-fn nearest(alloc: Global, word: &str) -> Option<&'static str> {
-    let mut nearest = None;
-    let mut least = FAR.saturating_add(1).min(word.len());
-    for call in CALLS.lines() {
-        for name in call.split(' ') {
-            if let Ok(distance) = osa_distance(alloc, word, name)
-                && distance < least
-            {
-                nearest = Some(name);
-                least = distance;
-            }
-        }
-    }
-    nearest
-}
-
-/// Whether some call has this name.
-fn is_any_call(word: &str) -> bool {
-    CALLS.lines().any(|call| is_named(call, word))
-}
-
-/// Whether one of the calls with these first names has this name.
+/// Whether the call that has this name is one of those with these first names.
 fn are_named(calls: &str, word: &str) -> bool {
-    for call in CALLS.lines() {
-        if is_named(call, word) && is_named(calls, name_of(call)) {
-            return true;
-        }
+    match call_named(word) {
+        Some(name) => is_named(calls, name),
+        None => false,
     }
-    false
-}
-
-/// Whether a name is among these.
-fn is_named(names: &str, word: &str) -> bool {
-    names.split(' ').any(|name| name == word)
-}
-
-/// Returns the first of a call's names.
-fn name_of(call: &'static str) -> &'static str {
-    call.split_once(' ').unwrap_or((call, "")).0
 }
 
 /// Whether some refusal is named so.

@@ -1,2 +1,1 @@
 mod Counting
-pub mod Verbs

@@ -12,13 +12,14 @@ use Rattle.schedule_text.specs.declared.commands.Request.{Request}
 use Rattle.schedule_text.specs.declared.commands.Request.TheVariants.{Words, Tree, Model, Task}
 use Rattle.schedule_text.specs.declared.commands.TaskCommand.{TaskCommand}
 use Rattle.schedule_text.specs.declared.commands.TaskCommand.TheVariants.{Begin, Step as StepCommand, Run as RunCommand}
-use Rattle.schedule_text.specs.declared.commands.Verb.{Verb}
-use Rattle.schedule_text.specs.declared.commands.Verb.TheVariants.{Want, TryWant, Drop, Start, TryStart, End, WantWrite, DropWrite, Change, TryChange, Remount, Callback, Freeze, Thaw, Create, Remove, Grow, Move, Fault as FaultVerb, Flush, Open, Close, TryClose, Snapshot, TrySnapshot, Step, Run}
+use Rattle.schedule_text.specs.declared.verbs.Verb.{Verb}
+use Rattle.schedule_text.specs.declared.verbs.Verb.TheVariants.{Want, TryWant, Drop, Start, TryStart, End, WantWrite, DropWrite, Change, TryChange, Remount, Callback, Freeze, Thaw, Create, Remove, Grow, Move, Fault as FaultVerb, Flush, Open, Close, TryClose, Snapshot, TrySnapshot, Step, Run}
 use Rattle.schedule_lines.specs.declared.faults.Fault.{Fault}
 use Rattle.schedule_lines.specs.declared.faults.Fault.TheVariants.{ConfigExpected, ConfigTwice, UnknownCommand, WrongNumberOfWords, NoSuchTask, BadNumber, BadWord}
 use Rattle.schedule_lines.specs.Numbers.{is_digits, number_of, byte_of, code_of}
 use Rattle.schedule_lines.specs.Words.{first_word, after_word, word_count}
-use Rattle.schedule_text.specs.Commands.{verb_of, takes, hook_named, kind_named, holder_named}
+use Rattle.schedule_text.specs.Commands.{hook_named, kind_named, holder_named}
+use Rattle.schedule_text.specs.Verbs.{takes, verb_of}
 
 -- one after the other, up to the first fault
 infixl 10 ◌>>=◌

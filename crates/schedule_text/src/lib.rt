@@ -3,7 +3,9 @@
 
 pub mod commands;
 pub mod parsing;
+pub mod verbs;
 
-pub use commands::{HookFailure, Line, Request, TaskCommand, Verb};
+pub use commands::{HookFailure, Line, Request, TaskCommand};
 pub use parsing::parse;
 pub use schedule_lines::{Fault, Front, LINE_BYTES, LINES, Output, front_of};
+pub use verbs::{Verb, VerbRow};

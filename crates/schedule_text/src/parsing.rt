@@ -5,8 +5,9 @@ ghost use Rattle.schedule_lines.specs.Words.{first_word, after_word, word_count}
 ghost use Rattle.schedule_text.specs.Parsing.{parsed, is_skipped, config_line, config_of, command_line, alone, task_line, task_of, arguments_of, want_of, drop_of, start_of, end_of, want_write_of, drop_write_of, change_of, remount_of, callback_of, freeze_of, thaw_of, create_of, remove_of, grow_of, move_of, fault_of, flush_of, open_of, close_of, step_of, run_of, number_at, byte_at, code_at, hook_at, holder_at, holder_given, kind_at, read_only_at, read_only_of};
 
 use crate::commands::{
-    HookFailure, Line, Request, TaskCommand, Verb, holder_named, hook_named, kind_named,
+    HookFailure, Line, Request, TaskCommand, holder_named, hook_named, kind_named,
 };
+use crate::verbs::Verb;
 use access_model::{Holder, Kind};
 use freeze_levels::HookKind;
 use gate_world::{Config, Op};

@@ -40,23 +40,14 @@ pub(crate) fn words_of<D: Driver>(
     let mut words = WordLister {
         session,
         listed: Vec::new(alloc),
-        is_whole: true,
     };
     match listing {
-        ListingKind::Words => words.add_gates(),
-        ListingKind::Tree => words.add_tree(),
+        ListingKind::Words => words.add_gates()?,
+        ListingKind::Tree => words.add_tree()?,
         ListingKind::Model => {}
     }
-    let WordLister {
-        listed,
-        is_whole,
-        ..
-    } = words;
-    if is_whole {
-        Ok(listed)
-    } else {
-        Err(AllocError)
-    }
+    let WordLister { listed, .. } = words;
+    Ok(listed)
 }
 
 /// The words of the superblock and of its freeze.
@@ -69,59 +60,63 @@ const SUPERBLOCK: [WordName; 6] = [
     WordName::Removed,
 ];
 
-/// The words that were found so far. Memory that was refused is noted.
+/// The words that were found so far.
 #[derive(Drop)]
 struct WordLister<'a, D> {
     session: &'a Session<D>,
     listed: Vec<Listed>,
-    is_whole: bool,
 }
 
 impl<'a, D: Driver> WordLister<'a, D> {
     /// Adds a word, where the configuration has it.
-    fn add(&mut self, word: WordName) {
+    fn add(&mut self, word: WordName) -> Result<(), AllocError> {
         if let Some(value) = self.session.word(word) {
-            self.is_whole &= self.listed.push(Listed { word, value }).is_ok();
+            self.listed.push(Listed { word, value })?;
         }
+        Ok(())
     }
 
-    fn add_gates(&mut self) {
+    fn add_gates(&mut self) -> Result<(), AllocError> {
         for word in &SUPERBLOCK {
-            self.add(*word);
+            self.add(*word)?;
         }
         for mount in 0..8 {
-            self.add_mount(mount);
+            self.add_mount(mount)?;
         }
         for level in 1..4 {
-            self.add_level(level);
+            self.add_level(level)?;
         }
         for task in 0..self.session.tasks() {
-            self.add(WordName::Section(task));
+            self.add(WordName::Section(task))?;
         }
+        Ok(())
     }
 
-    fn add_mount(&mut self, mount: u8) {
-        self.add(WordName::MountFlags(mount));
+    fn add_mount(&mut self, mount: u8) -> Result<(), AllocError> {
+        self.add(WordName::MountFlags(mount))?;
         for cpu in 0..64 {
-            self.add(WordName::MountCount(mount, cpu));
+            self.add(WordName::MountCount(mount, cpu))?;
         }
+        Ok(())
     }
 
-    fn add_level(&mut self, level: u8) {
-        self.add(WordName::Block(level));
-        self.add(WordName::Sync(level));
+    fn add_level(&mut self, level: u8) -> Result<(), AllocError> {
+        self.add(WordName::Block(level))?;
+        self.add(WordName::Sync(level))?;
         for cpu in 0..64 {
-            self.add(WordName::LevelCount(level, cpu));
+            self.add(WordName::LevelCount(level, cpu))?;
         }
+        Ok(())
     }
 
-    fn add_tree(&mut self) {
-        self.add(WordName::Used);
+    fn add_tree(&mut self) -> Result<(), AllocError> {
+        self.add(WordName::Used)?;
         for node in 0..64 {
-            self.add(WordName::Node(node));
+            self.add(WordName::Node(node))?;
         }
         for node in 0..64 {
-            self.add(WordName::Kids(node));
+            self.add(WordName::Kids(node))?;
         }
+        Ok(())
     }
 }

@@ -2,7 +2,7 @@
 
 use access_model::{Action, Gate, GateError, Holder, Kind, Reply};
 use gate_world::Op;
-use schedule_text::Output;
+use schedule_text::{Output, Verb};
 
 /// How many values a term has at most.
 const FIELDS: usize = 3;
@@ -106,34 +106,40 @@ pub(crate) fn kind_word(kind: Kind) -> &'static str {
     }
 }
 
-/// One of two names: that of the form that waits, or of its try form.
-fn verb(wait: bool, waits: &'static str, tries: &'static str) -> &'static str {
-    if wait { waits } else { tries }
+/// A command on a task, by its name.
+fn command(verb: Verb) -> Term {
+    Term::new(verb.name())
+}
+
+/// One of two commands: the form that waits, or its try form.
+fn command_of(wait: bool, waits: Verb, tries: Verb) -> Term {
+    command(if wait { waits } else { tries })
 }
 
 /// A call, as the line of a schedule that begins it.
 pub(crate) fn call_term(op: Op) -> Term {
     match op {
-        Op::Want { mount, cpu, wait } => at_mount(verb(wait, "want", "trywant"), mount, cpu),
-        Op::DropMount { mount, cpu } => at_mount("drop", mount, cpu),
-        Op::WantWrite { mount, cpu } => at_mount("wantwrite", mount, cpu),
-        Op::DropWrite { mount, cpu } => at_mount("dropwrite", mount, cpu),
+        Op::Want { mount, cpu, wait } => {
+            at_mount(command_of(wait, Verb::Want, Verb::TryWant), mount, cpu)
+        }
+        Op::DropMount { mount, cpu } => at_mount(command(Verb::Drop), mount, cpu),
+        Op::WantWrite { mount, cpu } => at_mount(command(Verb::WantWrite), mount, cpu),
+        Op::DropWrite { mount, cpu } => at_mount(command(Verb::DropWrite), mount, cpu),
         Op::ChangeMount {
             mount,
             read_only,
             wait,
-        } => {
-            let name = verb(wait, "change", "trychange");
-            Term::new(name)
-                .index("mount", mount)
-                .word("to", access_word(read_only))
+        } => command_of(wait, Verb::Change, Verb::TryChange)
+            .index("mount", mount)
+            .word("to", access_word(read_only)),
+        Op::RemountSb { read_only } => command(Verb::Remount).word("to", access_word(read_only)),
+        Op::Start { level, cpu, wait } => {
+            at_level(command_of(wait, Verb::Start, Verb::TryStart), level, cpu)
         }
-        Op::RemountSb { read_only } => Term::new("remount").word("to", access_word(read_only)),
-        Op::Start { level, cpu, wait } => at_level(verb(wait, "start", "trystart"), level, cpu),
-        Op::End { level, cpu } => at_level("end", level, cpu),
-        Op::Callback { level } => Term::new("callback").index("level", level),
-        Op::Freeze { holder } => Term::new("freeze").word("holder", holder_word(holder)),
-        Op::Thaw { holder } => Term::new("thaw").word("holder", holder_word(holder)),
+        Op::End { level, cpu } => at_level(command(Verb::End), level, cpu),
+        Op::Callback { level } => command(Verb::Callback).index("level", level),
+        Op::Freeze { holder } => command(Verb::Freeze).word("holder", holder_word(holder)),
+        Op::Thaw { holder } => command(Verb::Thaw).word("holder", holder_word(holder)),
         _ => tree_call_term(op),
     }
 }
@@ -141,33 +147,33 @@ pub(crate) fn call_term(op: Op) -> Term {
 /// A call at the tree.
 fn tree_call_term(op: Op) -> Term {
     match op {
-        Op::Create { dir, kind } => Term::new("create")
+        Op::Create { dir, kind } => command(Verb::Create)
             .index("directory", dir)
             .word("kind", kind_word(kind)),
-        Op::Remove { file } => Term::new("remove").index("node", file),
-        Op::Grow { file, blocks } => Term::new("grow")
+        Op::Remove { file } => command(Verb::Remove).index("node", file),
+        Op::Grow { file, blocks } => command(Verb::Grow)
             .index("node", file)
             .number("blocks", u64::from(blocks)),
-        Op::MoveTo { file, dir } => Term::new("move")
+        Op::MoveTo { file, dir } => command(Verb::Move)
             .index("node", file)
             .index("directory", dir),
-        Op::Fault { file } => Term::new("fault").index("node", file),
-        Op::Flush { file } => Term::new("flush").index("node", file),
-        Op::Open { file } => Term::new("open").index("node", file),
-        Op::Close { file, cpu, wait } => Term::new(verb(wait, "close", "tryclose"))
+        Op::Fault { file } => command(Verb::Fault).index("node", file),
+        Op::Flush { file } => command(Verb::Flush).index("node", file),
+        Op::Open { file } => command(Verb::Open).index("node", file),
+        Op::Close { file, cpu, wait } => command_of(wait, Verb::Close, Verb::TryClose)
             .index("node", file)
             .index("cpu", cpu),
-        Op::Snapshot { wait } => Term::new(verb(wait, "snapshot", "trysnapshot")),
+        Op::Snapshot { wait } => command_of(wait, Verb::Snapshot, Verb::TrySnapshot),
         _ => Term::new(""),
     }
 }
 
-fn at_mount(name: &'static str, mount: u8, cpu: u8) -> Term {
-    Term::new(name).index("mount", mount).index("cpu", cpu)
+fn at_mount(term: Term, mount: u8, cpu: u8) -> Term {
+    term.index("mount", mount).index("cpu", cpu)
 }
 
-fn at_level(name: &'static str, level: u8, cpu: u8) -> Term {
-    Term::new(name).index("level", level).index("cpu", cpu)
+fn at_level(term: Term, level: u8, cpu: u8) -> Term {
+    term.index("level", level).index("cpu", cpu)
 }
 
 /// An action of the model.

@@ -1,0 +1,200 @@
+//! The commands on a task: one table, for all who read, print or explain a command.
+
+ghost use Rattle.std.specs.Prelude.{◌≡◌, bytes_eq};
+ghost use Rattle.schedule_text.specs.Verbs.{row, takes, verb_name, verb_of};
+
+use schedule_lines::words::is_word;
+
+/// The second word of a line on a task.
+#[derive(Clone, Copy)]
+pub enum Verb {
+    Run,
+    Step,
+    Want,
+    TryWant,
+    WantWrite,
+    Drop,
+    DropWrite,
+    Start,
+    TryStart,
+    End,
+    Callback,
+    Change,
+    TryChange,
+    Remount,
+    Freeze,
+    Thaw,
+    Create,
+    Remove,
+    Grow,
+    Move,
+    Fault,
+    Flush,
+    Open,
+    Close,
+    TryClose,
+    Snapshot,
+    TrySnapshot,
+}
+
+/// What is to be known of a verb.
+#[derive(Clone, Copy)]
+pub struct VerbRow {
+    /// The word that names it.
+    pub name: &'static str,
+    /// Its arguments, as a person is told: in brackets those that may be left out, and with a bar between them the words of which one stands
+    /// there. All others are numbers.
+    pub arguments: &'static str,
+    /// How many words its line has at least, the task and the verb among them: without what is in brackets.
+    pub fewest: usize,
+    /// How many words its line has at most. It has either so many or the fewest.
+    pub most: usize,
+    /// The call that it begins, by its names: the library's, and the kernel's behind a space, where that has the call. Empty, if it begins
+    /// none.
+    pub call: &'static str,
+}
+
+impl VerbRow {
+    /// The row of a verb whose lines have so many words.
+    #[inline(always)]
+    fn new(name: &'static str, arguments: &'static str, words: usize, call: &'static str) -> VerbRow
+        ensures name { result.name.now ≡ name.now }
+        ensures fewest { result.fewest ≡ words }
+        ensures most { result.most ≡ words }
+    {
+        VerbRow {
+            name,
+            arguments,
+            fewest: words,
+            most: words,
+            call,
+        }
+    }
+
+    /// The row of a verb whose arguments may be left out: with them a line has so many words.
+    #[inline(always)]
+    fn or_bare(
+        name: &'static str,
+        arguments: &'static str,
+        words: usize,
+        call: &'static str,
+    ) -> VerbRow
+        ensures name { result.name.now ≡ name.now }
+        ensures fewest { result.fewest ≡ 2 }
+        ensures most { result.most ≡ words }
+    {
+        VerbRow {
+            name,
+            arguments,
+            fewest: 2,
+            most: words,
+            call,
+        }
+    }
+}
+
+impl Verb {
+    /// All verbs. A word is compared with one after the other, so the usual ones come first.
+    pub const ALL: [Verb; 27] = [
+        Verb::Run,
+        Verb::Step,
+        Verb::Want,
+        Verb::TryWant,
+        Verb::WantWrite,
+        Verb::Drop,
+        Verb::DropWrite,
+        Verb::Start,
+        Verb::TryStart,
+        Verb::End,
+        Verb::Callback,
+        Verb::Change,
+        Verb::TryChange,
+        Verb::Remount,
+        Verb::Freeze,
+        Verb::Thaw,
+        Verb::Create,
+        Verb::Remove,
+        Verb::Grow,
+        Verb::Move,
+        Verb::Fault,
+        Verb::Flush,
+        Verb::Open,
+        Verb::Close,
+        Verb::TryClose,
+        Verb::Snapshot,
+        Verb::TrySnapshot,
+    ];
+
+    /// What is to be known of it.
+    pub fn row(self) -> VerbRow
+        ensures name { result.name.now ≡ (row self).name }
+        ensures fewest { result.fewest ≡ (row self).fewest }
+        ensures most { result.most ≡ (row self).most }
+    {
+        match self {
+            Verb::Run => VerbRow::or_bare("run", "[sync|freeze|unfreeze|reconfigure CODE]", 4, ""),
+            Verb::Step => VerbRow::or_bare("step", "[CODE]", 3, ""),
+            Verb::Want => VerbRow::new("want", "M C", 4, "want mnt_want_write"),
+            Verb::TryWant => VerbRow::new("trywant", "M C", 4, "try_want"),
+            Verb::WantWrite => VerbRow::new("wantwrite", "M C", 4, "want_write"),
+            Verb::Drop => VerbRow::new("drop", "M C", 4, "drop_mount mnt_drop_write"),
+            Verb::DropWrite => VerbRow::new("dropwrite", "M C", 4, "drop_write"),
+            Verb::Start => VerbRow::new("start", "L C", 4, "start sb_start_write"),
+            Verb::TryStart => VerbRow::new(
+                "trystart",
+                "L C",
+                4,
+                "try_start sb_start_write_trylock",
+            ),
+            Verb::End => VerbRow::new("end", "L C", 4, "end sb_end_write"),
+            Verb::Callback => VerbRow::new("callback", "L", 3, "callback"),
+            Verb::Change => VerbRow::new("change", "M ro|rw", 4, "change_mount mnt_make_readonly"),
+            Verb::TryChange => VerbRow::new("trychange", "M ro|rw", 4, "try_change_mount"),
+            Verb::Remount => VerbRow::new("remount", "ro|rw", 3, "remount_sb reconfigure_super"),
+            Verb::Freeze => VerbRow::or_bare("freeze", "[kernel|user]", 3, "freeze freeze_super"),
+            Verb::Thaw => VerbRow::or_bare("thaw", "[kernel|user]", 3, "thaw thaw_super"),
+            Verb::Create => VerbRow::new("create", "D file|dir", 4, "create"),
+            Verb::Remove => VerbRow::new("remove", "N", 3, "remove"),
+            Verb::Grow => VerbRow::new("grow", "N B", 4, "grow"),
+            Verb::Move => VerbRow::new("move", "N D", 4, "move_to"),
+            Verb::Fault => VerbRow::new("fault", "N", 3, "fault"),
+            Verb::Flush => VerbRow::new("flush", "N", 3, "flush"),
+            Verb::Open => VerbRow::new("open", "N", 3, "open_file"),
+            Verb::Close => VerbRow::new("close", "N C", 4, "close_file"),
+            Verb::TryClose => VerbRow::new("tryclose", "N C", 4, "try_close_file"),
+            Verb::Snapshot => VerbRow::new("snapshot", "", 2, "snapshot"),
+            Verb::TrySnapshot => VerbRow::new("trysnapshot", "", 2, "try_snapshot"),
+        }
+    }
+
+    /// The word that names it.
+    #[inline(always)]
+    pub fn name(self) -> &'static str
+        ensures { result.now ≡ verb_name self }
+    {
+        self.row().name
+    }
+
+    /// Whether a word names it.
+    #[inline(always)]
+    fn is_named(self, word: &[u8]) -> bool
+        ensures { result ≡ bytes_eq word.now (verb_name self) }
+    {
+        is_word(word, self.name())
+    }
+
+    /// The verb that a word names.
+    pub fn of(word: &[u8]) -> Option<Verb>
+        ensures { result ≡ verb_of word.now }
+    {
+        Verb::ALL.iter().find(|verb| verb.is_named(word)).copied()
+    }
+
+    /// Whether a line with this verb may have so many words, the task and the verb among them.
+    pub fn takes(self, words: usize) -> bool
+        ensures { result ≡ takes self words }
+    {
+        let row = self.row();
+        words == row.fewest || words == row.most
+    }
+}
