@@ -3,14 +3,14 @@
 use crate::forms::Style;
 use crate::kernel::code_of;
 use crate::layout::{BASE, CODE, HEAD, LINE, Layout, row_height};
-use crate::markup::{attribute, counted, escaped};
+use crate::markup::{counted, escaped, filled};
 use crate::picture::Begins;
 use crate::rows::{Rows, count_rows};
 use crate::trace::{Entry, Happening, Taken, behind_task};
 use crate::waits::{Culprit, Wait};
 use access_model::Action;
 use schedule_text::Output;
-use std::alloc::{AllocError, Global};
+use std::alloc::Global;
 
 /// The letters and the colours of a picture, which it has with it, so that it stands alone.
 static STYLE: &str =
@@ -44,6 +44,8 @@ pub(crate) struct Drawing<'a> {
     entries: &'a [Entry],
     /// Where each row begins, and behind them where the last one ends.
     tops: Vec<u64>,
+    /// Whether there was memory for all of it.
+    is_whole: bool,
 }
 
 /// A strip that tells how long something of the model is so: where it stands, its class, what it tells, and from where on.
@@ -61,27 +63,26 @@ impl<'a> Drawing<'a> {
         layout: Layout,
         style: Style,
         entries: &'a [Entry],
-    ) -> Result<Drawing<'a>, AllocError> {
+    ) -> Drawing<'a> {
         let mut drawing = Drawing {
             alloc,
             layout,
             style,
             entries,
             tops: Vec::new(alloc),
+            is_whole: true,
         };
-        drawing.lay_out()?;
-        Ok(drawing)
+        drawing.lay_out();
+        drawing
     }
 
-    fn lay_out(&mut self) -> Result<(), AllocError> {
+    fn lay_out(&mut self) {
         let mut top = HEAD;
         for entry in self.entries {
-            self.tops.push(top)?;
-            let lines = self.lines_of(entry)?;
-            top = top.saturating_add(row_height(lines));
+            self.is_whole &= self.tops.push(top).is_ok();
+            top = top.saturating_add(row_height(self.lines_of(entry)));
         }
-        self.tops.push(top)?;
-        Ok(())
+        self.is_whole &= self.tops.push(top).is_ok();
     }
 
     /// The next row of a task behind a row; how many rows there are, if there is none.
@@ -95,22 +96,20 @@ impl<'a> Drawing<'a> {
     }
 
     /// How many lines the row of an entry has.
-    fn lines_of(&self, entry: &Entry) -> Result<usize, AllocError> {
-        let lines = self.count_lines(&self.cell_of(entry))?;
-        match entry.wait() {
-            Some(wait) => {
-                let more = self.count_lines(&self.wait_of(wait))?;
-                Ok(lines.saturating_add(more))
-            }
-            None => Ok(lines),
-        }
+    fn lines_of(&mut self, entry: &Entry) -> usize {
+        let cell = self.cell_of(entry);
+        let lines = self.count_lines(&cell);
+        let Some(wait) = entry.wait() else {
+            return lines;
+        };
+        let more = self.wait_of(wait);
+        lines.saturating_add(self.count_lines(&more))
     }
 
     /// How many lines a text has in a lane.
-    fn count_lines(&self, text: &Output) -> Result<usize, AllocError> {
-        text.settled()?;
-        let line = behind_task(text.bytes.as_slice());
-        Ok(count_rows(line, self.layout.room))
+    fn count_lines(&mut self, text: &Output) -> usize {
+        self.is_whole &= text.is_whole;
+        count_rows(behind_task(text.bytes.as_slice()), self.layout.room)
     }
 
     /// What stands in the lane for an entry, behind its task.
@@ -169,50 +168,54 @@ impl<'a> Drawing<'a> {
             self.print_row(row, entry, step, out);
         }
         out.text(b"</svg>\n");
+        out.is_whole &= self.is_whole;
     }
 
     fn print_begin(&self, steps: u64, out: &mut Output) {
         let (width, height) = (self.layout.width(), self.bottom().saturating_add(10));
-        out.text(b"<svg xmlns=\"http://www.w3.org/2000/svg\" class=\"trace\"");
-        attribute(out, "width", width);
-        attribute(out, "height", height);
-        out.numbered(b" viewBox=\"0 0 ", width);
-        out.numbered(b" ", height);
-        out.text(b"\">\n<title>");
+        filled(
+            out,
+            "<svg xmlns=\"http://www.w3.org/2000/svg\" class=\"trace\" width=\"#\" height=\"#\" viewBox=\"0 0 # #\">\n<title>",
+            &[width, height, width, height],
+        );
         counted(out, u64::from(self.layout.tasks), b"task");
         out.text(b", ");
         counted(out, steps, b"step");
         out.text(b"</title>\n<style>");
         out.text(STYLE.as_bytes());
-        out.text(b"</style>\n");
-        rect(out, "paper", (0, 0), (width, height));
-        out.text(b"\n");
+        filled(
+            out,
+            "</style>\n<rect class=\"paper\" x=\"0\" y=\"0\" width=\"#\" height=\"#\"/>\n",
+            &[width, height],
+        );
     }
 
     /// Prints the heads of the columns.
     fn print_heads(&self, out: &mut Output) {
         for task in 0..self.layout.tasks {
-            begin_text(
+            let x = self.layout.lane_at(task).saturating_add(INDENT);
+            filled(
                 out,
-                "head",
-                self.layout.lane_at(task).saturating_add(INDENT),
-                23,
+                "<text class=\"head\" x=\"#\" y=\"23\">task #</text>\n",
+                &[x, u64::from(task)],
             );
-            out.numbered(b"task ", u64::from(task));
-            out.text(b"</text>\n");
         }
-        begin_text(out, "head", self.layout.model_at().saturating_add(28), 23);
-        out.text(b"model</text>\n");
-        begin_text(out, "head", self.layout.kernel_at(), 23);
-        out.text(b"in Linux 6.1</text>\n");
+        let model = self.layout.model_at().saturating_add(28);
+        filled(
+            out,
+            "<text class=\"head\" x=\"#\" y=\"23\">model</text>\n<text class=\"head\" x=\"#\" y=\"23\">in Linux 6.1</text>\n",
+            &[model, self.layout.kernel_at()],
+        );
     }
 
     /// Prints the line above a row.
     fn print_rule(&self, row: usize, out: &mut Output) {
-        out.text(b"<path class=\"rule\" d=\"M");
-        out.numbered(b"8 ", self.top(row));
-        out.numbered(b"H", self.layout.width().saturating_sub(8));
-        out.text(b"\"/>\n");
+        let end = self.layout.width().saturating_sub(8);
+        filled(
+            out,
+            "<path class=\"rule\" d=\"M8 #H#\"/>\n",
+            &[self.top(row), end],
+        );
     }
 
     /// Prints the box of the call that begins in a row, or is refused there.
@@ -227,12 +230,12 @@ impl<'a> Drawing<'a> {
         };
         let from = self.top(row).saturating_add(2);
         let height = self.top(end).saturating_sub(2).saturating_sub(from);
-        out.text(b"<rect class=\"call\" rx=\"6\"");
-        attribute(out, "x", self.layout.lane_at(entry.task));
-        attribute(out, "y", from);
-        attribute(out, "width", self.layout.lane);
-        attribute(out, "height", height);
-        out.text(b"/>\n");
+        let lane = self.layout.lane_at(entry.task);
+        filled(
+            out,
+            "<rect class=\"call\" rx=\"6\" x=\"#\" y=\"#\" width=\"#\" height=\"#\"/>\n",
+            &[lane, from, self.layout.lane, height],
+        );
     }
 
     /// The row behind the answer of the call of a task that begins in a row.
@@ -251,11 +254,14 @@ impl<'a> Drawing<'a> {
         let Some(wait) = entry.wait() else {
             return;
         };
-        let lane = self.layout.lane_at(entry.task);
+        let x = self.layout.lane_at(entry.task).saturating_add(5);
         let from = self.top(row).saturating_add(4);
         let height = self.top(self.next(row, entry.task)).saturating_sub(from);
-        rect(out, "bar", (lane.saturating_add(5), from), (5, height));
-        out.text(b"\n");
+        filled(
+            out,
+            "<rect class=\"bar\" x=\"#\" y=\"#\" width=\"5\" height=\"#\"/>\n",
+            &[x, from, height],
+        );
         self.print_link(row, entry.task, wait, out);
     }
 
@@ -270,13 +276,11 @@ impl<'a> Drawing<'a> {
             (self.layout.lane_end(task), self.layout.lane_at(blocker))
         };
         let y = self.top(row).saturating_add(BASE).saturating_sub(4);
-        out.numbered(b"<path class=\"link\" d=\"M", from);
-        out.numbered(b" ", y);
-        out.numbered(b"H", to);
-        out.text(b"\"/><circle class=\"bar\" r=\"4\"");
-        attribute(out, "cx", to);
-        attribute(out, "cy", y);
-        out.text(b"/>\n");
+        filled(
+            out,
+            "<path class=\"link\" d=\"M# #H#\"/><circle class=\"bar\" r=\"4\" cx=\"#\" cy=\"#\"/>\n",
+            &[from, y, to, to, y],
+        );
     }
 
     /// Prints how long the file system is at each stage, and how long the superblock is read-only.
@@ -314,11 +318,12 @@ impl<'a> Drawing<'a> {
             self.print_rows(class_of(entry), x, y, &text, out);
             return;
         };
-        out.text(b"<g>");
-        self.print_hover(entry, step, out);
-        begin_text(out, "dim", 8, y);
-        out.number(step);
-        out.text(b"</text>\n");
+        self.begin_step(entry, step, out);
+        filled(
+            out,
+            "<text class=\"dim\" x=\"8\" y=\"#\">#</text>\n",
+            &[y, step],
+        );
         let y = self.print_rows("step", x, y, &text, out);
         if let Some(wait) = taken.wait {
             self.print_rows("wait", x, y, &self.wait_of(wait), out);
@@ -341,15 +346,17 @@ impl<'a> Drawing<'a> {
         out.text(b"</text>");
     }
 
-    /// Prints what is told of a step where one points at it: its line as numbers.
-    fn print_hover(&self, entry: &Entry, step: u64, out: &mut Output) {
+    /// Begins a step, with what is told of it where one points at it: its line as numbers.
+    fn begin_step(&self, entry: &Entry, step: u64, out: &mut Output) {
         let numbers = Style {
             raw: true,
             ..self.style
         };
-        out.numbered(b"<title>step ", step);
-        out.numbered(b", task ", u64::from(entry.task));
-        out.text(b": ");
+        filled(
+            out,
+            "<g><title>step #, task #: ",
+            &[step, u64::from(entry.task)],
+        );
         let mut line = Output::new(self.alloc);
         entry.print(&mut line, numbers);
         escaped(out, behind_task(line.bytes.as_slice()));
@@ -389,9 +396,14 @@ impl Strip {
         if self.class.is_empty() {
             return;
         }
-        let size = (10, here.saturating_sub(self.from));
-        rect(out, self.class, (self.at, self.from), size);
-        out.text(b"\n");
+        let height = here.saturating_sub(self.from);
+        out.text(b"<rect class=\"");
+        out.text(self.class.as_bytes());
+        filled(
+            out,
+            "\" x=\"#\" y=\"#\" width=\"10\" height=\"#\"/>\n",
+            &[self.at, self.from, height],
+        );
     }
 }
 
@@ -416,20 +428,5 @@ fn stage_class(stage: u8) -> &'static str {
 fn begin_text(out: &mut Output, class: &str, x: u64, y: u64) {
     out.text(b"<text class=\"");
     out.text(class.as_bytes());
-    out.text(b"\"");
-    attribute(out, "x", x);
-    attribute(out, "y", y);
-    out.text(b">");
-}
-
-/// Prints a rectangle of a class: its place, and its size.
-fn rect(out: &mut Output, class: &str, (x, y): (u64, u64), (width, height): (u64, u64)) {
-    out.text(b"<rect class=\"");
-    out.text(class.as_bytes());
-    out.text(b"\"");
-    attribute(out, "x", x);
-    attribute(out, "y", y);
-    attribute(out, "width", width);
-    attribute(out, "height", height);
-    out.text(b"/>");
+    filled(out, "\" x=\"#\" y=\"#\">", &[x, y]);
 }

@@ -6,24 +6,30 @@ use schedule_text::Output;
 /// question marks.
 pub(crate) fn escaped(out: &mut Output, text: &[u8]) {
     for byte in text {
-        match *byte {
-            b'&' => out.text(b"&amp;"),
-            b'<' => out.text(b"&lt;"),
-            b'>' => out.text(b"&gt;"),
-            b'"' => out.text(b"&quot;"),
-            b'\n' | b'\t' => out.text(&[*byte]),
-            0..=31 | 127..=255 => out.text(b"?"),
-            _ => out.text(&[*byte]),
-        }
+        let own = [*byte];
+        let shown: &[u8] = match *byte {
+            b'&' => b"&amp;",
+            b'<' => b"&lt;",
+            b'>' => b"&gt;",
+            b'"' => b"&quot;",
+            b'\n' | b'\t' | 32..=126 => &own,
+            _ => b"?",
+        };
+        out.text(shown);
     }
 }
 
-/// Prints an attribute with a number.
-pub(crate) fn attribute(out: &mut Output, name: &str, number: u64) {
-    out.text(b" ");
-    out.text(name.as_bytes());
-    out.numbered(b"=\"", number);
-    out.text(b"\"");
+/// Prints a text with the next of some numbers in the place of each `#`.
+pub(crate) fn filled(out: &mut Output, text: &str, numbers: &[u64]) {
+    let mut numbers = numbers.iter();
+    let mut parts = text.split('#');
+    out.text(parts.next().unwrap_or(text).as_bytes());
+    for part in parts {
+        if let Some(number) = numbers.next() {
+            out.number(*number);
+        }
+        out.text(part.as_bytes());
+    }
 }
 
 /// Prints how many there are of something.

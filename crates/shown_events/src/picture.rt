@@ -90,11 +90,8 @@ impl Picture {
     /// Prints the picture, and below it what was listed.
     pub(crate) fn print(&self, page: &mut Page) {
         let (layout, style) = (self.layout, self.style);
-        let entries = self.entries.as_slice();
-        match Drawing::new(self.alloc, layout, style, entries) {
-            Ok(drawing) => drawing.print(self.begins, self.steps, &mut page.out),
-            Err(refused) => page.note(Err(refused)),
-        }
+        let drawing = Drawing::new(self.alloc, layout, style, self.entries.as_slice());
+        drawing.print(self.begins, self.steps, &mut page.out);
         page.out.text(self.listings.bytes.as_slice());
     }
 }

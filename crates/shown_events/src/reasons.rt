@@ -1,5 +1,6 @@
 //! Why a call can't begin.
 
+use crate::markup::filled;
 use crate::terms::{Term, call_term};
 use access_model::GateError;
 use cpu_words::WordName;
@@ -7,9 +8,6 @@ use gate_schedules::Driver;
 use gate_world::Op;
 use schedule_text::Output;
 use transcripts::Session;
-
-/// How many accesses a task may hold at one mount.
-const MAX_ACCESSES: u16 = 1024;
 
 /// Why a task can't begin a call.
 #[derive(Clone, Copy)]
@@ -30,7 +28,7 @@ pub(crate) enum Reason {
     LacksMounts,
     /// The task doesn't have this node open.
     NotOpen(u8),
-    /// The task has all accesses at this mount that it may have.
+    /// The task has all accesses at this mount that it may have, which are 1024.
     Full(u8),
     /// The task has this node open.
     IsOpen(u8),
@@ -179,47 +177,44 @@ fn too_many(op: Op) -> Option<Reason> {
 impl Reason {
     /// Prints it, as `holds level 1`.
     pub(crate) fn print(self, out: &mut Output) {
-        match self {
+        let (text, number) = match self {
             Reason::UnderWay(op) => {
                 call_term(op).print(out);
-                out.text(b" is under way");
+                (" is under way", 0)
             }
             Reason::NoSuch(what, number) => {
                 out.text(b"there is no ");
                 out.text(what.as_bytes());
-                out.numbered(b" ", u64::from(number));
+                (" #", number)
             }
-            Reason::NoBlocks => out.text(b"no block is asked for"),
-            Reason::Holds(level) => out.numbered(b"holds level ", u64::from(level)),
-            Reason::LacksLevel(level) => out.numbered(b"doesn't hold level ", u64::from(level)),
-            Reason::LacksMount(mount) => {
-                out.numbered(b"holds no access at mount ", u64::from(mount));
-            }
-            Reason::LacksMounts => out.text(b"holds no access at any mount"),
-            Reason::NotOpen(node) => out.numbered(b"hasn't opened node ", u64::from(node)),
-            Reason::Full(mount) => {
-                out.numbered(b"holds ", u64::from(MAX_ACCESSES));
-                out.numbered(b" accesses at mount ", u64::from(mount));
-            }
-            Reason::IsOpen(node) => out.numbered(b"has opened node ", u64::from(node)),
-        }
+            Reason::NoBlocks => ("no block is asked for", 0),
+            Reason::Holds(level) => ("holds level #", level),
+            Reason::LacksLevel(level) => ("doesn't hold level #", level),
+            Reason::LacksMount(mount) => ("holds no access at mount #", mount),
+            Reason::LacksMounts => ("holds no access at any mount", 0),
+            Reason::NotOpen(node) => ("hasn't opened node #", node),
+            Reason::Full(mount) => ("holds 1024 accesses at mount #", mount),
+            Reason::IsOpen(node) => ("has opened node #", node),
+        };
+        filled(out, text, &[u64::from(number)]);
     }
 
     /// The same with named values.
     pub(crate) fn term(self) -> Term {
-        match self {
-            Reason::UnderWay(op) => Term::new("under way").word("call", call_term(op).name),
-            Reason::NoSuch(what, number) => Term::new("no such number")
-                .word("of", what)
-                .index("number", number),
-            Reason::NoBlocks => Term::new("no blocks"),
-            Reason::Holds(level) => Term::new("holds level").index("level", level),
-            Reason::LacksLevel(level) => Term::new("lacks level").index("level", level),
-            Reason::LacksMount(mount) => Term::new("lacks access").index("mount", mount),
-            Reason::LacksMounts => Term::new("lacks access"),
-            Reason::NotOpen(node) => Term::new("not open").index("node", node),
-            Reason::Full(mount) => Term::new("too many accesses").index("mount", mount),
-            Reason::IsOpen(node) => Term::new("already open").index("node", node),
-        }
+        let (name, field, number) = match self {
+            Reason::UnderWay(op) => return Term::worded("under way", "call", call_term(op).name),
+            Reason::NoSuch(what, number) => {
+                return Term::worded("no such number", "of", what).index("number", number);
+            }
+            Reason::NoBlocks => return Term::new("no blocks"),
+            Reason::LacksMounts => return Term::new("lacks access"),
+            Reason::Holds(level) => ("holds level", "level", level),
+            Reason::LacksLevel(level) => ("lacks level", "level", level),
+            Reason::LacksMount(mount) => ("lacks access", "mount", mount),
+            Reason::NotOpen(node) => ("not open", "node", node),
+            Reason::Full(mount) => ("too many accesses", "mount", mount),
+            Reason::IsOpen(node) => ("already open", "node", node),
+        };
+        Term::indexed(name, field, number)
     }
 }

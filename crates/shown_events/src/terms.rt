@@ -38,6 +38,16 @@ impl Term {
         }
     }
 
+    /// A name with the number of a mount, a processor, a level, a node or a task.
+    pub(crate) fn indexed(name: &'static str, field: &'static str, index: u8) -> Term {
+        Term::new(name).index(field, index)
+    }
+
+    /// A name with a word.
+    pub(crate) fn worded(name: &'static str, field: &'static str, word: &'static str) -> Term {
+        Term::new(name).word(field, word)
+    }
+
     /// Returns the term with a value more.
     fn with(mut self, name: &'static str, value: FieldValue) -> Term {
         for place in self.fields.iter_mut() {
@@ -73,12 +83,10 @@ impl Term {
     pub(crate) fn print(&self, out: &mut Output) {
         out.text(self.name.as_bytes());
         for field in self.fields.iter().flatten() {
+            out.text(b" ");
             match field.value {
-                FieldValue::Number(number) => out.numbered(b" ", number),
-                FieldValue::Word(word) => {
-                    out.text(b" ");
-                    out.text(word.as_bytes());
-                }
+                FieldValue::Number(number) => out.number(number),
+                FieldValue::Word(word) => out.text(word.as_bytes()),
                 FieldValue::Flag(_) => {}
             }
         }
@@ -113,112 +121,113 @@ fn verb(wait: bool, waits: &'static str, tries: &'static str) -> &'static str {
 
 /// A call, as the line of a schedule that begins it.
 pub(crate) fn call_term(op: Op) -> Term {
-    match op {
-        Op::Want { mount, cpu, wait } => at_mount(verb(wait, "want", "trywant"), mount, cpu),
-        Op::DropMount { mount, cpu } => at_mount("drop", mount, cpu),
-        Op::WantWrite { mount, cpu } => at_mount("wantwrite", mount, cpu),
-        Op::DropWrite { mount, cpu } => at_mount("dropwrite", mount, cpu),
+    let (name, field, index, cpu) = match op {
+        Op::Want { mount, cpu, wait } => (verb(wait, "want", "trywant"), "mount", mount, cpu),
+        Op::DropMount { mount, cpu } => ("drop", "mount", mount, cpu),
+        Op::WantWrite { mount, cpu } => ("wantwrite", "mount", mount, cpu),
+        Op::DropWrite { mount, cpu } => ("dropwrite", "mount", mount, cpu),
+        Op::Start { level, cpu, wait } => (verb(wait, "start", "trystart"), "level", level, cpu),
+        Op::End { level, cpu } => ("end", "level", level, cpu),
+        Op::Close { file, cpu, wait } => (verb(wait, "close", "tryclose"), "node", file, cpu),
+        _ => return other_call_term(op),
+    };
+    Term::indexed(name, field, index).index("cpu", cpu)
+}
+
+/// A call that names no processor.
+fn other_call_term(op: Op) -> Term {
+    let (name, field, index) = match op {
+        Op::Callback { level } => ("callback", "level", level),
+        Op::Remove { file } => ("remove", "node", file),
+        Op::Fault { file } => ("fault", "node", file),
+        Op::Flush { file } => ("flush", "node", file),
+        Op::Open { file } => ("open", "node", file),
+        Op::Grow { file, blocks } => return grown(file, blocks),
+        Op::MoveTo { file, dir } => return moved(file, dir),
+        Op::Create { dir, kind } => {
+            return Term::indexed("create", "directory", dir).word("kind", kind_word(kind));
+        }
         Op::ChangeMount {
             mount,
             read_only,
             wait,
         } => {
             let name = verb(wait, "change", "trychange");
-            Term::new(name)
-                .index("mount", mount)
-                .word("to", access_word(read_only))
+            return Term::indexed(name, "mount", mount).word("to", access_word(read_only));
         }
-        Op::RemountSb { read_only } => Term::new("remount").word("to", access_word(read_only)),
-        Op::Start { level, cpu, wait } => at_level(verb(wait, "start", "trystart"), level, cpu),
-        Op::End { level, cpu } => at_level("end", level, cpu),
-        Op::Callback { level } => Term::new("callback").index("level", level),
-        Op::Freeze { holder } => Term::new("freeze").word("holder", holder_word(holder)),
-        Op::Thaw { holder } => Term::new("thaw").word("holder", holder_word(holder)),
-        _ => tree_call_term(op),
-    }
+        Op::RemountSb { read_only } => {
+            return Term::worded("remount", "to", access_word(read_only));
+        }
+        Op::Freeze { holder } => return Term::worded("freeze", "holder", holder_word(holder)),
+        Op::Thaw { holder } => return Term::worded("thaw", "holder", holder_word(holder)),
+        Op::Snapshot { wait } => return Term::new(verb(wait, "snapshot", "trysnapshot")),
+        _ => return Term::new(""),
+    };
+    Term::indexed(name, field, index)
 }
 
-/// A call at the tree.
-fn tree_call_term(op: Op) -> Term {
-    match op {
-        Op::Create { dir, kind } => Term::new("create")
-            .index("directory", dir)
-            .word("kind", kind_word(kind)),
-        Op::Remove { file } => Term::new("remove").index("node", file),
-        Op::Grow { file, blocks } => Term::new("grow")
-            .index("node", file)
-            .number("blocks", u64::from(blocks)),
-        Op::MoveTo { file, dir } => Term::new("move")
-            .index("node", file)
-            .index("directory", dir),
-        Op::Fault { file } => Term::new("fault").index("node", file),
-        Op::Flush { file } => Term::new("flush").index("node", file),
-        Op::Open { file } => Term::new("open").index("node", file),
-        Op::Close { file, cpu, wait } => Term::new(verb(wait, "close", "tryclose"))
-            .index("node", file)
-            .index("cpu", cpu),
-        Op::Snapshot { wait } => Term::new(verb(wait, "snapshot", "trysnapshot")),
-        _ => Term::new(""),
-    }
+fn grown(node: u8, blocks: u32) -> Term {
+    Term::indexed("grow", "node", node).number("blocks", u64::from(blocks))
 }
 
-fn at_mount(name: &'static str, mount: u8, cpu: u8) -> Term {
-    Term::new(name).index("mount", mount).index("cpu", cpu)
-}
-
-fn at_level(name: &'static str, level: u8, cpu: u8) -> Term {
-    Term::new(name).index("level", level).index("cpu", cpu)
+fn moved(node: u8, dir: u8) -> Term {
+    Term::indexed("move", "node", node).index("directory", dir)
 }
 
 /// An action of the model.
 pub(crate) fn action_term(action: Action) -> Term {
-    match action {
-        Action::Grant(gate) => at_gate("grant", gate),
-        Action::Return(gate) => at_gate("return", gate),
-        Action::MountRo(mount) => Term::new("ro").index("mount", mount),
-        Action::MountRw(mount) => Term::new("rw").index("mount", mount),
-        Action::SbRo => Term::new("ro").word("of", "sb"),
-        Action::SbRw => Term::new("rw").word("of", "sb"),
-        Action::Stage(stage) => Term::new("stage").index("stage", stage),
-        Action::Hold(holder) => Term::new("hold").word("holder", holder_word(holder)),
-        Action::Leave(holder) => Term::new("leave").word("holder", holder_word(holder)),
-        Action::Pass(level) => Term::new("pass").index("level", level),
-        Action::Reopen(level) => Term::new("reopen").index("level", level),
-        Action::Create { node, dir, kind } => Term::new("create")
-            .index("node", node)
-            .index("directory", dir)
-            .word("kind", kind_word(kind)),
-        Action::Remove(node) => Term::new("remove").index("node", node),
-        Action::Grow { node, blocks } => Term::new("grow")
-            .index("node", node)
-            .number("blocks", u64::from(blocks)),
-        Action::MoveTo { node, dir } => Term::new("move")
-            .index("node", node)
-            .index("directory", dir),
-        Action::Dirty(node) => Term::new("dirty").index("node", node),
-        Action::Clean(node) => Term::new("clean").index("node", node),
-        Action::Open(node) => Term::new("open").index("node", node),
-        Action::Close(node) => Term::new("close").index("node", node),
-    }
+    let (name, field, index) = match action {
+        Action::MountRo(mount) => ("ro", "mount", mount),
+        Action::MountRw(mount) => ("rw", "mount", mount),
+        Action::Stage(stage) => ("stage", "stage", stage),
+        Action::Pass(level) => ("pass", "level", level),
+        Action::Reopen(level) => ("reopen", "level", level),
+        Action::Remove(node) => ("remove", "node", node),
+        Action::Dirty(node) => ("dirty", "node", node),
+        Action::Clean(node) => ("clean", "node", node),
+        Action::Open(node) => ("open", "node", node),
+        Action::Close(node) => ("close", "node", node),
+        Action::Grant(gate) => return at_gate("grant", gate),
+        Action::Return(gate) => return at_gate("return", gate),
+        Action::SbRo => return Term::worded("ro", "of", "sb"),
+        Action::SbRw => return Term::worded("rw", "of", "sb"),
+        Action::Hold(holder) => return Term::worded("hold", "holder", holder_word(holder)),
+        Action::Leave(holder) => return Term::worded("leave", "holder", holder_word(holder)),
+        Action::Grow { node, blocks } => return grown(node, blocks),
+        Action::MoveTo { node, dir } => return moved(node, dir),
+        Action::Create { node, dir, kind } => {
+            return Term::indexed("create", "node", node)
+                .index("directory", dir)
+                .word("kind", kind_word(kind));
+        }
+    };
+    Term::indexed(name, field, index)
 }
 
 fn at_gate(name: &'static str, gate: Gate) -> Term {
     match gate {
-        Gate::Mount(mount) => Term::new(name).index("mount", mount),
-        Gate::Level(level) => Term::new(name).index("level", level),
+        Gate::Mount(mount) => Term::indexed(name, "mount", mount),
+        Gate::Level(level) => Term::indexed(name, "level", level),
     }
 }
 
 /// An answer; `used` is the blocks charged then.
 pub(crate) fn answer_term(answer: Result<Reply, GateError>, used: u64) -> Term {
     match answer {
-        Ok(Reply::Unit) => Term::new("ok"),
-        Ok(Reply::Node(node)) => Term::new("ok").index("node", node),
-        Ok(Reply::Ran(ran)) => Term::new("ok").flag("ran", ran),
-        Ok(Reply::Tree) => Term::new("ok").number("used", used),
+        Ok(reply) => reply_term(reply, used),
         Err(GateError::Hook(code)) => Term::new("refused").number("hook", u64::from(code)),
         Err(refusal) => Term::new("refused")
             .number("errno", u64::from(refusal.number()))
             .word("name", refusal.name()),
+    }
+}
+
+fn reply_term(reply: Reply, used: u64) -> Term {
+    let ok = Term::new("ok");
+    match reply {
+        Reply::Unit => ok,
+        Reply::Node(node) => ok.index("node", node),
+        Reply::Ran(ran) => ok.flag("ran", ran),
+        Reply::Tree => ok.number("used", used),
     }
 }

@@ -1,6 +1,7 @@
 //! What is seen of a schedule, entry by entry: what each form prints in its way.
 
 use crate::forms::Style;
+use crate::markup::filled;
 use crate::reasons::Reason;
 use crate::terms::call_term;
 use crate::waits::Wait;
@@ -76,10 +77,10 @@ impl Entry {
 
     /// Prints the entry as a line, which begins with its task.
     pub(crate) fn print(&self, out: &mut Output, style: Style) {
+        let task = u64::from(self.task);
         match self.happens {
             Happening::Begins { call, .. } => {
-                out.number(u64::from(self.task));
-                out.text(b" ");
+                filled(out, "# ", &[task]);
                 call_term(call).print(out);
             }
             Happening::Unbegun { refusal, reason } => {
@@ -90,16 +91,12 @@ impl Entry {
                 }
             }
             Happening::Steps(taken) => {
-                out.number(u64::from(self.task));
-                out.text(b" ");
+                filled(out, "# ", &[task]);
                 taken.print(out, style);
             }
             Happening::Answers { answer, used } => out.answer(self.task, answer, used),
             Happening::GoesOn => return out.waiting_line(self.task),
-            Happening::IsForbidden => {
-                out.number(u64::from(self.task));
-                out.text(b" the model forbids this action");
-            }
+            Happening::IsForbidden => filled(out, "# the model forbids this action", &[task]),
             Happening::IsIdle => return out.idle_line(self.task),
         }
         out.text(b"\n");

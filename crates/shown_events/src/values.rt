@@ -1,6 +1,7 @@
 //! Words and what their values say.
 
 use crate::forms::{Names, Style};
+use crate::markup::filled;
 use crate::terms::kind_word;
 use cpu_words::WordName;
 use node_words::NodeWord;
@@ -48,42 +49,26 @@ impl Style {
 
 /// The name of a word in the kernel; that of schedules, where the word is ours.
 fn kernel_name(out: &mut Output, word: WordName) {
-    match word {
-        WordName::Umount => out.text(b"s_umount"),
-        WordName::Stage => out.text(b"s_writers.frozen"),
-        WordName::Holders => out.text(b"s_writers.freeze_holders"),
-        WordName::SbFlags => out.text(b"SB_RDONLY"),
-        WordName::Remount => out.text(b"s_readonly_remount"),
-        WordName::Removed => out.text(b"s_remove_count"),
-        WordName::MountFlags(mount) => of_mount(out, mount, b".mnt_flags"),
-        WordName::MountCount(mount, cpu) => {
-            of_mount(out, mount, b".mnt_writers[");
-            out.number(u64::from(cpu));
-            out.text(b"]");
-        }
-        WordName::Block(level) => of_level(out, level, b".block"),
-        WordName::Sync(level) => of_level(out, level, b".rss"),
+    let (text, number, cpu) = match word {
+        WordName::Umount => ("s_umount", 0, 0),
+        WordName::Stage => ("s_writers.frozen", 0, 0),
+        WordName::Holders => ("s_writers.freeze_holders", 0, 0),
+        WordName::SbFlags => ("SB_RDONLY", 0, 0),
+        WordName::Remount => ("s_readonly_remount", 0, 0),
+        WordName::Removed => ("s_remove_count", 0, 0),
+        WordName::MountFlags(mount) => ("mnt#.mnt_flags", mount, 0),
+        WordName::MountCount(mount, cpu) => ("mnt#.mnt_writers[#]", mount, cpu),
+        // A level's semaphore is its `rw_sem`, of which the first is 0 there, and 1 in schedules.
+        WordName::Block(level) => ("rw_sem[#].block", level.saturating_sub(1), 0),
+        WordName::Sync(level) => ("rw_sem[#].rss", level.saturating_sub(1), 0),
         WordName::LevelCount(level, cpu) => {
-            of_level(out, level, b".read_count[");
-            out.number(u64::from(cpu));
-            out.text(b"]");
+            ("rw_sem[#].read_count[#]", level.saturating_sub(1), cpu)
         }
         WordName::Section(_) | WordName::Used | WordName::Node(_) | WordName::Kids(_) => {
-            out.word_name(word);
+            return out.word_name(word);
         }
-    }
-}
-
-fn of_mount(out: &mut Output, mount: u8, field: &[u8]) {
-    out.numbered(b"mnt", u64::from(mount));
-    out.text(field);
-}
-
-/// A field of a level's semaphore, which the kernel calls `rw_sem` and counts from 0, and schedules count from 1.
-fn of_level(out: &mut Output, level: u8, field: &[u8]) {
-    out.numbered(b"rw_sem[", u64::from(level.saturating_sub(1)));
-    out.text(b"]");
-    out.text(field);
+    };
+    filled(out, text, &[u64::from(number), u64::from(cpu)]);
 }
 
 /// Who owns a lock.
@@ -95,23 +80,25 @@ fn lock(out: &mut Output, value: u64) {
 }
 
 fn holders(out: &mut Output, value: u64) {
-    match value {
-        0 => out.text(b"nobody"),
-        1 => out.text(b"kernel"),
-        2 => out.text(b"user"),
-        3 => out.text(b"kernel, user"),
-        _ => out.number(value),
-    }
+    let text = match value {
+        0 => "nobody",
+        1 => "kernel",
+        2 => "user",
+        3 => "kernel, user",
+        _ => return out.number(value),
+    };
+    out.text(text.as_bytes());
 }
 
 fn flags(out: &mut Output, value: u64) {
-    match value {
-        0 => out.text(b"none"),
-        READONLY => out.text(b"READONLY"),
-        HOLD => out.text(b"HOLD"),
-        3 => out.text(b"READONLY, HOLD"),
-        _ => out.number(value),
-    }
+    let text = match value {
+        0 => "none",
+        READONLY => "READONLY",
+        HOLD => "HOLD",
+        3 => "READONLY, HOLD",
+        _ => return out.number(value),
+    };
+    out.text(text.as_bytes());
 }
 
 /// A count, which is negative where more was subtracted on its processor than added.
