@@ -35,15 +35,23 @@ const INDENT: u64 = 16;
 /// How wide the letter of an indented row is.
 const LETTER: u64 = 7;
 
-/// The entries of a trace, and where the row of each begins.
+/// A row of a picture: which it is, where it begins, and what happens there.
+#[derive(Clone, Copy)]
+struct EntryRow<'a> {
+    at: usize,
+    top: u64,
+    entry: &'a Entry,
+}
+
+/// The rows of a picture, one for each entry of a trace.
 #[derive(Drop)]
 pub(crate) struct Drawing<'a> {
     alloc: Global,
     layout: Layout,
     style: Style,
-    entries: &'a [Entry],
-    /// Where each row begins, and behind them where the last one ends.
-    tops: Vec<u64>,
+    rows: Vec<EntryRow<'a>>,
+    /// Where the last row ends.
+    bottom: u64,
     /// Whether there was memory for all of it.
     is_whole: bool,
 }
@@ -68,31 +76,32 @@ impl<'a> Drawing<'a> {
             alloc,
             layout,
             style,
-            entries,
-            tops: Vec::new(alloc),
+            rows: Vec::new(alloc),
+            bottom: HEAD,
             is_whole: true,
         };
-        drawing.lay_out();
+        for entry in entries {
+            drawing.add(entry);
+        }
         drawing
     }
 
-    fn lay_out(&mut self) {
-        let mut top = HEAD;
-        for entry in self.entries {
-            self.is_whole &= self.tops.push(top).is_ok();
-            top = top.saturating_add(row_height(self.lines_of(entry)));
-        }
-        self.is_whole &= self.tops.push(top).is_ok();
+    /// Adds the row of an entry below the others.
+    fn add(&mut self, entry: &'a Entry) {
+        let (at, top) = (self.rows.len(), self.bottom);
+        self.bottom = top.saturating_add(row_height(self.lines_of(entry)));
+        self.is_whole &= self.rows.push(EntryRow { at, top, entry }).is_ok();
     }
 
-    /// The next row of a task behind a row; how many rows there are, if there is none.
-    fn next(&self, row: usize, task: u8) -> usize {
-        for next in row.saturating_add(1)..self.entries.len() {
-            if self.entries[next].task == task {
-                return next;
+    /// Where the next row of the task of a row begins; where the last row ends, if there is none.
+    fn next(&self, row: &EntryRow<'_>) -> u64 {
+        for at in row.at.saturating_add(1)..self.rows.len() {
+            let next = &self.rows[at];
+            if next.entry.task == row.entry.task {
+                return next.top;
             }
         }
-        self.entries.len()
+        self.bottom
     }
 
     /// How many lines the row of an entry has.
@@ -135,44 +144,39 @@ impl<'a> Drawing<'a> {
 
     /// Where a row begins; where the last one ends, if there is none of that number.
     fn top(&self, row: usize) -> u64 {
-        match self.tops.get(row) {
-            Some(top) => *top,
-            None => self.bottom(),
+        match self.rows.get(row) {
+            Some(row) => row.top,
+            None => self.bottom,
         }
-    }
-
-    /// Where the last row ends.
-    fn bottom(&self) -> u64 {
-        self.tops.last().copied().unwrap_or(HEAD)
     }
 
     /// Prints the picture of so many steps, before which the model was so.
     pub(crate) fn print(&self, begins: Begins, steps: u64, out: &mut Output) {
         self.print_begin(steps, out);
         self.print_heads(out);
-        for row in 0..self.entries.len() {
+        for row in self.rows.as_slice() {
             self.print_rule(row, out);
         }
-        for (row, entry) in self.entries.iter().enumerate() {
-            self.print_call(row, entry, out);
+        for row in self.rows.as_slice() {
+            self.print_call(row, out);
         }
-        for (row, entry) in self.entries.iter().enumerate() {
-            self.print_bar(row, entry, out);
+        for row in self.rows.as_slice() {
+            self.print_bar(row, out);
         }
         self.print_strips(begins, out);
         let mut step = 0u64;
-        for (row, entry) in self.entries.iter().enumerate() {
-            if let Happening::Steps(_) = entry.happens {
+        for row in self.rows.as_slice() {
+            if let Happening::Steps(_) = row.entry.happens {
                 step = step.saturating_add(1);
             }
-            self.print_row(row, entry, step, out);
+            self.print_row(row, step, out);
         }
         out.text(b"</svg>\n");
         out.is_whole &= self.is_whole;
     }
 
     fn print_begin(&self, steps: u64, out: &mut Output) {
-        let (width, height) = (self.layout.width(), self.bottom().saturating_add(10));
+        let (width, height) = (self.layout.width(), self.bottom.saturating_add(10));
         filled(
             out,
             "<svg xmlns=\"http://www.w3.org/2000/svg\" class=\"trace\" width=\"#\" height=\"#\" viewBox=\"0 0 # #\">\n<title>",
@@ -209,28 +213,28 @@ impl<'a> Drawing<'a> {
     }
 
     /// Prints the line above a row.
-    fn print_rule(&self, row: usize, out: &mut Output) {
+    fn print_rule(&self, row: &EntryRow<'_>, out: &mut Output) {
         let end = self.layout.width().saturating_sub(8);
         filled(
             out,
             "<path class=\"rule\" d=\"M8 #H#\"/>\n",
-            &[self.top(row), end],
+            &[row.top, end],
         );
     }
 
     /// Prints the box of the call that begins in a row, or is refused there.
-    fn print_call(&self, row: usize, entry: &Entry, out: &mut Output) {
-        let Happening::Begins { is_refused, .. } = entry.happens else {
+    fn print_call(&self, row: &EntryRow<'_>, out: &mut Output) {
+        let Happening::Begins { is_refused, .. } = row.entry.happens else {
             return;
         };
         let end = if is_refused {
-            row.saturating_add(2)
+            row.at.saturating_add(2)
         } else {
-            self.end_of_call(row, entry.task)
+            self.end_of_call(row)
         };
-        let from = self.top(row).saturating_add(2);
+        let from = row.top.saturating_add(2);
         let height = self.top(end).saturating_sub(2).saturating_sub(from);
-        let lane = self.layout.lane_at(entry.task);
+        let lane = self.layout.lane_at(row.entry.task);
         filled(
             out,
             "<rect class=\"call\" rx=\"6\" x=\"#\" y=\"#\" width=\"#\" height=\"#\"/>\n",
@@ -239,43 +243,44 @@ impl<'a> Drawing<'a> {
     }
 
     /// The row behind the answer of the call of a task that begins in a row.
-    fn end_of_call(&self, row: usize, task: u8) -> usize {
-        for at in row.saturating_add(1)..self.entries.len() {
-            let entry = &self.entries[at];
-            if entry.task == task && matches!(entry.happens, Happening::Answers { .. }) {
+    fn end_of_call(&self, row: &EntryRow<'_>) -> usize {
+        for at in row.at.saturating_add(1)..self.rows.len() {
+            let Entry { task, happens } = *self.rows[at].entry;
+            if task == row.entry.task && matches!(happens, Happening::Answers { .. }) {
                 return at + 1;
             }
         }
-        self.entries.len()
+        self.rows.len()
     }
 
     /// Prints the bar of a wait that is found in a row: up to the next thing that happens to its task; and a line to the blocker's lane.
-    fn print_bar(&self, row: usize, entry: &Entry, out: &mut Output) {
-        let Some(wait) = entry.wait() else {
+    fn print_bar(&self, row: &EntryRow<'_>, out: &mut Output) {
+        let Some(wait) = row.entry.wait() else {
             return;
         };
-        let x = self.layout.lane_at(entry.task).saturating_add(5);
-        let from = self.top(row).saturating_add(4);
-        let height = self.top(self.next(row, entry.task)).saturating_sub(from);
+        let x = self.layout.lane_at(row.entry.task).saturating_add(5);
+        let from = row.top.saturating_add(4);
+        let height = self.next(row).saturating_sub(from);
         filled(
             out,
             "<rect class=\"bar\" x=\"#\" y=\"#\" width=\"5\" height=\"#\"/>\n",
             &[x, from, height],
         );
-        self.print_link(row, entry.task, wait, out);
+        self.print_link(row, wait, out);
     }
 
     /// Prints the line from a task that waits to its blocker's lane.
-    fn print_link(&self, row: usize, task: u8, wait: Wait, out: &mut Output) {
+    fn print_link(&self, row: &EntryRow<'_>, wait: Wait, out: &mut Output) {
         let Culprit::Task(blocker) = wait.culprit else {
             return;
         };
+        let task = row.entry.task;
         let (from, to) = if blocker < task {
             (self.layout.lane_at(task), self.layout.lane_end(blocker))
         } else {
             (self.layout.lane_end(task), self.layout.lane_at(blocker))
         };
-        let y = self.top(row).saturating_add(BASE).saturating_sub(4);
+        let y = row.top.saturating_add(BASE).saturating_sub(4);
         filled(
             out,
             "<path class=\"link\" d=\"M# #H#\"/><circle class=\"bar\" r=\"4\" cx=\"#\" cy=\"#\"/>\n",
@@ -296,45 +301,39 @@ impl<'a> Drawing<'a> {
             class: if begins.read_only { "ro" } else { "" },
             from: HEAD,
         };
-        for (row, entry) in self.entries.iter().enumerate() {
-            let top = self.top(row);
-            match entry.action() {
-                Some(Action::Stage(number)) => stage.turn(stage_class(number), top, out),
-                Some(Action::SbRo) => read_only.turn("ro", top, out),
-                Some(Action::SbRw) => read_only.turn("", top, out),
+        for row in self.rows.as_slice() {
+            match row.entry.action() {
+                Some(Action::Stage(number)) => stage.turn(stage_class(number), row.top, out),
+                Some(Action::SbRo) => read_only.turn("ro", row.top, out),
+                Some(Action::SbRw) => read_only.turn("", row.top, out),
                 _ => {}
             }
         }
-        stage.print(self.bottom(), out);
-        read_only.print(self.bottom(), out);
+        stage.print(self.bottom, out);
+        read_only.print(self.bottom, out);
     }
 
     /// Prints the texts of a row: the number of a step, what stands in the lane, what it does to the model, and the kernel's code.
-    fn print_row(&self, row: usize, entry: &Entry, step: u64, out: &mut Output) {
-        let y = self.top(row).saturating_add(BASE);
+    fn print_row(&self, row: &EntryRow<'_>, step: u64, out: &mut Output) {
+        let entry = row.entry;
+        let y = row.top.saturating_add(BASE);
         let x = self.layout.lane_at(entry.task).saturating_add(INDENT);
         let text = self.cell_of(entry);
         let Happening::Steps(taken) = entry.happens else {
             self.print_rows(class_of(entry), x, y, &text, out);
             return;
         };
-        self.begin_step(entry, step, out);
-        filled(
-            out,
-            "<text class=\"dim\" x=\"8\" y=\"#\">#</text>\n",
-            &[y, step],
-        );
-        let y = self.print_rows("step", x, y, &text, out);
+        self.begin_step(entry, step, y, out);
+        let below = self.print_rows("step", x, y, &text, out);
         if let Some(wait) = taken.wait {
-            self.print_rows("wait", x, y, &self.wait_of(wait), out);
+            self.print_rows("wait", x, below, &self.wait_of(wait), out);
         }
-        self.print_right(row, &taken, out);
+        self.print_right(&taken, y, out);
         out.text(b"</g>\n");
     }
 
     /// Prints what a step does to the model, and the kernel's code for it.
-    fn print_right(&self, row: usize, taken: &Taken, out: &mut Output) {
-        let y = self.top(row).saturating_add(BASE);
+    fn print_right(&self, taken: &Taken, y: u64, out: &mut Output) {
         if let Some(action) = taken.action {
             begin_text(out, "act", self.layout.model_at().saturating_add(28), y);
             out.action(action);
@@ -346,8 +345,8 @@ impl<'a> Drawing<'a> {
         out.text(b"</text>");
     }
 
-    /// Begins a step, with what is told of it where one points at it: its line as numbers.
-    fn begin_step(&self, entry: &Entry, step: u64, out: &mut Output) {
+    /// Begins a step: prints what is told of it where one points at it, which is its line as numbers, and its number.
+    fn begin_step(&self, entry: &Entry, step: u64, y: u64, out: &mut Output) {
         let numbers = Style {
             raw: true,
             ..self.style
@@ -360,7 +359,11 @@ impl<'a> Drawing<'a> {
         let mut line = Output::new(self.alloc);
         entry.print(&mut line, numbers);
         escaped(out, behind_task(line.bytes.as_slice()));
-        out.text(b"</title>");
+        filled(
+            out,
+            "</title><text class=\"dim\" x=\"8\" y=\"#\">#</text>\n",
+            &[y, step],
+        );
     }
 
     /// Prints a text in rows from a place on; says where the row behind it begins.

@@ -129,9 +129,13 @@ impl Record {
             members,
             is_whole,
         } = self;
-        match Value::Object(members).to_string(alloc) {
-            Ok(text) if is_whole => out.line(text.as_bytes()),
-            _ => out.is_whole = false,
+        let object = Value::Object(members);
+        let printed = object.to_string(alloc);
+        drop(object);
+        out.is_whole &= is_whole;
+        match printed {
+            Ok(text) => out.line(text.as_bytes()),
+            Err(_) => out.is_whole = false,
         }
     }
 }
