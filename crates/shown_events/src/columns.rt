@@ -18,14 +18,8 @@ const FEW: u8 = 4;
 /// What narrower words are told by.
 static NARROWER: &str = "narrower words: m is mount, l level, s section, .f .flags, .c .cpu\n";
 
-/// What stands for what in them.
-static SHORTER: [(&str, &str); 5] = [
-    (" mount", " m"),
-    (" level", " l"),
-    (" section", " s"),
-    (".flags", ".f"),
-    (".cpu", ".c"),
-];
+/// What stands for what in them, as `WHOLE=SHORT`.
+static SHORTER: &str = " mount= m/ level= l/ section= s/.flags=.f/.cpu=.c";
 
 /// A column for each task, and the words as they were listed last.
 #[derive(Drop)]
@@ -141,8 +135,9 @@ fn print_change(out: &mut Output, now: &Listed, was: u64, style: Style) {
 /// A text with its words shortened.
 fn shortened(alloc: Global, text: &str) -> Result<String, AllocError> {
     let mut text = text.to_string(alloc)?;
-    for (whole, short) in SHORTER.iter() {
-        text = text.as_str().replace(alloc, *whole, *short)?;
+    for pair in SHORTER.split('/') {
+        let (whole, short) = pair.split_once('=').unwrap_or((pair, pair));
+        text = text.as_str().replace(alloc, whole, short)?;
     }
     Ok(text)
 }

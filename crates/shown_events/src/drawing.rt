@@ -26,9 +26,6 @@ static STYLE: &str =
 .trace .s3{fill:var(--s3)}.trace .s4{fill:var(--s4)}.trace .ro{fill:var(--ro)}\
 .trace rect{-webkit-print-color-adjust:exact;print-color-adjust:exact}";
 
-/// The class of each stage.
-static STAGES: [&str; 5] = ["", "s1", "s2", "s3", "s4"];
-
 /// The space between the lane's edge and its text, where the bar of a wait has its place.
 const INDENT: u64 = 16;
 
@@ -420,10 +417,14 @@ fn class_of(entry: &Entry) -> &'static str {
     }
 }
 
+/// The class of a stage.
 fn stage_class(stage: u8) -> &'static str {
-    match STAGES.get(usize::from(stage)) {
-        Some(class) => *class,
-        None => "",
+    match stage {
+        1 => "s1",
+        2 => "s2",
+        3 => "s3",
+        4 => "s4",
+        _ => "",
     }
 }
 

@@ -1,6 +1,6 @@
 //! Pages that hold pictures: each is whole, and asks for nothing from elsewhere.
 
-use crate::markup::{counted, escaped};
+use crate::markup::{escaped, filled};
 use schedule_text::Output;
 
 /// The letters and the colours of a page.
@@ -53,9 +53,7 @@ pub fn print_picture(out: &mut Output, picture: &[u8]) {
 
 /// Prints how many states were searched for how many outcomes, of which a list follows, and whether these are all.
 pub fn begin_outcomes(out: &mut Output, states: u64, outcomes: u64, is_whole: bool) {
-    out.numbered(b"<p>", states);
-    out.numbered(b" states, ", outcomes);
-    out.text(b" outcomes. ");
+    filled(out, "<p># states, # outcomes. ", &[states, outcomes]);
     out.text(if is_whole {
         b"The list is complete.".as_slice()
     } else {
@@ -79,9 +77,7 @@ pub fn end_outcomes(out: &mut Output) {
 
 /// Prints what stands above the picture of an outcome.
 pub fn print_outcome_head(out: &mut Output, number: u64, text: &[u8]) {
-    out.numbered(b"<h2 id=\"outcome", number);
-    out.numbered(b"\">", number);
-    out.text(b". <code>");
+    filled(out, "<h2 id=\"outcome#\">#. <code>", &[number, number]);
     escaped(out, text);
     out.text(b"</code></h2>\n");
 }

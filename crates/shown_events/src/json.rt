@@ -3,10 +3,10 @@
 use crate::forms::Style;
 use crate::listings::{Listed, ListingKind};
 use crate::page::{Page, text_of};
-use crate::terms::{FieldValue, Term, action_term, answer_term, call_term, holder_word, kind_word};
+use crate::terms::{Term, action_term, answer_term, call_term, holder_word, kind_word};
 use crate::trace::{Entry, Happening, Taken, touch_name};
 use crate::waits::{Culprit, Wait};
-use access_model::{GateError, Holder, NodeInfo};
+use access_model::{GateError, Holder, NodeInfo, Reply};
 use cpu_words::{Touch, WordName};
 use gate_schedules::Driver;
 use model_state::Model;
@@ -98,12 +98,14 @@ impl Record {
 
     /// Puts the name of a term, and its values.
     fn term(&mut self, name: &str, term: Term) {
-        self.text(name, term.name);
-        for field in term.fields.iter().flatten() {
-            match field.value {
-                FieldValue::Number(number) => self.number(field.name, number),
-                FieldValue::Word(word) => self.text(field.name, word),
-                FieldValue::Flag(flag) => self.flag(field.name, flag),
+        let (own, fields) = term.names();
+        self.text(name, own);
+        let mut numbers = term.numbers.iter();
+        for field in fields.split_whitespace() {
+            if let Some(field) = field.strip_suffix('=') {
+                self.text(field, term.word);
+            } else if let Some(number) = numbers.next() {
+                self.number(field, *number);
             }
         }
     }
@@ -197,7 +199,12 @@ pub(crate) fn print_entry(entry: &Entry, style: Style, page: &mut Page) {
             }
         }
         Happening::Steps(taken) => put_step(&mut record, &taken, style),
-        Happening::Answers { answer, used } => record.term("answer", answer_term(answer, used)),
+        Happening::Answers { answer, used } => {
+            record.term("answer", answer_term(answer, used));
+            if let Ok(Reply::Ran(ran)) = answer {
+                record.flag("ran", ran);
+            }
+        }
         Happening::GoesOn => record.text("answer", "waiting"),
         Happening::IsForbidden => record.text("answer", "forbidden"),
         Happening::IsIdle => record.text("answer", "idle"),

@@ -21,20 +21,16 @@ pub(crate) fn code_of(taken: &Taken) -> &'static str {
     let event = taken.event;
     match event.word {
         WordName::Umount => lock_code(taken.call, event),
-        WordName::Stage => stage_code(event),
-        WordName::Holders => "s_writers.freeze_holders (since 6.6)",
-        WordName::SbFlags => match event.touch {
-            Touch::Store(_) => "WRITE_ONCE(sb->s_flags, ..); smp_wmb()",
-            _ => "sb_rdonly(sb)",
-        },
-        WordName::Remount => remount_code(event),
+        WordName::Stage | WordName::Holders | WordName::SbFlags | WordName::Remount => {
+            superblock_code(event)
+        }
         WordName::Removed => removed_code(taken.call, event),
         WordName::MountFlags(_) => flags_code(taken),
-        WordName::MountCount(..) => mount_count_code(event),
-        WordName::Block(_) => block_code(event),
+        WordName::MountCount(..)
+        | WordName::Block(_)
+        | WordName::LevelCount(..)
+        | WordName::Section(_) => count_code(event),
         WordName::Sync(_) => sync_code(taken.call, event),
-        WordName::LevelCount(..) => level_count_code(event),
-        WordName::Section(_) => section_code(event),
         WordName::Used | WordName::Node(_) | WordName::Kids(_) => tree_code(taken.call, event),
     }
 }
@@ -50,30 +46,37 @@ fn lock_code(call: Option<Op>, event: Event) -> &'static str {
     }
 }
 
-fn stage_code(event: Event) -> &'static str {
-    match event.touch {
-        Touch::Store(0) => "sb->s_writers.frozen = SB_UNFROZEN",
-        Touch::Store(1) => "sb->s_writers.frozen = SB_FREEZE_WRITE",
-        Touch::Store(2) => "sb->s_writers.frozen = SB_FREEZE_PAGEFAULT",
-        Touch::Store(3) => "sb->s_writers.frozen = SB_FREEZE_FS",
-        Touch::Store(_) => "sb->s_writers.frozen = SB_FREEZE_COMPLETE",
-        _ => "sb->s_writers.frozen",
-    }
-}
-
-fn remount_code(event: Event) -> &'static str {
-    match event.touch {
-        Touch::Store(0) => "sb->s_readonly_remount = 0",
-        Touch::Store(_) => "sb->s_readonly_remount = 1; smp_wmb()",
-        _ => "mnt->mnt_sb->s_readonly_remount; smp_rmb()",
+/// The code of a step at a freeze, or at what makes the superblock read-only.
+fn superblock_code(event: Event) -> &'static str {
+    match event.word {
+        WordName::Stage => match event.touch {
+            Touch::Store(0) => "sb->s_writers.frozen = SB_UNFROZEN",
+            Touch::Store(1) => "sb->s_writers.frozen = SB_FREEZE_WRITE",
+            Touch::Store(2) => "sb->s_writers.frozen = SB_FREEZE_PAGEFAULT",
+            Touch::Store(3) => "sb->s_writers.frozen = SB_FREEZE_FS",
+            Touch::Store(_) => "sb->s_writers.frozen = SB_FREEZE_COMPLETE",
+            _ => "sb->s_writers.frozen",
+        },
+        WordName::SbFlags => match event.touch {
+            Touch::Store(_) => "WRITE_ONCE(sb->s_flags, ..); smp_wmb()",
+            _ => "sb_rdonly(sb)",
+        },
+        WordName::Remount => match event.touch {
+            Touch::Store(0) => "sb->s_readonly_remount = 0",
+            Touch::Store(_) => "sb->s_readonly_remount = 1; smp_wmb()",
+            _ => "mnt->mnt_sb->s_readonly_remount; smp_rmb()",
+        },
+        _ => "s_writers.freeze_holders (since 6.6)",
     }
 }
 
 fn removed_code(call: Option<Op>, event: Event) -> &'static str {
-    match (call, event.touch) {
-        (_, Touch::Add(_)) => "atomic_long_inc(&sb->s_remove_count)",
-        (Some(Op::Remove { .. }), Touch::Sub(_)) => SHUT_OUT,
-        (_, Touch::Sub(_)) => "atomic_long_dec(&sb->s_remove_count)",
+    match event.touch {
+        Touch::Add(_) => "atomic_long_inc(&sb->s_remove_count)",
+        Touch::Sub(_) => match call {
+            Some(Op::Remove { .. }) => SHUT_OUT,
+            _ => "atomic_long_dec(&sb->s_remove_count)",
+        },
         _ => "atomic_long_read(&sb->s_remove_count)",
     }
 }
@@ -94,35 +97,29 @@ fn flags_code(taken: &Taken) -> &'static str {
     }
 }
 
-fn mount_count_code(event: Event) -> &'static str {
-    match event.touch {
-        Touch::Add(_) => "mnt_inc_writers(mnt); smp_mb()",
-        Touch::Sub(_) => "mnt_dec_writers(mnt)",
-        _ => "mnt_get_writers(mnt) > 0",
-    }
-}
-
-fn block_code(event: Event) -> &'static str {
-    match event.touch {
-        Touch::Swap(_) => "atomic_xchg(&sem->block, 1)",
-        Touch::Store(_) => "atomic_set_release(&sem->block, 0)",
-        _ => "atomic_read_acquire(&sem->block)",
-    }
-}
-
-fn level_count_code(event: Event) -> &'static str {
-    match event.touch {
-        Touch::Add(_) => "this_cpu_inc(*sem->read_count)",
-        Touch::Sub(_) => "this_cpu_dec(*sem->read_count)",
-        _ => "per_cpu_sum(*sem->read_count)",
-    }
-}
-
-fn section_code(event: Event) -> &'static str {
-    match event.touch {
-        Touch::Add(_) if event.left % 2 == 1 => "preempt_disable()",
-        Touch::Add(_) => "preempt_enable()",
-        _ => "synchronize_rcu()",
+/// The code of a step at what counts who is inside, or shuts others out.
+fn count_code(event: Event) -> &'static str {
+    match event.word {
+        WordName::MountCount(..) => match event.touch {
+            Touch::Add(_) => "mnt_inc_writers(mnt); smp_mb()",
+            Touch::Sub(_) => "mnt_dec_writers(mnt)",
+            _ => "mnt_get_writers(mnt) > 0",
+        },
+        WordName::Block(_) => match event.touch {
+            Touch::Swap(_) => "atomic_xchg(&sem->block, 1)",
+            Touch::Store(_) => "atomic_set_release(&sem->block, 0)",
+            _ => "atomic_read_acquire(&sem->block)",
+        },
+        WordName::LevelCount(..) => match event.touch {
+            Touch::Add(_) => "this_cpu_inc(*sem->read_count)",
+            Touch::Sub(_) => "this_cpu_dec(*sem->read_count)",
+            _ => "per_cpu_sum(*sem->read_count)",
+        },
+        _ => match event.touch {
+            Touch::Add(_) if event.left % 2 == 1 => "preempt_disable()",
+            Touch::Add(_) => "preempt_enable()",
+            _ => "synchronize_rcu()",
+        },
     }
 }
 

@@ -4,7 +4,7 @@ use crate::drawing::Drawing;
 use crate::forms::Style;
 use crate::layout::Layout;
 use crate::listings::ListingKind;
-use crate::markup::escaped;
+use crate::markup::{escaped, filled};
 use crate::page::Page;
 use crate::trace::{Entry, Happening};
 use model_state::Model;
@@ -76,8 +76,7 @@ impl Picture {
         let out = &mut self.listings;
         out.text(b"<h3>");
         out.text(listing.name().as_bytes());
-        out.numbered(b" after step ", self.steps);
-        out.text(b"</h3>\n<pre>");
+        filled(out, " after step #</h3>\n<pre>", &[self.steps]);
         if text.bytes.is_empty() {
             out.text(b"all are 0");
         }

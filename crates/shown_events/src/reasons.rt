@@ -16,22 +16,17 @@ pub(crate) enum Reason {
     UnderWay(Op),
     /// There is no mount, processor, level or node of this number.
     NoSuch(&'static str, u8),
-    /// A growth by no block.
-    NoBlocks,
-    /// The task is inside this level.
-    Holds(u8),
-    /// The task isn't inside this level.
-    LacksLevel(u8),
-    /// The task has no access at this mount.
-    LacksMount(u8),
-    /// The task has no access at any mount.
-    LacksMounts,
-    /// The task doesn't have this node open.
-    NotOpen(u8),
-    /// The task has all accesses at this mount that it may have, which are 1024.
-    Full(u8),
-    /// The task has this node open.
-    IsOpen(u8),
+    /// What is printed of it, with `#` for its number, and the term of its record.
+    Other {
+        text: &'static str,
+        term: &'static str,
+        number: u8,
+    },
+}
+
+/// Why a task can't begin a call, by what is printed and by its term, both with this number.
+fn because(text: &'static str, term: &'static str, number: u8) -> Option<Reason> {
+    Some(Reason::Other { text, term, number })
 }
 
 /// What a refused beginning is judged by: the gates, the task, and the call of the task that is under way.
@@ -68,7 +63,10 @@ impl<'a, D: Driver> Asker<'a, D> {
                 self.no_level(level).or(self.no_cpu(cpu))
             }
             Op::Callback { level } => self.no_level(level),
-            Op::Grow { file, .. } => self.no_node(file).or(Some(Reason::NoBlocks)),
+            Op::Grow { file, .. } => {
+                self.no_node(file)
+                    .or(because("no block is asked for", "no blocks", 0))
+            },
             Op::MoveTo { file, dir } => self.no_node(file).or(self.no_node(dir)),
             Op::Close { file, cpu, .. } => self.no_node(file).or(self.no_cpu(cpu)),
             Op::Create { dir: node, .. }
@@ -125,7 +123,9 @@ impl<'a, D: Driver> Asker<'a, D> {
             }
             Op::Fault { .. } => self.lacks_level(2).or(self.lacks_mounts()),
             Op::Flush { .. } => self.lacks_level(3),
-            Op::Close { file, .. } => self.holds_from(3).or(Some(Reason::NotOpen(file))),
+            Op::Close { file, .. } => self
+                .holds_from(3)
+                .or(because("hasn't opened node #", "not open: node", file)),
         }
     }
 
@@ -133,7 +133,7 @@ impl<'a, D: Driver> Asker<'a, D> {
     fn holds_from(&self, least: u8) -> Option<Reason> {
         for level in 1..=3u8 {
             if level >= least && self.session.model().held_level(self.task, level) {
-                return Some(Reason::Holds(level));
+                return because("holds level #", "holds level: level", level);
             }
         }
         None
@@ -143,7 +143,7 @@ impl<'a, D: Driver> Asker<'a, D> {
         if self.session.model().held_level(self.task, level) {
             None
         } else {
-            Some(Reason::LacksLevel(level))
+            because("doesn't hold level #", "lacks level: level", level)
         }
     }
 
@@ -151,7 +151,7 @@ impl<'a, D: Driver> Asker<'a, D> {
         if self.session.model().held_mount(self.task, mount) > 0 {
             None
         } else {
-            Some(Reason::LacksMount(mount))
+            because("holds no access at mount #", "lacks access: mount", mount)
         }
     }
 
@@ -161,15 +161,19 @@ impl<'a, D: Driver> Asker<'a, D> {
                 return None;
             }
         }
-        Some(Reason::LacksMounts)
+        because("holds no access at any mount", "lacks access", 0)
     }
 }
 
 /// Of what the task would have more than it may.
 fn too_many(op: Op) -> Option<Reason> {
     match op {
-        Op::Want { mount, .. } | Op::WantWrite { mount, .. } => Some(Reason::Full(mount)),
-        Op::Open { file } => Some(Reason::IsOpen(file)),
+        Op::Want { mount, .. } | Op::WantWrite { mount, .. } => because(
+            "holds 1024 accesses at mount #",
+            "too many accesses: mount",
+            mount,
+        ),
+        Op::Open { file } => because("has opened node #", "already open: node", file),
         _ => None,
     }
 }
@@ -177,44 +181,30 @@ fn too_many(op: Op) -> Option<Reason> {
 impl Reason {
     /// Prints it, as `holds level 1`.
     pub(crate) fn print(self, out: &mut Output) {
-        let (text, number) = match self {
+        match self {
             Reason::UnderWay(op) => {
                 call_term(op).print(out);
-                (" is under way", 0)
+                out.text(b" is under way");
             }
             Reason::NoSuch(what, number) => {
                 out.text(b"there is no ");
                 out.text(what.as_bytes());
-                (" #", number)
+                out.numbered(b" ", u64::from(number));
             }
-            Reason::NoBlocks => ("no block is asked for", 0),
-            Reason::Holds(level) => ("holds level #", level),
-            Reason::LacksLevel(level) => ("doesn't hold level #", level),
-            Reason::LacksMount(mount) => ("holds no access at mount #", mount),
-            Reason::LacksMounts => ("holds no access at any mount", 0),
-            Reason::NotOpen(node) => ("hasn't opened node #", node),
-            Reason::Full(mount) => ("holds 1024 accesses at mount #", mount),
-            Reason::IsOpen(node) => ("has opened node #", node),
-        };
-        filled(out, text, &[u64::from(number)]);
+            Reason::Other { text, number, .. } => filled(out, text, &[u64::from(number)]),
+        }
     }
 
     /// The same with named values.
     pub(crate) fn term(self) -> Term {
-        let (name, field, number) = match self {
-            Reason::UnderWay(op) => return Term::worded("under way", "call", call_term(op).name),
+        match self {
+            Reason::UnderWay(op) => Term::new("under way: call=", 0, 0).word(
+                call_term(op).names().0,
+            ),
             Reason::NoSuch(what, number) => {
-                return Term::worded("no such number", "of", what).index("number", number);
+                Term::new("no such number: number of=", u64::from(number), 0).word(what)
             }
-            Reason::NoBlocks => return Term::new("no blocks"),
-            Reason::LacksMounts => return Term::new("lacks access"),
-            Reason::Holds(level) => ("holds level", "level", level),
-            Reason::LacksLevel(level) => ("lacks level", "level", level),
-            Reason::LacksMount(mount) => ("lacks access", "mount", mount),
-            Reason::NotOpen(node) => ("not open", "node", node),
-            Reason::Full(mount) => ("too many accesses", "mount", mount),
-            Reason::IsOpen(node) => ("already open", "node", node),
-        };
-        Term::indexed(name, field, number)
+            Reason::Other { term, number, .. } => Term::new(term, u64::from(number), 0),
+        }
     }
 }

@@ -77,27 +77,28 @@ pub fn print_outcome(
 /// An answer of an outcome, by its text, as `1 refused 16 Busy`.
 fn answer_of(alloc: Global, text: &str) -> Record {
     let mut record = Record::new(alloc);
-    let mut words = text.split(' ');
-    record.number("task", number_of(words.next()));
-    record.text("answer", words.next().unwrap_or(""));
-    match words.next() {
-        None => {}
-        Some("node") => record.number("node", number_of(words.next())),
-        Some("ran") => record.flag("ran", true),
-        Some("none") => record.flag("ran", false),
-        Some("hook") => record.number("hook", number_of(words.next())),
-        Some(errno) => {
-            record.number("errno", number_of(Some(errno)));
-            record.text("name", words.next().unwrap_or(""));
+    record.number("task", number_of(word_at(text, 0)));
+    record.text("answer", word_at(text, 1));
+    let told = word_at(text, 2);
+    let behind = word_at(text, 3);
+    match told {
+        "" => {}
+        "node" | "hook" => record.number(told, number_of(behind)),
+        "ran" | "none" => record.flag("ran", told == "ran"),
+        _ => {
+            record.number("errno", number_of(told));
+            record.text("name", behind);
         }
     }
     record
 }
 
-/// The number of a word; 0, where there is none.
-fn number_of(word: Option<&str>) -> u64 {
-    match word {
-        Some(word) => word.parse::<u64>().unwrap_or(0),
-        None => 0,
-    }
+/// A word of a text, counted from 0; an empty one, where there are fewer.
+fn word_at(text: &str, place: usize) -> &str {
+    text.split(' ').nth(place).unwrap_or("")
+}
+
+/// The number of a word; 0, where it is none.
+fn number_of(word: &str) -> u64 {
+    word.parse::<u64>().unwrap_or(0)
 }

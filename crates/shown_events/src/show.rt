@@ -153,9 +153,12 @@ pub fn shown_of<D: Driver>(
     let mut shown = Vec::new(alloc);
     let mut lines = schedule.bytes.as_slice();
     let done = show.do_lines(&mut lines, &mut shown);
-    done.or(Err(AllocError))
-        .and(schedule.settled())
-        .and(Ok(shown))
+    drop(show);
+    if done.is_ok() && schedule.is_whole {
+        Ok(shown)
+    } else {
+        Err(AllocError)
+    }
 }
 
 /// Returns a schedule, and behind it a comment for each task whose last step has to wait, on gates that were set up: for what, and for whom.

@@ -4,90 +4,53 @@ use access_model::{Action, Gate, GateError, Holder, Kind, Reply};
 use gate_world::Op;
 use schedule_text::Output;
 
-/// How many values a term has at most.
-const FIELDS: usize = 3;
-
-/// A value of a term.
-#[derive(Clone, Copy)]
-pub(crate) enum FieldValue {
-    Number(u64),
-    Word(&'static str),
-    Flag(bool),
-}
-
-/// A named value of a term.
-#[derive(Clone, Copy)]
-pub(crate) struct Field {
-    pub(crate) name: &'static str,
-    pub(crate) value: FieldValue,
-}
-
 /// A name with some named values, as `change` with `mount` 0 and `to` `ro`.
 #[derive(Clone, Copy)]
 pub(crate) struct Term {
-    pub(crate) name: &'static str,
-    pub(crate) fields: [Option<Field>; FIELDS],
+    /// The name, and behind a colon those of the values, as `change: mount to=`, with `=` behind that of a word.
+    text: &'static str,
+    /// The numbers in their order.
+    pub(crate) numbers: [u64; 2],
+    pub(crate) word: &'static str,
 }
 
 impl Term {
-    /// A name alone.
-    pub(crate) fn new(name: &'static str) -> Term {
+    /// A name with as many of two numbers as it has names for.
+    pub(crate) fn new(text: &'static str, first: u64, second: u64) -> Term {
         Term {
-            name,
-            fields: [None; FIELDS],
+            text,
+            numbers: [first, second],
+            word: "",
         }
     }
 
-    /// A name with the number of a mount, a processor, a level, a node or a task.
-    pub(crate) fn indexed(name: &'static str, field: &'static str, index: u8) -> Term {
-        Term::new(name).index(field, index)
+    /// The same, of mounts, processors, levels, nodes or tasks.
+    fn indexed(text: &'static str, first: u8, second: u8) -> Term {
+        Term::new(text, u64::from(first), u64::from(second))
     }
 
-    /// A name with a word.
-    pub(crate) fn worded(name: &'static str, field: &'static str, word: &'static str) -> Term {
-        Term::new(name).word(field, word)
-    }
-
-    /// Returns the term with a value more.
-    fn with(mut self, name: &'static str, value: FieldValue) -> Term {
-        for place in self.fields.iter_mut() {
-            if place.is_none() {
-                *place = Some(Field { name, value });
-                break;
-            }
-        }
+    /// Returns the term with this word.
+    pub(crate) fn word(mut self, word: &'static str) -> Term {
+        self.word = word;
         self
     }
 
-    /// Returns the term with a number more.
-    pub(crate) fn number(self, name: &'static str, number: u64) -> Term {
-        self.with(name, FieldValue::Number(number))
-    }
-
-    /// Returns the term with the number of a mount, a processor, a level, a node or a task more.
-    pub(crate) fn index(self, name: &'static str, index: u8) -> Term {
-        self.number(name, u64::from(index))
-    }
-
-    /// Returns the term with a word more.
-    pub(crate) fn word(self, name: &'static str, word: &'static str) -> Term {
-        self.with(name, FieldValue::Word(word))
-    }
-
-    /// Returns the term with a yes or no more.
-    fn flag(self, name: &'static str, flag: bool) -> Term {
-        self.with(name, FieldValue::Flag(flag))
+    /// The name, and those of the values.
+    pub(crate) fn names(&self) -> (&'static str, &'static str) {
+        self.text.split_once(": ").unwrap_or((self.text, ""))
     }
 
     /// Prints the name and behind it each value, as a line of a schedule has them.
     pub(crate) fn print(&self, out: &mut Output) {
-        out.text(self.name.as_bytes());
-        for field in self.fields.iter().flatten() {
+        let (name, fields) = self.names();
+        out.text(name.as_bytes());
+        let mut numbers = self.numbers.iter();
+        for field in fields.split_whitespace() {
             out.text(b" ");
-            match field.value {
-                FieldValue::Number(number) => out.number(number),
-                FieldValue::Word(word) => out.text(word.as_bytes()),
-                FieldValue::Flag(_) => {}
+            if field.ends_with('=') {
+                out.text(self.word.as_bytes());
+            } else if let Some(number) = numbers.next() {
+                out.number(*number);
             }
         }
     }
@@ -121,113 +84,108 @@ fn verb(wait: bool, waits: &'static str, tries: &'static str) -> &'static str {
 
 /// A call, as the line of a schedule that begins it.
 pub(crate) fn call_term(op: Op) -> Term {
-    let (name, field, index, cpu) = match op {
-        Op::Want { mount, cpu, wait } => (verb(wait, "want", "trywant"), "mount", mount, cpu),
-        Op::DropMount { mount, cpu } => ("drop", "mount", mount, cpu),
-        Op::WantWrite { mount, cpu } => ("wantwrite", "mount", mount, cpu),
-        Op::DropWrite { mount, cpu } => ("dropwrite", "mount", mount, cpu),
-        Op::Start { level, cpu, wait } => (verb(wait, "start", "trystart"), "level", level, cpu),
-        Op::End { level, cpu } => ("end", "level", level, cpu),
-        Op::Close { file, cpu, wait } => (verb(wait, "close", "tryclose"), "node", file, cpu),
+    let (text, first, second) = match op {
+        Op::Want { mount, cpu, wait } => {
+            (
+                verb(wait, "want: mount cpu", "trywant: mount cpu"),
+                mount,
+                cpu,
+            )
+        }
+        Op::DropMount { mount, cpu } => ("drop: mount cpu", mount, cpu),
+        Op::WantWrite { mount, cpu } => ("wantwrite: mount cpu", mount, cpu),
+        Op::DropWrite { mount, cpu } => ("dropwrite: mount cpu", mount, cpu),
+        Op::Start { level, cpu, wait } => {
+            (
+                verb(wait, "start: level cpu", "trystart: level cpu"),
+                level,
+                cpu,
+            )
+        }
+        Op::End { level, cpu } => ("end: level cpu", level, cpu),
+        Op::MoveTo { file, dir } => ("move: node directory", file, dir),
+        Op::Close { file, cpu, wait } => {
+            (
+                verb(wait, "close: node cpu", "tryclose: node cpu"),
+                file,
+                cpu,
+            )
+        }
+        Op::Callback { level } => ("callback: level", level, 0),
+        Op::Remove { file } => ("remove: node", file, 0),
+        Op::Fault { file } => ("fault: node", file, 0),
+        Op::Flush { file } => ("flush: node", file, 0),
+        Op::Open { file } => ("open: node", file, 0),
         _ => return other_call_term(op),
     };
-    Term::indexed(name, field, index).index("cpu", cpu)
+    Term::indexed(text, first, second)
 }
 
-/// A call that names no processor.
+/// A call that names something else than two numbers of these.
 fn other_call_term(op: Op) -> Term {
-    let (name, field, index) = match op {
-        Op::Callback { level } => ("callback", "level", level),
-        Op::Remove { file } => ("remove", "node", file),
-        Op::Fault { file } => ("fault", "node", file),
-        Op::Flush { file } => ("flush", "node", file),
-        Op::Open { file } => ("open", "node", file),
-        Op::Grow { file, blocks } => return grown(file, blocks),
-        Op::MoveTo { file, dir } => return moved(file, dir),
-        Op::Create { dir, kind } => {
-            return Term::indexed("create", "directory", dir).word("kind", kind_word(kind));
-        }
+    let (text, index, word) = match op {
         Op::ChangeMount {
             mount,
             read_only,
             wait,
         } => {
-            let name = verb(wait, "change", "trychange");
-            return Term::indexed(name, "mount", mount).word("to", access_word(read_only));
+            let text = verb(wait, "change: mount to=", "trychange: mount to=");
+            (text, mount, access_word(read_only))
         }
-        Op::RemountSb { read_only } => {
-            return Term::worded("remount", "to", access_word(read_only));
-        }
-        Op::Freeze { holder } => return Term::worded("freeze", "holder", holder_word(holder)),
-        Op::Thaw { holder } => return Term::worded("thaw", "holder", holder_word(holder)),
-        Op::Snapshot { wait } => return Term::new(verb(wait, "snapshot", "trysnapshot")),
-        _ => return Term::new(""),
+        Op::RemountSb { read_only } => ("remount: to=", 0, access_word(read_only)),
+        Op::Freeze { holder } => ("freeze: holder=", 0, holder_word(holder)),
+        Op::Thaw { holder } => ("thaw: holder=", 0, holder_word(holder)),
+        Op::Create { dir, kind } => ("create: directory kind=", dir, kind_word(kind)),
+        Op::Snapshot { wait } => (verb(wait, "snapshot", "trysnapshot"), 0, ""),
+        Op::Grow { file, blocks } => return grown(file, blocks),
+        _ => ("", 0, ""),
     };
-    Term::indexed(name, field, index)
+    Term::indexed(text, index, 0).word(word)
 }
 
 fn grown(node: u8, blocks: u32) -> Term {
-    Term::indexed("grow", "node", node).number("blocks", u64::from(blocks))
-}
-
-fn moved(node: u8, dir: u8) -> Term {
-    Term::indexed("move", "node", node).index("directory", dir)
+    Term::new("grow: node blocks", u64::from(node), u64::from(blocks))
 }
 
 /// An action of the model.
 pub(crate) fn action_term(action: Action) -> Term {
-    let (name, field, index) = match action {
-        Action::MountRo(mount) => ("ro", "mount", mount),
-        Action::MountRw(mount) => ("rw", "mount", mount),
-        Action::Stage(stage) => ("stage", "stage", stage),
-        Action::Pass(level) => ("pass", "level", level),
-        Action::Reopen(level) => ("reopen", "level", level),
-        Action::Remove(node) => ("remove", "node", node),
-        Action::Dirty(node) => ("dirty", "node", node),
-        Action::Clean(node) => ("clean", "node", node),
-        Action::Open(node) => ("open", "node", node),
-        Action::Close(node) => ("close", "node", node),
-        Action::Grant(gate) => return at_gate("grant", gate),
-        Action::Return(gate) => return at_gate("return", gate),
-        Action::SbRo => return Term::worded("ro", "of", "sb"),
-        Action::SbRw => return Term::worded("rw", "of", "sb"),
-        Action::Hold(holder) => return Term::worded("hold", "holder", holder_word(holder)),
-        Action::Leave(holder) => return Term::worded("leave", "holder", holder_word(holder)),
-        Action::Grow { node, blocks } => return grown(node, blocks),
-        Action::MoveTo { node, dir } => return moved(node, dir),
+    let (text, first, second, word) = match action {
+        Action::Grant(Gate::Mount(mount)) => ("grant: mount", mount, 0, ""),
+        Action::Grant(Gate::Level(level)) => ("grant: level", level, 0, ""),
+        Action::Return(Gate::Mount(mount)) => ("return: mount", mount, 0, ""),
+        Action::Return(Gate::Level(level)) => ("return: level", level, 0, ""),
+        Action::MountRo(mount) => ("ro: mount", mount, 0, ""),
+        Action::MountRw(mount) => ("rw: mount", mount, 0, ""),
+        Action::SbRo => ("ro: of=", 0, 0, "sb"),
+        Action::SbRw => ("rw: of=", 0, 0, "sb"),
+        Action::Stage(stage) => ("stage: stage", stage, 0, ""),
+        Action::Hold(holder) => ("hold: holder=", 0, 0, holder_word(holder)),
+        Action::Leave(holder) => ("leave: holder=", 0, 0, holder_word(holder)),
+        Action::Pass(level) => ("pass: level", level, 0, ""),
+        Action::Reopen(level) => ("reopen: level", level, 0, ""),
         Action::Create { node, dir, kind } => {
-            return Term::indexed("create", "node", node)
-                .index("directory", dir)
-                .word("kind", kind_word(kind));
+            ("create: node directory kind=", node, dir, kind_word(kind))
         }
+        Action::Remove(node) => ("remove: node", node, 0, ""),
+        Action::Grow { node, blocks } => return grown(node, blocks),
+        Action::MoveTo { node, dir } => ("move: node directory", node, dir, ""),
+        Action::Dirty(node) => ("dirty: node", node, 0, ""),
+        Action::Clean(node) => ("clean: node", node, 0, ""),
+        Action::Open(node) => ("open: node", node, 0, ""),
+        Action::Close(node) => ("close: node", node, 0, ""),
     };
-    Term::indexed(name, field, index)
+    Term::indexed(text, first, second).word(word)
 }
 
-fn at_gate(name: &'static str, gate: Gate) -> Term {
-    match gate {
-        Gate::Mount(mount) => Term::indexed(name, "mount", mount),
-        Gate::Level(level) => Term::indexed(name, "level", level),
-    }
-}
-
-/// An answer; `used` is the blocks charged then.
+/// An answer; `used` is the blocks charged then. Whether a callback ran is no value of it.
 pub(crate) fn answer_term(answer: Result<Reply, GateError>, used: u64) -> Term {
     match answer {
-        Ok(reply) => reply_term(reply, used),
-        Err(GateError::Hook(code)) => Term::new("refused").number("hook", u64::from(code)),
-        Err(refusal) => Term::new("refused")
-            .number("errno", u64::from(refusal.number()))
-            .word("name", refusal.name()),
-    }
-}
-
-fn reply_term(reply: Reply, used: u64) -> Term {
-    let ok = Term::new("ok");
-    match reply {
-        Reply::Unit => ok,
-        Reply::Node(node) => ok.index("node", node),
-        Reply::Ran(ran) => ok.flag("ran", ran),
-        Reply::Tree => ok.number("used", used),
+        Ok(Reply::Unit | Reply::Ran(_)) => Term::new("ok", 0, 0),
+        Ok(Reply::Node(node)) => Term::indexed("ok: node", node, 0),
+        Ok(Reply::Tree) => Term::new("ok: used", used, 0),
+        Err(GateError::Hook(code)) => Term::new("refused: hook", u64::from(code), 0),
+        Err(refusal) => {
+            Term::new("refused: errno name=", u64::from(refusal.number()), 0).word(refusal.name())
+        }
     }
 }

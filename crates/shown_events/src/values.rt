@@ -8,11 +8,6 @@ use node_words::NodeWord;
 use percpu_rwsem::{GpState, SyncWord};
 use schedule_text::Output;
 
-/// The bits of a mount's flags.
-const READONLY: u64 = 1;
-
-const HOLD: u64 = 2;
-
 impl Style {
     /// Prints the name of a word.
     pub(crate) fn name(self, out: &mut Output, word: WordName) {
@@ -27,15 +22,12 @@ impl Style {
         if self.raw {
             return out.number(value);
         }
+        if let Some(text) = text_of_value(word, value) {
+            return out.text(text.as_bytes());
+        }
         match word {
             WordName::Umount => lock(out, value),
-            WordName::Holders => holders(out, value),
-            WordName::SbFlags if value < 2 => out.text(if value == 0 { b"rw" } else { b"ro" }),
-            WordName::MountFlags(_) => flags(out, value),
             WordName::MountCount(..) | WordName::LevelCount(..) => count(out, value),
-            WordName::Block(_) if value < 2 => {
-                out.text(if value == 0 { b"open" } else { b"closed" });
-            }
             WordName::Sync(_) => sync(out, value),
             WordName::Section(_) if value % 2 == 1 => {
                 out.number(value);
@@ -45,6 +37,18 @@ impl Style {
             _ => out.number(value),
         }
     }
+}
+
+/// What a value says, by its number, of a word that has few.
+fn text_of_value(word: WordName, value: u64) -> Option<&'static str> {
+    let texts = match word {
+        WordName::Holders => "nobody/kernel/user/kernel, user",
+        WordName::SbFlags => "rw/ro",
+        WordName::MountFlags(_) => "none/READONLY/HOLD/READONLY, HOLD",
+        WordName::Block(_) => "open/closed",
+        _ => return None,
+    };
+    texts.split('/').nth(value as usize)
 }
 
 /// The name of a word in the kernel; that of schedules, where the word is ours.
@@ -77,28 +81,6 @@ fn lock(out: &mut Output, value: u64) {
         None => out.text(b"free"),
         Some(owner) => out.numbered(b"task ", owner),
     }
-}
-
-fn holders(out: &mut Output, value: u64) {
-    let text = match value {
-        0 => "nobody",
-        1 => "kernel",
-        2 => "user",
-        3 => "kernel, user",
-        _ => return out.number(value),
-    };
-    out.text(text.as_bytes());
-}
-
-fn flags(out: &mut Output, value: u64) {
-    let text = match value {
-        0 => "none",
-        READONLY => "READONLY",
-        HOLD => "HOLD",
-        3 => "READONLY, HOLD",
-        _ => return out.number(value),
-    };
-    out.text(text.as_bytes());
 }
 
 /// A count, which is negative where more was subtracted on its processor than added.
