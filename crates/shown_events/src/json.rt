@@ -3,10 +3,11 @@
 use crate::forms::Style;
 use crate::listings::{Listed, ListingKind};
 use crate::page::{Page, text_of};
-use crate::terms::{Term, action_term, answer_term, call_term, holder_word, kind_word};
-use crate::trace::{Entry, Happening, Taken, touch_name};
+use crate::reasons::Reason;
+use crate::terms::{ACTIONS, CALLS, holder_word, kind_word, print_call};
+use crate::trace::{Entry, Happening, Taken, behind_task, touch_name};
 use crate::waits::{Culprit, Wait};
-use access_model::{GateError, Holder, NodeInfo, Reply};
+use access_model::{Action, Holder, NodeInfo};
 use cpu_words::{Touch, WordName};
 use gate_schedules::Driver;
 use model_state::Model;
@@ -96,25 +97,43 @@ impl Record {
         self.put(name, Value::Array(items));
     }
 
-    /// Puts the name of a term, and its values.
-    fn term(&mut self, name: &str, term: Term) {
-        let (own, fields) = term.names();
-        self.text(name, own);
-        let mut numbers = term.numbers.iter();
-        for field in fields.split_whitespace() {
-            if let Some(field) = field.strip_suffix('=') {
-                self.text(field, term.word);
-            } else if let Some(number) = numbers.next() {
-                self.number(field, *number);
+    /// Puts the words of a text, called as the first of these forms says that it begins with.
+    fn words(&mut self, text: &str, forms: &str) {
+        for form in forms.lines() {
+            let (begin, names) = form.split_once('=').unwrap_or((form, ""));
+            if text.starts_with(begin) {
+                return self.named(text, names);
             }
         }
     }
 
-    /// Puts a term as an object, with its name as `name`.
-    fn term_object(&mut self, name: &str, term: Term) {
-        let mut object = Record::new(self.alloc);
-        object.term("name", term);
-        self.object(name, object);
+    /// Puts the words of a text, called so in their order: as numbers, where they are. What is called `-` is left out.
+    fn named(&mut self, text: &str, names: &str) {
+        let mut words = text.split(' ');
+        for name in names.split(' ') {
+            let word = words.next().unwrap_or("");
+            match word.parse::<u64>() {
+                Ok(number) => self.number(name, number),
+                Err(_) if name != "-" => self.text(name, word),
+                Err(_) => {}
+            }
+        }
+    }
+
+    /// Puts an answer by its text, as `refused 16 Busy`.
+    pub(crate) fn answer(&mut self, text: &str) {
+        self.text("answer", word_at(text, 0));
+        let told = word_at(text, 1);
+        let behind = word_at(text, 2);
+        match told {
+            "" => {}
+            "node" | "hook" | "used" => self.number(told, number_of(behind)),
+            "ran" | "none" => self.flag("ran", told == "ran"),
+            _ => {
+                self.number("errno", number_of(told));
+                self.text("name", behind);
+            }
+        }
     }
 
     /// Puts the name of a word.
@@ -181,6 +200,16 @@ impl List {
     }
 }
 
+/// A word of a text, counted from 0; an empty one, where there are fewer.
+fn word_at(text: &str, place: usize) -> &str {
+    text.split(' ').nth(place).unwrap_or("")
+}
+
+/// The number of a word; 0, where it is none.
+pub(crate) fn number_of(word: &str) -> u64 {
+    word.parse::<u64>().unwrap_or(0)
+}
+
 /// Prints the record of an entry.
 pub(crate) fn print_entry(entry: &Entry, style: Style, page: &mut Page) {
     let kind = match entry.happens {
@@ -191,25 +220,56 @@ pub(crate) fn print_entry(entry: &Entry, style: Style, page: &mut Page) {
     let mut record = record_of(kind, page);
     record.number("task", u64::from(entry.task));
     match entry.happens {
-        Happening::Begins { call, .. } => record.term("call", call_term(call)),
-        Happening::Unbegun { refusal, reason } => {
-            put_refusal(&mut record, refusal);
-            if let Some(reason) = reason {
-                record.term_object("reason", reason.term());
-            }
-        }
         Happening::Steps(taken) => put_step(&mut record, &taken, style),
-        Happening::Answers { answer, used } => {
-            record.term("answer", answer_term(answer, used));
-            if let Ok(Reply::Ran(ran)) = answer {
-                record.flag("ran", ran);
-            }
-        }
-        Happening::GoesOn => record.text("answer", "waiting"),
-        Happening::IsForbidden => record.text("answer", "forbidden"),
-        Happening::IsIdle => record.text("answer", "idle"),
+        _ => put_line(&mut record, entry, style),
     }
     record.print(&mut page.out);
+}
+
+/// Puts what the line of an entry that is no step has behind the task.
+fn put_line(record: &mut Record, entry: &Entry, style: Style) {
+    let mut line = Output::new(record.alloc);
+    entry.print(&mut line, style);
+    record.is_whole &= line.is_whole;
+    let text = text_of(behind_task(line.bytes.as_slice()));
+    match entry.happens {
+        Happening::Begins { .. } => record.words(text, CALLS),
+        Happening::IsForbidden => record.text("answer", "forbidden"),
+        Happening::Unbegun { reason, .. } => {
+            record.answer(text.split(": ").next().unwrap_or(text));
+            if let Some(reason) = reason {
+                put_reason(record, reason);
+            }
+        }
+        _ => record.answer(text),
+    }
+}
+
+/// Puts why a call couldn't begin.
+fn put_reason(record: &mut Record, reason: Reason) {
+    let mut object = Record::new(record.alloc);
+    match reason {
+        Reason::UnderWay(call) => {
+            let mut line = Output::new(record.alloc);
+            print_call(call, &mut line);
+            object.is_whole = line.is_whole;
+            object.text("name", "under way");
+            object.text("call", word_at(text_of(line.bytes.as_slice()), 0));
+        }
+        Reason::NoSuch(what, number) => {
+            object.text("name", "no such number");
+            object.text("of", what);
+            object.number("number", u64::from(number));
+        }
+        Reason::Other { names, number, .. } => {
+            let (name, field) = names.split_once(": ").unwrap_or((names, ""));
+            object.text("name", name);
+            if !field.is_empty() {
+                object.number(field, u64::from(number));
+            }
+        }
+    }
+    record.object("reason", object);
 }
 
 /// A record of this kind, of the next line of the schedule.
@@ -217,10 +277,6 @@ fn record_of(kind: &str, page: &Page) -> Record {
     let mut record = Record::of_kind(page.alloc, kind);
     record.number("line", u64::from(page.lines).saturating_add(1));
     record
-}
-
-fn put_refusal(record: &mut Record, refusal: GateError) {
-    record.term("answer", answer_term(Err(refusal), 0));
 }
 
 fn put_step(record: &mut Record, taken: &Taken, style: Style) {
@@ -233,13 +289,22 @@ fn put_step(record: &mut Record, taken: &Taken, style: Style) {
     }
     record.number("left", event.left);
     match taken.action {
-        Some(action) => record.term_object("action", action_term(action)),
+        Some(action) => put_action(record, action),
         None => record.nothing("action"),
     }
     match taken.wait {
         Some(wait) => put_wait(record, wait, style),
         None => record.nothing("waits_for"),
     }
+}
+
+fn put_action(record: &mut Record, action: Action) {
+    let mut text = Output::new(record.alloc);
+    text.action(action);
+    let mut object = Record::new(record.alloc);
+    object.is_whole = text.is_whole;
+    object.words(text_of(text.bytes.as_slice()), ACTIONS);
+    record.object("action", object);
 }
 
 fn put_wait(record: &mut Record, wait: Wait, style: Style) {

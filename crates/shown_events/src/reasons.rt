@@ -1,7 +1,7 @@
 //! Why a call can't begin.
 
 use crate::markup::filled;
-use crate::terms::{Term, call_term};
+use crate::terms::print_call;
 use access_model::GateError;
 use cpu_words::WordName;
 use gate_schedules::Driver;
@@ -16,17 +16,21 @@ pub(crate) enum Reason {
     UnderWay(Op),
     /// There is no mount, processor, level or node of this number.
     NoSuch(&'static str, u8),
-    /// What is printed of it, with `#` for its number, and the term of its record.
+    /// What is printed of it, with `#` for its number; and its name in a record, and behind a colon that of its number there, if it has one.
     Other {
         text: &'static str,
-        term: &'static str,
+        names: &'static str,
         number: u8,
     },
 }
 
-/// Why a task can't begin a call, by what is printed and by its term, both with this number.
-fn because(text: &'static str, term: &'static str, number: u8) -> Option<Reason> {
-    Some(Reason::Other { text, term, number })
+/// Why a task can't begin a call, by what is printed of it, by its names in a record, and by its number.
+fn because(text: &'static str, names: &'static str, number: u8) -> Option<Reason> {
+    Some(Reason::Other {
+        text,
+        names,
+        number,
+    })
 }
 
 /// What a refused beginning is judged by: the gates, the task, and the call of the task that is under way.
@@ -183,7 +187,7 @@ impl Reason {
     pub(crate) fn print(self, out: &mut Output) {
         match self {
             Reason::UnderWay(op) => {
-                call_term(op).print(out);
+                print_call(op, out);
                 out.text(b" is under way");
             }
             Reason::NoSuch(what, number) => {
@@ -192,19 +196,6 @@ impl Reason {
                 out.numbered(b" ", u64::from(number));
             }
             Reason::Other { text, number, .. } => filled(out, text, &[u64::from(number)]),
-        }
-    }
-
-    /// The same with named values.
-    pub(crate) fn term(self) -> Term {
-        match self {
-            Reason::UnderWay(op) => Term::new("under way: call=", 0, 0).word(
-                call_term(op).names().0,
-            ),
-            Reason::NoSuch(what, number) => {
-                Term::new("no such number: number of=", u64::from(number), 0).word(what)
-            }
-            Reason::Other { term, number, .. } => Term::new(term, u64::from(number), 0),
         }
     }
 }

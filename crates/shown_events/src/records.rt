@@ -1,6 +1,6 @@
 //! Records of the outcomes of a race, a JSON object on each line.
 
-use crate::json::{List, Record};
+use crate::json::{List, Record, number_of};
 use crate::page::text_of;
 use schedule_text::Output;
 use std::alloc::Global;
@@ -76,29 +76,9 @@ pub fn print_outcome(
 
 /// An answer of an outcome, by its text, as `1 refused 16 Busy`.
 fn answer_of(alloc: Global, text: &str) -> Record {
+    let (task, answer) = text.split_once(' ').unwrap_or((text, ""));
     let mut record = Record::new(alloc);
-    record.number("task", number_of(word_at(text, 0)));
-    record.text("answer", word_at(text, 1));
-    let told = word_at(text, 2);
-    let behind = word_at(text, 3);
-    match told {
-        "" => {}
-        "node" | "hook" => record.number(told, number_of(behind)),
-        "ran" | "none" => record.flag("ran", told == "ran"),
-        _ => {
-            record.number("errno", number_of(told));
-            record.text("name", behind);
-        }
-    }
+    record.number("task", number_of(task));
+    record.answer(answer);
     record
-}
-
-/// A word of a text, counted from 0; an empty one, where there are fewer.
-fn word_at(text: &str, place: usize) -> &str {
-    text.split(' ').nth(place).unwrap_or("")
-}
-
-/// The number of a word; 0, where it is none.
-fn number_of(word: &str) -> u64 {
-    word.parse::<u64>().unwrap_or(0)
 }

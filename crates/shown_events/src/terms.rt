@@ -1,60 +1,57 @@
-//! Calls, actions and answers as a name with named values, from which lines and records are printed alike.
+//! Calls as lines of a schedule, and what the words of such lines are called in records.
 
-use access_model::{Action, Gate, GateError, Holder, Kind, Reply};
+use crate::markup::filled;
+use access_model::{Holder, Kind};
 use gate_world::Op;
 use schedule_text::Output;
 
-/// A name with some named values, as `change` with `mount` 0 and `to` `ro`.
-#[derive(Clone, Copy)]
-pub(crate) struct Term {
-    /// The name, and behind a colon those of the values, as `change: mount to=`, with `=` behind that of a word.
-    text: &'static str,
-    /// The numbers in their order.
-    pub(crate) numbers: [u64; 2],
-    pub(crate) word: &'static str,
-}
+/// What the words of calls are called, by how their lines begin.
+pub(crate) static CALLS: &str = "trywant=call mount cpu\n\
+    wantwrite=call mount cpu\n\
+    want=call mount cpu\n\
+    dropwrite=call mount cpu\n\
+    drop=call mount cpu\n\
+    trychange=call mount to\n\
+    change=call mount to\n\
+    remount=call to\n\
+    trystart=call level cpu\n\
+    start=call level cpu\n\
+    end=call level cpu\n\
+    callback=call level\n\
+    freeze=call holder\n\
+    thaw=call holder\n\
+    create=call directory kind\n\
+    remove=call node\n\
+    grow=call node blocks\n\
+    move=call node directory\n\
+    fault=call node\n\
+    flush=call node\n\
+    open=call node\n\
+    tryclose=call node cpu\n\
+    close=call node cpu\n\
+    trysnapshot=call\n\
+    snapshot=call\n";
 
-impl Term {
-    /// A name with as many of two numbers as it has names for.
-    pub(crate) fn new(text: &'static str, first: u64, second: u64) -> Term {
-        Term {
-            text,
-            numbers: [first, second],
-            word: "",
-        }
-    }
-
-    /// The same, of mounts, processors, levels, nodes or tasks.
-    fn indexed(text: &'static str, first: u8, second: u8) -> Term {
-        Term::new(text, u64::from(first), u64::from(second))
-    }
-
-    /// Returns the term with this word.
-    pub(crate) fn word(mut self, word: &'static str) -> Term {
-        self.word = word;
-        self
-    }
-
-    /// The name, and those of the values.
-    pub(crate) fn names(&self) -> (&'static str, &'static str) {
-        self.text.split_once(": ").unwrap_or((self.text, ""))
-    }
-
-    /// Prints the name and behind it each value, as a line of a schedule has them.
-    pub(crate) fn print(&self, out: &mut Output) {
-        let (name, fields) = self.names();
-        out.text(name.as_bytes());
-        let mut numbers = self.numbers.iter();
-        for field in fields.split_whitespace() {
-            out.text(b" ");
-            if field.ends_with('=') {
-                out.text(self.word.as_bytes());
-            } else if let Some(number) = numbers.next() {
-                out.number(*number);
-            }
-        }
-    }
-}
+/// The same of actions of the model, with `-` for a word that is left out.
+pub(crate) static ACTIONS: &str = "grant mount=name - mount\n\
+    grant level=name - level\n\
+    return mount=name - mount\n\
+    return level=name - level\n\
+    mount=- mount name\n\
+    sb=of name\n\
+    stage=name stage\n\
+    hold=name holder\n\
+    leave=name holder\n\
+    pass=name level\n\
+    reopen=name level\n\
+    create=name node directory kind\n\
+    remove=name node\n\
+    grow=name node blocks\n\
+    move=name node directory\n\
+    dirty=name node\n\
+    clean=name node\n\
+    open=name node\n\
+    close=name node\n";
 
 /// What a change or a remount makes of its gate.
 fn access_word(read_only: bool) -> &'static str {
@@ -82,110 +79,48 @@ fn verb(wait: bool, waits: &'static str, tries: &'static str) -> &'static str {
     if wait { waits } else { tries }
 }
 
-/// A call, as the line of a schedule that begins it.
-pub(crate) fn call_term(op: Op) -> Term {
+/// Prints a call, as the line of a schedule that begins it.
+pub(crate) fn print_call(op: Op, out: &mut Output) {
     let (text, first, second) = match op {
-        Op::Want { mount, cpu, wait } => {
-            (
-                verb(wait, "want: mount cpu", "trywant: mount cpu"),
-                mount,
-                cpu,
-            )
+        Op::Want { mount, cpu, wait } => (verb(wait, "want # #", "trywant # #"), mount, cpu),
+        Op::DropMount { mount, cpu } => ("drop # #", mount, cpu),
+        Op::WantWrite { mount, cpu } => ("wantwrite # #", mount, cpu),
+        Op::DropWrite { mount, cpu } => ("dropwrite # #", mount, cpu),
+        Op::Start { level, cpu, wait } => (verb(wait, "start # #", "trystart # #"), level, cpu),
+        Op::End { level, cpu } => ("end # #", level, cpu),
+        Op::MoveTo { file, dir } => ("move # #", file, dir),
+        Op::Close { file, cpu, wait } => (verb(wait, "close # #", "tryclose # #"), file, cpu),
+        Op::Callback { level } => ("callback #", level, 0),
+        Op::Remove { file } => ("remove #", file, 0),
+        Op::Fault { file } => ("fault #", file, 0),
+        Op::Flush { file } => ("flush #", file, 0),
+        Op::Open { file } => ("open #", file, 0),
+        Op::Grow { file, blocks } => {
+            return filled(out, "grow # #", &[u64::from(file), u64::from(blocks)]);
         }
-        Op::DropMount { mount, cpu } => ("drop: mount cpu", mount, cpu),
-        Op::WantWrite { mount, cpu } => ("wantwrite: mount cpu", mount, cpu),
-        Op::DropWrite { mount, cpu } => ("dropwrite: mount cpu", mount, cpu),
-        Op::Start { level, cpu, wait } => {
-            (
-                verb(wait, "start: level cpu", "trystart: level cpu"),
-                level,
-                cpu,
-            )
-        }
-        Op::End { level, cpu } => ("end: level cpu", level, cpu),
-        Op::MoveTo { file, dir } => ("move: node directory", file, dir),
-        Op::Close { file, cpu, wait } => {
-            (
-                verb(wait, "close: node cpu", "tryclose: node cpu"),
-                file,
-                cpu,
-            )
-        }
-        Op::Callback { level } => ("callback: level", level, 0),
-        Op::Remove { file } => ("remove: node", file, 0),
-        Op::Fault { file } => ("fault: node", file, 0),
-        Op::Flush { file } => ("flush: node", file, 0),
-        Op::Open { file } => ("open: node", file, 0),
-        _ => return other_call_term(op),
+        _ => return print_worded_call(op, out),
     };
-    Term::indexed(text, first, second)
+    filled(out, text, &[u64::from(first), u64::from(second)]);
 }
 
-/// A call that names something else than two numbers of these.
-fn other_call_term(op: Op) -> Term {
-    let (text, index, word) = match op {
+/// Prints a call that ends with a word, or names nothing.
+fn print_worded_call(op: Op, out: &mut Output) {
+    let (text, number, word) = match op {
         Op::ChangeMount {
             mount,
             read_only,
             wait,
         } => {
-            let text = verb(wait, "change: mount to=", "trychange: mount to=");
+            let text = verb(wait, "change # ", "trychange # ");
             (text, mount, access_word(read_only))
         }
-        Op::RemountSb { read_only } => ("remount: to=", 0, access_word(read_only)),
-        Op::Freeze { holder } => ("freeze: holder=", 0, holder_word(holder)),
-        Op::Thaw { holder } => ("thaw: holder=", 0, holder_word(holder)),
-        Op::Create { dir, kind } => ("create: directory kind=", dir, kind_word(kind)),
-        Op::Snapshot { wait } => (verb(wait, "snapshot", "trysnapshot"), 0, ""),
-        Op::Grow { file, blocks } => return grown(file, blocks),
+        Op::RemountSb { read_only } => ("remount ", 0, access_word(read_only)),
+        Op::Freeze { holder } => ("freeze ", 0, holder_word(holder)),
+        Op::Thaw { holder } => ("thaw ", 0, holder_word(holder)),
+        Op::Create { dir, kind } => ("create # ", dir, kind_word(kind)),
+        Op::Snapshot { wait } => ("", 0, verb(wait, "snapshot", "trysnapshot")),
         _ => ("", 0, ""),
     };
-    Term::indexed(text, index, 0).word(word)
-}
-
-fn grown(node: u8, blocks: u32) -> Term {
-    Term::new("grow: node blocks", u64::from(node), u64::from(blocks))
-}
-
-/// An action of the model.
-pub(crate) fn action_term(action: Action) -> Term {
-    let (text, first, second, word) = match action {
-        Action::Grant(Gate::Mount(mount)) => ("grant: mount", mount, 0, ""),
-        Action::Grant(Gate::Level(level)) => ("grant: level", level, 0, ""),
-        Action::Return(Gate::Mount(mount)) => ("return: mount", mount, 0, ""),
-        Action::Return(Gate::Level(level)) => ("return: level", level, 0, ""),
-        Action::MountRo(mount) => ("ro: mount", mount, 0, ""),
-        Action::MountRw(mount) => ("rw: mount", mount, 0, ""),
-        Action::SbRo => ("ro: of=", 0, 0, "sb"),
-        Action::SbRw => ("rw: of=", 0, 0, "sb"),
-        Action::Stage(stage) => ("stage: stage", stage, 0, ""),
-        Action::Hold(holder) => ("hold: holder=", 0, 0, holder_word(holder)),
-        Action::Leave(holder) => ("leave: holder=", 0, 0, holder_word(holder)),
-        Action::Pass(level) => ("pass: level", level, 0, ""),
-        Action::Reopen(level) => ("reopen: level", level, 0, ""),
-        Action::Create { node, dir, kind } => {
-            ("create: node directory kind=", node, dir, kind_word(kind))
-        }
-        Action::Remove(node) => ("remove: node", node, 0, ""),
-        Action::Grow { node, blocks } => return grown(node, blocks),
-        Action::MoveTo { node, dir } => ("move: node directory", node, dir, ""),
-        Action::Dirty(node) => ("dirty: node", node, 0, ""),
-        Action::Clean(node) => ("clean: node", node, 0, ""),
-        Action::Open(node) => ("open: node", node, 0, ""),
-        Action::Close(node) => ("close: node", node, 0, ""),
-    };
-    Term::indexed(text, first, second).word(word)
-}
-
-/// An answer; `used` is the blocks charged then. Whether a callback ran is no value of it.
-pub(crate) fn answer_term(answer: Result<Reply, GateError>, used: u64) -> Term {
-    match answer {
-        Ok(Reply::Unit | Reply::Ran(_)) => Term::new("ok", 0, 0),
-        Ok(Reply::Node(node)) => Term::indexed("ok: node", node, 0),
-        Ok(Reply::Tree) => Term::new("ok: used", used, 0),
-        Err(GateError::Hook(code)) => Term::new("refused: hook", u64::from(code), 0),
-        Err(refusal) => {
-            Term::new("refused: errno name=", u64::from(refusal.number()), 0).word(refusal.name())
-        }
-    }
+    filled(out, text, &[u64::from(number)]);
+    out.text(word.as_bytes());
 }

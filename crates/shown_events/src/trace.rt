@@ -3,7 +3,7 @@
 use crate::forms::Style;
 use crate::markup::filled;
 use crate::reasons::Reason;
-use crate::terms::call_term;
+use crate::terms::print_call;
 use crate::waits::Wait;
 use access_model::{Action, GateError, Reply};
 use cpu_words::{Event, Touch, WordName};
@@ -81,7 +81,7 @@ impl Entry {
         match self.happens {
             Happening::Begins { call, .. } => {
                 filled(out, "# ", &[task]);
-                call_term(call).print(out);
+                print_call(call, out);
             }
             Happening::Unbegun { refusal, reason } => {
                 out.answer(self.task, Err(refusal), 0);
