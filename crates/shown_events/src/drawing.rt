@@ -151,14 +151,15 @@ impl<'a> Drawing<'a> {
     pub(crate) fn print(&self, begins: Begins, steps: u64, out: &mut Output) {
         self.print_begin(steps, out);
         self.print_heads(out);
-        for row in self.rows.as_slice() {
-            self.print_rule(row, out);
-        }
-        for row in self.rows.as_slice() {
-            self.print_call(row, out);
-        }
-        for row in self.rows.as_slice() {
-            self.print_bar(row, out);
+        // What is printed later lies above: lines, then boxes, then bars.
+        for layer in 0..3u8 {
+            for row in self.rows.as_slice() {
+                match layer {
+                    0 => self.print_rule(row, out),
+                    1 => self.print_call(row, out),
+                    _ => self.print_bar(row, out),
+                }
+            }
         }
         self.print_strips(begins, out);
         let mut step = 0u64;

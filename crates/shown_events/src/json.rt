@@ -4,7 +4,7 @@ use crate::forms::Style;
 use crate::listings::{Listed, ListingKind};
 use crate::page::{Page, text_of};
 use crate::reasons::Reason;
-use crate::terms::{ACTIONS, CALLS, holder_word, kind_word, print_call};
+use crate::terms::{ACTIONS, CALLS, holder_word, kind_word};
 use crate::trace::{Entry, Happening, Taken, behind_task, touch_name};
 use crate::waits::{Culprit, Wait};
 use access_model::{Action, Holder, NodeInfo};
@@ -112,10 +112,12 @@ impl Record {
         let mut words = text.split(' ');
         for name in names.split(' ') {
             let word = words.next().unwrap_or("");
+            if name == "-" {
+                continue;
+            }
             match word.parse::<u64>() {
                 Ok(number) => self.number(name, number),
-                Err(_) if name != "-" => self.text(name, word),
-                Err(_) => {}
+                Err(_) => self.text(name, word),
             }
         }
     }
@@ -236,25 +238,23 @@ fn put_line(record: &mut Record, entry: &Entry, style: Style) {
         Happening::Begins { .. } => record.words(text, CALLS),
         Happening::IsForbidden => record.text("answer", "forbidden"),
         Happening::Unbegun { reason, .. } => {
-            record.answer(text.split(": ").next().unwrap_or(text));
+            let (answer, told) = text.split_once(": ").unwrap_or((text, ""));
+            record.answer(answer);
             if let Some(reason) = reason {
-                put_reason(record, reason);
+                put_reason(record, reason, told);
             }
         }
         _ => record.answer(text),
     }
 }
 
-/// Puts why a call couldn't begin.
-fn put_reason(record: &mut Record, reason: Reason) {
+/// Puts why a call couldn't begin, of which this is the text.
+fn put_reason(record: &mut Record, reason: Reason, told: &str) {
     let mut object = Record::new(record.alloc);
     match reason {
-        Reason::UnderWay(call) => {
-            let mut line = Output::new(record.alloc);
-            print_call(call, &mut line);
-            object.is_whole = line.is_whole;
+        Reason::UnderWay(_) => {
             object.text("name", "under way");
-            object.text("call", word_at(text_of(line.bytes.as_slice()), 0));
+            object.text("call", word_at(told, 0));
         }
         Reason::NoSuch(what, number) => {
             object.text("name", "no such number");

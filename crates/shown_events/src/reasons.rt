@@ -33,6 +33,14 @@ fn because(text: &'static str, names: &'static str, number: u8) -> Option<Reason
     })
 }
 
+/// The first of two reasons, if there is one.
+fn first(one: Option<Reason>, other: Option<Reason>) -> Option<Reason> {
+    match one {
+        Some(_) => one,
+        None => other,
+    }
+}
+
 /// What a refused beginning is judged by: the gates, the task, and the call of the task that is under way.
 #[derive(Drop)]
 pub(crate) struct Asker<'a, D> {
@@ -61,18 +69,19 @@ impl<'a, D: Driver> Asker<'a, D> {
             Op::Want { mount, cpu, .. }
             | Op::DropMount { mount, cpu }
             | Op::WantWrite { mount, cpu }
-            | Op::DropWrite { mount, cpu } => self.no_mount(mount).or(self.no_cpu(cpu)),
+            | Op::DropWrite { mount, cpu } => first(self.no_mount(mount), self.no_cpu(cpu)),
             Op::ChangeMount { mount, .. } => self.no_mount(mount),
             Op::Start { level, cpu, .. } | Op::End { level, cpu } => {
-                self.no_level(level).or(self.no_cpu(cpu))
+                first(self.no_level(level), self.no_cpu(cpu))
             }
             Op::Callback { level } => self.no_level(level),
             Op::Grow { file, .. } => {
-                self.no_node(file)
-                    .or(because("no block is asked for", "no blocks", 0))
-            },
-            Op::MoveTo { file, dir } => self.no_node(file).or(self.no_node(dir)),
-            Op::Close { file, cpu, .. } => self.no_node(file).or(self.no_cpu(cpu)),
+                let no_blocks = because("no block is asked for", "no blocks", 0);
+                first(self.no_node(file), no_blocks)
+            }
+
+            Op::MoveTo { file, dir } => first(self.no_node(file), self.no_node(dir)),
+            Op::Close { file, cpu, .. } => first(self.no_node(file), self.no_cpu(cpu)),
             Op::Create { dir: node, .. }
             | Op::Remove { file: node }
             | Op::Fault { file: node }
@@ -121,15 +130,16 @@ impl<'a, D: Driver> Asker<'a, D> {
             | Op::Snapshot { .. } => self.holds_from(1),
             Op::Start { level, .. } => self.holds_from(level),
             Op::End { level, .. } => self.lacks_level(level),
-            Op::DropWrite { mount, .. } => self.lacks_level(1).or(self.lacks_mount(mount)),
+            Op::DropWrite { mount, .. } => first(self.lacks_level(1), self.lacks_mount(mount)),
             Op::Create { .. } | Op::Remove { .. } | Op::Grow { .. } | Op::MoveTo { .. } => {
-                self.lacks_level(1).or(self.lacks_mounts())
+                first(self.lacks_level(1), self.lacks_mounts())
             }
-            Op::Fault { .. } => self.lacks_level(2).or(self.lacks_mounts()),
+            Op::Fault { .. } => first(self.lacks_level(2), self.lacks_mounts()),
             Op::Flush { .. } => self.lacks_level(3),
-            Op::Close { file, .. } => self
-                .holds_from(3)
-                .or(because("hasn't opened node #", "not open: node", file)),
+            Op::Close { file, .. } => {
+                let not_open = because("hasn't opened node #", "not open: node", file);
+                first(self.holds_from(3), not_open)
+            }
         }
     }
 

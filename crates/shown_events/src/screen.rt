@@ -158,29 +158,32 @@ impl Screen {
                 columns.changes(words, self.style, &mut self.page);
             }
             Printer::Json => json::print_words(listing, words, self.style, &mut self.page),
-            Printer::Events | Printer::Columns(_) => {
-                print_words(words, self.style, &mut self.page.out);
-            }
-            Printer::Picture(picture) => {
+            _ => {
                 let mut text = Output::new(self.page.alloc);
                 print_words(words, self.style, &mut text);
-                self.page.note(picture.add_listing(listing, &text));
+                self.show_listing(listing, &text);
             }
-            Printer::Waits(_) => {}
         }
     }
 
     fn show_model<D: Driver>(&mut self, session: &Session<D>) {
+        if let Printer::Json = self.printer {
+            return json::print_model(session, &mut self.page);
+        }
+        let mut text = Output::new(self.page.alloc);
+        session.print_model(&mut text);
+        self.show_listing(ListingKind::Model, &text);
+    }
+
+    /// Shows a listing where it is shown as a text.
+    fn show_listing(&mut self, listing: ListingKind, text: &Output) {
         match &mut self.printer {
-            Printer::Events | Printer::Columns(_) => session.print_model(&mut self.page.out),
-            Printer::Json => json::print_model(session, &mut self.page),
-            Printer::Picture(picture) => {
-                let mut text = Output::new(self.page.alloc);
-                session.print_model(&mut text);
-                self.page
-                    .note(picture.add_listing(ListingKind::Model, &text));
-            }
+            Printer::Picture(picture) => self.page.note(picture.add_listing(listing, text)),
             Printer::Waits(_) => {}
+            _ => {
+                self.page.out.text(text.bytes.as_slice());
+                self.page.note(text.settled());
+            }
         }
     }
 
