@@ -33,19 +33,6 @@ pub fn shut<R: Wait>(
     Err(GateError::Busy)
 }
 
-/// The word of a step that tells what is in the way, if it is one of these.
-fn in_the_way(event: Option<Event>) -> Option<WordName> {
-    match event {
-        Some(
-            Event {
-                word: word @ (WordName::Stage | WordName::Removed | WordName::MountCount(_, _)),
-                ..
-            },
-        ) => Some(word),
-        _ => None,
-    }
-}
-
 /// Remounts read-only by steps. Where it is busy, the word that it looked at last: the stage, the count of removed files, or the last count of
 /// a mount.
 pub fn shut_and_see<R: Wait>(
@@ -66,7 +53,13 @@ pub fn shut_and_see<R: Wait>(
             None => Ok(()),
         };
         let step = task.step(gates, hook);
-        if let Some(word) = in_the_way(step.event) {
+        if let Some(
+            Event {
+                word: word @ (WordName::Stage | WordName::Removed | WordName::MountCount(_, _)),
+                ..
+            },
+        ) = step.event
+        {
             seen = Some(word);
         }
         match step.progress {
