@@ -45,10 +45,10 @@ fn remounts(core: &mut Core) -> bool {
         return false;
     };
     let asked = ask_until_done(core);
-    let under_way = [core.is_under_way(0), twin.is_under_way(0)];
-    let flags = [core.word(WordName::SbFlags), twin.word(WordName::SbFlags)];
+    let twin_stands = twin.is_under_way(0) && twin.word(WordName::SbFlags) == Some(0);
     drop(twin);
-    begun == Ok(()) && asked == Some(1) && under_way == [false, true] && flags == [Some(1), Some(0)]
+    let is_shut = !core.is_under_way(0) && core.word(WordName::SbFlags) == Some(1);
+    begun.is_ok() && asked == Some(1) && is_shut && twin_stands
 }
 
 #[test]

@@ -146,27 +146,30 @@ fn a_freeze_has_holders(rt: HostRuntime) {
 }
 
 /// Refusals, with the numbers of `errno`.
-static REFUSALS: [(GateError, u16, &str); 12] = [
-    (GateError::NoEntry, 2, "NoEntry"),
-    (GateError::Again, 11, "Again"),
-    (GateError::NoMemory, 12, "NoMemory"),
-    (GateError::Busy, 16, "Busy"),
-    (GateError::NotDir, 20, "NotDir"),
-    (GateError::IsDir, 21, "IsDir"),
-    (GateError::Invalid, 22, "Invalid"),
-    (GateError::TooMany, 24, "TooMany"),
-    (GateError::NoSpace, 28, "NoSpace"),
-    (GateError::ReadOnly, 30, "ReadOnly"),
-    (GateError::Order, 35, "Order"),
-    (GateError::Hook(7), 7, "Hook"),
+static REFUSALS: [(GateError, u16); 12] = [
+    (GateError::NoEntry, 2),
+    (GateError::Again, 11),
+    (GateError::NoMemory, 12),
+    (GateError::Busy, 16),
+    (GateError::NotDir, 20),
+    (GateError::IsDir, 21),
+    (GateError::Invalid, 22),
+    (GateError::TooMany, 24),
+    (GateError::NoSpace, 28),
+    (GateError::ReadOnly, 30),
+    (GateError::Order, 35),
+    (GateError::Hook(7), 7),
 ];
+
+/// Their names, in their order.
+static NAMES: &str =
+    "NoEntry Again NoMemory Busy NotDir IsDir Invalid TooMany NoSpace ReadOnly Order Hook";
 
 #[test]
 fn refusals_have_the_numbers_of_errno(rt: HostRuntime) {
-    for (error, number, name) in REFUSALS.iter() {
-        assert!(rt;
-            (error.number(), error.name()) == (*number, *name),
-            "{name}"
-        );
+    let mut names = NAMES.split(' ');
+    for (error, number) in REFUSALS.iter() {
+        let name = names.next().unwrap_or("");
+        assert!(rt; error.number() == *number && error.name() == name, "{name}");
     }
 }

@@ -2,8 +2,8 @@
 
 use super::SMALL;
 use super::fixtures::HookPolicy;
-use super::rows::Check::{Calls, CopiesInside, Stands, Steps, Took, WritesInside};
-use super::rows::{AT_REST, CheckRow, EMPTY_TREE, ROOT, Stand};
+use super::rows::Check::{CopiesInside, Stands, Steps, Took, WritesInside};
+use super::rows::{AT_REST, EMPTY_TREE, ROOT, Stand};
 use super::teams::{Case, JOINS, SPLITS, Script};
 use vfs_gates::GateError::{Invalid, Order};
 use vfs_gates::{Config, Kind, NodeInfo, Progress, Reply, WordName};
@@ -17,21 +17,16 @@ pub const ACCESSES: Case = Case {
     manner: HookPolicy::Agrees,
     acts: &[
         SPLITS,
-        Script::First(&[
-            ("no snapshot yet", Took(&[])),
-            (
-                "0 want 0 0: done\n\
-                 0 trywant 0 0: done\n\
-                 0 trychange 0 ro: Busy\n\
-                 0 drop 0 1: done\n\
-                 0 drop 0 1: done\n\
-                 0 drop 0 1: Order\n\
-                 0 drop 9 200: Invalid\n",
-                Calls,
-            ),
-        ]),
-        Script::Second(&[(
-            "1 change 0 ro: done\n\
+        Script::First(&[("no snapshot yet", Took(&[]))]),
+        Script::Lines(
+            "0 want 0 0: done\n\
+             0 trywant 0 0: done\n\
+             0 trychange 0 ro: Busy\n\
+             0 drop 0 1: done\n\
+             0 drop 0 1: done\n\
+             0 drop 0 1: Order\n\
+             0 drop 9 200: Invalid\n\
+             1 change 0 ro: done\n\
              1 want 0 0: ReadOnly\n\
              1 trychange 0 rw: done\n\
              1 remount ro: done\n\
@@ -39,34 +34,24 @@ pub const ACCESSES: Case = Case {
              1 wantwrite 0 0: ReadOnly\n\
              1 trystart 1 0: done\n\
              1 end 1 0: done\n\
-             1 remount rw: done\n",
-            Calls,
-        )]),
-        Script::First(&[(
-            "0 start 1 0: done\n\
+             1 remount rw: done\n\
+             0 start 1 0: done\n\
              0 trystart 2 0: done\n\
              0 trystart 2 0: Order\n\
              0 end 1 1: done\n\
              0 end 2 1: done\n\
-             0 end 2 1: Order\n",
-            Calls,
-        )]),
-        Script::Second(&[("1 freeze: done\n", Calls)]),
-        Script::First(&[
-            (
-                "0 trystart 1 0: Again\n\
-                 0 snapshot: done\n",
-                Calls,
-            ),
-            ("its tree", Took(EMPTY_TREE)),
-            (
-                "0 trysnapshot: done\n\
-                 0 thaw: done\n\
-                 0 callback 1: done=1\n\
-                 0 callback 1: done=0\n",
-                Calls,
-            ),
-        ]),
+             0 end 2 1: Order\n\
+             1 freeze: done\n\
+             0 trystart 1 0: Again\n\
+             0 snapshot: done\n",
+        ),
+        Script::First(&[("its tree", Took(EMPTY_TREE))]),
+        Script::Lines(
+            "0 trysnapshot: done\n\
+             0 thaw: done\n\
+             0 callback 1: done=1\n\
+             0 callback 1: done=0\n",
+        ),
         JOINS,
     ],
     stays_open: &[],
@@ -90,44 +75,41 @@ pub const FILES: Case = Case {
     manner: HookPolicy::Agrees,
     acts: &[
         SPLITS,
-        Script::First(&[
-            (
-                "0 create 0 file: Order\n\
-                 0 wantwrite 0 0: done\n\
-                 0 create 0 dir: done=1\n\
-                 0 create 1 file: done=2\n\
-                 0 grow 2 9: NoSpace\n\
-                 0 grow 2 5: done\n\
-                 0 move 2 0: done\n\
-                 0 start 2 0: done\n\
-                 0 fault 2: done\n\
-                 0 start 3 0: done\n\
-                 0 flush 2: done\n\
-                 0 flush 1: IsDir\n\
-                 0 end 3 0: done\n\
-                 0 end 2 0: done\n\
-                 0 create 0 file: done=3\n\
-                 0 create 0 file: NoSpace\n\
-                 0 remove 3: done\n\
-                 0 remove 255: Invalid\n\
-                 0 dropwrite 0 0: done\n\
-                 0 dropwrite 0 0: Order\n\
-                 0 snapshot: Invalid\n\
-                 0 freeze: done\n\
-                 0 snapshot: done\n\
-                 0 thaw: done\n",
-                Calls,
-            ),
-            (
-                "a directory and a file",
-                Took(&[
-                    Some(ROOT),
-                    Some(ROOT),
-                    Some(NodeInfo { size: 5, ..EMPTY }),
-                    None,
-                ]),
-            ),
-        ]),
+        Script::Lines(
+            "0 create 0 file: Order\n\
+             0 wantwrite 0 0: done\n\
+             0 create 0 dir: done=1\n\
+             0 create 1 file: done=2\n\
+             0 grow 2 9: NoSpace\n\
+             0 grow 2 5: done\n\
+             0 move 2 0: done\n\
+             0 start 2 0: done\n\
+             0 fault 2: done\n\
+             0 start 3 0: done\n\
+             0 flush 2: done\n\
+             0 flush 1: IsDir\n\
+             0 end 3 0: done\n\
+             0 end 2 0: done\n\
+             0 create 0 file: done=3\n\
+             0 create 0 file: NoSpace\n\
+             0 remove 3: done\n\
+             0 remove 255: Invalid\n\
+             0 dropwrite 0 0: done\n\
+             0 dropwrite 0 0: Order\n\
+             0 snapshot: Invalid\n\
+             0 freeze: done\n\
+             0 snapshot: done\n\
+             0 thaw: done\n",
+        ),
+        Script::First(&[(
+            "a directory and a file",
+            Took(&[
+                Some(ROOT),
+                Some(ROOT),
+                Some(NodeInfo { size: 5, ..EMPTY }),
+                None,
+            ]),
+        )]),
         JOINS,
     ],
     stays_open: &[],
@@ -142,7 +124,7 @@ pub const TRIES: Case = Case {
     manner: HookPolicy::Agrees,
     acts: &[
         SPLITS,
-        Script::First(&[(
+        Script::Lines(
             "0 trywant 0 0: done\n\
              0 trystart 1 0: done\n\
              0 trystart 2 0: done\n\
@@ -152,11 +134,8 @@ pub const TRIES: Case = Case {
              0 end 1 1: done\n\
              0 drop 0 1: done\n\
              0 trychange 0 ro: done\n\
-             0 trychange 0 rw: done\n",
-            Calls,
-        )]),
-        Script::Second(&[(
-            "1 trywant 0 1: done\n\
+             0 trychange 0 rw: done\n\
+             1 trywant 0 1: done\n\
              1 trystart 1 1: done\n\
              1 trystart 2 1: done\n\
              1 trystart 3 1: done\n\
@@ -166,39 +145,33 @@ pub const TRIES: Case = Case {
              1 drop 0 0: done\n\
              1 trychange 0 ro: done\n\
              1 trychange 0 rw: done\n",
-            Calls,
-        )]),
-        Script::Second(AT_SECOND_MOUNT),
-        Script::First(&[("0 freeze: done\n", Calls)]),
-        Script::Second(&[
-            ("1 trysnapshot: done\n", Calls),
-            ("its tree", Took(EMPTY_TREE)),
-        ]),
-        Script::First(&[
-            ("0 trysnapshot: done\n", Calls),
-            ("its tree", Took(EMPTY_TREE)),
-            ("0 thaw: done\n", Calls),
-        ]),
-        Script::Second(AT_SECOND_MOUNT),
+        ),
+        Script::Lines(AT_SECOND_MOUNT),
+        Script::Lines(
+            "0 freeze: done\n\
+             1 trysnapshot: done\n",
+        ),
+        Script::Second(&[("its tree", Took(EMPTY_TREE))]),
+        Script::Lines("0 trysnapshot: done\n"),
+        Script::First(&[("its tree", Took(EMPTY_TREE))]),
+        Script::Lines("0 thaw: done\n"),
+        Script::Lines(AT_SECOND_MOUNT),
         JOINS,
     ],
     stays_open: &[],
     left: Some(&[]),
 };
 
-const AT_SECOND_MOUNT: &[CheckRow] = &[(
-    "1 trywant 1 0: done\n\
-     1 trystart 1 0: done\n\
-     1 trystart 2 0: done\n\
-     1 trystart 3 0: done\n\
-     1 end 3 1: done\n\
-     1 end 2 1: done\n\
-     1 end 1 1: done\n\
-     1 drop 1 1: done\n\
-     1 trychange 1 ro: done\n\
-     1 trychange 1 rw: done\n",
-    Calls,
-)];
+const AT_SECOND_MOUNT: &str = "1 trywant 1 0: done\n\
+                               1 trystart 1 0: done\n\
+                               1 trystart 2 0: done\n\
+                               1 trystart 3 0: done\n\
+                               1 end 3 1: done\n\
+                               1 end 2 1: done\n\
+                               1 end 1 1: done\n\
+                               1 drop 1 1: done\n\
+                               1 trychange 1 ro: done\n\
+                               1 trychange 1 rw: done\n";
 
 /// A second holder joins what the first has frozen, and a second freeze of one holder is refused. The first of two thaws leaves all frozen, and
 /// the second lets tasks in.
@@ -208,25 +181,18 @@ pub const HOLDERS: Case = Case {
     manner: HookPolicy::Agrees,
     acts: &[
         SPLITS,
-        Script::First(&[("0 freeze kernel: done\n", Calls)]),
-        Script::Second(&[(
-            "1 thaw user: Invalid\n\
-             1 freeze user: done\n",
-            Calls,
-        )]),
-        Script::First(&[("0 freeze user: Busy\n", Calls)]),
-        Script::Second(&[("1 thaw kernel: done\n", Calls)]),
-        Script::First(&[(
-            "0 trystart 1 0: Again\n\
+        Script::Lines(
+            "0 freeze kernel: done\n\
+             1 thaw user: Invalid\n\
+             1 freeze user: done\n\
+             0 freeze user: Busy\n\
+             1 thaw kernel: done\n\
+             0 trystart 1 0: Again\n\
              0 thaw kernel: Invalid\n\
-             0 thaw user: done\n",
-            Calls,
-        )]),
-        Script::Second(&[(
-            "1 trystart 1 0: done\n\
+             0 thaw user: done\n\
+             1 trystart 1 0: done\n\
              1 end 1 0: done\n",
-            Calls,
-        )]),
+        ),
         JOINS,
     ],
     stays_open: &[],
@@ -242,7 +208,7 @@ pub const OPENS: Case = Case {
     manner: HookPolicy::Agrees,
     acts: &[
         SPLITS,
-        Script::First(&[(
+        Script::Lines(
             "0 open 1: NoEntry\n\
              0 wantwrite 0 0: done\n\
              0 create 0 file: done=1\n\
@@ -250,16 +216,10 @@ pub const OPENS: Case = Case {
              0 open 2: Invalid\n\
              0 open 0: IsDir\n\
              0 open 1: done\n\
-             0 open 1: TooMany\n",
-            Calls,
-        )]),
-        Script::Second(&[(
-            "1 tryclose 1 0: Order\n\
-             1 open 1: done\n",
-            Calls,
-        )]),
-        Script::First(&[(
-            "0 remove 1: done\n\
+             0 open 1: TooMany\n\
+             1 tryclose 1 0: Order\n\
+             1 open 1: done\n\
+             0 remove 1: done\n\
              0 close 1 2: Invalid\n\
              0 close 1 1: done\n\
              0 close 1 1: Order\n\
@@ -268,29 +228,23 @@ pub const OPENS: Case = Case {
              0 create 0 file: NoSpace\n\
              0 dropwrite 0 0: done\n\
              0 remount ro: Busy\n\
-             0 freeze: done\n",
-            Calls,
+             0 freeze: done\n\
+             1 tryclose 1 0: Again\n\
+             0 snapshot: done\n\
+             0 thaw: done\n",
+        ),
+        Script::First(&[(
+            "a removed file",
+            Took(&[
+                Some(ROOT),
+                Some(NodeInfo {
+                    size: 5,
+                    removed: true,
+                    ..EMPTY
+                }),
+            ]),
         )]),
-        Script::Second(&[("1 tryclose 1 0: Again\n", Calls)]),
-        Script::First(&[
-            (
-                "0 snapshot: done\n\
-                 0 thaw: done\n",
-                Calls,
-            ),
-            (
-                "a removed file",
-                Took(&[
-                    Some(ROOT),
-                    Some(NodeInfo {
-                        size: 5,
-                        removed: true,
-                        ..EMPTY
-                    }),
-                ]),
-            ),
-        ]),
-        Script::Second(&[(
+        Script::Lines(
             "1 start 3 0: done\n\
              1 close 1 0: Order\n\
              1 tryclose 1 0: Order\n\
@@ -303,8 +257,7 @@ pub const OPENS: Case = Case {
              1 open 1: done\n\
              1 tryclose 1 0: done\n\
              1 dropwrite 0 0: done\n",
-            Calls,
-        )]),
+        ),
         JOINS,
     ],
     stays_open: &[],
@@ -318,14 +271,13 @@ pub const KEPT_OPEN: Case = Case {
     manner: HookPolicy::Agrees,
     acts: &[
         SPLITS,
-        Script::First(&[(
+        Script::Lines(
             "0 wantwrite 0 0: done\n\
              0 create 0 file: done=1\n\
              0 grow 1 5: done\n\
              0 open 1: done\n\
              0 dropwrite 0 0: done\n",
-            Calls,
-        )]),
+        ),
         Script::Joins(Err(Order)),
     ],
     stays_open: CLOSED_ONCE,
@@ -333,16 +285,14 @@ pub const KEPT_OPEN: Case = Case {
 };
 
 const CLOSED_ONCE: &[Script] = &[
-    Script::First(&[
-        (
-            "has it open still",
-            Stands(Stand {
-                has_open: true,
-                ..AT_REST
-            }),
-        ),
-        ("0 tryclose 1 0: done\n", Calls),
-    ]),
+    Script::First(&[(
+        "has it open still",
+        Stands(Stand {
+            has_open: true,
+            ..AT_REST
+        }),
+    )]),
+    Script::Lines("0 tryclose 1 0: done\n"),
     JOINS,
 ];
 
@@ -353,13 +303,12 @@ pub const OPENED_TOO: Case = Case {
     manner: HookPolicy::Agrees,
     acts: &[
         SPLITS,
-        Script::Second(&[(
+        Script::Lines(
             "1 wantwrite 0 0: done\n\
              1 create 0 file: done=1\n\
              1 open 1: done\n\
              1 dropwrite 0 0: done\n",
-            Calls,
-        )]),
+        ),
         Script::Joins(Err(Order)),
     ],
     stays_open: CLOSED_TOO,
@@ -367,17 +316,15 @@ pub const OPENED_TOO: Case = Case {
 };
 
 const CLOSED_TOO: &[Script] = &[
-    Script::Second(&[
-        (
-            "has it open still",
-            Stands(Stand {
-                number: 1,
-                has_open: true,
-                ..AT_REST
-            }),
-        ),
-        ("1 close 1 0: done\n", Calls),
-    ]),
+    Script::Second(&[(
+        "has it open still",
+        Stands(Stand {
+            number: 1,
+            has_open: true,
+            ..AT_REST
+        }),
+    )]),
+    Script::Lines("1 close 1 0: done\n"),
     JOINS,
 ];
 
@@ -456,9 +403,9 @@ const TO_THE_END: &[Script] = &[
                 ..AT_REST
             }),
         ),
-        ("0 trysnapshot: Invalid\n", Calls),
-        ("tells none", Stands(AT_REST)),
     ]),
+    Script::Lines("0 trysnapshot: Invalid\n"),
+    Script::First(&[("tells none", Stands(AT_REST))]),
     JOINS,
 ];
 
@@ -473,8 +420,8 @@ pub const CLOSURES: Case = Case {
             ("makes a file", WritesInside),
             ("is at rest", Stands(AT_REST)),
             ("takes a snapshot", CopiesInside),
-            ("0 callback 3: done=0\n", Calls),
         ]),
+        Script::Lines("0 callback 3: done=0\n"),
         JOINS,
     ],
     stays_open: &[],

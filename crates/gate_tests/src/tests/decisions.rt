@@ -4,7 +4,7 @@ ghost use Rattle.vfs_gates.specs.TaskStates.{IsFrom};
 
 use super::SMALL;
 use super::fixtures::HookPolicy;
-use super::rows::Check::{BacksUp, Calls, FailsAt, Shuts, ShutsAndSees, Takes, Took};
+use super::rows::Check::{BacksUp, Shuts, ShutsAndSees, Takes, Took};
 use super::rows::EMPTY_TREE;
 use super::teams::{Case, JOINS, SPLITS, Script};
 use super::thread_runs::ThreadRun;
@@ -131,7 +131,7 @@ pub const REMOUNTS: Case = Case {
     manner: HookPolicy::Agrees,
     acts: &[
         SPLITS,
-        Script::Second(&[("1 want 0 1: done\n", Calls)]),
+        Script::Lines("1 want 0 1: done\n"),
         Script::First(&[
             ("remounts beside an access", Shuts(Err(GateError::Busy))),
             (
@@ -139,15 +139,14 @@ pub const REMOUNTS: Case = Case {
                 ShutsAndSees(Ok(Some(WordName::MountCount(0, 1)))),
             ),
         ]),
-        Script::Second(&[(
+        Script::Lines(
             "1 drop 0 0: done\n\
              1 freeze: done\n",
-            Calls,
-        )]),
+        ),
         Script::First(&[("sees the freeze", ShutsAndSees(Ok(Some(WordName::Stage))))]),
-        Script::Second(&[("1 thaw: done\n", Calls)]),
+        Script::Lines("1 thaw: done\n"),
         Script::First(&[("remounts", Shuts(Ok(())))]),
-        Script::Second(&[("1 trywant 0 0: ReadOnly\n", Calls)]),
+        Script::Lines("1 trywant 0 0: ReadOnly\n"),
         JOINS,
     ],
     stays_open: &[],
@@ -162,28 +161,28 @@ pub const BACKUPS: Case = Case {
     manner: HookPolicy::Agrees,
     acts: &[
         SPLITS,
-        Script::Second(&[(
+        Script::Lines(
             "1 freeze: done\n\
              1 thaw: done\n",
-            Calls,
-        )]),
+        ),
+        Script::Fails(HookCall::FreezeFs, 16),
         Script::First(&[
-            ("a file system that fails", FailsAt(HookCall::FreezeFs, 16)),
             ("backs up in vain", BacksUp(Err(GateError::Hook(16)))),
             ("no snapshot", Took(&[])),
-            (
-                "0 callback 1: done=1\n\
-                 0 callback 1: done=0\n",
-                Calls,
-            ),
         ]),
-        Script::Second(&[("1 freeze: done\n", Calls)]),
+        Script::Lines(
+            "0 callback 1: done=1\n\
+             0 callback 1: done=0\n\
+             1 freeze: done\n",
+        ),
         Script::First(&[
             ("backs up what is frozen", BacksUp(Ok(()))),
             ("its tree", Took(EMPTY_TREE)),
-            ("0 trystart 1 0: Again\n", Calls),
         ]),
-        Script::Second(&[("1 thaw: done\n", Calls)]),
+        Script::Lines(
+            "0 trystart 1 0: Again\n\
+             1 thaw: done\n",
+        ),
         JOINS,
     ],
     stays_open: &[],
@@ -200,13 +199,12 @@ pub const OWN: Case = Case {
         Script::First(&[
             ("backs up", BacksUp(Ok(()))),
             ("its tree", Took(EMPTY_TREE)),
-            ("0 thaw: Invalid\n", Calls),
         ]),
-        Script::Second(&[(
-            "1 trystart 1 0: done\n\
+        Script::Lines(
+            "0 thaw: Invalid\n\
+             1 trystart 1 0: done\n\
              1 end 1 0: done\n",
-            Calls,
-        )]),
+        ),
         JOINS,
     ],
     stays_open: &[],
@@ -220,8 +218,8 @@ pub const SNAPSHOTS: Case = Case {
     manner: HookPolicy::Agrees,
     acts: &[
         SPLITS,
+        Script::Lines("0 snapshot: Invalid\n"),
         Script::First(&[
-            ("0 snapshot: Invalid\n", Calls),
             ("no snapshot", Took(&[])),
             ("takes one", Takes(Ok(()))),
             ("its tree", Took(EMPTY_TREE)),

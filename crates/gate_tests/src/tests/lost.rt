@@ -3,7 +3,7 @@
 
 use super::SMALL;
 use super::fixtures::HookPolicy;
-use super::rows::Check::{Calls, Stands, Steps};
+use super::rows::Check::{Stands, Steps};
 use super::rows::{AT_REST, Check};
 use super::teams::{Case, SPLITS, Script};
 use vfs_gates::GateError::TooMany;
@@ -16,10 +16,10 @@ pub const ACCESS: Case = Case {
     manner: HookPolicy::Agrees,
     acts: &[
         SPLITS,
-        Script::Second(&[("1 trywant 0 1: done\n", Calls)]),
+        Script::Lines("1 trywant 0 1: done\n"),
         Script::Loses,
         NONE_LEFT,
-        Script::First(&[(
+        Script::Lines(
             "0 trychange 0 ro: Busy\n\
              0 trychange 0 ro: Busy\n\
              0 trywant 0 0: done\n\
@@ -27,8 +27,7 @@ pub const ACCESS: Case = Case {
              0 trychange 0 ro: Busy\n\
              0 trychange 1 ro: done\n\
              0 trywant 1 0: ReadOnly\n",
-            Calls,
-        )]),
+        ),
     ],
     stays_open: BUSY,
     left: None,
@@ -46,7 +45,7 @@ pub const OWNER: Case = Case {
         Script::Second(&[("1 change 0 ro", TAKES_UMOUNT)]),
         Script::Loses,
         NONE_LEFT,
-        Script::First(&[(
+        Script::Lines(
             "0 trychange 0 ro: Again\n\
              0 trychange 0 rw: Again\n\
              0 trychange 1 ro: Again\n\
@@ -54,8 +53,7 @@ pub const OWNER: Case = Case {
              0 trywant 0 0: done\n\
              0 drop 0 1: done\n\
              0 trysnapshot: Again\n",
-            Calls,
-        )]),
+        ),
     ],
     stays_open: TAKEN,
     left: None,
@@ -85,15 +83,14 @@ pub const HOLDER: Case = Case {
         ]),
         Script::Loses,
         NONE_LEFT,
-        Script::First(&[(
+        Script::Lines(
             "0 trywant 0 0: Again\n\
              0 drop 0 0: Order\n\
              0 trywant 1 0: done\n\
              0 drop 1 1: done\n\
              0 trystart 1 0: done\n\
              0 end 1 1: done\n",
-            Calls,
-        )]),
+        ),
     ],
     stays_open: TAKEN,
     left: None,
@@ -106,7 +103,7 @@ pub const INSIDE: Case = Case {
     manner: HookPolicy::Agrees,
     acts: &[
         SPLITS,
-        Script::Second(&[("1 trystart 1 0: done\n", Calls)]),
+        Script::Lines("1 trystart 1 0: done\n"),
         Script::Loses,
         NONE_LEFT,
     ],
@@ -124,20 +121,20 @@ pub const RESTING: Case = Case {
 };
 
 /// The first task is as it was, and so are the gates: a change of the first mount is refused as before, or done.
-const BUSY: &[Script] = &[Script::First(&[
-    ("is as it was", Stands(AT_REST)),
-    ("0 trychange 0 ro: Busy\n", Calls),
-])];
+const BUSY: &[Script] = &[
+    Script::First(&[("is as it was", Stands(AT_REST))]),
+    Script::Lines("0 trychange 0 ro: Busy\n"),
+];
 
-const TAKEN: &[Script] = &[Script::First(&[
-    ("is as it was", Stands(AT_REST)),
-    ("0 trychange 0 ro: Again\n", Calls),
-])];
+const TAKEN: &[Script] = &[
+    Script::First(&[("is as it was", Stands(AT_REST))]),
+    Script::Lines("0 trychange 0 ro: Again\n"),
+];
 
-const DONE: &[Script] = &[Script::First(&[
-    ("is as it was", Stands(AT_REST)),
-    ("0 trychange 0 ro: done\n", Calls),
-])];
+const DONE: &[Script] = &[
+    Script::First(&[("is as it was", Stands(AT_REST))]),
+    Script::Lines("0 trychange 0 ro: done\n"),
+];
 
 /// No number is left to split off.
 const NONE_LEFT: Script = Script::Splits(Err(TooMany));

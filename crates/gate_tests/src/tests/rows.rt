@@ -10,7 +10,7 @@ use super::thread_runs::ThreadRun;
 use schedule_text::{Line, Request, TaskCommand, parse};
 use std::sync::Wait;
 use std::thread;
-use vfs_gates::{GateError, Gates, HookCall, Kind, NodeInfo, Op, Progress, Task, WordName};
+use vfs_gates::{GateError, Gates, Kind, NodeInfo, Op, Progress, Task, WordName};
 
 /// How a task stands between two calls or steps.
 pub struct Stand {
@@ -49,14 +49,9 @@ pub const EMPTY_TREE: &[Option<NodeInfo>] = &[Some(ROOT), None];
 
 /// What is done in a row, and what is seen of it.
 pub enum Check {
-    /// Calls, of which the row has the lines: each as a schedule has it, and behind a colon and a blank how it may end (`ThreadRun::may_end`). In it
-    /// node 100 stands for the file that the task made last, and node 200 for another one in each round.
-    Calls,
     /// The operation of the line begins, if there is one. Then a step, in which a hook that nobody asks fails: it finds this in a word, and so
     /// the operation stands.
     Steps(WordName, u64, Progress),
-    /// The next time that it is asked this, the file system fails with this code.
-    FailsAt(HookCall, u16),
     /// What docs/refusals.md advises, and how it ends: a remount with three tries; one that sees what was in the way; a backup; a snapshot with
     /// two tries.
     Shuts(Result<(), GateError>),
@@ -75,7 +70,7 @@ pub enum Check {
 /// How often a call is made again at most.
 pub const MOST: u32 = 1_000_000;
 
-/// Lines or a name, and what is done.
+/// The operation of a line or a name, and what is done.
 pub type CheckRow = (&'static str, Check);
 
 /// The operation of a line of a schedule of five tasks, and whose it is.
@@ -94,7 +89,7 @@ pub fn call_of(line: &str) -> Option<(u8, Op)> {
 }
 
 /// Makes the call of each line until it needn't be made again.
-fn make_calls<R: Wait>(
+pub fn make_calls<R: Wait>(
     task: &mut Task,
     rt: &R,
     gates: &Gates,
@@ -179,10 +174,6 @@ pub fn go_through<R: Wait>(
             Check::Steps(word, found, progress) => {
                 steps(task, gates, row.0, *word, *found, *progress)
             }
-            Check::FailsAt(question, code) => {
-                turn.fails = Some((*question, *code));
-                true
-            }
             Check::Shuts(wanted) => shut(rt, gates, task, turn, 3) == *wanted,
             Check::ShutsAndSees(wanted) => shut_and_see(rt, gates, task, turn) == *wanted,
             Check::BacksUp(wanted) => back_up(rt, gates, task, turn) == *wanted,
@@ -191,10 +182,6 @@ pub fn go_through<R: Wait>(
             Check::CopiesInside => copies_inside(task, rt, gates),
             Check::Stands(stand) => stands(task, stand),
             Check::Took(nodes) => took(task, nodes),
-            Check::Calls => {
-                make_calls(task, rt, gates, turn, row.0);
-                true
-            }
         };
         turn.scene.expect(is_so, row.0);
     }
@@ -202,7 +189,7 @@ pub fn go_through<R: Wait>(
 
 /// What a task does again and again.
 pub struct Repetition {
-    /// The lines of a round, as those of `Check::Calls`.
+    /// The lines of a round, as those of `Script::Lines`.
     pub lines: &'static str,
     pub rounds: u16,
     /// Of how many files node 200 stands for one.

@@ -4,7 +4,7 @@ ghost use Rattle.std.specs.Prelude.{◌≡◌, All, IfErr};
 ghost use Rattle.vfs_gates.specs.TaskStates.{IsFrom};
 
 use super::fixtures::{Fixture, HookPolicy};
-use super::rows::{CheckRow, Repetition, go_through, work};
+use super::rows::{CheckRow, Repetition, go_through, make_calls, work};
 use super::thread_runs::ThreadRun;
 use std::alloc::Global;
 use std::fmt::Debug;
@@ -12,10 +12,15 @@ use std::sync::Wait;
 use std::test::Fail;
 use std::thread;
 use std::thread::Threads;
-use vfs_gates::{Closed, Config, Gate, GateError, Gates, Task, WordName};
+use vfs_gates::{Closed, Config, Gate, GateError, Gates, HookCall, Task, WordName};
 
 /// What tasks do.
 pub enum Script {
+    /// Calls, a line for each: as a schedule has it, with the number of the first or the second task, and behind a colon and a blank how it may end
+    /// (`ThreadRun::may_end`). In it node 100 stands for the file that was made last, and node 200 for another one in each round.
+    Lines(&'static str),
+    /// The next time that it is asked this, the file system fails with this code.
+    Fails(HookCall, u16),
     /// The first task does this.
     First(&'static [CheckRow]),
     /// The second one does.
@@ -164,6 +169,31 @@ fn go_both<R: Wait + Threads + Sync>(
     }
 }
 
+/// Makes the calls of lines, each by the task of its number.
+fn go_by_lines<R: Wait>(
+    first: &mut Task,
+    others: &mut Vec<Task>,
+    rt: &R,
+    gates: &Gates,
+    turn: &mut ThreadRun<'_>,
+    lines: &'static str,
+)
+    requires first { IsFrom first.old gates.now }
+    requires others { All (λ task. IsFrom task gates.now) others.old.items }
+    ensures first { IsFrom first.new gates.now }
+    ensures others { All (λ task. IsFrom task gates.now) others.new.items }
+{
+    for line in lines.lines() {
+        if line.starts_with('0') {
+            make_calls(first, rt, gates, turn, line);
+        } else if let Some(second) = others.get_mut(0) {
+            make_calls(second, rt, gates, turn, line);
+        } else {
+            turn.scene.note_wrong(line);
+        }
+    }
+}
+
 /// What acts say, in a row.
 fn go<R: Wait + Threads + Sync + Alloc<A = Global>>(
     first: &mut Task,
@@ -181,6 +211,14 @@ fn go<R: Wait + Threads + Sync + Alloc<A = Global>>(
     let mut turn = ThreadRun::new(scene, 1);
     for act in acts {
         let is_so = match act {
+            Script::Lines(lines) => {
+                go_by_lines(first, others, rt, gates, &mut turn, *lines);
+                true
+            }
+            Script::Fails(question, code) => {
+                turn.fails = Some((*question, *code));
+                true
+            }
             Script::First(rows) => {
                 go_through(first, rt, gates, &mut turn, rows);
                 true

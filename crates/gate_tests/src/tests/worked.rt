@@ -4,7 +4,6 @@ ghost use Rattle.vfs_gates.specs.TaskStates.{IsFrom};
 
 use super::SMALL;
 use super::fixtures::HookPolicy;
-use super::rows::Check::Calls;
 use super::rows::Repetition;
 use super::teams::{Case, JOINS, SPLITS, Script};
 use cpu_words::{Sum, Taken};
@@ -27,11 +26,10 @@ pub const READERS: Case = Case {
             rounds: 1,
             files: 1,
         }),
-        Script::First(&[(
+        Script::Lines(
             "0 freeze: done\n\
              0 trysnapshot: done\n",
-            Calls,
-        )]),
+        ),
     ],
     stays_open: &[JOINS],
     left: Some(&[(WordName::Stage, 4)]),
@@ -60,7 +58,7 @@ pub const ALONE: Case = Case {
     name: "one task alone",
     config: Config { tasks: 1, ..SMALL },
     manner: HookPolicy::Agrees,
-    acts: &[Script::First(&[(
+    acts: &[Script::Lines(
         "0 want 0 0: done\n\
          0 drop 0 0: done\n\
          0 start 1 0: done\n\
@@ -70,8 +68,7 @@ pub const ALONE: Case = Case {
          0 remount rw: done\n\
          0 want 0 0: done\n\
          0 drop 0 0: done\n",
-        Calls,
-    )])],
+    )],
     stays_open: &[],
     left: Some(&[(WordName::SbFlags, 0)]),
 };

@@ -1,7 +1,6 @@
 //! Snapshots of the tree beside writers.
 
 use super::super::fixtures::{HookPolicy, NODES};
-use super::super::rows::Check::Calls;
 use super::super::rows::Repetition;
 use super::super::teams::{Case, JOINS, SPLITS, Script};
 use super::FIVE;
@@ -58,7 +57,7 @@ pub const CASE: Case = Case {
         SPLITS,
         SPLITS,
         SPLITS,
-        Script::First(&[(OPENING, Calls)]),
+        Script::Lines(OPENING),
         Script::Beside(&[
             Repetition {
                 lines: WRITES,

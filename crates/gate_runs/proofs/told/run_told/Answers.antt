@@ -1,0 +1,7 @@
+-- a run that was refused is told as Refused
+use Rattle.std.proofs.Common.{◌≡◌, sym, ◌∙◌}
+use Rattle.exit_status.specs.declared.ends.ProgramEnding.TheVariants.{Ran, Refused}
+use Rattle.gate_runs.proofs.told.run_told.Goals as goal
+
+pub returns-in-Err-clause-ran : goal.returns-in-Err-clause-ran
+returns-in-Err-clause-ran g c = λ ran. let same : Refused ≡ Ran = sym c.refused.ensures ∙ ran in absurd (let f : ⊥ = cc in f)
