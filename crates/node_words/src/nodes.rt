@@ -36,7 +36,7 @@ impl NodeWord {
         self.bits()
     }
 
-    /// Whether this word is its own, so that the node is as it was loaded.
+    /// Whether a word that was found is still its word: the node is as it was loaded.
     #[inline(always)]
     pub fn is_still(self, found: u64) -> bool
         ensures { result ≡ (found == word_of self) }
