@@ -98,7 +98,7 @@ impl fmt::Display for Printable<'_> {
             if character.is_control() {
                 write!(f, "\\x{:02x}", u32::from(character))?;
             } else {
-                write!(f, "{character}")?;
+                f.write_char(character)?;
             }
         }
         Ok(())

@@ -281,19 +281,22 @@ impl Freeze {
     fn after_any(self, found: u64, hook: Result<(), u16>) -> (Next<Freeze>, Option<Action>)
         ensures { result ≡ freeze_after self self.step found hook }
     {
-        let busy = FreezeStep::Releases(Err(GateError::Busy));
         let step = match self.step {
             FreezeStep::Locks => return (self.locked(found, FreezeStep::LoadsStage), None),
             FreezeStep::LocksAgain => {
                 return (self.locked(found, FreezeStep::SetsPageFault), None);
             }
-            FreezeStep::LoadsStage if found == 0 => FreezeStep::LoadsSuperblock,
-            FreezeStep::LoadsStage if found == 4 => FreezeStep::LoadsHolders,
-            FreezeStep::LoadsStage => busy,
+            FreezeStep::LoadsStage => match found {
+                0 => FreezeStep::LoadsSuperblock,
+                4 => FreezeStep::LoadsHolders,
+                _ => FreezeStep::Releases(Err(GateError::Busy)),
+            },
             FreezeStep::LoadsHolders => self.found_holders(unpack(found)),
             FreezeStep::Holds(_) => return self.held_now(),
-            FreezeStep::LoadsSuperblock if found == 0 => FreezeStep::SetsWrite,
-            FreezeStep::LoadsSuperblock => FreezeStep::CompletesReadOnly,
+            FreezeStep::LoadsSuperblock => match found {
+                0 => FreezeStep::SetsWrite,
+                _ => FreezeStep::CompletesReadOnly,
+            },
             FreezeStep::Unlocks => self.closes(1),
             FreezeStep::CompletesReadOnly => return self.stored(
                 4,

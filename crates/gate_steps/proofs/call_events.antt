@@ -8,7 +8,6 @@ pub use Rattle.gate_steps.proofs.Giving
 pub use Rattle.gate_steps.proofs.Opening
 pub mod Going
 pub mod Turning
-pub mod Waited
 pub mod Leading
 pub mod Running
 pub mod Grown

@@ -20,7 +20,3 @@ pub mod Asked
 pub mod Caused
 pub mod Spans
 pub mod KnownSteps
-pub mod Closings
-pub mod CallingBack
-pub mod Remounting
-pub mod Reopenings

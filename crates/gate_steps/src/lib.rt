@@ -1,8 +1,7 @@
 //! The words in one table of atomic words, under the rule of words and views: each event is one atomic step, whichever thread
-//! takes it. On it what a call does apart from its task (`call_events`), and loops to its end (`call_ends`).
+//! takes it. On it what a call does apart from its task (`call_events`).
 #![tactic(auto)]
 
-pub mod call_ends;
 pub mod call_events;
 mod rule;
 mod seating;

@@ -236,13 +236,13 @@ impl Remove {
                 Some(Ok(file)) if file.opens == 0 => self.at(RemoveStep::FreesNode(file)),
                 Some(Ok(file)) => self.at(RemoveStep::CountsRemoved(file)),
             },
-            RemoveStep::FreesNode(file) if found == file.pack() => {
+            RemoveStep::FreesNode(file) if file.is_still(found) => {
                 let removed = Action::Remove(self.file);
                 return (self.at(RemoveStep::RefundsBlocks(file)), Some(removed));
             }
             RemoveStep::FreesNode(_) => Next::Done(Err(GateError::Again)),
             RemoveStep::CountsRemoved(file) => self.at(RemoveStep::MarksRemoved(file)),
-            RemoveStep::MarksRemoved(file) if found == file.pack() => {
+            RemoveStep::MarksRemoved(file) if file.is_still(found) => {
                 let removed = Action::Remove(self.file);
                 return (self.at(RemoveStep::RefundsChild(file)), Some(removed));
             }
@@ -307,7 +307,7 @@ impl MoveTo {
                 Some(Ok(_)) => self.at(MoveStep::ChargesChild(file)),
             },
             MoveStep::ChargesChild(file) => self.at(MoveStep::MovesFile(file)),
-            MoveStep::MovesFile(file) if found == file.pack() => {
+            MoveStep::MovesFile(file) if file.is_still(found) => {
                 let (node, dir) = (self.file, self.dir);
                 let left = MoveStep::RefundsChild(file.parent, Ok(Reply::Unit));
                 return (self.at(left), Some(Action::MoveTo { node, dir }));

@@ -125,7 +125,7 @@ impl Grow {
                 self.at(GrowStep::GrowsFile(file))
             }
             GrowStep::ChargesBlocks { .. } => Next::Done(Err(GateError::Again)),
-            GrowStep::GrowsFile(file) if found == file.pack() => {
+            GrowStep::GrowsFile(file) if file.is_still(found) => {
                 let (node, blocks) = (self.file, self.blocks);
                 let grown = Action::Grow { node, blocks };
                 return (Next::Done(Ok(Reply::Unit)), Some(grown));

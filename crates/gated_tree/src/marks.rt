@@ -77,7 +77,7 @@ impl Mark {
                     Next::Go(Mark { step, ..self })
                 }
             },
-            MarkStep::MarksFile(file) if found == file.pack() => {
+            MarkStep::MarksFile(file) if file.is_still(found) => {
                 return (Next::Done(Ok(Reply::Unit)), Some(self.done()));
             }
             MarkStep::MarksFile(_) => Next::Done(Err(GateError::Again)),

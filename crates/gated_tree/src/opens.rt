@@ -77,7 +77,7 @@ impl OpenFile {
                 }
                 Some(Ok(_)) => Next::Go(self),
             },
-            OpenStep::OpensFile(file) if found == file.pack() => {
+            OpenStep::OpensFile(file) if file.is_still(found) => {
                 return (Next::Done(Ok(Reply::Unit)), Some(Action::Open(self.file)));
             }
             OpenStep::OpensFile(_) => Next::Done(Err(GateError::Again)),

@@ -127,7 +127,6 @@ impl Want {
     pub fn after(self, found: u64) -> (Next<Want>, Option<Action>)
         ensures { result ≡ want_after self self.step found }
     {
-        let read_only = Next::Go(self.at(WantStep::CountsDown(GateError::ReadOnly)));
         let flags = MountFlags::from_bits_retain(found);
         let next = match self.step {
             WantStep::CountsUp => Next::Go(self.at(WantStep::LoadsHold)),
@@ -149,7 +148,7 @@ impl Want {
                 return (Next::Done(Ok(Reply::Unit)), Some(granted));
             }
             WantStep::LoadsRemount | WantStep::LoadsReadOnly | WantStep::LoadsSuperblock => {
-                read_only
+                Next::Go(self.at(WantStep::CountsDown(GateError::ReadOnly)))
             }
             WantStep::CountsDown(refusal) => Next::Done(Err(refusal)),
         };
@@ -232,15 +231,18 @@ impl Change {
         ensures { result ≡ change_after self self.step found }
     {
         let done = Ok(Reply::Unit);
-        let flags = MountFlags::from_bits_retain(found);
         match self.step {
             ChangeStep::Locks if found == 0 => (self.at(ChangeStep::LoadsFlags), None),
             ChangeStep::Locks if self.wait => (Next::Wait(self), None),
             ChangeStep::Locks => (Next::Done(Err(GateError::Again)), None),
-            ChangeStep::LoadsFlags if flags.contains(MountFlags::READONLY) => {
-                (self.at(self.from_state(true)), None)
+            ChangeStep::LoadsFlags => {
+                let flags = MountFlags::from_bits_retain(found);
+                if flags.contains(MountFlags::READONLY) {
+                    (self.at(self.from_state(true)), None)
+                } else {
+                    (self.at(ChangeStep::LoadsSuperblock), None)
+                }
             }
-            ChangeStep::LoadsFlags => (self.at(ChangeStep::LoadsSuperblock), None),
             ChangeStep::LoadsSuperblock => (self.at(self.from_state(found != 0)), None),
             ChangeStep::ClearsReadOnly => (
                 self.at(ChangeStep::Releases(done)),

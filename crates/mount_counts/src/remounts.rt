@@ -195,8 +195,6 @@ impl Remount {
     fn next_after(self, found: u64, hook: Result<(), u16>) -> Next<Remount>
         ensures { result ≡ (remount_after self self.step found hook).0 }
     {
-        let done = RemountStep::Releases(Ok(Reply::Unit));
-        let sum = Sum::start();
         self.at(match self.step {
             RemountStep::Locks if found == 0 => RemountStep::LoadsStage,
             RemountStep::Locks => return Next::Wait(self),
@@ -204,7 +202,7 @@ impl Remount {
             RemountStep::LoadsStage => RemountStep::Releases(Err(GateError::Busy)),
             RemountStep::LoadsSuperblock => self.from_state(found != 0),
             RemountStep::SetsWritable => match hook {
-                Ok(()) => done,
+                Ok(()) => RemountStep::Releases(Ok(Reply::Unit)),
                 Err(code) => return Next::Done(Err(GateError::Hook(code))),
             },
             RemountStep::LoadsRemoved if found == 0 => RemountStep::LoadsFlags {
@@ -213,7 +211,11 @@ impl Remount {
             },
             RemountStep::LoadsRemoved => RemountStep::Releases(Err(GateError::Busy)),
             RemountStep::LoadsFlags { mount, held } => self.flagged(mount, held, found),
-            RemountStep::SetsHold { mount, held } => RemountStep::Sums { mount, held, sum },
+            RemountStep::SetsHold { mount, held } => RemountStep::Sums {
+                mount,
+                held,
+                sum: Sum::start(),
+            },
             RemountStep::Sums { mount, held, sum } => self.summed(mount, held, sum, found),
             RemountStep::LoadsRemovedAgain { held } if found == 0 => {
                 RemountStep::SetsRemount { held }
@@ -228,7 +230,7 @@ impl Remount {
                 Ok(()) => RemountStep::ClearsRemount,
                 Err(code) => RemountStep::Releases(Err(GateError::Hook(code))),
             },
-            RemountStep::ClearsRemount => done,
+            RemountStep::ClearsRemount => RemountStep::Releases(Ok(Reply::Unit)),
             RemountStep::Releases(answer) => return Next::Done(answer),
         })
     }

@@ -1,6 +1,6 @@
 //! A node of the tree as one word.
 
-ghost use Rattle.std.specs.Prelude.{◌≡◌, ◌/◌, ◌%◌, Some, IfSome};
+ghost use Rattle.std.specs.Prelude.{◌≡◌, ◌==◌, ◌/◌, ◌%◌, Some, IfSome};
 ghost use Rattle.node_words.specs.Nodes.{IsLawful, any_file_in, directory_in, dirty_in, file_in, is_misplaced, is_outside, kind_in, node_after, node_of, node_shown, opens_in, removed_in, unpacked, word_of};
 
 use access_model::{GateError, Kind, NodeInfo};
@@ -34,6 +34,14 @@ impl NodeWord {
         ensures back { IsLawful self → unpacked result ≡ Some self }
     {
         self.bits()
+    }
+
+    /// Whether a word that was found is still its word: the node is as it was loaded.
+    #[inline(always)]
+    pub fn is_still(self, found: u64) -> bool
+        ensures { result ≡ (found == word_of self) }
+    {
+        found == self.pack()
     }
 
     /// The fields, each in its place.

@@ -4,7 +4,7 @@ ghost use Rattle.std.specs.Prelude.{◌<◌, ◌≡◌, ◌≤◌, ◌*◌, leng
 ghost use Rattle.exploration.specs.Tables.{IsTable};
 ghost use Rattle.outcome_texts.specs.Methods.{next_by};
 
-use exploration::Runs;
+use exploration_paths::Runs;
 use outcome_texts::{OutcomeListing, movers_to};
 use race_files::RaceSource;
 use schedule_text::Output;

@@ -9,8 +9,8 @@ use crate::gates::Gates;
 use crate::snapshots::snapshot_first;
 use crate::task::Task;
 use access_model::{GateError, Holder, Next};
+use call_ends::Waiting;
 use gate_events::PendingOp;
-use gate_steps::call_ends::Waiting;
 use gate_steps::call_events::Progress;
 use gate_world::Op;
 

@@ -10,7 +10,7 @@ use crate::calls::outcome;
 use crate::gates::Gates;
 use crate::task::Task;
 use access_model::{GateError, Kind, Reply};
-use gate_steps::call_ends::run_to_reply;
+use call_ends::run_to_reply;
 use gate_steps::call_events::Progress;
 use gate_world::Op;
 use gated_tree::{

@@ -169,7 +169,7 @@ impl ClosePhase {
         match self {
             ClosePhase::LoadsFile(close) => (close.after_load(found), None),
             ClosePhase::LowersCount { close, node } => {
-                if found == node.pack() {
+                if node.is_still(found) {
                     (Next::Done(Ok(Reply::Unit)), Some(Action::Close(close.file)))
                 } else {
                     (Next::Done(Err(GateError::Again)), None)
@@ -180,7 +180,7 @@ impl ClosePhase {
                 (frees_then(file, node, read.cpu, next), action)
             }
             ClosePhase::FreesNode { file, cpu, node } => {
-                if found == node.pack() {
+                if node.is_still(found) {
                     let blocks = node.size;
                     (
                         Next::Go(ClosePhase::RefundsBlocks { cpu, blocks }),

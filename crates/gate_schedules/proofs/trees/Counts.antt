@@ -11,6 +11,7 @@ use Rattle.gated_tree.specs.Roles.{Dropped, Uncounting, Bare, Bounds, TreeState,
 use Rattle.gated_tree.specs.Roles.{HasParent, RoleHolds, TreeHolds, NobodyReads, MayRemove, HasNoCharge}
 use Rattle.node_words.specs.declared.nodes.NodeWord.{NodeWord}
 use Rattle.gated_tree.specs.Trees.{is_same, has_parent, is_child}
+use Rattle.gate_schedules.proofs.frames.Openers.{one_le}
 use Rattle.gate_schedules.{proofs.trees.Laws.{same_here, same_off, role_says, all_change, counts_change, moves}, specs.trees.Events.{turned, with_used, with_kids, with_removed}}
 
 pub same_le : (d e : ℕ) → is_same d e ≤ 1
@@ -29,10 +30,6 @@ child_charge_le d r = grind arith
 removal_le : (r : Role) → removal r ≤ 1
 removal_le (Removing file) = omega arith
 removal_le _ = omega arith
-
-one_le : (b : Bool) → one_if b ≤ 1
-one_le true = omega arith
-one_le false = omega arith
 
 -- what the tree says of the parent of a file that was loaded
 file_parent : (c : Bounds) (node : ℕ → ℕ) (word : ℕ) (file : NodeWord) → node_shown word ≡ info_of file → file.kind ≡ Some Kind.File →

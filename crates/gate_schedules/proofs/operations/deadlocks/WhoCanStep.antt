@@ -8,6 +8,7 @@ use Rattle.finite_sums.specs.Sums.{total}
 use Rattle.freeze_levels.specs.declared.{freezes.{Freeze.Freeze}, thaws.ThawStep.ThawStep}
 use Rattle.cpu_words.proofs.gate_counts.Events.{words_sum}
 use Rattle.cpu_words.specs.gate_counts.{Gates.{BarringHolds, admitted, below, counted, unread}, Levels.{Passed, barring_of, level_as_gate, processor_of}}
+use Rattle.gate_schedules.proofs.levels.Counts.{held_bit}
 use Rattle.gate_schedules.proofs.{frames.Owners.{hold_owns, owns_le, who_holds}}
 use Rattle.gate_schedules.proofs.operations.deadlocks.{Bounds.{beside_small, is_beside, rank_small}, RankDecreases.runs_out}
 use Rattle.gate_world.specs.{Configs.IsWithin, Fits.{Fits, PhaseFits}, Levels.{at_level, inside, is_frozen_whole, level_role_of, sync_role_of}}
@@ -161,10 +162,6 @@ closed_passes i j p lt h = grind (arith, common_steps)
 
 pub seeks_nothing : (i : ℕ) (p : Option Phase) → inside p ≡ 0 → processor_of (level_role_of i p) ≡ 0
 seeks_nothing i p h = grind arith
-
--- 1 for a level held
-abbrev held_bit : Bool → ℕ
-held_bit b = if b then 1 else 0
 
 module _ (c : Config) (w : World) (good : IsGood c w) where
   held_there : (i z : ℕ) → holds_level (w.views z) i ≡ true → admitted (level_as_gate (at_level i (w.views z))) ≡ 1

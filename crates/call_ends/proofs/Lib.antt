@@ -1,0 +1,2 @@
+mod Beginning
+mod Waited

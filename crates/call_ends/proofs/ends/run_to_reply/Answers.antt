@@ -1,0 +1,87 @@
+-- each event goes on from what the one before it left, and fewer are left
+use Rattle.std.proofs.Common.{refl, ap, ◌∙◌}
+use Rattle.std.specs.Prelude.{None}
+use Rattle.access_model.specs.Replies.{map_next}
+use Rattle.gate_world.specs.Views.{phase_after}
+use Rattle.gate_steps.proofs.call_events.Onward.{stands_at, done_at}
+use Rattle.gate_steps.proofs.call_events.Onward.{goes_so, tries_so, falls_so, agrees_so, called_so}
+use Rattle.gate_steps.proofs.call_events.Turning.{went_so}
+use Rattle.call_ends.proofs.ends.run_to_reply.Goals as goal
+
+pub loop-answer-init : goal.loop-answer-init
+loop-answer-init g c = record {
+  table = refl;
+  slots = refl;
+  agrees = c.requires.agrees;
+  trying = c.requires.trying;
+  stay = λ number flags ghost_agrees. ghost_agrees;
+  goes = λ of start goes. goes;
+}
+
+pub returns-in-Done-clause-agrees : goal.returns-in-Done-clause-agrees
+returns-in-Done-clause-agrees g c number flags ghost_agrees =
+    agrees_so number c.args.gates.now.config c.do_event-next.new.accesses flags c.do_event-next.new.seat.me.0.items _ None
+    (ap (λ n. phase_after n) (done_at g.P.PendingOp.as_phase c.do_event-next.result.next c.in-Done.answer c.in-Done.is))
+    (c.do_event-next.ensures.agrees number flags (c.loop-answer.invariant.stay number flags ghost_agrees))
+
+pub returns-in-Done-clause-called : goal.returns-in-Done-clause-called
+returns-in-Done-clause-called g c of start goes =
+    called_so of start (map_next g.P.PendingOp.as_phase c.do_event-next.result.next) c.in-Done.answer c.do_event-next.new.seat.table_id
+    c.args.gates.now.config c.do_event-next.new.seat.me.0
+    (done_at g.P.PendingOp.as_phase c.do_event-next.result.next c.in-Done.answer c.in-Done.is)
+    (went_so c.args.gates.now.config c.args.gates.now.within of start c.do_event-next.result.event c.do_event-next.result.action
+    (map_next g.P.PendingOp.as_phase c.do_event-next.result.next) _ (c.loop-answer.invariant.goes of start goes) c.do_event-next.ensures.stepped)
+
+pub loop-answer-smaller-in-Go : goal.loop-answer-smaller-in-Go
+loop-answer-smaller-in-Go g c =
+    falls_so c.args.gates.now.config c.args.gates.now.within c.do_event-next.result.event c.do_event-next.result.action
+    (map_next g.P.PendingOp.as_phase c.do_event-next.result.next) _ c.do_event-next.ensures.stepped _
+    (stands_at g.P.PendingOp.as_phase c.do_event-next.result.next c.in-Go.further c.in-Go.is) c.loop-answer.invariant.trying
+
+pub loop-answer-smaller : goal.loop-answer-smaller
+loop-answer-smaller g c =
+    falls_so c.args.gates.now.config c.args.gates.now.within c.do_event-next.result.event c.do_event-next.result.action
+    (map_next g.P.PendingOp.as_phase c.do_event-next.result.next) _ c.do_event-next.ensures.stepped _
+    (stands_at g.P.PendingOp.as_phase c.do_event-next.result.next c.in-Go.further c.in-Go.is) c.loop-answer.invariant.trying
+
+pub loop-answer-preserved-in-Go : goal.loop-answer-preserved-in-Go
+loop-answer-preserved-in-Go g c =
+    let now = c.loop-answer.invariant in
+    let left = c.do_event-next.ensures in
+    let next = map_next g.P.PendingOp.as_phase c.do_event-next.result.next in
+    let is = stands_at g.P.PendingOp.as_phase c.do_event-next.result.next c.in-Go.further c.in-Go.is in
+    let config = c.args.gates.now.config in
+    let within = c.args.gates.now.within in
+    let event = c.do_event-next.result.event in
+    let action = c.do_event-next.result.action in
+    let accesses = c.do_event-next.new.accesses in
+    let items = c.do_event-next.new.seat.me.0.items in
+    record {
+      table = left.table ∙ now.table;
+      slots = left.slots ∙ now.slots;
+      agrees = record { number = now.agrees.number; flags = now.agrees.flags; ghost_agrees = agrees_so _ config accesses _ items _ _ is (left.agrees _ _ now.agrees.ghost_agrees) };
+      trying = tries_so config within event action next _ left.stepped _ is now.trying;
+      stay = λ number flags ghost_agrees. agrees_so number config accesses flags items _ _ is (left.agrees number flags (now.stay number flags ghost_agrees));
+      goes = λ of start goes. goes_so config within event action next _ left.stepped _ is of start (now.goes of start goes);
+    }
+
+pub loop-answer-preserved : goal.loop-answer-preserved
+loop-answer-preserved g c =
+    let now = c.loop-answer.invariant in
+    let left = c.do_event-next.ensures in
+    let next = map_next g.P.PendingOp.as_phase c.do_event-next.result.next in
+    let is = stands_at g.P.PendingOp.as_phase c.do_event-next.result.next c.in-Go.further c.in-Go.is in
+    let config = c.args.gates.now.config in
+    let within = c.args.gates.now.within in
+    let event = c.do_event-next.result.event in
+    let action = c.do_event-next.result.action in
+    let accesses = c.do_event-next.new.accesses in
+    let items = c.do_event-next.new.seat.me.0.items in
+    record {
+      table = left.table ∙ now.table;
+      slots = left.slots ∙ now.slots;
+      agrees = record { number = now.agrees.number; flags = now.agrees.flags; ghost_agrees = agrees_so _ config accesses _ items _ _ is (left.agrees _ _ now.agrees.ghost_agrees) };
+      trying = tries_so config within event action next _ left.stepped _ is now.trying;
+      stay = λ number flags ghost_agrees. agrees_so number config accesses flags items _ _ is (left.agrees number flags (now.stay number flags ghost_agrees));
+      goes = λ of start goes. goes_so config within event action next _ left.stepped _ is of start (now.goes of start goes);
+    }

@@ -1,0 +1,79 @@
+-- each step goes on from what the one before it left
+use Rattle.std.proofs.Common.{◌≡◌, ℕ, ◌+◌, refl, sym, ap, ◌∙◌, subst}
+use Rattle.std.specs.Prelude.{Some, None}
+use Rattle.access_model.specs.Replies.{map_next}
+use Rattle.access_model.specs.declared.replies.Next.TheVariants.{Go, Wait}
+use Rattle.gate_world.specs.Views.{phase_after}
+use Rattle.gate_world.specs.declared.operations.Op.{Op}
+use Rattle.gate_steps.specs.call_events.Asking.{OpUnderWayAsking, OpAfterStepAsking}
+use Rattle.gate_steps.specs.call_events.SeatedTasks.{SeatedTask, task_state}
+use Rattle.gate_steps.specs.call_events.Turns.{AgreesAfter}
+use Rattle.gate_steps.specs.call_events.Waited.{counted}
+use Rattle.gate_steps.proofs.call_events.Leading.{asking_agrees}
+use Rattle.call_ends.proofs.Waited.{one_more, going_on, replied, waiting_on}
+use Rattle.call_ends.proofs.ends.step_waiting.Goals.{in-Go, in-Wait}
+use Rattle.call_ends.proofs.ends.step_waiting.Goals as goal
+
+pub loop-init : goal.loop-init
+loop-init g c = record {
+  next = tt;
+  finite = tt;
+  table = refl;
+  slots = refl;
+  agrees = c.requires.agrees;
+  stay = λ number flags ghost_agrees. ghost_agrees;
+  went = λ of start before went. (0, refl, went);
+}
+
+pub loop-preserved : goal.loop-preserved
+loop-preserved g c =
+    let now = c.loop.invariant in
+    let asked = c.step_asking-after.ensures in
+    let left = c.go_on_in_line-next.ensures in
+    let stands : phase_after (map_next g.P.PendingOp.as_phase c.loop.next) ≡ Some (g.P.PendingOp.as_phase c.match-next-2.under_way) =
+    elim c.match-next-2.branch [
+      | in-Go w ↦ ap (λ n. phase_after (map_next g.P.PendingOp.as_phase n)) w.in-Go.is ∙ ap (λ u. Some (g.P.PendingOp.as_phase u)) (sym w.under_way-is)
+      | in-Wait w ↦ ap (λ n. phase_after (map_next g.P.PendingOp.as_phase n)) w.in-Wait.is ∙ ap (λ u. Some (g.P.PendingOp.as_phase u)) (sym w.under_way-is)
+    ] in
+    let goes : (of : Op) (start : SeatedTask) (before : _) → OpAfterStepAsking g.H.TimedHooks.answers 0 of start before (map_next g.P.PendingOp.as_phase c.args.begun)
+    (task_state c.args.seat.now.table_id c.args.gates.now.config None (phase_after (map_next g.P.PendingOp.as_phase c.args.begun)) c.args.seat.now.me.0)
+    c.args.hooks.now → (waits : ℕ) × (c.match-next-2.waited ≡ counted waits) × OpUnderWayAsking g.H.TimedHooks.answers waits of start before
+    (task_state c.loop.seat.table_id c.args.gates.now.config None (Some (g.P.PendingOp.as_phase c.match-next-2.under_way)) c.loop.seat.me.0) c.loop.hooks =
+    λ of start before began.
+    let had = now.went of start before began in
+    elim c.match-next-2.branch [
+      | in-Go w ↦ (
+        had.0,
+        w.waited-is ∙ had.1,
+        going_on g.H.TimedHooks.answers had.0 (ap (λ n. map_next g.P.PendingOp.as_phase n) w.in-Go.is ∙ ap (λ u. Go (g.P.PendingOp.as_phase u)) (sym w.under_way-is)) had.2,
+      )
+      | in-Wait w ↦ (
+        had.0 + 1,
+        one_more had.0 c.loop.waited _ had.1 (w.waited-is ∙ w.saturating_add-waited.ensures),
+        waiting_on g.H.TimedHooks.answers had.0 (ap (λ n. map_next g.P.PendingOp.as_phase n) w.in-Wait.is ∙ ap (λ u. Wait (g.P.PendingOp.as_phase u)) (sym w.under_way-is)) had.2,
+      )
+    ] in
+    record {
+      next = tt;
+      finite = tt;
+      table = left.led.same_table ∙ (asked.table ∙ now.table);
+      slots = left.slots ∙ (asked.slots ∙ now.slots);
+      agrees = asking_agrees left.led asked.still;
+      stay = λ number flags ghost_agrees. left.led.agrees number flags (asked.agrees number flags
+          (subst (λ p. AgreesAfter c.args.gates.now.config None (phase_after (map_next g.P.PendingOp.as_phase c.args.begun)) c.args.accesses.now
+          c.args.seat.now.me.0.items p c.loop.accesses c.loop.seat.me.0.items) stands now.stay number flags ghost_agrees));
+      went = λ of start before began.
+          let had = goes of start before began in
+          (had.0, had.1, left.led.went of start before had.0 (asked.asked had.0 of start before had.2));
+    }
+
+pub returns-in-Done-clause-agrees : goal.returns-in-Done-clause-agrees
+returns-in-Done-clause-agrees g c =
+    subst (λ n. AgreesAfter c.args.gates.now.config None (phase_after (map_next g.P.PendingOp.as_phase c.args.begun)) c.args.accesses.now
+    c.args.seat.now.me.0.items (phase_after (map_next g.P.PendingOp.as_phase n)) c.loop.accesses c.loop.seat.me.0.items) c.in-Done.is
+    c.loop.invariant.stay
+
+pub returns-in-Done-clause-called : goal.returns-in-Done-clause-called
+returns-in-Done-clause-called g c of start before goes =
+    let had = c.loop.invariant.went of start before goes in
+    replied g.H.TimedHooks.answers had.0 c.loop.waited had.1 (ap (λ n. map_next g.P.PendingOp.as_phase n) c.in-Done.is) had.2

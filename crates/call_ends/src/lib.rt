@@ -1,0 +1,6 @@
+//! Calls done to their end: in a line where nothing stands in the way, and else step after step, however long they have to wait.
+#![tactic(auto)]
+
+mod ends;
+
+pub use ends::{Waiting, run_to_reply, wait_for_reply};

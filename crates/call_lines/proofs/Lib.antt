@@ -1,0 +1,4 @@
+pub mod Closing
+pub mod CallingBack
+pub mod Remounting
+pub mod Reopening

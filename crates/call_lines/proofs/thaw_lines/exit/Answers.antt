@@ -1,0 +1,15 @@
+-- the exchange goes on from the load
+use Rattle.gate_steps.proofs.call_events.Leading.{led_on, led_to, still_agrees}
+use Rattle.call_lines.proofs.Reopening.{exits_on, exits_last}
+use Rattle.call_lines.proofs.thaw_lines.exit.Goals as goal
+
+pub find-found-requires-clause-agrees : goal.find-found-requires-clause-agrees
+find-found-requires-clause-agrees c = still_agrees (led_to (exits_on c.args.thaw c.args.level c.find-expect.result c.in-Some.from c.in-Some-on_exit.to c.in-Some.ensures.word
+    c.in-Some-on_exit.ensures.word) c.find-expect.ensures.led) c.requires.agrees
+
+pub returns-clause-led : goal.returns-clause-led
+returns-clause-led c =
+    led_on (led_to (exits_on c.args.thaw c.args.level c.find-expect.result c.in-Some.from c.in-Some-on_exit.to c.in-Some.ensures.word
+    c.in-Some-on_exit.ensures.word) c.find-expect.ensures.led)
+    (led_to (exits_last c.args.thaw c.args.level c.find-found.result c.find-expect.result c.in-Some.from c.in-Some-on_exit.to c.in-Some.ensures.same)
+    c.find-found.ensures.led)

@@ -1,0 +1,4 @@
+pub mod Closings
+pub mod CallingBack
+pub mod Remounting
+pub mod Reopenings

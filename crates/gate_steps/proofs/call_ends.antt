@@ -1,5 +1,0 @@
-pub mod Beginning
-pub mod Closing
-pub mod CallingBack
-pub mod Remounting
-pub mod Reopening

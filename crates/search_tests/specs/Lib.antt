@@ -1,2 +1,0 @@
-pub mod Counters
-pub mod Laws
