@@ -1,5 +1,5 @@
 -- An operation that has begun stands at its first step.
-use Rattle.std.proofs.Common.{◌≡◌, ℕ, Bool, List, [], ◌∷◌, refl, sym, ap, subst}
+use Rattle.std.proofs.Common.{◌≡◌, ℕ, Bool, List, [], ◌∷◌, arith, sym, ap, subst}
 use Rattle.std.specs.Prelude.{Some}
 use Rattle.access_model.specs.declared.replies.Next.TheVariants.{Go}
 use Rattle.freeze_levels.specs.declared.freezes.Freeze.{Freeze}
@@ -10,9 +10,6 @@ use Rattle.gate_world.specs.Beginnings.{first_phase}
 use Rattle.gate_world.specs.declared.accesses.Accesses.{Accesses}
 use Rattle.gate_world.specs.declared.config.Config.{Config}
 use Rattle.gate_world.specs.declared.operations.Op.{Op}
-use Rattle.gate_world.specs.declared.operations.Op.TheVariants.{Want, DropMount, ChangeMount, RemountSb, Start, End, WantWrite, DropWrite}
-use Rattle.gate_world.specs.declared.operations.Op.TheVariants.{Callback as CallbackOp, Freeze as FreezeOp, Thaw as ThawOp, Create, Remove, Grow, MoveTo}
-use Rattle.gate_world.specs.declared.operations.Op.TheVariants.{Fault, Flush, Open, Close, Snapshot}
 use Rattle.gate_world.specs.declared.work.Phase.{Phase, TheVariants.{Callbacks, Freezes, Remounts, Thaws}}
 use Rattle.mount_counts.specs.declared.remounts.Remount.{Remount}
 use Rattle.mount_counts.specs.declared.remounts.RemountStep.TheVariants.{Locks as RemountLocks}
@@ -36,26 +33,7 @@ IsFirst (Callbacks x) = x.step ≡ Claims Loads
 IsFirst phase = Unit {0}
 
 is_first : (c : Config) (n : ℕ) (op : Op) → IsFirst (first_phase c n op)
-is_first c n (Want mount cpu wait) = tt
-is_first c n (DropMount mount cpu) = tt
-is_first c n (ChangeMount mount read_only wait) = tt
-is_first c n (RemountSb read_only) = refl
-is_first c n (Start level cpu wait) = tt
-is_first c n (End level cpu) = tt
-is_first c n (WantWrite mount cpu) = tt
-is_first c n (DropWrite mount cpu) = tt
-is_first c n (CallbackOp level) = refl
-is_first c n (FreezeOp holder) = refl
-is_first c n (ThawOp holder) = refl
-is_first c n (Create dir kind) = tt
-is_first c n (Remove file) = tt
-is_first c n (Grow file blocks) = tt
-is_first c n (MoveTo file dir) = tt
-is_first c n (Fault file) = tt
-is_first c n (Flush file) = tt
-is_first c n (Open file) = tt
-is_first c n (Close file cpu wait) = tt
-is_first c n (Snapshot wait) = tt
+is_first c n op = grind arith
 
 begun_items : (number : ℕ) (c : Config) (op : Op) (phase : Phase) (accesses : Accesses) (flags : List Bool) (items : DealtNumbers) →
     GhostAgrees number c (Some op) (state_at (Some phase) accesses) flags items → IsFirst phase

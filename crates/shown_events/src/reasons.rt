@@ -78,9 +78,7 @@ impl<'a, D: Driver> Asker<'a, D> {
             | Op::Fault { file: node }
             | Op::Flush { file: node }
             | Op::Open { file: node } => self.no_node(node),
-            Op::RemountSb { .. } | Op::Freeze { .. } | Op::Thaw { .. } | Op::Snapshot { .. } => {
-                None
-            }
+            _ => None,
         }
     }
 
@@ -111,7 +109,6 @@ impl<'a, D: Driver> Asker<'a, D> {
     /// What the task holds and may not, or doesn't hold and has to.
     fn out_of_order(&self, op: Op) -> Option<Reason> {
         match op {
-            Op::Want { .. } | Op::Callback { .. } | Op::Open { .. } => None,
             Op::DropMount { mount, .. } => self.lacks_mount(mount),
             Op::ChangeMount { .. }
             | Op::RemountSb { .. }
@@ -128,6 +125,7 @@ impl<'a, D: Driver> Asker<'a, D> {
             Op::Fault { .. } => self.lacks_level(2).or(self.lacks_mounts()),
             Op::Flush { .. } => self.lacks_level(3),
             Op::Close { file, .. } => self.holds_from(3).or(Some(Reason::NotOpen(file))),
+            _ => None,
         }
     }
 

@@ -16,9 +16,6 @@ use Rattle.gated_tree.specs.declared.trees.TreeWords.{TreeWords}
 use Rattle.percpu_rwsem.specs.Readers.{up_read_after}
 use Rattle.gate_world.specs.declared.config.Config.{Config}
 use Rattle.gate_world.specs.declared.operations.Op.{Op}
-use Rattle.gate_world.specs.declared.operations.Op.TheVariants.{Want, DropMount, ChangeMount, RemountSb, Start, End, WantWrite, DropWrite, Callback, Freeze as FreezeOp, Thaw as ThawOp}
-use Rattle.gate_world.specs.declared.operations.Op.TheVariants.{Create as CreateOp, Remove as RemoveOp, Grow as GrowOp, MoveTo as MoveToOp, Fault as FaultOp}
-use Rattle.gate_world.specs.declared.operations.Op.TheVariants.{Flush as FlushOp, Open as OpenOp, Close as CloseOp, Snapshot as SnapshotOp}
 use Rattle.gate_world.specs.declared.work.Phase.{Phase}
 use Rattle.gate_world.specs.declared.work.Phase.TheVariants.{Mounts, Remounts, DownReads, UpReads, Callbacks, Writes, Freezes, Thaws, Trees, Closes}
 use Rattle.gate_world.specs.declared.views.Traced.{Traced}
@@ -193,26 +190,7 @@ called_room nodes r op start now answer begins left phase stands other called no
 -- an operation that begins has loaded nothing yet
 begun_tells : (config : Config) (t : ℕ) (r : BufferWords) (trace : List Traced) (op : Op) →
     NextTells config.nodes r trace (Some (first_phase config t op))
-begun_tells config t r trace (Want x y z) = tt
-begun_tells config t r trace (DropMount x y) = tt
-begun_tells config t r trace (ChangeMount x y z) = tt
-begun_tells config t r trace (RemountSb x) = tt
-begun_tells config t r trace (Start x y z) = tt
-begun_tells config t r trace (End x y) = tt
-begun_tells config t r trace (WantWrite x y) = tt
-begun_tells config t r trace (DropWrite x y) = tt
-begun_tells config t r trace (Callback x) = tt
-begun_tells config t r trace (FreezeOp x) = tt
-begun_tells config t r trace (ThawOp x) = tt
-begun_tells config t r trace (CreateOp x y) = tt
-begun_tells config t r trace (RemoveOp x) = tt
-begun_tells config t r trace (GrowOp x y) = tt
-begun_tells config t r trace (MoveToOp x y) = tt
-begun_tells config t r trace (FaultOp x) = tt
-begun_tells config t r trace (FlushOp x) = tt
-begun_tells config t r trace (OpenOp x) = tt
-begun_tells config t r trace (CloseOp x y z) = tt
-begun_tells config t r trace (SnapshotOp wait) = (refl, tt)
+begun_tells config t r trace op = grind arith
 
 -- so as a task begins an operation, its room tells of the operation's first phase
 pub begun_in : (call : Call) (r : BufferWords) (begins : Option Op) (phase : Option Phase) →
