@@ -166,6 +166,28 @@ def checks_of_full():
         yield check_of(Program.run_to_full, words, "nothing can be written", (1, "", told), given=given)
 
 
+# A race of five tasks with more than two million states in full: some seconds, so that a second passes on a fast machine, too.
+LONG_RACE = b"""config 5 1 1 2 8
+race
+0 freeze
+0 snapshot
+0 thaw
+1 wantwrite 0 0
+1 dropwrite 0 0
+1 wantwrite 0 0
+1 dropwrite 0 0
+2 remount ro
+3 wantwrite 0 0
+3 dropwrite 0 0
+3 wantwrite 0 0
+3 dropwrite 0 0
+4 wantwrite 0 0
+4 dropwrite 0 0
+"""
+# What whoever watches a long search is told: how many states there are, on one line, which goes at the end.
+PROGRESS = Wanted("\\r* states\\x1b[K, again and again, and at last \\r\\x1b[K\n", rb"(\r[\d,]+ states\x1b\[K)+\r\x1b\[K")
+
+
 def checks_of_persons():
     """What a person is told who types a schedule, or who watches: what is awaited, and what helps after a fault. And an argument that is no text."""
     awaited = ("mntgate: type a schedule, from 'config *", True)
@@ -175,6 +197,9 @@ def checks_of_persons():
         ends = status, text, wanted_of([awaited, *told])
         yield check_of(Program.run_typed, words, f"'{line}' is typed", ends, given=given, types=True)
         yield check_of(Program.run_typed, words, f"'{line}' is watched", (status, text, wanted_of(told)), given=given, types=False)
+    words = ["outcomes", "--no-reduction", "--limit", "2000000"]
+    ends = 1, "more than 2000000 states, 0 outcomes so far\n", PROGRESS
+    yield check_of(Program.run_typed, words, "a long search is watched", ends, given=LONG_RACE, types=False)
     for words, text in (("replay", ""), ("outcomes", ""), ("check", "0 passed, 1 failed\n")):
         ends = 1, text, wanted_of([("\\x1b[2J: *", True)])
         yield check_of(Program.run, [words, "\x1b[2J"], "a name with control characters", ends)
