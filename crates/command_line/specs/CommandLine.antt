@@ -4,7 +4,7 @@ use Rattle.std.specs.Str.{bytes_eq}
 use Rattle.clap.specs.{Lexer.usize_max, Simple.new_shape, Words.{App, Row, Rule, Shape, Text, first_of, new_rule, one_of, subcommand_of, takes}}
 use Rattle.clap.specs.declared.builder.{action.ArgAction.TheVariants.SetTrue, value_parser.ValueParser.TheVariants.Unsigned}
 use Rattle.command_line.specs.declared.words.{Argument.{Argument, TheVariants.{File, Word, Files, Flag, Number, Choice}}, ProgramRequest.ProgramRequest}
-use Rattle.command_line.specs.declared.words.{ProgramRequest.TheVariants.Replay as AsksReplay, Form.TheVariants.Plain, Replay.Replay, Style.Style, Subcommand.Subcommand}
+use Rattle.command_line.specs.declared.words.{ProgramRequest.TheVariants.Replay as AsksReplay, ReplayForm.TheVariants.Plain, Replay.Replay, Style.Style, Subcommand.Subcommand}
 
 -- a flag, which is left out or given once
 abbrev pub flag_rule : Text → Rule

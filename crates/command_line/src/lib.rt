@@ -4,6 +4,6 @@
 pub mod words;
 
 pub use words::{
-    Explain, Form, Numbers, OutcomeForm, Outcomes, ProgramRequest, Replay, RunReport, Schedules,
-    Style, read_words,
+    Explain, Numbers, OutcomeForm, Outcomes, ProgramRequest, Replay, ReplayForm, RunReport,
+    ScheduleForm, Style, read_words,
 };

@@ -4,7 +4,7 @@ ghost use Rattle.std.specs.Prelude.{◌≡◌, ◌⊎◌, true, false, None, Som
 ghost use Rattle.clap.specs.Words.{app_of, first_of, found_of, kind_of, one_of, rows_of, rule_of, subcommand_rows_of};
 ghost use Rattle.clap.specs.declared.error.kind.ErrorKind.TheVariants.{OutOfMemory};
 ghost use Rattle.command_line.specs.CommandLine.{AreBare, IsBareReplay, IsPlainOfInput, MayAskPlainly, alone, are_plain, argument_rule, ask_plainly, is_off, is_plain_replay, mntgate_app, subcommand_shape, usual_style};
-ghost use Rattle.command_line.specs.declared.words.Form.TheVariants.{Plain};
+ghost use Rattle.command_line.specs.declared.words.ReplayForm.TheVariants.{Plain};
 
 use clap::builder::ValueParser;
 use clap::error::ErrorKind;
@@ -272,7 +272,7 @@ pub enum RunReport {
 
 /// What is printed of a replay.
 #[derive(Clone, Copy)]
-pub enum Form {
+pub enum ReplayForm {
     /// What its lines ask for.
     Plain,
     /// What its lines ask for, with the events of each `run`.
@@ -299,7 +299,7 @@ pub struct Style {
 pub struct Replay<'a> {
     /// The file that has it; standard input, where none is named.
     pub file: Option<&'a str>,
-    pub form: Form,
+    pub form: ReplayForm,
     pub style: Style,
     pub over_gates: bool,
     pub explain: bool,
@@ -314,7 +314,7 @@ pub struct Explain<'a> {
 
 /// In which form a schedule of each outcome is told, if it is.
 #[derive(Clone, Copy)]
-pub enum Schedules {
+pub enum ScheduleForm {
     Untold,
     /// In lines that a replay takes.
     Lines,
@@ -340,7 +340,7 @@ pub struct Outcomes<'a> {
     pub file: Option<&'a str>,
     pub form: OutcomeForm,
     pub style: Style,
-    pub schedules: Schedules,
+    pub schedules: ScheduleForm,
     /// Whether the final model is told.
     pub model: bool,
     /// Whether outcomes with other final models are told apart.
@@ -498,7 +498,7 @@ fn replay_of<'a, E: Write>(replay: &ArgMatches<'a>, errors: &mut E) -> ProgramRe
     let Some(style) = style_of(replay) else {
         return misused(WHOSE, REPLAY_USAGE, errors);
     };
-    if matches!(form, Form::Plain) && (style.raw || style.kernel_names) {
+    if matches!(form, ReplayForm::Plain) && (style.raw || style.kernel_names) {
         let why =
             "the arguments '--raw' and '--names' need '--events', '--columns', '--json' or '--html'";
         return misused(why, REPLAY_USAGE, errors);
@@ -600,7 +600,7 @@ fn check_of<'a, E: Write>(
 }
 
 /// What is to be printed of a replay; None where more than one of its flags is given.
-fn form_of(replay: &ArgMatches<'_>) -> Option<Form>
+fn form_of(replay: &ArgMatches<'_>) -> Option<ReplayForm>
     ensures plain { let rows = rows_of (found_of replay.now) in is_off rows (codes "events") ≡ true → is_off rows (codes "columns") ≡ true →
         is_off rows (codes "json") ≡ true → is_off rows (codes "html") ≡ true → result ≡ Some Plain }
     ensures events { result ≡ Some Plain → ¬ (one_of (codes "events") (rows_of (found_of replay.now)) ≡ Some (codes "true")) }
@@ -614,11 +614,11 @@ fn form_of(replay: &ArgMatches<'_>) -> Option<Form>
         is_on(replay, JSON),
         is_on(replay, HTML),
     ) {
-        (false, false, false, false) => Some(Form::Plain),
-        (true, false, false, false) => Some(Form::Events),
-        (false, true, false, false) => Some(Form::Columns),
-        (false, false, true, false) => Some(Form::Json),
-        (false, false, false, true) => Some(Form::Html),
+        (false, false, false, false) => Some(ReplayForm::Plain),
+        (true, false, false, false) => Some(ReplayForm::Events),
+        (false, true, false, false) => Some(ReplayForm::Columns),
+        (false, false, true, false) => Some(ReplayForm::Json),
+        (false, false, false, true) => Some(ReplayForm::Html),
         _ => None,
     }
 }
@@ -662,11 +662,11 @@ fn listing_of(outcomes: &ArgMatches<'_>) -> Option<OutcomeForm> {
 /// How outcomes are to be told, in this form.
 fn outcomes_of<'a>(outcomes: &ArgMatches<'a>, form: OutcomeForm, style: Style) -> Outcomes<'a> {
     let schedules = if outcomes.get_flag(COLUMNS) {
-        Schedules::Columns
+        ScheduleForm::Columns
     } else if outcomes.get_flag(SCHEDULES) {
-        Schedules::Lines
+        ScheduleForm::Lines
     } else {
-        Schedules::Untold
+        ScheduleForm::Untold
     };
     Outcomes {
         file: outcomes.get_str(FILE),

@@ -5,8 +5,8 @@ use mathlib.Core.Bool.{true≢false}
 use Rattle.command_line.specs.CommandLine.{IsPlainOfInput}
 use Rattle.command_line.specs.declared.words.ProgramRequest.{ProgramRequest}
 use Rattle.command_line.specs.declared.words.ProgramRequest.TheVariants as ask
-use Rattle.command_line.specs.declared.words.Form.{Form}
-use Rattle.command_line.specs.declared.words.Form.TheVariants.{Plain, Events, Columns, Json, Html}
+use Rattle.command_line.specs.declared.words.ReplayForm.{ReplayForm}
+use Rattle.command_line.specs.declared.words.ReplayForm.TheVariants.{Plain, Events, Columns, Json, Html}
 use Rattle.command_line.specs.declared.words.OutcomeForm.TheVariants.{Text}
 use Rattle.command_line.specs.declared.words.Numbers.{Numbers}
 use Rattle.command_line.specs.declared.words.Outcomes.{Outcomes}
@@ -35,7 +35,7 @@ never_of_file Refused e = cc
 never_of_file Misused e = cc
 
 -- what was done of standard input, over the core and in no other form
-plainly : (form : Form) (over_gates : Bool) → done_in form over_gates ≡ Done → (form ≡ Plain) × (over_gates ≡ false)
+plainly : (form : ReplayForm) (over_gates : Bool) → done_in form over_gates ≡ Done → (form ≡ Plain) × (over_gates ≡ false)
 plainly Plain true e = cc
 plainly Plain false e = (refl, refl)
 plainly Events over_gates e = cc
@@ -44,7 +44,7 @@ plainly Json over_gates e = cc
 plainly Html over_gates e = cc
 
 -- a replay that ends with `Done` is a plain one of standard input
-of_input : (file : Option (Bor (List ℕ))) (form : Form) (over_gates : Bool) → done_of file (done_in form over_gates) ≡ Done →
+of_input : (file : Option (Bor (List ℕ))) (form : ReplayForm) (over_gates : Bool) → done_of file (done_in form over_gates) ≡ Done →
     (form ≡ Plain) × (over_gates ≡ false) × (file ≡ None)
 of_input None form over_gates e = let plain = plainly form over_gates e in (plain.0, plain.1, refl)
 of_input (Some file) form over_gates e = absurd (never_of_file (done_in form over_gates) e)
@@ -57,7 +57,7 @@ is_of_replay DoneOverGates = true
 is_of_replay Shown = true
 is_of_replay ending = false
 
-replay_done : (file : Option (Bor (List ℕ))) (form : Form) (over_gates : Bool) → is_of_replay (done_of file (done_in form over_gates)) ≡ true
+replay_done : (file : Option (Bor (List ℕ))) (form : ReplayForm) (over_gates : Bool) → is_of_replay (done_of file (done_in form over_gates)) ≡ true
 replay_done None Plain true = refl
 replay_done None Plain false = refl
 replay_done None Events over_gates = refl

@@ -2,8 +2,8 @@
 use Rattle.std.specs.Prelude.{◌≡◌, ℕ, Bool, true, false, List, [], ◌++◌, All, Option, IfSome}
 use Rattle.std.specs.Io.KnownBytes.{Appends, Keeps}
 use Rattle.command_line.specs.declared.words.Outcomes.{Outcomes}
-use Rattle.command_line.specs.declared.words.Schedules as words
-use Rattle.command_line.specs.declared.words.Schedules.TheVariants as words_as
+use Rattle.command_line.specs.declared.words.ScheduleForm as words
+use Rattle.command_line.specs.declared.words.ScheduleForm.TheVariants as words_as
 use Rattle.exit_status.specs.Endings.{IsInput}
 use Rattle.exit_status.specs.declared.ends.ProgramEnding.{ProgramEnding}
 use Rattle.exit_status.specs.declared.ends.ProgramEnding.TheVariants.{Listed, Refused}
@@ -20,7 +20,7 @@ use Rattle.shown_outcomes.specs.Told.{TellsAll, TellsSome}
 use Rattle.shown_events.specs.Styles.{style_of}
 
 -- in which form schedules are told
-abbrev pub schedules_as : words.Schedules → Schedules
+abbrev pub schedules_as : words.ScheduleForm → Schedules
 schedules_as words_as.Untold = Untold
 schedules_as words_as.Lines = Lines
 schedules_as words_as.Columns = Columns

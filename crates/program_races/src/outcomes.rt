@@ -16,7 +16,7 @@ ghost use Rattle.schedule_lines.specs.bytes.Writing.{AppendsPart};
 
 use crate::progress::SearchProgress;
 use access_model::GateError;
-use command_line::{OutcomeForm, Outcomes};
+use command_line::{OutcomeForm, Outcomes, ScheduleForm};
 use diagnostics::{Context, Faulty, tell_faulty};
 use exit_status::{ProgramEnding, read_bytes, refused_of, why_told, why_told_of};
 use exploration::{Observer, Stop};
@@ -388,12 +388,12 @@ fn details_of(asked: Outcomes<'_>) -> Details
 }
 
 /// In which form schedules are told.
-fn schedules_of(asked: command_line::Schedules) -> Schedules
+fn schedules_of(asked: ScheduleForm) -> Schedules
     ensures { result ≡ schedules_as asked }
 {
     match asked {
-        command_line::Schedules::Untold => Schedules::Untold,
-        command_line::Schedules::Lines => Schedules::Lines,
-        command_line::Schedules::Columns => Schedules::Columns,
+        ScheduleForm::Untold => Schedules::Untold,
+        ScheduleForm::Lines => Schedules::Lines,
+        ScheduleForm::Columns => Schedules::Columns,
     }
 }

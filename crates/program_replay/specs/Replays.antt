@@ -2,8 +2,8 @@
 use Rattle.std.specs.Prelude.{◌≡◌, ℕ, Bool, true, false, List, Option, Some, None, Result, Ok, Err}
 use Rattle.std.specs.Borrow.{Bor}
 use Rattle.std.specs.Io.KnownBytes.{Keeps}
-use Rattle.command_line.specs.declared.words.Form.{Form}
-use Rattle.command_line.specs.declared.words.Form.TheVariants.{Plain}
+use Rattle.command_line.specs.declared.words.ReplayForm.{ReplayForm}
+use Rattle.command_line.specs.declared.words.ReplayForm.TheVariants.{Plain}
 use Rattle.exit_status.specs.Endings.{of_file}
 use Rattle.exit_status.specs.declared.ends.ProgramEnding.{ProgramEnding}
 use Rattle.exit_status.specs.declared.ends.ProgramEnding.TheVariants.{Done, DoneOverGates, Shown, Refused}
@@ -11,7 +11,7 @@ use Rattle.schedule_lines.specs.declared.bytes.replay_faults.ReplayFault.{Replay
 use Rattle.line_replays.specs.Replayed.{Replayed}
 
 -- how a replay ends that was done, in this form and over these gates, of standard input
-abbrev pub done_in : Form → Bool → ProgramEnding
+abbrev pub done_in : ReplayForm → Bool → ProgramEnding
 done_in Plain true = DoneOverGates
 done_in Plain false = Done
 done_in _ over_gates = Shown

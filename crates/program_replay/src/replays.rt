@@ -8,10 +8,10 @@ ghost use Rattle.program_replay.specs.Replays.{EndsReplayed, EndsReplayedFile, E
 
 use crate::gates_driver::GatesDriver;
 use crate::telling::{Telling, replay_told, show_told};
-use command_line::{Form, Replay};
+use command_line::{Replay, ReplayForm};
 use exit_status::{ProgramEnding, folder_told, unopened};
 use gate_core::Core;
-use shown_events::{Look, Style};
+use shown_events::{Form, Look, Style};
 use std::alloc::Global;
 use std::fs;
 use std::io::{Read, Stderr, Write};
@@ -118,22 +118,22 @@ fn replay_as<I: Read, W: Write, E: Write>(
         (I.remaining reader.old) (I.remaining reader.new) (W.contents writer.old) (W.contents writer.new) result }
 {
     let form = match asked.form {
-        Form::Plain if asked.over_gates => {
+        ReplayForm::Plain if asked.over_gates => {
             return match replay_told::<GatesDriver, I, W, E>(telling, reader, writer, errors) {
                 Ok(()) => ProgramEnding::DoneOverGates,
                 Err(_) => ProgramEnding::Refused,
             };
         }
-        Form::Plain => {
+        ReplayForm::Plain => {
             return match replay_told::<Core, I, W, E>(telling, reader, writer, errors) {
                 Ok(()) => ProgramEnding::Done,
                 Err(_) => ProgramEnding::Refused,
             };
         }
-        Form::Events => shown_events::Form::Events,
-        Form::Columns => shown_events::Form::Columns { width: WIDTH },
-        Form::Json => shown_events::Form::Json,
-        Form::Html => shown_events::Form::Picture,
+        ReplayForm::Events => Form::Events,
+        ReplayForm::Columns => Form::Columns { width: WIDTH },
+        ReplayForm::Json => Form::Json,
+        ReplayForm::Html => Form::Picture,
     };
     let look = Look {
         form,

@@ -4,7 +4,7 @@ use Rattle.std.proofs.lemmas.Bool.{false≢true}
 use Rattle.clap.specs.Words.{first_of, found_of, rows_of}
 use Rattle.clap.proofs.WalkLemmas.{first_value-rows}
 use Rattle.command_line.specs.CommandLine.{is_off}
-use Rattle.command_line.specs.declared.words.Form.{Form}
+use Rattle.command_line.specs.declared.words.ReplayForm.{ReplayForm}
 use Rattle.command_line.specs.declared.words.Replay.{Replay}
 use Rattle.command_line.proofs.Parsing.{PlainRows, and_left, and_right, is_none, plain_rows, unmapped, same_replay, same_form}
 use Rattle.command_line.proofs.words.replay_of.Goals as goal
@@ -32,7 +32,7 @@ pub returns-clause-only : goal.returns-clause-only
 returns-clause-only g c h =
     let found = found_of c.args.replay.now in
     let same = same_replay _ _ h.is in
-    let some : Form → Option Form = Some in
+    let some : ReplayForm → Option ReplayForm = Some in
     let form = c.in-Some.is ∙ ap some (ap (λ (r : Replay). r.form) same ∙ h.plain.form) in
     let core : c.is_on.result ≡ false = ap (λ (r : Replay). r.over_gates) same ∙ h.plain.core in
     record {
