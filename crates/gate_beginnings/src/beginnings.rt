@@ -65,7 +65,7 @@ fn is_in_range(op: Op, config: &Config) -> bool
         Op::Grow { file, blocks } => file < config.nodes && 0 < blocks,
         Op::MoveTo { file, dir } => file < config.nodes && dir < config.nodes,
         Op::Close { file, cpu, .. } => file < config.nodes && cpu < config.processors,
-        Op::RemountSb { .. } | Op::Freeze { .. } | Op::Thaw { .. } | Op::Snapshot { .. } => true,
+        _ => true,
     }
 }
 
@@ -78,7 +78,6 @@ fn is_in_order(op: Op, config: &Config, held: &Accesses) -> bool
     ensures { result ≡ is_in_order config.now (held_in held.now) op }
 {
     match op {
-        Op::Want { .. } | Op::Callback { .. } | Op::Open { .. } => true,
         Op::DropMount { mount, .. } => held.mounts[mount as usize] > 0,
         Op::ChangeMount { .. }
         | Op::RemountSb { .. }
@@ -95,6 +94,7 @@ fn is_in_order(op: Op, config: &Config, held: &Accesses) -> bool
         Op::Fault { .. } => held.levels[2] && held.holds_some_mount(config.mounts),
         Op::Flush { .. } => held.levels[3],
         Op::Close { file, .. } => held.is_in_none_from(3) && held.files[file as usize],
+        _ => true,
     }
 }
 
