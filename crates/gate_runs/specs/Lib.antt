@@ -1,3 +1,5 @@
-pub mod run_threads
-pub mod run_parts
+pub mod Refusals
+pub mod Parts
+pub mod Homes
+pub mod Ends
 pub mod Told

@@ -5,8 +5,8 @@ use Rattle.cpu_words.specs.declared.names.WordName.TheVariants.{Used}
 use Rattle.run_plans.specs.declared.counts.Totals.{Totals}
 use Rattle.run_plans.specs.Plans.{run_config}
 use Rattle.run_plans.specs.declared.counts.Details.{Details}
-use Rattle.gate_runs.specs.run_threads.Parts.{AllDid, EndsAs}
-use Rattle.gate_runs.specs.run_parts.Ended.{Ended, ClosedState}
+use Rattle.gate_runs.specs.Parts.{AllDid, EndsAs}
+use Rattle.vfs_gates.specs.Ended.{Ended, ClosedState}
 
 -- What a run tells of gates that are closed: the blocks that their files have in the end, and that nothing is held. In the world that they
 -- leave, each task has done its part from where it began, and nothing else: the backup all freezes, each with a snapshot, a call of the watch,

@@ -2,9 +2,8 @@
 //! closed. It needs public calls alone.
 #![tactic(auto)]
 
-pub mod run_parts;
-pub mod run_threads;
 mod runs;
+mod threads;
 mod told;
 
 pub use run_plans::{Copies, Details, Meeting, Plan, RunObserver, Sizes, Totals, Writes};

@@ -2,22 +2,22 @@
 
 ghost use Rattle.std.specs.Prelude.{◌≡◌, ◌≢◌, IfErr, IfOk, OnOk};
 ghost use Rattle.access_model.specs.declared.errors.GateError.TheVariants.{Invalid, Order, TooMany};
-ghost use Rattle.gate_runs.specs.run_parts.Ended.{EndedWith, HasAll};
-ghost use Rattle.gate_runs.specs.run_parts.TaskStates.{IsFrom};
+ghost use Rattle.vfs_gates.specs.Ended.{EndedWith, HasAll};
+ghost use Rattle.vfs_gates.specs.TaskStates.{IsFrom};
 ghost use Rattle.run_plans.specs.declared.counts.Details.{Details as DetailsType};
-ghost use Rattle.gate_runs.specs.run_parts.Meetings.{unseen};
+ghost use Rattle.run_plans.specs.Meetings.{unseen};
 ghost use Rattle.gate_runs.specs.Told.{TellsRun};
 ghost use Rattle.run_plans.specs.Plans.{MayRun, run_config};
-ghost use Rattle.gate_runs.specs.run_parts.Refusals.{RunRefused};
+ghost use Rattle.gate_runs.specs.Refusals.{RunRefused};
 
-use crate::run_parts::{Closed, Gates, Task};
-use crate::run_threads::in_threads;
+use crate::threads::in_threads;
 use access_model::{Gate, GateError};
 use cpu_words::WordName;
 use run_plans::{Details, MOUNT, Meeting, Plan, RunObserver, Totals};
 use std::alloc::Global;
 use std::sync::Wait;
 use std::thread::Threads;
+use vfs_gates::{Closed, Gates, Task};
 
 /// The wrapping sum of all count words: what is held.
 fn held_in(closed: &Closed) -> u64
@@ -64,19 +64,10 @@ pub fn run_plan<R: Threads + Wait + Sync, W: RunObserver + Sync>(
     ensures refused { IfErr result (RunRefused (run_config plan.tasks plan.processors plan.rounds) plan.tasks) }
     ensures in_order { IfErr result (λ refusal. (refusal ≢ Order) × (refusal ≢ TooMany) × (refusal ≢ Invalid)) }
 {
-    let (gates, task) = match Gates::new(alloc, plan.config()) {
-        Ok(made) => made,
-        Err(refusal) => return Err(refusal),
-    };
-    let (task, met) = match in_threads(rt, alloc, &gates, plan, watch, task) {
-        Ok(joined) => joined,
-        Err(refusal) => return Err(refusal),
-    };
+    let (gates, task) = Gates::new(alloc, plan.config())?;
+    let (task, met) = in_threads(rt, alloc, &gates, plan, watch, task)?;
     let closed = close(gates, task);
-    let details = match met {
-        Ok(details) => details,
-        Err(refusal) => return Err(refusal),
-    };
+    let details = met?;
     let totals = Totals {
         grown: closed.word(WordName::Used).unwrap_or(0),
         frozen: u64::from(details.copies.frozen),

@@ -14,7 +14,7 @@ use Rattle.command_line.specs.declared.words.ProgramRequest.TheVariants as ask
 use Rattle.exit_status.specs.declared.ends.ProgramEnding.{ProgramEnding}
 use Rattle.exit_status.specs.declared.ends.ProgramEnding.TheVariants.{Listed, Passed, Blessed, Ran, Told, Refused, Misused}
 use Rattle.gate_runs.specs.Told.{WasRun}
-use Rattle.gate_runs.specs.run_parts.Meetings.{unseen}
+use Rattle.run_plans.specs.Meetings.{unseen}
 use Rattle.run_plans.specs.Plans.{MayRun}
 
 -- How a replay ends, where its reader had and has this left, and its writer held and holds this.

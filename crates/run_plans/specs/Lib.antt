@@ -1,2 +1,3 @@
 pub mod Plans
 pub mod Counts
+pub mod Meetings

@@ -1,47 +1,49 @@
 -- what the threads did is what their tasks' numbers have in the end
-use Rattle.std.proofs.Common.{◌≡◌, ℕ, inl, inr, sym, ◌*◌, ◌-◌, ◌≤◌, arith, subst, ap, ◌∙◌}
+use Rattle.std.proofs.Common.{◌≡◌, ◌≢◌, ℕ, inl, inr, sym, ◌*◌, ◌-◌, ◌≤◌, arith, subst, ap, ◌∙◌}
 use Rattle.std.specs.Prelude.{Err, Ok, Result, slice_index, unwrap_or}
 use Rattle.access_model.specs.declared.errors.GateError.{GateError}
+use Rattle.access_model.specs.declared.errors.GateError.TheVariants.{Invalid, NoMemory, Order, TooMany}
 use Rattle.cpu_words.specs.Names.{place, stride}
 use Rattle.cpu_words.specs.declared.names.WordName.TheVariants.{Used}
 use Rattle.gate_world.specs.declared.config.Config.{Config}
-use Rattle.gate_runs.specs.run_parts.TaskStates.{SeatedTask}
+use Rattle.vfs_gates.specs.TaskStates.{SeatedTask}
 use Rattle.std.proofs.lemmas.Nat.{mul-le}
+use Rattle.std.proofs.lemmas.Result.{err_from_is_err_and}
 use Rattle.gate_world.specs.Configs.{IsWithin}
-use Rattle.gate_runs.specs.run_parts.Ended.{EndedWith, ClosedState}
-use Rattle.gate_runs.specs.run_threads.Ends.{AllJoined}
-use Rattle.gate_runs.specs.run_threads.Parts.{Among, EndsAs}
+use Rattle.vfs_gates.specs.Ended.{EndedWith, ClosedState}
+use Rattle.gate_runs.specs.Ends.{AllJoined}
+use Rattle.gate_runs.specs.Parts.{Among, EndsAs}
 use Rattle.run_plans.specs.Plans.{MayRun, run_config}
 use Rattle.run_plans.specs.declared.counts.Details.{Details}
 use Rattle.run_plans.specs.declared.plans.Plan.{Plan}
 use Rattle.vfs_gates.specs.declared.Gates.{Gates}
-use Rattle.gate_runs.specs.run_parts.Refusals.{RunRefused}
-use Rattle.gate_runs.specs.run_parts.Splitting.{Gives, HasBegun}
-use Rattle.gate_runs.proofs.run_parts.Answering.{in_order}
-use Rattle.gate_runs.proofs.run_parts.Splitting.{first_begins, gives_all}
-use Rattle.gate_runs.proofs.run_threads.Joining.{found_nothing}
-use Rattle.gate_runs.proofs.run_threads.Staying.{all_did_on, ends_as}
+use Rattle.gate_runs.specs.Refusals.{RunRefused}
+use Rattle.vfs_gates.specs.Splitting.{Gives, HasBegun}
+use Rattle.run_rounds.proofs.Answering.{met_in_order}
+use Rattle.vfs_gates.proofs.Splitting.{first_begins, gives_all}
+use Rattle.gate_runs.proofs.Joining.{found_nothing}
+use Rattle.gate_runs.proofs.Staying.{all_did_on, ends_as}
 use Rattle.gate_runs.proofs.runs.run_plan.Goals as goal
 
 pub in_threads-requires-clause-begins : goal.in_threads-requires-clause-begins
 in_threads-requires-clause-begins g c =
-    let made = c.in-Ok.ensures.made in
+    let made = c.in_ok-gates.ensures.made in
     let tasks : c.config.result.tasks ≡ c.args.plan.tasks = ap (λ (d : Config). d.tasks) c.config.ensures in
     let some : 1 ≤ c.config.result.tasks = omega (arith, tasks, c.args.plan.within.tasks_from) in
-    let begun : HasBegun 0 c.in-Ok.made.1 = first_begins c.in-Ok.made.1 c.config.result some (ap (λ (t : SeatedTask). t.items) made.1) in
+    let begun : HasBegun 0 c.in_ok-gates.task = first_begins c.in_ok-gates.task c.config.result some (ap (λ (t : SeatedTask). t.items) made.1) in
     λ _ _. begun
 
 pub in_threads-requires-clause-gives : goal.in_threads-requires-clause-gives
 in_threads-requires-clause-gives g c =
-    let made = c.in-Ok.ensures.made in
+    let made = c.in_ok-gates.ensures.made in
     let tasks : c.config.result.tasks ≡ c.args.plan.tasks = ap (λ (d : Config). d.tasks) c.config.ensures in
     let some : 1 ≤ c.config.result.tasks = omega (arith, tasks, c.args.plan.within.tasks_from) in
-    let gives : Gives c.in-Ok.made.1 1 c.args.plan.tasks = subst (λ n. Gives c.in-Ok.made.1 1 n) tasks
-    (gives_all c.in-Ok.made.1 c.config.result some (ap (λ (t : SeatedTask). t.phase) made.1) (ap (λ (t : SeatedTask). t.items) made.1)) in
+    let gives : Gives c.in_ok-gates.task 1 c.args.plan.tasks = subst (λ n. Gives c.in_ok-gates.task 1 n) tasks
+    (gives_all c.in_ok-gates.task c.config.result some (ap (λ (t : SeatedTask). t.phase) made.1) (ap (λ (t : SeatedTask). t.items) made.1)) in
     λ _ _. gives
 
 pub in_threads-requires-clause-planned : goal.in_threads-requires-clause-planned
-in_threads-requires-clause-planned g c = λ _ _. c.in-Ok.ensures.made.0 ∙ c.config.ensures
+in_threads-requires-clause-planned g c = λ _ _. c.in_ok-gates.ensures.made.0 ∙ c.config.ensures
 
 -- how all tasks were joined, with what they met
 met_so : (held : ℕ → ℕ → Type 0) (seen : ℕ → Type 0) (gates : Gates) (plan : Plan) (task : SeatedTask) (met : Result Details GateError)
@@ -51,13 +53,13 @@ met_so held seen gates plan task met details is joined = subst (AllJoined held s
 pub returns-clause-tells : goal.returns-clause-tells
 returns-clause-tells g c =
     let closed = c.close-closed.ensures in
-    let task = c.in-Ok-in_threads.joined.0 in
-    let joined = met_so _ _ _ c.args.plan task c.in-Ok-in_threads.joined.1 c.in-Ok-met.details c.in-Ok-met.is c.in-Ok-in_threads.ensures.joined in
+    let task = c.in_ok-task.task in
+    let joined = met_so _ _ _ c.args.plan task c.in_ok-task.met c.in_ok-details.details c.in_ok-details.was c.in_ok-task.ensures.joined in
     let views = closed.1.ended.world.views in
     let grown : c.unwrap_or.result ≡ slice_index c.close-closed.result.words (stride * place Used) =
     c.unwrap_or.ensures ∙ ap (λ o. unwrap_or o 0) (c.word.ensures.there tt) in
     record {
-      config = closed.0 ∙ (c.in-Ok.ensures.made.0 ∙ c.config.ensures);
+      config = closed.0 ∙ (c.in_ok-gates.ensures.made.0 ∙ c.config.ensures);
       grown = grown;
       none_held = c.held_in.ensures;
       frozen = c.from.ensures ∙ joined.copies.0;
@@ -92,44 +94,73 @@ run_within tasks processors rounds freezes may =
       capacity = omega (arith, room);
     }
 
-pub returns-in-Err-clause-refused : goal.returns-in-Err-clause-refused
-returns-in-Err-clause-refused g c =
-    let within : IsWithin c.config.result = subst IsWithin (sym c.config.ensures)
-    (run_within c.args.plan.tasks c.args.plan.processors c.args.plan.rounds c.args.plan.freezes c.args.plan.within) in
-    inl (c.in-Err.ensures.memory within)
+-- nobody is refused out of order: neither for memory, nor in a call
+in_order : (config : Config) (tasks : ℕ) (refusal : GateError) → RunRefused config tasks refusal →
+    (refusal ≢ Order) × (refusal ≢ TooMany) × (refusal ≢ Invalid)
+in_order config tasks refusal (inl memory) =
+    ((λ is. let f : ⊥ = cc in f), (λ is. let f : ⊥ = cc in f), (λ is. let f : ⊥ = cc in f))
+in_order config tasks refusal (inr by) = met_in_order config tasks refusal by
 
-pub returns-in-Err-in_threads-clause-refused : goal.returns-in-Err-in_threads-clause-refused
-returns-in-Err-in_threads-clause-refused g c =
-    subst (λ (d : Config). RunRefused d c.args.plan.tasks c.in-Err-in_threads.refusal)
-    (c.in-Ok.ensures.made.0 ∙ c.config.ensures) c.in-Err-in_threads.ensures.refused
+-- the gates are refused for memory alone
+pub returns-in_err-gates-clause-tells : goal.returns-in_err-gates-clause-tells
+returns-in_err-gates-clause-tells g c = let p = err_from_is_err_and c.from_residual.result c.from_residual.ensures.1 in rw p.1 tt
 
-pub returns-in-Err-met-clause-refused : goal.returns-in-Err-met-clause-refused
-returns-in-Err-met-clause-refused g c =
-    let joined = subst (AllJoined _ _ _ c.args.plan c.in-Ok-in_threads.joined.0) c.in-Err-met.is c.in-Ok-in_threads.ensures.joined in
-    subst (λ (d : Config). RunRefused d c.args.plan.tasks c.in-Err-met.refusal) (c.in-Ok.ensures.made.0 ∙ c.config.ensures)
-    (not_thawed _ _ _ c.args.plan c.in-Ok-in_threads.joined.0 c.in-Err-met.refusal c.close-closed.result joined c.close-closed.ensures.0
-    c.close-closed.ensures.1)
+no_memory : (plan : Plan) (config : Config) (refusal : GateError) → config ≡ run_config plan.tasks plan.processors plan.rounds →
+    (IsWithin config → refusal ≡ NoMemory) → RunRefused (run_config plan.tasks plan.processors plan.rounds) plan.tasks refusal
+no_memory plan config refusal is memory =
+    inl (memory (subst IsWithin (sym is) (run_within plan.tasks plan.processors plan.rounds plan.freezes plan.within)))
 
--- none is Order, TooMany or Invalid
-pub returns-in-Err-clause-in_order : goal.returns-in-Err-clause-in_order
-returns-in-Err-clause-in_order g c =
-    let within : IsWithin c.config.result = subst IsWithin (sym c.config.ensures)
-    (run_within c.args.plan.tasks c.args.plan.processors c.args.plan.rounds c.args.plan.freezes c.args.plan.within) in
-    in_order c.config.result c.args.plan.tasks c.in-Err.refusal (inl (c.in-Err.ensures.memory within))
+pub returns-in_err-gates-clause-refused : goal.returns-in_err-gates-clause-refused
+returns-in_err-gates-clause-refused g c =
+    let p = err_from_is_err_and c.from_residual.result c.from_residual.ensures.1 in
+    rw (p.1, p.2) (no_memory c.args.plan c.config.result c.in_err-gates.field-0.0 c.config.ensures c.in_err-gates.ensures.memory)
 
-pub returns-in-Err-in_threads-clause-in_order : goal.returns-in-Err-in_threads-clause-in_order
-returns-in-Err-in_threads-clause-in_order g c = in_order _ _ c.in-Err-in_threads.refusal c.in-Err-in_threads.ensures.refused
+pub returns-in_err-gates-clause-in_order : goal.returns-in_err-gates-clause-in_order
+returns-in_err-gates-clause-in_order g c =
+    let p = err_from_is_err_and c.from_residual.result c.from_residual.ensures.1 in
+    rw (p.1, p.2) (in_order _ _ c.in_err-gates.field-0.0
+    (no_memory c.args.plan c.config.result c.in_err-gates.field-0.0 c.config.ensures c.in_err-gates.ensures.memory))
 
-pub returns-in-Err-met-clause-in_order : goal.returns-in-Err-met-clause-in_order
-returns-in-Err-met-clause-in_order g c =
-    let joined = subst (AllJoined _ _ _ c.args.plan c.in-Ok-in_threads.joined.0) c.in-Err-met.is c.in-Ok-in_threads.ensures.joined in
-    in_order _ _ c.in-Err-met.refusal
-    (not_thawed _ _ _ c.args.plan c.in-Ok-in_threads.joined.0 c.in-Err-met.refusal c.close-closed.result joined c.close-closed.ensures.0
-    c.close-closed.ensures.1)
+-- the threads, as they were
+pub returns-in_err-task-clause-tells : goal.returns-in_err-task-clause-tells
+returns-in_err-task-clause-tells g c =
+    let p = err_from_is_err_and c.from_residual-in_err-task.result c.from_residual-in_err-task.ensures.1 in rw p.1 tt
+
+pub returns-in_err-task-clause-refused : goal.returns-in_err-task-clause-refused
+returns-in_err-task-clause-refused g c =
+    let p = err_from_is_err_and c.from_residual-in_err-task.result c.from_residual-in_err-task.ensures.1 in
+    rw (p.1, p.2) (subst (λ (d : Config). RunRefused d c.args.plan.tasks c.in_err-task.field-0.0)
+    (c.in_ok-gates.ensures.made.0 ∙ c.config.ensures) c.in_err-task.ensures.refused)
+
+pub returns-in_err-task-clause-in_order : goal.returns-in_err-task-clause-in_order
+returns-in_err-task-clause-in_order g c =
+    let p = err_from_is_err_and c.from_residual-in_err-task.result c.from_residual-in_err-task.ensures.1 in
+    rw (p.1, p.2) (in_order _ _ c.in_err-task.field-0.0 c.in_err-task.ensures.refused)
+
+-- and what a task met, as it was
+pub returns-in_err-details-clause-tells : goal.returns-in_err-details-clause-tells
+returns-in_err-details-clause-tells g c =
+    let p = err_from_is_err_and c.from_residual-in_err-details.result c.from_residual-in_err-details.ensures.1 in rw p.1 tt
+
+pub returns-in_err-details-clause-refused : goal.returns-in_err-details-clause-refused
+returns-in_err-details-clause-refused g c =
+    let p = err_from_is_err_and c.from_residual-in_err-details.result c.from_residual-in_err-details.ensures.1 in
+    let joined = subst (AllJoined _ _ _ c.args.plan c.in_ok-task.task) c.in_err-details.was c.in_ok-task.ensures.joined in
+    rw (p.1, p.2) (subst (λ (d : Config). RunRefused d c.args.plan.tasks c.in_err-details.field-0.0) (c.in_ok-gates.ensures.made.0 ∙ c.config.ensures)
+    (not_thawed _ _ _ c.args.plan c.in_ok-task.task c.in_err-details.field-0.0 c.close-closed.result joined c.close-closed.ensures.0
+    c.close-closed.ensures.1))
+
+pub returns-in_err-details-clause-in_order : goal.returns-in_err-details-clause-in_order
+returns-in_err-details-clause-in_order g c =
+    let p = err_from_is_err_and c.from_residual-in_err-details.result c.from_residual-in_err-details.ensures.1 in
+    let joined = subst (AllJoined _ _ _ c.args.plan c.in_ok-task.task) c.in_err-details.was c.in_ok-task.ensures.joined in
+    rw (p.1, p.2) (in_order _ _ c.in_err-details.field-0.0
+    (not_thawed _ _ _ c.args.plan c.in_ok-task.task c.in_err-details.field-0.0 c.close-closed.result joined c.close-closed.ensures.0
+    c.close-closed.ensures.1))
 
 -- all numbers are back
 pub close-closed-requires-clause-all : goal.close-closed-requires-clause-all
-close-closed-requires-clause-all g c = c.in-Ok-in_threads.ensures.joined.all
+close-closed-requires-clause-all g c = c.in_ok-task.ensures.joined.all
 
 pub close-closed-requires-clause-from : goal.close-closed-requires-clause-from
-close-closed-requires-clause-from g c = c.in-Ok-in_threads.ensures.joined.from
+close-closed-requires-clause-from g c = c.in_ok-task.ensures.joined.from

@@ -1,0 +1,115 @@
+-- What a task has that took back the numbers of others, and why it found nothing thawed.
+use Rattle.std.proofs.Common.{◌≡◌, ℕ, zero, suc, ◌+◌, ◌<◌, ◌≤◌, false, List, [], ◌∷◌, ◌++◌, length, refl, sym, ◌∙◌, subst, inl, inr, arith}
+use Rattle.std.proofs.lemmas.Bool.Decides.{eqb_tells}
+use Rattle.access_model.specs.declared.actions.Holder.TheVariants.{User}
+use Rattle.gate_world.specs.declared.config.Config.{Config}
+use Rattle.gate_world.specs.declared.views.View.{View}
+use Rattle.vfs_gates.specs.Frozen.{NeverThaws}
+use Rattle.vfs_gates.specs.Grown.{StaySeen}
+use Rattle.vfs_gates.proofs.Grown.{both_stay_seen, same_stays_seen, stays_seen_on}
+use Rattle.vfs_gates.proofs.Rounds.{own_times, times-append}
+use Rattle.vfs_gates.proofs.Standing.{stands}
+use Rattle.vfs_gates.specs.Ended.{EndedWith, HasAll}
+use Rattle.run_rounds.specs.Keeping.{HaveNotThawed}
+use Rattle.run_rounds.specs.Refusals.{FoundThawed}
+use Rattle.vfs_gates.specs.Seating.{DealtNumbers, HaveViews, one_if, times}
+use Rattle.vfs_gates.specs.TaskStates.{SeatedTask, own_number, spare_of}
+use Rattle.gate_runs.specs.Homes.{HasBack, NeverThawed, TookBack}
+
+have_not_both : (a b : DealtNumbers) → HaveNotThawed a → HaveNotThawed b → HaveNotThawed (a ++ b)
+have_not_both [] b none more = more
+have_not_both (x ∷ a) b none more = (none.0, have_not_both a b none.1 more)
+
+own_both : (a b : DealtNumbers) → 1 ≤ length a → own_number (a ++ b) ≡ own_number a
+own_both [] b there = absurd (omega arith)
+own_both (x ∷ a) b there = refl
+
+some_both : (a b : DealtNumbers) → 1 ≤ length a → 1 ≤ length (a ++ b)
+some_both [] b there = absurd (omega arith)
+some_both (x ∷ a) b there = omega arith
+
+spare_both : (a b : DealtNumbers) → 1 ≤ length a → HaveNotThawed (spare_of a) → HaveNotThawed b → HaveNotThawed (spare_of (a ++ b))
+spare_both [] b there none more = absurd (omega arith)
+spare_both (x ∷ a) b there none more = have_not_both a b none more
+
+-- none was taken back yet
+pub has_none_back : (s : SeatedTask) (from count : ℕ) → count ≤ from → HasBack from count s s
+has_none_back s from count none = record {
+  own = refl;
+  there = λ some. some;
+  back = λ n low high. absurd (omega (arith, low, high, none));
+  none = λ never. never;
+  seen = same_stays_seen s.seen;
+}
+
+-- and one more
+pub has_back_more : (from next count : ℕ) (first old other new : SeatedTask) → next ≡ suc from → 1 ≤ length old.items → NeverThawed from other →
+    TookBack old other new → HasBack next count first old → HasBack from count first new
+has_back_more from next count first old other new is there never took before =
+    let joined : SeatedTask = record old { items = old.items ++ other.items; seen = old.seen ++ other.seen } in
+    subst (HasBack from count first) (sym took) (let has : HasBack from count first joined = record {
+      own = own_both old.items other.items there ∙ before.own;
+      there = λ some. some_both old.items other.items there;
+      back = λ n low high.
+          let all = times-append n old.items other.items in
+          elim (eqb_tells from n) [
+            | inl same ↦ let its = own_times n other.items (never.own ∙ same.1) never.there in omega (arith, all, its)
+            | inr more ↦ let its = before.back n (omega (arith, low, is, more.1)) high in omega (arith, all, its)
+          ];
+      none = λ none. spare_both old.items other.items there (before.none none) never.none;
+      seen = stays_seen_on first.seen old.seen joined.seen before.seen (both_stay_seen old.seen other.seen).0;
+    } in has)
+
+-- so it has all, if its own is the first
+pub all_numbers : (count : ℕ) (old new : SeatedTask) → HasBack 1 count old new → own_number new.items ≡ 0 → 1 ≤ length new.items →
+    (n : ℕ) → n < count → 1 ≤ times n new.items
+all_numbers count old new has own there zero lt = own_times 0 new.items own there
+all_numbers count old new has own there (suc k) lt = has.back (suc k) (omega arith) lt
+
+-- what a task found it has found still when it has seen more
+pub found_on : (s t : SeatedTask) → t.config ≡ s.config → own_number t.items ≡ own_number s.items → StaySeen s.seen t.seen → FoundThawed s →
+    FoundThawed t
+found_on s t config own seen found = record {
+  op = found.op;
+  first = found.first;
+  last = found.last;
+  config = found.config ∙ sym config;
+  own = found.own ∙ sym own;
+  needs = found.needs;
+  holds = found.holds;
+  refused = found.refused;
+  seen = stays_seen_on found.last.seen s.seen t.seen found.seen seen;
+}
+
+-- each other number hasn't thawed in the end
+spare_never : (views : ℕ → View) (items : DealtNumbers) → HaveViews views items → HaveNotThawed items → (t : ℕ) → 1 ≤ times t items →
+    NeverThaws User (views t).actions
+spare_never views [] have none t some = absurd (omega (arith, some))
+spare_never views (x ∷ xs) have none t some =
+    elim (eqb_tells x.number t) [
+      | inl is ↦ subst (λ n. NeverThaws User (views n).actions) is.1 (subst (λ (v : View). NeverThaws User v.actions) (sym (have 0 x refl)) none.0)
+      | inr other ↦
+          let more : 1 ≤ one_if false + times t xs = subst (λ b. 1 ≤ one_if b + times t xs) other.0 some in
+          spare_never views xs (λ k y at. have (suc k) y at) none.1 t (omega (arith, more))
+    ]
+
+others_never : (views : ℕ → View) (items : DealtNumbers) → HaveViews views items → HaveNotThawed (spare_of items) → (t : ℕ) → 1 ≤ times t items →
+    (t ≡ own_number items → ⊥) → NeverThaws User (views t).actions
+others_never views [] have none t some other = absurd (omega (arith, some))
+others_never views (x ∷ xs) have none t some other =
+    elim (eqb_tells x.number t) [
+      | inl is ↦ absurd (other (sym is.1))
+      | inr differs ↦
+          let more : 1 ≤ one_if false + times t xs = subst (λ b. 1 ≤ one_if b + times t xs) differs.0 some in
+          spare_never views xs (λ k y at. have (suc k) y at) none t (omega (arith, more))
+    ]
+
+-- so closed gates tell that a task with all numbers has found nothing thawed, if none of the others thawed
+pub found_nothing : (c : Config) (ws : List ℕ) (s : SeatedTask) → s.config ≡ c → HasAll s → HaveNotThawed (spare_of s.items) →
+    EndedWith c ws s.items s.seen → FoundThawed s → ⊥
+found_nothing c ws s of all none e found =
+    let same : c ≡ found.first.config = sym (found.config ∙ of) in
+    let ends : EndedWith found.first.config ws s.items s.seen = subst (λ (d : Config). EndedWith d ws s.items s.seen) same e in
+    stands User found.op found.first found.last found.refused found.needs ws s.items s.seen ends found.holds found.seen
+    (λ t lt other. others_never ends.ended.world.views s.items ends.mine none t
+    (all.2 t (subst (λ (d : Config). t < d.tasks) found.config lt)) (λ is. other (is ∙ sym found.own)))

@@ -1,0 +1,4 @@
+mod Homes
+mod Staying
+mod Resting
+mod Joining

@@ -1,4 +1,0 @@
-pub mod Homes
-pub mod Staying
-pub mod Resting
-pub mod Joining

@@ -1,0 +1,28 @@
+-- All threads that were joined are those of the last tasks. Each of these has done its part, with what they met together, or a call was refused.
+use Rattle.std.proofs.Common.{◌≡◌, ◌+◌, ◌-◌, ◌≤◌, length, vec_len}
+use Rattle.std.specs.Prelude.{IfErr, IfOk}
+use Rattle.gate_runs.specs.Refusals.{RunRefused}
+use Rattle.vfs_gates.specs.TaskStates.{IsFrom, SeatedTask}
+use Rattle.vfs_gates.specs.Held.{Rests}
+use Rattle.gate_runs.specs.Homes.{HasBack}
+use Rattle.gate_runs.specs.Parts.{Among, EachFrom}
+use Rattle.gate_runs.proofs.Homes.{Joined}
+use Rattle.gate_runs.proofs.threads.join_workers.Given as goal
+
+abbrev pub invariant-loop-worker : goal.invariant-loop-worker
+invariant-loop-worker g l = record {
+  from : IsFrom l.task l.fn.gates;
+  rests : Rests l.task;
+  there : 1 ≤ length l.task.items;
+  homes : EachFrom
+      (λ place w. (w.promise.gates.now ≡ l.fn.gates) × (w.promise.plan ≡ l.fn._plan) × (w.promise.watch.now ≡ l.fn._watch)
+      × (w.promise.number ≡ place + 1)) 0 l.workers.items;
+  others : (s : SeatedTask) → Among l.fn.task.items s → Among l.task.items s;
+  back : HasBack (vec_len l.workers + 1) (vec_len l.fn.workers + 1) l.fn.task l.task;
+  parts : IfOk l.met (λ m. Joined (Among l.task.items) (g.W.RunObserver.held l.fn._watch) l.fn._plan.processors l.fn._plan.rounds
+      (vec_len l.workers) (vec_len l.fn.workers - 1) m.0 m.1);
+  refused : IfErr l.met (RunRefused l.fn.gates.words.config l.fn._plan.tasks);
+}
+
+abbrev pub decreases-loop-worker : goal.decreases-loop-worker
+decreases-loop-worker g l = vec_len l.workers

@@ -1,0 +1,23 @@
+-- How the threads of a run end.
+use Rattle.std.specs.Prelude.{◌≡◌, ℕ, ◌⊎◌, Result, IfErr, IfOk}
+use Rattle.access_model.specs.declared.errors.GateError.{GateError}
+use Rattle.run_plans.specs.declared.counts.Details.{Details}
+use Rattle.run_plans.specs.declared.plans.Plan.{Plan}
+use Rattle.vfs_gates.specs.declared.Gates.{Gates}
+use Rattle.vfs_gates.specs.Ended.{HasAll}
+use Rattle.run_rounds.specs.Keeping.{HaveNotThawed}
+use Rattle.gate_runs.specs.Refusals.{RunRefused}
+use Rattle.run_rounds.specs.Refusals.{FoundThawed}
+use Rattle.vfs_gates.specs.TaskStates.{IsFrom, SeatedTask, spare_of}
+use Rattle.gate_runs.specs.Parts.{AllDid, Among}
+
+-- All tasks were joined, whatever they met. The task that took them back is from these gates, rests and has all numbers, and none of the others has
+-- thawed. Each has done its part; or a call was refused so, or the backup found thawed what it had frozen.
+pub record AllJoined (held : ℕ → ℕ → Type 0) (seen : ℕ → Type 0) (gates : Gates) (plan : Plan) (task : SeatedTask) (met : Result Details GateError) :
+    Type 0 where
+  pub from : IsFrom task gates
+  pub all : HasAll task
+  pub none : HaveNotThawed (spare_of task.items)
+  pub copies : IfOk met (λ d. (d.copies.frozen ≡ plan.freezes) × (d.copies.snapshots ≡ plan.freezes))
+  pub did : IfOk met (AllDid (Among task.items) held seen plan.tasks plan.processors plan.rounds plan.freezes)
+  pub refused : IfErr met (λ refusal. RunRefused gates.words.config plan.tasks refusal ⊎ FoundThawed task)

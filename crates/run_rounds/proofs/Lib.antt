@@ -1,0 +1,3 @@
+mod Repeating
+pub mod Answering
+pub mod Keeping
