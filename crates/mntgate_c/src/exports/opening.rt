@@ -6,48 +6,15 @@ ghost use Rattle.gate_world.specs.Configs.{IsWithin};
 ghost use Rattle.vfs_gates.specs.Ended.{HasAll, HasOpeningWords};
 ghost use Rattle.vfs_gates.specs.Held.{Rests};
 ghost use Rattle.vfs_gates.specs.Parts.{SplitOf};
-ghost use Rattle.mntgate_c.specs.Closings.{ClosedWith};
-ghost use Rattle.mntgate_c.specs.Codes.{answer_of};
-ghost use Rattle.mntgate_c.specs.Opening.{SplitIsRefused, config_of};
+ghost use Rattle.task_handles.specs.Closings.{ClosedWith};
+ghost use Rattle.task_handles.specs.Codes.{answer_of};
+ghost use Rattle.task_handles.specs.Openings.{SplitIsRefused, config_of};
 
-use crate::closings::write_values;
-use crate::codes::code;
-use crate::events::WordRecord;
-use crate::handles::TaskHandle;
-use crate::members::Member;
 use std::alloc::Global;
-use vfs_gates::{Config, GateError};
-
-/// How many of each there are: tasks and processors 1 to 64, mounts 1 to 8, nodes 2 to 64, and the blocks that all files may have.
-#[repr(C)]
-#[derive(Clone, Copy)]
-pub struct ConfigRecord {
-    pub tasks: u8,
-    pub processors: u8,
-    pub mounts: u8,
-    pub nodes: u8,
-    pub capacity: u32,
-}
-
-/// The configuration that C names.
-fn config(named: ConfigRecord) -> Config
-    ensures { result ≡ config_of named }
-{
-    let ConfigRecord {
-        tasks,
-        processors,
-        mounts,
-        nodes,
-        capacity,
-    } = named;
-    Config {
-        tasks,
-        processors,
-        mounts,
-        nodes,
-        capacity,
-    }
-}
+use task_handles::codes::code;
+use task_handles::events::WordRecord;
+use task_handles::handles::TaskHandle;
+use task_handles::openings::ConfigRecord;
 
 /// Opens gates, and gives the handle, which has none, the task that has all other numbers to give. Where it is refused the handle has
 /// none still.
@@ -62,13 +29,7 @@ pub extern "C" fn mntgate_open(alloc: Global, task: &mut TaskHandle, named: &Con
     ensures invalid { ¬ IsWithin (config_of named.now) → answer_of result ≡ Err Invalid }
     ensures memory { IsWithin (config_of named.now) → OnErr (answer_of result) (answer_of result ≡ Err NoMemory) }
 {
-    match Member::open(alloc, config(*named)) {
-        Ok(member) => {
-            task.put(member);
-            0
-        }
-        Err(refusal) => code(Err(refusal)),
-    }
+    code(task.open(alloc, *named))
 }
 
 /// Splits off a task with the lowest number that this one has to give, for a handle that has none. EDEADLK, with both as they were, unless
@@ -86,13 +47,7 @@ pub extern "C" fn mntgate_split(alloc: Global, task: &mut TaskHandle, other: &mu
     ensures order { answer_of result ≡ Err Order → task.new.state ≡ task.old.state }
     ensures why { IfErr (answer_of result) (SplitIsRefused task.old.state) }
 {
-    match task.member().split(alloc) {
-        Ok(made) => {
-            other.put(made);
-            0
-        }
-        Err(refusal) => code(Err(refusal)),
-    }
+    code(task.split_into(alloc, other))
 }
 
 /// Takes back the numbers of another task of the same gates, whose handle has none then. EDEADLK, with both as they were, unless both
@@ -108,12 +63,7 @@ pub extern "C" fn mntgate_join(alloc: Global, task: &mut TaskHandle, other: &mut
     ensures refused { OnErr (answer_of result) ((answer_of result ≡ Err Order) × (other.new.full ≡ true) × (task.new.state ≡ task.old.state)
         × (other.new.state ≡ other.old.state) × ¬ (Rests task.old.state × Rests other.old.state)) }
 {
-    if !task.member().task.rests() || !other.member().task.rests() {
-        return code(Err(GateError::Order));
-    }
-    let joined = other.take(alloc);
-    task.member().absorb(Box::into_inner(joined));
-    0
+    code(task.join(alloc, other))
 }
 
 /// Closes the gates, whose last task this is, leaves the handle without one, and writes to `values` what the words hold at the end that
@@ -135,23 +85,5 @@ pub extern "C" fn mntgate_close_words(
     ensures refused { answer_of result ≡ Err Order → (task.new.full ≡ true) × (task.new.state ≡ task.old.state) × ¬ HasAll task.old.state }
     ensures busy { answer_of result ≡ Err Busy → (task.new.full ≡ true) × (task.new.state ≡ task.old.state) }
 {
-    if asked.len() != values.len() {
-        return code(Err(GateError::Invalid));
-    }
-    if !task.member().task.has_all() {
-        return code(Err(GateError::Order));
-    }
-    match Box::into_inner(task.take(alloc)).close() {
-        Ok(closed) => {
-            write_values(&closed, asked, values);
-            0
-        }
-        Err(back) => match Box::new(alloc, back) {
-            Ok(member) => {
-                task.put(member);
-                code(Err(GateError::Busy))
-            }
-            Err(_) => code(Err(GateError::NoMemory)),
-        },
-    }
+    code(task.close(alloc, asked, values))
 }

@@ -9,18 +9,17 @@ ghost use Rattle.gate_world.specs.declared.work.Phase.{Phase as PhaseType};
 ghost use Rattle.gate_steps.specs.call_events.Runs.{OpUnderWay, ProgressMatches};
 ghost use Rattle.gate_steps.specs.call_events.Stepped.{Stepped};
 ghost use Rattle.vfs_gates.specs.TaskStates.{SeatedTask, refusal_at, IsIdle};
-ghost use Rattle.mntgate_c.specs.Codes.{answer_of, hook_answer, hook_at, progress_at};
-ghost use Rattle.mntgate_c.specs.Events.{step_at};
-ghost use Rattle.mntgate_c.specs.Operations.{op_at};
-ghost use Rattle.mntgate_c.specs.Runs.{Runs};
+ghost use Rattle.task_handles.specs.Codes.{answer_of, hook_answer, hook_at, progress_at};
+ghost use Rattle.task_handles.specs.Events.{step_at};
+ghost use Rattle.task_handles.specs.Operations.{op_at};
+ghost use Rattle.task_handles.specs.Runs.{Runs};
 
-use crate::codes::{Outcome, answer, code, hook_code, tell};
-use crate::events::{StepRecord, record};
-use crate::handles::TaskHandle;
-use crate::members::Member;
-use crate::operations::{OpRecord, operation};
-use crate::runs::run;
-use vfs_gates::GateError;
+use task_handles::codes::{Outcome, answer, code, hook_code, tell};
+use task_handles::events::{StepRecord, record};
+use task_handles::handles::TaskHandle;
+use task_handles::members::Member;
+use task_handles::operations::OpRecord;
+use task_handles::runs::run;
 
 /// Begins an operation; no word is changed. EINVAL where there is none of that kind.
 #[unsafe(no_mangle)]
@@ -32,10 +31,7 @@ pub extern "C" fn mntgate_begin(task: &mut TaskHandle, op: &OpRecord) -> u32
     ensures unknown { op_at op.now ≡ None → answer_of result ≡ Err Invalid }
     ensures refused { OnErr (answer_of result) (task.new.state ≡ task.old.state) }
 {
-    match operation(*op) {
-        Some(op) => code(task.member().task.begin(op)),
-        None => code(Err(GateError::Invalid)),
-    }
+    code(task.begin(*op))
 }
 
 /// Does the next event of the operation under way, and writes what it was. `hook` is what the hook answers that it reads, if it reads one:

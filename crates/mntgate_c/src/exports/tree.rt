@@ -6,16 +6,15 @@ ghost use Rattle.gate_world.specs.declared.views.Snapshot.{Snapshot as Taken};
 ghost use Rattle.gated_tree.specs.Trees.{node_at};
 ghost use Rattle.gate_steps.specs.call_events.Runs.{Performs, Replies, node_of};
 ghost use Rattle.vfs_gates.specs.TaskStates.{own_view};
-ghost use Rattle.mntgate_c.specs.Codes.{answer_of, answer_with};
-ghost use Rattle.mntgate_c.specs.Operations.{kind_of};
-ghost use Rattle.mntgate_c.specs.Trees.{node_told};
+ghost use Rattle.task_handles.specs.Codes.{answer_of, answer_with};
+ghost use Rattle.task_handles.specs.Operations.{kind_of};
+ghost use Rattle.task_handles.specs.Trees.{node_told};
 
-use crate::codes::code;
-use crate::handles::TaskHandle;
-use crate::members::Member;
-use crate::operations::kind;
-use crate::trees::{NodeRecord, node as record};
-use vfs_gates::GateError;
+use task_handles::codes::{code, made};
+use task_handles::handles::TaskHandle;
+use task_handles::members::Member;
+use task_handles::operations::kind;
+use task_handles::trees::NodeRecord;
 
 /// Makes an empty file or directory in a directory, and writes the number of its node (`vfs_create`, `vfs_mkdir`). Where it is refused
 /// nothing is written.
@@ -27,13 +26,7 @@ pub extern "C" fn mntgate_create(task: &mut TaskHandle, dir: u8, is_dir: bool, n
     ensures refused { OnErr (answer_of result) (node.new ≡ node.old) }
 {
     let Member { gates, task } = task.member();
-    match task.create(gates, dir, kind(is_dir)) {
-        Ok(made) => {
-            *node = made;
-            0
-        }
-        Err(refusal) => code(Err(refusal)),
-    }
+    made(task.create(gates, dir, kind(is_dir)), node)
 }
 
 /// Removes a file (`vfs_unlink`).
@@ -134,13 +127,7 @@ pub extern "C" fn mntgate_tree_node(task: &mut TaskHandle, number: u8, node: &mu
         × (node_told node.new ≡ node_at s.loaded number) × (node.new.kids ≡ slice_index s.loaded.kids number)) }
     ensures none { OnErr (answer_of result) ((own_view task.old.state.items).snapshot ≡ None) }
 {
-    match task.member().task.tree() {
-        Some(tree) => {
-            *node = record(tree, number);
-            0
-        }
-        None => code(Err(GateError::NoEntry)),
-    }
+    code(task.tree_node(number, node))
 }
 
 /// Writes how many blocks were charged in the last snapshot that the task has taken. ENOENT before its first.
@@ -152,11 +139,5 @@ pub extern "C" fn mntgate_tree_used(task: &mut TaskHandle, used: &mut u64) -> u3
     ensures taken { OnOk (answer_of result) ((s : Taken) × ((own_view task.old.state.items).snapshot ≡ Some s) × (used.new ≡ s.loaded.used)) }
     ensures none { OnErr (answer_of result) ((own_view task.old.state.items).snapshot ≡ None) }
 {
-    match task.member().task.tree() {
-        Some(tree) => {
-            *used = tree.used();
-            0
-        }
-        None => code(Err(GateError::NoEntry)),
-    }
+    code(task.tree_used(used))
 }

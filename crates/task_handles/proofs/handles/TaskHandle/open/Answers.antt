@@ -1,0 +1,8 @@
+use Rattle.std.proofs.Common.{sym, subst}
+use Rattle.vfs_gates.specs.Ended.{HasOpeningWords}
+use Rattle.vfs_gates.specs.TaskStates.{SeatedTask}
+use Rattle.task_handles.proofs.handles.TaskHandle.open.Goals as goal
+
+-- the handle has the task of the block
+pub returns-clause-words : goal.returns-clause-words
+returns-clause-words c = subst (λ (s : SeatedTask). HasOpeningWords s.config s.items) (sym c.put.ensures.1) c.in_ok-open.ensures.words

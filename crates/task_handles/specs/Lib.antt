@@ -1,0 +1,9 @@
+pub mod Closings
+pub mod Codes
+pub mod Events
+pub mod Follows
+pub mod Handles
+pub mod Openings
+pub mod Operations
+pub mod Runs
+pub mod Trees
