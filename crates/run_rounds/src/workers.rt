@@ -1,6 +1,6 @@
 //! What each task of a run does.
 
-ghost use Rattle.std.specs.Prelude.{◌≡◌, ◌+◌, ◌-◌, ◌<◌, ◌≤◌, ◌⊎◌, ℕ, Err, IfErr, IfOk, OnOk, Some, length, true};
+ghost use Rattle.std.specs.Prelude.{◌≡◌, ◌+◌, ◌-◌, ◌<◌, ◌≤◌, ◌⊎◌, Err, IfErr, IfOk, OnOk, Some, length, true};
 ghost use Rattle.access_model.specs.declared.errors.GateError.TheVariants.{Again, Invalid, ReadOnly};
 ghost use Rattle.gated_tree.specs.Trees.{LoadedClean, LoadedSound};
 ghost use Rattle.run_rounds.specs.Counts.{blocks_of, counted, no_copies, no_remounts, no_writes, with_waits};
@@ -12,7 +12,7 @@ ghost use Rattle.gate_world.specs.declared.views.Snapshot.{Snapshot};
 ghost use Rattle.run_plans.specs.Plans.{run_config};
 ghost use Rattle.vfs_gates.specs.Held.{Rests, own_actions};
 ghost use Rattle.vfs_gates.specs.Runs.{Called};
-ghost use Rattle.vfs_gates.specs.TaskStates.{IsFrom, own_number, own_view};
+ghost use Rattle.vfs_gates.specs.TaskStates.{IsFrom, own_view};
 
 use crate::observers::NotedObserver;
 use access_model::{GateError, Holder, Kind};
