@@ -49,7 +49,7 @@ compile() {
 test_c() {
     compile bindings/c/tests/calls.c "$work/calls"
     expect "all calls" "$work/calls"
-    compile bindings/c/tests/refuse_memory.c "$work/refuse_memory" -Wl,--wrap=malloc
+    compile bindings/c/tests/refuse_memory.c "$work/refuse_memory" -Wl,--wrap=malloc,--wrap=realloc
     "$work/refuse_memory" >"$work/refused"
     grep -q 'all closed$' "$work/refused"
     compile bindings/c/examples/first.c "$work/first"

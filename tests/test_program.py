@@ -19,10 +19,9 @@ from functools import partial
 from typing import Callable, NamedTuple
 
 from program.cases import ANYTHING, NOTHING, ROOT, Unreadable, Wanted, changes, exactly, read_cases, wanted_of, write_files
-from program.runs import Ended, Program
+from program.runs import Ended, Program, built_programs
 from program.stories import REACHED, random_schedule
 
-PROGRAMS = [f"{ROOT}/crates/mntgate/out/mntgate", f"{ROOT}/crates/mntgate/out/mntgate.by-rattle"]
 # How many of those that ended otherwise are printed.
 SHOWN = 10
 # How many random schedules there are.
@@ -348,10 +347,7 @@ def test(path, cases):
 
 def main(paths):
     """Tests these programs, or those of the repository; the exit status."""
-    paths = paths or [path for path in PROGRAMS if path == PROGRAMS[0] or os.path.exists(path)]
-    for path in paths:
-        if not os.access(path, os.X_OK):
-            sys.exit(f"test_program: there is no program {os.path.relpath(path)}: bin/prove builds it")
+    paths = built_programs(paths)
     try:
         cases = read_cases()
     except Unreadable as fault:

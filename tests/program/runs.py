@@ -10,6 +10,7 @@ import signal
 import socket
 import struct
 import subprocess
+import sys
 import tempfile
 import termios
 import threading
@@ -17,6 +18,10 @@ import time
 from subprocess import PIPE
 from typing import NamedTuple
 
+from program.cases import ROOT
+
+# The program as two compilers make it.
+BUILT = [f"{ROOT}/crates/mntgate/out/mntgate", f"{ROOT}/crates/mntgate/out/mntgate.by-rattle"]
 # Seconds after which a command line is taken to go on for ever. The longest one takes under a second where it has a processor.
 PATIENCE = 60
 # A limit of time of a socket, which is never reached: but a read or a write that waits there is interrupted where its process is stopped and goes on.
@@ -171,6 +176,15 @@ class Program:
                 while part := terminal.read(4096):
                     told += part
         return Ended(ended.status, ended.printed, told)
+
+
+def built_programs(paths):
+    """These programs; those of the repository, where none is named: the second, where it is there. Ends the test where there is no such program."""
+    paths = paths or [path for path in BUILT if path == BUILT[0] or os.path.exists(path)]
+    for path in paths:
+        if not os.access(path, os.X_OK):
+            sys.exit(f"there is no program {os.path.relpath(path)}: bin/prove builds it")
+    return paths
 
 
 def source_of(given):

@@ -1,23 +1,16 @@
-//! The workbench of the gates, for the scripts of this repository: by the words of its command line it measures the gates (bench/by-turns.py),
-//! makes each call that takes memory (tests/refuse-memory.sh), or runs a backup beside a writer. The words are few, so a `match` reads them.
+//! The workbench of the gates: by the words of its command line it measures them, for the scripts of `bench`, or runs a backup beside a writer,
+//! which docs/library.md explains. The words are few, so a `match` reads them.
 #![tactic(auto)]
 
 mod at_gates;
 mod at_runs;
-mod ending;
-mod gates;
-mod growths;
 mod measurements;
-mod models;
-mod schedules;
-mod threads;
 
 use anyhow::Result;
 use backup_beside_writer::MOUNT;
 use backup_beside_writer::run::run;
 use measurements::Measurement;
 use std::alloc::Global;
-use std::io::Read;
 use std::process::ExitCode;
 use std::rt::Clock;
 use std::sync::Wait;
@@ -27,7 +20,7 @@ use vfs_gates::Gate;
 /// What the program can be asked for.
 const USAGE: &str = "\
 Usage: gate_workbench measure <WHAT> <SIZE> <COUNT>
-       gate_workbench growths | backup | both | --help
+       gate_workbench backup | --help
 
 measure  Measures the gates, and prints nanoseconds
          WHAT   mount, level or write-access: pairs of a taken and a returned access; freeze or freeze-and-callbacks: freezes, each
@@ -35,22 +28,17 @@ measure  Measures the gates, and prints nanoseconds
                 its close; run: runs
          SIZE   Threads of the pairs, or tasks and processors, and nodes of a snapshot: 1 to 64, and at least 3 for runs
          COUNT  How many of them: of pairs, for each thread
-growths  Makes each call that takes memory, and prints how it ended; asks for as many growths first as standard input says
-backup   Runs a backup beside a writer, and prints what both have done
-both     A backup, and then the growths";
+backup   Runs a backup beside a writer, and prints what both have done";
 
 /// What the words of a command line ask for.
 enum WorkbenchRequest {
     Measure(Measurement),
-    Growths,
     Backup,
-    Both,
     Help,
 }
 
 fn main(rt: HostRuntime) -> Result<ExitCode> {
     let alloc = rt.alloc();
-    let mut input = rt.stdin();
     let words: Vec<String> = std::env::args(&rt)?.collect(alloc)?;
     let asked = read_words(words.as_slice());
     // Before any way out, so that it is dropped in one place.
@@ -58,7 +46,7 @@ fn main(rt: HostRuntime) -> Result<ExitCode> {
     let Some(asked) = asked else {
         return refuse(&rt);
     };
-    answer(&rt, alloc, asked, &mut input)?;
+    answer(&rt, alloc, asked)?;
     Ok(ExitCode::SUCCESS)
 }
 
@@ -72,29 +60,21 @@ fn read_words(words: &[String]) -> Option<WorkbenchRequest> {
             let measurement = Measurement::of(what.as_str(), size.as_str(), count.as_str())?;
             Some(WorkbenchRequest::Measure(measurement))
         }
-        ("growths", []) => Some(WorkbenchRequest::Growths),
         ("backup", []) => Some(WorkbenchRequest::Backup),
-        ("both", []) => Some(WorkbenchRequest::Both),
         ("--help", []) => Some(WorkbenchRequest::Help),
         _ => None,
     }
 }
 
 /// Does what was asked for.
-fn answer<R: Threads + Wait + Clock + Print + Sync, I: Read>(
+fn answer<R: Threads + Wait + Clock + Print + Sync>(
     rt: &R,
     alloc: Global,
     asked: WorkbenchRequest,
-    input: &mut I,
 ) -> Result<()> {
     match asked {
         WorkbenchRequest::Measure(measurement) => print_time(rt, alloc, measurement),
-        WorkbenchRequest::Growths => growths::print_endings(rt, alloc, input),
         WorkbenchRequest::Backup => back_up(rt, alloc),
-        WorkbenchRequest::Both => {
-            back_up(rt, alloc)?;
-            growths::print_endings(rt, alloc, input)
-        }
         WorkbenchRequest::Help => Ok(rt.println(USAGE)?),
     }
 }

@@ -10,7 +10,7 @@ use race_files::setting_up::{SetUpObserver, do_setting};
 use race_files::{Lines, RaceFault, RaceFile};
 use schedule_lines::bytes::ReplayFault;
 use schedule_text::{Fault, LINES, Output};
-use std::alloc::Global;
+use std::alloc::{AllocError, Global};
 use transcripts::Session;
 
 /// How many states a race may have here.
@@ -101,18 +101,24 @@ fn print_race(
             if said == Some(OUTCOMES) {
                 leave_counts_out(alloc, printed);
             }
-            Ok(())
+            match printed.settled() {
+                Ok(()) => Ok(()),
+                Err(AllocError) => Err(refused(lines)),
+            }
         }
         Ok(false) => {
             printed.clear();
             Err(Stopped::TooMany)
         }
         Err(Stop::TooMany) => Err(Stopped::TooMany),
-        Err(Stop::NoMemory) => {
-            let refused = RaceFault::Schedule(Fault::Refused(GateError::NoMemory));
-            Err(Stopped::Fault(lines.fault(refused)))
-        }
+        Err(Stop::NoMemory) => Err(refused(lines)),
     }
+}
+
+/// Returns that memory was refused at a line.
+fn refused(lines: &Lines<'_>) -> Stopped {
+    let fault = RaceFault::Schedule(Fault::Refused(GateError::NoMemory));
+    Stopped::Fault(lines.fault(fault))
 }
 
 /// Prints the outcomes of a race briefly. Whether these are all.

@@ -352,6 +352,7 @@ impl<'a> Drawing<'a> {
         out.text(b": ");
         let mut line = Output::new(self.alloc);
         entry.print(&mut line, numbers);
+        out.is_whole &= line.is_whole;
         escaped(out, behind_task(line.bytes.as_slice()));
         out.text(b"</title>");
     }
